@@ -1,0 +1,42 @@
+use arrayvec::ArrayVec;
+use std::marker::Model;
+
+/// A word of a block: its letter, and its number.
+#[derive(Clone, Copy, Debug, Default, PartialEq, Eq)]
+pub struct TapeWord {
+    pub letter: u8,
+    pub value: i64,
+}
+
+/// The words of a block, in order. Clauses see their list.
+#[derive(Debug, Drop)]
+pub struct Block {
+    pub words: ArrayVec<TapeWord, 12>,
+}
+
+impl Model for Block {
+    ghost use Rattle.std.specs.Prelude.{List};
+    ghost use Rattle.apt_block.specs.declared.block.TapeWord.{TapeWord};
+
+    ghost Value = { List TapeWord };
+
+    ghost view = { λ b. b.words.items };
+}
+
+/// Why a tape can't be read.
+#[derive(Clone, Copy, Debug, PartialEq, Eq)]
+pub enum TapeCause {
+    NoStart,
+    BadParity,
+    BadCode,
+    BadBlock,
+    BadG,
+    BadM,
+    BadMix,
+    NoUnits,
+    NoMode,
+    NoFeed,
+    NoPosition,
+    Truncated,
+    AfterEnd,
+}

@@ -1,0 +1,50 @@
+-- Runs over small tapes, which the checker computes.
+use Rattle.std.specs.Prelude.{◌≡◌, ℕ, pos, List, [], ◌∷◌, ◌++◌, Result, Ok, Err, take, set}
+use Rattle.std.proofs.Common.{refl}
+use Rattle.std.specs.Int.Count.{ones}
+use Rattle.apt_words.specs.declared.Units.TheVariants.{Inch, Mm}
+use Rattle.apt_tapecode.specs.declared.Code.TheVariants.{Rs244, Rs358}
+use Rattle.apt_block.specs.declared.block.TapeCause.TheVariants as causes
+use Rattle.apt_control.specs.declared.Act.{Act}
+use Rattle.apt_control.specs.declared.Act.TheVariants as acts
+use Rattle.apt_control.specs.Control.{control_run, fault}
+
+-- the tape of an empty part in both codes
+abbrev empty_rs358 : List ℕ
+empty_rs358 =
+    0xa5 ∷ 0x0a ∷ 0x4e ∷ 0x30 ∷ 0x30 ∷ 0x30 ∷ 0xb1 ∷ 0x47 ∷ 0xb7 ∷ 0x30 ∷ 0x47 ∷ 0x39 ∷ 0x30
+    ∷ 0x47 ∷ 0x39 ∷ 0xb4 ∷ 0x0a ∷ 0x4e ∷ 0x30 ∷ 0x30 ∷ 0x30 ∷ 0xb2 ∷ 0x4d ∷ 0x30 ∷ 0xb2 ∷ 0x0a ∷ []
+
+abbrev empty_rs244 : List ℕ
+empty_rs244 =
+    0x0b ∷ 0x80 ∷ 0x45 ∷ 0x20 ∷ 0x20 ∷ 0x20 ∷ 0x01 ∷ 0x67 ∷ 0x07 ∷ 0x20 ∷ 0x67 ∷ 0x19 ∷ 0x20
+    ∷ 0x67 ∷ 0x19 ∷ 0x04 ∷ 0x80 ∷ 0x45 ∷ 0x20 ∷ 0x20 ∷ 0x20 ∷ 0x02 ∷ 0x54 ∷ 0x20 ∷ 0x02 ∷ 0x80 ∷ []
+
+empty_runs : control_run Rs358 empty_rs358 ≡ Ok (acts.Units Inch ∷ acts.End ∷ [])
+empty_runs = refl
+
+empty_runs_in_rs244 : control_run Rs244 empty_rs244 ≡ Ok (acts.Units Inch ∷ acts.End ∷ [])
+empty_runs_in_rs244 = refl
+
+-- the hole of track 5 is turned in the third byte
+turned_bit : control_run Rs244 (set empty_rs244 2 0x55) ≡ Err (fault 2 causes.BadParity)
+unfolding ones
+turned_bit = refl
+
+cut_tape : control_run Rs358 (take 25 empty_rs358) ≡ Err (fault 25 causes.Truncated)
+cut_tape = refl
+
+no_tape : control_run Rs358 [] ≡ Err (fault 0 causes.NoStart)
+no_tape = refl
+
+-- one straight cut
+abbrev one_cut : List ℕ
+one_cut =
+    0xa5 ∷ 0x0a ∷ 0x4e ∷ 0x30 ∷ 0x30 ∷ 0x30 ∷ 0xb1 ∷ 0x47 ∷ 0xb7 ∷ 0x30 ∷ 0x47 ∷ 0x39 ∷ 0x30 ∷ 0x47
+    ∷ 0x39 ∷ 0xb4 ∷ 0x0a ∷ 0x4e ∷ 0x30 ∷ 0x30 ∷ 0x30 ∷ 0xb2 ∷ 0x47 ∷ 0x30 ∷ 0xb1 ∷ 0xd8 ∷ 0x2b ∷ 0x30
+    ∷ 0x30 ∷ 0xb1 ∷ 0x30 ∷ 0x30 ∷ 0x30 ∷ 0x30 ∷ 0x30 ∷ 0x59 ∷ 0x2b ∷ 0x30 ∷ 0x30 ∷ 0xb2 ∷ 0x30 ∷ 0x30
+    ∷ 0x30 ∷ 0x30 ∷ 0x30 ∷ 0x5a ∷ 0x2b ∷ 0x30 ∷ 0x30 ∷ 0x33 ∷ 0x30 ∷ 0x30 ∷ 0x30 ∷ 0x30 ∷ 0x30 ∷ 0xc6
+    ∷ 0x30 ∷ 0xb1 ∷ 0x30 ∷ 0x30 ∷ 0x0a ∷ 0x4e ∷ 0x30 ∷ 0x30 ∷ 0x30 ∷ 0x33 ∷ 0x4d ∷ 0x30 ∷ 0xb2 ∷ 0x0a ∷ []
+
+one_cut_runs : control_run Rs358 one_cut ≡ Ok (acts.Units Inch ∷ acts.Cut (pos 100000) (pos 200000) (pos 300000) (pos 100) ∷ acts.End ∷ [])
+one_cut_runs = refl

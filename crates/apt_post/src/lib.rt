@@ -1,0 +1,2 @@
+//! The postprocessor: the blocks of acts, and the bytes of a tape.
+#![tactic(auto)]
