@@ -1,8 +1,8 @@
 //! The two tape codes: the byte of a character, and what a byte is read as.
 #![tactic(auto)]
 
-ghost use Rattle.std.specs.Prelude.{◌≡◌, ◌↔◌, ℕ, Some, None};
-ghost use Rattle.apt_tapecode.specs.Tapecode.{punched, reading};
+ghost use Rattle.std.specs.Prelude.{◌≡◌, ◌↔◌, ℕ, Some, None, IfSome, IsNone, Contains, true, false};
+ghost use Rattle.apt_tapecode.specs.Tapecode.{punched, reading, skipped, has_parity, is_tape_character, IsUnused};
 
 /// A tape code: RS-244 has an odd number of holes in each row, RS-358 (ASCII) an even one.
 #[derive(Clone, Copy, Debug, PartialEq, Eq)]
@@ -21,8 +21,19 @@ pub enum Read {
 }
 
 /// What a byte is read as.
+#[tactic(auto, using(crate::proofs::Codes::reading_char, crate::proofs::Unused::reading_skip, crate::proofs::Unused::reading_bad_parity, crate::proofs::Unused::reading_bad_code))]
 pub fn sense(code: Code, byte: u8) -> Read
     ensures value { result ≡ reading code byte }
+    ensures char { (ch : ℕ) → (result ≡ Read.Char ch) ↔ (punched code ch ≡ Some byte) }
+    ensures skip { (result ≡ Read.Skip) ↔ Contains (skipped code) byte }
+    ensures parity { (result ≡ Read.BadParity) ↔ (IsUnused code byte × (has_parity code byte ≡ false)) }
+    ensures code { (result ≡ Read.BadCode) ↔ (IsUnused code byte × (has_parity code byte ≡ true)) }
+{
+    sense_row(code, byte)
+}
+
+fn sense_row(code: Code, byte: u8) -> Read
+    ensures { result ≡ reading code byte }
 {
     match code {
         Code::Rs244 => sense_rs244(byte),
@@ -97,8 +108,11 @@ fn sense_rs358(byte: u8) -> Read
 }
 
 /// The byte that a code punches for a character. None where it is no tape character.
+#[tactic(auto, using(crate::proofs::Codes::punched_sensed, crate::proofs::Codes::punched_none))]
 pub fn punch(code: Code, ch: u8) -> Option<u8>
     ensures value { result ≡ punched code ch }
+    ensures sensed { IfSome result (λ byte. reading code byte ≡ Read.Char ch) }
+    ensures none { IsNone result ↔ (is_tape_character ch ≡ false) }
 {
     match code {
         Code::Rs244 => punch_rs244(ch),
@@ -165,5 +179,69 @@ fn punch_rs358(ch: u8) -> Option<u8>
         b'\n' => Some(0x0a),
         b'%' => Some(0xa5),
         _ => None,
+    }
+}
+
+#[cfg(test)]
+mod tests {
+    use super::*;
+
+    /// The head of a tape, "%\nN0001G70G90G94\n", with its rows in RS-244 and in RS-358.
+    const HEAD: [(u8, u8, u8); 17] = [
+        (b'%', 0x0b, 0xa5),
+        (b'\n', 0x80, 0x0a),
+        (b'N', 0x45, 0x4e),
+        (b'0', 0x20, 0x30),
+        (b'0', 0x20, 0x30),
+        (b'0', 0x20, 0x30),
+        (b'1', 0x01, 0xb1),
+        (b'G', 0x67, 0x47),
+        (b'7', 0x07, 0xb7),
+        (b'0', 0x20, 0x30),
+        (b'G', 0x67, 0x47),
+        (b'9', 0x19, 0x39),
+        (b'0', 0x20, 0x30),
+        (b'G', 0x67, 0x47),
+        (b'9', 0x19, 0x39),
+        (b'4', 0x04, 0xb4),
+        (b'\n', 0x80, 0x0a),
+    ];
+
+    #[test]
+    fn punches_and_senses_a_head(rt: HostRuntime) {
+        for (ch, rs244, rs358) in HEAD {
+            assert_eq!(rt; punch(Code::Rs244, ch), Some(rs244));
+            assert_eq!(rt; punch(Code::Rs358, ch), Some(rs358));
+            assert_eq!(rt; sense(Code::Rs244, rs244), Read::Char(ch));
+            assert_eq!(rt; sense(Code::Rs358, rs358), Read::Char(ch));
+        }
+    }
+
+    #[test]
+    fn skips_and_refuses(rt: HostRuntime) {
+        for (code, byte, want) in [
+            (Code::Rs244, 0x00, Read::Skip),
+            (Code::Rs244, 0x10, Read::Skip),
+            (Code::Rs244, 0x3e, Read::Skip),
+            (Code::Rs244, 0x7f, Read::Skip),
+            (Code::Rs358, 0x00, Read::Skip),
+            (Code::Rs358, 0xa0, Read::Skip),
+            (Code::Rs358, 0x09, Read::Skip),
+            (Code::Rs358, 0x8d, Read::Skip),
+            (Code::Rs358, 0xff, Read::Skip),
+            (Code::Rs244, 0x55, Read::BadParity),
+            (Code::Rs358, 0x31, Read::BadParity),
+            (Code::Rs358, 0x41, Read::BadCode),
+        ] {
+            assert_eq!(rt; sense(code, byte), want, "at {byte}");
+        }
+    }
+
+    #[test]
+    fn punches_no_other_characters(rt: HostRuntime) {
+        for ch in [b' ', b'A', b'.', b'g', 0x00, 0xff] {
+            assert_eq!(rt; punch(Code::Rs244, ch), None);
+            assert_eq!(rt; punch(Code::Rs358, ch), None);
+        }
     }
 }

@@ -1,0 +1,4 @@
+pub mod Passing
+pub mod Tables
+pub mod Codes
+pub mod Unused
