@@ -1,0 +1,3 @@
+mod Worked
+pub mod Splitting
+pub mod Cuts
