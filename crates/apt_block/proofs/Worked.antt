@@ -1,5 +1,5 @@
 -- Small blocks, which the checker reads.
-use Rattle.std.specs.Prelude.{◌≡◌, ℕ, pos, negsuc, List, [], ◌∷◌, Result, Ok, Err, codes}
+use Rattle.std.specs.Prelude.{◌≡◌, ℕ, pos, negsuc, [], ◌∷◌, Ok, Err, codes}
 use Rattle.std.proofs.Common.{refl}
 use Rattle.apt_block.specs.declared.block.TapeCause.{TapeCause}
 use Rattle.apt_block.specs.declared.block.TapeCause.TheVariants as causes

@@ -1,5 +1,5 @@
 -- Blocks of a tape: the table of words, how a block is read, and how it is spelled.
-use Rattle.std.specs.Prelude.{◌≡◌, ℕ, zero, suc, ◌+◌, ◌-◌, ◌*◌, ◌/◌, ◌%◌, ◌^◌, ◌≤◌, ℤ, pos, negsuc, neg_ℤ, unsigned_abs, ◌==◌, ◌&&◌, nat_le, Bool, true, false, not, List, [], ◌∷◌, ◌++◌, length, map, Option, Some, None, Result, Ok, Err, MatchBool, codes, if◌then◌else◌}
+use Rattle.std.specs.Prelude.{◌≡◌, ℕ, zero, suc, ◌+◌, ◌-◌, ◌*◌, ◌/◌, ◌%◌, ◌^◌, ◌≤◌, ℤ, pos, negsuc, neg_ℤ, unsigned_abs, ◌==◌, ◌&&◌, ◌||◌, nat_le, Bool, true, false, not, List, [], ◌∷◌, ◌++◌, length, Option, Some, None, Result, Ok, Err, MatchBool, codes, if◌then◌else◌}
 use Rattle.std.specs.List.{list_any, flat_map}
 use Rattle.apt_block.specs.declared.block.TapeWord.{TapeWord}
 use Rattle.apt_block.specs.declared.block.TapeCause.{TapeCause}
@@ -224,6 +224,10 @@ word_text w = w.letter ∷ number_text (form_in forms w.letter) w.value
 
 abbrev pub spelling : List TapeWord → List ℕ
 spelling words = flat_map word_text words ++ line_feed ∷ []
+
+-- a digit, a letter of the table, or a sign
+abbrev pub is_word_character : ℕ → Bool
+is_word_character ch = is_digit ch || list_any (λ f. f.letter == ch) forms || is_in (plus_sign ∷ minus_sign ∷ []) ch
 
 -- a value that the words of a form may have
 pub record Fits (form : Form) (v : ℤ) : Type 0 where

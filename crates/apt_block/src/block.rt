@@ -1,3 +1,5 @@
+ghost use Rattle.std.specs.Prelude.{◌≡◌, ◌<◌, length, [], ◌∷◌, ◌++◌};
+
 use arrayvec::ArrayVec;
 use std::marker::Model;
 
@@ -21,6 +23,24 @@ impl Model for Block {
     ghost Value = { List TapeWord };
 
     ghost view = { λ b. b.words.items };
+}
+
+impl Block {
+    pub fn new() -> Block
+        ensures { result ≡ [] }
+    {
+        Block {
+            words: ArrayVec::new(),
+        }
+    }
+
+    /// Adds a word at the end; a block has at most twelve.
+    pub fn push(&mut self, word: TapeWord)
+        requires room { length self.old < 12 }
+        ensures { self.new ≡ self.old ++ word ∷ [] }
+    {
+        self.words.push(word);
+    }
 }
 
 /// Why a tape can't be read.

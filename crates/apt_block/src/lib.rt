@@ -2,5 +2,9 @@
 #![tactic(auto)]
 
 mod block;
+#[cfg(test)]
+mod tests;
+mod write;
 
 pub use block::{Block, TapeCause, TapeWord};
+pub use write::write_block;

@@ -1,11 +1,10 @@
 -- Runs over small tapes, which the checker computes.
-use Rattle.std.specs.Prelude.{◌≡◌, ℕ, pos, List, [], ◌∷◌, ◌++◌, Result, Ok, Err, take, set}
+use Rattle.std.specs.Prelude.{◌≡◌, ℕ, pos, List, [], ◌∷◌, Ok, Err, take, set}
 use Rattle.std.proofs.Common.{refl}
 use Rattle.std.specs.Int.Count.{ones}
-use Rattle.apt_words.specs.declared.Units.TheVariants.{Inch, Mm}
+use Rattle.apt_words.specs.declared.Units.TheVariants.{Inch}
 use Rattle.apt_tapecode.specs.declared.Code.TheVariants.{Rs244, Rs358}
 use Rattle.apt_block.specs.declared.block.TapeCause.TheVariants as causes
-use Rattle.apt_control.specs.declared.Act.{Act}
 use Rattle.apt_control.specs.declared.Act.TheVariants as acts
 use Rattle.apt_control.specs.Control.{control_run, fault}
 

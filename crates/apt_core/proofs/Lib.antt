@@ -1,3 +1,4 @@
 mod Worked
 pub mod Splitting
 pub mod Cuts
+pub mod Compiling

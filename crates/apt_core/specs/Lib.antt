@@ -1,1 +1,7 @@
 pub mod Plain
+pub mod Words
+pub mod Number
+pub mod Unread
+pub mod Answers
+pub mod Request
+pub mod Delivery

@@ -1,8 +1,7 @@
 -- Tapes of a few acts, which the checker spells.
-use Rattle.std.specs.Prelude.{◌≡◌, ℕ, pos, List, [], ◌∷◌, codes}
+use Rattle.std.specs.Prelude.{◌≡◌, pos, [], ◌∷◌, codes}
 use Rattle.std.proofs.Common.{refl}
 use Rattle.apt_words.specs.declared.Units.TheVariants.{Inch, Mm}
-use Rattle.apt_control.specs.declared.Act.{Act}
 use Rattle.apt_control.specs.declared.Act.TheVariants as acts
 use Rattle.apt_post.specs.Post.{tape_text}
 

@@ -1,6 +1,5 @@
 -- The writer of a tape: the block of each act, and the bytes of them all.
-use Rattle.std.specs.Prelude.{◌≡◌, ◌⊎◌, ℕ, ◌+◌, ◌*◌, ◌%◌, ◌≤◌, ℤ, pos, unsigned_abs, ◌==◌, List, [], ◌∷◌, ◌++◌, map, unwrap_or, if◌then◌else◌}
-use Rattle.std.specs.List.{flat_map}
+use Rattle.std.specs.Prelude.{◌≡◌, ℕ, ◌+◌, ◌*◌, ◌%◌, ◌≤◌, ℤ, pos, unsigned_abs, ◌==◌, List, [], ◌∷◌, ◌++◌, map, unwrap_or, if◌then◌else◌}
 use Rattle.apt_words.specs.declared.Units.TheVariants.{Inch, Mm}
 use Rattle.apt_words.specs.declared.Turn.TheVariants as turns
 use Rattle.apt_words.specs.declared.Cool.TheVariants as coolants

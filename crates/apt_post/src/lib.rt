@@ -1,2 +1,58 @@
 //! The postprocessor: the blocks of acts, and the bytes of a tape.
 #![tactic(auto)]
+
+ghost use Rattle.std.specs.Prelude.{◌≡◌, ℕ, map, IfOk, Ok};
+ghost use Rattle.apt_control.specs.Control.{control_run};
+ghost use Rattle.apt_post.specs.Post as spec;
+
+mod blocks;
+#[cfg(test)]
+mod tests;
+
+use apt_block::write_block;
+use apt_control::Act;
+use apt_machine::Machine;
+use apt_tapecode::{Code, punch};
+use blocks::act_block;
+use std::alloc::{AllocError, Global};
+
+/// The bytes of the tape of acts: rewind stop, end of block, and a block for each act.
+#[tactic(auto, using(crate::proofs::Running::tape_runs))]
+pub fn tape(alloc: Global, acts: &[Act], machine: &Machine) -> Result<Vec<u8>, AllocError>
+    requires { spec.IsProgram acts.now }
+    ensures bytes { IfOk result (λ v. v.items ≡ spec.tape_bytes machine.now acts.now) }
+    ensures run { IfOk result (λ v. control_run machine.now.code v.items ≡ Ok acts.now) }
+{
+    let mut bytes = tape_text(alloc, acts, machine.seq)?;
+    punch_all(machine.code, &mut bytes);
+    Ok(bytes)
+}
+
+/// The characters of the tape.
+fn tape_text(alloc: Global, acts: &[Act], step: u16) -> Result<Vec<u8>, AllocError>
+    requires { spec.IsProgram acts.now }
+    ensures { IfOk result (λ v. v.items ≡ spec.tape_text step acts.now) }
+{
+    let mut text = Vec::new(alloc);
+    text.push(b'%')?;
+    text.push(b'\n')?;
+    'acts: for (k, act) in acts.iter().enumerate() {
+        write_block(alloc, &act_block(step, k, act), &mut text)?;
+    }
+    Ok(text)
+}
+
+/// Puts the byte of each character in its place.
+fn punch_all(code: Code, text: &mut Vec<u8>)
+    ensures { text.new.items ≡ map (spec.byte_of code) text.old.items }
+{
+    'characters: for ch in text.iter_mut() {
+        *ch = byte_of(code, *ch);
+    }
+}
+
+fn byte_of(code: Code, ch: u8) -> u8
+    ensures { result ≡ spec.byte_of code ch }
+{
+    punch(code, ch).unwrap_or(0)
+}

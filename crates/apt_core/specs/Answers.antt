@@ -1,0 +1,121 @@
+-- What the top call answers, and what it leaves, over the words and the told files.
+use Rattle.std.specs.Prelude.{◌≡◌, ◌⊎◌, ℕ, nat_lt, List, [], ◌∷◌, length, take, Option, Some, None, Ok, if◌then◌else◌}
+use Rattle.std.specs.FinMap.{get, insert}
+use Rattle.std.specs.Option.{option_and_then}
+use Rattle.apt_shelf.specs.Told.{Contents}
+use Rattle.apt_tapecode.specs.declared.Code.TheVariants.{Rs358}
+use Rattle.apt_machine.specs.declared.Machine.{Machine}
+use Rattle.apt_control.specs.Control.{control_run}
+use Rattle.apt_post.specs.Post.{tape_bytes}
+use Rattle.apt_core.specs.declared.status.Status.{Status}
+use Rattle.apt_core.specs.declared.status.Status.TheVariants as answers
+use Rattle.apt_core.specs.declared.status.Summary.{Summary}
+use Rattle.apt_core.specs.declared.status.Summary.TheVariants as summaries
+use Rattle.apt_core.specs.declared.status.PartCause.TheVariants as part_causes
+use Rattle.apt_core.specs.Words.{Ask, Compile}
+use Rattle.apt_core.specs.Plain.{Plain, plain_part, acts_of}
+
+-- the longest part program, in bytes
+abbrev pub part_limit : ℕ
+part_limit = 4194304
+
+-- the machine of each tape: RS-358, blocks numbered by one
+abbrev pub the_machine : Machine
+the_machine = record { code = Rs358; seq = 1; feedmax = 9999; spinmax = 9999; toolmax = 99 }
+
+-- ---- the answer that is due, where nothing outside fails
+
+abbrev pub summary_of : Plain → Summary
+summary_of program = summaries.Compiled 0 (length (acts_of program)) 0
+
+abbrev pub due_program : Option Plain → Status
+due_program None = answers.BadPart 1 part_causes.NotBuilt
+due_program (Some program) = answers.Done (summary_of program)
+
+abbrev pub due_file : List ℕ → Option (List ℕ) → Status
+due_file name None = answers.Missing name
+due_file name (Some text) = if nat_lt part_limit (length text) then answers.TooLong name else due_program (plain_part text)
+
+abbrev pub due : Ask → Contents → Status
+due (Compile part machine cl tape) m = due_file part (get m part)
+
+abbrev pub IsDone : Status → Type 0
+IsDone (answers.Done summary) = Unit {0}
+IsDone _ = ⊥
+
+-- ---- answers and their causes; reading and writing say that the shelf's counts of these rose in the call
+
+-- over told files: the due answer, unless reading failed, or all before went well and writing failed, or memory ran out
+abbrev pub IsAnswer : Ask → Contents → Type 0 → Type 0 → Status → Type 0
+IsAnswer ask m reading writing answers.ReadFault = reading
+IsAnswer ask m reading writing answers.WriteFault = IsDone (due ask m) × writing
+IsAnswer ask m reading writing answers.NoMemory = Unit {0}
+IsAnswer ask m reading writing answer = answer ≡ due ask m
+
+-- where nothing is told
+abbrev pub IsUntoldAnswer : Ask → Type 0 → Type 0 → Status → Type 0
+IsUntoldAnswer (Compile part machine cl tape) reading writing answers.Usage = ⊥
+IsUntoldAnswer (Compile part machine cl tape) reading writing (answers.Missing name) = (name ≡ part) × reading
+IsUntoldAnswer (Compile part machine cl tape) reading writing answers.ReadFault = reading
+IsUntoldAnswer (Compile part machine cl tape) reading writing (answers.TooLong name) = name ≡ part
+IsUntoldAnswer (Compile part machine cl tape) reading writing (answers.BadPart line cause) = (line ≡ 1) × (cause ≡ part_causes.NotBuilt)
+IsUntoldAnswer (Compile part machine cl tape) reading writing answers.WriteFault = writing
+IsUntoldAnswer (Compile part machine cl tape) reading writing answer = Unit {0}
+
+abbrev pub Answers : Option Ask → Option Contents → Type 0 → Type 0 → Status → Type 0
+Answers None told reading writing answer = answer ≡ answers.Usage
+Answers (Some ask) None reading writing answer = IsUntoldAnswer ask reading writing answer
+Answers (Some ask) (Some m) reading writing answer = IsAnswer ask m reading writing answer
+
+-- ---- what stands in the told files afterwards
+
+-- the plain part that a name holds
+abbrev pub short_part : List ℕ → Option Plain
+short_part text = if nat_lt part_limit (length text) then None else plain_part text
+
+abbrev pub program_in : Contents → List ℕ → Option Plain
+program_in m part = option_and_then short_part (get m part)
+
+-- the name PART held a part, the name TAPE holds its tape, and all other names hold what they held
+pub record IsCompiled (part tape : List ℕ) (before after : Contents) (summary : Summary) : Type 0 where
+  pub program : Plain
+  pub bytes : List ℕ
+  pub read : program_in before part ≡ Some program
+  pub written : after ≡ insert before tape bytes
+  pub holds : get after tape ≡ Some bytes
+  pub run : control_run Rs358 bytes ≡ Ok (acts_of program)
+  pub exact : bytes ≡ tape_bytes the_machine (acts_of program)
+  pub counted : summary ≡ summary_of program
+
+-- the name TAPE holds a front part of the tape that is due, or all of it, and all other names hold what they held
+pub record IsBegun (part tape : List ℕ) (before after : Contents) : Type 0 where
+  pub program : Plain
+  pub count : ℕ
+  pub read : program_in before part ≡ Some program
+  pub written : after ≡ insert before tape (take count (tape_bytes the_machine (acts_of program)))
+
+abbrev pub MayBeBegun : List ℕ → List ℕ → Contents → Contents → Type 0
+MayBeBegun part tape before after = (after ≡ before) ⊎ IsBegun part tape before after
+
+abbrev pub LeavesFiles : Ask → Contents → Contents → Status → Type 0
+LeavesFiles (Compile part machine cl tape) before after (answers.Done summary) = IsCompiled part tape before after summary
+LeavesFiles (Compile part machine cl tape) before after answers.WriteFault = MayBeBegun part tape before after
+LeavesFiles (Compile part machine cl tape) before after answers.NoMemory = MayBeBegun part tape before after
+LeavesFiles (Compile part machine cl tape) before after answer = after ≡ before
+
+-- told files stay told
+abbrev pub StayTold : Contents → Option Contents → (Contents → Type 0) → Type 0
+StayTold before None P = ⊥
+StayTold before (Some after) P = P after
+
+abbrev pub Leaves : Option Ask → Option Contents → Option Contents → Status → Type 0
+Leaves ask None after answer = Unit {0}
+Leaves None (Some before) after answer = after ≡ Some before
+Leaves (Some ask) (Some before) after answer = StayTold before after (λ files. LeavesFiles ask before files answer)
+
+-- the answers that come before the writing
+abbrev pub IsBeforeWriting : Status → Type 0
+IsBeforeWriting (answers.Done summary) = ⊥
+IsBeforeWriting answers.WriteFault = ⊥
+IsBeforeWriting answers.NoMemory = ⊥
+IsBeforeWriting _ = Unit {0}

@@ -1,0 +1,76 @@
+//! The answers of the top call.
+
+ghost use Rattle.std.specs.Prelude.{◌≡◌};
+
+use std::marker::Model;
+
+/// A name of the command line. Clauses see its bytes.
+#[derive(Debug, Drop)]
+pub struct FileName {
+    pub text: String,
+}
+
+impl Model for FileName {
+    ghost use Rattle.std.specs.Prelude.{ℕ, List};
+    ghost use Rattle.std.specs.String.{string_bytes};
+
+    ghost Value = { List ℕ };
+
+    ghost view = { λ n. string_bytes n.text };
+}
+
+/// Why a text is no part program.
+#[derive(Clone, Copy, Debug, PartialEq, Eq)]
+pub enum PartCause {
+    /// It has a statement that isn't built yet.
+    NotBuilt,
+}
+
+/// What was done. Counts are of the CL file's records, the tape's acts, and the segments of its contours.
+#[derive(Clone, Copy, Debug, PartialEq, Eq)]
+pub enum Summary {
+    Compiled {
+        records: u64,
+        acts: u64,
+        segments: u64,
+    },
+}
+
+/// The answer of the top call.
+#[derive(Debug, Drop)]
+pub enum Status {
+    Done(Summary),
+    /// The words are none of a command.
+    Usage,
+    /// There is no file of the name.
+    Missing { name: FileName },
+    /// A file could not be read.
+    ReadFault,
+    /// The file of the name is longer than its limit.
+    TooLong { name: FileName },
+    /// The text is no part program, from its line (from 1) on.
+    BadPart { line: u32, cause: PartCause },
+    /// A file could not be written.
+    WriteFault,
+    NoMemory,
+}
+
+impl Status {
+    ghost use Rattle.apt_core.specs.Number.{number_of};
+
+    /// The number with which a program of this answer ends.
+    pub fn number(&self) -> u8
+        ensures { result ≡ number_of self.now }
+    {
+        match self {
+            Status::Done(_) => 0,
+            Status::Usage => 1,
+            Status::Missing { .. } => 2,
+            Status::ReadFault => 3,
+            Status::TooLong { .. } => 4,
+            Status::BadPart { .. } => 6,
+            Status::WriteFault => 11,
+            Status::NoMemory => 12,
+        }
+    }
+}

@@ -1,0 +1,18 @@
+-- What a store of files in memory has.
+use Rattle.std.specs.Prelude.{ℕ, List, drop, Option, option_map}
+use Rattle.std.proofs.Common.{string_bytes}
+use Rattle.apt_shelf.specs.Told.{Contents}
+use Rattle.apt_shelf.specs.Entries.{contents}
+use Rattle.apt_shelf.specs.declared.store.Store.{Store}
+
+-- the bytes under each name
+abbrev pub contents_of : Store → Contents
+contents_of s = contents s.files.items
+
+-- what is left to read
+abbrev pub left_of : Store → Option (List ℕ)
+left_of s = option_map (λ r. drop r.at r.content.items) s.reading
+
+-- the name that is being written
+abbrev pub writing_of : Store → Option (List ℕ)
+writing_of s = option_map string_bytes s.writing

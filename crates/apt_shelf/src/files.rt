@@ -1,0 +1,111 @@
+//! Whole files, read and written over any shelf.
+ghost use Rattle.std.specs.Prelude.{◌≡◌, ◌≤◌, length, IfOk, OnOk, OnErr, IsErrOf};
+ghost use Rattle.std.specs.FinMap.{insert};
+ghost use Rattle.apt_shelf.specs.Told.{Steps, Lacks, Rose};
+ghost use Rattle.apt_shelf.specs.Files.{HoldsAt, IsLongerAt, WritesPrefix};
+
+use crate::shelf::{ReadStart, Shelf, ShelfFault};
+use std::alloc::{AllocError, Global};
+
+/// How many bytes are read, or written, at a time.
+const PIECE: usize = 4096;
+
+/// Why a file was not read.
+#[derive(Clone, Copy, Debug, PartialEq, Eq)]
+pub enum ReadError {
+    /// There is no file of that name.
+    Missing,
+    /// The file could not be opened or read.
+    Fault,
+    /// The file has more bytes than the limit.
+    TooLong,
+    /// Memory was lacking.
+    NoMemory,
+}
+
+impl From<ReadStart> for ReadError {
+    ghost use Rattle.apt_shelf.specs.Errors.{of_start};
+
+    ghost from_gives = { λ s e. e ≡ of_start s };
+
+    fn from(error: ReadStart) -> Self {
+        match error {
+            ReadStart::Missing => ReadError::Missing,
+            ReadStart::Fault => ReadError::Fault,
+            ReadStart::NoMemory => ReadError::NoMemory,
+        }
+    }
+}
+
+impl From<ShelfFault> for ReadError {
+    ghost use Rattle.apt_shelf.specs.Errors.{of_fault};
+
+    ghost from_gives = { λ s e. e ≡ of_fault s };
+
+    fn from(error: ShelfFault) -> Self {
+        match error {
+            ShelfFault::Fault => ReadError::Fault,
+            ShelfFault::NoMemory => ReadError::NoMemory,
+        }
+    }
+}
+
+impl From<AllocError> for ReadError {
+    ghost use Rattle.apt_shelf.specs.declared.files.ReadError.TheVariants as errors;
+
+    ghost from_gives = { λ _ e. e ≡ errors.NoMemory };
+
+    fn from(_: AllocError) -> Self {
+        ReadError::NoMemory
+    }
+}
+
+/// All bytes of a name, if they are at most `limit`. The read stays started.
+pub fn read_all<H: Shelf>(
+    alloc: Global,
+    shelf: &mut H,
+    name: &str,
+    limit: usize,
+) -> Result<Vec<u8>, ReadError>
+    ensures bytes { IfOk result (λ v. HoldsAt (H.told shelf.old) name.now v.items) }
+    ensures short { IfOk result (λ v. length v.items ≤ limit) }
+    ensures missing { IsErrOf result ReadError.Missing → Lacks (H.told shelf.old) name.now (H.read_faults shelf.old) (H.read_faults shelf.new) }
+    ensures fault { IsErrOf result ReadError.Fault → Rose (H.read_faults shelf.old) (H.read_faults shelf.new) }
+    ensures too_long { IsErrOf result ReadError.TooLong → IsLongerAt (H.told shelf.old) name.now limit }
+    ensures later { H.read_faults shelf.old ≤ H.read_faults shelf.new }
+    ensures told { H.told shelf.new ≡ H.told shelf.old }
+    ensures writing { H.writing shelf.new ≡ H.writing shelf.old }
+    ensures write_faults { H.write_faults shelf.new ≡ H.write_faults shelf.old }
+{
+    shelf.start_read(name)?;
+    let mut bytes = Vec::new(alloc);
+    let mut buf = [0u8; PIECE];
+    'pieces: while bytes.len() <= limit {
+        let n = shelf.read(&mut buf)?;
+        if n == 0 {
+            return Ok(bytes);
+        }
+        bytes.extend_from_slice(&buf[..n])?;
+    }
+    Err(ReadError::TooLong)
+}
+
+/// Writes a whole file, piece by piece. After a refusal the name may hold a front part of the bytes.
+pub fn write_all<H: Shelf>(shelf: &mut H, name: &str, bytes: &[u8]) -> Result<(), ShelfFault>
+    ensures ok { OnOk result (Steps (λ m. insert m name.now bytes.now) (H.told shelf.old) (H.told shelf.new)) }
+    ensures err { OnErr result (WritesPrefix name.now bytes.now (H.told shelf.old) (H.told shelf.new)) }
+    ensures fault { IsErrOf result ShelfFault.Fault → Rose (H.write_faults shelf.old) (H.write_faults shelf.new) }
+    ensures later { H.write_faults shelf.old ≤ H.write_faults shelf.new }
+    ensures reading { H.reading shelf.new ≡ H.reading shelf.old }
+    ensures left { H.left shelf.new ≡ H.left shelf.old }
+    ensures read_faults { H.read_faults shelf.new ≡ H.read_faults shelf.old }
+{
+    shelf.start_write(name)?;
+    let mut rest = bytes;
+    'pieces: while !rest.is_empty() {
+        let (piece, after) = rest.split_at(rest.len().min(PIECE));
+        shelf.append(piece)?;
+        rest = after;
+    }
+    Ok(())
+}

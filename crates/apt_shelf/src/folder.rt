@@ -1,0 +1,132 @@
+//! Files of a folder.
+ghost use Rattle.std.specs.Prelude.{◌≡◌, false, is_some, option_map, Some, None, IfOk};
+ghost use Rattle.std.specs.String.{string_bytes};
+ghost use Rattle.apt_shelf.specs.Paths.{path_in};
+
+use crate::shelf::{ReadStart, Shelf, ShelfFault};
+use std::alloc::{AllocError, Global};
+use std::fs;
+use std::io::{ErrorKind, Read, Write};
+use std::rt::Files;
+
+/// The files of a folder; a name that begins with `/` is taken as it is. Each error of the system
+/// counts as a fault, a missing file too.
+#[derive(Drop)]
+pub struct FolderShelf<'a, R: Files> {
+    rt: &'a R,
+    alloc: Global,
+    folder: String,
+    read_faults: u64,
+    write_faults: u64,
+    input: Option<R::File>,
+    output: Option<R::File>,
+    writing: Option<String>,
+}
+
+impl<'a, R: Files> FolderShelf<'a, R> {
+    pub fn new(rt: &'a R, alloc: Global, folder: &str) -> Result<FolderShelf<'a, R>, AllocError>
+        ensures reading { IfOk result (λ shelf. ⟦<FolderShelf<'a, R> as Shelf>⟧.reading shelf ≡ false) }
+        ensures writing { IfOk result (λ shelf. ⟦<FolderShelf<'a, R> as Shelf>⟧.writing shelf ≡ None) }
+        ensures read_faults { IfOk result (λ shelf. ⟦<FolderShelf<'a, R> as Shelf>⟧.read_faults shelf ≡ 0) }
+        ensures write_faults { IfOk result (λ shelf. ⟦<FolderShelf<'a, R> as Shelf>⟧.write_faults shelf ≡ 0) }
+    {
+        Ok(FolderShelf {
+            rt,
+            alloc,
+            folder: String::from_str(alloc, folder)?,
+            read_faults: 0,
+            write_faults: 0,
+            input: None,
+            output: None,
+            writing: None,
+        })
+    }
+}
+
+fn path_of(alloc: Global, folder: &str, name: &str) -> Result<String, AllocError>
+    ensures { IfOk result (λ path. string_bytes path ≡ path_in folder.now name.now) }
+{
+    if name.starts_with('/') {
+        String::from_str(alloc, name)
+    } else {
+        format!(in alloc; "{folder}/{name}")
+    }
+}
+
+impl<'a, R: Files> Shelf for FolderShelf<'a, R> {
+    ghost use Rattle.std.specs.String.{string_bytes};
+
+    ghost told = { λ _. None };
+
+    ghost reading = { λ s. is_some s.input };
+
+    ghost left = { λ _. None };
+
+    ghost writing = { λ s. option_map string_bytes s.writing };
+
+    ghost read_faults = { λ s. s.read_faults };
+
+    ghost write_faults = { λ s. s.write_faults };
+
+    fn start_read(&mut self, name: &str) -> Result<(), ReadStart> {
+        self.input = None;
+        let path = path_of(self.alloc, &self.folder, name)?;
+        match fs::open(self.rt, path.as_str()) {
+            Ok(file) => {
+                self.input = Some(file);
+                Ok(())
+            }
+            Err(error) => {
+                self.read_faults = self.read_faults.saturating_add(1);
+                if error.kind() == ErrorKind::NotFound {
+                    Err(ReadStart::Missing)
+                } else {
+                    Err(ReadStart::Fault)
+                }
+            }
+        }
+    }
+
+    fn read(&mut self, buf: &mut [u8]) -> Result<usize, ShelfFault> {
+        let Some(file) = &mut self.input else {
+            return Ok(0);
+        };
+        match file.read(buf) {
+            Ok(count) => Ok(count),
+            Err(_) => {
+                self.read_faults = self.read_faults.saturating_add(1);
+                Err(ShelfFault::Fault)
+            }
+        }
+    }
+
+    fn start_write(&mut self, name: &str) -> Result<(), ShelfFault> {
+        self.output = None;
+        self.writing = None;
+        let path = path_of(self.alloc, &self.folder, name)?;
+        let name = String::from_str(self.alloc, name)?;
+        match fs::create(self.rt, path.as_str()) {
+            Ok(file) => {
+                self.output = Some(file);
+                self.writing = Some(name);
+                Ok(())
+            }
+            Err(_) => {
+                self.write_faults = self.write_faults.saturating_add(1);
+                Err(ShelfFault::Fault)
+            }
+        }
+    }
+
+    fn append(&mut self, bytes: &[u8]) -> Result<(), ShelfFault> {
+        let written = match &mut self.output {
+            Some(file) => file.write_all(bytes).is_ok(),
+            None => false,
+        };
+        if written {
+            return Ok(());
+        }
+        self.write_faults = self.write_faults.saturating_add(1);
+        Err(ShelfFault::Fault)
+    }
+}

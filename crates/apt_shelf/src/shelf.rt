@@ -1,0 +1,124 @@
+//! What files and lines are asked of.
+ghost use Rattle.std.specs.Prelude.{◌≡◌, ℕ, ◌<◌, ◌≤◌, List, [], length, Bool, true, false, Option, IsSome, IfOk, OnOk, OnErr, IsErrOf};
+ghost use Rattle.std.specs.FinMap.{insert};
+ghost use Rattle.apt_shelf.specs.Told.{Contents, Steps, StartsAt, Lacks, Takes, MayBeEmptied, KeepsPrefix, Adds, StartCause, FaultCause, Puts, PutsPrefix};
+
+use std::alloc::AllocError;
+
+/// Why a read was not started.
+#[derive(Clone, Copy, Debug, PartialEq, Eq)]
+pub enum ReadStart {
+    /// There is no file of that name.
+    Missing,
+    /// The file could not be opened.
+    Fault,
+    /// Memory was lacking.
+    NoMemory,
+}
+
+/// Why a call on a shelf or a sink was refused.
+#[derive(Clone, Copy, Debug, PartialEq, Eq)]
+pub enum ShelfFault {
+    /// The file or the sink failed.
+    Fault,
+    /// Memory was lacking.
+    NoMemory,
+}
+
+impl From<AllocError> for ReadStart {
+    ghost use Rattle.apt_shelf.specs.declared.shelf.ReadStart.TheVariants as starts;
+
+    ghost from_gives = { λ _ e. e ≡ starts.NoMemory };
+
+    fn from(_: AllocError) -> Self {
+        ReadStart::NoMemory
+    }
+}
+
+impl From<AllocError> for ShelfFault {
+    ghost use Rattle.apt_shelf.specs.declared.shelf.ShelfFault.TheVariants as faults;
+
+    ghost from_gives = { λ _ e. e ≡ faults.NoMemory };
+
+    fn from(_: AllocError) -> Self {
+        ShelfFault::NoMemory
+    }
+}
+
+/// Files by name. One at a time is read, and one is written.
+pub trait Shelf {
+    /// The bytes under each name, where the shelf tells them.
+    ghost told: { Self → Option Contents };
+
+    /// Whether a read is started.
+    ghost reading: { Self → Bool };
+
+    /// What is left to read, where that is told.
+    ghost left: { Self → Option (List ℕ) };
+
+    /// The name that is being written.
+    ghost writing: { Self → Option (List ℕ) };
+
+    /// How often starting to read and reading have failed.
+    ghost read_faults: { Self → ℕ };
+
+    /// How often starting to write and appending have failed.
+    ghost write_faults: { Self → ℕ };
+
+    /// Starts to read a name, from its front.
+    fn start_read(&mut self, name: &str) -> Result<(), ReadStart>
+        ensures ok { OnOk result ((reading self.new ≡ true) × StartsAt (told self.old) name.now (left self.new)) }
+        ensures err { OnErr result (reading self.new ≡ false) }
+        ensures missing { IsErrOf result ReadStart.Missing → Lacks (told self.old) name.now (read_faults self.old) (read_faults self.new) }
+        ensures cause { StartCause (read_faults self.old) (read_faults self.new) result }
+        ensures told { told self.new ≡ told self.old }
+        ensures writing { writing self.new ≡ writing self.old }
+        ensures write_faults { write_faults self.new ≡ write_faults self.old };
+
+    /// Reads some bytes to the front of the buffer, none only at the end, and says how many.
+    fn read(&mut self, buf: &mut [u8]) -> Result<usize, ShelfFault>
+        requires started { reading self.old ≡ true }
+        requires room { 0 < length buf.old }
+        ensures within { IfOk result (λ n. n ≤ length buf.new) }
+        ensures taken { IfOk result (λ n. Takes (left self.old) (left self.new) n buf.new) }
+        ensures err { OnErr result (left self.new ≡ left self.old) }
+        ensures reading { reading self.new ≡ true }
+        ensures cause { FaultCause (read_faults self.old) (read_faults self.new) result }
+        ensures told { told self.new ≡ told self.old }
+        ensures writing { writing self.new ≡ writing self.old }
+        ensures write_faults { write_faults self.new ≡ write_faults self.old };
+
+    /// Starts to write a name, which holds nothing from then on.
+    fn start_write(&mut self, name: &str) -> Result<(), ShelfFault>
+        ensures ok { OnOk result ((writing self.new ≡ Some name.now) × Steps (λ m. insert m name.now []) (told self.old) (told self.new)) }
+        ensures err { OnErr result ((writing self.new ≡ None) × MayBeEmptied name.now (told self.old) (told self.new)) }
+        ensures cause { FaultCause (write_faults self.old) (write_faults self.new) result }
+        ensures reading { reading self.new ≡ reading self.old }
+        ensures left { left self.new ≡ left self.old }
+        ensures read_faults { read_faults self.new ≡ read_faults self.old };
+
+    /// Adds bytes at the end of the name that is being written.
+    fn append(&mut self, bytes: &[u8]) -> Result<(), ShelfFault>
+        requires started { IsSome (writing self.old) }
+        ensures ok { OnOk result ((writing self.new ≡ writing self.old) × Adds (writing self.old) bytes.now (told self.old) (told self.new)) }
+        ensures err { OnErr result (KeepsPrefix (writing self.old) bytes.now (told self.old) (told self.new)) }
+        ensures cause { FaultCause (write_faults self.old) (write_faults self.new) result }
+        ensures reading { reading self.new ≡ reading self.old }
+        ensures left { left self.new ≡ left self.old }
+        ensures read_faults { read_faults self.new ≡ read_faults self.old };
+}
+
+/// Where lines are put.
+pub trait Sink {
+    /// All bytes that were put, where the sink tells them.
+    ghost shown: { Self → Option (List ℕ) };
+
+    /// How often a put has failed.
+    ghost faults: { Self → ℕ };
+
+    /// Puts bytes at the end.
+    fn put(&mut self, bytes: &[u8]) -> Result<(), ShelfFault>
+        ensures ok { OnOk result (Puts bytes.now (shown self.old) (shown self.new)) }
+        ensures err { OnErr result (PutsPrefix bytes.now (shown self.old) (shown self.new)) }
+        ensures cause { FaultCause (faults self.old) (faults self.new) result };
+}

@@ -1,0 +1,97 @@
+//! Where lines are put.
+ghost use Rattle.std.specs.Prelude.{◌≡◌, ◌++◌, ◌/◌, [], length, take, true, Some, None, OnOk, OnErr, IsErr, IsErrOf};
+ghost use Rattle.apt_shelf.specs.Told.{Puts, PutsPrefix, FaultCause};
+ghost use Rattle.apt_shelf.specs.Calls.{uncalled, fails_next, counted, faults_after};
+ghost use Rattle.apt_shelf.specs.Sink.{shown_of, faults_of, puts_of};
+
+use crate::calls::Calls;
+use crate::shelf::{ShelfFault, Sink};
+use std::alloc::Global;
+use std::io::Print;
+
+/// A sink in memory, with puts that fail by their numbers.
+#[derive(Debug, Drop)]
+pub struct MemSink {
+    bytes: Vec<u8>,
+    puts: Calls,
+    faults: u64,
+}
+
+impl MemSink {
+    /// An empty sink. The puts of these numbers fail, from 1. It takes no memory.
+    pub fn new(alloc: Global, fail: Vec<u64>) -> MemSink
+        ensures shown { ⟦<MemSink as Sink>⟧.shown result ≡ Some [] }
+        ensures faults { ⟦<MemSink as Sink>⟧.faults result ≡ 0 }
+        ensures calls { puts_of result ≡ uncalled fail }
+    {
+        MemSink {
+            bytes: Vec::new(alloc),
+            puts: Calls::new(fail),
+            faults: 0,
+        }
+    }
+
+    /// What was put.
+    pub fn bytes(&self) -> &[u8]
+        ensures { ⟦<MemSink as Sink>⟧.shown self.now ≡ Some result.now }
+    {
+        &self.bytes
+    }
+}
+
+impl Sink for MemSink {
+    ghost shown = { λ s. Some (shown_of s) };
+
+    ghost faults = { faults_of };
+
+    /// A failing put keeps the first half of its bytes, rounded down. Where memory lacks for that
+    /// half it answers NoMemory, and keeps nothing.
+    fn put(&mut self, bytes: &[u8]) -> Result<(), ShelfFault>
+        ensures ok { OnOk result (Puts bytes.now (Some (shown_of self.old)) (Some (shown_of self.new))) }
+        ensures err { OnErr result (PutsPrefix bytes.now (Some (shown_of self.old)) (Some (shown_of self.new))) }
+        ensures cause { FaultCause (faults_of self.old) (faults_of self.new) result }
+        ensures calls { puts_of self.new ≡ counted (puts_of self.old) }
+        ensures fails { fails_next (puts_of self.old) ≡ true → IsErr result }
+        ensures fault { IsErrOf result ShelfFault.Fault → fails_next (puts_of self.old) ≡ true }
+        ensures half { IsErrOf result ShelfFault.Fault → shown_of self.new ≡ shown_of self.old ++ take (length bytes.now / 2) bytes.now }
+        ensures no_memory { IsErrOf result ShelfFault.NoMemory → shown_of self.new ≡ shown_of self.old }
+        ensures counted { faults_of self.new ≡ faults_after (puts_of self.old) (faults_of self.old) }
+    {
+        if self.puts.next_fails(&mut self.faults) {
+            self.bytes.extend_from_slice(&bytes[..bytes.len() / 2])?;
+            return Err(ShelfFault::Fault);
+        }
+        Ok(self.bytes.extend_from_slice(bytes)?)
+    }
+}
+
+/// Standard output. Each error of the system counts as a fault.
+#[derive(Drop)]
+pub struct StdSink<'a, R: Print> {
+    rt: &'a R,
+    faults: u64,
+}
+
+impl<'a, R: Print> StdSink<'a, R> {
+    pub fn new(rt: &'a R) -> StdSink<'a, R>
+        ensures { ⟦<StdSink<'a, R> as Sink>⟧.faults result ≡ 0 }
+    {
+        StdSink { rt, faults: 0 }
+    }
+}
+
+impl<'a, R: Print> Sink for StdSink<'a, R> {
+    ghost shown = { λ _. None };
+
+    ghost faults = { λ s. s.faults };
+
+    fn put(&mut self, bytes: &[u8]) -> Result<(), ShelfFault> {
+        match self.rt.write_all(bytes) {
+            Ok(()) => Ok(()),
+            Err(_) => {
+                self.faults = self.faults.saturating_add(1);
+                Err(ShelfFault::Fault)
+            }
+        }
+    }
+}
