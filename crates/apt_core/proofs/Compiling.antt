@@ -1,7 +1,8 @@
 -- From the parts of the work to its answers.
 use Rattle.std.proofs.Common.{◌≡◌, ◌⊎◌, inl, inr, ℕ, ◌≤◌, List, [], ◌∷◌, length, take, Bool, true, false, Option, Some, None, Ok, option_map, ap, sym, ◌∙◌, refl, subst, cond, arith}
-use Rattle.std.specs.Prelude.{nat_lt}
+use Rattle.std.specs.Prelude.{nat_lt, IsSome}
 use Rattle.std.specs.FinMap.{get, insert}
+use Rattle.std.specs.Option.{option_and_then}
 use borrow.Author.Tests.{le-ltb}
 use Rattle.apt_shelf.specs.Told.{Contents, Steps}
 use Rattle.apt_shelf.specs.Files.{HoldsAt, WritesPrefix}
@@ -17,7 +18,7 @@ use Rattle.apt_core.specs.declared.status.Summary.TheVariants as summaries
 use Rattle.apt_core.specs.Words.{Ask, Compile}
 use Rattle.apt_core.specs.Plain.{Plain, plain_part, acts_of}
 use Rattle.apt_core.specs.Delivery.{IsDelivered}
-use Rattle.apt_core.specs.Answers.{Answers, Leaves, IsDone, IsCompiled, MayBeBegun, StayTold, due, due_file, due_program, program_in, summary_of, part_limit, the_machine}
+use Rattle.apt_core.specs.Answers.{Answers, IsAnswer, Completes, short_part, Leaves, IsDone, IsCompiled, MayBeBegun, StayTold, due, due_file, due_program, program_in, summary_of, part_limit, the_machine}
 
 -- what is known when the acts are there
 pub record HasActs (told : Option Contents) (part text : List ℕ) (done : List Act) : Type 0 where
@@ -102,3 +103,40 @@ leaves_delivered (Some m) after part machine cl tape text done answers.WriteFaul
 leaves_delivered (Some m) after part machine cl tape text done answers.NoMemory h is =
     may_begin m after part tape done (reads m part text done h.held h.short h.read) is
 leaves_delivered (Some m) after part machine cl tape text done _ h is = absurd is
+
+-- ---- completeness
+
+due_of_program : (m : Contents) (part : List ℕ) (held : Option (List ℕ)) → get m part ≡ held → (program : Plain) → option_and_then short_part held ≡ Some program → IsDone (due_file part held)
+due_of_program m part None e program read = absurd (let f : ⊥ = cc in f)
+due_of_program m part (Some text) e program read = short_due part text program read (nat_lt part_limit (length text)) refl
+  where
+    short_due : (part text : List ℕ) (program : Plain) → short_part text ≡ Some program → (b : Bool) → nat_lt part_limit (length text) ≡ b → IsDone (due_file part (Some text))
+    short_due part text program read true e = absurd (let f : None ≡ Some program = rw e at read in let g : ⊥ = cc in g)
+    short_due part text program read false e =
+        let plain : plain_part text ≡ Some program = rw e at read in
+        rw (e, plain) tt
+
+is_done : (answer wanted : Status) → answer ≡ wanted → IsDone wanted → IsDone answer
+is_done answer wanted e d = subst IsDone (sym e) d
+
+complete_told : (ask : Ask) (m : Contents) (reading writing : Type 0) (answer : Status) → IsDone (due ask m) → IsAnswer ask m reading writing answer → ¬ reading → ¬ writing → IsDone answer ⊎ (answer ≡ answers.NoMemory)
+complete_told ask m reading writing answers.ReadFault d is r w = absurd (r is)
+complete_told ask m reading writing answers.WriteFault d is r w = absurd (w is.1)
+complete_told ask m reading writing answers.NoMemory d is r w = inr refl
+complete_told ask m reading writing (answers.Done summary) d is r w = inl (is_done _ _ is d)
+complete_told ask m reading writing answers.Usage d is r w = inl (is_done _ _ is d)
+complete_told ask m reading writing (answers.Missing name) d is r w = inl (is_done _ _ is d)
+complete_told ask m reading writing (answers.TooLong name) d is r w = inl (is_done _ _ is d)
+complete_told ask m reading writing (answers.BadPart line cause) d is r w = inl (is_done _ _ is d)
+
+program_there : (o : Option Plain) → IsSome o → (p : Plain) × (o ≡ Some p)
+program_there None h = absurd (let f : ⊥ = cc in f)
+program_there (Some p) h = (p, refl)
+
+-- the answer says that plain parts are compiled
+pub completes : (ask : Option Ask) (told : Option Contents) (reading writing : Type 0) (answer : Status) → Answers ask told reading writing answer → Completes ask told reading writing answer
+completes None told reading writing answer is = tt
+completes (Some (Compile part machine cl tape)) None reading writing answer is = tt
+completes (Some (Compile part machine cl tape)) (Some m) reading writing answer is = λ there r w.
+    let p = program_there (program_in m part) there in
+    complete_told (Compile part machine cl tape) m reading writing answer (due_of_program m part (get m part) refl p.0 p.1) is r w

@@ -1,5 +1,5 @@
 -- What the top call answers, and what it leaves, over the words and the told files.
-use Rattle.std.specs.Prelude.{◌≡◌, ◌⊎◌, ℕ, nat_lt, List, [], ◌∷◌, length, take, Option, Some, None, Ok, if◌then◌else◌}
+use Rattle.std.specs.Prelude.{◌≡◌, ◌⊎◌, ℕ, nat_lt, List, [], ◌∷◌, length, take, Option, Some, None, IsSome, Ok, if◌then◌else◌}
 use Rattle.std.specs.FinMap.{get, insert}
 use Rattle.std.specs.Option.{option_and_then}
 use Rattle.apt_shelf.specs.Told.{Contents}
@@ -43,6 +43,13 @@ abbrev pub IsDone : Status → Type 0
 IsDone (answers.Done summary) = Unit {0}
 IsDone _ = ⊥
 
+-- the plain part that a name holds
+abbrev pub short_part : List ℕ → Option Plain
+short_part text = if nat_lt part_limit (length text) then None else plain_part text
+
+abbrev pub program_in : Contents → List ℕ → Option Plain
+program_in m part = option_and_then short_part (get m part)
+
 -- ---- answers and their causes; reading and writing say that the shelf's counts of these rose in the call
 
 -- over told files: the due answer, unless reading failed, or all before went well and writing failed, or memory ran out
@@ -67,14 +74,13 @@ Answers None told reading writing answer = answer ≡ answers.Usage
 Answers (Some ask) None reading writing answer = IsUntoldAnswer ask reading writing answer
 Answers (Some ask) (Some m) reading writing answer = IsAnswer ask m reading writing answer
 
+-- where no count rose, a plain part under the name PART is compiled, or memory ran out
+abbrev pub Completes : Option Ask → Option Contents → Type 0 → Type 0 → Status → Type 0
+Completes (Some (Compile part machine cl tape)) (Some m) reading writing answer =
+    IsSome (program_in m part) → ¬ reading → ¬ writing → IsDone answer ⊎ (answer ≡ answers.NoMemory)
+Completes _ _ reading writing answer = Unit {0}
+
 -- ---- what stands in the told files afterwards
-
--- the plain part that a name holds
-abbrev pub short_part : List ℕ → Option Plain
-short_part text = if nat_lt part_limit (length text) then None else plain_part text
-
-abbrev pub program_in : Contents → List ℕ → Option Plain
-program_in m part = option_and_then short_part (get m part)
 
 -- the name PART held a part, the name TAPE holds its tape, and all other names hold what they held
 pub record IsCompiled (part tape : List ℕ) (before after : Contents) (summary : Summary) : Type 0 where

@@ -4,7 +4,7 @@
 ghost use Rattle.std.specs.Prelude.{◌≡◌, ◌↔◌, ◌≤◌, None};
 ghost use Rattle.apt_shelf.specs.Told.{Rose};
 ghost use Rattle.apt_core.specs.Words.{asked, texts};
-ghost use Rattle.apt_core.specs.Answers.{Answers, Leaves, IsBeforeWriting};
+ghost use Rattle.apt_core.specs.Answers.{Answers, Completes, Leaves, IsBeforeWriting};
 
 mod compile;
 mod plain;
@@ -21,6 +21,7 @@ use words::{Request, request_of};
 /// Does what the words ask: `compile PART MACHINE CL TAPE` reads a plain part under the name PART
 /// (at most 4 MiB) and writes its tape, in RS-358 with blocks numbered by one, under the name TAPE.
 /// Nothing is read or written under the names MACHINE and CL, and nothing is put out.
+#[tactic(auto, using(crate::proofs::Compiling::completes))]
 pub fn apt<H: Shelf, K: Sink>(
     rt: &(impl Threads + Sync),
     alloc: Global,
@@ -30,6 +31,7 @@ pub fn apt<H: Shelf, K: Sink>(
 ) -> Status
     ensures usage { (result ≡ Status.Usage) ↔ (asked (texts words.now) ≡ None) }
     ensures answer { Answers (asked (texts words.now)) (H.told shelf.old) (Rose (H.read_faults shelf.old) (H.read_faults shelf.new)) (Rose (H.write_faults shelf.old) (H.write_faults shelf.new)) result }
+    ensures complete { Completes (asked (texts words.now)) (H.told shelf.old) (Rose (H.read_faults shelf.old) (H.read_faults shelf.new)) (Rose (H.write_faults shelf.old) (H.write_faults shelf.new)) result }
     ensures leaves { Leaves (asked (texts words.now)) (H.told shelf.old) (H.told shelf.new) result }
     ensures untouched { result ≡ Status.Usage → shelf.new ≡ shelf.old }
     ensures unbegun { IsBeforeWriting result → H.writing shelf.new ≡ H.writing shelf.old }

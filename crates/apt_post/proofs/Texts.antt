@@ -1,11 +1,10 @@
 -- The text of acts, an act at a time.
 use Rattle.std.specs.Prelude.{◌≡◌, ℕ, zero, suc, ◌+◌, ◌<◌, List, [], ◌∷◌, ◌++◌, length}
 use Rattle.std.proofs.Common.{ap, subst, sym, ◌∙◌, arith, inl, inr, append_assoc, get_or, drop, add-one, drop-cons}
-use Rattle.apt_block.specs.Block.{spelling, IsBlock}
+use Rattle.apt_block.specs.Block.{spelling}
 use Rattle.apt_control.specs.declared.Act.{Act}
 use Rattle.apt_control.specs.declared.Act.TheVariants as acts
 use Rattle.apt_post.specs.Post.{act_block, acts_text, CanWrite, ToTheEnd, IsProgram}
-use Rattle.apt_post.proofs.Standing.{act_block-IsBlock}
 use Rattle.apt_post.proofs.Running.{first_act}
 
 -- one act more
@@ -29,7 +28,8 @@ member-CanWrite (act ∷ more) is (suc i) d h =
       | inr goes_on ↦ member-CanWrite more goes_on.2 i d (omega arith)
     ]
 
-program-CanWrite : (all : List Act) → IsProgram all → (i : ℕ) (d : Act) → i < length all → CanWrite (get_or all i d)
+-- each act of a program can be written
+pub program-CanWrite : (all : List Act) → IsProgram all → (i : ℕ) (d : Act) → i < length all → CanWrite (get_or all i d)
 program-CanWrite [] is i d h = absurd is
 program-CanWrite (acts.Units u ∷ more) is i d h = member-CanWrite (acts.Units u ∷ more) (tt, is) i d h
 program-CanWrite (acts.Rapid x y z ∷ more) is i d h = absurd is
@@ -40,7 +40,3 @@ program-CanWrite (acts.Tool n ∷ more) is i d h = absurd is
 program-CanWrite (acts.Stop ∷ more) is i d h = absurd is
 program-CanWrite (acts.OptStop ∷ more) is i d h = absurd is
 program-CanWrite (acts.End ∷ more) is i d h = absurd is
-
--- each act of a program has a block
-pub program-IsBlock : (step k : ℕ) (all : List Act) (d : Act) → IsProgram all → k < length all → IsBlock (act_block step k (get_or all k d))
-program-IsBlock step k all d is h = act_block-IsBlock step k (get_or all k d) (program-CanWrite all is k d h)

@@ -1,5 +1,7 @@
+//! The block of each act.
+
 ghost use Rattle.std.specs.Prelude.{◌≡◌, ◌+◌, ◌*◌, ◌%◌, ◌≤◌, ◌++◌, length, pos};
-ghost use Rattle.apt_block.specs.Block.{tape_word, letter_g, letter_m};
+ghost use Rattle.apt_block.specs.Block.{IsBlock, tape_word, letter_g, letter_m};
 ghost use Rattle.apt_post.specs.Post as spec;
 
 use apt_block::{Block, TapeWord};
@@ -8,7 +10,9 @@ use apt_words::{Cool, Turn, Units};
 
 /// The block of an act that `k` blocks precede. A step of 0 numbers no block.
 pub fn act_block(step: u16, k: usize, act: &Act) -> Block
-    ensures { result ≡ spec.act_block step k act.now }
+    requires { spec.CanWrite act.now }
+    ensures words { result ≡ spec.act_block step k act.now }
+    ensures block { IsBlock result }
 {
     let mut block = numbered(step, k);
     push_act(&mut block, act);
@@ -27,7 +31,7 @@ fn numbered(step: u16, k: usize) -> Block
     block
 }
 
-/// From 1 on by the step, and from 1 to 9999 round and round.
+/// The number of the block that `k` blocks precede: 1 and `k` steps, and 1 again behind 9999.
 fn sequence_number(step: u16, k: usize) -> i64
     ensures { result ≡ pos (1 + (k * step) % 9999) }
 {

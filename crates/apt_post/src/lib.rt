@@ -16,7 +16,8 @@ use apt_tapecode::{Code, punch};
 use blocks::act_block;
 use std::alloc::{AllocError, Global};
 
-/// The bytes of the tape of acts: rewind stop, end of block, and a block for each act.
+/// The bytes of the tape of acts: rewind stop, end of block, and a block for each act. A control
+/// runs them to just these acts. It fails only where memory does.
 #[tactic(auto, using(crate::proofs::Running::tape_runs))]
 pub fn tape(alloc: Global, acts: &[Act], machine: &Machine) -> Result<Vec<u8>, AllocError>
     requires { spec.IsProgram acts.now }

@@ -2,9 +2,9 @@ pub mod Calls
 pub mod Entries
 pub mod Errors
 pub mod Files
+pub mod Folder
 pub mod Memory
 pub mod Numbers
-pub mod Paths
 pub mod Sink
 pub mod Store
 pub mod Sure

@@ -60,7 +60,7 @@ impl From<AllocError> for ReadError {
     }
 }
 
-/// All bytes of a name, if they are at most `limit`. The read stays started.
+/// All bytes of a name, if they are at most `limit`; `TooLong` if they are more.
 pub fn read_all<H: Shelf>(
     alloc: Global,
     shelf: &mut H,
@@ -90,7 +90,8 @@ pub fn read_all<H: Shelf>(
     Err(ReadError::TooLong)
 }
 
-/// Writes a whole file, piece by piece. After a refusal the name may hold a front part of the bytes.
+/// Writes a whole file, piece by piece. After a refusal the name is as before, or holds a front part
+/// of the bytes.
 pub fn write_all<H: Shelf>(shelf: &mut H, name: &str, bytes: &[u8]) -> Result<(), ShelfFault>
     ensures ok { OnOk result (Steps (λ m. insert m name.now bytes.now) (H.told shelf.old) (H.told shelf.new)) }
     ensures err { OnErr result (WritesPrefix name.now bytes.now (H.told shelf.old) (H.told shelf.new)) }

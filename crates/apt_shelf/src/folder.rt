@@ -1,7 +1,7 @@
 //! Files of a folder.
 ghost use Rattle.std.specs.Prelude.{◌≡◌, false, is_some, option_map, Some, None, IfOk};
 ghost use Rattle.std.specs.String.{string_bytes};
-ghost use Rattle.apt_shelf.specs.Paths.{path_in};
+ghost use Rattle.apt_shelf.specs.Folder.{folder_of, path_in};
 
 use crate::shelf::{ReadStart, Shelf, ShelfFault};
 use std::alloc::{AllocError, Global};
@@ -24,7 +24,9 @@ pub struct FolderShelf<'a, R: Files> {
 }
 
 impl<'a, R: Files> FolderShelf<'a, R> {
+    /// The files of this folder.
     pub fn new(rt: &'a R, alloc: Global, folder: &str) -> Result<FolderShelf<'a, R>, AllocError>
+        ensures folder { IfOk result (λ shelf. folder_of shelf ≡ folder.now) }
         ensures reading { IfOk result (λ shelf. ⟦<FolderShelf<'a, R> as Shelf>⟧.reading shelf ≡ false) }
         ensures writing { IfOk result (λ shelf. ⟦<FolderShelf<'a, R> as Shelf>⟧.writing shelf ≡ None) }
         ensures read_faults { IfOk result (λ shelf. ⟦<FolderShelf<'a, R> as Shelf>⟧.read_faults shelf ≡ 0) }
@@ -43,6 +45,7 @@ impl<'a, R: Files> FolderShelf<'a, R> {
     }
 }
 
+/// The path of a name.
 fn path_of(alloc: Global, folder: &str, name: &str) -> Result<String, AllocError>
     ensures { IfOk result (λ path. string_bytes path ≡ path_in folder.now name.now) }
 {

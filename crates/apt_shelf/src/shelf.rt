@@ -45,7 +45,8 @@ impl From<AllocError> for ShelfFault {
     }
 }
 
-/// Files by name. One at a time is read, and one is written.
+/// Files by name. One at a time is read, and one is written. A call never changes the count of
+/// faults of the other kind.
 pub trait Shelf {
     /// The bytes under each name, where the shelf tells them.
     ghost told: { Self → Option Contents };
@@ -65,7 +66,9 @@ pub trait Shelf {
     /// How often starting to write and appending have failed.
     ghost write_faults: { Self → ℕ };
 
-    /// Starts to read a name, from its front.
+    /// Starts to read a name, from its front. `Missing` where there is no such file, `Fault` where
+    /// it could not be opened: then the count of reading faults rose. After a refusal no read is
+    /// started.
     fn start_read(&mut self, name: &str) -> Result<(), ReadStart>
         ensures ok { OnOk result ((reading self.new ≡ true) × StartsAt (told self.old) name.now (left self.new)) }
         ensures err { OnErr result (reading self.new ≡ false) }
@@ -75,7 +78,8 @@ pub trait Shelf {
         ensures writing { writing self.new ≡ writing self.old }
         ensures write_faults { write_faults self.new ≡ write_faults self.old };
 
-    /// Reads some bytes to the front of the buffer, none only at the end, and says how many.
+    /// Reads some bytes to the front of the buffer, none only at the end, and says how many. After a
+    /// refusal all that was left still is.
     fn read(&mut self, buf: &mut [u8]) -> Result<usize, ShelfFault>
         requires started { reading self.old ≡ true }
         requires room { 0 < length buf.old }
@@ -88,7 +92,8 @@ pub trait Shelf {
         ensures writing { writing self.new ≡ writing self.old }
         ensures write_faults { write_faults self.new ≡ write_faults self.old };
 
-    /// Starts to write a name, which holds nothing from then on.
+    /// Starts to write a name, which holds nothing from then on. After a refusal no write is started,
+    /// and the name is as before or holds nothing.
     fn start_write(&mut self, name: &str) -> Result<(), ShelfFault>
         ensures ok { OnOk result ((writing self.new ≡ Some name.now) × Steps (λ m. insert m name.now []) (told self.old) (told self.new)) }
         ensures err { OnErr result ((writing self.new ≡ None) × MayBeEmptied name.now (told self.old) (told self.new)) }
@@ -97,7 +102,8 @@ pub trait Shelf {
         ensures left { left self.new ≡ left self.old }
         ensures read_faults { read_faults self.new ≡ read_faults self.old };
 
-    /// Adds bytes at the end of the name that is being written.
+    /// Adds bytes at the end of the name that is being written. After a refusal a front part of them
+    /// may have been added.
     fn append(&mut self, bytes: &[u8]) -> Result<(), ShelfFault>
         requires started { IsSome (writing self.old) }
         ensures ok { OnOk result ((writing self.new ≡ writing self.old) × Adds (writing self.old) bytes.now (told self.old) (told self.new)) }
@@ -116,7 +122,7 @@ pub trait Sink {
     /// How often a put has failed.
     ghost faults: { Self → ℕ };
 
-    /// Puts bytes at the end.
+    /// Puts bytes at the end. After a refusal a front part of them may have been put.
     fn put(&mut self, bytes: &[u8]) -> Result<(), ShelfFault>
         ensures ok { OnOk result (Puts bytes.now (shown self.old) (shown self.new)) }
         ensures err { OnErr result (PutsPrefix bytes.now (shown self.old) (shown self.new)) }

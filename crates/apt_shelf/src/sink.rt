@@ -9,7 +9,7 @@ use crate::shelf::{ShelfFault, Sink};
 use std::alloc::Global;
 use std::io::Print;
 
-/// A sink in memory, with puts that fail by their numbers.
+/// A sink in memory, with puts that fail by their numbers, from 1.
 #[derive(Debug, Drop)]
 pub struct MemSink {
     bytes: Vec<u8>,
@@ -18,7 +18,7 @@ pub struct MemSink {
 }
 
 impl MemSink {
-    /// An empty sink. The puts of these numbers fail, from 1. It takes no memory.
+    /// An empty sink, on which these puts fail. It takes no memory.
     pub fn new(alloc: Global, fail: Vec<u64>) -> MemSink
         ensures shown { ⟦<MemSink as Sink>⟧.shown result ≡ Some [] }
         ensures faults { ⟦<MemSink as Sink>⟧.faults result ≡ 0 }
@@ -73,6 +73,7 @@ pub struct StdSink<'a, R: Print> {
 }
 
 impl<'a, R: Print> StdSink<'a, R> {
+    /// The standard output of this runtime.
     pub fn new(rt: &'a R) -> StdSink<'a, R>
         ensures { ⟦<StdSink<'a, R> as Sink>⟧.faults result ≡ 0 }
     {

@@ -9,6 +9,7 @@ use crate::reading::Reading;
 use crate::shelf::ReadStart;
 use std::alloc::{AllocError, Global};
 
+/// The files, the read and the write that are started. A call fails for lack of memory alone.
 #[derive(Debug, Drop)]
 pub(crate) struct Store {
     alloc: Global,

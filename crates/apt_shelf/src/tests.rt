@@ -1,6 +1,7 @@
 use super::*;
-use std::alloc::Global;
+use std::alloc::{AllocGlobal, Global};
 use std::fs;
+use std::process::Abort;
 use std::test::Fail;
 
 fn one_file(alloc: Global, name: &str, bytes: &[u8]) -> Result<Vec<(String, Vec<u8>)>, Fail> {
@@ -11,27 +12,53 @@ fn one_file(alloc: Global, name: &str, bytes: &[u8]) -> Result<Vec<(String, Vec<
     Ok(vec![in alloc; file]?)
 }
 
+fn assert_reads<R: Abort + AllocGlobal, H: Shelf>(
+    rt: &R,
+    shelf: &mut H,
+    name: &str,
+    limit: usize,
+    want: &[u8],
+) {
+    let read = read_all(rt.alloc(), shelf, name, limit);
+    assert!(rt;
+        matches!(&read, Ok(bytes) if bytes.as_slice() == want),
+        "read {name}"
+    );
+}
+
+fn assert_refuses<R: Abort + AllocGlobal, H: Shelf>(
+    rt: &R,
+    shelf: &mut H,
+    name: &str,
+    limit: usize,
+    want: ReadError,
+) {
+    let read = read_all(rt.alloc(), shelf, name, limit);
+    assert_eq!(rt; read.err(), Some(want), "read {name}");
+}
+
+fn assert_writes<R: Abort, H: Shelf>(
+    rt: &R,
+    shelf: &mut H,
+    name: &str,
+    bytes: &[u8],
+    want: Result<(), ShelfFault>,
+) {
+    assert_eq!(rt; write_all(shelf, name, bytes), want, "write {name}");
+}
+
 #[test]
 fn memory_keeps_files(rt: HostRuntime) -> Result<(), Fail> {
     let alloc = rt.alloc();
     let files = one_file(alloc, "a", b"hello")?;
     let mut shelf = MemShelf::new(alloc, files, FailList::none(alloc))?;
     let long = [7u8; 5000];
-    write_all(&mut shelf, "b", &long)?;
-    assert_eq!(rt;
-        read_all(alloc, &mut shelf, "b", 5000)?.as_slice(),
-        long.as_slice()
-    );
-    assert_eq!(rt;
-        read_all(alloc, &mut shelf, "b", 4999).err(),
-        Some(ReadError::TooLong)
-    );
-    assert_eq!(rt;
-        read_all(alloc, &mut shelf, "c", 9).err(),
-        Some(ReadError::Missing)
-    );
-    write_all(&mut shelf, "b", b"")?;
-    assert_eq!(rt; shelf.file("b"), Some(b"".as_slice()));
+    assert_writes(&rt, &mut shelf, "b", &long, Ok(()));
+    assert_reads(&rt, &mut shelf, "b", 5000, &long);
+    assert_refuses(&rt, &mut shelf, "b", 4999, ReadError::TooLong);
+    assert_refuses(&rt, &mut shelf, "c", 9, ReadError::Missing);
+    assert_writes(&rt, &mut shelf, "b", b"", Ok(()));
+    assert_reads(&rt, &mut shelf, "b", 9, b"");
     assert_eq!(rt; shelf.file("a"), Some(b"hello".as_slice()));
     Ok(())
 }
@@ -47,38 +74,17 @@ fn listed_calls_fail_once(rt: HostRuntime) -> Result<(), Fail> {
         appends: vec![in alloc; 2]?,
     };
     let mut shelf = MemShelf::new(alloc, files, fail)?;
-    assert_eq!(rt;
-        read_all(alloc, &mut shelf, "a", 9).err(),
-        Some(ReadError::Fault),
-        "the second read"
-    );
-    assert_eq!(rt;
-        read_all(alloc, &mut shelf, "a", 9).err(),
-        Some(ReadError::Fault),
-        "the second start"
-    );
-    assert_eq!(rt;
-        read_all(alloc, &mut shelf, "a", 9)?.as_slice(),
-        b"hello".as_slice()
-    );
-    write_all(&mut shelf, "b", b"12345")?;
-    assert_eq!(rt;
-        write_all(&mut shelf, "b", b"678"),
-        Err(ShelfFault::Fault),
-        "the second start"
-    );
-    assert_eq!(rt; shelf.file("b"), Some(b"12345".as_slice()));
-    assert_eq!(rt;
-        write_all(&mut shelf, "b", b"67890"),
-        Err(ShelfFault::Fault),
-        "the second append"
-    );
-    assert_eq!(rt;
-        shelf.file("b"),
-        Some(b"67".as_slice()),
-        "half of the piece"
-    );
-    write_all(&mut shelf, "b", b"67890")?;
+    // the second read fails, then the second start
+    assert_refuses(&rt, &mut shelf, "a", 9, ReadError::Fault);
+    assert_refuses(&rt, &mut shelf, "a", 9, ReadError::Fault);
+    assert_reads(&rt, &mut shelf, "a", 9, b"hello");
+    // the second start fails, then the second append, which keeps half
+    assert_writes(&rt, &mut shelf, "b", b"12345", Ok(()));
+    assert_writes(&rt, &mut shelf, "b", b"678", Err(ShelfFault::Fault));
+    assert_reads(&rt, &mut shelf, "b", 9, b"12345");
+    assert_writes(&rt, &mut shelf, "b", b"67890", Err(ShelfFault::Fault));
+    assert_reads(&rt, &mut shelf, "b", 9, b"67");
+    assert_writes(&rt, &mut shelf, "b", b"67890", Ok(()));
     assert_eq!(rt; shelf.file("b"), Some(b"67890".as_slice()));
     Ok(())
 }
@@ -87,11 +93,8 @@ fn listed_calls_fail_once(rt: HostRuntime) -> Result<(), Fail> {
 fn sure_shelf_keeps_files(rt: HostRuntime) -> Result<(), Fail> {
     let alloc = rt.alloc();
     let mut shelf = SureShelf::new(alloc, one_file(alloc, "a", b"hello")?)?;
-    write_all(&mut shelf, "b", b"there")?;
-    assert_eq!(rt;
-        read_all(alloc, &mut shelf, "a", 5)?.as_slice(),
-        b"hello".as_slice()
-    );
+    assert_writes(&rt, &mut shelf, "b", b"there", Ok(()));
+    assert_reads(&rt, &mut shelf, "a", 5, b"hello");
     assert_eq!(rt; shelf.file("b"), Some(b"there".as_slice()));
     assert_eq!(rt; shelf.file("c"), None);
     Ok(())
@@ -110,26 +113,18 @@ fn sink_keeps_lines(rt: HostRuntime) -> Result<(), Fail> {
 
 #[test]
 fn folder_keeps_files(rt: HostRuntime) -> Result<(), Fail> {
-    let alloc = rt.alloc();
-    let mut shelf = FolderShelf::new(&rt, alloc, ".")?;
-    write_all(&mut shelf, "apt_shelf_test.txt", b"hello")?;
-    assert_eq!(rt;
-        read_all(alloc, &mut shelf, "apt_shelf_test.txt", 5)?.as_slice(),
-        b"hello".as_slice()
+    let mut shelf = FolderShelf::new(&rt, rt.alloc(), ".")?;
+    assert_writes(&rt, &mut shelf, "apt_shelf_test.txt", b"hello", Ok(()));
+    assert_reads(&rt, &mut shelf, "apt_shelf_test.txt", 5, b"hello");
+    assert_refuses(&rt, &mut shelf, "no_file.txt", 5, ReadError::Missing);
+    assert_writes(
+        &rt,
+        &mut shelf,
+        "no_folder/file",
+        b"hello",
+        Err(ShelfFault::Fault),
     );
-    assert_eq!(rt;
-        read_all(alloc, &mut shelf, "apt_shelf_none.txt", 5).err(),
-        Some(ReadError::Missing)
-    );
-    assert_eq!(rt;
-        write_all(&mut shelf, "no_folder/file", b"hello"),
-        Err(ShelfFault::Fault)
-    );
-    assert_eq!(rt;
-        read_all(alloc, &mut shelf, "/dev/null", 5)?.len(),
-        0,
-        "an absolute name"
-    );
+    assert_reads(&rt, &mut shelf, "/dev/null", 5, b"");
     fs::remove_file(&rt, "apt_shelf_test.txt")?;
     Ok(())
 }

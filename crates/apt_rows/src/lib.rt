@@ -1,0 +1,7 @@
+//! Runs of the whole program over files in memory.
+#![tactic(auto)]
+
+#[cfg(test)]
+mod first_run;
+#[cfg(test)]
+mod run;

@@ -1,0 +1,58 @@
+//! A run over files in memory, for tests.
+use apt_core::{Status, apt};
+use apt_shelf::{FailList, MemShelf, MemSink, Shelf};
+use std::alloc::{AllocGlobal, Global};
+use std::process::Abort;
+use std::test::Fail;
+use std::thread::Threads;
+
+/// A shelf with the part under the name `part`, a machine table, and old outputs.
+pub fn shelf_with(alloc: Global, part: &[u8], fail: FailList) -> Result<MemShelf, Fail> {
+    Ok(MemShelf::new(alloc, files_with(alloc, part)?, fail)?)
+}
+
+pub fn files_with(alloc: Global, part: &[u8]) -> Result<Vec<(String, Vec<u8>)>, Fail> {
+    let mut files = Vec::new(alloc);
+    files.push(file(alloc, "part", part)?)?;
+    files.push(file(alloc, "machine", b"MACHINE 1\n")?)?;
+    files.push(file(alloc, "cl", b"old cl")?)?;
+    files.push(file(alloc, "tape", b"old tape")?)?;
+    Ok(files)
+}
+
+fn file(alloc: Global, name: &str, bytes: &[u8]) -> Result<(String, Vec<u8>), Fail> {
+    Ok((
+        String::from_str(alloc, name)?,
+        Vec::from_slice(alloc, bytes)?,
+    ))
+}
+
+/// The answer to the words, which are parted by blanks. Nothing is put out.
+pub fn run<R: Threads + Sync + Abort + AllocGlobal, H: Shelf>(
+    rt: &R,
+    shelf: &mut H,
+    words: &str,
+) -> Result<Status, Fail> {
+    let alloc = rt.alloc();
+    let mut list = Vec::new(alloc);
+    for word in words.split(' ') {
+        list.push(String::from_str(alloc, word)?)?;
+    }
+    let mut out = MemSink::new(alloc, Vec::new(alloc));
+    let status = apt(rt, alloc, &list, shelf, &mut out);
+    assert!(rt; out.bytes().is_empty(), "{words}");
+    Ok(status)
+}
+
+/// The bytes of a text in RS-358: ASCII with even parity in track 8.
+pub fn rs358(alloc: Global, text: &[u8]) -> Result<Vec<u8>, Fail> {
+    let mut bytes = Vec::new(alloc);
+    for ch in text {
+        bytes.push(if ch.count_ones() % 2 == 0 {
+            *ch
+        } else {
+            *ch | 0x80
+        })?;
+    }
+    Ok(bytes)
+}
