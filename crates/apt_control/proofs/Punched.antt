@@ -6,11 +6,11 @@ use Rattle.std.proofs.lemmas.Bool.{and_parts}
 use Rattle.apt_tapecode.specs.declared.Code.{Code}
 use Rattle.apt_tapecode.specs.declared.Code.TheVariants.{Rs244, Rs358}
 use Rattle.apt_tapecode.specs.declared.Read.TheVariants.{Char}
-use Rattle.apt_tapecode.specs.Tapecode.{end_of_block, rewind_stop}
+use Rattle.apt_tapecode.specs.Tapecode.{is_tape_character, byte_of, end_of_block, rewind_stop}
 use Rattle.apt_block.specs.declared.block.TapeCause.TheVariants as causes
 use Rattle.apt_block.specs.Block.{Mark, marks}
 use Rattle.apt_control.specs.Control.{Characters, characters, in_front, fault, after_start, texts, joined}
-use Rattle.apt_control.proofs.Premises.{is_tape_character, byte_of, reading-byte_of}
+use Rattle.apt_tapecode.proofs.Codes.{reading-byte_of}
 
 -- all characters, each with its place, and the tape's end behind them
 abbrev pub all_read : ℕ → List ℕ → Characters

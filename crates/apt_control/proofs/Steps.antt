@@ -3,13 +3,12 @@ use Rattle.std.specs.Prelude.{◌≡◌, ℕ, ◌+◌, List, [], ◌∷◌, ◌+
 use Rattle.std.specs.List.{list_all, flat_map}
 use Rattle.std.proofs.Common.{ap, ◌∙◌, arith}
 use Rattle.apt_tapecode.specs.declared.Code.{Code}
-use Rattle.apt_tapecode.specs.Tapecode.{end_of_block, rewind_stop}
+use Rattle.apt_tapecode.specs.Tapecode.{is_tape_character, byte_of, end_of_block, rewind_stop}
 use Rattle.apt_block.specs.declared.block.TapeWord.{TapeWord}
 use Rattle.apt_block.specs.declared.block.TapeCause.TheVariants as causes
 use Rattle.apt_block.specs.Block.{Mark, Fault, marks, ◌>>=◌, block_of}
 use Rattle.apt_control.specs.declared.Act.{Act}
 use Rattle.apt_control.specs.Control.{Held, Meaning, nothing_held, meaning, is_end, placed, fault, last_place, after_end, ended, texts, run, run_characters, control_run}
-use Rattle.apt_control.proofs.Premises.{is_tape_character, byte_of}
 use Rattle.apt_control.proofs.Punched.{characters-punched, after_start-punched}
 
 ok-then : {A B : Type 0} (r : Result A Fault) (x : A) (f : A → Result B Fault) → r ≡ Ok x → (r >>= f) ≡ f x

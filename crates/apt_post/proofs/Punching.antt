@@ -4,7 +4,7 @@ use Rattle.std.proofs.Common.{ap, ◌∙◌, arith, get_or, set, take, drop}
 use Rattle.std.proofs.lemmas.List.{get_or_default}
 use Rattle.std.proofs.lemmas.List.Edits.{map_over_more}
 use Rattle.apt_tapecode.specs.declared.Code.{Code}
-use Rattle.apt_post.specs.Post.{byte_of}
+use Rattle.apt_tapecode.specs.Tapecode.{byte_of}
 
 pub punched-next : (code : Code) (chs now : List ℕ) (i byte : ℕ) → i < length now → length now ≡ length chs
     → now ≡ map (byte_of code) (take i chs) ++ drop i chs → byte ≡ byte_of code (get_or now i 0)

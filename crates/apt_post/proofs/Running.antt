@@ -14,7 +14,7 @@ use Rattle.apt_block.proofs.Reading.{block_of-spelling, word_characters}
 use Rattle.apt_control.specs.declared.Act.{Act}
 use Rattle.apt_control.specs.declared.Act.TheVariants as acts
 use Rattle.apt_control.specs.Control.{Held, nothing_held, fault, texts, run, control_run}
-use Rattle.apt_control.proofs.Premises.{is_tape_character}
+use Rattle.apt_tapecode.specs.Tapecode.{is_tape_character}
 use Rattle.apt_control.proofs.Punched.{is_within, texts-text}
 use Rattle.apt_control.proofs.Steps.{run-block, run-end, control_run-punched}
 use Rattle.apt_post.specs.Post.{act_block, acts_text, tape_bytes, CanWrite, ToTheEnd, IsProgram}

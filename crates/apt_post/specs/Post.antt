@@ -1,10 +1,9 @@
 -- The writer of a tape: the block of each act, and the bytes of them all.
-use Rattle.std.specs.Prelude.{◌≡◌, ℕ, ◌+◌, ◌*◌, ◌%◌, ◌≤◌, ℤ, pos, unsigned_abs, ◌==◌, List, [], ◌∷◌, ◌++◌, map, unwrap_or, if◌then◌else◌}
+use Rattle.std.specs.Prelude.{◌≡◌, ℕ, ◌+◌, ◌*◌, ◌%◌, ◌≤◌, ℤ, pos, unsigned_abs, ◌==◌, List, [], ◌∷◌, ◌++◌, map, if◌then◌else◌}
 use Rattle.apt_words.specs.declared.Units.TheVariants.{Inch, Mm}
 use Rattle.apt_words.specs.declared.Turn.TheVariants as turns
 use Rattle.apt_words.specs.declared.Cool.TheVariants as coolants
-use Rattle.apt_tapecode.specs.declared.Code.{Code}
-use Rattle.apt_tapecode.specs.Tapecode.{punched, end_of_block, rewind_stop}
+use Rattle.apt_tapecode.specs.Tapecode.{byte_of, end_of_block, rewind_stop}
 use Rattle.apt_machine.specs.declared.Machine.{Machine}
 use Rattle.apt_block.specs.declared.block.TapeWord.{TapeWord}
 use Rattle.apt_block.specs.Block.{spelling, tape_word, letter_n, letter_g, letter_x, letter_y, letter_z, letter_f, letter_s, letter_t, letter_m}
@@ -53,9 +52,6 @@ acts_text step k (act ∷ more) = spelling (act_block step k act) ++ acts_text s
 -- the characters of a tape: rewind stop, end of block, and a block for each act
 abbrev pub tape_text : ℕ → List Act → List ℕ
 tape_text step acts = rewind_stop ∷ end_of_block ∷ acts_text step 0 acts
-
-abbrev pub byte_of : Code → ℕ → ℕ
-byte_of code ch = unwrap_or (punched code ch) 0
 
 -- the bytes of a tape
 abbrev pub tape_bytes : Machine → List Act → List ℕ

@@ -4,6 +4,7 @@
 ghost use Rattle.std.specs.Prelude.{◌≡◌, ℕ, map, IfOk, Ok};
 ghost use Rattle.apt_control.specs.Control.{control_run};
 ghost use Rattle.apt_post.specs.Post as spec;
+ghost use Rattle.apt_tapecode.specs.Tapecode as tapecode;
 
 mod blocks;
 #[cfg(test)]
@@ -38,14 +39,15 @@ fn tape_text(alloc: Global, acts: &[Act], step: u16) -> Result<Vec<u8>, AllocErr
     text.push(b'%')?;
     text.push(b'\n')?;
     'acts: for (k, act) in acts.iter().enumerate() {
-        write_block(alloc, &act_block(step, k, act), &mut text)?;
+        let block = act_block(step, k, act);
+        write_block(alloc, &block, &mut text)?;
     }
     Ok(text)
 }
 
 /// Puts the byte of each character in its place.
 fn punch_all(code: Code, text: &mut Vec<u8>)
-    ensures { text.new.items ≡ map (spec.byte_of code) text.old.items }
+    ensures { text.new.items ≡ map (tapecode.byte_of code) text.old.items }
 {
     'characters: for ch in text.iter_mut() {
         *ch = byte_of(code, *ch);
@@ -53,7 +55,7 @@ fn punch_all(code: Code, text: &mut Vec<u8>)
 }
 
 fn byte_of(code: Code, ch: u8) -> u8
-    ensures { result ≡ spec.byte_of code ch }
+    ensures { result ≡ tapecode.byte_of code ch }
 {
     punch(code, ch).unwrap_or(0)
 }

@@ -1,5 +1,5 @@
 use Rattle.std.proofs.Common.{◌≡◌, ◌++◌, map, take, drop}
-use Rattle.apt_post.specs.Post.{byte_of}
+use Rattle.apt_tapecode.specs.Tapecode.{byte_of}
 use Rattle.apt_post.proofs.punch_all.Given as goal
 
 abbrev pub invariant-characters : goal.invariant-characters
