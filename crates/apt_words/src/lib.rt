@@ -1,6 +1,12 @@
 //! The words that part programs, acts and machines share.
 #![tactic(auto)]
 
+mod symbol;
+#[cfg(test)]
+mod tests;
+
+pub use symbol::{Symbol, is_vocabulary};
+
 /// The unit of a part program: a grid unit is 0.00001 inch or 0.0001 millimetre.
 #[derive(Clone, Copy, Debug, PartialEq, Eq)]
 pub enum Units {
@@ -22,4 +28,76 @@ pub enum Cool {
     Mist,
     Flood,
     Off,
+}
+
+/// The side of the cutter, seen along the motion.
+#[derive(Clone, Copy, Debug, PartialEq, Eq)]
+pub enum Side {
+    Left,
+    Right,
+    On,
+}
+
+/// The turn at the start of a contour motion, seen along the motion before it.
+#[derive(Clone, Copy, Debug, PartialEq, Eq)]
+pub enum Go {
+    Left,
+    Right,
+    Forward,
+    Back,
+}
+
+/// Where the cutter stops at a check surface.
+#[derive(Clone, Copy, Debug, PartialEq, Eq)]
+pub enum Stop {
+    To,
+    On,
+    Past,
+    Tanto,
+}
+
+/// Why a step of a part program is refused.
+#[derive(Clone, Copy, Debug, PartialEq, Eq)]
+pub enum Case {
+    Budget,
+    AfterEnd,
+    Unknown,
+    DivideByZero,
+    NegativeRoot,
+    TooLarge,
+    JumpOutside,
+    NoSuchMacro,
+    Depth,
+    BadArgs,
+    Undefined,
+    WrongKind,
+    OutOfRange,
+    Degenerate,
+    NoMeeting,
+    CircleTooLarge,
+    FeedTooLarge,
+    SpindleTooLarge,
+    ToolTooLarge,
+    FromAgain,
+    NoFrom,
+    NoFeed,
+    RapidContour,
+    TooFine,
+    NoTurn,
+    NoRoom,
+    OffDrive,
+    OnCheck,
+    Parallel,
+    NotTangent,
+    NoContact,
+    Behind,
+    TooManyPoints,
+}
+
+/// The first step of a part program that is refused: its line, its number, both from 1, and the case.
+#[derive(Clone, Copy, Debug, PartialEq, Eq)]
+pub struct Refusal {
+    pub line: u32,
+    pub step: u32,
+    pub case: Case,
 }

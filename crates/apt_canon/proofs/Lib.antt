@@ -1,0 +1,6 @@
+pub mod Products
+pub mod Meets
+pub mod NearLine
+pub mod MeetingLaws
+pub mod OnBoth
+pub mod Worked

@@ -1,0 +1,22 @@
+//! Closed formulas of the plane: where figures meet, rounded to the grid.
+#![tactic(auto)]
+
+mod lines;
+
+pub use lines::line_line;
+
+/// Why a formula gives no figure.
+#[derive(Clone, Copy, Debug, PartialEq, Eq)]
+pub enum FormFault {
+    /// The figure leaves the coordinate limit.
+    OutOfRange,
+    /// The given figures determine none.
+    Degenerate,
+    /// The given figures don't meet.
+    NoMeeting,
+    /// The circle is too large.
+    TooLarge,
+}
+
+#[cfg(test)]
+mod tests;

@@ -1,0 +1,195 @@
+//! The point in which two lines meet.
+
+ghost use Rattle.std.specs.Prelude.{◌≡◌, ◌≢◌, ◌↔◌, ◌*◌, ◌+◌, ◌^◌, ◌≤◌, ◌<◌, pos, ◌+ℤ◌, ◌-ℤ◌, ◌*ℤ◌, unsigned_abs, IfOk, IsErrOf};
+ghost use Rattle.apt_num.specs.Near.{near};
+ghost use Rattle.apt_plane.specs.Vectors as vectors;
+ghost use Rattle.apt_plane.specs.Ranges.{IsPoint, IsDir, IsLine};
+ghost use Rattle.apt_canon.specs.Meeting.{IsNearLine};
+ghost use Rattle.apt_canon.specs.Meeting as meeting;
+
+use crate::FormFault;
+use apt_num::{div_near, isqrt};
+use apt_plane::{Dir, Line, Pt};
+
+/// The coordinate limit, in grid units.
+const LIMIT: u128 = 50_000_000;
+
+/// One unit of length in the formulas.
+const UNIT: i128 = 1 << 35;
+
+/// A point or a way that may leave the coordinate limit.
+#[derive(Clone, Copy)]
+struct Wide {
+    x: i128,
+    y: i128,
+}
+
+/// The point, rounded to the grid, in which two lines meet that are moved `ha` and `hb` grid units to their left.
+/// `NoMeeting` where they are parallel, `OutOfRange` where the point leaves the coordinate limit.
+pub fn line_line(a: &Line, ha: i64, b: &Line, hb: i64) -> Result<Pt, FormFault>
+    requires a { IsLine a.now }
+    requires b { IsLine b.now }
+    requires ha { unsigned_abs ha ≤ 10 ^ 8 }
+    requires hb { unsigned_abs hb ≤ 10 ^ 8 }
+    ensures value { result ≡ meeting.line_line a.now ha b.now hb }
+    ensures parallel { IsErrOf result FormFault.NoMeeting ↔ (vectors.cross a.now.dir b.now.dir ≡ pos 0) }
+    ensures in_range { IfOk result (λ p. IsPoint p) }
+    ensures on_a { IfOk result (λ p. IsNearLine a.now ha (pos 1) p) }
+    ensures on_b { IfOk result (λ p. IsNearLine b.now hb (pos 1) p) }
+{
+    meet(a, ha, b, hb)
+}
+
+fn meet(a: &Line, ha: i64, b: &Line, hb: i64) -> Result<Pt, FormFault>
+    requires a { IsLine a.now }
+    requires b { IsLine b.now }
+    requires ha { unsigned_abs ha ≤ 10 ^ 8 }
+    requires hb { unsigned_abs hb ≤ 10 ^ 8 }
+    ensures { result ≡ meeting.line_line a.now ha b.now hb }
+{
+    let turn = cross(a.dir, b.dir);
+    if turn == 0 {
+        return Err(FormFault::NoMeeting);
+    }
+    in_range(meeting_point(a, ha, b, hb, turn))
+}
+
+fn meeting_point(a: &Line, ha: i64, b: &Line, hb: i64, turn: i128) -> Wide
+    requires a { IsLine a.now }
+    requires b { IsLine b.now }
+    requires ha { unsigned_abs ha ≤ 10 ^ 8 }
+    requires hb { unsigned_abs hb ≤ 10 ^ 8 }
+    requires turn { turn ≡ vectors.cross a.now.dir b.now.dir }
+    requires turn_small { unsigned_abs turn ≤ 2 * 10 ^ 16 }
+    requires not_zero { turn ≢ pos 0 }
+    ensures x { result.x ≡ (meeting.meeting_point a.now ha b.now hb).x }
+    ensures y { result.y ≡ (meeting.meeting_point a.now ha b.now hb).y }
+{
+    let way = meeting_way(a, ha, b, hb);
+    Wide {
+        x: shifted(a.base.x, way.x, turn),
+        y: shifted(a.base.y, way.y, turn),
+    }
+}
+
+fn meeting_way(a: &Line, ha: i64, b: &Line, hb: i64) -> Wide
+    requires a { IsLine a.now }
+    requires b { IsLine b.now }
+    requires ha { unsigned_abs ha ≤ 10 ^ 8 }
+    requires hb { unsigned_abs hb ≤ 10 ^ 8 }
+    ensures x { result.x ≡ (meeting.meeting_way a.now ha b.now hb).dx }
+    ensures y { result.y ≡ (meeting.meeting_way a.now ha b.now hb).dy }
+    ensures x_small { unsigned_abs result.x ≤ 2 ^ 119 }
+    ensures y_small { unsigned_abs result.y ≤ 2 ^ 119 }
+{
+    let first = times(ha, length_of(a.dir));
+    let second = height_from(hb, length_of(b.dir), cross(b.dir, way(b.base, a.base)));
+    Wide {
+        x: product_difference(b.dir.dx, first, a.dir.dx, second),
+        y: product_difference(b.dir.dy, first, a.dir.dy, second),
+    }
+}
+
+/// The height of a moved line, from a point whose own height is `cross`.
+fn height_from(offset: i64, length: i128, cross: i128) -> i128
+    requires offset { unsigned_abs offset ≤ 10 ^ 8 }
+    requires length { unsigned_abs length < 2 ^ 63 }
+    requires cross { unsigned_abs cross ≤ 2 * 10 ^ 16 }
+    ensures value { result ≡ (offset *ℤ length) -ℤ (cross *ℤ meeting.unit) }
+    ensures small { unsigned_abs result ≤ 2 ^ 91 }
+{
+    times(offset, length) - cross * UNIT
+}
+
+fn length_of(dir: Dir) -> i128
+    requires { IsDir dir }
+    ensures value { result ≡ meeting.length_of dir }
+    ensures small { unsigned_abs result < 2 ^ 63 }
+{
+    isqrt(norm(dir) * (1 << 70)) as i128
+}
+
+fn shifted(base: i64, share: i128, turn: i128) -> i128
+    requires base { unsigned_abs base ≤ 50000000 }
+    requires share { unsigned_abs share ≤ 2 ^ 119 }
+    requires turn { unsigned_abs turn ≤ 2 * 10 ^ 16 }
+    requires not_zero { turn ≢ pos 0 }
+    ensures { result ≡ base +ℤ near share (turn *ℤ meeting.unit) }
+{
+    i128::from(base) + div_near(share, turn * UNIT)
+}
+
+fn in_range(point: Wide) -> Result<Pt, FormFault>
+    ensures { result ≡ meeting.in_range (record { x = point.x; y = point.y }) }
+{
+    if point.x.unsigned_abs() <= LIMIT && point.y.unsigned_abs() <= LIMIT {
+        Ok(Pt {
+            x: point.x as i64,
+            y: point.y as i64,
+        })
+    } else {
+        Err(FormFault::OutOfRange)
+    }
+}
+
+fn way(p: Pt, q: Pt) -> Dir
+    requires start { IsPoint p }
+    requires end { IsPoint q }
+    ensures value { result ≡ vectors.way p q }
+    ensures dx { unsigned_abs result.dx ≤ 10 ^ 8 }
+    ensures dy { unsigned_abs result.dy ≤ 10 ^ 8 }
+{
+    Dir {
+        dx: q.x - p.x,
+        dy: q.y - p.y,
+    }
+}
+
+fn norm(dir: Dir) -> u128
+    requires dx { unsigned_abs dir.dx ≤ 10 ^ 8 }
+    requires dy { unsigned_abs dir.dy ≤ 10 ^ 8 }
+    ensures value { result ≡ vectors.norm dir }
+    ensures small { result ≤ 2 * 10 ^ 16 }
+{
+    square(dir.dx) + square(dir.dy)
+}
+
+fn square(part: i64) -> u128
+    requires { unsigned_abs part ≤ 10 ^ 8 }
+    ensures value { result ≡ unsigned_abs part * unsigned_abs part }
+    ensures small { result ≤ 10 ^ 16 }
+{
+    let size = u128::from(part.unsigned_abs());
+    size * size
+}
+
+fn cross(u: Dir, v: Dir) -> i128
+    requires u_dx { unsigned_abs u.dx ≤ 10 ^ 8 }
+    requires u_dy { unsigned_abs u.dy ≤ 10 ^ 8 }
+    requires v_dx { unsigned_abs v.dx ≤ 10 ^ 8 }
+    requires v_dy { unsigned_abs v.dy ≤ 10 ^ 8 }
+    ensures value { result ≡ vectors.cross u v }
+    ensures small { unsigned_abs result ≤ 2 * 10 ^ 16 }
+{
+    product_difference(u.dx, i128::from(v.dy), u.dy, i128::from(v.dx))
+}
+
+fn product_difference(a: i64, b: i128, c: i64, d: i128) -> i128
+    requires a { unsigned_abs a ≤ 10 ^ 8 }
+    requires b { unsigned_abs b ≤ 2 ^ 91 }
+    requires c { unsigned_abs c ≤ 10 ^ 8 }
+    requires d { unsigned_abs d ≤ 2 ^ 91 }
+    ensures value { result ≡ (a *ℤ b) -ℤ (c *ℤ d) }
+    ensures small { unsigned_abs result ≤ 10 ^ 8 * (unsigned_abs b + unsigned_abs d) }
+{
+    times(a, b) - times(c, d)
+}
+
+fn times(a: i64, b: i128) -> i128
+    requires a { unsigned_abs a ≤ 10 ^ 8 }
+    requires b { unsigned_abs b ≤ 2 ^ 91 }
+    ensures value { result ≡ a *ℤ b }
+    ensures small { unsigned_abs result ≤ 10 ^ 8 * unsigned_abs b }
+{
+    i128::from(a) * b
+}

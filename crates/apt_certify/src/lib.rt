@@ -1,0 +1,2 @@
+//! The certificate of contour motions.
+#![tactic(auto)]

@@ -1,0 +1,8 @@
+pub mod Ring
+pub mod Squares
+pub mod RootLaws
+pub mod Signs
+pub mod AtLeast
+pub mod Nearest
+pub mod Roots
+mod Worked

@@ -1,0 +1,4 @@
+pub mod Turns
+pub mod Places
+pub mod Targets
+pub mod Ranges

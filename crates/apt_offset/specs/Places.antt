@@ -1,0 +1,61 @@
+-- The place of the cutter at a surface: left of a line or inside a circle (Plus), right or outside (Minus), or on it (Zero).
+use Rattle.std.specs.Prelude.{◌*◌, nat_le, ℤ, pos, ◌-ℤ◌, ◌*ℤ◌, unsigned_abs, max, Result, Ok, Err, if◌then◌else◌}
+use Rattle.apt_num.specs.declared.Sign.{Sign}
+use Rattle.apt_num.specs.declared.Sign.TheVariants as signs
+use Rattle.apt_num.specs.Sign.{sign_of}
+use Rattle.apt_words.specs.declared.Side.{Side}
+use Rattle.apt_words.specs.declared.Side.TheVariants as sides
+use Rattle.apt_words.specs.declared.Stop.{Stop}
+use Rattle.apt_words.specs.declared.Stop.TheVariants as stops
+use Rattle.apt_words.specs.declared.Case.{Case}
+use Rattle.apt_words.specs.declared.Case.TheVariants as cases
+use Rattle.apt_plane.specs.declared.figures.Pt.{Pt}
+use Rattle.apt_plane.specs.declared.figures.Surface.{Surface}
+use Rattle.apt_plane.specs.declared.figures.Surface.TheVariants as surfaces
+use Rattle.apt_plane.specs.Vectors.{way, cross, norm}
+use Rattle.apt_offset.specs.Turns.{opposite}
+
+abbrev pub times : Sign → Sign → Sign
+times signs.Plus s = s
+times signs.Zero s = signs.Zero
+times signs.Minus s = opposite s
+
+-- the place at the drive surface: a cutter on the left of a motion in the sense of a line is on the line's left, and of an anticlockwise motion inside the circle
+abbrev pub drive_place : Side → ℤ → Sign
+drive_place sides.Left sense = sign_of sense
+drive_place sides.Right sense = opposite (sign_of sense)
+drive_place sides.On sense = signs.Zero
+
+-- the place of a point at a surface
+abbrev pub place_of : Surface → Pt → Sign
+place_of (surfaces.Line l) p = sign_of (cross l.dir (way l.base p))
+place_of (surfaces.Circ c) p = sign_of ((c.r *ℤ c.r) -ℤ pos (norm (way c.c p)))
+
+-- 1 where the sign is Zero
+abbrev pub side_or_left : Sign → Sign
+side_or_left signs.Zero = signs.Plus
+side_or_left s = s
+
+abbrev pub inside_or_outside : Sign → Sign
+inside_or_outside signs.Plus = signs.Plus
+inside_or_outside s = signs.Minus
+
+-- the place at a check surface that is touched, behind the place at the drive surface: two circles touch from outside where their centres are at least the greater radius apart
+abbrev pub tanto_place : Surface → Surface → Sign → Sign
+tanto_place drive check signs.Zero = signs.Zero
+tanto_place (surfaces.Line l) (surfaces.Line m) v = signs.Zero
+tanto_place (surfaces.Line l) (surfaces.Circ c) v = inside_or_outside (times v (sign_of (cross l.dir (way l.base c.c))))
+tanto_place (surfaces.Circ c) (surfaces.Line l) v = times (side_or_left (sign_of (cross l.dir (way l.base c.c)))) v
+tanto_place (surfaces.Circ c) (surfaces.Circ d) v =
+    if nat_le (max (unsigned_abs c.r) (unsigned_abs d.r) * max (unsigned_abs c.r) (unsigned_abs d.r)) (norm (way c.c d.c)) then opposite v else v
+
+abbrev pub off_check : Sign → Result Sign Case
+off_check signs.Zero = Err cases.OnCheck
+off_check s = Ok s
+
+-- the place at the check surface where the motion stops: on the start's side under TO, on the other under PAST
+abbrev pub stop_place : Surface → Stop → Pt → Surface → Sign → Result Sign Case
+stop_place check stops.To start drive v = off_check (place_of check start)
+stop_place check stops.Past start drive v = off_check (opposite (place_of check start))
+stop_place check stops.On start drive v = Ok signs.Zero
+stop_place check stops.Tanto start drive v = Ok (tanto_place drive check v)

@@ -1,0 +1,76 @@
+-- Targets and tolerance bands.
+use Rattle.std.specs.Prelude.{ℤ, pos, neg_ℤ, ◌+ℤ◌, ◌-ℤ◌, int_lt, int_le, Result, Ok, Err, if◌then◌else◌}
+use Rattle.apt_num.specs.declared.Sign.{Sign}
+use Rattle.apt_num.specs.declared.Sign.TheVariants as signs
+use Rattle.apt_words.specs.declared.Side.{Side}
+use Rattle.apt_words.specs.declared.Stop.{Stop}
+use Rattle.apt_words.specs.declared.Case.{Case}
+use Rattle.apt_words.specs.declared.Case.TheVariants as cases
+use Rattle.apt_plane.specs.declared.figures.Pt.{Pt}
+use Rattle.apt_plane.specs.declared.figures.Surface.{Surface}
+use Rattle.apt_plane.specs.declared.figures.Surface.TheVariants as surfaces
+use Rattle.apt_plane.specs.declared.figures.Band.{Band}
+use Rattle.apt_offset.specs.declared.Target.{Target}
+use Rattle.apt_offset.specs.declared.Target.TheVariants as targets
+use Rattle.apt_offset.specs.Places.{drive_place, stop_place}
+
+infixl 10 ◌>>=◌
+abbrev pub ◌>>=◌ : {A B : Type 0} → Result A Case → (A → Result B Case) → Result B Case
+(Ok x) >>= f = f x
+(Err e) >>= f = Err e
+
+abbrev pub signed : Sign → ℤ → ℤ
+signed signs.Plus r = r
+signed signs.Zero r = pos 0
+signed signs.Minus r = neg_ℤ r
+
+-- the least radius of a circle
+abbrev pub least_radius : ℤ
+least_radius = pos 100
+
+-- a surface moved by the cutter's radius to the cutter's place: a line to its left or right, a circle inwards or outwards
+abbrev pub target : Surface → Sign → ℤ → Result Target Case
+target (surfaces.Line l) v r = Ok (targets.Line l.base l.dir (signed v r))
+target (surfaces.Circ c) v r =
+    if int_lt (c.r -ℤ signed v r) least_radius then Err cases.NoRoom else Ok (targets.Circ c.c (c.r -ℤ signed v r))
+
+abbrev pub greater : ℤ → ℤ → ℤ
+greater a b = if int_le a b then b else a
+
+abbrev pub band : ℤ → ℤ → Band
+band lo hi = record { lo = lo; hi = hi }
+
+-- the tolerance band of the cutter's centre about a surface itself: i inwards and o outwards of the target, and the greater of both where the cutter is on the surface
+abbrev pub line_band : Sign → ℤ → ℤ → ℤ → Band
+line_band signs.Plus r i o = band (r -ℤ i) (r +ℤ o)
+line_band signs.Minus r i o = band (neg_ℤ r -ℤ o) (neg_ℤ r +ℤ i)
+line_band signs.Zero r i o = band (neg_ℤ (greater i o)) (greater i o)
+
+abbrev pub circle_band : ℤ → Sign → ℤ → ℤ → ℤ → Band
+circle_band circle signs.Plus r i o = band ((circle -ℤ r) -ℤ o) ((circle -ℤ r) +ℤ i)
+circle_band circle signs.Minus r i o = band ((circle +ℤ r) -ℤ i) ((circle +ℤ r) +ℤ o)
+circle_band circle signs.Zero r i o = band (circle -ℤ greater i o) (circle +ℤ greater i o)
+
+abbrev pub band_at : Surface → Sign → ℤ → ℤ → ℤ → Band
+band_at (surfaces.Line l) v r i o = line_band v r i o
+band_at (surfaces.Circ c) v r i o = circle_band c.r v r i o
+
+-- the track: the drive surface moved to the side of the cutter
+abbrev pub drive_target : Surface → Side → ℤ → ℤ → Result Target Case
+drive_target drive side sense r = target drive (drive_place side sense) r
+
+abbrev pub drive_band : Surface → Side → ℤ → ℤ → ℤ → ℤ → Band
+drive_band drive side sense r i o = band_at drive (drive_place side sense) r i o
+
+-- the stop target, from the start of the motion
+abbrev pub stop_target : Surface → Stop → Pt → Surface → Side → ℤ → ℤ → Result Target Case
+stop_target check how start drive side sense r =
+    stop_place check how start drive (drive_place side sense) >>= λ v. target check v r
+
+abbrev pub band_or_on : Surface → Result Sign Case → ℤ → ℤ → ℤ → Band
+band_or_on check (Ok v) r i o = band_at check v r i o
+band_or_on check (Err case) r i o = band_at check signs.Zero r i o
+
+-- the band in which the motion ends
+abbrev pub stop_band : Surface → Stop → Pt → Surface → Side → ℤ → ℤ → ℤ → ℤ → Band
+stop_band check how start drive side sense r i o = band_or_on check (stop_place check how start drive (drive_place side sense)) r i o

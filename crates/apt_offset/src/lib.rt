@@ -1,0 +1,20 @@
+//! Where the cutter's centre goes: turns, targets and tolerance bands.
+#![tactic(auto)]
+
+mod places;
+pub mod signs;
+mod targets;
+#[cfg(test)]
+mod tests;
+mod turns;
+
+use apt_plane::{Dir, Pt};
+pub use targets::{drive_band, drive_target, stop_band, stop_target};
+pub use turns::turn_sense;
+
+/// A surface moved for the cutter's radius: a line `off` grid units to its left, or a circle.
+#[derive(Clone, Copy, Debug, PartialEq, Eq)]
+pub enum Target {
+    Line { base: Pt, dir: Dir, off: i64 },
+    Circ { c: Pt, r: i64 },
+}

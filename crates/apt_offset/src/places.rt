@@ -1,0 +1,141 @@
+//! The place of the cutter at a surface: left of a line or inside a circle (Plus), right or outside
+//! (Minus), or on it (Zero).
+
+ghost use Rattle.std.specs.Prelude.{◌≡◌, ◌*◌, max, nat_le, unsigned_abs};
+ghost use Rattle.apt_plane.specs.Ranges.{IsPoint, IsSurface, IsLine, IsCircle};
+ghost use Rattle.apt_plane.specs.Vectors as ways;
+ghost use Rattle.apt_offset.specs.Places as placing;
+
+use crate::signs::{compare, opposite, sign_of, times};
+use apt_num::Sign;
+use apt_plane::vectors::{cross, norm, way};
+use apt_plane::{Circ, Line, Pt, Surface};
+use apt_words::{Case, Side, Stop};
+
+/// The place at the drive surface.
+pub fn drive_place(side: Side, sense: i8) -> Sign
+    ensures { result ≡ placing.drive_place side sense }
+{
+    match side {
+        Side::Left => sign_of(i128::from(sense)),
+        Side::Right => opposite(sign_of(i128::from(sense))),
+        Side::On => Sign::Zero,
+    }
+}
+
+/// The place at the check surface where the motion stops.
+///
+/// # Errors
+///
+/// `OnCheck` where the start is on the check surface, under `To` and `Past`.
+pub fn stop_place(
+    check: &Surface,
+    how: Stop,
+    start: Pt,
+    drive: &Surface,
+    at_drive: Sign,
+) -> Result<Sign, Case>
+    requires check { IsSurface check.now }
+    requires start { IsPoint start }
+    requires drive { IsSurface drive.now }
+    ensures { result ≡ placing.stop_place check.now how start drive.now at_drive }
+{
+    match how {
+        Stop::To => off_check(place_of(check, start)),
+        Stop::Past => off_check(opposite(place_of(check, start))),
+        Stop::On => Ok(Sign::Zero),
+        Stop::Tanto => Ok(tanto_place(drive, check, at_drive)),
+    }
+}
+
+fn off_check(place: Sign) -> Result<Sign, Case>
+    ensures { result ≡ placing.off_check place }
+{
+    match place {
+        Sign::Zero => Err(Case::OnCheck),
+        Sign::Plus | Sign::Minus => Ok(place),
+    }
+}
+
+fn place_of(surface: &Surface, p: Pt) -> Sign
+    requires surface { IsSurface surface.now }
+    requires point { IsPoint p }
+    ensures { result ≡ placing.place_of surface.now p }
+{
+    match surface {
+        Surface::Line(line) => side_of_line(line, p),
+        Surface::Circ(circle) => side_of_circle(circle, p),
+    }
+}
+
+fn side_of_line(line: &Line, p: Pt) -> Sign
+    requires line { IsLine line.now }
+    requires point { IsPoint p }
+    ensures { result ≡ placing.place_of (Surface.Line line.now) p }
+{
+    sign_of(cross(line.dir, way(line.base, p)))
+}
+
+#[tactic(auto, using(crate::proofs::Circles::as_square))]
+fn side_of_circle(circle: &Circ, p: Pt) -> Sign
+    requires circle { IsCircle circle.now }
+    requires point { IsPoint p }
+    ensures { result ≡ placing.place_of (Surface.Circ circle.now) p }
+{
+    let size = u128::from(circle.r.unsigned_abs());
+    compare(size * size, norm(way(circle.c, p)))
+}
+
+fn tanto_place(drive: &Surface, check: &Surface, at_drive: Sign) -> Sign
+    requires drive { IsSurface drive.now }
+    requires check { IsSurface check.now }
+    ensures { result ≡ placing.tanto_place drive.now check.now at_drive }
+{
+    if at_drive == Sign::Zero {
+        return Sign::Zero;
+    }
+    match (drive, check) {
+        (Surface::Line(_), Surface::Line(_)) => Sign::Zero,
+        (Surface::Line(line), Surface::Circ(circle)) => {
+            inside_or_outside(times(at_drive, side_of_line(line, circle.c)))
+        }
+        (Surface::Circ(circle), Surface::Line(line)) => {
+            times(side_or_left(side_of_line(line, circle.c)), at_drive)
+        }
+        (Surface::Circ(first), Surface::Circ(second)) => {
+            if are_apart(first, second) {
+                opposite(at_drive)
+            } else {
+                at_drive
+            }
+        }
+    }
+}
+
+fn side_or_left(side: Sign) -> Sign
+    ensures { result ≡ placing.side_or_left side }
+{
+    match side {
+        Sign::Minus => Sign::Minus,
+        Sign::Zero | Sign::Plus => Sign::Plus,
+    }
+}
+
+fn inside_or_outside(place: Sign) -> Sign
+    ensures { result ≡ placing.inside_or_outside place }
+{
+    match place {
+        Sign::Plus => Sign::Plus,
+        Sign::Zero | Sign::Minus => Sign::Minus,
+    }
+}
+
+/// Whether the centres are at least the greater radius apart.
+fn are_apart(first: &Circ, second: &Circ) -> bool
+    requires first { IsCircle first.now }
+    requires second { IsCircle second.now }
+    ensures { result ≡ nat_le (max (unsigned_abs first.now.r) (unsigned_abs second.now.r) * max (unsigned_abs first.now.r) (unsigned_abs second.now.r)) (ways.norm (ways.way first.now.c second.now.c)) }
+{
+    let greater = u128::from(first.r.unsigned_abs().max(second.r.unsigned_abs()));
+    greater * greater <= norm(way(first.c, second.c))
+}

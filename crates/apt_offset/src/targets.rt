@@ -1,0 +1,213 @@
+//! Targets and tolerance bands.
+
+ghost use Rattle.std.specs.Prelude.{◌≡◌, pos, ◌≤◌, ◌≤ℤ◌, IfOk, unsigned_abs};
+ghost use Rattle.apt_plane.specs.Ranges.{IsPoint, IsSurface, IsBand};
+ghost use Rattle.apt_offset.specs.Targets as moving;
+ghost use Rattle.apt_offset.specs.Ranges.{IsRadius, IsTolerance, IsTarget};
+
+use crate::Target;
+use crate::places::{drive_place, stop_place};
+use apt_num::Sign;
+use apt_plane::{Band, Pt, Surface};
+use apt_words::{Case, Side, Stop};
+
+const LEAST_RADIUS: i64 = 100;
+
+/// The track of a motion: the drive surface moved by the cutter's radius `r`, in grid units, to the
+/// side of the cutter. The sense is 1 along a line or anticlockwise, or -1.
+///
+/// # Errors
+///
+/// `NoRoom` where a circle's radius comes below 100.
+pub fn drive_target(s: &Surface, side: Side, sense: i8, r: i64) -> Result<Target, Case>
+    requires surface { IsSurface s.now }
+    requires radius { IsRadius r }
+    ensures value { result ≡ moving.drive_target s.now side sense r }
+    ensures fits { IfOk result IsTarget }
+{
+    target(s, drive_place(side, sense), r)
+}
+
+/// The target at which a motion stops, seen from its start, by the cutter's radius `r` in grid units.
+///
+/// # Errors
+///
+/// `OnCheck` where the start is on the check surface, under `To` and `Past`; else `NoRoom` where a
+/// circle's radius comes below 100.
+pub fn stop_target(
+    check: &Surface,
+    how: Stop,
+    start: Pt,
+    drive: &Surface,
+    side: Side,
+    sense: i8,
+    r: i64,
+) -> Result<Target, Case>
+    requires check { IsSurface check.now }
+    requires start { IsPoint start }
+    requires drive { IsSurface drive.now }
+    requires radius { IsRadius r }
+    ensures value { result ≡ moving.stop_target check.now how start drive.now side sense r }
+    ensures fits { IfOk result IsTarget }
+{
+    let place = stop_place(check, how, start, drive, drive_place(side, sense))?;
+    target(check, place, r)
+}
+
+/// The band of the cutter's centre along its track: of distances to the left of a line, or from a
+/// circle's centre. `i` is the tolerance towards the surface and `o` the one away from it, in grid
+/// units.
+pub fn drive_band(s: &Surface, side: Side, sense: i8, r: i64, i: i64, o: i64) -> Band
+    requires surface { IsSurface s.now }
+    requires radius { IsRadius r }
+    requires inwards { IsTolerance i }
+    requires outwards { IsTolerance o }
+    ensures value { result ≡ moving.drive_band s.now side sense r i o }
+    ensures fits { IsBand result }
+{
+    band_at(s, drive_place(side, sense), r, i, o)
+}
+
+/// The band about the check surface in which the motion ends. A start on the check surface has the
+/// band of a cutter on it.
+pub fn stop_band(
+    check: &Surface,
+    how: Stop,
+    start: Pt,
+    drive: &Surface,
+    side: Side,
+    sense: i8,
+    r: i64,
+    i: i64,
+    o: i64,
+) -> Band
+    requires check { IsSurface check.now }
+    requires start { IsPoint start }
+    requires drive { IsSurface drive.now }
+    requires radius { IsRadius r }
+    requires inwards { IsTolerance i }
+    requires outwards { IsTolerance o }
+    ensures value { result ≡ moving.stop_band check.now how start drive.now side sense r i o }
+    ensures fits { IsBand result }
+{
+    match stop_place(check, how, start, drive, drive_place(side, sense)) {
+        Ok(place) => band_at(check, place, r, i, o),
+        Err(_) => band_at(check, Sign::Zero, r, i, o),
+    }
+}
+
+fn target(s: &Surface, place: Sign, r: i64) -> Result<Target, Case>
+    requires surface { IsSurface s.now }
+    requires radius { IsRadius r }
+    ensures value { result ≡ moving.target s.now place r }
+    ensures fits { IfOk result IsTarget }
+{
+    let off = signed(place, r);
+    match s {
+        Surface::Line(line) => Ok(Target::Line {
+            base: line.base,
+            dir: line.dir,
+            off,
+        }),
+        Surface::Circ(circle) => {
+            let reach = circle.r - off;
+            if reach < LEAST_RADIUS {
+                Err(Case::NoRoom)
+            } else {
+                Ok(Target::Circ {
+                    c: circle.c,
+                    r: reach,
+                })
+            }
+        }
+    }
+}
+
+fn signed(place: Sign, r: i64) -> i64
+    requires { IsRadius r }
+    ensures value { result ≡ moving.signed place r }
+    ensures small { unsigned_abs result ≤ 500000 }
+{
+    match place {
+        Sign::Plus => r,
+        Sign::Zero => 0,
+        Sign::Minus => -r,
+    }
+}
+
+fn greater(a: i64, b: i64) -> i64
+    requires first { IsTolerance a }
+    requires second { IsTolerance b }
+    ensures value { result ≡ moving.greater a b }
+    ensures fits { IsTolerance result }
+{
+    if a <= b { b } else { a }
+}
+
+fn band_at(s: &Surface, place: Sign, r: i64, i: i64, o: i64) -> Band
+    requires surface { IsSurface s.now }
+    requires radius { IsRadius r }
+    requires inwards { IsTolerance i }
+    requires outwards { IsTolerance o }
+    ensures value { result ≡ moving.band_at s.now place r i o }
+    ensures fits { IsBand result }
+{
+    match s {
+        Surface::Line(_) => line_band(place, r, i, o),
+        Surface::Circ(circle) => circle_band(circle.r, place, r, i, o),
+    }
+}
+
+fn line_band(place: Sign, r: i64, i: i64, o: i64) -> Band
+    requires radius { IsRadius r }
+    requires inwards { IsTolerance i }
+    requires outwards { IsTolerance o }
+    ensures value { result ≡ moving.line_band place r i o }
+    ensures fits { IsBand result }
+{
+    match place {
+        Sign::Plus => Band {
+            lo: r - i,
+            hi: r + o,
+        },
+        Sign::Minus => Band {
+            lo: -r - o,
+            hi: -r + i,
+        },
+        Sign::Zero => {
+            let both = greater(i, o);
+            Band {
+                lo: -both,
+                hi: both,
+            }
+        }
+    }
+}
+
+fn circle_band(circle: i64, place: Sign, r: i64, i: i64, o: i64) -> Band
+    requires least { pos 100 ≤ℤ circle }
+    requires most { circle ≤ℤ pos 49000000 }
+    requires radius { IsRadius r }
+    requires inwards { IsTolerance i }
+    requires outwards { IsTolerance o }
+    ensures value { result ≡ moving.circle_band circle place r i o }
+    ensures fits { IsBand result }
+{
+    match place {
+        Sign::Plus => Band {
+            lo: circle - r - o,
+            hi: circle - r + i,
+        },
+        Sign::Minus => Band {
+            lo: circle + r - i,
+            hi: circle + r + o,
+        },
+        Sign::Zero => {
+            let both = greater(i, o);
+            Band {
+                lo: circle - both,
+                hi: circle + both,
+            }
+        }
+    }
+}

@@ -1,0 +1,5 @@
+mod Worked
+pub mod Splitting
+pub mod Names
+pub mod Programs
+pub mod GoodLaws

@@ -1,0 +1,48 @@
+-- Small parts, which the checker reads and runs.
+use Rattle.std.specs.Prelude.{◌≡◌, ℕ, pos, negsuc, List, [], ◌∷◌, ◌++◌, ℤ, Option, Some, None, Result, Ok, Err, codes, length, take, drop}
+use Rattle.std.proofs.Common.{refl, option_map}
+use Rattle.apt_num.specs.Root.{root}
+use Rattle.apt_words.specs.declared.Case.TheVariants as cases
+use Rattle.apt_words.specs.declared.Refusal.{Refusal}
+use Rattle.apt_words.specs.declared.Units.TheVariants.{Inch}
+use Rattle.apt_control.specs.declared.Act.{Act}
+use Rattle.apt_control.specs.declared.Act.TheVariants as acts
+use Rattle.apt_plain.specs.Plain.{coordinate}
+use Rattle.apt_plain.specs.Statements.{program}
+use Rattle.apt_plain.specs.Running.{run_of, Run, refused, acts_of}
+
+-- the square plate
+abbrev plate_head : List ℕ
+plate_head = codes "PARTNO SQUARE\nCUTTER/.5\nL1=LINE/0,0,5,0\nL2=LINE/5,0,5,5\nL3=LINE/5,5,0,5\nL4=LINE/0,5,0,0\nFEDRAT/10\nFROM/-1,-1,.5\nGO/TO,L1,TO,L4\nTLRGT\n"
+
+abbrev acts_in : Result Run Refusal → Result (List Act) Refusal
+acts_in (Ok run) = Ok (acts_of run)
+acts_in (Err r) = Err r
+
+abbrev acts_for : List ℕ → Option (Result (List Act) Refusal)
+acts_for text = option_map (λ sts. acts_in (run_of sts)) (program text)
+
+abbrev at : ℤ → ℤ → Act
+at x y = acts.Cut x y (pos 50000) (pos 100)
+
+plate : acts_for (plate_head ++ codes "GORGT/L1,PAST,L2\nGOLFT/L2,PAST,L3\nGOLFT/L3,PAST,L4\nGOLFT/L4,PAST,L1\nFINI\n")
+    ≡ Some (Ok (acts.Units Inch ∷ at (negsuc 24999) (negsuc 24999) ∷ at (pos 525000) (negsuc 24999) ∷ at (pos 525000) (pos 525000) ∷ at (negsuc 24999) (pos 525000) ∷ at (negsuc 24999) (negsuc 24999) ∷ acts.End ∷ []))
+unfolding root
+plate = refl
+
+-- the other turn puts the track on the other side of the plate's edge
+other_side : acts_for (plate_head ++ codes "GOLFT/L1,PAST,L2\nFINI\n") ≡ Some (Err (refused 11 cases.OffDrive))
+unfolding root
+other_side = refl
+
+-- the start stands on the stop
+on_the_stop : acts_for (plate_head ++ codes "GORGT/L1,TO,L4\nFINI\n") ≡ Some (Err (refused 11 cases.Behind))
+unfolding root
+on_the_stop = refl
+
+no_side : program (codes "PARTNO A\nL1=LINE/0,0,5,0\nL2=LINE/5,0,5,5\nFEDRAT/10\nFROM/-1,-1,.5\nGO/TO,L1,TO,L2\nGOLFT/L1,PAST,L2\nFINI\n") ≡ None
+no_side = refl
+
+first_run : acts_for (codes "PARTNO FIRST\nFEDRAT/10\nFROM/0,0,0\nGOTO/1,2,3\nFINI\n")
+    ≡ Some (Ok (acts.Units Inch ∷ acts.Cut (pos 100000) (pos 200000) (pos 300000) (pos 100) ∷ acts.End ∷ []))
+first_run = refl

@@ -1,0 +1,4 @@
+pub mod Plain
+pub mod Statements
+pub mod Running
+pub mod Good

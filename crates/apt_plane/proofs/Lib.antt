@@ -1,0 +1,4 @@
+pub mod Heights
+pub mod SegmentLaws
+pub mod Ways
+pub mod Moved

@@ -1,0 +1,66 @@
+-- The ends of a segment tell of all its points.
+use Rattle.std.proofs.Common.{refl, ◌≡◌, ◌↔◌, ℕ, ◌+◌, arith, ℤ, pos, ◌+ℤ◌, ◌*ℤ◌, neg_ℤ}
+use Rattle.std.proofs.lemmas.Int.{ints}
+use Rattle.apt_num.specs.Sign.{AtLeast}
+use Rattle.apt_num.proofs.Ring.{*ℤ-neg, as_diff, diff-pos, diff-same, differences}
+use Rattle.apt_num.proofs.AtLeast.{between_root}
+use Rattle.apt_plane.specs.declared.figures.Pt.{Pt}
+use Rattle.apt_plane.specs.declared.figures.Line.{Line}
+use Rattle.apt_plane.specs.declared.figures.Band.{Band}
+use Rattle.apt_plane.specs.Vectors.{scaled, between, height, norm}
+use Rattle.apt_plane.specs.Segments.{IsAbove, IsBelow, InLineBand, SegmentInLineBand}
+use Rattle.apt_plane.proofs.Heights.{one-times, height_between}
+
+start_part : (p q : ℤ) → (pos 1 *ℤ p) +ℤ (pos 0 *ℤ q) ≡ p
+start_part p q = omega (arith, ints)
+
+end_part : (p q : ℤ) → (pos 0 *ℤ p) +ℤ (pos 1 *ℤ q) ≡ q
+end_part p q = omega (arith, ints)
+
+-- the points of the two ends
+between-start : (p q : Pt) → between p q 0 1 ≡ scaled p
+between-start p q = rw (start_part p.x q.x, start_part p.y q.y) refl
+
+between-end : (p q : Pt) → between p q 1 0 ≡ scaled q
+between-end p q = rw (end_part p.x q.x, end_part p.y q.y) refl
+
+neg_parts : (a b : ℤ) (j k : ℕ) → neg_ℤ ((pos k *ℤ a) +ℤ (pos j *ℤ b)) ≡ (pos k *ℤ neg_ℤ a) +ℤ (pos j *ℤ neg_ℤ b)
+neg_parts a b j k = rw (as_diff a, as_diff b, diff-pos k, diff-pos j) (simp differences (diff-same _ _ _ _ (omega arith)))
+
+-- at least a length at both ends: so between
+pub above-between : (l : Line) (lo : ℤ) (p q : Pt) (j k : ℕ) → IsAbove l lo (scaled p) → IsAbove l lo (scaled q) → IsAbove l lo (between p q j k)
+above-between l lo p q j k a b =
+    rw (height_between l p q j k)
+    (between_root (height l (scaled p)) (height l (scaled q)) lo (norm l.dir) j k (rw (one-times lo) at a) (rw (one-times lo) at b))
+
+pub below-between : (l : Line) (hi : ℤ) (p q : Pt) (j k : ℕ) → IsBelow l hi (scaled p) → IsBelow l hi (scaled q) → IsBelow l hi (between p q j k)
+below-between l hi p q j k a b =
+    rw (height_between l p q j k, neg_parts (height l (scaled p)) (height l (scaled q)) j k, ← *ℤ-neg (pos (j + k)) hi)
+    (between_root (neg_ℤ (height l (scaled p))) (neg_ℤ (height l (scaled q))) (neg_ℤ hi) (norm l.dir) j k (rw (one-times hi) at a) (rw (one-times hi) at b))
+
+-- both ends in the band: so is every point between
+pub in_band-between : (l : Line) (band : Band) (p q : Pt) → InLineBand l band (scaled p) → InLineBand l band (scaled q) → SegmentInLineBand p q l band
+in_band-between l band p q a b = λ j k h. record {
+  lo = above-between l band.lo p q j k a.lo b.lo;
+  hi = below-between l band.hi p q j k a.hi b.hi;
+}
+
+-- and the ends are points of the segment
+pub start_in_band : (l : Line) (band : Band) (p q : Pt) → SegmentInLineBand p q l band → InLineBand l band (scaled p)
+start_in_band l band p q all = rw (between-start p q) at (all 0 1 (omega arith))
+
+pub end_in_band : (l : Line) (band : Band) (p q : Pt) → SegmentInLineBand p q l band → InLineBand l band (scaled q)
+end_in_band l band p q all = rw (between-end p q) at (all 1 0 (omega arith))
+
+-- so the two ends tell of all points
+pub ends_decide : (l : Line) (band : Band) (p q : Pt) → SegmentInLineBand p q l band ↔ (InLineBand l band (scaled p) × InLineBand l band (scaled q))
+ends_decide l band p q = (λ all. (start_in_band l band p q all, end_in_band l band p q all), λ ends. in_band-between l band p q ends.0 ends.1)
+
+-- of one point, as its height and the length of the direction tell
+pub point_in_band : (l : Line) (band : Band) (p : Pt) (k : ℤ) (n : ℕ) → k ≡ height l (scaled p) → n ≡ norm l.dir
+    → (AtLeast k band.lo n × AtLeast (neg_ℤ k) (neg_ℤ band.hi) n) ↔ InLineBand l band (scaled p)
+point_in_band l band p k n e f =
+    rw (e, f) (
+      λ both. record { lo = rw (one-times band.lo) both.0; hi = rw (one-times band.hi) both.1 },
+      λ is. (rw (one-times band.lo) at is.lo, rw (one-times band.hi) at is.hi),
+    )

@@ -1,0 +1,50 @@
+//! The figures of the plane.
+
+/// A point, in grid units.
+#[derive(Clone, Copy, Debug, PartialEq, Eq)]
+pub struct Pt {
+    pub x: i64,
+    pub y: i64,
+}
+
+/// A direction or a way: its parts are whole numbers of any scale.
+#[derive(Clone, Copy, Debug, PartialEq, Eq)]
+pub struct Dir {
+    pub dx: i64,
+    pub dy: i64,
+}
+
+/// The line through a base point in a direction.
+#[derive(Clone, Copy, Debug, PartialEq, Eq)]
+pub struct Line {
+    pub base: Pt,
+    pub dir: Dir,
+}
+
+/// The circle about a centre, its radius in grid units.
+#[derive(Clone, Copy, Debug, PartialEq, Eq)]
+pub struct Circ {
+    pub c: Pt,
+    pub r: i64,
+}
+
+/// A drive or check surface.
+#[derive(Clone, Copy, Debug, PartialEq, Eq)]
+pub enum Surface {
+    Line(Line),
+    Circ(Circ),
+}
+
+/// A tolerance band, in grid units: of signed distances to the left of a line, or of distances from a centre.
+#[derive(Clone, Copy, Debug, PartialEq, Eq)]
+pub struct Band {
+    pub lo: i64,
+    pub hi: i64,
+}
+
+/// The point ((m - j) P + j Q) / m of a segment PQ.
+#[derive(Clone, Copy, Debug, PartialEq, Eq)]
+pub struct Spot {
+    pub j: i128,
+    pub m: i128,
+}

@@ -1,0 +1,12 @@
+//! Points, lines and circles of the plane, in grid units, and all points of a segment against them.
+#![tactic(auto)]
+
+mod figures;
+mod segments;
+pub mod vectors;
+
+pub use figures::{Band, Circ, Dir, Line, Pt, Spot, Surface};
+pub use segments::segment_in_line_band;
+
+#[cfg(test)]
+mod tests;

@@ -1,0 +1,76 @@
+//! Ways between points and their products. Nothing is rounded.
+
+ghost use Rattle.std.specs.Prelude.{◌≡◌, ◌≤◌, ◌^◌, ◌*◌, ◌*ℤ◌, unsigned_abs};
+ghost use Rattle.apt_plane.specs.Ranges.{IsPoint, IsVector};
+ghost use Rattle.apt_plane.specs.Vectors as ways;
+
+use crate::figures::{Dir, Pt};
+
+/// The way from one point to another, in grid units.
+pub fn way(p: Pt, q: Pt) -> Dir
+    requires start { IsPoint p }
+    requires end { IsPoint q }
+    ensures value { result ≡ ways.way p q }
+    ensures fits { IsVector result }
+{
+    Dir {
+        dx: q.x - p.x,
+        dy: q.y - p.y,
+    }
+}
+
+/// The cross product, in the product of both units: positive where `v` points to the left of `u`.
+pub fn cross(u: Dir, v: Dir) -> i128
+    requires first { IsVector u }
+    requires second { IsVector v }
+    ensures value { result ≡ ways.cross u v }
+    ensures small { unsigned_abs result ≤ 2 ^ 125 }
+{
+    times(u.dx, v.dy) - times(u.dy, v.dx)
+}
+
+/// The dot product, in the product of both units.
+pub fn dot(u: Dir, v: Dir) -> i128
+    requires first { IsVector u }
+    requires second { IsVector v }
+    ensures value { result ≡ ways.dot u v }
+    ensures small { unsigned_abs result ≤ 2 ^ 125 }
+{
+    times(u.dx, v.dx) + times(u.dy, v.dy)
+}
+
+/// The square of the length.
+pub fn norm(u: Dir) -> u128
+    ensures { result ≡ ways.norm u }
+{
+    square(u.dx) + square(u.dy)
+}
+
+/// The way turned by a quarter to the left.
+pub fn perp(u: Dir) -> Dir
+    requires { IsVector u }
+    ensures value { result ≡ ways.perp u }
+    ensures fits { IsVector result }
+{
+    Dir {
+        dx: -u.dy,
+        dy: u.dx,
+    }
+}
+
+fn times(a: i64, b: i64) -> i128
+    requires left { unsigned_abs a ≤ 2 ^ 62 }
+    requires right { unsigned_abs b ≤ 2 ^ 62 }
+    ensures value { result ≡ a *ℤ b }
+    ensures small { unsigned_abs result ≤ 2 ^ 124 }
+{
+    i128::from(a) * i128::from(b)
+}
+
+fn square(a: i64) -> u128
+    ensures value { result ≡ unsigned_abs a * unsigned_abs a }
+    ensures small { result ≤ 2 ^ 126 }
+{
+    let size = u128::from(a.unsigned_abs());
+    size * size
+}

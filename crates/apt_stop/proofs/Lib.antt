@@ -1,0 +1,4 @@
+pub mod Sizes
+pub mod Headings
+pub mod Cases
+pub mod Strips

@@ -1,0 +1,44 @@
+-- A straight motion against a straight stop.
+use Rattle.std.specs.Prelude.{ℤ, ◌||◌, Bool, true, false, Result, Ok, Err, if◌then◌else◌}
+use Rattle.apt_num.specs.declared.Sign.{Sign}
+use Rattle.apt_num.specs.declared.Sign.TheVariants as signs
+use Rattle.apt_num.specs.Sign.{sign_of}
+use Rattle.apt_words.specs.declared.Case.{Case}
+use Rattle.apt_words.specs.declared.Case.TheVariants as cases
+use Rattle.apt_plane.specs.declared.figures.Pt.{Pt}
+use Rattle.apt_plane.specs.declared.figures.Dir.{Dir}
+use Rattle.apt_plane.specs.declared.figures.Line.{Line}
+use Rattle.apt_plane.specs.Vectors.{cross}
+use Rattle.apt_canon.specs.declared.FormFault.{FormFault}
+use Rattle.apt_canon.specs.Meeting.{line_line, are_parallel}
+use Rattle.apt_offset.specs.declared.Target.TheVariants as targets
+use Rattle.apt_stop.specs.Nearness.{is_near, side_of, heading, near_stop}
+
+abbrev pub is_same : Sign → Sign → Bool
+is_same signs.Plus signs.Plus = true
+is_same signs.Zero signs.Zero = true
+is_same signs.Minus signs.Minus = true
+is_same _ _ = false
+
+-- the side of the stop on which a straight motion runs: that of the start, or where the start is near the stop the one into which the motion heads
+abbrev pub line_side : Pt → Dir → Line → ℤ → Sign
+line_side start m stop off =
+    if is_near (targets.Line stop.base stop.dir off) near_stop start then sign_of (cross stop.dir m)
+    else side_of (targets.Line stop.base stop.dir off) start
+
+-- the stop lies behind: the start is near it, or the motion heads to the start's side
+abbrev pub line_behind : Pt → Dir → Line → ℤ → Bool
+line_behind start m stop off =
+    is_near (targets.Line stop.base stop.dir off) near_stop start
+    || is_same (side_of (targets.Line stop.base stop.dir off) start) (sign_of (cross stop.dir m))
+
+abbrev pub contact_of : Result Pt FormFault → Result Pt Case
+contact_of (Ok p) = Ok p
+contact_of (Err fault) = Err cases.OutOfRange
+
+-- where a motion along one moved line stops at another: the first case in order, or the contact
+abbrev pub line_stop : Pt → Line → ℤ → ℤ → Line → ℤ → Result Pt Case
+line_stop start drive off sense check stop_off =
+    if are_parallel drive check then Err cases.Parallel
+    else if line_behind start (heading sense drive.dir) check stop_off then Err cases.Behind
+    else contact_of (line_line drive off check stop_off)

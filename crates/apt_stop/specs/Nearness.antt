@@ -1,0 +1,43 @@
+-- How near a point is to a target, and on which side of it.
+use Rattle.std.specs.Prelude.{ℕ, ◌*◌, nat_le, ℤ, pos, neg_ℤ, ◌+ℤ◌, ◌-ℤ◌, ◌*ℤ◌, unsigned_abs, ◌&&◌, Bool, true, false, not}
+use Rattle.apt_num.specs.declared.Sign.{Sign}
+use Rattle.apt_num.specs.declared.Sign.TheVariants as signs
+use Rattle.apt_num.specs.Sign.{sign_of, root_sign_of}
+use Rattle.apt_plane.specs.declared.figures.Pt.{Pt}
+use Rattle.apt_plane.specs.declared.figures.Dir.{Dir}
+use Rattle.apt_plane.specs.Vectors.{way, cross, norm}
+use Rattle.apt_offset.specs.declared.Target.{Target}
+use Rattle.apt_offset.specs.declared.Target.TheVariants as targets
+
+abbrev pub is_minus : Sign → Bool
+is_minus signs.Minus = true
+is_minus _ = false
+
+-- whether k is at least h * sqrt(n)
+abbrev pub is_at_least : ℤ → ℤ → ℕ → Bool
+is_at_least k h n = not (is_minus (root_sign_of k h n))
+
+abbrev pub square : ℤ → ℕ
+square a = unsigned_abs a * unsigned_abs a
+
+-- whether a point is at most g units from a target; a circle has a radius of at least g
+abbrev pub is_near : Target → ℤ → Pt → Bool
+is_near (targets.Line base dir off) g p =
+    is_at_least (cross dir (way base p)) (off -ℤ g) (norm dir) && is_at_least (neg_ℤ (cross dir (way base p))) (neg_ℤ off -ℤ g) (norm dir)
+is_near (targets.Circ c r) g p = nat_le (square (r -ℤ g)) (norm (way c p)) && nat_le (norm (way c p)) (square (r +ℤ g))
+
+-- the side of a target: left of a line or inside a circle is Plus
+abbrev pub side_of : Target → Pt → Sign
+side_of (targets.Line base dir off) p = root_sign_of (cross dir (way base p)) off (norm dir)
+side_of (targets.Circ c r) p = sign_of (pos (square r) -ℤ pos (norm (way c p)))
+
+-- the direction in which a motion goes along a line
+abbrev pub heading : ℤ → Dir → Dir
+heading sense d = record { dx = sense *ℤ d.dx; dy = sense *ℤ d.dy }
+
+-- a start may be so far off its track, and a stop is near within so much
+abbrev pub off_track : ℤ
+off_track = pos 3
+
+abbrev pub near_stop : ℤ
+near_stop = pos 8

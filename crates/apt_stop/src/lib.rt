@@ -1,0 +1,10 @@
+//! The side of a start, and whether a motion leads to its stop.
+#![tactic(auto)]
+
+mod nearness;
+mod straight;
+#[cfg(test)]
+mod tests;
+
+pub use nearness::{heading, is_near, side_of};
+pub use straight::line_stop;

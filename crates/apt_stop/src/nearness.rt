@@ -1,0 +1,138 @@
+//! How near a point is to a target, and on which side of it.
+
+ghost use Rattle.std.specs.Prelude.{◌≡◌, ◌*◌, ◌^◌, ◌≤◌, ◌&&◌, nat_le, pos, neg_ℤ, ◌+ℤ◌, ◌-ℤ◌, ◌≤ℤ◌, unsigned_abs};
+ghost use Rattle.apt_num.specs.Sign.{root_sign_of};
+ghost use Rattle.apt_plane.specs.Ranges.{IsPoint, IsDir, IsVector};
+ghost use Rattle.apt_plane.specs.Vectors as vectors;
+ghost use Rattle.apt_offset.specs.Ranges.{IsSense, IsTarget, IsLineTarget, IsCircleTarget};
+ghost use Rattle.apt_stop.specs.Nearness as near;
+
+use apt_num::{Sign, root_sign};
+use apt_offset::Target;
+use apt_offset::signs::compare;
+use apt_plane::vectors::{cross, norm, way};
+use apt_plane::{Dir, Pt};
+
+/// Whether a point is at most `g` grid units from a target.
+pub fn is_near(target: &Target, g: i64, p: Pt) -> bool
+    requires target { IsTarget target.now }
+    requires least { pos 0 ≤ℤ g }
+    requires most { g ≤ℤ pos 100 }
+    requires point { IsPoint p }
+    ensures { result ≡ near.is_near target.now g p }
+{
+    match target {
+        Target::Line { base, dir, off } => {
+            is_in_strip(height(*base, *dir, p), *off, g, norm_of(*dir))
+        }
+        Target::Circ { c, r } => is_in_ring(*r, g, norm(way(*c, p))),
+    }
+}
+
+/// On which side of a target a point is: `Plus` is left of a line and inside a circle.
+pub fn side_of(target: &Target, p: Pt) -> Sign
+    requires target { IsTarget target.now }
+    requires point { IsPoint p }
+    ensures { result ≡ near.side_of target.now p }
+{
+    match target {
+        Target::Line { base, dir, off } => side_by_height(
+            height(*base, *dir, p),
+            *off,
+            norm_of(*dir),
+        ),
+        Target::Circ { c, r } => compare(square(*r), norm(way(*c, p))),
+    }
+}
+
+/// The direction in which a motion goes along a line: that of the line for 1, the other for -1.
+#[tactic(auto, using(crate::proofs::Headings::kept, crate::proofs::Headings::turned))]
+pub fn heading(sense: i8, d: Dir) -> Dir
+    requires sense { IsSense sense }
+    requires direction { IsVector d }
+    ensures value { result ≡ near.heading sense d }
+    ensures fits { IsVector result }
+{
+    if sense < 0 {
+        Dir {
+            dx: -d.dx,
+            dy: -d.dy,
+        }
+    } else {
+        d
+    }
+}
+
+/// Whether a point of this height over a line is near it, moved to its left.
+fn is_in_strip(height: i128, off: i64, g: i64, norm: u128) -> bool
+    requires height { unsigned_abs height ≤ 2 * 10 ^ 16 }
+    requires off { unsigned_abs off ≤ 500000 }
+    requires least { pos 0 ≤ℤ g }
+    requires most { g ≤ℤ pos 100 }
+    requires norm { norm ≤ 2 * 10 ^ 16 }
+    ensures { result ≡ (near.is_at_least height (off -ℤ g) norm && near.is_at_least (neg_ℤ height) (neg_ℤ off -ℤ g) norm) }
+{
+    is_at_least(height, off - g, norm) && is_at_least(-height, -off - g, norm)
+}
+
+fn is_in_ring(r: i64, g: i64, norm: u128) -> bool
+    requires radius { pos 100 ≤ℤ r }
+    requires limit { r ≤ℤ pos (10 ^ 8) }
+    requires least { pos 0 ≤ℤ g }
+    requires most { g ≤ℤ pos 100 }
+    ensures { result ≡ (nat_le (near.square (r -ℤ g)) norm && nat_le norm (near.square (r +ℤ g))) }
+{
+    square(r - g) <= norm && norm <= square(r + g)
+}
+
+/// Whether `k >= h * sqrt(n)`.
+#[tactic(auto, using(crate::proofs::Sizes::product_fits))]
+fn is_at_least(k: i128, h: i64, n: u128) -> bool
+    requires k { unsigned_abs k ≤ 2 * 10 ^ 16 }
+    requires h { unsigned_abs h ≤ 10 ^ 6 }
+    requires n { n ≤ 2 * 10 ^ 16 }
+    ensures { result ≡ near.is_at_least k h n }
+{
+    match root_sign(k, i128::from(h), n) {
+        Sign::Minus => false,
+        Sign::Zero | Sign::Plus => true,
+    }
+}
+
+#[tactic(auto, using(crate::proofs::Sizes::product_fits))]
+fn side_by_height(height: i128, off: i64, norm: u128) -> Sign
+    requires height { unsigned_abs height ≤ 2 * 10 ^ 16 }
+    requires off { unsigned_abs off ≤ 500000 }
+    requires norm { norm ≤ 2 * 10 ^ 16 }
+    ensures { result ≡ root_sign_of height off norm }
+{
+    root_sign(height, i128::from(off), norm)
+}
+
+/// The signed distance to the left of the line through the base, times the length of its direction.
+#[tactic(auto, using(crate::proofs::Sizes::height_small))]
+fn height(base: Pt, dir: Dir, p: Pt) -> i128
+    requires base { IsPoint base }
+    requires dir { IsDir dir }
+    requires point { IsPoint p }
+    ensures value { result ≡ vectors.cross dir (vectors.way base p) }
+    ensures small { unsigned_abs result ≤ 2 * 10 ^ 16 }
+{
+    cross(dir, way(base, p))
+}
+
+#[tactic(auto, using(apt_plane::proofs::Heights::norm_small))]
+fn norm_of(dir: Dir) -> u128
+    requires { IsDir dir }
+    ensures value { result ≡ vectors.norm dir }
+    ensures small { result ≤ 2 * 10 ^ 16 }
+{
+    norm(dir)
+}
+
+fn square(a: i64) -> u128
+    ensures { result ≡ near.square a }
+{
+    let size = u128::from(a.unsigned_abs());
+    size * size
+}

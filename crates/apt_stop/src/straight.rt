@@ -1,0 +1,120 @@
+//! A straight motion against a straight stop.
+
+ghost use Rattle.std.specs.Prelude.{◌≡◌, ◌≢◌, ◌↔◌, ◌≤◌, pos, unsigned_abs, IfOk, IsErrOf, true, false};
+ghost use Rattle.apt_plane.specs.Ranges.{IsPoint, IsLine, IsVector};
+ghost use Rattle.apt_plane.specs.Vectors as vectors;
+ghost use Rattle.apt_canon.specs.Meeting as meeting;
+ghost use Rattle.apt_offset.specs.Ranges.{IsSense};
+ghost use Rattle.apt_stop.specs.Nearness as near;
+ghost use Rattle.apt_stop.specs.Lines as stops;
+
+use crate::nearness::{heading, is_near, side_of};
+use apt_canon::line_line;
+use apt_num::Sign;
+use apt_offset::Target;
+use apt_offset::signs::sign_of;
+use apt_plane::vectors::cross;
+use apt_plane::{Dir, Line, Pt};
+use apt_words::Case;
+
+/// A stop is near within so many grid units.
+const NEAR_STOP: i64 = 8;
+
+/// The point, rounded to the grid, at which a motion along a line moved `off` grid units to its left
+/// stops at a line moved `stop_off`.
+///
+/// # Errors
+///
+/// `Parallel` where the lines are; else `Behind` where the start is near the stop, or the motion heads
+/// to the start's side of it; else `OutOfRange` where the point leaves the coordinate limit.
+#[tactic(auto, using(crate::proofs::Cases::answer_in_range))]
+pub fn line_stop(
+    start: Pt,
+    drive: &Line,
+    off: i64,
+    sense: i8,
+    check: &Line,
+    stop_off: i64,
+) -> Result<Pt, Case>
+    requires start { IsPoint start }
+    requires drive { IsLine drive.now }
+    requires off { unsigned_abs off ≤ 500000 }
+    requires sense { IsSense sense }
+    requires check { IsLine check.now }
+    requires stop_off { unsigned_abs stop_off ≤ 500000 }
+    ensures value { result ≡ stops.line_stop start drive.now off sense check.now stop_off }
+    ensures parallel { IsErrOf result Case.Parallel ↔ (vectors.cross drive.now.dir check.now.dir ≡ pos 0) }
+    ensures behind { IsErrOf result Case.Behind ↔ ((vectors.cross drive.now.dir check.now.dir ≢ pos 0) × (stops.line_behind start (near.heading sense drive.now.dir) check.now stop_off ≡ true)) }
+    ensures out_of_range { IsErrOf result Case.OutOfRange ↔ ((vectors.cross drive.now.dir check.now.dir ≢ pos 0) × (stops.line_behind start (near.heading sense drive.now.dir) check.now stop_off ≡ false) × (meeting.is_in_range (meeting.meeting_point drive.now off check.now stop_off) ≡ false)) }
+    ensures in_range { IfOk result (λ p. IsPoint p) }
+{
+    contact(start, drive, off, sense, check, stop_off)
+}
+
+fn contact(
+    start: Pt,
+    drive: &Line,
+    off: i64,
+    sense: i8,
+    check: &Line,
+    stop_off: i64,
+) -> Result<Pt, Case>
+    requires start { IsPoint start }
+    requires drive { IsLine drive.now }
+    requires off { unsigned_abs off ≤ 500000 }
+    requires sense { IsSense sense }
+    requires check { IsLine check.now }
+    requires stop_off { unsigned_abs stop_off ≤ 500000 }
+    ensures { result ≡ stops.line_stop start drive.now off sense check.now stop_off }
+{
+    if are_parallel(drive, check) {
+        Err(Case::Parallel)
+    } else if line_behind(start, heading(sense, drive.dir), check, stop_off) {
+        Err(Case::Behind)
+    } else {
+        crossing(drive, off, check, stop_off)
+    }
+}
+
+fn crossing(drive: &Line, off: i64, check: &Line, stop_off: i64) -> Result<Pt, Case>
+    requires drive { IsLine drive.now }
+    requires off { unsigned_abs off ≤ 500000 }
+    requires check { IsLine check.now }
+    requires stop_off { unsigned_abs stop_off ≤ 500000 }
+    ensures { result ≡ stops.contact_of (meeting.line_line drive.now off check.now stop_off) }
+{
+    match line_line(drive, off, check, stop_off) {
+        Ok(p) => Ok(p),
+        Err(_) => Err(Case::OutOfRange),
+    }
+}
+
+fn are_parallel(a: &Line, b: &Line) -> bool
+    requires first { IsLine a.now }
+    requires second { IsLine b.now }
+    ensures { result ≡ meeting.are_parallel a.now b.now }
+{
+    cross(a.dir, b.dir).unsigned_abs() == 0
+}
+
+fn line_behind(start: Pt, heading: Dir, stop: &Line, off: i64) -> bool
+    requires start { IsPoint start }
+    requires heading { IsVector heading }
+    requires stop { IsLine stop.now }
+    requires off { unsigned_abs off ≤ 500000 }
+    ensures { result ≡ stops.line_behind start heading stop.now off }
+{
+    let target = Target::Line {
+        base: stop.base,
+        dir: stop.dir,
+        off,
+    };
+    is_near(&target, NEAR_STOP, start)
+        || is_same(side_of(&target, start), sign_of(cross(stop.dir, heading)))
+}
+
+fn is_same(first: Sign, second: Sign) -> bool
+    ensures { result ≡ stops.is_same first second }
+{
+    first == second
+}
