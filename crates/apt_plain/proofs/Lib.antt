@@ -3,3 +3,4 @@ pub mod Splitting
 pub mod Names
 pub mod Programs
 pub mod GoodLaws
+pub mod Motions

@@ -3,10 +3,13 @@
 //! in `specs/Running.antt`.
 #![tactic(auto)]
 
+mod motion;
 mod parts;
 mod plain;
 mod reading;
+mod state;
 mod statement;
+mod table;
 
 pub use parts::program;
 pub use statement::{Phase, Place, Statement};
