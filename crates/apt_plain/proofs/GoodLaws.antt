@@ -77,9 +77,9 @@ looked_up : (b : Bool) (here : Line) (more : Option Line) (l : Line) → IsLine 
 looked_up true here more l is later e = subst IsLine (some_line here l e) is
 looked_up false here more l is later e = later e
 
-pub AreLines-lookup : (table : Table) (is : List ℕ → Bool) (l : Line) → AreLines table → lookup is table ≡ Some l → IsLine l
-AreLines-lookup [] is l are e = absurd (let f : ⊥ = cc in f)
-AreLines-lookup (e ∷ es) is l are h = looked_up (is e.0) e.1 (lookup is es) l are.0 (AreLines-lookup es is l are.1) h
+pub looked_up_line : (table : Table) (is : List ℕ → Bool) (l : Line) → AreLines table → lookup is table ≡ Some l → IsLine l
+looked_up_line [] is l are e = absurd (let f : ⊥ = cc in f)
+looked_up_line (e ∷ es) is l are h = looked_up (is e.0) e.1 (lookup is es) l are.0 (looked_up_line es is l are.1) h
 
 AreLines-cond : (b : Bool) (x y : Table) → AreLines x → AreLines y → AreLines (cond b x y)
 AreLines-cond true x y p q = p
@@ -95,7 +95,7 @@ some_undefined (Some k) l e = ap Some (same_ok k l e)
 
 -- the line of a name is in range
 pub line_named-IsLine : (table : Table) (name : List ℕ) (l : Line) → AreLines table → line_named table name ≡ Ok l → IsLine l
-line_named-IsLine table name l are e = AreLines-lookup table (pointwise nat_eq name) l are (some_undefined (lookup (pointwise nat_eq name) table) l e)
+line_named-IsLine table name l are e = looked_up_line table (pointwise nat_eq name) l are (some_undefined (lookup (pointwise nat_eq name) table) l e)
 
 -- ---- states
 

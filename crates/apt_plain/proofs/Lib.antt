@@ -4,3 +4,4 @@ pub mod Names
 pub mod Programs
 pub mod GoodLaws
 pub mod Motions
+pub mod Steps

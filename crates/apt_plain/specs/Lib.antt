@@ -4,3 +4,4 @@ pub mod Running
 pub mod Good
 pub mod Shown
 pub mod Endings
+pub mod Steps

@@ -7,8 +7,10 @@ mod motion;
 mod parts;
 mod plain;
 mod reading;
+mod running;
 mod state;
 mod statement;
+mod stopped;
 mod table;
 
 pub use parts::program;
