@@ -1,6 +1,6 @@
 -- Start-up and contours by parts are those of the definition.
 use Rattle.std.specs.Prelude.{pos}
-use Rattle.std.proofs.Common.{◌≡◌, ℤ, int_lt, not, ◌||◌, Bool, true, false, List, ℕ, Result, Ok, Err, Option, Some, None, refl, ap, sym, ◌∙◌, cond}
+use Rattle.std.proofs.Common.{◌≡◌, ℤ, int_lt, not, ◌||◌, ◌&&◌, Bool, true, false, List, ℕ, Result, Ok, Err, Option, Some, None, refl, ap, sym, ◌∙◌, cond}
 use Rattle.apt_num.specs.declared.Sign.{Sign}
 use Rattle.apt_words.specs.declared.Go.{Go}
 use Rattle.apt_words.specs.declared.Stop.{Stop}
@@ -10,17 +10,23 @@ use Rattle.apt_words.specs.declared.Case.TheVariants as cases
 use Rattle.apt_plane.specs.declared.figures.Pt.{Pt}
 use Rattle.apt_plane.specs.declared.figures.Line.{Line}
 use Rattle.apt_plane.specs.declared.figures.Surface.TheVariants as surfaces
+use Rattle.apt_canon.specs.declared.FormFault.TheVariants as faults
 use Rattle.apt_canon.specs.Meeting.{line_line, are_parallel, is_in_range, in_range, meeting_point}
+use Rattle.apt_offset.specs.declared.Target.{Target}
 use Rattle.apt_offset.specs.declared.Target.TheVariants as targets
 use Rattle.apt_offset.specs.Places.{drive_place, stop_place}
 use Rattle.apt_offset.specs.Targets.{◌>>=◌, signed}
 use Rattle.apt_offset.specs.Turns.{turn_sense}
 use Rattle.apt_stop.specs.Lines.{line_stop, contact_of}
 use Rattle.apt_stop.specs.Nearness.{is_near, off_track}
-use Rattle.apt_meaning.specs.States.{State, Position, position_of, has_feed, refuse_if}
+use Rattle.apt_meaning.specs.States.{State, Position, or_no_from, position_of, has_feed, refuse_if, grid_step}
 use Rattle.apt_meaning.specs.Contours.{Contour, is_tanto, is_too_fine, offset_of, start_up, start_point, start_target, straight_contour, straight_motion}
 use Rattle.apt_plain.specs.declared.motion.Ending.{Ending}
 use Rattle.apt_plain.specs.Endings.{ending, with_sense, track_offset, near_track, stop_offset, line_end, end_on_track, straight_end, sense_at, contour_from, start_offset, met, meeting, start_from, with_feed}
+use Rattle.apt_plain.specs.Steps.{with_ending, start_by_parts, contour_by_parts}
+use Rattle.apt_plain.specs.Running.{Run, line_named, cut_to, start, contour, with_contour}
+use Rattle.apt_plain.specs.Good.{IsGood}
+use Rattle.apt_plain.proofs.GoodLaws.{some_position}
 
 -- ---- binds
 
@@ -35,6 +41,13 @@ bind_through (Err case) to g = refl
 bind_again : {A B C : Type 0} (r : Result A Case) (f : A → Result B Case) (g : B → Result C Case) → ((r >>= f) >>= g) ≡ (r >>= λ x. f x >>= g)
 bind_again (Ok x) f g = refl
 bind_again (Err case) f g = refl
+
+bind_each : {A B : Type 0} (r : Result A Case) (f g : A → Result B Case) → ((x : A) → r ≡ Ok x → f x ≡ g x) → (r >>= f) ≡ (r >>= g)
+bind_each (Ok x) f g h = h x refl
+bind_each (Err case) f g h = refl
+
+same_some : (q p : Position) → Some q ≡ Some p → q ≡ p
+same_some q p e = cc
 
 -- ---- contours
 
@@ -58,3 +71,72 @@ straight_end-is s start drive sense how check =
       ∙ sym (bind_again stop (λ w. after (signed w s.radius)) last))
     ∙ ap (λ r. off >>= λ _. r >>= last) (bind_through stop (λ w. signed w s.radius) after)
     ∙ sym (bind_again off (λ _. (stop >>= λ w. Ok (signed w s.radius)) >>= after) last)
+
+-- the cases in front of a motion, in order: a state of plain parts has only the feed to refuse
+contour_order : (o : Option Position) (rapid fed fine : Bool) (m : Position → Result Contour Case) (p : Position) → o ≡ Some p → rapid ≡ false → fine ≡ false
+    → ending (or_no_from o >>= λ p. refuse_if rapid cases.RapidContour >>= λ _. refuse_if (not fed) cases.NoFeed >>= λ _. refuse_if fine cases.TooFine >>= λ _. m p) ≡ cond fed (ending (m p)) (Err cases.NoFeed)
+contour_order None rapid fed fine m p e r f = absurd (let g : ⊥ = cc in g)
+contour_order (Some q) true fed fine m p e r f = absurd (let g : ⊥ = cc in g)
+contour_order (Some q) false fed true m p e r f = absurd (let g : ⊥ = cc in g)
+contour_order (Some q) false true false m p e r f = ap (λ q. ending (m q)) (same_some q p e)
+contour_order (Some q) false false false m p e r f = refl
+
+contour_from-is : (s : State) (p : Position) (go : Go) (drive : Line) (how : Stop) (check : Line) → s.position ≡ Some p → s.rapid ≡ false → s.intol ≡ pos 0 → s.outtol ≡ pos 50
+    → ending (straight_contour s go drive how check) ≡ with_feed s.feed (contour_from s.forward s.side s.radius p.at go drive how check)
+unfolding contour_from sense_at with_feed
+contour_from-is s p go drive how check at slow fine_in fine_out =
+    let fine = ap (λ i. int_lt i grid_step && int_lt s.outtol grid_step) fine_in ∙ ap (λ o. int_lt (pos 0) grid_step && int_lt o grid_step) fine_out in
+    contour_order s.position s.rapid (has_feed s) (is_too_fine s) (λ p. turn_sense s.forward p.at (surfaces.Line drive) go >>= λ sense. straight_motion s p.at drive sense how check) p at slow fine
+    ∙ ap (λ r. cond (has_feed s) r (Err cases.NoFeed)) (ending_of_bind (turn_sense s.forward p.at (surfaces.Line drive) go) _ _ (λ sense. straight_end-is s p.at drive sense how check))
+
+ended : (r : Result Contour Case) (run : Run) (p : Position) (drive : Line) → (r >>= λ c. Ok (with_contour run p drive c)) ≡ (ending r >>= λ e. Ok (with_ending run p drive e))
+ended (Ok c) run p drive = refl
+ended (Err case) run p drive = refl
+
+-- a contour statement by its parts
+pub contour_by_parts-is : (run : Run) (go : Go) (drive : List ℕ) (how : Stop) (check : List ℕ) → IsGood run → contour run go drive how check ≡ contour_by_parts run go drive how check
+unfolding contour_by_parts
+contour_by_parts-is run go drive how check good =
+    let s = run.state in
+    bind_each (position_of s) _ _ (λ p at. bind_each (line_named run.table drive) _ _ (λ d _. bind_each (line_named run.table check) _ _ (λ c _.
+      ended (straight_contour s go d how c) run p d
+      ∙ ap (λ r. r >>= λ e. Ok (with_ending run p d e)) (contour_from-is s p go d how c (some_position s.position p at) good.state.rapid good.state.intol good.state.outtol))))
+
+-- ---- start-up
+
+start_order : (o : Option Position) (fed rapid : Bool) (m : Position → Result Pt Case) (p : Position) → o ≡ Some p → rapid ≡ false
+    → (or_no_from o >>= λ p. refuse_if (not (fed || rapid)) cases.NoFeed >>= λ _. m p) ≡ cond fed (m p) (Err cases.NoFeed)
+start_order None fed rapid m p e r = absurd (let g : ⊥ = cc in g)
+start_order (Some q) fed true m p e r = absurd (let g : ⊥ = cc in g)
+start_order (Some q) true false m p e r = ap m (same_some q p e)
+start_order (Some q) false false m p e r = refl
+
+met_of : (t i : Bool) (m : Pt) → cond t (Err cases.Parallel) (contact_of (cond t (Err faults.NoMeeting) (cond i (Ok m) (Err faults.OutOfRange)))) ≡ met (cond t (Err faults.NoMeeting) (cond i (Ok m) (Err faults.OutOfRange)))
+met_of true i m = refl
+met_of false true m = refl
+met_of false false m = refl
+
+start_from-is : (s : State) (p : Position) (how_a : Stop) (a : Line) (how_b : Stop) (b : Line) → s.position ≡ Some p → s.rapid ≡ false
+    → start_up s how_a a how_b b ≡ with_feed s.feed (start_from s.radius p.at how_a a how_b b)
+unfolding start_from start_offset meeting with_feed
+start_from-is s p how_a a how_b b at slow =
+    start_order s.position (has_feed s) s.rapid (λ p. start_target s p.at how_a a >>= λ ta. start_target s p.at how_b b >>= λ tb. start_point a (offset_of ta) b (offset_of tb)) p at slow
+    ∙ ap (λ r. cond (has_feed s) r (Err cases.NoFeed)) by_offsets
+  where
+    meets : Target → ℤ → Result Pt Case
+    meets ta hb = met (line_line a (offset_of ta) b hb)
+    by_offsets : (start_target s p.at how_a a >>= λ ta. start_target s p.at how_b b >>= λ tb. start_point a (offset_of ta) b (offset_of tb))
+        ≡ ((start_target s p.at how_a a >>= λ t. Ok (offset_of t)) >>= λ ha. (start_target s p.at how_b b >>= λ t. Ok (offset_of t)) >>= λ hb. met (line_line a ha b hb))
+    by_offsets =
+        bind_each (start_target s p.at how_a a) _ (λ ta. (start_target s p.at how_b b >>= λ t. Ok (offset_of t)) >>= meets ta) (λ ta _.
+          bind_each (start_target s p.at how_b b) _ (λ tb. meets ta (offset_of tb)) (λ tb _. met_of (are_parallel a b) (is_in_range (meeting_point a (offset_of ta) b (offset_of tb))) (meeting_point a (offset_of ta) b (offset_of tb)))
+          ∙ bind_through (start_target s p.at how_b b) offset_of (meets ta))
+        ∙ bind_through (start_target s p.at how_a a) offset_of (λ ha. (start_target s p.at how_b b >>= λ t. Ok (offset_of t)) >>= λ hb. met (line_line a ha b hb))
+
+-- a GO statement by its parts
+pub start_by_parts-is : (run : Run) (how_a : Stop) (a : List ℕ) (how_b : Stop) (b : List ℕ) → IsGood run → start run how_a a how_b b ≡ start_by_parts run how_a a how_b b
+unfolding start_by_parts
+start_by_parts-is run how_a a how_b b good =
+    let s = run.state in
+    bind_each (position_of s) _ _ (λ p at. bind_each (line_named run.table a) _ _ (λ la _. bind_each (line_named run.table b) _ _ (λ lb _.
+      ap (λ r. r >>= λ to. Ok (cut_to run (record { at = to; z = p.z }))) (start_from-is s p how_a la how_b lb (some_position s.position p at) good.state.rapid))))
