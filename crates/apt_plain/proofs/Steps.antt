@@ -1,6 +1,6 @@
 -- Start-up and contours by parts are those of the definition.
 use Rattle.std.specs.Prelude.{pos}
-use Rattle.std.proofs.Common.{◌≡◌, ℤ, int_lt, not, ◌||◌, ◌&&◌, Bool, true, false, List, ℕ, Result, Ok, Err, Option, Some, None, refl, ap, sym, ◌∙◌, cond}
+use Rattle.std.proofs.Common.{◌≡◌, ℤ, int_lt, not, ◌||◌, ◌&&◌, Bool, true, false, List, ℕ, Result, Ok, Err, Option, Some, None, refl, ap, sym, ◌∙◌, subst, cond}
 use Rattle.apt_num.specs.declared.Sign.{Sign}
 use Rattle.apt_words.specs.declared.Go.{Go}
 use Rattle.apt_words.specs.declared.Stop.{Stop}
@@ -23,7 +23,8 @@ use Rattle.apt_meaning.specs.States.{State, Position, or_no_from, position_of, h
 use Rattle.apt_meaning.specs.Contours.{Contour, is_tanto, is_too_fine, offset_of, start_up, start_point, start_target, straight_contour, straight_motion}
 use Rattle.apt_plain.specs.declared.motion.Ending.{Ending}
 use Rattle.apt_plain.specs.Endings.{ending, with_sense, track_offset, near_track, stop_offset, line_end, end_on_track, straight_end, sense_at, contour_from, start_offset, met, meeting, start_from, with_feed}
-use Rattle.apt_plain.specs.Steps.{with_ending, start_by_parts, contour_by_parts}
+use Rattle.apt_plain.specs.Steps.{Follows, with_ending, start_by_parts, contour_by_parts}
+use Rattle.apt_plain.specs.declared.stopped.Stopped.{Stopped}
 use Rattle.apt_plain.specs.Running.{Run, line_named, cut_to, start, contour, with_contour}
 use Rattle.apt_plain.specs.Good.{IsGood}
 use Rattle.apt_plain.proofs.GoodLaws.{some_position}
@@ -140,3 +141,11 @@ start_by_parts-is run how_a a how_b b good =
     let s = run.state in
     bind_each (position_of s) _ _ (λ p at. bind_each (line_named run.table a) _ _ (λ la _. bind_each (line_named run.table b) _ _ (λ lb _.
       ap (λ r. r >>= λ to. Ok (cut_to run (record { at = to; z = p.z }))) (start_from-is s p how_a la how_b lb (some_position s.position p at) good.state.rapid))))
+
+-- ---- what steps answer
+
+pub follows_start : (run : Run) (how_a : Stop) (a : List ℕ) (how_b : Stop) (b : List ℕ) (r : Result Run Stopped) → IsGood run → Follows (start_by_parts run how_a a how_b b) r → Follows (start run how_a a how_b b) r
+follows_start run how_a a how_b b r good follows = subst (λ due. Follows due r) (sym (start_by_parts-is run how_a a how_b b good)) follows
+
+pub follows_contour : (run : Run) (go : Go) (drive : List ℕ) (how : Stop) (check : List ℕ) (r : Result Run Stopped) → IsGood run → Follows (contour_by_parts run go drive how check) r → Follows (contour run go drive how check) r
+follows_contour run go drive how check r good follows = subst (λ due. Follows due r) (sym (contour_by_parts-is run go drive how check good)) follows

@@ -1,8 +1,9 @@
 //! What the statements of plain parts do.
 
-ghost use Rattle.std.specs.Prelude.{◌≡◌, ◌++◌, ◌∷◌, [], OnOk, IfOk};
+ghost use Rattle.std.specs.Prelude.{◌≡◌, ◌≤◌, ◌++◌, ◌∷◌, [], pos, unsigned_abs, OnOk, IfOk};
 ghost use Rattle.apt_plane.specs.Ranges.{IsPoint, IsLine};
 ghost use Rattle.apt_offset.specs.Ranges.{IsSense};
+ghost use Rattle.apt_meaning.specs.States.{radius_of};
 ghost use Rattle.apt_plain.specs.Good.{IsGood, IsGoodState, AreLines};
 ghost use Rattle.apt_plain.specs.Running as running;
 ghost use Rattle.apt_plain.specs.Statements.{IsStatement, IsPlace};
@@ -127,9 +128,53 @@ fn cut_to(mut run: Run, to: Place) -> Result<Run, AllocError>
     Ok(run)
 }
 
+/// A cut to a place by a GOTO statement.
+fn goto(run: Run, to: Place) -> Result<Run, Stopped>
+    requires good { IsGood run }
+    requires to { IsPlace to }
+    ensures { Follows (running.step run (Statement.Goto to)) result }
+{
+    if run.state.feed <= 0 {
+        return Err(Stopped::Refused(Case::NoFeed));
+    }
+    Ok(cut_to(run, to)?)
+}
+
+/// A statement of the tool, the feed or the side.
+fn with_diameter(mut run: Run, diameter: i64) -> Run
+    requires { unsigned_abs diameter ≤ 1000000 }
+    ensures { result ≡ record run { state = record run.state { radius = pos (radius_of (unsigned_abs diameter)) } } }
+{
+    run.state.radius = ((diameter.unsigned_abs() + 1) / 2) as i64;
+    run
+}
+
+fn with_feed(mut run: Run, feed: i64) -> Run
+    ensures { result ≡ record run { state = record run.state { feed = feed } } }
+{
+    run.state.feed = feed;
+    run
+}
+
+fn with_side(mut run: Run, side: Side) -> Run
+    ensures { result ≡ record run { state = record run.state { side = side } } }
+{
+    run.state.side = side;
+    run
+}
+
+/// A GO statement.
+#[tactic(auto, using(crate::proofs::Steps::follows_start))]
+fn start(run: Run, how_a: Stop, a: &Symbol, how_b: Stop, b: &Symbol) -> Result<Run, Stopped>
+    requires { IsGood run }
+    ensures { Follows (running.start run how_a a.now how_b b.now) result }
+{
+    start_by_parts(run, how_a, a, how_b, b)
+}
+
 /// A cut to the start-up point on two lines, at the height that holds.
 #[tactic(auto, unfolding(crate::specs::Steps::start_by_parts))]
-fn start(run: Run, how_a: Stop, a: &Symbol, how_b: Stop, b: &Symbol) -> Result<Run, Stopped>
+fn start_by_parts(run: Run, how_a: Stop, a: &Symbol, how_b: Stop, b: &Symbol) -> Result<Run, Stopped>
     requires state { IsGoodState run.state }
     requires table { AreLines run.table }
     ensures { Follows (steps.start_by_parts run how_a a.now how_b b.now) result }
@@ -143,9 +188,18 @@ fn start(run: Run, how_a: Stop, a: &Symbol, how_b: Stop, b: &Symbol) -> Result<R
     Ok(cut_to(run, Place { at, z: position.z })?)
 }
 
+/// A contour statement.
+#[tactic(auto, using(crate::proofs::Steps::follows_contour))]
+fn contour(run: Run, go: Go, drive: &Symbol, how: Stop, check: &Symbol) -> Result<Run, Stopped>
+    requires { IsGood run }
+    ensures { Follows (running.contour run go drive.now how check.now) result }
+{
+    contour_by_parts(run, go, drive, how, check)
+}
+
 /// A contour along a line that stops at a line.
 #[tactic(auto, unfolding(crate::specs::Steps::contour_by_parts))]
-fn contour(run: Run, go: Go, drive: &Symbol, how: Stop, check: &Symbol) -> Result<Run, Stopped>
+fn contour_by_parts(run: Run, go: Go, drive: &Symbol, how: Stop, check: &Symbol) -> Result<Run, Stopped>
     requires state { IsGoodState run.state }
     requires table { AreLines run.table }
     ensures { Follows (steps.contour_by_parts run go drive.now how check.now) result }
@@ -179,4 +233,28 @@ fn with_ending(
     run.state.position = Some(to);
     run.segments += 1;
     Ok(run)
+}
+
+/// One statement, or the first case that refuses it.
+pub(crate) fn step(run: Run, st: Statement) -> Result<Run, Stopped>
+    requires good { IsGood run }
+    requires small { IsStatement st }
+    ensures { Follows (running.step run st) result }
+{
+    match st {
+        Statement::Partno | Statement::Fini => Ok(run),
+        Statement::Cutter(diameter) => Ok(with_diameter(run, diameter)),
+        Statement::Define { name, from, to } => define(run, name, from, to),
+        Statement::Fedrat(feed) => Ok(with_feed(run, feed)),
+        Statement::From(to) => from(run, to),
+        Statement::Goto(to) => goto(run, to),
+        Statement::Start { how_a, a, how_b, b } => start(run, how_a, &a, how_b, &b),
+        Statement::Tool(side) => Ok(with_side(run, side)),
+        Statement::Contour {
+            go,
+            drive,
+            how,
+            check,
+        } => contour(run, go, &drive, how, &check),
+    }
 }
