@@ -8,11 +8,14 @@ use Rattle.apt_plane.specs.declared.figures.Line.{Line}
 use Rattle.apt_stop.specs.Nearness.{heading}
 use Rattle.apt_offset.specs.Targets.{◌>>=◌}
 use Rattle.apt_meaning.specs.States.{Position, position_of}
+use Rattle.apt_control.specs.declared.Act.{Act}
 use Rattle.apt_plain.specs.declared.motion.Ending.{Ending}
 use Rattle.apt_plain.specs.declared.stopped.Stopped.{Stopped}
 use Rattle.apt_plain.specs.declared.stopped.Stopped.TheVariants as stops
+use Rattle.apt_plain.specs.declared.run.RunError.{RunError}
+use Rattle.apt_plain.specs.declared.run.RunError.TheVariants as errors
 use Rattle.apt_plain.specs.Endings.{with_feed, start_from, contour_from}
-use Rattle.apt_plain.specs.Running.{Run, line_named, cut, cut_to}
+use Rattle.apt_plain.specs.Running.{Run, line_named, cut, cut_to, acts_of}
 
 -- a step ends as it should, or memory was short
 abbrev pub Follows : {A : Type 0} → Result A Case → Result A Stopped → Type 0
@@ -40,3 +43,16 @@ contour_by_parts run go drive how check =
     position_of run.state >>= λ p. line_named run.table drive >>= λ drive. line_named run.table check >>= λ check.
     with_feed run.state.feed (contour_from run.state.forward run.state.side run.state.radius p.at go drive how check) >>= λ e.
     Ok (with_ending run p drive e)
+
+-- ---- runs
+
+-- a run ends as it should, or memory was short
+abbrev pub Ends : {A : Type 0} → Result A Refusal → Result A RunError → Type 0
+Ends due (Ok x) = due ≡ Ok x
+Ends due (Err (errors.Refused refusal)) = due ≡ Err refusal
+Ends due (Err errors.NoMemory) = Unit {0}
+
+-- the acts of a whole run, with the number of contour segments among them
+abbrev pub made : Result Run Refusal → Result (List Act × ℕ) Refusal
+made (Ok run) = Ok (acts_of run, run.segments)
+made (Err refusal) = Err refusal

@@ -7,6 +7,7 @@ mod motion;
 mod parts;
 mod plain;
 mod reading;
+mod run;
 mod running;
 mod state;
 mod statement;

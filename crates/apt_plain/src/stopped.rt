@@ -1,7 +1,7 @@
 //! Why a run stops.
 
 use apt_words::Case;
-use std::alloc::{AllocError, AllocFailed};
+use std::alloc::AllocError;
 
 /// The case that refuses a step, or want of memory.
 #[derive(Clone, Copy, Debug)]
@@ -28,17 +28,6 @@ impl From<AllocError> for Stopped {
     ghost from_gives = { λ _ e. e ≡ stops.NoMemory };
 
     fn from(_: AllocError) -> Self {
-        Stopped::NoMemory
-    }
-}
-
-impl<T: Drop> From<AllocFailed<T>> for Stopped {
-    ghost use Rattle.std.specs.Prelude.{◌≡◌};
-    ghost use Rattle.apt_plain.specs.declared.stopped.Stopped.TheVariants as stops;
-
-    ghost from_gives = { λ _ e. e ≡ stops.NoMemory };
-
-    fn from(_: AllocFailed<T>) -> Self {
         Stopped::NoMemory
     }
 }
