@@ -1,5 +1,5 @@
 -- Runs of plain parts keep their numbers in range, and their contours are legal.
-use Rattle.std.proofs.Common.{◌≡◌, ◌≢◌, ℕ, zero, suc, ◌+◌, ◌*◌, ◌/◌, ◌^◌, ◌≤◌, ◌<◌, ℤ, pos, negsuc, ◌-ℤ◌, ◌*ℤ◌, ◌≤ℤ◌, unsigned_abs, List, [], ◌∷◌, ◌++◌, Bool, true, false, Option, Some, None, Result, Ok, Err, ap, sym, ◌∙◌, refl, subst, arith, cond, nat_eq, inl, inr}
+use Rattle.std.proofs.Common.{◌≡◌, ℕ, zero, suc, ◌+◌, ◌/◌, ◌^◌, ◌≤◌, ℤ, pos, negsuc, ◌-ℤ◌, unsigned_abs, List, [], ◌∷◌, ◌++◌, Bool, true, false, Option, Some, None, Result, Ok, Err, ap, refl, subst, arith, cond, nat_eq, inl, inr}
 use Rattle.std.specs.Prelude.{◌==◌, ◌||◌, int_lt, not}
 use Rattle.std.proofs.lemmas.Int.{ints}
 use Rattle.std.proofs.lemmas.Bool.Decides.{nat_tests}
@@ -22,19 +22,16 @@ use Rattle.apt_control.specs.declared.Act.TheVariants as acts
 use Rattle.apt_post.specs.Post.{IsProgram, ToTheEnd}
 use Rattle.apt_canon.specs.Meeting.{in_range, is_in_range, line_line, are_parallel, meeting_point}
 use Rattle.apt_canon.specs.declared.FormFault.TheVariants as faults
-use Rattle.apt_offset.specs.Targets.{◌>>=◌}
 use Rattle.apt_stop.specs.Lines.{contact_of}
 use Rattle.apt_meaning.specs.States.{State, Position, IsState, IsPositionOrNone, moved, forward_after, has_feed, refuse_if, position_of, or_no_from, radius_of}
-use Rattle.apt_meaning.specs.Contours.{Contour, start_up, start_point, straight_contour, after_contour}
+use Rattle.apt_meaning.specs.Contours.{Contour, start_up, start_point, straight_contour}
 use Rattle.apt_meaning.proofs.Order.{IsSense}
 use Rattle.apt_meaning.proofs.Steps.{contour_ok, motion_ok}
 use Rattle.apt_meaning.proofs.Legal.{straight_contour-legal, straight_contour-end}
 use Rattle.apt_canon.proofs.MeetingLaws.{meeting_point-near}
 use Rattle.apt_certify.specs.Legs.{IsLegal}
 use Rattle.apt_stop.specs.Nearness.{heading}
-use Rattle.apt_meaning.specs.Contours.{is_too_fine, start_target, offset_of}
-use Rattle.apt_offset.specs.Turns.{turn_sense}
-use Rattle.apt_plane.specs.declared.figures.Surface.TheVariants as surfaces
+use Rattle.apt_meaning.specs.Contours.{start_target, offset_of}
 use Rattle.std.proofs.lemmas.Bool.{not-false}
 use Rattle.apt_meaning.proofs.Results.{no_ok, same_ok, bind_ok, refuse_ok, else_ok, then_ok}
 use Rattle.apt_meaning.proofs.Stops.{contact_ok, in_range-IsPoint}
@@ -42,7 +39,7 @@ use Rattle.apt_plain.specs.declared.statement.Place.{Place}
 use Rattle.apt_plain.specs.declared.statement.Statement.{Statement}
 use Rattle.apt_plain.specs.declared.statement.Statement.TheVariants as statements
 use Rattle.apt_plain.specs.Statements.{IsPlace, IsStatement, AreStatements}
-use Rattle.apt_plain.specs.Running.{Run, Table, first_run, step, cut, cut_to, position, define, line_through, line_named, or_undefined, with_contour, from_position, start, contour, run_from, or_refused, Motion, motion_of, or_none, motions_after, motions_from, motions_of, AreLegal, refused}
+use Rattle.apt_plain.specs.Running.{Run, Table, first_run, step, cut_to, position, define, line_through, line_named, or_undefined, with_contour, from_position, start, contour, run_from, or_refused, Motion, motion_of, or_none, motions_after, motions_from, motions_of, AreLegal, refused}
 use Rattle.apt_plain.specs.Good.{IsGood, IsGoodState, IsGoodPosition, HasGoodPosition, IsGoodFeed, AreLines, AreCuts, IsOpen}
 
 -- ---- acts

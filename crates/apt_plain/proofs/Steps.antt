@@ -1,17 +1,15 @@
 -- Start-up and contours by parts are those of the definition.
 use Rattle.std.specs.Prelude.{pos}
 use Rattle.std.proofs.Common.{◌≡◌, ℤ, int_lt, not, ◌||◌, ◌&&◌, Bool, true, false, List, ℕ, Result, Ok, Err, Option, Some, None, refl, ap, sym, ◌∙◌, subst, cond}
-use Rattle.apt_num.specs.declared.Sign.{Sign}
 use Rattle.apt_words.specs.declared.Go.{Go}
 use Rattle.apt_words.specs.declared.Stop.{Stop}
-use Rattle.apt_words.specs.declared.Side.{Side}
 use Rattle.apt_words.specs.declared.Case.{Case}
 use Rattle.apt_words.specs.declared.Case.TheVariants as cases
 use Rattle.apt_plane.specs.declared.figures.Pt.{Pt}
 use Rattle.apt_plane.specs.declared.figures.Line.{Line}
 use Rattle.apt_plane.specs.declared.figures.Surface.TheVariants as surfaces
 use Rattle.apt_canon.specs.declared.FormFault.TheVariants as faults
-use Rattle.apt_canon.specs.Meeting.{line_line, are_parallel, is_in_range, in_range, meeting_point}
+use Rattle.apt_canon.specs.Meeting.{line_line, are_parallel, is_in_range, meeting_point}
 use Rattle.apt_offset.specs.declared.Target.{Target}
 use Rattle.apt_offset.specs.declared.Target.TheVariants as targets
 use Rattle.apt_offset.specs.Places.{drive_place, stop_place}
@@ -65,11 +63,11 @@ straight_end-is s start drive sense how check =
     let after = λ (g : ℤ). tanto >>= λ _. stops g in
     let last = λ (end : Pt). Ok (with_sense sense end) in
     ending_of_bind off _ (λ _. (stop >>= λ w. after (signed w s.radius)) >>= last) (λ _.
-      ending_of_bind stop _ (λ w. after (signed w s.radius) >>= last) (λ w.
-        ending_of_bind tanto _ (λ _. stops (signed w s.radius) >>= last) (λ _.
-          ending_of_bind (stops (signed w s.radius)) _ last (λ end. refl))
-        ∙ sym (bind_again tanto (λ _. stops (signed w s.radius)) last))
-      ∙ sym (bind_again stop (λ w. after (signed w s.radius)) last))
+    ending_of_bind stop _ (λ w. after (signed w s.radius) >>= last) (λ w.
+    ending_of_bind tanto _ (λ _. stops (signed w s.radius) >>= last) (λ _.
+    ending_of_bind (stops (signed w s.radius)) _ last (λ end. refl))
+    ∙ sym (bind_again tanto (λ _. stops (signed w s.radius)) last))
+    ∙ sym (bind_again stop (λ w. after (signed w s.radius)) last))
     ∙ ap (λ r. off >>= λ _. r >>= last) (bind_through stop (λ w. signed w s.radius) after)
     ∙ sym (bind_again off (λ _. (stop >>= λ w. Ok (signed w s.radius)) >>= after) last)
 
@@ -100,8 +98,8 @@ unfolding contour_by_parts
 contour_by_parts-is run go drive how check good =
     let s = run.state in
     bind_each (position_of s) _ _ (λ p at. bind_each (line_named run.table drive) _ _ (λ d _. bind_each (line_named run.table check) _ _ (λ c _.
-      ended (straight_contour s go d how c) run p d
-      ∙ ap (λ r. r >>= λ e. Ok (with_ending run p d e)) (contour_from-is s p go d how c (some_position s.position p at) good.state.rapid good.state.intol good.state.outtol))))
+    ended (straight_contour s go d how c) run p d
+    ∙ ap (λ r. r >>= λ e. Ok (with_ending run p d e)) (contour_from-is s p go d how c (some_position s.position p at) good.state.rapid good.state.intol good.state.outtol))))
 
 -- ---- start-up
 
@@ -126,12 +124,13 @@ start_from-is s p how_a a how_b b at slow =
   where
     meets : Target → ℤ → Result Pt Case
     meets ta hb = met (line_line a (offset_of ta) b hb)
+
     by_offsets : (start_target s p.at how_a a >>= λ ta. start_target s p.at how_b b >>= λ tb. start_point a (offset_of ta) b (offset_of tb))
         ≡ ((start_target s p.at how_a a >>= λ t. Ok (offset_of t)) >>= λ ha. (start_target s p.at how_b b >>= λ t. Ok (offset_of t)) >>= λ hb. met (line_line a ha b hb))
     by_offsets =
         bind_each (start_target s p.at how_a a) _ (λ ta. (start_target s p.at how_b b >>= λ t. Ok (offset_of t)) >>= meets ta) (λ ta _.
-          bind_each (start_target s p.at how_b b) _ (λ tb. meets ta (offset_of tb)) (λ tb _. met_of (are_parallel a b) (is_in_range (meeting_point a (offset_of ta) b (offset_of tb))) (meeting_point a (offset_of ta) b (offset_of tb)))
-          ∙ bind_through (start_target s p.at how_b b) offset_of (meets ta))
+        bind_each (start_target s p.at how_b b) _ (λ tb. meets ta (offset_of tb)) (λ tb _. met_of (are_parallel a b) (is_in_range (meeting_point a (offset_of ta) b (offset_of tb))) (meeting_point a (offset_of ta) b (offset_of tb)))
+        ∙ bind_through (start_target s p.at how_b b) offset_of (meets ta))
         ∙ bind_through (start_target s p.at how_a a) offset_of (λ ha. (start_target s p.at how_b b >>= λ t. Ok (offset_of t)) >>= λ hb. met (line_line a ha b hb))
 
 -- a GO statement by its parts
@@ -140,7 +139,7 @@ unfolding start_by_parts
 start_by_parts-is run how_a a how_b b good =
     let s = run.state in
     bind_each (position_of s) _ _ (λ p at. bind_each (line_named run.table a) _ _ (λ la _. bind_each (line_named run.table b) _ _ (λ lb _.
-      ap (λ r. r >>= λ to. Ok (cut_to run (record { at = to; z = p.z }))) (start_from-is s p how_a la how_b lb (some_position s.position p at) good.state.rapid))))
+    ap (λ r. r >>= λ to. Ok (cut_to run (record { at = to; z = p.z }))) (start_from-is s p how_a la how_b lb (some_position s.position p at) good.state.rapid))))
 
 -- ---- what steps answer
 

@@ -1,5 +1,5 @@
 -- Small parts, which the checker reads and runs.
-use Rattle.std.specs.Prelude.{◌≡◌, ℕ, pos, negsuc, List, [], ◌∷◌, ◌++◌, ℤ, Option, Some, None, Result, Ok, Err, codes, length, take, drop}
+use Rattle.std.specs.Prelude.{◌≡◌, ℕ, pos, negsuc, List, [], ◌∷◌, ◌++◌, ℤ, Option, Some, None, Result, Ok, Err, codes}
 use Rattle.std.proofs.Common.{refl, option_map}
 use Rattle.apt_num.specs.Root.{root}
 use Rattle.apt_words.specs.declared.Case.TheVariants as cases
@@ -7,7 +7,6 @@ use Rattle.apt_words.specs.declared.Refusal.{Refusal}
 use Rattle.apt_words.specs.declared.Units.TheVariants.{Inch}
 use Rattle.apt_control.specs.declared.Act.{Act}
 use Rattle.apt_control.specs.declared.Act.TheVariants as acts
-use Rattle.apt_plain.specs.Plain.{coordinate}
 use Rattle.apt_plain.specs.Statements.{program}
 use Rattle.apt_plain.specs.Running.{run_of, Run, refused, acts_of}
 

@@ -1,6 +1,5 @@
 -- What the runs of plain parts keep: their numbers are in range.
-use Rattle.std.specs.Prelude.{◌≡◌, ◌^◌, ◌≤◌, ℕ, ℤ, pos, ◌≤ℤ◌, unsigned_abs, Bool, false, List, [], ◌∷◌, Option, Some, None}
-use Rattle.apt_plane.specs.declared.figures.Line.{Line}
+use Rattle.std.specs.Prelude.{◌≡◌, ◌^◌, ◌≤◌, ℤ, pos, ◌≤ℤ◌, unsigned_abs, false, List, [], ◌∷◌, Option, Some, None}
 use Rattle.apt_plane.specs.Ranges.{IsPoint, IsLine}
 use Rattle.apt_offset.specs.Ranges.{IsRadius}
 use Rattle.apt_control.specs.declared.Act.{Act}

@@ -1,5 +1,5 @@
 -- A state and a run of the code, as the definitions see them.
-use Rattle.std.specs.Prelude.{pos, false, Option}
+use Rattle.std.specs.Prelude.{pos, false}
 use Rattle.std.proofs.Common.{option_map}
 use Rattle.apt_words.specs.declared.Units.TheVariants.{Inch}
 use Rattle.apt_plain.specs.declared.state.State as code_state

@@ -1,5 +1,5 @@
 -- What a step answers, and contours by their parts.
-use Rattle.std.specs.Prelude.{◌≡◌, ◌+◌, ℤ, List, [], ◌∷◌, ◌++◌, ℕ, Option, Some, Result, Ok, Err}
+use Rattle.std.specs.Prelude.{◌≡◌, ◌+◌, List, [], ◌∷◌, ◌++◌, ℕ, Some, Result, Ok, Err}
 use Rattle.apt_words.specs.declared.Go.{Go}
 use Rattle.apt_words.specs.declared.Stop.{Stop}
 use Rattle.apt_words.specs.declared.Case.{Case}
@@ -12,8 +12,8 @@ use Rattle.apt_control.specs.declared.Act.{Act}
 use Rattle.apt_plain.specs.declared.motion.Ending.{Ending}
 use Rattle.apt_plain.specs.declared.stopped.Stopped.{Stopped}
 use Rattle.apt_plain.specs.declared.stopped.Stopped.TheVariants as stops
-use Rattle.apt_plain.specs.declared.run.RunError.{RunError}
-use Rattle.apt_plain.specs.declared.run.RunError.TheVariants as errors
+use Rattle.apt_plain.specs.declared.runs.RunError.{RunError}
+use Rattle.apt_plain.specs.declared.runs.RunError.TheVariants as errors
 use Rattle.apt_plain.specs.Endings.{with_feed, start_from, contour_from}
 use Rattle.apt_plain.specs.Running.{Run, line_named, cut, cut_to, acts_of}
 

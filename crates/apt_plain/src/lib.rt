@@ -7,14 +7,15 @@ mod motion;
 mod parts;
 mod plain;
 mod reading;
-mod run;
 mod running;
+mod runs;
 mod state;
 mod statement;
 mod stopped;
 mod table;
 
 pub use parts::program;
+pub use runs::{Output, RunError, run};
 pub use statement::{Phase, Place, Statement};
 
 #[cfg(test)]

@@ -49,7 +49,14 @@ pub(crate) fn start_up(
 }
 
 #[tactic(auto, unfolding(crate::specs::Endings::start_from))]
-fn start_from(radius: i64, start: Pt, how_a: Stop, a: &Line, how_b: Stop, b: &Line) -> Result<Pt, Case>
+fn start_from(
+    radius: i64,
+    start: Pt,
+    how_a: Stop,
+    a: &Line,
+    how_b: Stop,
+    b: &Line,
+) -> Result<Pt, Case>
     requires radius { IsRadius radius }
     requires start { IsPoint start }
     requires a { IsLine a.now }

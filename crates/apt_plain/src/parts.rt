@@ -1,6 +1,6 @@
 //! The programs of plain parts: their statements in order.
 
-ghost use Rattle.std.specs.Prelude.{◌≡◌, IfOk, IfSome, option_map};
+ghost use Rattle.std.specs.Prelude.{◌≡◌, ◌≤◌, length, IfOk, IfSome, option_map};
 ghost use Rattle.apt_plain.specs.Plain as plain;
 ghost use Rattle.apt_plain.specs.Statements as spec;
 ghost use Rattle.apt_plain.specs.Running.{motions_of, AreLegal};
@@ -49,6 +49,7 @@ fn is_closed(phase: Phase, rest: &[u8]) -> bool
 pub fn program(alloc: Global, text: &[u8]) -> Result<Option<Vec<Statement>>, AllocError>
     ensures value { IfOk result (λ r. option_map (λ v. v.items) r ≡ spec.program text.now) }
     ensures small { IfOk result (λ r. IfSome r (λ v. spec.AreStatements v.items)) }
+    ensures few { IfOk result (λ r. IfSome r (λ v. length v.items ≤ 50000)) }
     // The contours that the statements make, up to the first refused step, are legal.
     ensures legal { IfOk result (λ r. IfSome r (λ v. AreLegal (motions_of v.items))) }
 {
@@ -58,6 +59,7 @@ pub fn program(alloc: Global, text: &[u8]) -> Result<Option<Vec<Statement>>, All
 fn read(alloc: Global, text: &[u8]) -> Result<Option<Vec<Statement>>, AllocError>
     ensures value { IfOk result (λ r. option_map (λ v. v.items) r ≡ spec.program text.now) }
     ensures small { IfOk result (λ r. IfSome r (λ v. spec.AreStatements v.items)) }
+    ensures few { IfOk result (λ r. IfSome r (λ v. length v.items ≤ 50000)) }
 {
     let mut program = Vec::new(alloc);
     let mut phase = Phase::Opening;

@@ -140,7 +140,7 @@ fn goto(run: Run, to: Place) -> Result<Run, Stopped>
     Ok(cut_to(run, to)?)
 }
 
-/// A statement of the tool, the feed or the side.
+/// The radius is half the diameter, rounded up.
 fn with_diameter(mut run: Run, diameter: i64) -> Run
     requires { unsigned_abs diameter ≤ 1000000 }
     ensures { result ≡ record run { state = record run.state { radius = pos (radius_of (unsigned_abs diameter)) } } }
@@ -174,7 +174,13 @@ fn start(run: Run, how_a: Stop, a: &Symbol, how_b: Stop, b: &Symbol) -> Result<R
 
 /// A cut to the start-up point on two lines, at the height that holds.
 #[tactic(auto, unfolding(crate::specs::Steps::start_by_parts))]
-fn start_by_parts(run: Run, how_a: Stop, a: &Symbol, how_b: Stop, b: &Symbol) -> Result<Run, Stopped>
+fn start_by_parts(
+    run: Run,
+    how_a: Stop,
+    a: &Symbol,
+    how_b: Stop,
+    b: &Symbol,
+) -> Result<Run, Stopped>
     requires state { IsGoodState run.state }
     requires table { AreLines run.table }
     ensures { Follows (steps.start_by_parts run how_a a.now how_b b.now) result }
@@ -199,7 +205,13 @@ fn contour(run: Run, go: Go, drive: &Symbol, how: Stop, check: &Symbol) -> Resul
 
 /// A contour along a line that stops at a line.
 #[tactic(auto, unfolding(crate::specs::Steps::contour_by_parts))]
-fn contour_by_parts(run: Run, go: Go, drive: &Symbol, how: Stop, check: &Symbol) -> Result<Run, Stopped>
+fn contour_by_parts(
+    run: Run,
+    go: Go,
+    drive: &Symbol,
+    how: Stop,
+    check: &Symbol,
+) -> Result<Run, Stopped>
     requires state { IsGoodState run.state }
     requires table { AreLines run.table }
     ensures { Follows (steps.contour_by_parts run go drive.now how check.now) result }

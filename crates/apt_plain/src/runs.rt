@@ -25,7 +25,7 @@ pub enum RunError {
 
 impl From<AllocError> for RunError {
     ghost use Rattle.std.specs.Prelude.{◌≡◌};
-    ghost use Rattle.apt_plain.specs.declared.run.RunError.TheVariants as errors;
+    ghost use Rattle.apt_plain.specs.declared.runs.RunError.TheVariants as errors;
 
     ghost from_gives = { λ _ e. e ≡ errors.NoMemory };
 
@@ -36,7 +36,7 @@ impl From<AllocError> for RunError {
 
 impl<T: Drop> From<AllocFailed<T>> for RunError {
     ghost use Rattle.std.specs.Prelude.{◌≡◌};
-    ghost use Rattle.apt_plain.specs.declared.run.RunError.TheVariants as errors;
+    ghost use Rattle.apt_plain.specs.declared.runs.RunError.TheVariants as errors;
 
     ghost from_gives = { λ _ e. e ≡ errors.NoMemory };
 

@@ -3,7 +3,7 @@ use Rattle.std.specs.Vec.Iter.{into_iter_items}
 use Rattle.apt_plain.specs.Running.{run_from, or_refused}
 use Rattle.apt_plain.specs.Statements.{AreStatements}
 use Rattle.apt_plain.proofs.GoodLaws.{step_good}
-use Rattle.apt_plain.proofs.run.run_all.Goals as goal
+use Rattle.apt_plain.proofs.runs.run_all.Goals as goal
 
 pub steps-preserved : goal.steps-preserved
 steps-preserved c =

@@ -3,7 +3,7 @@ use Rattle.std.specs.Vec.Iter.{into_iter_items}
 use Rattle.apt_plain.specs.Good.{IsGood}
 use Rattle.apt_plain.specs.Running.{run_of, run_from}
 use Rattle.apt_plain.specs.Statements.{AreStatements}
-use Rattle.apt_plain.proofs.run.run_all.Given as goal
+use Rattle.apt_plain.proofs.runs.run_all.Given as goal
 
 abbrev pub invariant-steps : goal.invariant-steps
 invariant-steps l =
