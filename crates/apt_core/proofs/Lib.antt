@@ -1,4 +1,2 @@
 mod Worked
-pub mod Splitting
-pub mod Cuts
 pub mod Compiling

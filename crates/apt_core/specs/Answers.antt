@@ -1,5 +1,5 @@
 -- What the top call answers, and what it leaves, over the words and the told files.
-use Rattle.std.specs.Prelude.{◌≡◌, ◌⊎◌, ℕ, nat_lt, List, [], ◌∷◌, length, take, Option, Some, None, IsSome, Ok, if◌then◌else◌}
+use Rattle.std.specs.Prelude.{◌≡◌, ◌⊎◌, ℕ, nat_lt, List, [], ◌∷◌, length, take, Option, Some, None, IsSome, Result, Ok, Err, if◌then◌else◌}
 use Rattle.std.specs.FinMap.{get, insert}
 use Rattle.std.specs.Option.{option_and_then}
 use Rattle.apt_shelf.specs.Told.{Contents}
@@ -13,7 +13,8 @@ use Rattle.apt_core.specs.declared.status.Summary.{Summary}
 use Rattle.apt_core.specs.declared.status.Summary.TheVariants as summaries
 use Rattle.apt_core.specs.declared.status.PartCause.TheVariants as part_causes
 use Rattle.apt_core.specs.Words.{Ask, Compile}
-use Rattle.apt_core.specs.Plain.{Plain, plain_part, acts_of}
+use Rattle.apt_words.specs.declared.Refusal.{Refusal}
+use Rattle.apt_core.specs.Parts.{Made, made_of, whole, IsMade}
 
 -- the longest part program, in bytes
 abbrev pub part_limit : ℕ
@@ -25,16 +26,17 @@ the_machine = record { code = Rs358; seq = 1; feedmax = 9999; spinmax = 9999; to
 
 -- ---- the answer that is due, where nothing outside fails
 
-abbrev pub summary_of : Plain → Summary
-summary_of program = summaries.Compiled 0 (length (acts_of program)) 0
+abbrev pub summary_of : Made → Summary
+summary_of program = summaries.Compiled 0 (length program.0) program.1
 
-abbrev pub due_program : Option Plain → Status
+abbrev pub due_program : Option (Result Made Refusal) → Status
 due_program None = answers.BadPart 1 part_causes.NotBuilt
-due_program (Some program) = answers.Done (summary_of program)
+due_program (Some (Ok program)) = answers.Done (summary_of program)
+due_program (Some (Err r)) = answers.Refused r.line r.step r.case
 
 abbrev pub due_file : List ℕ → Option (List ℕ) → Status
 due_file name None = answers.Missing name
-due_file name (Some text) = if nat_lt part_limit (length text) then answers.TooLong name else due_program (plain_part text)
+due_file name (Some text) = if nat_lt part_limit (length text) then answers.TooLong name else due_program (made_of text)
 
 abbrev pub due : Ask → Contents → Status
 due (Compile part machine cl tape) m = due_file part (get m part)
@@ -43,11 +45,11 @@ abbrev pub IsDone : Status → Type 0
 IsDone (answers.Done summary) = Unit {0}
 IsDone _ = ⊥
 
--- the plain part that a name holds
-abbrev pub short_part : List ℕ → Option Plain
-short_part text = if nat_lt part_limit (length text) then None else plain_part text
+-- what the plain part makes that a name holds, none where a step of it is refused
+abbrev pub short_part : List ℕ → Option Made
+short_part text = if nat_lt part_limit (length text) then None else whole (made_of text)
 
-abbrev pub program_in : Contents → List ℕ → Option Plain
+abbrev pub program_in : Contents → List ℕ → Option Made
 program_in m part = option_and_then short_part (get m part)
 
 -- ---- answers and their causes; reading and writing say that the shelf's counts of these rose in the call
@@ -74,7 +76,7 @@ Answers None told reading writing answer = answer ≡ answers.Usage
 Answers (Some ask) None reading writing answer = IsUntoldAnswer ask reading writing answer
 Answers (Some ask) (Some m) reading writing answer = IsAnswer ask m reading writing answer
 
--- where no count rose, a plain part under the name PART is compiled, or memory ran out
+-- where no count rose, a plain part under the name PART of which no step is refused is compiled, or memory ran out
 abbrev pub Completes : Option Ask → Option Contents → Type 0 → Type 0 → Status → Type 0
 Completes (Some (Compile part machine cl tape)) (Some m) reading writing answer =
     IsSome (program_in m part) → ¬ reading → ¬ writing → IsDone answer ⊎ (answer ≡ answers.NoMemory)
@@ -82,23 +84,26 @@ Completes _ _ reading writing answer = Unit {0}
 
 -- ---- what stands in the told files afterwards
 
--- the name PART held a part, the name TAPE holds its tape, and all other names hold what they held
+-- the name PART held a part, whose contours are all legal; the name TAPE holds its tape, and all other names hold what they held
 pub record IsCompiled (part tape : List ℕ) (before after : Contents) (summary : Summary) : Type 0 where
-  pub program : Plain
+  pub program : Made
+  pub text : List ℕ
   pub bytes : List ℕ
   pub read : program_in before part ≡ Some program
+  pub of : get before part ≡ Some text
+  pub made : IsMade text program
   pub written : after ≡ insert before tape bytes
   pub holds : get after tape ≡ Some bytes
-  pub run : control_run Rs358 bytes ≡ Ok (acts_of program)
-  pub exact : bytes ≡ tape_bytes the_machine (acts_of program)
+  pub run : control_run Rs358 bytes ≡ Ok program.0
+  pub exact : bytes ≡ tape_bytes the_machine program.0
   pub counted : summary ≡ summary_of program
 
 -- the name TAPE holds a front part of the tape that is due, or all of it, and all other names hold what they held
 pub record IsBegun (part tape : List ℕ) (before after : Contents) : Type 0 where
-  pub program : Plain
+  pub program : Made
   pub count : ℕ
   pub read : program_in before part ≡ Some program
-  pub written : after ≡ insert before tape (take count (tape_bytes the_machine (acts_of program)))
+  pub written : after ≡ insert before tape (take count (tape_bytes the_machine program.0))
 
 abbrev pub MayBeBegun : List ℕ → List ℕ → Contents → Contents → Type 0
 MayBeBegun part tape before after = (after ≡ before) ⊎ IsBegun part tape before after

@@ -1,5 +1,5 @@
 -- The writing of a tape.
-use Rattle.std.specs.Prelude.{◌≡◌, ℕ, List, length, Option, Ok}
+use Rattle.std.specs.Prelude.{◌≡◌, ℕ, List, Option, Ok}
 use Rattle.std.specs.FinMap.{insert}
 use Rattle.apt_shelf.specs.Told.{Contents, Steps}
 use Rattle.apt_shelf.specs.Files.{WritesPrefix}
@@ -9,8 +9,8 @@ use Rattle.apt_control.specs.Control.{control_run}
 use Rattle.apt_post.specs.Post.{tape_bytes}
 use Rattle.apt_core.specs.declared.status.Status.{Status}
 use Rattle.apt_core.specs.declared.status.Status.TheVariants as answers
-use Rattle.apt_core.specs.declared.status.Summary.TheVariants as summaries
-use Rattle.apt_core.specs.Answers.{the_machine}
+use Rattle.apt_core.specs.Parts.{Made}
+use Rattle.apt_core.specs.Answers.{the_machine, summary_of}
 
 -- the tape of the acts is written whole
 pub record IsWritten (name : List ℕ) (done : List Act) (before after : Option Contents) : Type 0 where
@@ -18,8 +18,8 @@ pub record IsWritten (name : List ℕ) (done : List Act) (before after : Option 
   pub run : control_run Rs358 (tape_bytes the_machine done) ≡ Ok done
 
 -- written whole, or a front part of it, or nothing
-abbrev pub IsDelivered : List ℕ → List Act → Option Contents → Option Contents → Status → Type 0
-IsDelivered name done before after (answers.Done summary) = (summary ≡ summaries.Compiled 0 (length done) 0) × IsWritten name done before after
-IsDelivered name done before after answers.WriteFault = WritesPrefix name (tape_bytes the_machine done) before after
-IsDelivered name done before after answers.NoMemory = WritesPrefix name (tape_bytes the_machine done) before after
+abbrev pub IsDelivered : List ℕ → Made → Option Contents → Option Contents → Status → Type 0
+IsDelivered name done before after (answers.Done summary) = (summary ≡ summary_of done) × IsWritten name done.0 before after
+IsDelivered name done before after answers.WriteFault = WritesPrefix name (tape_bytes the_machine done.0) before after
+IsDelivered name done before after answers.NoMemory = WritesPrefix name (tape_bytes the_machine done.0) before after
 IsDelivered name done before after _ = ⊥

@@ -1,4 +1,4 @@
-pub mod Plain
+pub mod Parts
 pub mod Words
 pub mod Number
 pub mod Unread

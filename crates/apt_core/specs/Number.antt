@@ -10,5 +10,6 @@ number_of (answers.Missing name) = 2
 number_of answers.ReadFault = 3
 number_of (answers.TooLong name) = 4
 number_of (answers.BadPart line cause) = 6
+number_of (answers.Refused line step case) = 7
 number_of answers.WriteFault = 11
 number_of answers.NoMemory = 12

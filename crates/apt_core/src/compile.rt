@@ -1,17 +1,17 @@
 //! The command `compile`.
 
-ghost use Rattle.std.specs.Prelude.{◌≡◌, ◌≤◌, Some, IfOk};
+ghost use Rattle.std.specs.Prelude.{◌≡◌, ◌≤◌, Some, IfOk, IfErr};
 ghost use Rattle.apt_shelf.specs.Told.{Rose};
 ghost use Rattle.apt_post.specs.Post.{IsProgram};
-ghost use Rattle.apt_core.specs.Unread.{IsUnread};
+ghost use Rattle.apt_core.specs.Parts.{IsMade};
+ghost use Rattle.apt_core.specs.Unread.{IsUnread, IsUnmade};
 ghost use Rattle.apt_core.specs.Delivery.{IsDelivered};
 ghost use Rattle.apt_core.specs.Words.{Compile};
 ghost use Rattle.apt_core.specs.Answers.{Answers, Leaves, IsBeforeWriting};
 
-use crate::plain::plain_acts;
 use crate::status::{FileName, PartCause, Status, Summary};
-use apt_control::Act;
 use apt_machine::Machine;
+use apt_plain::{Output, RunError, program, run};
 use apt_post::tape;
 use apt_shelf::{ReadError, Shelf, ShelfFault, read_all, write_all};
 use std::alloc::{AllocError, Global};
@@ -39,35 +39,55 @@ pub(crate) fn compile<H: Shelf>(
         Ok(text) => text,
         Err(error) => return unread(alloc, error, part),
     };
-    let acts = match plain_acts(alloc, &text) {
-        Ok(Some(acts)) => acts,
+    match output_of(alloc, &text) {
+        Ok(output) => deliver(alloc, shelf, &output, tape_name),
+        Err(status) => status,
+    }
+}
+
+/// What the statements of a text make, or the answer where they make nothing.
+fn output_of(alloc: Global, text: &[u8]) -> Result<Output, Status>
+    ensures made { IfOk result (λ o. IsMade text.now (o.acts.items, o.segments)) }
+    ensures program { IfOk result (λ o. IsProgram o.acts.items) }
+    ensures unmade { IfErr result (λ s. IsUnmade text.now s) }
+{
+    let program = match program(alloc, text) {
+        Ok(Some(program)) => program,
         Ok(None) => {
-            return Status::BadPart {
+            return Err(Status::BadPart {
                 line: 1,
                 cause: PartCause::NotBuilt,
-            };
+            });
         }
-        Err(_) => return Status::NoMemory,
+        Err(_) => return Err(Status::NoMemory),
     };
-    deliver(alloc, shelf, &acts, tape_name)
+    match run(alloc, program) {
+        Ok(output) => Ok(output),
+        Err(RunError::Refused(r)) => Err(Status::Refused {
+            line: r.line,
+            step: r.step,
+            case: r.case,
+        }),
+        Err(RunError::NoMemory) => Err(Status::NoMemory),
+    }
 }
 
 /// Writes the tape of the acts.
-fn deliver<H: Shelf>(alloc: Global, shelf: &mut H, acts: &[Act], name: &str) -> Status
-    requires { IsProgram acts.now }
-    ensures delivered { IsDelivered name.now acts.now (H.told shelf.old) (H.told shelf.new) result }
+fn deliver<H: Shelf>(alloc: Global, shelf: &mut H, output: &Output, name: &str) -> Status
+    requires { IsProgram output.now.acts.items }
+    ensures delivered { IsDelivered name.now (output.now.acts.items, output.now.segments) (H.told shelf.old) (H.told shelf.new) result }
     ensures write_fault { result ≡ Status.WriteFault → Rose (H.write_faults shelf.old) (H.write_faults shelf.new) }
     ensures later { H.write_faults shelf.old ≤ H.write_faults shelf.new }
     ensures read_faults { H.read_faults shelf.new ≡ H.read_faults shelf.old }
 {
-    let Ok(bytes) = tape(alloc, acts, &Machine::largest()) else {
+    let Ok(bytes) = tape(alloc, &output.acts, &Machine::largest()) else {
         return Status::NoMemory;
     };
     match write_all(shelf, name, &bytes) {
         Ok(()) => Status::Done(Summary::Compiled {
             records: 0,
-            acts: acts.len() as u64,
-            segments: 0,
+            acts: output.acts.len() as u64,
+            segments: output.segments,
         }),
         Err(ShelfFault::Fault) => Status::WriteFault,
         Err(ShelfFault::NoMemory) => Status::NoMemory,

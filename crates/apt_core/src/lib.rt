@@ -7,7 +7,6 @@ ghost use Rattle.apt_core.specs.Words.{asked, texts};
 ghost use Rattle.apt_core.specs.Answers.{Answers, Completes, Leaves, IsBeforeWriting};
 
 mod compile;
-mod plain;
 mod status;
 mod words;
 

@@ -2,6 +2,7 @@
 
 ghost use Rattle.std.specs.Prelude.{◌≡◌};
 
+use apt_words::Case;
 use std::marker::Model;
 
 /// A name of the command line. Clauses see its bytes.
@@ -50,6 +51,8 @@ pub enum Status {
     TooLong { name: FileName },
     /// The text is no part program, from its line (from 1) on.
     BadPart { line: u32, cause: PartCause },
+    /// The first step of the part that can't be done: its line and its number, both from 1, and the case.
+    Refused { line: u32, step: u32, case: Case },
     /// A file could not be written.
     WriteFault,
     NoMemory,
@@ -69,6 +72,7 @@ impl Status {
             Status::ReadFault => 3,
             Status::TooLong { .. } => 4,
             Status::BadPart { .. } => 6,
+            Status::Refused { .. } => 7,
             Status::WriteFault => 11,
             Status::NoMemory => 12,
         }

@@ -1,14 +1,15 @@
-use Rattle.std.proofs.Common.{◌≡◌, ◌∙◌, ap, Some, option_map}
-use Rattle.apt_core.specs.Plain.{acts_of, plain_part}
+use Rattle.std.proofs.Common.{subst}
+use Rattle.apt_core.specs.Parts.{IsMade}
 use Rattle.apt_core.proofs.Compiling.{HasActs, leaves_delivered}
 use Rattle.apt_core.proofs.compile.compile.Goals as goal
 
-pub returns-clause-leaves : goal.returns-clause-leaves
-returns-clause-leaves g c =
-    let known : HasActs (g.H.Shelf.told c.args.shelf.now) c.args.part.now c.in-Ok.text.items c.in-Ok-Some.acts.items = record {
+pub returns-in-Ok-output_of-clause-leaves : goal.returns-in-Ok-output_of-clause-leaves
+returns-in-Ok-output_of-clause-leaves g c =
+    let o = c.in-Ok-output_of.output in
+    let known : HasActs (g.H.Shelf.told c.args.shelf.now) c.args.part.now c.in-Ok.text.items (o.acts.items, o.segments) = record {
       held = c.in-Ok.ensures.bytes;
       short = c.in-Ok.ensures.short;
-      read = rw c.in-Ok-Some.field-0-is at c.in-Ok-Some.ensures.value ∙ ap (λ t. option_map acts_of (plain_part t)) c.deref.ensures.value;
+      made = subst (λ t. IsMade t (o.acts.items, o.segments)) c.deref.ensures.value c.in-Ok-output_of.ensures.made;
     } in
-    leaves_delivered _ _ c.args.part.now c.args.machine.now c.args.cl.now c.args.tape_name.now c.in-Ok.text.items c.in-Ok-Some.acts.items c.deliver.result known
-    (rw (c.read_all.ensures.told, c.deref-2.ensures.value) at c.deliver.ensures.delivered)
+    leaves_delivered _ _ c.args.part.now c.args.machine.now c.args.cl.now c.args.tape_name.now c.in-Ok.text.items (o.acts.items, o.segments) c.deliver.result known
+    (rw c.read_all.ensures.told at c.deliver.ensures.delivered)
