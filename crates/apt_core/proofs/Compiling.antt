@@ -1,20 +1,18 @@
 -- From the parts of the work to its answers.
-use Rattle.std.proofs.Common.{◌≡◌, ◌⊎◌, inl, inr, ℕ, ◌≤◌, List, [], ◌∷◌, length, take, Bool, true, false, Option, Some, None, Result, Ok, Err, option_map, ap, sym, ◌∙◌, refl, subst, cond, arith}
+use Rattle.std.proofs.Common.{◌≡◌, ◌⊎◌, inl, inr, ℕ, ◌≤◌, List, length, take, Bool, true, false, Option, Some, None, Result, Ok, Err, option_map, ap, sym, ◌∙◌, refl, subst}
 use Rattle.std.specs.Prelude.{nat_lt, IsSome}
 use Rattle.std.specs.FinMap.{get, insert}
 use Rattle.std.specs.Option.{option_and_then}
 use borrow.Author.Tests.{le-ltb}
-use Rattle.apt_shelf.specs.Told.{Contents, Steps}
+use Rattle.apt_shelf.specs.Told.{Contents}
 use Rattle.apt_shelf.specs.Files.{HoldsAt, WritesPrefix}
 use Rattle.apt_shelf.proofs.ToldLaws.{get_inserted}
 use Rattle.apt_tapecode.specs.declared.Code.TheVariants.{Rs358}
-use Rattle.apt_control.specs.declared.Act.{Act}
 use Rattle.apt_control.specs.Control.{control_run}
 use Rattle.apt_post.specs.Post.{tape_bytes}
 use Rattle.apt_core.specs.declared.status.Status.{Status}
 use Rattle.apt_core.specs.declared.status.Status.TheVariants as answers
 use Rattle.apt_core.specs.declared.status.Summary.{Summary}
-use Rattle.apt_core.specs.declared.status.Summary.TheVariants as summaries
 use Rattle.apt_core.specs.Words.{Ask, Compile}
 use Rattle.apt_words.specs.declared.Refusal.{Refusal}
 use Rattle.apt_core.specs.declared.status.PartCause.TheVariants as part_causes

@@ -1,5 +1,5 @@
 -- What the programs of parts come to.
-use Rattle.std.specs.Prelude.{◌≡◌, ℕ, List, Option, Some, None, Result, Ok, Err}
+use Rattle.std.specs.Prelude.{◌≡◌, ℕ, List, Option, Some, None, Result, Ok}
 use Rattle.std.proofs.Common.{option_map}
 use Rattle.apt_words.specs.declared.Refusal.{Refusal}
 use Rattle.apt_control.specs.declared.Act.{Act}

@@ -1,5 +1,5 @@
 -- The words of the command line.
-use Rattle.std.specs.Prelude.{ℕ, ◌&&◌, Bool, true, false, not, List, [], ◌∷◌, map, length, ◌==◌, Option, Some, None, codes, if◌then◌else◌}
+use Rattle.std.specs.Prelude.{ℕ, ◌&&◌, Bool, not, List, [], ◌∷◌, map, length, ◌==◌, Option, Some, None, codes, if◌then◌else◌}
 use Rattle.std.proofs.Common.{String, string_bytes, bytes_eq}
 
 abbrev pub texts : {A : Type 0} → List (String A) → List (List ℕ)

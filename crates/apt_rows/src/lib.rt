@@ -2,6 +2,8 @@
 #![tactic(auto)]
 
 #[cfg(test)]
+mod contours;
+#[cfg(test)]
 mod first_run;
 #[cfg(test)]
 mod run;
