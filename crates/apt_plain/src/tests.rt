@@ -128,7 +128,7 @@ fn square_plate_gives_a_tape_of_246_bytes(rt: HostRuntime) -> Result<(), Fail> {
         ),
         // a name without a line, a line of no length, and lines that don't meet
         (
-            b"PARTNO A\nL1=LINE/0,0,5,0\nFEDRAT/10\nFROM/-1,-1,.5\nGO/TO,L1,TO,L4\nTLON\nFINI\n",
+            b"PARTNO A\nL1=LINE/0,0,5,0\nFEDRAT/10\nFROM/-1,-1,.5\nGO/TO,L1,TO,L4\nTLLFT\nFINI\n",
             refused(5, Case::Undefined),
         ),
         (
@@ -136,7 +136,7 @@ fn square_plate_gives_a_tape_of_246_bytes(rt: HostRuntime) -> Result<(), Fail> {
             refused(2, Case::Degenerate),
         ),
         (
-            b"PARTNO A\nL1=LINE/0,0,5,0\nL2=LINE/0,5,5,5\nFEDRAT/10\nFROM/-1,-1,.5\nGO/TO,L1,TO,L2\nTLON\nFINI\n",
+            b"PARTNO A\nL1=LINE/0,0,5,0\nL2=LINE/0,5,5,5\nFEDRAT/10\nFROM/-1,-1,.5\nGO/TO,L1,TO,L2\nTLLFT\nFINI\n",
             refused(6, Case::Parallel),
         ),
     ];
