@@ -33,6 +33,67 @@ const PLATE: [Row; 3] = [
     },
 ];
 
+/// Worked out by hand.
+const BY_HAND: [Row; 9] = [
+    // a triangle: the contacts are rounded
+    Row {
+        part: "PARTNO A\nCUTTER/.5\nA=LINE/0,0,4,1\nB=LINE/4,1,1,5\nC=LINE/1,5,0,0\nFEDRAT/10\nFROM/-1,-1,.5\nGO/TO,A,TO,C\nTLRGT\nGORGT/A,PAST,B\nGOLFT/B,PAST,C\nGOLFT/C,PAST,A\nFINI\n",
+        want: Ok(
+            "%\nN0001G70G90G94\nN0002G01X-00032262Y-00033835Z+00050000F0100\nN0003G01X+00442591Y+00084878Z+00050000F0100\nN0004G01X+00086451Y+00559732Z+00050000F0100\nN0005G01X-00032262Y-00033835Z+00050000F0100\nN0006M02\n",
+        ),
+    },
+    // the same with radius 0
+    Row {
+        part: "PARTNO A\nA=LINE/0,0,4,1\nB=LINE/4,1,1,5\nC=LINE/1,5,0,0\nFEDRAT/10\nFROM/-1,-1,.5\nGO/TO,A,TO,C\nTLRGT\nGORGT/A,PAST,B\nGOLFT/B,PAST,C\nGOLFT/C,PAST,A\nFINI\n",
+        want: Ok(
+            "%\nN0001G70G90G94\nN0002G01X+00000000Y+00000000Z+00050000F0100\nN0003G01X+00400000Y+00100000Z+00050000F0100\nN0004G01X+00100000Y+00500000Z+00050000F0100\nN0005G01X+00000000Y+00000000Z+00050000F0100\nN0006M02\n",
+        ),
+    },
+    // a radius of 5 inches
+    Row {
+        part: "PARTNO A\nCUTTER/10\nL1=LINE/0,0,5,0\nL2=LINE/5,0,5,5\nL3=LINE/5,5,0,5\nL4=LINE/0,5,0,0\nFEDRAT/10\nFROM/-9,-9,.5\nGO/TO,L1,TO,L4\nTLRGT\nGORGT/L1,PAST,L2\nGOLFT/L2,PAST,L3\nGOLFT/L3,PAST,L4\nGOLFT/L4,PAST,L1\nFINI\n",
+        want: Ok(
+            "%\nN0001G70G90G94\nN0002G01X-00500000Y-00500000Z+00050000F0100\nN0003G01X+01000000Y-00500000Z+00050000F0100\nN0004G01X+01000000Y+01000000Z+00050000F0100\nN0005G01X-00500000Y+01000000Z+00050000F0100\nN0006G01X-00500000Y-00500000Z+00050000F0100\nN0007M02\n",
+        ),
+    },
+    // inside the square, on the left
+    Row {
+        part: "PARTNO A\nCUTTER/.5\nL1=LINE/0,0,5,0\nL2=LINE/5,0,5,5\nL3=LINE/5,5,0,5\nL4=LINE/0,5,0,0\nFEDRAT/10\nFROM/2,2,.5\nGO/TO,L1,TO,L4\nTLLFT\nGOLFT/L1,TO,L2\nGOLFT/L2,TO,L3\nGOLFT/L3,TO,L4\nGOLFT/L4,TO,L1\nFINI\n",
+        want: Ok(
+            "%\nN0001G70G90G94\nN0002G01X+00025000Y+00025000Z+00050000F0100\nN0003G01X+00475000Y+00025000Z+00050000F0100\nN0004G01X+00475000Y+00475000Z+00050000F0100\nN0005G01X+00025000Y+00475000Z+00050000F0100\nN0006G01X+00025000Y+00025000Z+00050000F0100\nN0007M02\n",
+        ),
+    },
+    // on the right, up to a line
+    Row {
+        part: "PARTNO A\nCUTTER/.5\nL1=LINE/0,0,5,0\nL2=LINE/5,0,5,5\nL3=LINE/5,5,0,5\nL4=LINE/0,5,0,0\nFEDRAT/10\nFROM/-1,-1,.5\nGO/TO,L1,TO,L4\nTLRGT\nGORGT/L1,TO,L2\nFINI\n",
+        want: Ok(
+            "%\nN0001G70G90G94\nN0002G01X-00025000Y-00025000Z+00050000F0100\nN0003G01X+00475000Y-00025000Z+00050000F0100\nN0004M02\n",
+        ),
+    },
+    // a start 3 units off its track
+    Row {
+        part: "PARTNO A\nCUTTER/.5\nD1=LINE/0,0,5,0\nD2=LINE/0,.00003,5,.00003\nC=LINE/5,0,5,5\nB=LINE/0,5,0,0\nFEDRAT/10\nFROM/-1,-1,.5\nGO/TO,D1,TO,B\nTLRGT\nGORGT/D2,PAST,C\nFINI\n",
+        want: Ok(
+            "%\nN0001G70G90G94\nN0002G01X-00025000Y-00025000Z+00050000F0100\nN0003G01X+00525000Y-00024997Z+00050000F0100\nN0004M02\n",
+        ),
+    },
+    // a start 4 units off its track
+    Row {
+        part: "PARTNO A\nCUTTER/.5\nD1=LINE/0,0,5,0\nD2=LINE/0,.00004,5,.00004\nC=LINE/5,0,5,5\nB=LINE/0,5,0,0\nFEDRAT/10\nFROM/-1,-1,.5\nGO/TO,D1,TO,B\nTLRGT\nGORGT/D2,PAST,C\nFINI\n",
+        want: Err((11, Case::OffDrive)),
+    },
+    // a parallel stop
+    Row {
+        part: "PARTNO A\nCUTTER/.5\nL1=LINE/0,0,5,0\nL2=LINE/5,0,5,5\nL3=LINE/5,5,0,5\nL4=LINE/0,5,0,0\nFEDRAT/10\nFROM/-1,-1,.5\nGO/TO,L1,TO,L4\nTLRGT\nGORGT/L1,PAST,L3\nFINI\n",
+        want: Err((11, Case::Parallel)),
+    },
+    // a motion that leads away
+    Row {
+        part: "PARTNO A\nCUTTER/.5\nL1=LINE/0,0,5,0\nL2=LINE/5,0,5,5\nL3=LINE/5,5,0,5\nL4=LINE/0,5,0,0\nFEDRAT/10\nFROM/-1,-1,.5\nGO/TO,L1,TO,L4\nTLLFT\nGOLFT/L1,PAST,L2\nFINI\n",
+        want: Err((11, Case::Behind)),
+    },
+];
+
 /// Answers of an independent exact program.
 const OUTSIDE: [Row; 36] = [
     Row {
@@ -264,6 +325,14 @@ fn square_plate_gives_a_tape_of_246_bytes(rt: HostRuntime) -> Result<(), Fail> {
 #[test]
 fn an_independent_program_gives_the_same_answers(rt: HostRuntime) -> Result<(), Fail> {
     for row in &OUTSIDE {
+        check(&rt, *row)?;
+    }
+    Ok(())
+}
+
+#[test]
+fn worked_parts_give_their_tapes(rt: HostRuntime) -> Result<(), Fail> {
+    for row in &BY_HAND {
         check(&rt, *row)?;
     }
     Ok(())
