@@ -7,7 +7,9 @@ use Rattle.apt_words.specs.declared.Refusal.{Refusal}
 use Rattle.apt_words.specs.declared.Units.TheVariants.{Inch}
 use Rattle.apt_control.specs.declared.Act.{Act}
 use Rattle.apt_control.specs.declared.Act.TheVariants as acts
-use Rattle.apt_plain.specs.Statements.{program}
+use Rattle.apt_plain.specs.Plain.{coordinate}
+use Rattle.apt_plain.specs.declared.statement.Statement.TheVariants as statements
+use Rattle.apt_plain.specs.Statements.{program, fedrat}
 use Rattle.apt_plain.specs.Running.{run_of, Run, refused, acts_of}
 
 -- the square plate
@@ -45,3 +47,43 @@ no_side = refl
 first_run : acts_for (codes "PARTNO FIRST\nFEDRAT/10\nFROM/0,0,0\nGOTO/1,2,3\nFINI\n")
     ≡ Some (Ok (acts.Units Inch ∷ acts.Cut (pos 100000) (pos 200000) (pos 300000) (pos 100) ∷ acts.End ∷ []))
 first_run = refl
+
+-- ---- numbers
+
+negative : coordinate (codes "-12.00001") ≡ Some (negsuc 1200000)
+negative = refl
+
+no_whole_digits : coordinate (codes ".5") ≡ Some (pos 50000)
+no_whole_digits = refl
+
+no_places : coordinate (codes "5.") ≡ Some (pos 500000)
+no_places = refl
+
+no_digit : coordinate (codes "-.") ≡ None
+no_digit = refl
+
+farthest : coordinate (codes "500.00000") ≡ Some (pos 50000000)
+farthest = refl
+
+one_unit_farther : coordinate (codes "500.00001") ≡ None
+one_unit_farther = refl
+
+greatest_feed : fedrat (codes "FEDRAT/999.9") ≡ Some (statements.Fedrat (pos 9999))
+greatest_feed = refl
+
+half_an_inch_per_minute : fedrat (codes "FEDRAT/0.5") ≡ Some (statements.Fedrat (pos 5))
+half_an_inch_per_minute = refl
+
+no_feed_of_0 : fedrat (codes "FEDRAT/0.0") ≡ None
+no_feed_of_0 = refl
+
+feed_without_whole_digits : fedrat (codes "FEDRAT/.5") ≡ None
+feed_without_whole_digits = refl
+
+-- ---- the end of a part
+
+text_behind_the_end : program (codes "PARTNO A\nFEDRAT/10\nFROM/0,0,0\nFINI\nGOTO/1,2,3\n") ≡ None
+text_behind_the_end = refl
+
+last_line_open : program (codes "PARTNO A\nFEDRAT/10\nFROM/0,0,0\nFINI") ≡ None
+last_line_open = refl

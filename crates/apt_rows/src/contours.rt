@@ -33,8 +33,8 @@ const PLATE: [Row; 3] = [
     },
 ];
 
-/// Worked out by hand.
-const BY_HAND: [Row; 9] = [
+/// Parts of our own, worked out from their figures.
+const OWN_PARTS: [Row; 9] = [
     // a triangle: the contacts are rounded
     Row {
         part: "PARTNO A\nCUTTER/.5\nA=LINE/0,0,4,1\nB=LINE/4,1,1,5\nC=LINE/1,5,0,0\nFEDRAT/10\nFROM/-1,-1,.5\nGO/TO,A,TO,C\nTLRGT\nGORGT/A,PAST,B\nGOLFT/B,PAST,C\nGOLFT/C,PAST,A\nFINI\n",
@@ -332,7 +332,7 @@ fn an_independent_program_gives_the_same_answers(rt: HostRuntime) -> Result<(), 
 
 #[test]
 fn worked_parts_give_their_tapes(rt: HostRuntime) -> Result<(), Fail> {
-    for row in &BY_HAND {
+    for row in &OWN_PARTS {
         check(&rt, *row)?;
     }
     Ok(())
