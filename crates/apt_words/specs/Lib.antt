@@ -1,1 +1,6 @@
+pub mod Vocabulary
 pub mod Symbols
+pub mod Names
+pub mod Trees
+pub mod TreeCodes
+pub mod TreeViews

@@ -1,11 +1,20 @@
 //! The words that part programs, acts and machines share.
 #![tactic(auto)]
 
+mod body;
+mod deed;
+mod expr;
+mod names;
 mod symbol;
 #[cfg(test)]
 mod tests;
+mod word;
 
+pub use body::{Args, Body, Exprs, Params, Program, Stmt, Text};
+pub use deed::{Deed, Step};
+pub use expr::{Expr, Node, Op};
 pub use symbol::{Symbol, is_vocabulary};
+pub use word::{Word, word_of};
 
 /// The unit of a part program: a grid unit is 0.00001 inch or 0.0001 millimetre.
 #[derive(Clone, Copy, Debug, PartialEq, Eq)]
@@ -54,6 +63,15 @@ pub enum Stop {
     On,
     Past,
     Tanto,
+}
+
+/// Which of two figures is meant: the one of the greater or smaller x or y.
+#[derive(Clone, Copy, Debug, PartialEq, Eq)]
+pub enum Pick {
+    XLarge,
+    XSmall,
+    YLarge,
+    YSmall,
 }
 
 /// Why a step of a part program is refused.

@@ -5,27 +5,16 @@ ghost use Rattle.std.specs.Cmp.{partial_equiv_from_equiv};
 ghost use Rattle.std.specs.Cmp.Lexicographic.{pointwise, slice_cmp, nat_list_eq_equiv, nat_list_cmp_total, texts_po, texts_ties};
 ghost use Rattle.std.specs.Cmp.Rules.{hashing};
 ghost use Rattle.std.specs.Hash as fed;
-ghost use Rattle.std.specs.List.{list_all, list_any};
-ghost use Rattle.std.proofs.Common.{bytes_eq};
+ghost use Rattle.std.specs.List.{list_all};
 ghost use Rattle.std.specs.Prelude.{refl};
 ghost use Rattle.std.proofs.Common.{rules};
 ghost use Rattle.apt_words.specs.Symbols as symbols;
 
+use crate::word::word_of;
 use arrayvec::ArrayString;
 use std::cmp::Ordering;
 use std::hash::{Hash, Hasher};
 use std::marker::Model;
-
-/// The words of the language, which are no names.
-const VOCABULARY: [&str; 63] = [
-    "PARTNO", "REMARK", "UNITS", "INCHES", "MM", "CLPRNT", "NOPOST", "MACHIN", "POINT", "INTOF",
-    "XLARGE", "XSMALL", "YLARGE", "YSMALL", "CENTER", "LINE", "PARLEL", "PERPTO", "LEFT", "RIGHT",
-    "TANTO", "CIRCLE", "RADIUS", "CUTTER", "INTOL", "OUTTOL", "TLLFT", "TLRGT", "TLON", "FROM",
-    "GOTO", "GODLTA", "GO", "TO", "ON", "PAST", "GOLFT", "GORGT", "GOFWD", "GOBACK", "RAPID",
-    "STOP", "OPSTOP", "END", "FINI", "FEDRAT", "SPINDL", "CLW", "CCLW", "OFF", "COOLNT", "FLOOD",
-    "MIST", "LOADTL", "MACRO", "TERMAC", "CALL", "LOOPST", "LOOPND", "JUMPTO", "IF", "SQRTF",
-    "ABSF",
-];
 
 /// A word of a capital letter and at most five capitals or digits. Clauses see its bytes.
 #[derive(Debug, Drop)]
@@ -101,13 +90,7 @@ impl Symbol {
 pub fn is_vocabulary(word: &Symbol) -> bool
     ensures { result ≡ symbols.is_vocabulary word.now }
 {
-    is_one_of(&VOCABULARY, word.as_str())
-}
-
-fn is_one_of(words: &[&str], text: &str) -> bool
-    ensures { result ≡ list_any (λ w. bytes_eq w.now text.now) words.now }
-{
-    words.iter().any(|word| *word == text)
+    word_of(word).is_some()
 }
 
 fn is_symbol(text: &[u8]) -> bool
