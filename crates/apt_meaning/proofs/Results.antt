@@ -1,7 +1,7 @@
 -- What stands where a result is no error.
 use Rattle.std.proofs.Common.{◌≡◌, refl, Bool, true, false, Result, Ok, Err, if◌then◌else◌}
 use Rattle.apt_words.specs.declared.Case.{Case}
-use Rattle.apt_offset.specs.Targets.{◌>>=◌}
+use Rattle.apt_words.specs.Chains.{◌>>=◌}
 use Rattle.apt_meaning.specs.States.{refuse_if}
 
 pub no_ok : {A E : Type 0} (fault : E) (x : A) → Err fault ≡ Ok x → ⊥

@@ -16,7 +16,8 @@ use Rattle.apt_offset.specs.declared.Target.{Target}
 use Rattle.apt_offset.specs.declared.Target.TheVariants as targets
 use Rattle.apt_offset.specs.Turns.{turn_sense}
 use Rattle.apt_offset.specs.Places.{drive_place, stop_place}
-use Rattle.apt_offset.specs.Targets.{◌>>=◌, signed, stop_target, band_at}
+use Rattle.apt_words.specs.Chains.{◌>>=◌}
+use Rattle.apt_offset.specs.Targets.{signed, stop_target, band_at}
 use Rattle.apt_stop.specs.Nearness.{is_near, heading, off_track}
 use Rattle.apt_stop.specs.Lines.{line_side, line_stop, contact_of}
 use Rattle.apt_certify.specs.Legs.{Leg, beyond_of}

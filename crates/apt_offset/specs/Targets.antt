@@ -6,6 +6,7 @@ use Rattle.apt_words.specs.declared.Side.{Side}
 use Rattle.apt_words.specs.declared.Stop.{Stop}
 use Rattle.apt_words.specs.declared.Case.{Case}
 use Rattle.apt_words.specs.declared.Case.TheVariants as cases
+use Rattle.apt_words.specs.Chains.{◌>>=◌}
 use Rattle.apt_plane.specs.declared.figures.Pt.{Pt}
 use Rattle.apt_plane.specs.declared.figures.Surface.{Surface}
 use Rattle.apt_plane.specs.declared.figures.Surface.TheVariants as surfaces
@@ -13,11 +14,6 @@ use Rattle.apt_plane.specs.declared.figures.Band.{Band}
 use Rattle.apt_offset.specs.declared.Target.{Target}
 use Rattle.apt_offset.specs.declared.Target.TheVariants as targets
 use Rattle.apt_offset.specs.Places.{drive_place, stop_place}
-
-infixl 10 ◌>>=◌
-abbrev pub ◌>>=◌ : {A B : Type 0} → Result A Case → (A → Result B Case) → Result B Case
-(Ok x) >>= f = f x
-(Err e) >>= f = Err e
 
 abbrev pub signed : Sign → ℤ → ℤ
 signed signs.Plus r = r

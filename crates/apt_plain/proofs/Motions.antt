@@ -4,7 +4,8 @@ use Rattle.apt_num.specs.declared.Sign.{Sign}
 use Rattle.apt_words.specs.declared.Case.{Case}
 use Rattle.apt_plane.specs.declared.figures.Line.{Line}
 use Rattle.apt_plane.specs.declared.figures.Surface.TheVariants as surfaces
-use Rattle.apt_offset.specs.Targets.{◌>>=◌, signed, target}
+use Rattle.apt_words.specs.Chains.{◌>>=◌}
+use Rattle.apt_offset.specs.Targets.{signed, target}
 use Rattle.apt_meaning.specs.Contours.{offset_of}
 
 -- a moved line's offset

@@ -13,7 +13,8 @@ use Rattle.apt_canon.specs.Meeting.{line_line, are_parallel, is_in_range, meetin
 use Rattle.apt_offset.specs.declared.Target.{Target}
 use Rattle.apt_offset.specs.declared.Target.TheVariants as targets
 use Rattle.apt_offset.specs.Places.{drive_place, stop_place}
-use Rattle.apt_offset.specs.Targets.{◌>>=◌, signed}
+use Rattle.apt_words.specs.Chains.{◌>>=◌}
+use Rattle.apt_offset.specs.Targets.{signed}
 use Rattle.apt_offset.specs.Turns.{turn_sense}
 use Rattle.apt_stop.specs.Lines.{line_stop, contact_of}
 use Rattle.apt_stop.specs.Nearness.{is_near, off_track}

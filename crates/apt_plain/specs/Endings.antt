@@ -10,7 +10,8 @@ use Rattle.apt_plane.specs.declared.figures.Line.{Line}
 use Rattle.apt_plane.specs.declared.figures.Surface.TheVariants as surfaces
 use Rattle.apt_offset.specs.declared.Target.TheVariants as targets
 use Rattle.apt_offset.specs.Places.{drive_place, stop_place}
-use Rattle.apt_offset.specs.Targets.{◌>>=◌, signed, stop_target}
+use Rattle.apt_words.specs.Chains.{◌>>=◌}
+use Rattle.apt_offset.specs.Targets.{signed, stop_target}
 use Rattle.apt_stop.specs.Nearness.{is_near, off_track}
 use Rattle.apt_stop.specs.Lines.{line_stop}
 use Rattle.apt_words.specs.declared.Side.{Side}

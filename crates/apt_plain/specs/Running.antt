@@ -15,7 +15,7 @@ use Rattle.apt_plane.specs.Vectors.{way, norm}
 use Rattle.apt_control.specs.declared.Act.{Act}
 use Rattle.apt_control.specs.declared.Act.TheVariants as acts
 use Rattle.apt_certify.specs.Legs.{IsLegal}
-use Rattle.apt_offset.specs.Targets.{◌>>=◌}
+use Rattle.apt_words.specs.Chains.{◌>>=◌}
 use Rattle.apt_meaning.specs.States.{State, Position, first_state, moved, radius_of, position_of, has_feed, refuse_if}
 use Rattle.apt_meaning.specs.Contours.{Contour, start_up, straight_contour, after_contour}
 use Rattle.apt_plain.specs.declared.statement.Place.{Place}

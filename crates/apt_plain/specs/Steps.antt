@@ -6,7 +6,7 @@ use Rattle.apt_words.specs.declared.Case.{Case}
 use Rattle.apt_words.specs.declared.Refusal.{Refusal}
 use Rattle.apt_plane.specs.declared.figures.Line.{Line}
 use Rattle.apt_stop.specs.Nearness.{heading}
-use Rattle.apt_offset.specs.Targets.{◌>>=◌}
+use Rattle.apt_words.specs.Chains.{◌>>=◌}
 use Rattle.apt_meaning.specs.States.{Position, position_of}
 use Rattle.apt_control.specs.declared.Act.{Act}
 use Rattle.apt_plain.specs.declared.motion.Ending.{Ending}

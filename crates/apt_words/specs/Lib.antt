@@ -1,3 +1,5 @@
+pub mod Chains
+pub mod Options
 pub mod Vocabulary
 pub mod Symbols
 pub mod Names

@@ -1,0 +1,12 @@
+//! The values of expressions, and what names mean.
+#![tactic(auto)]
+
+mod names;
+mod scalars;
+#[cfg(test)]
+mod tests;
+mod values;
+
+pub use names::{Bound, Env, Frame, Kind, Value, bind};
+pub use scalars::{grid_units, tenths, whole};
+pub use values::eval;

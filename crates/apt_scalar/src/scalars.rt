@@ -1,0 +1,1 @@
+//! Rounding, and the operators on scalars.
