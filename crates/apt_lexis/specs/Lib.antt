@@ -1,0 +1,6 @@
+pub mod Causes
+pub mod Lines
+pub mod Tokens
+pub mod Titles
+pub mod Phrase
+pub mod Sentences

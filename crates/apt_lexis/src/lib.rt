@@ -1,0 +1,14 @@
+//! The lines, tokens and statements of a part program's text.
+#![tactic(auto)]
+
+mod cause;
+mod error;
+mod phrase;
+#[cfg(test)]
+mod tests;
+mod token;
+
+pub use cause::PartCause;
+pub use error::ParseError;
+pub use phrase::{Phrase, Phrases};
+pub use token::Token;
