@@ -68,6 +68,6 @@ impl<'a> Phrases<'a> {
         ensures counted { IfOk result (λ _. self.new.line + length self.new.lines ≡ self.old.line + length self.old.lines) }
         ensures shorter { IfOk result (λ p. IfSome p (λ _. length self.new.lines < length self.old.lines)) }
     {
-        Ok(None)
+        Err(ParseError::NoMemory)
     }
 }

@@ -1,0 +1,9 @@
+//! Expressions as lists of tokens.
+#![tactic(auto)]
+
+mod parts;
+mod reading;
+#[cfg(test)]
+mod tests;
+
+pub use reading::expression;

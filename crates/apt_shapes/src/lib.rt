@@ -1,0 +1,2 @@
+//! Statements of part programs as lists of tokens.
+#![tactic(auto)]
