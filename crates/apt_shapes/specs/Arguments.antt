@@ -1,0 +1,81 @@
+-- The arguments of a statement.
+use Rattle.std.specs.Prelude.{ℕ, Bool, true, false, List, [], ◌∷◌, Option, Some, None, if◌then◌else◌}
+use Rattle.std.proofs.Common.{bytes_eq}
+use Rattle.apt_words.specs.declared.Pick.{Pick}
+use Rattle.apt_words.specs.declared.Pick.TheVariants as picks
+use Rattle.apt_words.specs.declared.Stop.{Stop}
+use Rattle.apt_words.specs.declared.Stop.TheVariants as stops
+use Rattle.apt_words.specs.declared.word.Word.{Word}
+use Rattle.apt_words.specs.declared.word.Word.TheVariants as words
+use Rattle.apt_words.specs.Options.{◌>>=◌, only_if}
+use Rattle.apt_words.specs.Symbols.{is_name}
+use Rattle.apt_words.specs.Vocabulary.{word_of, spelling}
+use Rattle.apt_words.specs.Trees.{Tree}
+use Rattle.apt_lexis.specs.declared.token.Token.{Token}
+use Rattle.apt_lexis.specs.declared.token.Token.TheVariants as tokens
+use Rattle.apt_expr.specs.Expressions.{expression}
+
+-- ---- lists of arguments
+
+abbrev pub in_front : Token → List (List Token) → List (List Token)
+in_front t [] = (t ∷ []) ∷ []
+in_front t (a ∷ args) = (t ∷ a) ∷ args
+
+-- the parts of a list of tokens between its commas
+abbrev pub arguments : List Token → List (List Token)
+arguments [] = [] ∷ []
+arguments (tokens.Comma ∷ ts) = [] ∷ arguments ts
+arguments (t ∷ ts) = in_front t (arguments ts)
+
+-- ---- one argument
+
+abbrev pub name : List Token → Option (List ℕ)
+name (tokens.Word w ∷ []) = only_if (is_name w) w
+name _ = None
+
+-- an argument that is a word of the vocabulary
+abbrev pub word : List Token → Option Word
+word (tokens.Word w ∷ []) = word_of w
+word _ = None
+
+-- an argument is this word of the vocabulary
+abbrev pub is_word : Word → List Token → Bool
+is_word v (tokens.Word w ∷ []) = bytes_eq (spelling v) w
+is_word v _ = false
+
+abbrev pub said : Word → List Token → Option Bool
+said v a = only_if (is_word v a) true
+
+abbrev pub pick_of : Option Word → Option Pick
+pick_of (Some words.Xlarge) = Some picks.XLarge
+pick_of (Some words.Xsmall) = Some picks.XSmall
+pick_of (Some words.Ylarge) = Some picks.YLarge
+pick_of (Some words.Ysmall) = Some picks.YSmall
+pick_of _ = None
+
+-- XLARGE, XSMALL, YLARGE or YSMALL
+abbrev pub pick : List Token → Option Pick
+pick a = pick_of (word a)
+
+abbrev pub is_left_of : Option Word → Option Bool
+is_left_of (Some words.Left) = Some true
+is_left_of (Some words.Right) = Some false
+is_left_of _ = None
+
+-- LEFT or RIGHT
+abbrev pub is_left : List Token → Option Bool
+is_left a = is_left_of (word a)
+
+abbrev pub stop_of : Option Word → Option Stop
+stop_of (Some words.To) = Some stops.To
+stop_of (Some words.On) = Some stops.On
+stop_of (Some words.Past) = Some stops.Past
+stop_of _ = None
+
+-- TO, ON or PAST
+abbrev pub stop : List Token → Option Stop
+stop a = stop_of (word a)
+
+abbrev pub or_else : {A : Type 0} → Option A → Option A → Option A
+or_else None other = other
+or_else (Some x) other = Some x

@@ -1,0 +1,74 @@
+-- The shapes of settings: texts, units, the cutter, tolerances, feed, spindle, coolant and tools.
+use Rattle.std.specs.Prelude.{ℕ, List, [], ◌∷◌, Option, Some, None}
+use Rattle.apt_words.specs.declared.Units.{Units}
+use Rattle.apt_words.specs.declared.Units.TheVariants as units
+use Rattle.apt_words.specs.declared.Turn.{Turn}
+use Rattle.apt_words.specs.declared.Turn.TheVariants as turns
+use Rattle.apt_words.specs.declared.Cool.{Cool}
+use Rattle.apt_words.specs.declared.Cool.TheVariants as cools
+use Rattle.apt_words.specs.declared.body.Body.{Body}
+use Rattle.apt_words.specs.declared.body.Body.TheVariants as bodies
+use Rattle.apt_words.specs.declared.word.Word.{Word}
+use Rattle.apt_words.specs.declared.word.Word.TheVariants as words
+use Rattle.apt_words.specs.Options.{◌>>=◌}
+use Rattle.apt_words.specs.Trees.{Tree}
+use Rattle.apt_lexis.specs.declared.token.Token.{Token}
+use Rattle.apt_expr.specs.Expressions.{expression}
+use Rattle.apt_shapes.specs.Arguments.{word, said, or_else}
+
+-- PARTNO text, REMARK text
+abbrev pub titled : Option Word → List ℕ → Option Body
+titled (Some words.Partno) text = Some (bodies.Partno text)
+titled (Some words.Remark) text = Some (bodies.Remark text)
+titled _ text = None
+
+-- a statement of one expression
+abbrev pub with_one : (Tree → Body) → List (List Token) → Option Body
+with_one body (e ∷ []) = expression e >>= λ e. Some (body e)
+with_one body _ = None
+
+abbrev pub expressions : List (List Token) → Option (List Tree)
+expressions [] = Some []
+expressions (a ∷ args) = expression a >>= λ e. expressions args >>= λ es. Some (e ∷ es)
+
+-- MACHIN/ and a list of expressions
+abbrev pub machin : List (List Token) → Option Body
+machin args = expressions args >>= λ es. Some (bodies.Machin es)
+
+abbrev pub units_of : Option Word → Option Units
+units_of (Some words.Inches) = Some units.Inch
+units_of (Some words.Mm) = Some units.Mm
+units_of _ = None
+
+-- UNITS/INCHES, UNITS/MM
+abbrev pub units_in : List (List Token) → Option Body
+units_in (a ∷ []) = units_of (word a) >>= λ u. Some (bodies.Units u)
+units_in _ = None
+
+abbrev pub spindle_turn : Option Word → Option Turn
+spindle_turn (Some words.Clw) = Some turns.Cw
+spindle_turn (Some words.Cclw) = Some turns.Ccw
+spindle_turn _ = None
+
+abbrev pub spindl_off : List Token → Option Body
+spindl_off a = said words.Off a >>= λ _. Some bodies.SpindlOff
+
+abbrev pub spindl_on : List Token → Turn → Option Body
+spindl_on e turn = expression e >>= λ e. Some (bodies.Spindl e turn)
+
+-- SPINDL/OFF, SPINDL/e, SPINDL/e,CLW and SPINDL/e,CCLW
+abbrev pub spindl : List (List Token) → Option Body
+spindl (a ∷ []) = or_else (spindl_off a) (spindl_on a turns.Cw)
+spindl (a ∷ b ∷ []) = spindle_turn (word b) >>= λ turn. spindl_on a turn
+spindl _ = None
+
+abbrev pub cool_of : Option Word → Option Cool
+cool_of (Some words.Mist) = Some cools.Mist
+cool_of (Some words.Flood) = Some cools.Flood
+cool_of (Some words.Off) = Some cools.Off
+cool_of _ = None
+
+-- COOLNT/FLOOD, COOLNT/MIST, COOLNT/OFF
+abbrev pub coolnt : List (List Token) → Option Body
+coolnt (a ∷ []) = cool_of (word a) >>= λ c. Some (bodies.Coolnt c)
+coolnt _ = None
