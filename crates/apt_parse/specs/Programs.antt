@@ -1,0 +1,81 @@
+-- The program of a text, or its first fault.
+use Rattle.std.specs.Prelude.{◌≡◌, ℕ, not, Bool, true, false, List, [], ◌∷◌, ◌++◌, length, Option, Some, None, Result, Ok, Err, max}
+use Rattle.std.specs.List.{list_all, find}
+use Rattle.apt_words.specs.declared.body.Body.{Body}
+use Rattle.apt_words.specs.declared.body.Body.TheVariants as bodies
+use Rattle.apt_words.specs.declared.body.Stmt.{Stmt}
+use Rattle.apt_words.specs.declared.body.Program.{Program}
+use Rattle.apt_lexis.specs.declared.cause.PartCause.{PartCause}
+use Rattle.apt_lexis.specs.declared.cause.PartCause.TheVariants as causes
+use Rattle.apt_lexis.specs.declared.error.ParseError.{ParseError}
+use Rattle.apt_lexis.specs.declared.error.ParseError.TheVariants as errors
+use Rattle.apt_lexis.specs.Lines.{lines_of}
+use Rattle.apt_lexis.specs.Phrase.{Phrase}
+use Rattle.apt_lexis.specs.Sentences.{Said, said_in}
+use Rattle.apt_parse.specs.Statements.{statement, open_loop, is_label}
+
+-- a fault: its line and its cause
+abbrev pub Fault : Type 0
+Fault = ℕ × PartCause
+
+-- ---- the end of a program
+
+abbrev pub jumps : Body → List (List ℕ)
+jumps (bodies.Jumpto l) = l ∷ []
+jumps (bodies.If e a b c) = a ∷ b ∷ c ∷ []
+jumps _ = []
+
+-- the labels of the program have each label to which the statement jumps
+abbrev pub has_labels : List Stmt → Stmt → Bool
+has_labels sts st = list_all (is_label sts) (jumps st.body)
+
+abbrev pub unless_missing : List Stmt → Option Stmt → Result (List Stmt) Fault
+unless_missing sts (Some st) = Err (st.line, causes.LabelMissing)
+unless_missing sts None = Ok sts
+
+abbrev pub unless_open : List Stmt → Option ℕ → Result (List Stmt) Fault
+unless_open sts (Some line) = Err (line, causes.LoopOpen)
+unless_open sts None = unless_missing sts (find (λ st. not (has_labels sts st)) sts)
+
+-- the statements up to FINI: every loop is closed, and every label of a jump is there
+abbrev pub whole : List Stmt → Result (List Stmt) Fault
+whole sts = unless_open sts (open_loop sts)
+
+-- ---- statements in order
+
+abbrev pub is_fini : Body → Bool
+is_fini bodies.Fini = true
+is_fini _ = false
+
+-- the text ends before FINI
+abbrev pub without_fini : ℕ → Option Fault → Result (List Stmt) Fault
+without_fini last (Some fault) = Err fault
+without_fini last None = Err (last, causes.NoFini)
+
+abbrev pub ends_with : Bool → List Stmt → Result (List Stmt) Fault → Result (List Stmt) Fault
+ends_with true sts more = whole sts
+ends_with false sts more = more
+
+abbrev pub or_fault : List Stmt → ℕ → Result Stmt PartCause → (Stmt → Result (List Stmt) Fault) → Result (List Stmt) Fault
+or_fault before line (Err cause) more = Err (line, cause)
+or_fault before line (Ok st) more = ends_with (is_fini st.body) (before ++ st ∷ []) (more st)
+
+-- the statements behind others: the first fault, or all up to FINI, behind which nothing is read
+abbrev pub program_from : List Stmt → ℕ → Option Fault → List Phrase → Result (List Stmt) Fault
+program_from before last fault [] = without_fini last fault
+program_from before last fault (p ∷ ps) =
+    or_fault before p.line (statement before p) (λ st. program_from (before ++ st ∷ []) last fault ps)
+
+-- the number of the last line, 1 for an empty text
+abbrev pub last_line : List (List ℕ) → ℕ
+last_line lines = max 1 (length lines)
+
+abbrev pub program_of : List ℕ → Result (List Stmt) Fault
+program_of text = program_from [] (last_line (lines_of text)) (said_in text).fault (said_in text).phrases
+
+-- ---- what the reader answers
+
+abbrev pub IsParsed : Result (List Stmt) Fault → Result Program ParseError → Type 0
+IsParsed due (Ok program) = due ≡ Ok program.stmts.items
+IsParsed due (Err (errors.Bad line cause)) = due ≡ Err (line, cause)
+IsParsed due (Err errors.NoMemory) = Unit {0}
