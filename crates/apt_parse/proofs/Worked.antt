@@ -19,8 +19,8 @@ fault text = fault_of (program_of text)
 
 a_program : program_of (codes "PARTNO A\n$$ a comment\n\nLA) x = $\n  2\nFINI\nEND OF THE TEXT") ≡
     Ok (record { line = 1; label = None; body = bodies.Partno (codes "A") }
-      ∷ record { line = 4; label = Some (codes "LA"); body = bodies.Assign (codes "X") (Num (pos 2000000)) }
-      ∷ record { line = 6; label = None; body = bodies.Fini } ∷ [])
+    ∷ record { line = 4; label = Some (codes "LA"); body = bodies.Assign (codes "X") (Num (pos 2000000)) }
+    ∷ record { line = 6; label = None; body = bodies.Fini } ∷ [])
 unfolding shape expression word_of
 a_program = refl
 

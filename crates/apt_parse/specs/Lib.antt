@@ -1,3 +1,4 @@
 pub mod Built
 pub mod Statements
 pub mod Programs
+pub mod Reading

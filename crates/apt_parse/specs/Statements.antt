@@ -1,5 +1,5 @@
 -- A statement behind others: what refuses it, in order.
-use Rattle.std.specs.Prelude.{ℕ, ◌&&◌, not, Bool, true, false, List, [], ◌∷◌, Option, Some, None, Result, Ok, Err, is_some, if◌then◌else◌}
+use Rattle.std.specs.Prelude.{ℕ, ◌&&◌, not, Bool, true, false, List, [], ◌∷◌, ◌++◌, Option, Some, None, Result, Ok, Err, is_some, if◌then◌else◌}
 use Rattle.std.specs.List.{list_any}
 use Rattle.std.proofs.Common.{bytes_eq}
 use Rattle.apt_words.specs.declared.body.Body.{Body}
@@ -49,19 +49,24 @@ abbrev pub macro_name : Body → Option (List ℕ)
 macro_name (bodies.Macro m ps) = Some m
 macro_name _ = None
 
-abbrev pub is_label_of : List ℕ → Stmt → Bool
-is_label_of l st = list_any (bytes_eq l) (or_none st.label)
+-- the labels of statements
+abbrev pub labels_of : List Stmt → List (List ℕ)
+labels_of [] = []
+labels_of (st ∷ sts) = or_none st.label ++ labels_of sts
 
-abbrev pub is_macro_of : List ℕ → Stmt → Bool
-is_macro_of m st = list_any (bytes_eq m) (or_none (macro_name st.body))
+-- the names of the macros among statements
+abbrev pub macros_of : List Stmt → List (List ℕ)
+macros_of [] = []
+macros_of (st ∷ sts) = or_none (macro_name st.body) ++ macros_of sts
 
--- a statement among these has the label
+abbrev pub is_among : List (List ℕ) → List ℕ → Bool
+is_among names n = list_any (bytes_eq n) names
+
 abbrev pub is_label : List Stmt → List ℕ → Bool
-is_label sts l = list_any (is_label_of l) sts
+is_label sts l = is_among (labels_of sts) l
 
--- a macro of this name is among these statements
 abbrev pub is_macro : List Stmt → List ℕ → Bool
-is_macro sts m = list_any (is_macro_of m) sts
+is_macro sts m = is_among (macros_of sts) m
 
 -- ---- where statements can stand
 

@@ -1,0 +1,53 @@
+-- What the reader keeps, one statement more.
+use Rattle.std.specs.Prelude.{◌≡◌, ℕ, List, [], ◌∷◌, ◌++◌, Option, Some, None, Bool, true, false, not, if◌then◌else◌}
+use Rattle.std.proofs.Common.{refl, ap, sym, ◌∙◌}
+use Rattle.std.proofs.lemmas.List.{append_assoc, append-nil}
+use Rattle.apt_words.specs.declared.body.Body.{Body}
+use Rattle.apt_words.specs.declared.body.Stmt.{Stmt}
+use Rattle.apt_lexis.specs.declared.cause.PartCause.{PartCause}
+use Rattle.apt_lexis.specs.declared.cause.PartCause.TheVariants as causes
+use Rattle.apt_parse.specs.Built.{is_built}
+use Rattle.apt_parse.specs.Statements.{or_none, macro_name, labels_of, macros_of, macro_behind, loop_behind, macro_from, loop_from, first_fault, is_misplaced, lacks_partno, is_label_again, is_macro_again, is_in_macro, is_out_of_loop}
+
+pub labels_behind : (sts : List Stmt) (st : Stmt) → labels_of (sts ++ st ∷ []) ≡ labels_of sts ++ or_none st.label
+labels_behind [] st = append-nil (or_none st.label)
+labels_behind (x ∷ xs) st = ap (λ ls. or_none x.label ++ ls) (labels_behind xs st) ∙ sym (append_assoc (or_none x.label) (labels_of xs) (or_none st.label))
+
+pub macros_behind : (sts : List Stmt) (st : Stmt) → macros_of (sts ++ st ∷ []) ≡ macros_of sts ++ or_none (macro_name st.body)
+macros_behind [] st = append-nil (or_none (macro_name st.body))
+macros_behind (x ∷ xs) st =
+    ap (λ ms. or_none (macro_name x.body) ++ ms) (macros_behind xs st) ∙ sym (append_assoc (or_none (macro_name x.body)) (macros_of xs) (or_none (macro_name st.body)))
+
+pub macro_from_behind : (before : Option ℕ) (sts : List Stmt) (st : Stmt) → macro_from before (sts ++ st ∷ []) ≡ macro_behind (macro_from before sts) st.line st.body
+macro_from_behind before [] st = refl
+macro_from_behind before (x ∷ xs) st = macro_from_behind (macro_behind before x.line x.body) xs st
+
+pub loop_from_behind : (before : Option ℕ) (sts : List Stmt) (st : Stmt) → loop_from before (sts ++ st ∷ []) ≡ loop_behind (loop_from before sts) st.line st.body
+loop_from_behind before [] st = refl
+loop_from_behind before (x ∷ xs) st = loop_from_behind (loop_behind before x.line x.body) xs st
+
+abbrev first_of : Bool → Bool → Bool → Bool → Bool → Bool → Bool → Option PartCause
+first_of a b c d e f g =
+    if a then Some causes.BadShape else if b then Some causes.NotBuilt else if c then Some causes.NoPartno
+    else if d then Some causes.LabelTwice else if e then Some causes.MacroTwice
+    else if f then Some causes.MacroOpen else if g then Some causes.LoopOpen else None
+
+not_twice : (a b c d e f g : Bool) → first_of a b c d e f g ≡ None → (d ≡ false) × (e ≡ false)
+not_twice true b c d e f g h = cc
+not_twice false true c d e f g h = cc
+not_twice false false true d e f g h = cc
+not_twice false false false true e f g h = cc
+not_twice false false false false true f g h = cc
+not_twice false false false false false f g h = (refl, refl)
+
+-- a statement without fault gives no label and no macro again
+no_fault : (sts : List Stmt) (label : Option (List ℕ)) (b : Body) → first_fault sts label b ≡ None
+    → (is_label_again sts label ≡ false) × (is_macro_again sts b ≡ false)
+no_fault sts label b h =
+    not_twice (is_misplaced sts b) (not (is_built b)) (lacks_partno sts b) (is_label_again sts label) (is_macro_again sts b) (is_in_macro sts b) (is_out_of_loop sts b) h
+
+pub no_label_again : (sts : List Stmt) (label : Option (List ℕ)) (b : Body) → first_fault sts label b ≡ None → is_label_again sts label ≡ false
+no_label_again sts label b h = (no_fault sts label b h).0
+
+pub no_macro_again : (sts : List Stmt) (label : Option (List ℕ)) (b : Body) → first_fault sts label b ≡ None → is_macro_again sts b ≡ false
+no_macro_again sts label b h = (no_fault sts label b h).1

@@ -1,0 +1,65 @@
+//! The statements that the compiler has.
+
+ghost use Rattle.std.specs.Prelude.{◌≡◌};
+ghost use Rattle.apt_parse.specs.Built as built;
+
+use apt_words::{Body, Side, Stop};
+
+/// Whether the compiler has the statement.
+pub(crate) fn is_built(body: &Body) -> bool
+    ensures { result ≡ built.is_built body.now }
+{
+    match body {
+        Body::Partno(_)
+        | Body::Remark(_)
+        | Body::Units(_)
+        | Body::Clprnt
+        | Body::Nopost
+        | Body::Machin(_)
+        | Body::Assign(..)
+        | Body::LineXy(..)
+        | Body::Cutter(_)
+        | Body::Intol(_)
+        | Body::Outtol(_)
+        | Body::FromXy(..)
+        | Body::GotoXy(..)
+        | Body::Godlta(..)
+        | Body::Rapid
+        | Body::Halt
+        | Body::OptHalt
+        | Body::EndWord
+        | Body::Fini
+        | Body::Fedrat(_) => true,
+        Body::Tool(side) => is_side_built(*side),
+        Body::GoStart(stop, _, Some((other, _))) => is_stop_built(*stop) && is_stop_built(*other),
+        Body::Contour(side, _, _, stop, _) => is_side_or_none_built(*side) && is_stop_built(*stop),
+        _ => false,
+    }
+}
+
+fn is_side_built(side: Side) -> bool
+    ensures { result ≡ built.is_side_built side }
+{
+    match side {
+        Side::Left | Side::Right => true,
+        Side::On => false,
+    }
+}
+
+fn is_side_or_none_built(side: Option<Side>) -> bool
+    ensures { result ≡ built.is_side_or_none_built side }
+{
+    match side {
+        Some(side) => is_side_built(side),
+        None => true,
+    }
+}
+
+fn is_stop_built(stop: Stop) -> bool
+    ensures { result ≡ built.is_stop_built stop }
+{
+    match stop {
+        Stop::To | Stop::Past => true,
+        Stop::On | Stop::Tanto => false,
+    }
+}
