@@ -46,6 +46,7 @@ phrase n ts = record { line = n; tokens = Ok ts; text = None }
 
 continued : said_in (codes "A= $ more" ++ 10 ∷ codes "$$ a comment" ++ 10 ∷ codes "  1 $$ end" ++ 10 ∷ codes "B") ≡
     record { phrases = phrase 1 (tokens.Word (codes "A") ∷ tokens.Equals ∷ tokens.Number (pos 1000000) ∷ []) ∷ phrase 4 (tokens.Word (codes "B") ∷ []) ∷ []; fault = None }
+unfolding word_of
 continued = refl
 
 titled : said_in (codes "LA) partno  a $ B  " ++ 10 ∷ []) ≡
