@@ -256,7 +256,7 @@ first_mark b bs e f = choose_third (is_letter b) (is_in_run b) _ _ _ e f
 by_length : (n : ℕ) (text : List ℕ) → first_length text ≡ n → reads_of text ≡ read_of (take n text) ∷ reads_of (drop n text) → reads_of text ≡ read_of (first_of text) ∷ reads_of (behind_first text)
 by_length n text e h = subst (λ m. reads_of text ≡ read_of (take m text) ∷ reads_of (drop m text)) (sym e) h
 
-reads_first : (text : List ℕ) → 0 < length text → prefix_len is_blank text ≡ 0 → reads_of text ≡ read_of (first_of text) ∷ reads_of (behind_first text)
+pub reads_first : (text : List ℕ) → 0 < length text → prefix_len is_blank text ≡ 0 → reads_of text ≡ read_of (first_of text) ∷ reads_of (behind_first text)
 reads_first [] h clear = absurd (omega arith)
 reads_first (b ∷ bs) h clear = elim (is_letter b) as (λ t. is_letter b ≡ t → reads_of (b ∷ bs) ≡ read_of (first_of (b ∷ bs)) ∷ reads_of (behind_first (b ∷ bs))) [
   | true ↦ λ e. by_length (prefix_len is_letter_or_digit (b ∷ bs)) (b ∷ bs) (choose_first (is_letter b) _ _ e)

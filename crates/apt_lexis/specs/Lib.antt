@@ -7,3 +7,4 @@ pub mod Titles
 pub mod Headings
 pub mod Phrase
 pub mod Sentences
+pub mod Readings

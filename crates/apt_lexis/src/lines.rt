@@ -1,6 +1,6 @@
 //! The lines of a text.
 
-ghost use Rattle.std.specs.Prelude.{◌≡◌, ◌<◌, ◌==◌, position, length, IfSome, IsNone, option_map};
+ghost use Rattle.std.specs.Prelude.{◌≡◌, ◌<◌, ◌≤◌, ◌==◌, position, length, IfSome, IsNone, option_map};
 ghost use Rattle.std.specs.List.{list_all};
 ghost use Rattle.apt_lexis.specs.Lines as lines;
 ghost use Rattle.apt_lexis.specs.Cuts as cuts;
@@ -60,7 +60,8 @@ fn without_return(part: &[u8]) -> &[u8]
 
 /// The first fault of a line.
 pub(crate) fn line_fault(number: u32, line: &[u8]) -> Option<PartCause>
-    ensures { result ≡ lines.line_fault number line.now }
+    ensures value { result ≡ lines.line_fault number line.now }
+    ensures few { IsNone result → number ≤ 50000 }
 {
     if number > MOST_LINES {
         Some(PartCause::TooManyLines)
