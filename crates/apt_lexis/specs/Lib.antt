@@ -1,6 +1,10 @@
 pub mod Causes
 pub mod Lines
+pub mod Cuts
 pub mod Tokens
+pub mod Steps
 pub mod Titles
+pub mod Headings
 pub mod Phrase
 pub mod Sentences
+pub mod Readings

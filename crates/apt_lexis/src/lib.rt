@@ -2,10 +2,14 @@
 #![tactic(auto)]
 
 mod cause;
+mod character;
 mod error;
+mod lines;
+mod number;
 mod phrase;
 #[cfg(test)]
 mod tests;
+mod title;
 mod token;
 
 pub use cause::PartCause;

@@ -1,0 +1,292 @@
+-- The tokens of a text, one after another.
+use Rattle.std.proofs.Common.{◌≡◌, ℕ, zero, suc, ◌+◌, ◌<◌, ◌≤◌, ◌==◌, List, [], ◌∷◌, ◌++◌, length, take, drop, Bool, true, false, ap, ◌∙◌, sym, refl, arith, cond, subst, append_assoc, append-nil}
+use Rattle.std.specs.Prelude.{◌||◌, Ok, Err}
+use Rattle.std.specs.List.{prefix_len, flat_map}
+use Rattle.std.proofs.lemmas.Grind.{common_steps}
+use Rattle.std.proofs.lemmas.Bool.Decides.{nat_tests}
+use Rattle.std.proofs.lemmas.List.Sums.{prefix_len-le-length}
+use Rattle.apt_lexis.specs.declared.cause.PartCause.{PartCause}
+use Rattle.apt_lexis.specs.declared.token.Token.{Token}
+use Rattle.apt_lexis.specs.Lines.{in_front}
+use Rattle.apt_lexis.specs.Tokens.{Read, Tokens, is_blank, is_letter, is_letter_or_digit, is_in_run, begins_in_run, runs, tokens_of_run, word, number, number_behind, mark, all_good, in_front_of}
+use Rattle.apt_lexis.specs.Sentences.{joined}
+use Rattle.apt_lexis.specs.Steps.{reads_of, behind_blanks, first_length, first_of, behind_first, read_of}
+
+-- ---- characters
+
+letter_or_digit_of_letter : (b : ℕ) → is_letter b ≡ true → is_letter_or_digit b ≡ true
+letter_or_digit_of_letter b e = rw e refl
+
+in_run_of_letter_or_digit : (b : ℕ) → is_letter_or_digit b ≡ true → is_in_run b ≡ true
+in_run_of_letter_or_digit b e = rw e refl
+
+in_run_of_letter : (b : ℕ) → is_letter b ≡ true → is_in_run b ≡ true
+in_run_of_letter b e = in_run_of_letter_or_digit b (letter_or_digit_of_letter b e)
+
+neither : (x y : Bool) → (x || y) ≡ false → x ≡ false
+neither true y e = e
+neither false y e = refl
+
+no_letter : (b : ℕ) → is_letter_or_digit b ≡ false → is_letter b ≡ false
+no_letter b e = neither (is_letter b) _ e
+
+no_run_of_blank : (b : ℕ) → is_blank b ≡ true → is_in_run b ≡ false
+no_run_of_blank b e = grind (arith, nat_tests)
+
+-- ---- lengths
+
+prefix_yes : (test : ℕ → Bool) (b : ℕ) (bs : List ℕ) → test b ≡ true → prefix_len test (b ∷ bs) ≡ 1 + prefix_len test bs
+prefix_yes test b bs e = rw e refl
+
+prefix_no : (test : ℕ → Bool) (b : ℕ) (bs : List ℕ) → test b ≡ false → prefix_len test (b ∷ bs) ≡ 0
+prefix_no test b bs e = rw e refl
+
+take_one_more : (i b : ℕ) (bs : List ℕ) → take (1 + i) (b ∷ bs) ≡ b ∷ take i bs
+take_one_more i b bs = grind (arith, common_steps)
+
+drop_one_more : (i b : ℕ) (bs : List ℕ) → drop (1 + i) (b ∷ bs) ≡ drop i bs
+drop_one_more i b bs = grind (arith, common_steps)
+
+-- ---- blanks
+
+reads_blank : (b : ℕ) (bs : List ℕ) → is_blank b ≡ true → reads_of (b ∷ bs) ≡ reads_of bs
+reads_blank b bs e = rw (no_run_of_blank b e, e) refl
+
+pub reads_behind_blanks : (text : List ℕ) → reads_of (behind_blanks text) ≡ reads_of text
+reads_behind_blanks [] = refl
+reads_behind_blanks (b ∷ bs) = elim (is_blank b) as (λ t. is_blank b ≡ t → reads_of (drop (cond t (1 + prefix_len is_blank bs) 0) (b ∷ bs)) ≡ reads_of (b ∷ bs)) [
+  | true ↦ λ e. rw (drop_one_more (prefix_len is_blank bs) b bs) (reads_behind_blanks bs ∙ sym (reads_blank b bs e))
+  | false ↦ λ e. refl
+] refl
+
+-- ---- the first token
+
+pub first_short : (text : List ℕ) → 0 < length text → first_length text ≤ length text
+first_short [] h = omega arith
+first_short (b ∷ bs) h = elim (is_letter b) as (λ t. cond t (prefix_len is_letter_or_digit (b ∷ bs)) (cond (is_in_run b) (prefix_len is_in_run (b ∷ bs)) 1) ≤ length (b ∷ bs)) [
+  | true ↦ prefix_len-le-length is_letter_or_digit (b ∷ bs)
+  | false ↦ elim (is_in_run b) as (λ t. cond t (prefix_len is_in_run (b ∷ bs)) 1 ≤ length (b ∷ bs)) [
+    | true ↦ prefix_len-le-length is_in_run (b ∷ bs)
+    | false ↦ omega arith
+  ]
+]
+
+some_front : (test : ℕ → Bool) (b : ℕ) (bs : List ℕ) → test b ≡ true → 0 < prefix_len test (b ∷ bs)
+some_front test b bs e = rw e (omega arith)
+
+pub first_some : (text : List ℕ) → 0 < length text → 0 < first_length text
+first_some [] h = omega arith
+first_some (b ∷ bs) h = elim (is_letter b) as (λ t. is_letter b ≡ t → 0 < cond t (prefix_len is_letter_or_digit (b ∷ bs)) (cond (is_in_run b) (prefix_len is_in_run (b ∷ bs)) 1)) [
+  | true ↦ λ e. some_front is_letter_or_digit b bs (letter_or_digit_of_letter b e)
+  | false ↦ λ _. elim (is_in_run b) as (λ t. is_in_run b ≡ t → 0 < cond t (prefix_len is_in_run (b ∷ bs)) 1) [
+    | true ↦ λ e. some_front is_in_run b bs e
+    | false ↦ λ _. omega arith
+  ] refl
+] refl
+
+-- ---- runs
+
+-- a run takes all letters, digits and points that stand together
+runs_begun : (b : ℕ) (bs : List ℕ) → is_in_run b ≡ true → runs (b ∷ bs) ≡ take (prefix_len is_in_run (b ∷ bs)) (b ∷ bs) ∷ runs (drop (prefix_len is_in_run (b ∷ bs)) (b ∷ bs))
+runs_begun b [] e = rw e refl
+runs_begun b (c ∷ cs) e = elim (is_in_run c) as (λ t. is_in_run c ≡ t → runs (b ∷ c ∷ cs) ≡ take (prefix_len is_in_run (b ∷ c ∷ cs)) (b ∷ c ∷ cs) ∷ runs (drop (prefix_len is_in_run (b ∷ c ∷ cs)) (b ∷ c ∷ cs))) [
+  | true ↦ λ f.
+      rw (prefix_yes is_in_run b (c ∷ cs) e, take_one_more (prefix_len is_in_run (c ∷ cs)) b (c ∷ cs), drop_one_more (prefix_len is_in_run (c ∷ cs)) b (c ∷ cs))
+      (runs_longer b c cs e f ∙ ap (in_front b) (runs_begun c cs f))
+  | false ↦ λ f. rw (prefix_yes is_in_run b (c ∷ cs) e, prefix_no is_in_run c cs f) (runs_ended b c cs e f)
+] refl
+  where
+    runs_longer : (b c : ℕ) (cs : List ℕ) → is_in_run b ≡ true → is_in_run c ≡ true → runs (b ∷ c ∷ cs) ≡ in_front b (runs (c ∷ cs))
+    runs_longer b c cs e f = rw (e, f) refl
+
+    runs_ended : (b c : ℕ) (cs : List ℕ) → is_in_run b ≡ true → is_in_run c ≡ false → runs (b ∷ c ∷ cs) ≡ (b ∷ []) ∷ runs (c ∷ cs)
+    runs_ended b c cs e f = rw (e, f) refl
+
+reads_run : (b : ℕ) (bs : List ℕ) → is_in_run b ≡ true → reads_of (b ∷ bs) ≡ tokens_of_run (take (prefix_len is_in_run (b ∷ bs)) (b ∷ bs)) ++ reads_of (drop (prefix_len is_in_run (b ∷ bs)) (b ∷ bs))
+reads_run b bs e = ap (flat_map tokens_of_run) (runs_begun b bs e)
+
+-- ---- one of three
+
+choose_first : {A : Type 0} (x : Bool) (a b : A) → x ≡ true → cond x a b ≡ a
+choose_first true a b e = refl
+choose_first false a b e = cc
+
+choose_second : {A : Type 0} (x y : Bool) (a b c : A) → x ≡ false → y ≡ true → cond x a (cond y b c) ≡ b
+choose_second true y a b c e f = cc
+choose_second false true a b c e f = refl
+choose_second false false a b c e f = cc
+
+choose_third : {A : Type 0} (x y : Bool) (a b c : A) → x ≡ false → y ≡ false → cond x a (cond y b c) ≡ c
+choose_third true y a b c e f = cc
+choose_third false true a b c e f = cc
+choose_third false false a b c e f = refl
+
+-- ---- a mark
+
+mark_alone : (b : ℕ) (bs : List ℕ) → is_letter b ≡ false → is_in_run b ≡ false → tokens_of_run (b ∷ bs) ≡ mark b ∷ []
+mark_alone b bs e f = choose_third (is_letter b) (is_in_run b) _ _ _ e f
+
+mark_run : (b : ℕ) (bs : List ℕ) → is_in_run b ≡ false → is_blank b ≡ false → runs (b ∷ bs) ≡ (b ∷ []) ∷ runs bs
+mark_run b bs e f = choose_third (is_in_run b) (is_blank b) _ _ _ e f
+
+no_letter_out : (b : ℕ) → is_in_run b ≡ false → is_letter b ≡ false
+no_letter_out b e = no_letter b (neither (is_letter_or_digit b) _ e)
+
+reads_mark : (b : ℕ) (bs : List ℕ) → is_in_run b ≡ false → is_blank b ≡ false → reads_of (b ∷ bs) ≡ mark b ∷ reads_of bs
+reads_mark b bs e f =
+    ap (flat_map tokens_of_run) (mark_run b bs e f) ∙ ap (λ rs. rs ++ reads_of bs) (mark_alone b [] (no_letter_out b e) e)
+
+-- ---- a number
+
+take_front : (test : ℕ → Bool) (b : ℕ) (bs : List ℕ) → test b ≡ true → take (prefix_len test (b ∷ bs)) (b ∷ bs) ≡ b ∷ take (prefix_len test bs) bs
+take_front test b bs e = rw (prefix_yes test b bs e) (take_one_more (prefix_len test bs) b bs)
+
+number_alone : (b : ℕ) (bs : List ℕ) → is_letter b ≡ false → is_in_run b ≡ true → tokens_of_run (b ∷ bs) ≡ number (b ∷ bs) ∷ []
+number_alone b bs e f = choose_second (is_letter b) (is_in_run b) _ _ _ e f
+
+number_run : (b : ℕ) (bs : List ℕ) → is_letter b ≡ false → is_in_run b ≡ true
+    → tokens_of_run (take (prefix_len is_in_run (b ∷ bs)) (b ∷ bs)) ≡ number (take (prefix_len is_in_run (b ∷ bs)) (b ∷ bs)) ∷ []
+number_run b bs e f = subst (λ run. tokens_of_run run ≡ number run ∷ []) (sym (take_front is_in_run b bs f)) (number_alone b (take (prefix_len is_in_run bs) bs) e f)
+
+reads_number : (b : ℕ) (bs : List ℕ) → is_letter b ≡ false → is_in_run b ≡ true
+    → reads_of (b ∷ bs) ≡ number (take (prefix_len is_in_run (b ∷ bs)) (b ∷ bs)) ∷ reads_of (drop (prefix_len is_in_run (b ∷ bs)) (b ∷ bs))
+reads_number b bs e f = reads_run b bs f ∙ ap (λ rs. rs ++ reads_of (drop (prefix_len is_in_run (b ∷ bs)) (b ∷ bs))) (number_run b bs e f)
+
+-- ---- a word
+
+inner_length : (p q : ℕ → Bool) (text : List ℕ) → ((b : ℕ) → p b ≡ true → q b ≡ true) → prefix_len p (take (prefix_len q text) text) ≡ prefix_len p text
+inner_length p q [] h = refl
+inner_length p q (b ∷ bs) h = elim (p b) as (λ t. p b ≡ t → prefix_len p (take (prefix_len q (b ∷ bs)) (b ∷ bs)) ≡ prefix_len p (b ∷ bs)) [
+  | true ↦ λ e. rw (take_front q b bs (h b e)) (prefix_yes p b (take (prefix_len q bs) bs) e ∙ ap (λ n. 1 + n) (inner_length p q bs h) ∙ sym (prefix_yes p b bs e))
+  | false ↦ λ e. elim (q b) as (λ t. q b ≡ t → prefix_len p (take (prefix_len q (b ∷ bs)) (b ∷ bs)) ≡ prefix_len p (b ∷ bs)) [
+    | true ↦ λ f. rw (take_front q b bs f) (prefix_no p b (take (prefix_len q bs) bs) e ∙ sym (prefix_no p b bs e))
+    | false ↦ λ f. rw (prefix_no q b bs f) (sym (prefix_no p b bs e))
+  ] refl
+] refl
+
+inner_front : (p q : ℕ → Bool) (text : List ℕ) → ((b : ℕ) → p b ≡ true → q b ≡ true) → take (prefix_len p text) (take (prefix_len q text) text) ≡ take (prefix_len p text) text
+inner_front p q [] h = refl
+inner_front p q (b ∷ bs) h = elim (p b) as (λ t. p b ≡ t → take (prefix_len p (b ∷ bs)) (take (prefix_len q (b ∷ bs)) (b ∷ bs)) ≡ take (prefix_len p (b ∷ bs)) (b ∷ bs)) [
+  | true ↦ λ e. rw (take_front q b bs (h b e), prefix_yes p b bs e, take_one_more (prefix_len p bs) b (take (prefix_len q bs) bs), take_one_more (prefix_len p bs) b bs) (ap (λ cs. b ∷ cs) (inner_front p q bs h))
+  | false ↦ λ e. rw (prefix_no p b bs e) refl
+] refl
+
+inner_rest : (p q : ℕ → Bool) (text : List ℕ) → ((b : ℕ) → p b ≡ true → q b ≡ true)
+    → drop (prefix_len p text) (take (prefix_len q text) text) ≡ take (prefix_len q (drop (prefix_len p text) text)) (drop (prefix_len p text) text)
+inner_rest p q [] h = refl
+inner_rest p q (b ∷ bs) h = elim (p b) as (λ t. p b ≡ t → drop (prefix_len p (b ∷ bs)) (take (prefix_len q (b ∷ bs)) (b ∷ bs)) ≡ take (prefix_len q (drop (prefix_len p (b ∷ bs)) (b ∷ bs))) (drop (prefix_len p (b ∷ bs)) (b ∷ bs))) [
+  | true ↦ λ e. rw (take_front q b bs (h b e), prefix_yes p b bs e, drop_one_more (prefix_len p bs) b (take (prefix_len q bs) bs), drop_one_more (prefix_len p bs) b bs) (inner_rest p q bs h)
+  | false ↦ λ e. rw (prefix_no p b bs e) refl
+] refl
+
+outer_rest : (p q : ℕ → Bool) (text : List ℕ) → ((b : ℕ) → p b ≡ true → q b ≡ true)
+    → drop (prefix_len q text) text ≡ drop (prefix_len q (drop (prefix_len p text) text)) (drop (prefix_len p text) text)
+outer_rest p q [] h = refl
+outer_rest p q (b ∷ bs) h = elim (p b) as (λ t. p b ≡ t → drop (prefix_len q (b ∷ bs)) (b ∷ bs) ≡ drop (prefix_len q (drop (prefix_len p (b ∷ bs)) (b ∷ bs))) (drop (prefix_len p (b ∷ bs)) (b ∷ bs))) [
+  | true ↦ λ e. rw (prefix_yes p b bs e, prefix_yes q b bs (h b e), drop_one_more (prefix_len p bs) b bs, drop_one_more (prefix_len q bs) b bs) (outer_rest p q bs h)
+  | false ↦ λ e. rw (prefix_no p b bs e) refl
+] refl
+
+-- what is behind the bytes of a kind at the front begins with none of the kind
+none_behind : (test : ℕ → Bool) (text : List ℕ) → prefix_len test (drop (prefix_len test text) text) ≡ 0
+none_behind test [] = refl
+none_behind test (b ∷ bs) = elim (test b) as (λ t. test b ≡ t → prefix_len test (drop (prefix_len test (b ∷ bs)) (b ∷ bs)) ≡ 0) [
+  | true ↦ λ e. rw (prefix_yes test b bs e, drop_one_more (prefix_len test bs) b bs) (none_behind test bs)
+  | false ↦ λ e. rw (prefix_no test b bs e) (prefix_no test b bs e)
+] refl
+
+none_first : (test : ℕ → Bool) (b : ℕ) (bs : List ℕ) → prefix_len test (b ∷ bs) ≡ 0 → test b ≡ false
+none_first test b bs h = elim (test b) as (λ t. test b ≡ t → t ≡ false) [
+  | true ↦ λ e. absurd (omega (arith, h, prefix_yes test b bs e))
+  | false ↦ λ e. refl
+] refl
+
+-- a number that stands directly behind a word is read as the next token
+number_then : (text : List ℕ) → prefix_len is_letter_or_digit text ≡ 0
+    → number_behind (take (prefix_len is_in_run text) text) ++ reads_of (drop (prefix_len is_in_run text) text) ≡ reads_of text
+number_then [] h = refl
+number_then (b ∷ bs) h = elim (is_in_run b) as (λ t. is_in_run b ≡ t → number_behind (take (prefix_len is_in_run (b ∷ bs)) (b ∷ bs)) ++ reads_of (drop (prefix_len is_in_run (b ∷ bs)) (b ∷ bs)) ≡ reads_of (b ∷ bs)) [
+  | true ↦ λ e.
+      ap (λ rs. rs ++ reads_of (drop (prefix_len is_in_run (b ∷ bs)) (b ∷ bs))) (behind_number b bs e)
+      ∙ sym (reads_number b bs (no_letter b (none_first is_letter_or_digit b bs h)) e)
+  | false ↦ λ e. rw (prefix_no is_in_run b bs e) refl
+] refl
+  where
+    behind_number : (b : ℕ) (bs : List ℕ) → is_in_run b ≡ true → number_behind (take (prefix_len is_in_run (b ∷ bs)) (b ∷ bs)) ≡ number (take (prefix_len is_in_run (b ∷ bs)) (b ∷ bs)) ∷ []
+    behind_number b bs e = subst (λ run. number_behind run ≡ number run ∷ []) (sym (take_front is_in_run b bs e)) refl
+
+word_alone : (b : ℕ) (bs : List ℕ) → is_letter b ≡ true
+    → tokens_of_run (b ∷ bs) ≡ word (take (prefix_len is_letter_or_digit (b ∷ bs)) (b ∷ bs)) ∷ number_behind (drop (prefix_len is_letter_or_digit (b ∷ bs)) (b ∷ bs))
+word_alone b bs e = choose_first (is_letter b) _ _ e
+
+word_run : (b : ℕ) (bs : List ℕ) → is_letter b ≡ true
+    → tokens_of_run (take (prefix_len is_in_run (b ∷ bs)) (b ∷ bs))
+    ≡ word (take (prefix_len is_letter_or_digit (take (prefix_len is_in_run (b ∷ bs)) (b ∷ bs))) (take (prefix_len is_in_run (b ∷ bs)) (b ∷ bs)))
+    ∷ number_behind (drop (prefix_len is_letter_or_digit (take (prefix_len is_in_run (b ∷ bs)) (b ∷ bs))) (take (prefix_len is_in_run (b ∷ bs)) (b ∷ bs)))
+word_run b bs e =
+    subst (λ run. tokens_of_run run ≡ word (take (prefix_len is_letter_or_digit run) run) ∷ number_behind (drop (prefix_len is_letter_or_digit run) run))
+    (sym (take_front is_in_run b bs (in_run_of_letter b e))) (word_alone b (take (prefix_len is_in_run bs) bs) e)
+
+word_then : (text : List ℕ)
+    → (word (take (prefix_len is_letter_or_digit (take (prefix_len is_in_run text) text)) (take (prefix_len is_in_run text) text))
+    ∷ number_behind (drop (prefix_len is_letter_or_digit (take (prefix_len is_in_run text) text)) (take (prefix_len is_in_run text) text))) ++ reads_of (drop (prefix_len is_in_run text) text)
+    ≡ word (take (prefix_len is_letter_or_digit text) text) ∷ reads_of (drop (prefix_len is_letter_or_digit text) text)
+word_then text =
+    rw (inner_length is_letter_or_digit is_in_run text in_run_of_letter_or_digit, inner_front is_letter_or_digit is_in_run text in_run_of_letter_or_digit, inner_rest is_letter_or_digit is_in_run text in_run_of_letter_or_digit, outer_rest is_letter_or_digit is_in_run text in_run_of_letter_or_digit)
+    (ap (λ rs. word (take (prefix_len is_letter_or_digit text) text) ∷ rs) (number_then (drop (prefix_len is_letter_or_digit text) text) (none_behind is_letter_or_digit text)))
+
+reads_word : (b : ℕ) (bs : List ℕ) → is_letter b ≡ true
+    → reads_of (b ∷ bs) ≡ word (take (prefix_len is_letter_or_digit (b ∷ bs)) (b ∷ bs)) ∷ reads_of (drop (prefix_len is_letter_or_digit (b ∷ bs)) (b ∷ bs))
+reads_word b bs e =
+    reads_run b bs (in_run_of_letter b e)
+    ∙ ap (λ rs. rs ++ reads_of (drop (prefix_len is_in_run (b ∷ bs)) (b ∷ bs))) (word_run b bs e)
+    ∙ word_then (b ∷ bs)
+
+-- ---- the first token and what stands behind it
+
+first_word : (b : ℕ) (bs : List ℕ) → is_letter b ≡ true → read_of (take (prefix_len is_letter_or_digit (b ∷ bs)) (b ∷ bs)) ≡ word (take (prefix_len is_letter_or_digit (b ∷ bs)) (b ∷ bs))
+first_word b bs e = subst (λ text. read_of text ≡ word text) (sym (take_front is_letter_or_digit b bs (letter_or_digit_of_letter b e))) (choose_first (is_letter b) _ _ e)
+
+first_number : (b : ℕ) (bs : List ℕ) → is_letter b ≡ false → is_in_run b ≡ true → read_of (take (prefix_len is_in_run (b ∷ bs)) (b ∷ bs)) ≡ number (take (prefix_len is_in_run (b ∷ bs)) (b ∷ bs))
+first_number b bs e f = subst (λ text. read_of text ≡ number text) (sym (take_front is_in_run b bs f)) (choose_second (is_letter b) (is_in_run b) _ _ _ e f)
+
+first_mark : (b : ℕ) (bs : List ℕ) → is_letter b ≡ false → is_in_run b ≡ false → read_of (b ∷ bs) ≡ mark b
+first_mark b bs e f = choose_third (is_letter b) (is_in_run b) _ _ _ e f
+
+by_length : (n : ℕ) (text : List ℕ) → first_length text ≡ n → reads_of text ≡ read_of (take n text) ∷ reads_of (drop n text) → reads_of text ≡ read_of (first_of text) ∷ reads_of (behind_first text)
+by_length n text e h = subst (λ m. reads_of text ≡ read_of (take m text) ∷ reads_of (drop m text)) (sym e) h
+
+pub reads_first : (text : List ℕ) → 0 < length text → prefix_len is_blank text ≡ 0 → reads_of text ≡ read_of (first_of text) ∷ reads_of (behind_first text)
+reads_first [] h clear = absurd (omega arith)
+reads_first (b ∷ bs) h clear = elim (is_letter b) as (λ t. is_letter b ≡ t → reads_of (b ∷ bs) ≡ read_of (first_of (b ∷ bs)) ∷ reads_of (behind_first (b ∷ bs))) [
+  | true ↦ λ e. by_length (prefix_len is_letter_or_digit (b ∷ bs)) (b ∷ bs) (choose_first (is_letter b) _ _ e)
+      (reads_word b bs e ∙ ap (λ r. r ∷ reads_of (drop (prefix_len is_letter_or_digit (b ∷ bs)) (b ∷ bs))) (sym (first_word b bs e)))
+  | false ↦ λ e. elim (is_in_run b) as (λ t. is_in_run b ≡ t → reads_of (b ∷ bs) ≡ read_of (first_of (b ∷ bs)) ∷ reads_of (behind_first (b ∷ bs))) [
+    | true ↦ λ f. by_length (prefix_len is_in_run (b ∷ bs)) (b ∷ bs) (choose_second (is_letter b) (is_in_run b) _ _ _ e f)
+        (reads_number b bs e f ∙ ap (λ r. r ∷ reads_of (drop (prefix_len is_in_run (b ∷ bs)) (b ∷ bs))) (sym (first_number b bs e f)))
+    | false ↦ λ f. by_length 1 (b ∷ bs) (choose_third (is_letter b) (is_in_run b) _ _ _ e f)
+        (reads_mark b bs f (none_first is_blank b bs clear) ∙ ap (λ r. r ∷ reads_of bs) (sym (first_mark b [] e f)))
+  ] refl
+] refl
+
+-- ---- all tokens
+
+pub no_blank_behind : (text : List ℕ) → prefix_len is_blank (behind_blanks text) ≡ 0
+no_blank_behind text = none_behind is_blank text
+
+joined_one_more : (ts : List Token) (t : Token) (more : Tokens) → joined (Ok ts) (in_front_of (Ok t) more) ≡ joined (Ok (ts ++ t ∷ [])) more
+joined_one_more ts t (Err cause) = refl
+joined_one_more ts t (Ok more) = ap (λ (us : List Token). Ok us) (sym (append_assoc ts (t ∷ []) more))
+
+pub token_added : (ts : List Token) (t : Token) (text : List ℕ) → 0 < length text → prefix_len is_blank text ≡ 0 → read_of (first_of text) ≡ Ok t
+    → joined (Ok ts) (all_good (reads_of text)) ≡ joined (Ok (ts ++ t ∷ [])) (all_good (reads_of (behind_blanks (behind_first text))))
+token_added ts t text h clear e =
+    rw (reads_first text h clear, e, reads_behind_blanks (behind_first text)) (joined_one_more ts t (all_good (reads_of (behind_first text))))
+
+pub token_bad : (ts : List Token) (cause : PartCause) (text : List ℕ) → 0 < length text → prefix_len is_blank text ≡ 0 → read_of (first_of text) ≡ Err cause
+    → joined (Ok ts) (all_good (reads_of text)) ≡ Err cause
+token_bad ts cause text h clear e = rw (reads_first text h clear, e) refl
+
+pub no_token : (ts : List Token) (text : List ℕ) → length text ≡ 0 → joined (Ok ts) (all_good (reads_of text)) ≡ Ok ts
+no_token ts [] e = ap (λ (us : List Token). Ok us) (append-nil ts)
+no_token ts (b ∷ bs) e = absurd (omega arith)

@@ -1,0 +1,107 @@
+-- Titles and the blanks round them.
+use Rattle.std.proofs.Common.{◌≡◌, ℕ, zero, suc, ◌+◌, ◌-◌, ◌<◌, ◌≤◌, ◌==◌, List, [], ◌∷◌, ◌++◌, length, take, drop, get_or, map, Bool, true, false, Some, None, ap, ◌∙◌, sym, refl, arith, cond, subst, ◌⊎◌, inl, inr}
+use Rattle.std.specs.Prelude.{◌||◌, ◌&&◌, not, codes, Option}
+use Rattle.std.proofs.Common.{bytes_eq}
+use native.Mathlib.Numerals.{unary_clauses}
+use Rattle.std.proofs.lemmas.Slice.Eq.{bytes_eq-Decides}
+use Rattle.apt_words.specs.Options.{◌>>=◌, only_if}
+use Rattle.apt_words.specs.Symbols.{is_symbol, is_name}
+use Rattle.apt_lexis.specs.declared.token.Token.{Token}
+use Rattle.apt_lexis.specs.declared.token.Token.TheVariants as tokens
+use Rattle.apt_lexis.specs.Titles.{Title, without_blank, without_blanks, unless_last, title_word, title, labelled, title_behind, title_or_labelled, behind_close, with_tokens}
+use Rattle.apt_lexis.specs.Headings.{is_title_word, as_title, closed_title, with_before}
+
+-- ---- blanks at the end
+
+stripped : (b : ℕ) (bs : List ℕ) → bytes_eq (drop (length bs) (b ∷ bs)) (32 ∷ []) ≡ true → without_blanks (take (length bs) (b ∷ bs)) ≡ without_blanks (b ∷ bs)
+stripped b [] e = subst (λ text. [] ≡ without_blanks text) (sym ((bytes_eq-Decides (b ∷ []) (32 ∷ [])).0 e)) refl
+stripped b (c ∷ cs) e = ap (unless_last b) (stripped c cs e)
+
+other_last : (b : ℕ) → bytes_eq (b ∷ []) (32 ∷ []) ≡ false → (b == 32) ≡ false
+other_last b e = elim (b == 32) as (λ t. (b == 32) ≡ t → t ≡ false) [
+  | true ↦ λ f. let g = rw f at e in (cc)
+  | false ↦ λ f. refl
+] refl
+
+stays : (b : ℕ) (bs : List ℕ) → bytes_eq (drop (length bs) (b ∷ bs)) (32 ∷ []) ≡ false → without_blanks (b ∷ bs) ≡ b ∷ bs
+stays b [] e = rw (other_last b e) refl
+stays b (c ∷ cs) e = ap (unless_last b) (stays c cs e)
+
+-- a blank at the end is dropped
+pub blank_stripped : (text : List ℕ) → bytes_eq (drop (length text - 1) text) (32 ∷ []) ≡ true → without_blanks (take (length text - 1) text) ≡ without_blanks text
+blank_stripped [] e = refl
+blank_stripped (b ∷ bs) e = simp unary_clauses (stripped b bs (simp unary_clauses at e))
+
+-- another byte at the end stays
+pub last_stays : (text : List ℕ) → bytes_eq (drop (length text - 1) text) (32 ∷ []) ≡ false → without_blanks text ≡ text
+last_stays [] e = refl
+last_stays (b ∷ bs) e = stays b bs (simp unary_clauses at e)
+
+-- the words of titles are symbols
+title_symbol : (word : List ℕ) → is_title_word word ≡ true → is_symbol word ≡ true
+title_symbol word e = elim (either (bytes_eq word (codes "PARTNO")) (bytes_eq word (codes "REMARK")) e) [
+  | inl h ↦ subst (λ w. is_symbol w ≡ true) (sym ((bytes_eq-Decides word (codes "PARTNO")).0 h)) refl
+  | inr h ↦ subst (λ w. is_symbol w ≡ true) (sym ((bytes_eq-Decides word (codes "REMARK")).0 h)) refl
+]
+  where
+    either : (a b : Bool) → (a || b) ≡ true → (a ≡ true) ⊎ (b ≡ true)
+    either true b e = inl refl
+    either false b e = inr e
+
+only_none : {A : Type 0} (b : Bool) (x : A) → only_if b x ≡ None → b ≡ false
+only_none true x e = cc
+only_none false x e = refl
+
+only_some : {A : Type 0} (b : Bool) (x y : A) → only_if b x ≡ Some y → y ≡ x
+only_some true x y e = cc
+only_some false x y e = cc
+
+only_true : {A : Type 0} (b : Bool) (x : A) → b ≡ true → only_if b x ≡ Some x
+only_true true x e = refl
+only_true false x e = cc
+
+only_false : {A : Type 0} (b : Bool) (x : A) → b ≡ false → only_if b x ≡ None
+only_false true x e = cc
+only_false false x e = refl
+
+pub symbol_is : (word w : List ℕ) → only_if (is_symbol word) word ≡ Some w → w ≡ word
+symbol_is word w e = only_some (is_symbol word) word w e
+
+no_symbol : (word : List ℕ) → is_symbol word ≡ false → is_title_word word ≡ false
+no_symbol word e = elim (is_title_word word) as (λ t. is_title_word word ≡ t → t ≡ false) [
+  | true ↦ λ f. sym (title_symbol word f) ∙ e
+  | false ↦ λ f. refl
+] refl
+
+-- a word that is no symbol is no word of a title
+pub no_title_word : (word rest : List ℕ) → only_if (is_symbol word) word ≡ None → title_word word rest ≡ None
+no_title_word word rest e = only_false (is_title_word word) _ (no_symbol word (only_none (is_symbol word) word e))
+
+pub no_label : (name rest : List ℕ) → is_name name ≡ false → labelled name rest ≡ None
+no_label name rest e = rw e refl
+
+pub behind_nothing : (t : Option Title) → with_before [] t ≡ t
+behind_nothing None = refl
+behind_nothing (Some (ts, text)) = refl
+
+add_name : (name : List ℕ) (t : Option Title)
+    → with_before (tokens.Word name ∷ []) (t >>= λ u. Some (with_tokens (tokens.Close ∷ []) u)) ≡ (t >>= λ u. Some (with_tokens (tokens.Word name ∷ tokens.Close ∷ []) u))
+add_name name None = refl
+add_name name (Some (ts, text)) = refl
+
+pub behind_name : (name line : List ℕ) → is_name name ≡ true → with_before (tokens.Word name ∷ []) (closed_title line) ≡ labelled name line
+behind_name name line e =
+    add_name name (behind_close line >>= title)
+    ∙ sym (ap (λ (o : Option (List ℕ)). o >>= behind_close >>= title >>= λ u. Some (with_tokens (tokens.Word name ∷ tokens.Close ∷ []) u)) (only_true (is_name name) line e))
+
+with_before_is : (ts : List Token) (t : Option Title) → with_before ts t ≡ (t >>= λ u. Some (with_tokens ts u))
+with_before_is ts None = refl
+with_before_is ts (Some t) = refl
+
+pub behind_closed : (name line : List ℕ) → is_name name ≡ true → with_before (tokens.Word name ∷ tokens.Close ∷ []) (title line) ≡ title_behind (tokens.Word name ∷ tokens.Close ∷ []) line
+behind_closed name line e =
+    with_before_is (tokens.Word name ∷ tokens.Close ∷ []) (title line)
+    ∙ sym (ap (λ (o : Option (List ℕ)). o >>= title >>= λ u. Some (with_tokens (tokens.Word name ∷ tokens.Close ∷ []) u)) (only_true (is_name name) line e))
+
+pub behind_others : (name line : List ℕ) → is_name name ≡ false → title_behind (tokens.Word name ∷ tokens.Close ∷ []) line ≡ None
+behind_others name line e = rw e refl

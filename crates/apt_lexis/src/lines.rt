@@ -1,0 +1,81 @@
+//! The lines of a text.
+
+ghost use Rattle.std.specs.Prelude.{◌≡◌, ◌<◌, ◌≤◌, ◌==◌, position, length, IfSome, IsNone, option_map};
+ghost use Rattle.std.specs.List.{list_all};
+ghost use Rattle.apt_lexis.specs.Lines as lines;
+ghost use Rattle.apt_lexis.specs.Cuts as cuts;
+
+use crate::PartCause;
+
+/// The greatest number of lines.
+const MOST_LINES: u32 = 50_000;
+
+/// The greatest number of bytes of a line.
+const MOST_BYTES: usize = 256;
+
+/// A text up to the first byte of a kind, and what stands behind that byte.
+#[tactic(auto, using(crate::proofs::Splitting::split_found, crate::proofs::Splitting::split_absent))]
+pub(crate) fn cut(text: &[u8], c: u8) -> (&[u8], Option<&[u8]>)
+    ensures parts { lines.split c text.now ≡ cuts.cut_parts c result.0.now (option_map (λ r. r.now) result.1) }
+    ensures shorter { IfSome result.1 (λ r. length r.now < length text.now) }
+    ensures whole { IsNone result.1 → result.0.now ≡ text.now }
+{
+    match place_of(text, c) {
+        Some(i) => (&text[..i], Some(&text[i + 1..])),
+        None => (text, None),
+    }
+}
+
+fn place_of(text: &[u8], c: u8) -> Option<usize>
+    ensures value { result ≡ position (λ b. b == c) text.now }
+    ensures small { IfSome result (λ i. i < length text.now) }
+{
+    text.iter().position(|b| *b == c)
+}
+
+/// The first line of a text, and what stands behind it; none where the text is empty.
+#[tactic(auto, using(crate::proofs::LineLaws::no_lines, crate::proofs::LineLaws::line_first, crate::proofs::LineLaws::line_last))]
+pub(crate) fn next_line(rest: &[u8]) -> Option<(&[u8], &[u8])>
+    ensures lines { lines.lines_of rest.now ≡ cuts.lines_from (option_map (λ r. (r.0.now, r.1.now)) result) }
+    ensures shorter { IfSome result (λ r. length r.1.now < length rest.now) }
+{
+    if rest.is_empty() {
+        return None;
+    }
+    match cut(rest, b'\n') {
+        (part, Some(after)) => Some((without_return(part), after)),
+        (last, None) => Some((last, &[])),
+    }
+}
+
+#[tactic(auto, using(crate::proofs::LineLaws::return_stripped))]
+fn without_return(part: &[u8]) -> &[u8]
+    ensures { result.now ≡ lines.without_return part.now }
+{
+    match part.strip_suffix(b"\r") {
+        Some(front) => front,
+        None => part,
+    }
+}
+
+/// The first fault of a line.
+pub(crate) fn line_fault(number: u32, line: &[u8]) -> Option<PartCause>
+    ensures value { result ≡ lines.line_fault number line.now }
+    ensures few { IsNone result → number ≤ 50000 }
+{
+    if number > MOST_LINES {
+        Some(PartCause::TooManyLines)
+    } else if line.len() > MOST_BYTES {
+        Some(PartCause::LineTooLong)
+    } else if !are_characters(line) {
+        Some(PartCause::BadByte)
+    } else {
+        None
+    }
+}
+
+fn are_characters(line: &[u8]) -> bool
+    ensures { result ≡ list_all lines.is_character line.now }
+{
+    line.iter().all(|b| *b == b'\t' || (32 <= *b && *b <= 126))
+}
