@@ -1,6 +1,6 @@
 //! Statements as they are read.
 
-ghost use Rattle.std.specs.Prelude.{◌≡◌, ◌+◌, ◌<◌, length, OnOk, IfOk, IfSome};
+ghost use Rattle.std.specs.Prelude.{◌≡◌, ◌+◌, ◌<◌, ◌≤◌, length, OnOk, IfOk, IfSome};
 ghost use Rattle.apt_lexis.specs.Lines as lines;
 ghost use Rattle.apt_lexis.specs.Readings as spec;
 ghost use Rattle.apt_lexis.specs.Sentences as sentences;
@@ -179,6 +179,7 @@ fn behind_line(
 }
 
 /// A reader of a text's statements. Clauses see the lines that are left and the number of the first of them.
+#[derive(Drop)]
 pub struct Phrases<'a> {
     rest: &'a [u8],
     line: u32,
@@ -236,5 +237,12 @@ impl<'a> Phrases<'a> {
             }
         }
         Ok(begun)
+    }
+    /// The number of the first line that is left.
+    pub fn line(&self) -> u32
+        ensures value { result ≡ self.now.line }
+        ensures small { result ≤ 50001 }
+    {
+        self.line
     }
 }

@@ -1,9 +1,17 @@
 //! The program of a text.
 
+ghost use Rattle.std.specs.Prelude.{◌≡◌, ◌≤◌, ◌-◌, not, max};
+ghost use Rattle.std.specs.List.{list_all, find};
+ghost use Rattle.apt_parse.specs.Reading as reading;
+ghost use Rattle.apt_parse.specs.Reading.{IsRead};
+ghost use Rattle.apt_parse.specs.Statements as statements;
 ghost use Rattle.apt_parse.specs.Programs as programs;
 
-use apt_lexis::ParseError;
-use apt_words::Program;
+use crate::names::Names;
+use crate::read::Read;
+use apt_lexis::{ParseError, PartCause, Phrase, Phrases};
+use apt_shapes::shape;
+use apt_words::{Body, Program, Stmt};
 use std::alloc::Global;
 
 /// The program of a text.
@@ -14,5 +22,96 @@ use std::alloc::Global;
 pub fn parse(alloc: Global, text: &[u8]) -> Result<Program, ParseError>
     ensures { programs.IsParsed (programs.program_of text.now) result }
 {
-    Err(ParseError::NoMemory)
+    let mut phrases = Phrases::new(text);
+    let mut read = Read::new(alloc);
+    'phrases: while let Some(phrase) = phrases.next(alloc)? {
+        let st = statement(alloc, &read, phrase)?;
+        let is_last = is_fini(&st.body);
+        read.add(st)?;
+        if is_last {
+            return whole(read);
+        }
+    }
+    Err(ParseError::Bad {
+        line: last_line(phrases.line()),
+        cause: PartCause::NoFini,
+    })
+}
+
+/// The statement of a phrase behind those that were read.
+fn statement(alloc: Global, read: &Read, phrase: Phrase) -> Result<Stmt, ParseError>
+    requires { IsRead read.now }
+    ensures { reading.IsStated phrase.line (statements.statement read.now.stmts.items phrase) result }
+{
+    let line = phrase.line;
+    if let Some(cause) = phrase.fault {
+        return Err(ParseError::Bad { line, cause });
+    }
+    let Some(said) = shape(alloc, &phrase.tokens, phrase.text)? else {
+        return Err(ParseError::Bad {
+            line,
+            cause: PartCause::BadShape,
+        });
+    };
+    match read.first_fault(&said) {
+        Some(cause) => Err(ParseError::Bad { line, cause }),
+        None => Ok(Stmt {
+            line,
+            label: said.label,
+            body: said.body,
+        }),
+    }
+}
+
+/// The program of the statements up to FINI.
+fn whole(read: Read) -> Result<Program, ParseError>
+    requires { IsRead read }
+    ensures { programs.IsParsed (programs.whole read.stmts.items) result }
+{
+    if let Some(line) = read.open_loop {
+        return Err(ParseError::Bad {
+            line,
+            cause: PartCause::LoopOpen,
+        });
+    }
+    if let Some(line) = first_missing(&read.stmts, &read.labels) {
+        return Err(ParseError::Bad {
+            line,
+            cause: PartCause::LabelMissing,
+        });
+    }
+    Ok(Program { stmts: read.stmts })
+}
+
+/// The line of the first statement that jumps to a label which is not among these.
+fn first_missing(stmts: &[Stmt], labels: &Names) -> Option<u32>
+    ensures { result ≡ reading.line_of (find (λ st. not (reading.has_all labels.now st)) stmts.now) }
+{
+    let found = stmts.iter().find(|st| !has_all(labels, &st.body));
+    found.map(|st| st.line)
+}
+
+/// Whether the labels to which a statement jumps are among these.
+fn has_all(labels: &Names, body: &Body) -> bool
+    ensures { result ≡ list_all (statements.is_among labels.now) (programs.jumps body.now) }
+{
+    match body {
+        Body::Jumpto(label) => labels.has(label),
+        Body::If(_, a, b, c) => labels.has(a) && labels.has(b) && labels.has(c),
+        _ => true,
+    }
+}
+
+fn is_fini(body: &Body) -> bool
+    ensures { result ≡ programs.is_fini body.now }
+{
+    matches!(body, Body::Fini)
+}
+
+/// The number of the last line before one, 1 where there is none.
+fn last_line(next: u32) -> u32
+    requires { 1 ≤ next }
+    ensures { result ≡ max 1 (next - 1) }
+{
+    if next < 3 { 1 } else { next - 1 }
 }
