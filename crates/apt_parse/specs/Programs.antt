@@ -29,13 +29,21 @@ jumps _ = []
 abbrev pub has_labels : List Stmt → Stmt → Bool
 has_labels sts st = list_all (is_label sts) (jumps st.body)
 
-abbrev pub unless_missing : List Stmt → Option Stmt → Result (List Stmt) Fault
-unless_missing sts (Some st) = Err (st.line, causes.LabelMissing)
+abbrev pub line_of : Option Stmt → Option ℕ
+line_of None = None
+line_of (Some st) = Some st.line
+
+-- the line of the first statement with a jump to a label that is missing
+abbrev pub missing : List Stmt → Option ℕ
+missing sts = line_of (find (λ st. not (has_labels sts st)) sts)
+
+abbrev pub unless_missing : List Stmt → Option ℕ → Result (List Stmt) Fault
+unless_missing sts (Some line) = Err (line, causes.LabelMissing)
 unless_missing sts None = Ok sts
 
 abbrev pub unless_open : List Stmt → Option ℕ → Result (List Stmt) Fault
 unless_open sts (Some line) = Err (line, causes.LoopOpen)
-unless_open sts None = unless_missing sts (find (λ st. not (has_labels sts st)) sts)
+unless_open sts None = unless_missing sts (missing sts)
 
 -- the statements up to FINI: every loop is closed, and every label of a jump is there
 abbrev pub whole : List Stmt → Result (List Stmt) Fault

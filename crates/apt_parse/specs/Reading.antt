@@ -1,13 +1,11 @@
 -- What the reader keeps of the statements that it has read.
-use Rattle.std.specs.Prelude.{◌≡◌, ℕ, Bool, List, Option, Some, None, Result, Ok, Err}
-use Rattle.std.specs.List.{list_all}
+use Rattle.std.specs.Prelude.{◌≡◌, ℕ, Result, Ok, Err}
 use Rattle.apt_words.specs.declared.body.Stmt.{Stmt}
 use Rattle.apt_lexis.specs.declared.cause.PartCause.{PartCause}
 use Rattle.apt_lexis.specs.declared.error.ParseError.{ParseError}
 use Rattle.apt_lexis.specs.declared.error.ParseError.TheVariants as errors
 use Rattle.apt_parse.specs.declared.read.Read.{Read}
-use Rattle.apt_parse.specs.Statements.{labels_of, macros_of, open_macro, open_loop, is_among}
-use Rattle.apt_parse.specs.Programs.{jumps}
+use Rattle.apt_parse.specs.Statements.{labels_of, macros_of, open_macro, open_loop}
 
 pub record IsRead (r : Read) : Type 0 where
   pub labels : r.labels ≡ labels_of r.stmts.items
@@ -20,11 +18,3 @@ abbrev pub IsStated : ℕ → Result Stmt PartCause → Result Stmt ParseError �
 IsStated line due (Ok st) = due ≡ Ok st
 IsStated line due (Err (errors.Bad at cause)) = (at ≡ line) × (due ≡ Err cause)
 IsStated line due (Err errors.NoMemory) = Unit {0}
-
--- the labels to which a statement jumps are among these
-abbrev pub has_all : List (List ℕ) → Stmt → Bool
-has_all labels st = list_all (is_among labels) (jumps st.body)
-
-abbrev pub line_of : Option Stmt → Option ℕ
-line_of None = None
-line_of (Some st) = Some st.line

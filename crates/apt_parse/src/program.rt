@@ -1,7 +1,7 @@
 //! The program of a text.
 
-ghost use Rattle.std.specs.Prelude.{◌≡◌, ◌≤◌, ◌-◌, not, max};
-ghost use Rattle.std.specs.List.{list_all, find};
+ghost use Rattle.std.specs.Prelude.{◌≡◌, ◌≤◌, ◌-◌, None, max, IfOk};
+ghost use Rattle.std.specs.List.{list_all};
 ghost use Rattle.apt_parse.specs.Reading as reading;
 ghost use Rattle.apt_parse.specs.Reading.{IsRead};
 ghost use Rattle.apt_parse.specs.Statements as statements;
@@ -41,13 +41,19 @@ pub fn parse(alloc: Global, text: &[u8]) -> Result<Program, ParseError>
 /// The statement of a phrase behind those that were read.
 fn statement(alloc: Global, read: &Read, phrase: Phrase) -> Result<Stmt, ParseError>
     requires { IsRead read.now }
-    ensures { reading.IsStated phrase.line (statements.statement read.now.stmts.items phrase) result }
+    ensures stated { reading.IsStated phrase.line (statements.statement read.now.stmts.items phrase) result }
+    ensures good { IfOk result (λ st. statements.first_fault read.now.stmts.items st.label st.body ≡ None) }
 {
-    let line = phrase.line;
-    if let Some(cause) = phrase.fault {
+    let Phrase {
+        line,
+        tokens,
+        fault,
+        text,
+    } = phrase;
+    if let Some(cause) = fault {
         return Err(ParseError::Bad { line, cause });
     }
-    let Some(said) = shape(alloc, &phrase.tokens, phrase.text)? else {
+    let Some(said) = shape(alloc, &tokens, text)? else {
         return Err(ParseError::Bad {
             line,
             cause: PartCause::BadShape,
@@ -74,7 +80,7 @@ fn whole(read: Read) -> Result<Program, ParseError>
             cause: PartCause::LoopOpen,
         });
     }
-    if let Some(line) = first_missing(&read.stmts, &read.labels) {
+    if let Some(line) = first_missing(&read) {
         return Err(ParseError::Bad {
             line,
             cause: PartCause::LabelMissing,
@@ -83,11 +89,15 @@ fn whole(read: Read) -> Result<Program, ParseError>
     Ok(Program { stmts: read.stmts })
 }
 
-/// The line of the first statement that jumps to a label which is not among these.
-fn first_missing(stmts: &[Stmt], labels: &Names) -> Option<u32>
-    ensures { result ≡ reading.line_of (find (λ st. not (reading.has_all labels.now st)) stmts.now) }
+/// The line of the first statement that jumps to a label which no statement has.
+fn first_missing(read: &Read) -> Option<u32>
+    requires { IsRead read.now }
+    ensures { result ≡ programs.missing read.now.stmts.items }
 {
-    let found = stmts.iter().find(|st| !has_all(labels, &st.body));
+    let found = read
+        .stmts
+        .iter()
+        .find(|st| !has_all(&read.labels, &st.body));
     found.map(|st| st.line)
 }
 
