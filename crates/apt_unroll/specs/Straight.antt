@@ -1,0 +1,60 @@
+-- The steps of a program whose statements are executed in order.
+use Rattle.std.specs.Prelude.{ℕ, ◌+◌, ◌&&◌, ◌||◌, nat_lt, not, Bool, true, false, List, [], ◌∷◌, Option, Some, None, Result, Ok, Err, if◌then◌else◌}
+use Rattle.apt_words.specs.declared.Case.{Case}
+use Rattle.apt_words.specs.declared.Case.TheVariants as cases
+use Rattle.apt_words.specs.declared.Refusal.{Refusal}
+use Rattle.apt_words.specs.declared.body.Body.{Body}
+use Rattle.apt_words.specs.declared.body.Body.TheVariants as bodies
+use Rattle.apt_words.specs.declared.body.Stmt.{Stmt}
+use Rattle.apt_words.specs.declared.deed.Deed.{Deed}
+use Rattle.apt_words.specs.declared.deed.Deed.TheVariants as deeds
+use Rattle.apt_words.specs.declared.deed.Step.{Step}
+use Rattle.apt_scalar.specs.Meanings.{Names}
+use Rattle.apt_unroll.specs.Deeds.{deed_of, names_behind}
+
+-- a program has at most 200,000 steps
+abbrev pub most_steps : ℕ
+most_steps = 200000
+
+abbrev pub is_fini : Body → Bool
+is_fini bodies.Fini = true
+is_fini _ = false
+
+-- the program has ended behind a step
+abbrev pub is_ended : Bool → Deed → Bool
+is_ended before deeds.EndWord = true
+is_ended before _ = before
+
+-- the n-th step: too many steps come first, then a statement but FINI behind END, then the refusals of its names and values
+abbrev pub deed_at : ℕ → Bool → Names → Body → Result Deed Case
+deed_at n ended names body =
+    if nat_lt most_steps n then Err cases.Budget
+    else if ended && not (is_fini body) then Err cases.AfterEnd
+    else deed_of names [] body
+
+-- all steps before the first that is refused, and that refusal
+pub record Steps : Type 0 where
+  pub steps : List Step
+  pub fault : Option Refusal
+
+abbrev pub no_steps : Steps
+no_steps = record { steps = []; fault = None }
+
+abbrev pub refused : ℕ → ℕ → Case → Steps
+refused line n case = record { steps = []; fault = Some (record { line = line; step = n; case = case }) }
+
+abbrev pub with_step : ℕ → ℕ → Deed → Steps → Steps
+with_step line n deed more = record { steps = record { line = line; step = n; deed = deed } ∷ more.steps; fault = more.fault }
+
+abbrev pub or_refused : ℕ → ℕ → Result Deed Case → (Deed → Steps) → Steps
+or_refused line n (Err case) more = refused line n case
+or_refused line n (Ok deed) more = with_step line n deed (more deed)
+
+-- the statements from the n-th step on
+abbrev pub steps_from : ℕ → Bool → Names → List Stmt → Steps
+steps_from n ended names [] = no_steps
+steps_from n ended names (st ∷ sts) =
+    or_refused st.line n (deed_at n ended names st.body) (λ deed. steps_from (n + 1) (is_ended ended deed) (names_behind names deed) sts)
+
+abbrev pub steps_of : List Stmt → Steps
+steps_of sts = steps_from 1 false [] sts
