@@ -27,7 +27,7 @@ names_with names name None = names ++ name ∷ []
 names_with names name (Some v) = names
 
 pub record IsBound (before : Names) (name : List ℕ) (v : Value) (now : Names) : Type 0 where
-  pub meaning : meaning now name ≡ Some v
+  pub given : meaning now name ≡ Some v
   pub others : (other : List ℕ) → other ≢ name → meaning now other ≡ meaning before other
   pub order : keys_of now ≡ names_with (keys_of before) name (meaning before name)
 
