@@ -1,6 +1,5 @@
 -- The root of a scalar is a scalar.
-use Rattle.std.proofs.Common.{ℕ, ◌-◌, ◌*◌, ◌^◌, ◌+◌, ◌≤◌, ◌<◌, arith}
-use Rattle.std.proofs.lemmas.Nat.{mul-le}
+use Rattle.std.proofs.Common.{ℕ, ◌-◌, ◌*◌, ◌^◌, ◌≤◌, ◌<◌, arith}
 use Rattle.apt_num.specs.Root.{IsNearestRoot}
 
 short_side : (n m : ℕ) → n ≤ 10 ^ 18 → m * m < 4 * n → m ≤ 10 ^ 12

@@ -1,9 +1,8 @@
 -- Worked expressions: roundings, refusals, and what names stand for.
-use Rattle.std.proofs.Common.{refl, ◌≡◌, ℕ, ◌-◌, ◌*◌, ◌^◌, List, [], ◌∷◌, Ok, Err, ℤ, pos}
-use Rattle.std.specs.Prelude.{neg_ℤ, codes, Result}
+use Rattle.std.proofs.Common.{refl, ◌≡◌, ℕ, ◌-◌, ◌*◌, ◌^◌, [], ◌∷◌, Ok, Err, pos}
+use Rattle.std.specs.Prelude.{neg_ℤ, codes}
 use Rattle.apt_num.specs.Root.{root}
 use Rattle.apt_words.specs.Trees.{Tree, Num, Name, Neg, Bin, Root, Abs}
-use Rattle.apt_words.specs.declared.Case.{Case}
 use Rattle.apt_words.specs.declared.Case.TheVariants as cases
 use Rattle.apt_words.specs.declared.Units.TheVariants.{Inch, Mm}
 use Rattle.apt_words.specs.declared.expr.Op.TheVariants.{Add, Sub, Mul, Div}

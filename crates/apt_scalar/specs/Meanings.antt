@@ -1,5 +1,5 @@
 -- What names mean: parameters of the running macro first, then the names that are common to the program.
-use Rattle.std.specs.Prelude.{◌≡◌, ◌≢◌, ℕ, ℤ, ◌++◌, nat_eq, List, [], ◌∷◌, Option, Some, None, Result, Ok, Err, is_some, if◌then◌else◌}
+use Rattle.std.specs.Prelude.{◌≡◌, ◌≢◌, ℕ, ℤ, ◌++◌, nat_eq, List, [], ◌∷◌, Option, Some, None, Result, Err}
 use Rattle.std.specs.Cmp.Lexicographic.{pointwise}
 use Rattle.std.specs.Map.{lookup, keys_of}
 use Rattle.apt_words.specs.declared.Case.{Case}
