@@ -1,6 +1,8 @@
 //! The names of a program and the parameters of a macro.
 
-ghost use Rattle.std.specs.Prelude.{◌≡◌, [], OnOk, OnErr, IfOk};
+ghost use Rattle.std.specs.Prelude.{◌≡◌, [], OnOk, OnErr, IfOk, nat_eq};
+ghost use Rattle.std.specs.Cmp.Lexicographic.{pointwise};
+ghost use Rattle.indexmap.specs.IndexMap.{insert_entry};
 ghost use Rattle.std.specs.Option.{option_copied};
 ghost use Rattle.apt_scalar.specs.Meanings as meanings;
 ghost use Rattle.apt_scalar.specs.Scalars as scalars;
@@ -79,6 +81,14 @@ impl Env {
     {
         self.map.get(name).copied()
     }
+
+    fn insert(&mut self, name: Symbol, v: Value) -> Result<(), AllocError>
+        ensures ok { OnOk result (self.new ≡ insert_entry (pointwise nat_eq) self.old name v) }
+        ensures err { OnErr result (self.new ≡ self.old) }
+    {
+        self.map.insert(name, v)?;
+        Ok(())
+    }
 }
 
 /// The scalar that a name stands for: by a parameter of the running macro first, then by the names of
@@ -119,10 +129,10 @@ fn scalar_in(meaning: Option<Value>) -> Result<i64, Case>
 
 /// Gives a name a value: a new name goes last, a known one keeps its place. After want of memory
 /// nothing has changed.
+#[tactic(auto, using(crate::proofs::Bindings::is_bound))]
 pub fn bind(_alloc: Global, env: &mut Env, name: Symbol, v: Value) -> Result<(), AllocError>
     ensures ok { OnOk result (meanings.IsBound env.old name v env.new) }
     ensures err { OnErr result (env.new ≡ env.old) }
 {
-    env.map.insert(name, v)?;
-    Ok(())
+    env.insert(name, v)
 }
