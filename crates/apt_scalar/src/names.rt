@@ -93,7 +93,7 @@ impl Env {
 
 /// The scalar that a name stands for: by a parameter of the running macro first, then by the names of
 /// the program.
-pub fn scalar_named(name: &Symbol, env: &Env, frame: &Frame) -> Result<i64, Case>
+pub(crate) fn scalar_named(name: &Symbol, env: &Env, frame: &Frame) -> Result<i64, Case>
     ensures value { result ≡ meanings.scalar_named env.now frame.now name.now }
     ensures scalar { IfOk result (λ v. scalars.IsScalar v) }
 {

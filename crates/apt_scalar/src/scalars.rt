@@ -14,7 +14,7 @@ const ONE: i64 = 1_000_000;
 const GREATEST: u128 = 1_000_000_000_000;
 
 /// A number as a scalar, where it is small enough.
-pub fn in_range(v: i128) -> Result<i64, Case>
+pub(crate) fn in_range(v: i128) -> Result<i64, Case>
     ensures value { result ≡ scalars.in_range v }
     ensures scalar { IfOk result (λ s. scalars.IsScalar s) }
 {
@@ -26,7 +26,7 @@ pub fn in_range(v: i128) -> Result<i64, Case>
 }
 
 /// Two operands and the operator between them.
-pub fn apply(op: Op, a: i64, b: i64) -> Result<i64, Case>
+pub(crate) fn apply(op: Op, a: i64, b: i64) -> Result<i64, Case>
     requires left { scalars.IsScalar a }
     requires right { scalars.IsScalar b }
     ensures value { result ≡ scalars.apply op a b }
@@ -82,7 +82,7 @@ fn times(a: i64, b: i64) -> i128
 }
 
 /// The square root.
-pub fn square_root(v: i64) -> Result<i64, Case>
+pub(crate) fn square_root(v: i64) -> Result<i64, Case>
     requires { scalars.IsScalar v }
     ensures value { result ≡ scalars.square_root v }
     ensures scalar { IfOk result (λ s. scalars.IsScalar s) }
@@ -104,7 +104,7 @@ fn short_root(n: u128) -> u64
 }
 
 /// The size.
-pub fn size(v: i64) -> i64
+pub(crate) fn size(v: i64) -> i64
     requires { scalars.IsScalar v }
     ensures value { result ≡ scalars.size v }
     ensures scalar { scalars.IsScalar result }
