@@ -1,5 +1,5 @@
 -- What names mean: parameters of the running macro first, then the names that are common to the program.
-use Rattle.std.specs.Prelude.{◌≡◌, ◌≢◌, ℕ, ℤ, ◌++◌, nat_eq, List, [], ◌∷◌, Option, Some, None, Result, Ok, Err, is_some, if◌then◌else◌}
+use Rattle.std.specs.Prelude.{◌≡◌, ◌≢◌, ℕ, ℤ, ◌++◌, nat_eq, List, [], ◌∷◌, Option, Some, None, Result, Err}
 use Rattle.std.specs.Cmp.Lexicographic.{pointwise}
 use Rattle.std.specs.Map.{lookup, keys_of}
 use Rattle.apt_words.specs.declared.Case.{Case}
@@ -27,7 +27,7 @@ names_with names name None = names ++ name ∷ []
 names_with names name (Some v) = names
 
 pub record IsBound (before : Names) (name : List ℕ) (v : Value) (now : Names) : Type 0 where
-  pub meaning : meaning now name ≡ Some v
+  pub given : meaning now name ≡ Some v
   pub others : (other : List ℕ) → other ≢ name → meaning now other ≡ meaning before other
   pub order : keys_of now ≡ names_with (keys_of before) name (meaning before name)
 

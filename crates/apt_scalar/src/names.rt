@@ -1,9 +1,14 @@
 //! The names of a program and the parameters of a macro.
 
-ghost use Rattle.std.specs.Prelude.{◌≡◌, [], OnOk, OnErr};
+ghost use Rattle.std.specs.Prelude.{◌≡◌, [], OnOk, OnErr, IfOk, nat_eq};
+ghost use Rattle.std.specs.Cmp.Lexicographic.{pointwise};
+ghost use Rattle.indexmap.specs.IndexMap.{insert_entry};
+ghost use Rattle.std.specs.Option.{option_copied};
 ghost use Rattle.apt_scalar.specs.Meanings as meanings;
+ghost use Rattle.apt_scalar.specs.Scalars as scalars;
 
-use apt_words::Symbol;
+use crate::scalars::in_range;
+use apt_words::{Case, Symbol};
 use indexmap::IndexMap;
 use std::alloc::{AllocError, Global};
 use std::marker::Model;
@@ -69,14 +74,65 @@ impl Env {
             map: IndexMap::new(alloc),
         }
     }
+
+    /// What a name means, None where it has been given no value.
+    pub fn get(&self, name: &Symbol) -> Option<Value>
+        ensures { result ≡ meanings.meaning self.now name.now }
+    {
+        self.map.get(name).copied()
+    }
+
+    fn insert(&mut self, name: Symbol, v: Value) -> Result<(), AllocError>
+        ensures ok { OnOk result (self.new ≡ insert_entry (pointwise nat_eq) self.old name v) }
+        ensures err { OnErr result (self.new ≡ self.old) }
+    {
+        self.map.insert(name, v)?;
+        Ok(())
+    }
+}
+
+/// The scalar that a name stands for: by a parameter of the running macro first, then by the names of
+/// the program.
+pub(crate) fn scalar_named(name: &Symbol, env: &Env, frame: &Frame) -> Result<i64, Case>
+    ensures value { result ≡ meanings.scalar_named env.now frame.now name.now }
+    ensures scalar { IfOk result (λ v. scalars.IsScalar v) }
+{
+    match bound_in(frame, name) {
+        None => scalar_in(env.get(name)),
+        Some(Bound::Scalar(v)) => in_range(i128::from(*v)),
+        Some(Bound::Alias(other)) => scalar_in(env.get(other)),
+    }
+}
+
+/// What a parameter stands for, None where the running macro has none of this name.
+fn bound_in<'a>(frame: &'a Frame, name: &Symbol) -> Option<&'a Bound>
+    ensures { option_copied result ≡ meanings.meaning frame.now name.now }
+{
+    'parameters: for (parameter, bound) in &frame.bound {
+        if name == parameter {
+            return Some(bound);
+        }
+    }
+    None
+}
+
+/// A figure is no scalar.
+fn scalar_in(meaning: Option<Value>) -> Result<i64, Case>
+    ensures value { result ≡ meanings.scalar_in meaning }
+    ensures scalar { IfOk result (λ v. scalars.IsScalar v) }
+{
+    match meaning {
+        Some(Value::Scalar(v)) => in_range(i128::from(v)),
+        Some(Value::Shape(_)) | None => Err(Case::Unknown),
+    }
 }
 
 /// Gives a name a value: a new name goes last, a known one keeps its place. After want of memory
 /// nothing has changed.
+#[tactic(auto, using(crate::proofs::Bindings::is_bound))]
 pub fn bind(_alloc: Global, env: &mut Env, name: Symbol, v: Value) -> Result<(), AllocError>
     ensures ok { OnOk result (meanings.IsBound env.old name v env.new) }
     ensures err { OnErr result (env.new ≡ env.old) }
 {
-    env.map.insert(name, v)?;
-    Ok(())
+    env.insert(name, v)
 }
