@@ -1,0 +1,15 @@
+-- The status number of each answer.
+use Rattle.std.specs.Prelude.{ℕ}
+use Rattle.apt_report.specs.declared.status.Status.{Status}
+use Rattle.apt_report.specs.declared.status.Status.TheVariants as answers
+
+abbrev pub number_of : Status → ℕ
+number_of (answers.Done summary) = 0
+number_of answers.Usage = 1
+number_of (answers.Missing name) = 2
+number_of answers.ReadFault = 3
+number_of (answers.TooLong name) = 4
+number_of (answers.BadPart line cause) = 6
+number_of (answers.Refused line step case) = 7
+number_of answers.WriteFault = 11
+number_of answers.NoMemory = 12

@@ -1,0 +1,11 @@
+//! The answers of the program, their numbers and their printed lines.
+#![tactic(auto)]
+
+mod line;
+mod status;
+#[cfg(test)]
+mod tests;
+
+pub use apt_lexis::PartCause;
+pub use line::line_of;
+pub use status::{FileName, Status, Summary};

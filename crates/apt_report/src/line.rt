@@ -1,0 +1,62 @@
+//! Printed lines.
+
+ghost use Rattle.std.specs.Prelude.{◌≡◌, IfOk};
+ghost use Rattle.std.specs.String.{string_bytes};
+ghost use Rattle.apt_report.specs.Lines as lines;
+
+use crate::{PartCause, Status, Summary};
+use apt_words::Case;
+use std::alloc::{AllocError, Global};
+
+/// The line of an answer with its line feed; no bytes where reading, writing or memory failed.
+pub fn line_of(alloc: Global, s: &Status) -> Result<Vec<u8>, AllocError>
+    ensures { IfOk result (λ v. v.items ≡ lines.line_of s.now) }
+{
+    let text = text_of(alloc, s)?;
+    Ok(text.into_bytes())
+}
+
+fn text_of(alloc: Global, s: &Status) -> Result<String, AllocError>
+    ensures { IfOk result (λ t. string_bytes t ≡ lines.line_of s.now) }
+{
+    match s {
+        Status::Done(
+            Summary::Compiled {
+                records,
+                acts,
+                segments,
+            },
+        ) => compiled_line(alloc, *records, *acts, *segments),
+        Status::Usage => String::from_str(alloc, "USAGE\n"),
+        Status::Missing { name } => format!(in alloc; "MISSING {}\n", name.text),
+        Status::TooLong { name } => format!(in alloc; "TOO LONG {}\n", name.text),
+        Status::BadPart { line, cause } => bad_part_line(alloc, *line, *cause),
+        Status::Refused { line, step, case } => refused_line(alloc, *line, *step, *case),
+        Status::ReadFault | Status::WriteFault | Status::NoMemory => Ok(String::new(alloc)),
+    }
+}
+
+fn compiled_line(
+    alloc: Global,
+    records: u64,
+    acts: u64,
+    segments: u64,
+) -> Result<String, AllocError>
+    ensures { IfOk result (λ t. string_bytes t ≡ lines.compiled_line records acts segments) }
+{
+    format!(in alloc; "DONE {records} RECORDS {acts} ACTS {segments} SEGMENTS\n")
+}
+
+fn bad_part_line(alloc: Global, line: u32, cause: PartCause) -> Result<String, AllocError>
+    ensures { IfOk result (λ t. string_bytes t ≡ lines.bad_part_line line cause) }
+{
+    let cause = cause.name();
+    format!(in alloc; "BAD PART LINE {line} {cause}\n")
+}
+
+fn refused_line(alloc: Global, line: u32, step: u32, case: Case) -> Result<String, AllocError>
+    ensures { IfOk result (λ t. string_bytes t ≡ lines.refused_line line step case) }
+{
+    let case = case.name();
+    format!(in alloc; "REFUSED LINE {line} STEP {step} {case}\n")
+}
