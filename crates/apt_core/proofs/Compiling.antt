@@ -10,12 +10,12 @@ use Rattle.apt_shelf.proofs.ToldLaws.{get_inserted}
 use Rattle.apt_tapecode.specs.declared.Code.TheVariants.{Rs358}
 use Rattle.apt_control.specs.Control.{control_run}
 use Rattle.apt_post.specs.Post.{tape_bytes}
-use Rattle.apt_core.specs.declared.status.Status.{Status}
-use Rattle.apt_core.specs.declared.status.Status.TheVariants as answers
-use Rattle.apt_core.specs.declared.status.Summary.{Summary}
+use Rattle.apt_report.specs.declared.status.Status.{Status}
+use Rattle.apt_report.specs.declared.status.Status.TheVariants as answers
+use Rattle.apt_report.specs.declared.status.Summary.{Summary}
 use Rattle.apt_core.specs.Words.{Ask, Compile}
 use Rattle.apt_words.specs.declared.Refusal.{Refusal}
-use Rattle.apt_core.specs.declared.status.PartCause.TheVariants as part_causes
+use Rattle.apt_lexis.specs.declared.cause.PartCause.TheVariants as part_causes
 use Rattle.apt_core.specs.Parts.{Made, made_of, whole, IsMade}
 use Rattle.apt_plain.specs.Statements.{program}
 use Rattle.apt_plain.specs.Running.{run_of}
@@ -49,16 +49,16 @@ reads m part text done held short is =
 
 -- the answer after the writing
 pub answer_delivered : (told after : Option Contents) (part machine cl tape text : List ℕ) (done : Made) (reading writing : Type 0) (answer : Status) → HasActs told part text done
-    → IsDelivered tape done told after answer → (answer ≡ answers.WriteFault → writing) → Answers (Some (Compile part machine cl tape)) told reading writing answer
+    → IsDelivered tape done told after answer → (answer ≡ answers.WriteFault → writing) → Answers (Some (Compile part machine cl tape)) told reading writing ⊥ answer
 answer_delivered None after part machine cl tape text done reading writing (answers.Done summary) h is w = tt
-answer_delivered None after part machine cl tape text done reading writing answers.WriteFault h is w = w refl
+answer_delivered None after part machine cl tape text done reading writing answers.WriteFault h is w = inl (w refl)
 answer_delivered None after part machine cl tape text done reading writing answers.NoMemory h is w = tt
 answer_delivered (Some m) after part machine cl tape text done reading writing (answers.Done summary) h is w =
     let r = reads m part text done h.held h.short h.made in
     ap answers.Done is.0 ∙ sym r.due
 answer_delivered (Some m) after part machine cl tape text done reading writing answers.WriteFault h is w =
     let r = reads m part text done h.held h.short h.made in
-    (subst IsDone (sym r.due) tt, w refl)
+    inl (subst IsDone (sym r.due) tt, w refl)
 answer_delivered (Some m) after part machine cl tape text done reading writing answers.NoMemory h is w = tt
 answer_delivered told after part machine cl tape text done reading writing _ h is w = absurd is
 
@@ -114,7 +114,7 @@ no_program : (text : List ℕ) → program text ≡ None → due_program (made_o
 no_program text e = rw e refl
 
 pub answer_unmade : (told : Option Contents) (part machine cl tape text : List ℕ) (reading writing : Type 0) (answer : Status) → HoldsAt told part text → length text ≤ part_limit
-    → IsUnmade text answer → Answers (Some (Compile part machine cl tape)) told reading writing answer
+    → IsUnmade text answer → Answers (Some (Compile part machine cl tape)) told reading writing ⊥ answer
 answer_unmade None part machine cl tape text reading writing answers.NoMemory held short is = tt
 answer_unmade (Some m) part machine cl tape text reading writing answers.NoMemory held short is = tt
 answer_unmade None part machine cl tape text reading writing (answers.BadPart line cause) held short is = (is.0, is.1)
@@ -152,25 +152,28 @@ due_of_program m part (Some text) e program read = short_due part text program r
 is_done : (answer wanted : Status) → answer ≡ wanted → IsDone wanted → IsDone answer
 is_done answer wanted e d = subst IsDone (sym e) d
 
-complete_told : (ask : Ask) (m : Contents) (reading writing : Type 0) (answer : Status) → IsDone (due ask m) → IsAnswer ask m reading writing answer → ¬ reading → ¬ writing → IsDone answer ⊎ (answer ≡ answers.NoMemory)
-complete_told ask m reading writing answers.ReadFault d is r w = absurd (r is)
-complete_told ask m reading writing answers.WriteFault d is r w = absurd (w is.1)
-complete_told ask m reading writing answers.NoMemory d is r w = inr refl
-complete_told ask m reading writing (answers.Done summary) d is r w = inl (is_done _ _ is d)
-complete_told ask m reading writing answers.Usage d is r w = inl (is_done _ _ is d)
-complete_told ask m reading writing (answers.Missing name) d is r w = inl (is_done _ _ is d)
-complete_told ask m reading writing (answers.TooLong name) d is r w = inl (is_done _ _ is d)
-complete_told ask m reading writing (answers.BadPart line cause) d is r w = inl (is_done _ _ is d)
-complete_told ask m reading writing (answers.Refused line step case) d is r w = inl (is_done _ _ is d)
+complete_told : (ask : Ask) (m : Contents) (reading writing putting : Type 0) (answer : Status) → IsDone (due ask m) → IsAnswer ask m reading writing putting answer
+    → ¬ reading → ¬ writing → ¬ putting → IsDone answer ⊎ (answer ≡ answers.NoMemory)
+complete_told ask m reading writing putting answers.ReadFault d is r w p = absurd (r is)
+complete_told ask m reading writing putting answers.WriteFault d (inl is) r w p = absurd (w is.1)
+complete_told ask m reading writing putting answers.WriteFault d (inr is) r w p = absurd (p is)
+complete_told ask m reading writing putting answers.NoMemory d is r w p = inr refl
+complete_told ask m reading writing putting (answers.Done summary) d is r w p = inl (is_done _ _ is d)
+complete_told ask m reading writing putting answers.Usage d is r w p = inl (is_done _ _ is d)
+complete_told ask m reading writing putting (answers.Missing name) d is r w p = inl (is_done _ _ is d)
+complete_told ask m reading writing putting (answers.TooLong name) d is r w p = inl (is_done _ _ is d)
+complete_told ask m reading writing putting (answers.BadPart line cause) d is r w p = inl (is_done _ _ is d)
+complete_told ask m reading writing putting (answers.Refused line step case) d is r w p = inl (is_done _ _ is d)
 
 program_there : (o : Option Made) → IsSome o → (p : Made) × (o ≡ Some p)
 program_there None h = absurd (let f : ⊥ = cc in f)
 program_there (Some p) h = (p, refl)
 
 -- the answer says that plain parts are compiled
-pub completes : (ask : Option Ask) (told : Option Contents) (reading writing : Type 0) (answer : Status) → Answers ask told reading writing answer → Completes ask told reading writing answer
-completes None told reading writing answer is = tt
-completes (Some (Compile part machine cl tape)) None reading writing answer is = tt
-completes (Some (Compile part machine cl tape)) (Some m) reading writing answer is = λ there r w.
+pub completes : (ask : Option Ask) (told : Option Contents) (reading writing putting : Type 0) (answer : Status) → Answers ask told reading writing putting answer
+    → Completes ask told reading writing putting answer
+completes None told reading writing putting answer is = tt
+completes (Some (Compile part machine cl tape)) None reading writing putting answer is = tt
+completes (Some (Compile part machine cl tape)) (Some m) reading writing putting answer is = λ there r w t.
     let p = program_there (program_in m part) there in
-    complete_told (Compile part machine cl tape) m reading writing answer (due_of_program m part (get m part) refl p.0 p.1) is r w
+    complete_told (Compile part machine cl tape) m reading writing putting answer (due_of_program m part (get m part) refl p.0 p.1) is r w t

@@ -1,2 +1,3 @@
 mod Worked
 pub mod Compiling
+pub mod Telling

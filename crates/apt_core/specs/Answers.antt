@@ -7,11 +7,11 @@ use Rattle.apt_tapecode.specs.declared.Code.TheVariants.{Rs358}
 use Rattle.apt_machine.specs.declared.Machine.{Machine}
 use Rattle.apt_control.specs.Control.{control_run}
 use Rattle.apt_post.specs.Post.{tape_bytes}
-use Rattle.apt_core.specs.declared.status.Status.{Status}
-use Rattle.apt_core.specs.declared.status.Status.TheVariants as answers
-use Rattle.apt_core.specs.declared.status.Summary.{Summary}
-use Rattle.apt_core.specs.declared.status.Summary.TheVariants as summaries
-use Rattle.apt_core.specs.declared.status.PartCause.TheVariants as part_causes
+use Rattle.apt_report.specs.declared.status.Status.{Status}
+use Rattle.apt_report.specs.declared.status.Status.TheVariants as answers
+use Rattle.apt_report.specs.declared.status.Summary.{Summary}
+use Rattle.apt_report.specs.declared.status.Summary.TheVariants as summaries
+use Rattle.apt_lexis.specs.declared.cause.PartCause.TheVariants as part_causes
 use Rattle.apt_core.specs.Words.{Ask, Compile}
 use Rattle.apt_words.specs.declared.Refusal.{Refusal}
 use Rattle.apt_core.specs.Parts.{Made, made_of, whole, IsMade}
@@ -52,35 +52,41 @@ short_part text = if nat_lt part_limit (length text) then None else whole (made_
 abbrev pub program_in : Contents → List ℕ → Option Made
 program_in m part = option_and_then short_part (get m part)
 
--- ---- answers and their causes; reading and writing say that the shelf's counts of these rose in the call
+-- ---- answers and their causes; reading, writing and putting say that the counts of the shelf and of the sink rose in the call
 
--- over told files: the due answer, unless reading failed, or all before went well and writing failed, or memory ran out
-abbrev pub IsAnswer : Ask → Contents → Type 0 → Type 0 → Status → Type 0
-IsAnswer ask m reading writing answers.ReadFault = reading
-IsAnswer ask m reading writing answers.WriteFault = IsDone (due ask m) × writing
-IsAnswer ask m reading writing answers.NoMemory = Unit {0}
-IsAnswer ask m reading writing answer = answer ≡ due ask m
+-- over told files: the due answer, unless reading failed, or all before went well and writing failed, or putting the line failed, or memory ran out
+abbrev pub IsAnswer : Ask → Contents → Type 0 → Type 0 → Type 0 → Status → Type 0
+IsAnswer ask m reading writing putting answers.ReadFault = reading
+IsAnswer ask m reading writing putting answers.WriteFault = (IsDone (due ask m) × writing) ⊎ putting
+IsAnswer ask m reading writing putting answers.NoMemory = Unit {0}
+IsAnswer ask m reading writing putting answer = answer ≡ due ask m
 
 -- where nothing is told
-abbrev pub IsUntoldAnswer : Ask → Type 0 → Type 0 → Status → Type 0
-IsUntoldAnswer (Compile part machine cl tape) reading writing answers.Usage = ⊥
-IsUntoldAnswer (Compile part machine cl tape) reading writing (answers.Missing name) = (name ≡ part) × reading
-IsUntoldAnswer (Compile part machine cl tape) reading writing answers.ReadFault = reading
-IsUntoldAnswer (Compile part machine cl tape) reading writing (answers.TooLong name) = name ≡ part
-IsUntoldAnswer (Compile part machine cl tape) reading writing (answers.BadPart line cause) = (line ≡ 1) × (cause ≡ part_causes.NotBuilt)
-IsUntoldAnswer (Compile part machine cl tape) reading writing answers.WriteFault = writing
-IsUntoldAnswer (Compile part machine cl tape) reading writing answer = Unit {0}
+abbrev pub IsUntoldAnswer : Ask → Type 0 → Type 0 → Type 0 → Status → Type 0
+IsUntoldAnswer (Compile part machine cl tape) reading writing putting answers.Usage = ⊥
+IsUntoldAnswer (Compile part machine cl tape) reading writing putting (answers.Missing name) = (name ≡ part) × reading
+IsUntoldAnswer (Compile part machine cl tape) reading writing putting answers.ReadFault = reading
+IsUntoldAnswer (Compile part machine cl tape) reading writing putting (answers.TooLong name) = name ≡ part
+IsUntoldAnswer (Compile part machine cl tape) reading writing putting (answers.BadPart line cause) = (line ≡ 1) × (cause ≡ part_causes.NotBuilt)
+IsUntoldAnswer (Compile part machine cl tape) reading writing putting answers.WriteFault = writing ⊎ putting
+IsUntoldAnswer (Compile part machine cl tape) reading writing putting answer = Unit {0}
 
-abbrev pub Answers : Option Ask → Option Contents → Type 0 → Type 0 → Status → Type 0
-Answers None told reading writing answer = answer ≡ answers.Usage
-Answers (Some ask) None reading writing answer = IsUntoldAnswer ask reading writing answer
-Answers (Some ask) (Some m) reading writing answer = IsAnswer ask m reading writing answer
+-- where the words ask for nothing
+abbrev pub IsUsage : Type 0 → Status → Type 0
+IsUsage putting answers.WriteFault = putting
+IsUsage putting answers.NoMemory = Unit {0}
+IsUsage putting answer = answer ≡ answers.Usage
+
+abbrev pub Answers : Option Ask → Option Contents → Type 0 → Type 0 → Type 0 → Status → Type 0
+Answers None told reading writing putting answer = IsUsage putting answer
+Answers (Some ask) None reading writing putting answer = IsUntoldAnswer ask reading writing putting answer
+Answers (Some ask) (Some m) reading writing putting answer = IsAnswer ask m reading writing putting answer
 
 -- where no count rose, a plain part under the name PART of which no step is refused is compiled, or memory ran out
-abbrev pub Completes : Option Ask → Option Contents → Type 0 → Type 0 → Status → Type 0
-Completes (Some (Compile part machine cl tape)) (Some m) reading writing answer =
-    IsSome (program_in m part) → ¬ reading → ¬ writing → IsDone answer ⊎ (answer ≡ answers.NoMemory)
-Completes _ _ reading writing answer = Unit {0}
+abbrev pub Completes : Option Ask → Option Contents → Type 0 → Type 0 → Type 0 → Status → Type 0
+Completes (Some (Compile part machine cl tape)) (Some m) reading writing putting answer =
+    IsSome (program_in m part) → ¬ reading → ¬ writing → ¬ putting → IsDone answer ⊎ (answer ≡ answers.NoMemory)
+Completes _ _ reading writing putting answer = Unit {0}
 
 -- ---- what stands in the told files afterwards
 

@@ -7,8 +7,8 @@ use Rattle.apt_tapecode.specs.declared.Code.TheVariants.{Rs358}
 use Rattle.apt_control.specs.declared.Act.{Act}
 use Rattle.apt_control.specs.Control.{control_run}
 use Rattle.apt_post.specs.Post.{tape_bytes}
-use Rattle.apt_core.specs.declared.status.Status.{Status}
-use Rattle.apt_core.specs.declared.status.Status.TheVariants as answers
+use Rattle.apt_report.specs.declared.status.Status.{Status}
+use Rattle.apt_report.specs.declared.status.Status.TheVariants as answers
 use Rattle.apt_core.specs.Parts.{Made}
 use Rattle.apt_core.specs.Answers.{the_machine, summary_of}
 

@@ -1,7 +1,7 @@
 pub mod Parts
 pub mod Words
-pub mod Number
 pub mod Unread
 pub mod Answers
+pub mod Telling
 pub mod Request
 pub mod Delivery

@@ -3,9 +3,9 @@ use Rattle.std.specs.Prelude.{◌≡◌, ◌⊎◌, ℕ, List, Some, None, Err}
 use Rattle.apt_plain.specs.Statements.{program}
 use Rattle.apt_shelf.specs.declared.files.ReadError.{ReadError}
 use Rattle.apt_shelf.specs.declared.files.ReadError.TheVariants as errors
-use Rattle.apt_core.specs.declared.status.Status.{Status}
-use Rattle.apt_core.specs.declared.status.Status.TheVariants as answers
-use Rattle.apt_core.specs.declared.status.PartCause.TheVariants as part_causes
+use Rattle.apt_report.specs.declared.status.Status.{Status}
+use Rattle.apt_report.specs.declared.status.Status.TheVariants as answers
+use Rattle.apt_lexis.specs.declared.cause.PartCause.TheVariants as part_causes
 use Rattle.apt_core.specs.Parts.{made_of}
 
 -- an answer that holds a name may want memory

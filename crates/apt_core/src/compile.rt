@@ -9,10 +9,10 @@ ghost use Rattle.apt_core.specs.Delivery.{IsDelivered};
 ghost use Rattle.apt_core.specs.Words.{Compile};
 ghost use Rattle.apt_core.specs.Answers.{Answers, Leaves, IsBeforeWriting};
 
-use crate::status::{FileName, PartCause, Status, Summary};
 use apt_machine::Machine;
 use apt_plain::{Output, RunError, program, run};
 use apt_post::tape;
+use apt_report::{FileName, PartCause, Status, Summary};
 use apt_shelf::{ReadError, Shelf, ShelfFault, read_all, write_all};
 use std::alloc::{AllocError, Global};
 
@@ -28,7 +28,7 @@ pub(crate) fn compile<H: Shelf>(
     cl: &str,
     tape_name: &str,
 ) -> Status
-    ensures answer { Answers (Some (Compile part.now machine.now cl.now tape_name.now)) (H.told shelf.old) (Rose (H.read_faults shelf.old) (H.read_faults shelf.new)) (Rose (H.write_faults shelf.old) (H.write_faults shelf.new)) result }
+    ensures answer { Answers (Some (Compile part.now machine.now cl.now tape_name.now)) (H.told shelf.old) (Rose (H.read_faults shelf.old) (H.read_faults shelf.new)) (Rose (H.write_faults shelf.old) (H.write_faults shelf.new)) ⊥ result }
     ensures leaves { Leaves (Some (Compile part.now machine.now cl.now tape_name.now)) (H.told shelf.old) (H.told shelf.new) result }
     ensures unbegun { IsBeforeWriting result → H.writing shelf.new ≡ H.writing shelf.old }
     ensures unfailed { IsBeforeWriting result → H.write_faults shelf.new ≡ H.write_faults shelf.old }

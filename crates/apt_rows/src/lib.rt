@@ -6,4 +6,6 @@ mod contours;
 #[cfg(test)]
 mod first_run;
 #[cfg(test)]
+mod printed;
+#[cfg(test)]
 mod run;
