@@ -41,3 +41,8 @@ with_sign false first = first
 abbrev pub nested : ℕ → Reader
 nested zero ts = None
 nested (suc n) ts = inside ts >>= sum_by (factor_of n)
+
+-- how many calls an operand takes before a parenthesis is opened, as a bound
+abbrev pub work : Rank → ℕ
+work ranks.Additive = 5
+work ranks.Multiplicative = 2
