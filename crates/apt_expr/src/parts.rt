@@ -82,10 +82,7 @@ pub(crate) fn first_part<'a>(rank: Rank, tokens: &'a [Token]) -> (&'a [Token], &
 }
 
 /// The next operator with the part behind it, and what is behind that; None at the end.
-pub(crate) fn next_part<'a>(
-    rank: Rank,
-    rest: &'a [Token],
-) -> Option<(Op, &'a [Token], &'a [Token])>
+pub(crate) fn next_part<'a>(rank: Rank, rest: &'a [Token]) -> Option<(Op, &'a [Token], &'a [Token])>
     ensures others { MatchOption result (steps.others_from (steps.rank_of rank) rest.now ≡ []) (λ next. steps.others_from (steps.rank_of rank) rest.now ≡ (next.0, next.1.now) ∷ steps.others_from (steps.rank_of rank) next.2.now) }
     ensures shorter { IfSome result (λ next. length next.2.now < length rest.now) }
 {

@@ -25,8 +25,8 @@ decreases-sum l = 10 * l.nesting + 7
 abbrev pub invariant-from_left-others : goal.invariant-from_left-others
 invariant-from_left-others l = record {
   joined :
-    expressions.from_left (operand_of l.rank l.nesting) (Some l.tree) (others_from (rank_of l.rank) l.rest)
-    ≡ expressions.from_left (operand_of l.rank l.nesting) (Some l.fn.first) (others_from (rank_of l.rank) l.fn.others);
+      expressions.from_left (operand_of l.rank l.nesting) (Some l.tree) (others_from (rank_of l.rank) l.rest)
+      ≡ expressions.from_left (operand_of l.rank l.nesting) (Some l.fn.first) (others_from (rank_of l.rank) l.fn.others);
   small : operators l.tree ≤ 64;
 }
 
