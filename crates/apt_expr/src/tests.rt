@@ -85,19 +85,23 @@ fn read(alloc: Global, text: &str) -> Result<Option<Expr>, AllocError> {
 }
 
 fn token(word: &str) -> Token {
-    match word {
-        "=" => Token::Equals,
-        "/" => Token::Slash,
-        "," => Token::Comma,
-        "(" => Token::Open,
-        ")" => Token::Close,
-        "+" => Token::Plus,
-        "-" => Token::Minus,
-        "*" => Token::Star,
-        _ => match Symbol::new(word) {
-            Some(symbol) => Token::Word(symbol),
-            None => Token::Number(word.parse::<i64>().unwrap_or(0)),
-        },
+    match word.as_bytes() {
+        [b'='] => Token::Equals,
+        [b'/'] => Token::Slash,
+        [b','] => Token::Comma,
+        [b'('] => Token::Open,
+        [b')'] => Token::Close,
+        [b'+'] => Token::Plus,
+        [b'-'] => Token::Minus,
+        [b'*'] => Token::Star,
+        _ => word_or_number(word),
+    }
+}
+
+fn word_or_number(word: &str) -> Token {
+    match Symbol::new(word) {
+        Some(symbol) => Token::Word(symbol),
+        None => Token::Number(word.parse::<i64>().unwrap_or(0)),
     }
 }
 
