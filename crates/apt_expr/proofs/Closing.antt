@@ -11,7 +11,7 @@ before : Token → List Token → Option (List Token)
 before tokens.Close ts = Some ts
 before _ ts = None
 
-in_front : Token → Option (List Token) → Option (List Token)
+abbrev pub in_front : Token → Option (List Token) → Option (List Token)
 in_front t found = found >>= λ more. Some (t ∷ more)
 
 inside_one : (t : Token) → inside (t ∷ []) ≡ before t []
@@ -19,13 +19,12 @@ unfolding before
 inside_one tokens.Close = refl
 inside_one _ = refl
 
-inside_more : (t u : Token) (ts : List Token) → inside (t ∷ u ∷ ts) ≡ in_front t (inside (u ∷ ts))
-unfolding in_front
+pub inside_more : (t u : Token) (ts : List Token) → inside (t ∷ u ∷ ts) ≡ in_front t (inside (u ∷ ts))
 inside_more tokens.Close u ts = refl
 inside_more _ u ts = refl
 
 before_more : (t last : Token) (ts : List Token) → in_front t (before last ts) ≡ before last (t ∷ ts)
-unfolding before in_front
+unfolding before
 before_more t tokens.Close ts = refl
 before_more t _ ts = refl
 

@@ -1,14 +1,14 @@
 -- Lists of tokens, cut before the first operator.
-use Rattle.std.proofs.Common.{◌≡◌, ℕ, zero, suc, ◌==◌, Bool, true, false, List, [], ◌∷◌, take, drop, refl, sym, ap, ◌∙◌, subst, arith}
+use Rattle.std.proofs.Common.{◌≡◌, ℕ, ◌==◌, Bool, true, false, List, [], ◌∷◌, take, drop, refl, sym, ap, subst, arith}
 use Rattle.std.proofs.lemmas.Bool.Decides.{nat_tests}
-use Rattle.std.specs.Prelude.{Option, Some, None, is_some, if◌then◌else◌}
+use Rattle.std.specs.Prelude.{Option, Some, None, if◌then◌else◌}
 use Rattle.apt_words.specs.declared.expr.Op.{Op}
 use Rattle.apt_lexis.specs.declared.token.Token.{Token}
 use Rattle.apt_lexis.specs.declared.token.Token.TheVariants as tokens
 use Rattle.apt_expr.specs.declared.parts.Rank.{Rank}
 use Rattle.apt_expr.specs.declared.parts.Rank.TheVariants as ranks
-use Rattle.apt_expr.specs.Parts.{Parts, parts, parts_at, additive, multiplicative, outer, open_behind, with_token}
-use Rattle.apt_expr.specs.Steps.{rank_of, part_len, others_from, with_first}
+use Rattle.apt_expr.specs.Parts.{parts, parts_at, additive, multiplicative, outer, open_behind}
+use Rattle.apt_expr.specs.Steps.{rank_of, part_len, others_from}
 
 -- an operator opens and closes nothing
 additive_leaves : (t : Token) (op : Op) → additive t ≡ Some op → open_behind t 0 ≡ 0
@@ -32,6 +32,13 @@ test_holds false o op e = cc
 
 outer_zero : (rank : Token → Option Op) (depth : ℕ) (t : Token) (op : Op) → outer rank depth t ≡ Some op → depth ≡ 0
 outer_zero rank depth t op e = let h : (depth == 0) ≡ true = test_holds (depth == 0) (rank t) op e in grind (arith, nat_tests)
+
+test_gives : (b : Bool) (o : Option Op) (op : Op) → (if b then o else None) ≡ Some op → o ≡ Some op
+test_gives true o op e = e
+test_gives false o op e = cc
+
+pub outer_some : (rank : Token → Option Op) (depth : ℕ) (t : Token) (op : Op) → outer rank depth t ≡ Some op → rank t ≡ Some op
+outer_some rank depth t op e = test_gives (depth == 0) (rank t) op e
 
 pub record Cut (r : Rank) (depth : ℕ) (ts : List Token) : Type 0 where
   pub first : (parts_at depth (rank_of r) ts).first ≡ take (part_len (rank_of r) depth ts) ts

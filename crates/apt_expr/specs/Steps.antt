@@ -7,7 +7,7 @@ use Rattle.apt_lexis.specs.declared.token.Token.{Token}
 use Rattle.apt_expr.specs.declared.parts.Rank.{Rank}
 use Rattle.apt_expr.specs.declared.parts.Rank.TheVariants as ranks
 use Rattle.apt_expr.specs.Parts.{Parts, parts, additive, multiplicative, outer, open_behind}
-use Rattle.apt_expr.specs.Expressions.{Reader, from_left, term_by, sum_by, factor_of, inside}
+use Rattle.apt_expr.specs.Expressions.{Reader, term_by, sum_by, factor_of, inside}
 
 abbrev pub rank_of : Rank → (Token → Option Op)
 rank_of ranks.Additive = additive
@@ -41,8 +41,3 @@ with_sign false first = first
 abbrev pub nested : ℕ → Reader
 nested zero ts = None
 nested (suc n) ts = inside ts >>= sum_by (factor_of n)
-
--- how many calls an operand takes before a parenthesis is opened, as a bound
-abbrev pub work : Rank → ℕ
-work ranks.Additive = 5
-work ranks.Multiplicative = 2

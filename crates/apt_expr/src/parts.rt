@@ -1,4 +1,5 @@
 //! Lists of tokens by their parts between operators.
+
 ghost use Rattle.std.specs.Prelude.{◌≡◌, ◌≤◌, ◌<◌, length, MatchOption, IfSome, [], ◌∷◌};
 ghost use Rattle.apt_expr.specs.Parts as parts;
 ghost use Rattle.apt_expr.specs.Steps as steps;
@@ -7,7 +8,7 @@ use apt_lexis::Token;
 use apt_words::Op;
 
 /// The operators of one rank.
-#[derive(Clone, Copy, Debug, PartialEq, Eq)]
+#[derive(Clone, Copy)]
 pub(crate) enum Rank {
     Additive,
     Multiplicative,

@@ -1,8 +1,15 @@
-use Rattle.std.proofs.Common.{◌≡◌, ◌+◌, ◌*◌, ◌≤◌, length, Some}
+use Rattle.std.proofs.Common.{ℕ, ◌≡◌, ◌+◌, ◌*◌, ◌≤◌, length, Some}
 use Rattle.apt_words.specs.Trees.{operators}
 use Rattle.apt_expr.specs.Expressions as expressions
-use Rattle.apt_expr.specs.Steps.{rank_of, others_from, operand_of, work}
+use Rattle.apt_expr.specs.Steps.{rank_of, others_from, operand_of}
+use Rattle.apt_expr.specs.declared.parts.Rank.{Rank}
+use Rattle.apt_expr.specs.declared.parts.Rank.TheVariants as ranks
 use Rattle.apt_expr.proofs.reading.+reading.Given as goal
+
+-- an operand between plus and minus calls more than a factor does
+abbrev work : Rank → ℕ
+work ranks.Additive = 5
+work ranks.Multiplicative = 2
 
 abbrev pub decreases-factor : goal.decreases-factor
 decreases-factor l = 10 * l.nesting + 1
