@@ -1,5 +1,5 @@
 -- Small expressions, which the checker reads.
-use Rattle.std.specs.Prelude.{◌≡◌, ℕ, pos, List, [], ◌∷◌, Option, Some, None, Result, Ok, Err, codes}
+use Rattle.std.specs.Prelude.{◌≡◌, ℕ, pos, List, Option, Some, None, Ok, Err, codes}
 use Rattle.std.proofs.Common.{refl}
 use Rattle.apt_words.specs.Vocabulary.{word_of}
 use Rattle.apt_words.specs.declared.expr.Op.TheVariants as ops

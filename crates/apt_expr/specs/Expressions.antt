@@ -1,6 +1,6 @@
 -- The expression of a list of tokens: an optional minus and terms between plus and minus; a term is factors between times and divided by;
 -- a factor is a number, a name, an expression in parentheses, or SQRTF or ABSF of one. There are at most 32 nested parentheses and 64 operators.
-use Rattle.std.specs.Prelude.{ℕ, zero, suc, nat_le, List, [], ◌∷◌, Option, Some, None}
+use Rattle.std.specs.Prelude.{ℕ, suc, nat_le, List, [], ◌∷◌, Option, Some, None}
 use Rattle.apt_words.specs.declared.expr.Op.{Op}
 use Rattle.apt_words.specs.declared.expr.Op.TheVariants as ops
 use Rattle.apt_words.specs.declared.word.Word.{Word}
@@ -11,7 +11,7 @@ use Rattle.apt_words.specs.Vocabulary.{word_of}
 use Rattle.apt_words.specs.Trees.{Tree, Num, Name, Neg, Bin, Root, Abs, operators}
 use Rattle.apt_lexis.specs.declared.token.Token.{Token}
 use Rattle.apt_lexis.specs.declared.token.Token.TheVariants as tokens
-use Rattle.apt_expr.specs.Parts.{Parts, parts, additive, multiplicative}
+use Rattle.apt_expr.specs.Parts.{parts, additive, multiplicative}
 
 abbrev pub most_operators : ℕ
 most_operators = 64

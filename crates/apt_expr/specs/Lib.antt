@@ -1,2 +1,3 @@
 pub mod Parts
 pub mod Expressions
+pub mod Steps
