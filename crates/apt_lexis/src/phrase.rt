@@ -179,6 +179,7 @@ fn behind_line(
 }
 
 /// A reader of a text's statements. Clauses see the lines that are left and the number of the first of them.
+#[derive(Drop)]
 pub struct Phrases<'a> {
     rest: &'a [u8],
     line: u32,
