@@ -1,7 +1,6 @@
 -- The lines of a text, from its first line on.
-use Rattle.std.proofs.Common.{◌≡◌, ℕ, suc, ◌+◌, ◌-◌, ◌<◌, ◌==◌, List, [], ◌∷◌, length, take, drop, Bool, true, false, Some, None, ap, ◌∙◌, refl, arith, cond, subst}
+use Rattle.std.proofs.Common.{◌≡◌, ℕ, ◌-◌, ◌<◌, ◌==◌, List, [], ◌∷◌, length, take, drop, Bool, true, false, ap, ◌∙◌, refl, arith, cond}
 use Rattle.std.proofs.Common.{bytes_eq}
-use Rattle.std.proofs.lemmas.Grind.{common_steps}
 use native.Mathlib.Numerals.{unary_clauses}
 use Rattle.apt_lexis.specs.Lines.{split, line_feed, carriage_return, as_lines, lines_of, without_return}
 use Rattle.apt_lexis.proofs.Splitting.{split_filled}

@@ -1,5 +1,5 @@
 -- The tokens of a text, one after another.
-use Rattle.std.proofs.Common.{◌≡◌, ℕ, zero, suc, ◌+◌, ◌<◌, ◌≤◌, ◌==◌, List, [], ◌∷◌, ◌++◌, length, take, drop, Bool, true, false, ap, ◌∙◌, sym, refl, arith, cond, subst, append_assoc, append-nil}
+use Rattle.std.proofs.Common.{◌≡◌, ℕ, ◌+◌, ◌<◌, ◌≤◌, List, [], ◌∷◌, ◌++◌, length, take, drop, Bool, true, false, ap, ◌∙◌, sym, refl, arith, cond, subst, append_assoc, append-nil}
 use Rattle.std.specs.Prelude.{◌||◌, Ok, Err}
 use Rattle.std.specs.List.{prefix_len, flat_map}
 use Rattle.std.proofs.lemmas.Grind.{common_steps}
@@ -8,7 +8,7 @@ use Rattle.std.proofs.lemmas.List.Sums.{prefix_len-le-length}
 use Rattle.apt_lexis.specs.declared.cause.PartCause.{PartCause}
 use Rattle.apt_lexis.specs.declared.token.Token.{Token}
 use Rattle.apt_lexis.specs.Lines.{in_front}
-use Rattle.apt_lexis.specs.Tokens.{Read, Tokens, is_blank, is_letter, is_letter_or_digit, is_in_run, begins_in_run, runs, tokens_of_run, word, number, number_behind, mark, all_good, in_front_of}
+use Rattle.apt_lexis.specs.Tokens.{Tokens, is_blank, is_letter, is_letter_or_digit, is_in_run, runs, tokens_of_run, word, number, number_behind, mark, all_good, in_front_of}
 use Rattle.apt_lexis.specs.Sentences.{joined}
 use Rattle.apt_lexis.specs.Steps.{reads_of, behind_blanks, first_length, first_of, behind_first, read_of}
 

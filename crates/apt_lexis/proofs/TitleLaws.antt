@@ -1,6 +1,6 @@
 -- Titles and the blanks round them.
-use Rattle.std.proofs.Common.{◌≡◌, ℕ, zero, suc, ◌+◌, ◌-◌, ◌<◌, ◌≤◌, ◌==◌, List, [], ◌∷◌, ◌++◌, length, take, drop, get_or, map, Bool, true, false, Some, None, ap, ◌∙◌, sym, refl, arith, cond, subst, ◌⊎◌, inl, inr}
-use Rattle.std.specs.Prelude.{◌||◌, ◌&&◌, not, codes, Option}
+use Rattle.std.proofs.Common.{◌≡◌, ℕ, ◌-◌, ◌==◌, List, [], ◌∷◌, length, take, drop, Bool, true, false, Some, None, ap, ◌∙◌, sym, refl, subst, ◌⊎◌, inl, inr}
+use Rattle.std.specs.Prelude.{◌||◌, codes, Option}
 use Rattle.std.proofs.Common.{bytes_eq}
 use native.Mathlib.Numerals.{unary_clauses}
 use Rattle.std.proofs.lemmas.Slice.Eq.{bytes_eq-Decides}
@@ -8,8 +8,8 @@ use Rattle.apt_words.specs.Options.{◌>>=◌, only_if}
 use Rattle.apt_words.specs.Symbols.{is_symbol, is_name}
 use Rattle.apt_lexis.specs.declared.token.Token.{Token}
 use Rattle.apt_lexis.specs.declared.token.Token.TheVariants as tokens
-use Rattle.apt_lexis.specs.Titles.{Title, without_blank, without_blanks, unless_last, title_word, title, labelled, title_behind, title_or_labelled, behind_close, with_tokens}
-use Rattle.apt_lexis.specs.Headings.{is_title_word, as_title, closed_title, with_before}
+use Rattle.apt_lexis.specs.Titles.{Title, without_blanks, unless_last, title_word, title, labelled, title_behind, behind_close, with_tokens}
+use Rattle.apt_lexis.specs.Headings.{is_title_word, closed_title, with_before}
 
 -- ---- blanks at the end
 

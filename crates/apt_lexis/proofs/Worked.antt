@@ -7,7 +7,7 @@ use Rattle.apt_lexis.specs.declared.token.Token.{Token}
 use Rattle.apt_lexis.specs.declared.token.Token.TheVariants as tokens
 use Rattle.apt_lexis.specs.Lines.{lines_of}
 use Rattle.apt_lexis.specs.Tokens.{tokens_of}
-use Rattle.apt_lexis.specs.Sentences.{said_in, Said}
+use Rattle.apt_lexis.specs.Sentences.{said_in}
 use Rattle.apt_lexis.specs.Phrase.{Phrase}
 
 two_lines : lines_of (codes "A" ++ 13 ∷ 10 ∷ codes "B" ++ 13 ∷ []) ≡ codes "A" ∷ (codes "B" ++ 13 ∷ []) ∷ []

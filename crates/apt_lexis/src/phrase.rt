@@ -41,69 +41,37 @@ pub(crate) enum Reading {
 }
 
 /// The statement that a line belongs to, as it is before that line.
-fn before_line(alloc: Global, begun: Option<Phrase>, line: u32) -> Phrase
-    ensures { result ≡ spec.before_line begun line }
+fn before_line(alloc: Global, begun: Option<Phrase>, number: u32) -> Phrase
+    ensures { result ≡ spec.before_line begun number }
 {
     match begun {
         None => Phrase {
-            line,
+            line: number,
             tokens: Vec::new(alloc),
             fault: None,
             text: None,
         },
-        Some(
-            Phrase {
-                line,
-                tokens,
-                fault,
-                ..
-            },
-        ) => Phrase {
-            line,
-            tokens,
-            fault,
-            text: None,
-        },
+        Some(mut phrase) => {
+            phrase.text = None;
+            phrase
+        }
     }
 }
 
-fn with_tokens(phrase: Phrase, text: &[u8]) -> Result<Phrase, AllocError>
+fn with_tokens(mut phrase: Phrase, text: &[u8]) -> Result<Phrase, AllocError>
     ensures { IfOk result (λ p. p ≡ spec.with_tokens phrase (tokens.tokens_of text.now)) }
 {
-    if phrase.fault.is_some() {
-        return Ok(phrase);
+    if phrase.fault.is_none() {
+        phrase.fault = add_tokens(&mut phrase.tokens, text)?;
     }
-    let Phrase {
-        line,
-        mut tokens,
-        text: title,
-        ..
-    } = phrase;
-    let fault = add_tokens(&mut tokens, text)?;
-    Ok(Phrase {
-        line,
-        tokens,
-        fault,
-        text: title,
-    })
+    Ok(phrase)
 }
 
-fn with_title(alloc: Global, phrase: Phrase, title: Heading<'_>) -> Result<Phrase, AllocError>
+fn with_title(alloc: Global, mut phrase: Phrase, title: Heading<'_>) -> Result<Phrase, AllocError>
     ensures { IfOk result (λ p. p ≡ spec.with_title phrase title.entry) }
 {
-    let Phrase {
-        line,
-        mut tokens,
-        fault,
-        ..
-    } = phrase;
-    let text = add_heading(alloc, &mut tokens, title)?;
-    Ok(Phrase {
-        line,
-        tokens,
-        fault,
-        text: Some(text),
-    })
+    phrase.text = Some(add_heading(alloc, &mut phrase.tokens, title)?);
+    Ok(phrase)
 }
 
 /// Whether a `$` begins a text with no other behind it.
@@ -238,6 +206,7 @@ impl<'a> Phrases<'a> {
         }
         Ok(begun)
     }
+
     /// The number of the first line that is left.
     pub fn line(&self) -> u32
         ensures value { result ≡ self.now.line }
