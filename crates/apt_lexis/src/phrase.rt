@@ -1,6 +1,6 @@
 //! Statements as they are read.
 
-ghost use Rattle.std.specs.Prelude.{◌≡◌, ◌+◌, ◌<◌, ◌≤◌, length, OnOk, IfOk, IfSome};
+ghost use Rattle.std.specs.Prelude.{◌≡◌, ◌+◌, ◌<◌, ◌≤◌, length, IfOk, IfSome};
 ghost use Rattle.apt_lexis.specs.Lines as lines;
 ghost use Rattle.apt_lexis.specs.Readings as spec;
 ghost use Rattle.apt_lexis.specs.Sentences as sentences;
