@@ -17,6 +17,10 @@ use Rattle.apt_expr.specs.Expressions.{expression}
 
 -- ---- lists of arguments
 
+abbrev pub is_comma : Token → Bool
+is_comma tokens.Comma = true
+is_comma _ = false
+
 abbrev pub in_front : Token → List (List Token) → List (List Token)
 in_front t [] = (t ∷ []) ∷ []
 in_front t (a ∷ args) = (t ∷ a) ∷ args
