@@ -4,6 +4,7 @@
 mod arguments;
 mod figures;
 mod motions;
+mod settings;
 mod table;
 #[cfg(test)]
 mod tests;
