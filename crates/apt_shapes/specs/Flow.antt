@@ -56,6 +56,11 @@ abbrev pub jumpto : List (List Token) → Option Body
 jumpto (l ∷ []) = name l >>= λ l. Some (bodies.Jumpto l)
 jumpto _ = None
 
+-- the label behind a closing parenthesis
+abbrev pub label_of : Token → Token → Option (List ℕ)
+label_of tokens.Close (tokens.Word l) = only_if (is_name l) l
+label_of _ _ = None
+
 -- an expression, the parenthesis that closes it and a label
 abbrev pub condition : List Token → Option (List Token × List ℕ)
 condition (tokens.Close ∷ tokens.Word l ∷ []) = only_if (is_name l) ([], l)

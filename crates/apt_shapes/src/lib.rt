@@ -3,6 +3,7 @@
 
 mod arguments;
 mod figures;
+mod flow;
 mod motions;
 mod settings;
 mod table;

@@ -127,10 +127,10 @@ fn turn_of(word: Option<Word>) -> Option<Go>
 fn check_stop(tokens: &[Token]) -> Option<Stop>
     ensures { result ≡ motions.check_stop tokens.now }
 {
-    if is_word(Word::Tanto, tokens) {
-        Some(Stop::Tanto)
-    } else {
-        stop(tokens)
+    match stop(tokens) {
+        Some(stop) => Some(stop),
+        None if is_word(Word::Tanto, tokens) => Some(Stop::Tanto),
+        None => None,
     }
 }
 
