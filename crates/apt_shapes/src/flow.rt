@@ -123,7 +123,7 @@ fn label_of(close: &Token, label: &Token) -> Option<Symbol>
 }
 
 /// The tokens before the parenthesis that closes them, and the label behind it.
-#[tactic(auto, using(crate::proofs::Conditions::no_condition_in_none, crate::proofs::Conditions::no_condition_in_one, crate::proofs::Conditions::condition_by_end))]
+#[tactic(auto, using(crate::proofs::Conditions::no_condition_in_none, crate::proofs::Conditions::no_condition_in_one))]
 fn condition(tokens: &[Token]) -> Option<(&[Token], Symbol)>
     ensures { option_map (λ c. (c.0.now, c.1)) result ≡ flow.condition tokens.now }
 {
