@@ -19,12 +19,7 @@ pub(crate) fn assign(
     Ok(expression(alloc, tokens)?.map(|e| Body::Assign(n.copied(), e)))
 }
 
-fn point_xy(
-    alloc: Global,
-    n: &Symbol,
-    x: &[Token],
-    y: &[Token],
-) -> Result<Option<Body>, AllocError>
+fn point_xy(alloc: Global, n: &Symbol, x: &[Token], y: &[Token]) -> Result<Option<Body>, AllocError>
     ensures { IfOk result (λ b. b ≡ figures.point_xy n.now x.now y.now) }
 {
     let (Some(x), Some(y)) = (expression(alloc, x)?, expression(alloc, y)?) else {
@@ -69,13 +64,7 @@ fn point_lines(n: &Symbol, intof: &[Token], a: &[Token], b: &[Token]) -> Option<
     Some(Body::PointLines(n.copied(), name(a)?, name(b)?))
 }
 
-fn point_pick(
-    n: &Symbol,
-    k: &[Token],
-    intof: &[Token],
-    a: &[Token],
-    b: &[Token],
-) -> Option<Body>
+fn point_pick(n: &Symbol, k: &[Token], intof: &[Token], a: &[Token], b: &[Token]) -> Option<Body>
     ensures { result ≡ figures.point_pick n.now k.now intof.now a.now b.now }
 {
     if !is_word(Word::Intof, intof) {
@@ -167,13 +156,7 @@ fn line_at(
     Ok(expression(alloc, e)?.map(|e| Body::LineAt(n.copied(), l, k, e)))
 }
 
-fn line_tan(
-    n: &Symbol,
-    p: &[Token],
-    h: &[Token],
-    tanto: &[Token],
-    c: &[Token],
-) -> Option<Body>
+fn line_tan(n: &Symbol, p: &[Token], h: &[Token], tanto: &[Token], c: &[Token]) -> Option<Body>
     ensures { result ≡ figures.line_tan n.now p.now h.now tanto.now c.now }
 {
     if !is_word(Word::Tanto, tanto) {
@@ -196,13 +179,7 @@ fn line_two(
     if !is_word(Word::Tanto, tanto) || !is_word(Word::Tanto, tanto_too) {
         return None;
     }
-    Some(Body::LineTwo(
-        n.copied(),
-        is_left(h)?,
-        name(c)?,
-        is_left(k)?,
-        name(d)?,
-    ))
+    Some(Body::LineTwo(n.copied(), is_left(h)?, name(c)?, is_left(k)?, name(d)?))
 }
 
 fn line_of_four(
@@ -224,11 +201,8 @@ fn line_of_four(
     line_xy(alloc, n, a, b, c, d)
 }
 
-pub(crate) fn line(
-    alloc: Global,
-    n: &Symbol,
-    args: &[&[Token]],
-) -> Result<Option<Body>, AllocError>
+#[tactic(auto, using(crate::proofs::Numbers::no_line_of_one, crate::proofs::Numbers::no_line_of_five, crate::proofs::Numbers::no_line_of_seven, std::proofs::lemmas::Grind::common_steps))]
+pub(crate) fn line(alloc: Global, n: &Symbol, args: &[&[Token]]) -> Result<Option<Body>, AllocError>
     ensures { IfOk result (λ b. b ≡ figures.line n.now (map (λ a. a.now) args.now)) }
 {
     match args {
@@ -322,6 +296,7 @@ fn circle_corner(
     Ok(expression(alloc, e)?.map(|e| Body::CircleCorner(n.copied(), j, a, k, b, e)))
 }
 
+#[tactic(auto, using(crate::proofs::Numbers::no_circle_of_two, crate::proofs::Numbers::no_circle_of_five, crate::proofs::Numbers::no_circle_of_seven, std::proofs::lemmas::Grind::common_steps))]
 pub(crate) fn circle(
     alloc: Global,
     n: &Symbol,

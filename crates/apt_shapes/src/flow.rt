@@ -24,10 +24,7 @@ fn argument(alloc: Global, tokens: &[Token]) -> Result<Option<(Symbol, Expr)>, A
 }
 
 /// A name, with its default where it has one.
-fn parameter(
-    alloc: Global,
-    tokens: &[Token],
-) -> Result<Option<(Symbol, Option<Expr>)>, AllocError>
+fn parameter(alloc: Global, tokens: &[Token]) -> Result<Option<(Symbol, Option<Expr>)>, AllocError>
     ensures { IfOk result (λ p. p ≡ flow.parameter tokens.now) }
 {
     if let [Token::Word(word)] = tokens {

@@ -139,13 +139,7 @@ pub(crate) fn contour(side: Option<Side>, turn: Go, args: &[&[Token]]) -> Option
     ensures { result ≡ motions.contour side turn (map (λ a. a.now) args.now) }
 {
     match args {
-        [drive, check] => Some(Body::Contour(
-            side,
-            turn,
-            name(drive)?,
-            Stop::To,
-            name(check)?,
-        )),
+        [drive, check] => Some(Body::Contour(side, turn, name(drive)?, Stop::To, name(check)?)),
         [drive, q, check] => Some(Body::Contour(
             side,
             turn,

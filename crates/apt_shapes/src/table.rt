@@ -150,11 +150,7 @@ fn with_side(
     }
 }
 
-fn if_word(
-    alloc: Global,
-    word: Option<Word>,
-    tokens: &[Token],
-) -> Result<Option<Body>, AllocError>
+fn if_word(alloc: Global, word: Option<Word>, tokens: &[Token]) -> Result<Option<Body>, AllocError>
     ensures { IfOk result (λ b. b ≡ shapes.if_word word tokens.now) }
 {
     match word {
@@ -179,11 +175,7 @@ fn untitled(alloc: Global, tokens: &[Token]) -> Result<Option<Body>, AllocError>
     }
 }
 
-fn body(
-    alloc: Global,
-    tokens: &[Token],
-    text: Option<Text>,
-) -> Result<Option<Body>, AllocError>
+fn body(alloc: Global, tokens: &[Token], text: Option<Text>) -> Result<Option<Body>, AllocError>
     ensures { IfOk result (λ b. b ≡ shapes.body tokens.now text) }
 {
     match (tokens, text) {

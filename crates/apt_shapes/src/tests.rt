@@ -40,10 +40,19 @@ fn statements(rt: HostRuntime) -> Result<(), Fail> {
         ("GO / L1", "GoStart(To, L1, None)"),
         ("GO / PAST , L1", "GoStart(Past, L1, None)"),
         ("GO / L1 , ON , L2", "GoStart(To, L1, Some((On, L2)))"),
-        ("GO / ON , L1 , PAST , L2", "GoStart(On, L1, Some((Past, L2)))"),
+        (
+            "GO / ON , L1 , PAST , L2",
+            "GoStart(On, L1, Some((Past, L2)))",
+        ),
         ("GOFWD / L1 , C1", "Contour(None, Forward, L1, To, C1)"),
-        ("GOBACK / L1 , TANTO , C1", "Contour(None, Back, L1, Tanto, C1)"),
-        ("TLRGT , GORGT / L1 , PAST , L2", "Contour(Some(Right), Right, L1, Past, L2)"),
+        (
+            "GOBACK / L1 , TANTO , C1",
+            "Contour(None, Back, L1, Tanto, C1)",
+        ),
+        (
+            "TLRGT , GORGT / L1 , PAST , L2",
+            "Contour(Some(Right), Right, L1, Past, L2)",
+        ),
         ("TLLFT", "Tool(Left)"),
         ("TERMAC", "Termac"),
         ("L = LINE / P , Q", "LinePoints(L, P, Q)"),
@@ -55,7 +64,10 @@ fn statements(rt: HostRuntime) -> Result<(), Fail> {
             "LineTwo(L, true, C, false, D)",
         ),
         ("P = POINT / INTOF , L , K", "PointLines(P, L, K)"),
-        ("P = POINT / YSMALL , INTOF , L , C", "PointPick(P, YSmall, L, C)"),
+        (
+            "P = POINT / YSMALL , INTOF , L , C",
+            "PointPick(P, YSmall, L, C)",
+        ),
         ("P = POINT / CENTER , C", "PointCenter(P, C)"),
         ("C = CIRCLE / CENTER , P , Q", "CircleThrough(C, P, Q)"),
         ("C = CIRCLE / CENTER , P , TANTO , L", "CircleTan(C, P, L)"),
@@ -64,7 +76,10 @@ fn statements(rt: HostRuntime) -> Result<(), Fail> {
         ("COOLNT / FLOOD", "Coolnt(Flood)"),
         ("JUMPTO / LA", "Jumpto(LA)"),
         ("M = MACRO", "Macro(M, Params { items: [] })"),
-        ("M = MACRO / A , B", "Macro(M, Params { items: [(A, None), (B, None)] })"),
+        (
+            "M = MACRO / A , B",
+            "Macro(M, Params { items: [(A, None), (B, None)] })",
+        ),
         ("CALL / M", "Call(M, Args { items: [] })"),
     ];
     for (statement, body) in rows {
@@ -78,12 +93,18 @@ fn statements(rt: HostRuntime) -> Result<(), Fail> {
 #[test]
 fn labels_and_titles(rt: HostRuntime) -> Result<(), Fail> {
     let said = printed(rt.alloc(), "LA ) STOP", None)?;
-    assert_eq!(rt; said.as_str(), "Some(Labelled { label: Some(LA), body: Halt })");
+    assert_eq!(rt;
+        said.as_str(),
+        "Some(Labelled { label: Some(LA), body: Halt })"
+    );
     let text = Text {
         bytes: [65, 66].to_vec(rt.alloc())?,
     };
     let said = printed(rt.alloc(), "PARTNO", Some(text))?;
-    assert_eq!(rt; said.as_str(), "Some(Labelled { label: None, body: Partno(Text { bytes: [65, 66] }) })");
+    assert_eq!(rt;
+        said.as_str(),
+        "Some(Labelled { label: None, body: Partno(Text { bytes: [65, 66] }) })"
+    );
     Ok(())
 }
 
