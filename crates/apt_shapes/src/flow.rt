@@ -104,7 +104,7 @@ pub(crate) fn jumpto(args: &[&[Token]]) -> Option<Body>
     ensures { result ≡ flow.jumpto (map (λ a. a.now) args.now) }
 {
     match args {
-        [l] => name(l).map(|l| Body::Jumpto(l)),
+        [l] => name(l).map(Body::Jumpto),
         _ => None,
     }
 }

@@ -13,7 +13,7 @@ pub(crate) fn from(alloc: Global, args: &[&[Token]]) -> Result<Option<Body>, All
     ensures { IfOk result (λ b. b ≡ motions.from (map (λ a. a.now) args.now)) }
 {
     match args {
-        [p] => Ok(name(p).map(|p| Body::FromPoint(p))),
+        [p] => Ok(name(p).map(Body::FromPoint)),
         [x, y] => {
             let (Some(x), Some(y)) = (expression(alloc, x)?, expression(alloc, y)?) else {
                 return Ok(None);
@@ -34,7 +34,7 @@ pub(crate) fn goto(alloc: Global, args: &[&[Token]]) -> Result<Option<Body>, All
     ensures { IfOk result (λ b. b ≡ motions.goto (map (λ a. a.now) args.now)) }
 {
     match args {
-        [p] => Ok(name(p).map(|p| Body::GotoPoint(p))),
+        [p] => Ok(name(p).map(Body::GotoPoint)),
         [x, y] => {
             let (Some(x), Some(y)) = (expression(alloc, x)?, expression(alloc, y)?) else {
                 return Ok(None);
@@ -77,8 +77,8 @@ fn surface(args: &[&[Token]]) -> Option<(Stop, Symbol)>
 fn start_one(args: &[&[Token]]) -> Option<Body>
     ensures { result ≡ motions.start_one (map (λ a. a.now) args.now) }
 {
-    let (stop, surface) = surface(args)?;
-    Some(Body::GoStart(stop, surface, None))
+    let (stop, drive) = surface(args)?;
+    Some(Body::GoStart(stop, drive, None))
 }
 
 fn start_two(first: &[&[Token]], second: &[&[Token]]) -> Option<Body>

@@ -46,7 +46,7 @@ fn expressions(alloc: Global, args: &[&[Token]]) -> Result<Option<Exprs>, AllocE
 pub(crate) fn machin(alloc: Global, args: &[&[Token]]) -> Result<Option<Body>, AllocError>
     ensures { IfOk result (λ b. b ≡ settings.machin (map (λ a. a.now) args.now)) }
 {
-    Ok(expressions(alloc, args)?.map(|list| Body::Machin(list)))
+    Ok(expressions(alloc, args)?.map(Body::Machin))
 }
 
 fn units_of(word: Option<Word>) -> Option<Units>
@@ -63,7 +63,7 @@ pub(crate) fn units_in(args: &[&[Token]]) -> Option<Body>
     ensures { result ≡ settings.units_in (map (λ a. a.now) args.now) }
 {
     match args {
-        [a] => units_of(vocabulary(a)).map(|units| Body::Units(units)),
+        [a] => units_of(vocabulary(a)).map(Body::Units),
         _ => None,
     }
 }
@@ -113,7 +113,7 @@ pub(crate) fn coolnt(args: &[&[Token]]) -> Option<Body>
     ensures { result ≡ settings.coolnt (map (λ a. a.now) args.now) }
 {
     match args {
-        [a] => cool_of(vocabulary(a)).map(|cool| Body::Coolnt(cool)),
+        [a] => cool_of(vocabulary(a)).map(Body::Coolnt),
         _ => None,
     }
 }

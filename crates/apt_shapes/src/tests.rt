@@ -120,7 +120,6 @@ fn no_shapes(rt: HostRuntime) -> Result<(), Fail> {
         "JUMPTO / GOTO",
         "GOTO ) STOP",
         "LINE = POINT / CENTER , C",
-        "M = MACRO / A , B , A",
         "CALL / A , B",
         "IF ( LA , LB , LC",
         "P1",
