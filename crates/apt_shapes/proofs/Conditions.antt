@@ -1,6 +1,6 @@
 -- The condition of IF, by the last two tokens of its first argument.
 use Rattle.std.specs.Prelude.{◌≡◌, ℕ, ◌≤◌, Bool, true, false, List, [], ◌∷◌, ◌++◌, length, Option, Some, None, refl}
-use Rattle.std.proofs.Common.{ap, sym, ◌∙◌, arith, append_assoc, length-append}
+use Rattle.std.proofs.Common.{ap, ◌∙◌, arith, append_assoc, length-append}
 use Rattle.apt_words.specs.Options.{◌>>=◌, only_if}
 use Rattle.apt_words.specs.Symbols.{is_name}
 use Rattle.apt_lexis.specs.declared.token.Token.{Token}

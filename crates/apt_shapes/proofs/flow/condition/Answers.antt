@@ -1,5 +1,4 @@
-use Rattle.std.proofs.Common.{◌≡◌, Some, None, ap, sym, ◌∙◌, option_map}
-use Rattle.apt_shapes.specs.Flow.{condition, label_of}
+use Rattle.std.proofs.Common.{ap, sym, ◌∙◌, option_map}
 use Rattle.apt_shapes.proofs.Conditions.{condition_by_end, with_label}
 use Rattle.apt_shapes.proofs.flow.condition.Goals as goal
 

@@ -1,4 +1,4 @@
-use Rattle.std.proofs.Common.{◌≡◌, ◌++◌, ◌∷◌, [], false, true, suc, ap, sym, ◌∙◌, take, drop, bytes_eq, rules}
+use Rattle.std.proofs.Common.{◌≡◌, false, true, suc, ap, sym, ◌∙◌, take, drop, bytes_eq}
 use Rattle.std.specs.List.{list_any}
 use Rattle.apt_shapes.specs.Flow.{differ, names_of}
 use Rattle.apt_shapes.proofs.Differ.{twice, one_more_name, name_kept, name_found, names_around, names_with}
