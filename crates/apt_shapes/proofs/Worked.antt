@@ -1,5 +1,5 @@
 -- Statements, which the checker reads.
-use Rattle.std.specs.Prelude.{◌≡◌, ℕ, pos, true, false, List, [], ◌∷◌, Option, Some, None, Result, Ok, Err, codes}
+use Rattle.std.specs.Prelude.{◌≡◌, ℕ, pos, true, List, [], ◌∷◌, Option, Some, None, Ok, Err, codes}
 use Rattle.std.proofs.Common.{refl, option_map}
 use Rattle.apt_words.specs.Vocabulary.{word_of}
 use Rattle.apt_words.specs.declared.Side.TheVariants as sides
@@ -10,7 +10,7 @@ use Rattle.apt_words.specs.declared.Pick.TheVariants as picks
 use Rattle.apt_words.specs.declared.expr.Op.TheVariants as ops
 use Rattle.apt_words.specs.declared.body.Body.{Body}
 use Rattle.apt_words.specs.declared.body.Body.TheVariants as bodies
-use Rattle.apt_words.specs.Trees.{Tree, Num, Name, Neg, Bin, Root, Abs}
+use Rattle.apt_words.specs.Trees.{Tree, Num, Name, Neg, Bin}
 use Rattle.apt_lexis.specs.Tokens.{Tokens, tokens_of}
 use Rattle.apt_expr.specs.Expressions.{expression}
 use Rattle.apt_shapes.specs.declared.table.Labelled.{Labelled}

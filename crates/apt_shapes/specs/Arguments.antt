@@ -1,5 +1,5 @@
 -- The arguments of a statement.
-use Rattle.std.specs.Prelude.{ℕ, Bool, true, false, List, [], ◌∷◌, Option, Some, None, if◌then◌else◌}
+use Rattle.std.specs.Prelude.{ℕ, Bool, true, false, List, [], ◌∷◌, Option, Some, None}
 use Rattle.std.proofs.Common.{bytes_eq}
 use Rattle.apt_words.specs.declared.Pick.{Pick}
 use Rattle.apt_words.specs.declared.Pick.TheVariants as picks
@@ -7,15 +7,17 @@ use Rattle.apt_words.specs.declared.Stop.{Stop}
 use Rattle.apt_words.specs.declared.Stop.TheVariants as stops
 use Rattle.apt_words.specs.declared.word.Word.{Word}
 use Rattle.apt_words.specs.declared.word.Word.TheVariants as words
-use Rattle.apt_words.specs.Options.{◌>>=◌, only_if}
+use Rattle.apt_words.specs.Options.{only_if}
 use Rattle.apt_words.specs.Symbols.{is_name}
 use Rattle.apt_words.specs.Vocabulary.{word_of, spelling}
-use Rattle.apt_words.specs.Trees.{Tree}
 use Rattle.apt_lexis.specs.declared.token.Token.{Token}
 use Rattle.apt_lexis.specs.declared.token.Token.TheVariants as tokens
-use Rattle.apt_expr.specs.Expressions.{expression}
 
 -- ---- lists of arguments
+
+abbrev pub is_comma : Token → Bool
+is_comma tokens.Comma = true
+is_comma _ = false
 
 abbrev pub in_front : Token → List (List Token) → List (List Token)
 in_front t [] = (t ∷ []) ∷ []

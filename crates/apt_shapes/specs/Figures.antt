@@ -74,10 +74,13 @@ line_two n h tanto c k tanto' d =
     is_left h >>= λ h. said words.Tanto tanto >>= λ _. name c >>= λ c.
     is_left k >>= λ k. said words.Tanto tanto' >>= λ _. name d >>= λ d. Some (bodies.LineTwo n h c k d)
 
+abbrev pub line_of_four : Name → List Token → List Token → List Token → List Token → Option Body
+line_of_four n a b c d = or_else (line_at n a b c d) (or_else (line_tan n a b c d) (line_xy n a b c d))
+
 abbrev pub line : Name → List (List Token) → Option Body
 line n (a ∷ b ∷ []) = line_points n a b
 line n (a ∷ b ∷ c ∷ []) = or_else (line_par n a b c) (line_perp n a b c)
-line n (a ∷ b ∷ c ∷ d ∷ []) = or_else (line_at n a b c d) (or_else (line_tan n a b c d) (line_xy n a b c d))
+line n (a ∷ b ∷ c ∷ d ∷ []) = line_of_four n a b c d
 line n (a ∷ b ∷ c ∷ d ∷ e ∷ f ∷ []) = line_two n a b c d e f
 line n _ = None
 

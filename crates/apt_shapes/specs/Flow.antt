@@ -10,7 +10,7 @@ use Rattle.apt_words.specs.Trees.{Tree}
 use Rattle.apt_lexis.specs.declared.token.Token.{Token}
 use Rattle.apt_lexis.specs.declared.token.Token.TheVariants as tokens
 use Rattle.apt_expr.specs.Expressions.{expression}
-use Rattle.apt_shapes.specs.Arguments.{arguments, name}
+use Rattle.apt_shapes.specs.Arguments.{name}
 
 -- ---- macros
 
@@ -55,6 +55,11 @@ call _ = None
 abbrev pub jumpto : List (List Token) → Option Body
 jumpto (l ∷ []) = name l >>= λ l. Some (bodies.Jumpto l)
 jumpto _ = None
+
+-- the label behind a closing parenthesis
+abbrev pub label_of : Token → Token → Option (List ℕ)
+label_of tokens.Close (tokens.Word l) = only_if (is_name l) l
+label_of _ _ = None
 
 -- an expression, the parenthesis that closes it and a label
 abbrev pub condition : List Token → Option (List Token × List ℕ)

@@ -15,7 +15,7 @@ use Rattle.apt_words.specs.Vocabulary.{word_of}
 use Rattle.apt_lexis.specs.declared.token.Token.{Token}
 use Rattle.apt_lexis.specs.declared.token.Token.TheVariants as tokens
 use Rattle.apt_expr.specs.Expressions.{expression}
-use Rattle.apt_shapes.specs.Arguments.{arguments, name, word, stop, is_word, or_else}
+use Rattle.apt_shapes.specs.Arguments.{arguments, name, stop, is_word, or_else}
 
 -- FROM/p, FROM/e,e and FROM/e,e,e
 abbrev pub from : List (List Token) → Option Body

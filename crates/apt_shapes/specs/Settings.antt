@@ -22,6 +22,11 @@ titled (Some words.Partno) text = Some (bodies.Partno text)
 titled (Some words.Remark) text = Some (bodies.Remark text)
 titled _ text = None
 
+-- the expression that stands alone
+abbrev pub one : List (List Token) → Option Tree
+one (e ∷ []) = expression e
+one _ = None
+
 -- a statement of one expression
 abbrev pub with_one : (Tree → Body) → List (List Token) → Option Body
 with_one body (e ∷ []) = expression e >>= λ e. Some (body e)

@@ -1,6 +1,11 @@
 //! Statements of part programs as lists of tokens.
 #![tactic(auto)]
 
+mod arguments;
+mod figures;
+mod flow;
+mod motions;
+mod settings;
 mod table;
 #[cfg(test)]
 mod tests;

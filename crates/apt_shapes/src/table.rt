@@ -1,10 +1,15 @@
 //! The shapes of statements.
 
-ghost use Rattle.std.specs.Prelude.{◌≡◌, IfOk};
+ghost use Rattle.std.specs.Prelude.{◌≡◌, map, IfOk};
 ghost use Rattle.apt_shapes.specs.Shapes as shapes;
 
+use crate::arguments::{arguments, name_of};
+use crate::figures::{assign, circle, line, point};
+use crate::flow::{call, if_in, jumpto, macro_of};
+use crate::motions::{contour, from, godlta, goto, side_of, start, turned};
+use crate::settings::{coolnt, machin, one, spindl, titled, units_in};
 use apt_lexis::Token;
-use apt_words::{Body, Symbol, Text};
+use apt_words::{Body, Go, Params, Symbol, Text, Word, word_of};
 use std::alloc::{AllocError, Global};
 
 /// What a statement says, with its label where it has one.
@@ -14,7 +19,174 @@ pub struct Labelled {
     pub body: Body,
 }
 
+fn command(word: Option<Word>) -> Option<Body>
+    ensures { result ≡ shapes.command word }
+{
+    match word {
+        Some(Word::Clprnt) => Some(Body::Clprnt),
+        Some(Word::Nopost) => Some(Body::Nopost),
+        Some(Word::Rapid) => Some(Body::Rapid),
+        Some(Word::Stop) => Some(Body::Halt),
+        Some(Word::Opstop) => Some(Body::OptHalt),
+        Some(Word::End) => Some(Body::EndWord),
+        Some(Word::Fini) => Some(Body::Fini),
+        Some(Word::Termac) => Some(Body::Termac),
+        Some(Word::Loopst) => Some(Body::Loopst),
+        Some(Word::Loopnd) => Some(Body::Loopnd),
+        _ => None,
+    }
+}
+
+/// A statement of one word.
+fn alone(word: Option<Word>) -> Option<Body>
+    ensures { result ≡ shapes.alone word }
+{
+    match side_of(word) {
+        Some(side) => Some(Body::Tool(side)),
+        None => command(word),
+    }
+}
+
+/// A statement of a word, a slash and arguments.
+#[tactic(auto, using(crate::proofs::Ones::with_one_by_one))]
+fn with_arguments(
+    alloc: Global,
+    word: Option<Word>,
+    args: &[&[Token]],
+) -> Result<Option<Body>, AllocError>
+    ensures { IfOk result (λ b. b ≡ shapes.with_arguments word (map (λ a. a.now) args.now)) }
+{
+    match word {
+        Some(Word::Units) => Ok(units_in(args)),
+        Some(Word::Machin) => machin(alloc, args),
+        Some(Word::Cutter) => Ok(one(alloc, args)?.map(Body::Cutter)),
+        Some(Word::Intol) => Ok(one(alloc, args)?.map(Body::Intol)),
+        Some(Word::Outtol) => Ok(one(alloc, args)?.map(Body::Outtol)),
+        Some(Word::Fedrat) => Ok(one(alloc, args)?.map(Body::Fedrat)),
+        Some(Word::Loadtl) => Ok(one(alloc, args)?.map(Body::Loadtl)),
+        Some(Word::From) => from(alloc, args),
+        Some(Word::Goto) => goto(alloc, args),
+        Some(Word::Godlta) => godlta(alloc, args),
+        Some(Word::Go) => Ok(start(args)),
+        Some(Word::Golft) => Ok(contour(None, Go::Left, args)),
+        Some(Word::Gorgt) => Ok(contour(None, Go::Right, args)),
+        Some(Word::Gofwd) => Ok(contour(None, Go::Forward, args)),
+        Some(Word::Goback) => Ok(contour(None, Go::Back, args)),
+        Some(Word::Spindl) => spindl(alloc, args),
+        Some(Word::Coolnt) => Ok(coolnt(args)),
+        Some(Word::Call) => call(alloc, args),
+        Some(Word::Jumpto) => Ok(jumpto(args)),
+        _ => Ok(None),
+    }
+}
+
+fn figure(
+    alloc: Global,
+    n: &Symbol,
+    word: Option<Word>,
+    args: &[&[Token]],
+) -> Result<Option<Body>, AllocError>
+    ensures { IfOk result (λ b. b ≡ shapes.figure n.now word (map (λ a. a.now) args.now)) }
+{
+    match word {
+        Some(Word::Point) => point(alloc, n, args),
+        Some(Word::Line) => line(alloc, n, args),
+        Some(Word::Circle) => circle(alloc, n, args),
+        Some(Word::Macro) => macro_of(alloc, n, args),
+        _ => Ok(None),
+    }
+}
+
+fn macro_alone(alloc: Global, n: &Symbol, word: Option<Word>) -> Option<Body>
+    ensures { result ≡ shapes.macro_alone n.now word }
+{
+    match word {
+        Some(Word::Macro) => Some(Body::Macro(
+            n.copied(),
+            Params {
+                items: Vec::new(alloc),
+            },
+        )),
+        _ => None,
+    }
+}
+
+/// A figure or a macro behind a name and an equals sign.
+fn defined(alloc: Global, n: &Symbol, tokens: &[Token]) -> Result<Option<Body>, AllocError>
+    ensures { IfOk result (λ b. b ≡ shapes.defined n.now tokens.now) }
+{
+    match tokens {
+        [Token::Word(word), Token::Slash, rest @ ..] => {
+            figure(alloc, n, word_of(word), &arguments(alloc, rest)?)
+        }
+        [Token::Word(word)] => Ok(macro_alone(alloc, n, word_of(word))),
+        _ => Ok(None),
+    }
+}
+
+fn named(alloc: Global, word: &Symbol, tokens: &[Token]) -> Result<Option<Body>, AllocError>
+    ensures { IfOk result (λ b. b ≡ shapes.named word.now tokens.now) }
+{
+    let Some(n) = name_of(word) else {
+        return Ok(None);
+    };
+    match defined(alloc, &n, tokens)? {
+        Some(body) => Ok(Some(body)),
+        None => assign(alloc, &n, tokens),
+    }
+}
+
+/// A tool word, a comma and a contour.
+fn with_side(
+    alloc: Global,
+    word: Option<Word>,
+    tokens: &[Token],
+) -> Result<Option<Body>, AllocError>
+    ensures { IfOk result (λ b. b ≡ shapes.with_side word tokens.now) }
+{
+    match side_of(word) {
+        Some(side) => turned(alloc, Some(side), tokens),
+        None => Ok(None),
+    }
+}
+
+fn if_word(alloc: Global, word: Option<Word>, tokens: &[Token]) -> Result<Option<Body>, AllocError>
+    ensures { IfOk result (λ b. b ≡ shapes.if_word word tokens.now) }
+{
+    match word {
+        Some(Word::If) => if_in(alloc, &arguments(alloc, tokens)?),
+        _ => Ok(None),
+    }
+}
+
+/// A statement without a text.
+fn untitled(alloc: Global, tokens: &[Token]) -> Result<Option<Body>, AllocError>
+    ensures { IfOk result (λ b. b ≡ shapes.untitled tokens.now) }
+{
+    match tokens {
+        [Token::Word(word)] => Ok(alone(word_of(word))),
+        [Token::Word(word), Token::Slash, rest @ ..] => {
+            with_arguments(alloc, word_of(word), &arguments(alloc, rest)?)
+        }
+        [Token::Word(word), Token::Equals, rest @ ..] => named(alloc, word, rest),
+        [Token::Word(word), Token::Comma, rest @ ..] => with_side(alloc, word_of(word), rest),
+        [Token::Word(word), Token::Open, rest @ ..] => if_word(alloc, word_of(word), rest),
+        _ => Ok(None),
+    }
+}
+
+fn body(alloc: Global, tokens: &[Token], text: Option<Text>) -> Result<Option<Body>, AllocError>
+    ensures { IfOk result (λ b. b ≡ shapes.body tokens.now text) }
+{
+    match (tokens, text) {
+        (_, None) => untitled(alloc, tokens),
+        ([Token::Word(word)], Some(text)) => Ok(titled(word_of(word), text)),
+        _ => Ok(None),
+    }
+}
+
 /// What a statement of these tokens and this text says, None where it has none of the language's shapes.
+#[tactic(auto, unfolding(crate::specs::Shapes::shape))]
 pub fn shape(
     alloc: Global,
     tokens: &[Token],
@@ -22,5 +194,14 @@ pub fn shape(
 ) -> Result<Option<Labelled>, AllocError>
     ensures { IfOk result (λ s. s ≡ shapes.shape tokens.now text) }
 {
-    Err(AllocError)
+    if let [Token::Word(word), Token::Close, rest @ ..] = tokens {
+        let Some(label) = name_of(word) else {
+            return Ok(None);
+        };
+        return Ok(body(alloc, rest, text)?.map(|body| Labelled {
+            label: Some(label),
+            body,
+        }));
+    }
+    Ok(body(alloc, tokens, text)?.map(|body| Labelled { label: None, body }))
 }

@@ -1,0 +1,9 @@
+use Rattle.std.proofs.Common.{◌≡◌, map, drop}
+use Rattle.apt_shapes.specs.Settings.{expressions}
+use Rattle.apt_shapes.proofs.Lists.{with_front}
+use Rattle.apt_shapes.proofs.settings.expressions.Given as goal
+
+abbrev pub invariant-arguments : goal.invariant-arguments
+invariant-arguments l = record {
+  read : with_front l.items.items (expressions (map (λ a. a.now) (drop l.tokens-index l.args))) ≡ expressions (map (λ a. a.now) l.args);
+}

@@ -1,0 +1,100 @@
+//! The arguments of a statement.
+
+ghost use Rattle.std.specs.Prelude.{◌≡◌, map, IfOk};
+ghost use Rattle.apt_words.specs.Options.{only_if};
+ghost use Rattle.apt_words.specs.Symbols.{is_name};
+ghost use Rattle.apt_shapes.specs.Arguments as arguments;
+
+use apt_lexis::Token;
+use apt_words::{Pick, Stop, Symbol, Word, is_vocabulary, word_of};
+use std::alloc::{AllocError, Global};
+
+fn is_comma(token: &Token) -> bool
+    ensures { result ≡ arguments.is_comma token.now }
+{
+    matches!(token, Token::Comma)
+}
+
+/// The parts of some tokens between their commas.
+pub(crate) fn arguments<'a>(
+    alloc: Global,
+    tokens: &'a [Token],
+) -> Result<Vec<&'a [Token]>, AllocError>
+    ensures { IfOk result (λ v. map (λ a. a.now) v.items ≡ arguments.arguments tokens.now) }
+{
+    tokens.split(|token| is_comma(token)).collect(alloc)
+}
+
+/// A word that is no word of the language.
+pub(crate) fn name_of(word: &Symbol) -> Option<Symbol>
+    ensures { result ≡ only_if (is_name word.now) word.now }
+{
+    if is_vocabulary(word) {
+        None
+    } else {
+        Some(word.copied())
+    }
+}
+
+pub(crate) fn name(tokens: &[Token]) -> Option<Symbol>
+    ensures { result ≡ arguments.name tokens.now }
+{
+    match tokens {
+        [Token::Word(word)] => name_of(word),
+        _ => None,
+    }
+}
+
+/// The word of the language that an argument is.
+pub(crate) fn vocabulary(tokens: &[Token]) -> Option<Word>
+    ensures { result ≡ arguments.word tokens.now }
+{
+    match tokens {
+        [Token::Word(word)] => word_of(word),
+        _ => None,
+    }
+}
+
+/// Whether an argument is this word of the language.
+pub(crate) fn is_word(word: Word, tokens: &[Token]) -> bool
+    ensures { result ≡ arguments.is_word word tokens.now }
+{
+    match tokens {
+        [Token::Word(said)] => word.spelling() == said.as_str(),
+        _ => false,
+    }
+}
+
+pub(crate) fn pick(tokens: &[Token]) -> Option<Pick>
+    ensures { result ≡ arguments.pick tokens.now }
+{
+    match vocabulary(tokens) {
+        Some(Word::Xlarge) => Some(Pick::XLarge),
+        Some(Word::Xsmall) => Some(Pick::XSmall),
+        Some(Word::Ylarge) => Some(Pick::YLarge),
+        Some(Word::Ysmall) => Some(Pick::YSmall),
+        _ => None,
+    }
+}
+
+/// LEFT is true, RIGHT false.
+pub(crate) fn is_left(tokens: &[Token]) -> Option<bool>
+    ensures { result ≡ arguments.is_left tokens.now }
+{
+    match vocabulary(tokens) {
+        Some(Word::Left) => Some(true),
+        Some(Word::Right) => Some(false),
+        _ => None,
+    }
+}
+
+pub(crate) fn stop(tokens: &[Token]) -> Option<Stop>
+    ensures { result ≡ arguments.stop tokens.now }
+{
+    match vocabulary(tokens) {
+        Some(Word::To) => Some(Stop::To),
+        Some(Word::On) => Some(Stop::On),
+        Some(Word::Past) => Some(Stop::Past),
+        _ => None,
+    }
+}

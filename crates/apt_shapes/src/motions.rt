@@ -1,0 +1,169 @@
+//! The shapes of motions: FROM, GOTO, GODLTA, GO and contours.
+
+ghost use Rattle.std.specs.Prelude.{◌≡◌, map, IfOk};
+ghost use Rattle.apt_shapes.specs.Motions as motions;
+
+use crate::arguments::{arguments, is_word, name, stop};
+use apt_expr::expression;
+use apt_lexis::Token;
+use apt_words::{Body, Go, Side, Stop, Symbol, Word, word_of};
+use std::alloc::{AllocError, Global};
+
+pub(crate) fn from(alloc: Global, args: &[&[Token]]) -> Result<Option<Body>, AllocError>
+    ensures { IfOk result (λ b. b ≡ motions.from (map (λ a. a.now) args.now)) }
+{
+    match args {
+        [p] => Ok(name(p).map(Body::FromPoint)),
+        [x, y] => {
+            let (Some(x), Some(y)) = (expression(alloc, x)?, expression(alloc, y)?) else {
+                return Ok(None);
+            };
+            Ok(Some(Body::FromXy(x, y, None)))
+        }
+        [x, y, z] => {
+            let (Some(x), Some(y)) = (expression(alloc, x)?, expression(alloc, y)?) else {
+                return Ok(None);
+            };
+            Ok(expression(alloc, z)?.map(|z| Body::FromXy(x, y, Some(z))))
+        }
+        _ => Ok(None),
+    }
+}
+
+pub(crate) fn goto(alloc: Global, args: &[&[Token]]) -> Result<Option<Body>, AllocError>
+    ensures { IfOk result (λ b. b ≡ motions.goto (map (λ a. a.now) args.now)) }
+{
+    match args {
+        [p] => Ok(name(p).map(Body::GotoPoint)),
+        [x, y] => {
+            let (Some(x), Some(y)) = (expression(alloc, x)?, expression(alloc, y)?) else {
+                return Ok(None);
+            };
+            Ok(Some(Body::GotoXy(x, y, None)))
+        }
+        [x, y, z] => {
+            let (Some(x), Some(y)) = (expression(alloc, x)?, expression(alloc, y)?) else {
+                return Ok(None);
+            };
+            Ok(expression(alloc, z)?.map(|z| Body::GotoXy(x, y, Some(z))))
+        }
+        _ => Ok(None),
+    }
+}
+
+pub(crate) fn godlta(alloc: Global, args: &[&[Token]]) -> Result<Option<Body>, AllocError>
+    ensures { IfOk result (λ b. b ≡ motions.godlta (map (λ a. a.now) args.now)) }
+{
+    let [x, y, z] = args else {
+        return Ok(None);
+    };
+    let (Some(x), Some(y)) = (expression(alloc, x)?, expression(alloc, y)?) else {
+        return Ok(None);
+    };
+    Ok(expression(alloc, z)?.map(|z| Body::Godlta(x, y, z)))
+}
+
+/// A surface with its modifier, TO where it is left out.
+fn surface(args: &[&[Token]]) -> Option<(Stop, Symbol)>
+    ensures { result ≡ motions.surface (map (λ a. a.now) args.now) }
+{
+    match args {
+        [s] => Some((Stop::To, name(s)?)),
+        [q, s] => Some((stop(q)?, name(s)?)),
+        _ => None,
+    }
+}
+
+fn start_one(args: &[&[Token]]) -> Option<Body>
+    ensures { result ≡ motions.start_one (map (λ a. a.now) args.now) }
+{
+    let (stop, drive) = surface(args)?;
+    Some(Body::GoStart(stop, drive, None))
+}
+
+fn start_two(first: &[&[Token]], second: &[&[Token]]) -> Option<Body>
+    ensures { result ≡ motions.start_two (map (λ a. a.now) first.now) (map (λ a. a.now) second.now) }
+{
+    let (stop, drive) = surface(first)?;
+    Some(Body::GoStart(stop, drive, Some(surface(second)?)))
+}
+
+pub(crate) fn start(args: &[&[Token]]) -> Option<Body>
+    ensures { result ≡ motions.start (map (λ a. a.now) args.now) }
+{
+    match args {
+        [a] => start_one(&[a]),
+        [a, b] => start_one(&[a, b]).or_else(|| start_two(&[a], &[b])),
+        [a, b, c] => start_two(&[a, b], &[c]).or_else(|| start_two(&[a], &[b, c])),
+        [a, b, c, d] => start_two(&[a, b], &[c, d]),
+        _ => None,
+    }
+}
+
+pub(crate) fn side_of(word: Option<Word>) -> Option<Side>
+    ensures { result ≡ motions.side_of word }
+{
+    match word {
+        Some(Word::Tllft) => Some(Side::Left),
+        Some(Word::Tlrgt) => Some(Side::Right),
+        Some(Word::Tlon) => Some(Side::On),
+        _ => None,
+    }
+}
+
+fn turn_of(word: Option<Word>) -> Option<Go>
+    ensures { result ≡ motions.turn_of word }
+{
+    match word {
+        Some(Word::Golft) => Some(Go::Left),
+        Some(Word::Gorgt) => Some(Go::Right),
+        Some(Word::Gofwd) => Some(Go::Forward),
+        Some(Word::Goback) => Some(Go::Back),
+        _ => None,
+    }
+}
+
+/// TO, ON, PAST or TANTO.
+fn check_stop(tokens: &[Token]) -> Option<Stop>
+    ensures { result ≡ motions.check_stop tokens.now }
+{
+    match stop(tokens) {
+        Some(stop) => Some(stop),
+        None if is_word(Word::Tanto, tokens) => Some(Stop::Tanto),
+        None => None,
+    }
+}
+
+/// A contour: the drive surface, and the check surface with its modifier, TO where it is left out.
+pub(crate) fn contour(side: Option<Side>, turn: Go, args: &[&[Token]]) -> Option<Body>
+    ensures { result ≡ motions.contour side turn (map (λ a. a.now) args.now) }
+{
+    match args {
+        [drive, check] => Some(Body::Contour(side, turn, name(drive)?, Stop::To, name(check)?)),
+        [drive, q, check] => Some(Body::Contour(
+            side,
+            turn,
+            name(drive)?,
+            check_stop(q)?,
+            name(check)?,
+        )),
+        _ => None,
+    }
+}
+
+/// A contour behind a tool word and a comma.
+pub(crate) fn turned(
+    alloc: Global,
+    side: Option<Side>,
+    tokens: &[Token],
+) -> Result<Option<Body>, AllocError>
+    ensures { IfOk result (λ b. b ≡ motions.turned side tokens.now) }
+{
+    let [Token::Word(word), Token::Slash, rest @ ..] = tokens else {
+        return Ok(None);
+    };
+    let Some(turn) = turn_of(word_of(word)) else {
+        return Ok(None);
+    };
+    Ok(contour(side, turn, &arguments(alloc, rest)?))
+}

@@ -1,0 +1,119 @@
+//! The shapes of settings: texts, units, the cutter, tolerances, feed, spindle, coolant and tools.
+
+ghost use Rattle.std.specs.Prelude.{◌≡◌, map, IfOk};
+ghost use Rattle.apt_shapes.specs.Settings as settings;
+
+use crate::arguments::{is_word, vocabulary};
+use apt_expr::expression;
+use apt_lexis::Token;
+use apt_words::{Body, Cool, Expr, Exprs, Text, Turn, Units, Word};
+use std::alloc::{AllocError, Global};
+
+/// PARTNO or REMARK with its text.
+pub(crate) fn titled(word: Option<Word>, text: Text) -> Option<Body>
+    ensures { result ≡ settings.titled word text }
+{
+    match word {
+        Some(Word::Partno) => Some(Body::Partno(text)),
+        Some(Word::Remark) => Some(Body::Remark(text)),
+        _ => None,
+    }
+}
+
+/// The one argument of a statement.
+pub(crate) fn one(alloc: Global, args: &[&[Token]]) -> Result<Option<Expr>, AllocError>
+    ensures { IfOk result (λ e. e ≡ settings.one (map (λ a. a.now) args.now)) }
+{
+    match args {
+        [e] => expression(alloc, e),
+        _ => Ok(None),
+    }
+}
+
+fn expressions(alloc: Global, args: &[&[Token]]) -> Result<Option<Exprs>, AllocError>
+    ensures { IfOk result (λ r. r ≡ settings.expressions (map (λ a. a.now) args.now)) }
+{
+    let mut items = Vec::new(alloc);
+    'arguments: for tokens in args {
+        let Some(e) = expression(alloc, tokens)? else {
+            return Ok(None);
+        };
+        items.push(e)?;
+    }
+    Ok(Some(Exprs { items }))
+}
+
+pub(crate) fn machin(alloc: Global, args: &[&[Token]]) -> Result<Option<Body>, AllocError>
+    ensures { IfOk result (λ b. b ≡ settings.machin (map (λ a. a.now) args.now)) }
+{
+    Ok(expressions(alloc, args)?.map(Body::Machin))
+}
+
+fn units_of(word: Option<Word>) -> Option<Units>
+    ensures { result ≡ settings.units_of word }
+{
+    match word {
+        Some(Word::Inches) => Some(Units::Inch),
+        Some(Word::Mm) => Some(Units::Mm),
+        _ => None,
+    }
+}
+
+pub(crate) fn units_in(args: &[&[Token]]) -> Option<Body>
+    ensures { result ≡ settings.units_in (map (λ a. a.now) args.now) }
+{
+    match args {
+        [a] => units_of(vocabulary(a)).map(Body::Units),
+        _ => None,
+    }
+}
+
+fn spindle_turn(word: Option<Word>) -> Option<Turn>
+    ensures { result ≡ settings.spindle_turn word }
+{
+    match word {
+        Some(Word::Clw) => Some(Turn::Cw),
+        Some(Word::Cclw) => Some(Turn::Ccw),
+        _ => None,
+    }
+}
+
+fn spindl_on(alloc: Global, e: &[Token], turn: Turn) -> Result<Option<Body>, AllocError>
+    ensures { IfOk result (λ b. b ≡ settings.spindl_on e.now turn) }
+{
+    Ok(expression(alloc, e)?.map(|e| Body::Spindl(e, turn)))
+}
+
+pub(crate) fn spindl(alloc: Global, args: &[&[Token]]) -> Result<Option<Body>, AllocError>
+    ensures { IfOk result (λ b. b ≡ settings.spindl (map (λ a. a.now) args.now)) }
+{
+    match args {
+        [a] if is_word(Word::Off, a) => Ok(Some(Body::SpindlOff)),
+        [a] => spindl_on(alloc, a, Turn::Cw),
+        [a, b] => match spindle_turn(vocabulary(b)) {
+            Some(turn) => spindl_on(alloc, a, turn),
+            None => Ok(None),
+        },
+        _ => Ok(None),
+    }
+}
+
+fn cool_of(word: Option<Word>) -> Option<Cool>
+    ensures { result ≡ settings.cool_of word }
+{
+    match word {
+        Some(Word::Mist) => Some(Cool::Mist),
+        Some(Word::Flood) => Some(Cool::Flood),
+        Some(Word::Off) => Some(Cool::Off),
+        _ => None,
+    }
+}
+
+pub(crate) fn coolnt(args: &[&[Token]]) -> Option<Body>
+    ensures { result ≡ settings.coolnt (map (λ a. a.now) args.now) }
+{
+    match args {
+        [a] => cool_of(vocabulary(a)).map(Body::Coolnt),
+        _ => None,
+    }
+}
