@@ -1,3 +1,5 @@
 pub mod Deeds
+pub mod Groups
 pub mod Straight
+pub mod Laws
 pub mod Steps

@@ -1,7 +1,10 @@
 //! The steps of a part program.
 #![tactic(auto)]
 
+mod arguments;
+mod commands;
 mod deeds;
+mod definitions;
 #[cfg(test)]
 mod tests;
 mod trace;

@@ -1,10 +1,16 @@
 //! The statements of a program, executed in order.
 
-ghost use Rattle.std.specs.Prelude.{IfOk};
+ghost use Rattle.std.specs.Prelude.{◌≡◌, ◌≤◌, [], IfOk};
 ghost use Rattle.apt_unroll.specs.Steps.{AreSteps};
+ghost use Rattle.apt_unroll.specs.Straight as straight;
 
-use apt_words::{Program, Refusal, Step};
+use crate::deeds::{bind_behind, deed_of};
+use apt_scalar::{Env, Frame};
+use apt_words::{Body, Case, Deed, Program, Refusal, Step};
 use std::alloc::{AllocError, Global};
+
+/// The most steps that a program has.
+const MOST_STEPS: u32 = 200_000;
 
 /// The steps of a program before the first that is refused, and that refusal.
 #[derive(Debug, Drop)]
@@ -17,5 +23,65 @@ pub struct Unrolled {
 pub fn unroll(alloc: Global, p: &Program) -> Result<Unrolled, AllocError>
     ensures { IfOk result (λ u. AreSteps p.now.stmts.items u) }
 {
-    Err(AllocError)
+    let frame = Frame {
+        bound: Vec::new(alloc),
+    };
+    let mut env = Env::new(alloc);
+    let mut steps = Vec::new(alloc);
+    let mut ended = false;
+    let mut step = 1;
+    'statements: for stmt in &p.stmts {
+        match deed_at(step, ended, &env, &frame, &stmt.body)? {
+            Err(case) => {
+                let line = stmt.line;
+                let fault = Some(Refusal { line, step, case });
+                return Ok(Unrolled { steps, fault });
+            }
+            Ok(deed) => {
+                ended = is_ended(ended, &deed);
+                bind_behind(&mut env, &deed)?;
+                let line = stmt.line;
+                steps.push(Step { line, step, deed })?;
+                step += 1;
+            }
+        }
+    }
+    Ok(Unrolled { steps, fault: None })
+}
+
+/// What a step does, or its refusal.
+fn deed_at(
+    step: u32,
+    ended: bool,
+    env: &Env,
+    frame: &Frame,
+    body: &Body,
+) -> Result<Result<Deed, Case>, AllocError>
+    requires { frame.now ≡ [] }
+    ensures deed { IfOk result (λ deed. deed ≡ straight.deed_at step ended env.now body.now) }
+    ensures early { IfOk result (λ deed. IfOk deed (λ _. step ≤ straight.most_steps)) }
+{
+    if step > MOST_STEPS {
+        return Ok(Err(Case::Budget));
+    }
+    if ended && !is_fini(body) {
+        return Ok(Err(Case::AfterEnd));
+    }
+    deed_of(env, frame, body)
+}
+
+fn is_fini(body: &Body) -> bool
+    ensures { result ≡ straight.is_fini body.now }
+{
+    matches!(body, Body::Fini)
+}
+
+/// Whether the program has ended behind a step.
+fn is_ended(before: bool, deed: &Deed) -> bool
+    ensures { result ≡ straight.is_ended before deed.now }
+{
+    match deed {
+        Deed::EndWord => true,
+        _ => before,
+    }
 }
