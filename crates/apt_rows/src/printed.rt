@@ -74,7 +74,7 @@ fn a_line_that_fails_to_be_printed_is_a_write_fault(rt: HostRuntime) -> Result<(
     let mut shelf = shelf_with(alloc, FIRST.as_bytes(), FailList::none(alloc))?;
     let (status, out) = printed(&rt, &mut shelf, "compile part machine cl tape", fail)?;
     assert!(rt; matches!(status, Status::WriteFault));
-    assert_eq!(rt; out.bytes(), b"DONE 0 RECORDS 3");
+    assert_eq!(rt; out.bytes(), b"DONE 0 RECORDS 3".as_slice());
     assert_eq!(rt; shelf.file("tape").map(|tape| tape.len()), Some(70));
     Ok(())
 }
