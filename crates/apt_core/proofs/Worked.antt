@@ -1,6 +1,7 @@
 -- Small parts, which the checker reads and runs.
 use Rattle.std.specs.Prelude.{◌≡◌, pos, [], ◌∷◌, Some, None, Ok, Err, codes}
 use Rattle.std.proofs.Common.{refl}
+use Rattle.apt_words.specs.Vocabulary.{word_of}
 use Rattle.apt_words.specs.declared.Case.TheVariants as cases
 use Rattle.apt_words.specs.declared.Units.TheVariants.{Inch}
 use Rattle.apt_control.specs.declared.Act.TheVariants as acts
@@ -11,6 +12,7 @@ five_statements : made_of (codes "PARTNO FIRST\nFEDRAT/10\nFROM/0,0,0\nGOTO/1,2,
 five_statements = refl
 
 no_length : made_of (codes "PARTNO A\nL1=LINE/1,2,1,2\nFEDRAT/10\nFROM/0,0,0\nFINI\n") ≡ Some (Err (record { line = 2; step = 2; case = cases.Degenerate }))
+unfolding word_of
 no_length = refl
 
 no_feed_text : made_of (codes "PARTNO FIRST\nFEDRAT/.5\nFROM/0,0,0\nFINI\n") ≡ None

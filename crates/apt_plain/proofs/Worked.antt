@@ -2,6 +2,7 @@
 use Rattle.std.specs.Prelude.{◌≡◌, ℕ, pos, negsuc, List, [], ◌∷◌, ◌++◌, ℤ, Option, Some, None, Result, Ok, Err, codes}
 use Rattle.std.proofs.Common.{refl, option_map}
 use Rattle.apt_num.specs.Root.{root}
+use Rattle.apt_words.specs.Vocabulary.{word_of}
 use Rattle.apt_words.specs.declared.Case.TheVariants as cases
 use Rattle.apt_words.specs.declared.Refusal.{Refusal}
 use Rattle.apt_words.specs.declared.Units.TheVariants.{Inch}
@@ -28,20 +29,21 @@ at x y = acts.Cut x y (pos 50000) (pos 100)
 
 plate : acts_for (plate_head ++ codes "GORGT/L1,PAST,L2\nGOLFT/L2,PAST,L3\nGOLFT/L3,PAST,L4\nGOLFT/L4,PAST,L1\nFINI\n")
     ≡ Some (Ok (acts.Units Inch ∷ at (negsuc 24999) (negsuc 24999) ∷ at (pos 525000) (negsuc 24999) ∷ at (pos 525000) (pos 525000) ∷ at (negsuc 24999) (pos 525000) ∷ at (negsuc 24999) (negsuc 24999) ∷ acts.End ∷ []))
-unfolding root
+unfolding root word_of
 plate = refl
 
 -- the other turn puts the track on the other side of the plate's edge
 other_side : acts_for (plate_head ++ codes "GOLFT/L1,PAST,L2\nFINI\n") ≡ Some (Err (refused 11 cases.OffDrive))
-unfolding root
+unfolding root word_of
 other_side = refl
 
 -- the start stands on the stop
 on_the_stop : acts_for (plate_head ++ codes "GORGT/L1,TO,L4\nFINI\n") ≡ Some (Err (refused 11 cases.Behind))
-unfolding root
+unfolding root word_of
 on_the_stop = refl
 
 no_side : program (codes "PARTNO A\nL1=LINE/0,0,5,0\nL2=LINE/5,0,5,5\nFEDRAT/10\nFROM/-1,-1,.5\nGO/TO,L1,TO,L2\nGOLFT/L1,PAST,L2\nFINI\n") ≡ None
+unfolding word_of
 no_side = refl
 
 first_run : acts_for (codes "PARTNO FIRST\nFEDRAT/10\nFROM/0,0,0\nGOTO/1,2,3\nFINI\n")
