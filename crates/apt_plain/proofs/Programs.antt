@@ -4,7 +4,8 @@ use Rattle.std.specs.Prelude.{nat_le}
 use Rattle.apt_plain.specs.declared.statement.Statement.{Statement}
 use Rattle.apt_plain.specs.declared.statement.Phase.{Phase}
 use Rattle.apt_plain.specs.declared.statement.Phase.TheVariants as phases
-use Rattle.apt_plain.specs.Plain.{◌>>=◌, only_if, split, line_feed}
+use Rattle.apt_words.specs.Options.{◌>>=◌, only_if}
+use Rattle.apt_plain.specs.Plain.{split, line_feed}
 use Rattle.apt_plain.specs.Statements.{statement, next, is_closed, program_of, program, most_lines, IsStatement, AreStatements}
 
 -- the statements so far before those that follow

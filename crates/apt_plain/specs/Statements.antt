@@ -14,7 +14,8 @@ use Rattle.apt_plain.specs.declared.statement.Statement.{Statement}
 use Rattle.apt_plain.specs.declared.statement.Statement.TheVariants as statements
 use Rattle.apt_plain.specs.declared.statement.Phase.{Phase}
 use Rattle.apt_plain.specs.declared.statement.Phase.TheVariants as phases
-use Rattle.apt_plain.specs.Plain.{◌>>=◌, only_if, split, behind, decimal, point, comma, line_feed, coordinate}
+use Rattle.apt_words.specs.Options.{◌>>=◌, only_if}
+use Rattle.apt_plain.specs.Plain.{split, behind, decimal, point, comma, line_feed, coordinate}
 
 -- ---- the parts of statements
 
