@@ -1,0 +1,24 @@
+-- The figures that names stand for.
+use Rattle.std.specs.Prelude.{ℕ, nat_eq, List, Option, Some, None, Result, Ok, Err}
+use Rattle.std.specs.Cmp.Lexicographic.{pointwise}
+use Rattle.std.specs.Map.{lookup}
+use Rattle.apt_words.specs.declared.Case.{Case}
+use Rattle.apt_words.specs.declared.Case.TheVariants as cases
+use Rattle.apt_plane.specs.declared.figures.Surface.{Surface}
+use Rattle.apt_defs.specs.declared.figure.Figure.{Figure}
+use Rattle.apt_defs.specs.declared.figure.Figure.TheVariants as figures
+
+-- names with their latest figures, in the order in which they were first defined
+abbrev pub Table : Type 0
+Table = List (List ℕ × Figure)
+
+abbrev pub figure_named : Table → List ℕ → Option Figure
+figure_named table name = lookup (pointwise nat_eq name) table
+
+abbrev pub defined : Option Figure → Result Figure Case
+defined None = Err cases.Undefined
+defined (Some f) = Ok f
+
+abbrev pub as_surface : Figure → Result Surface Case
+as_surface (figures.Shape s) = Ok s
+as_surface _ = Err cases.WrongKind

@@ -1,0 +1,6 @@
+//! The figures that names stand for.
+#![tactic(auto)]
+
+mod figure;
+
+pub use figure::Figure;

@@ -1,0 +1,4 @@
+pub mod Runs
+pub mod Deeds
+pub mod Motions
+pub mod Answers

@@ -1,0 +1,2 @@
+//! What the steps of a part program do.
+#![tactic(auto)]
