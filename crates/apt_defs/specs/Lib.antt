@@ -1,2 +1,3 @@
 pub mod Figures
 pub mod Definitions
+pub mod Answers
