@@ -1,5 +1,5 @@
 -- What statements do, by their groups.
-use Rattle.std.proofs.Common.{◌≡◌, ℕ, ℤ, List, Option, Some, None, Result, Ok, Err, refl}
+use Rattle.std.proofs.Common.{◌≡◌, ℕ, ℤ, List, Option, Result, Ok, Err, refl}
 use Rattle.apt_words.specs.Chains.{◌>>=◌}
 use Rattle.apt_words.specs.Trees.{Tree}
 use Rattle.apt_words.specs.declared.Case.{Case}
