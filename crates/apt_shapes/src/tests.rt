@@ -5,6 +5,56 @@ use apt_words::{Symbol, Text};
 use std::alloc::{AllocError, Global};
 use std::test::Fail;
 
+/// Statements and what they say.
+const STATEMENTS: [(&str, &str); 28] = [
+    ("GOTO / P1", "GotoPoint(P1)"),
+    ("FROM / P1", "FromPoint(P1)"),
+    ("GO / L1", "GoStart(To, L1, None)"),
+    ("GO / PAST , L1", "GoStart(Past, L1, None)"),
+    ("GO / L1 , ON , L2", "GoStart(To, L1, Some((On, L2)))"),
+    (
+        "GO / ON , L1 , PAST , L2",
+        "GoStart(On, L1, Some((Past, L2)))",
+    ),
+    ("GOFWD / L1 , C1", "Contour(None, Forward, L1, To, C1)"),
+    (
+        "GOBACK / L1 , TANTO , C1",
+        "Contour(None, Back, L1, Tanto, C1)",
+    ),
+    (
+        "TLRGT , GORGT / L1 , PAST , L2",
+        "Contour(Some(Right), Right, L1, Past, L2)",
+    ),
+    ("TLLFT", "Tool(Left)"),
+    ("TERMAC", "Termac"),
+    ("L = LINE / P , Q", "LinePoints(L, P, Q)"),
+    ("L = LINE / P , PARLEL , K", "LinePar(L, P, K)"),
+    ("L = LINE / P , PERPTO , K", "LinePerp(L, P, K)"),
+    ("L = LINE / P , LEFT , TANTO , C", "LineTan(L, P, true, C)"),
+    (
+        "L = LINE / LEFT , TANTO , C , RIGHT , TANTO , D",
+        "LineTwo(L, true, C, false, D)",
+    ),
+    ("P = POINT / INTOF , L , K", "PointLines(P, L, K)"),
+    (
+        "P = POINT / YSMALL , INTOF , L , C",
+        "PointPick(P, YSmall, L, C)",
+    ),
+    ("P = POINT / CENTER , C", "PointCenter(P, C)"),
+    ("C = CIRCLE / CENTER , P , Q", "CircleThrough(C, P, Q)"),
+    ("C = CIRCLE / CENTER , P , TANTO , L", "CircleTan(C, P, L)"),
+    ("UNITS / MM", "Units(Mm)"),
+    ("SPINDL / OFF", "SpindlOff"),
+    ("COOLNT / FLOOD", "Coolnt(Flood)"),
+    ("JUMPTO / LA", "Jumpto(LA)"),
+    ("M = MACRO", "Macro(M, Params { items: [] })"),
+    (
+        "M = MACRO / A , B",
+        "Macro(M, Params { items: [(A, None), (B, None)] })",
+    ),
+    ("CALL / M", "Call(M, Args { items: [] })"),
+];
+
 /// The token that is spelled so, a star where none is.
 fn token(text: &str) -> Token {
     match text {
@@ -34,55 +84,7 @@ fn printed(alloc: Global, statement: &str, text: Option<Text>) -> Result<String,
 
 #[test]
 fn statements(rt: HostRuntime) -> Result<(), Fail> {
-    let rows = [
-        ("GOTO / P1", "GotoPoint(P1)"),
-        ("FROM / P1", "FromPoint(P1)"),
-        ("GO / L1", "GoStart(To, L1, None)"),
-        ("GO / PAST , L1", "GoStart(Past, L1, None)"),
-        ("GO / L1 , ON , L2", "GoStart(To, L1, Some((On, L2)))"),
-        (
-            "GO / ON , L1 , PAST , L2",
-            "GoStart(On, L1, Some((Past, L2)))",
-        ),
-        ("GOFWD / L1 , C1", "Contour(None, Forward, L1, To, C1)"),
-        (
-            "GOBACK / L1 , TANTO , C1",
-            "Contour(None, Back, L1, Tanto, C1)",
-        ),
-        (
-            "TLRGT , GORGT / L1 , PAST , L2",
-            "Contour(Some(Right), Right, L1, Past, L2)",
-        ),
-        ("TLLFT", "Tool(Left)"),
-        ("TERMAC", "Termac"),
-        ("L = LINE / P , Q", "LinePoints(L, P, Q)"),
-        ("L = LINE / P , PARLEL , K", "LinePar(L, P, K)"),
-        ("L = LINE / P , PERPTO , K", "LinePerp(L, P, K)"),
-        ("L = LINE / P , LEFT , TANTO , C", "LineTan(L, P, true, C)"),
-        (
-            "L = LINE / LEFT , TANTO , C , RIGHT , TANTO , D",
-            "LineTwo(L, true, C, false, D)",
-        ),
-        ("P = POINT / INTOF , L , K", "PointLines(P, L, K)"),
-        (
-            "P = POINT / YSMALL , INTOF , L , C",
-            "PointPick(P, YSmall, L, C)",
-        ),
-        ("P = POINT / CENTER , C", "PointCenter(P, C)"),
-        ("C = CIRCLE / CENTER , P , Q", "CircleThrough(C, P, Q)"),
-        ("C = CIRCLE / CENTER , P , TANTO , L", "CircleTan(C, P, L)"),
-        ("UNITS / MM", "Units(Mm)"),
-        ("SPINDL / OFF", "SpindlOff"),
-        ("COOLNT / FLOOD", "Coolnt(Flood)"),
-        ("JUMPTO / LA", "Jumpto(LA)"),
-        ("M = MACRO", "Macro(M, Params { items: [] })"),
-        (
-            "M = MACRO / A , B",
-            "Macro(M, Params { items: [(A, None), (B, None)] })",
-        ),
-        ("CALL / M", "Call(M, Args { items: [] })"),
-    ];
-    for (statement, body) in rows {
+    for (statement, body) in STATEMENTS {
         let said = printed(rt.alloc(), statement, None)?;
         let wanted = format!(in rt.alloc(); "Some(Labelled {{ label: None, body: {body} }})")?;
         assert_eq!(rt; said.as_str(), wanted.as_str(), "{statement}");
