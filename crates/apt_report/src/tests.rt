@@ -1,8 +1,9 @@
 use crate::{FileName, PartCause, Status, Summary, line_of};
 use apt_words::Case;
+use std::test::Fail;
 
 #[test]
-fn lines_of_answers(rt: HostRuntime) {
+fn lines_of_answers(rt: HostRuntime) -> Result<(), Fail> {
     let alloc = rt.alloc();
     let name = FileName {
         text: String::from_str(alloc, "NONE")?,
@@ -36,6 +37,7 @@ fn lines_of_answers(rt: HostRuntime) {
         (Status::WriteFault, ""),
     ];
     for (answer, want) in &answers {
-        assert_eq!(rt; line_of(alloc, answer)?, want.as_bytes());
+        assert_eq!(rt; line_of(alloc, answer)?.as_slice(), want.as_bytes());
     }
+    Ok(())
 }
