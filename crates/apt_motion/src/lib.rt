@@ -1,2 +1,9 @@
 //! What the steps of a part program do.
 #![tactic(auto)]
+
+mod motion;
+mod places;
+mod run;
+mod settings;
+mod state;
+mod stopped;
