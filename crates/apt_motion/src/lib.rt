@@ -1,6 +1,7 @@
 //! What the steps of a part program do.
 #![tactic(auto)]
 
+mod contours;
 mod motion;
 mod places;
 mod run;

@@ -9,6 +9,7 @@ ghost use Rattle.apt_meaning.specs.States as states;
 ghost use Rattle.apt_motion.specs.Runs as runs;
 ghost use Rattle.apt_motion.specs.Steps as steps;
 
+use crate::motion::Ending;
 use crate::state::{Place, State};
 use apt_control::Act;
 use apt_defs::Table;
@@ -139,23 +140,28 @@ pub(crate) fn move_to(mut run: Run, to: Place) -> Result<Run, AllocError>
 
 /// Forward behind a contour.
 #[tactic(auto, using(crate::proofs::Ways::heading_dx, crate::proofs::Ways::heading_dy))]
-fn heading_along(sense: i8, drive: &Line) -> Dir
+fn heading_along(ending: Ending, drive: &Line) -> Dir
     requires drive { IsLine drive.now }
-    requires sense { IsSense sense }
-    ensures value { result ≡ near.heading sense drive.now.dir }
+    requires sense { IsSense ending.sense }
+    ensures value { result ≡ near.heading ending.sense drive.now.dir }
     ensures dx { unsigned_abs result.dx ≤ 10 ^ 8 }
     ensures dy { unsigned_abs result.dy ≤ 10 ^ 8 }
 {
-    heading(sense, drive.dir)
+    heading(ending.sense, drive.dir)
 }
 
 /// The cut to the end of a contour, and the state behind it.
-pub(crate) fn with_end(mut run: Run, to: Place, drive: &Line, sense: i8) -> Result<Run, AllocError>
+pub(crate) fn with_end(
+    mut run: Run,
+    to: Place,
+    drive: &Line,
+    ending: Ending,
+) -> Result<Run, AllocError>
     requires room { run.segments + 1 < 2 ^ 64 }
     requires to { IsGoodPosition to }
     requires drive { IsLine drive.now }
-    requires sense { IsSense sense }
-    ensures { IfOk result (λ after. after ≡ steps.with_end run to drive.now sense) }
+    requires sense { IsSense ending.sense }
+    ensures { IfOk result (λ after. after ≡ steps.with_end run to drive.now ending.sense) }
 {
     run.acts.push(Act::Cut {
         x: to.at.x,
@@ -163,7 +169,7 @@ pub(crate) fn with_end(mut run: Run, to: Place, drive: &Line, sense: i8) -> Resu
         z: to.z,
         feed: run.state.feed,
     })?;
-    run.state.forward = heading_along(sense, drive);
+    run.state.forward = heading_along(ending, drive);
     run.state.position = Some(to);
     run.segments += 1;
     Ok(run)
