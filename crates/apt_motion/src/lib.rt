@@ -7,4 +7,5 @@ mod places;
 mod run;
 mod settings;
 mod state;
+mod step;
 mod stopped;
