@@ -57,18 +57,15 @@ step_few run (deeds.FromXy x y z) after e =
     let b0 = bind_ok (unless_there run.state.position) _ after e in
     let b1 = bind_ok (place run x y z) _ after b0.2 in
     few_ok (run.segments + 1) _ (same run.segments) after b1.2
-
 step_few run (deeds.GotoXy x y z) after e =
     let b0 = bind_ok (place run x y z) _ after e in
     let b1 = bind_ok (needs_feed run) _ after b0.2 in
     few_ok (run.segments + 1) _ (same run.segments) after b1.2
-
 step_few run (deeds.Godlta x y z) after e =
     let b0 = bind_ok (position_of run.state) _ after e in
     let b1 = bind_ok (moved_by run b0.0 x y z) _ after b0.2 in
     let b2 = bind_ok (needs_feed run) _ after b1.2 in
     few_ok (run.segments + 1) _ (same run.segments) after b2.2
-
 step_few run (deeds.GoStart q a (Some other)) after e =
     let b0 = bind_ok (position_of run.state) _ after e in
     let b1 = bind_ok (defined (figure_named run.table a)) _ after b0.2 in
@@ -77,11 +74,9 @@ step_few run (deeds.GoStart q a (Some other)) after e =
     let b4 = bind_ok (line_of b2.0) _ after b3.2 in
     let b5 = bind_ok (start_up run.state q b3.0 other.0 b4.0) _ after b4.2 in
     few_ok (run.segments + 1) _ (same run.segments) after b5.2
-
 step_few run (deeds.Contour side go drive q check) after e =
     let m = bind_ok (motion (with_side run side) go drive q check) _ after e in
     few_ok (run.segments + 1) _ (contoured run side) after m.2
-
 step_few run deeds.Rapid after e = few_ok (run.segments + 1) _ (same run.segments) after e
 step_few run deeds.Halt after e = few_ok (run.segments + 1) _ (same run.segments) after e
 step_few run deeds.OptHalt after e = few_ok (run.segments + 1) _ (same run.segments) after e

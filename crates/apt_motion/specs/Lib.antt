@@ -5,3 +5,4 @@ pub mod Answers
 pub mod Good
 pub mod Endings
 pub mod Steps
+pub mod Ends

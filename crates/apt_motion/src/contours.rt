@@ -11,7 +11,7 @@ ghost use Rattle.apt_motion.specs.Steps.{Follows};
 
 use crate::motion;
 use crate::motion::Ending;
-use crate::run::{Run, move_to, with_end};
+use crate::running::{Run, move_to, with_end};
 use crate::settings::position_of;
 use crate::state::Place;
 use crate::stopped::Stopped;

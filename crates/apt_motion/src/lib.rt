@@ -4,8 +4,11 @@
 mod contours;
 mod motion;
 mod places;
-mod run;
+mod running;
+mod runs;
 mod settings;
 mod state;
 mod step;
 mod stopped;
+
+pub use runs::{Output, RunError, run};

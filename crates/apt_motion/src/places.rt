@@ -11,7 +11,7 @@ ghost use Rattle.apt_motion.specs.Good.{IsGoodFeed, IsScalarOrNone, IsGoodPositi
 ghost use Rattle.apt_motion.specs.Deeds as deeds;
 ghost use Rattle.apt_motion.specs.Steps as steps;
 
-use crate::run::Run;
+use crate::running::Run;
 use crate::state::Place;
 use apt_plane::Pt;
 use apt_scalar::grid_units;

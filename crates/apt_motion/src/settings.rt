@@ -12,7 +12,7 @@ ghost use Rattle.apt_motion.specs.Runs as runs;
 ghost use Rattle.apt_motion.specs.Steps.{Follows};
 
 use crate::places::{diameter, feed_in, moved_by, place, radius, tolerance};
-use crate::run::{Run, move_to};
+use crate::running::{Run, move_to};
 use crate::state::Place;
 use crate::stopped::Stopped;
 use apt_defs::{DefError, define_line, define_scalar};

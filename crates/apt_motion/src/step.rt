@@ -6,7 +6,7 @@ ghost use Rattle.apt_motion.specs.Good.{HasScalars};
 ghost use Rattle.apt_motion.specs.Steps.{Follows};
 
 use crate::contours::{contour, start};
-use crate::run::{Run, ended, finished, with_act, with_units};
+use crate::running::{Run, ended, finished, with_act, with_units};
 use crate::settings::{
     assign, cutter, fedrat, from, godlta, goto, intol, line, outtol, rapid, to_side,
 };
