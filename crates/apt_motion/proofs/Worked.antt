@@ -15,6 +15,8 @@ use Rattle.apt_control.specs.declared.Act.TheVariants as acts
 use Rattle.apt_unroll.specs.Deeds.{deed_of}
 use Rattle.apt_defs.specs.Definitions.{point, line_through}
 use Rattle.apt_parse.specs.Programs.{Fault, program_of}
+use Rattle.apt_motion.specs.Deeds.{up_to, place, moved_by, needs_feed, unless_there}
+use Rattle.apt_motion.specs.Motions.{line_named}
 use Rattle.apt_motion.specs.Answers.{Made, statements_make}
 
 abbrev of_statements : Result (List Stmt) Fault → Option (Result Made Refusal)
@@ -37,47 +39,47 @@ abbrev plate_acts : List Act
 plate_acts = acts.Units Inch ∷ at (negsuc 24999) (negsuc 24999) ∷ at (pos 525000) (negsuc 24999) ∷ at (pos 525000) (pos 525000) ∷ at (negsuc 24999) (pos 525000) ∷ at (negsuc 24999) (negsuc 24999) ∷ acts.End ∷ []
 
 square_plate : made_of (plate []) ≡ Some (Ok (plate_acts, 4))
-unfolding root word_of expression shape deed_of point line_through
+unfolding root word_of expression shape deed_of point line_through up_to place moved_by needs_feed unless_there line_named
 square_plate = refl
 
 -- a tolerance of one grid step is enough
 one_grid_step : made_of (plate (codes "OUTTOL/.00008\n")) ≡ Some (Ok (plate_acts, 4))
-unfolding root word_of expression shape deed_of point line_through
+unfolding root word_of expression shape deed_of point line_through up_to place moved_by needs_feed unless_there line_named
 one_grid_step = refl
 
 too_fine : made_of (plate (codes "OUTTOL/.00007\n")) ≡ refused 11 cases.TooFine
-unfolding root word_of expression shape deed_of point line_through
+unfolding root word_of expression shape deed_of point line_through up_to place moved_by needs_feed unless_there line_named
 too_fine = refl
 
 millimetres : made_of (codes "PARTNO\nUNITS/MM\nFROM/0,0\nRAPID\nGODLTA/1,2,-.5\nFEDRAT/.1\nGOTO/1,2\nEND\nFINI\n") ≡
     Some (Ok (acts.Units Mm ∷ acts.Rapid (pos 10000) (pos 20000) (negsuc 4999) ∷ acts.Cut (pos 10000) (pos 20000) (pos 0) (pos 1) ∷ acts.End ∷ [], 0))
-unfolding root word_of expression shape deed_of point line_through
+unfolding root word_of expression shape deed_of point line_through up_to place moved_by needs_feed unless_there line_named
 millimetres = refl
 
 behind_the_end : made_of (codes "PARTNO\nEND\nSTOP\nFINI\n") ≡ refused 3 cases.AfterEnd
-unfolding root word_of expression shape deed_of point line_through
+unfolding root word_of expression shape deed_of point line_through up_to place moved_by needs_feed unless_there line_named
 behind_the_end = refl
 
 no_feed : made_of (codes "PARTNO\nGOTO/1,2\nFINI\n") ≡ refused 2 cases.NoFeed
-unfolding root word_of expression shape deed_of point line_through
+unfolding root word_of expression shape deed_of point line_through up_to place moved_by needs_feed unless_there line_named
 no_feed = refl
 
 no_position : made_of (codes "PARTNO\nGODLTA/1,2,3\nFINI\n") ≡ refused 2 cases.NoFrom
-unfolding root word_of expression shape deed_of point line_through
+unfolding root word_of expression shape deed_of point line_through up_to place moved_by needs_feed unless_there line_named
 no_position = refl
 
 position_again : made_of (codes "PARTNO\nFROM/1,2\nFROM/1,2\nFINI\n") ≡ refused 3 cases.FromAgain
-unfolding root word_of expression shape deed_of point line_through
+unfolding root word_of expression shape deed_of point line_through up_to place moved_by needs_feed unless_there line_named
 position_again = refl
 
 great_feed : made_of (codes "PARTNO\nFEDRAT/999.95\nFINI\n") ≡ refused 2 cases.FeedTooLarge
-unfolding root word_of expression shape deed_of point line_through
+unfolding root word_of expression shape deed_of point line_through up_to place moved_by needs_feed unless_there line_named
 great_feed = refl
 
 another_kind : made_of (codes "PARTNO\nA=1\nB=A*2\nFEDRAT/B\nFROM/0,0\nGO/A,B\nFINI\n") ≡ refused 6 cases.WrongKind
-unfolding root word_of expression shape deed_of point line_through
+unfolding root word_of expression shape deed_of point line_through up_to place moved_by needs_feed unless_there line_named
 another_kind = refl
 
 rapid_contour : made_of (codes "PARTNO\nL1=LINE/0,0,1,0\nL2=LINE/1,0,1,1\nFEDRAT/1\nFROM/0,0\nRAPID\nGOFWD/L1,L2\nFINI\n") ≡ refused 7 cases.RapidContour
-unfolding root word_of expression shape deed_of point line_through
+unfolding root word_of expression shape deed_of point line_through up_to place moved_by needs_feed unless_there line_named
 rapid_contour = refl

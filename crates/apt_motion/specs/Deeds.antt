@@ -18,7 +18,7 @@ use Rattle.apt_motion.specs.Motions.{start, contour, with_side}
 -- ---- numbers of settings
 
 -- a length from 0 up to a limit, in grid units
-abbrev pub up_to : ℤ → ℤ → Result ℤ Case
+unfoldable pub up_to : ℤ → ℤ → Result ℤ Case
 up_to most g = if int_le (pos 0) g && int_le g most then Ok g else Err cases.OutOfRange
 
 -- a cutter's diameter is at most 1,000,000 grid units, and its radius is half of it, rounded up
@@ -50,24 +50,24 @@ abbrev pub height : Run → Option ℤ → Result ℤ Case
 height run None = Ok (pos 0)
 height run (Some z) = coordinate run.state.units z
 
-abbrev pub place : Run → ℤ → ℤ → Option ℤ → Result Position Case
+unfoldable pub place : Run → ℤ → ℤ → Option ℤ → Result Position Case
 place run x y z = coordinate run.state.units x >>= λ x. coordinate run.state.units y >>= λ y. height run z >>= λ z. Ok (record { at = point_at x y; z = z })
 
-abbrev pub unless_there : Option Position → Result Bool Case
+unfoldable pub unless_there : Option Position → Result Bool Case
 unless_there p = refuse_if (is_some p) cases.FromAgain
 
 abbrev pub from : Run → ℤ → ℤ → Option ℤ → Result Run Case
 from run x y z = unless_there run.state.position >>= λ _. place run x y z >>= λ p. Ok (with_state run (record run.state { position = Some p }))
 
 -- a move needs a feed, unless RAPID is pending
-abbrev pub needs_feed : Run → Result Bool Case
+unfoldable pub needs_feed : Run → Result Bool Case
 needs_feed run = refuse_if (not (has_feed run.state || run.state.rapid)) cases.NoFeed
 
 abbrev pub goto : Run → ℤ → ℤ → Option ℤ → Result Run Case
 goto run x y z = place run x y z >>= λ p. needs_feed run >>= λ _. Ok (move_to run p)
 
 -- the position so far, moved; only the new position has to be in range
-abbrev pub moved_by : Run → Position → ℤ → ℤ → ℤ → Result Position Case
+unfoldable pub moved_by : Run → Position → ℤ → ℤ → ℤ → Result Position Case
 moved_by run p x y z =
     in_reach (p.at.x +ℤ grid_units run.state.units x) >>= λ x. in_reach (p.at.y +ℤ grid_units run.state.units y) >>= λ y.
     in_reach (p.z +ℤ grid_units run.state.units z) >>= λ z. Ok (record { at = point_at x y; z = z })

@@ -27,7 +27,7 @@ abbrev pub line_of : Figure → Result Line Case
 line_of f = as_surface f >>= as_line
 
 -- the latest surface of a name: undefined comes before another kind
-abbrev pub line_named : Table → List ℕ → Result Line Case
+unfoldable pub line_named : Table → List ℕ → Result Line Case
 line_named table name = defined (figure_named table name) >>= line_of
 
 -- ---- GO on two surfaces: both names are there before either's kind is tried

@@ -1,2 +1,14 @@
 //! What the steps of a part program do.
 #![tactic(auto)]
+
+mod contours;
+mod motion;
+mod places;
+mod running;
+mod runs;
+mod settings;
+mod state;
+mod step;
+mod stopped;
+
+pub use runs::{Output, RunError, run};
