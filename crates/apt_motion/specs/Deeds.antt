@@ -13,7 +13,7 @@ use Rattle.apt_meaning.specs.States.{State, Position, position_of, has_feed, rad
 use Rattle.apt_defs.specs.declared.figure.Figure.TheVariants as figures
 use Rattle.apt_defs.specs.Definitions.{coordinate, in_reach, line_xy, point_at, table_with}
 use Rattle.apt_motion.specs.Runs.{Run, first_run, with_state, with_act, move_to, with_units, finished, ended}
-use Rattle.apt_motion.specs.Motions.{start, contour, with_side}
+use Rattle.apt_motion.specs.Motions.{Motion, start, motion, contour, with_side}
 
 -- ---- numbers of settings
 
@@ -125,3 +125,26 @@ run_from run (st ∷ sts) = or_refused st (step run st.deed) (λ after. run_from
 
 abbrev pub run_of : List Step → Result Run Refusal
 run_of sts = run_from first_run sts
+
+-- ---- the contours of steps
+
+abbrev pub or_none : {A : Type 0} → Result A Case → List A
+or_none (Err case) = []
+or_none (Ok x) = x ∷ []
+
+-- the contour of a deed, none where it is no contour or is refused
+abbrev pub motion_of : Run → Deed → List Motion
+motion_of run (deeds.Contour side go drive q check) = or_none (motion (with_side run side) go drive q check)
+motion_of run _ = []
+
+abbrev pub motions_after : Result Run Case → (Run → List Motion) → List Motion
+motions_after (Err case) more = []
+motions_after (Ok run) more = more run
+
+-- the contours of the steps from here on
+abbrev pub motions_from : Run → List Step → List Motion
+motions_from run [] = []
+motions_from run (st ∷ sts) = motion_of run st.deed ++ motions_after (step run st.deed) (λ after. motions_from after sts)
+
+abbrev pub motions_of : List Step → List Motion
+motions_of sts = motions_from first_run sts

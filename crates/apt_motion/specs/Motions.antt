@@ -69,3 +69,7 @@ contour run go drive q check = motion run go drive q check >>= λ m. Ok (with_co
 -- a motion's contour is legal, with its end as its one vertex
 abbrev pub IsLegalMotion : Motion → Type 0
 IsLegalMotion m = IsLegal m.contour.leg m.from.at (m.contour.end ∷ [])
+
+abbrev pub AreLegal : List Motion → Type 0
+AreLegal [] = Unit {0}
+AreLegal (m ∷ ms) = IsLegalMotion m × AreLegal ms

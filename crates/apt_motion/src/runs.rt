@@ -1,10 +1,13 @@
 //! The runs of programs.
 
-ghost use Rattle.std.specs.Prelude.{◌≡◌, None, Ok, Err, MatchResult};
+ghost use Rattle.std.specs.Prelude.{◌≡◌, false, None, Ok, Err, IfOk, MatchResult};
+ghost use Rattle.apt_post.specs.Post.{IsProgram};
+ghost use Rattle.apt_unroll.specs.Straight.{EndsOnce};
 ghost use Rattle.apt_motion.specs.Answers.{unless_fault};
-ghost use Rattle.apt_motion.specs.Deeds.{run_of};
-ghost use Rattle.apt_motion.specs.Good.{AreScalars};
+ghost use Rattle.apt_motion.specs.Deeds.{run_of, motions_of};
+ghost use Rattle.apt_unroll.specs.Numbers.{AreScalars};
 ghost use Rattle.apt_motion.specs.Ends.{Ends};
+ghost use Rattle.apt_motion.specs.Motions.{AreLegal};
 
 use crate::running::Run;
 use crate::step::step;
@@ -62,10 +65,13 @@ pub struct Output {
     pub segments: u64,
 }
 
-/// Does steps one after the other. `Refused` has the first step that can't be done, and its case.
+/// Does steps one after the other. `Refused` has the first step that can't be done, and its case. Steps that
+/// end once make acts that a control takes, and every contour among them is legal.
 pub fn run(alloc: Global, steps: &[Step]) -> Result<Output, RunError>
     requires scalars { AreScalars steps.now }
     ensures value { MatchResult result (λ o. unless_fault None (run_of steps.now) ≡ Ok (o.acts.items, o.segments)) (λ e. Ends (run_of steps.now) (Err e)) }
+    ensures program { EndsOnce false steps.now → IfOk result (λ o. IsProgram o.acts.items) }
+    ensures legal { IfOk result (λ _. AreLegal (motions_of steps.now)) }
 {
     let run = run_all(alloc, steps)?;
     Ok(Output {

@@ -1,6 +1,7 @@
 -- The program of a text, or its first fault.
 use Rattle.std.specs.Prelude.{◌≡◌, ℕ, not, Bool, true, false, List, [], ◌∷◌, ◌++◌, length, Option, Some, None, Result, Ok, Err, max}
 use Rattle.std.specs.List.{list_all, find}
+use Rattle.apt_words.specs.Endings.{is_fini}
 use Rattle.apt_words.specs.declared.body.Body.{Body}
 use Rattle.apt_words.specs.declared.body.Body.TheVariants as bodies
 use Rattle.apt_words.specs.declared.body.Stmt.{Stmt}
@@ -50,10 +51,6 @@ abbrev pub whole : List Stmt → Result (List Stmt) Fault
 whole sts = unless_open sts (open_loop sts)
 
 -- ---- statements in order
-
-abbrev pub is_fini : Body → Bool
-is_fini bodies.Fini = true
-is_fini _ = false
 
 -- the text ends before FINI
 abbrev pub without_fini : ℕ → Option Fault → Result (List Stmt) Fault

@@ -2,6 +2,7 @@
 
 ghost use Rattle.std.specs.Prelude.{◌≡◌, ◌≤◌, ◌-◌, None, max, IfOk};
 ghost use Rattle.std.specs.List.{list_all};
+ghost use Rattle.apt_words.specs.Endings.{EndsInFini};
 ghost use Rattle.apt_parse.specs.Reading as reading;
 ghost use Rattle.apt_parse.specs.Reading.{IsRead};
 ghost use Rattle.apt_parse.specs.Statements as statements;
@@ -20,13 +21,14 @@ use std::alloc::Global;
 ///
 /// `Bad` is the first fault in the order of reading, with its line.
 pub fn parse(alloc: Global, text: &[u8]) -> Result<Program, ParseError>
-    ensures { programs.IsParsed (programs.program_of text.now) result }
+    ensures program { programs.IsParsed (programs.program_of text.now) result }
+    ensures ends { IfOk result (λ p. EndsInFini p.stmts.items) }
 {
     let mut phrases = Phrases::new(text);
     let mut read = Read::new(alloc);
     'phrases: while let Some(phrase) = phrases.next(alloc)? {
         let st = statement(alloc, &read, phrase)?;
-        let is_last = is_fini(&st.body);
+        let is_last = st.body.is_fini();
         read.add(st)?;
         if is_last {
             return whole(read);
@@ -110,12 +112,6 @@ fn has_all(labels: &Names, body: &Body) -> bool
         Body::If(_, a, b, c) => labels.has(a) && labels.has(b) && labels.has(c),
         _ => true,
     }
-}
-
-fn is_fini(body: &Body) -> bool
-    ensures { result ≡ programs.is_fini body.now }
-{
-    matches!(body, Body::Fini)
 }
 
 /// The number of the last line before one, 1 where there is none.

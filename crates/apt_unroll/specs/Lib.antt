@@ -3,3 +3,4 @@ pub mod Groups
 pub mod Straight
 pub mod Laws
 pub mod Steps
+pub mod Numbers

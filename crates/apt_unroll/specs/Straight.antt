@@ -1,11 +1,11 @@
 -- The steps of a program whose statements are executed in order.
-use Rattle.std.specs.Prelude.{ℕ, ◌+◌, ◌&&◌, nat_lt, not, Bool, true, false, List, [], ◌∷◌, Option, Some, None, Result, Ok, Err, if◌then◌else◌}
+use Rattle.std.specs.Prelude.{◌≡◌, ℕ, ◌+◌, ◌&&◌, nat_lt, not, Bool, true, false, List, [], ◌∷◌, Option, Some, None, Result, Ok, Err, if◌then◌else◌}
 use Rattle.apt_words.specs.declared.Case.{Case}
 use Rattle.apt_words.specs.declared.Case.TheVariants as cases
 use Rattle.apt_words.specs.declared.Refusal.{Refusal}
 use Rattle.apt_words.specs.declared.body.Body.{Body}
-use Rattle.apt_words.specs.declared.body.Body.TheVariants as bodies
 use Rattle.apt_words.specs.declared.body.Stmt.{Stmt}
+use Rattle.apt_words.specs.Endings.{is_fini}
 use Rattle.apt_words.specs.declared.deed.Deed.{Deed}
 use Rattle.apt_words.specs.declared.deed.Deed.TheVariants as deeds
 use Rattle.apt_words.specs.declared.deed.Step.{Step}
@@ -15,10 +15,6 @@ use Rattle.apt_unroll.specs.Deeds.{deed_of, names_behind}
 -- a program has at most 200,000 steps
 abbrev pub most_steps : ℕ
 most_steps = 200000
-
-abbrev pub is_fini : Body → Bool
-is_fini bodies.Fini = true
-is_fini _ = false
 
 -- the program has ended behind a step
 abbrev pub is_ended : Bool → Deed → Bool
@@ -58,3 +54,11 @@ steps_from n ended names (st ∷ sts) =
 
 abbrev pub steps_of : List Stmt → Steps
 steps_of sts = steps_from 1 false [] sts
+
+-- ---- how steps end
+
+-- steps up to FINI, which stands last and nowhere else; behind END nothing but FINI stands
+abbrev pub EndsOnce : Bool → List Step → Type 0
+EndsOnce ended [] = ⊥
+EndsOnce ended (st ∷ []) = st.deed ≡ deeds.Fini
+EndsOnce ended (st ∷ next ∷ more) = (ended ≡ false) × ¬ (st.deed ≡ deeds.Fini) × EndsOnce (is_ended ended st.deed) (next ∷ more)

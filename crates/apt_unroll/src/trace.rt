@@ -1,8 +1,11 @@
 //! The statements of a program, executed in order.
 
-ghost use Rattle.std.specs.Prelude.{◌≡◌, ◌≤◌, [], IfOk};
+ghost use Rattle.std.specs.Prelude.{◌≡◌, ◌≤◌, [], false, None, IfOk};
+ghost use Rattle.apt_words.specs.Endings.{EndsInFini};
+ghost use Rattle.apt_unroll.specs.Numbers.{AreScalars};
 ghost use Rattle.apt_unroll.specs.Steps.{AreSteps};
 ghost use Rattle.apt_unroll.specs.Straight as straight;
+ghost use Rattle.apt_unroll.specs.Straight.{EndsOnce};
 
 use crate::deeds::{bind_behind, deed_of};
 use apt_scalar::{Env, Frame};
@@ -21,7 +24,9 @@ pub struct Unrolled {
 
 /// The steps of a program whose statements are executed in order.
 pub fn unroll(alloc: Global, p: &Program) -> Result<Unrolled, AllocError>
-    ensures { IfOk result (λ u. AreSteps p.now.stmts.items u) }
+    ensures steps { IfOk result (λ u. AreSteps p.now.stmts.items u) }
+    ensures scalars { IfOk result (λ u. AreScalars u.steps.items) }
+    ensures ends { EndsInFini p.now.stmts.items → IfOk result (λ u. u.fault ≡ None → EndsOnce false u.steps.items) }
 {
     let frame = Frame {
         bound: Vec::new(alloc),
@@ -64,16 +69,10 @@ fn deed_at(
     if step > MOST_STEPS {
         return Ok(Err(Case::Budget));
     }
-    if ended && !is_fini(body) {
+    if ended && !body.is_fini() {
         return Ok(Err(Case::AfterEnd));
     }
     deed_of(env, frame, body)
-}
-
-fn is_fini(body: &Body) -> bool
-    ensures { result ≡ straight.is_fini body.now }
-{
-    matches!(body, Body::Fini)
 }
 
 /// Whether the program has ended behind a step.

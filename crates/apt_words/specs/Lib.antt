@@ -6,3 +6,4 @@ pub mod Names
 pub mod Trees
 pub mod TreeCodes
 pub mod TreeViews
+pub mod Endings

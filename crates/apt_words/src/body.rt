@@ -1,4 +1,8 @@
 //! Statements of part programs.
+
+ghost use Rattle.std.specs.Prelude.{◌≡◌};
+ghost use Rattle.apt_words.specs.Endings as endings;
+
 use crate::{Cool, Expr, Go, Pick, Side, Stop, Symbol, Turn, Units};
 use std::marker::Model;
 
@@ -129,6 +133,15 @@ pub enum Body {
     Loopnd,
     Jumpto(Symbol),
     If(Expr, Symbol, Symbol, Symbol),
+}
+
+impl Body {
+    /// Whether the statement ends the program.
+    pub fn is_fini(&self) -> bool
+        ensures { result ≡ endings.is_fini self.now }
+    {
+        matches!(self, Body::Fini)
+    }
 }
 
 /// A statement, and the line on which it begins, from 1.
