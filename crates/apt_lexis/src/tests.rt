@@ -54,83 +54,85 @@ fn read_all(alloc: Global, text: &[u8]) -> Result<String, AllocError> {
     Ok(shown_all)
 }
 
+/// Texts, and their statements by their lines; a line with a fault ends them.
+const TEXTS: [(&[u8], &str); 24] = [
+    (b"", ""),
+    (b"\n \t\n$$ only a comment\n", ""),
+    // small letters, a last line without its line feed, a label
+    (
+        b"l1=line/0,-1.5,+2,(a*.5)\nfini",
+        "1: L1 = LINE / 0 , - 1500000 , + 2000000 , ( A * 500000 )\n2: FINI\n",
+    ),
+    (
+        b"la) goto/1.\r\nFINI\r\n",
+        "1: LA ) GOTO / 1000000\n2: FINI\n",
+    ),
+    (b"A\t=\t1\t$$ tabs", "1: A = 1000000\n"),
+    // statements on several lines, with comments among them
+    (
+        b"A = $ more\n$$ a comment\n\n  1 $$ end\nB",
+        "1: A = 1000000\n5: B\n",
+    ),
+    (b"A $", "1: A\n"),
+    (
+        b"$\n$ the first token makes the line\nA $\n+B\n",
+        "3: A + B\n",
+    ),
+    (b"$ A\nB $ C $ D\nE", "2: B E\n"),
+    // texts
+    (
+        b"PARTNO  a $ B  \nREMARK\n",
+        "1: PARTNO [ a $ B]\n2: REMARK []\n",
+    ),
+    (
+        b"remark$$ text\n la ) partno 1.2.3\nPARTNO$",
+        "1: REMARK [$$ text]\n2: LA ) PARTNO [1.2.3]\n3: PARTNO [$]\n",
+    ),
+    (b"LA $\n) $\nPARTNO x $\nB", "1: LA ) PARTNO [x $]\n4: B\n"),
+    // PARTNO as a label, behind two words, and a longer word
+    (
+        b"PARTNO) REMARK 1\nA REMARK 1\nPARTNOS\n",
+        "1: PARTNO [) REMARK 1]\n2: A REMARK 1000000\n3: BadWord\n",
+    ),
+    // bad tokens
+    (
+        b"A=1.2.3\nLONGNAME=1\nA#1.2.3\n1A\nA.5\n",
+        "1: BadNumber\n2: BadWord\n3: BadWord\n4: BadNumber\n5: A 500000\n",
+    ),
+    (b"A=# $\n=1.2.3\nB\n", "1: BadWord\n3: B\n"),
+    (
+        b".\n1.\n.1\n1..2\n",
+        "1: BadNumber\n2: 1000000\n3: 100000\n4: BadNumber\n",
+    ),
+    (
+        b"123456789012\n0000000000001\n000000000001\n",
+        "1: BadNumber\n2: BadNumber\n3: 1000000\n",
+    ),
+    (
+        b".1234567890123\n.123456789012\n",
+        "1: BadNumber\n2: 123457\n",
+    ),
+    (
+        b"1000000\n1000000.0000001\n1000000.000000000000\n",
+        "1: 1000000000000\n2: BadNumber\n3: 1000000000000\n",
+    ),
+    (
+        b".0000005\n.00000049\n.0000015\n999999.9999995\n",
+        "1: 1\n2: 0\n3: 2\n4: 1000000000000\n",
+    ),
+    // a carriage return at the end of the text, and other bytes that are no characters
+    (b"A\r\nB\r", "1: A\n2! BadByte\n"),
+    (b"A\r\r\n", "1! BadByte\n"),
+    (b"A\nB $$ \x7F\n", "1: A\n2! BadByte\n"),
+    (b"A $\n\xC3\xA9\n", "2! BadByte\n"),
+];
+
 #[test]
 fn texts_are_read(rt: HostRuntime) -> Result<(), Fail> {
     let alloc = rt.alloc();
-    let cases: [(&[u8], &str); 24] = [
-        (b"", ""),
-        (b"\n \t\n$$ only a comment\n", ""),
-        // small letters, a last line without its line feed, a label
-        (
-            b"l1=line/0,-1.5,+2,(a*.5)\nfini",
-            "1: L1 = LINE / 0 , - 1500000 , + 2000000 , ( A * 500000 )\n2: FINI\n",
-        ),
-        (
-            b"la) goto/1.\r\nFINI\r\n",
-            "1: LA ) GOTO / 1000000\n2: FINI\n",
-        ),
-        (b"A\t=\t1\t$$ tabs", "1: A = 1000000\n"),
-        // statements on several lines, with comments among them
-        (
-            b"A = $ more\n$$ a comment\n\n  1 $$ end\nB",
-            "1: A = 1000000\n5: B\n",
-        ),
-        (b"A $", "1: A\n"),
-        (
-            b"$\n$ the first token makes the line\nA $\n+B\n",
-            "3: A + B\n",
-        ),
-        (b"$ A\nB $ C $ D\nE", "2: B E\n"),
-        // texts
-        (
-            b"PARTNO  a $ B  \nREMARK\n",
-            "1: PARTNO [ a $ B]\n2: REMARK []\n",
-        ),
-        (
-            b"remark$$ text\n la ) partno 1.2.3\nPARTNO$",
-            "1: REMARK [$$ text]\n2: LA ) PARTNO [1.2.3]\n3: PARTNO [$]\n",
-        ),
-        (b"LA $\n) $\nPARTNO x $\nB", "1: LA ) PARTNO [x $]\n4: B\n"),
-        // PARTNO as a label, behind two words, and a longer word
-        (
-            b"PARTNO) REMARK 1\nA REMARK 1\nPARTNOS\n",
-            "1: PARTNO [) REMARK 1]\n2: A REMARK 1000000\n3: BadWord\n",
-        ),
-        // bad tokens
-        (
-            b"A=1.2.3\nLONGNAME=1\nA#1.2.3\n1A\nA.5\n",
-            "1: BadNumber\n2: BadWord\n3: BadWord\n4: BadNumber\n5: A 500000\n",
-        ),
-        (b"A=# $\n=1.2.3\nB\n", "1: BadWord\n3: B\n"),
-        (
-            b".\n1.\n.1\n1..2\n",
-            "1: BadNumber\n2: 1000000\n3: 100000\n4: BadNumber\n",
-        ),
-        (
-            b"123456789012\n0000000000001\n000000000001\n",
-            "1: BadNumber\n2: BadNumber\n3: 1000000\n",
-        ),
-        (
-            b".1234567890123\n.123456789012\n",
-            "1: BadNumber\n2: 123457\n",
-        ),
-        (
-            b"1000000\n1000000.0000001\n1000000.000000000000\n",
-            "1: 1000000000000\n2: BadNumber\n3: 1000000000000\n",
-        ),
-        (
-            b".0000005\n.00000049\n.0000015\n999999.9999995\n",
-            "1: 1\n2: 0\n3: 2\n4: 1000000000000\n",
-        ),
-        // a carriage return at the end of the text, and other bytes that are no characters
-        (b"A\r\nB\r", "1: A\n2! BadByte\n"),
-        (b"A\r\r\n", "1! BadByte\n"),
-        (b"A\nB $$ \x7F\n", "1: A\n2! BadByte\n"),
-        (b"A $\n\xC3\xA9\n", "2! BadByte\n"),
-    ];
-    for (text, want) in cases {
+    for (text, want) in &TEXTS {
         let all = read_all(alloc, text)?;
-        assert_eq!(rt; all.as_str(), want);
+        assert_eq!(rt; all.as_str(), *want);
     }
     Ok(())
 }
