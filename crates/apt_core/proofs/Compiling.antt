@@ -1,5 +1,5 @@
 -- From the parts of the work to its answers.
-use Rattle.std.proofs.Common.{◌≡◌, ◌⊎◌, inl, inr, ℕ, ◌≤◌, List, length, take, Bool, true, false, Option, Some, None, Result, Ok, Err, option_map, ap, sym, ◌∙◌, refl, subst}
+use Rattle.std.proofs.Common.{◌≡◌, ◌⊎◌, inl, inr, ℕ, ◌≤◌, List, length, take, Bool, true, false, Option, Some, None, Result, Ok, Err, ap, sym, ◌∙◌, refl, subst}
 use Rattle.std.specs.Prelude.{nat_lt, IsSome}
 use Rattle.std.specs.FinMap.{get, insert}
 use Rattle.std.specs.Option.{option_and_then}
@@ -15,11 +15,10 @@ use Rattle.apt_report.specs.declared.status.Status.TheVariants as answers
 use Rattle.apt_report.specs.declared.status.Summary.{Summary}
 use Rattle.apt_core.specs.Words.{Ask, Compile}
 use Rattle.apt_words.specs.declared.Refusal.{Refusal}
-use Rattle.apt_lexis.specs.declared.cause.PartCause.TheVariants as part_causes
-use Rattle.apt_core.specs.Parts.{Made, made_of, whole, IsMade}
-use Rattle.apt_plain.specs.Statements.{program}
-use Rattle.apt_plain.specs.Running.{run_of}
-use Rattle.apt_plain.specs.Steps.{made}
+use Rattle.apt_lexis.specs.declared.cause.PartCause.{PartCause}
+use Rattle.apt_parse.specs.Programs.{Fault, program_of}
+use Rattle.apt_motion.specs.Answers.{Made}
+use Rattle.apt_core.specs.Parts.{made_of, made_by_program, whole, IsMade}
 use Rattle.apt_core.specs.Unread.{IsUnmade}
 use Rattle.apt_core.specs.Delivery.{IsDelivered}
 use Rattle.apt_core.specs.Answers.{Answers, IsAnswer, Completes, short_part, Leaves, IsDone, IsCompiled, MayBeBegun, StayTold, due, due_file, due_program, program_in, summary_of, part_limit, the_machine}
@@ -38,8 +37,17 @@ record Reads (m : Contents) (part : List ℕ) (done : Made) : Type 0 where
   due : due_file part (get m part) ≡ answers.Done (summary_of done)
   read : program_in m part ≡ Some done
 
-made_text : (text : List ℕ) (done : Made) → IsMade text done → made_of text ≡ Some (Ok done)
-made_text text done is = ap (option_map (λ sts. made (run_of sts))) is.read ∙ ap Some is.does
+made_text : (text : List ℕ) (done : Made) → IsMade text done → made_of text ≡ Ok (Ok done)
+made_text text done is = ap made_by_program is.read ∙ ap Ok is.does
+
+-- the answer that is due to a short text
+due_short : (part text : List ℕ) (answer : Status) → length text ≤ part_limit → due_program (made_of text) ≡ answer → answer ≡ due_file part (Some text)
+due_short part text answer short e =
+    let fits : nat_lt part_limit (length text) ≡ false = le-ltb _ _ short in
+    rw fits (sym e)
+
+due_made : (part text : List ℕ) (done : Made) → length text ≤ part_limit → IsMade text done → answers.Done (summary_of done) ≡ due_file part (Some text)
+due_made part text done short is = due_short part text _ short (ap due_program (made_text text done is))
 
 reads : (m : Contents) (part text : List ℕ) (done : Made) → get m part ≡ Some text → length text ≤ part_limit → IsMade text done → Reads m part done
 reads m part text done held short is =
@@ -50,7 +58,7 @@ reads m part text done held short is =
 -- the answer after the writing
 pub answer_delivered : (told after : Option Contents) (part machine cl tape text : List ℕ) (done : Made) (reading writing : Type 0) (answer : Status) → HasActs told part text done
     → IsDelivered tape done told after answer → (answer ≡ answers.WriteFault → writing) → Answers (Some (Compile part machine cl tape)) told reading writing ⊥ answer
-answer_delivered None after part machine cl tape text done reading writing (answers.Done summary) h is w = tt
+answer_delivered None after part machine cl tape text done reading writing (answers.Done summary) h is w = (text, ap answers.Done is.0 ∙ due_made part text done h.short h.made)
 answer_delivered None after part machine cl tape text done reading writing answers.WriteFault h is w = inl (w refl)
 answer_delivered None after part machine cl tape text done reading writing answers.NoMemory h is w = tt
 answer_delivered (Some m) after part machine cl tape text done reading writing (answers.Done summary) h is w =
@@ -106,21 +114,21 @@ leaves_delivered (Some m) after part machine cl tape text done _ h is = absurd i
 
 -- the answer that is due where nothing is made
 unmade_due : (m : Contents) (part text : List ℕ) (answer : Status) → get m part ≡ Some text → length text ≤ part_limit → due_program (made_of text) ≡ answer → answer ≡ due_file part (get m part)
-unmade_due m part text answer held short e =
-    let fits : nat_lt part_limit (length text) ≡ false = le-ltb _ _ short in
-    rw (held, fits) (sym e)
+unmade_due m part text answer held short e = rw held (due_short part text answer short e)
 
-no_program : (text : List ℕ) → program text ≡ None → due_program (made_of text) ≡ answers.BadPart 1 part_causes.NotBuilt
-no_program text e = rw e refl
+due_fault : (text : List ℕ) (line : ℕ) (cause : PartCause) → program_of text ≡ Err (line, cause) → due_program (made_of text) ≡ answers.BadPart line cause
+due_fault text line cause e = ap (λ p. due_program (made_by_program p)) e
 
 pub answer_unmade : (told : Option Contents) (part machine cl tape text : List ℕ) (reading writing : Type 0) (answer : Status) → HoldsAt told part text → length text ≤ part_limit
     → IsUnmade text answer → Answers (Some (Compile part machine cl tape)) told reading writing ⊥ answer
 answer_unmade None part machine cl tape text reading writing answers.NoMemory held short is = tt
 answer_unmade (Some m) part machine cl tape text reading writing answers.NoMemory held short is = tt
-answer_unmade None part machine cl tape text reading writing (answers.BadPart line cause) held short is = (is.0, is.1)
+answer_unmade None part machine cl tape text reading writing (answers.BadPart line cause) held short is =
+    (text, due_short part text _ short (due_fault text line cause is))
 answer_unmade (Some m) part machine cl tape text reading writing (answers.BadPart line cause) held short is =
-    unmade_due m part text _ held short (no_program text is.2 ∙ ap (λ l. answers.BadPart l part_causes.NotBuilt) (sym is.0) ∙ ap (answers.BadPart line) (sym is.1))
-answer_unmade None part machine cl tape text reading writing (answers.Refused line step case) held short is = tt
+    unmade_due m part text _ held short (due_fault text line cause is)
+answer_unmade None part machine cl tape text reading writing (answers.Refused line step case) held short is =
+    (text, due_short part text _ short (ap due_program is))
 answer_unmade (Some m) part machine cl tape text reading writing (answers.Refused line step case) held short is =
     unmade_due m part text _ held short (ap due_program is)
 answer_unmade told part machine cl tape text reading writing _ held short is = absurd is
@@ -134,10 +142,10 @@ leaves_unmade (Some m) part machine cl tape text _ is = absurd is
 
 -- ---- completeness
 
-whole_done : (o : Option (Result Made Refusal)) (program : Made) → whole o ≡ Some program → IsDone (due_program o)
-whole_done None program e = absurd (let f : ⊥ = cc in f)
-whole_done (Some (Err r)) program e = absurd (let f : ⊥ = cc in f)
-whole_done (Some (Ok m)) program e = tt
+whole_done : (r : Result (Result Made Refusal) Fault) (program : Made) → whole r ≡ Some program → IsDone (due_program r)
+whole_done (Err fault) program e = absurd (let f : ⊥ = cc in f)
+whole_done (Ok (Err r)) program e = absurd (let f : ⊥ = cc in f)
+whole_done (Ok (Ok m)) program e = tt
 
 due_of_program : (m : Contents) (part : List ℕ) (held : Option (List ℕ)) → get m part ≡ held → (program : Made) → option_and_then short_part held ≡ Some program → IsDone (due_file part held)
 due_of_program m part None e program read = absurd (let f : ⊥ = cc in f)
@@ -169,7 +177,7 @@ program_there : (o : Option Made) → IsSome o → (p : Made) × (o ≡ Some p)
 program_there None h = absurd (let f : ⊥ = cc in f)
 program_there (Some p) h = (p, refl)
 
--- the answer says that plain parts are compiled
+-- the answer says that parts are compiled
 pub completes : (ask : Option Ask) (told : Option Contents) (reading writing putting : Type 0) (answer : Status) → Answers ask told reading writing putting answer
     → Completes ask told reading writing putting answer
 completes None told reading writing putting answer is = tt

@@ -1,5 +1,5 @@
 -- From the answer to what is told of it.
-use Rattle.std.proofs.Common.{◌≡◌, ◌⊎◌, inl, inr, ℕ, zero, suc, length, List, [], ◌++◌, take, Option, Some, None, ap, sym, ◌∙◌, refl, subst}
+use Rattle.std.proofs.Common.{◌≡◌, inl, inr, ℕ, zero, suc, length, List, [], ◌++◌, take, Option, Some, None, ap, sym, ◌∙◌, subst}
 use Rattle.std.proofs.Math.Seq.{take-length}
 use Rattle.std.proofs.lemmas.List.{append-nil}
 use Rattle.std.specs.FinMap.{insert}
@@ -9,7 +9,7 @@ use Rattle.apt_report.specs.declared.status.Status.TheVariants as answers
 use Rattle.apt_report.specs.declared.status.Summary.{Summary}
 use Rattle.apt_report.specs.Lines.{line_of}
 use Rattle.apt_core.specs.Words.{Ask, Compile}
-use Rattle.apt_core.specs.Answers.{Answers, IsAnswer, IsUntoldAnswer, Leaves, LeavesFiles, StayTold, IsBeforeWriting, IsCompiled, MayBeBegun, due}
+use Rattle.apt_core.specs.Answers.{Answers, Leaves, LeavesFiles, StayTold, IsBeforeWriting, IsCompiled, MayBeBegun}
 use Rattle.apt_core.specs.Telling.{ShowsFront, IsTold, ShowsLine, ShowsDue, Shows}
 
 -- ---- answers

@@ -11,10 +11,11 @@ use Rattle.apt_report.specs.declared.status.Status.{Status}
 use Rattle.apt_report.specs.declared.status.Status.TheVariants as answers
 use Rattle.apt_report.specs.declared.status.Summary.{Summary}
 use Rattle.apt_report.specs.declared.status.Summary.TheVariants as summaries
-use Rattle.apt_lexis.specs.declared.cause.PartCause.TheVariants as part_causes
 use Rattle.apt_core.specs.Words.{Ask, Compile}
 use Rattle.apt_words.specs.declared.Refusal.{Refusal}
-use Rattle.apt_core.specs.Parts.{Made, made_of, whole, IsMade}
+use Rattle.apt_parse.specs.Programs.{Fault}
+use Rattle.apt_motion.specs.Answers.{Made}
+use Rattle.apt_core.specs.Parts.{made_of, whole, IsMade}
 
 -- the longest part program, in bytes
 abbrev pub part_limit : ℕ
@@ -29,10 +30,10 @@ the_machine = record { code = Rs358; seq = 1; feedmax = 9999; spinmax = 9999; to
 abbrev pub summary_of : Made → Summary
 summary_of program = summaries.Compiled 0 (length program.0) program.1
 
-abbrev pub due_program : Option (Result Made Refusal) → Status
-due_program None = answers.BadPart 1 part_causes.NotBuilt
-due_program (Some (Ok program)) = answers.Done (summary_of program)
-due_program (Some (Err r)) = answers.Refused r.line r.step r.case
+abbrev pub due_program : Result (Result Made Refusal) Fault → Status
+due_program (Err fault) = answers.BadPart fault.0 fault.1
+due_program (Ok (Err r)) = answers.Refused r.line r.step r.case
+due_program (Ok (Ok program)) = answers.Done (summary_of program)
 
 abbrev pub due_file : List ℕ → Option (List ℕ) → Status
 due_file name None = answers.Missing name
@@ -45,7 +46,7 @@ abbrev pub IsDone : Status → Type 0
 IsDone (answers.Done summary) = Unit {0}
 IsDone _ = ⊥
 
--- what the plain part makes that a name holds, none where a step of it is refused
+-- what the part makes that a name holds, none where it has a fault or a step of it is refused
 abbrev pub short_part : List ℕ → Option Made
 short_part text = if nat_lt part_limit (length text) then None else whole (made_of text)
 
@@ -61,15 +62,19 @@ IsAnswer ask m reading writing putting answers.WriteFault = (IsDone (due ask m) 
 IsAnswer ask m reading writing putting answers.NoMemory = Unit {0}
 IsAnswer ask m reading writing putting answer = answer ≡ due ask m
 
+-- the answer is due to some text
+abbrev pub IsDueToSome : List ℕ → Status → Type 0
+IsDueToSome part answer = (text : List ℕ) × (answer ≡ due_file part (Some text))
+
 -- where nothing is told
 abbrev pub IsUntoldAnswer : Ask → Type 0 → Type 0 → Type 0 → Status → Type 0
 IsUntoldAnswer (Compile part machine cl tape) reading writing putting answers.Usage = ⊥
 IsUntoldAnswer (Compile part machine cl tape) reading writing putting (answers.Missing name) = (name ≡ part) × reading
 IsUntoldAnswer (Compile part machine cl tape) reading writing putting answers.ReadFault = reading
 IsUntoldAnswer (Compile part machine cl tape) reading writing putting (answers.TooLong name) = name ≡ part
-IsUntoldAnswer (Compile part machine cl tape) reading writing putting (answers.BadPart line cause) = (line ≡ 1) × (cause ≡ part_causes.NotBuilt)
 IsUntoldAnswer (Compile part machine cl tape) reading writing putting answers.WriteFault = writing ⊎ putting
-IsUntoldAnswer (Compile part machine cl tape) reading writing putting answer = Unit {0}
+IsUntoldAnswer (Compile part machine cl tape) reading writing putting answers.NoMemory = Unit {0}
+IsUntoldAnswer (Compile part machine cl tape) reading writing putting answer = IsDueToSome part answer
 
 -- where the words ask for nothing
 abbrev pub IsUsage : Type 0 → Status → Type 0
@@ -82,7 +87,7 @@ Answers None told reading writing putting answer = IsUsage putting answer
 Answers (Some ask) None reading writing putting answer = IsUntoldAnswer ask reading writing putting answer
 Answers (Some ask) (Some m) reading writing putting answer = IsAnswer ask m reading writing putting answer
 
--- where no count rose, a plain part under the name PART of which no step is refused is compiled, or memory ran out
+-- where no count rose, a part under the name PART without fault, of which no step is refused, is compiled, or memory ran out
 abbrev pub Completes : Option Ask → Option Contents → Type 0 → Type 0 → Type 0 → Status → Type 0
 Completes (Some (Compile part machine cl tape)) (Some m) reading writing putting answer =
     IsSome (program_in m part) → ¬ reading → ¬ writing → ¬ putting → IsDone answer ⊎ (answer ≡ answers.NoMemory)

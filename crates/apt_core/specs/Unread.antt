@@ -1,11 +1,10 @@
 -- The answers where a file was not read, or its statements make nothing.
-use Rattle.std.specs.Prelude.{◌≡◌, ◌⊎◌, ℕ, List, Some, None, Err}
-use Rattle.apt_plain.specs.Statements.{program}
+use Rattle.std.specs.Prelude.{◌≡◌, ◌⊎◌, ℕ, List, Ok, Err}
+use Rattle.apt_parse.specs.Programs.{program_of}
 use Rattle.apt_shelf.specs.declared.files.ReadError.{ReadError}
 use Rattle.apt_shelf.specs.declared.files.ReadError.TheVariants as errors
 use Rattle.apt_report.specs.declared.status.Status.{Status}
 use Rattle.apt_report.specs.declared.status.Status.TheVariants as answers
-use Rattle.apt_lexis.specs.declared.cause.PartCause.TheVariants as part_causes
 use Rattle.apt_core.specs.Parts.{made_of}
 
 -- an answer that holds a name may want memory
@@ -17,7 +16,7 @@ IsUnread errors.NoMemory name answer = answer ≡ answers.NoMemory
 
 -- the answer where a text's statements make nothing
 abbrev pub IsUnmade : List ℕ → Status → Type 0
-IsUnmade text (answers.BadPart line cause) = (line ≡ 1) × (cause ≡ part_causes.NotBuilt) × (program text ≡ None)
-IsUnmade text (answers.Refused line step case) = made_of text ≡ Some (Err (record { line = line; step = step; case = case }))
+IsUnmade text (answers.BadPart line cause) = program_of text ≡ Err (line, cause)
+IsUnmade text (answers.Refused line step case) = made_of text ≡ Ok (Err (record { line = line; step = step; case = case }))
 IsUnmade text answers.NoMemory = Unit {0}
 IsUnmade text _ = ⊥

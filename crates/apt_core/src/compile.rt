@@ -1,18 +1,18 @@
 //! The command `compile`.
 
-ghost use Rattle.std.specs.Prelude.{◌≡◌, ◌≤◌, Some, IfOk, IfErr};
+ghost use Rattle.std.specs.Prelude.{◌≡◌, ◌≤◌, Some, IfOk};
 ghost use Rattle.apt_shelf.specs.Told.{Rose};
 ghost use Rattle.apt_post.specs.Post.{IsProgram};
-ghost use Rattle.apt_core.specs.Parts.{IsMade};
-ghost use Rattle.apt_core.specs.Unread.{IsUnread, IsUnmade};
+ghost use Rattle.apt_core.specs.Unread.{IsUnread};
 ghost use Rattle.apt_core.specs.Delivery.{IsDelivered};
 ghost use Rattle.apt_core.specs.Words.{Compile};
 ghost use Rattle.apt_core.specs.Answers.{Answers, Leaves, IsBeforeWriting};
 
+use crate::part::output_of;
 use apt_machine::Machine;
-use apt_plain::{Output, RunError, program, run};
+use apt_motion::Output;
 use apt_post::tape;
-use apt_report::{FileName, PartCause, Status, Summary};
+use apt_report::{FileName, Status, Summary};
 use apt_shelf::{ReadError, Shelf, ShelfFault, read_all, write_all};
 use std::alloc::{AllocError, Global};
 
@@ -42,33 +42,6 @@ pub(crate) fn compile<H: Shelf>(
     match output_of(alloc, &text) {
         Ok(output) => deliver(alloc, shelf, &output, tape_name),
         Err(status) => status,
-    }
-}
-
-/// What the statements of a text make, or the answer where they make nothing.
-fn output_of(alloc: Global, text: &[u8]) -> Result<Output, Status>
-    ensures made { IfOk result (λ o. IsMade text.now (o.acts.items, o.segments)) }
-    ensures program { IfOk result (λ o. IsProgram o.acts.items) }
-    ensures unmade { IfErr result (λ s. IsUnmade text.now s) }
-{
-    let program = match program(alloc, text) {
-        Ok(Some(program)) => program,
-        Ok(None) => {
-            return Err(Status::BadPart {
-                line: 1,
-                cause: PartCause::NotBuilt,
-            });
-        }
-        Err(_) => return Err(Status::NoMemory),
-    };
-    match run(alloc, program) {
-        Ok(output) => Ok(output),
-        Err(RunError::Refused(r)) => Err(Status::Refused {
-            line: r.line,
-            step: r.step,
-            case: r.case,
-        }),
-        Err(RunError::NoMemory) => Err(Status::NoMemory),
     }
 }
 

@@ -8,6 +8,7 @@ ghost use Rattle.apt_core.specs.Answers.{Answers, Completes, Leaves, IsBeforeWri
 ghost use Rattle.apt_core.specs.Telling.{Shows};
 
 mod compile;
+mod part;
 mod put;
 mod words;
 
@@ -19,7 +20,7 @@ use std::alloc::Global;
 use std::thread::Threads;
 use words::{Request, request_of};
 
-/// Does what the words ask, and puts the answer's line: `compile PART MACHINE CL TAPE` reads a plain part
+/// Does what the words ask, and puts the answer's line: `compile PART MACHINE CL TAPE` reads a part
 /// under the name PART (at most 4 MiB) and writes its tape, in RS-358 with blocks numbered by one, under the
 /// name TAPE. Nothing is read or written under the names MACHINE and CL.
 #[tactic(auto, using(crate::proofs::Compiling::completes, crate::proofs::Telling::answer_told, crate::proofs::Telling::leaves_told, crate::proofs::Telling::before_told, crate::proofs::Telling::usage_told, crate::proofs::Telling::shows_told))]

@@ -1,4 +1,5 @@
 //! Parts with straight contours.
+use crate::parts::{PLATE as SQUARE, PLATE_TAPE};
 use crate::run::{rs358, run, shelf_with};
 use apt_core::{Status, Summary};
 use apt_shelf::FailList;
@@ -18,10 +19,8 @@ struct Row {
 /// The square plate, its other turn, and a start on the stop.
 const PLATE: [Row; 3] = [
     Row {
-        part: "PARTNO SQUARE\nCUTTER/.5\nL1=LINE/0,0,5,0\nL2=LINE/5,0,5,5\nL3=LINE/5,5,0,5\nL4=LINE/0,5,0,0\nFEDRAT/10\nFROM/-1,-1,.5\nGO/TO,L1,TO,L4\nTLRGT\nGORGT/L1,PAST,L2\nGOLFT/L2,PAST,L3\nGOLFT/L3,PAST,L4\nGOLFT/L4,PAST,L1\nFINI\n",
-        want: Ok(
-            "%\nN0001G70G90G94\nN0002G01X-00025000Y-00025000Z+00050000F0100\nN0003G01X+00525000Y-00025000Z+00050000F0100\nN0004G01X+00525000Y+00525000Z+00050000F0100\nN0005G01X-00025000Y+00525000Z+00050000F0100\nN0006G01X-00025000Y-00025000Z+00050000F0100\nN0007M02\n",
-        ),
+        part: SQUARE,
+        want: Ok(PLATE_TAPE),
     },
     Row {
         part: "PARTNO SQUARE\nCUTTER/.5\nL1=LINE/0,0,5,0\nL2=LINE/5,0,5,5\nL3=LINE/5,5,0,5\nL4=LINE/0,5,0,0\nFEDRAT/10\nFROM/-1,-1,.5\nGO/TO,L1,TO,L4\nTLRGT\nGOLFT/L1,PAST,L2\nFINI\n",

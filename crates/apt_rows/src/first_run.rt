@@ -1,18 +1,12 @@
-//! Plain parts.
-use crate::run::{files_with, rs358, run, shelf_with};
-use apt_core::{PartCause, Status, Summary};
+//! Parts whose moves are GOTO statements, and files that fail.
+use crate::parts::{FIRST, FIRST_TAPE};
+use crate::run::{COMPILE, files_with, rs358, run, shelf_with};
+use apt_core::{Status, Summary};
 use apt_shelf::{FailList, MemShelf, SureShelf};
 use std::alloc::{AllocGlobal, Global};
 use std::process::Abort;
 use std::test::Fail;
 use std::thread::Threads;
-
-const FIRST: &[u8] = b"PARTNO FIRST\nFEDRAT/10\nFROM/0,0,0\nGOTO/1,2,3\nFINI\n";
-
-const FIRST_TAPE: &[u8] =
-    b"%\nN0001G70G90G94\nN0002G01X+00100000Y+00200000Z+00300000F0100\nN0003M02\n";
-
-const COMPILE: &str = "compile part machine cl tape";
 
 fn is_compiled(status: &Status, acts: u64) -> bool {
     matches!(status, Status::Done(Summary::Compiled { records: 0, acts: n, segments: 0 }) if *n == acts)
@@ -21,16 +15,16 @@ fn is_compiled(status: &Status, acts: u64) -> bool {
 #[test]
 fn five_statements_give_a_tape_of_70_bytes(rt: HostRuntime) -> Result<(), Fail> {
     let alloc = rt.alloc();
-    let mut shelf = shelf_with(alloc, FIRST, FailList::none(alloc))?;
+    let mut shelf = shelf_with(alloc, FIRST.as_bytes(), FailList::none(alloc))?;
     let status = run(&rt, &mut shelf, COMPILE)?;
     assert!(rt; is_compiled(&status, 3));
     assert_eq!(rt; status.number(), 0);
-    let tape = rs358(alloc, FIRST_TAPE)?;
+    let tape = rs358(alloc, FIRST_TAPE.as_bytes())?;
     assert_eq!(rt; tape.len(), 70);
     assert_eq!(rt; shelf.file("tape"), Some(tape.as_slice()));
     assert_eq!(rt; shelf.file("cl"), Some(b"old cl".as_slice()));
-    assert_eq!(rt; shelf.file("part"), Some(FIRST));
-    let mut sure = SureShelf::new(alloc, files_with(alloc, FIRST)?)?;
+    assert_eq!(rt; shelf.file("part"), Some(FIRST.as_bytes()));
+    let mut sure = SureShelf::new(alloc, files_with(alloc, FIRST.as_bytes())?)?;
     assert!(rt; is_compiled(&run(&rt, &mut sure, COMPILE)?, 3));
     assert_eq!(rt; sure.file("tape"), Some(tape.as_slice()));
     Ok(())
@@ -40,28 +34,28 @@ fn five_statements_give_a_tape_of_70_bytes(rt: HostRuntime) -> Result<(), Fail> 
 #[test]
 fn moves_follow_the_goto_lines(rt: HostRuntime) -> Result<(), Fail> {
     let alloc = rt.alloc();
-    let cases: [(&[u8], &[u8], u64); 4] = [
+    let cases: [(&str, &str, u64); 4] = [
         (
-            b"PARTNO EMPTY\nFEDRAT/1.5\nFROM/0,0,0\nFINI\n",
-            b"%\nN0001G70G90G94\nN0002M02\n",
+            "PARTNO EMPTY\nFEDRAT/1.5\nFROM/0,0,0\nFINI\n",
+            "%\nN0001G70G90G94\nN0002M02\n",
             2,
         ),
         (
-            b"PARTNO 2\nFEDRAT/999.9\nFROM/-1,.5,500\nGOTO/-1,.5,-500\nGOTO/-0,5.,-.00001\nFINI\n",
-            b"%\nN0001G70G90G94\nN0002G01X-00100000Y+00050000Z-50000000F9999\nN0003G01X+00000000Y+00500000Z-00000001F9999\nN0004M02\n",
+            "PARTNO 2\nFEDRAT/999.9\nFROM/-1,.5,500\nGOTO/-1,.5,-500\nGOTO/-0,5.,-.00001\nFINI\n",
+            "%\nN0001G70G90G94\nN0002G01X-00100000Y+00050000Z-50000000F9999\nN0003G01X+00000000Y+00500000Z-00000001F9999\nN0004M02\n",
             4,
         ),
         (
-            b"PARTNO TWICE\nFEDRAT/0.1\nFROM/0,0,0\nGOTO/1,1,0\nGOTO/1,1,0\nFINI\n",
-            b"%\nN0001G70G90G94\nN0002G01X+00100000Y+00100000Z+00000000F0001\nN0003G01X+00100000Y+00100000Z+00000000F0001\nN0004M02\n",
+            "PARTNO TWICE\nFEDRAT/0.1\nFROM/0,0,0\nGOTO/1,1,0\nGOTO/1,1,0\nFINI\n",
+            "%\nN0001G70G90G94\nN0002G01X+00100000Y+00100000Z+00000000F0001\nN0003G01X+00100000Y+00100000Z+00000000F0001\nN0004M02\n",
             4,
         ),
         (FIRST, FIRST_TAPE, 3),
     ];
     for (part, tape, acts) in cases {
-        let mut shelf = shelf_with(alloc, part, FailList::none(alloc))?;
+        let mut shelf = shelf_with(alloc, part.as_bytes(), FailList::none(alloc))?;
         assert!(rt; is_compiled(&run(&rt, &mut shelf, COMPILE)?, acts));
-        let tape = rs358(alloc, tape)?;
+        let tape = rs358(alloc, tape.as_bytes())?;
         assert_eq!(rt; shelf.file("tape"), Some(tape.as_slice()));
     }
     Ok(())
@@ -88,60 +82,21 @@ fn other_words_are_usage(rt: HostRuntime) -> Result<(), Fail> {
         "--version",
     ];
     for words in cases {
-        let mut shelf = shelf_with(alloc, FIRST, FailList::none(alloc))?;
+        let mut shelf = shelf_with(alloc, FIRST.as_bytes(), FailList::none(alloc))?;
         let status = run(&rt, &mut shelf, words)?;
         assert!(rt; matches!(status, Status::Usage), "{words}");
         assert_eq!(rt; status.number(), 1);
         assert_eq!(rt; shelf.file("tape"), Some(b"old tape".as_slice()));
     }
-    let mut shelf = shelf_with(alloc, FIRST, FailList::none(alloc))?;
+    let mut shelf = shelf_with(alloc, FIRST.as_bytes(), FailList::none(alloc))?;
     assert!(rt; is_compiled(&run(&rt, &mut shelf, "compile part part cl tape")?, 3));
-    Ok(())
-}
-
-#[test]
-fn other_parts_are_not_built(rt: HostRuntime) -> Result<(), Fail> {
-    let alloc = rt.alloc();
-    let cases: [&[u8]; 16] = [
-        b"",
-        b"FINI\n",
-        b"PARTNO A\nFEDRAT/10\nFROM/0,0,0\nGOTO/1,2,3\nFINI",
-        b"PARTNO A\r\nFEDRAT/10\r\nFROM/0,0,0\r\nFINI\r\n",
-        b"PARTNO\nFEDRAT/10\nFROM/0,0,0\nFINI\n",
-        b"PARTNO a\nFEDRAT/10\nFROM/0,0,0\nFINI\n",
-        b"PARTNO A\nFEDRAT/0\nFROM/0,0,0\nFINI\n",
-        b"PARTNO A\nFEDRAT/1000\nFROM/0,0,0\nFINI\n",
-        b"PARTNO A\nFEDRAT/10.25\nFROM/0,0,0\nFINI\n",
-        b"PARTNO A\nFEDRAT/10\nFROM/0,0\nFINI\n",
-        b"PARTNO A\nFEDRAT/10\nFROM/0,0,500.00001\nFINI\n",
-        b"PARTNO A\nFEDRAT/10\nFROM/0,0,0\nGOTO/1,2,+3\nFINI\n",
-        b"PARTNO A\nFEDRAT/10\nFROM/0,0,0\nGOTO/1, 2,3\nFINI\n",
-        b"PARTNO A\nFEDRAT/10\nFROM/0,0,0\nGOTO/1,2,3,4\nFINI\n",
-        b"PARTNO A\nFEDRAT/10\nFROM/0,0,0\nGOTO/1,2,-.\nFINI\n",
-        b"PARTNO A\nFEDRAT/10\nFROM/0,0,0\nFINI\n\n",
-    ];
-    for part in cases {
-        let mut shelf = shelf_with(alloc, part, FailList::none(alloc))?;
-        let status = run(&rt, &mut shelf, COMPILE)?;
-        assert!(rt;
-            matches!(
-                status,
-                Status::BadPart {
-                    line: 1,
-                    cause: PartCause::NotBuilt
-                }
-            )
-        );
-        assert_eq!(rt; status.number(), 6);
-        assert_eq!(rt; shelf.file("tape"), Some(b"old tape".as_slice()));
-    }
     Ok(())
 }
 
 #[test]
 fn a_part_that_is_not_there_is_missing(rt: HostRuntime) -> Result<(), Fail> {
     let alloc = rt.alloc();
-    let mut shelf = shelf_with(alloc, FIRST, FailList::none(alloc))?;
+    let mut shelf = shelf_with(alloc, FIRST.as_bytes(), FailList::none(alloc))?;
     let status = run(&rt, &mut shelf, "compile none machine cl tape")?;
     assert!(rt; matches!(&status, Status::Missing { name } if name.text.as_str() == "none"));
     assert_eq!(rt; status.number(), 2);
@@ -152,11 +107,11 @@ fn a_part_that_is_not_there_is_missing(rt: HostRuntime) -> Result<(), Fail> {
 #[test]
 fn a_part_over_4_mib_is_too_long(rt: HostRuntime) -> Result<(), Fail> {
     let alloc = rt.alloc();
-    let mut part = Vec::from_slice(alloc, FIRST)?;
+    let mut part = Vec::from_slice(alloc, FIRST.as_bytes())?;
     part.resize(4_194_304, b'\n')?;
     let mut shelf = shelf_with(alloc, &part, FailList::none(alloc))?;
     let status = run(&rt, &mut shelf, COMPILE)?;
-    assert!(rt; matches!(status, Status::BadPart { .. }));
+    assert!(rt; is_compiled(&status, 3));
     part.push(b'\n')?;
     let mut shelf = shelf_with(alloc, &part, FailList::none(alloc))?;
     let status = run(&rt, &mut shelf, COMPILE)?;
@@ -220,21 +175,5 @@ fn a_failing_call_is_told(rt: HostRuntime) -> Result<(), Fail> {
         assert_fails(&rt, &part, failing(alloc, 3, append)?, 11, front)?;
     }
     assert_fails(&rt, &part, failing(alloc, 3, 3)?, 0, &tape)?;
-    Ok(())
-}
-
-#[test]
-fn fifty_thousand_lines_are_the_most(rt: HostRuntime) -> Result<(), Fail> {
-    let alloc = rt.alloc();
-    for (moves, number) in [(49_996u64, 0u8), (49_997, 6)] {
-        let mut part = Vec::from_slice(alloc, b"PARTNO LONG\nFEDRAT/10\nFROM/0,0,0\n")?;
-        for _ in 0..moves {
-            part.extend_from_slice(b"GOTO/1,2,3\n")?;
-        }
-        part.extend_from_slice(b"FINI\n")?;
-        let mut shelf = shelf_with(alloc, &part, FailList::none(alloc))?;
-        let status = run(&rt, &mut shelf, COMPILE)?;
-        assert_eq!(rt; status.number(), number);
-    }
     Ok(())
 }

@@ -6,6 +6,12 @@ mod contours;
 #[cfg(test)]
 mod first_run;
 #[cfg(test)]
+mod parts;
+#[cfg(test)]
 mod printed;
 #[cfg(test)]
+mod reading;
+#[cfg(test)]
 mod run;
+#[cfg(test)]
+mod steps;

@@ -66,3 +66,41 @@ pub fn rs358(alloc: Global, text: &[u8]) -> Result<Vec<u8>, Fail> {
     }
     Ok(bytes)
 }
+
+pub const COMPILE: &str = "compile part machine cl tape";
+
+/// The part is answered by this line, and where it is not done no file is another.
+pub fn assert_line<R: Threads + Sync + Abort + AllocGlobal>(
+    rt: &R,
+    part: &[u8],
+    line: &str,
+) -> Result<(), Fail> {
+    let alloc = rt.alloc();
+    let mut shelf = shelf_with(alloc, part, FailList::none(alloc))?;
+    let (status, out) = printed(rt, &mut shelf, COMPILE, Vec::new(alloc))?;
+    assert_eq!(rt; out.bytes(), line.as_bytes(), "at {line}");
+    if !matches!(status, Status::Done(_)) {
+        assert_eq!(rt;
+            shelf.file("tape"),
+            Some(b"old tape".as_slice()),
+            "at {line}"
+        );
+    }
+    assert_eq!(rt; shelf.file("cl"), Some(b"old cl".as_slice()), "at {line}");
+    Ok(())
+}
+
+/// The part is compiled to a tape of these characters.
+pub fn assert_tape<R: Threads + Sync + Abort + AllocGlobal>(
+    rt: &R,
+    part: &[u8],
+    tape: &str,
+) -> Result<(), Fail> {
+    let alloc = rt.alloc();
+    let mut shelf = shelf_with(alloc, part, FailList::none(alloc))?;
+    let status = run(rt, &mut shelf, COMPILE)?;
+    assert!(rt; matches!(status, Status::Done(_)), "at {tape}");
+    let bytes = rs358(alloc, tape.as_bytes())?;
+    assert_eq!(rt; shelf.file("tape"), Some(bytes.as_slice()), "at {tape}");
+    Ok(())
+}

@@ -1,7 +1,0 @@
-use Rattle.std.proofs.Common.{◌∙◌, sym}
-use Rattle.std.proofs.lemmas.List.{take_rest}
-use Rattle.apt_plain.proofs.Splitting.{split_found}
-use Rattle.apt_plain.proofs.plain.cut.Goals as goal
-
-pub returns-in-Some-clause-parts : goal.returns-in-Some-clause-parts
-returns-in-Some-clause-parts c = rw take_rest (split_found c.args.c c.args.text.now c.in-Some.i (sym c.place_of.ensures.value ∙ c.in-Some.is))

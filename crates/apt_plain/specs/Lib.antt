@@ -1,7 +1,0 @@
-pub mod Plain
-pub mod Statements
-pub mod Running
-pub mod Good
-pub mod Shown
-pub mod Endings
-pub mod Steps
