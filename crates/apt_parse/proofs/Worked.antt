@@ -1,10 +1,10 @@
 -- Small texts, which the checker reads.
-use Rattle.std.specs.Prelude.{◌≡◌, ℕ, pos, List, [], ◌∷◌, ◌++◌, length, Option, Some, None, Result, Ok, Err, codes}
+use Rattle.std.specs.Prelude.{◌≡◌, ℕ, pos, List, [], ◌∷◌, ◌++◌, Option, Some, None, Result, Ok, Err, codes}
 use Rattle.std.proofs.Common.{refl}
 use Rattle.apt_words.specs.Vocabulary.{word_of}
 use Rattle.apt_words.specs.declared.body.Body.TheVariants as bodies
 use Rattle.apt_words.specs.declared.body.Stmt.{Stmt}
-use Rattle.apt_words.specs.Trees.{Tree, Num}
+use Rattle.apt_words.specs.Trees.{Num}
 use Rattle.apt_lexis.specs.declared.cause.PartCause.TheVariants as causes
 use Rattle.apt_expr.specs.Expressions.{expression}
 use Rattle.apt_shapes.specs.Shapes.{shape}

@@ -12,7 +12,7 @@ use Rattle.apt_lexis.specs.declared.error.ParseError.{ParseError}
 use Rattle.apt_lexis.specs.declared.error.ParseError.TheVariants as errors
 use Rattle.apt_lexis.specs.Lines.{lines_of}
 use Rattle.apt_lexis.specs.Phrase.{Phrase}
-use Rattle.apt_lexis.specs.Sentences.{Said, said_in}
+use Rattle.apt_lexis.specs.Sentences.{said_in}
 use Rattle.apt_parse.specs.Statements.{statement, open_loop, is_label}
 
 -- a fault: its line and its cause

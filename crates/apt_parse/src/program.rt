@@ -20,9 +20,16 @@ use std::alloc::Global;
 /// # Errors
 ///
 /// `Bad` is the first fault in the order of reading, with its line.
+#[tactic(auto, using(crate::proofs::Endings::parsed_ends))]
 pub fn parse(alloc: Global, text: &[u8]) -> Result<Program, ParseError>
     ensures program { programs.IsParsed (programs.program_of text.now) result }
     ensures ends { IfOk result (λ p. EndsInFini p.stmts.items) }
+{
+    parse_all(alloc, text)
+}
+
+fn parse_all(alloc: Global, text: &[u8]) -> Result<Program, ParseError>
+    ensures { programs.IsParsed (programs.program_of text.now) result }
 {
     let mut phrases = Phrases::new(text);
     let mut read = Read::new(alloc);

@@ -1,3 +1,4 @@
 pub mod Bindings
 pub mod Roots
+pub mod Ranges
 mod Worked

@@ -1,2 +1,5 @@
 pub mod Grouped
+pub mod Suits
+pub mod Numbers
+pub mod Endings
 mod Worked

@@ -28,6 +28,12 @@ pub fn unroll(alloc: Global, p: &Program) -> Result<Unrolled, AllocError>
     ensures scalars { IfOk result (λ u. AreScalars u.steps.items) }
     ensures ends { EndsInFini p.now.stmts.items → IfOk result (λ u. u.fault ≡ None → EndsOnce false u.steps.items) }
 {
+    unroll_all(alloc, p)
+}
+
+fn unroll_all(alloc: Global, p: &Program) -> Result<Unrolled, AllocError>
+    ensures { IfOk result (λ u. AreSteps p.now.stmts.items u) }
+{
     let frame = Frame {
         bound: Vec::new(alloc),
     };

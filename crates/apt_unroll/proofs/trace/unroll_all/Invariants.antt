@@ -1,7 +1,7 @@
 use Rattle.std.proofs.Common.{◌≡◌, ◌≤◌, ◌+◌, drop}
 use Rattle.apt_unroll.specs.Straight.{steps_from, steps_of, most_steps}
 use Rattle.apt_unroll.specs.Laws.{behind}
-use Rattle.apt_unroll.proofs.trace.unroll.Given as goal
+use Rattle.apt_unroll.proofs.trace.unroll_all.Given as goal
 
 abbrev pub invariant-statements : goal.invariant-statements
 invariant-statements l =

@@ -1,0 +1,76 @@
+-- Steps end where the program does.
+use Rattle.std.proofs.Common.{◌≡◌, ℕ, ◌+◌, ◌&&◌, nat_lt, not, Bool, true, false, List, [], ◌∷◌, None, Result, Ok, Err, refl, sym, ◌∙◌, subst}
+use Rattle.std.specs.Prelude.{IfOk, if◌then◌else◌}
+use Rattle.std.proofs.lemmas.Result.{IfOk-weaker}
+use Rattle.apt_words.specs.Endings.{is_fini, EndsInFini}
+use Rattle.apt_words.specs.declared.Case.{Case}
+use Rattle.apt_words.specs.declared.Case.TheVariants as cases
+use Rattle.apt_words.specs.declared.body.Body.{Body}
+use Rattle.apt_words.specs.declared.body.Stmt.{Stmt}
+use Rattle.apt_words.specs.declared.deed.Deed.{Deed}
+use Rattle.apt_words.specs.declared.deed.Deed.TheVariants as deeds
+use Rattle.apt_words.specs.declared.deed.Step.{Step}
+use Rattle.apt_scalar.specs.Meanings.{Names}
+use Rattle.apt_unroll.specs.declared.trace.Unrolled.{Unrolled}
+use Rattle.apt_unroll.specs.Deeds.{deed_of, names_behind}
+use Rattle.apt_unroll.specs.Steps.{AreSteps}
+use Rattle.apt_unroll.specs.Straight.{Steps, most_steps, is_ended, deed_at, or_refused, steps_from, EndsOnce}
+use Rattle.apt_unroll.proofs.Suits.{is_end, Suits, deed_of-suits}
+
+-- a deed that is not refused: Fini where its statement is FINI, and another only where the program has not ended
+abbrev Ends : Bool → Bool → Deed → Type 0
+Ends ended last deed = (is_end deed ≡ last) × (last ≡ false → ended ≡ false)
+
+deed_of-ends : (names : Names) (body : Body) → IfOk (deed_of names [] body) (λ deed. is_end deed ≡ is_fini body)
+deed_of-ends names body = IfOk-weaker (deed_of names [] body) (Suits body) (λ deed. is_end deed ≡ is_fini body) (λ deed suits. suits.1) (deed_of-suits names [] body)
+
+unless_ended : (early ended last : Bool) (deed : Result Deed Case) → IfOk deed (λ deed. is_end deed ≡ last)
+    → IfOk (if early then Err cases.Budget else if ended && not last then Err cases.AfterEnd else deed) (Ends ended last)
+unless_ended true ended last deed h = tt
+unless_ended false true true deed h = IfOk-weaker deed (λ deed. is_end deed ≡ true) (Ends true true) (λ deed is. (is, λ not_last. not_last)) h
+unless_ended false true false deed h = tt
+unless_ended false false last deed h = IfOk-weaker deed (λ deed. is_end deed ≡ last) (Ends false last) (λ deed is. (is, λ _. refl)) h
+
+deed_at-ends : (n : ℕ) (ended : Bool) (names : Names) (body : Body) → IfOk (deed_at n ended names body) (Ends ended (is_fini body))
+deed_at-ends n ended names body = unless_ended (nat_lt most_steps n) ended (is_fini body) (deed_of names [] body) (deed_of-ends names body)
+
+end_is : (deed : Deed) → is_end deed ≡ true → deed ≡ deeds.Fini
+end_is deeds.Fini h = refl
+end_is _ h = cc
+
+not_end : (deed : Deed) → is_end deed ≡ false → ¬ (deed ≡ deeds.Fini)
+not_end deed h is = absurd (cc)
+
+-- one step in front of others
+ends_behind : (ended : Bool) (st : Step) (more : List Step) → ended ≡ false → ¬ (st.deed ≡ deeds.Fini) → EndsOnce (is_ended ended st.deed) more → EndsOnce ended (st ∷ more)
+ends_behind ended st [] going other rest = absurd rest
+ends_behind ended st (next ∷ more) going other rest = (going, other, rest)
+
+-- the last statement
+last_ends : (ended : Bool) (line n : ℕ) (deed : Result Deed Case) (more : Deed → Steps) → IfOk deed (Ends ended true)
+    → ((deed : Deed) → (more deed).steps ≡ []) → (or_refused line n deed more).fault ≡ None → EndsOnce ended (or_refused line n deed more).steps
+last_ends ended line n (Err case) more ends none fault = cc
+last_ends ended line n (Ok deed) more ends none fault = rw (none deed) (end_is deed ends.0)
+
+-- a statement before the last
+others_end : (ended : Bool) (line n : ℕ) (deed : Result Deed Case) (more : Deed → Steps) → IfOk deed (Ends ended false)
+    → ((deed : Deed) → (more deed).fault ≡ None → EndsOnce (is_ended ended deed) (more deed).steps)
+    → (or_refused line n deed more).fault ≡ None → EndsOnce ended (or_refused line n deed more).steps
+others_end ended line n (Err case) more ends rest fault = cc
+others_end ended line n (Ok deed) more ends rest fault =
+    ends_behind ended (record { line = line; step = n; deed = deed }) (more deed).steps (ends.1 refl) (not_end deed ends.0) (rest deed fault)
+
+deed_at-last : (n : ℕ) (ended : Bool) (names : Names) (body : Body) (last : Bool) → is_fini body ≡ last → IfOk (deed_at n ended names body) (Ends ended last)
+deed_at-last n ended names body last is = subst (λ last. IfOk (deed_at n ended names body) (Ends ended last)) is (deed_at-ends n ended names body)
+
+steps_from-ends : (n : ℕ) (ended : Bool) (names : Names) (sts : List Stmt) → EndsInFini sts → (steps_from n ended names sts).fault ≡ None
+    → EndsOnce ended (steps_from n ended names sts).steps
+steps_from-ends n ended names [] ends fault = absurd ends
+steps_from-ends n ended names (st ∷ []) ends fault =
+    last_ends ended st.line n (deed_at n ended names st.body) _ (deed_at-last n ended names st.body true ends) (λ deed. refl) fault
+steps_from-ends n ended names (st ∷ next ∷ sts) ends fault =
+    others_end ended st.line n (deed_at n ended names st.body) _ (deed_at-last n ended names st.body false ends.0)
+    (λ deed. steps_from-ends (n + 1) (is_ended ended deed) (names_behind names deed) (next ∷ sts) ends.1) fault
+
+pub steps-ends : (sts : List Stmt) (u : Unrolled) → AreSteps sts u → EndsInFini sts → u.fault ≡ None → EndsOnce false u.steps.items
+steps-ends sts u are ends fault = subst (EndsOnce false) (sym are.steps) (steps_from-ends 1 false [] sts ends (sym are.fault ∙ fault))
