@@ -10,5 +10,7 @@ mod settings;
 mod state;
 mod step;
 mod stopped;
+#[cfg(test)]
+mod tests;
 
 pub use runs::{Output, RunError, run};

@@ -67,6 +67,7 @@ pub struct Output {
 
 /// Does steps one after the other. `Refused` has the first step that can't be done, and its case. Steps that
 /// end once make acts that a control takes, and every contour among them is legal.
+#[tactic(auto, using(crate::proofs::Programs::steps_program, crate::proofs::Legality::steps_legal))]
 pub fn run(alloc: Global, steps: &[Step]) -> Result<Output, RunError>
     requires scalars { AreScalars steps.now }
     ensures value { MatchResult result (λ o. unless_fault None (run_of steps.now) ≡ Ok (o.acts.items, o.segments)) (λ e. Ends (run_of steps.now) (Err e)) }

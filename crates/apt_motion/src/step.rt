@@ -41,40 +41,7 @@ pub(crate) fn step(run: Run, deed: &Deed) -> Result<Run, Stopped>
         Deed::EndWord => Ok(ended(run)?),
         Deed::Fini => Ok(finished(run)?),
         Deed::Fedrat(v) => fedrat(run, *v),
-        Deed::Partno(_)
-        | Deed::Remark(_)
-        | Deed::Clprnt
-        | Deed::Nopost
-        | Deed::Machin
-        | Deed::PointXy(..)
-        | Deed::PointLines(..)
-        | Deed::PointPick(..)
-        | Deed::PointCenter(..)
-        | Deed::LinePoints(..)
-        | Deed::LinePar(..)
-        | Deed::LinePerp(..)
-        | Deed::LineAt(..)
-        | Deed::LineTan(..)
-        | Deed::LineTwo(..)
-        | Deed::CircleXyr(..)
-        | Deed::CirclePoints(..)
-        | Deed::CircleRadius(..)
-        | Deed::CircleTan(..)
-        | Deed::CircleThrough(..)
-        | Deed::CircleCorner(..)
-        | Deed::FromPoint(_)
-        | Deed::GotoPoint(_)
-        | Deed::GoStart(_, _, None)
-        | Deed::Spindl(..)
-        | Deed::SpindlOff
-        | Deed::Coolnt(_)
-        | Deed::Loadtl(_)
-        | Deed::Macro
-        | Deed::Termac
-        | Deed::Call
-        | Deed::Loopst
-        | Deed::Loopnd
-        | Deed::Jumpto
-        | Deed::If => Ok(run),
+        // The others do nothing, or the compiler does not have them yet.
+        _ => Ok(run),
     }
 }
