@@ -4,14 +4,15 @@ use Rattle.std.specs.Prelude.{◌==◌}
 use Rattle.std.proofs.lemmas.Int.{ints}
 use Rattle.apt_words.specs.declared.Case.TheVariants as cases
 use Rattle.apt_words.specs.declared.Side.{Side}
+use Rattle.apt_words.specs.declared.Units.{Units}
 use Rattle.apt_plane.specs.declared.figures.Pt.{Pt}
 use Rattle.apt_plane.specs.declared.figures.Dir.{Dir}
 use Rattle.apt_plane.specs.declared.figures.Line.{Line}
 use Rattle.apt_plane.specs.Vectors.{way, norm}
 use Rattle.apt_plane.specs.Ranges.{IsPoint, IsLine}
-use Rattle.apt_offset.specs.Ranges.{IsSense}
+use Rattle.apt_offset.specs.Ranges.{IsSense, IsRadius, IsTolerance}
 use Rattle.apt_scalar.specs.Scalars.{grid_units, tenths}
-use Rattle.apt_meaning.specs.States.{State, Position, IsState, IsPositionOrNone, moved, forward_after, position_of, or_no_from}
+use Rattle.apt_meaning.specs.States.{State, Position, IsState, IsPositionOrNone, moved, forward_after, position_of, or_no_from, radius_of}
 use Rattle.apt_meaning.specs.Contours.{after_contour}
 use Rattle.apt_meaning.proofs.Results.{no_ok, same_ok, bind_ok}
 use Rattle.apt_stop.specs.Nearness.{heading}
@@ -23,7 +24,7 @@ use Rattle.apt_defs.proofs.Tables.{still_figures}
 use Rattle.apt_motion.specs.Runs.{Run, first_run, with_state}
 use Rattle.apt_motion.specs.Motions.{with_side}
 use Rattle.apt_motion.specs.Deeds.{up_to, feed_in, place, unless_there, cutter, intol, outtol, fedrat, from, line}
-use Rattle.apt_motion.specs.Good.{IsGoodPosition, HasGoodPosition, IsGoodState, IsGoodRun}
+use Rattle.apt_motion.specs.Good.{IsGoodPosition, HasGoodPosition, IsGoodFeed, IsGoodState, IsGoodRun}
 use Rattle.apt_motion.proofs.Ways.{way_dx, way_dy, heading_dx, heading_dy}
 use Rattle.apt_motion.proofs.Ranges.{place-IsGoodPosition, line_xy-IsFigure, up_to-IsUpTo, feed_in-IsGoodFeed}
 
@@ -68,6 +69,16 @@ after_contour-IsGoodState s p sense drive end good at turn is ends = record {
   feed = good.feed;
 }
 
+-- what the ranges say nothing of
+pub others-IsGoodState : (s : State) (units : Units) (side : Side) (rapid end : Bool) → IsGoodState s → IsGoodState (record s { units = units; side = side; rapid = rapid; ended = end })
+others-IsGoodState s units side rapid end good =
+    record { position = good.position; forward_dx = good.forward_dx; forward_dy = good.forward_dy; radius = good.radius; intol = good.intol; outtol = good.outtol; feed = good.feed }
+
+numbers-IsGoodState : (s : State) (radius intol outtol feed : ℤ) → IsGoodState s → IsRadius radius → IsTolerance intol → IsTolerance outtol → IsGoodFeed feed
+    → IsGoodState (record s { radius = radius; intol = intol; outtol = outtol; feed = feed })
+numbers-IsGoodState s radius intol outtol feed good is_radius is_intol is_outtol is_feed =
+    record { position = good.position; forward_dx = good.forward_dx; forward_dy = good.forward_dy; radius = is_radius; intol = is_intol; outtol = is_outtol; feed = is_feed }
+
 has_position : (o : Option Position) → HasGoodPosition o → IsPositionOrNone o
 has_position None good = tt
 has_position (Some p) good = record { at = good.at; z = good.z }
@@ -90,7 +101,7 @@ position_of-IsGoodPosition s p good e = subst HasGoodPosition (some_position s.p
 
 -- ---- runs
 
-pub with_state-IsGoodRun : (run : Run) (s : State) → IsGoodRun run → IsGoodState s → IsGoodRun (with_state run s)
+with_state-IsGoodRun : (run : Run) (s : State) → IsGoodRun run → IsGoodState s → IsGoodRun (with_state run s)
 with_state-IsGoodRun run s good is = record { state = is; table = good.table }
 
 pub first_run-IsGoodRun : IsGoodRun first_run
@@ -120,31 +131,28 @@ cutter-IsGoodRun run v after good e =
     let is = up_to-IsUpTo (pos 1000000) (grid_units run.state.units v) d.0 d.1 in
     let half : (unsigned_abs d.0 + 1) / 2 ≤ 500000 = half_small d.0 is.least is.most in
     let s = good.state in
-    subst IsGoodRun (same_ok _ after d.2)
-    (with_state-IsGoodRun run _ good (record { position = s.position; forward_dx = s.forward_dx; forward_dy = s.forward_dy; radius = record { least = omega (arith, ints); most = omega (arith, ints, half) }; intol = s.intol; outtol = s.outtol; feed = s.feed }))
+    let radius : IsRadius (pos (radius_of (unsigned_abs d.0))) = record { least = omega (arith, ints); most = omega (arith, ints, half) } in
+    subst IsGoodRun (same_ok _ after d.2) (with_state-IsGoodRun run _ good (numbers-IsGoodState run.state _ _ _ _ s radius s.intol s.outtol s.feed))
 
 pub intol-IsGoodRun : (run : Run) (v : ℤ) (after : Run) → IsGoodRun run → intol run v ≡ Ok after → IsGoodRun after
 intol-IsGoodRun run v after good e =
     let t = bind_ok (up_to (pos 10000) (grid_units run.state.units v)) _ after e in
     let is = up_to-IsUpTo (pos 10000) (grid_units run.state.units v) t.0 t.1 in
     let s = good.state in
-    subst IsGoodRun (same_ok _ after t.2)
-    (with_state-IsGoodRun run _ good (record { position = s.position; forward_dx = s.forward_dx; forward_dy = s.forward_dy; radius = s.radius; intol = record { least = is.least; most = is.most }; outtol = s.outtol; feed = s.feed }))
+    subst IsGoodRun (same_ok _ after t.2) (with_state-IsGoodRun run _ good (numbers-IsGoodState run.state _ _ _ _ s s.radius (record { least = is.least; most = is.most }) s.outtol s.feed))
 
 pub outtol-IsGoodRun : (run : Run) (v : ℤ) (after : Run) → IsGoodRun run → outtol run v ≡ Ok after → IsGoodRun after
 outtol-IsGoodRun run v after good e =
     let t = bind_ok (up_to (pos 10000) (grid_units run.state.units v)) _ after e in
     let is = up_to-IsUpTo (pos 10000) (grid_units run.state.units v) t.0 t.1 in
     let s = good.state in
-    subst IsGoodRun (same_ok _ after t.2)
-    (with_state-IsGoodRun run _ good (record { position = s.position; forward_dx = s.forward_dx; forward_dy = s.forward_dy; radius = s.radius; intol = s.intol; outtol = record { least = is.least; most = is.most }; feed = s.feed }))
+    subst IsGoodRun (same_ok _ after t.2) (with_state-IsGoodRun run _ good (numbers-IsGoodState run.state _ _ _ _ s s.radius s.intol (record { least = is.least; most = is.most }) s.feed))
 
 pub fedrat-IsGoodRun : (run : Run) (v : ℤ) (after : Run) → IsGoodRun run → fedrat run v ≡ Ok after → IsGoodRun after
 fedrat-IsGoodRun run v after good e =
     let f = bind_ok (feed_in (tenths v)) _ after e in
     let s = good.state in
-    subst IsGoodRun (same_ok _ after f.2)
-    (with_state-IsGoodRun run _ good (record { position = s.position; forward_dx = s.forward_dx; forward_dy = s.forward_dy; radius = s.radius; intol = s.intol; outtol = s.outtol; feed = feed_in-IsGoodFeed (tenths v) f.0 f.1 }))
+    subst IsGoodRun (same_ok _ after f.2) (with_state-IsGoodRun run _ good (numbers-IsGoodState run.state _ _ _ _ s s.radius s.intol s.outtol (feed_in-IsGoodFeed (tenths v) f.0 f.1)))
 
 pub from-IsGoodRun : (run : Run) (x y : ℤ) (z : Option ℤ) (after : Run) → IsGoodRun run → from run x y z ≡ Ok after → IsGoodRun after
 from-IsGoodRun run x y z after good e =
@@ -157,8 +165,7 @@ from-IsGoodRun run x y z after good e =
 pub with_side-IsGoodRun : (run : Run) (side : Option Side) → IsGoodRun run → IsGoodRun (with_side run side)
 with_side-IsGoodRun run None good = good
 with_side-IsGoodRun run (Some side) good =
-    let s = good.state in
-    record { state = record { position = s.position; forward_dx = s.forward_dx; forward_dy = s.forward_dy; radius = s.radius; intol = s.intol; outtol = s.outtol; feed = s.feed }; table = good.table }
+    with_state-IsGoodRun run _ good (others-IsGoodState run.state run.state.units side run.state.rapid run.state.ended good.state)
 
 -- ---- definitions
 

@@ -10,15 +10,15 @@ use Rattle.apt_motion.specs.Motions.{Motion, AreLegal, IsLegalMotion, motion, wi
 use Rattle.apt_motion.specs.Deeds.{step, or_none, motion_of, motions_after, motions_from, motions_of}
 use Rattle.apt_motion.specs.Good.{IsGoodRun}
 use Rattle.apt_control.specs.declared.Act.TheVariants as acts
-use Rattle.apt_motion.proofs.GoodStates.{moved-IsGoodState, after_contour-IsGoodState, first_run-IsGoodRun, cutter-IsGoodRun, intol-IsGoodRun, outtol-IsGoodRun, fedrat-IsGoodRun, from-IsGoodRun, with_side-IsGoodRun, assign-IsGoodRun, line-IsGoodRun}
+use Rattle.apt_motion.proofs.GoodStates.{moved-IsGoodState, others-IsGoodState, after_contour-IsGoodState, first_run-IsGoodRun, cutter-IsGoodRun, intol-IsGoodRun, outtol-IsGoodRun, fedrat-IsGoodRun, from-IsGoodRun, with_side-IsGoodRun, assign-IsGoodRun, line-IsGoodRun}
 use Rattle.apt_motion.proofs.Moves.{Moves, goto-Moves, godlta-Moves, start-Moves, IsMade, motion-IsMade}
 
 -- ---- steps
 
-pub moved-IsGoodRun : (run after : Run) → IsGoodRun run → Moves run after → IsGoodRun after
+moved-IsGoodRun : (run after : Run) → IsGoodRun run → Moves run after → IsGoodRun after
 moved-IsGoodRun run after good m = subst IsGoodRun m.is (record { state = moved-IsGoodState run.state m.to good.state m.good; table = good.table })
 
-pub contour-IsGoodRun : (run : Run) (m : Motion) → IsGoodRun run → IsMade run m → IsGoodRun (with_contour run m.from m.drive m.contour)
+contour-IsGoodRun : (run : Run) (m : Motion) → IsGoodRun run → IsMade run m → IsGoodRun (with_contour run m.from m.drive m.contour)
 contour-IsGoodRun run m good is = record {
   state = after_contour-IsGoodState run.state m.from m.contour.leg.sense m.drive m.contour.end good.state is.from is.sense is.drive is.end;
   table = good.table;
@@ -31,8 +31,7 @@ finished-IsGoodRun false run after good is = is
 -- a step keeps a run good
 pub step-IsGoodRun : (run : Run) (deed : Deed) (after : Run) → IsGoodRun run → step run deed ≡ Ok after → IsGoodRun after
 step-IsGoodRun run (deeds.Units u) after good e =
-    let s = good.state in
-    subst IsGoodRun (same_ok _ after e) (record { state = record { position = s.position; forward_dx = s.forward_dx; forward_dy = s.forward_dy; radius = s.radius; intol = s.intol; outtol = s.outtol; feed = s.feed }; table = good.table })
+    subst IsGoodRun (same_ok _ after e) (record { state = others-IsGoodState run.state u run.state.side run.state.rapid run.state.ended good.state; table = good.table })
 step-IsGoodRun run (deeds.Assign n v) after good e = subst IsGoodRun (same_ok _ after e) (assign-IsGoodRun run n good)
 step-IsGoodRun run (deeds.LineXy n x y u v) after good e = line-IsGoodRun run n x y u v after good e
 step-IsGoodRun run (deeds.Cutter v) after good e = cutter-IsGoodRun run v after good e
@@ -49,13 +48,11 @@ step-IsGoodRun run (deeds.Contour side go drive q check) after good e =
     let sided = with_side-IsGoodRun run side good in
     subst IsGoodRun (same_ok _ after m.2) (contour-IsGoodRun (with_side run side) m.0 sided (motion-IsMade (with_side run side) go drive q check m.0 sided m.1))
 step-IsGoodRun run deeds.Rapid after good e =
-    let s = good.state in
-    subst IsGoodRun (same_ok _ after e) (record { state = record { position = s.position; forward_dx = s.forward_dx; forward_dy = s.forward_dy; radius = s.radius; intol = s.intol; outtol = s.outtol; feed = s.feed }; table = good.table })
+    subst IsGoodRun (same_ok _ after e) (record { state = others-IsGoodState run.state run.state.units run.state.side true run.state.ended good.state; table = good.table })
 step-IsGoodRun run deeds.Halt after good e = subst IsGoodRun (same_ok _ after e) (record { state = good.state; table = good.table })
 step-IsGoodRun run deeds.OptHalt after good e = subst IsGoodRun (same_ok _ after e) (record { state = good.state; table = good.table })
 step-IsGoodRun run deeds.EndWord after good e =
-    let s = good.state in
-    subst IsGoodRun (same_ok _ after e) (record { state = record { position = s.position; forward_dx = s.forward_dx; forward_dy = s.forward_dy; radius = s.radius; intol = s.intol; outtol = s.outtol; feed = s.feed }; table = good.table })
+    subst IsGoodRun (same_ok _ after e) (record { state = others-IsGoodState run.state run.state.units run.state.side run.state.rapid true good.state; table = good.table })
 step-IsGoodRun run deeds.Fini after good e =
     subst IsGoodRun (same_ok _ after e) (finished-IsGoodRun run.state.ended run (with_act run acts.End) good (record { state = good.state; table = good.table }))
 step-IsGoodRun run _ after good e = subst IsGoodRun (same_ok _ after e) good

@@ -28,13 +28,13 @@ use Rattle.apt_motion.specs.Good.{IsGoodPosition, IsGoodFeed}
 
 -- ---- tables
 
-pub line_of-IsLine : (f : Figure) (l : Line) → IsFigure f → line_of f ≡ Ok l → IsLine l
+line_of-IsLine : (f : Figure) (l : Line) → IsFigure f → line_of f ≡ Ok l → IsLine l
 line_of-IsLine (figures.Shape (surfaces.Line k)) l is e = subst IsLine (same_ok k l e) is
 line_of-IsLine (figures.Shape (surfaces.Circ c)) l is e = absurd (no_ok cases.WrongKind l e)
 line_of-IsLine (figures.Point at z) l is e = absurd (no_ok cases.WrongKind l e)
 line_of-IsLine figures.Scalar l is e = absurd (no_ok cases.WrongKind l e)
 
-pub defined-IsFigure : (o : Option Figure) (f : Figure) → IfSome o IsFigure → defined o ≡ Ok f → IsFigure f
+defined-IsFigure : (o : Option Figure) (f : Figure) → IfSome o IsFigure → defined o ≡ Ok f → IsFigure f
 defined-IsFigure None f is e = absurd (no_ok cases.Undefined f e)
 defined-IsFigure (Some g) f is e = subst IsFigure (same_ok g f e) is
 
