@@ -1,5 +1,5 @@
 -- A step makes at most one segment.
-use Rattle.std.proofs.Common.{◌≡◌, ℕ, ℤ, ◌+◌, ◌≤◌, Bool, List, Option, Some, None, Result, Ok, Err, refl, subst, arith, true, false, if◌then◌else◌}
+use Rattle.std.proofs.Common.{◌≡◌, ℕ, ◌+◌, ◌≤◌, Bool, Option, Some, None, Result, Ok, Err, refl, subst, arith, true, false, if◌then◌else◌}
 use Rattle.apt_words.specs.Chains.{◌>>=◌}
 use Rattle.apt_words.specs.declared.Case.{Case}
 use Rattle.apt_words.specs.declared.Side.{Side}

@@ -1,6 +1,5 @@
 -- Start-up and contours by parts are those of the definition.
-use Rattle.std.specs.Prelude.{pos}
-use Rattle.std.proofs.Common.{◌≡◌, ℤ, int_lt, not, ◌||◌, ◌&&◌, Bool, true, false, List, ℕ, Result, Ok, Err, Option, Some, None, refl, ap, sym, ◌∙◌, subst, cond}
+use Rattle.std.proofs.Common.{◌≡◌, ℤ, not, ◌||◌, Bool, true, false, List, ℕ, Result, Ok, Err, Option, Some, None, refl, ap, sym, ◌∙◌, subst, cond}
 use Rattle.apt_words.specs.declared.Go.{Go}
 use Rattle.apt_words.specs.declared.Stop.{Stop}
 use Rattle.apt_words.specs.declared.Case.{Case}
@@ -26,7 +25,7 @@ use Rattle.apt_motion.specs.declared.motion.Ending.{Ending}
 use Rattle.apt_motion.specs.declared.stopped.Stopped.{Stopped}
 use Rattle.apt_motion.specs.Endings.{ending, with_sense, track_offset, near_track, stop_offset, line_end, end_on_track, straight_end, sense_at, contour_from, start_offset, met, meeting, start_from, may_move, start_in, start_at, contour_at}
 use Rattle.apt_motion.specs.Runs.{Run, move_to}
-use Rattle.apt_motion.specs.Motions.{line_of, line_named, start, contour, motion, with_contour, Motion}
+use Rattle.apt_motion.specs.Motions.{line_of, line_named, start, contour, with_contour, Motion}
 use Rattle.apt_motion.specs.Steps.{Follows, with_ending, start_by_parts, contour_by_parts}
 
 -- ---- binds

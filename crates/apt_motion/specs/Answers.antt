@@ -4,7 +4,6 @@ use Rattle.apt_words.specs.declared.Refusal.{Refusal}
 use Rattle.apt_words.specs.declared.body.Stmt.{Stmt}
 use Rattle.apt_control.specs.declared.Act.{Act}
 use Rattle.apt_unroll.specs.Straight.{Steps, steps_of}
-use Rattle.apt_parse.specs.Programs.{Fault, program_of}
 use Rattle.apt_motion.specs.Runs.{Run}
 use Rattle.apt_motion.specs.Deeds.{run_of}
 

@@ -9,7 +9,7 @@ use Rattle.apt_words.specs.declared.deed.Deed.TheVariants as deeds
 use Rattle.apt_words.specs.declared.deed.Step.{Step}
 use Rattle.apt_scalar.specs.Scalars.{grid_units, tenths}
 use Rattle.apt_control.specs.declared.Act.TheVariants as acts
-use Rattle.apt_meaning.specs.States.{State, Position, position_of, has_feed, radius_of, refuse_if}
+use Rattle.apt_meaning.specs.States.{Position, position_of, has_feed, radius_of, refuse_if}
 use Rattle.apt_defs.specs.declared.figure.Figure.TheVariants as figures
 use Rattle.apt_defs.specs.Definitions.{coordinate, in_reach, line_xy, point_at, table_with}
 use Rattle.apt_motion.specs.Runs.{Run, first_run, with_state, with_act, move_to, with_units, finished, ended}

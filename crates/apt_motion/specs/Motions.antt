@@ -1,18 +1,17 @@
 -- Start-up and contours of a run: the first case in order that refuses them, or the run behind them.
-use Rattle.std.specs.Prelude.{ℕ, ◌+◌, ℤ, not, ◌||◌, List, [], ◌∷◌, ◌++◌, Option, Some, None, Result, Ok, Err}
+use Rattle.std.specs.Prelude.{ℕ, ◌+◌, List, [], ◌∷◌, ◌++◌, Option, Some, None, Result, Ok, Err}
 use Rattle.apt_words.specs.Chains.{◌>>=◌}
 use Rattle.apt_words.specs.declared.Go.{Go}
 use Rattle.apt_words.specs.declared.Side.{Side}
 use Rattle.apt_words.specs.declared.Stop.{Stop}
 use Rattle.apt_words.specs.declared.Case.{Case}
 use Rattle.apt_words.specs.declared.Case.TheVariants as cases
-use Rattle.apt_plane.specs.declared.figures.Pt.{Pt}
 use Rattle.apt_plane.specs.declared.figures.Line.{Line}
 use Rattle.apt_plane.specs.declared.figures.Surface.{Surface}
 use Rattle.apt_plane.specs.declared.figures.Surface.TheVariants as surfaces
 use Rattle.apt_control.specs.declared.Act.TheVariants as acts
 use Rattle.apt_certify.specs.Legs.{IsLegal}
-use Rattle.apt_meaning.specs.States.{State, Position, position_of}
+use Rattle.apt_meaning.specs.States.{Position, position_of}
 use Rattle.apt_meaning.specs.Contours.{Contour, start_up, straight_contour, after_contour}
 use Rattle.apt_defs.specs.declared.figure.Figure.{Figure}
 use Rattle.apt_defs.specs.Figures.{Table, figure_named, defined, as_surface}

@@ -3,7 +3,6 @@ use Rattle.std.specs.Prelude.{◌≡◌, ◌+◌, ℤ, pos, unsigned_abs, ◌+�
 use Rattle.apt_words.specs.declared.Go.{Go}
 use Rattle.apt_words.specs.declared.Stop.{Stop}
 use Rattle.apt_words.specs.declared.Case.{Case}
-use Rattle.apt_words.specs.declared.Refusal.{Refusal}
 use Rattle.apt_plane.specs.declared.figures.Line.{Line}
 use Rattle.apt_stop.specs.Nearness.{heading}
 use Rattle.apt_words.specs.Chains.{◌>>=◌}
