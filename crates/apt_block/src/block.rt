@@ -1,4 +1,5 @@
 ghost use Rattle.std.specs.Prelude.{◌≡◌, ◌<◌, length, [], ◌∷◌, ◌++◌};
+ghost use Rattle.apt_block.specs.Causes as causes;
 
 use arrayvec::ArrayVec;
 use std::marker::Model;
@@ -59,4 +60,27 @@ pub enum TapeCause {
     NoPosition,
     Truncated,
     AfterEnd,
+}
+
+impl TapeCause {
+    /// Its name, as it is printed.
+    pub fn name(&self) -> &'static str
+        ensures { result.now ≡ causes.name_of self.now }
+    {
+        match self {
+            TapeCause::NoStart => "NoStart",
+            TapeCause::BadParity => "BadParity",
+            TapeCause::BadCode => "BadCode",
+            TapeCause::BadBlock => "BadBlock",
+            TapeCause::BadG => "BadG",
+            TapeCause::BadM => "BadM",
+            TapeCause::BadMix => "BadMix",
+            TapeCause::NoUnits => "NoUnits",
+            TapeCause::NoMode => "NoMode",
+            TapeCause::NoFeed => "NoFeed",
+            TapeCause::NoPosition => "NoPosition",
+            TapeCause::Truncated => "Truncated",
+            TapeCause::AfterEnd => "AfterEnd",
+        }
+    }
 }

@@ -1,7 +1,7 @@
 ghost use Rattle.std.specs.Prelude.{◌≡◌, ◌≤◌, length};
 ghost use Rattle.apt_block.specs.Block.{IsBlock, tape_word};
 
-use crate::{Block, TapeWord, write_block};
+use crate::{Block, TapeCause, TapeWord, write_block};
 use std::alloc::{AllocError, Global};
 use std::test::Fail;
 
@@ -102,4 +102,9 @@ fn appends_blocks(rt: HostRuntime) -> Result<(), Fail> {
     write_block(alloc, &end(), &mut text)?;
     assert_eq!(rt; text.as_slice(), "N0001G70G90G94\nM02\n".as_bytes());
     Ok(())
+}
+
+#[test]
+fn causes_have_names(rt: HostRuntime) {
+    assert_eq!(rt; TapeCause::NoStart.name(), "NoStart");
 }
