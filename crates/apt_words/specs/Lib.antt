@@ -7,3 +7,4 @@ pub mod Trees
 pub mod TreeCodes
 pub mod TreeViews
 pub mod Endings
+pub mod Built

@@ -7,7 +7,7 @@ use crate::{Cool, Expr, Go, Pick, Side, Stop, Symbol, Turn, Units};
 use std::marker::Model;
 
 /// The text of PARTNO or REMARK. Clauses see its bytes.
-#[derive(Debug, Drop)]
+#[derive(Drop)]
 pub struct Text {
     pub bytes: Vec<u8>,
 }
@@ -21,7 +21,7 @@ impl Model for Text {
 }
 
 /// The list of MACHIN.
-#[derive(Debug, Drop)]
+#[derive(Drop)]
 pub struct Exprs {
     pub items: Vec<Expr>,
 }
@@ -40,7 +40,7 @@ impl Model for Exprs {
 }
 
 /// The parameters of a MACRO, each with its default where it has one.
-#[derive(Debug, Drop)]
+#[derive(Drop)]
 pub struct Params {
     pub items: Vec<(Symbol, Option<Expr>)>,
 }
@@ -59,7 +59,7 @@ impl Model for Params {
 }
 
 /// The arguments of a CALL.
-#[derive(Debug, Drop)]
+#[derive(Drop)]
 pub struct Args {
     pub items: Vec<(Symbol, Expr)>,
 }
@@ -80,7 +80,7 @@ impl Model for Args {
 /// What a statement says: its words' arguments in order, a defined name first.
 ///
 /// A bool is true for LEFT. A stop that is left out is `To`, and a turn of the spindle `Cw`.
-#[derive(Debug, Drop)]
+#[derive(Drop)]
 pub enum Body {
     Partno(Text),
     Remark(Text),
@@ -145,15 +145,28 @@ impl Body {
 }
 
 /// A statement, and the line on which it begins, from 1.
-#[derive(Debug, Drop)]
+#[derive(Drop)]
 pub struct Stmt {
     pub line: u32,
     pub label: Option<Symbol>,
     pub body: Body,
 }
 
-/// A part program. Clauses see its statements.
-#[derive(Debug, Drop)]
+/// A part program. Clauses see the list of its statements.
+#[derive(Drop)]
 pub struct Program {
     pub stmts: Vec<Stmt>,
+}
+
+impl Model for Program {
+    ghost use Rattle.std.specs.Prelude.{List};
+    ghost use Rattle.std.specs.Coded.{coded_list};
+    ghost use Rattle.apt_words.specs.declared.body.Stmt.{Stmt};
+    ghost use Rattle.apt_words.specs.contracts.body.Stmt as stmt;
+
+    ghost Value = { List Stmt };
+
+    ghost coded = { coded_list stmt.the_row.coded };
+
+    ghost view = { λ p. p.stmts.items };
 }

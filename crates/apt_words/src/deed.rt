@@ -3,7 +3,7 @@ use crate::{Cool, Go, Pick, Side, Stop, Symbol, Text, Turn, Units};
 
 /// What a step does: a statement's words, with a value in millionths in place of each expression, and
 /// for a parameter of a macro what it stands for.
-#[derive(Debug, Drop)]
+#[derive(Drop)]
 pub enum Deed {
     Partno(Text),
     Remark(Text),
@@ -60,7 +60,7 @@ pub enum Deed {
 }
 
 /// An executed statement: its line and its number, both from 1.
-#[derive(Debug, Drop)]
+#[derive(Drop)]
 pub struct Step {
     pub line: u32,
     pub step: u32,

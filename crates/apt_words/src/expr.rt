@@ -12,14 +12,14 @@ pub enum Op {
 }
 
 /// An expression. Clauses see its `Tree`.
-#[derive(Debug, Drop)]
+#[derive(Drop)]
 #[cycle(expr)]
 pub struct Expr {
     pub node: Node,
 }
 
 /// What stands at the top of an expression; a number is in millionths.
-#[derive(Debug, Drop)]
+#[derive(Drop)]
 #[cycle(expr)]
 pub enum Node {
     Num(i64),

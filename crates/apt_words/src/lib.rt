@@ -110,6 +110,7 @@ pub enum Case {
     NoContact,
     Behind,
     TooManyPoints,
+    NotBuilt,
 }
 
 /// The first step of a part program that is refused: its line, its number, both from 1, and the case.

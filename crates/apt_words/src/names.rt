@@ -43,6 +43,7 @@ impl Case {
             Case::NoContact => "NoContact",
             Case::Behind => "Behind",
             Case::TooManyPoints => "TooManyPoints",
+            Case::NotBuilt => "NotBuilt",
         }
     }
 }

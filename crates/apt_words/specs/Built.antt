@@ -1,0 +1,157 @@
+-- The statements that the compiler has so far; the other shapes of the language are refused as NotBuilt.
+use Rattle.std.specs.Prelude.{ℕ, ◌&&◌, Bool, true, false, IsTrue, List, [], ◌∷◌, Option, Some, None}
+use Rattle.apt_words.specs.declared.Side.{Side}
+use Rattle.apt_words.specs.declared.Side.TheVariants as sides
+use Rattle.apt_words.specs.declared.Stop.{Stop}
+use Rattle.apt_words.specs.declared.Stop.TheVariants as stops
+use Rattle.apt_words.specs.declared.body.Body.{Body}
+use Rattle.apt_words.specs.declared.body.Body.TheVariants as bodies
+use Rattle.apt_words.specs.declared.body.Stmt.{Stmt}
+use Rattle.apt_words.specs.declared.deed.Deed.{Deed}
+use Rattle.apt_words.specs.declared.deed.Deed.TheVariants as deeds
+use Rattle.apt_words.specs.declared.deed.Step.{Step}
+
+-- no TLON yet
+abbrev pub is_side_built : Side → Bool
+is_side_built sides.Left = true
+is_side_built sides.Right = true
+is_side_built sides.On = false
+
+abbrev pub is_side_or_none_built : Option Side → Bool
+is_side_or_none_built None = true
+is_side_or_none_built (Some side) = is_side_built side
+
+-- no ON and no TANTO yet
+abbrev pub is_stop_built : Stop → Bool
+is_stop_built stops.To = true
+is_stop_built stops.Past = true
+is_stop_built stops.On = false
+is_stop_built stops.Tanto = false
+
+-- GO takes two surfaces so far
+abbrev pub is_start_built : Stop → Option (Stop × List ℕ) → Bool
+is_start_built q None = false
+is_start_built q (Some other) = is_stop_built q && is_stop_built other.0
+
+abbrev pub is_contour_built : Option Side → Stop → Bool
+is_contour_built side q = is_side_or_none_built side && is_stop_built q
+
+-- ---- statements as they are read
+
+abbrev pub is_built : Body → Bool
+is_built (bodies.Partno text) = true
+is_built (bodies.Remark text) = true
+is_built (bodies.Units units) = true
+is_built bodies.Clprnt = true
+is_built bodies.Nopost = true
+is_built (bodies.Machin es) = true
+is_built (bodies.Assign n e) = true
+is_built (bodies.PointXy n x y z) = false
+is_built (bodies.PointLines n a b) = false
+is_built (bodies.PointPick n k a b) = false
+is_built (bodies.PointCenter n c) = false
+is_built (bodies.LineXy n x y u v) = true
+is_built (bodies.LinePoints n p q) = false
+is_built (bodies.LinePar n p l) = false
+is_built (bodies.LinePerp n p l) = false
+is_built (bodies.LineAt n l k e) = false
+is_built (bodies.LineTan n p h c) = false
+is_built (bodies.LineTwo n h c k d) = false
+is_built (bodies.CircleThree n x y z) = false
+is_built (bodies.CircleRadius n p e) = false
+is_built (bodies.CircleTan n p l) = false
+is_built (bodies.CircleThrough n p q) = false
+is_built (bodies.CircleCorner n j a k b e) = false
+is_built (bodies.Cutter e) = true
+is_built (bodies.Intol e) = true
+is_built (bodies.Outtol e) = true
+is_built (bodies.Tool side) = is_side_built side
+is_built (bodies.FromXy x y z) = true
+is_built (bodies.FromPoint p) = false
+is_built (bodies.GotoXy x y z) = true
+is_built (bodies.GotoPoint p) = false
+is_built (bodies.Godlta x y z) = true
+is_built (bodies.GoStart q s other) = is_start_built q other
+is_built (bodies.Contour side go drive q check) = is_contour_built side q
+is_built bodies.Rapid = true
+is_built bodies.Halt = true
+is_built bodies.OptHalt = true
+is_built bodies.EndWord = true
+is_built bodies.Fini = true
+is_built (bodies.Fedrat e) = true
+is_built (bodies.Spindl e turn) = false
+is_built bodies.SpindlOff = false
+is_built (bodies.Coolnt c) = false
+is_built (bodies.Loadtl e) = false
+is_built (bodies.Macro m ps) = false
+is_built bodies.Termac = false
+is_built (bodies.Call m args) = false
+is_built bodies.Loopst = false
+is_built bodies.Loopnd = false
+is_built (bodies.Jumpto l) = false
+is_built (bodies.If e a b c) = false
+
+abbrev pub AreBuilt : List Stmt → Type 0
+AreBuilt [] = Unit {0}
+AreBuilt (st ∷ sts) = IsTrue (is_built st.body) × AreBuilt sts
+
+-- ---- the same statements as they are executed
+
+abbrev pub IsBuilt : Deed → Type 0
+IsBuilt (deeds.Partno text) = Unit {0}
+IsBuilt (deeds.Remark text) = Unit {0}
+IsBuilt (deeds.Units units) = Unit {0}
+IsBuilt deeds.Clprnt = Unit {0}
+IsBuilt deeds.Nopost = Unit {0}
+IsBuilt deeds.Machin = Unit {0}
+IsBuilt (deeds.Assign n v) = Unit {0}
+IsBuilt (deeds.PointXy n x y z) = ⊥
+IsBuilt (deeds.PointLines n a b) = ⊥
+IsBuilt (deeds.PointPick n k a b) = ⊥
+IsBuilt (deeds.PointCenter n c) = ⊥
+IsBuilt (deeds.LineXy n x y u v) = Unit {0}
+IsBuilt (deeds.LinePoints n p q) = ⊥
+IsBuilt (deeds.LinePar n p l) = ⊥
+IsBuilt (deeds.LinePerp n p l) = ⊥
+IsBuilt (deeds.LineAt n l k v) = ⊥
+IsBuilt (deeds.LineTan n p h c) = ⊥
+IsBuilt (deeds.LineTwo n h c k d) = ⊥
+IsBuilt (deeds.CircleXyr n x y r) = ⊥
+IsBuilt (deeds.CirclePoints n a b c) = ⊥
+IsBuilt (deeds.CircleRadius n p r) = ⊥
+IsBuilt (deeds.CircleTan n p l) = ⊥
+IsBuilt (deeds.CircleThrough n p q) = ⊥
+IsBuilt (deeds.CircleCorner n j a k b r) = ⊥
+IsBuilt (deeds.Cutter v) = Unit {0}
+IsBuilt (deeds.Intol v) = Unit {0}
+IsBuilt (deeds.Outtol v) = Unit {0}
+IsBuilt (deeds.Tool side) = IsTrue (is_side_built side)
+IsBuilt (deeds.FromXy x y z) = Unit {0}
+IsBuilt (deeds.FromPoint p) = ⊥
+IsBuilt (deeds.GotoXy x y z) = Unit {0}
+IsBuilt (deeds.GotoPoint p) = ⊥
+IsBuilt (deeds.Godlta x y z) = Unit {0}
+IsBuilt (deeds.GoStart q s other) = IsTrue (is_start_built q other)
+IsBuilt (deeds.Contour side go drive q check) = IsTrue (is_contour_built side q)
+IsBuilt deeds.Rapid = Unit {0}
+IsBuilt deeds.Halt = Unit {0}
+IsBuilt deeds.OptHalt = Unit {0}
+IsBuilt deeds.EndWord = Unit {0}
+IsBuilt deeds.Fini = Unit {0}
+IsBuilt (deeds.Fedrat v) = Unit {0}
+IsBuilt (deeds.Spindl n turn) = ⊥
+IsBuilt deeds.SpindlOff = ⊥
+IsBuilt (deeds.Coolnt c) = ⊥
+IsBuilt (deeds.Loadtl n) = ⊥
+IsBuilt deeds.Macro = ⊥
+IsBuilt deeds.Termac = ⊥
+IsBuilt deeds.Call = ⊥
+IsBuilt deeds.Loopst = ⊥
+IsBuilt deeds.Loopnd = ⊥
+IsBuilt deeds.Jumpto = ⊥
+IsBuilt deeds.If = ⊥
+
+-- the steps of a program of built statements
+abbrev pub AreBuiltSteps : List Step → Type 0
+AreBuiltSteps [] = Unit {0}
+AreBuiltSteps (st ∷ sts) = IsBuilt st.deed × AreBuiltSteps sts
