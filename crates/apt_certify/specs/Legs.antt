@@ -1,27 +1,20 @@
--- Legal legs of contour motions.
-use Rattle.std.specs.Prelude.{◌≡◌, ℕ, ℤ, pos, negsuc, neg_ℤ, ◌+ℤ◌, ◌-ℤ◌, ◌*ℤ◌, ◌<ℤ◌, List, [], ◌∷◌, Option, Some, None}
+-- Legal legs of contour motions: the tests of a leg, in order.
+use Rattle.std.specs.Prelude.{◌≢◌, ℤ, pos, ◌+ℤ◌, ◌-ℤ◌, ◌*ℤ◌, ◌<ℤ◌, List, [], ◌∷◌, Option, Some, None}
 use Rattle.apt_num.specs.declared.Sign.{Sign}
 use Rattle.apt_num.specs.declared.Sign.TheVariants as signs
-use Rattle.apt_num.specs.Sign.{OnLine}
 use Rattle.apt_plane.specs.declared.figures.Pt.{Pt}
-use Rattle.apt_plane.specs.declared.figures.Dir.{Dir}
 use Rattle.apt_plane.specs.declared.figures.Surface.{Surface}
 use Rattle.apt_plane.specs.declared.figures.Surface.TheVariants as surfaces
 use Rattle.apt_plane.specs.declared.figures.Band.{Band}
-use Rattle.apt_plane.specs.Vectors.{Scaled, scaled, way, cross, dot, norm}
+use Rattle.apt_plane.specs.Vectors.{Scaled, scaled, way, cross, dot}
+use Rattle.apt_plane.specs.Distances.{IsOver, IsUnder, InBand, EveryPoint}
+use Rattle.apt_plane.specs.Order.{ComesBefore}
+use Rattle.apt_plane.specs.Axes.{Axis, IsOnAxis}
 use Rattle.apt_offset.specs.declared.Target.{Target}
 use Rattle.apt_offset.specs.declared.Target.TheVariants as targets
 use Rattle.apt_offset.specs.Turns.{opposite}
-use Rattle.apt_certify.specs.Distances.{IsOver, IsUnder, InBand, EveryPoint}
-use Rattle.apt_certify.specs.Order.{AreInOrder}
 
--- the axis on which a motion ends that touches its check surface: a point, a direction, and the half of it, none where it has none
-pub record Axis : Type 0 where
-  pub at : Pt
-  pub along : Dir
-  pub half : Sign
-
--- a leg: its drive surface, the track and the band about it, its check surface, the band in which it ends and the edge that it must not pass (Plus: the far one), its sense, and its axis where it touches
+-- a leg: its drive surface, the track and the band about it, its check surface, the band in which it ends and the edge that it must not pass (Plus: the far one, Zero: none), its sense, and its axis where it touches
 pub record Leg : Type 0 where
   pub drive : Surface
   pub track : Target
@@ -31,6 +24,16 @@ pub record Leg : Type 0 where
   pub beyond : Sign
   pub sense : ℤ
   pub axis : Option Axis
+
+-- a leg has an edge that it must not pass, or an axis on which it ends
+abbrev pub IsBounded : Leg → Type 0
+IsBounded leg = HasEdgeOrAxis leg.beyond leg.axis
+  where
+    HasEdgeOrAxis : Sign → Option Axis → Type 0
+    HasEdgeOrAxis signs.Plus axis = Unit {0}
+    HasEdgeOrAxis signs.Minus axis = Unit {0}
+    HasEdgeOrAxis signs.Zero (Some axis) = Unit {0}
+    HasEdgeOrAxis signs.Zero None = ⊥
 
 -- the edge beyond which a leg must not run: of a line's left side the right edge, of a circle's inside the far edge
 abbrev pub beyond_of : Surface → Sign → Sign
@@ -46,7 +49,8 @@ abbrev pub slack : Surface → Surface → Sign → Target → Band → ℤ
 slack (surfaces.Line l) check beyond track band = pos 0
 slack (surfaces.Circ c) (surfaces.Line l) beyond track band = pos 4
 slack (surfaces.Circ c) (surfaces.Circ d) signs.Minus track band = pos 4 +ℤ (track_radius track -ℤ band.lo)
-slack (surfaces.Circ c) (surfaces.Circ d) beyond track band = pos 4
+slack (surfaces.Circ c) (surfaces.Circ d) signs.Zero track band = pos 4
+slack (surfaces.Circ c) (surfaces.Circ d) signs.Plus track band = pos 4
 
 abbrev pub slack_of : Leg → ℤ
 slack_of leg = slack leg.drive leg.check leg.beyond leg.track leg.band
@@ -57,38 +61,54 @@ IsWithinEdge leg signs.Plus s = IsUnder leg.check (leg.stop_band.hi +ℤ slack_o
 IsWithinEdge leg signs.Minus s = IsOver leg.check (leg.stop_band.lo -ℤ slack_of leg) s
 IsWithinEdge leg signs.Zero s = Unit {0}
 
--- every point of the segment is in the drive band and not beyond the edge
-pub record IsLegalSegment (leg : Leg) (a b : Pt) : Type 0 where
-  pub band : EveryPoint a b (InBand leg.drive leg.band)
-  pub edge : EveryPoint a b (IsWithinEdge leg leg.beyond)
+-- one step of a motion: along a line in its sense; round a circle in its sense by less than a quarter, and onwards from the start
+abbrev pub IsStep : Surface → ℤ → Pt → Pt → Pt → Type 0
+IsStep (surfaces.Line l) sense start a b = pos 0 <ℤ (sense *ℤ dot l.dir (way a b))
+IsStep (surfaces.Circ c) sense start a b =
+    (pos 0 <ℤ (sense *ℤ cross (way c.c a) (way c.c b)))
+    × (pos 0 <ℤ dot (way c.c a) (way c.c b))
+    × ComesBefore (way c.c start) sense (way c.c a) (way c.c b)
 
-abbrev pub AreLegalSegments : Leg → Pt → List Pt → Type 0
-AreLegalSegments leg a [] = Unit {0}
-AreLegalSegments leg a (b ∷ more) = IsLegalSegment leg a b × AreLegalSegments leg b more
+abbrev pub IsOnAxisOrNone : Option Axis → Pt → Type 0
+IsOnAxisOrNone None q = Unit {0}
+IsOnAxisOrNone (Some axis) q = IsOnAxis axis q
 
-abbrev pub last_of : Pt → List Pt → Pt
-last_of a [] = a
-last_of a (b ∷ more) = last_of b more
+-- ---- the tests of a leg
 
--- on the axis within 8 units, and on its half
-abbrev pub IsOnHalf : Sign → ℤ → Type 0
-IsOnHalf signs.Plus d = pos 0 <ℤ d
-IsOnHalf signs.Minus d = d <ℤ pos 0
-IsOnHalf signs.Zero d = Unit {0}
+-- a segment goes onwards, stays in the drive band, and does not pass the edge; the last vertex is in the stop band, and on the axis
+pub data Test : Type 0 where
+  OrderOf : Pt → Pt → Test
+  BandOf : Pt → Pt → Test
+  OverrunOf : Pt → Pt → Test
+  StopAt : Pt → Test
+  AxisAt : Pt → Test
 
-abbrev pub IsOnAxis : Option Axis → Pt → Type 0
-IsOnAxis None q = Unit {0}
-IsOnAxis (Some axis) q =
-    OnLine (cross axis.along (way axis.at q)) (pos 0) (norm axis.along) (pos 8) × IsOnHalf axis.half (dot axis.along (way axis.at q))
+-- a test of a leg from its start holds
+abbrev pub Holds : Leg → Pt → Test → Type 0
+Holds leg start (OrderOf a b) = IsStep leg.drive leg.sense start a b
+Holds leg start (BandOf a b) = EveryPoint a b (InBand leg.drive leg.band)
+Holds leg start (OverrunOf a b) = EveryPoint a b (IsWithinEdge leg leg.beyond)
+Holds leg start (StopAt q) = InBand leg.check leg.stop_band (scaled q)
+Holds leg start (AxisAt q) = IsOnAxisOrNone leg.axis q
+
+-- the tests in order: those of each segment, and behind the last segment those of the end
+abbrev pub tests_from : Pt → List Pt → List Test
+tests_from a [] = StopAt a ∷ AxisAt a ∷ []
+tests_from a (b ∷ more) = OrderOf a b ∷ BandOf a b ∷ OverrunOf a b ∷ tests_from b more
+
+abbrev pub AllHold : Leg → Pt → List Test → Type 0
+AllHold leg start [] = Unit {0}
+AllHold leg start (test ∷ tests) = Holds leg start test × AllHold leg start tests
 
 abbrev pub IsSome : List Pt → Type 0
 IsSome [] = ⊥
 IsSome (p ∷ ps) = Unit {0}
 
--- a legal leg from a start: it has a vertex, its vertices are in order, each segment is legal, and it ends in the stop band, and on the axis where it touches
+-- a legal leg from a start has a vertex, and all its tests hold
 pub record IsLegal (leg : Leg) (start : Pt) (vertices : List Pt) : Type 0 where
   pub moves : IsSome vertices
-  pub order : AreInOrder leg.drive leg.sense start start vertices
-  pub segments : AreLegalSegments leg start vertices
-  pub stop : InBand leg.check leg.stop_band (scaled (last_of start vertices))
-  pub axis : IsOnAxis leg.axis (last_of start vertices)
+  pub hold : AllHold leg start (tests_from start vertices)
+
+abbrev pub last_of : Pt → List Pt → Pt
+last_of a [] = a
+last_of a (b ∷ more) = last_of b more

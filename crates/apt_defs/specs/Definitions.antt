@@ -1,9 +1,8 @@
 -- What a definition gives its name, or the first case that refuses it.
-use Rattle.std.specs.Prelude.{ℕ, ℤ, nat_eq, nat_le, unsigned_abs, ◌==◌, List, Result, Ok, Err, if◌then◌else◌}
+use Rattle.std.specs.Prelude.{ℕ, ℤ, nat_eq, nat_le, unsigned_abs, ◌==◌, not, Bool, List, [], ◌∷◌}
 use Rattle.std.specs.Cmp.Lexicographic.{pointwise}
 use Rattle.indexmap.specs.IndexMap.{insert_entry}
-use Rattle.apt_words.specs.Chains.{◌>>=◌}
-use Rattle.apt_words.specs.declared.Case.{Case}
+use Rattle.apt_words.specs.Rows.{Row}
 use Rattle.apt_words.specs.declared.Case.TheVariants as cases
 use Rattle.apt_words.specs.declared.Units.{Units}
 use Rattle.apt_plane.specs.declared.figures.Pt.{Pt}
@@ -19,25 +18,32 @@ use Rattle.apt_defs.specs.Figures.{Table}
 abbrev pub reach : ℕ
 reach = 50000000
 
-abbrev pub in_reach : ℤ → Result ℤ Case
-in_reach g = if nat_le (unsigned_abs g) reach then Ok g else Err cases.OutOfRange
+abbrev pub is_in_reach : ℤ → Bool
+is_in_reach g = nat_le (unsigned_abs g) reach
 
--- a scalar as a coordinate in grid units
-abbrev pub coordinate : Units → ℤ → Result ℤ Case
-coordinate units v = in_reach (grid_units units v)
-
-unfoldable pub line_through : Pt → Pt → Result Line Case
-line_through p q = if norm (way p q) == 0 then Err cases.Degenerate else Ok (record { base = p; dir = way p q })
+abbrev pub out_of_reach : ℤ → Row
+out_of_reach g = (not (is_in_reach g), cases.OutOfRange)
 
 abbrev pub point_at : ℤ → ℤ → Pt
 point_at x y = record { x = x; y = y }
 
-unfoldable pub point : Units → ℤ → ℤ → Result Pt Case
-point units x y = coordinate units x >>= λ x. coordinate units y >>= λ y. Ok (point_at x y)
+-- ---- LINE by four numbers: the coordinates of two points that differ
 
--- LINE by four numbers: they are in range, and its two points differ
-abbrev pub line_xy : Units → ℤ → ℤ → ℤ → ℤ → Result Figure Case
-line_xy units x y u v = point units x y >>= λ p. point units u v >>= λ q. line_through p q >>= λ l. Ok (figures.Shape (surfaces.Line l))
+abbrev pub line_between : Pt → Pt → Line
+line_between p q = record { base = p; dir = way p q }
+
+abbrev pub ends_cases : Pt → Pt → List Row
+ends_cases p q =
+    out_of_reach p.x ∷ out_of_reach p.y ∷ out_of_reach q.x ∷ out_of_reach q.y ∷ (norm (way p q) == 0, cases.Degenerate) ∷ []
+
+abbrev pub point_by : Units → ℤ → ℤ → Pt
+point_by units x y = point_at (grid_units units x) (grid_units units y)
+
+abbrev pub line_cases : Units → ℤ → ℤ → ℤ → ℤ → List Row
+line_cases units x y u v = ends_cases (point_by units x y) (point_by units u v)
+
+abbrev pub line_figure : Units → ℤ → ℤ → ℤ → ℤ → Figure
+line_figure units x y u v = figures.Shape (surfaces.Line (line_between (point_by units x y) (point_by units u v)))
 
 -- the table with a name's new figure: a new name goes last, a known one keeps its place
 abbrev pub table_with : Table → List ℕ → Figure → Table

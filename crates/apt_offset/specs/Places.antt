@@ -1,5 +1,5 @@
 -- The place of the cutter at a surface: left of a line or inside a circle (Plus), right or outside (Minus), or on it (Zero).
-use Rattle.std.specs.Prelude.{◌*◌, nat_le, ℤ, pos, ◌-ℤ◌, ◌*ℤ◌, unsigned_abs, max, Result, Ok, Err, if◌then◌else◌}
+use Rattle.std.specs.Prelude.{◌*◌, nat_le, Bool, true, false, ℤ, pos, ◌-ℤ◌, ◌*ℤ◌, unsigned_abs, max, Result, Ok, Err, if◌then◌else◌}
 use Rattle.apt_num.specs.declared.Sign.{Sign}
 use Rattle.apt_num.specs.declared.Sign.TheVariants as signs
 use Rattle.apt_num.specs.Sign.{sign_of}
@@ -13,7 +13,7 @@ use Rattle.apt_plane.specs.declared.figures.Pt.{Pt}
 use Rattle.apt_plane.specs.declared.figures.Surface.{Surface}
 use Rattle.apt_plane.specs.declared.figures.Surface.TheVariants as surfaces
 use Rattle.apt_plane.specs.Vectors.{way, cross, norm}
-use Rattle.apt_offset.specs.Turns.{opposite}
+use Rattle.apt_offset.specs.Turns.{opposite, is_zero}
 
 abbrev pub times : Sign → Sign → Sign
 times signs.Plus s = s
@@ -49,13 +49,20 @@ tanto_place (surfaces.Circ c) (surfaces.Line l) v = times (side_or_left (sign_of
 tanto_place (surfaces.Circ c) (surfaces.Circ d) v =
     if nat_le (max (unsigned_abs c.r) (unsigned_abs d.r) * max (unsigned_abs c.r) (unsigned_abs d.r)) (norm (way c.c d.c)) then opposite v else v
 
-abbrev pub off_check : Sign → Result Sign Case
-off_check signs.Zero = Err cases.OnCheck
-off_check s = Ok s
+-- the place of the cutter at the check surface where the motion stops: on the start's side under TO, on the other under PAST
+abbrev pub check_place : Surface → Stop → Pt → Surface → Sign → Sign
+check_place check stops.To start drive v = place_of check start
+check_place check stops.Past start drive v = opposite (place_of check start)
+check_place check stops.On start drive v = signs.Zero
+check_place check stops.Tanto start drive v = tanto_place drive check v
 
--- the place at the check surface where the motion stops: on the start's side under TO, on the other under PAST
+-- TO and PAST need a start that is not on the check surface
+abbrev pub is_on_check : Stop → Sign → Bool
+is_on_check stops.To w = is_zero w
+is_on_check stops.Past w = is_zero w
+is_on_check stops.On w = false
+is_on_check stops.Tanto w = false
+
 abbrev pub stop_place : Surface → Stop → Pt → Surface → Sign → Result Sign Case
-stop_place check stops.To start drive v = off_check (place_of check start)
-stop_place check stops.Past start drive v = off_check (opposite (place_of check start))
-stop_place check stops.On start drive v = Ok signs.Zero
-stop_place check stops.Tanto start drive v = Ok (tanto_place drive check v)
+stop_place check how start drive v =
+    if is_on_check how (check_place check how start drive v) then Err cases.OnCheck else Ok (check_place check how start drive v)

@@ -1,5 +1,5 @@
 -- Targets and tolerance bands.
-use Rattle.std.specs.Prelude.{ℤ, pos, neg_ℤ, ◌+ℤ◌, ◌-ℤ◌, int_lt, int_le, Result, Ok, Err, if◌then◌else◌}
+use Rattle.std.specs.Prelude.{ℤ, pos, neg_ℤ, ◌+ℤ◌, ◌-ℤ◌, int_lt, int_le, Bool, true, false, Result, Ok, Err, if◌then◌else◌}
 use Rattle.apt_num.specs.declared.Sign.{Sign}
 use Rattle.apt_num.specs.declared.Sign.TheVariants as signs
 use Rattle.apt_words.specs.declared.Side.{Side}
@@ -25,10 +25,17 @@ abbrev pub least_radius : ℤ
 least_radius = pos 100
 
 -- a surface moved by the cutter's radius to the cutter's place: a line to its left or right, a circle inwards or outwards
+abbrev pub moved : Surface → Sign → ℤ → Target
+moved (surfaces.Line l) v r = targets.Line l.base l.dir (signed v r)
+moved (surfaces.Circ c) v r = targets.Circ c.c (c.r -ℤ signed v r)
+
+-- a circle that is too small
+abbrev pub lacks_room : Target → Bool
+lacks_room (targets.Line base dir off) = false
+lacks_room (targets.Circ c r) = int_lt r least_radius
+
 abbrev pub target : Surface → Sign → ℤ → Result Target Case
-target (surfaces.Line l) v r = Ok (targets.Line l.base l.dir (signed v r))
-target (surfaces.Circ c) v r =
-    if int_lt (c.r -ℤ signed v r) least_radius then Err cases.NoRoom else Ok (targets.Circ c.c (c.r -ℤ signed v r))
+target surface v r = if lacks_room (moved surface v r) then Err cases.NoRoom else Ok (moved surface v r)
 
 abbrev pub greater : ℤ → ℤ → ℤ
 greater a b = if int_le a b then b else a

@@ -1,5 +1,5 @@
 -- The turn at the start of a contour motion.
-use Rattle.std.specs.Prelude.{ℤ, pos, negsuc, Result, Ok, Err}
+use Rattle.std.specs.Prelude.{ℤ, pos, negsuc, Bool, true, false, Result, Ok, Err}
 use Rattle.apt_num.specs.declared.Sign.{Sign}
 use Rattle.apt_num.specs.declared.Sign.TheVariants as signs
 use Rattle.apt_num.specs.Sign.{sign_of}
@@ -22,6 +22,11 @@ abbrev pub opposite : Sign → Sign
 opposite signs.Minus = signs.Plus
 opposite signs.Zero = signs.Zero
 opposite signs.Plus = signs.Minus
+
+abbrev pub is_zero : Sign → Bool
+is_zero signs.Minus = false
+is_zero signs.Zero = true
+is_zero signs.Plus = false
 
 -- how the drive surface runs against forward: a turn to the left or right goes by the cross product, forward or back by the dot product
 abbrev pub turn : Dir → Dir → Go → Sign

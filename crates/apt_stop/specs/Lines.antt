@@ -1,5 +1,5 @@
 -- A straight motion against a straight stop.
-use Rattle.std.specs.Prelude.{ℤ, ◌||◌, Bool, true, false, Result, Ok, Err, if◌then◌else◌}
+use Rattle.std.specs.Prelude.{ℤ, ◌||◌, not, Bool, true, false, List, [], ◌∷◌, Result, if◌then◌else◌}
 use Rattle.apt_num.specs.declared.Sign.{Sign}
 use Rattle.apt_num.specs.declared.Sign.TheVariants as signs
 use Rattle.apt_num.specs.Sign.{sign_of}
@@ -9,16 +9,21 @@ use Rattle.apt_plane.specs.declared.figures.Pt.{Pt}
 use Rattle.apt_plane.specs.declared.figures.Dir.{Dir}
 use Rattle.apt_plane.specs.declared.figures.Line.{Line}
 use Rattle.apt_plane.specs.Vectors.{cross}
-use Rattle.apt_canon.specs.declared.FormFault.{FormFault}
-use Rattle.apt_canon.specs.Meeting.{line_line, are_parallel}
+use Rattle.apt_words.specs.Rows.{Row, unless}
+use Rattle.apt_canon.specs.Meeting.{meeting_point, are_parallel, is_in_range}
 use Rattle.apt_offset.specs.declared.Target.TheVariants as targets
 use Rattle.apt_stop.specs.Nearness.{is_near, side_of, heading, near_stop}
 
 abbrev pub is_same : Sign → Sign → Bool
 is_same signs.Plus signs.Plus = true
+is_same signs.Plus signs.Zero = false
+is_same signs.Plus signs.Minus = false
+is_same signs.Zero signs.Plus = false
 is_same signs.Zero signs.Zero = true
+is_same signs.Zero signs.Minus = false
+is_same signs.Minus signs.Plus = false
+is_same signs.Minus signs.Zero = false
 is_same signs.Minus signs.Minus = true
-is_same _ _ = false
 
 -- the side of the stop on which a straight motion runs: that of the start, or where the start is near the stop the one into which the motion heads
 abbrev pub line_side : Pt → Dir → Line → ℤ → Sign
@@ -32,13 +37,13 @@ line_behind start m stop off =
     is_near (targets.Line stop.base stop.dir off) near_stop start
     || is_same (side_of (targets.Line stop.base stop.dir off) start) (sign_of (cross stop.dir m))
 
-abbrev pub contact_of : Result Pt FormFault → Result Pt Case
-contact_of (Ok p) = Ok p
-contact_of (Err fault) = Err cases.OutOfRange
+-- what refuses a motion along one moved line that stops at another
+abbrev pub line_cases : Pt → Line → ℤ → ℤ → Line → ℤ → List Row
+line_cases start drive off sense check stop_off =
+    (are_parallel drive check, cases.Parallel)
+    ∷ (line_behind start (heading sense drive.dir) check stop_off, cases.Behind)
+    ∷ (not (is_in_range (meeting_point drive off check stop_off)), cases.OutOfRange) ∷ []
 
--- where a motion along one moved line stops at another: the first case in order, or the contact
+-- where it stops
 abbrev pub line_stop : Pt → Line → ℤ → ℤ → Line → ℤ → Result Pt Case
-line_stop start drive off sense check stop_off =
-    if are_parallel drive check then Err cases.Parallel
-    else if line_behind start (heading sense drive.dir) check stop_off then Err cases.Behind
-    else contact_of (line_line drive off check stop_off)
+line_stop start drive off sense check stop_off = unless (line_cases start drive off sense check stop_off) (meeting_point drive off check stop_off)

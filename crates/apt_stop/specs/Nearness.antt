@@ -11,7 +11,8 @@ use Rattle.apt_offset.specs.declared.Target.TheVariants as targets
 
 abbrev pub is_minus : Sign → Bool
 is_minus signs.Minus = true
-is_minus _ = false
+is_minus signs.Zero = false
+is_minus signs.Plus = false
 
 -- whether k is at least h * sqrt(n)
 abbrev pub is_at_least : ℤ → ℤ → ℕ → Bool

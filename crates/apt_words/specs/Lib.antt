@@ -1,4 +1,5 @@
 pub mod Chains
+pub mod Rows
 pub mod Options
 pub mod Vocabulary
 pub mod Symbols

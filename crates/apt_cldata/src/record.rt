@@ -1,0 +1,77 @@
+//! Records.
+use apt_plane::{Pt, Surface};
+use apt_words::{Cool, Side, Stop, Text, Turn, Units};
+use std::marker::Model;
+
+/// A point and its height, in grid units.
+#[derive(Clone, Copy)]
+pub struct Position {
+    pub at: Pt,
+    pub z: i64,
+}
+
+/// How a position is reached: set by FROM, or moved to.
+#[derive(Clone, Copy)]
+pub enum Reach {
+    From,
+    Goto,
+    Godlta,
+    Start,
+}
+
+/// What a statement says that is no motion: lengths in grid units, the feed in tenths of a length unit per
+/// minute, the spindle in turns per minute (0 with `Off`).
+#[derive(Drop)]
+pub enum Note {
+    Partno(Text),
+    Units(Units),
+    Cutter(i64),
+    Intol(i64),
+    Outtol(i64),
+    Fedrat(i64),
+    Spindl(Turn, i64),
+    Coolnt(Cool),
+    Loadtl(i64),
+    Rapid,
+    Stop,
+    OptStop,
+    End,
+    Fini,
+}
+
+/// The vertices of a contour behind its start. Clauses see their list.
+#[derive(Drop)]
+pub struct Vertices {
+    pub at: Vec<Position>,
+}
+
+impl Model for Vertices {
+    ghost use Rattle.std.specs.Prelude.{List};
+    ghost use Rattle.apt_cldata.specs.declared.record.Position.{Position};
+
+    ghost Value = { List Position };
+
+    ghost view = { λ v. v.at.items };
+}
+
+/// A record of a CL file. The sense of a drive is 1 along a line's direction or anticlockwise round a circle,
+/// -1 the other way.
+#[derive(Drop)]
+pub enum Record {
+    /// The line and the number of the step that the records behind it belong to, both from 1.
+    Statement { line: u32, step: u32 },
+    /// A setting, a command, or the end.
+    Note(Note),
+    /// A drive surface, the cutter's side of it, and the sense of the motion.
+    Drive {
+        surface: Surface,
+        side: Side,
+        sense: i8,
+    },
+    /// A check surface, and where the motion stops at it.
+    Check { surface: Surface, how: Stop },
+    /// A position that is reached.
+    Point(Reach, Position),
+    /// The vertices of a contour.
+    Contour(Vertices),
+}

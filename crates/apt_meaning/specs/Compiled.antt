@@ -1,0 +1,45 @@
+-- The compiler's records: every contour runs to its contact.
+use Rattle.std.specs.Prelude.{List, [], ◌∷◌, ◌++◌, Option, Some, None, Result, Ok, Err}
+use Rattle.apt_plane.specs.declared.figures.Pt.{Pt}
+use Rattle.apt_words.specs.declared.Case.{Case}
+use Rattle.apt_words.specs.declared.Case.TheVariants as cases
+use Rattle.apt_words.specs.declared.Refusal.{Refusal}
+use Rattle.apt_words.specs.declared.deed.Step.{Step}
+use Rattle.apt_cldata.specs.declared.record.Record.{Record}
+use Rattle.apt_meaning.specs.declared.situation.Situation.{Situation}
+use Rattle.apt_meaning.specs.declared.effect.Effect.{Effect}
+use Rattle.apt_meaning.specs.declared.effect.Effect.TheVariants as effects
+use Rattle.apt_meaning.specs.Motions.{contact}
+use Rattle.apt_meaning.specs.Effects.{effect_of}
+use Rattle.apt_meaning.specs.Refusals.{refusal_of}
+use Rattle.apt_meaning.specs.Records.{records_of, after}
+
+abbrev pub ends_of : Effect → List Pt
+ends_of (effects.Defines n f) = []
+ends_of (effects.Sets s note) = []
+ends_of (effects.Moves reach to) = []
+ends_of (effects.Cuts m) = contact m ∷ []
+
+abbrev pub refused_at : Step → Case → Refusal
+refused_at step case = record { line = step.line; step = step.step; case = case }
+
+abbrev pub with_front : List Record → Result (List Record) Refusal → Result (List Record) Refusal
+with_front front (Ok rest) = Ok (front ++ rest)
+with_front front (Err refusal) = Err refusal
+
+-- what a step asks for, or the first case that refuses it
+abbrev pub asked : Option Case → Option Effect → Result Effect Case
+asked (Some case) e = Err case
+asked None None = Err cases.NotBuilt
+asked None (Some e) = Ok e
+
+abbrev pub or_refused : Step → Result Effect Case → (Effect → Result (List Record) Refusal) → Result (List Record) Refusal
+or_refused step (Err case) more = Err (refused_at step case)
+or_refused step (Ok e) more = more e
+
+-- the records of all steps, or the first step that a case refuses
+abbrev pub compiled : Situation → List Step → Result (List Record) Refusal
+compiled at [] = Ok []
+compiled at (step ∷ steps) =
+    or_refused step (asked (refusal_of at step.deed) (effect_of at step.deed))
+    (λ e. with_front (records_of step e (ends_of e)) (compiled (after at e (ends_of e)) steps))

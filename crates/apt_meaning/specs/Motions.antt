@@ -1,0 +1,148 @@
+-- Contour motions: the parts of one at a situation, its leg, and where it stops.
+use Rattle.std.specs.Prelude.{ℤ, pos, int_lt, ◌&&◌, ◌||◌, not, Bool, true, false, List, ℕ, Option, Some, None, if◌then◌else◌}
+use Rattle.apt_num.specs.declared.Sign.{Sign}
+use Rattle.apt_num.specs.declared.Sign.TheVariants as signs
+use Rattle.apt_words.specs.declared.Go.{Go}
+use Rattle.apt_words.specs.declared.Side.{Side}
+use Rattle.apt_words.specs.declared.Stop.{Stop}
+use Rattle.apt_words.specs.declared.Stop.TheVariants as stops
+use Rattle.apt_words.specs.Options.{◌>>=◌}
+use Rattle.apt_plane.specs.declared.figures.Pt.{Pt}
+use Rattle.apt_plane.specs.declared.figures.Line.{Line}
+use Rattle.apt_plane.specs.declared.figures.Surface.{Surface}
+use Rattle.apt_plane.specs.declared.figures.Surface.TheVariants as surfaces
+use Rattle.apt_canon.specs.Meeting.{meeting_point}
+use Rattle.apt_defs.specs.declared.figure.Figure.{Figure}
+use Rattle.apt_defs.specs.declared.figure.Figure.TheVariants as figures
+use Rattle.apt_defs.specs.Figures.{Table, figure_named}
+use Rattle.apt_offset.specs.declared.Target.{Target}
+use Rattle.apt_offset.specs.Turns.{tangent, turn, is_zero}
+use Rattle.apt_offset.specs.Places.{drive_place, check_place, is_on_check}
+use Rattle.apt_offset.specs.Targets.{signed, greater, moved, lacks_room, band_at}
+use Rattle.apt_stop.specs.Nearness.{heading}
+use Rattle.apt_stop.specs.Lines.{line_side}
+use Rattle.apt_certify.specs.Legs.{Leg, beyond_of}
+use Rattle.apt_cldata.specs.declared.record.Position.{Position}
+use Rattle.apt_meaning.specs.declared.situation.Settings.{Settings}
+use Rattle.apt_meaning.specs.declared.situation.Situation.{Situation}
+use Rattle.apt_meaning.specs.declared.motion.Motion.{Motion}
+use Rattle.apt_meaning.specs.Situations.{with_side}
+
+-- ---- the parts of a motion
+
+-- a tolerance counts as at least one grid step of 8 units
+abbrev pub grid_step : ℤ
+grid_step = pos 8
+
+abbrev pub is_too_fine : Settings → Bool
+is_too_fine s = int_lt s.intol grid_step && int_lt s.outtol grid_step
+
+abbrev pub as_surface : Figure → Option Surface
+as_surface (figures.Point at z) = None
+as_surface (figures.Shape s) = Some s
+as_surface figures.Scalar = None
+
+-- the surface that a name stands for
+abbrev pub surface_in : Table → List ℕ → Option Surface
+surface_in table name = figure_named table name >>= as_surface
+
+-- a motion with these settings, along a drive surface that runs so against forward
+abbrev pub motion : Settings → Position → Surface → Sign → Stop → Surface → Motion
+motion s start drive turned how check = record {
+  start = start;
+  drive = drive;
+  side = s.side;
+  sense = signed turned (pos 1);
+  check = check;
+  how = how;
+  radius = s.radius;
+  inner = greater s.intol grid_step;
+  outer = greater s.outtol grid_step;
+}
+
+-- the place of the cutter at the drive surface, and at the check surface behind the motion
+abbrev pub drive_side : Motion → Sign
+drive_side m = drive_place m.side m.sense
+
+abbrev pub check_side : Motion → Sign
+check_side m = check_place m.check m.how m.start.at m.drive (drive_side m)
+
+-- the targets: the curve of the cutter's centre, and the one at which it stops
+abbrev pub track_of : Motion → Target
+track_of m = moved m.drive (drive_side m) m.radius
+
+abbrev pub stop_of : Motion → Target
+stop_of m = moved m.check (check_side m) m.radius
+
+-- the start is on the check surface, under TO or PAST
+abbrev pub starts_on_check : Motion → Bool
+starts_on_check m = is_on_check m.how (check_side m)
+
+-- ---- sides and contacts: lines so far; a surface that is a circle has none yet
+
+abbrev pub line_offset : Motion → ℤ
+line_offset m = signed (drive_side m) m.radius
+
+abbrev pub stop_offset : Motion → ℤ
+stop_offset m = signed (check_side m) m.radius
+
+-- the side of the stop on which the motion runs
+abbrev pub side_between : Motion → Surface → Surface → Sign
+side_between m (surfaces.Line d) (surfaces.Line e) = line_side m.start.at (heading m.sense d.dir) e (stop_offset m)
+side_between m (surfaces.Line d) (surfaces.Circ e) = signs.Zero
+side_between m (surfaces.Circ d) check = signs.Zero
+
+-- a motion that touches its check surface has no side
+abbrev pub side_of : Motion → Stop → Sign
+side_of m stops.To = side_between m m.drive m.check
+side_of m stops.On = side_between m m.drive m.check
+side_of m stops.Past = side_between m m.drive m.check
+side_of m stops.Tanto = signs.Zero
+
+abbrev pub stop_side : Motion → Sign
+stop_side m = side_of m m.how
+
+-- where the motion meets its stop
+abbrev pub contact_between : Motion → Surface → Surface → Pt
+contact_between m (surfaces.Line d) (surfaces.Line e) = meeting_point d (line_offset m) e (stop_offset m)
+contact_between m (surfaces.Line d) (surfaces.Circ e) = m.start.at
+contact_between m (surfaces.Circ d) check = m.start.at
+
+abbrev pub contact : Motion → Pt
+contact m = contact_between m m.drive m.check
+
+-- ---- the leg
+
+abbrev pub leg_of : Motion → Leg
+leg_of m = record {
+  drive = m.drive;
+  track = track_of m;
+  band = band_at m.drive (drive_side m) m.radius m.inner m.outer;
+  check = m.check;
+  stop_band = band_at m.check (check_side m) m.radius m.inner m.outer;
+  beyond = beyond_of m.check (stop_side m);
+  sense = m.sense;
+  axis = None;
+}
+
+-- its sense, its targets and its side are there
+abbrev pub is_defined : Motion → Bool
+is_defined m = not (lacks_room (track_of m)) && not (starts_on_check m) && not (lacks_room (stop_of m)) && not (is_zero (stop_side m))
+
+abbrev pub if_defined : Motion → Option Motion
+if_defined m = if is_defined m then Some m else None
+
+abbrev pub if_turned : Settings → Position → Surface → Sign → Stop → Surface → Option Motion
+if_turned s start drive turned how check = if is_zero turned then None else if_defined (motion s start drive turned how check)
+
+-- how the drive surface runs at the start against forward
+abbrev pub turn_at : Situation → Position → Surface → Go → Sign
+turn_at at start drive go = turn at.forward (tangent drive start.at) go
+
+-- the motion that a contour statement asks for, where its names stand for surfaces
+unfoldable pub motion_at : Situation → Option Side → Go → List ℕ → Stop → List ℕ → Option Motion
+motion_at at side go drive how check = do
+  start ← at.position
+  drive ← surface_in at.table drive
+  check ← surface_in at.table check
+  if_turned (with_side at.settings side) start drive (turn_at at start drive go) how check

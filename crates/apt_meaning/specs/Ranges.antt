@@ -1,0 +1,63 @@
+-- The ranges of situations and effects.
+use Rattle.std.specs.Prelude.{◌^◌, ◌≤◌, ℤ, pos, ◌≤ℤ◌, unsigned_abs, List, [], ◌∷◌, Option, Some, None}
+use Rattle.apt_plane.specs.declared.figures.Dir.{Dir}
+use Rattle.apt_plane.specs.Ranges.{IsPoint, IsSurface}
+use Rattle.apt_offset.specs.Ranges.{IsSense, IsRadius, IsTolerance}
+use Rattle.apt_cldata.specs.declared.record.Position.{Position}
+use Rattle.apt_defs.specs.Figures.{IsFigure, AreFigures}
+use Rattle.apt_meaning.specs.declared.situation.Settings.{Settings}
+use Rattle.apt_meaning.specs.declared.situation.Situation.{Situation}
+use Rattle.apt_meaning.specs.declared.motion.Motion.{Motion}
+use Rattle.apt_meaning.specs.declared.effect.Effect.{Effect}
+use Rattle.apt_meaning.specs.declared.effect.Effect.TheVariants as effects
+
+-- a position within the coordinate limit
+pub record IsPosition (p : Position) : Type 0 where
+  pub at : IsPoint p.at
+  pub z : unsigned_abs p.z ≤ 50000000
+
+abbrev pub IsPositionOrNone : Option Position → Type 0
+IsPositionOrNone None = Unit {0}
+IsPositionOrNone (Some p) = IsPosition p
+
+-- a feed in tenths, 0 for none
+pub record IsFeed (f : ℤ) : Type 0 where
+  pub least : pos 0 ≤ℤ f
+  pub most : f ≤ℤ pos (10 ^ 7)
+
+pub record IsForward (d : Dir) : Type 0 where
+  pub dx : unsigned_abs d.dx ≤ 10 ^ 8
+  pub dy : unsigned_abs d.dy ≤ 10 ^ 8
+
+pub record AreSettings (s : Settings) : Type 0 where
+  pub radius : IsRadius s.radius
+  pub intol : IsTolerance s.intol
+  pub outtol : IsTolerance s.outtol
+  pub feed : IsFeed s.feed
+
+pub record IsSituation (at : Situation) : Type 0 where
+  pub settings : AreSettings at.settings
+  pub position : IsPositionOrNone at.position
+  pub forward : IsForward at.forward
+  pub table : AreFigures at.table
+
+-- a tolerance that counts as at least a grid step
+pub record IsAllowance (t : ℤ) : Type 0 where
+  pub least : pos 8 ≤ℤ t
+  pub most : t ≤ℤ pos 10000
+
+pub record IsMotion (m : Motion) : Type 0 where
+  pub start : IsPosition m.start
+  pub drive : IsSurface m.drive
+  pub sense : IsSense m.sense
+  pub check : IsSurface m.check
+  pub radius : IsRadius m.radius
+  pub inner : IsAllowance m.inner
+  pub outer : IsAllowance m.outer
+
+
+abbrev pub IsEffect : Effect → Type 0
+IsEffect (effects.Defines n f) = IsFigure f
+IsEffect (effects.Sets s note) = AreSettings s
+IsEffect (effects.Moves reach to) = IsPosition to
+IsEffect (effects.Cuts m) = IsMotion m

@@ -1,0 +1,106 @@
+-- Which records answer which steps: what an effect writes, what it leaves, and the walk over both.
+use Rattle.std.specs.Prelude.{◌≡◌, List, [], ◌∷◌, ◌++◌, map, Option, Some, None}
+use Rattle.apt_plane.specs.declared.figures.Pt.{Pt}
+use Rattle.apt_words.specs.declared.deed.Step.{Step}
+use Rattle.apt_cldata.specs.declared.record.Record.{Record}
+use Rattle.apt_cldata.specs.declared.record.Record.TheVariants as records
+use Rattle.apt_cldata.specs.declared.record.Position.{Position}
+use Rattle.apt_defs.specs.Definitions.{table_with}
+use Rattle.apt_offset.specs.Turns.{tangent}
+use Rattle.apt_stop.specs.Nearness.{heading}
+use Rattle.apt_certify.specs.Legs.{IsBounded, IsLegal, last_of}
+use Rattle.apt_meaning.specs.declared.situation.Situation.{Situation}
+use Rattle.apt_meaning.specs.declared.motion.Motion.{Motion}
+use Rattle.apt_meaning.specs.declared.effect.Effect.{Effect}
+use Rattle.apt_meaning.specs.declared.effect.Effect.TheVariants as effects
+use Rattle.apt_meaning.specs.Situations.{settings_behind, forward_behind, at_height}
+use Rattle.apt_meaning.specs.Motions.{leg_of}
+use Rattle.apt_meaning.specs.Effects.{effect_of}
+
+-- ---- what an effect writes and leaves; only a contour has vertices, those of its leg behind the start
+
+-- a contour keeps the height
+abbrev pub said : Effect → List Pt → List Record
+said (effects.Defines n f) vertices = []
+said (effects.Sets s None) vertices = []
+said (effects.Sets s (Some note)) vertices = records.Note note ∷ []
+said (effects.Moves reach to) vertices = records.Point reach to ∷ []
+said (effects.Cuts m) vertices =
+    records.Drive m.drive m.side m.sense ∷ records.Check m.check m.how ∷ records.Contour (map (at_height m.start.z) vertices) ∷ []
+
+-- the records of a step begin with its line and number
+abbrev pub with_statement : Step → List Record → List Record
+with_statement step [] = []
+with_statement step (r ∷ rs) = records.Statement step.line step.step ∷ r ∷ rs
+
+abbrev pub records_of : Step → Effect → List Pt → List Record
+records_of step e vertices = with_statement step (said e vertices)
+
+-- the situation behind an effect; behind a contour forward is the tangent of the drive surface, in its sense
+abbrev pub after : Situation → Effect → List Pt → Situation
+after at (effects.Defines n f) vertices = record at { table = table_with at.table n f }
+after at (effects.Sets s note) vertices = record at { settings = s }
+after at (effects.Moves reach to) vertices = record at {
+  settings = settings_behind reach at.settings;
+  position = Some to;
+  forward = forward_behind at.position to.at at.forward;
+}
+after at (effects.Cuts m) vertices = record at {
+  settings = record at.settings { side = m.side };
+  position = Some (at_height m.start.z (last_of m.start.at vertices));
+  forward = heading m.sense (tangent m.drive (last_of m.start.at vertices));
+}
+
+-- ---- the walk
+
+abbrev pub MayHave : Effect → List Pt → Type 0
+MayHave (effects.Defines n f) vertices = vertices ≡ []
+MayHave (effects.Sets s note) vertices = vertices ≡ []
+MayHave (effects.Moves reach to) vertices = vertices ≡ []
+MayHave (effects.Cuts m) vertices = Unit {0}
+
+-- the records begin with those of the step's effect, whose contour has these vertices, and rest is behind them
+pub record Begins (at : Situation) (step : Step) (written : List Record) (e : Effect) (vertices : List Pt) (rest : List Record) : Type 0 where
+  pub asked : effect_of at step.deed ≡ Some e
+  pub front : written ≡ records_of step e vertices ++ rest
+  pub only_contours : MayHave e vertices
+
+-- records follow steps from the situation before them to the one behind, each contour with vertices as Allowed says
+abbrev pub FollowsAs : (Effect → List Pt → Type 0) → Situation → List Step → List Record → Situation → Type 0
+FollowsAs Allowed at [] written behind = (written ≡ []) × (behind ≡ at)
+FollowsAs Allowed at (step ∷ steps) written behind =
+    (e : Effect) × (vertices : List Pt) × (rest : List Record)
+    × Begins at step written e vertices rest × Allowed e vertices × FollowsAs Allowed (after at e vertices) steps rest behind
+
+-- a leg that has an edge or an axis, and whose tests all hold
+pub record IsLegalCut (m : Motion) (vertices : List Pt) : Type 0 where
+  pub bounded : IsBounded (leg_of m)
+  pub legal : IsLegal (leg_of m) m.start.at vertices
+
+abbrev pub AreLegal : Effect → List Pt → Type 0
+AreLegal (effects.Defines n f) vertices = Unit {0}
+AreLegal (effects.Sets s note) vertices = Unit {0}
+AreLegal (effects.Moves reach to) vertices = Unit {0}
+AreLegal (effects.Cuts m) vertices = IsLegalCut m vertices
+
+-- records follow steps, and every contour is legal
+abbrev pub FollowsLegally : Situation → List Step → List Record → Situation → Type 0
+FollowsLegally at steps written behind = FollowsAs AreLegal at steps written behind
+
+-- ---- where records leave the tool, read off them alone
+
+abbrev pub last_position : Option Position → List Position → Option Position
+last_position p [] = p
+last_position p (v ∷ vs) = last_position (Some v) vs
+
+abbrev pub stand_after : Option Position → Record → Option Position
+stand_after p (records.Statement line step) = p
+stand_after p (records.Note note) = p
+stand_after p (records.Drive surface side sense) = p
+stand_after p (records.Check surface how) = p
+stand_after p (records.Point reach to) = Some to
+stand_after p (records.Contour vertices) = last_position p vertices
+
+abbrev pub stand_of : Option Position → List Record → Option Position
+stand_of p [] = p
+stand_of p (r ∷ rs) = stand_of (stand_after p r) rs

@@ -1,0 +1,190 @@
+-- The manual's table: for each statement the conditions that refuse it, in order, and their cases.
+use Rattle.std.specs.Prelude.{ℕ, ℤ, pos, int_lt, int_le, ◌&&◌, ◌||◌, not, Bool, true, false, is_some, is_none, List, [], ◌∷◌, ◌++◌, Option, Some, None}
+use Rattle.apt_num.specs.declared.Sign.{Sign}
+use Rattle.apt_words.specs.declared.Case.{Case}
+use Rattle.apt_words.specs.declared.Case.TheVariants as cases
+use Rattle.apt_words.specs.declared.Go.{Go}
+use Rattle.apt_words.specs.declared.Side.{Side}
+use Rattle.apt_words.specs.declared.Stop.{Stop}
+use Rattle.apt_words.specs.declared.Stop.TheVariants as stops
+use Rattle.apt_words.specs.declared.Units.{Units}
+use Rattle.apt_words.specs.declared.deed.Deed.{Deed}
+use Rattle.apt_words.specs.declared.deed.Deed.TheVariants as deeds
+use Rattle.apt_words.specs.Options.{◌>>=◌}
+use Rattle.apt_words.specs.Rows.{Row, first_of}
+use Rattle.apt_scalar.specs.Scalars.{grid_units, tenths}
+use Rattle.apt_plane.specs.declared.figures.Surface.{Surface}
+use Rattle.apt_plane.specs.declared.figures.Surface.TheVariants as surfaces
+use Rattle.apt_defs.specs.declared.figure.Figure.{Figure}
+use Rattle.apt_defs.specs.Definitions.{out_of_reach, line_cases as definition_cases}
+use Rattle.apt_defs.specs.Figures.{Table, figure_named}
+use Rattle.apt_offset.specs.Turns.{is_zero}
+use Rattle.apt_offset.specs.Targets.{lacks_room}
+use Rattle.apt_stop.specs.Nearness.{is_near, off_track}
+use Rattle.apt_stop.specs.Lines.{line_cases}
+use Rattle.apt_cldata.specs.declared.record.Position.{Position}
+use Rattle.apt_meaning.specs.declared.situation.Settings.{Settings}
+use Rattle.apt_meaning.specs.declared.situation.Situation.{Situation}
+use Rattle.apt_meaning.specs.declared.motion.Motion.{Motion}
+use Rattle.apt_meaning.specs.declared.motion.StartUp.{StartUp}
+use Rattle.apt_meaning.specs.Situations.{has_feed, lacks_feed, with_side}
+use Rattle.apt_meaning.specs.Motions.{motion, is_too_fine, as_surface, surface_in, turn_at, track_of, stop_of, starts_on_check, line_offset, stop_offset}
+use Rattle.apt_meaning.specs.StartUps.{start_up_at, start_up_cases}
+use Rattle.apt_meaning.specs.Effects.{place_by, moved_by}
+
+-- ---- numbers and names
+
+-- a length from 0 up to a limit, in grid units
+abbrev pub is_up_to : ℤ → ℤ → Bool
+is_up_to most g = int_le (pos 0) g && int_le g most
+
+abbrev pub length_cases : ℤ → ℤ → List Row
+length_cases most g = (not (is_up_to most g), cases.OutOfRange) ∷ []
+
+-- a position is within the coordinate limit
+abbrev pub position_cases : Position → List Row → List Row
+position_cases p more = out_of_reach p.at.x ∷ out_of_reach p.at.y ∷ out_of_reach p.z ∷ more
+
+-- a name stands for something
+abbrev pub is_undefined : Table → List ℕ → Bool
+is_undefined table name = is_none (figure_named table name)
+
+-- it stands for something that is no surface
+abbrev pub is_other_kind : Option Figure → Bool
+is_other_kind None = false
+is_other_kind (Some figure) = is_none (as_surface figure)
+
+abbrev pub is_no_surface : Table → List ℕ → Bool
+is_no_surface table name = is_other_kind (figure_named table name)
+
+abbrev pub name_cases : Table → List ℕ → List Row → List Row
+name_cases table name more = (is_undefined table name, cases.Undefined) ∷ (is_no_surface table name, cases.WrongKind) ∷ more
+
+-- ---- moves
+
+abbrev pub move_cases : Settings → Option Position → List Row
+move_cases s None = []
+move_cases s (Some to) = position_cases to ((lacks_feed s, cases.NoFeed) ∷ [])
+
+abbrev pub start_cases : Option StartUp → List Row
+start_cases None = []
+start_cases (Some u) = start_up_cases u
+
+-- GO: both names are there before either's kind is tried
+abbrev pub go_cases : Situation → Stop → List ℕ → Stop → List ℕ → List Row
+go_cases at how_a a how_b b =
+    (is_none at.position, cases.NoFrom)
+    ∷ (is_undefined at.table a, cases.Undefined) ∷ (is_undefined at.table b, cases.Undefined)
+    ∷ (is_no_surface at.table a, cases.WrongKind) ∷ (is_no_surface at.table b, cases.WrongKind)
+    ∷ (lacks_feed at.settings, cases.NoFeed) ∷ start_cases (start_up_at at how_a a how_b b)
+
+-- ---- contours
+
+abbrev pub is_tanto : Stop → Bool
+is_tanto stops.To = false
+is_tanto stops.On = false
+is_tanto stops.Past = false
+is_tanto stops.Tanto = true
+
+-- the stop of a motion on its track: lines so far, and no line touches a line
+abbrev pub stop_cases : Motion → Surface → Surface → List Row
+stop_cases m (surfaces.Line d) (surfaces.Line e) =
+    (is_tanto m.how, cases.Parallel) ∷ line_cases m.start.at d (line_offset m) m.sense e (stop_offset m)
+stop_cases m (surfaces.Line d) (surfaces.Circ e) = (true, cases.NotBuilt) ∷ []
+stop_cases m (surfaces.Circ d) check = (true, cases.NotBuilt) ∷ []
+
+abbrev pub motion_cases : Motion → List Row
+motion_cases m =
+    (lacks_room (track_of m), cases.NoRoom)
+    ∷ (not (starts_on_check m) && lacks_room (stop_of m), cases.NoRoom)
+    ∷ (not (is_near (track_of m) off_track m.start.at), cases.OffDrive)
+    ∷ (starts_on_check m, cases.OnCheck) ∷ stop_cases m m.drive m.check
+
+-- a contour on known surfaces, whose drive surface runs so against forward
+abbrev pub turned_cases : Settings → Position → Surface → Sign → Stop → Surface → List Row
+turned_cases s start drive turned how check =
+    (s.rapid, cases.RapidContour) ∷ (not (has_feed s), cases.NoFeed) ∷ (is_too_fine s, cases.TooFine)
+    ∷ (is_zero turned, cases.NoTurn) ∷ motion_cases (motion s start drive turned how check)
+
+abbrev pub surface_cases : Situation → Option Side → Go → Stop → Option Position → Option Surface → Option Surface → List Row
+surface_cases at side go how (Some start) (Some drive) (Some check) =
+    turned_cases (with_side at.settings side) start drive (turn_at at start drive go) how check
+surface_cases at side go how (Some start) (Some drive) None = []
+surface_cases at side go how (Some start) None check = []
+surface_cases at side go how None drive check = []
+
+abbrev pub contour_cases : Situation → Option Side → Go → List ℕ → Stop → List ℕ → List Row
+contour_cases at side go drive how check =
+    (is_none at.position, cases.NoFrom)
+    ∷ name_cases at.table drive (name_cases at.table check
+    (surface_cases at side go how at.position (surface_in at.table drive) (surface_in at.table check)))
+
+-- ---- the table of statements
+
+abbrev pub not_built : List Row
+not_built = (true, cases.NotBuilt) ∷ []
+
+abbrev pub start_up_or_not_built : Situation → Stop → List ℕ → Option (Stop × List ℕ) → List Row
+start_up_or_not_built at how_a a None = not_built
+start_up_or_not_built at how_a a (Some b) = go_cases at how_a a b.0 b.1
+
+abbrev pub godlta_cases : Situation → ℤ → ℤ → ℤ → List Row
+godlta_cases at x y z = (is_none at.position, cases.NoFrom) ∷ move_cases at.settings (at.position >>= λ p. Some (moved_by at.settings.units x y z p))
+
+abbrev pub cases_of : Situation → Deed → List Row
+cases_of at (deeds.Partno text) = []
+cases_of at (deeds.Remark text) = []
+cases_of at (deeds.Units units) = []
+cases_of at deeds.Clprnt = []
+cases_of at deeds.Nopost = []
+cases_of at deeds.Machin = []
+cases_of at (deeds.Assign n v) = []
+cases_of at (deeds.PointXy n x y z) = not_built
+cases_of at (deeds.PointLines n a b) = not_built
+cases_of at (deeds.PointPick n k a b) = not_built
+cases_of at (deeds.PointCenter n c) = not_built
+cases_of at (deeds.LineXy n x y u v) = definition_cases at.settings.units x y u v
+cases_of at (deeds.LinePoints n p q) = not_built
+cases_of at (deeds.LinePar n p l) = not_built
+cases_of at (deeds.LinePerp n p l) = not_built
+cases_of at (deeds.LineAt n l k v) = not_built
+cases_of at (deeds.LineTan n p h c) = not_built
+cases_of at (deeds.LineTwo n h c k d) = not_built
+cases_of at (deeds.CircleXyr n x y r) = not_built
+cases_of at (deeds.CirclePoints n a b c) = not_built
+cases_of at (deeds.CircleRadius n p r) = not_built
+cases_of at (deeds.CircleTan n p l) = not_built
+cases_of at (deeds.CircleThrough n p q) = not_built
+cases_of at (deeds.CircleCorner n j a k b r) = not_built
+cases_of at (deeds.Cutter v) = length_cases (pos 1000000) (grid_units at.settings.units v)
+cases_of at (deeds.Intol v) = length_cases (pos 10000) (grid_units at.settings.units v)
+cases_of at (deeds.Outtol v) = length_cases (pos 10000) (grid_units at.settings.units v)
+cases_of at (deeds.Tool side) = []
+cases_of at (deeds.FromXy x y z) = (is_some at.position, cases.FromAgain) ∷ position_cases (place_by at.settings.units x y z) []
+cases_of at (deeds.FromPoint p) = not_built
+cases_of at (deeds.GotoXy x y z) = move_cases at.settings (Some (place_by at.settings.units x y z))
+cases_of at (deeds.GotoPoint p) = not_built
+cases_of at (deeds.Godlta x y z) = godlta_cases at x y z
+cases_of at (deeds.GoStart how_a a b) = start_up_or_not_built at how_a a b
+cases_of at (deeds.Contour side go drive how check) = contour_cases at side go drive how check
+cases_of at deeds.Rapid = []
+cases_of at deeds.Halt = []
+cases_of at deeds.OptHalt = []
+cases_of at deeds.EndWord = []
+cases_of at deeds.Fini = []
+cases_of at (deeds.Fedrat v) = (int_lt (tenths v) (pos 1), cases.OutOfRange) ∷ []
+cases_of at (deeds.Spindl n turn) = not_built
+cases_of at deeds.SpindlOff = not_built
+cases_of at (deeds.Coolnt c) = not_built
+cases_of at (deeds.Loadtl n) = not_built
+cases_of at deeds.Macro = not_built
+cases_of at deeds.Termac = not_built
+cases_of at deeds.Call = not_built
+cases_of at deeds.Loopst = not_built
+cases_of at deeds.Loopnd = not_built
+cases_of at deeds.Jumpto = not_built
+cases_of at deeds.If = not_built
+
+-- the first case that refuses a step
+abbrev pub refusal_of : Situation → Deed → Option Case
+refusal_of at deed = first_of (cases_of at deed)
