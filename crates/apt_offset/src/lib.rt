@@ -9,7 +9,8 @@ mod tests;
 mod turns;
 
 use apt_plane::{Dir, Pt};
-pub use targets::{drive_band, drive_target, stop_band, stop_target};
+pub use places::{check_place, drive_place, is_on_check, stop_place};
+pub use targets::{drive_band, drive_target, lacks_room, moved, signed, stop_band, stop_target};
 pub use turns::turn_sense;
 
 /// A surface moved for the cutter's radius: a line `off` grid units to its left, or a circle.

@@ -6,7 +6,7 @@ ghost use Rattle.apt_plane.specs.Ranges.{IsPoint, IsSurface, IsLine, IsCircle};
 ghost use Rattle.apt_plane.specs.Vectors as ways;
 ghost use Rattle.apt_offset.specs.Places as placing;
 
-use crate::signs::{compare, opposite, sign_of, times};
+use crate::signs::{compare, is_zero, opposite, sign_of, times};
 use apt_num::Sign;
 use apt_plane::vectors::{cross, norm, way};
 use apt_plane::{Circ, Line, Pt, Surface};
@@ -20,6 +20,31 @@ pub fn drive_place(side: Side, sense: i8) -> Sign
         Side::Left => sign_of(i128::from(sense)),
         Side::Right => opposite(sign_of(i128::from(sense))),
         Side::On => Sign::Zero,
+    }
+}
+
+/// The place at the check surface where the motion stops; Zero under `To` and `Past` where the start is on it.
+pub fn check_place(check: &Surface, how: Stop, start: Pt, drive: &Surface, at_drive: Sign) -> Sign
+    requires check { IsSurface check.now }
+    requires start { IsPoint start }
+    requires drive { IsSurface drive.now }
+    ensures { result ≡ placing.check_place check.now how start drive.now at_drive }
+{
+    match how {
+        Stop::To => place_of(check, start),
+        Stop::Past => opposite(place_of(check, start)),
+        Stop::On => Sign::Zero,
+        Stop::Tanto => tanto_place(drive, check, at_drive),
+    }
+}
+
+/// Whether a motion that stops so, at this place of its check surface, starts on that surface.
+pub fn is_on_check(how: Stop, place: Sign) -> bool
+    ensures { result ≡ placing.is_on_check how place }
+{
+    match how {
+        Stop::To | Stop::Past => is_zero(place),
+        Stop::On | Stop::Tanto => false,
     }
 }
 
@@ -40,20 +65,11 @@ pub fn stop_place(
     requires drive { IsSurface drive.now }
     ensures { result ≡ placing.stop_place check.now how start drive.now at_drive }
 {
-    match how {
-        Stop::To => off_check(place_of(check, start)),
-        Stop::Past => off_check(opposite(place_of(check, start))),
-        Stop::On => Ok(Sign::Zero),
-        Stop::Tanto => Ok(tanto_place(drive, check, at_drive)),
-    }
-}
-
-fn off_check(place: Sign) -> Result<Sign, Case>
-    ensures { result ≡ placing.off_check place }
-{
-    match place {
-        Sign::Zero => Err(Case::OnCheck),
-        Sign::Plus | Sign::Minus => Ok(place),
+    let place = check_place(check, how, start, drive, at_drive);
+    if is_on_check(how, place) {
+        Err(Case::OnCheck)
+    } else {
+        Ok(place)
     }
 }
 

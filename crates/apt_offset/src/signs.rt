@@ -54,3 +54,13 @@ pub fn times(first: Sign, second: Sign) -> Sign
         Sign::Minus => opposite(second),
     }
 }
+
+/// Whether the number is zero.
+pub fn is_zero(sign: Sign) -> bool
+    ensures { result ≡ turning.is_zero sign }
+{
+    match sign {
+        Sign::Zero => true,
+        Sign::Minus | Sign::Plus => false,
+    }
+}

@@ -1,6 +1,6 @@
 //! Targets and tolerance bands.
 
-ghost use Rattle.std.specs.Prelude.{◌≡◌, pos, ◌≤◌, ◌≤ℤ◌, IfOk, unsigned_abs};
+ghost use Rattle.std.specs.Prelude.{◌≡◌, false, pos, ◌≤◌, ◌≤ℤ◌, IfOk, unsigned_abs};
 ghost use Rattle.apt_plane.specs.Ranges.{IsPoint, IsSurface, IsBand};
 ghost use Rattle.apt_offset.specs.Targets as moving;
 ghost use Rattle.apt_offset.specs.Ranges.{IsRadius, IsTolerance, IsTarget};
@@ -96,34 +96,53 @@ pub fn stop_band(
     }
 }
 
+/// A surface moved by the cutter's radius `r`, in grid units, to a place of the cutter.
+pub fn moved(s: &Surface, place: Sign, r: i64) -> Target
+    requires surface { IsSurface s.now }
+    requires radius { IsRadius r }
+    ensures value { result ≡ moving.moved s.now place r }
+    ensures fits { moving.lacks_room result ≡ false → IsTarget result }
+{
+    let off = signed(place, r);
+    match s {
+        Surface::Line(line) => Target::Line {
+            base: line.base,
+            dir: line.dir,
+            off,
+        },
+        Surface::Circ(circle) => Target::Circ {
+            c: circle.c,
+            r: circle.r - off,
+        },
+    }
+}
+
+/// Whether a target is a circle with a radius below 100 grid units.
+pub fn lacks_room(target: &Target) -> bool
+    ensures { result ≡ moving.lacks_room target.now }
+{
+    match target {
+        Target::Line { .. } => false,
+        Target::Circ { r, .. } => *r < LEAST_RADIUS,
+    }
+}
+
 fn target(s: &Surface, place: Sign, r: i64) -> Result<Target, Case>
     requires surface { IsSurface s.now }
     requires radius { IsRadius r }
     ensures value { result ≡ moving.target s.now place r }
     ensures fits { IfOk result IsTarget }
 {
-    let off = signed(place, r);
-    match s {
-        Surface::Line(line) => Ok(Target::Line {
-            base: line.base,
-            dir: line.dir,
-            off,
-        }),
-        Surface::Circ(circle) => {
-            let reach = circle.r - off;
-            if reach < LEAST_RADIUS {
-                Err(Case::NoRoom)
-            } else {
-                Ok(Target::Circ {
-                    c: circle.c,
-                    r: reach,
-                })
-            }
-        }
+    let target = moved(s, place, r);
+    if lacks_room(&target) {
+        Err(Case::NoRoom)
+    } else {
+        Ok(target)
     }
 }
 
-fn signed(place: Sign, r: i64) -> i64
+/// A length to the left, to the right or none.
+pub fn signed(place: Sign, r: i64) -> i64
     requires { IsRadius r }
     ensures value { result ≡ moving.signed place r }
     ensures small { unsigned_abs result ≤ 500000 }
