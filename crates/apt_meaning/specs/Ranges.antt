@@ -1,8 +1,10 @@
 -- The ranges of situations and effects.
 use Rattle.std.specs.Prelude.{◌^◌, ◌≤◌, ℤ, pos, ◌≤ℤ◌, unsigned_abs, List, [], ◌∷◌, Option, Some, None}
 use Rattle.apt_plane.specs.declared.figures.Dir.{Dir}
-use Rattle.apt_plane.specs.Ranges.{IsPoint, IsSurface}
-use Rattle.apt_offset.specs.Ranges.{IsSense, IsRadius, IsTolerance}
+use Rattle.apt_plane.specs.Ranges.{IsPoint, IsSurface, IsSense}
+use Rattle.apt_offset.specs.Ranges.{IsRadius, IsTolerance}
+use Rattle.apt_cldata.specs.Ranges.{IsPosition, IsNote}
+use Rattle.apt_cldata.specs.declared.record.Note.{Note}
 use Rattle.apt_cldata.specs.declared.record.Position.{Position}
 use Rattle.apt_defs.specs.Figures.{IsFigure, AreFigures}
 use Rattle.apt_meaning.specs.declared.situation.Settings.{Settings}
@@ -10,11 +12,6 @@ use Rattle.apt_meaning.specs.declared.situation.Situation.{Situation}
 use Rattle.apt_meaning.specs.declared.motion.Motion.{Motion}
 use Rattle.apt_meaning.specs.declared.effect.Effect.{Effect}
 use Rattle.apt_meaning.specs.declared.effect.Effect.TheVariants as effects
-
--- a position within the coordinate limit
-pub record IsPosition (p : Position) : Type 0 where
-  pub at : IsPoint p.at
-  pub z : unsigned_abs p.z ≤ 50000000
 
 abbrev pub IsPositionOrNone : Option Position → Type 0
 IsPositionOrNone None = Unit {0}
@@ -56,8 +53,12 @@ pub record IsMotion (m : Motion) : Type 0 where
   pub outer : IsAllowance m.outer
 
 
+abbrev pub IsNoteOrNone : Option Note → Type 0
+IsNoteOrNone None = Unit {0}
+IsNoteOrNone (Some note) = IsNote note
+
 abbrev pub IsEffect : Effect → Type 0
 IsEffect (effects.Defines n f) = IsFigure f
-IsEffect (effects.Sets s note) = AreSettings s
+IsEffect (effects.Sets s note) = AreSettings s × IsNoteOrNone note
 IsEffect (effects.Moves reach to) = IsPosition to
 IsEffect (effects.Cuts m) = IsMotion m

@@ -1,14 +1,10 @@
 -- What the calls take and give, in grid units.
-use Rattle.std.specs.Prelude.{◌≡◌, ◌⊎◌, ◌^◌, ◌≤◌, ℤ, pos, negsuc, ◌≤ℤ◌, unsigned_abs}
+use Rattle.std.specs.Prelude.{◌^◌, ◌≤◌, ℤ, pos, ◌≤ℤ◌, unsigned_abs}
 use Rattle.apt_plane.specs.declared.figures.Pt.{Pt}
 use Rattle.apt_plane.specs.declared.figures.Dir.{Dir}
 use Rattle.apt_plane.specs.Ranges.{IsPoint, IsDir}
 use Rattle.apt_offset.specs.declared.Target.{Target}
 use Rattle.apt_offset.specs.declared.Target.TheVariants as targets
-
--- 1, or -1
-abbrev pub IsSense : ℤ → Type 0
-IsSense sense = (sense ≡ pos 1) ⊎ (sense ≡ negsuc 0)
 
 -- the radius of a cutter
 pub record IsRadius (r : ℤ) : Type 0 where

@@ -1,8 +1,7 @@
 //! The turn at the start of a contour motion.
 
 ghost use Rattle.std.specs.Prelude.{◌≡◌, ◌≤◌, ◌^◌, ◌↔◌, IfOk, IsErrOf, unsigned_abs};
-ghost use Rattle.apt_plane.specs.Ranges.{IsPoint, IsSurface, IsVector};
-ghost use Rattle.apt_offset.specs.Ranges.{IsSense};
+ghost use Rattle.apt_plane.specs.Ranges.{IsPoint, IsSurface, IsVector, IsSense};
 ghost use Rattle.apt_offset.specs.Turns as turning;
 
 use crate::signs::{opposite, sign_of};

@@ -1,5 +1,5 @@
 -- The ranges of figures, in grid units.
-use Rattle.std.specs.Prelude.{◌+◌, ◌*◌, ◌^◌, ◌≤◌, pos, ◌≤ℤ◌, unsigned_abs}
+use Rattle.std.specs.Prelude.{◌≡◌, ◌⊎◌, ◌+◌, ◌*◌, ◌^◌, ◌≤◌, ℤ, pos, negsuc, ◌≤ℤ◌, unsigned_abs}
 use Rattle.apt_plane.specs.declared.figures.Pt.{Pt}
 use Rattle.apt_plane.specs.declared.figures.Dir.{Dir}
 use Rattle.apt_plane.specs.declared.figures.Line.{Line}
@@ -32,6 +32,10 @@ pub record IsLine (l : Line) : Type 0 where
 pub record IsBand (b : Band) : Type 0 where
   pub lo : unsigned_abs b.lo ≤ 4 * 10 ^ 8
   pub hi : unsigned_abs b.hi ≤ 4 * 10 ^ 8
+
+-- 1 along a line's direction or anticlockwise round a circle, -1 the other way
+abbrev pub IsSense : ℤ → Type 0
+IsSense sense = (sense ≡ pos 1) ⊎ (sense ≡ negsuc 0)
 
 -- a circle has a least radius, and stays within its limit
 pub record IsCircle (c : Circ) : Type 0 where

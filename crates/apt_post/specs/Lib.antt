@@ -1,1 +1,3 @@
 pub mod Post
+pub mod Plan
+pub mod Limits

@@ -2,9 +2,9 @@
 
 ghost use Rattle.std.specs.Prelude.{◌≡◌, ◌*◌, ◌^◌, ◌≤◌, ◌&&◌, nat_le, pos, neg_ℤ, ◌+ℤ◌, ◌-ℤ◌, ◌≤ℤ◌, unsigned_abs};
 ghost use Rattle.apt_num.specs.Sign.{root_sign_of};
-ghost use Rattle.apt_plane.specs.Ranges.{IsPoint, IsDir, IsVector};
+ghost use Rattle.apt_plane.specs.Ranges.{IsPoint, IsDir, IsVector, IsSense};
 ghost use Rattle.apt_plane.specs.Vectors as vectors;
-ghost use Rattle.apt_offset.specs.Ranges.{IsSense, IsTarget, IsLineTarget, IsCircleTarget};
+ghost use Rattle.apt_offset.specs.Ranges.{IsTarget, IsLineTarget, IsCircleTarget};
 ghost use Rattle.apt_stop.specs.Nearness as near;
 
 use apt_num::{Sign, root_sign};

@@ -1,10 +1,9 @@
 //! A straight motion against a straight stop.
 
 ghost use Rattle.std.specs.Prelude.{◌≡◌, ◌≢◌, ◌↔◌, ◌≤◌, pos, unsigned_abs, IfOk, IsErrOf, true, false};
-ghost use Rattle.apt_plane.specs.Ranges.{IsPoint, IsLine, IsVector};
+ghost use Rattle.apt_plane.specs.Ranges.{IsPoint, IsLine, IsVector, IsSense};
 ghost use Rattle.apt_plane.specs.Vectors as vectors;
 ghost use Rattle.apt_canon.specs.Meeting as meeting;
-ghost use Rattle.apt_offset.specs.Ranges.{IsSense};
 ghost use Rattle.apt_stop.specs.Nearness as near;
 ghost use Rattle.apt_stop.specs.Lines as stops;
 

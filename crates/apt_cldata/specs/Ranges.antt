@@ -1,0 +1,99 @@
+-- The numbers of records, in grid units, and how a list of records ends.
+use Rattle.std.specs.Prelude.{◌≤◌, ◌^◌, ℤ, pos, ◌≤ℤ◌, unsigned_abs, Bool, true, false, List, [], ◌∷◌}
+use Rattle.apt_plane.specs.Ranges.{IsPoint, IsSurface, IsSense}
+use Rattle.apt_cldata.specs.declared.record.Position.{Position}
+use Rattle.apt_cldata.specs.declared.record.Note.{Note}
+use Rattle.apt_cldata.specs.declared.record.Note.TheVariants as notes
+use Rattle.apt_cldata.specs.declared.record.Record.{Record}
+use Rattle.apt_cldata.specs.declared.record.Record.TheVariants as records
+
+-- a position within the coordinate limit
+pub record IsPosition (p : Position) : Type 0 where
+  pub at : IsPoint p.at
+  pub z : unsigned_abs p.z ≤ 50000000
+
+-- from one number up to another
+abbrev pub IsFromTo : ℤ → ℤ → ℤ → Type 0
+IsFromTo least most n = (least ≤ℤ n) × (n ≤ℤ most)
+
+-- the greatest number of a command
+abbrev pub greatest : ℤ
+greatest = pos 2147483647
+
+abbrev pub IsNote : Note → Type 0
+IsNote (notes.Partno text) = Unit {0}
+IsNote (notes.Units units) = Unit {0}
+IsNote (notes.Cutter d) = IsFromTo (pos 0) (pos 1000000) d
+IsNote (notes.Intol t) = IsFromTo (pos 0) (pos 10000) t
+IsNote (notes.Outtol t) = IsFromTo (pos 0) (pos 10000) t
+IsNote (notes.Fedrat f) = IsFromTo (pos 1) greatest f
+IsNote (notes.Spindl turn n) = IsFromTo (pos 0) greatest n
+IsNote (notes.Coolnt c) = Unit {0}
+IsNote (notes.Loadtl n) = IsFromTo (pos 1) greatest n
+IsNote notes.Rapid = Unit {0}
+IsNote notes.Stop = Unit {0}
+IsNote notes.OptStop = Unit {0}
+IsNote notes.End = Unit {0}
+IsNote notes.Fini = Unit {0}
+
+abbrev pub ArePositions : List Position → Type 0
+ArePositions [] = Unit {0}
+ArePositions (p ∷ ps) = IsPosition p × ArePositions ps
+
+abbrev pub IsRecord : Record → Type 0
+IsRecord (records.Statement line step) = Unit {0}
+IsRecord (records.Note note) = IsNote note
+IsRecord (records.Drive surface side sense) = IsSurface surface × IsSense sense
+IsRecord (records.Check surface how) = IsSurface surface
+IsRecord (records.Point reach to) = IsPosition to
+IsRecord (records.Contour vertices) = ArePositions vertices
+
+abbrev pub AreRecords : List Record → Type 0
+AreRecords [] = Unit {0}
+AreRecords (r ∷ rs) = IsRecord r × AreRecords rs
+
+-- ---- how a list of records ends
+
+pub data Mark : Type 0 where
+  Begin : Mark
+  End : Mark
+  Fini : Mark
+  Other : Mark
+
+abbrev pub note_mark : Note → Mark
+note_mark (notes.Partno text) = Other
+note_mark (notes.Units units) = Other
+note_mark (notes.Cutter d) = Other
+note_mark (notes.Intol t) = Other
+note_mark (notes.Outtol t) = Other
+note_mark (notes.Fedrat f) = Other
+note_mark (notes.Spindl turn n) = Other
+note_mark (notes.Coolnt c) = Other
+note_mark (notes.Loadtl n) = Other
+note_mark notes.Rapid = Other
+note_mark notes.Stop = Other
+note_mark notes.OptStop = Other
+note_mark notes.End = End
+note_mark notes.Fini = Fini
+
+abbrev pub mark_of : Record → Mark
+mark_of (records.Statement line step) = Begin
+mark_of (records.Note note) = note_mark note
+mark_of (records.Drive surface side sense) = Other
+mark_of (records.Check surface how) = Other
+mark_of (records.Point reach to) = Other
+mark_of (records.Contour vertices) = Other
+
+abbrev pub EndsBy : Bool → Mark → List Record → (Bool → Type 0) → Type 0
+EndsBy ended Fini [] more = Unit {0}
+EndsBy ended Fini (r ∷ rs) more = ⊥
+EndsBy false End rs more = more true
+EndsBy true End rs more = ⊥
+EndsBy ended Begin rs more = more ended
+EndsBy false Other rs more = more false
+EndsBy true Other rs more = ⊥
+
+-- the record of FINI stands last and nowhere else, and behind one of END nothing else is said
+abbrev pub EndsOnce : Bool → List Record → Type 0
+EndsOnce ended [] = ⊥
+EndsOnce ended (r ∷ rs) = EndsBy ended (mark_of r) rs (λ now. EndsOnce now rs)
