@@ -1,10 +1,11 @@
 -- Which case a straight stop has.
-use Rattle.std.proofs.Common.{refl, ◌≡◌, ◌≢◌, ◌↔◌, zero, suc, arith, Bool, true, false, ℤ, pos, negsuc, unsigned_abs, ◌==◌, Result, Ok, Err, IfOk, IsErrOf}
-use Rattle.std.specs.Prelude.{if◌then◌else◌}
+use Rattle.std.proofs.Common.{refl, ◌≡◌, ◌∙◌, ◌≢◌, ◌↔◌, zero, suc, arith, Bool, true, false, ℤ, pos, negsuc, unsigned_abs, ◌==◌, Result, Ok, Err, IfOk, IsErrOf}
+use Rattle.std.specs.Prelude.{if◌then◌else◌, not, [], ◌∷◌}
 use Rattle.std.proofs.lemmas.Int.{ints}
 use Rattle.std.proofs.lemmas.Bool.Decides.{nat_tests}
 use Rattle.apt_words.specs.declared.Case.{Case}
 use Rattle.apt_words.specs.declared.Case.TheVariants as cases
+use Rattle.apt_words.specs.Rows.{unless}
 use Rattle.apt_plane.specs.declared.figures.Pt.{Pt}
 use Rattle.apt_plane.specs.declared.figures.Line.{Line}
 use Rattle.apt_plane.specs.Ranges.{IsPoint}
@@ -22,6 +23,18 @@ answer parallel behind inside p =
     if parallel then Err cases.Parallel
     else if behind then Err cases.Behind
     else contact_of (if parallel then Err faults.NoMeeting else if inside then Ok p else Err faults.OutOfRange)
+
+unless_answer : (a b c : Bool) (p : Pt) → unless ((a, cases.Parallel) ∷ (b, cases.Behind) ∷ (not c, cases.OutOfRange) ∷ []) p ≡ answer a b c p
+unless_answer true b c p = refl
+unless_answer false true c p = refl
+unless_answer false false true p = refl
+unless_answer false false false p = refl
+
+line_stop-answer : (start : Pt) (d : Line) (off sense : ℤ) (c : Line) (stop : ℤ)
+    → line_stop start d off sense c stop
+    ≡ answer (are_parallel d c) (line_behind start (heading sense d.dir) c stop) (is_in_range (meeting_point d off c stop)) (meeting_point d off c stop)
+line_stop-answer start d off sense c stop =
+    unless_answer (are_parallel d c) (line_behind start (heading sense d.dir) c stop) (is_in_range (meeting_point d off c stop)) (meeting_point d off c stop)
 
 apart : true ≡ false → ⊥
 apart e = cc
@@ -63,7 +76,7 @@ past_tests a b r e f = rw (e, f) refl
 -- past both tests the answer is that of the lines' meeting
 pub line_stop-met : (start : Pt) (d : Line) (off sense : ℤ) (c : Line) (stop : ℤ) → are_parallel d c ≡ false → line_behind start (heading sense d.dir) c stop ≡ false
     → line_stop start d off sense c stop ≡ contact_of (line_line d off c stop)
-line_stop-met start d off sense c stop e f = past_tests (are_parallel d c) (line_behind start (heading sense d.dir) c stop) (line_line d off c stop) e f
+line_stop-met start d off sense c stop e f = line_stop-answer start d off sense c stop ∙ past_tests (are_parallel d c) (line_behind start (heading sense d.dir) c stop) (line_line d off c stop) e f
 
 inside_point : (p : Pt) → is_in_range p ≡ true → IsPoint p
 inside_point p e = record { x = grind (arith, nat_tests); y = grind (arith, nat_tests) }
@@ -80,23 +93,23 @@ pub answer_parallel : (r : Result Pt Case) (start : Pt) (d : Line) (off sense : 
 answer_parallel r start d off sense c stop e =
     let is = is_parallel (are_parallel d c) (line_behind start (heading sense d.dir) c stop) (is_in_range (meeting_point d off c stop)) (meeting_point d off c stop) in
     let test = crossing (cross d.dir c.dir) in
-    rw e (λ h. test.0 (is.0 h), λ h. is.1 (test.1 h))
+    rw (e ∙ line_stop-answer start d off sense c stop) (λ h. test.0 (is.0 h), λ h. is.1 (test.1 h))
 
 pub answer_behind : (r : Result Pt Case) (start : Pt) (d : Line) (off sense : ℤ) (c : Line) (stop : ℤ) → r ≡ line_stop start d off sense c stop
     → IsErrOf r cases.Behind ↔ ((cross d.dir c.dir ≢ pos 0) × (line_behind start (heading sense d.dir) c stop ≡ true))
 answer_behind r start d off sense c stop e =
     let is = is_behind (are_parallel d c) (line_behind start (heading sense d.dir) c stop) (is_in_range (meeting_point d off c stop)) (meeting_point d off c stop) in
     let test = not_crossing (cross d.dir c.dir) in
-    rw e (λ h. (test.0 (is.0 h).0, (is.0 h).1), λ h. is.1 (test.1 h.0, h.1))
+    rw (e ∙ line_stop-answer start d off sense c stop) (λ h. (test.0 (is.0 h).0, (is.0 h).1), λ h. is.1 (test.1 h.0, h.1))
 
 pub answer_out_of_range : (r : Result Pt Case) (start : Pt) (d : Line) (off sense : ℤ) (c : Line) (stop : ℤ) → r ≡ line_stop start d off sense c stop
     → IsErrOf r cases.OutOfRange ↔ ((cross d.dir c.dir ≢ pos 0) × (line_behind start (heading sense d.dir) c stop ≡ false) × (is_in_range (meeting_point d off c stop) ≡ false))
 answer_out_of_range r start d off sense c stop e =
     let is = is_outside (are_parallel d c) (line_behind start (heading sense d.dir) c stop) (is_in_range (meeting_point d off c stop)) (meeting_point d off c stop) in
     let test = not_crossing (cross d.dir c.dir) in
-    rw e (λ h. (test.0 (is.0 h).0, (is.0 h).1, (is.0 h).2), λ h. is.1 (test.1 h.0, h.1, h.2))
+    rw (e ∙ line_stop-answer start d off sense c stop) (λ h. (test.0 (is.0 h).0, (is.0 h).1, (is.0 h).2), λ h. is.1 (test.1 h.0, h.1, h.2))
 
 pub answer_in_range : (r : Result Pt Case) (start : Pt) (d : Line) (off sense : ℤ) (c : Line) (stop : ℤ) → r ≡ line_stop start d off sense c stop
     → IfOk r (λ p. IsPoint p)
 answer_in_range r start d off sense c stop e =
-    rw e (is_inside (are_parallel d c) (line_behind start (heading sense d.dir) c stop) (is_in_range (meeting_point d off c stop)) (meeting_point d off c stop) (inside_point (meeting_point d off c stop)))
+    rw (e ∙ line_stop-answer start d off sense c stop) (is_inside (are_parallel d c) (line_behind start (heading sense d.dir) c stop) (is_in_range (meeting_point d off c stop)) (meeting_point d off c stop) (inside_point (meeting_point d off c stop)))

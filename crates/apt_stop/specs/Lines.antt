@@ -1,5 +1,5 @@
 -- A straight motion against a straight stop.
-use Rattle.std.specs.Prelude.{ℤ, ◌||◌, not, Bool, true, false, List, [], ◌∷◌, Result, if◌then◌else◌}
+use Rattle.std.specs.Prelude.{ℤ, ◌||◌, not, Bool, true, false, List, [], ◌∷◌, Result, Ok, Err, if◌then◌else◌}
 use Rattle.apt_num.specs.declared.Sign.{Sign}
 use Rattle.apt_num.specs.declared.Sign.TheVariants as signs
 use Rattle.apt_num.specs.Sign.{sign_of}
@@ -10,6 +10,8 @@ use Rattle.apt_plane.specs.declared.figures.Dir.{Dir}
 use Rattle.apt_plane.specs.declared.figures.Line.{Line}
 use Rattle.apt_plane.specs.Vectors.{cross}
 use Rattle.apt_words.specs.Rows.{Row, unless}
+use Rattle.apt_canon.specs.declared.FormFault.{FormFault}
+use Rattle.apt_canon.specs.declared.FormFault.TheVariants as faults
 use Rattle.apt_canon.specs.Meeting.{meeting_point, are_parallel, is_in_range}
 use Rattle.apt_offset.specs.declared.Target.TheVariants as targets
 use Rattle.apt_stop.specs.Nearness.{is_near, side_of, heading, near_stop}
@@ -43,6 +45,14 @@ line_cases start drive off sense check stop_off =
     (are_parallel drive check, cases.Parallel)
     ∷ (line_behind start (heading sense drive.dir) check stop_off, cases.Behind)
     ∷ (not (is_in_range (meeting_point drive off check stop_off)), cases.OutOfRange) ∷ []
+
+-- a meeting that is not to be had is out of range: the lines are not parallel then
+abbrev pub contact_of : Result Pt FormFault → Result Pt Case
+contact_of (Ok p) = Ok p
+contact_of (Err faults.OutOfRange) = Err cases.OutOfRange
+contact_of (Err faults.Degenerate) = Err cases.OutOfRange
+contact_of (Err faults.NoMeeting) = Err cases.OutOfRange
+contact_of (Err faults.TooLarge) = Err cases.OutOfRange
 
 -- where it stops
 abbrev pub line_stop : Pt → Line → ℤ → ℤ → Line → ℤ → Result Pt Case
