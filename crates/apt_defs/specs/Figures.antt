@@ -23,8 +23,9 @@ defined None = Err cases.Undefined
 defined (Some f) = Ok f
 
 abbrev pub as_surface : Figure → Result Surface Case
+as_surface (figures.Point at z) = Err cases.WrongKind
 as_surface (figures.Shape s) = Ok s
-as_surface _ = Err cases.WrongKind
+as_surface figures.Scalar = Err cases.WrongKind
 
 -- the surface of a name: undefined comes before another kind
 abbrev pub surface_named : Table → List ℕ → Result Surface Case

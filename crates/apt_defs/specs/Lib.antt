@@ -1,3 +1,2 @@
 pub mod Figures
 pub mod Definitions
-pub mod Answers

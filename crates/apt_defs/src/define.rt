@@ -1,134 +1,86 @@
 //! Definitions of names.
 
-ghost use Rattle.std.specs.Prelude.{◌≡◌, Ok, IfOk};
-ghost use Rattle.apt_plane.specs.Ranges.{IsPoint, IsLine};
+ghost use Rattle.std.specs.Prelude.{◌≡◌, ◌==◌, [], ◌∷◌, IfOk};
+ghost use Rattle.apt_words.specs.Rows.{unless};
+ghost use Rattle.apt_plane.specs.Ranges.{IsPoint};
+ghost use Rattle.apt_plane.specs.Vectors as vectors;
 ghost use Rattle.apt_scalar.specs.Scalars.{IsScalar};
 ghost use Rattle.apt_defs.specs.Figures.{IsFigure};
 ghost use Rattle.apt_defs.specs.Definitions as definitions;
-ghost use Rattle.apt_defs.specs.Answers.{IsDefined};
 
-use crate::{Figure, Table};
+use crate::Figure;
 use apt_plane::vectors::{norm, way};
 use apt_plane::{Line, Pt, Surface};
 use apt_scalar::grid_units;
-use apt_words::{Case, Symbol, Units};
-use std::alloc::AllocError;
+use apt_words::{Case, Units};
 
 /// The coordinate limit, in grid units.
 const REACH: u64 = 50_000_000;
 
-/// Why a name is not defined: the case that refuses the step, or want of memory.
-#[derive(Clone, Copy, Debug, PartialEq, Eq)]
-pub enum DefError {
-    Case(Case),
-    NoMemory,
-}
-
-impl From<Case> for DefError {
-    ghost use Rattle.std.specs.Prelude.{◌≡◌};
-    ghost use Rattle.apt_defs.specs.declared.define.DefError.TheVariants as errors;
-
-    ghost from_gives = { λ case e. e ≡ errors.Case case };
-
-    fn from(case: Case) -> Self {
-        DefError::Case(case)
-    }
-}
-
-impl From<AllocError> for DefError {
-    ghost use Rattle.std.specs.Prelude.{◌≡◌};
-    ghost use Rattle.apt_defs.specs.declared.define.DefError.TheVariants as errors;
-
-    ghost from_gives = { λ _ e. e ≡ errors.NoMemory };
-
-    fn from(_: AllocError) -> Self {
-        DefError::NoMemory
-    }
-}
-
-/// A scalar as a coordinate in grid units; `OutOfRange` exactly where it is beyond the coordinate limit.
-pub fn coordinate(units: Units, v: i64) -> Result<i64, Case>
-    requires { IsScalar v }
-    ensures { result ≡ definitions.coordinate units v }
+/// Whether a coordinate in grid units is within the coordinate limit.
+pub fn is_in_reach(g: i64) -> bool
+    ensures { result ≡ definitions.is_in_reach g }
 {
-    let g = grid_units(units, v);
-    if g.unsigned_abs() <= REACH {
-        Ok(g)
-    } else {
-        Err(Case::OutOfRange)
-    }
+    g.unsigned_abs() <= REACH
 }
 
-/// A point of two scalars.
-#[tactic(auto, unfolding(crate::specs::Definitions::point))]
-fn point(units: Units, x: i64, y: i64) -> Result<Pt, Case>
+/// The point of two scalars.
+fn point_by(units: Units, x: i64, y: i64) -> Pt
     requires x { IsScalar x }
     requires y { IsScalar y }
-    ensures value { result ≡ definitions.point units x y }
-    ensures range { IfOk result IsPoint }
+    ensures { result ≡ definitions.point_by units x y }
 {
-    let x = coordinate(units, x)?;
-    let y = coordinate(units, y)?;
-    Ok(Pt { x, y })
+    Pt {
+        x: grid_units(units, x),
+        y: grid_units(units, y),
+    }
 }
 
-/// The line through two points; `Degenerate` exactly where they are one.
-#[tactic(auto, unfolding(crate::specs::Definitions::line_through), using(crate::proofs::Lines::way_in_range))]
-fn line_through(p: Pt, q: Pt) -> Result<Line, Case>
+/// The line that a definition by four numbers gives its name: the coordinates of two of its points.
+///
+/// # Errors
+///
+/// `OutOfRange` for a number beyond the coordinate limit, else `Degenerate` where the two points are one.
+pub fn line_by(units: Units, x: i64, y: i64, u: i64, v: i64) -> Result<Figure, Case>
+    requires x { IsScalar x }
+    requires y { IsScalar y }
+    requires u { IsScalar u }
+    requires v { IsScalar v }
+    ensures value { result ≡ unless (definitions.line_cases units x y u v) (definitions.line_figure units x y u v) }
+    ensures range { IfOk result IsFigure }
+{
+    between(point_by(units, x, y), point_by(units, u, v))
+}
+
+fn between(p: Pt, q: Pt) -> Result<Figure, Case>
+    ensures value { result ≡ unless (definitions.ends_cases p q) (Figure.Shape (Surface.Line (definitions.line_between p q))) }
+    ensures range { IfOk result IsFigure }
+{
+    if !is_in_reach(p.x) {
+        return Err(Case::OutOfRange);
+    }
+    if !is_in_reach(p.y) {
+        return Err(Case::OutOfRange);
+    }
+    if !is_in_reach(q.x) {
+        return Err(Case::OutOfRange);
+    }
+    if !is_in_reach(q.y) {
+        return Err(Case::OutOfRange);
+    }
+    through(p, q)
+}
+
+#[tactic(auto, using(crate::proofs::Lines::way_in_range))]
+fn through(p: Pt, q: Pt) -> Result<Figure, Case>
     requires p { IsPoint p }
     requires q { IsPoint q }
-    ensures value { result ≡ definitions.line_through p q }
-    ensures range { IfOk result IsLine }
+    ensures value { result ≡ unless ((vectors.norm (vectors.way p q) == 0, Case.Degenerate) ∷ []) (Figure.Shape (Surface.Line (definitions.line_between p q))) }
+    ensures range { IfOk result IsFigure }
 {
     let dir = way(p, q);
     if norm(dir) == 0 {
         return Err(Case::Degenerate);
     }
-    Ok(Line { base: p, dir })
-}
-
-fn line_xy(units: Units, x: i64, y: i64, u: i64, v: i64) -> Result<Figure, Case>
-    requires x { IsScalar x }
-    requires y { IsScalar y }
-    requires u { IsScalar u }
-    requires v { IsScalar v }
-    ensures value { result ≡ definitions.line_xy units x y u v }
-    ensures range { IfOk result IsFigure }
-{
-    let p = point(units, x, y)?;
-    let q = point(units, u, v)?;
-    Ok(Figure::Shape(Surface::Line(line_through(p, q)?)))
-}
-
-/// Gives the name of a definition by four numbers its line.
-///
-/// # Errors
-///
-/// `OutOfRange` for a number beyond the coordinate limit, else `Degenerate` where the two points are one.
-pub fn define_line(
-    table: &mut Table,
-    name: &Symbol,
-    units: Units,
-    x: i64,
-    y: i64,
-    u: i64,
-    v: i64,
-) -> Result<(), DefError>
-    requires x { IsScalar x }
-    requires y { IsScalar y }
-    requires u { IsScalar u }
-    requires v { IsScalar v }
-    ensures { IsDefined name.now (definitions.line_xy units x y u v) table.old table.new result }
-{
-    let figure = line_xy(units, x, y, u, v)?;
-    table.set(name.copied(), figure)?;
-    Ok(())
-}
-
-/// Gives a name a number.
-pub fn define_scalar(table: &mut Table, name: &Symbol) -> Result<(), DefError>
-    ensures { IsDefined name.now (Ok Figure.Scalar) table.old table.new result }
-{
-    table.set(name.copied(), Figure::Scalar)?;
-    Ok(())
+    Ok(Figure::Shape(Surface::Line(Line { base: p, dir })))
 }

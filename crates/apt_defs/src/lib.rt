@@ -7,6 +7,6 @@ mod table;
 #[cfg(test)]
 mod tests;
 
-pub use define::{DefError, coordinate, define_line, define_scalar};
+pub use define::{is_in_reach, line_by};
 pub use figure::Figure;
-pub use table::{Table, figure_of, surface};
+pub use table::{Table, surface};

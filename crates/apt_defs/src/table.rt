@@ -42,8 +42,9 @@ impl Table {
         }
     }
 
+    /// What a name stands for, None where it has no figure.
     #[tactic(auto, using(crate::proofs::Tables::looked_up))]
-    fn get(&self, name: &Symbol) -> Option<Figure>
+    pub fn get(&self, name: &Symbol) -> Option<Figure>
         ensures value { result ≡ figures.figure_named self.now name.now }
         ensures range { IfSome result IsFigure }
     {
@@ -52,7 +53,7 @@ impl Table {
 
     /// Gives a name a figure: a new name goes last, a known one keeps its place.
     #[tactic(auto, using(crate::proofs::Tables::still_figures))]
-    pub(crate) fn set(&mut self, name: Symbol, figure: Figure) -> Result<(), AllocError>
+    pub fn set(&mut self, name: Symbol, figure: Figure) -> Result<(), AllocError>
         requires { IsFigure figure }
         ensures ok { OnOk result (self.new ≡ table_with self.old name figure) }
         ensures err { OnErr result (self.new ≡ self.old) }
@@ -62,33 +63,14 @@ impl Table {
     }
 }
 
-/// The latest figure of a name; `Undefined` exactly where it has none.
-pub fn figure_of(table: &Table, name: &Symbol) -> Result<Figure, Case>
-    ensures value { result ≡ figures.defined (figures.figure_named table.now name.now) }
-    ensures range { IfOk result IsFigure }
-{
-    match table.get(name) {
-        Some(figure) => Ok(figure),
-        None => Err(Case::Undefined),
-    }
-}
-
-/// A figure as a surface; `WrongKind` exactly where it is a point or a number.
-fn as_surface(figure: Figure) -> Result<Surface, Case>
-    requires { IsFigure figure }
-    ensures value { result ≡ figures.as_surface figure }
-    ensures range { IfOk result IsSurface }
-{
-    match figure {
-        Figure::Shape(surface) => Ok(surface),
-        Figure::Point { .. } | Figure::Scalar => Err(Case::WrongKind),
-    }
-}
-
 /// The surface that a name stands for: `Undefined` where it has no figure, `WrongKind` where that is none.
 pub fn surface(table: &Table, name: &Symbol) -> Result<Surface, Case>
     ensures value { result ≡ figures.surface_named table.now name.now }
     ensures range { IfOk result IsSurface }
 {
-    as_surface(figure_of(table, name)?)
+    match table.get(name) {
+        None => Err(Case::Undefined),
+        Some(Figure::Shape(surface)) => Ok(surface),
+        Some(Figure::Point { .. } | Figure::Scalar) => Err(Case::WrongKind),
+    }
 }
