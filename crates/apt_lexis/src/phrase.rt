@@ -17,7 +17,7 @@ use std::marker::Model;
 
 /// A statement as it is read: the line on which it begins, from 1, its tokens up to the first bad one with
 /// the cause of that, and its text where it takes one.
-#[derive(Debug, Drop)]
+#[derive(Drop)]
 pub struct Phrase {
     pub line: u32,
     pub tokens: Vec<Token>,

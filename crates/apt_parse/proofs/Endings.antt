@@ -65,6 +65,6 @@ program_from-ends before last fault (p ∷ ps) none =
 pub program_of-ends : (text : List ℕ) → IfOk (program_of text) EndsInFini
 program_of-ends text = program_from-ends [] (last_line (lines_of text)) (said_in text).fault (said_in text).phrases tt
 
-pub parsed_ends : (text : List ℕ) (read : Result Program ParseError) → IsParsed (program_of text) read → IfOk read (λ p. EndsInFini p.stmts.items)
+pub parsed_ends : (text : List ℕ) (read : Result Program ParseError) → IsParsed (program_of text) read → IfOk read (λ p. EndsInFini p)
 parsed_ends text (Ok p) is = IfOk-at_ok EndsInFini is (program_of-ends text)
 parsed_ends text (Err e) is = tt

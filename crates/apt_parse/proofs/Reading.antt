@@ -6,7 +6,7 @@ use Rattle.apt_words.specs.declared.body.Body.{Body}
 use Rattle.apt_words.specs.declared.body.Stmt.{Stmt}
 use Rattle.apt_lexis.specs.declared.cause.PartCause.{PartCause}
 use Rattle.apt_lexis.specs.declared.cause.PartCause.TheVariants as causes
-use Rattle.apt_parse.specs.Built.{is_built}
+use Rattle.apt_words.specs.Built.{is_built}
 use Rattle.apt_parse.specs.Statements.{or_none, macro_name, labels_of, macros_of, macro_behind, loop_behind, macro_from, loop_from, first_fault, is_misplaced, lacks_partno, is_label_again, is_macro_again, is_in_macro, is_out_of_loop}
 
 pub labels_behind : (sts : List Stmt) (st : Stmt) → labels_of (sts ++ st ∷ []) ≡ labels_of sts ++ or_none st.label
@@ -45,6 +45,16 @@ no_fault : (sts : List Stmt) (label : Option (List ℕ)) (b : Body) → first_fa
     → (is_label_again sts label ≡ false) × (is_macro_again sts b ≡ false)
 no_fault sts label b h =
     not_twice (is_misplaced sts b) (not (is_built b)) (lacks_partno sts b) (is_label_again sts label) (is_macro_again sts b) (is_in_macro sts b) (is_out_of_loop sts b) h
+
+-- and it is built
+not_unbuilt : (a b c d e f g : Bool) → first_of a b c d e f g ≡ None → b ≡ false
+not_unbuilt true b c d e f g h = cc
+not_unbuilt false true c d e f g h = cc
+not_unbuilt false false c d e f g h = refl
+
+pub no_not_built : (sts : List Stmt) (label : Option (List ℕ)) (b : Body) → first_fault sts label b ≡ None → not (is_built b) ≡ false
+no_not_built sts label b h =
+    not_unbuilt (is_misplaced sts b) (not (is_built b)) (lacks_partno sts b) (is_label_again sts label) (is_macro_again sts b) (is_in_macro sts b) (is_out_of_loop sts b) h
 
 pub no_label_again : (sts : List Stmt) (label : Option (List ℕ)) (b : Body) → first_fault sts label b ≡ None → is_label_again sts label ≡ false
 no_label_again sts label b h = (no_fault sts label b h).0

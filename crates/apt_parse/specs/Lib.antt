@@ -1,4 +1,3 @@
-pub mod Built
 pub mod Statements
 pub mod Programs
 pub mod Reading

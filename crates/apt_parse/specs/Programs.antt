@@ -81,6 +81,6 @@ program_of text = program_from [] (last_line (lines_of text)) (said_in text).fau
 -- ---- what the reader answers
 
 abbrev pub IsParsed : Result (List Stmt) Fault → Result Program ParseError → Type 0
-IsParsed due (Ok program) = due ≡ Ok program.stmts.items
+IsParsed due (Ok program) = due ≡ Ok program
 IsParsed due (Err (errors.Bad line cause)) = due ≡ Err (line, cause)
 IsParsed due (Err errors.NoMemory) = Unit {0}

@@ -11,7 +11,7 @@ use Rattle.apt_lexis.specs.Tokens.{Tokens}
 use Rattle.apt_lexis.specs.Phrase.{Phrase}
 use Rattle.apt_shapes.specs.declared.table.Labelled.{Labelled}
 use Rattle.apt_shapes.specs.Shapes.{shape}
-use Rattle.apt_parse.specs.Built.{is_built}
+use Rattle.apt_words.specs.Built.{is_built}
 
 -- ---- what the statements before have opened and named
 

@@ -1,9 +1,9 @@
 //! The statements that the compiler has.
 
 ghost use Rattle.std.specs.Prelude.{◌≡◌};
-ghost use Rattle.apt_parse.specs.Built as built;
+ghost use Rattle.apt_words.specs.Built as built;
 
-use apt_words::{Body, Side, Stop};
+use apt_words::{Body, Side, Stop, Symbol};
 
 /// Whether the compiler has the statement.
 pub(crate) fn is_built(body: &Body) -> bool
@@ -31,9 +31,45 @@ pub(crate) fn is_built(body: &Body) -> bool
         | Body::Fini
         | Body::Fedrat(_) => true,
         Body::Tool(side) => is_side_built(*side),
-        Body::GoStart(stop, _, Some((other, _))) => is_stop_built(*stop) && is_stop_built(*other),
+        Body::GoStart(stop, _, other) => is_start_built(*stop, other),
         Body::Contour(side, _, _, stop, _) => is_side_or_none_built(*side) && is_stop_built(*stop),
-        _ => false,
+        Body::PointXy(..)
+        | Body::PointLines(..)
+        | Body::PointPick(..)
+        | Body::PointCenter(..)
+        | Body::LinePoints(..)
+        | Body::LinePar(..)
+        | Body::LinePerp(..)
+        | Body::LineAt(..)
+        | Body::LineTan(..)
+        | Body::LineTwo(..)
+        | Body::CircleThree(..)
+        | Body::CircleRadius(..)
+        | Body::CircleTan(..)
+        | Body::CircleThrough(..)
+        | Body::CircleCorner(..)
+        | Body::FromPoint(_)
+        | Body::GotoPoint(_)
+        | Body::Spindl(..)
+        | Body::SpindlOff
+        | Body::Coolnt(_)
+        | Body::Loadtl(_)
+        | Body::Macro(..)
+        | Body::Termac
+        | Body::Call(..)
+        | Body::Loopst
+        | Body::Loopnd
+        | Body::Jumpto(_)
+        | Body::If(..) => false,
+    }
+}
+
+fn is_start_built(stop: Stop, other: &Option<(Stop, Symbol)>) -> bool
+    ensures { result ≡ built.is_start_built stop other.now }
+{
+    match other {
+        Some((other, _)) => is_stop_built(stop) && is_stop_built(*other),
+        None => false,
     }
 }
 

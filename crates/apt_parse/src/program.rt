@@ -2,6 +2,7 @@
 
 ghost use Rattle.std.specs.Prelude.{◌≡◌, ◌≤◌, ◌-◌, None, max, IfOk};
 ghost use Rattle.std.specs.List.{list_all};
+ghost use Rattle.apt_words.specs.Built.{AreBuilt};
 ghost use Rattle.apt_words.specs.Endings.{EndsInFini};
 ghost use Rattle.apt_parse.specs.Reading as reading;
 ghost use Rattle.apt_parse.specs.Reading.{IsRead};
@@ -20,10 +21,11 @@ use std::alloc::Global;
 /// # Errors
 ///
 /// `Bad` is the first fault in the order of reading, with its line.
-#[tactic(auto, using(crate::proofs::Endings::parsed_ends))]
+#[tactic(auto, using(crate::proofs::Endings::parsed_ends, crate::proofs::AllBuilt::parsed_built))]
 pub fn parse(alloc: Global, text: &[u8]) -> Result<Program, ParseError>
     ensures program { programs.IsParsed (programs.program_of text.now) result }
-    ensures ends { IfOk result (λ p. EndsInFini p.stmts.items) }
+    ensures ends { IfOk result (λ p. EndsInFini p) }
+    ensures built { IfOk result (λ p. AreBuilt p) }
 {
     parse_all(alloc, text)
 }

@@ -13,7 +13,7 @@ use apt_words::{Body, Go, Params, Symbol, Text, Word, word_of};
 use std::alloc::{AllocError, Global};
 
 /// What a statement says, with its label where it has one.
-#[derive(Debug, Drop)]
+#[derive(Drop)]
 pub struct Labelled {
     pub label: Option<Symbol>,
     pub body: Body,
