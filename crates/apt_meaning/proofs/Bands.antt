@@ -14,7 +14,7 @@ use Rattle.apt_plane.proofs.Heights.{height_of_point}
 use Rattle.apt_plane.proofs.SegmentLaws.{in_band-between, point_in_band}
 use Rattle.apt_offset.specs.Targets.{greater, signed, band_at}
 use Rattle.apt_plane.specs.Distances.{InBand, EveryPoint}
-use Rattle.apt_meaning.proofs.Sums.{at_least-weaker}
+use Rattle.apt_num.proofs.Sums.{at_least-weaker}
 
 -- the greater of two is at least the first
 le_greater-left : (a b : ℤ) → a ≤ℤ greater a b

@@ -17,7 +17,7 @@ use Rattle.apt_certify.specs.Legs.{IsWithinEdge}
 use Rattle.apt_meaning.specs.declared.motion.Motion.{Motion}
 use Rattle.apt_meaning.specs.Motions.{leg_of, stop_offset}
 use Rattle.apt_meaning.proofs.Straight.{straight}
-use Rattle.apt_meaning.proofs.Sums.{at_least-weaker}
+use Rattle.apt_num.proofs.Sums.{at_least-weaker}
 use Rattle.apt_meaning.proofs.Bands.{HasRoom}
 use Rattle.apt_meaning.proofs.Starts.{IsFar}
 

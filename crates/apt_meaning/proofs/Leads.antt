@@ -13,7 +13,7 @@ use Rattle.apt_plane.specs.Ranges.{IsSense}
 use Rattle.apt_plane.specs.Vectors.{way, cross, dot, norm}
 use Rattle.apt_stop.specs.Nearness.{heading}
 use Rattle.apt_stop.specs.Lines.{is_same}
-use Rattle.apt_meaning.proofs.Sums.{at_least-sum}
+use Rattle.apt_num.proofs.Sums.{at_least-sum}
 use Rattle.apt_meaning.proofs.Order.{Approach, along-left, along-right, heading_cross, in_sense-left, in_sense-right, turned_zero}
 use Rattle.apt_meaning.proofs.Starts.{IsFar}
 

@@ -1,5 +1,5 @@
 -- A contour that no case refuses is legal, its contact is a point, and all that it asks for is there.
-use Rattle.std.proofs.Common.{◌≡◌, ◌∙◌, refl, ap, sym, ◌^◌, ◌≤◌, ℤ, pos, unsigned_abs, Bool, true, false, not, [], ◌∷◌, arith, subst, if◌then◌else◌}
+use Rattle.std.proofs.Common.{◌≡◌, ◌∙◌, ℕ, refl, ap, sym, ◌^◌, ◌≤◌, ℤ, pos, unsigned_abs, Bool, true, false, not, [], ◌∷◌, arith, subst, if◌then◌else◌}
 use Rattle.std.specs.Prelude.{◌&&◌}
 use Rattle.std.proofs.lemmas.Int.{ints}
 use Rattle.std.proofs.lemmas.Bool.{true≢false, not-false}
@@ -21,6 +21,8 @@ use Rattle.apt_offset.specs.Ranges.{IsRadius}
 use Rattle.apt_offset.specs.Turns.{opposite, is_zero}
 use Rattle.apt_offset.specs.Targets.{signed}
 use Rattle.apt_stop.specs.Nearness.{is_near, heading, off_track, near_stop, side_of as side_of_target}
+use Rattle.apt_stop.proofs.Tests.{near-OnLine}
+use Rattle.apt_stop.proofs.Cases.{inside_point}
 use Rattle.apt_certify.specs.Legs.{Leg, IsBounded, IsWithinEdge, IsLegal}
 use Rattle.apt_meaning.specs.declared.motion.Motion.{Motion}
 use Rattle.apt_meaning.specs.declared.motion.StartUp.{StartUp}
@@ -30,10 +32,10 @@ use Rattle.apt_meaning.specs.Refusals.{motion_cases, is_tanto}
 use Rattle.apt_meaning.specs.Ranges.{IsMotion}
 use Rattle.apt_meaning.specs.Records.{IsLegalCut}
 use Rattle.apt_meaning.proofs.Bands.{HasRoom, band_at-HasRoom, near_in_band, surface_band, surface_band-between}
-use Rattle.apt_meaning.proofs.Starts.{IsFar, near-OnLine, far_on_side}
+use Rattle.apt_meaning.proofs.Starts.{IsFar, far_on_side}
 use Rattle.apt_meaning.proofs.Leads.{Leads, runs_in_sense}
 use Rattle.apt_meaning.proofs.Edges.{stays_before}
-use Rattle.apt_meaning.proofs.Straight.{straight, IsUnrefused, unrefused, in_range-IsPoint}
+use Rattle.apt_meaning.proofs.Straight.{straight, IsUnrefused, unrefused}
 
 -- ---- the side of the stop on which a motion runs
 
@@ -63,7 +65,7 @@ start_far : (m : Motion) (d e : Line) → IsUnrefused (straight m d e) d e
 start_far m d e fine =
     far_on_side (from_side (straight m d e)) (cross e.dir (way e.base m.start.at)) (stop_offset (straight m d e)) (norm e.dir) refl fine.far
 
-far_not_zero : (side : Sign) (k h : ℤ) (n : _) → IsFar side k h n → is_zero side ≡ false
+far_not_zero : (side : Sign) (k h : ℤ) (n : ℕ) → IsFar side k h n → is_zero side ≡ false
 far_not_zero signs.Plus k h n far = refl
 far_not_zero signs.Minus k h n far = refl
 far_not_zero signs.Zero k h n far = absurd far
@@ -179,7 +181,7 @@ motion_defined m is none = defined_on m m.drive m.check none
 -- ---- start-up
 
 meeting_point-is : (u : StartUp) (a b : Surface) → NoneHolds (meeting_cases u a b) → IsPoint (start_point u)
-meeting_point-is u (surfaces.Line l) (surfaces.Line k) none = in_range-IsPoint (start_point u) (not-false _ none.1.0)
+meeting_point-is u (surfaces.Line l) (surfaces.Line k) none = inside_point (start_point u) (not-false _ none.1.0)
 meeting_point-is u (surfaces.Line l) (surfaces.Circ k) none = absurd (true≢false none.0)
 meeting_point-is u (surfaces.Circ l) b none = absurd (true≢false none.0)
 

@@ -1,4 +1,3 @@
-pub mod Sums
 pub mod Order
 pub mod Bands
 pub mod Starts

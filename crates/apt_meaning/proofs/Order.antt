@@ -12,6 +12,7 @@ use Rattle.apt_plane.specs.Vectors.{cross, dot, norm}
 use Rattle.apt_plane.proofs.Heights.{one-times}
 use Rattle.apt_plane.proofs.Ways.{square_norm, dot_square}
 use Rattle.apt_stop.specs.Nearness.{heading}
+use Rattle.apt_stop.proofs.Headings.{turned}
 
 -- v by its parts along d and across it
 parts : (dx dy ex ey vx vy : ℤ) →
@@ -117,7 +118,4 @@ in_sense-left sense s c is p q = positive_of-positive (sense *ℤ s) (sense *ℤ
 -- and it is 0 only where the other number is
 pub turned_zero : (sense c : ℤ) → IsSense sense → sense *ℤ c ≡ pos 0 → c ≡ pos 0
 turned_zero sense c (inl e) f = omega (arith, ints, sym (one-times c) ∙ sym (ap (λ z. z *ℤ c) e) ∙ f)
-turned_zero sense c (inr e) f = omega (arith, ints, sym (neg_one-times c) ∙ sym (ap (λ z. z *ℤ c) e) ∙ f)
-  where
-    neg_one-times : (z : ℤ) → negsuc 0 *ℤ z ≡ neg_ℤ z
-    neg_one-times z = omega (arith, ints)
+turned_zero sense c (inr e) f = omega (arith, ints, sym (turned c) ∙ sym (ap (λ z. z *ℤ c) e) ∙ f)

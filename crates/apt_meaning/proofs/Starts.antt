@@ -1,55 +1,19 @@
--- What the tests of a start tell: how near it is to a track, and on which side of a stop.
-use Rattle.std.proofs.Common.{◌≡◌, ◌≢◌, ℕ, refl, sym, ◌∙◌, arith, inl, inr, ℤ, pos, ◌+ℤ◌, ◌-ℤ◌, neg_ℤ, Bool, true, false, not, ◌&&◌, subst}
+-- On which side of a stop a start is that is not near it.
+use Rattle.std.proofs.Common.{◌≡◌, ◌≢◌, ℕ, sym, ◌∙◌, arith, inl, inr, ℤ, pos, ◌+ℤ◌, ◌-ℤ◌, neg_ℤ, Bool, false, ◌&&◌, subst}
 use Rattle.std.proofs.lemmas.Int.{ints}
-use Rattle.std.proofs.lemmas.Bool.{and_parts, and_cases, both_ways}
+use Rattle.std.proofs.lemmas.Bool.{and_cases, both_ways}
 use Rattle.apt_num.specs.declared.Sign.{Sign}
 use Rattle.apt_num.specs.declared.Sign.TheVariants as signs
-use Rattle.apt_num.specs.Sign.{AtLeast, OnLine, root_sign_of}
+use Rattle.apt_num.specs.Sign.{AtLeast, root_sign_of}
 use Rattle.apt_num.proofs.AtLeast.{root_sign_at_least, root_sign_at_most}
-use Rattle.apt_plane.specs.declared.figures.Pt.{Pt}
-use Rattle.apt_plane.specs.declared.figures.Line.{Line}
-use Rattle.apt_plane.specs.Vectors.{way, cross, norm}
-use Rattle.apt_offset.specs.declared.Target.TheVariants as targets
-use Rattle.apt_stop.specs.Nearness.{is_minus, is_at_least, is_near}
-use Rattle.apt_meaning.proofs.Sums.{at_least-weaker}
-
-not_minus : (s : Sign) → not (is_minus s) ≡ true → s ≢ signs.Minus
-not_minus signs.Plus e = λ f. cc
-not_minus signs.Zero e = λ f. cc
-not_minus signs.Minus e = λ f. cc
-
-not_plus : (s : Sign) → not (is_minus s) ≡ false → s ≢ signs.Plus
-not_plus signs.Plus e = λ f. cc
-not_plus signs.Zero e = λ f. cc
-not_plus signs.Minus e = λ f. cc
-
-tells_minus : (s : Sign) → s ≢ signs.Minus → not (is_minus s) ≡ true
-tells_minus signs.Plus d = refl
-tells_minus signs.Zero d = refl
-tells_minus signs.Minus d = absurd (d refl)
-
--- the test of k against h times the root of n
-is_at_least-true : (k h : ℤ) (n : ℕ) → is_at_least k h n ≡ true → AtLeast k h n
-is_at_least-true k h n e = (root_sign_at_least k h n).0 (not_minus (root_sign_of k h n) e)
-
-is_at_least-false : (k h : ℤ) (n : ℕ) → is_at_least k h n ≡ false → AtLeast (neg_ℤ k) (neg_ℤ h) n
-is_at_least-false k h n e = (root_sign_at_most k h n).0 (not_plus (root_sign_of k h n) e)
-
-is_at_least-from : (k h : ℤ) (n : ℕ) → AtLeast k h n → is_at_least k h n ≡ true
-is_at_least-from k h n is = tells_minus (root_sign_of k h n) ((root_sign_at_least k h n).1 is)
+use Rattle.apt_stop.specs.Nearness.{is_at_least}
+use Rattle.apt_stop.proofs.Tests.{is_at_least-false, is_at_least-from}
+use Rattle.apt_num.proofs.Sums.{at_least-weaker}
 
 -- at least h: so it is not refused at 8 units less
 not_lower : (k h : ℤ) (n : ℕ) → AtLeast k h n → is_at_least k (h -ℤ pos 8) n ≡ false → ⊥
 not_lower k h n is e =
     both_ways (is_at_least k (h -ℤ pos 8) n) e (is_at_least-from k (h -ℤ pos 8) n (at_least-weaker k h (h -ℤ pos 8) n (omega (arith, ints)) is))
-
-pub near-OnLine : (l : Line) (h g : ℤ) (p : Pt) → is_near (targets.Line l.base l.dir h) g p ≡ true → OnLine (cross l.dir (way l.base p)) h (norm l.dir) g
-near-OnLine l h g p e =
-    let k = cross l.dir (way l.base p) in
-    let both = and_parts (is_at_least k (h -ℤ g) (norm l.dir)) (is_at_least (neg_ℤ k) (neg_ℤ h -ℤ g) (norm l.dir)) e in record {
-      right = is_at_least-true k (h -ℤ g) (norm l.dir) both.0;
-      left = is_at_least-true (neg_ℤ k) (neg_ℤ h -ℤ g) (norm l.dir) both.1;
-    }
 
 -- the side of a stop
 apart_plus : signs.Plus ≡ signs.Minus → ⊥

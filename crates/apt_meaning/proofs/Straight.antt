@@ -1,18 +1,17 @@
 -- What stands where nothing refuses a straight motion against a straight stop.
-use Rattle.std.proofs.Common.{◌≡◌, ◌≢◌, ℤ, pos, unsigned_abs, ◌==◌, true, false, nat_le, arith}
+use Rattle.std.proofs.Common.{◌≡◌, ◌≢◌, ℤ, pos, unsigned_abs, ◌==◌, true, false, arith}
 use Rattle.std.proofs.lemmas.Int.{ints}
-use Rattle.std.proofs.lemmas.Bool.{and_parts, or_parts, not-false, eqb-false, leb-true}
+use Rattle.std.proofs.lemmas.Bool.{or_parts, not-false, eqb-false}
 use Rattle.apt_num.specs.Sign.{sign_of}
 use Rattle.apt_words.specs.Rows.{NoneHolds}
-use Rattle.apt_plane.specs.declared.figures.Pt.{Pt}
 use Rattle.apt_plane.specs.declared.figures.Line.{Line}
 use Rattle.apt_plane.specs.declared.figures.Surface.TheVariants as surfaces
 use Rattle.apt_plane.specs.Ranges.{IsPoint}
 use Rattle.apt_plane.specs.Vectors.{cross}
 use Rattle.apt_plane.proofs.Ways.{cross_swap}
-use Rattle.apt_canon.specs.Meeting.{is_in_range}
 use Rattle.apt_stop.specs.Nearness.{is_near, side_of, heading, off_track, near_stop}
 use Rattle.apt_stop.specs.Lines.{is_same}
+use Rattle.apt_stop.proofs.Cases.{inside_point}
 use Rattle.apt_meaning.specs.declared.motion.Motion.{Motion}
 use Rattle.apt_meaning.specs.Motions.{track_of, stop_of, starts_on_check, contact}
 use Rattle.apt_meaning.specs.Refusals.{motion_cases, is_tanto}
@@ -21,14 +20,10 @@ use Rattle.apt_meaning.specs.Refusals.{motion_cases, is_tanto}
 abbrev pub straight : Motion → Line → Line → Motion
 straight m d e = record m { drive = surfaces.Line d; check = surfaces.Line e }
 
-pub not_zero : (z : ℤ) → (unsigned_abs z == 0) ≡ false → z ≢ pos 0
+not_zero : (z : ℤ) → (unsigned_abs z == 0) ≡ false → z ≢ pos 0
 not_zero z e f = eqb-false (unsigned_abs z) 0 e (omega (arith, ints))
 
-pub in_range-IsPoint : (p : Pt) → is_in_range p ≡ true → IsPoint p
-in_range-IsPoint p e =
-    let both = and_parts (nat_le (unsigned_abs p.x) 50000000) (nat_le (unsigned_abs p.y) 50000000) e in
-    record { x = leb-true _ 50000000 both.0; y = leb-true _ 50000000 both.1 }
-
+-- what tells of a motion that it is not refused
 pub record IsUnrefused (m : Motion) (d e : Line) : Type 0 where
   pub near : is_near (track_of m) off_track m.start.at ≡ true
   pub off_check : starts_on_check m ≡ false
@@ -52,5 +47,5 @@ unrefused m d e none =
       crossed = λ z. crosses (omega (arith, ints, cross_swap d.dir e.dir, z));
       far = behind.0;
       ahead = behind.1;
-      point = in_range-IsPoint (contact (straight m d e)) (not-false _ stop.1.1.0);
+      point = inside_point (contact (straight m d e)) (not-false _ stop.1.1.0);
     }
