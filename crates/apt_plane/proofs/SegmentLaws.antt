@@ -6,9 +6,10 @@ use Rattle.apt_num.proofs.Ring.{*ℤ-neg, as_diff, diff-pos, diff-same, differen
 use Rattle.apt_num.proofs.AtLeast.{between_root}
 use Rattle.apt_plane.specs.declared.figures.Pt.{Pt}
 use Rattle.apt_plane.specs.declared.figures.Line.{Line}
+use Rattle.apt_plane.specs.declared.figures.Surface.TheVariants as surfaces
 use Rattle.apt_plane.specs.declared.figures.Band.{Band}
 use Rattle.apt_plane.specs.Vectors.{scaled, between, height, norm}
-use Rattle.apt_plane.specs.Segments.{IsAbove, IsBelow, InLineBand, SegmentInLineBand}
+use Rattle.apt_plane.specs.Distances.{IsAbove, IsBelow, InBand, EveryPoint}
 use Rattle.apt_plane.proofs.Heights.{one-times, height_between}
 
 start_part : (p q : ℤ) → (pos 1 *ℤ p) +ℤ (pos 0 *ℤ q) ≡ p
@@ -39,26 +40,26 @@ below-between l hi p q j k a b =
     (between_root (neg_ℤ (height l (scaled p))) (neg_ℤ (height l (scaled q))) (neg_ℤ hi) (norm l.dir) j k (rw (one-times hi) at a) (rw (one-times hi) at b))
 
 -- both ends in the band: so is every point between
-pub in_band-between : (l : Line) (band : Band) (p q : Pt) → InLineBand l band (scaled p) → InLineBand l band (scaled q) → SegmentInLineBand p q l band
+pub in_band-between : (l : Line) (band : Band) (p q : Pt) → InBand (surfaces.Line l) band (scaled p) → InBand (surfaces.Line l) band (scaled q) → EveryPoint p q (InBand (surfaces.Line l) band)
 in_band-between l band p q a b = λ j k h. record {
   lo = above-between l band.lo p q j k a.lo b.lo;
   hi = below-between l band.hi p q j k a.hi b.hi;
 }
 
 -- and the ends are points of the segment
-pub start_in_band : (l : Line) (band : Band) (p q : Pt) → SegmentInLineBand p q l band → InLineBand l band (scaled p)
+pub start_in_band : (l : Line) (band : Band) (p q : Pt) → EveryPoint p q (InBand (surfaces.Line l) band) → InBand (surfaces.Line l) band (scaled p)
 start_in_band l band p q all = rw (between-start p q) at (all 0 1 (omega arith))
 
-pub end_in_band : (l : Line) (band : Band) (p q : Pt) → SegmentInLineBand p q l band → InLineBand l band (scaled q)
+pub end_in_band : (l : Line) (band : Band) (p q : Pt) → EveryPoint p q (InBand (surfaces.Line l) band) → InBand (surfaces.Line l) band (scaled q)
 end_in_band l band p q all = rw (between-end p q) at (all 1 0 (omega arith))
 
 -- so the two ends tell of all points
-pub ends_decide : (l : Line) (band : Band) (p q : Pt) → SegmentInLineBand p q l band ↔ (InLineBand l band (scaled p) × InLineBand l band (scaled q))
+pub ends_decide : (l : Line) (band : Band) (p q : Pt) → EveryPoint p q (InBand (surfaces.Line l) band) ↔ (InBand (surfaces.Line l) band (scaled p) × InBand (surfaces.Line l) band (scaled q))
 ends_decide l band p q = (λ all. (start_in_band l band p q all, end_in_band l band p q all), λ ends. in_band-between l band p q ends.0 ends.1)
 
 -- of one point, as its height and the length of the direction tell
 pub point_in_band : (l : Line) (band : Band) (p : Pt) (k : ℤ) (n : ℕ) → k ≡ height l (scaled p) → n ≡ norm l.dir
-    → (AtLeast k band.lo n × AtLeast (neg_ℤ k) (neg_ℤ band.hi) n) ↔ InLineBand l band (scaled p)
+    → (AtLeast k band.lo n × AtLeast (neg_ℤ k) (neg_ℤ band.hi) n) ↔ InBand (surfaces.Line l) band (scaled p)
 point_in_band l band p k n e f =
     rw (e, f) (
       λ both. record { lo = rw (one-times band.lo) both.0; hi = rw (one-times band.hi) both.1 },

@@ -1,12 +1,19 @@
 -- Points and segments against a surface: left of a line, or from a centre.
 use Rattle.std.specs.Prelude.{ℕ, ◌+◌, ◌*◌, ◌<◌, ◌≤◌, ℤ, pos, neg_ℤ, ◌*ℤ◌, int_lt, unsigned_abs, MatchBool}
+use Rattle.apt_num.specs.Sign.{AtLeast}
 use Rattle.apt_plane.specs.declared.figures.Pt.{Pt}
-use Rattle.apt_plane.specs.declared.figures.Circ.{Circ}
+use Rattle.apt_plane.specs.declared.figures.Line.{Line}
 use Rattle.apt_plane.specs.declared.figures.Surface.{Surface}
 use Rattle.apt_plane.specs.declared.figures.Surface.TheVariants as surfaces
 use Rattle.apt_plane.specs.declared.figures.Band.{Band}
-use Rattle.apt_plane.specs.Vectors.{Scaled, between, way_to, norm}
-use Rattle.apt_plane.specs.Segments.{IsAbove, IsBelow}
+use Rattle.apt_plane.specs.Vectors.{Scaled, between, way_to, height, norm}
+
+-- the signed distance of a point from a line is at least a length, and at most one
+abbrev pub IsAbove : Line → ℤ → Scaled → Type 0
+IsAbove l lo s = AtLeast (height l s) (pos s.m *ℤ lo) (norm l.dir)
+
+abbrev pub IsBelow : Line → ℤ → Scaled → Type 0
+IsBelow l hi s = AtLeast (neg_ℤ (height l s)) (neg_ℤ (pos s.m *ℤ hi)) (norm l.dir)
 
 -- a length is at most the root of n
 abbrev pub IsLengthAtMost : ℤ → ℕ → Type 0

@@ -1,6 +1,6 @@
 pub mod Vectors
 pub mod Ranges
-pub mod Segments
 pub mod Distances
+pub mod Segments
 pub mod Order
 pub mod Axes

@@ -15,21 +15,21 @@ pub struct Dir {
 }
 
 /// The line through a base point in a direction.
-#[derive(Clone, Copy, Debug, PartialEq, Eq)]
+#[derive(Clone, Copy, PartialEq, Eq)]
 pub struct Line {
     pub base: Pt,
     pub dir: Dir,
 }
 
 /// The circle about a centre, its radius in grid units.
-#[derive(Clone, Copy, Debug, PartialEq, Eq)]
+#[derive(Clone, Copy, PartialEq, Eq)]
 pub struct Circ {
     pub c: Pt,
     pub r: i64,
 }
 
 /// A drive or check surface.
-#[derive(Clone, Copy, Debug, PartialEq, Eq)]
+#[derive(Clone, Copy, PartialEq, Eq)]
 pub enum Surface {
     Line(Line),
     Circ(Circ),

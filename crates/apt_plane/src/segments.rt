@@ -2,12 +2,13 @@
 
 ghost use Rattle.std.specs.Prelude.{◌≡◌, ◌≤◌, ◌*◌, ◌^◌, ◌↔◌, IsTrue, IsOk, IfErr, unsigned_abs, neg_ℤ};
 ghost use Rattle.apt_plane.specs.Ranges.{IsPoint, IsDir, IsLine, IsBand};
-ghost use Rattle.apt_plane.specs.Segments.{InLineBand, SegmentInLineBand, IsFirstOutside};
+ghost use Rattle.apt_plane.specs.Distances.{InBand, EveryPoint};
+ghost use Rattle.apt_plane.specs.Segments.{IsFirstOutside};
 ghost use Rattle.apt_plane.specs.Vectors.{height, scaled};
 ghost use Rattle.apt_plane.specs.Vectors as ways;
 ghost use Rattle.apt_num.specs.Sign.{AtLeast};
 
-use crate::figures::{Band, Dir, Line, Pt, Spot};
+use crate::figures::{Band, Dir, Line, Pt, Spot, Surface};
 use crate::vectors::{cross, norm, way};
 use apt_num::{Sign, root_sign};
 
@@ -22,8 +23,8 @@ pub fn segment_in_line_band(p: Pt, q: Pt, line: &Line, band: Band) -> Result<(),
     requires end { IsPoint q }
     requires line { IsLine line.now }
     requires band { IsBand band }
-    ensures all { IsOk result ↔ SegmentInLineBand p q line.now band }
-    ensures first { IfErr result (λ s. IsFirstOutside p q line.now band s) }
+    ensures all { IsOk result ↔ EveryPoint p q (InBand (Surface.Line line.now) band) }
+    ensures first { IfErr result (λ s. IsFirstOutside p q (Surface.Line line.now) band s) }
 {
     // The height of a point between two is a mean of theirs, so the ends tell of all.
     if !is_in_band(line, band, p) {
@@ -39,7 +40,7 @@ fn is_in_band(line: &Line, band: Band, p: Pt) -> bool
     requires line { IsLine line.now }
     requires band { IsBand band }
     requires point { IsPoint p }
-    ensures { IsTrue result ↔ InLineBand line.now band (scaled p) }
+    ensures { IsTrue result ↔ InBand (Surface.Line line.now) band (scaled p) }
 {
     let height = height_at(line, p);
     let square = norm_of(line.dir);
