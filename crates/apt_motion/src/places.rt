@@ -7,7 +7,7 @@ ghost use Rattle.apt_scalar.specs.Scalars.{IsScalar};
 ghost use Rattle.apt_scalar.specs.Scalars as scalars;
 ghost use Rattle.apt_meaning.specs.States.{radius_of};
 ghost use Rattle.apt_defs.specs.Definitions as definitions;
-ghost use Rattle.apt_unroll.specs.Numbers.{IsScalarOrNone};
+ghost use Rattle.apt_scalar.specs.Numbers.{IsScalarOrNone};
 ghost use Rattle.apt_motion.specs.Good.{IsGoodFeed, IsGoodPosition};
 ghost use Rattle.apt_motion.specs.Deeds as deeds;
 ghost use Rattle.apt_motion.specs.Steps as steps;

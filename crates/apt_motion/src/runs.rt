@@ -5,7 +5,7 @@ ghost use Rattle.apt_post.specs.Post.{IsProgram};
 ghost use Rattle.apt_unroll.specs.Straight.{EndsOnce};
 ghost use Rattle.apt_motion.specs.Answers.{unless_fault};
 ghost use Rattle.apt_motion.specs.Deeds.{run_of, motions_of};
-ghost use Rattle.apt_unroll.specs.Numbers.{AreScalars};
+ghost use Rattle.apt_scalar.specs.Numbers.{AreScalars};
 ghost use Rattle.apt_motion.specs.Ends.{Ends};
 ghost use Rattle.apt_motion.specs.Motions.{AreLegal};
 

@@ -3,7 +3,7 @@
 ghost use Rattle.std.specs.Prelude.{◌≡◌, true, pos, ◌≤ℤ◌, Ok, IfOk};
 ghost use Rattle.apt_scalar.specs.Scalars.{IsScalar};
 ghost use Rattle.apt_motion.specs.Deeds as deeds;
-ghost use Rattle.apt_unroll.specs.Numbers.{IsScalarOrNone};
+ghost use Rattle.apt_scalar.specs.Numbers.{IsScalarOrNone};
 ghost use Rattle.apt_motion.specs.Good.{IsGoodPosition};
 ghost use Rattle.apt_offset.specs.Ranges.{IsTolerance};
 ghost use Rattle.apt_meaning.specs.States as states;

@@ -2,7 +2,7 @@
 
 ghost use Rattle.std.specs.Prelude.{◌+◌, ◌^◌, ◌<◌};
 ghost use Rattle.apt_motion.specs.Deeds as deeds;
-ghost use Rattle.apt_unroll.specs.Numbers.{HasScalars};
+ghost use Rattle.apt_scalar.specs.Numbers.{HasScalars};
 ghost use Rattle.apt_motion.specs.Steps.{Follows};
 
 use crate::contours::{contour, start};

@@ -8,7 +8,7 @@ use Rattle.apt_words.specs.declared.body.Stmt.{Stmt}
 use Rattle.apt_words.specs.declared.deed.Deed.{Deed}
 use Rattle.apt_scalar.specs.Meanings.{Names}
 use Rattle.apt_unroll.specs.Deeds.{deed_of, names_behind}
-use Rattle.apt_unroll.specs.Numbers.{HasScalars, AreScalars}
+use Rattle.apt_scalar.specs.Numbers.{HasScalars, AreScalars}
 use Rattle.apt_unroll.specs.Straight.{Steps, is_ended, deed_at, or_refused, steps_from, steps_of}
 use Rattle.apt_unroll.proofs.Suits.{Suits, deed_of-suits, deed_at-has}
 

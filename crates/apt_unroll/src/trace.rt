@@ -3,7 +3,7 @@
 ghost use Rattle.std.specs.Prelude.{◌≡◌, ◌≤◌, [], false, None, IfOk};
 ghost use Rattle.apt_words.specs.Built.{AreBuilt, AreBuiltSteps};
 ghost use Rattle.apt_words.specs.Endings.{EndsInFini};
-ghost use Rattle.apt_unroll.specs.Numbers.{AreScalars};
+ghost use Rattle.apt_scalar.specs.Numbers.{AreScalars};
 ghost use Rattle.apt_unroll.specs.Straight as straight;
 ghost use Rattle.apt_unroll.specs.Straight.{EndsOnce};
 

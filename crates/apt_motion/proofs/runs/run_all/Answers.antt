@@ -1,7 +1,7 @@
 use Rattle.std.proofs.Common.{◌≡◌, ◌∙◌, ◌+◌, ◌∷◌, drop, ap, sym, subst, arith, Ok}
 use Rattle.std.proofs.lemmas.List.{drop_more}
 use Rattle.apt_motion.specs.Deeds.{step, run_from, or_refused}
-use Rattle.apt_unroll.specs.Numbers.{AreScalars}
+use Rattle.apt_scalar.specs.Numbers.{AreScalars}
 use Rattle.apt_motion.proofs.Counts.{step_few}
 use Rattle.apt_motion.proofs.runs.run_all.Goals as goal
 

@@ -1,6 +1,6 @@
 use Rattle.std.proofs.Common.{◌≡◌, ◌≤◌, drop}
 use Rattle.apt_motion.specs.Deeds.{run_of, run_from}
-use Rattle.apt_unroll.specs.Numbers.{AreScalars}
+use Rattle.apt_scalar.specs.Numbers.{AreScalars}
 use Rattle.apt_motion.proofs.runs.run_all.Given as goal
 
 abbrev pub invariant-steps : goal.invariant-steps

@@ -1,5 +1,5 @@
 use Rattle.std.proofs.Common.{subst}
-use Rattle.apt_unroll.specs.Numbers.{HasScalars}
+use Rattle.apt_scalar.specs.Numbers.{HasScalars}
 use Rattle.apt_motion.specs.Deeds as deeds
 use Rattle.apt_motion.proofs.Scalars.{follows_1, follows_2, follows_3, follows_4}
 use Rattle.apt_motion.proofs.step.step.Goals as goal
