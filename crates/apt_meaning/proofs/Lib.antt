@@ -6,3 +6,4 @@ pub mod Straight
 pub mod Edges
 pub mod Legal
 mod Plates
+pub mod Said
