@@ -7,3 +7,5 @@ pub mod Edges
 pub mod Legal
 mod Plates
 pub mod Said
+pub mod Refused
+pub mod Numbers
