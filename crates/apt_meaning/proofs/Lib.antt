@@ -9,3 +9,4 @@ mod Plates
 pub mod Said
 pub mod Refused
 pub mod Numbers
+pub mod Asked

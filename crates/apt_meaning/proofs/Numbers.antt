@@ -50,6 +50,9 @@ near_small v h = omega (arith, ints, (near-IsNear v (pos (10 ^ 5)) (omega (arith
 pub feed_in : (v : ℤ) → IsScalar v → int_lt (tenths v) (pos 1) ≡ false → IsFeed (tenths v)
 feed_in v h e = record { least = grind (arith, ints); most = omega (arith, ints, near_small v h) }
 
+pub feed_note : (v : ℤ) → IsFeed (tenths v) → int_lt (tenths v) (pos 1) ≡ false → IsFromTo (pos 1) (pos 2147483647) (tenths v)
+feed_note v is e = (grind (arith, ints), omega (arith, ints, is.most))
+
 -- ---- settings that change in one place
 
 pub with_units : (s : Settings) (units : Units) → AreSettings s → AreSettings (record s { units = units })

@@ -1,9 +1,13 @@
--- The numbers of steps on which the ranges of their effects rest.
+-- The numbers of steps on which the ranges of their effects rest, and those of contours.
 use Rattle.std.specs.Prelude.{List, [], ◌∷◌}
 use Rattle.apt_words.specs.declared.deed.Deed.{Deed}
 use Rattle.apt_words.specs.declared.deed.Deed.TheVariants as deeds
 use Rattle.apt_words.specs.declared.deed.Step.{Step}
 use Rattle.apt_scalar.specs.Scalars.{IsScalar}
+use Rattle.apt_plane.specs.declared.figures.Pt.{Pt}
+use Rattle.apt_plane.specs.Ranges.{IsPoint}
+use Rattle.apt_meaning.specs.declared.effect.Effect.{Effect}
+use Rattle.apt_meaning.specs.declared.effect.Effect.TheVariants as effects
 
 -- no case refuses a feed that is too great: only scalars are read
 abbrev pub HasNumbers : Deed → Type 0
@@ -63,3 +67,14 @@ HasNumbers deeds.If = Unit {0}
 abbrev pub HaveNumbers : List Step → Type 0
 HaveNumbers [] = Unit {0}
 HaveNumbers (step ∷ steps) = HasNumbers step.deed × HaveNumbers steps
+
+-- the vertices of a contour are points
+abbrev pub ArePoints : List Pt → Type 0
+ArePoints [] = Unit {0}
+ArePoints (p ∷ ps) = IsPoint p × ArePoints ps
+
+abbrev pub HasIn : Effect → List Pt → Type 0
+HasIn (effects.Defines n f) vertices = Unit {0}
+HasIn (effects.Sets s said) vertices = Unit {0}
+HasIn (effects.Moves reach to) vertices = Unit {0}
+HasIn (effects.Cuts m) vertices = ArePoints vertices
