@@ -9,11 +9,10 @@ use Rattle.apt_plane.specs.declared.figures.Line.{Line}
 use Rattle.apt_plane.specs.declared.figures.Band.{Band}
 use Rattle.apt_plane.specs.declared.figures.Surface.TheVariants as surfaces
 use Rattle.apt_plane.specs.Vectors.{way, cross, norm, scaled}
-use Rattle.apt_plane.specs.Segments.{InLineBand}
 use Rattle.apt_plane.proofs.Heights.{height_of_point}
-use Rattle.apt_plane.proofs.SegmentLaws.{in_band-between, point_in_band}
+use Rattle.apt_plane.proofs.SegmentLaws.{point_in_band}
 use Rattle.apt_offset.specs.Targets.{greater, signed, band_at}
-use Rattle.apt_plane.specs.Distances.{InBand, EveryPoint}
+use Rattle.apt_plane.specs.Distances.{InBand}
 use Rattle.apt_num.proofs.Sums.{at_least-weaker}
 
 -- the greater of two is at least the first
@@ -32,19 +31,10 @@ band_at-HasRoom l signs.Zero r i o p q = record { lo = omega (arith, ints, le_gr
 
 -- a point that is at most 8 units from the place is in the band
 pub near_in_band : (l : Line) (band : Band) (place g : ℤ) (p : Pt) → HasRoom band place → g ≤ℤ pos 8
-    → OnLine (cross l.dir (way l.base p)) place (norm l.dir) g → InLineBand l band (scaled p)
+    → OnLine (cross l.dir (way l.base p)) place (norm l.dir) g → InBand (surfaces.Line l) band (scaled p)
 near_in_band l band place g p room small on =
     let k = cross l.dir (way l.base p) in
     (point_in_band l band p k (norm l.dir) (sym (height_of_point l p)) refl).0 (
       at_least-weaker k (place -ℤ g) band.lo (norm l.dir) (omega (arith, ints, room.lo)) on.right,
       at_least-weaker (neg_ℤ k) (neg_ℤ place -ℤ g) (neg_ℤ band.hi) (norm l.dir) (omega (arith, ints, room.hi)) on.left,
     )
-
--- as the legs say it
-pub surface_band : (l : Line) (band : Band) (p : Pt) → InLineBand l band (scaled p) → InBand (surfaces.Line l) band (scaled p)
-surface_band l band p is = record { lo = is.lo; hi = is.hi }
-
-pub surface_band-between : (l : Line) (band : Band) (p q : Pt) → InLineBand l band (scaled p) → InLineBand l band (scaled q)
-    → EveryPoint p q (InBand (surfaces.Line l) band)
-surface_band-between l band p q a b = λ j k h.
-    let is = in_band-between l band p q a b j k h in record { lo = is.lo; hi = is.hi }

@@ -8,11 +8,10 @@ use Rattle.apt_plane.specs.declared.figures.Pt.{Pt}
 use Rattle.apt_plane.specs.declared.figures.Line.{Line}
 use Rattle.apt_plane.specs.declared.figures.Band.{Band}
 use Rattle.apt_plane.specs.Vectors.{way, cross, norm, scaled, between}
-use Rattle.apt_plane.specs.Segments.{IsAbove, IsBelow}
 use Rattle.apt_plane.proofs.Heights.{one-times, height_of_point}
 use Rattle.apt_plane.proofs.SegmentLaws.{above-between, below-between}
 use Rattle.apt_offset.specs.Turns.{opposite}
-use Rattle.apt_plane.specs.Distances.{EveryPoint}
+use Rattle.apt_plane.specs.Distances.{IsAbove, IsBelow, EveryPoint}
 use Rattle.apt_certify.specs.Legs.{IsWithinEdge}
 use Rattle.apt_meaning.specs.declared.motion.Motion.{Motion}
 use Rattle.apt_meaning.specs.Motions.{leg_of, stop_offset}

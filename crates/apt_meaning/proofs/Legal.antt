@@ -31,7 +31,8 @@ use Rattle.apt_meaning.specs.StartUps.{start_point, meeting_cases, start_up_case
 use Rattle.apt_meaning.specs.Refusals.{motion_cases, is_tanto}
 use Rattle.apt_meaning.specs.Ranges.{IsMotion}
 use Rattle.apt_meaning.specs.Records.{IsLegalCut}
-use Rattle.apt_meaning.proofs.Bands.{HasRoom, band_at-HasRoom, near_in_band, surface_band, surface_band-between}
+use Rattle.apt_plane.proofs.SegmentLaws.{in_band-between}
+use Rattle.apt_meaning.proofs.Bands.{HasRoom, band_at-HasRoom, near_in_band}
 use Rattle.apt_meaning.proofs.Starts.{IsFar, far_on_side}
 use Rattle.apt_meaning.proofs.Leads.{Leads, runs_in_sense}
 use Rattle.apt_meaning.proofs.Edges.{stays_before}
@@ -115,12 +116,12 @@ leads_legal m d e x is leads side =
     let start = m.start.at in
     let onwards = runs_in_sense d e (line_offset (straight m d e)) (stop_offset (straight m d e)) m.sense (from_side (straight m d e)) start x leads in
     let before = stays_before m d e x (from_side (straight m d e)) (stop_room m d e is) leads.far leads.stop in
-    let band = surface_band-between d leg.band start x
+    let band = in_band-between d leg.band start x
     (near_in_band d leg.band (line_offset (straight m d e)) (pos 3) start (drive_room m d e is) (omega (arith, ints)) leads.start)
     (near_in_band d leg.band (line_offset (straight m d e)) (pos 1) x (drive_room m d e is) (omega (arith, ints)) leads.track) in
     let stop = near_in_band e leg.stop_band (stop_offset (straight m d e)) (pos 1) x (stop_room m d e is) (omega (arith, ints)) leads.stop in record {
       moves = tt;
-      hold = (onwards, (band, (subst (λ k. EveryPoint start x (IsWithinEdge leg (opposite k))) (sym side) before, (surface_band e leg.stop_band x stop, (tt, tt)))));
+      hold = (onwards, (band, (subst (λ k. EveryPoint start x (IsWithinEdge leg (opposite k))) (sym side) before, (stop, (tt, tt)))));
     }
 
 -- ---- of every motion; the one that has a circle is refused

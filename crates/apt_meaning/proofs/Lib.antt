@@ -6,3 +6,7 @@ pub mod Straight
 pub mod Edges
 pub mod Legal
 mod Plates
+pub mod Said
+pub mod Refused
+pub mod Numbers
+pub mod Asked

@@ -6,3 +6,5 @@ pub mod Refusals
 pub mod Records
 pub mod Compiled
 pub mod Ranges
+pub mod Numbers
+pub mod Sayings

@@ -1,0 +1,273 @@
+-- A step that no case refuses has an effect in range, and a contour that it asks for is legal to its contact.
+use Rattle.std.proofs.Common.{◌≡◌, ◌≢◌, ◌==◌, ℕ, ℤ, unsigned_abs, not, Bool, true, false, List, [], ◌∷◌, Option, Some, None, is_none, IfSome, refl, cond, sym, ap, subst, ◌∙◌, pos}
+use Rattle.std.proofs.lemmas.Bool.{true≢false, eqb-false}
+use Rattle.apt_num.specs.declared.Sign.{Sign}
+use Rattle.apt_words.specs.declared.Go.{Go}
+use Rattle.apt_words.specs.declared.Side.{Side}
+use Rattle.apt_words.specs.declared.Stop.{Stop}
+use Rattle.apt_words.specs.declared.Case.TheVariants as cases
+use Rattle.apt_words.specs.declared.deed.Deed.{Deed}
+use Rattle.apt_words.specs.declared.deed.Deed.TheVariants as deeds
+use Rattle.apt_words.specs.Options.{◌>>=◌}
+use Rattle.apt_words.specs.Rows.{Row, first_of, NoneHolds}
+use Rattle.apt_scalar.specs.Scalars.{grid_units, tenths}
+use Rattle.apt_plane.specs.declared.figures.Pt.{Pt}
+use Rattle.apt_plane.specs.declared.figures.Surface.{Surface}
+use Rattle.apt_plane.specs.declared.figures.Surface.TheVariants as surfaces
+use Rattle.apt_plane.specs.Ranges.{IsPoint, IsSurface}
+use Rattle.apt_plane.specs.Vectors.{way, norm}
+use Rattle.apt_offset.specs.Turns.{is_zero}
+use Rattle.apt_cldata.specs.Ranges.{IsPosition, IsNote}
+use Rattle.apt_cldata.specs.declared.record.Note.{Note}
+use Rattle.apt_cldata.specs.declared.record.Note.TheVariants as notes
+use Rattle.apt_cldata.specs.declared.record.Position.{Position}
+use Rattle.apt_cldata.specs.declared.record.Reach.{Reach}
+use Rattle.apt_cldata.specs.declared.record.Reach.TheVariants as reaches
+use Rattle.apt_defs.specs.declared.figure.Figure.{Figure}
+use Rattle.apt_defs.specs.declared.figure.Figure.TheVariants as figures
+use Rattle.apt_defs.specs.Figures.{IsFigure, figure_named}
+use Rattle.apt_defs.specs.Definitions.{is_in_reach, ends_cases, line_figure, line_between, point_by}
+use Rattle.apt_defs.proofs.Lines.{way_in_range}
+use Rattle.apt_defs.proofs.Tables.{looked_up}
+use Rattle.apt_meaning.specs.declared.situation.Settings.{Settings}
+use Rattle.apt_meaning.specs.declared.situation.Situation.{Situation}
+use Rattle.apt_meaning.specs.declared.motion.Motion.{Motion}
+use Rattle.apt_meaning.specs.declared.motion.StartUp.{StartUp}
+use Rattle.apt_meaning.specs.declared.effect.Effect.{Effect}
+use Rattle.apt_meaning.specs.declared.effect.Effect.TheVariants as effects
+use Rattle.apt_meaning.specs.Situations.{radius_of, lacks_feed, with_side, at_height}
+use Rattle.apt_meaning.specs.Motions.{as_surface, surface_in, turn_at, if_turned, is_defined, motion, motion_at}
+use Rattle.apt_meaning.specs.StartUps.{start_up_at, start_up_cases, start_point, started}
+use Rattle.apt_meaning.specs.Effects.{moves, cuts, place_by, moved_by, started_at, effect_of}
+use Rattle.apt_meaning.specs.Refusals.{is_other_kind, position_cases, move_cases, motion_cases, turned_cases, surface_cases, contour_cases, start_cases, go_cases, start_up_or_not_built, godlta_cases, cases_of, refusal_of}
+use Rattle.apt_meaning.specs.Records.{AreLegal}
+use Rattle.apt_meaning.specs.Compiled.{ends_of}
+use Rattle.apt_meaning.specs.Ranges.{IsPositionOrNone, AreSettings, IsSituation, IsMotion, IsEffect}
+use Rattle.apt_meaning.specs.Numbers.{HasNumbers, HasIn}
+use Rattle.apt_meaning.proofs.Refused.{first_none, none_first}
+use Rattle.apt_meaning.proofs.Legal.{motion_legal, motion_contact, motion_defined, start_up_point}
+use Rattle.apt_meaning.proofs.Numbers.{reach_in, up_to_in, tolerance_in, radius_in, feed_in, feed_note, with_units, with_radius, with_intol, with_outtol, with_feed, with_rapid, with_ended, on_side, on_side_or_as_it_was, sense_in, allowance_in}
+
+-- an effect in range, whose contour is legal where it runs to its contact
+pub record Asks (o : Option Effect) : Type 0 where
+  pub e : Effect
+  pub asked : o ≡ Some e
+  pub good : IsEffect e
+  pub legal : AreLegal e (ends_of e)
+  pub ends : HasIn e (ends_of e)
+
+defines : (n : List ℕ) (f : Figure) → IsFigure f → Asks (Some (effects.Defines n f))
+defines n f is = record { e = effects.Defines n f; asked = refl; good = is; legal = tt; ends = tt }
+
+sets : (s : Settings) → AreSettings s → Asks (Some (effects.Sets s None))
+sets s is = record { e = effects.Sets s None; asked = refl; good = (is, tt); legal = tt; ends = tt }
+
+says : (s : Settings) (note : Note) → AreSettings s → IsNote note → Asks (Some (effects.Sets s (Some note)))
+says s note is said = record { e = effects.Sets s (Some note); asked = refl; good = (is, said); legal = tt; ends = tt }
+
+moves_to : (reach : Reach) (to : Position) → IsPosition to → Asks (Some (effects.Moves reach to))
+moves_to reach to is = record { e = effects.Moves reach to; asked = refl; good = is; legal = tt; ends = tt }
+
+cuts_on : (m : Motion) → IsMotion m → NoneHolds (motion_cases m) → Asks (Some (effects.Cuts m))
+cuts_on m is none = record { e = effects.Cuts m; asked = refl; good = is; legal = motion_legal m is none; ends = (motion_contact m is none, tt) }
+
+-- ---- lines and moves
+
+differ : (n : ℕ) → (n == 0) ≡ false → n ≢ 0
+differ n e f = eqb-false n 0 e f
+
+point_is : (p : Pt) → not (is_in_reach p.x) ≡ false → not (is_in_reach p.y) ≡ false → IsPoint p
+point_is p x y = record { x = reach_in p.x x; y = reach_in p.y y }
+
+line_is : (p q : Pt) → NoneHolds (ends_cases p q) → IsFigure (figures.Shape (surfaces.Line (line_between p q)))
+line_is p q none =
+    let is_p = point_is p none.0 none.1.0 in
+    let is_q = point_is q none.1.1.0 none.1.1.1.0 in
+    record { base = is_p; dir = way_in_range p q is_p is_q (differ (norm (way p q)) none.1.1.1.1.0) }
+
+position_is : (to : Position) (more : List Row) → NoneHolds (position_cases to more) → IsPosition to
+position_is to more none = record { at = point_is to.at none.0 none.1.0; z = reach_in to.z none.1.1.0 }
+
+move_asks : (reach : Reach) (s : Settings) (o : Option Position) → is_none o ≡ false → NoneHolds (move_cases s o) → Asks (moves reach o)
+move_asks reach s None there none = absurd (true≢false there)
+move_asks reach s (Some to) there none = moves_to reach to (position_is to ((lacks_feed s, cases.NoFeed) ∷ []) none)
+
+still_there : {A B : Type 0} (o : Option A) (f : A → B) → is_none o ≡ false → is_none (o >>= λ x. Some (f x)) ≡ false
+still_there None f there = absurd (true≢false there)
+still_there (Some x) f there = refl
+
+-- ---- surfaces by name
+
+surface_is : (o : Option Figure) → IfSome o IsFigure → IfSome (o >>= as_surface) IsSurface
+surface_is None is = tt
+surface_is (Some (figures.Point at z)) is = tt
+surface_is (Some (figures.Shape s)) is = is
+surface_is (Some figures.Scalar) is = tt
+
+surface_there : (o : Option Figure) → is_none o ≡ false → is_other_kind o ≡ false → is_none (o >>= as_surface) ≡ false
+surface_there None there kind = absurd (true≢false there)
+surface_there (Some figure) there kind = kind
+
+-- ---- start-up
+
+started_there : (b : Bool) (to : Position) → b ≡ true → IsPosition to → Asks (moves reaches.Start (cond b (Some to) None))
+started_there true to e is = moves_to reaches.Start to is
+started_there false to e is = absurd (true≢false (sym e))
+
+starts : (u : StartUp) → IsPosition u.start → NoneHolds (start_up_cases u) → Asks (moves reaches.Start (started u))
+starts u is none =
+    started_there (is_none (first_of (start_up_cases u))) (at_height u.start.z (start_point u)) (ap is_none (none_first (start_up_cases u) none))
+    (record { at = start_up_point u none; z = is.z })
+
+abbrev start_up : Situation → Stop → Stop → Position → Surface → Surface → StartUp
+start_up at how_a how_b start a b = record { start = start; how_a = how_a; a = a; how_b = how_b; b = b; radius = at.settings.radius }
+
+abbrev start_up_on : Situation → Stop → Stop → Option Position → Option Surface → Option Surface → Option StartUp
+start_up_on at how_a how_b p a b = p >>= λ start. a >>= λ x. b >>= λ y. Some (start_up at how_a how_b start x y)
+
+start_asks : (at : Situation) (how_a how_b : Stop) (p : Option Position) (a b : Option Surface) → IsPositionOrNone p
+    → is_none p ≡ false → is_none a ≡ false → is_none b ≡ false
+    → NoneHolds (start_cases (start_up_on at how_a how_b p a b)) → Asks (moves reaches.Start (start_up_on at how_a how_b p a b >>= started))
+start_asks at how_a how_b None a b is e f g none = absurd (true≢false e)
+start_asks at how_a how_b (Some start) None b is e f g none = absurd (true≢false f)
+start_asks at how_a how_b (Some start) (Some a) None is e f g none = absurd (true≢false g)
+start_asks at how_a how_b (Some start) (Some a) (Some b) is e f g none = starts (start_up at how_a how_b start a b) is none
+
+go_asks : (at : Situation) (how_a : Stop) (a : List ℕ) (how_b : Stop) (b : List ℕ) → IsSituation at
+    → NoneHolds (go_cases at how_a a how_b b) → Asks (moves reaches.Start (start_up_at at how_a a how_b b >>= started))
+unfolding start_up_at
+go_asks at how_a a how_b b is none =
+    let names = none.1 in
+    start_asks at how_a how_b at.position (surface_in at.table a) (surface_in at.table b) is.position none.0
+    (surface_there (figure_named at.table a) names.0 names.1.1.0) (surface_there (figure_named at.table b) names.1.0 names.1.1.1.0) names.1.1.1.1.1
+
+go_or_refused : (at : Situation) (how_a : Stop) (a : List ℕ) (b : Option (Stop × List ℕ)) → IsSituation at
+    → NoneHolds (start_up_or_not_built at how_a a b) → Asks (moves reaches.Start (started_at at how_a a b))
+go_or_refused at how_a a None is none = absurd (true≢false none.0)
+go_or_refused at how_a a (Some b) is none = go_asks at how_a a b.0 b.1 is none
+
+-- ---- contours
+
+motion_is : (s : Settings) (start : Position) (drive : Surface) (turned : Sign) (how : Stop) (check : Surface)
+    → AreSettings s → IsPosition start → IsSurface drive → IsSurface check → is_zero turned ≡ false → IsMotion (motion s start drive turned how check)
+motion_is s start drive turned how check is from d c turns = record {
+  start = from;
+  drive = d;
+  sense = sense_in turned turns;
+  check = c;
+  radius = is.radius;
+  inner = allowance_in s.intol is.intol;
+  outer = allowance_in s.outtol is.outtol;
+}
+
+if_asks : (b : Bool) (m : Motion) → b ≡ true → Asks (cuts (Some m)) → Asks (cuts (cond b (Some m) None))
+if_asks true m e asks = asks
+if_asks false m e asks = absurd (true≢false (sym e))
+
+unless_asks : (b : Bool) (o : Option Motion) → b ≡ false → Asks (cuts o) → Asks (cuts (cond b None o))
+unless_asks true o e asks = absurd (true≢false e)
+unless_asks false o e asks = asks
+
+turned_asks : (s : Settings) (start : Position) (drive : Surface) (turned : Sign) (how : Stop) (check : Surface)
+    → AreSettings s → IsPosition start → IsSurface drive → IsSurface check
+    → NoneHolds (turned_cases s start drive turned how check) → Asks (cuts (if_turned s start drive turned how check))
+turned_asks s start drive turned how check is from d c none =
+    let turns = none.1.1.1 in
+    let m = motion s start drive turned how check in
+    let good = motion_is s start drive turned how check is from d c turns.0 in
+    unless_asks (is_zero turned) (cond (is_defined m) (Some m) None) turns.0
+    (if_asks (is_defined m) m (motion_defined m good turns.1) (cuts_on m good turns.1))
+
+surfaces_ask : (at : Situation) (side : Option Side) (go : Go) (how : Stop) (p : Option Position) (d c : Option Surface)
+    → AreSettings at.settings → IsPositionOrNone p → IfSome d IsSurface → IfSome c IsSurface
+    → is_none p ≡ false → is_none d ≡ false → is_none c ≡ false → NoneHolds (surface_cases at side go how p d c)
+    → Asks (cuts (p >>= λ start. d >>= λ drive. c >>= λ check. if_turned (with_side at.settings side) start drive (turn_at at start drive go) how check))
+surfaces_ask at side go how None d c is is_p is_d is_c e f g none = absurd (true≢false e)
+surfaces_ask at side go how (Some start) None c is is_p is_d is_c e f g none = absurd (true≢false f)
+surfaces_ask at side go how (Some start) (Some drive) None is is_p is_d is_c e f g none = absurd (true≢false g)
+surfaces_ask at side go how (Some start) (Some drive) (Some check) is is_p is_d is_c e f g none =
+    turned_asks (with_side at.settings side) start drive (turn_at at start drive go) how check (on_side_or_as_it_was at.settings side is) is_p is_d is_c none
+
+contour_asks : (at : Situation) (side : Option Side) (go : Go) (drive : List ℕ) (how : Stop) (check : List ℕ) → IsSituation at
+    → NoneHolds (contour_cases at side go drive how check) → Asks (cuts (motion_at at side go drive how check))
+unfolding motion_at
+contour_asks at side go drive how check is none =
+    let d = none.1 in
+    let c = d.1.1 in
+    surfaces_ask at side go how at.position (surface_in at.table drive) (surface_in at.table check) is.settings is.position
+    (surface_is (figure_named at.table drive) (looked_up at.table drive is.table)) (surface_is (figure_named at.table check) (looked_up at.table check is.table))
+    none.0 (surface_there (figure_named at.table drive) d.0 d.1.0) (surface_there (figure_named at.table check) c.0 c.1.0) c.1.1
+
+-- ---- a line for each statement
+
+pub asks : (at : Situation) (deed : Deed) → IsSituation at → HasNumbers deed → NoneHolds (cases_of at deed) → Asks (effect_of at deed)
+asks at (deeds.Partno text) is numbers none = says at.settings (notes.Partno text) is.settings tt
+asks at (deeds.Remark text) is numbers none = sets at.settings is.settings
+asks at (deeds.Units units) is numbers none = says (record at.settings { units = units }) (notes.Units units) (with_units at.settings units is.settings) tt
+asks at deeds.Clprnt is numbers none = sets at.settings is.settings
+asks at deeds.Nopost is numbers none = sets at.settings is.settings
+asks at deeds.Machin is numbers none = sets at.settings is.settings
+asks at (deeds.Assign n v) is numbers none = defines n figures.Scalar tt
+asks at (deeds.PointXy n x y z) is numbers none = absurd (true≢false none.0)
+asks at (deeds.PointLines n a b) is numbers none = absurd (true≢false none.0)
+asks at (deeds.PointPick n k a b) is numbers none = absurd (true≢false none.0)
+asks at (deeds.PointCenter n c) is numbers none = absurd (true≢false none.0)
+asks at (deeds.LineXy n x y u v) is numbers none = defines n (line_figure at.settings.units x y u v) (line_is (point_by at.settings.units x y) (point_by at.settings.units u v) none)
+asks at (deeds.LinePoints n p q) is numbers none = absurd (true≢false none.0)
+asks at (deeds.LinePar n p l) is numbers none = absurd (true≢false none.0)
+asks at (deeds.LinePerp n p l) is numbers none = absurd (true≢false none.0)
+asks at (deeds.LineAt n l k v) is numbers none = absurd (true≢false none.0)
+asks at (deeds.LineTan n p h c) is numbers none = absurd (true≢false none.0)
+asks at (deeds.LineTwo n h c k d) is numbers none = absurd (true≢false none.0)
+asks at (deeds.CircleXyr n x y r) is numbers none = absurd (true≢false none.0)
+asks at (deeds.CirclePoints n a b c) is numbers none = absurd (true≢false none.0)
+asks at (deeds.CircleRadius n p r) is numbers none = absurd (true≢false none.0)
+asks at (deeds.CircleTan n p l) is numbers none = absurd (true≢false none.0)
+asks at (deeds.CircleThrough n p q) is numbers none = absurd (true≢false none.0)
+asks at (deeds.CircleCorner n j a k b r) is numbers none = absurd (true≢false none.0)
+asks at (deeds.Cutter v) is numbers none =
+    let radius = pos (radius_of (unsigned_abs (grid_units at.settings.units v))) in
+    says (record at.settings { radius = radius }) (notes.Cutter (grid_units at.settings.units v)) (with_radius at.settings radius is.settings (radius_in (grid_units at.settings.units v) none.0)) (up_to_in (pos 1000000) (grid_units at.settings.units v) none.0)
+asks at (deeds.Intol v) is numbers none = says (record at.settings { intol = grid_units at.settings.units v }) (notes.Intol (grid_units at.settings.units v)) (with_intol at.settings (grid_units at.settings.units v) is.settings (tolerance_in (grid_units at.settings.units v) none.0)) (up_to_in (pos 10000) (grid_units at.settings.units v) none.0)
+asks at (deeds.Outtol v) is numbers none = says (record at.settings { outtol = grid_units at.settings.units v }) (notes.Outtol (grid_units at.settings.units v)) (with_outtol at.settings (grid_units at.settings.units v) is.settings (tolerance_in (grid_units at.settings.units v) none.0)) (up_to_in (pos 10000) (grid_units at.settings.units v) none.0)
+asks at (deeds.Tool side) is numbers none = sets (record at.settings { side = side }) (on_side at.settings side is.settings)
+asks at (deeds.FromXy x y z) is numbers none = moves_to reaches.From (place_by at.settings.units x y z) (position_is (place_by at.settings.units x y z) [] none.1)
+asks at (deeds.FromPoint p) is numbers none = absurd (true≢false none.0)
+asks at (deeds.GotoXy x y z) is numbers none = move_asks reaches.Goto at.settings (Some (place_by at.settings.units x y z)) refl none
+asks at (deeds.GotoPoint p) is numbers none = absurd (true≢false none.0)
+asks at (deeds.Godlta x y z) is numbers none =
+    move_asks reaches.Godlta at.settings (at.position >>= λ p. Some (moved_by at.settings.units x y z p)) (still_there at.position (moved_by at.settings.units x y z) none.0) none.1
+asks at (deeds.GoStart how_a a b) is numbers none = go_or_refused at how_a a b is none
+asks at (deeds.Contour side go drive how check) is numbers none = contour_asks at side go drive how check is none
+asks at deeds.Rapid is numbers none = says (record at.settings { rapid = true }) notes.Rapid (with_rapid at.settings true is.settings) tt
+asks at deeds.Halt is numbers none = says at.settings notes.Stop is.settings tt
+asks at deeds.OptHalt is numbers none = says at.settings notes.OptStop is.settings tt
+asks at deeds.EndWord is numbers none = says (record at.settings { ended = true }) notes.End (with_ended at.settings true is.settings) tt
+asks at deeds.Fini is numbers none = says at.settings notes.Fini is.settings tt
+asks at (deeds.Fedrat v) is numbers none =
+    let good = feed_in v numbers none.0 in
+    says (record at.settings { feed = tenths v }) (notes.Fedrat (tenths v)) (with_feed at.settings (tenths v) is.settings good) (feed_note v good none.0)
+asks at (deeds.Spindl n turn) is numbers none = absurd (true≢false none.0)
+asks at deeds.SpindlOff is numbers none = absurd (true≢false none.0)
+asks at (deeds.Coolnt c) is numbers none = absurd (true≢false none.0)
+asks at (deeds.Loadtl n) is numbers none = absurd (true≢false none.0)
+asks at deeds.Macro is numbers none = absurd (true≢false none.0)
+asks at deeds.Termac is numbers none = absurd (true≢false none.0)
+asks at deeds.Call is numbers none = absurd (true≢false none.0)
+asks at deeds.Loopst is numbers none = absurd (true≢false none.0)
+asks at deeds.Loopnd is numbers none = absurd (true≢false none.0)
+asks at deeds.Jumpto is numbers none = absurd (true≢false none.0)
+asks at deeds.If is numbers none = absurd (true≢false none.0)
+
+-- where no case refuses it, a step has an effect
+pub answered : (at : Situation) (deed : Deed) → IsSituation at → HasNumbers deed → refusal_of at deed ≡ None → Asks (effect_of at deed)
+answered at deed is numbers fine = asks at deed is numbers (first_none (cases_of at deed) fine)
+
+same : {A : Type 0} (x y : A) → Some x ≡ Some y → x ≡ y
+same x y e = cc
+
+-- and it is in range
+pub good : (at : Situation) (deed : Deed) (e : Effect) → effect_of at deed ≡ Some e → NoneHolds (cases_of at deed) → IsSituation at → HasNumbers deed → IsEffect e
+good at deed e asked none is numbers =
+    let a = asks at deed is numbers none in
+    subst IsEffect (same a.e e (sym a.asked ∙ asked)) a.good

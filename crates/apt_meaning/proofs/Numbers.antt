@@ -1,0 +1,98 @@
+-- The ranges of what effects are made of.
+use Rattle.std.proofs.Common.{◌≡◌, ◌^◌, ◌≤◌, ◌*◌, ◌+◌, ℕ, ℤ, pos, negsuc, ◌≤ℤ◌, ◌*ℤ◌, ◌/◌, unsigned_abs, int_le, int_lt, nat_le, not, ◌&&◌, Bool, true, false, Option, Some, None, refl, inl, inr, arith, cond}
+use Rattle.std.specs.Prelude.{if◌then◌else◌}
+use Rattle.std.proofs.lemmas.Int.{ints}
+use Rattle.std.proofs.lemmas.Bool.{true≢false, not-false}
+use Rattle.apt_num.specs.declared.Sign.{Sign}
+use Rattle.apt_num.specs.declared.Sign.TheVariants as signs
+use Rattle.apt_num.specs.Near.{near}
+use Rattle.apt_num.proofs.Nearest.{near-IsNear}
+use Rattle.apt_words.specs.declared.Side.{Side}
+use Rattle.apt_words.specs.declared.Units.{Units}
+use Rattle.apt_scalar.specs.Scalars.{IsScalar, tenths}
+use Rattle.apt_plane.specs.Ranges.{IsSense}
+use Rattle.apt_offset.specs.Ranges.{IsRadius, IsTolerance}
+use Rattle.apt_offset.specs.Turns.{is_zero}
+use Rattle.apt_offset.specs.Targets.{signed, greater}
+use Rattle.apt_cldata.specs.Ranges.{IsFromTo, IsPosition}
+use Rattle.apt_cldata.specs.declared.record.Position.{Position}
+use Rattle.apt_defs.specs.Definitions.{is_in_reach}
+use Rattle.apt_meaning.specs.declared.situation.Settings.{Settings}
+use Rattle.apt_meaning.specs.Situations.{radius_of, with_side}
+use Rattle.apt_meaning.specs.Motions.{grid_step}
+use Rattle.apt_meaning.specs.Refusals.{is_up_to}
+use Rattle.apt_meaning.specs.Ranges.{AreSettings, IsFeed, IsAllowance}
+
+-- ---- what a condition that fails says
+
+pub reach_in : (v : ℤ) → not (is_in_reach v) ≡ false → unsigned_abs v ≤ 50000000
+reach_in v e = grind (arith, ints, not-false)
+
+pub up_to_in : (most v : ℤ) → not (is_up_to most v) ≡ false → IsFromTo (pos 0) most v
+up_to_in most v e = grind (arith, ints, not-false)
+
+pub tolerance_in : (v : ℤ) → not (is_up_to (pos 10000) v) ≡ false → IsTolerance v
+tolerance_in v e =
+    let h = up_to_in (pos 10000) v e in
+    record { least = h.0; most = h.1 }
+
+-- half of a diameter
+pub radius_in : (v : ℤ) → not (is_up_to (pos 1000000) v) ≡ false → IsRadius (pos (radius_of (unsigned_abs v)))
+radius_in v e =
+    let h = up_to_in (pos 1000000) v e in
+    record { least = omega (arith, ints); most = omega (arith, ints, h) }
+
+-- ---- feeds
+
+near_small : (v : ℤ) → IsScalar v → unsigned_abs (tenths v) ≤ 10 ^ 7
+near_small v h = omega (arith, ints, (near-IsNear v (pos (10 ^ 5)) (omega (arith, ints))).nearest, h)
+
+pub feed_in : (v : ℤ) → IsScalar v → int_lt (tenths v) (pos 1) ≡ false → IsFeed (tenths v)
+feed_in v h e = record { least = grind (arith, ints); most = omega (arith, ints, near_small v h) }
+
+pub feed_note : (v : ℤ) → IsFeed (tenths v) → int_lt (tenths v) (pos 1) ≡ false → IsFromTo (pos 1) (pos 2147483647) (tenths v)
+feed_note v is e = (grind (arith, ints), omega (arith, ints, is.most))
+
+-- ---- settings that change in one place
+
+pub with_units : (s : Settings) (units : Units) → AreSettings s → AreSettings (record s { units = units })
+with_units s units is = record { radius = is.radius; intol = is.intol; outtol = is.outtol; feed = is.feed }
+
+pub with_radius : (s : Settings) (radius : ℤ) → AreSettings s → IsRadius radius → AreSettings (record s { radius = radius })
+with_radius s radius is good = record { radius = good; intol = is.intol; outtol = is.outtol; feed = is.feed }
+
+pub with_intol : (s : Settings) (intol : ℤ) → AreSettings s → IsTolerance intol → AreSettings (record s { intol = intol })
+with_intol s intol is good = record { radius = is.radius; intol = good; outtol = is.outtol; feed = is.feed }
+
+pub with_outtol : (s : Settings) (outtol : ℤ) → AreSettings s → IsTolerance outtol → AreSettings (record s { outtol = outtol })
+with_outtol s outtol is good = record { radius = is.radius; intol = is.intol; outtol = good; feed = is.feed }
+
+pub on_side : (s : Settings) (side : Side) → AreSettings s → AreSettings (record s { side = side })
+on_side s side is = record { radius = is.radius; intol = is.intol; outtol = is.outtol; feed = is.feed }
+
+pub with_feed : (s : Settings) (feed : ℤ) → AreSettings s → IsFeed feed → AreSettings (record s { feed = feed })
+with_feed s feed is good = record { radius = is.radius; intol = is.intol; outtol = is.outtol; feed = good }
+
+pub with_rapid : (s : Settings) (rapid : Bool) → AreSettings s → AreSettings (record s { rapid = rapid })
+with_rapid s rapid is = record { radius = is.radius; intol = is.intol; outtol = is.outtol; feed = is.feed }
+
+pub with_ended : (s : Settings) (ended : Bool) → AreSettings s → AreSettings (record s { ended = ended })
+with_ended s ended is = record { radius = is.radius; intol = is.intol; outtol = is.outtol; feed = is.feed }
+
+pub on_side_or_as_it_was : (s : Settings) (side : Option Side) → AreSettings s → AreSettings (with_side s side)
+on_side_or_as_it_was s None is = is
+on_side_or_as_it_was s (Some side) is = on_side s side is
+
+-- ---- motions
+
+pub sense_in : (turned : Sign) → is_zero turned ≡ false → IsSense (signed turned (pos 1))
+sense_in signs.Plus e = inl refl
+sense_in signs.Zero e = absurd (true≢false e)
+sense_in signs.Minus e = inr refl
+
+either_allowance : (b : Bool) (t : ℤ) → int_le t grid_step ≡ b → IsTolerance t → IsAllowance (if b then grid_step else t)
+either_allowance true t e is = record { least = omega (arith, ints); most = omega (arith, ints) }
+either_allowance false t e is = record { least = grind (arith, ints); most = is.most }
+
+pub allowance_in : (t : ℤ) → IsTolerance t → IsAllowance (greater t grid_step)
+allowance_in t is = either_allowance (int_le t grid_step) t refl is

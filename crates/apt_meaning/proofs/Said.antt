@@ -1,0 +1,116 @@
+-- What the effect of a step tells of the step.
+use Rattle.std.proofs.Common.{◌≡◌, ℕ, ℤ, Bool, true, false, List, Option, Some, None, IfSome, refl, subst, cond}
+use Rattle.apt_num.specs.declared.Sign.{Sign}
+use Rattle.apt_words.specs.declared.Go.{Go}
+use Rattle.apt_words.specs.declared.Side.{Side}
+use Rattle.apt_words.specs.declared.Stop.{Stop}
+use Rattle.apt_words.specs.declared.deed.Deed.{Deed}
+use Rattle.apt_words.specs.declared.deed.Deed.TheVariants as deeds
+use Rattle.apt_words.specs.Options.{◌>>=◌}
+use Rattle.apt_plane.specs.declared.figures.Surface.{Surface}
+use Rattle.apt_offset.specs.Turns.{is_zero}
+use Rattle.apt_cldata.specs.declared.record.Position.{Position}
+use Rattle.apt_cldata.specs.declared.record.Reach.{Reach}
+use Rattle.apt_cldata.specs.declared.record.Reach.TheVariants as reaches
+use Rattle.apt_meaning.specs.declared.situation.Settings.{Settings}
+use Rattle.apt_meaning.specs.declared.situation.Situation.{Situation}
+use Rattle.apt_meaning.specs.declared.motion.Motion.{Motion}
+use Rattle.apt_meaning.specs.declared.effect.Effect.{Effect}
+use Rattle.apt_meaning.specs.declared.effect.Effect.TheVariants as effects
+use Rattle.apt_meaning.specs.Situations.{with_side}
+use Rattle.apt_meaning.specs.Motions.{surface_in, turn_at, if_turned, is_defined, motion, motion_at}
+use Rattle.apt_meaning.specs.Effects.{moves, cuts, moved_from, started_at, effect_of}
+use Rattle.apt_meaning.specs.Sayings.{is_ended, IsSaidBy}
+
+pub of_some : {A : Type 0} (P : A → Type 0) (o : Option A) (x : A) → o ≡ Some x → IfSome o P → P x
+of_some P o x e held = subst (λ q. IfSome q P) e held
+
+-- ---- moves and contours, where what they need is there
+
+moves_said : (at : Situation) (deed : Deed) (reach : Reach) (o : Option Position) → is_ended false deed ≡ false → IfSome (moves reach o) (IsSaidBy at deed)
+moves_said at deed reach None on = tt
+moves_said at deed reach (Some to) on = on
+
+if_said : (at : Situation) (deed : Deed) (b : Bool) (m : Motion) → is_ended false deed ≡ false → at.position ≡ Some m.start
+    → IfSome (cuts (cond b (Some m) None)) (IsSaidBy at deed)
+if_said at deed true m on here = (on, here)
+if_said at deed false m on here = tt
+
+unless_said : (at : Situation) (deed : Deed) (b : Bool) (o : Option Motion) → IfSome (cuts o) (IsSaidBy at deed) → IfSome (cuts (cond b None o)) (IsSaidBy at deed)
+unless_said at deed true o said = tt
+unless_said at deed false o said = said
+
+turned_said : (at : Situation) (deed : Deed) (s : Settings) (start : Position) (drive : Surface) (turned : Sign) (how : Stop) (check : Surface)
+    → is_ended false deed ≡ false → at.position ≡ Some start → IfSome (cuts (if_turned s start drive turned how check)) (IsSaidBy at deed)
+turned_said at deed s start drive turned how check on here =
+    let m = motion s start drive turned how check in
+    unless_said at deed (is_zero turned) (cond (is_defined m) (Some m) None) (if_said at deed (is_defined m) m on here)
+
+contour_said : (at : Situation) (deed : Deed) (side : Option Side) (go : Go) (how : Stop) (p : Option Position) (d c : Option Surface)
+    → is_ended false deed ≡ false → at.position ≡ p
+    → IfSome (cuts (p >>= λ start. d >>= λ drive. c >>= λ check. if_turned (with_side at.settings side) start drive (turn_at at start drive go) how check)) (IsSaidBy at deed)
+contour_said at deed side go how None d c on here = tt
+contour_said at deed side go how (Some start) None c on here = tt
+contour_said at deed side go how (Some start) (Some drive) None on here = tt
+contour_said at deed side go how (Some start) (Some drive) (Some check) on here =
+    turned_said at deed (with_side at.settings side) start drive (turn_at at start drive go) how check on here
+
+-- ---- a line for each statement
+
+told : (at : Situation) (deed : Deed) → IfSome (effect_of at deed) (IsSaidBy at deed)
+unfolding motion_at
+told at (deeds.Partno text) = record { said = refl; settings = refl }
+told at (deeds.Remark text) = record { goes_on = refl; settings = refl }
+told at (deeds.Units units) = record { said = refl; settings = refl }
+told at deeds.Clprnt = record { goes_on = refl; settings = refl }
+told at deeds.Nopost = record { goes_on = refl; settings = refl }
+told at deeds.Machin = record { goes_on = refl; settings = refl }
+told at (deeds.Assign n v) = refl
+told at (deeds.PointXy n x y z) = tt
+told at (deeds.PointLines n a b) = tt
+told at (deeds.PointPick n k a b) = tt
+told at (deeds.PointCenter n c) = tt
+told at (deeds.LineXy n x y u v) = refl
+told at (deeds.LinePoints n p q) = tt
+told at (deeds.LinePar n p l) = tt
+told at (deeds.LinePerp n p l) = tt
+told at (deeds.LineAt n l k v) = tt
+told at (deeds.LineTan n p h c) = tt
+told at (deeds.LineTwo n h c k d) = tt
+told at (deeds.CircleXyr n x y r) = tt
+told at (deeds.CirclePoints n a b c) = tt
+told at (deeds.CircleRadius n p r) = tt
+told at (deeds.CircleTan n p l) = tt
+told at (deeds.CircleThrough n p q) = tt
+told at (deeds.CircleCorner n j a k b r) = tt
+told at (deeds.Cutter v) = record { said = (v, refl, refl); settings = refl }
+told at (deeds.Intol v) = record { said = (v, refl, refl); settings = refl }
+told at (deeds.Outtol v) = record { said = (v, refl, refl); settings = refl }
+told at (deeds.Tool side) = record { goes_on = refl; settings = refl }
+told at (deeds.FromXy x y z) = refl
+told at (deeds.FromPoint p) = tt
+told at (deeds.GotoXy x y z) = refl
+told at (deeds.GotoPoint p) = tt
+told at (deeds.Godlta x y z) = moves_said at (deeds.Godlta x y z) reaches.Godlta (moved_from at x y z) refl
+told at (deeds.GoStart how_a a b) = moves_said at (deeds.GoStart how_a a b) reaches.Start (started_at at how_a a b) refl
+told at (deeds.Contour side go drive how check) = contour_said at (deeds.Contour side go drive how check) side go how at.position (surface_in at.table drive) (surface_in at.table check) refl refl
+told at deeds.Rapid = record { said = refl; settings = refl }
+told at deeds.Halt = record { said = refl; settings = refl }
+told at deeds.OptHalt = record { said = refl; settings = refl }
+told at deeds.EndWord = record { said = refl; settings = refl }
+told at deeds.Fini = record { said = refl; settings = refl }
+told at (deeds.Fedrat v) = record { said = (v, refl, refl); settings = refl }
+told at (deeds.Spindl n turn) = tt
+told at deeds.SpindlOff = tt
+told at (deeds.Coolnt c) = tt
+told at (deeds.Loadtl n) = tt
+told at deeds.Macro = tt
+told at deeds.Termac = tt
+told at deeds.Call = tt
+told at deeds.Loopst = tt
+told at deeds.Loopnd = tt
+told at deeds.Jumpto = tt
+told at deeds.If = tt
+
+pub said_by : (at : Situation) (deed : Deed) (e : Effect) → effect_of at deed ≡ Some e → IsSaidBy at deed e
+said_by at deed e asked = of_some (IsSaidBy at deed) (effect_of at deed) e asked (told at deed)
