@@ -10,3 +10,4 @@ pub mod Said
 pub mod Refused
 pub mod Numbers
 pub mod Asked
+pub mod Fed
