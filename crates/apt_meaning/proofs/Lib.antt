@@ -10,3 +10,6 @@ pub mod Said
 pub mod Refused
 pub mod Numbers
 pub mod Asked
+pub mod Kept
+pub mod Stands
+pub mod Walk
