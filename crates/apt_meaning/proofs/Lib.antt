@@ -13,3 +13,4 @@ pub mod Asked
 pub mod Kept
 pub mod Stands
 pub mod Walk
+pub mod Ends

@@ -1,5 +1,6 @@
 -- Records leave the tool where the situation behind them has it.
-use Rattle.std.proofs.Common.{◌≡◌, ◌∙◌, ℤ, List, [], ◌∷◌, ◌++◌, map, Option, Some, None, refl, sym, ap}
+use Rattle.std.proofs.Common.{◌≡◌, ◌∙◌, ℤ, List, [], ◌∷◌, ◌++◌, map, Option, Some, None, refl, ap}
+use Rattle.apt_words.specs.declared.deed.Deed.{Deed}
 use Rattle.apt_words.specs.declared.deed.Step.{Step}
 use Rattle.apt_plane.specs.declared.figures.Pt.{Pt}
 use Rattle.apt_certify.specs.Legs.{last_of}
@@ -15,8 +16,8 @@ use Rattle.apt_meaning.specs.Records.{records_of, after, FollowsAs, last_positio
 use Rattle.apt_meaning.proofs.Said.{said_by}
 
 -- a contour starts where the tool stands
-pub starts_here : (at : Situation) (step : Step) (m : Motion) → effect_of at step.deed ≡ Some (effects.Cuts m) → at.position ≡ Some m.start
-starts_here at step m asked = (said_by at step.deed (effects.Cuts m) asked).1
+pub starts_here : (at : Situation) (deed : Deed) (m : Motion) → effect_of at deed ≡ Some (effects.Cuts m) → at.position ≡ Some m.start
+starts_here at deed m asked = (said_by at deed (effects.Cuts m) asked).1
 
 last-at_height : (z : ℤ) (p : Pt) (vertices : List Pt) → last_position (Some (at_height z p)) (map (at_height z) vertices) ≡ Some (at_height z (last_of p vertices))
 last-at_height z p [] = refl
@@ -33,7 +34,7 @@ effect_stands at step (effects.Sets s None) vertices asked = refl
 effect_stands at step (effects.Sets s (Some note)) vertices asked = refl
 effect_stands at step (effects.Moves reach to) vertices asked = refl
 effect_stands at step (effects.Cuts m) vertices asked =
-    ap (λ (p : Option Position). last_position p (map (at_height m.start.z) vertices)) (starts_here at step m asked) ∙ last-at_height m.start.z m.start.at vertices
+    ap (λ (p : Option Position). last_position p (map (at_height m.start.z) vertices)) (starts_here at step.deed m asked) ∙ last-at_height m.start.z m.start.at vertices
 
 pub stands : (Allowed : Effect → List Pt → Type 0) (at : Situation) (steps : List Step) (written : List Record) (behind : Situation)
     → FollowsAs Allowed at steps written behind → stand_of at.position written ≡ behind.position

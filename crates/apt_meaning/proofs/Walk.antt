@@ -1,5 +1,5 @@
 -- The compiler's records follow its steps, and its contours are legal.
-use Rattle.std.proofs.Common.{◌≡◌, ◌∙◌, List, [], ◌∷◌, ◌++◌, Option, Some, None, Result, Ok, Err, refl, sym, ap, subst}
+use Rattle.std.proofs.Common.{◌≡◌, ◌∙◌, List, [], ◌∷◌, ◌++◌, Option, Some, None, Result, Ok, Err, refl, sym, subst}
 use Rattle.apt_words.specs.declared.Case.{Case}
 use Rattle.apt_words.specs.declared.Refusal.{Refusal}
 use Rattle.apt_words.specs.declared.deed.Step.{Step}
@@ -11,7 +11,7 @@ use Rattle.apt_meaning.specs.declared.effect.Effect.TheVariants as effects
 use Rattle.apt_meaning.specs.Effects.{effect_of}
 use Rattle.apt_meaning.specs.Refusals.{refusal_of}
 use Rattle.apt_meaning.specs.Records.{MayHave, AreLegal, FollowsLegally, records_of, after}
-use Rattle.apt_meaning.specs.Compiled.{ends_of, refused_at, with_front, asked, or_refused, compiled}
+use Rattle.apt_meaning.specs.Compiled.{ends_of, with_front, asked, or_refused, compiled}
 use Rattle.apt_meaning.specs.Ranges.{IsSituation, IsEffect}
 use Rattle.apt_meaning.specs.Numbers.{HaveNumbers, HasIn}
 use Rattle.apt_meaning.proofs.Asked.{Asks, answered}
