@@ -14,3 +14,4 @@ pub mod Kept
 pub mod Stands
 pub mod Walk
 pub mod Ends
+mod Worked
