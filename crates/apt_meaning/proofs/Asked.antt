@@ -1,5 +1,5 @@
 -- A step that no case refuses has an effect in range, and a contour that it asks for is legal to its contact.
-use Rattle.std.proofs.Common.{◌≡◌, ◌≢◌, ◌==◌, ℕ, ℤ, unsigned_abs, not, Bool, true, false, List, [], ◌∷◌, Option, Some, None, is_none, IfSome, refl, cond, sym, ap, subst, ◌∙◌, pos}
+use Rattle.std.proofs.Common.{◌≡◌, ◌≢◌, ◌==◌, ℕ, unsigned_abs, not, Bool, true, false, List, [], ◌∷◌, Option, Some, None, is_none, IfSome, refl, cond, sym, ap, subst, ◌∙◌, pos}
 use Rattle.std.proofs.lemmas.Bool.{true≢false, eqb-false}
 use Rattle.apt_num.specs.declared.Sign.{Sign}
 use Rattle.apt_words.specs.declared.Go.{Go}
@@ -39,7 +39,7 @@ use Rattle.apt_meaning.specs.Situations.{radius_of, lacks_feed, with_side, at_he
 use Rattle.apt_meaning.specs.Motions.{as_surface, surface_in, turn_at, if_turned, is_defined, motion, motion_at}
 use Rattle.apt_meaning.specs.StartUps.{start_up_at, start_up_cases, start_point, started}
 use Rattle.apt_meaning.specs.Effects.{moves, cuts, place_by, moved_by, started_at, effect_of}
-use Rattle.apt_meaning.specs.Refusals.{is_other_kind, position_cases, move_cases, motion_cases, turned_cases, surface_cases, contour_cases, start_cases, go_cases, start_up_or_not_built, godlta_cases, cases_of, refusal_of}
+use Rattle.apt_meaning.specs.Refusals.{is_other_kind, position_cases, move_cases, motion_cases, turned_cases, surface_cases, contour_cases, start_cases, go_cases, start_up_or_not_built, cases_of, refusal_of}
 use Rattle.apt_meaning.specs.Records.{AreLegal}
 use Rattle.apt_meaning.specs.Compiled.{ends_of}
 use Rattle.apt_meaning.specs.Ranges.{IsPositionOrNone, AreSettings, IsSituation, IsMotion, IsEffect}

@@ -11,3 +11,8 @@ pub mod Refused
 pub mod Numbers
 pub mod Asked
 pub mod Fed
+pub mod Kept
+pub mod Stands
+pub mod Walk
+pub mod Ends
+mod Worked

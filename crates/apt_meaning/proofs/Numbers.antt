@@ -1,11 +1,10 @@
 -- The ranges of what effects are made of.
-use Rattle.std.proofs.Common.{◌≡◌, ◌^◌, ◌≤◌, ◌*◌, ◌+◌, ℕ, ℤ, pos, negsuc, ◌≤ℤ◌, ◌*ℤ◌, ◌/◌, unsigned_abs, int_le, int_lt, nat_le, not, ◌&&◌, Bool, true, false, Option, Some, None, refl, inl, inr, arith, cond}
+use Rattle.std.proofs.Common.{◌≡◌, ◌^◌, ◌≤◌, ℤ, pos, unsigned_abs, int_le, int_lt, not, Bool, true, false, Option, Some, None, refl, inl, inr, arith}
 use Rattle.std.specs.Prelude.{if◌then◌else◌}
 use Rattle.std.proofs.lemmas.Int.{ints}
 use Rattle.std.proofs.lemmas.Bool.{true≢false, not-false}
 use Rattle.apt_num.specs.declared.Sign.{Sign}
 use Rattle.apt_num.specs.declared.Sign.TheVariants as signs
-use Rattle.apt_num.specs.Near.{near}
 use Rattle.apt_num.proofs.Nearest.{near-IsNear}
 use Rattle.apt_words.specs.declared.Side.{Side}
 use Rattle.apt_words.specs.declared.Units.{Units}
@@ -14,8 +13,7 @@ use Rattle.apt_plane.specs.Ranges.{IsSense}
 use Rattle.apt_offset.specs.Ranges.{IsRadius, IsTolerance}
 use Rattle.apt_offset.specs.Turns.{is_zero}
 use Rattle.apt_offset.specs.Targets.{signed, greater}
-use Rattle.apt_cldata.specs.Ranges.{IsFromTo, IsPosition}
-use Rattle.apt_cldata.specs.declared.record.Position.{Position}
+use Rattle.apt_cldata.specs.Ranges.{IsFromTo}
 use Rattle.apt_defs.specs.Definitions.{is_in_reach}
 use Rattle.apt_meaning.specs.declared.situation.Settings.{Settings}
 use Rattle.apt_meaning.specs.Situations.{radius_of, with_side}

@@ -1,5 +1,5 @@
 -- What the effect of a step tells of the step, and how steps end.
-use Rattle.std.specs.Prelude.{◌≡◌, ℤ, pos, unsigned_abs, Bool, true, false, List, [], ◌∷◌, Option, Some, None}
+use Rattle.std.specs.Prelude.{◌≡◌, ℤ, pos, unsigned_abs, Bool, true, false, List, [], ◌∷◌, Some, None}
 use Rattle.apt_words.specs.declared.Units.{Units}
 use Rattle.apt_words.specs.declared.deed.Deed.{Deed}
 use Rattle.apt_words.specs.declared.deed.Deed.TheVariants as deeds

@@ -1,0 +1,132 @@
+-- Effects in range leave situations and records in range.
+use Rattle.std.proofs.Common.{◌+◌, ◌≤◌, ◌^◌, ℤ, ◌*ℤ◌, ◌-ℤ◌, unsigned_abs, ◌==◌, Bool, true, false, List, [], ◌∷◌, ◌++◌, map, Option, Some, None, inl, inr, arith, cond}
+use Rattle.std.proofs.lemmas.Int.{ints}
+use Rattle.apt_num.proofs.Squares.{size_minus, size_neg}
+use Rattle.apt_words.specs.declared.deed.Step.{Step}
+use Rattle.apt_plane.specs.declared.figures.Pt.{Pt}
+use Rattle.apt_plane.specs.declared.figures.Dir.{Dir}
+use Rattle.apt_plane.specs.declared.figures.Surface.{Surface}
+use Rattle.apt_plane.specs.declared.figures.Surface.TheVariants as surfaces
+use Rattle.apt_plane.specs.Ranges.{IsPoint, IsSurface, IsSense}
+use Rattle.apt_plane.specs.Vectors.{way, norm, perp}
+use Rattle.apt_offset.specs.Turns.{tangent}
+use Rattle.apt_stop.specs.Nearness.{heading}
+use Rattle.apt_stop.proofs.Headings.{kept as forwards, turned as backwards}
+use Rattle.apt_certify.specs.Legs.{last_of}
+use Rattle.apt_cldata.specs.declared.record.Position.{Position}
+use Rattle.apt_cldata.specs.declared.record.Reach.{Reach}
+use Rattle.apt_cldata.specs.declared.record.Reach.TheVariants as reaches
+use Rattle.apt_cldata.specs.declared.record.Record.{Record}
+use Rattle.apt_cldata.specs.Ranges.{ArePositions, AreRecords}
+use Rattle.apt_defs.proofs.Tables.{still_figures}
+use Rattle.apt_meaning.specs.declared.situation.Settings.{Settings}
+use Rattle.apt_meaning.specs.declared.situation.Situation.{Situation}
+use Rattle.apt_meaning.specs.declared.motion.Motion.{Motion}
+use Rattle.apt_meaning.specs.declared.effect.Effect.{Effect}
+use Rattle.apt_meaning.specs.declared.effect.Effect.TheVariants as effects
+use Rattle.apt_meaning.specs.Situations.{first_situation, settings_behind, forward_behind, at_height}
+use Rattle.apt_meaning.specs.Records.{with_statement, said, records_of, after}
+use Rattle.apt_meaning.specs.Ranges.{IsPositionOrNone, IsForward, AreSettings, IsSituation, IsMotion, IsEffect}
+use Rattle.apt_meaning.specs.Numbers.{ArePoints, HasIn}
+use Rattle.apt_meaning.proofs.Numbers.{with_rapid, on_side}
+
+-- ---- directions
+
+way_short : (p q : Pt) → IsPoint p → IsPoint q → IsForward (way p q)
+way_short p q is_p is_q =
+    let x : unsigned_abs (q.x -ℤ p.x) ≤ unsigned_abs q.x + unsigned_abs p.x = size_minus q.x p.x in
+    let y : unsigned_abs (q.y -ℤ p.y) ≤ unsigned_abs q.y + unsigned_abs p.y = size_minus q.y p.y in
+    record { dx = omega (arith, x, is_p.x, is_q.x); dy = omega (arith, y, is_p.y, is_q.y) }
+
+either_forward : (b : Bool) (d e : Dir) → IsForward d → IsForward e → IsForward (cond b d e)
+either_forward true d e is_d is_e = is_d
+either_forward false d e is_d is_e = is_e
+
+forward_kept : (p : Option Position) (to : Pt) (forward : Dir) → IsPositionOrNone p → IsPoint to → IsForward forward → IsForward (forward_behind p to forward)
+forward_kept None to forward is_p is_to is = is
+forward_kept (Some from) to forward is_p is_to is =
+    either_forward (norm (way from.at to) == 0) forward (way from.at to) is (way_short from.at to is_p.at is_to)
+
+turned_short : (d : Dir) → IsForward d → IsForward (perp d)
+turned_short d is = record { dx = rw (size_neg d.dy) is.dy; dy = is.dx }
+
+tangent_short : (s : Surface) (p : Pt) → IsSurface s → IsPoint p → IsForward (tangent s p)
+tangent_short (surfaces.Line l) p is is_p = record { dx = is.dir.dx; dy = is.dir.dy }
+tangent_short (surfaces.Circ c) p is is_p = turned_short (way c.c p) (way_short c.c p is.centre is_p)
+
+sense_short : (sense z : ℤ) → IsSense sense → unsigned_abs z ≤ 10 ^ 8 → unsigned_abs (sense *ℤ z) ≤ 10 ^ 8
+sense_short sense z (inl e) is = rw (e, forwards z) is
+sense_short sense z (inr e) is = rw (e, backwards z, size_neg z) is
+
+heading_short : (sense : ℤ) (d : Dir) → IsSense sense → IsForward d → IsForward (heading sense d)
+heading_short sense d is is_d = record { dx = sense_short sense d.dx is is_d.dx; dy = sense_short sense d.dy is is_d.dy }
+
+-- ---- the situation behind an effect
+
+pub last_point : (p : Pt) (vertices : List Pt) → IsPoint p → ArePoints vertices → IsPoint (last_of p vertices)
+last_point p [] is are = is
+last_point p (v ∷ vs) is are = last_point v vs are.0 are.1
+
+settings_kept : (reach : Reach) (s : Settings) → AreSettings s → AreSettings (settings_behind reach s)
+settings_kept reaches.From s is = is
+settings_kept reaches.Goto s is = with_rapid s false is
+settings_kept reaches.Godlta s is = with_rapid s false is
+settings_kept reaches.Start s is = with_rapid s false is
+
+cut_kept : (at : Situation) (m : Motion) (last : Pt) → IsSituation at → IsMotion m → IsPoint last
+    → IsSituation (record at { settings = record at.settings { side = m.side }; position = Some (at_height m.start.z last); forward = heading m.sense (tangent m.drive last) })
+cut_kept at m last is good end = record {
+  settings = on_side at.settings m.side is.settings;
+  position = record { at = end; z = good.start.z };
+  forward = heading_short m.sense (tangent m.drive last) good.sense (tangent_short m.drive last good.drive end);
+  table = is.table;
+}
+
+pub kept : (at : Situation) (e : Effect) (vertices : List Pt) → IsSituation at → IsEffect e → HasIn e vertices → IsSituation (after at e vertices)
+kept at (effects.Defines n f) vertices is good within =
+    record { settings = is.settings; position = is.position; forward = is.forward; table = still_figures at.table n f is.table good }
+kept at (effects.Sets s said) vertices is good within = record { settings = good.0; position = is.position; forward = is.forward; table = is.table }
+kept at (effects.Moves reach to) vertices is good within = record {
+  settings = settings_kept reach at.settings is.settings;
+  position = good;
+  forward = forward_kept at.position to.at at.forward is.position good.at is.forward;
+  table = is.table;
+}
+kept at (effects.Cuts m) vertices is good within = cut_kept at m (last_of m.start.at vertices) is good (last_point m.start.at vertices good.start.at within)
+
+pub first_situation-IsSituation : IsSituation first_situation
+first_situation-IsSituation = record {
+  settings = record {
+    radius = record { least = omega (arith, ints); most = omega (arith, ints) };
+    intol = record { least = omega (arith, ints); most = omega (arith, ints) };
+    outtol = record { least = omega (arith, ints); most = omega (arith, ints) };
+    feed = record { least = omega (arith, ints); most = omega (arith, ints) };
+  };
+  position = tt;
+  forward = record { dx = omega (arith, ints); dy = omega (arith, ints) };
+  table = tt;
+}
+
+-- ---- the records of an effect
+
+positions_in : (z : ℤ) (vertices : List Pt) → unsigned_abs z ≤ 50000000 → ArePoints vertices → ArePositions (map (at_height z) vertices)
+positions_in z [] high are = tt
+positions_in z (v ∷ vs) high are = (record { at = are.0; z = high }, positions_in z vs high are.1)
+
+said_in : (e : Effect) (vertices : List Pt) → IsEffect e → HasIn e vertices → AreRecords (said e vertices)
+said_in (effects.Defines n f) vertices good within = tt
+said_in (effects.Sets s None) vertices good within = tt
+said_in (effects.Sets s (Some note)) vertices good within = (good.1, tt)
+said_in (effects.Moves reach to) vertices good within = (good, tt)
+said_in (effects.Cuts m) vertices good within = ((good.drive, good.sense), (good.check, (positions_in m.start.z vertices good.start.z within, tt)))
+
+statement_in : (step : Step) (rs : List Record) → AreRecords rs → AreRecords (with_statement step rs)
+statement_in step [] are = tt
+statement_in step (r ∷ rs) are = (tt, are)
+
+pub records_in : (step : Step) (e : Effect) (vertices : List Pt) → IsEffect e → HasIn e vertices → AreRecords (records_of step e vertices)
+records_in step e vertices good within = statement_in step (said e vertices) (said_in e vertices good within)
+
+pub records-append : (xs ys : List Record) → AreRecords xs → AreRecords ys → AreRecords (xs ++ ys)
+records-append [] ys are more = more
+records-append (x ∷ xs) ys are more = (are.0, records-append xs ys are.1 more)

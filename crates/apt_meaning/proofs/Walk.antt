@@ -1,0 +1,88 @@
+-- The compiler's records follow its steps, and its contours are legal.
+use Rattle.std.proofs.Common.{◌≡◌, ◌∙◌, List, [], ◌∷◌, ◌++◌, Option, Some, None, Result, Ok, Err, refl, sym, subst}
+use Rattle.apt_words.specs.declared.Case.{Case}
+use Rattle.apt_words.specs.declared.Refusal.{Refusal}
+use Rattle.apt_words.specs.declared.deed.Step.{Step}
+use Rattle.apt_cldata.specs.declared.record.Record.{Record}
+use Rattle.apt_cldata.specs.Ranges.{AreRecords}
+use Rattle.apt_meaning.specs.declared.situation.Situation.{Situation}
+use Rattle.apt_meaning.specs.declared.effect.Effect.{Effect}
+use Rattle.apt_meaning.specs.declared.effect.Effect.TheVariants as effects
+use Rattle.apt_meaning.specs.Effects.{effect_of}
+use Rattle.apt_meaning.specs.Refusals.{refusal_of}
+use Rattle.apt_meaning.specs.Records.{MayHave, AreLegal, FollowsLegally, records_of, after}
+use Rattle.apt_meaning.specs.Compiled.{ends_of, with_front, asked, or_refused, compiled}
+use Rattle.apt_meaning.specs.Ranges.{IsSituation, IsEffect}
+use Rattle.apt_meaning.specs.Numbers.{HaveNumbers, HasIn}
+use Rattle.apt_meaning.proofs.Asked.{Asks, answered}
+use Rattle.apt_meaning.proofs.Kept.{kept, records_in, records-append}
+
+may_have : (e : Effect) → MayHave e (ends_of e)
+may_have (effects.Defines n f) = refl
+may_have (effects.Sets s said) = refl
+may_have (effects.Moves reach to) = refl
+may_have (effects.Cuts m) = tt
+
+-- ---- a step that is done, and the records of those behind it
+
+pub record Done (refusal : Option Case) (effect : Option Effect) (more : Effect → Result (List Record) Refusal) (written : List Record) : Type 0 where
+  pub e : Effect
+  pub fine : refusal ≡ None
+  pub asked : effect ≡ Some e
+  pub rest : more e ≡ Ok written
+
+no_ok : (refusal : Refusal) (written : List Record) → Err refusal ≡ Ok written → ⊥
+no_ok refusal written e = cc
+
+done : (step : Step) (refusal : Option Case) (effect : Option Effect) (more : Effect → Result (List Record) Refusal) (written : List Record)
+    → or_refused step (asked refusal effect) more ≡ Ok written → Done refusal effect more written
+done step (Some case) effect more written h = absurd (no_ok _ written h)
+done step None None more written h = absurd (no_ok _ written h)
+done step None (Some e) more written h = record { e = e; fine = refl; asked = refl; rest = h }
+
+front_ok : (front : List Record) (r : Result (List Record) Refusal) (written : List Record) → with_front front r ≡ Ok written
+    → (rest : List Record) × (r ≡ Ok rest) × (written ≡ front ++ rest)
+front_ok front (Ok rest) written h = (rest, refl, cc)
+front_ok front (Err refusal) written h = absurd (no_ok refusal written h)
+
+nothing_left : (written : List Record) → ◌≡◌ {A = Result (List Record) Refusal} (Ok []) (Ok written) → written ≡ []
+nothing_left written h = cc
+
+same_some : (d e : Effect) → ◌≡◌ {A = Option Effect} (Some d) (Some e) → d ≡ e
+same_some d e h = cc
+
+-- an effect that is asked for, where no case refuses its step
+pub record IsFit (e : Effect) : Type 0 where
+  pub good : IsEffect e
+  pub legal : AreLegal e (ends_of e)
+  pub ends : HasIn e (ends_of e)
+
+fit : (o : Option Effect) (e : Effect) → o ≡ Some e → Asks o → IsFit e
+fit o e h asks = subst IsFit (same_some asks.e e (sym asks.asked ∙ h)) (record { good = asks.good; legal = asks.legal; ends = asks.ends })
+
+-- ---- the walk
+
+-- records follow steps legally, and all that they lead to is in range
+pub record Arrives (at : Situation) (steps : List Step) (written : List Record) : Type 0 where
+  pub behind : Situation
+  pub follows : FollowsLegally at steps written behind
+  pub situation : IsSituation behind
+  pub records : AreRecords written
+
+pub compiled_follows : (at : Situation) (steps : List Step) (written : List Record) → IsSituation at → HaveNumbers steps → compiled at steps ≡ Ok written
+    → Arrives at steps written
+compiled_follows at [] written is numbers h =
+    let none = nothing_left written h in
+    record { behind = at; follows = (none, refl); situation = is; records = rw none tt }
+compiled_follows at (step ∷ steps) written is numbers h =
+    let d = done step (refusal_of at step.deed) (effect_of at step.deed)
+    (λ e. with_front (records_of step e (ends_of e)) (compiled (after at e (ends_of e)) steps)) written h in
+    let e = d.e in
+    let ok = fit (effect_of at step.deed) e d.asked (answered at step.deed is numbers.0 d.fine) in
+    let f = front_ok (records_of step e (ends_of e)) (compiled (after at e (ends_of e)) steps) written d.rest in
+    let more = compiled_follows (after at e (ends_of e)) steps f.0 (kept at e (ends_of e) is ok.good ok.ends) numbers.1 f.1 in record {
+      behind = more.behind;
+      follows = (e, ends_of e, f.0, record { asked = d.asked; front = f.2; only_contours = may_have e }, ok.legal, more.follows);
+      situation = more.situation;
+      records = rw f.2 (records-append (records_of step e (ends_of e)) f.0 (records_in step e (ends_of e) ok.good ok.ends) more.records);
+    }
