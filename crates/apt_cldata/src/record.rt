@@ -59,7 +59,10 @@ impl Model for Vertices {
 #[derive(Drop)]
 pub enum Record {
     /// The line and the number of the step that the records behind it belong to, both from 1.
-    Statement { line: u32, step: u32 },
+    Statement {
+        line: u32,
+        step: u32,
+    },
     /// A setting, a command, or the end.
     Note(Note),
     /// A drive surface, the cutter's side of it, and the sense of the motion.
@@ -69,7 +72,10 @@ pub enum Record {
         sense: i8,
     },
     /// A check surface, and where the motion stops at it.
-    Check { surface: Surface, how: Stop },
+    Check {
+        surface: Surface,
+        how: Stop,
+    },
     /// A position that is reached.
     Point(Reach, Position),
     /// The vertices of a contour.

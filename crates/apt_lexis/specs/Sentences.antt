@@ -115,9 +115,13 @@ pub record Unread : Type 0 where
 abbrev pub said_by : Unread → Said
 said_by u = said_from None u.line u.lines
 
--- a reader gives the next statement; none at the end of its lines; the first fault of a line
+-- nothing but the fault of a line
+abbrev pub only_fault : ℕ → PartCause → Said
+only_fault line cause = record { phrases = []; fault = Some (line, cause) }
+
+-- a reader gives the next statement; none at the end of its lines; the first fault of a line, at which it then stands
 abbrev pub Gives : Unread → Unread → Result (Option Phrase) ParseError → Type 0
 Gives before now (Ok (Some p)) = said_by before ≡ with_first (Some p) (said_by now)
 Gives before now (Ok None) = (said_by before ≡ record { phrases = []; fault = None }) × (now.lines ≡ [])
-Gives before now (Err (errors.Bad line cause)) = said_by before ≡ record { phrases = []; fault = Some (line, cause) }
+Gives before now (Err (errors.Bad line cause)) = (said_by before ≡ only_fault line cause) × (now.line ≡ line) × (said_by now ≡ only_fault line cause)
 Gives before now (Err errors.NoMemory) = Unit {0}

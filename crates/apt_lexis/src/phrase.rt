@@ -182,7 +182,7 @@ impl<'a> Phrases<'a> {
     /// # Errors
     ///
     /// `Bad` is the first fault of a line: `TooManyLines` at line 50,001, `LineTooLong` past 256 bytes,
-    /// `BadByte`. After an error the reader stands at some line before or at that one.
+    /// `BadByte`. The reader then stands at that line, and gives its fault again.
     pub fn next(&mut self, alloc: Global) -> Result<Option<Phrase>, ParseError>
         ensures given { sentences.Gives self.old self.new result }
         ensures counted { IfOk result (λ _. self.new.line + length self.new.lines ≡ self.old.line + length self.old.lines) }

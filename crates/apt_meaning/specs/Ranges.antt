@@ -52,7 +52,6 @@ pub record IsMotion (m : Motion) : Type 0 where
   pub inner : IsAllowance m.inner
   pub outer : IsAllowance m.outer
 
-
 abbrev pub IsNoteOrNone : Option Note → Type 0
 IsNoteOrNone None = Unit {0}
 IsNoteOrNone (Some note) = IsNote note

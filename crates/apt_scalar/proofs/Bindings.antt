@@ -4,7 +4,7 @@ use Rattle.std.specs.Cmp.Lexicographic.{pointwise, nat_list_eq_equiv, same_text}
 use Rattle.std.specs.Map.{keys_of}
 use Rattle.indexmap.specs.IndexMap.{insert_entry}
 use Rattle.apt_scalar.specs.declared.names.Value.{Value}
-use Rattle.apt_scalar.specs.Meanings.{Names, meaning, names_with, IsBound}
+use Rattle.apt_scalar.specs.Meanings.{Names, meaning, with_entry, names_with, IsBound}
 
 -- names that differ are told apart
 apart : (a b : List ℕ) → a ≢ b → pointwise nat_eq a b ≡ false
@@ -45,7 +45,7 @@ order : (names : Names) (name : List ℕ) (v : Value) → keys_of (insert_entry 
 order [] name v = refl
 order (e ∷ names) name v = order_at e names name v (order names name v) (pointwise nat_eq name e.0) refl
 
-pub is_bound : (before : Names) (name : List ℕ) (v : Value) (now : Names) → now ≡ insert_entry (pointwise nat_eq) before name v → IsBound before name v now
+pub is_bound : (before : Names) (name : List ℕ) (v : Value) (now : Names) → now ≡ with_entry before name v → IsBound before name v now
 is_bound before name v now e = rw e record {
   given = given before name v;
   others = others before name v;

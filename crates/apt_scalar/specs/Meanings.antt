@@ -2,6 +2,7 @@
 use Rattle.std.specs.Prelude.{◌≡◌, ◌≢◌, ℕ, ℤ, ◌++◌, nat_eq, List, [], ◌∷◌, Option, Some, None, Result, Err}
 use Rattle.std.specs.Cmp.Lexicographic.{pointwise}
 use Rattle.std.specs.Map.{lookup, keys_of}
+use Rattle.indexmap.specs.IndexMap.{insert_entry}
 use Rattle.apt_words.specs.declared.Case.{Case}
 use Rattle.apt_words.specs.declared.Case.TheVariants as cases
 use Rattle.apt_scalar.specs.declared.names.Value.{Value}
@@ -21,7 +22,11 @@ Parameters = List (List ℕ × Bound)
 abbrev pub meaning : {A : Type 0} → List (List ℕ × A) → List ℕ → Option A
 meaning names name = lookup (pointwise nat_eq name) names
 
--- the names after one is given a meaning: a new name goes last, a known one keeps its place
+-- the entries after a name is given a value: a new name goes last, a known one keeps its place
+abbrev pub with_entry : Names → List ℕ → Value → Names
+with_entry names name v = insert_entry (pointwise nat_eq) names name v
+
+-- the same of the names alone
 abbrev pub names_with : List (List ℕ) → List ℕ → Option Value → List (List ℕ)
 names_with names name None = names ++ name ∷ []
 names_with names name (Some v) = names
@@ -34,7 +39,8 @@ pub record IsBound (before : Names) (name : List ℕ) (v : Value) (now : Names) 
 -- a figure is no scalar
 abbrev pub scalar_in : Option Value → Result ℤ Case
 scalar_in (Some (values.Scalar v)) = in_range v
-scalar_in _ = Err cases.Unknown
+scalar_in (Some (values.Shape kind)) = Err cases.Unknown
+scalar_in None = Err cases.Unknown
 
 -- a parameter is a number, or stands for a name of the program
 abbrev pub scalar_of : Names → List ℕ → Option Bound → Result ℤ Case

@@ -1,5 +1,5 @@
 -- Scalars: whole numbers of millionths, at most 10^12 of them in size. Each result is rounded to the nearest, a half away from zero.
-use Rattle.std.specs.Prelude.{ℕ, ◌^◌, ◌≤◌, zero, ℤ, pos, ◌+ℤ◌, ◌-ℤ◌, ◌*ℤ◌, ◌*◌, unsigned_abs, nat_le, Result, Ok, Err, if◌then◌else◌}
+use Rattle.std.specs.Prelude.{ℕ, ◌^◌, ◌≤◌, zero, ℤ, pos, negsuc, ◌+ℤ◌, ◌-ℤ◌, ◌*ℤ◌, ◌*◌, unsigned_abs, nat_le, Result, Ok, Err, if◌then◌else◌}
 use Rattle.apt_num.specs.Near.{near}
 use Rattle.apt_num.specs.Root.{root_near}
 use Rattle.apt_words.specs.declared.Case.{Case}
@@ -31,7 +31,7 @@ quotient a b = in_range (near (a *ℤ pos one) b)
 
 abbrev pub square_root : ℤ → Result ℤ Case
 square_root (pos n) = Ok (pos (root_near (n * one)))
-square_root _ = Err cases.NegativeRoot
+square_root (negsuc n) = Err cases.NegativeRoot
 
 abbrev pub size : ℤ → ℤ
 size v = pos (unsigned_abs v)

@@ -7,6 +7,6 @@ mod scalars;
 mod tests;
 mod values;
 
-pub use names::{Bound, Env, Frame, Kind, Value, bind};
+pub use names::{Bound, Env, Frame, Kind, Value, bind, bound_in};
 pub use scalars::{grid_units, tenths, whole};
 pub use values::eval;

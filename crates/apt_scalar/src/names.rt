@@ -1,8 +1,6 @@
 //! The names of a program and the parameters of a macro.
 
-ghost use Rattle.std.specs.Prelude.{◌≡◌, [], OnOk, OnErr, IfOk, nat_eq};
-ghost use Rattle.std.specs.Cmp.Lexicographic.{pointwise};
-ghost use Rattle.indexmap.specs.IndexMap.{insert_entry};
+ghost use Rattle.std.specs.Prelude.{◌≡◌, [], OnOk, OnErr, IfOk};
 ghost use Rattle.std.specs.Option.{option_copied};
 ghost use Rattle.apt_scalar.specs.Meanings as meanings;
 ghost use Rattle.apt_scalar.specs.Scalars as scalars;
@@ -14,7 +12,7 @@ use std::alloc::{AllocError, Global};
 use std::marker::Model;
 
 /// The kinds of figures.
-#[derive(Clone, Copy, Debug, PartialEq, Eq)]
+#[derive(Clone, Copy, PartialEq, Eq)]
 pub enum Kind {
     Point,
     Line,
@@ -22,14 +20,14 @@ pub enum Kind {
 }
 
 /// What a name means: a scalar in millionths, or a figure.
-#[derive(Clone, Copy, Debug, PartialEq, Eq)]
+#[derive(Clone, Copy, PartialEq, Eq)]
 pub enum Value {
     Scalar(i64),
     Shape(Kind),
 }
 
 /// What a parameter stands for: a scalar in millionths, or another name.
-#[derive(Debug, Drop)]
+#[derive(Drop)]
 pub enum Bound {
     Scalar(i64),
     Alias(Symbol),
@@ -38,7 +36,7 @@ pub enum Bound {
 /// The names of a program. Clauses see the names and their values in the order in which they were first bound.
 #[derive(Drop)]
 pub struct Env {
-    pub map: IndexMap<Symbol, Value>,
+    map: IndexMap<Symbol, Value>,
 }
 
 impl Model for Env {
@@ -51,7 +49,7 @@ impl Model for Env {
 }
 
 /// The parameters of the running macro, none outside of macros. Clauses see them in order.
-#[derive(Debug, Drop)]
+#[derive(Drop)]
 pub struct Frame {
     pub bound: Vec<(Symbol, Bound)>,
 }
@@ -83,7 +81,7 @@ impl Env {
     }
 
     fn insert(&mut self, name: Symbol, v: Value) -> Result<(), AllocError>
-        ensures ok { OnOk result (self.new ≡ insert_entry (pointwise nat_eq) self.old name v) }
+        ensures ok { OnOk result (self.new ≡ meanings.with_entry self.old name v) }
         ensures err { OnErr result (self.new ≡ self.old) }
     {
         self.map.insert(name, v)?;
@@ -105,7 +103,7 @@ pub(crate) fn scalar_named(name: &Symbol, env: &Env, frame: &Frame) -> Result<i6
 }
 
 /// What a parameter stands for, None where the running macro has none of this name.
-fn bound_in<'a>(frame: &'a Frame, name: &Symbol) -> Option<&'a Bound>
+pub fn bound_in<'a>(frame: &'a Frame, name: &Symbol) -> Option<&'a Bound>
     ensures { option_copied result ≡ meanings.meaning frame.now name.now }
 {
     'parameters: for (parameter, bound) in &frame.bound {
@@ -132,6 +130,7 @@ fn scalar_in(meaning: Option<Value>) -> Result<i64, Case>
 #[tactic(auto, using(crate::proofs::Bindings::is_bound))]
 pub fn bind(_alloc: Global, env: &mut Env, name: Symbol, v: Value) -> Result<(), AllocError>
     ensures ok { OnOk result (meanings.IsBound env.old name v env.new) }
+    ensures entries { OnOk result (env.new ≡ meanings.with_entry env.old name v) }
     ensures err { OnErr result (env.new ≡ env.old) }
 {
     env.insert(name, v)

@@ -99,16 +99,15 @@ fn names_stand_for_scalars(rt: HostRuntime) -> Result<(), Fail> {
 }
 
 #[test]
-fn names_keep_their_order(rt: HostRuntime) -> Result<(), Fail> {
+fn names_take_their_latest_value(rt: HostRuntime) -> Result<(), Fail> {
     let alloc = rt.alloc();
     let mut env = Env::new(alloc);
     bind(alloc, &mut env, symbol(&rt, "A"), Value::Scalar(1))?;
     bind(alloc, &mut env, symbol(&rt, "B"), Value::Scalar(2))?;
     bind(alloc, &mut env, symbol(&rt, "A"), Value::Scalar(3))?;
-    assert_eq!(rt; env.get(&symbol(&rt, "A")), Some(Value::Scalar(3)));
-    assert_eq!(rt; env.get(&symbol(&rt, "C")), None);
-    assert_eq!(rt; env.map.get_index_of(&symbol(&rt, "A")), Some(0));
-    assert_eq!(rt; env.map.get_index_of(&symbol(&rt, "B")), Some(1));
+    assert!(rt; env.get(&symbol(&rt, "A")) == Some(Value::Scalar(3)));
+    assert!(rt; env.get(&symbol(&rt, "B")) == Some(Value::Scalar(2)));
+    assert!(rt; env.get(&symbol(&rt, "C")).is_none());
     Ok(())
 }
 

@@ -78,7 +78,7 @@ pub line_stop-met : (start : Pt) (d : Line) (off sense : ℤ) (c : Line) (stop :
     → line_stop start d off sense c stop ≡ contact_of (line_line d off c stop)
 line_stop-met start d off sense c stop e f = line_stop-answer start d off sense c stop ∙ past_tests (are_parallel d c) (line_behind start (heading sense d.dir) c stop) (line_line d off c stop) e f
 
-inside_point : (p : Pt) → is_in_range p ≡ true → IsPoint p
+pub inside_point : (p : Pt) → is_in_range p ≡ true → IsPoint p
 inside_point p e = record { x = grind (arith, nat_tests); y = grind (arith, nat_tests) }
 
 is_inside : (a b c : Bool) (p : Pt) → (c ≡ true → IsPoint p) → IfOk (answer a b c p) (λ q. IsPoint q)

@@ -1,5 +1,5 @@
 -- Steps end where the program does.
-use Rattle.std.proofs.Common.{◌≡◌, ℕ, ◌+◌, ◌&&◌, nat_lt, not, Bool, true, false, List, [], ◌∷◌, None, Result, Ok, Err, refl, sym, ◌∙◌, subst}
+use Rattle.std.proofs.Common.{◌≡◌, ℕ, ◌+◌, ◌&&◌, nat_lt, not, Bool, true, false, List, [], ◌∷◌, None, Result, Ok, Err, refl, sym, ap, ◌∙◌, subst}
 use Rattle.std.specs.Prelude.{IfOk, if◌then◌else◌}
 use Rattle.std.proofs.lemmas.Result.{IfOk-weaker}
 use Rattle.apt_words.specs.Endings.{is_fini, EndsInFini}
@@ -11,10 +11,8 @@ use Rattle.apt_words.specs.declared.deed.Deed.{Deed}
 use Rattle.apt_words.specs.declared.deed.Deed.TheVariants as deeds
 use Rattle.apt_words.specs.declared.deed.Step.{Step}
 use Rattle.apt_scalar.specs.Meanings.{Names}
-use Rattle.apt_unroll.specs.declared.trace.Unrolled.{Unrolled}
 use Rattle.apt_unroll.specs.Deeds.{deed_of, names_behind}
-use Rattle.apt_unroll.specs.Steps.{AreSteps}
-use Rattle.apt_unroll.specs.Straight.{Steps, most_steps, is_ended, deed_at, or_refused, steps_from, EndsOnce}
+use Rattle.apt_unroll.specs.Straight.{Steps, most_steps, is_ended, deed_at, or_refused, steps_from, steps_of, EndsOnce}
 use Rattle.apt_unroll.proofs.Suits.{is_end, Suits, deed_of-suits}
 
 -- a deed that is not refused: Fini where its statement is FINI, and another only where the program has not ended
@@ -72,5 +70,5 @@ steps_from-ends n ended names (st ∷ next ∷ sts) ends fault =
     others_end ended st.line n (deed_at n ended names st.body) _ (deed_at-last n ended names st.body false ends.0)
     (λ deed. steps_from-ends (n + 1) (is_ended ended deed) (names_behind names deed) (next ∷ sts) ends.1) fault
 
-pub steps-ends : (sts : List Stmt) (u : Unrolled) → AreSteps sts u → EndsInFini sts → u.fault ≡ None → EndsOnce false u.steps.items
-steps-ends sts u are ends fault = subst (EndsOnce false) (sym are.steps) (steps_from-ends 1 false [] sts ends (sym are.fault ∙ fault))
+pub end_once : (sts : List Stmt) (u : Steps) → u ≡ steps_of sts → EndsInFini sts → u.fault ≡ None → EndsOnce false u.steps
+end_once sts u is ends fault = subst (λ u. EndsOnce false u.steps) (sym is) (steps_from-ends 1 false [] sts ends (ap (λ u. u.fault) (sym is) ∙ fault))

@@ -1,5 +1,5 @@
-pub mod Grouped
 pub mod Suits
 pub mod Numbers
+pub mod Building
 pub mod Endings
 mod Worked

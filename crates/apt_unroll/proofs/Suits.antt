@@ -1,30 +1,37 @@
--- What holds of each deed that a statement gives: its numbers are scalars, and it is Fini where the statement is FINI.
-use Rattle.std.proofs.Common.{◌≡◌, ℕ, refl, Option, Some, None, Result, Ok, Err, List, rules}
-use Rattle.std.specs.Prelude.{ℤ, Bool, true, false, IfOk}
+-- What holds of each deed that a statement gives: its numbers are scalars, it is Fini where the statement is FINI, and it is built where the statement is.
+use Rattle.std.proofs.Common.{◌≡◌, ℕ, refl, ◌∙◌, Bool, true, false, Option, Some, None, Result, Ok, Err, List, [], ◌&&◌, not, nat_lt}
+use Rattle.std.specs.Prelude.{ℤ, IsTrue, IfOk, if◌then◌else◌}
+use Rattle.std.proofs.lemmas.Result.{IfOk-weaker}
+use Rattle.apt_words.specs.Built.{is_start_built, is_built, IsBuilt}
 use Rattle.apt_words.specs.Chains.{◌>>=◌}
 use Rattle.apt_words.specs.Endings.{is_fini}
 use Rattle.apt_words.specs.Trees.{Tree}
 use Rattle.apt_words.specs.declared.Case.{Case}
+use Rattle.apt_words.specs.declared.Case.TheVariants as cases
 use Rattle.apt_words.specs.declared.Stop.{Stop}
 use Rattle.apt_words.specs.declared.body.Body.{Body}
 use Rattle.apt_words.specs.declared.body.Body.TheVariants as bodies
 use Rattle.apt_words.specs.declared.deed.Deed.{Deed}
 use Rattle.apt_words.specs.declared.deed.Deed.TheVariants as deeds
 use Rattle.apt_scalar.specs.Scalars.{IsScalar}
-use Rattle.apt_scalar.specs.Meanings.{Names, Parameters, meaning}
+use Rattle.apt_scalar.specs.Meanings.{Names, Parameters}
 use Rattle.apt_scalar.specs.Values.{value_of}
 use Rattle.apt_scalar.proofs.Ranges.{then_holds, value_of-scalar}
-use Rattle.apt_unroll.specs.Deeds.{named, optional, second_surface, with_three, with_place, with_name, with_names, line_xy, of_points, circle_three, start, lone_point, definition, command, defined_name, unless_bound, by_name, deed_of}
+use Rattle.apt_unroll.specs.Deeds.{named, pair, three, four, optional, place, value_and_name, value_and_pair, second_surface, surfaces, lone_point, all_points, by_points_or_centre, circle_three, defined_name, executed, is_parameter, deed_of}
 use Rattle.apt_unroll.specs.Numbers.{IsScalarOrNone, HasScalars}
+use Rattle.apt_unroll.specs.Straight.{most_steps, deed_at}
 
 abbrev pub is_end : Deed → Bool
 is_end deeds.Fini = true
 is_end _ = false
 
 abbrev pub Suits : Body → Deed → Type 0
-Suits body deed = HasScalars deed × (is_end deed ≡ is_fini body)
+Suits body deed = HasScalars deed × (is_end deed ≡ is_fini body) × (IsTrue (is_built body) → IsBuilt deed)
 
--- ---- values and names, one after another
+no : {A : Type 0} → IsTrue false → A
+no built = absurd (cc)
+
+-- ---- arguments
 
 of_value : {B : Type 0} (Q : B → Type 0) (names : Names) (ps : Parameters) (e : Tree) (f : ℤ → Result B Case)
     → ((v : ℤ) → IsScalar v → IfOk (f v) Q) → IfOk (value_of names ps e >>= f) Q
@@ -34,98 +41,134 @@ of_any : {A B : Type 0} (Q : B → Type 0) (r : Result A Case) (f : A → Result
 of_any Q (Ok a) f h = h a
 of_any Q (Err case) f h = tt
 
+abbrev AreThree : ℤ × ℤ × ℤ → Type 0
+AreThree r = IsScalar r.0 × IsScalar r.1 × IsScalar r.2
+
+abbrev AreFour : ℤ × ℤ × ℤ × ℤ → Type 0
+AreFour r = IsScalar r.0 × IsScalar r.1 × IsScalar r.2 × IsScalar r.3
+
+abbrev ArePlace : ℤ × ℤ × Option ℤ → Type 0
+ArePlace r = IsScalar r.0 × IsScalar r.1 × IsScalarOrNone r.2
+
+three-scalars : (names : Names) (ps : Parameters) (x y z : Tree) → IfOk (three names ps x y z) AreThree
+unfolding three
+three-scalars names ps x y z = of_value AreThree names ps x _ (λ x p. of_value AreThree names ps y _ (λ y q. of_value AreThree names ps z _ (λ z r. (p, q, r))))
+
+four-scalars : (names : Names) (ps : Parameters) (x y u v : Tree) → IfOk (four names ps x y u v) AreFour
+unfolding four
+four-scalars names ps x y u v =
+    of_value AreFour names ps x _ (λ x p. of_value AreFour names ps y _ (λ y q. of_value AreFour names ps u _ (λ u r. of_value AreFour names ps v _ (λ v s. (p, q, r, s)))))
+
 optional-scalar : (names : Names) (ps : Parameters) (e : Option Tree) → IfOk (optional names ps e) IsScalarOrNone
 optional-scalar names ps None = tt
 optional-scalar names ps (Some e) = of_value IsScalarOrNone names ps e _ (λ v h. h)
 
-of_three : (Q : Deed → Type 0) (names : Names) (ps : Parameters) (x y z : Tree) (deed : ℤ → ℤ → ℤ → Deed)
-    → ((x y z : ℤ) → IsScalar x → IsScalar y → IsScalar z → Q (deed x y z)) → IfOk (with_three (value_of names ps) x y z deed) Q
-of_three Q names ps x y z deed h =
-    of_value Q names ps x _ (λ a p. of_value Q names ps y _ (λ b q. of_value Q names ps z _ (λ c r. h a b c p q r)))
+place-scalars : (names : Names) (ps : Parameters) (x y : Tree) (z : Option Tree) → IfOk (place names ps x y z) ArePlace
+unfolding place
+place-scalars names ps x y z =
+    of_value ArePlace names ps x _ (λ x p. of_value ArePlace names ps y _ (λ y q.
+    then_holds IsScalarOrNone ArePlace (optional names ps z) _ (optional-scalar names ps z) (λ z r. (p, q, r))))
 
-of_place : (Q : Deed → Type 0) (names : Names) (ps : Parameters) (x y : Tree) (z : Option Tree) (deed : ℤ → ℤ → Option ℤ → Deed)
-    → ((x y : ℤ) (z : Option ℤ) → IsScalar x → IsScalar y → IsScalarOrNone z → Q (deed x y z)) → IfOk (with_place names ps x y z deed) Q
-of_place Q names ps x y z deed h =
-    of_value Q names ps x _ (λ a p. of_value Q names ps y _ (λ b q.
-    then_holds IsScalarOrNone Q (optional names ps z) _ (optional-scalar names ps z) (λ c r. h a b c p q r)))
+value_and_name-scalar : (names : Names) (ps : Parameters) (e : Tree) (a : List ℕ) → IfOk (value_and_name names ps e a) (λ r. IsScalar r.0)
+unfolding value_and_name
+value_and_name-scalar names ps e a = of_value (λ r. IsScalar r.0) names ps e _ (λ v h. of_any (λ r. IsScalar r.0) (named ps a) _ (λ a. h))
 
-of_name : (Q : Deed → Type 0) (ps : Parameters) (n : List ℕ) (deed : List ℕ → Deed)
-    → ((n : List ℕ) → Q (deed n)) → IfOk (with_name (named ps) n deed) Q
-of_name Q ps n deed h = of_any Q (named ps n) _ h
+value_and_pair-scalar : (names : Names) (ps : Parameters) (e : Tree) (a b : List ℕ) → IfOk (value_and_pair names ps e a b) (λ r. IsScalar r.0)
+unfolding value_and_pair
+value_and_pair-scalar names ps e a b =
+    of_value (λ r. IsScalar r.0) names ps e _ (λ v h. of_any (λ r. IsScalar r.0) (named ps a) _ (λ a. of_any (λ r. IsScalar r.0) (named ps b) _ (λ b. h)))
 
-of_names : (Q : Deed → Type 0) (ps : Parameters) (a b : List ℕ) (deed : List ℕ → List ℕ → Deed)
-    → ((a b : List ℕ) → Q (deed a b)) → IfOk (with_names (named ps) a b deed) Q
-of_names Q ps a b deed h = of_any Q (named ps a) _ (λ a. of_any Q (named ps b) _ (λ b. h a b))
+-- the stops of a start-up stay
+second_surface-start : (ps : Parameters) (q : Stop) (other : Option (Stop × List ℕ)) → IfOk (second_surface ps other) (λ r. is_start_built q r ≡ is_start_built q other)
+second_surface-start ps q None = refl
+second_surface-start ps q (Some s) = of_any (λ r. is_start_built q r ≡ is_start_built q (Some s)) (named ps s.1) _ (λ n. refl)
 
--- ---- definitions
-
-line_xy-suits : (names : Names) (ps : Parameters) (n : List ℕ) (x y u v : Tree) → IfOk (line_xy (value_of names ps) n x y u v) (Suits (bodies.LineXy n x y u v))
-line_xy-suits names ps n x y u v =
-    let Q = Suits (bodies.LineXy n x y u v) in
-    of_value Q names ps x _ (λ a p. of_value Q names ps y _ (λ b q. of_value Q names ps u _ (λ c r. of_value Q names ps v _ (λ d s. ((p, q, r, s), refl)))))
-
-of_points-suits : (names : Names) (ps : Parameters) (n : List ℕ) (x y z : Tree) (a b c : Option (List ℕ))
-    → IfOk (of_points (value_of names ps) n x y z a b c) (Suits (bodies.CircleThree n x y z))
-of_points-suits names ps n x y z (Some a) (Some b) (Some c) = (tt, refl)
-of_points-suits names ps n x y z _ _ _ = of_three (Suits (bodies.CircleThree n x y z)) names ps x y z (deeds.CircleXyr n) (λ x y r p q s. ((p, q, s), refl))
-
-circle_three-suits : (names : Names) (ps : Parameters) (n : List ℕ) (x y z : Tree) → IfOk (circle_three names ps n x y z) (Suits (bodies.CircleThree n x y z))
-circle_three-suits names ps n x y z = of_points-suits names ps n x y z (lone_point names ps x) (lone_point names ps y) (lone_point names ps z)
-
-definition-suits : (names : Names) (ps : Parameters) (body : Body) → IfOk (definition names ps body) (Suits body)
-definition-suits names ps (bodies.Assign n e) = of_value (Suits (bodies.Assign n e)) names ps e _ (λ v h. (h, refl))
-definition-suits names ps (bodies.PointXy n x y z) = of_place (Suits (bodies.PointXy n x y z)) names ps x y z (deeds.PointXy n) (λ x y z p q r. ((p, q, r), refl))
-definition-suits names ps (bodies.PointLines n a b) = of_names (Suits (bodies.PointLines n a b)) ps a b (deeds.PointLines n) (λ a b. (tt, refl))
-definition-suits names ps (bodies.PointPick n k a b) = of_names (Suits (bodies.PointPick n k a b)) ps a b (deeds.PointPick n k) (λ a b. (tt, refl))
-definition-suits names ps (bodies.PointCenter n c) = of_name (Suits (bodies.PointCenter n c)) ps c (deeds.PointCenter n) (λ c. (tt, refl))
-definition-suits names ps (bodies.LineXy n x y u v) = line_xy-suits names ps n x y u v
-definition-suits names ps (bodies.LinePoints n p q) = of_names (Suits (bodies.LinePoints n p q)) ps p q (deeds.LinePoints n) (λ p q. (tt, refl))
-definition-suits names ps (bodies.LinePar n p l) = of_names (Suits (bodies.LinePar n p l)) ps p l (deeds.LinePar n) (λ p l. (tt, refl))
-definition-suits names ps (bodies.LinePerp n p l) = of_names (Suits (bodies.LinePerp n p l)) ps p l (deeds.LinePerp n) (λ p l. (tt, refl))
-definition-suits names ps (bodies.LineAt n l k e) =
-    of_value (Suits (bodies.LineAt n l k e)) names ps e _ (λ v h. of_name (Suits (bodies.LineAt n l k e)) ps l (λ l. deeds.LineAt n l k v) (λ l. (h, refl)))
-definition-suits names ps (bodies.LineTan n p s c) = of_names (Suits (bodies.LineTan n p s c)) ps p c (λ p c. deeds.LineTan n p s c) (λ p c. (tt, refl))
-definition-suits names ps (bodies.LineTwo n s c k d) = of_names (Suits (bodies.LineTwo n s c k d)) ps c d (λ c d. deeds.LineTwo n s c k d) (λ c d. (tt, refl))
-definition-suits names ps (bodies.CircleThree n x y z) = circle_three-suits names ps n x y z
-definition-suits names ps (bodies.CircleRadius n p e) =
-    of_value (Suits (bodies.CircleRadius n p e)) names ps e _ (λ v h. of_name (Suits (bodies.CircleRadius n p e)) ps p (λ p. deeds.CircleRadius n p v) (λ p. (h, refl)))
-definition-suits names ps (bodies.CircleTan n p l) = of_names (Suits (bodies.CircleTan n p l)) ps p l (deeds.CircleTan n) (λ p l. (tt, refl))
-definition-suits names ps (bodies.CircleThrough n p q) = of_names (Suits (bodies.CircleThrough n p q)) ps p q (deeds.CircleThrough n) (λ p q. (tt, refl))
-definition-suits names ps (bodies.CircleCorner n j a k b e) =
-    of_value (Suits (bodies.CircleCorner n j a k b e)) names ps e _
-    (λ v h. of_names (Suits (bodies.CircleCorner n j a k b e)) ps a b (λ a b. deeds.CircleCorner n j a k b v) (λ a b. (h, refl)))
-definition-suits names ps _ = tt
-
--- ---- commands
-
-start-suits : (ps : Parameters) (q : Stop) (s : List ℕ) (other : Option (Stop × List ℕ)) → IfOk (start ps q s other) (Suits (bodies.GoStart q s other))
-start-suits ps q s other =
-    let Q = Suits (bodies.GoStart q s other) in
-    of_any Q (named ps s) _ (λ s. of_any Q (second_surface ps other) _ (λ other. (tt, refl)))
-
-command-suits : (names : Names) (ps : Parameters) (body : Body) → IfOk (command names ps body) (Suits body)
-command-suits names ps (bodies.Cutter e) = of_value (Suits (bodies.Cutter e)) names ps e _ (λ v h. (h, refl))
-command-suits names ps (bodies.Intol e) = of_value (Suits (bodies.Intol e)) names ps e _ (λ v h. (h, refl))
-command-suits names ps (bodies.Outtol e) = of_value (Suits (bodies.Outtol e)) names ps e _ (λ v h. (h, refl))
-command-suits names ps (bodies.FromXy x y z) = of_place (Suits (bodies.FromXy x y z)) names ps x y z deeds.FromXy (λ x y z p q r. ((p, q, r), refl))
-command-suits names ps (bodies.FromPoint p) = of_name (Suits (bodies.FromPoint p)) ps p deeds.FromPoint (λ p. (tt, refl))
-command-suits names ps (bodies.GotoXy x y z) = of_place (Suits (bodies.GotoXy x y z)) names ps x y z deeds.GotoXy (λ x y z p q r. ((p, q, r), refl))
-command-suits names ps (bodies.GotoPoint p) = of_name (Suits (bodies.GotoPoint p)) ps p deeds.GotoPoint (λ p. (tt, refl))
-command-suits names ps (bodies.Godlta x y z) = of_three (Suits (bodies.Godlta x y z)) names ps x y z deeds.Godlta (λ x y z p q r. ((p, q, r), refl))
-command-suits names ps (bodies.GoStart q s other) = start-suits ps q s other
-command-suits names ps (bodies.Contour side turn d q c) =
-    of_names (Suits (bodies.Contour side turn d q c)) ps d c (λ d c. deeds.Contour side turn d q c) (λ d c. (tt, refl))
-command-suits names ps (bodies.Fedrat e) = of_value (Suits (bodies.Fedrat e)) names ps e _ (λ v h. (h, refl))
-command-suits names ps (bodies.Spindl e turn) = of_value (Suits (bodies.Spindl e turn)) names ps e _ (λ v h. (h, refl))
-command-suits names ps (bodies.Loadtl e) = of_value (Suits (bodies.Loadtl e)) names ps e _ (λ v h. (h, refl))
-command-suits names ps _ = search rules
+surfaces-start : (ps : Parameters) (q : Stop) (s : List ℕ) (other : Option (Stop × List ℕ)) → IfOk (surfaces ps s other) (λ r. is_start_built q r.1 ≡ is_start_built q other)
+unfolding surfaces
+surfaces-start ps q s other =
+    of_any (λ r. is_start_built q r.1 ≡ is_start_built q other) (named ps s) _
+    (λ s. then_holds (λ r. is_start_built q r ≡ is_start_built q other) (λ r. is_start_built q r.1 ≡ is_start_built q other) (second_surface ps other) _ (second_surface-start ps q other) (λ other same. same))
 
 -- ---- statements
 
-by_name-suits : (names : Names) (ps : Parameters) (body : Body) (defined : Option (List ℕ)) → IfOk (by_name names ps body defined) (Suits body)
-by_name-suits names ps body None = command-suits names ps body
-by_name-suits names ps body (Some n) = of_any (Suits body) (unless_bound n (meaning ps n)) _ (λ n. definition-suits names ps body)
+by_points-suits : (n : List ℕ) (x y z : Tree) (points : Option (List ℕ × List ℕ × List ℕ)) (numbers : Result (ℤ × ℤ × ℤ) Case)
+    → IfOk numbers AreThree → IfOk (by_points_or_centre n points numbers) (Suits (bodies.CircleThree n x y z))
+by_points-suits n x y z (Some points) numbers are = (tt, refl, no)
+by_points-suits n x y z None numbers are = then_holds AreThree (Suits (bodies.CircleThree n x y z)) numbers _ are (λ r h. (h, refl, no))
+
+circle_three-suits : (names : Names) (ps : Parameters) (n : List ℕ) (x y z : Tree) → IfOk (circle_three names ps n x y z) (Suits (bodies.CircleThree n x y z))
+unfolding circle_three
+circle_three-suits names ps n x y z =
+    by_points-suits n x y z (all_points (lone_point names ps x) (lone_point names ps y) (lone_point names ps z)) (three names ps x y z) (three-scalars names ps x y z)
+
+executed-suits : (names : Names) (ps : Parameters) (body : Body) → IfOk (executed names ps body) (Suits body)
+unfolding executed
+executed-suits names ps (bodies.Partno text) = (tt, refl, λ _. tt)
+executed-suits names ps (bodies.Remark text) = (tt, refl, λ _. tt)
+executed-suits names ps (bodies.Units units) = (tt, refl, λ _. tt)
+executed-suits names ps bodies.Clprnt = (tt, refl, λ _. tt)
+executed-suits names ps bodies.Nopost = (tt, refl, λ _. tt)
+executed-suits names ps (bodies.Machin es) = (tt, refl, λ _. tt)
+executed-suits names ps (bodies.Assign n e) = of_value (Suits (bodies.Assign n e)) names ps e _ (λ v h. (h, refl, λ _. tt))
+executed-suits names ps (bodies.PointXy n x y z) = then_holds ArePlace (Suits (bodies.PointXy n x y z)) (place names ps x y z) _ (place-scalars names ps x y z) (λ r h. (h, refl, no))
+executed-suits names ps (bodies.PointLines n a b) = of_any (Suits (bodies.PointLines n a b)) (pair ps a b) _ (λ r. (tt, refl, no))
+executed-suits names ps (bodies.PointPick n k a b) = of_any (Suits (bodies.PointPick n k a b)) (pair ps a b) _ (λ r. (tt, refl, no))
+executed-suits names ps (bodies.PointCenter n c) = of_any (Suits (bodies.PointCenter n c)) (named ps c) _ (λ c. (tt, refl, no))
+executed-suits names ps (bodies.LineXy n x y u v) = then_holds AreFour (Suits (bodies.LineXy n x y u v)) (four names ps x y u v) _ (four-scalars names ps x y u v) (λ r h. (h, refl, λ _. tt))
+executed-suits names ps (bodies.LinePoints n p q) = of_any (Suits (bodies.LinePoints n p q)) (pair ps p q) _ (λ r. (tt, refl, no))
+executed-suits names ps (bodies.LinePar n p l) = of_any (Suits (bodies.LinePar n p l)) (pair ps p l) _ (λ r. (tt, refl, no))
+executed-suits names ps (bodies.LinePerp n p l) = of_any (Suits (bodies.LinePerp n p l)) (pair ps p l) _ (λ r. (tt, refl, no))
+executed-suits names ps (bodies.LineAt n l k e) = then_holds (λ r. IsScalar r.0) (Suits (bodies.LineAt n l k e)) (value_and_name names ps e l) _ (value_and_name-scalar names ps e l) (λ r h. (h, refl, no))
+executed-suits names ps (bodies.LineTan n p h c) = of_any (Suits (bodies.LineTan n p h c)) (pair ps p c) _ (λ r. (tt, refl, no))
+executed-suits names ps (bodies.LineTwo n h c k d) = of_any (Suits (bodies.LineTwo n h c k d)) (pair ps c d) _ (λ r. (tt, refl, no))
+executed-suits names ps (bodies.CircleThree n x y z) = circle_three-suits names ps n x y z
+executed-suits names ps (bodies.CircleRadius n p e) = then_holds (λ r. IsScalar r.0) (Suits (bodies.CircleRadius n p e)) (value_and_name names ps e p) _ (value_and_name-scalar names ps e p) (λ r h. (h, refl, no))
+executed-suits names ps (bodies.CircleTan n p l) = of_any (Suits (bodies.CircleTan n p l)) (pair ps p l) _ (λ r. (tt, refl, no))
+executed-suits names ps (bodies.CircleThrough n p q) = of_any (Suits (bodies.CircleThrough n p q)) (pair ps p q) _ (λ r. (tt, refl, no))
+executed-suits names ps (bodies.CircleCorner n j a k b e) = then_holds (λ r. IsScalar r.0) (Suits (bodies.CircleCorner n j a k b e)) (value_and_pair names ps e a b) _ (value_and_pair-scalar names ps e a b) (λ r h. (h, refl, no))
+executed-suits names ps (bodies.Cutter e) = of_value (Suits (bodies.Cutter e)) names ps e _ (λ v h. (h, refl, λ _. tt))
+executed-suits names ps (bodies.Intol e) = of_value (Suits (bodies.Intol e)) names ps e _ (λ v h. (h, refl, λ _. tt))
+executed-suits names ps (bodies.Outtol e) = of_value (Suits (bodies.Outtol e)) names ps e _ (λ v h. (h, refl, λ _. tt))
+executed-suits names ps (bodies.Tool side) = (tt, refl, λ h. h)
+executed-suits names ps (bodies.FromXy x y z) = then_holds ArePlace (Suits (bodies.FromXy x y z)) (place names ps x y z) _ (place-scalars names ps x y z) (λ r h. (h, refl, λ _. tt))
+executed-suits names ps (bodies.FromPoint p) = of_any (Suits (bodies.FromPoint p)) (named ps p) _ (λ p. (tt, refl, no))
+executed-suits names ps (bodies.GotoXy x y z) = then_holds ArePlace (Suits (bodies.GotoXy x y z)) (place names ps x y z) _ (place-scalars names ps x y z) (λ r h. (h, refl, λ _. tt))
+executed-suits names ps (bodies.GotoPoint p) = of_any (Suits (bodies.GotoPoint p)) (named ps p) _ (λ p. (tt, refl, no))
+executed-suits names ps (bodies.Godlta x y z) = then_holds AreThree (Suits (bodies.Godlta x y z)) (three names ps x y z) _ (three-scalars names ps x y z) (λ r h. (h, refl, λ _. tt))
+executed-suits names ps (bodies.GoStart q s other) = then_holds (λ r. is_start_built q r.1 ≡ is_start_built q other) (Suits (bodies.GoStart q s other)) (surfaces ps s other) _ (surfaces-start ps q s other) (λ r same. (tt, refl, λ h. same ∙ h))
+executed-suits names ps (bodies.Contour side go d q c) = of_any (Suits (bodies.Contour side go d q c)) (pair ps d c) _ (λ r. (tt, refl, λ h. h))
+executed-suits names ps bodies.Rapid = (tt, refl, λ _. tt)
+executed-suits names ps bodies.Halt = (tt, refl, λ _. tt)
+executed-suits names ps bodies.OptHalt = (tt, refl, λ _. tt)
+executed-suits names ps bodies.EndWord = (tt, refl, λ _. tt)
+executed-suits names ps bodies.Fini = (tt, refl, λ _. tt)
+executed-suits names ps (bodies.Fedrat e) = of_value (Suits (bodies.Fedrat e)) names ps e _ (λ v h. (h, refl, λ _. tt))
+executed-suits names ps (bodies.Spindl e turn) = of_value (Suits (bodies.Spindl e turn)) names ps e _ (λ v h. (h, refl, no))
+executed-suits names ps bodies.SpindlOff = (tt, refl, no)
+executed-suits names ps (bodies.Coolnt c) = (tt, refl, no)
+executed-suits names ps (bodies.Loadtl e) = of_value (Suits (bodies.Loadtl e)) names ps e _ (λ v h. (h, refl, no))
+executed-suits names ps (bodies.Macro m parameters) = tt
+executed-suits names ps bodies.Termac = tt
+executed-suits names ps (bodies.Call m args) = tt
+executed-suits names ps bodies.Loopst = tt
+executed-suits names ps bodies.Loopnd = tt
+executed-suits names ps (bodies.Jumpto l) = tt
+executed-suits names ps (bodies.If e a b c) = tt
+
+-- a refusal before a result
+unless : (Q : Deed → Type 0) (early : Bool) (case : Case) (deed : Result Deed Case) → IfOk deed Q → IfOk (if early then Err case else deed) Q
+unless Q true case deed h = tt
+unless Q false case deed h = h
 
 pub deed_of-suits : (names : Names) (ps : Parameters) (body : Body) → IfOk (deed_of names ps body) (Suits body)
 unfolding deed_of
-deed_of-suits names ps body = by_name-suits names ps body (defined_name body)
+deed_of-suits names ps body = unless (Suits body) (is_parameter ps (defined_name body)) cases.BadArgs (executed names ps body) (executed-suits names ps body)
+
+-- a statement that is built gives a deed that is built
+pub deed_of-built : (names : Names) (ps : Parameters) (body : Body) → IsTrue (is_built body) → IfOk (deed_of names ps body) IsBuilt
+deed_of-built names ps body built = IfOk-weaker (deed_of names ps body) (Suits body) IsBuilt (λ deed suits. suits.2 built) (deed_of-suits names ps body)
+
+-- what holds of each deed that is not refused
+pub deed_at-has : (P : Deed → Type 0) (n : ℕ) (ended : Bool) (names : Names) (body : Body) → IfOk (deed_of names [] body) P → IfOk (deed_at n ended names body) P
+deed_at-has P n ended names body h =
+    unless P (nat_lt most_steps n) cases.Budget _ (unless P (ended && not (is_fini body)) cases.AfterEnd (deed_of names [] body) h)

@@ -1,9 +1,7 @@
 -- What a statement does where it is executed: its expressions by their values, its names by what they stand for.
-use Rattle.std.specs.Prelude.{ℕ, ℤ, nat_eq, List, Option, Some, None, Result, Ok, Err}
-use Rattle.std.specs.Cmp.Lexicographic.{pointwise}
-use Rattle.indexmap.specs.IndexMap.{insert_entry}
+use Rattle.std.specs.Prelude.{ℕ, ℤ, Bool, false, List, Option, Some, None, is_some, Result, Ok, Err, if◌then◌else◌}
 use Rattle.apt_words.specs.Chains.{◌>>=◌}
-use Rattle.apt_words.specs.Trees.{Tree, Name}
+use Rattle.apt_words.specs.Trees.{Tree, Num, Name, Neg, Bin, Root, Abs}
 use Rattle.apt_words.specs.declared.Case.{Case}
 use Rattle.apt_words.specs.declared.Case.TheVariants as cases
 use Rattle.apt_words.specs.declared.Stop.{Stop}
@@ -16,18 +14,10 @@ use Rattle.apt_scalar.specs.declared.names.Value.TheVariants as values
 use Rattle.apt_scalar.specs.declared.names.Kind.TheVariants as kinds
 use Rattle.apt_scalar.specs.declared.names.Bound.{Bound}
 use Rattle.apt_scalar.specs.declared.names.Bound.TheVariants as bounds
-use Rattle.apt_scalar.specs.Meanings.{Names, Parameters, meaning}
+use Rattle.apt_scalar.specs.Meanings.{Names, Parameters, meaning, with_entry}
 use Rattle.apt_scalar.specs.Values.{value_of}
 
--- ---- names
-
--- a name that a statement defines is no parameter of the running macro
-abbrev pub unless_bound : List ℕ → Option Bound → Result (List ℕ) Case
-unless_bound n None = Ok n
-unless_bound n (Some b) = Err cases.BadArgs
-
-abbrev pub defining : Parameters → List ℕ → Result (List ℕ) Case
-defining ps n = unless_bound n (meaning ps n)
+-- ---- arguments, from left to right
 
 -- a name of a figure: a parameter stands for another name, and a number for none
 abbrev pub standing_for : List ℕ → Option Bound → Result (List ℕ) Case
@@ -38,132 +28,104 @@ standing_for n (Some (bounds.Scalar v)) = Err cases.WrongKind
 abbrev pub named : Parameters → List ℕ → Result (List ℕ) Case
 named ps n = standing_for n (meaning ps n)
 
--- ---- the three arguments of a circle: points where each is a lone name whose latest value is a point
+unfoldable pub pair : Parameters → List ℕ → List ℕ → Result (List ℕ × List ℕ) Case
+pair ps a b = do
+  a ← named ps a
+  b ← named ps b
+  Ok (a, b)
 
-abbrev pub point_named : Names → List ℕ → Option Value → Option (List ℕ)
-point_named names n (Some (values.Shape kinds.Point)) = Some n
-point_named names n _ = None
+unfoldable pub three : Names → Parameters → Tree → Tree → Tree → Result (ℤ × ℤ × ℤ) Case
+three names ps x y z = do
+  x ← value_of names ps x
+  y ← value_of names ps y
+  z ← value_of names ps z
+  Ok (x, y, z)
 
-abbrev pub point_in : Names → Result (List ℕ) Case → Option (List ℕ)
-point_in names (Ok n) = point_named names n (meaning names n)
-point_in names (Err case) = None
-
-abbrev pub lone_point : Names → Parameters → Tree → Option (List ℕ)
-lone_point names ps (Name n) = point_in names (named ps n)
-lone_point names ps _ = None
-
--- ---- arguments that may be left out
+unfoldable pub four : Names → Parameters → Tree → Tree → Tree → Tree → Result (ℤ × ℤ × ℤ × ℤ) Case
+four names ps x y u v = do
+  x ← value_of names ps x
+  y ← value_of names ps y
+  u ← value_of names ps u
+  v ← value_of names ps v
+  Ok (x, y, u, v)
 
 abbrev pub optional : Names → Parameters → Option Tree → Result (Option ℤ) Case
 optional names ps None = Ok None
 optional names ps (Some e) = value_of names ps e >>= λ v. Ok (Some v)
 
-abbrev pub surface : Parameters → Stop × List ℕ → Result (Stop × List ℕ) Case
-surface ps (q, s) = named ps s >>= λ s. Ok (q, s)
+unfoldable pub place : Names → Parameters → Tree → Tree → Option Tree → Result (ℤ × ℤ × Option ℤ) Case
+place names ps x y z = do
+  x ← value_of names ps x
+  y ← value_of names ps y
+  z ← optional names ps z
+  Ok (x, y, z)
+
+-- a value comes before names
+unfoldable pub value_and_name : Names → Parameters → Tree → List ℕ → Result (ℤ × List ℕ) Case
+value_and_name names ps e a = do
+  v ← value_of names ps e
+  a ← named ps a
+  Ok (v, a)
+
+unfoldable pub value_and_pair : Names → Parameters → Tree → List ℕ → List ℕ → Result (ℤ × List ℕ × List ℕ) Case
+value_and_pair names ps e a b = do
+  v ← value_of names ps e
+  a ← named ps a
+  b ← named ps b
+  Ok (v, a, b)
 
 abbrev pub second_surface : Parameters → Option (Stop × List ℕ) → Result (Option (Stop × List ℕ)) Case
 second_surface ps None = Ok None
-second_surface ps (Some s) = surface ps s >>= λ s. Ok (Some s)
+second_surface ps (Some s) = named ps s.1 >>= λ n. Ok (Some (s.0, n))
+
+unfoldable pub surfaces : Parameters → List ℕ → Option (Stop × List ℕ) → Result (List ℕ × Option (Stop × List ℕ)) Case
+surfaces ps s other = do
+  s ← named ps s
+  other ← second_surface ps other
+  Ok (s, other)
+
+-- ---- the three arguments of a circle: points where each is a lone name whose latest value is a point
+
+abbrev pub point_named : List ℕ → Option Value → Option (List ℕ)
+point_named n None = None
+point_named n (Some (values.Scalar v)) = None
+point_named n (Some (values.Shape kinds.Point)) = Some n
+point_named n (Some (values.Shape kinds.Line)) = None
+point_named n (Some (values.Shape kinds.Circle)) = None
+
+abbrev pub point_in : Names → Result (List ℕ) Case → Option (List ℕ)
+point_in names (Ok n) = point_named n (meaning names n)
+point_in names (Err case) = None
+
+abbrev pub lone_point : Names → Parameters → Tree → Option (List ℕ)
+lone_point names ps (Num v) = None
+lone_point names ps (Name n) = point_in names (named ps n)
+lone_point names ps (Neg t) = None
+lone_point names ps (Bin op a b) = None
+lone_point names ps (Root t) = None
+lone_point names ps (Abs t) = None
+
+abbrev pub all_points : Option (List ℕ) → Option (List ℕ) → Option (List ℕ) → Option (List ℕ × List ℕ × List ℕ)
+all_points (Some a) (Some b) (Some c) = Some (a, b, c)
+all_points _ _ _ = None
+
+abbrev pub by_points_or_centre : List ℕ → Option (List ℕ × List ℕ × List ℕ) → Result (ℤ × ℤ × ℤ) Case → Result Deed Case
+by_points_or_centre n (Some points) numbers = Ok (deeds.CirclePoints n points.0 points.1 points.2)
+by_points_or_centre n None numbers = numbers >>= λ r. Ok (deeds.CircleXyr n r.0 r.1 r.2)
+
+unfoldable pub circle_three : Names → Parameters → List ℕ → Tree → Tree → Tree → Result Deed Case
+circle_three names ps n x y z = by_points_or_centre n (all_points (lone_point names ps x) (lone_point names ps y) (lone_point names ps z)) (three names ps x y z)
 
 -- ---- statements
 
--- values and names of the statement that is executed
-abbrev pub Values : Type 0
-Values = Tree → Result ℤ Case
-
-abbrev pub Figures : Type 0
-Figures = List ℕ → Result (List ℕ) Case
-
-abbrev pub with_value : Values → Tree → (ℤ → Deed) → Result Deed Case
-with_value value e deed = value e >>= λ v. Ok (deed v)
-
-abbrev pub with_three : Values → Tree → Tree → Tree → (ℤ → ℤ → ℤ → Deed) → Result Deed Case
-with_three value x y z deed = value x >>= λ x. value y >>= λ y. value z >>= λ z. Ok (deed x y z)
-
-abbrev pub with_place : Names → Parameters → Tree → Tree → Option Tree → (ℤ → ℤ → Option ℤ → Deed) → Result Deed Case
-with_place names ps x y z deed = value_of names ps x >>= λ x. value_of names ps y >>= λ y. optional names ps z >>= λ z. Ok (deed x y z)
-
-abbrev pub with_name : Figures → List ℕ → (List ℕ → Deed) → Result Deed Case
-with_name name s deed = name s >>= λ s. Ok (deed s)
-
-abbrev pub with_names : Figures → List ℕ → List ℕ → (List ℕ → List ℕ → Deed) → Result Deed Case
-with_names name a b deed = name a >>= λ a. name b >>= λ b. Ok (deed a b)
-
--- the values of a line through two points
-abbrev pub line_xy : Values → List ℕ → Tree → Tree → Tree → Tree → Result Deed Case
-line_xy value n x y u v = value x >>= λ x. value y >>= λ y. value u >>= λ u. value v >>= λ v. Ok (deeds.LineXy n x y u v)
-
-abbrev pub of_points : Values → List ℕ → Tree → Tree → Tree → Option (List ℕ) → Option (List ℕ) → Option (List ℕ) → Result Deed Case
-of_points value n x y z (Some a) (Some b) (Some c) = Ok (deeds.CirclePoints n a b c)
-of_points value n x y z _ _ _ = with_three value x y z (deeds.CircleXyr n)
-
-abbrev pub circle_three : Names → Parameters → List ℕ → Tree → Tree → Tree → Result Deed Case
-circle_three names ps n x y z = of_points (value_of names ps) n x y z (lone_point names ps x) (lone_point names ps y) (lone_point names ps z)
-
-abbrev pub start : Parameters → Stop → List ℕ → Option (Stop × List ℕ) → Result Deed Case
-start ps q s other = named ps s >>= λ s. second_surface ps other >>= λ other. Ok (deeds.GoStart q s other)
-
--- the values first, from left to right, and then the names
-abbrev pub definition : Names → Parameters → Body → Result Deed Case
-definition names ps (bodies.Assign n e) = with_value (value_of names ps) e (deeds.Assign n)
-definition names ps (bodies.PointXy n x y z) = with_place names ps x y z (deeds.PointXy n)
-definition names ps (bodies.PointLines n a b) = with_names (named ps) a b (deeds.PointLines n)
-definition names ps (bodies.PointPick n k a b) = with_names (named ps) a b (deeds.PointPick n k)
-definition names ps (bodies.PointCenter n c) = with_name (named ps) c (deeds.PointCenter n)
-definition names ps (bodies.LineXy n x y u v) = line_xy (value_of names ps) n x y u v
-definition names ps (bodies.LinePoints n p q) = with_names (named ps) p q (deeds.LinePoints n)
-definition names ps (bodies.LinePar n p l) = with_names (named ps) p l (deeds.LinePar n)
-definition names ps (bodies.LinePerp n p l) = with_names (named ps) p l (deeds.LinePerp n)
-definition names ps (bodies.LineAt n l k e) = value_of names ps e >>= λ v. with_name (named ps) l (λ l. deeds.LineAt n l k v)
-definition names ps (bodies.LineTan n p h c) = with_names (named ps) p c (λ p c. deeds.LineTan n p h c)
-definition names ps (bodies.LineTwo n h c k d) = with_names (named ps) c d (λ c d. deeds.LineTwo n h c k d)
-definition names ps (bodies.CircleThree n x y z) = circle_three names ps n x y z
-definition names ps (bodies.CircleRadius n p e) = value_of names ps e >>= λ v. with_name (named ps) p (λ p. deeds.CircleRadius n p v)
-definition names ps (bodies.CircleTan n p l) = with_names (named ps) p l (deeds.CircleTan n)
-definition names ps (bodies.CircleThrough n p q) = with_names (named ps) p q (deeds.CircleThrough n)
-definition names ps (bodies.CircleCorner n j a k b e) = value_of names ps e >>= λ v. with_names (named ps) a b (λ a b. deeds.CircleCorner n j a k b v)
-definition names ps body = Err cases.BadArgs
-
--- a statement that defines no name
-abbrev pub command : Names → Parameters → Body → Result Deed Case
-command names ps (bodies.Partno text) = Ok (deeds.Partno text)
-command names ps (bodies.Remark text) = Ok (deeds.Remark text)
-command names ps (bodies.Units units) = Ok (deeds.Units units)
-command names ps bodies.Clprnt = Ok deeds.Clprnt
-command names ps bodies.Nopost = Ok deeds.Nopost
-command names ps (bodies.Machin es) = Ok deeds.Machin
-command names ps (bodies.Cutter e) = with_value (value_of names ps) e deeds.Cutter
-command names ps (bodies.Intol e) = with_value (value_of names ps) e deeds.Intol
-command names ps (bodies.Outtol e) = with_value (value_of names ps) e deeds.Outtol
-command names ps (bodies.Tool side) = Ok (deeds.Tool side)
-command names ps (bodies.FromXy x y z) = with_place names ps x y z deeds.FromXy
-command names ps (bodies.FromPoint p) = with_name (named ps) p deeds.FromPoint
-command names ps (bodies.GotoXy x y z) = with_place names ps x y z deeds.GotoXy
-command names ps (bodies.GotoPoint p) = with_name (named ps) p deeds.GotoPoint
-command names ps (bodies.Godlta x y z) = with_three (value_of names ps) x y z deeds.Godlta
-command names ps (bodies.GoStart q s other) = start ps q s other
-command names ps (bodies.Contour side turn d q c) = with_names (named ps) d c (λ d c. deeds.Contour side turn d q c)
-command names ps bodies.Rapid = Ok deeds.Rapid
-command names ps bodies.Halt = Ok deeds.Halt
-command names ps bodies.OptHalt = Ok deeds.OptHalt
-command names ps bodies.EndWord = Ok deeds.EndWord
-command names ps bodies.Fini = Ok deeds.Fini
-command names ps (bodies.Fedrat e) = with_value (value_of names ps) e deeds.Fedrat
-command names ps (bodies.Spindl e turn) = with_value (value_of names ps) e (λ v. deeds.Spindl v turn)
-command names ps bodies.SpindlOff = Ok deeds.SpindlOff
-command names ps (bodies.Coolnt c) = Ok (deeds.Coolnt c)
-command names ps (bodies.Loadtl e) = with_value (value_of names ps) e deeds.Loadtl
-command names ps (bodies.Macro m parameters) = Ok deeds.Macro
-command names ps bodies.Termac = Ok deeds.Termac
-command names ps (bodies.Call m args) = Ok deeds.Call
-command names ps bodies.Loopst = Ok deeds.Loopst
-command names ps bodies.Loopnd = Ok deeds.Loopnd
-command names ps (bodies.Jumpto l) = Ok deeds.Jumpto
-command names ps (bodies.If e a b c) = Ok deeds.If
-command names ps body = Err cases.BadArgs
-
 -- the name that a statement defines
 abbrev pub defined_name : Body → Option (List ℕ)
+defined_name (bodies.Partno text) = None
+defined_name (bodies.Remark text) = None
+defined_name (bodies.Units units) = None
+defined_name bodies.Clprnt = None
+defined_name bodies.Nopost = None
+defined_name (bodies.Machin es) = None
 defined_name (bodies.Assign n e) = Some n
 defined_name (bodies.PointXy n x y z) = Some n
 defined_name (bodies.PointLines n a b) = Some n
@@ -181,18 +143,106 @@ defined_name (bodies.CircleRadius n p e) = Some n
 defined_name (bodies.CircleTan n p l) = Some n
 defined_name (bodies.CircleThrough n p q) = Some n
 defined_name (bodies.CircleCorner n j a k b e) = Some n
-defined_name _ = None
+defined_name (bodies.Cutter e) = None
+defined_name (bodies.Intol e) = None
+defined_name (bodies.Outtol e) = None
+defined_name (bodies.Tool side) = None
+defined_name (bodies.FromXy x y z) = None
+defined_name (bodies.FromPoint p) = None
+defined_name (bodies.GotoXy x y z) = None
+defined_name (bodies.GotoPoint p) = None
+defined_name (bodies.Godlta x y z) = None
+defined_name (bodies.GoStart q s other) = None
+defined_name (bodies.Contour side go d q c) = None
+defined_name bodies.Rapid = None
+defined_name bodies.Halt = None
+defined_name bodies.OptHalt = None
+defined_name bodies.EndWord = None
+defined_name bodies.Fini = None
+defined_name (bodies.Fedrat e) = None
+defined_name (bodies.Spindl e turn) = None
+defined_name bodies.SpindlOff = None
+defined_name (bodies.Coolnt c) = None
+defined_name (bodies.Loadtl e) = None
+defined_name (bodies.Macro m parameters) = None
+defined_name bodies.Termac = None
+defined_name (bodies.Call m args) = None
+defined_name bodies.Loopst = None
+defined_name bodies.Loopnd = None
+defined_name (bodies.Jumpto l) = None
+defined_name (bodies.If e a b c) = None
 
-abbrev pub by_name : Names → Parameters → Body → Option (List ℕ) → Result Deed Case
-by_name names ps body None = command names ps body
-by_name names ps body (Some n) = defining ps n >>= λ n. definition names ps body
+-- the macros, loops and jumps are not built yet
+unfoldable pub executed : Names → Parameters → Body → Result Deed Case
+executed names ps (bodies.Partno text) = Ok (deeds.Partno text)
+executed names ps (bodies.Remark text) = Ok (deeds.Remark text)
+executed names ps (bodies.Units units) = Ok (deeds.Units units)
+executed names ps bodies.Clprnt = Ok deeds.Clprnt
+executed names ps bodies.Nopost = Ok deeds.Nopost
+executed names ps (bodies.Machin es) = Ok deeds.Machin
+executed names ps (bodies.Assign n e) = value_of names ps e >>= λ v. Ok (deeds.Assign n v)
+executed names ps (bodies.PointXy n x y z) = place names ps x y z >>= λ r. Ok (deeds.PointXy n r.0 r.1 r.2)
+executed names ps (bodies.PointLines n a b) = pair ps a b >>= λ r. Ok (deeds.PointLines n r.0 r.1)
+executed names ps (bodies.PointPick n k a b) = pair ps a b >>= λ r. Ok (deeds.PointPick n k r.0 r.1)
+executed names ps (bodies.PointCenter n c) = named ps c >>= λ c. Ok (deeds.PointCenter n c)
+executed names ps (bodies.LineXy n x y u v) = four names ps x y u v >>= λ r. Ok (deeds.LineXy n r.0 r.1 r.2 r.3)
+executed names ps (bodies.LinePoints n p q) = pair ps p q >>= λ r. Ok (deeds.LinePoints n r.0 r.1)
+executed names ps (bodies.LinePar n p l) = pair ps p l >>= λ r. Ok (deeds.LinePar n r.0 r.1)
+executed names ps (bodies.LinePerp n p l) = pair ps p l >>= λ r. Ok (deeds.LinePerp n r.0 r.1)
+executed names ps (bodies.LineAt n l k e) = value_and_name names ps e l >>= λ r. Ok (deeds.LineAt n r.1 k r.0)
+executed names ps (bodies.LineTan n p h c) = pair ps p c >>= λ r. Ok (deeds.LineTan n r.0 h r.1)
+executed names ps (bodies.LineTwo n h c k d) = pair ps c d >>= λ r. Ok (deeds.LineTwo n h r.0 k r.1)
+executed names ps (bodies.CircleThree n x y z) = circle_three names ps n x y z
+executed names ps (bodies.CircleRadius n p e) = value_and_name names ps e p >>= λ r. Ok (deeds.CircleRadius n r.1 r.0)
+executed names ps (bodies.CircleTan n p l) = pair ps p l >>= λ r. Ok (deeds.CircleTan n r.0 r.1)
+executed names ps (bodies.CircleThrough n p q) = pair ps p q >>= λ r. Ok (deeds.CircleThrough n r.0 r.1)
+executed names ps (bodies.CircleCorner n j a k b e) = value_and_pair names ps e a b >>= λ r. Ok (deeds.CircleCorner n j r.1 k r.2 r.0)
+executed names ps (bodies.Cutter e) = value_of names ps e >>= λ v. Ok (deeds.Cutter v)
+executed names ps (bodies.Intol e) = value_of names ps e >>= λ v. Ok (deeds.Intol v)
+executed names ps (bodies.Outtol e) = value_of names ps e >>= λ v. Ok (deeds.Outtol v)
+executed names ps (bodies.Tool side) = Ok (deeds.Tool side)
+executed names ps (bodies.FromXy x y z) = place names ps x y z >>= λ r. Ok (deeds.FromXy r.0 r.1 r.2)
+executed names ps (bodies.FromPoint p) = named ps p >>= λ p. Ok (deeds.FromPoint p)
+executed names ps (bodies.GotoXy x y z) = place names ps x y z >>= λ r. Ok (deeds.GotoXy r.0 r.1 r.2)
+executed names ps (bodies.GotoPoint p) = named ps p >>= λ p. Ok (deeds.GotoPoint p)
+executed names ps (bodies.Godlta x y z) = three names ps x y z >>= λ r. Ok (deeds.Godlta r.0 r.1 r.2)
+executed names ps (bodies.GoStart q s other) = surfaces ps s other >>= λ r. Ok (deeds.GoStart q r.0 r.1)
+executed names ps (bodies.Contour side go d q c) = pair ps d c >>= λ r. Ok (deeds.Contour side go r.0 q r.1)
+executed names ps bodies.Rapid = Ok deeds.Rapid
+executed names ps bodies.Halt = Ok deeds.Halt
+executed names ps bodies.OptHalt = Ok deeds.OptHalt
+executed names ps bodies.EndWord = Ok deeds.EndWord
+executed names ps bodies.Fini = Ok deeds.Fini
+executed names ps (bodies.Fedrat e) = value_of names ps e >>= λ v. Ok (deeds.Fedrat v)
+executed names ps (bodies.Spindl e turn) = value_of names ps e >>= λ v. Ok (deeds.Spindl v turn)
+executed names ps bodies.SpindlOff = Ok deeds.SpindlOff
+executed names ps (bodies.Coolnt c) = Ok (deeds.Coolnt c)
+executed names ps (bodies.Loadtl e) = value_of names ps e >>= λ v. Ok (deeds.Loadtl v)
+executed names ps (bodies.Macro m parameters) = Err cases.NotBuilt
+executed names ps bodies.Termac = Err cases.NotBuilt
+executed names ps (bodies.Call m args) = Err cases.NotBuilt
+executed names ps bodies.Loopst = Err cases.NotBuilt
+executed names ps bodies.Loopnd = Err cases.NotBuilt
+executed names ps (bodies.Jumpto l) = Err cases.NotBuilt
+executed names ps (bodies.If e a b c) = Err cases.NotBuilt
 
+abbrev pub is_parameter : Parameters → Option (List ℕ) → Bool
+is_parameter ps None = false
+is_parameter ps (Some n) = is_some (meaning ps n)
+
+-- a name that a statement defines is no parameter of the running macro; then come the values and names of the statement
 unfoldable pub deed_of : Names → Parameters → Body → Result Deed Case
-deed_of names ps body = by_name names ps body (defined_name body)
+deed_of names ps body = if is_parameter ps (defined_name body) then Err cases.BadArgs else executed names ps body
 
 -- ---- the names behind a step
 
 abbrev pub given : Deed → Option (List ℕ × Value)
+given (deeds.Partno text) = None
+given (deeds.Remark text) = None
+given (deeds.Units units) = None
+given deeds.Clprnt = None
+given deeds.Nopost = None
+given deeds.Machin = None
 given (deeds.Assign n v) = Some (n, values.Scalar v)
 given (deeds.PointXy n x y z) = Some (n, values.Shape kinds.Point)
 given (deeds.PointLines n a b) = Some (n, values.Shape kinds.Point)
@@ -202,21 +252,48 @@ given (deeds.LineXy n x y u v) = Some (n, values.Shape kinds.Line)
 given (deeds.LinePoints n p q) = Some (n, values.Shape kinds.Line)
 given (deeds.LinePar n p l) = Some (n, values.Shape kinds.Line)
 given (deeds.LinePerp n p l) = Some (n, values.Shape kinds.Line)
-given (deeds.LineAt n l k e) = Some (n, values.Shape kinds.Line)
+given (deeds.LineAt n l k v) = Some (n, values.Shape kinds.Line)
 given (deeds.LineTan n p h c) = Some (n, values.Shape kinds.Line)
 given (deeds.LineTwo n h c k d) = Some (n, values.Shape kinds.Line)
 given (deeds.CircleXyr n x y r) = Some (n, values.Shape kinds.Circle)
 given (deeds.CirclePoints n a b c) = Some (n, values.Shape kinds.Circle)
-given (deeds.CircleRadius n p e) = Some (n, values.Shape kinds.Circle)
+given (deeds.CircleRadius n p r) = Some (n, values.Shape kinds.Circle)
 given (deeds.CircleTan n p l) = Some (n, values.Shape kinds.Circle)
 given (deeds.CircleThrough n p q) = Some (n, values.Shape kinds.Circle)
-given (deeds.CircleCorner n j a k b e) = Some (n, values.Shape kinds.Circle)
-given _ = None
+given (deeds.CircleCorner n j a k b r) = Some (n, values.Shape kinds.Circle)
+given (deeds.Cutter v) = None
+given (deeds.Intol v) = None
+given (deeds.Outtol v) = None
+given (deeds.Tool side) = None
+given (deeds.FromXy x y z) = None
+given (deeds.FromPoint p) = None
+given (deeds.GotoXy x y z) = None
+given (deeds.GotoPoint p) = None
+given (deeds.Godlta x y z) = None
+given (deeds.GoStart q s other) = None
+given (deeds.Contour side go d q c) = None
+given deeds.Rapid = None
+given deeds.Halt = None
+given deeds.OptHalt = None
+given deeds.EndWord = None
+given deeds.Fini = None
+given (deeds.Fedrat v) = None
+given (deeds.Spindl v turn) = None
+given deeds.SpindlOff = None
+given (deeds.Coolnt c) = None
+given (deeds.Loadtl v) = None
+given deeds.Macro = None
+given deeds.Termac = None
+given deeds.Call = None
+given deeds.Loopst = None
+given deeds.Loopnd = None
+given deeds.Jumpto = None
+given deeds.If = None
 
-abbrev pub names_with : Names → Option (List ℕ × Value) → Names
-names_with names None = names
-names_with names (Some entry) = insert_entry (pointwise nat_eq) names entry.0 entry.1
+abbrev pub names_after : Names → Option (List ℕ × Value) → Names
+names_after names None = names
+names_after names (Some entry) = with_entry names entry.0 entry.1
 
 -- a definition counts as made as soon as its step is executed
 abbrev pub names_behind : Names → Deed → Names
-names_behind names deed = names_with names (given deed)
+names_behind names deed = names_after names (given deed)

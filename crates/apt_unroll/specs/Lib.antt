@@ -1,6 +1,5 @@
 pub mod Deeds
-pub mod Groups
 pub mod Straight
+pub mod Codes
 pub mod Laws
-pub mod Steps
 pub mod Numbers

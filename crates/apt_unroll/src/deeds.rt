@@ -1,19 +1,15 @@
 //! What a statement does, and the names behind it.
-ghost use Rattle.std.specs.Prelude.{◌≡◌, IfOk, OnOk, nat_eq};
-ghost use Rattle.std.specs.Cmp.Lexicographic.{pointwise};
+ghost use Rattle.std.specs.Prelude.{◌≡◌, IfOk, OnOk};
 ghost use Rattle.std.specs.Option.{option_copied};
-ghost use Rattle.indexmap.specs.IndexMap.{insert_entry};
 ghost use Rattle.apt_unroll.specs.Deeds as deeds;
 
-use crate::arguments::bound_in;
-use crate::commands::command;
-use crate::definitions::definition;
-use apt_scalar::{Env, Frame, Kind, Value};
-use apt_words::{Body, Case, Deed, Symbol};
-use std::alloc::AllocError;
+use crate::statements::executed;
+use apt_scalar::{Env, Frame, Kind, Value, bind, bound_in};
+use apt_words::{Body, Case, Deed, Symbol, Text};
+use std::alloc::{AllocError, Global};
 
 /// What a statement does, or its first refusal.
-#[tactic(auto, unfolding(crate::specs::Deeds::deed_of))]
+#[tactic(auto, unfolding(crate::specs::Deeds::deed_of, crate::specs::Deeds::executed))]
 pub(crate) fn deed_of(
     env: &Env,
     frame: &Frame,
@@ -21,20 +17,37 @@ pub(crate) fn deed_of(
 ) -> Result<Result<Deed, Case>, AllocError>
     ensures { IfOk result (λ deed. deed ≡ deeds.deed_of env.now frame.now body.now) }
 {
-    match defined_name(body) {
-        None => command(env, frame, body),
-        Some(name) => Ok(defining(env, frame, body, name)),
+    if defines_parameter(frame, body) {
+        return Ok(Err(Case::BadArgs));
+    }
+    match body {
+        Body::Partno(text) => {
+            let text = copied(text)?;
+            Ok(Ok(Deed::Partno(text)))
+        }
+        Body::Remark(text) => {
+            let text = copied(text)?;
+            Ok(Ok(Deed::Remark(text)))
+        }
+        _ => Ok(executed(env, frame, body)),
     }
 }
 
-/// A definition, whose name is no parameter of the running macro.
-fn defining(env: &Env, frame: &Frame, body: &Body, name: &Symbol) -> Result<Deed, Case>
-    ensures { result ≡ deeds.by_name env.now frame.now body.now (Some name.now) }
+/// Whether a statement defines a parameter of the running macro.
+fn defines_parameter(frame: &Frame, body: &Body) -> bool
+    ensures { result ≡ deeds.is_parameter frame.now (deeds.defined_name body.now) }
 {
-    match bound_in(frame, name) {
-        None => definition(env, frame, body),
-        Some(_) => Err(Case::BadArgs),
+    match defined_name(body) {
+        None => false,
+        Some(name) => bound_in(frame, name).is_some(),
     }
+}
+
+fn copied(text: &Text) -> Result<Text, AllocError>
+    ensures { IfOk result (λ copy. copy ≡ text.now) }
+{
+    let bytes = text.bytes.clone()?;
+    Ok(Text { bytes })
 }
 
 /// The name that a statement defines.
@@ -64,20 +77,13 @@ fn defined_name(body: &Body) -> Option<&Symbol>
 }
 
 /// Gives the name that a step defines its value.
-pub(crate) fn bind_behind(env: &mut Env, deed: &Deed) -> Result<(), AllocError>
+pub(crate) fn bind_behind(alloc: Global, env: &mut Env, deed: &Deed) -> Result<(), AllocError>
     ensures { OnOk result (env.new ≡ deeds.names_behind env.old deed.now) }
 {
     match given(deed) {
         None => Ok(()),
-        Some((name, v)) => insert(env, name, v),
+        Some((name, v)) => bind(alloc, env, name, v),
     }
-}
-
-fn insert(env: &mut Env, name: Symbol, v: Value) -> Result<(), AllocError>
-    ensures { OnOk result (env.new ≡ insert_entry (pointwise nat_eq) env.old name v) }
-{
-    env.map.insert(name, v)?;
-    Ok(())
 }
 
 /// The name that a step defines, and its value.

@@ -2,9 +2,8 @@
 #![tactic(auto)]
 
 mod arguments;
-mod commands;
 mod deeds;
-mod definitions;
+mod statements;
 #[cfg(test)]
 mod tests;
 mod trace;

@@ -1,3 +1,6 @@
+ghost use Rattle.std.specs.Prelude.{◌≡◌, IfOk};
+ghost use Rattle.apt_words.specs.Built.{AreBuilt};
+
 use crate::unroll;
 use apt_words::{Body, Case, Expr, Node, Program, Refusal, Stmt, Symbol};
 use std::alloc::{AllocError, Global};
@@ -14,7 +17,9 @@ fn named(rt: &impl Abort, text: &str) -> Expr {
     }
 }
 
-fn on(line: u32, body: Body) -> Stmt {
+fn on(line: u32, body: Body) -> Stmt
+    ensures { result.body ≡ body }
+{
     Stmt {
         line,
         label: None,
@@ -23,7 +28,9 @@ fn on(line: u32, body: Body) -> Stmt {
 }
 
 /// X=.000005, CUTTER of a name, END and a motion, from line 3 on.
-fn program(alloc: Global, rt: &impl Abort, text: &str) -> Result<Program, AllocError> {
+fn program(alloc: Global, rt: &impl Abort, text: &str) -> Result<Program, AllocError>
+    ensures { IfOk result (λ p. AreBuilt p) }
+{
     let five = Expr { node: Node::Num(5) };
     let x = on(3, Body::Assign(symbol(rt, "X"), five));
     let cutter = on(4, Body::Cutter(named(rt, text)));

@@ -1,9 +1,9 @@
 //! The statements of a program, executed in order.
 
 ghost use Rattle.std.specs.Prelude.{◌≡◌, ◌≤◌, [], false, None, IfOk};
+ghost use Rattle.apt_words.specs.Built.{AreBuilt, AreBuiltSteps};
 ghost use Rattle.apt_words.specs.Endings.{EndsInFini};
 ghost use Rattle.apt_unroll.specs.Numbers.{AreScalars};
-ghost use Rattle.apt_unroll.specs.Steps.{AreSteps};
 ghost use Rattle.apt_unroll.specs.Straight as straight;
 ghost use Rattle.apt_unroll.specs.Straight.{EndsOnce};
 
@@ -11,28 +11,43 @@ use crate::deeds::{bind_behind, deed_of};
 use apt_scalar::{Env, Frame};
 use apt_words::{Body, Case, Deed, Program, Refusal, Step};
 use std::alloc::{AllocError, Global};
+use std::marker::Model;
 
 /// The most steps that a program has.
 const MOST_STEPS: u32 = 200_000;
 
-/// The steps of a program before the first that is refused, and that refusal.
-#[derive(Debug, Drop)]
+/// The steps of a program before the first that is refused, and that refusal. Clauses see them as `Steps`.
+#[derive(Drop)]
 pub struct Unrolled {
     pub steps: Vec<Step>,
     pub fault: Option<Refusal>,
 }
 
+impl Model for Unrolled {
+    ghost use Rattle.apt_unroll.specs.Straight.{Steps};
+    ghost use Rattle.apt_unroll.specs.Codes.{steps_code};
+
+    ghost Value = { Steps };
+
+    ghost coded = { steps_code };
+
+    ghost view = { λ u. record { steps = u.steps.items; fault = u.fault } };
+}
+
 /// The steps of a program whose statements are executed in order.
+#[tactic(auto, using(crate::proofs::Numbers::are_scalars, crate::proofs::Building::are_built, crate::proofs::Endings::end_once))]
 pub fn unroll(alloc: Global, p: &Program) -> Result<Unrolled, AllocError>
-    ensures steps { IfOk result (λ u. AreSteps p.now.stmts.items u) }
-    ensures scalars { IfOk result (λ u. AreScalars u.steps.items) }
-    ensures ends { EndsInFini p.now.stmts.items → IfOk result (λ u. u.fault ≡ None → EndsOnce false u.steps.items) }
+    requires built { AreBuilt p.now }
+    ensures steps { IfOk result (λ u. u ≡ straight.steps_of p.now) }
+    ensures scalars { IfOk result (λ u. AreScalars u.steps) }
+    ensures built { IfOk result (λ u. AreBuiltSteps u.steps) }
+    ensures ends { EndsInFini p.now → IfOk result (λ u. u.fault ≡ None → EndsOnce false u.steps) }
 {
     unroll_all(alloc, p)
 }
 
 fn unroll_all(alloc: Global, p: &Program) -> Result<Unrolled, AllocError>
-    ensures { IfOk result (λ u. AreSteps p.now.stmts.items u) }
+    ensures { IfOk result (λ u. u ≡ straight.steps_of p.now) }
 {
     let frame = Frame {
         bound: Vec::new(alloc),
@@ -50,7 +65,7 @@ fn unroll_all(alloc: Global, p: &Program) -> Result<Unrolled, AllocError>
             }
             Ok(deed) => {
                 ended = is_ended(ended, &deed);
-                bind_behind(&mut env, &deed)?;
+                bind_behind(alloc, &mut env, &deed)?;
                 let line = stmt.line;
                 steps.push(Step { line, step, deed })?;
                 step += 1;

@@ -6,6 +6,6 @@ use Rattle.apt_unroll.proofs.trace.unroll_all.Given as goal
 abbrev pub invariant-statements : goal.invariant-statements
 invariant-statements l =
     record {
-      steps : behind l.steps.items (steps_from l.step l.ended l.env (drop l.stmt-index l.stmt-items)) ≡ steps_of l.fn.p.stmts.items;
+      steps : behind l.steps.items (steps_from l.step l.ended l.env (drop l.stmt-index l.stmt-items)) ≡ steps_of l.fn.p;
       few : l.step ≤ most_steps + 1;
     }
