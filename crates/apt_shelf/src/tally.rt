@@ -1,20 +1,30 @@
 //! Calls that are made to fail, by their numbers.
 ghost use Rattle.std.specs.Prelude.{◌≡◌, ◌≤◌, true, false};
 ghost use Rattle.apt_shelf.specs.Numbers.{next};
-ghost use Rattle.apt_shelf.specs.Calls.{uncalled, fails_next, counted, faults_after};
+ghost use Rattle.apt_shelf.specs.Tally.{uncalled, fails_next, counted, faults_after};
+
+use std::marker::Model;
 
 /// The calls of one kind: how many were made, and the numbers of those that fail, from 1.
-#[derive(Debug, Drop)]
-pub struct Calls {
+#[derive(Drop)]
+pub struct Tally {
     failing: Vec<u64>,
     made: u64,
 }
 
-impl Calls {
-    pub(crate) fn new(failing: Vec<u64>) -> Calls
-        ensures { result ≡ uncalled failing }
+impl Model for Tally {
+    ghost use Rattle.apt_shelf.specs.Tally.{Tally as Tallied};
+
+    ghost Value = { Tallied };
+
+    ghost view = { λ t. record { failing = t.failing.items; made = t.made } };
+}
+
+impl Tally {
+    pub(crate) fn new(failing: Vec<u64>) -> Tally
+        ensures { result ≡ uncalled failing.items }
     {
-        Calls { failing, made: 0 }
+        Tally { failing, made: 0 }
     }
 
     /// Counts a call, and a fault where the call is one that fails, and says whether it is.
