@@ -4,8 +4,8 @@ ghost use Rattle.std.specs.Prelude.{◌≡◌, ◌≤◌, ◌^◌, ◌↔◌, If
 ghost use Rattle.apt_plane.specs.Ranges.{IsPoint, IsSurface, IsVector, IsSense};
 ghost use Rattle.apt_offset.specs.Turns as turning;
 
-use crate::signs::{opposite, sign_of};
-use apt_num::Sign;
+use crate::signs::opposite;
+use apt_num::{Sign, sign_of};
 use apt_plane::vectors::{cross, dot, perp, way};
 use apt_plane::{Dir, Pt, Surface};
 use apt_words::{Case, Go};
