@@ -32,7 +32,8 @@ pub fn turn_sense(forward: Dir, start: Pt, drive: &Surface, go: Go) -> Result<i8
     }
 }
 
-fn tangent(drive: &Surface, at: Pt) -> Dir
+/// The direction of a surface at a point: that of a line, or the tangent of a circle, anticlockwise.
+pub fn tangent(drive: &Surface, at: Pt) -> Dir
     requires drive { IsSurface drive.now }
     requires at { IsPoint at }
     ensures value { result ≡ turning.tangent drive.now at }
@@ -44,7 +45,8 @@ fn tangent(drive: &Surface, at: Pt) -> Dir
     }
 }
 
-fn turn(forward: Dir, along: Dir, go: Go) -> Sign
+/// How a direction runs against forward: to the left or right by the cross product, forward or back by the dot product.
+pub fn turn(forward: Dir, along: Dir, go: Go) -> Sign
     requires forward { IsVector forward }
     requires along { IsVector along }
     ensures { result ≡ turning.turn forward along go }
