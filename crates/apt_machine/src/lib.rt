@@ -2,6 +2,7 @@
 #![tactic(auto)]
 
 ghost use Rattle.std.specs.Prelude.{◌≡◌};
+ghost use Rattle.apt_machine.specs.Machines.{IsMachine};
 
 use apt_tapecode::Code;
 
@@ -19,7 +20,8 @@ pub struct Machine {
 impl Machine {
     /// The machine of no limits but those of the tape: RS-358, numbered by one.
     pub fn largest() -> Machine
-        ensures { result ≡ record { code = Code.Rs358; seq = 1; feedmax = 9999; spinmax = 9999; toolmax = 99 } }
+        ensures value { result ≡ record { code = Code.Rs358; seq = 1; feedmax = 9999; spinmax = 9999; toolmax = 99 } }
+        ensures within { IsMachine result }
     {
         Machine {
             code: Code::Rs358,

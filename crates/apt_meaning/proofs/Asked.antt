@@ -43,7 +43,8 @@ use Rattle.apt_meaning.specs.Refusals.{is_other_kind, position_cases, move_cases
 use Rattle.apt_meaning.specs.Records.{AreLegal}
 use Rattle.apt_meaning.specs.Compiled.{ends_of}
 use Rattle.apt_meaning.specs.Ranges.{IsPositionOrNone, AreSettings, IsSituation, IsMotion, IsEffect}
-use Rattle.apt_meaning.specs.Numbers.{HasNumbers, HasIn}
+use Rattle.apt_scalar.specs.Numbers.{HasScalars}
+use Rattle.apt_meaning.specs.Numbers.{HasIn}
 use Rattle.apt_meaning.proofs.Refused.{first_none, none_first}
 use Rattle.apt_meaning.proofs.Legal.{motion_legal, motion_contact, motion_defined, start_up_point}
 use Rattle.apt_meaning.proofs.Numbers.{reach_in, up_to_in, tolerance_in, radius_in, feed_in, feed_note, with_units, with_radius, with_intol, with_outtol, with_feed, with_rapid, with_ended, on_side, on_side_or_as_it_was, sense_in, allowance_in}
@@ -200,7 +201,7 @@ contour_asks at side go drive how check is none =
 
 -- ---- a line for each statement
 
-pub asks : (at : Situation) (deed : Deed) → IsSituation at → HasNumbers deed → NoneHolds (cases_of at deed) → Asks (effect_of at deed)
+pub asks : (at : Situation) (deed : Deed) → IsSituation at → HasScalars deed → NoneHolds (cases_of at deed) → Asks (effect_of at deed)
 asks at (deeds.Partno text) is numbers none = says at.settings (notes.Partno text) is.settings tt
 asks at (deeds.Remark text) is numbers none = sets at.settings is.settings
 asks at (deeds.Units units) is numbers none = says (record at.settings { units = units }) (notes.Units units) (with_units at.settings units is.settings) tt
@@ -260,14 +261,14 @@ asks at deeds.Jumpto is numbers none = absurd (true≢false none.0)
 asks at deeds.If is numbers none = absurd (true≢false none.0)
 
 -- where no case refuses it, a step has an effect
-pub answered : (at : Situation) (deed : Deed) → IsSituation at → HasNumbers deed → refusal_of at deed ≡ None → Asks (effect_of at deed)
+pub answered : (at : Situation) (deed : Deed) → IsSituation at → HasScalars deed → refusal_of at deed ≡ None → Asks (effect_of at deed)
 answered at deed is numbers fine = asks at deed is numbers (first_none (cases_of at deed) fine)
 
 same : {A : Type 0} (x y : A) → Some x ≡ Some y → x ≡ y
 same x y e = cc
 
 -- and it is in range
-pub good : (at : Situation) (deed : Deed) (e : Effect) → effect_of at deed ≡ Some e → NoneHolds (cases_of at deed) → IsSituation at → HasNumbers deed → IsEffect e
+pub good : (at : Situation) (deed : Deed) (e : Effect) → effect_of at deed ≡ Some e → NoneHolds (cases_of at deed) → IsSituation at → HasScalars deed → IsEffect e
 good at deed e asked none is numbers =
     let a = asks at deed is numbers none in
     subst IsEffect (same a.e e (sym a.asked ∙ asked)) a.good

@@ -9,9 +9,9 @@ use Rattle.apt_cldata.specs.Ranges.{EndsOnce}
 use Rattle.apt_control.specs.declared.Act.{Act}
 use Rattle.apt_control.specs.declared.Act.TheVariants as acts
 use Rattle.apt_post.specs.declared.planning.Pending.{Pending}
-use Rattle.apt_post.specs.Plan.{nothing_pending, cut_to, acts_from, plan}
+use Rattle.apt_post.specs.Plan.{nothing_pending, cut_to, record_pending, acts_from, plan}
 use Rattle.apt_post.specs.Post.{ToTheEnd, IsProgram}
-use Rattle.apt_post.specs.Writing.{CanWriteAll, AreWritten}
+use Rattle.apt_post.specs.Writing.{CanWriteAll, AreWritten, pending_behind}
 
 abbrev going_on : ℤ → Bool → Pending
 going_on feed rapid = record { feed = feed; rapid = rapid; ended = false }
@@ -81,3 +81,7 @@ acts_to_the_end feed rapid (records.Contour vertices ∷ rs) ends can = cuts_to_
 
 pub planned_program : (rs : List Record) → EndsOnce false rs → AreWritten nothing_pending rs → IsProgram (plan rs)
 planned_program rs ends can = acts_to_the_end nothing_pending.feed false rs ends can
+
+pub written-append : (p : Pending) (xs ys : List Record) → AreWritten p xs → AreWritten (pending_behind p xs) ys → AreWritten p (xs ++ ys)
+written-append p [] ys can more = more
+written-append p (x ∷ xs) ys can more = (can.0, written-append (record_pending p x) xs ys can.1 more)

@@ -14,3 +14,8 @@ CanWriteAll (act ∷ more) = CanWrite act × CanWriteAll more
 abbrev pub AreWritten : Pending → List Record → Type 0
 AreWritten p [] = Unit {0}
 AreWritten p (r ∷ rs) = CanWriteAll (record_acts p r) × AreWritten (record_pending p r) rs
+
+-- what is pending behind records
+abbrev pub pending_behind : Pending → List Record → Pending
+pending_behind p [] = p
+pending_behind p (r ∷ rs) = pending_behind (record_pending p r) rs
