@@ -16,3 +16,5 @@ pub mod Stands
 pub mod Walk
 pub mod Ends
 mod Worked
+mod Statements
+mod Cases

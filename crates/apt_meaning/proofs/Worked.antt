@@ -1,9 +1,8 @@
 -- Parts whose records the checker computes.
-use Rattle.std.specs.Prelude.{◌≡◌, refl, ℕ, ◌+◌, ◌*◌, ℤ, pos, neg_ℤ, codes, List, [], ◌∷◌, ◌++◌, Option, Some, None, Result, Ok, Err}
+use Rattle.std.specs.Prelude.{◌≡◌, refl, ℕ, ◌+◌, ◌*◌, ℤ, pos, neg_ℤ, codes, List, [], ◌∷◌, ◌++◌, Some, None, Result, Ok, Err}
 use Rattle.apt_num.specs.Root.{root}
 use Rattle.apt_words.specs.declared.Case.{Case}
 use Rattle.apt_words.specs.declared.Case.TheVariants as cases
-use Rattle.apt_words.specs.declared.Go.{Go}
 use Rattle.apt_words.specs.declared.Go.TheVariants as turns
 use Rattle.apt_words.specs.declared.Refusal.{Refusal}
 use Rattle.apt_words.specs.declared.Side.TheVariants as sides
@@ -12,7 +11,6 @@ use Rattle.apt_words.specs.declared.Units.TheVariants as the_units
 use Rattle.apt_words.specs.declared.deed.Deed.{Deed}
 use Rattle.apt_words.specs.declared.deed.Deed.TheVariants as deeds
 use Rattle.apt_words.specs.declared.deed.Step.{Step}
-use Rattle.apt_plane.specs.declared.figures.Pt.{Pt}
 use Rattle.apt_plane.specs.declared.figures.Surface.{Surface}
 use Rattle.apt_plane.specs.declared.figures.Surface.TheVariants as surfaces
 use Rattle.apt_cldata.specs.declared.record.Note.{Note}

@@ -1,0 +1,235 @@
+-- Each case, and which comes first where several hold.
+use Rattle.std.specs.Prelude.{◌≡◌, refl, ℕ, ◌*◌, ℤ, pos, neg_ℤ, true, codes, List, [], ◌∷◌, Option, Some, None}
+use Rattle.apt_num.specs.Root.{root}
+use Rattle.apt_words.specs.declared.Case.{Case}
+use Rattle.apt_words.specs.declared.Case.TheVariants as cases
+use Rattle.apt_words.specs.declared.Go.{Go}
+use Rattle.apt_words.specs.declared.Go.TheVariants as turns
+use Rattle.apt_words.specs.declared.Side.TheVariants as sides
+use Rattle.apt_words.specs.declared.Stop.{Stop}
+use Rattle.apt_words.specs.declared.Stop.TheVariants as stops
+use Rattle.apt_words.specs.declared.deed.Deed.TheVariants as deeds
+use Rattle.apt_plane.specs.declared.figures.Surface.{Surface}
+use Rattle.apt_plane.specs.declared.figures.Surface.TheVariants as surfaces
+use Rattle.apt_cldata.specs.declared.record.Position.{Position}
+use Rattle.apt_defs.specs.declared.figure.Figure.TheVariants as figures
+use Rattle.apt_defs.specs.Figures.{Table}
+use Rattle.apt_meaning.specs.declared.situation.Settings.{Settings}
+use Rattle.apt_meaning.specs.declared.situation.Situation.{Situation}
+use Rattle.apt_meaning.specs.Situations.{first_settings, position_at}
+use Rattle.apt_meaning.specs.StartUps.{start_up_at}
+use Rattle.apt_meaning.specs.Refusals.{refusal_of}
+
+abbrev line : ℤ → ℤ → ℤ → ℤ → Surface
+line x y dx dy = surfaces.Line (record { base = record { x = x; y = y }; dir = record { dx = dx; dy = dy } })
+
+-- a line to the right, one up, one to the left above, one that meets the first far off, a circle of radius 5000, and a number
+abbrev table : Table
+table =
+    (codes "L1", figures.Shape (line (pos 0) (pos 0) (pos 100000) (pos 0))) ∷ (codes "L2", figures.Shape (line (pos 100000) (pos 0) (pos 0) (pos 100000)))
+    ∷ (codes "L3", figures.Shape (line (pos 0) (pos 50000) (neg_ℤ (pos 100000)) (pos 0)))
+    ∷ (codes "L4", figures.Shape (line (pos 0) (pos 50000) (pos 100000) (neg_ℤ (pos 1))))
+    ∷ (codes "C1", figures.Shape (surfaces.Circ (record { c = record { x = pos 5000; y = pos 0 }; r = pos 5000 }))) ∷ (codes "A", figures.Scalar) ∷ []
+
+-- a cutter of radius 12500 on the left
+abbrev here : Settings
+here = record first_settings { radius = pos 12500; side = sides.Left; feed = pos 100 }
+
+abbrev above : ℤ → ℤ → Position
+above x y = position_at x y (pos 300)
+
+abbrev on_track : Option Position
+on_track = Some (above (pos 0) (pos 12500))
+
+-- at a position, heading to the right
+abbrev at : Settings → Option Position → Situation
+at settings position = record { settings = settings; position = position; forward = record { dx = pos 1; dy = pos 0 }; table = table }
+
+abbrev contour : Situation → Go → List ℕ → Stop → List ℕ → Option Case
+contour situation go drive how check = refusal_of situation (deeds.Contour None go drive how check)
+
+abbrev go : Situation → List ℕ → List ℕ → Option Case
+go situation a b = refusal_of situation (deeds.GoStart stops.To a (Some (stops.To, b)))
+
+-- a whole number in millionths
+abbrev whole : ℕ → ℤ
+whole n = pos (n * 1000000)
+
+-- ---- numbers
+
+great_cutter : refusal_of (at here on_track) (deeds.Cutter (pos 10000010)) ≡ Some cases.OutOfRange
+great_cutter = refl
+
+greatest_cutter : refusal_of (at here on_track) (deeds.Cutter (pos 10000000)) ≡ None
+greatest_cutter = refl
+
+negative_cutter : refusal_of (at here on_track) (deeds.Cutter (neg_ℤ (pos 10))) ≡ Some cases.OutOfRange
+negative_cutter = refl
+
+great_tolerance : refusal_of (at here on_track) (deeds.Intol (pos 100010)) ≡ Some cases.OutOfRange
+great_tolerance = refl
+
+negative_tolerance : refusal_of (at here on_track) (deeds.Outtol (neg_ℤ (pos 10))) ≡ Some cases.OutOfRange
+negative_tolerance = refl
+
+-- half of a tenth is rounded up
+least_feed : refusal_of (at here on_track) (deeds.Fedrat (pos 50000)) ≡ None
+least_feed = refl
+
+no_feed_at_all : refusal_of (at here on_track) (deeds.Fedrat (pos 49999)) ≡ Some cases.OutOfRange
+no_feed_at_all = refl
+
+-- ---- definitions
+
+far_line : refusal_of (at here on_track) (deeds.LineXy (codes "L9") (pos 0) (pos 0) (pos 0) (whole 501)) ≡ Some cases.OutOfRange
+far_line = refl
+
+-- its points are 0 and 4 millionths: the same on the grid
+short_line : refusal_of (at here on_track) (deeds.LineXy (codes "L9") (pos 0) (pos 0) (pos 4) (pos 0)) ≡ Some cases.Degenerate
+short_line = refl
+
+-- ---- moves
+
+from_again : refusal_of (at here on_track) (deeds.FromXy (whole 501) (pos 0) None) ≡ Some cases.FromAgain
+from_again = refl
+
+far_from : refusal_of (at here None) (deeds.FromXy (pos 0) (pos 0) (Some (whole 501))) ≡ Some cases.OutOfRange
+far_from = refl
+
+far_goto : refusal_of (at (record here { feed = pos 0 }) None) (deeds.GotoXy (pos 0) (neg_ℤ (whole 501)) None) ≡ Some cases.OutOfRange
+far_goto = refl
+
+goto_no_feed : refusal_of (at (record here { feed = pos 0 }) None) (deeds.GotoXy (pos 0) (pos 0) None) ≡ Some cases.NoFeed
+goto_no_feed = refl
+
+-- RAPID stands for a feed
+goto_rapid : refusal_of (at (record here { feed = pos 0; rapid = true }) None) (deeds.GotoXy (pos 0) (pos 0) None) ≡ None
+goto_rapid = refl
+
+godlta_no_from : refusal_of (at (record here { feed = pos 0 }) None) (deeds.Godlta (pos 0) (pos 0) (pos 0)) ≡ Some cases.NoFrom
+godlta_no_from = refl
+
+-- ---- start-up: one more condition is met at each step
+
+go_no_from : go (at (record here { feed = pos 0 }) None) (codes "B") (codes "A") ≡ Some cases.NoFrom
+go_no_from = refl
+
+-- an unknown name comes before a number, wherever it stands
+go_undefined : go (at (record here { feed = pos 0 }) on_track) (codes "A") (codes "B") ≡ Some cases.Undefined
+go_undefined = refl
+
+go_wrong_kind : go (at (record here { feed = pos 0 }) on_track) (codes "L1") (codes "A") ≡ Some cases.WrongKind
+go_wrong_kind = refl
+
+go_no_feed : go (at (record here { feed = pos 0 }) on_track) (codes "L1") (codes "L1") ≡ Some cases.NoFeed
+go_no_feed = refl
+
+go_no_room : go (at here (Some (above (pos 5000) (pos 0)))) (codes "L1") (codes "C1") ≡ Some cases.NoRoom
+unfolding start_up_at
+go_no_room = refl
+
+go_on_check : go (at here (Some (above (pos 0) (pos 0)))) (codes "L1") (codes "L1") ≡ Some cases.OnCheck
+unfolding start_up_at
+go_on_check = refl
+
+go_parallel : go (at here on_track) (codes "L1") (codes "L3") ≡ Some cases.Parallel
+unfolding start_up_at
+go_parallel = refl
+
+go_far : go (at here on_track) (codes "L1") (codes "L4") ≡ Some cases.OutOfRange
+unfolding root start_up_at
+go_far = refl
+
+go_fine : go (at here on_track) (codes "L1") (codes "L2") ≡ None
+unfolding root start_up_at
+go_fine = refl
+
+-- ---- contours: one more condition is met at each step
+
+no_from : contour (at (record here { feed = pos 0; rapid = true; outtol = pos 7 }) None) turns.Left (codes "B") stops.To (codes "B") ≡ Some cases.NoFrom
+no_from = refl
+
+undefined : contour (at (record here { feed = pos 0; rapid = true; outtol = pos 7 }) on_track) turns.Left (codes "B") stops.To (codes "A") ≡ Some cases.Undefined
+undefined = refl
+
+-- a number at the drive surface comes before an unknown check surface
+wrong_kind : contour (at (record here { feed = pos 0; rapid = true; outtol = pos 7 }) on_track) turns.Left (codes "A") stops.To (codes "B") ≡ Some cases.WrongKind
+wrong_kind = refl
+
+wrong_check : contour (at (record here { feed = pos 0; rapid = true; outtol = pos 7 }) on_track) turns.Left (codes "L1") stops.To (codes "A") ≡ Some cases.WrongKind
+wrong_check = refl
+
+rapid_contour : contour (at (record here { feed = pos 0; rapid = true; outtol = pos 7 }) on_track) turns.Left (codes "L1") stops.To (codes "L2") ≡ Some cases.RapidContour
+rapid_contour = refl
+
+no_feed : contour (at (record here { feed = pos 0; outtol = pos 7 }) on_track) turns.Left (codes "L1") stops.To (codes "L2") ≡ Some cases.NoFeed
+no_feed = refl
+
+too_fine : contour (at (record here { outtol = pos 7 }) on_track) turns.Left (codes "L1") stops.To (codes "L2") ≡ Some cases.TooFine
+too_fine = refl
+
+-- a grid step on one side is enough
+inward : contour (at (record here { intol = pos 8; outtol = pos 7 }) on_track) turns.Forward (codes "L1") stops.To (codes "L2") ≡ None
+unfolding root
+inward = refl
+
+no_turn : contour (at here (Some (above (pos 0) (pos 0)))) turns.Left (codes "L1") stops.To (codes "C1") ≡ Some cases.NoTurn
+no_turn = refl
+
+-- the cutter does not go round inside so small a circle
+no_room : contour (at here (Some (above (pos 5000) (pos 1000)))) turns.Forward (codes "L1") stops.To (codes "C1") ≡ Some cases.NoRoom
+no_room = refl
+
+off_drive : contour (at here (Some (above (pos 100000) (pos 12504)))) turns.Forward (codes "L1") stops.To (codes "L2") ≡ Some cases.OffDrive
+unfolding root
+off_drive = refl
+
+-- a start may be so far off its track
+near_drive : contour (at here (Some (above (pos 0) (pos 12503)))) turns.Forward (codes "L1") stops.To (codes "L2") ≡ None
+unfolding root
+near_drive = refl
+
+on_check : contour (at here (Some (above (pos 100000) (pos 12500)))) turns.Forward (codes "L1") stops.To (codes "L2") ≡ Some cases.OnCheck
+unfolding root
+on_check = refl
+
+-- no line touches a line
+touches : contour (at here on_track) turns.Forward (codes "L1") stops.Tanto (codes "L2") ≡ Some cases.Parallel
+unfolding root
+touches = refl
+
+parallel : contour (at here on_track) turns.Forward (codes "L1") stops.To (codes "L3") ≡ Some cases.Parallel
+unfolding root
+parallel = refl
+
+turned_back : contour (at here on_track) turns.Back (codes "L1") stops.To (codes "L2") ≡ Some cases.OffDrive
+turned_back = refl
+
+behind : contour (at here (Some (above (pos 200000) (pos 12500)))) turns.Forward (codes "L1") stops.To (codes "L2") ≡ Some cases.Behind
+unfolding root
+behind = refl
+
+-- the first line meets the fourth 50000 inches off
+far_contact : contour (at here on_track) turns.Forward (codes "L1") stops.To (codes "L4") ≡ Some cases.OutOfRange
+unfolding root
+far_contact = refl
+
+fine : contour (at here on_track) turns.Forward (codes "L1") stops.To (codes "L2") ≡ None
+unfolding root
+fine = refl
+
+-- ---- what the compiler does not have yet
+
+round_check : contour (at here on_track) turns.Forward (codes "L1") stops.To (codes "C1") ≡ Some cases.NotBuilt
+unfolding root
+round_check = refl
+
+round_start : go (at here on_track) (codes "L1") (codes "C1") ≡ Some cases.NotBuilt
+unfolding start_up_at
+round_start = refl
+
+one_surface : refusal_of (at here on_track) (deeds.GoStart stops.To (codes "L1") None) ≡ Some cases.NotBuilt
+one_surface = refl
+
+spindle : refusal_of (at here on_track) deeds.SpindlOff ≡ Some cases.NotBuilt
+spindle = refl

@@ -1,0 +1,166 @@
+-- What each statement asks for.
+use Rattle.std.specs.Prelude.{◌≡◌, refl, ℕ, ◌*◌, ℤ, pos, neg_ℤ, true, codes, [], ◌∷◌, Option, Some, None}
+use Rattle.apt_num.specs.Root.{root}
+use Rattle.apt_words.specs.declared.Go.TheVariants as turns
+use Rattle.apt_words.specs.declared.Side.{Side}
+use Rattle.apt_words.specs.declared.Side.TheVariants as sides
+use Rattle.apt_words.specs.declared.Stop.TheVariants as stops
+use Rattle.apt_words.specs.declared.Units.TheVariants as the_units
+use Rattle.apt_words.specs.declared.deed.Deed.TheVariants as deeds
+use Rattle.apt_plane.specs.declared.figures.Surface.{Surface}
+use Rattle.apt_plane.specs.declared.figures.Surface.TheVariants as surfaces
+use Rattle.apt_cldata.specs.declared.record.Note.{Note}
+use Rattle.apt_cldata.specs.declared.record.Note.TheVariants as notes
+use Rattle.apt_cldata.specs.declared.record.Position.{Position}
+use Rattle.apt_cldata.specs.declared.record.Reach.{Reach}
+use Rattle.apt_cldata.specs.declared.record.Reach.TheVariants as reaches
+use Rattle.apt_defs.specs.declared.figure.Figure.TheVariants as figures
+use Rattle.apt_meaning.specs.declared.situation.Settings.{Settings}
+use Rattle.apt_meaning.specs.declared.situation.Situation.{Situation}
+use Rattle.apt_meaning.specs.declared.motion.Motion.{Motion}
+use Rattle.apt_meaning.specs.declared.effect.Effect.{Effect}
+use Rattle.apt_meaning.specs.declared.effect.Effect.TheVariants as effects
+use Rattle.apt_meaning.specs.Situations.{first_settings, position_at}
+use Rattle.apt_meaning.specs.Motions.{motion_at}
+use Rattle.apt_meaning.specs.StartUps.{start_up_at}
+use Rattle.apt_meaning.specs.Effects.{effect_of}
+
+-- ---- a corner of two lines, with a cutter of radius 12500 on the left
+
+abbrev line : ℤ → ℤ → ℤ → ℤ → Surface
+line x y dx dy = surfaces.Line (record { base = record { x = x; y = y }; dir = record { dx = dx; dy = dy } })
+
+abbrev across : Surface
+across = line (pos 0) (pos 0) (pos 100000) (pos 0)
+
+abbrev up : Surface
+up = line (pos 100000) (pos 0) (pos 0) (pos 100000)
+
+abbrev here : Settings
+here = record first_settings { radius = pos 12500; side = sides.Left; feed = pos 100 }
+
+abbrev at : Situation
+at = record {
+  settings = here;
+  position = Some (position_at (pos 0) (pos 12500) (pos 300));
+  forward = record { dx = pos 1; dy = pos 0 };
+  table = (codes "L1", figures.Shape across) ∷ (codes "L2", figures.Shape up) ∷ [];
+}
+
+-- a whole number in millionths
+abbrev whole : ℕ → ℤ
+whole n = pos (n * 1000000)
+
+abbrev sets : Settings → Option Effect
+sets s = Some (effects.Sets s None)
+
+abbrev says : Settings → Note → Option Effect
+says s note = Some (effects.Sets s (Some note))
+
+abbrev moves : Reach → Position → Option Effect
+moves reach to = Some (effects.Moves reach to)
+
+-- ---- the part and its settings
+
+partno : effect_of at (deeds.Partno (codes "A")) ≡ says here (notes.Partno (codes "A"))
+partno = refl
+
+remark : effect_of at (deeds.Remark (codes "A")) ≡ sets here
+remark = refl
+
+units : effect_of at (deeds.Units the_units.Mm) ≡ says (record here { units = the_units.Mm }) (notes.Units the_units.Mm)
+units = refl
+
+clprnt : effect_of at deeds.Clprnt ≡ sets here
+clprnt = refl
+
+nopost : effect_of at deeds.Nopost ≡ sets here
+nopost = refl
+
+machin : effect_of at deeds.Machin ≡ sets here
+machin = refl
+
+-- the diameter is in grid units, and half of an odd one is rounded up
+cutter : effect_of at (deeds.Cutter (pos 70)) ≡ says (record here { radius = pos 4 }) (notes.Cutter (pos 7))
+cutter = refl
+
+intol : effect_of at (deeds.Intol (pos 1000)) ≡ says (record here { intol = pos 100 }) (notes.Intol (pos 100))
+intol = refl
+
+outtol : effect_of at (deeds.Outtol (pos 1000)) ≡ says (record here { outtol = pos 100 }) (notes.Outtol (pos 100))
+outtol = refl
+
+tool : effect_of at (deeds.Tool sides.Right) ≡ sets (record here { side = sides.Right })
+tool = refl
+
+-- ---- definitions
+
+assign : effect_of at (deeds.Assign (codes "A") (whole 5)) ≡ Some (effects.Defines (codes "A") figures.Scalar)
+assign = refl
+
+-- 1 inch is 100000 grid units
+line_xy : effect_of at (deeds.LineXy (codes "L3") (whole 1) (pos 0) (whole 1) (whole 2)) ≡
+    Some (effects.Defines (codes "L3") (figures.Shape (line (pos 100000) (pos 0) (pos 0) (pos 200000))))
+line_xy = refl
+
+-- ---- moves
+
+from_xy : effect_of at (deeds.FromXy (whole 1) (whole 2) (Some (whole 3))) ≡ moves reaches.From (position_at (pos 100000) (pos 200000) (pos 300000))
+from_xy = refl
+
+-- the height is 0 where it is left out
+goto_xy : effect_of at (deeds.GotoXy (whole 1) (neg_ℤ (whole 2)) None) ≡ moves reaches.Goto (position_at (pos 100000) (neg_ℤ (pos 200000)) (pos 0))
+goto_xy = refl
+
+godlta : effect_of at (deeds.Godlta (whole 1) (pos 0) (neg_ℤ (pos 1000))) ≡ moves reaches.Godlta (position_at (pos 100000) (pos 12500) (pos 200))
+godlta = refl
+
+-- to both lines on the side of the position, at its height
+go_start : effect_of at (deeds.GoStart stops.To (codes "L1") (Some (stops.Past, codes "L2"))) ≡ moves reaches.Start (position_at (pos 112500) (pos 12500) (pos 300))
+unfolding root start_up_at
+go_start = refl
+
+-- ---- contours
+
+abbrev along : Side → Motion
+along side = record {
+  start = position_at (pos 0) (pos 12500) (pos 300);
+  drive = across;
+  side = side;
+  sense = pos 1;
+  check = up;
+  how = stops.To;
+  radius = pos 12500;
+  inner = pos 8;
+  outer = pos 50;
+}
+
+contour : effect_of at (deeds.Contour None turns.Forward (codes "L1") stops.To (codes "L2")) ≡ Some (effects.Cuts (along sides.Left))
+unfolding root motion_at
+contour = refl
+
+-- the side of the cutter may be given with the motion
+contour_right : effect_of at (deeds.Contour (Some sides.Right) turns.Forward (codes "L1") stops.To (codes "L2")) ≡ Some (effects.Cuts (along sides.Right))
+unfolding root motion_at
+contour_right = refl
+
+-- ---- commands
+
+rapid : effect_of at deeds.Rapid ≡ says (record here { rapid = true }) notes.Rapid
+rapid = refl
+
+halt : effect_of at deeds.Halt ≡ says here notes.Stop
+halt = refl
+
+opt_halt : effect_of at deeds.OptHalt ≡ says here notes.OptStop
+opt_halt = refl
+
+end_word : effect_of at deeds.EndWord ≡ says (record here { ended = true }) notes.End
+end_word = refl
+
+fini : effect_of at deeds.Fini ≡ says here notes.Fini
+fini = refl
+
+-- in tenths of an inch per minute
+fedrat : effect_of at (deeds.Fedrat (pos 12350000)) ≡ says (record here { feed = pos 124 }) (notes.Fedrat (pos 124))
+fedrat = refl
