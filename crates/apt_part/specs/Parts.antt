@@ -19,11 +19,16 @@ use Rattle.apt_part.specs.declared.part.PartError.TheVariants as errors
 
 -- ---- records
 
--- of the first step that the machine refuses and the first that its own cases refuse the earlier; of one step its own case
+-- the earlier of two refused steps, the second where both are one step
+abbrev pub earliest : Option Refusal → Refusal → Refusal
+earliest None own = own
+earliest (Some past) own = if nat_lt past.step own.step then past else own
+
+-- the records of steps, where neither the machine nor their own cases refuse one; of one step its own case comes first
 abbrev pub earlier : Option Refusal → Result (List Record) Refusal → Result (List Record) Refusal
-earlier None own = own
+earlier None (Ok records) = Ok records
 earlier (Some past) (Ok records) = Err past
-earlier (Some past) (Err own) = Err (if nat_lt past.step own.step then past else own)
+earlier past (Err own) = Err (earliest past own)
 
 -- the steps stop before the one that unrolling refuses, so that any other refusal comes first
 abbrev pub unless_fault : Option Refusal → Result (List Record) Refusal → Result (List Record) Refusal
