@@ -1,16 +1,13 @@
-//! What the steps of a part program do.
+//! The compiling pass: the records of the steps of a part program.
 #![tactic(auto)]
 
 mod contours;
-mod motion;
-mod places;
-mod running;
+mod deeds;
+mod moves;
+mod records;
 mod runs;
 mod settings;
-mod state;
-mod step;
+mod starts;
 mod stopped;
-#[cfg(test)]
-mod tests;
 
-pub use runs::{Output, RunError, run};
+pub use runs::{RunError, run};

@@ -1,23 +1,25 @@
-//! The runs of programs.
+//! The records of a part program.
 
-ghost use Rattle.std.specs.Prelude.{◌≡◌, false, None, Ok, Err, IfOk, MatchResult};
-ghost use Rattle.apt_post.specs.Post.{IsProgram};
-ghost use Rattle.apt_unroll.specs.Straight.{EndsOnce};
-ghost use Rattle.apt_motion.specs.Answers.{unless_fault};
-ghost use Rattle.apt_motion.specs.Deeds.{run_of, motions_of};
+ghost use Rattle.std.specs.Prelude.{◌≡◌, IfOk};
+ghost use Rattle.apt_words.specs.Built.{AreBuiltSteps};
 ghost use Rattle.apt_unroll.specs.Numbers.{AreScalars};
+ghost use Rattle.apt_cldata.specs.Ranges.{AreRecords};
+ghost use Rattle.apt_meaning.specs.Compiled.{compiled, refused_at};
+ghost use Rattle.apt_meaning.specs.Records.{FollowsLegally};
+ghost use Rattle.apt_meaning.specs.Situations.{first_situation};
+ghost use Rattle.apt_meaning.specs.declared.situation.Situation.{Situation};
 ghost use Rattle.apt_motion.specs.Ends.{Ends};
-ghost use Rattle.apt_motion.specs.Motions.{AreLegal};
 
-use crate::running::Run;
-use crate::step::step;
+use crate::deeds::find;
+use crate::records::take;
 use crate::stopped::Stopped;
-use apt_control::Act;
-use apt_words::{Refusal, Step};
+use apt_cldata::Record;
+use apt_meaning::Situation;
+use apt_words::{Case, Refusal, Step};
 use std::alloc::{AllocError, Global};
 
-/// Why the steps are not done to their end.
-#[derive(Clone, Copy, Debug)]
+/// Why there are no records.
+#[derive(Clone, Copy)]
 pub enum RunError {
     /// The first refused step, and its case.
     Refused(Refusal),
@@ -36,47 +38,43 @@ impl From<AllocError> for RunError {
     }
 }
 
-/// Does all steps.
-fn run_all(alloc: Global, steps: &[Step]) -> Result<Run, RunError>
-    requires scalars { AreScalars steps.now }
-    ensures value { Ends (run_of steps.now) result }
+fn refused(step: &Step, case: Case) -> RunError
+    ensures { result ≡ RunError.Refused (refused_at step.now case) }
 {
-    let mut run = Run::first(alloc)?;
+    RunError::Refused(Refusal {
+        line: step.line,
+        step: step.step,
+        case,
+    })
+}
+
+fn run_all(alloc: Global, steps: &[Step]) -> Result<Vec<Record>, RunError>
+    requires scalars { AreScalars steps.now }
+    requires built { AreBuiltSteps steps.now }
+    ensures { Ends (compiled first_situation steps.now) result }
+{
+    let mut at = Situation::first(alloc);
+    let mut records = Vec::new(alloc);
     'steps: for st in steps {
-        run = match step(run, &st.deed) {
-            Ok(after) => after,
-            Err(Stopped::Refused(case)) => {
-                return Err(RunError::Refused(Refusal {
-                    line: st.line,
-                    step: st.step,
-                    case,
-                }));
-            }
+        let found = match find(&at, &st.deed) {
+            Ok(found) => found,
+            Err(Stopped::Refused(case)) => return Err(refused(st, case)),
             Err(Stopped::NoMemory) => return Err(RunError::NoMemory),
         };
+        at = take(alloc, &mut records, at, st, found)?;
     }
-    Ok(run)
+    Ok(records)
 }
 
-/// The acts that steps make, and the number of contour segments among them.
-#[derive(Debug, Drop)]
-pub struct Output {
-    pub acts: Vec<Act>,
-    pub segments: u64,
-}
-
-/// Does steps one after the other. `Refused` has the first step that can't be done, and its case. Steps that
-/// end once make acts that a control takes, and every contour among them is legal.
-#[tactic(auto, using(crate::proofs::Programs::steps_program, crate::proofs::Legality::steps_legal))]
-pub fn run(alloc: Global, steps: &[Step]) -> Result<Output, RunError>
+/// The records of steps, each contour with the point at which it stops. `Refused` has the first step that a case
+/// refuses. The records follow the steps, every contour is legal, and all numbers are in range.
+#[tactic(auto, using(crate::proofs::Walks::run_follows, crate::proofs::Walks::run_in_range))]
+pub fn run(alloc: Global, steps: &[Step]) -> Result<Vec<Record>, RunError>
     requires scalars { AreScalars steps.now }
-    ensures value { MatchResult result (λ o. unless_fault None (run_of steps.now) ≡ Ok (o.acts.items, o.segments)) (λ e. Ends (run_of steps.now) (Err e)) }
-    ensures program { EndsOnce false steps.now → IfOk result (λ o. IsProgram o.acts.items) }
-    ensures legal { IfOk result (λ _. AreLegal (motions_of steps.now)) }
+    requires built { AreBuiltSteps steps.now }
+    ensures value { Ends (compiled first_situation steps.now) result }
+    ensures follows { IfOk result (λ records. (behind : Situation) × FollowsLegally first_situation steps.now records.items behind) }
+    ensures range { IfOk result (λ records. AreRecords records.items) }
 {
-    let run = run_all(alloc, steps)?;
-    Ok(Output {
-        acts: run.acts,
-        segments: run.segments,
-    })
+    run_all(alloc, steps)
 }

@@ -1,221 +1,174 @@
-//! What settings and moves do.
+//! What settings ask for.
 
-ghost use Rattle.std.specs.Prelude.{◌≡◌, true, pos, ◌≤ℤ◌, Ok, IfOk};
+ghost use Rattle.std.specs.Prelude.{◌≡◌, pos, ◌≤ℤ◌, true, Some, None, unsigned_abs};
 ghost use Rattle.apt_scalar.specs.Scalars.{IsScalar};
-ghost use Rattle.apt_motion.specs.Deeds as deeds;
-ghost use Rattle.apt_unroll.specs.Numbers.{IsScalarOrNone};
-ghost use Rattle.apt_motion.specs.Good.{IsGoodPosition};
-ghost use Rattle.apt_offset.specs.Ranges.{IsTolerance};
-ghost use Rattle.apt_meaning.specs.States as states;
-ghost use Rattle.apt_motion.specs.Steps as steps;
-ghost use Rattle.apt_motion.specs.Motions.{with_side};
-ghost use Rattle.apt_motion.specs.Runs as runs;
-ghost use Rattle.apt_motion.specs.Steps.{Follows};
+ghost use Rattle.apt_words.specs.Rows.{first_of};
+ghost use Rattle.apt_words.specs.declared.deed.Deed.TheVariants as deeds;
+ghost use Rattle.apt_meaning.specs.Compiled.{asked};
+ghost use Rattle.apt_meaning.specs.Effects as effects;
+ghost use Rattle.apt_meaning.specs.Effects.{effect_of};
+ghost use Rattle.apt_meaning.specs.Refusals as refusals;
+ghost use Rattle.apt_meaning.specs.Refusals.{refusal_of};
+ghost use Rattle.apt_meaning.specs.Situations as situations;
 
-use crate::places::{diameter, feed_in, moved_by, place, radius, tolerance};
-use crate::running::{Run, move_to};
-use crate::state::Place;
-use crate::stopped::Stopped;
-use apt_defs::{DefError, define_line, define_scalar};
-use apt_scalar::tenths;
-use apt_words::{Case, Side, Symbol};
+use apt_cldata::Note;
+use apt_meaning::{Effect, Settings, Situation};
+use apt_scalar::{grid_units, tenths};
+use apt_words::{Case, Side, Units};
+
+/// The settings change, and one record says so.
+pub(crate) fn says(settings: Settings, note: Note) -> Effect
+    ensures { result ≡ Effect.Sets settings (Some note) }
+{
+    Effect::Sets(settings, Some(note))
+}
+
+/// The settings change.
+pub(crate) fn sets(settings: Settings) -> Effect
+    ensures { result ≡ Effect.Sets settings None }
+{
+    Effect::Sets(settings, None)
+}
+
+/// Whether a length in grid units is from 0 up to a limit.
+fn is_up_to(most: i64, g: i64) -> bool
+    ensures { result ≡ refusals.is_up_to most g }
+{
+    0 <= g && g <= most
+}
+
+/// The radius is half the diameter, rounded up.
+fn radius(diameter: i64) -> i64
+    requires least { pos 0 ≤ℤ diameter }
+    requires most { diameter ≤ℤ pos 1000000 }
+    ensures { result ≡ pos (situations.radius_of (unsigned_abs diameter)) }
+{
+    ((diameter.unsigned_abs() + 1) / 2) as i64
+}
 
 /// A cutter's diameter is at most 1,000,000 grid units.
-pub(crate) fn cutter(run: Run, v: i64) -> Result<Run, Stopped>
+pub(crate) fn cutter(at: &Situation, v: i64) -> Result<Effect, Case>
     requires { IsScalar v }
-    ensures { Follows (deeds.cutter run v) result }
+    ensures { result ≡ asked (refusal_of at.now (deeds.Cutter v)) (effect_of at.now (deeds.Cutter v)) }
 {
-    let diameter = diameter(&run, v);
-    with_diameter(run, diameter)
+    with_diameter(at.settings, grid_units(at.settings.units, v))
 }
 
-fn with_diameter(mut run: Run, diameter: Result<i64, Case>) -> Result<Run, Stopped>
-    requires least { IfOk diameter (λ d. pos 0 ≤ℤ d) }
-    requires most { IfOk diameter (λ d. d ≤ℤ pos 1000000) }
-    ensures { Follows (steps.with_diameter run diameter) result }
+fn with_diameter(settings: Settings, d: i64) -> Result<Effect, Case>
+    ensures { result ≡ asked (first_of (refusals.length_cases (pos 1000000) d)) (effects.says (record settings { radius = pos (situations.radius_of (unsigned_abs d)) }) (Note.Cutter d)) }
 {
-    let diameter = diameter?;
-    run.state.radius = radius(diameter);
-    Ok(run)
-}
-
-/// The tolerance inwards.
-pub(crate) fn intol(run: Run, v: i64) -> Result<Run, Stopped>
-    requires { IsScalar v }
-    ensures { Follows (deeds.intol run v) result }
-{
-    let t = tolerance(&run, v);
-    with_intol(run, t)
-}
-
-fn with_intol(mut run: Run, t: Result<i64, Case>) -> Result<Run, Stopped>
-    requires { IfOk t IsTolerance }
-    ensures { Follows (steps.with_intol run t) result }
-{
-    let t = t?;
-    run.state.intol = t;
-    Ok(run)
-}
-
-/// The tolerance outwards.
-pub(crate) fn outtol(run: Run, v: i64) -> Result<Run, Stopped>
-    requires { IsScalar v }
-    ensures { Follows (deeds.outtol run v) result }
-{
-    let t = tolerance(&run, v);
-    with_outtol(run, t)
-}
-
-fn with_outtol(mut run: Run, t: Result<i64, Case>) -> Result<Run, Stopped>
-    requires { IfOk t IsTolerance }
-    ensures { Follows (steps.with_outtol run t) result }
-{
-    let t = t?;
-    run.state.outtol = t;
-    Ok(run)
-}
-
-/// The feed.
-pub(crate) fn fedrat(mut run: Run, v: i64) -> Result<Run, Stopped>
-    requires { IsScalar v }
-    ensures { Follows (deeds.fedrat run v) result }
-{
-    let f = feed_in(tenths(v))?;
-    run.state.feed = f;
-    Ok(run)
-}
-
-/// The side, where a word sets one.
-pub(crate) fn to_side(mut run: Run, side: Option<Side>) -> Run
-    ensures value { result ≡ with_side run side }
-    ensures segments { result.segments ≡ run.segments }
-{
-    if let Some(side) = side {
-        run.state.side = side;
+    if !is_up_to(1_000_000, d) {
+        return Err(Case::OutOfRange);
     }
-    run
+    let settings = Settings {
+        radius: radius(d),
+        ..settings
+    };
+    Ok(says(settings, Note::Cutter(d)))
 }
 
-/// RAPID is pending.
-pub(crate) fn rapid(mut run: Run) -> Run
-    ensures { result ≡ runs.with_state run (record run.state { rapid = true }) }
+/// A tolerance is at most 10,000 grid units.
+pub(crate) fn intol(at: &Situation, v: i64) -> Result<Effect, Case>
+    requires { IsScalar v }
+    ensures { result ≡ asked (refusal_of at.now (deeds.Intol v)) (effect_of at.now (deeds.Intol v)) }
 {
-    run.state.rapid = true;
-    run
-}
-
-/// The tool stands at a place.
-pub(crate) fn from(mut run: Run, x: i64, y: i64, z: Option<i64>) -> Result<Run, Stopped>
-    requires x { IsScalar x }
-    requires y { IsScalar y }
-    requires z { IsScalarOrNone z }
-    ensures { Follows (deeds.from run x y z) result }
-{
-    unless_there(&run)?;
-    let to = place(&run, x, y, z)?;
-    run.state.position = Some(to);
-    Ok(run)
-}
-
-/// There is no place to start from twice.
-#[tactic(auto, unfolding(crate::specs::Deeds::unless_there))]
-fn unless_there(run: &Run) -> Result<bool, Case>
-    ensures { result ≡ deeds.unless_there run.now.state.position }
-{
-    if run.state.position.is_some() {
-        Err(Case::FromAgain)
-    } else {
-        Ok(true)
+    let intol = grid_units(at.settings.units, v);
+    if !is_up_to(10_000, intol) {
+        return Err(Case::OutOfRange);
     }
+    let settings = Settings {
+        intol,
+        ..at.settings
+    };
+    Ok(says(settings, Note::Intol(intol)))
+}
+
+/// A tolerance is at most 10,000 grid units.
+pub(crate) fn outtol(at: &Situation, v: i64) -> Result<Effect, Case>
+    requires { IsScalar v }
+    ensures { result ≡ asked (refusal_of at.now (deeds.Outtol v)) (effect_of at.now (deeds.Outtol v)) }
+{
+    let outtol = grid_units(at.settings.units, v);
+    if !is_up_to(10_000, outtol) {
+        return Err(Case::OutOfRange);
+    }
+    let settings = Settings {
+        outtol,
+        ..at.settings
+    };
+    Ok(says(settings, Note::Outtol(outtol)))
+}
+
+/// A feed is at least one tenth.
+pub(crate) fn fedrat(at: &Situation, v: i64) -> Result<Effect, Case>
+    requires { IsScalar v }
+    ensures { result ≡ asked (refusal_of at.now (deeds.Fedrat v)) (effect_of at.now (deeds.Fedrat v)) }
+{
+    let feed = tenths(v);
+    if feed < 1 {
+        return Err(Case::OutOfRange);
+    }
+    let settings = Settings {
+        feed,
+        ..at.settings
+    };
+    Ok(says(settings, Note::Fedrat(feed)))
+}
+
+/// The settings with other units.
+pub(crate) fn with_units(settings: Settings, units: Units) -> Settings
+    ensures { result ≡ record settings { units = units } }
+{
+    Settings { units, ..settings }
+}
+
+/// The settings with the cutter on a side.
+pub(crate) fn on_side(settings: Settings, side: Side) -> Settings
+    ensures { result ≡ record settings { side = side } }
+{
+    Settings { side, ..settings }
+}
+
+/// The settings with a pending RAPID.
+pub(crate) fn with_rapid(settings: Settings) -> Settings
+    ensures { result ≡ record settings { rapid = true } }
+{
+    Settings {
+        rapid: true,
+        ..settings
+    }
+}
+
+/// The settings behind END.
+pub(crate) fn ended(settings: Settings) -> Settings
+    ensures { result ≡ record settings { ended = true } }
+{
+    Settings {
+        ended: true,
+        ..settings
+    }
+}
+
+/// The settings with the side that a word sets, where it sets one.
+pub(crate) fn with_side(settings: Settings, side: Option<Side>) -> Settings
+    ensures { result ≡ situations.with_side settings side }
+{
+    match side {
+        None => settings,
+        Some(side) => Settings { side, ..settings },
+    }
+}
+
+/// Whether a feed is set.
+pub(crate) fn has_feed(settings: &Settings) -> bool
+    ensures { result ≡ situations.has_feed settings.now }
+{
+    settings.feed > 0
 }
 
 /// A move needs a feed, unless RAPID is pending.
-#[tactic(auto, unfolding(crate::specs::Deeds::needs_feed))]
-fn needs_feed(run: &Run) -> Result<bool, Case>
-    ensures { result ≡ deeds.needs_feed run.now }
+pub(crate) fn lacks_feed(settings: &Settings) -> bool
+    ensures { result ≡ situations.lacks_feed settings.now }
 {
-    if run.state.has_feed() || run.state.rapid {
-        Ok(true)
-    } else {
-        Err(Case::NoFeed)
-    }
-}
-
-/// A move to a place, where a move has what it needs.
-fn moved_to(run: Run, to: Result<Place, Case>, needs: Result<bool, Case>) -> Result<Run, Stopped>
-    requires { IfOk to IsGoodPosition }
-    ensures { Follows (steps.moved_to run to needs) result }
-{
-    let to = to?;
-    needs?;
-    Ok(move_to(run, to)?)
-}
-
-/// A move to a place of scalars.
-pub(crate) fn goto(run: Run, x: i64, y: i64, z: Option<i64>) -> Result<Run, Stopped>
-    requires x { IsScalar x }
-    requires y { IsScalar y }
-    requires z { IsScalarOrNone z }
-    ensures { Follows (deeds.goto run x y z) result }
-{
-    let to = place(&run, x, y, z);
-    let needs = needs_feed(&run);
-    moved_to(run, to, needs)
-}
-
-/// A place that is there.
-pub(crate) fn position_of(run: &Run) -> Result<Place, Case>
-    ensures value { result ≡ states.position_of run.now.state }
-    ensures range { IfOk result IsGoodPosition }
-{
-    match run.state.position {
-        Some(position) => Ok(position),
-        None => Err(Case::NoFrom),
-    }
-}
-
-/// A move by three scalars.
-pub(crate) fn godlta(run: Run, x: i64, y: i64, z: i64) -> Result<Run, Stopped>
-    requires x { IsScalar x }
-    requires y { IsScalar y }
-    requires z { IsScalar z }
-    ensures { Follows (deeds.godlta run x y z) result }
-{
-    let from = position_of(&run)?;
-    let to = moved_by(&run, from, x, y, z);
-    let needs = needs_feed(&run);
-    moved_to(run, to, needs)
-}
-
-/// A name is given a number.
-pub(crate) fn assign(mut run: Run, name: &Symbol) -> Result<Run, Stopped>
-    ensures { Follows (Ok (deeds.assign run name.now)) result }
-{
-    match define_scalar(&mut run.table, name) {
-        Ok(()) => Ok(run),
-        Err(DefError::Case(case)) => Err(Stopped::Refused(case)),
-        Err(DefError::NoMemory) => Err(Stopped::NoMemory),
-    }
-}
-
-/// A line by four scalars.
-pub(crate) fn line(
-    mut run: Run,
-    name: &Symbol,
-    x: i64,
-    y: i64,
-    u: i64,
-    v: i64,
-) -> Result<Run, Stopped>
-    requires x { IsScalar x }
-    requires y { IsScalar y }
-    requires u { IsScalar u }
-    requires v { IsScalar v }
-    ensures { Follows (deeds.line run name.now x y u v) result }
-{
-    match define_line(&mut run.table, name, run.state.units, x, y, u, v) {
-        Ok(()) => Ok(run),
-        Err(DefError::Case(case)) => Err(Stopped::Refused(case)),
-        Err(DefError::NoMemory) => Err(Stopped::NoMemory),
-    }
+    !(has_feed(settings) || settings.rapid)
 }

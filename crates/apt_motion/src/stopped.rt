@@ -1,10 +1,10 @@
-//! Why a run stops.
+//! Why a step is not done.
 
 use apt_words::Case;
 use std::alloc::AllocError;
 
 /// The case that refuses a step, or want of memory.
-#[derive(Clone, Copy, Debug)]
+#[derive(Clone, Copy)]
 pub(crate) enum Stopped {
     Refused(Case),
     NoMemory,

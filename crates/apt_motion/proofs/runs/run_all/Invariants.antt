@@ -1,12 +1,16 @@
-use Rattle.std.proofs.Common.{◌≡◌, ◌≤◌, drop}
-use Rattle.apt_motion.specs.Deeds.{run_of, run_from}
+use Rattle.std.proofs.Common.{◌≡◌, drop}
+use Rattle.apt_words.specs.Built.{AreBuiltSteps}
 use Rattle.apt_unroll.specs.Numbers.{AreScalars}
+use Rattle.apt_meaning.specs.Situations.{first_situation}
+use Rattle.apt_meaning.specs.Ranges.{IsSituation}
+use Rattle.apt_meaning.specs.Compiled.{compiled, with_front}
 use Rattle.apt_motion.proofs.runs.run_all.Given as goal
 
 abbrev pub invariant-steps : goal.invariant-steps
 invariant-steps l =
     record {
-      run : run_of l.fn.steps ≡ run_from l.run (drop l.st-index l.fn.steps);
-      few : l.run.segments ≤ l.st-index;
-      are : AreScalars (drop l.st-index l.fn.steps);
+      so_far : with_front l.records.items (compiled l.at (drop l.st-index l.steps)) ≡ compiled first_situation l.fn.steps;
+      situation : IsSituation l.at;
+      scalars : AreScalars (drop l.st-index l.steps);
+      built : AreBuiltSteps (drop l.st-index l.steps);
     }
