@@ -5,14 +5,14 @@ use arrayvec::ArrayVec;
 use std::marker::Model;
 
 /// A word of a block: its letter, and its number.
-#[derive(Clone, Copy, Debug, Default, PartialEq, Eq)]
+#[derive(Clone, Copy, Default, PartialEq, Eq)]
 pub struct TapeWord {
     pub letter: u8,
     pub value: i64,
 }
 
 /// The words of a block, in order. Clauses see their list.
-#[derive(Debug, Drop)]
+#[derive(Drop)]
 pub struct Block {
     pub words: ArrayVec<TapeWord, 12>,
 }
@@ -45,7 +45,7 @@ impl Block {
 }
 
 /// Why a tape can't be read.
-#[derive(Clone, Copy, Debug, PartialEq, Eq)]
+#[derive(Clone, Copy, PartialEq, Eq)]
 pub enum TapeCause {
     NoStart,
     BadParity,

@@ -5,7 +5,7 @@ use apt_words::{Cool, Turn, Units};
 
 /// An act of a control. Coordinates are in grid units, feeds in tenths of an inch or of a millimetre
 /// per minute, spindle speeds in turns per minute (0 with `Off`).
-#[derive(Clone, Copy, Debug, PartialEq, Eq)]
+#[derive(Clone, Copy, PartialEq, Eq)]
 pub enum Act {
     Units(Units),
     Rapid { x: i64, y: i64, z: i64 },

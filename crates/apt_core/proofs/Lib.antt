@@ -1,3 +1,3 @@
-mod Worked
 pub mod Compiling
-pub mod Telling
+pub mod Putting
+pub mod Running

@@ -1,7 +1,6 @@
 pub mod Parts
 pub mod Words
 pub mod Unread
-pub mod Answers
-pub mod Telling
+pub mod Promise
 pub mod Request
 pub mod Delivery

@@ -1,17 +1,16 @@
 //! The top call: the words of a command line over a shelf of files and a sink of lines.
 #![tactic(auto)]
 
-ghost use Rattle.std.specs.Prelude.{◌≡◌, ◌↔◌, ◌≤◌, None};
-ghost use Rattle.apt_shelf.specs.Told.{Rose};
+ghost use Rattle.std.specs.Prelude.{◌≡◌, None};
 ghost use Rattle.apt_core.specs.Words.{asked, texts};
-ghost use Rattle.apt_core.specs.Answers.{Answers, Completes, Leaves, IsBeforeWriting};
-ghost use Rattle.apt_core.specs.Telling.{Shows};
+ghost use Rattle.apt_core.specs.Promise.{IsRun, Completes, Works, the_machine, files_on, outside};
 
 mod compile;
 mod part;
 mod put;
 mod words;
 
+use apt_machine::Machine;
 pub use apt_report::{FileName, PartCause, Status, Summary};
 use apt_shelf::{Shelf, Sink};
 use compile::compile;
@@ -23,7 +22,7 @@ use words::{Request, request_of};
 /// Does what the words ask, and puts the answer's line: `compile PART MACHINE CL TAPE` reads a part
 /// under the name PART (at most 4 MiB) and writes its tape, in RS-358 with blocks numbered by one, under the
 /// name TAPE. Nothing is read or written under the names MACHINE and CL.
-#[tactic(auto, using(crate::proofs::Compiling::completes, crate::proofs::Telling::answer_told, crate::proofs::Telling::leaves_told, crate::proofs::Telling::before_told, crate::proofs::Telling::usage_told, crate::proofs::Telling::shows_told))]
+#[tactic(auto, using(crate::proofs::Running::run_is, crate::proofs::Running::usage_asked, crate::proofs::Running::completes))]
 pub fn apt<H: Shelf, K: Sink>(
     rt: &(impl Threads + Sync),
     alloc: Global,
@@ -31,17 +30,10 @@ pub fn apt<H: Shelf, K: Sink>(
     shelf: &mut H,
     out: &mut K,
 ) -> Status
+    ensures runs { IsRun the_machine (asked (texts words.now)) (outside H.Shelf K.Sink shelf.old out.old) (outside H.Shelf K.Sink shelf.new out.new) result }
     ensures usage { result ≡ Status.Usage → asked (texts words.now) ≡ None }
-    ensures answer { Answers (asked (texts words.now)) (H.told shelf.old) (Rose (H.read_faults shelf.old) (H.read_faults shelf.new)) (Rose (H.write_faults shelf.old) (H.write_faults shelf.new)) (Rose (K.faults out.old) (K.faults out.new)) result }
-    ensures complete { Completes (asked (texts words.now)) (H.told shelf.old) (Rose (H.read_faults shelf.old) (H.read_faults shelf.new)) (Rose (H.write_faults shelf.old) (H.write_faults shelf.new)) (Rose (K.faults out.old) (K.faults out.new)) result }
-    ensures leaves { Leaves (asked (texts words.now)) (H.told shelf.old) (H.told shelf.new) result }
-    ensures shows { Shows (asked (texts words.now)) (H.told shelf.old) (K.shown out.old) (K.shown out.new) result }
-    ensures untouched { result ≡ Status.Usage → shelf.new ≡ shelf.old }
-    ensures unbegun { IsBeforeWriting result → H.writing shelf.new ≡ H.writing shelf.old }
-    ensures unfailed { IsBeforeWriting result → H.write_faults shelf.new ≡ H.write_faults shelf.old }
-    ensures reading { H.read_faults shelf.old ≤ H.read_faults shelf.new }
-    ensures writing { H.write_faults shelf.old ≤ H.write_faults shelf.new }
-    ensures putting { K.faults out.old ≤ K.faults out.new }
+    ensures untouched { asked (texts words.now) ≡ None → shelf.new ≡ shelf.old }
+    ensures complete { Completes the_machine (asked (texts words.now)) (outside H.Shelf K.Sink shelf.old out.old) (outside H.Shelf K.Sink shelf.new out.new) result }
 {
     let status = answer(alloc, words, shelf);
     tell(alloc, out, status)
@@ -49,14 +41,8 @@ pub fn apt<H: Shelf, K: Sink>(
 
 /// The answer to the words.
 fn answer<H: Shelf>(alloc: Global, words: &[String], shelf: &mut H) -> Status
-    ensures usage { (result ≡ Status.Usage) ↔ (asked (texts words.now) ≡ None) }
-    ensures answer { Answers (asked (texts words.now)) (H.told shelf.old) (Rose (H.read_faults shelf.old) (H.read_faults shelf.new)) (Rose (H.write_faults shelf.old) (H.write_faults shelf.new)) ⊥ result }
-    ensures leaves { Leaves (asked (texts words.now)) (H.told shelf.old) (H.told shelf.new) result }
-    ensures untouched { result ≡ Status.Usage → shelf.new ≡ shelf.old }
-    ensures unbegun { IsBeforeWriting result → H.writing shelf.new ≡ H.writing shelf.old }
-    ensures unfailed { IsBeforeWriting result → H.write_faults shelf.new ≡ H.write_faults shelf.old }
-    ensures reading { H.read_faults shelf.old ≤ H.read_faults shelf.new }
-    ensures writing { H.write_faults shelf.old ≤ H.write_faults shelf.new }
+    ensures works { Works the_machine (asked (texts words.now)) (files_on H.Shelf shelf.old) (files_on H.Shelf shelf.new) result }
+    ensures untouched { asked (texts words.now) ≡ None → shelf.new ≡ shelf.old }
 {
     let Some(request) = request_of(words) else {
         return Status::Usage;
@@ -64,9 +50,9 @@ fn answer<H: Shelf>(alloc: Global, words: &[String], shelf: &mut H) -> Status
     match request {
         Request::Compile {
             part,
-            machine,
-            cl,
+            machine: _,
+            cl: _,
             tape,
-        } => compile(alloc, shelf, part, machine, cl, tape),
+        } => compile(alloc, shelf, &Machine::largest(), part, tape),
     }
 }

@@ -1,8 +1,6 @@
 //! The line of an answer, put on a sink.
 
-ghost use Rattle.std.specs.Prelude.{◌≤◌};
-ghost use Rattle.apt_shelf.specs.Told.{Rose};
-ghost use Rattle.apt_core.specs.Telling.{IsTold, ShowsLine};
+ghost use Rattle.apt_core.specs.Promise.{IsPut, lines_on};
 
 use apt_report::{Status, line_of};
 use apt_shelf::{ShelfFault, Sink};
@@ -10,11 +8,9 @@ use std::alloc::Global;
 
 /// Puts the line of an answer, where it has one, and gives the answer; `WriteFault` or `NoMemory` where
 /// that fails.
-#[tactic(auto, using(crate::proofs::Telling::silent_shown, crate::proofs::Telling::no_line_shown, crate::proofs::Telling::line_shown, crate::proofs::Telling::front_shown_fault, crate::proofs::Telling::front_shown_short))]
+#[tactic(auto, using(crate::proofs::Putting::short_put, crate::proofs::Putting::silent_put, crate::proofs::Putting::line_put, crate::proofs::Putting::front_put, crate::proofs::Putting::front_put_short))]
 pub(crate) fn tell<K: Sink>(alloc: Global, out: &mut K, status: Status) -> Status
-    ensures told { IsTold status (Rose (K.faults out.old) (K.faults out.new)) result }
-    ensures shown { ShowsLine status (K.shown out.old) (K.shown out.new) result }
-    ensures later { K.faults out.old ≤ K.faults out.new }
+    ensures { IsPut status (lines_on K.Sink out.old) (lines_on K.Sink out.new) result }
 {
     let Ok(line) = line_of(alloc, &status) else {
         return Status::NoMemory;

@@ -43,7 +43,8 @@ use Rattle.apt_meaning.specs.Refusals.{is_other_kind, position_cases, move_cases
 use Rattle.apt_meaning.specs.Records.{AreLegal}
 use Rattle.apt_meaning.specs.Compiled.{ends_of}
 use Rattle.apt_meaning.specs.Ranges.{IsPositionOrNone, AreSettings, IsSituation, IsMotion, IsEffect}
-use Rattle.apt_meaning.specs.Numbers.{HasNumbers, HasIn}
+use Rattle.apt_scalar.specs.Numbers.{HasScalars}
+use Rattle.apt_meaning.specs.Numbers.{HasIn}
 use Rattle.apt_meaning.proofs.Refused.{first_none, none_first}
 use Rattle.apt_meaning.proofs.Legal.{motion_legal, motion_contact, motion_defined, start_up_point}
 use Rattle.apt_meaning.proofs.Numbers.{reach_in, up_to_in, tolerance_in, radius_in, feed_in, feed_note, with_units, with_radius, with_intol, with_outtol, with_feed, with_rapid, with_ended, on_side, on_side_or_as_it_was, sense_in, allowance_in}
@@ -114,7 +115,7 @@ started_there : (b : Bool) (to : Position) → b ≡ true → IsPosition to → 
 started_there true to e is = moves_to reaches.Start to is
 started_there false to e is = absurd (true≢false (sym e))
 
-starts : (u : StartUp) → IsPosition u.start → NoneHolds (start_up_cases u) → Asks (moves reaches.Start (started u))
+pub starts : (u : StartUp) → IsPosition u.start → NoneHolds (start_up_cases u) → Asks (moves reaches.Start (started u))
 starts u is none =
     started_there (is_none (first_of (start_up_cases u))) (at_height u.start.z (start_point u)) (ap is_none (none_first (start_up_cases u) none))
     (record { at = start_up_point u none; z = is.z })
@@ -148,7 +149,7 @@ go_or_refused at how_a a (Some b) is none = go_asks at how_a a b.0 b.1 is none
 
 -- ---- contours
 
-motion_is : (s : Settings) (start : Position) (drive : Surface) (turned : Sign) (how : Stop) (check : Surface)
+pub motion_is : (s : Settings) (start : Position) (drive : Surface) (turned : Sign) (how : Stop) (check : Surface)
     → AreSettings s → IsPosition start → IsSurface drive → IsSurface check → is_zero turned ≡ false → IsMotion (motion s start drive turned how check)
 motion_is s start drive turned how check is from d c turns = record {
   start = from;
@@ -168,7 +169,7 @@ unless_asks : (b : Bool) (o : Option Motion) → b ≡ false → Asks (cuts o) �
 unless_asks true o e asks = absurd (true≢false e)
 unless_asks false o e asks = asks
 
-turned_asks : (s : Settings) (start : Position) (drive : Surface) (turned : Sign) (how : Stop) (check : Surface)
+pub turned_asks : (s : Settings) (start : Position) (drive : Surface) (turned : Sign) (how : Stop) (check : Surface)
     → AreSettings s → IsPosition start → IsSurface drive → IsSurface check
     → NoneHolds (turned_cases s start drive turned how check) → Asks (cuts (if_turned s start drive turned how check))
 turned_asks s start drive turned how check is from d c none =
@@ -200,7 +201,7 @@ contour_asks at side go drive how check is none =
 
 -- ---- a line for each statement
 
-pub asks : (at : Situation) (deed : Deed) → IsSituation at → HasNumbers deed → NoneHolds (cases_of at deed) → Asks (effect_of at deed)
+pub asks : (at : Situation) (deed : Deed) → IsSituation at → HasScalars deed → NoneHolds (cases_of at deed) → Asks (effect_of at deed)
 asks at (deeds.Partno text) is numbers none = says at.settings (notes.Partno text) is.settings tt
 asks at (deeds.Remark text) is numbers none = sets at.settings is.settings
 asks at (deeds.Units units) is numbers none = says (record at.settings { units = units }) (notes.Units units) (with_units at.settings units is.settings) tt
@@ -260,14 +261,14 @@ asks at deeds.Jumpto is numbers none = absurd (true≢false none.0)
 asks at deeds.If is numbers none = absurd (true≢false none.0)
 
 -- where no case refuses it, a step has an effect
-pub answered : (at : Situation) (deed : Deed) → IsSituation at → HasNumbers deed → refusal_of at deed ≡ None → Asks (effect_of at deed)
+pub answered : (at : Situation) (deed : Deed) → IsSituation at → HasScalars deed → refusal_of at deed ≡ None → Asks (effect_of at deed)
 answered at deed is numbers fine = asks at deed is numbers (first_none (cases_of at deed) fine)
 
 same : {A : Type 0} (x y : A) → Some x ≡ Some y → x ≡ y
 same x y e = cc
 
 -- and it is in range
-pub good : (at : Situation) (deed : Deed) (e : Effect) → effect_of at deed ≡ Some e → NoneHolds (cases_of at deed) → IsSituation at → HasNumbers deed → IsEffect e
+pub good : (at : Situation) (deed : Deed) (e : Effect) → effect_of at deed ≡ Some e → NoneHolds (cases_of at deed) → IsSituation at → HasScalars deed → IsEffect e
 good at deed e asked none is numbers =
     let a = asks at deed is numbers none in
     subst IsEffect (same a.e e (sym a.asked ∙ asked)) a.good

@@ -10,6 +10,7 @@ pub mod Said
 pub mod Refused
 pub mod Numbers
 pub mod Asked
+pub mod Fed
 pub mod Kept
 pub mod Stands
 pub mod Walk

@@ -19,7 +19,8 @@ use Rattle.apt_meaning.specs.declared.effect.Effect.{Effect}
 use Rattle.apt_meaning.specs.Situations.{with_side}
 use Rattle.apt_meaning.specs.Motions.{surface_in, turn_at, if_turned, is_defined, motion, motion_at}
 use Rattle.apt_meaning.specs.Effects.{moves, cuts, moved_from, started_at, effect_of}
-use Rattle.apt_meaning.specs.Sayings.{is_ended, IsSaidBy}
+use Rattle.apt_words.specs.Endings.{is_ended}
+use Rattle.apt_meaning.specs.Sayings.{IsSaidBy}
 
 pub of_some : {A : Type 0} (P : A → Type 0) (o : Option A) (x : A) → o ≡ Some x → IfSome o P → P x
 of_some P o x e held = subst (λ q. IfSome q P) e held

@@ -13,7 +13,8 @@ use Rattle.apt_meaning.specs.Refusals.{refusal_of}
 use Rattle.apt_meaning.specs.Records.{MayHave, AreLegal, FollowsLegally, records_of, after}
 use Rattle.apt_meaning.specs.Compiled.{ends_of, with_front, asked, or_refused, compiled}
 use Rattle.apt_meaning.specs.Ranges.{IsSituation, IsEffect}
-use Rattle.apt_meaning.specs.Numbers.{HaveNumbers, HasIn}
+use Rattle.apt_scalar.specs.Numbers.{AreScalars}
+use Rattle.apt_meaning.specs.Numbers.{HasIn}
 use Rattle.apt_meaning.proofs.Asked.{Asks, answered}
 use Rattle.apt_meaning.proofs.Kept.{kept, records_in, records-append}
 
@@ -34,18 +35,18 @@ pub record Done (refusal : Option Case) (effect : Option Effect) (more : Effect 
 no_ok : (refusal : Refusal) (written : List Record) → Err refusal ≡ Ok written → ⊥
 no_ok refusal written e = cc
 
-done : (step : Step) (refusal : Option Case) (effect : Option Effect) (more : Effect → Result (List Record) Refusal) (written : List Record)
+pub done : (step : Step) (refusal : Option Case) (effect : Option Effect) (more : Effect → Result (List Record) Refusal) (written : List Record)
     → or_refused step (asked refusal effect) more ≡ Ok written → Done refusal effect more written
 done step (Some case) effect more written h = absurd (no_ok _ written h)
 done step None None more written h = absurd (no_ok _ written h)
 done step None (Some e) more written h = record { e = e; fine = refl; asked = refl; rest = h }
 
-front_ok : (front : List Record) (r : Result (List Record) Refusal) (written : List Record) → with_front front r ≡ Ok written
+pub front_ok : (front : List Record) (r : Result (List Record) Refusal) (written : List Record) → with_front front r ≡ Ok written
     → (rest : List Record) × (r ≡ Ok rest) × (written ≡ front ++ rest)
 front_ok front (Ok rest) written h = (rest, refl, cc)
 front_ok front (Err refusal) written h = absurd (no_ok refusal written h)
 
-nothing_left : (written : List Record) → ◌≡◌ {A = Result (List Record) Refusal} (Ok []) (Ok written) → written ≡ []
+pub nothing_left : (written : List Record) → ◌≡◌ {A = Result (List Record) Refusal} (Ok []) (Ok written) → written ≡ []
 nothing_left written h = cc
 
 same_some : (d e : Effect) → ◌≡◌ {A = Option Effect} (Some d) (Some e) → d ≡ e
@@ -57,7 +58,7 @@ pub record IsFit (e : Effect) : Type 0 where
   pub legal : AreLegal e (ends_of e)
   pub ends : HasIn e (ends_of e)
 
-fit : (o : Option Effect) (e : Effect) → o ≡ Some e → Asks o → IsFit e
+pub fit : (o : Option Effect) (e : Effect) → o ≡ Some e → Asks o → IsFit e
 fit o e h asks = subst IsFit (same_some asks.e e (sym asks.asked ∙ h)) (record { good = asks.good; legal = asks.legal; ends = asks.ends })
 
 -- ---- the walk
@@ -69,7 +70,7 @@ pub record Arrives (at : Situation) (steps : List Step) (written : List Record) 
   pub situation : IsSituation behind
   pub records : AreRecords written
 
-pub compiled_follows : (at : Situation) (steps : List Step) (written : List Record) → IsSituation at → HaveNumbers steps → compiled at steps ≡ Ok written
+pub compiled_follows : (at : Situation) (steps : List Step) (written : List Record) → IsSituation at → AreScalars steps → compiled at steps ≡ Ok written
     → Arrives at steps written
 compiled_follows at [] written is numbers h =
     let none = nothing_left written h in

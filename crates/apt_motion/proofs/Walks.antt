@@ -4,7 +4,7 @@ use Rattle.apt_words.specs.declared.Case.{Case}
 use Rattle.apt_words.specs.declared.Refusal.{Refusal}
 use Rattle.apt_words.specs.declared.deed.Deed.{Deed}
 use Rattle.apt_words.specs.declared.deed.Step.{Step}
-use Rattle.apt_unroll.specs.Numbers.{HasScalars, AreScalars}
+use Rattle.apt_scalar.specs.Numbers.{HasScalars, AreScalars}
 use Rattle.apt_plane.specs.declared.figures.Pt.{Pt}
 use Rattle.apt_plane.specs.Ranges.{IsPoint}
 use Rattle.apt_cldata.specs.declared.record.Record.{Record}
@@ -19,14 +19,13 @@ use Rattle.apt_meaning.specs.Situations.{first_situation}
 use Rattle.apt_meaning.specs.Records.{FollowsLegally, records_of, after}
 use Rattle.apt_meaning.specs.Compiled.{ends_of, with_front, asked, or_refused, compiled}
 use Rattle.apt_meaning.specs.Ranges.{IsSituation, IsEffect}
-use Rattle.apt_meaning.specs.Numbers.{HasNumbers, HaveNumbers, HasIn}
+use Rattle.apt_meaning.specs.Numbers.{HasIn}
 use Rattle.apt_meaning.proofs.Asked.{answered}
 use Rattle.apt_meaning.proofs.Kept.{kept, first_situation-IsSituation}
 use Rattle.apt_meaning.proofs.Walk.{compiled_follows}
 use Rattle.apt_motion.specs.declared.runs.RunError.{RunError}
 use Rattle.apt_motion.specs.Ends.{Ends}
 use Rattle.apt_motion.specs.Finding.{ends_at}
-use Rattle.apt_motion.proofs.Numbers.{has_numbers, have_numbers}
 
 regroup : (front more : List Record) (r : Result (List Record) Refusal) → with_front front (with_front more r) ≡ with_front (front ++ more) r
 regroup front more (Ok rest) = ap (λ (x : List Record). Ok x) (sym (append_assoc front more rest))
@@ -73,7 +72,7 @@ same_some d e h = cc
 pub fit : (at : Situation) (deed : Deed) (e : Effect) → IsSituation at → HasScalars deed → asked (refusal_of at deed) (effect_of at deed) ≡ Ok e → IsFit at e
 fit at deed e is scalars does =
     let h = asked_fine (refusal_of at deed) (effect_of at deed) e does in
-    let a = answered at deed is (has_numbers deed scalars) h.0 in
+    let a = answered at deed is scalars h.0 in
     let fits : IsFit at a.e = record { good = a.good; ends = a.ends; behind = kept at a.e (ends_of a.e) is a.good a.ends } in
     subst (IsFit at) (same_some a.e e (sym a.asked ∙ h.1)) fits
 
@@ -96,11 +95,11 @@ end_in (effects.Cuts m) (Some p) is same = subst IsPoint (same_end (contact m) p
 pub run_follows : {A : Type 0} (steps : List Step) (result : Result (Vec Record A) RunError) → AreScalars steps → Ends (compiled first_situation steps) result
     → IfOk result (λ records. (behind : Situation) × FollowsLegally first_situation steps records.items behind)
 run_follows steps (Ok records) scalars is =
-    let a = compiled_follows first_situation steps records.items first_situation-IsSituation (have_numbers steps scalars) is in
+    let a = compiled_follows first_situation steps records.items first_situation-IsSituation scalars is in
     (a.behind, a.follows)
 run_follows steps (Err e) scalars is = tt
 
 pub run_in_range : {A : Type 0} (steps : List Step) (result : Result (Vec Record A) RunError) → AreScalars steps → Ends (compiled first_situation steps) result
     → IfOk result (λ records. AreRecords records.items)
-run_in_range steps (Ok records) scalars is = (compiled_follows first_situation steps records.items first_situation-IsSituation (have_numbers steps scalars) is).records
+run_in_range steps (Ok records) scalars is = (compiled_follows first_situation steps records.items first_situation-IsSituation scalars is).records
 run_in_range steps (Err e) scalars is = tt

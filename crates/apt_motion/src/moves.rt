@@ -4,7 +4,7 @@ ghost use Rattle.std.specs.Prelude.{◌≡◌, ◌+ℤ◌, [], Some};
 ghost use Rattle.apt_scalar.specs.Scalars.{IsScalar};
 ghost use Rattle.apt_words.specs.declared.deed.Deed.TheVariants as deeds;
 ghost use Rattle.apt_words.specs.Rows.{first_of};
-ghost use Rattle.apt_unroll.specs.Numbers.{IsScalarOrNone};
+ghost use Rattle.apt_scalar.specs.Numbers.{IsScalarOrNone};
 ghost use Rattle.apt_defs.specs.Definitions as definitions;
 ghost use Rattle.apt_meaning.specs.Compiled.{asked};
 ghost use Rattle.apt_meaning.specs.Effects as effects;

@@ -2,7 +2,7 @@
 
 ghost use Rattle.std.specs.Prelude.{◌≡◌, IfOk};
 ghost use Rattle.apt_words.specs.Built.{AreBuiltSteps};
-ghost use Rattle.apt_unroll.specs.Numbers.{AreScalars};
+ghost use Rattle.apt_scalar.specs.Numbers.{AreScalars};
 ghost use Rattle.apt_cldata.specs.Ranges.{AreRecords};
 ghost use Rattle.apt_meaning.specs.Compiled.{compiled, refused_at};
 ghost use Rattle.apt_meaning.specs.Records.{FollowsLegally};

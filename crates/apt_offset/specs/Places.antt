@@ -1,5 +1,5 @@
 -- The place of the cutter at a surface: left of a line or inside a circle (Plus), right or outside (Minus), or on it (Zero).
-use Rattle.std.specs.Prelude.{◌*◌, nat_le, Bool, true, false, ℤ, pos, ◌-ℤ◌, ◌*ℤ◌, unsigned_abs, max, Result, Ok, Err, if◌then◌else◌}
+use Rattle.std.specs.Prelude.{ℕ, ◌*◌, nat_le, Bool, false, ℤ, pos, ◌-ℤ◌, ◌*ℤ◌, unsigned_abs, max, Result, Ok, Err, if◌then◌else◌}
 use Rattle.apt_num.specs.declared.Sign.{Sign}
 use Rattle.apt_num.specs.declared.Sign.TheVariants as signs
 use Rattle.apt_num.specs.Sign.{sign_of}
@@ -10,6 +10,7 @@ use Rattle.apt_words.specs.declared.Stop.TheVariants as stops
 use Rattle.apt_words.specs.declared.Case.{Case}
 use Rattle.apt_words.specs.declared.Case.TheVariants as cases
 use Rattle.apt_plane.specs.declared.figures.Pt.{Pt}
+use Rattle.apt_plane.specs.declared.figures.Circ.{Circ}
 use Rattle.apt_plane.specs.declared.figures.Surface.{Surface}
 use Rattle.apt_plane.specs.declared.figures.Surface.TheVariants as surfaces
 use Rattle.apt_plane.specs.Vectors.{way, cross, norm}
@@ -31,23 +32,31 @@ abbrev pub place_of : Surface → Pt → Sign
 place_of (surfaces.Line l) p = sign_of (cross l.dir (way l.base p))
 place_of (surfaces.Circ c) p = sign_of ((c.r *ℤ c.r) -ℤ pos (norm (way c.c p)))
 
--- 1 where the sign is Zero
+-- Plus in place of Zero
 abbrev pub side_or_left : Sign → Sign
+side_or_left signs.Minus = signs.Minus
 side_or_left signs.Zero = signs.Plus
-side_or_left s = s
+side_or_left signs.Plus = signs.Plus
 
 abbrev pub inside_or_outside : Sign → Sign
+inside_or_outside signs.Minus = signs.Minus
+inside_or_outside signs.Zero = signs.Minus
 inside_or_outside signs.Plus = signs.Plus
-inside_or_outside s = signs.Minus
 
--- the place at a check surface that is touched, behind the place at the drive surface: two circles touch from outside where their centres are at least the greater radius apart
+abbrev pub greater_radius : Circ → Circ → ℕ
+greater_radius c d = max (unsigned_abs c.r) (unsigned_abs d.r)
+
+-- two circles touch from outside where their centres are at least the greater radius apart
+abbrev pub touch_outside : Circ → Circ → Bool
+touch_outside c d = nat_le (greater_radius c d * greater_radius c d) (norm (way c.c d.c))
+
+-- the place at a check surface that is touched, behind the place at the drive surface
 abbrev pub tanto_place : Surface → Surface → Sign → Sign
 tanto_place drive check signs.Zero = signs.Zero
 tanto_place (surfaces.Line l) (surfaces.Line m) v = signs.Zero
 tanto_place (surfaces.Line l) (surfaces.Circ c) v = inside_or_outside (times v (sign_of (cross l.dir (way l.base c.c))))
 tanto_place (surfaces.Circ c) (surfaces.Line l) v = times (side_or_left (sign_of (cross l.dir (way l.base c.c)))) v
-tanto_place (surfaces.Circ c) (surfaces.Circ d) v =
-    if nat_le (max (unsigned_abs c.r) (unsigned_abs d.r) * max (unsigned_abs c.r) (unsigned_abs d.r)) (norm (way c.c d.c)) then opposite v else v
+tanto_place (surfaces.Circ c) (surfaces.Circ d) v = if touch_outside c d then opposite v else v
 
 -- the place of the cutter at the check surface where the motion stops: on the start's side under TO, on the other under PAST
 abbrev pub check_place : Surface → Stop → Pt → Surface → Sign → Sign

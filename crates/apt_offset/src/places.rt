@@ -1,13 +1,12 @@
 //! The place of the cutter at a surface: left of a line or inside a circle (Plus), right or outside
 //! (Minus), or on it (Zero).
 
-ghost use Rattle.std.specs.Prelude.{◌≡◌, ◌*◌, max, nat_le, unsigned_abs};
+ghost use Rattle.std.specs.Prelude.{◌≡◌};
 ghost use Rattle.apt_plane.specs.Ranges.{IsPoint, IsSurface, IsLine, IsCircle};
-ghost use Rattle.apt_plane.specs.Vectors as ways;
 ghost use Rattle.apt_offset.specs.Places as placing;
 
-use crate::signs::{compare, is_zero, opposite, sign_of, times};
-use apt_num::Sign;
+use crate::signs::{is_zero, opposite, times};
+use apt_num::{Sign, compare, sign_of};
 use apt_plane::vectors::{cross, norm, way};
 use apt_plane::{Circ, Line, Pt, Surface};
 use apt_words::{Case, Side, Stop};
@@ -119,7 +118,7 @@ fn tanto_place(drive: &Surface, check: &Surface, at_drive: Sign) -> Sign
             times(side_or_left(side_of_line(line, circle.c)), at_drive)
         }
         (Surface::Circ(first), Surface::Circ(second)) => {
-            if are_apart(first, second) {
+            if touch_outside(first, second) {
                 opposite(at_drive)
             } else {
                 at_drive
@@ -147,10 +146,10 @@ fn inside_or_outside(place: Sign) -> Sign
 }
 
 /// Whether the centres are at least the greater radius apart.
-fn are_apart(first: &Circ, second: &Circ) -> bool
+fn touch_outside(first: &Circ, second: &Circ) -> bool
     requires first { IsCircle first.now }
     requires second { IsCircle second.now }
-    ensures { result ≡ nat_le (max (unsigned_abs first.now.r) (unsigned_abs second.now.r) * max (unsigned_abs first.now.r) (unsigned_abs second.now.r)) (ways.norm (ways.way first.now.c second.now.c)) }
+    ensures { result ≡ placing.touch_outside first.now second.now }
 {
     let greater = u128::from(first.r.unsigned_abs().max(second.r.unsigned_abs()));
     greater * greater <= norm(way(first.c, second.c))

@@ -11,7 +11,8 @@ abbrev pub class_of : Sign → Sign → ℕ
 class_of signs.Plus d = 1
 class_of signs.Minus d = 3
 class_of signs.Zero signs.Plus = 0
-class_of signs.Zero d = 2
+class_of signs.Zero signs.Zero = 2
+class_of signs.Zero signs.Minus = 2
 
 abbrev pub turn_class : Dir → ℤ → Dir → ℕ
 turn_class s sense u = class_of (sign_of (sense *ℤ cross s u)) (sign_of (dot s u))

@@ -1,3 +1,4 @@
 pub mod Post
 pub mod Plan
 pub mod Limits
+pub mod Writing

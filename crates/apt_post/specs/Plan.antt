@@ -12,15 +12,15 @@ use Rattle.apt_cldata.specs.declared.record.Record.{Record}
 use Rattle.apt_cldata.specs.declared.record.Record.TheVariants as records
 use Rattle.apt_control.specs.declared.Act.{Act}
 use Rattle.apt_control.specs.declared.Act.TheVariants as acts
+use Rattle.apt_post.specs.declared.planning.Pending.{Pending}
 
--- what holds for the records to come: the feed of the last FEDRAT, whether RAPID is pending, and whether the end was given
-pub record Pending : Type 0 where
-  pub feed : ℤ
-  pub rapid : Bool
-  pub ended : Bool
-
+-- before the first record no feed and no RAPID is pending, and the end was not given
 abbrev pub nothing_pending : Pending
 nothing_pending = record { feed = pos 0; rapid = false; ended = false }
+
+abbrev pub acts_by : Option Act → List Act
+acts_by None = []
+acts_by (Some act) = act ∷ []
 
 -- a cut with the feed that holds, or a rapid move
 abbrev pub cut_to : Pending → Position → Act

@@ -1,4 +1,5 @@
-//! The postprocessor: the blocks of acts, and the bytes of a tape.
+//! The postprocessor: the acts that records ask for, the limits of a machine, the blocks of acts, and the bytes of
+//! a tape.
 #![tactic(auto)]
 
 ghost use Rattle.std.specs.Prelude.{◌≡◌, ℕ, map, IfOk, Ok};
@@ -7,6 +8,8 @@ ghost use Rattle.apt_post.specs.Post as spec;
 ghost use Rattle.apt_tapecode.specs.Tapecode as tapecode;
 
 mod blocks;
+mod limiting;
+mod planning;
 #[cfg(test)]
 mod tests;
 
@@ -15,6 +18,8 @@ use apt_control::Act;
 use apt_machine::Machine;
 use apt_tapecode::{Code, punch};
 use blocks::act_block;
+pub use limiting::limits;
+pub use planning::{Planned, plan};
 use std::alloc::{AllocError, Global};
 
 /// The bytes of the tape of acts: rewind stop, end of block, and a block for each act. A control

@@ -51,7 +51,7 @@ fn writes_an_empty_tape(rt: HostRuntime) -> Result<(), Fail> {
     ];
     for (code, want) in [(Code::Rs358, rs358), (Code::Rs244, rs244)] {
         let bytes = tape(rt.alloc(), &acts, &machine(code, 1))?;
-        assert_eq!(rt; bytes.as_slice(), want.as_slice(), "in {code:?}");
+        assert_eq!(rt; bytes.as_slice(), want.as_slice());
     }
     Ok(())
 }

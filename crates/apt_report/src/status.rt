@@ -7,7 +7,7 @@ use apt_words::Case;
 use std::marker::Model;
 
 /// A name of the command line. Clauses see its bytes.
-#[derive(Debug, Drop)]
+#[derive(Drop)]
 pub struct FileName {
     pub text: String,
 }
@@ -22,7 +22,7 @@ impl Model for FileName {
 }
 
 /// What was done. Counts are of the CL file's records, the tape's acts, and the segments of its contours.
-#[derive(Clone, Copy, Debug, PartialEq, Eq)]
+#[derive(Clone, Copy, PartialEq, Eq)]
 pub enum Summary {
     Compiled {
         records: u64,
@@ -32,7 +32,7 @@ pub enum Summary {
 }
 
 /// What the program answers.
-#[derive(Debug, Drop)]
+#[derive(Drop)]
 pub enum Status {
     Done(Summary),
     /// The words are none of a command.

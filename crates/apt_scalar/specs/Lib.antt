@@ -1,3 +1,4 @@
 pub mod Scalars
 pub mod Meanings
 pub mod Values
+pub mod Numbers

@@ -1,4 +1,3 @@
-pub mod Calls
 pub mod Entries
 pub mod Errors
 pub mod Files
@@ -8,4 +7,5 @@ pub mod Numbers
 pub mod Sink
 pub mod Store
 pub mod Sure
+pub mod Tally
 pub mod Told

@@ -2,8 +2,7 @@
 use Rattle.std.specs.Prelude.{ℕ, Bool, List, Option, Some, is_some}
 use Rattle.apt_shelf.specs.Told.{Contents}
 use Rattle.apt_shelf.specs.Store as store
-use Rattle.apt_shelf.specs.Calls.{uncalled}
-use Rattle.apt_shelf.specs.declared.memory.FailList.{FailList}
+use Rattle.apt_shelf.specs.Tally.{FailLists, uncalled}
 use Rattle.apt_shelf.specs.declared.memory.ShelfCalls.{ShelfCalls}
 use Rattle.apt_shelf.specs.declared.memory.MemShelf.{MemShelf}
 
@@ -40,7 +39,7 @@ abbrev pub calls_of : MemShelf → ShelfCalls
 calls_of shelf = shelf.calls
 
 -- no call of any kind was made
-abbrev pub none_called : FailList → ShelfCalls
+abbrev pub none_called : FailLists → ShelfCalls
 none_called fail = record {
   read_starts = uncalled fail.read_starts;
   reads = uncalled fail.reads;

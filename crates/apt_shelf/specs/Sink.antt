@@ -1,6 +1,6 @@
 -- What a MemSink was given, and the puts that it counts.
 use Rattle.std.specs.Prelude.{ℕ, List}
-use Rattle.apt_shelf.specs.declared.calls.Calls.{Calls}
+use Rattle.apt_shelf.specs.Tally.{Tally}
 use Rattle.apt_shelf.specs.declared.sink.MemSink.{MemSink}
 
 -- all bytes that were put
@@ -12,5 +12,5 @@ abbrev pub faults_of : MemSink → ℕ
 faults_of sink = sink.faults
 
 -- the puts
-abbrev pub puts_of : MemSink → Calls
+abbrev pub puts_of : MemSink → Tally
 puts_of sink = sink.puts

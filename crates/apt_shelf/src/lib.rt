@@ -1,7 +1,6 @@
 //! The store of named files and the sink of lines that the program works on.
 #![tactic(auto)]
 
-pub mod calls;
 pub mod files;
 pub mod folder;
 pub mod memory;
@@ -10,14 +9,15 @@ pub mod shelf;
 pub mod sink;
 mod store;
 pub mod sure;
+pub mod tally;
 
-pub use calls::Calls;
 pub use files::{ReadError, read_all, write_all};
 pub use folder::FolderShelf;
 pub use memory::{FailList, MemShelf, ShelfCalls};
 pub use shelf::{ReadStart, Shelf, ShelfFault, Sink};
 pub use sink::{MemSink, StdSink};
 pub use sure::SureShelf;
+pub use tally::Tally;
 
 #[cfg(test)]
 mod tests;

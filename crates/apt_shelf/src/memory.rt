@@ -2,17 +2,18 @@
 ghost use Rattle.std.specs.Prelude.{◌≡◌, ◌↔◌, ◌<◌, ◌≤◌, ◌/◌, [], min, length, take, true, false, option_map, Some, None, IsSome, IsSomeAnd, IfOk, OnOk, OnErr, IsErr, IsErrOf, IsOkAnd};
 ghost use Rattle.std.specs.FinMap.{insert};
 ghost use Rattle.apt_shelf.specs.Told.{appended, Steps, StartsAt, Lacks, Takes, MayBeEmptied, KeepsPrefix, Adds, StartCause, FaultCause};
-ghost use Rattle.apt_shelf.specs.Calls.{fails_next, counted, faults_after};
+ghost use Rattle.apt_shelf.specs.Tally.{no_fails, fails_next, counted, faults_after};
 ghost use Rattle.apt_shelf.specs.Memory.{files_of, told_of, reading_of, left_of, writing_of, read_faults_of, write_faults_of, calls_of, none_called};
 ghost use Rattle.apt_shelf.specs.Entries.{contents, held};
 
-use crate::calls::Calls;
 use crate::shelf::{ReadStart, Shelf, ShelfFault};
 use crate::store::Store;
+use crate::tally::Tally;
 use std::alloc::{AllocError, Global};
+use std::marker::Model;
 
 /// The calls that fail, of each kind by their numbers, from 1.
-#[derive(Debug, Drop)]
+#[derive(Drop)]
 pub struct FailList {
     pub read_starts: Vec<u64>,
     pub reads: Vec<u64>,
@@ -20,13 +21,18 @@ pub struct FailList {
     pub appends: Vec<u64>,
 }
 
+impl Model for FailList {
+    ghost use Rattle.apt_shelf.specs.Tally.{FailLists};
+
+    ghost Value = { FailLists };
+
+    ghost view = { λ f. record { read_starts = f.read_starts.items; reads = f.reads.items; write_starts = f.write_starts.items; appends = f.appends.items } };
+}
+
 impl FailList {
     /// No call fails.
     pub fn none(alloc: Global) -> FailList
-        ensures read_starts { result.read_starts.items ≡ [] }
-        ensures reads { result.reads.items ≡ [] }
-        ensures write_starts { result.write_starts.items ≡ [] }
-        ensures appends { result.appends.items ≡ [] }
+        ensures { result ≡ no_fails }
     {
         FailList {
             read_starts: Vec::new(alloc),
@@ -38,17 +44,17 @@ impl FailList {
 }
 
 /// The calls on a shelf, of each kind.
-#[derive(Debug, Drop)]
+#[derive(Drop)]
 pub struct ShelfCalls {
-    read_starts: Calls,
-    reads: Calls,
-    write_starts: Calls,
-    appends: Calls,
+    read_starts: Tally,
+    reads: Tally,
+    write_starts: Tally,
+    appends: Tally,
 }
 
 /// Files in memory, with calls that fail by their numbers. At a name that stands twice among its
 /// first files the first counts.
-#[derive(Debug, Drop)]
+#[derive(Drop)]
 pub struct MemShelf {
     store: Store,
     calls: ShelfCalls,
@@ -73,10 +79,10 @@ impl MemShelf {
         Ok(MemShelf {
             store: Store::new(alloc, files),
             calls: ShelfCalls {
-                read_starts: Calls::new(fail.read_starts),
-                reads: Calls::new(fail.reads),
-                write_starts: Calls::new(fail.write_starts),
-                appends: Calls::new(fail.appends),
+                read_starts: Tally::new(fail.read_starts),
+                reads: Tally::new(fail.reads),
+                write_starts: Tally::new(fail.write_starts),
+                appends: Tally::new(fail.appends),
             },
             read_faults: 0,
             write_faults: 0,

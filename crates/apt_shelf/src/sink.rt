@@ -1,19 +1,19 @@
 //! Where lines are put.
 ghost use Rattle.std.specs.Prelude.{◌≡◌, ◌++◌, ◌/◌, [], length, take, true, Some, None, OnOk, OnErr, IsErr, IsErrOf};
 ghost use Rattle.apt_shelf.specs.Told.{Puts, PutsPrefix, FaultCause};
-ghost use Rattle.apt_shelf.specs.Calls.{uncalled, fails_next, counted, faults_after};
+ghost use Rattle.apt_shelf.specs.Tally.{uncalled, fails_next, counted, faults_after};
 ghost use Rattle.apt_shelf.specs.Sink.{shown_of, faults_of, puts_of};
 
-use crate::calls::Calls;
 use crate::shelf::{ShelfFault, Sink};
+use crate::tally::Tally;
 use std::alloc::Global;
 use std::io::Print;
 
 /// A sink in memory, with puts that fail by their numbers, from 1.
-#[derive(Debug, Drop)]
+#[derive(Drop)]
 pub struct MemSink {
     bytes: Vec<u8>,
-    puts: Calls,
+    puts: Tally,
     faults: u64,
 }
 
@@ -22,11 +22,11 @@ impl MemSink {
     pub fn new(alloc: Global, fail: Vec<u64>) -> MemSink
         ensures shown { ⟦<MemSink as Sink>⟧.shown result ≡ Some [] }
         ensures faults { ⟦<MemSink as Sink>⟧.faults result ≡ 0 }
-        ensures calls { puts_of result ≡ uncalled fail }
+        ensures calls { puts_of result ≡ uncalled fail.items }
     {
         MemSink {
             bytes: Vec::new(alloc),
-            puts: Calls::new(fail),
+            puts: Tally::new(fail),
             faults: 0,
         }
     }

@@ -10,7 +10,7 @@ use crate::shelf::ReadStart;
 use std::alloc::{AllocError, Global};
 
 /// The files, the read and the write that are started. A call fails for lack of memory alone.
-#[derive(Debug, Drop)]
+#[derive(Drop)]
 pub(crate) struct Store {
     alloc: Global,
     files: Vec<(String, Vec<u8>)>,

@@ -10,7 +10,7 @@ use std::alloc::{AllocError, Global};
 
 /// Files in memory, where nothing but memory ever fails. At a name that stands twice among its
 /// first files the first counts.
-#[derive(Debug, Drop)]
+#[derive(Drop)]
 pub struct SureShelf {
     store: Store,
 }

@@ -5,14 +5,14 @@ ghost use Rattle.std.specs.Prelude.{◌≡◌, ◌↔◌, ℕ, Some, None, IfSom
 ghost use Rattle.apt_tapecode.specs.Tapecode.{punched, reading, skipped, has_parity, is_tape_character, IsUnused};
 
 /// A tape code: RS-244 has an odd number of holes in each row, RS-358 (ASCII) an even one.
-#[derive(Clone, Copy, Debug, PartialEq, Eq)]
+#[derive(Clone, Copy, PartialEq, Eq)]
 pub enum Code {
     Rs244,
     Rs358,
 }
 
 /// What a row of a tape is read as.
-#[derive(Clone, Copy, Debug, PartialEq, Eq)]
+#[derive(Clone, Copy, PartialEq, Eq)]
 pub enum Read {
     Char(u8),
     Skip,

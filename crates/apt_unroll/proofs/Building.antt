@@ -2,12 +2,13 @@
 use Rattle.std.proofs.Common.{◌≡◌, ℕ, ◌+◌, Bool, false, List, [], ◌∷◌, Result, Ok, Err, sym, subst}
 use Rattle.std.specs.Prelude.{IfOk}
 use Rattle.apt_words.specs.Built.{AreBuilt, IsBuilt, AreBuiltSteps}
+use Rattle.apt_words.specs.Endings.{is_ended}
 use Rattle.apt_words.specs.declared.Case.{Case}
 use Rattle.apt_words.specs.declared.body.Stmt.{Stmt}
 use Rattle.apt_words.specs.declared.deed.Deed.{Deed}
 use Rattle.apt_scalar.specs.Meanings.{Names}
 use Rattle.apt_unroll.specs.Deeds.{names_behind}
-use Rattle.apt_unroll.specs.Straight.{Steps, is_ended, deed_at, or_refused, steps_from, steps_of}
+use Rattle.apt_unroll.specs.Straight.{Steps, deed_at, or_refused, steps_from, steps_of}
 use Rattle.apt_unroll.proofs.Suits.{deed_of-built, deed_at-has}
 
 or_refused-built : (line n : ℕ) (deed : Result Deed Case) (more : Deed → Steps) → IfOk deed IsBuilt

@@ -2,7 +2,7 @@
 use Rattle.std.proofs.Common.{◌≡◌, ℕ, ◌+◌, ◌&&◌, nat_lt, not, Bool, true, false, List, [], ◌∷◌, None, Result, Ok, Err, refl, sym, ap, ◌∙◌, subst}
 use Rattle.std.specs.Prelude.{IfOk, if◌then◌else◌}
 use Rattle.std.proofs.lemmas.Result.{IfOk-weaker}
-use Rattle.apt_words.specs.Endings.{is_fini, EndsInFini}
+use Rattle.apt_words.specs.Endings.{is_fini, EndsInFini, is_ended, StepsEnd}
 use Rattle.apt_words.specs.declared.Case.{Case}
 use Rattle.apt_words.specs.declared.Case.TheVariants as cases
 use Rattle.apt_words.specs.declared.body.Body.{Body}
@@ -12,7 +12,7 @@ use Rattle.apt_words.specs.declared.deed.Deed.TheVariants as deeds
 use Rattle.apt_words.specs.declared.deed.Step.{Step}
 use Rattle.apt_scalar.specs.Meanings.{Names}
 use Rattle.apt_unroll.specs.Deeds.{deed_of, names_behind}
-use Rattle.apt_unroll.specs.Straight.{Steps, most_steps, is_ended, deed_at, or_refused, steps_from, steps_of, EndsOnce}
+use Rattle.apt_unroll.specs.Straight.{Steps, most_steps, deed_at, or_refused, steps_from, steps_of}
 use Rattle.apt_unroll.proofs.Suits.{is_end, Suits, deed_of-suits}
 
 -- a deed that is not refused: Fini where its statement is FINI, and another only where the program has not ended
@@ -40,20 +40,20 @@ not_end : (deed : Deed) → is_end deed ≡ false → ¬ (deed ≡ deeds.Fini)
 not_end deed h is = absurd (cc)
 
 -- one step in front of others
-ends_behind : (ended : Bool) (st : Step) (more : List Step) → ended ≡ false → ¬ (st.deed ≡ deeds.Fini) → EndsOnce (is_ended ended st.deed) more → EndsOnce ended (st ∷ more)
+ends_behind : (ended : Bool) (st : Step) (more : List Step) → ended ≡ false → ¬ (st.deed ≡ deeds.Fini) → StepsEnd (is_ended ended st.deed) more → StepsEnd ended (st ∷ more)
 ends_behind ended st [] going other rest = absurd rest
 ends_behind ended st (next ∷ more) going other rest = (going, other, rest)
 
 -- the last statement
 last_ends : (ended : Bool) (line n : ℕ) (deed : Result Deed Case) (more : Deed → Steps) → IfOk deed (Ends ended true)
-    → ((deed : Deed) → (more deed).steps ≡ []) → (or_refused line n deed more).fault ≡ None → EndsOnce ended (or_refused line n deed more).steps
+    → ((deed : Deed) → (more deed).steps ≡ []) → (or_refused line n deed more).fault ≡ None → StepsEnd ended (or_refused line n deed more).steps
 last_ends ended line n (Err case) more ends none fault = cc
 last_ends ended line n (Ok deed) more ends none fault = rw (none deed) (end_is deed ends.0)
 
 -- a statement before the last
 others_end : (ended : Bool) (line n : ℕ) (deed : Result Deed Case) (more : Deed → Steps) → IfOk deed (Ends ended false)
-    → ((deed : Deed) → (more deed).fault ≡ None → EndsOnce (is_ended ended deed) (more deed).steps)
-    → (or_refused line n deed more).fault ≡ None → EndsOnce ended (or_refused line n deed more).steps
+    → ((deed : Deed) → (more deed).fault ≡ None → StepsEnd (is_ended ended deed) (more deed).steps)
+    → (or_refused line n deed more).fault ≡ None → StepsEnd ended (or_refused line n deed more).steps
 others_end ended line n (Err case) more ends rest fault = cc
 others_end ended line n (Ok deed) more ends rest fault =
     ends_behind ended (record { line = line; step = n; deed = deed }) (more deed).steps (ends.1 refl) (not_end deed ends.0) (rest deed fault)
@@ -62,7 +62,7 @@ deed_at-last : (n : ℕ) (ended : Bool) (names : Names) (body : Body) (last : Bo
 deed_at-last n ended names body last is = subst (λ last. IfOk (deed_at n ended names body) (Ends ended last)) is (deed_at-ends n ended names body)
 
 steps_from-ends : (n : ℕ) (ended : Bool) (names : Names) (sts : List Stmt) → EndsInFini sts → (steps_from n ended names sts).fault ≡ None
-    → EndsOnce ended (steps_from n ended names sts).steps
+    → StepsEnd ended (steps_from n ended names sts).steps
 steps_from-ends n ended names [] ends fault = absurd ends
 steps_from-ends n ended names (st ∷ []) ends fault =
     last_ends ended st.line n (deed_at n ended names st.body) _ (deed_at-last n ended names st.body true ends) (λ deed. refl) fault
@@ -70,5 +70,5 @@ steps_from-ends n ended names (st ∷ next ∷ sts) ends fault =
     others_end ended st.line n (deed_at n ended names st.body) _ (deed_at-last n ended names st.body false ends.0)
     (λ deed. steps_from-ends (n + 1) (is_ended ended deed) (names_behind names deed) (next ∷ sts) ends.1) fault
 
-pub end_once : (sts : List Stmt) (u : Steps) → u ≡ steps_of sts → EndsInFini sts → u.fault ≡ None → EndsOnce false u.steps
-end_once sts u is ends fault = subst (λ u. EndsOnce false u.steps) (sym is) (steps_from-ends 1 false [] sts ends (ap (λ u. u.fault) (sym is) ∙ fault))
+pub end_once : (sts : List Stmt) (u : Steps) → u ≡ steps_of sts → EndsInFini sts → u.fault ≡ None → StepsEnd false u.steps
+end_once sts u is ends fault = subst (λ u. StepsEnd false u.steps) (sym is) (steps_from-ends 1 false [] sts ends (ap (λ u. u.fault) (sym is) ∙ fault))

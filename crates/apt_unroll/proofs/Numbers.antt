@@ -2,14 +2,15 @@
 use Rattle.std.proofs.Common.{◌≡◌, ℕ, ◌+◌, Bool, false, List, [], ◌∷◌, Result, Ok, Err, sym, subst}
 use Rattle.std.specs.Prelude.{IfOk}
 use Rattle.std.proofs.lemmas.Result.{IfOk-weaker}
+use Rattle.apt_words.specs.Endings.{is_ended}
 use Rattle.apt_words.specs.declared.Case.{Case}
 use Rattle.apt_words.specs.declared.body.Body.{Body}
 use Rattle.apt_words.specs.declared.body.Stmt.{Stmt}
 use Rattle.apt_words.specs.declared.deed.Deed.{Deed}
 use Rattle.apt_scalar.specs.Meanings.{Names}
 use Rattle.apt_unroll.specs.Deeds.{deed_of, names_behind}
-use Rattle.apt_unroll.specs.Numbers.{HasScalars, AreScalars}
-use Rattle.apt_unroll.specs.Straight.{Steps, is_ended, deed_at, or_refused, steps_from, steps_of}
+use Rattle.apt_scalar.specs.Numbers.{HasScalars, AreScalars}
+use Rattle.apt_unroll.specs.Straight.{Steps, deed_at, or_refused, steps_from, steps_of}
 use Rattle.apt_unroll.proofs.Suits.{Suits, deed_of-suits, deed_at-has}
 
 deed_of-scalars : (names : Names) (body : Body) → IfOk (deed_of names [] body) HasScalars

@@ -18,7 +18,7 @@ use Rattle.apt_scalar.specs.Meanings.{Names, Parameters}
 use Rattle.apt_scalar.specs.Values.{value_of}
 use Rattle.apt_scalar.proofs.Ranges.{then_holds, value_of-scalar}
 use Rattle.apt_unroll.specs.Deeds.{named, pair, three, four, optional, place, value_and_name, value_and_pair, second_surface, surfaces, lone_point, all_points, by_points_or_centre, circle_three, defined_name, executed, is_parameter, deed_of}
-use Rattle.apt_unroll.specs.Numbers.{IsScalarOrNone, HasScalars}
+use Rattle.apt_scalar.specs.Numbers.{IsScalarOrNone, HasScalars}
 use Rattle.apt_unroll.specs.Straight.{most_steps, deed_at}
 
 abbrev pub is_end : Deed → Bool

@@ -2,4 +2,3 @@ pub mod Deeds
 pub mod Straight
 pub mod Codes
 pub mod Laws
-pub mod Numbers

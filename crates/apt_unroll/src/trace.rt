@@ -3,9 +3,9 @@
 ghost use Rattle.std.specs.Prelude.{◌≡◌, ◌≤◌, [], false, None, IfOk};
 ghost use Rattle.apt_words.specs.Built.{AreBuilt, AreBuiltSteps};
 ghost use Rattle.apt_words.specs.Endings.{EndsInFini};
-ghost use Rattle.apt_unroll.specs.Numbers.{AreScalars};
+ghost use Rattle.apt_scalar.specs.Numbers.{AreScalars};
 ghost use Rattle.apt_unroll.specs.Straight as straight;
-ghost use Rattle.apt_unroll.specs.Straight.{EndsOnce};
+ghost use Rattle.apt_words.specs.Endings.{is_ended, StepsEnd};
 
 use crate::deeds::{bind_behind, deed_of};
 use apt_scalar::{Env, Frame};
@@ -41,7 +41,7 @@ pub fn unroll(alloc: Global, p: &Program) -> Result<Unrolled, AllocError>
     ensures steps { IfOk result (λ u. u ≡ straight.steps_of p.now) }
     ensures scalars { IfOk result (λ u. AreScalars u.steps) }
     ensures built { IfOk result (λ u. AreBuiltSteps u.steps) }
-    ensures ends { EndsInFini p.now → IfOk result (λ u. u.fault ≡ None → EndsOnce false u.steps) }
+    ensures ends { EndsInFini p.now → IfOk result (λ u. u.fault ≡ None → StepsEnd false u.steps) }
 {
     unroll_all(alloc, p)
 }
@@ -98,7 +98,7 @@ fn deed_at(
 
 /// Whether the program has ended behind a step.
 fn is_ended(before: bool, deed: &Deed) -> bool
-    ensures { result ≡ straight.is_ended before deed.now }
+    ensures { result ≡ is_ended before deed.now }
 {
     match deed {
         Deed::EndWord => true,

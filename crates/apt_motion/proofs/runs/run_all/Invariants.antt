@@ -1,6 +1,6 @@
 use Rattle.std.proofs.Common.{◌≡◌, drop}
 use Rattle.apt_words.specs.Built.{AreBuiltSteps}
-use Rattle.apt_unroll.specs.Numbers.{AreScalars}
+use Rattle.apt_scalar.specs.Numbers.{AreScalars}
 use Rattle.apt_meaning.specs.Situations.{first_situation}
 use Rattle.apt_meaning.specs.Ranges.{IsSituation}
 use Rattle.apt_meaning.specs.Compiled.{compiled, with_front}

@@ -1,0 +1,127 @@
+-- A contour or a move that no case refuses has a feed; a rapid move needs none.
+use Rattle.std.proofs.Common.{◌≡◌, ℕ, not, Bool, true, false, List, [], ◌∷◌, Option, Some, None, IfSome}
+use Rattle.apt_words.specs.declared.Go.{Go}
+use Rattle.apt_words.specs.declared.Side.{Side}
+use Rattle.apt_words.specs.declared.Stop.{Stop}
+use Rattle.apt_words.specs.declared.deed.Deed.{Deed}
+use Rattle.apt_words.specs.declared.deed.Deed.TheVariants as deeds
+use Rattle.apt_words.specs.Options.{◌>>=◌}
+use Rattle.apt_words.specs.Rows.{NoneHolds}
+use Rattle.apt_plane.specs.declared.figures.Surface.{Surface}
+use Rattle.apt_cldata.specs.declared.record.Position.{Position}
+use Rattle.apt_cldata.specs.declared.record.Reach.{Reach}
+use Rattle.apt_cldata.specs.declared.record.Reach.TheVariants as reaches
+use Rattle.apt_meaning.specs.declared.situation.Settings.{Settings}
+use Rattle.apt_meaning.specs.declared.situation.Situation.{Situation}
+use Rattle.apt_meaning.specs.declared.motion.Motion.{Motion}
+use Rattle.apt_meaning.specs.declared.effect.Effect.{Effect}
+use Rattle.apt_meaning.specs.declared.effect.Effect.TheVariants as effects
+use Rattle.apt_meaning.specs.Situations.{has_feed, lacks_feed, with_side}
+use Rattle.apt_meaning.specs.Motions.{surface_in, turn_at, if_turned, motion_at}
+use Rattle.apt_meaning.specs.Effects.{moves, cuts, place_by, moved_from, started_at, effect_of}
+use Rattle.apt_meaning.specs.Refusals.{move_cases, surface_cases, start_up_or_not_built, cases_of}
+use Rattle.apt_meaning.proofs.Said.{of_some}
+
+abbrev pub IsFed : Settings → Effect → Type 0
+IsFed s (effects.Defines n f) = Unit {0}
+IsFed s (effects.Sets t said) = Unit {0}
+IsFed s (effects.Moves reaches.From to) = Unit {0}
+IsFed s (effects.Moves reaches.Goto to) = lacks_feed s ≡ false
+IsFed s (effects.Moves reaches.Godlta to) = lacks_feed s ≡ false
+IsFed s (effects.Moves reaches.Start to) = lacks_feed s ≡ false
+IsFed s (effects.Cuts m) = not (has_feed s) ≡ false
+
+move_fed : (s : Settings) (reach : Reach) (to : Position) → lacks_feed s ≡ false → IsFed s (effects.Moves reach to)
+move_fed s reaches.From to fed = tt
+move_fed s reaches.Goto to fed = fed
+move_fed s reaches.Godlta to fed = fed
+move_fed s reaches.Start to fed = fed
+
+moves_fed : (s : Settings) (reach : Reach) (o : Option Position) → NoneHolds (move_cases s o) → IfSome (moves reach o) (IsFed s)
+moves_fed s reach None none = tt
+moves_fed s reach (Some to) none = move_fed s reach to none.1.1.1.0
+
+starts_fed : (s : Settings) (o : Option Position) → lacks_feed s ≡ false → IfSome (moves reaches.Start o) (IsFed s)
+starts_fed s None fed = tt
+starts_fed s (Some to) fed = fed
+
+go_fed : (at : Situation) (how_a : Stop) (a : List ℕ) (b : Option (Stop × List ℕ)) → NoneHolds (start_up_or_not_built at how_a a b)
+    → IfSome (moves reaches.Start (started_at at how_a a b)) (IsFed at.settings)
+go_fed at how_a a None none = tt
+go_fed at how_a a (Some b) none = starts_fed at.settings (started_at at how_a a (Some b)) none.1.1.1.1.1.0
+
+cuts_fed : (s : Settings) (o : Option Motion) → not (has_feed s) ≡ false → IfSome (cuts o) (IsFed s)
+cuts_fed s None fed = tt
+cuts_fed s (Some m) fed = fed
+
+-- the side of the cutter changes no feed
+without_side : (s : Settings) (side : Option Side) → not (has_feed (with_side s side)) ≡ false → not (has_feed s) ≡ false
+without_side s None fed = fed
+without_side s (Some side) fed = fed
+
+surfaces_fed : (at : Situation) (side : Option Side) (go : Go) (how : Stop) (p : Option Position) (d c : Option Surface) → NoneHolds (surface_cases at side go how p d c)
+    → IfSome (cuts (p >>= λ start. d >>= λ drive. c >>= λ check. if_turned (with_side at.settings side) start drive (turn_at at start drive go) how check)) (IsFed at.settings)
+surfaces_fed at side go how None d c none = tt
+surfaces_fed at side go how (Some start) None c none = tt
+surfaces_fed at side go how (Some start) (Some drive) None none = tt
+surfaces_fed at side go how (Some start) (Some drive) (Some check) none =
+    cuts_fed at.settings (if_turned (with_side at.settings side) start drive (turn_at at start drive go) how check) (without_side at.settings side none.1.0)
+
+all_fed : (at : Situation) (deed : Deed) → NoneHolds (cases_of at deed) → IfSome (effect_of at deed) (IsFed at.settings)
+unfolding motion_at
+all_fed at (deeds.Partno text) none = tt
+all_fed at (deeds.Remark text) none = tt
+all_fed at (deeds.Units units) none = tt
+all_fed at deeds.Clprnt none = tt
+all_fed at deeds.Nopost none = tt
+all_fed at deeds.Machin none = tt
+all_fed at (deeds.Assign n v) none = tt
+all_fed at (deeds.PointXy n x y z) none = tt
+all_fed at (deeds.PointLines n a b) none = tt
+all_fed at (deeds.PointPick n k a b) none = tt
+all_fed at (deeds.PointCenter n c) none = tt
+all_fed at (deeds.LineXy n x y u v) none = tt
+all_fed at (deeds.LinePoints n p q) none = tt
+all_fed at (deeds.LinePar n p l) none = tt
+all_fed at (deeds.LinePerp n p l) none = tt
+all_fed at (deeds.LineAt n l k v) none = tt
+all_fed at (deeds.LineTan n p h c) none = tt
+all_fed at (deeds.LineTwo n h c k d) none = tt
+all_fed at (deeds.CircleXyr n x y r) none = tt
+all_fed at (deeds.CirclePoints n a b c) none = tt
+all_fed at (deeds.CircleRadius n p r) none = tt
+all_fed at (deeds.CircleTan n p l) none = tt
+all_fed at (deeds.CircleThrough n p q) none = tt
+all_fed at (deeds.CircleCorner n j a k b r) none = tt
+all_fed at (deeds.Cutter v) none = tt
+all_fed at (deeds.Intol v) none = tt
+all_fed at (deeds.Outtol v) none = tt
+all_fed at (deeds.Tool side) none = tt
+all_fed at (deeds.FromXy x y z) none = tt
+all_fed at (deeds.FromPoint p) none = tt
+all_fed at (deeds.GotoXy x y z) none = moves_fed at.settings reaches.Goto (Some (place_by at.settings.units x y z)) none
+all_fed at (deeds.GotoPoint p) none = tt
+all_fed at (deeds.Godlta x y z) none = moves_fed at.settings reaches.Godlta (moved_from at x y z) none.1
+all_fed at (deeds.GoStart how_a a b) none = go_fed at how_a a b none
+all_fed at (deeds.Contour side go drive how check) none = surfaces_fed at side go how at.position (surface_in at.table drive) (surface_in at.table check) none.1.1.1.1.1
+all_fed at deeds.Rapid none = tt
+all_fed at deeds.Halt none = tt
+all_fed at deeds.OptHalt none = tt
+all_fed at deeds.EndWord none = tt
+all_fed at deeds.Fini none = tt
+all_fed at (deeds.Fedrat v) none = tt
+all_fed at (deeds.Spindl n turn) none = tt
+all_fed at deeds.SpindlOff none = tt
+all_fed at (deeds.Coolnt c) none = tt
+all_fed at (deeds.Loadtl n) none = tt
+all_fed at deeds.Macro none = tt
+all_fed at deeds.Termac none = tt
+all_fed at deeds.Call none = tt
+all_fed at deeds.Loopst none = tt
+all_fed at deeds.Loopnd none = tt
+all_fed at deeds.Jumpto none = tt
+all_fed at deeds.If none = tt
+
+-- the effect of a step that no case refuses
+pub fed : (at : Situation) (deed : Deed) (e : Effect) → effect_of at deed ≡ Some e → NoneHolds (cases_of at deed) → IsFed at.settings e
+fed at deed e asked none = of_some (IsFed at.settings) (effect_of at deed) e asked (all_fed at deed none)
