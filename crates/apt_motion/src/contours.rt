@@ -59,7 +59,7 @@ pub(crate) fn surface_named(table: &Table, name: &Symbol) -> Result<Surface, Cas
 /// # Errors
 ///
 /// The first case that refuses it.
-#[tactic(auto, unfolding(apt_meaning::specs::Motions::motion_at), using(crate::proofs::Cuts::turned_cut))]
+#[tactic(auto, unfolding(apt_meaning::specs::Motions::motion_at))]
 pub(crate) fn contour(
     at: &Situation,
     side: Option<Side>,

@@ -150,7 +150,6 @@ fn copied(text: &Text) -> Result<Text, AllocError>
 }
 
 /// A line by four numbers under a name.
-#[tactic(auto, using(crate::proofs::Plain::line_asked))]
 fn line(
     at: &Situation,
     name: &Symbol,
