@@ -51,11 +51,14 @@ turned_cut s start drive turned how check result is from d c value =
     rw value (cut_or_refused (first_of (turned_cases s start drive turned how check)) (if_turned s start drive turned how check) (motion s start drive turned how check)
     (turned_there s start drive turned how check is from d c))
 
+-- a motion to its contact, unless a case refuses it
+abbrev pub turned_to : Settings → Position → Surface → Sign → Stop → Surface → Result Cut Case
+turned_to s start d turned how e = cut_to (motion s start d turned how e) (unless (turned_cases s start d turned how e) (contact (motion s start d turned how e)))
+
 pub contour_cut : (at : Situation) (side : Option Side) (go : Go) (drive : List ℕ) (how : Stop) (check : List ℕ) (start : Position) (d e : Surface) (result : Result Cut Case)
     → IsSituation at → at.position ≡ Some start → IsSurfaceNamed at.table drive (Ok d) → IsSurfaceNamed at.table check (Ok e)
     → IsPosition start → IsSurface d → IsSurface e
-    → result ≡ cut_to (motion (with_side at.settings side) start d (turn_at at start d go) how e)
-    (unless (turned_cases (with_side at.settings side) start d (turn_at at start d go) how e) (contact (motion (with_side at.settings side) start d (turn_at at start d go) how e)))
+    → result ≡ turned_to (with_side at.settings side) start d (turn_at at start d go) how e
     → IsCut (asked (refusal_of at (deeds.Contour side go drive how check)) (effect_of at (deeds.Contour side go drive how check))) result
 unfolding motion_at
 contour_cut at side go drive how check start d e result is here named_d named_e from on_d on_e value =

@@ -37,7 +37,7 @@ pub step_on : (front : List Record) (at : Situation) (step : Step) (steps : List
     → with_front (front ++ records_of step e (ends_of e)) (compiled (after at e (ends_of e)) steps) ≡ total
 step_on front at step steps e total does so_far =
     let one : compiled at (step ∷ steps) ≡ with_front (records_of step e (ends_of e)) (compiled (after at e (ends_of e)) steps) =
-        ap (λ (a : Result Effect Case). or_refused step a (λ e. with_front (records_of step e (ends_of e)) (compiled (after at e (ends_of e)) steps))) does in
+    ap (λ (a : Result Effect Case). or_refused step a (λ e. with_front (records_of step e (ends_of e)) (compiled (after at e (ends_of e)) steps))) does in
     sym (regroup front (records_of step e (ends_of e)) (compiled (after at e (ends_of e)) steps)) ∙ sym (ap (with_front front) one) ∙ so_far
 
 -- a step that is refused

@@ -150,14 +150,7 @@ fn copied(text: &Text) -> Result<Text, AllocError>
 }
 
 /// A line by four numbers under a name.
-fn line(
-    at: &Situation,
-    name: &Symbol,
-    x: i64,
-    y: i64,
-    u: i64,
-    v: i64,
-) -> Result<Effect, Case>
+fn line(at: &Situation, name: &Symbol, x: i64, y: i64, u: i64, v: i64) -> Result<Effect, Case>
     requires x { IsScalar x }
     requires y { IsScalar y }
     requires u { IsScalar u }

@@ -9,5 +9,7 @@ mod runs;
 mod settings;
 mod starts;
 mod stopped;
+#[cfg(test)]
+mod tests;
 
 pub use runs::{RunError, run};

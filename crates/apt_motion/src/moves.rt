@@ -97,13 +97,7 @@ pub(crate) fn goto(at: &Situation, x: i64, y: i64, z: Option<i64>) -> Result<Eff
 }
 
 /// A move to coordinates in grid units.
-fn move_to(
-    settings: &Settings,
-    reach: Reach,
-    x: i128,
-    y: i128,
-    z: i128,
-) -> Result<Effect, Case>
+fn move_to(settings: &Settings, reach: Reach, x: i128, y: i128, z: i128) -> Result<Effect, Case>
     ensures { result ≡ asked (first_of (refusals.move_cases settings.now (Some (situations.position_at x y z)))) (Some (Effect.Moves reach (situations.position_at x y z))) }
 {
     if !is_in_reach(x) {

@@ -9,5 +9,5 @@ returns c =
     let a = c.args in
     let no : is_tanto a.how ≡ false = sym c.is_tanto.ensures ∙ c.if-is_tanto.false in
     let stop : c.line_stop.result ≡ line_stop a.start a.drive.now a.off a.sense a.check.now a.stop_off =
-        rw (to_z-of_z w64 a.off c.ranges.off, to_z-of_z w8 a.sense c.ranges.sense, to_z-of_z w64 a.stop_off c.ranges.stop_off) at c.line_stop.ensures.value in
+    rw (to_z-of_z w64 a.off c.ranges.off, to_z-of_z w8 a.sense c.ranges.sense, to_z-of_z w64 a.stop_off c.ranges.stop_off) at c.line_stop.ensures.value in
     rw no stop

@@ -9,5 +9,5 @@ pub returns : goal.returns
 returns c =
     let a = c.args in
     let lines : c.line_line.result ≡ line_line a.a.now a.off_a a.b.now a.off_b =
-        rw (to_z-of_z w64 a.off_a c.ranges.off_a, to_z-of_z w64 a.off_b c.ranges.off_b) at c.line_line.ensures.value in
+    rw (to_z-of_z w64 a.off_a c.ranges.off_a, to_z-of_z w64 a.off_b c.ranges.off_b) at c.line_line.ensures.value in
     c.met.ensures ∙ ap met lines ∙ lines_met a.a.now a.off_a a.b.now a.off_b
