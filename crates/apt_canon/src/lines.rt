@@ -9,6 +9,7 @@ ghost use Rattle.apt_canon.specs.Meeting as meeting;
 
 use crate::FormFault;
 use apt_num::{div_near, isqrt};
+use apt_plane::vectors::{cross_of, height, norm_of};
 use apt_plane::{Dir, Line, Pt};
 
 /// The coordinate limit, in grid units.
@@ -47,7 +48,7 @@ fn meet(a: &Line, ha: i64, b: &Line, hb: i64) -> Result<Pt, FormFault>
     requires hb { unsigned_abs hb ≤ 10 ^ 8 }
     ensures { result ≡ meeting.line_line a.now ha b.now hb }
 {
-    let turn = cross(a.dir, b.dir);
+    let turn = cross_of(a.dir, b.dir);
     if turn == 0 {
         return Err(FormFault::NoMeeting);
     }
@@ -83,7 +84,7 @@ fn meeting_way(a: &Line, ha: i64, b: &Line, hb: i64) -> Wide
     ensures y_small { unsigned_abs result.y ≤ 2 ^ 119 }
 {
     let first = times(ha, length_of(a.dir));
-    let second = height_from(hb, length_of(b.dir), cross(b.dir, way(b.base, a.base)));
+    let second = height_from(hb, length_of(b.dir), height(b.base, b.dir, a.base));
     Wide {
         x: product_difference(b.dir.dx, first, a.dir.dx, second),
         y: product_difference(b.dir.dy, first, a.dir.dy, second),
@@ -106,7 +107,7 @@ fn length_of(dir: Dir) -> i128
     ensures value { result ≡ meeting.length_of dir }
     ensures small { unsigned_abs result < 2 ^ 63 }
 {
-    isqrt(norm(dir) * (1 << 70)) as i128
+    isqrt(norm_of(dir) * (1 << 70)) as i128
 }
 
 fn shifted(base: i64, share: i128, turn: i128) -> i128
@@ -130,48 +131,6 @@ fn in_range(point: Wide) -> Result<Pt, FormFault>
     } else {
         Err(FormFault::OutOfRange)
     }
-}
-
-fn way(p: Pt, q: Pt) -> Dir
-    requires start { IsPoint p }
-    requires end { IsPoint q }
-    ensures value { result ≡ vectors.way p q }
-    ensures dx { unsigned_abs result.dx ≤ 10 ^ 8 }
-    ensures dy { unsigned_abs result.dy ≤ 10 ^ 8 }
-{
-    Dir {
-        dx: q.x - p.x,
-        dy: q.y - p.y,
-    }
-}
-
-fn norm(dir: Dir) -> u128
-    requires dx { unsigned_abs dir.dx ≤ 10 ^ 8 }
-    requires dy { unsigned_abs dir.dy ≤ 10 ^ 8 }
-    ensures value { result ≡ vectors.norm dir }
-    ensures small { result ≤ 2 * 10 ^ 16 }
-{
-    square(dir.dx) + square(dir.dy)
-}
-
-fn square(part: i64) -> u128
-    requires { unsigned_abs part ≤ 10 ^ 8 }
-    ensures value { result ≡ unsigned_abs part * unsigned_abs part }
-    ensures small { result ≤ 10 ^ 16 }
-{
-    let size = u128::from(part.unsigned_abs());
-    size * size
-}
-
-fn cross(u: Dir, v: Dir) -> i128
-    requires u_dx { unsigned_abs u.dx ≤ 10 ^ 8 }
-    requires u_dy { unsigned_abs u.dy ≤ 10 ^ 8 }
-    requires v_dx { unsigned_abs v.dx ≤ 10 ^ 8 }
-    requires v_dy { unsigned_abs v.dy ≤ 10 ^ 8 }
-    ensures value { result ≡ vectors.cross u v }
-    ensures small { unsigned_abs result ≤ 2 * 10 ^ 16 }
-{
-    product_difference(u.dx, i128::from(v.dy), u.dy, i128::from(v.dx))
 }
 
 fn product_difference(a: i64, b: i128, c: i64, d: i128) -> i128

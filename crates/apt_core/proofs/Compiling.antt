@@ -17,29 +17,25 @@ use Rattle.apt_report.specs.declared.status.Status.{Status}
 use Rattle.apt_report.specs.declared.status.Status.TheVariants as answers
 use Rattle.apt_report.specs.declared.status.Summary.{Summary}
 use Rattle.apt_lexis.specs.declared.cause.PartCause.{PartCause}
-use Rattle.apt_parse.specs.Programs.{program_of}
-use Rattle.apt_motion.specs.Answers.{Made}
-use Rattle.apt_core.specs.Parts.{made_of, made_by_program, IsMade, summary_of, part_limit, due, due_program}
+use Rattle.apt_part.specs.Parts.{Made, made_of}
+use Rattle.apt_core.specs.Parts.{IsMade, summary_of, part_limit, due, due_program}
 use Rattle.apt_core.specs.Unread.{IsUnread, IsUnmade}
 use Rattle.apt_core.specs.Delivery.{IsDelivered}
 use Rattle.apt_core.specs.Promise.{Files, Holds, Tells, IsBeforeWriting, IsCompiled, MayBeBegun, LeavesFiles, Leaves, Compiles}
 
 -- ---- what a text comes to
 
-made_text : (text : List ℕ) (m : Made) → IsMade text m → made_of text ≡ Ok (Ok m)
-made_text text m is = ap made_by_program is.read ∙ ap Ok is.does
-
-due_short : (machine : Machine) (name text : List ℕ) → length text ≤ part_limit → due machine name (Some text) ≡ due_program machine (made_of text)
+due_short : (machine : Machine) (name text : List ℕ) → length text ≤ part_limit → due machine name (Some text) ≡ due_program machine (made_of machine text)
 due_short machine name text short =
     let fits : nat_lt part_limit (length text) ≡ false = le-ltb _ _ short in
     rw fits refl
 
-due_made : (machine : Machine) (name text : List ℕ) (m : Made) → length text ≤ part_limit → IsMade text m → due machine name (Some text) ≡ due_program machine (Ok (Ok m))
-due_made machine name text m short is = due_short machine name text short ∙ ap (due_program machine) (made_text text m is)
+due_made : (machine : Machine) (name text : List ℕ) (m : Made) → length text ≤ part_limit → IsMade machine text m → due machine name (Some text) ≡ due_program machine (Ok (Ok m))
+due_made machine name text m short is = due_short machine name text short ∙ ap (due_program machine) is.due
 
-due_fault : (machine : Machine) (name text : List ℕ) (line : ℕ) (cause : PartCause) → length text ≤ part_limit → program_of text ≡ Err (line, cause)
+due_fault : (machine : Machine) (name text : List ℕ) (line : ℕ) (cause : PartCause) → length text ≤ part_limit → made_of machine text ≡ Err (line, cause)
     → answers.BadPart line cause ≡ (due machine name (Some text)).answer
-due_fault machine name text line cause short e = sym (ap (λ d. d.answer) (due_short machine name text short ∙ ap (λ p. due_program machine (made_by_program p)) e))
+due_fault machine name text line cause short e = sym (ap (λ d. d.answer) (due_short machine name text short ∙ ap (due_program machine) e))
 
 due_long : (machine : Machine) (name text : List ℕ) → part_limit < length text → answers.TooLong name ≡ (due machine name (Some text)).answer
 due_long machine name text long =
@@ -148,7 +144,7 @@ pub record HasText (told : Option Contents) (name text : List ℕ) : Type 0 wher
   pub short : length text ≤ part_limit
 
 -- a text whose statements make nothing
-pub unmade_compiles : (machine : Machine) (part tape text : List ℕ) (before after : Files) (told : Status) → AreRead before after → HasText before.told part text → IsUnmade text told
+pub unmade_compiles : (machine : Machine) (part tape text : List ℕ) (before after : Files) (told : Status) → AreRead before after → HasText before.told part text → IsUnmade machine text told
     → Compiles machine part tape before after told
 unmade_compiles machine part tape text before after (answers.BadPart line cause) read has is =
     unwritten machine part tape before after _ (Some text) read (read_held before.told part text before.read_faults after.read_faults has.held) (inl (due_fault machine part text line cause has.short is)) (inr tt)
@@ -160,7 +156,7 @@ unmade_compiles machine part tape text before after _ read has is = absurd is
 
 -- ---- the writing
 
-compiled : (machine : Machine) (part tape text : List ℕ) (m : Contents) (done : Made) (summary : Summary) → length text ≤ part_limit → IsMade text done
+compiled : (machine : Machine) (part tape text : List ℕ) (m : Contents) (done : Made) (summary : Summary) → length text ≤ part_limit → IsMade machine text done
     → control_run machine.code (tape_bytes machine done.0) ≡ Ok done.0 → summary ≡ summary_of done → IsCompiled machine (Some text) tape m (insert m tape (tape_bytes machine done.0)) summary
 compiled machine part tape text m done summary short is run counted = record {
   text = text;
@@ -175,7 +171,7 @@ compiled machine part tape text m done summary short is run counted = record {
 begun : (due_tape : Option (List ℕ)) (tape bytes : List ℕ) (m : Contents) (k : ℕ) → due_tape ≡ Some bytes → MayBeBegun due_tape tape m (insert m tape (take k bytes))
 begun due_tape tape bytes m k e = inr (record { bytes = bytes; count = k; due = e; written = refl })
 
-may_begin : (machine : Machine) (part tape text : List ℕ) (m : Contents) (after : Option Contents) (done : Made) (told : Status) → length text ≤ part_limit → IsMade text done
+may_begin : (machine : Machine) (part tape text : List ℕ) (m : Contents) (after : Option Contents) (done : Made) (told : Status) → length text ≤ part_limit → IsMade machine text done
     → WritesPrefix tape (tape_bytes machine done.0) (Some m) after → ((files : Contents) → MayBeBegun (due machine part (Some text)).tape tape m files → LeavesFiles machine part (Some text) tape m files told)
     → Leaves machine part (Some text) tape (Some m) after told
 may_begin machine part tape text m after done told short is (inl same) leaves = rw same (leaves m (inl refl))
@@ -183,7 +179,7 @@ may_begin machine part tape text m after done told short is (inr front) leaves =
     let due_tape : (due machine part (Some text)).tape ≡ Some (tape_bytes machine done.0) = ap (λ d. d.tape) (due_made machine part text done short is) in
     rw front.2 (leaves (insert m tape (take front.0 (tape_bytes machine done.0))) (begun (due machine part (Some text)).tape tape (tape_bytes machine done.0) m front.0 due_tape))
 
-leaves_delivered : (machine : Machine) (part tape text : List ℕ) (before after : Option Contents) (done : Made) (told : Status) → length text ≤ part_limit → IsMade text done
+leaves_delivered : (machine : Machine) (part tape text : List ℕ) (before after : Option Contents) (done : Made) (told : Status) → length text ≤ part_limit → IsMade machine text done
     → IsDelivered machine tape done before after told → Leaves machine part (Some text) tape before after told
 leaves_delivered machine part tape text None after done told short is delivered = tt
 leaves_delivered machine part tape text (Some m) after done (answers.Done summary) short is delivered =
@@ -192,7 +188,7 @@ leaves_delivered machine part tape text (Some m) after done answers.WriteFault s
 leaves_delivered machine part tape text (Some m) after done answers.NoMemory short is delivered = may_begin machine part tape text m after done answers.NoMemory short is delivered (λ files b. b)
 leaves_delivered machine part tape text (Some m) after done _ short is delivered = absurd delivered
 
-tells_delivered : (machine : Machine) (part tape text : List ℕ) (before after : Files) (done : Made) (told : Status) → length text ≤ part_limit → IsMade text done
+tells_delivered : (machine : Machine) (part tape text : List ℕ) (before after : Files) (done : Made) (told : Status) → length text ≤ part_limit → IsMade machine text done
     → IsDelivered machine tape done before.told after.told told → (told ≡ answers.WriteFault → Rose before.write_faults after.write_faults)
     → Tells (due machine part (Some text)).answer before after told × (IsBeforeWriting told → ⊥)
 tells_delivered machine part tape text before after done (answers.Done summary) short is delivered rose =
@@ -208,7 +204,7 @@ pub record AreWritten (before after : Files) (told : Status) : Type 0 where
   pub writes_later : before.write_faults ≤ after.write_faults
   pub reads_later : before.read_faults ≤ after.read_faults
 
-pub delivered_compiles : (machine : Machine) (part tape text : List ℕ) (before after : Files) (done : Made) (told : Status) → HasText before.told part text → IsMade text done
+pub delivered_compiles : (machine : Machine) (part tape text : List ℕ) (before after : Files) (done : Made) (told : Status) → HasText before.told part text → IsMade machine text done
     → IsDelivered machine tape done before.told after.told told → AreWritten before after told → Compiles machine part tape before after told
 delivered_compiles machine part tape text before after done told has is delivered counts =
     let tells = tells_delivered machine part tape text before after done told has.short is delivered counts.write_fault in

@@ -1,4 +1,3 @@
-mod Worked
 pub mod Compiling
 pub mod Putting
 pub mod Running

@@ -6,13 +6,13 @@ use borrow.Author.Tests.{le-ltb}
 use Rattle.apt_shelf.specs.Told.{Contents}
 use Rattle.apt_words.specs.declared.Refusal.{Refusal}
 use Rattle.apt_parse.specs.Programs.{Fault}
-use Rattle.apt_motion.specs.Answers.{Made}
+use Rattle.apt_part.specs.Parts.{Made, made_of}
 use Rattle.apt_machine.specs.declared.Machine.{Machine}
 use Rattle.apt_report.specs.declared.status.Status.{Status}
 use Rattle.apt_report.specs.declared.status.Status.TheVariants as answers
 use Rattle.apt_report.specs.declared.status.Summary.{Summary}
 use Rattle.apt_core.specs.Words.{Ask, Compile}
-use Rattle.apt_core.specs.Parts.{made_of, MakesAll, due, due_program, part_limit}
+use Rattle.apt_core.specs.Parts.{MakesAll, due, due_program, part_limit}
 use Rattle.apt_core.specs.Promise.{Files, Lines, Outside, Holds, Tells, Compiles, Works, IsPut, IsRun, NoneRose, Completes}
 
 pub run_is : (machine : Machine) (ask : Option Ask) (before after : Outside) (told answer : Status) → Works machine ask before.files after.files told → IsPut told before.lines after.lines answer
@@ -32,7 +32,7 @@ due_is_no_usage machine name (Some text) e = by_length (nat_lt part_limit (lengt
   where
     by_length : (b : Bool) → nat_lt part_limit (length text) ≡ b → ⊥
     by_length true long = let u : answers.TooLong name ≡ answers.Usage = rw long at e in let f : ⊥ = cc in f
-    by_length false short = program_is_no_usage machine (made_of text) (rw short at e)
+    by_length false short = program_is_no_usage machine (made_of machine text) (rw short at e)
 
 tells_no_usage : (due told : Status) (before after : Files) → due ≢ answers.Usage → Tells due before after told → told ≢ answers.Usage
 tells_no_usage due told before after is_none (inl same) e = is_none (sym same ∙ e)
@@ -68,7 +68,7 @@ held_is (Some n) m name text before now held e there holds = holds ∙ ap (λ k.
     some_same : (a b : Contents) → Some a ≡ Some b → a ≡ b
     some_same a b e = cc
 
-due_all : (machine : Machine) (name text : List ℕ) (summary : Summary) → length text ≤ part_limit → MakesAll text summary → (due machine name (Some text)).answer ≡ answers.Done summary
+due_all : (machine : Machine) (name text : List ℕ) (summary : Summary) → length text ≤ part_limit → MakesAll machine text summary → (due machine name (Some text)).answer ≡ answers.Done summary
 due_all machine name text summary short makes =
     let fits : nat_lt part_limit (length text) ≡ false = le-ltb _ _ short in
     rw (fits, makes.1) (ap answers.Done (sym makes.2))
@@ -81,7 +81,7 @@ answered told answer summary before after none is puts = elim puts.shows [
 ]
 
 told_whole : (machine : Machine) (part tape text : List ℕ) (summary : Summary) (before after : Outside) (told : Status) (works : Compiles machine part tape before.files after.files told) → works.held ≡ Some text
-    → length text ≤ part_limit → MakesAll text summary → NoneRose before after → (told ≡ answers.Done summary) ⊎ (told ≡ answers.NoMemory)
+    → length text ≤ part_limit → MakesAll machine text summary → NoneRose before after → (told ≡ answers.Done summary) ⊎ (told ≡ answers.NoMemory)
 told_whole machine part tape text summary before after told works there short makes none = elim works.tells [
   | inl same ↦ inl (same ∙ ap (λ held. (due machine part held).answer) there ∙ due_all machine part text summary short makes)
   | inr failed ↦ elim failed [
@@ -90,7 +90,7 @@ told_whole machine part tape text summary before after told works there short ma
   ]
 ]
 
-pub completes : (machine : Machine) (ask : Option Ask) (before after : Outside) (answer : Status) → IsRun machine ask before after answer → Completes ask before after answer
+pub completes : (machine : Machine) (ask : Option Ask) (before after : Outside) (answer : Status) → IsRun machine ask before after answer → Completes machine ask before after answer
 completes machine None before after answer run = tt
 completes machine (Some (Compile part name cl tape)) before after answer run = λ m text summary told there short makes none.
     let held = held_is before.files.told m part text before.files.read_faults after.files.read_faults run.works.held told there run.works.holds in

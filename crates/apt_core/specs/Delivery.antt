@@ -9,7 +9,7 @@ use Rattle.apt_control.specs.Control.{control_run}
 use Rattle.apt_post.specs.Post.{tape_bytes}
 use Rattle.apt_report.specs.declared.status.Status.{Status}
 use Rattle.apt_report.specs.declared.status.Status.TheVariants as answers
-use Rattle.apt_motion.specs.Answers.{Made}
+use Rattle.apt_part.specs.Parts.{Made}
 use Rattle.apt_core.specs.Parts.{summary_of}
 
 -- the tape of the acts is written whole

@@ -1,12 +1,9 @@
 -- What the texts of parts come to, and what is due for them.
 use Rattle.std.specs.Prelude.{◌≡◌, ℕ, nat_lt, List, length, Option, Some, None, Result, Ok, Err, if◌then◌else◌}
 use Rattle.apt_words.specs.declared.Refusal.{Refusal}
-use Rattle.apt_words.specs.declared.body.Stmt.{Stmt}
-use Rattle.apt_parse.specs.Programs.{Fault, program_of}
-use Rattle.apt_unroll.specs.Straight.{steps_of}
-use Rattle.apt_motion.specs.Answers.{Made, statements_make}
-use Rattle.apt_motion.specs.Deeds.{motions_of}
-use Rattle.apt_motion.specs.Motions.{AreLegal}
+use Rattle.apt_parse.specs.Programs.{Fault}
+use Rattle.apt_part.specs.Parts.{Made, made_of}
+use Rattle.apt_part.specs.Promise.{Promise}
 use Rattle.apt_machine.specs.declared.Machine.{Machine}
 use Rattle.apt_control.specs.Control.{control_run}
 use Rattle.apt_post.specs.Post.{tape_bytes}
@@ -17,33 +14,22 @@ use Rattle.apt_report.specs.declared.status.Summary.TheVariants as summaries
 
 -- ---- the meaning of a text
 
--- what statements make, or the first refused step, where the text has no fault
-abbrev pub made_by_program : Result (List Stmt) Fault → Result (Result Made Refusal) Fault
-made_by_program (Ok statements) = Ok (statements_make statements)
-made_by_program (Err fault) = Err fault
-
--- the first fault of a text, else the first refused step of its statements, else what they make
-abbrev pub made_of : List ℕ → Result (Result Made Refusal) Fault
-made_of text = made_by_program (program_of text)
-
--- the statements of a text make these acts, and every contour among them is legal
-pub record IsMade (text : List ℕ) (m : Made) : Type 0 where
-  pub statements : List Stmt
-  pub read : program_of text ≡ Ok statements
-  pub does : statements_make statements ≡ Ok m
-  pub legal : AreLegal (motions_of (steps_of statements).steps)
+-- a text makes these acts on a machine, and what is promised of them holds
+pub record IsMade (machine : Machine) (text : List ℕ) (m : Made) : Type 0 where
+  pub due : made_of machine text ≡ Ok (Ok m)
+  pub promise : Promise machine text m
 
 abbrev pub summary_of : Made → Summary
 summary_of m = summaries.Compiled 0 (length m.0) m.1
 
 -- a text has no fault, no step of it is refused, and this is the summary of what it makes
-abbrev pub MakesAll : List ℕ → Summary → Type 0
-MakesAll text summary = (m : Made) × (made_of text ≡ Ok (Ok m)) × (summary ≡ summary_of m)
+abbrev pub MakesAll : Machine → List ℕ → Summary → Type 0
+MakesAll machine text summary = (m : Made) × (made_of machine text ≡ Ok (Ok m)) × (summary ≡ summary_of m)
 
 -- the bytes are the tape of what a text makes, and a control runs them to its acts
 pub record IsTapeOf (machine : Machine) (text : List ℕ) (summary : Summary) (bytes : List ℕ) : Type 0 where
   pub m : Made
-  pub made : IsMade text m
+  pub made : IsMade machine text m
   pub counted : summary ≡ summary_of m
   pub exact : bytes ≡ tape_bytes machine m.0
   pub run : control_run machine.code bytes ≡ Ok m.0
@@ -70,4 +56,4 @@ part_limit = 4194304
 -- for what a name holds
 abbrev pub due : Machine → List ℕ → Option (List ℕ) → Due
 due machine name None = no_tape (answers.Missing name)
-due machine name (Some text) = if nat_lt part_limit (length text) then no_tape (answers.TooLong name) else due_program machine (made_of text)
+due machine name (Some text) = if nat_lt part_limit (length text) then no_tape (answers.TooLong name) else due_program machine (made_of machine text)

@@ -161,8 +161,8 @@ pub record NoneRose (before after : Outside) : Type 0 where
   pub putting : ¬ (Rose before.lines.put_faults after.lines.put_faults)
 
 -- where no count rose, a part under the name PART without fault, of which no step is refused, is compiled, or memory ran out
-abbrev pub Completes : Option Ask → Outside → Outside → Status → Type 0
-Completes None before after answer = Unit {0}
-Completes (Some (Compile part name cl tape)) before after answer =
-    (m : Contents) (text : List ℕ) (summary : Summary) → before.files.told ≡ Some m → get m part ≡ Some text → length text ≤ part_limit → MakesAll text summary
+abbrev pub Completes : Machine → Option Ask → Outside → Outside → Status → Type 0
+Completes machine None before after answer = Unit {0}
+Completes machine (Some (Compile part name cl tape)) before after answer =
+    (m : Contents) (text : List ℕ) (summary : Summary) → before.files.told ≡ Some m → get m part ≡ Some text → length text ≤ part_limit → MakesAll machine text summary
     → NoneRose before after → (answer ≡ answers.Done summary) ⊎ (answer ≡ answers.NoMemory)

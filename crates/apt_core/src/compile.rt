@@ -2,6 +2,7 @@
 
 ghost use Rattle.std.specs.Prelude.{◌≡◌, ◌≤◌, IfOk};
 ghost use Rattle.apt_shelf.specs.Told.{Rose};
+ghost use Rattle.apt_machine.specs.Machines.{IsMachine};
 ghost use Rattle.apt_post.specs.Post.{IsProgram};
 ghost use Rattle.apt_core.specs.Unread.{IsUnread};
 ghost use Rattle.apt_core.specs.Delivery.{IsDelivered};
@@ -9,8 +10,7 @@ ghost use Rattle.apt_core.specs.Promise.{Compiles, files_on};
 
 use crate::part::output_of;
 use apt_machine::Machine;
-use apt_motion::Output;
-use apt_post::tape;
+use apt_post::{Planned, tape};
 use apt_report::{FileName, Status, Summary};
 use apt_shelf::{ReadError, Shelf, ShelfFault, read_all, write_all};
 use std::alloc::{AllocError, Global};
@@ -26,13 +26,14 @@ pub(crate) fn compile<H: Shelf>(
     part: &str,
     tape_name: &str,
 ) -> Status
+    requires { IsMachine machine.now }
     ensures { Compiles machine.now part.now tape_name.now (files_on H.Shelf shelf.old) (files_on H.Shelf shelf.new) result }
 {
     let text = match read_all(alloc, shelf, part, PART_LIMIT) {
         Ok(text) => text,
         Err(error) => return unread(alloc, error, part),
     };
-    match output_of(alloc, &text) {
+    match output_of(alloc, &text, machine) {
         Ok(output) => deliver(alloc, shelf, machine, &output, tape_name),
         Err(status) => status,
     }
@@ -43,7 +44,7 @@ fn deliver<H: Shelf>(
     alloc: Global,
     shelf: &mut H,
     machine: &Machine,
-    output: &Output,
+    output: &Planned,
     name: &str,
 ) -> Status
     requires { IsProgram output.now.acts.items }

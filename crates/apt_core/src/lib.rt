@@ -33,7 +33,7 @@ pub fn apt<H: Shelf, K: Sink>(
     ensures runs { IsRun the_machine (asked (texts words.now)) (outside H.Shelf K.Sink shelf.old out.old) (outside H.Shelf K.Sink shelf.new out.new) result }
     ensures usage { result ≡ Status.Usage → asked (texts words.now) ≡ None }
     ensures untouched { asked (texts words.now) ≡ None → shelf.new ≡ shelf.old }
-    ensures complete { Completes (asked (texts words.now)) (outside H.Shelf K.Sink shelf.old out.old) (outside H.Shelf K.Sink shelf.new out.new) result }
+    ensures complete { Completes the_machine (asked (texts words.now)) (outside H.Shelf K.Sink shelf.old out.old) (outside H.Shelf K.Sink shelf.new out.new) result }
 {
     let status = answer(alloc, words, shelf);
     tell(alloc, out, status)

@@ -115,7 +115,7 @@ started_there : (b : Bool) (to : Position) → b ≡ true → IsPosition to → 
 started_there true to e is = moves_to reaches.Start to is
 started_there false to e is = absurd (true≢false (sym e))
 
-starts : (u : StartUp) → IsPosition u.start → NoneHolds (start_up_cases u) → Asks (moves reaches.Start (started u))
+pub starts : (u : StartUp) → IsPosition u.start → NoneHolds (start_up_cases u) → Asks (moves reaches.Start (started u))
 starts u is none =
     started_there (is_none (first_of (start_up_cases u))) (at_height u.start.z (start_point u)) (ap is_none (none_first (start_up_cases u) none))
     (record { at = start_up_point u none; z = is.z })
@@ -149,7 +149,7 @@ go_or_refused at how_a a (Some b) is none = go_asks at how_a a b.0 b.1 is none
 
 -- ---- contours
 
-motion_is : (s : Settings) (start : Position) (drive : Surface) (turned : Sign) (how : Stop) (check : Surface)
+pub motion_is : (s : Settings) (start : Position) (drive : Surface) (turned : Sign) (how : Stop) (check : Surface)
     → AreSettings s → IsPosition start → IsSurface drive → IsSurface check → is_zero turned ≡ false → IsMotion (motion s start drive turned how check)
 motion_is s start drive turned how check is from d c turns = record {
   start = from;
@@ -169,7 +169,7 @@ unless_asks : (b : Bool) (o : Option Motion) → b ≡ false → Asks (cuts o) �
 unless_asks true o e asks = absurd (true≢false e)
 unless_asks false o e asks = asks
 
-turned_asks : (s : Settings) (start : Position) (drive : Surface) (turned : Sign) (how : Stop) (check : Surface)
+pub turned_asks : (s : Settings) (start : Position) (drive : Surface) (turned : Sign) (how : Stop) (check : Surface)
     → AreSettings s → IsPosition start → IsSurface drive → IsSurface check
     → NoneHolds (turned_cases s start drive turned how check) → Asks (cuts (if_turned s start drive turned how check))
 turned_asks s start drive turned how check is from d c none =

@@ -5,7 +5,8 @@ ghost use Rattle.std.specs.Prelude.{◌≡◌, ◌≢◌, ◌↔◌, ◌*◌, �
 ghost use Rattle.apt_num.specs.Near.{near, IsNear};
 ghost use Rattle.apt_num.specs.Root.{IsRoot, IsNearestRoot};
 ghost use Rattle.apt_num.specs.Root as roots;
-ghost use Rattle.apt_num.specs.Sign.{root_sign_of, sign_of, AtLeast};
+ghost use Rattle.apt_num.specs.Sign.{root_sign_of, AtLeast};
+ghost use Rattle.apt_num.specs.Sign as signs;
 
 /// The sign of a number.
 #[derive(Clone, Copy, Debug, PartialEq, Eq)]
@@ -92,7 +93,7 @@ fn sign_by_squares(k: i128, h: i128, n: u128) -> Sign
     ensures { result ≡ root_sign_of k h n }
 {
     if n == 0 {
-        return sign_alone(k);
+        return sign_of(k);
     }
     let size_k = k.unsigned_abs();
     let size_h = h.unsigned_abs();
@@ -111,8 +112,9 @@ fn sign_by_squares(k: i128, h: i128, n: u128) -> Sign
     }
 }
 
-fn compare(a: u128, b: u128) -> Sign
-    ensures { result ≡ sign_of (pos a -ℤ pos b) }
+/// The sign of `a - b`.
+pub fn compare(a: u128, b: u128) -> Sign
+    ensures { result ≡ signs.sign_of (pos a -ℤ pos b) }
 {
     if a < b {
         Sign::Minus
@@ -123,8 +125,9 @@ fn compare(a: u128, b: u128) -> Sign
     }
 }
 
-fn sign_alone(k: i128) -> Sign
-    ensures { result ≡ sign_of k }
+/// The sign of a whole number.
+pub fn sign_of(k: i128) -> Sign
+    ensures { result ≡ signs.sign_of k }
 {
     if k < 0 {
         Sign::Minus

@@ -11,7 +11,7 @@ mod turns;
 use apt_plane::{Dir, Pt};
 pub use places::{check_place, drive_place, is_on_check, stop_place};
 pub use targets::{drive_band, drive_target, lacks_room, moved, signed, stop_band, stop_target};
-pub use turns::turn_sense;
+pub use turns::{tangent, turn, turn_sense};
 
 /// A surface moved for the cutter's radius: a line `off` grid units to its left, or a circle.
 #[derive(Clone, Copy, Debug, PartialEq, Eq)]

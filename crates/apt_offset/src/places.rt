@@ -5,8 +5,8 @@ ghost use Rattle.std.specs.Prelude.{◌≡◌};
 ghost use Rattle.apt_plane.specs.Ranges.{IsPoint, IsSurface, IsLine, IsCircle};
 ghost use Rattle.apt_offset.specs.Places as placing;
 
-use crate::signs::{compare, is_zero, opposite, sign_of, times};
-use apt_num::Sign;
+use crate::signs::{is_zero, opposite, times};
+use apt_num::{Sign, compare, sign_of};
 use apt_plane::vectors::{cross, norm, way};
 use apt_plane::{Circ, Line, Pt, Surface};
 use apt_words::{Case, Side, Stop};

@@ -1,37 +1,10 @@
-//! Signs of numbers, and what is done to them.
+//! What is done to the signs of numbers.
 
-ghost use Rattle.std.specs.Prelude.{◌≡◌, pos, ◌-ℤ◌};
-ghost use Rattle.apt_num.specs.Sign as numbers;
+ghost use Rattle.std.specs.Prelude.{◌≡◌};
 ghost use Rattle.apt_offset.specs.Turns as turning;
 ghost use Rattle.apt_offset.specs.Places as placing;
 
 use apt_num::Sign;
-
-/// The sign of a whole number.
-pub fn sign_of(z: i128) -> Sign
-    ensures { result ≡ numbers.sign_of z }
-{
-    if z < 0 {
-        Sign::Minus
-    } else if z == 0 {
-        Sign::Zero
-    } else {
-        Sign::Plus
-    }
-}
-
-/// The sign of `a - b`.
-pub fn compare(a: u128, b: u128) -> Sign
-    ensures { result ≡ numbers.sign_of (pos a -ℤ pos b) }
-{
-    if a < b {
-        Sign::Minus
-    } else if a == b {
-        Sign::Zero
-    } else {
-        Sign::Plus
-    }
-}
 
 /// The sign of the negated number.
 pub fn opposite(sign: Sign) -> Sign

@@ -4,8 +4,8 @@ ghost use Rattle.std.specs.Prelude.{◌≡◌, ◌≤◌, ◌^◌, ◌↔◌, If
 ghost use Rattle.apt_plane.specs.Ranges.{IsPoint, IsSurface, IsVector, IsSense};
 ghost use Rattle.apt_offset.specs.Turns as turning;
 
-use crate::signs::{opposite, sign_of};
-use apt_num::Sign;
+use crate::signs::opposite;
+use apt_num::{Sign, sign_of};
 use apt_plane::vectors::{cross, dot, perp, way};
 use apt_plane::{Dir, Pt, Surface};
 use apt_words::{Case, Go};
@@ -32,7 +32,8 @@ pub fn turn_sense(forward: Dir, start: Pt, drive: &Surface, go: Go) -> Result<i8
     }
 }
 
-fn tangent(drive: &Surface, at: Pt) -> Dir
+/// The direction of a surface at a point: that of a line, or the tangent of a circle, anticlockwise.
+pub fn tangent(drive: &Surface, at: Pt) -> Dir
     requires drive { IsSurface drive.now }
     requires at { IsPoint at }
     ensures value { result ≡ turning.tangent drive.now at }
@@ -44,7 +45,8 @@ fn tangent(drive: &Surface, at: Pt) -> Dir
     }
 }
 
-fn turn(forward: Dir, along: Dir, go: Go) -> Sign
+/// How a direction runs against forward: to the left or right by the cross product, forward or back by the dot product.
+pub fn turn(forward: Dir, along: Dir, go: Go) -> Sign
     requires forward { IsVector forward }
     requires along { IsVector along }
     ensures { result ≡ turning.turn forward along go }

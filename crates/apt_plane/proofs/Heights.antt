@@ -8,7 +8,7 @@ use Rattle.apt_plane.specs.declared.figures.Pt.{Pt}
 use Rattle.apt_plane.specs.declared.figures.Dir.{Dir}
 use Rattle.apt_plane.specs.declared.figures.Line.{Line}
 use Rattle.apt_plane.specs.Vectors.{way, cross, norm, scaled, between, height}
-use Rattle.apt_plane.specs.Ranges.{IsPoint, IsDir, IsLine}
+use Rattle.apt_plane.specs.Ranges.{IsPoint, IsDir}
 
 pub one-times : (z : ℤ) → pos 1 *ℤ z ≡ z
 one-times z = omega (arith, ints)
@@ -24,9 +24,12 @@ difference_small a b c d p q r s =
     let second : unsigned_abs (c *ℤ d) ≤ 10 ^ 16 = rw (size_mul c d) (omega (arith, mul-le _ _ (10 ^ 8) (10 ^ 8) r s)) in
     omega (arith, size_minus (a *ℤ b) (c *ℤ d))
 
-pub height_small : (l : Line) (p : Pt) → IsLine l → IsPoint p → unsigned_abs (height l (scaled p)) ≤ 2 * 10 ^ 16
-height_small l p line point =
-    rw (height_of_point l p) (difference_small l.dir.dx (p.y -ℤ l.base.y) l.dir.dy (p.x -ℤ l.base.x) line.dir.dx (omega (arith, ints)) line.dir.dy (omega (arith, ints)))
+pub cross_small : (u v : Dir) → IsDir u → IsDir v → unsigned_abs (cross u v) ≤ 2 * 10 ^ 16
+cross_small u v p q = difference_small u.dx v.dy u.dy v.dx p.dx q.dy p.dy q.dx
+
+pub way_height_small : (base : Pt) (dir : Dir) (p : Pt) → IsPoint base → IsDir dir → IsPoint p → unsigned_abs (cross dir (way base p)) ≤ 2 * 10 ^ 16
+way_height_small base dir p at is point =
+    difference_small dir.dx (p.y -ℤ base.y) dir.dy (p.x -ℤ base.x) is.dx (omega (arith, ints)) is.dy (omega (arith, ints))
 
 pub norm_small : (d : Dir) → IsDir d → norm d ≤ 2 * 10 ^ 16
 norm_small d is = omega (arith, mul-le _ _ (10 ^ 8) (10 ^ 8) is.dx is.dx, mul-le _ _ (10 ^ 8) (10 ^ 8) is.dy is.dy)

@@ -1,15 +1,14 @@
 //! All points of a segment against a band along a line.
 
 ghost use Rattle.std.specs.Prelude.{◌≡◌, ◌≤◌, ◌*◌, ◌^◌, ◌↔◌, IsTrue, IsOk, IfErr, unsigned_abs, neg_ℤ};
-ghost use Rattle.apt_plane.specs.Ranges.{IsPoint, IsDir, IsLine, IsBand};
+ghost use Rattle.apt_plane.specs.Ranges.{IsPoint, IsLine, IsBand};
 ghost use Rattle.apt_plane.specs.Distances.{InBand, EveryPoint};
 ghost use Rattle.apt_plane.specs.Segments.{IsFirstOutside};
-ghost use Rattle.apt_plane.specs.Vectors.{height, scaled};
-ghost use Rattle.apt_plane.specs.Vectors as ways;
+ghost use Rattle.apt_plane.specs.Vectors.{scaled};
 ghost use Rattle.apt_num.specs.Sign.{AtLeast};
 
-use crate::figures::{Band, Dir, Line, Pt, Spot, Surface};
-use crate::vectors::{cross, norm, way};
+use crate::figures::{Band, Line, Pt, Spot, Surface};
+use crate::vectors::{height, norm_of};
 use apt_num::{Sign, root_sign};
 
 /// Whether every point of the segment PQ has its signed distance to the left of the line in the band.
@@ -42,7 +41,7 @@ fn is_in_band(line: &Line, band: Band, p: Pt) -> bool
     requires point { IsPoint p }
     ensures { IsTrue result ↔ InBand (Surface.Line line.now) band (scaled p) }
 {
-    let height = height_at(line, p);
+    let height = height(line.base, line.dir, p);
     let square = norm_of(line.dir);
     is_at_least(height, band.lo, square) && is_at_most(height, band.hi, square)
 }
@@ -64,22 +63,4 @@ fn is_at_most(height: i128, length: i64, square: u128) -> bool
     ensures { IsTrue result ↔ AtLeast (neg_ℤ height) (neg_ℤ length) square }
 {
     root_sign(height, i128::from(length), square) != Sign::Plus
-}
-
-fn height_at(line: &Line, p: Pt) -> i128
-    requires line { IsLine line.now }
-    requires point { IsPoint p }
-    ensures value { result ≡ height line.now (scaled p) }
-    ensures small { unsigned_abs result ≤ 2 * 10 ^ 16 }
-{
-    cross(line.dir, way(line.base, p))
-}
-
-#[tactic(auto, using(crate::proofs::Heights::norm_small))]
-fn norm_of(dir: Dir) -> u128
-    requires { IsDir dir }
-    ensures value { result ≡ ways.norm dir }
-    ensures small { result ≤ 2 * 10 ^ 16 }
-{
-    norm(dir)
 }

@@ -1,7 +1,7 @@
 //! Ways between points and their products. Nothing is rounded.
 
 ghost use Rattle.std.specs.Prelude.{◌≡◌, ◌≤◌, ◌^◌, ◌*◌, ◌*ℤ◌, unsigned_abs};
-ghost use Rattle.apt_plane.specs.Ranges.{IsPoint, IsVector};
+ghost use Rattle.apt_plane.specs.Ranges.{IsPoint, IsDir, IsVector};
 ghost use Rattle.apt_plane.specs.Vectors as ways;
 
 use crate::figures::{Dir, Pt};
@@ -44,6 +44,39 @@ pub fn norm(u: Dir) -> u128
     ensures { result ≡ ways.norm u }
 {
     square(u.dx) + square(u.dy)
+}
+
+/// The square of the length of a direction.
+#[tactic(auto, using(crate::proofs::Heights::norm_small))]
+pub fn norm_of(dir: Dir) -> u128
+    requires { IsDir dir }
+    ensures value { result ≡ ways.norm dir }
+    ensures small { result ≤ 2 * 10 ^ 16 }
+{
+    norm(dir)
+}
+
+/// The cross product of two directions.
+#[tactic(auto, using(crate::proofs::Heights::cross_small))]
+pub fn cross_of(first: Dir, second: Dir) -> i128
+    requires first { IsDir first }
+    requires second { IsDir second }
+    ensures value { result ≡ ways.cross first second }
+    ensures small { unsigned_abs result ≤ 2 * 10 ^ 16 }
+{
+    cross(first, second)
+}
+
+/// The signed distance to the left of the line through the base, times the length of its direction.
+#[tactic(auto, using(crate::proofs::Heights::way_height_small))]
+pub fn height(base: Pt, dir: Dir, p: Pt) -> i128
+    requires base { IsPoint base }
+    requires dir { IsDir dir }
+    requires point { IsPoint p }
+    ensures value { result ≡ ways.cross dir (ways.way base p) }
+    ensures small { unsigned_abs result ≤ 2 * 10 ^ 16 }
+{
+    cross(dir, way(base, p))
 }
 
 /// The way turned by a quarter to the left.

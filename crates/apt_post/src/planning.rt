@@ -18,10 +18,10 @@ pub struct Planned {
 /// What holds for the records to come: the feed of the last FEDRAT, whether RAPID is pending, and whether the end
 /// was given.
 #[derive(Clone, Copy)]
-struct Pending {
-    feed: i64,
-    rapid: bool,
-    ended: bool,
+pub struct Pending {
+    pub feed: i64,
+    pub rapid: bool,
+    pub ended: bool,
 }
 
 fn cut_to(p: Pending, to: Position) -> Act

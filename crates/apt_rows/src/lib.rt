@@ -4,14 +4,16 @@
 #[cfg(test)]
 mod contours;
 #[cfg(test)]
+mod failing;
+#[cfg(test)]
 mod first_run;
 #[cfg(test)]
 mod parts;
-#[cfg(test)]
-mod printed;
 #[cfg(test)]
 mod reading;
 #[cfg(test)]
 mod run;
 #[cfg(test)]
 mod steps;
+#[cfg(test)]
+mod words;

@@ -7,10 +7,9 @@ ghost use Rattle.apt_plane.specs.Vectors as vectors;
 ghost use Rattle.apt_offset.specs.Ranges.{IsTarget, IsLineTarget, IsCircleTarget};
 ghost use Rattle.apt_stop.specs.Nearness as near;
 
-use apt_num::{Sign, root_sign};
+use apt_num::{Sign, compare, root_sign};
 use apt_offset::Target;
-use apt_offset::signs::compare;
-use apt_plane::vectors::{cross, norm, way};
+use apt_plane::vectors::{height, norm, norm_of, way};
 use apt_plane::{Dir, Pt};
 
 /// Whether a point is at most `g` grid units from a target.
@@ -107,27 +106,6 @@ fn side_by_height(height: i128, off: i64, norm: u128) -> Sign
     ensures { result ≡ root_sign_of height off norm }
 {
     root_sign(height, i128::from(off), norm)
-}
-
-/// The signed distance to the left of the line through the base, times the length of its direction.
-#[tactic(auto, using(crate::proofs::Sizes::height_small))]
-fn height(base: Pt, dir: Dir, p: Pt) -> i128
-    requires base { IsPoint base }
-    requires dir { IsDir dir }
-    requires point { IsPoint p }
-    ensures value { result ≡ vectors.cross dir (vectors.way base p) }
-    ensures small { unsigned_abs result ≤ 2 * 10 ^ 16 }
-{
-    cross(dir, way(base, p))
-}
-
-#[tactic(auto, using(apt_plane::proofs::Heights::norm_small))]
-fn norm_of(dir: Dir) -> u128
-    requires { IsDir dir }
-    ensures value { result ≡ vectors.norm dir }
-    ensures small { result ≤ 2 * 10 ^ 16 }
-{
-    norm(dir)
 }
 
 fn square(a: i64) -> u128

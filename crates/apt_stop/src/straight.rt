@@ -9,9 +9,8 @@ ghost use Rattle.apt_stop.specs.Lines as stops;
 
 use crate::nearness::{heading, is_near, side_of};
 use apt_canon::line_line;
-use apt_num::Sign;
+use apt_num::{Sign, sign_of};
 use apt_offset::Target;
-use apt_offset::signs::sign_of;
 use apt_plane::vectors::cross;
 use apt_plane::{Dir, Line, Pt};
 use apt_words::Case;
@@ -88,7 +87,8 @@ fn crossing(drive: &Line, off: i64, check: &Line, stop_off: i64) -> Result<Pt, C
     }
 }
 
-fn are_parallel(a: &Line, b: &Line) -> bool
+/// Whether two lines are parallel.
+pub fn are_parallel(a: &Line, b: &Line) -> bool
     requires first { IsLine a.now }
     requires second { IsLine b.now }
     ensures { result ≡ meeting.are_parallel a.now b.now }
@@ -96,7 +96,9 @@ fn are_parallel(a: &Line, b: &Line) -> bool
     cross(a.dir, b.dir).unsigned_abs() == 0
 }
 
-fn line_behind(start: Pt, heading: Dir, stop: &Line, off: i64) -> bool
+/// Whether the stop, a line moved `off` grid units to its left, lies behind a motion: the start is near it, or the
+/// motion heads to the start's side of it.
+pub fn line_behind(start: Pt, heading: Dir, stop: &Line, off: i64) -> bool
     requires start { IsPoint start }
     requires heading { IsVector heading }
     requires stop { IsLine stop.now }

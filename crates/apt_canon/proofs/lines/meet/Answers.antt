@@ -13,7 +13,7 @@ returns c =
     let point = c.meeting_point.result in
     let keep_ha = to_z-of_z w64 ha c.ranges.ha in
     let keep_hb = to_z-of_z w64 hb c.ranges.hb in
-    let turned : c.cross-turn.result ≢ pos 0 = omega (arith, ints) in
+    let turned : c.cross_of-turn.result ≢ pos 0 = omega (arith, ints) in
     let x : point.x ≡ (meeting_point a ha b hb).x = rw (keep_ha, keep_hb) at c.meeting_point.ensures.x in
     let y : point.y ≡ (meeting_point a ha b hb).y = rw (keep_ha, keep_hb) at c.meeting_point.ensures.y in
-    c.in_range.ensures ∙ meets a b ha hb c.cross-turn.result point.x point.y c.cross-turn.ensures.value turned x y
+    c.in_range.ensures ∙ meets a b ha hb c.cross_of-turn.result point.x point.y c.cross_of-turn.ensures.value turned x y

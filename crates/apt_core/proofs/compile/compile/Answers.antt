@@ -15,7 +15,7 @@ pub returns-in-Ok-output_of : goal.returns-in-Ok-output_of
 returns-in-Ok-output_of g c =
     let o = c.in-Ok-output_of.output in
     delivered_compiles c.args.machine.now c.args.part.now c.args.tape_name.now c.in-Ok.text.items (files_on g.H.Shelf c.args.shelf.now) (files_on g.H.Shelf c.deliver.new.shelf) (o.acts.items, o.segments)
-    c.deliver.result (record { held = c.in-Ok.ensures.bytes; short = c.in-Ok.ensures.short }) (subst (λ t. IsMade t (o.acts.items, o.segments)) c.deref.ensures.value c.in-Ok-output_of.ensures.made)
+    c.deliver.result (record { held = c.in-Ok.ensures.bytes; short = c.in-Ok.ensures.short }) (subst (λ t. IsMade c.args.machine.now t (o.acts.items, o.segments)) c.deref.ensures.value c.in-Ok-output_of.ensures.made)
     (rw c.read_all.ensures.told at c.deliver.ensures.delivered)
     (record {
       write_fault = rw c.read_all.ensures.write_faults at c.deliver.ensures.write_fault;
@@ -28,4 +28,4 @@ returns g c =
     let e = c.read_all.ensures in
     unmade_compiles c.args.machine.now c.args.part.now c.args.tape_name.now c.in-Ok.text.items (files_on g.H.Shelf c.args.shelf.now) (files_on g.H.Shelf c.read_all.new.shelf) c.in-Err-output_of.status
     (record { told = e.told; writing = e.writing; write_faults = e.write_faults; later = e.later }) (record { held = c.in-Ok.ensures.bytes; short = c.in-Ok.ensures.short })
-    (subst (λ t. IsUnmade t c.in-Err-output_of.status) c.deref.ensures.value c.in-Err-output_of.ensures.unmade)
+    (subst (λ t. IsUnmade c.args.machine.now t c.in-Err-output_of.status) c.deref.ensures.value c.in-Err-output_of.ensures.unmade)
