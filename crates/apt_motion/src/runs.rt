@@ -1,16 +1,24 @@
-//! Stub.
+//! The records of a part program.
 
-ghost use Rattle.apt_scalar.specs.Numbers.{AreScalars};
+ghost use Rattle.std.specs.Prelude.{◌≡◌, IfOk};
 ghost use Rattle.apt_words.specs.Built.{AreBuiltSteps};
+ghost use Rattle.apt_scalar.specs.Numbers.{AreScalars};
+ghost use Rattle.apt_cldata.specs.Ranges.{AreRecords};
+ghost use Rattle.apt_meaning.specs.Compiled.{compiled, refused_at};
+ghost use Rattle.apt_meaning.specs.Records.{FollowsLegally};
 ghost use Rattle.apt_meaning.specs.Situations.{first_situation};
-ghost use Rattle.apt_meaning.specs.Compiled.{compiled};
+ghost use Rattle.apt_meaning.specs.declared.situation.Situation.{Situation};
 ghost use Rattle.apt_motion.specs.Ends.{Ends};
 
+use crate::deeds::find;
+use crate::records::take;
+use crate::stopped::Stopped;
 use apt_cldata::Record;
-use apt_words::{Refusal, Step};
-use std::alloc::Global;
+use apt_meaning::Situation;
+use apt_words::{Case, Refusal, Step};
+use std::alloc::{AllocError, Global};
 
-/// Why the steps are not done to their end.
+/// Why there are no records.
 #[derive(Clone, Copy)]
 pub enum RunError {
     /// The first refused step, and its case.
@@ -19,11 +27,54 @@ pub enum RunError {
     NoMemory,
 }
 
-/// Stub.
-pub fn run(_alloc: Global, steps: &[Step]) -> Result<Vec<Record>, RunError>
+impl From<AllocError> for RunError {
+    ghost use Rattle.std.specs.Prelude.{◌≡◌};
+    ghost use Rattle.apt_motion.specs.declared.runs.RunError.TheVariants as errors;
+
+    ghost from_gives = { λ _ e. e ≡ errors.NoMemory };
+
+    fn from(_: AllocError) -> Self {
+        RunError::NoMemory
+    }
+}
+
+fn refused(step: &Step, case: Case) -> RunError
+    ensures { result ≡ RunError.Refused (refused_at step.now case) }
+{
+    RunError::Refused(Refusal {
+        line: step.line,
+        step: step.step,
+        case,
+    })
+}
+
+fn run_all(alloc: Global, steps: &[Step]) -> Result<Vec<Record>, RunError>
+    requires scalars { AreScalars steps.now }
+    requires built { AreBuiltSteps steps.now }
+    ensures { Ends (compiled first_situation steps.now) result }
+{
+    let mut at = Situation::first(alloc);
+    let mut records = Vec::new(alloc);
+    'steps: for st in steps {
+        let found = match find(&at, &st.deed) {
+            Ok(found) => found,
+            Err(Stopped::Refused(case)) => return Err(refused(st, case)),
+            Err(Stopped::NoMemory) => return Err(RunError::NoMemory),
+        };
+        at = take(alloc, &mut records, at, st, found)?;
+    }
+    Ok(records)
+}
+
+/// The records of steps, each contour with the point at which it stops. `Refused` has the first step that a case
+/// refuses. The records follow the steps, every contour is legal, and all numbers are in range.
+#[tactic(auto, using(crate::proofs::Walks::run_follows, crate::proofs::Walks::run_in_range))]
+pub fn run(alloc: Global, steps: &[Step]) -> Result<Vec<Record>, RunError>
     requires scalars { AreScalars steps.now }
     requires built { AreBuiltSteps steps.now }
     ensures value { Ends (compiled first_situation steps.now) result }
+    ensures follows { IfOk result (λ records. (behind : Situation) × FollowsLegally first_situation steps.now records.items behind) }
+    ensures range { IfOk result (λ records. AreRecords records.items) }
 {
-    Err(RunError::NoMemory)
+    run_all(alloc, steps)
 }

@@ -1,11 +1,12 @@
 //! The statements of a program, executed in order.
 
-ghost use Rattle.std.specs.Prelude.{◌≡◌, ◌≤◌, [], false, None, IfOk};
+ghost use Rattle.std.specs.Prelude.{◌≡◌, ◌≢◌, ◌≤◌, [], false, None, IfOk, IfSome};
 ghost use Rattle.apt_words.specs.Built.{AreBuilt, AreBuiltSteps};
-ghost use Rattle.apt_words.specs.Endings.{EndsInFini};
+ghost use Rattle.apt_words.specs.Endings as endings;
+ghost use Rattle.apt_words.specs.Endings.{EndsInFini, StepsEnd};
+ghost use Rattle.apt_words.specs.declared.Case.TheVariants as cases;
 ghost use Rattle.apt_scalar.specs.Numbers.{AreScalars};
 ghost use Rattle.apt_unroll.specs.Straight as straight;
-ghost use Rattle.apt_words.specs.Endings.{is_ended, StepsEnd};
 
 use crate::deeds::{bind_behind, deed_of};
 use apt_scalar::{Env, Frame};
@@ -35,12 +36,13 @@ impl Model for Unrolled {
 }
 
 /// The steps of a program whose statements are executed in order.
-#[tactic(auto, using(crate::proofs::Numbers::are_scalars, crate::proofs::Building::are_built, crate::proofs::Endings::end_once))]
+#[tactic(auto, using(crate::proofs::Numbers::are_scalars, crate::proofs::Building::are_built, crate::proofs::Building::none_unbuilt, crate::proofs::Endings::end_once))]
 pub fn unroll(alloc: Global, p: &Program) -> Result<Unrolled, AllocError>
     requires built { AreBuilt p.now }
     ensures steps { IfOk result (λ u. u ≡ straight.steps_of p.now) }
     ensures scalars { IfOk result (λ u. AreScalars u.steps) }
     ensures built { IfOk result (λ u. AreBuiltSteps u.steps) }
+    ensures none_unbuilt { IfOk result (λ u. IfSome u.fault (λ refusal. refusal.case ≢ cases.NotBuilt)) }
     ensures ends { EndsInFini p.now → IfOk result (λ u. u.fault ≡ None → StepsEnd false u.steps) }
 {
     unroll_all(alloc, p)
@@ -98,7 +100,7 @@ fn deed_at(
 
 /// Whether the program has ended behind a step.
 fn is_ended(before: bool, deed: &Deed) -> bool
-    ensures { result ≡ is_ended before deed.now }
+    ensures { result ≡ endings.is_ended before deed.now }
 {
     match deed {
         Deed::EndWord => true,

@@ -1,0 +1,105 @@
+-- The walk of the compiling pass over steps, and what its records are.
+use Rattle.std.proofs.Common.{◌≡◌, ◌∙◌, List, [], ◌∷◌, ◌++◌, Vec, Option, Some, None, Result, Ok, Err, IfOk, IfSome, refl, sym, ap, subst, append_assoc}
+use Rattle.apt_words.specs.declared.Case.{Case}
+use Rattle.apt_words.specs.declared.Refusal.{Refusal}
+use Rattle.apt_words.specs.declared.deed.Deed.{Deed}
+use Rattle.apt_words.specs.declared.deed.Step.{Step}
+use Rattle.apt_scalar.specs.Numbers.{HasScalars, AreScalars}
+use Rattle.apt_plane.specs.declared.figures.Pt.{Pt}
+use Rattle.apt_plane.specs.Ranges.{IsPoint}
+use Rattle.apt_cldata.specs.declared.record.Record.{Record}
+use Rattle.apt_cldata.specs.Ranges.{AreRecords}
+use Rattle.apt_meaning.specs.declared.situation.Situation.{Situation}
+use Rattle.apt_meaning.specs.declared.effect.Effect.{Effect}
+use Rattle.apt_meaning.specs.declared.effect.Effect.TheVariants as effects
+use Rattle.apt_meaning.specs.Motions.{contact}
+use Rattle.apt_meaning.specs.Effects.{effect_of}
+use Rattle.apt_meaning.specs.Refusals.{refusal_of}
+use Rattle.apt_meaning.specs.Situations.{first_situation}
+use Rattle.apt_meaning.specs.Records.{FollowsLegally, records_of, after}
+use Rattle.apt_meaning.specs.Compiled.{ends_of, with_front, asked, or_refused, compiled}
+use Rattle.apt_meaning.specs.Ranges.{IsSituation, IsEffect}
+use Rattle.apt_meaning.specs.Numbers.{HasIn}
+use Rattle.apt_meaning.proofs.Asked.{answered}
+use Rattle.apt_meaning.proofs.Kept.{kept, first_situation-IsSituation}
+use Rattle.apt_meaning.proofs.Walk.{compiled_follows}
+use Rattle.apt_motion.specs.declared.runs.RunError.{RunError}
+use Rattle.apt_motion.specs.Ends.{Ends}
+use Rattle.apt_motion.specs.Finding.{ends_at}
+
+regroup : (front more : List Record) (r : Result (List Record) Refusal) → with_front front (with_front more r) ≡ with_front (front ++ more) r
+regroup front more (Ok rest) = ap (λ (x : List Record). Ok x) (sym (append_assoc front more rest))
+regroup front more (Err refusal) = refl
+
+-- one more step of the walk
+pub step_on : (front : List Record) (at : Situation) (step : Step) (steps : List Step) (e : Effect) (total : Result (List Record) Refusal)
+    → asked (refusal_of at step.deed) (effect_of at step.deed) ≡ Ok e → with_front front (compiled at (step ∷ steps)) ≡ total
+    → with_front (front ++ records_of step e (ends_of e)) (compiled (after at e (ends_of e)) steps) ≡ total
+step_on front at step steps e total does so_far =
+    let one : compiled at (step ∷ steps) ≡ with_front (records_of step e (ends_of e)) (compiled (after at e (ends_of e)) steps) =
+    ap (λ (a : Result Effect Case). or_refused step a (λ e. with_front (records_of step e (ends_of e)) (compiled (after at e (ends_of e)) steps))) does in
+    sym (regroup front (records_of step e (ends_of e)) (compiled (after at e (ends_of e)) steps)) ∙ sym (ap (with_front front) one) ∙ so_far
+
+-- a step that is refused
+pub step_refused : (front : List Record) (at : Situation) (step : Step) (steps : List Step) (case : Case) (total : Result (List Record) Refusal)
+    → asked (refusal_of at step.deed) (effect_of at step.deed) ≡ Err case → with_front front (compiled at (step ∷ steps)) ≡ total
+    → total ≡ or_refused step (Err case) (λ e. Ok [])
+step_refused front at step steps case total refuses so_far =
+    sym so_far ∙ ap (λ (a : Result Effect Case). with_front front (or_refused step a (λ e. with_front (records_of step e (ends_of e)) (compiled (after at e (ends_of e)) steps)))) refuses
+
+-- ---- what a step asks for is in range, and so is what holds behind it
+
+-- an effect of a step that no case refuses
+pub record IsFit (at : Situation) (e : Effect) : Type 0 where
+  pub good : IsEffect e
+  pub ends : HasIn e (ends_of e)
+  pub behind : IsSituation (after at e (ends_of e))
+
+same_ok : (d e : Effect) → ◌≡◌ {A = Result Effect Case} (Ok d) (Ok e) → d ≡ e
+same_ok d e h = cc
+
+no_ok : (case : Case) (e : Effect) → ◌≡◌ {A = Result Effect Case} (Err case) (Ok e) → ⊥
+no_ok case e h = cc
+
+asked_fine : (f : Option Case) (o : Option Effect) (e : Effect) → asked f o ≡ Ok e → (f ≡ None) × (o ≡ Some e)
+asked_fine None None e h = absurd (no_ok _ e h)
+asked_fine None (Some d) e h = (refl, ap Some (same_ok d e h))
+asked_fine (Some case) o e h = absurd (no_ok case e h)
+
+same_some : (d e : Effect) → ◌≡◌ {A = Option Effect} (Some d) (Some e) → d ≡ e
+same_some d e h = cc
+
+pub fit : (at : Situation) (deed : Deed) (e : Effect) → IsSituation at → HasScalars deed → asked (refusal_of at deed) (effect_of at deed) ≡ Ok e → IsFit at e
+fit at deed e is scalars does =
+    let h = asked_fine (refusal_of at deed) (effect_of at deed) e does in
+    let a = answered at deed is scalars h.0 in
+    let fits : IsFit at a.e = record { good = a.good; ends = a.ends; behind = kept at a.e (ends_of a.e) is a.good a.ends } in
+    subst (IsFit at) (same_some a.e e (sym a.asked ∙ h.1)) fits
+
+no_ends : (p : Pt) → ◌≡◌ {A = List Pt} [] (p ∷ []) → ⊥
+no_ends p h = cc
+
+same_end : (p q : Pt) → ◌≡◌ {A = List Pt} (p ∷ []) (q ∷ []) → p ≡ q
+same_end p q h = cc
+
+-- the end of a contour is a point
+pub end_in : (e : Effect) (end : Option Pt) → HasIn e (ends_of e) → ends_of e ≡ ends_at end → IfSome end IsPoint
+end_in e None is same = tt
+end_in (effects.Defines n f) (Some p) is same = absurd (no_ends p same)
+end_in (effects.Sets s said) (Some p) is same = absurd (no_ends p same)
+end_in (effects.Moves reach to) (Some p) is same = absurd (no_ends p same)
+end_in (effects.Cuts m) (Some p) is same = subst IsPoint (same_end (contact m) p same) is.0
+
+-- ---- runs
+
+pub run_follows : {A : Type 0} (steps : List Step) (result : Result (Vec Record A) RunError) → AreScalars steps → Ends (compiled first_situation steps) result
+    → IfOk result (λ records. (behind : Situation) × FollowsLegally first_situation steps records.items behind)
+run_follows steps (Ok records) scalars is =
+    let a = compiled_follows first_situation steps records.items first_situation-IsSituation scalars is in
+    (a.behind, a.follows)
+run_follows steps (Err e) scalars is = tt
+
+pub run_in_range : {A : Type 0} (steps : List Step) (result : Result (Vec Record A) RunError) → AreScalars steps → Ends (compiled first_situation steps) result
+    → IfOk result (λ records. AreRecords records.items)
+run_in_range steps (Ok records) scalars is = (compiled_follows first_situation steps records.items first_situation-IsSituation scalars is).records
+run_in_range steps (Err e) scalars is = tt
