@@ -1,2 +1,3 @@
+mod Worked
 pub mod Written
 pub mod Promised

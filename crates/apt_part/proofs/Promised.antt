@@ -1,23 +1,21 @@
 -- What a text makes keeps the promise.
-use Rattle.std.proofs.Common.{◌≡◌, ◌∙◌, ℕ, ℤ, pos, ◌≤ℤ◌, Bool, false, arith, List, Option, Some, None, Result, Ok, Err, refl, sym, ap, subst}
-use Rattle.std.specs.Prelude.{IfOk, nat_lt}
+use Rattle.std.proofs.Common.{◌≡◌, ◌∙◌, ℕ, false, arith, List, Option, Some, None, Result, Ok, Err, refl, sym, ap, subst}
+use Rattle.std.specs.Prelude.{IfOk}
 use Rattle.std.proofs.lemmas.Int.{ints}
 use Rattle.apt_words.specs.declared.Refusal.{Refusal}
 use Rattle.apt_words.specs.declared.body.Stmt.{Stmt}
 use Rattle.apt_words.specs.Endings.{EndsInFini, StepsEnd}
-use Rattle.apt_scalar.specs.Numbers.{AreScalars}
 use Rattle.apt_parse.specs.Programs.{Fault, program_of}
 use Rattle.apt_parse.proofs.Endings.{program_of-ends}
 use Rattle.apt_unroll.specs.Straight.{Steps, steps_of}
 use Rattle.apt_unroll.proofs.Numbers.{are_scalars}
 use Rattle.apt_unroll.proofs.Endings.{end_once}
 use Rattle.apt_cldata.specs.declared.record.Record.{Record}
-use Rattle.apt_cldata.specs.Ranges.{EndsOnce}
 use Rattle.apt_meaning.specs.Situations.{first_situation}
 use Rattle.apt_meaning.specs.Records.{AreLegal}
 use Rattle.apt_meaning.specs.Compiled.{compiled}
 use Rattle.apt_meaning.proofs.Kept.{first_situation-IsSituation}
-use Rattle.apt_meaning.proofs.Walk.{Arrives, compiled_follows}
+use Rattle.apt_meaning.proofs.Walk.{compiled_follows}
 use Rattle.apt_meaning.proofs.Ends.{ends_once}
 use Rattle.apt_meaning.proofs.Stands.{stands}
 use Rattle.apt_machine.specs.declared.Machine.{Machine}
@@ -25,11 +23,9 @@ use Rattle.apt_machine.specs.Machines.{IsMachine}
 use Rattle.apt_post.specs.Limits.{limits}
 use Rattle.apt_post.specs.Plan.{plan, segments, places, nothing_pending}
 use Rattle.apt_post.specs.Post.{IsProgram}
-use Rattle.apt_post.specs.declared.planning.Planned.{Planned}
 use Rattle.apt_post.proofs.Reaching.{plan_reaches}
 use Rattle.apt_post.proofs.Programs.{planned_program}
-use Rattle.apt_part.specs.declared.part.PartError.{PartError}
-use Rattle.apt_part.specs.Parts.{Made, earlier, unless_fault, records_by, planned, made_by, made_of, made_in, Answers}
+use Rattle.apt_part.specs.Parts.{Made, earlier, unless_fault, records_by, planned, made_by, made_of}
 use Rattle.apt_part.specs.Promise.{Promise}
 use Rattle.apt_part.proofs.Written.{compiled_written}
 

@@ -1,14 +1,14 @@
 -- The acts of records that the compiler makes can be written.
-use Rattle.std.proofs.Common.{◌≡◌, ◌∙◌, ◌≤◌, ◌<◌, ℕ, ℤ, pos, negsuc, zero, suc, ◌≤ℤ◌, unsigned_abs, int_lt, not, ◌||◌, Bool, true, false, List, [], ◌∷◌, ◌++◌, map, Option, Some, None, Result, Ok, refl, sym, ap, subst, cond, arith, inl, inr}
+use Rattle.std.proofs.Common.{◌≡◌, ◌∙◌, ◌≤◌, ℕ, ℤ, pos, negsuc, zero, suc, ◌≤ℤ◌, int_lt, not, ◌||◌, Bool, true, false, List, [], ◌∷◌, map, Option, Some, None, Ok, refl, sym, ap, subst, cond, arith}
 use Rattle.std.proofs.lemmas.Int.{ints}
-use Rattle.std.proofs.lemmas.Bool.{true≢false, not-false}
+use Rattle.std.proofs.lemmas.Bool.{true≢false}
 use Rattle.apt_words.specs.declared.Case.{Case}
 use Rattle.apt_words.specs.declared.Case.TheVariants as cases
 use Rattle.apt_words.specs.declared.Refusal.{Refusal}
 use Rattle.apt_words.specs.declared.deed.Deed.{Deed}
 use Rattle.apt_words.specs.declared.deed.Deed.TheVariants as deeds
 use Rattle.apt_words.specs.declared.deed.Step.{Step}
-use Rattle.apt_words.specs.Rows.{first_of, NoneHolds}
+use Rattle.apt_words.specs.Rows.{first_of}
 use Rattle.apt_scalar.specs.Scalars.{tenths}
 use Rattle.apt_plane.specs.declared.figures.Pt.{Pt}
 use Rattle.apt_cldata.specs.declared.record.Position.{Position}
@@ -18,10 +18,9 @@ use Rattle.apt_cldata.specs.declared.record.Note.{Note}
 use Rattle.apt_cldata.specs.declared.record.Note.TheVariants as notes
 use Rattle.apt_cldata.specs.declared.record.Record.{Record}
 use Rattle.apt_cldata.specs.declared.record.Record.TheVariants as records
-use Rattle.apt_cldata.specs.Ranges.{IsPosition, IsNote, ArePositions, AreRecords}
+use Rattle.apt_cldata.specs.Ranges.{IsPosition, ArePositions, AreRecords}
 use Rattle.apt_meaning.specs.declared.situation.Settings.{Settings}
 use Rattle.apt_meaning.specs.declared.situation.Situation.{Situation}
-use Rattle.apt_meaning.specs.declared.motion.Motion.{Motion}
 use Rattle.apt_meaning.specs.declared.effect.Effect.{Effect}
 use Rattle.apt_meaning.specs.declared.effect.Effect.TheVariants as effects
 use Rattle.apt_meaning.specs.Situations.{has_feed, lacks_feed, settings_behind}
@@ -37,14 +36,14 @@ use Rattle.apt_meaning.proofs.Said.{said_by}
 use Rattle.apt_meaning.proofs.Fed.{IsFed, fed}
 use Rattle.apt_meaning.proofs.Asked.{answered}
 use Rattle.apt_meaning.proofs.Kept.{kept, records_in}
-use Rattle.apt_meaning.proofs.Walk.{Done, done, front_ok, nothing_left, fit}
+use Rattle.apt_meaning.proofs.Walk.{done, front_ok, nothing_left, fit}
 use Rattle.apt_machine.specs.declared.Machine.{Machine}
 use Rattle.apt_machine.specs.Machines.{IsMachine}
 use Rattle.apt_control.specs.declared.Act.{Act}
 use Rattle.apt_control.specs.declared.Act.TheVariants as acts
 use Rattle.apt_post.specs.declared.planning.Pending.{Pending}
 use Rattle.apt_post.specs.Limits.{is_past, machine_cases, refused_by, limits}
-use Rattle.apt_post.specs.Plan.{cut_to, move_to, end_of, note_acts, note_pending, record_acts, record_pending}
+use Rattle.apt_post.specs.Plan.{cut_to, move_to}
 use Rattle.apt_post.specs.Post.{IsUpTo, CanWrite}
 use Rattle.apt_post.specs.Writing.{CanWriteAll, AreWritten, pending_behind}
 use Rattle.apt_post.proofs.Programs.{written-append}

@@ -2,5 +2,7 @@
 #![tactic(auto)]
 
 mod part;
+#[cfg(test)]
+mod tests;
 
 pub use part::{PartError, made};
