@@ -1,5 +1,5 @@
 -- A contour that no case refuses is cut to its contact.
-use Rattle.std.proofs.Common.{◌≡◌, ◌∙◌, ℕ, Bool, true, false, List, Option, Some, None, Result, Ok, Err, refl, sym, cond}
+use Rattle.std.proofs.Common.{◌≡◌, ℕ, List, Option, Some, None, Result, Ok, refl}
 use Rattle.apt_num.specs.declared.Sign.{Sign}
 use Rattle.apt_words.specs.declared.Case.{Case}
 use Rattle.apt_words.specs.declared.Go.{Go}
@@ -7,20 +7,18 @@ use Rattle.apt_words.specs.declared.Side.{Side}
 use Rattle.apt_words.specs.declared.Stop.{Stop}
 use Rattle.apt_words.specs.declared.deed.Deed.TheVariants as deeds
 use Rattle.apt_words.specs.Rows.{first_of, unless, unless_case}
-use Rattle.apt_plane.specs.declared.figures.Pt.{Pt}
 use Rattle.apt_plane.specs.declared.figures.Surface.{Surface}
 use Rattle.apt_plane.specs.Ranges.{IsSurface}
-use Rattle.apt_offset.specs.Turns.{is_zero}
 use Rattle.apt_cldata.specs.declared.record.Position.{Position}
 use Rattle.apt_cldata.specs.Ranges.{IsPosition}
 use Rattle.apt_meaning.specs.declared.situation.Settings.{Settings}
 use Rattle.apt_meaning.specs.declared.motion.Motion.{Motion}
 use Rattle.apt_meaning.specs.declared.situation.Situation.{Situation}
 use Rattle.apt_meaning.specs.Situations.{with_side}
-use Rattle.apt_meaning.specs.Motions.{motion, motion_at, turn_at, contact, is_defined, if_defined, if_turned}
+use Rattle.apt_meaning.specs.Motions.{motion, motion_at, turn_at, contact, if_turned}
 use Rattle.apt_meaning.specs.Effects.{cuts, effect_of}
-use Rattle.apt_meaning.specs.Refusals.{motion_cases, turned_cases, refusal_of}
-use Rattle.apt_meaning.specs.Ranges.{AreSettings, IsSituation, IsMotion}
+use Rattle.apt_meaning.specs.Refusals.{turned_cases, refusal_of}
+use Rattle.apt_meaning.specs.Ranges.{AreSettings, IsSituation}
 use Rattle.apt_meaning.specs.Compiled.{asked}
 use Rattle.apt_meaning.proofs.Refused.{first_none}
 use Rattle.apt_meaning.proofs.Legal.{motion_defined}

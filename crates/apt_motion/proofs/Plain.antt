@@ -1,25 +1,19 @@
 -- What a step asks for that is no contour has no end.
-use Rattle.std.proofs.Common.{◌≡◌, ◌≢◌, ◌∙◌, ℕ, ℤ, pos, ◌+ℤ◌, unsigned_abs, Bool, true, false, List, [], ◌∷◌, Option, Some, None, Result, Ok, Err, refl, sym, ap, subst}
+use Rattle.std.proofs.Common.{◌≡◌, ◌∙◌, ℕ, ℤ, List, [], ◌∷◌, Option, Some, None, Result, Ok, Err, refl, sym, ap}
 use Rattle.apt_words.specs.declared.Case.{Case}
 use Rattle.apt_words.specs.declared.deed.Deed.{Deed}
 use Rattle.apt_words.specs.declared.deed.Deed.TheVariants as deeds
 use Rattle.apt_plane.specs.declared.figures.Pt.{Pt}
-use Rattle.apt_words.specs.Options.{◌>>=◌}
 use Rattle.apt_words.specs.Rows.{first_of, unless, unless_case}
-use Rattle.apt_scalar.specs.Scalars.{grid_units, tenths}
-use Rattle.apt_cldata.specs.declared.record.Note.TheVariants as notes
 use Rattle.apt_cldata.specs.declared.record.Position.{Position}
 use Rattle.apt_cldata.specs.declared.record.Reach.{Reach}
 use Rattle.apt_cldata.specs.declared.record.Reach.TheVariants as reaches
 use Rattle.apt_defs.specs.declared.figure.Figure.{Figure}
-use Rattle.apt_defs.specs.declared.figure.Figure.TheVariants as figures
 use Rattle.apt_defs.specs.Definitions.{line_cases, line_figure}
 use Rattle.apt_meaning.specs.declared.situation.Situation.{Situation}
 use Rattle.apt_meaning.specs.declared.effect.Effect.{Effect}
 use Rattle.apt_meaning.specs.declared.effect.Effect.TheVariants as effects
-use Rattle.apt_meaning.specs.Situations.{radius_of}
-use Rattle.apt_meaning.specs.Motions.{contact}
-use Rattle.apt_meaning.specs.Effects.{moves, place_by, moved_from, started_at, effect_of}
+use Rattle.apt_meaning.specs.Effects.{moves, moved_from, started_at, effect_of}
 use Rattle.apt_meaning.specs.Refusals.{refusal_of}
 use Rattle.apt_meaning.specs.Compiled.{asked, ends_of}
 use Rattle.apt_motion.specs.declared.contours.Cut.{Cut}

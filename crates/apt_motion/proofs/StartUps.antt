@@ -1,5 +1,5 @@
 -- Start-up in the compiling pass's order is what the manual's table asks for.
-use Rattle.std.proofs.Common.{◌≡◌, Bool, true, false, not, ℕ, ℤ, List, [], ◌∷◌, Option, Some, None, Result, Ok, Err, is_none, refl, cond}
+use Rattle.std.proofs.Common.{◌≡◌, Bool, true, false, not, ℕ, ℤ, List, [], ◌∷◌, Option, Some, None, Ok, Err, is_none, refl, cond}
 use Rattle.apt_words.specs.declared.Case.{Case}
 use Rattle.apt_words.specs.declared.Case.TheVariants as cases
 use Rattle.apt_words.specs.declared.Stop.{Stop}
@@ -24,7 +24,7 @@ use Rattle.apt_meaning.specs.StartUps.{start_up_at, start_up_cases, start_point,
 use Rattle.apt_meaning.specs.Effects.{moves, effect_of}
 use Rattle.apt_meaning.specs.Refusals.{is_other_kind, start_cases, refusal_of}
 use Rattle.apt_meaning.specs.Compiled.{asked}
-use Rattle.apt_motion.specs.StartUps.{start_up, start_move, start_fed, start_on, start_by, start_from, met}
+use Rattle.apt_motion.specs.StartUps.{start_up, start_move, start_on, start_by, start_from, met}
 
 fed : (b : Bool) (f : Option Case) (start : Position) (p : Pt)
     → start_move start (unless_case (cond b (Some cases.NoFeed) f) p) ≡ asked (cond b (Some cases.NoFeed) f) (moves reaches.Start (cond (is_none f) (Some (at_height start.z p)) None))

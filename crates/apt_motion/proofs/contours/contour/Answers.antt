@@ -1,4 +1,4 @@
-use Rattle.std.proofs.Common.{◌≡◌, ◌∙◌, ap, subst}
+use Rattle.std.proofs.Common.{◌∙◌, ap, subst}
 use Rattle.apt_meaning.specs.Ranges.{IsPositionOrNone}
 use Rattle.apt_meaning.specs.Situations.{with_side}
 use Rattle.apt_motion.proofs.Cuts.{turned_to, contour_cut}
