@@ -31,10 +31,12 @@ pub record Lines : Type 0 where
   pub shown : Option (List ℕ)
   pub put_faults : ℕ
 
+-- all that a run reads, writes and shows
 pub record Outside : Type 0 where
   pub files : Files
   pub lines : Lines
 
+-- the same, as a shelf and a sink have it
 abbrev pub files_on : {H : Type 0} → shelves.Ghosts H → H → Files
 files_on h shelf = record { told = h.told shelf; writing = h.writing shelf; read_faults = h.read_faults shelf; write_faults = h.write_faults shelf }
 
@@ -52,10 +54,11 @@ Holds None name before now None = Rose before now
 Holds None name before now (Some text) = Unit {0}
 Holds (Some m) name before now held = held ≡ get m name
 
+-- all was done
 abbrev pub IsDone : Status → Type 0
 IsDone answer = (summary : Summary) × (answer ≡ answers.Done summary)
 
--- the answer that is due, or reading failed, or all was to be done and writing failed, or memory ran out
+-- what is told is the answer that is due, or that reading failed, or, where all was to be done, that writing failed, or that memory ran out
 abbrev pub Tells : Status → Files → Files → Status → Type 0
 Tells due before after told =
     (told ≡ due)
@@ -94,9 +97,11 @@ pub record IsBegun (due_tape : Option (List ℕ)) (tape : List ℕ) (before afte
   pub due : due_tape ≡ Some bytes
   pub written : after ≡ insert before tape (take count bytes)
 
+-- as before, or begun
 abbrev pub MayBeBegun : Option (List ℕ) → List ℕ → Contents → Contents → Type 0
 MayBeBegun due_tape tape before after = (after ≡ before) ⊎ IsBegun due_tape tape before after
 
+-- by what is told
 abbrev pub LeavesFiles : Machine → List ℕ → Option (List ℕ) → List ℕ → Contents → Contents → Status → Type 0
 LeavesFiles machine part held tape before after (answers.Done summary) = IsCompiled machine held tape before after summary
 LeavesFiles machine part held tape before after answers.Usage = after ≡ before
@@ -155,6 +160,7 @@ pub record IsRun (machine : Machine) (ask : Option Ask) (before after : Outside)
 
 -- ---- completeness
 
+-- nothing outside failed
 pub record NoneRose (before after : Outside) : Type 0 where
   pub reading : ¬ (Rose before.files.read_faults after.files.read_faults)
   pub writing : ¬ (Rose before.files.write_faults after.files.write_faults)
