@@ -1,7 +1,6 @@
 -- What a step asks for, wherever the figures, the turn and the sides that it needs are there.
-use Rattle.std.specs.Prelude.{ℕ, ℤ, pos, ◌+ℤ◌, unsigned_abs, true, List, [], ◌∷◌, Option, Some, None}
+use Rattle.std.specs.Prelude.{ℕ, ℤ, pos, ◌+ℤ◌, unsigned_abs, true, List, Option, Some, None}
 use Rattle.apt_words.specs.declared.Stop.{Stop}
-use Rattle.apt_words.specs.declared.Side.{Side}
 use Rattle.apt_words.specs.declared.Units.{Units}
 use Rattle.apt_words.specs.declared.deed.Deed.{Deed}
 use Rattle.apt_words.specs.declared.deed.Deed.TheVariants as deeds
@@ -12,7 +11,6 @@ use Rattle.apt_cldata.specs.declared.record.Note.TheVariants as notes
 use Rattle.apt_cldata.specs.declared.record.Position.{Position}
 use Rattle.apt_cldata.specs.declared.record.Reach.{Reach}
 use Rattle.apt_cldata.specs.declared.record.Reach.TheVariants as reaches
-use Rattle.apt_defs.specs.declared.figure.Figure.{Figure}
 use Rattle.apt_defs.specs.declared.figure.Figure.TheVariants as figures
 use Rattle.apt_defs.specs.Definitions.{line_figure}
 use Rattle.apt_meaning.specs.declared.situation.Settings.{Settings}

@@ -1,7 +1,7 @@
 -- The ranges of situations and effects.
-use Rattle.std.specs.Prelude.{◌^◌, ◌≤◌, ℤ, pos, ◌≤ℤ◌, unsigned_abs, List, [], ◌∷◌, Option, Some, None}
+use Rattle.std.specs.Prelude.{◌^◌, ◌≤◌, ℤ, pos, ◌≤ℤ◌, unsigned_abs, Option, Some, None}
 use Rattle.apt_plane.specs.declared.figures.Dir.{Dir}
-use Rattle.apt_plane.specs.Ranges.{IsPoint, IsSurface, IsSense}
+use Rattle.apt_plane.specs.Ranges.{IsSurface, IsSense}
 use Rattle.apt_offset.specs.Ranges.{IsRadius, IsTolerance}
 use Rattle.apt_cldata.specs.Ranges.{IsPosition, IsNote}
 use Rattle.apt_cldata.specs.declared.record.Note.{Note}

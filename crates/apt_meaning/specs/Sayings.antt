@@ -1,9 +1,8 @@
 -- What the effect of a step tells of the step.
-use Rattle.std.specs.Prelude.{◌≡◌, ℤ, pos, unsigned_abs, Bool, true, false, List, [], ◌∷◌, Some, None}
+use Rattle.std.specs.Prelude.{◌≡◌, ℤ, pos, unsigned_abs, true, false, Some, None}
 use Rattle.apt_words.specs.declared.Units.{Units}
 use Rattle.apt_words.specs.declared.deed.Deed.{Deed}
 use Rattle.apt_words.specs.declared.deed.Deed.TheVariants as deeds
-use Rattle.apt_words.specs.declared.deed.Step.{Step}
 use Rattle.apt_words.specs.Endings.{is_ended}
 use Rattle.apt_scalar.specs.Scalars.{grid_units, tenths}
 use Rattle.apt_cldata.specs.declared.record.Note.{Note}

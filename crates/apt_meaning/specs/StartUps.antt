@@ -1,5 +1,5 @@
 -- Start-up on two surfaces.
-use Rattle.std.specs.Prelude.{ℤ, pos, ◌&&◌, ◌||◌, not, Bool, true, false, List, [], ◌∷◌, ◌++◌, ℕ, Option, Some, None, is_none, if◌then◌else◌}
+use Rattle.std.specs.Prelude.{ℤ, ◌&&◌, not, Bool, true, List, [], ◌∷◌, ℕ, Option, Some, None, is_none, if◌then◌else◌}
 use Rattle.apt_num.specs.declared.Sign.{Sign}
 use Rattle.apt_num.specs.declared.Sign.TheVariants as signs
 use Rattle.apt_words.specs.declared.Stop.{Stop}
