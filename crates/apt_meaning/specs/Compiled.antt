@@ -16,7 +16,7 @@ use Rattle.apt_meaning.specs.Records.{records_of, after}
 
 abbrev pub ends_of : Effect → List Pt
 ends_of (effects.Defines n f) = []
-ends_of (effects.Sets s note) = []
+ends_of (effects.Sets s saying) = []
 ends_of (effects.Moves reach to) = []
 ends_of (effects.Cuts m) = contact m ∷ []
 

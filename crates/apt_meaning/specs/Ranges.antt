@@ -58,6 +58,6 @@ IsNoteOrNone (Some note) = IsNote note
 
 abbrev pub IsEffect : Effect → Type 0
 IsEffect (effects.Defines n f) = IsFigure f
-IsEffect (effects.Sets s note) = AreSettings s × IsNoteOrNone note
+IsEffect (effects.Sets s saying) = AreSettings s × IsNoteOrNone saying
 IsEffect (effects.Moves reach to) = IsPosition to
 IsEffect (effects.Cuts m) = IsMotion m

@@ -39,7 +39,7 @@ records_of step e vertices = with_statement step (said e vertices)
 -- the situation behind an effect; behind a contour forward is the tangent of the drive surface, in its sense
 abbrev pub after : Situation → Effect → List Pt → Situation
 after at (effects.Defines n f) vertices = record at { table = table_with at.table n f }
-after at (effects.Sets s note) vertices = record at { settings = s }
+after at (effects.Sets s saying) vertices = record at { settings = s }
 after at (effects.Moves reach to) vertices = record at {
   settings = settings_behind reach at.settings;
   position = Some to;
@@ -55,7 +55,7 @@ after at (effects.Cuts m) vertices = record at {
 
 abbrev pub MayHave : Effect → List Pt → Type 0
 MayHave (effects.Defines n f) vertices = vertices ≡ []
-MayHave (effects.Sets s note) vertices = vertices ≡ []
+MayHave (effects.Sets s saying) vertices = vertices ≡ []
 MayHave (effects.Moves reach to) vertices = vertices ≡ []
 MayHave (effects.Cuts m) vertices = Unit {0}
 
@@ -79,7 +79,7 @@ pub record IsLegalCut (m : Motion) (vertices : List Pt) : Type 0 where
 
 abbrev pub AreLegal : Effect → List Pt → Type 0
 AreLegal (effects.Defines n f) vertices = Unit {0}
-AreLegal (effects.Sets s note) vertices = Unit {0}
+AreLegal (effects.Sets s saying) vertices = Unit {0}
 AreLegal (effects.Moves reach to) vertices = Unit {0}
 AreLegal (effects.Cuts m) vertices = IsLegalCut m vertices
 
