@@ -21,7 +21,7 @@ use Rattle.apt_offset.specs.Ranges.{IsRadius}
 use Rattle.apt_offset.specs.Turns.{opposite, is_zero}
 use Rattle.apt_offset.specs.Targets.{signed}
 use Rattle.apt_stop.specs.Nearness.{is_near, heading, off_track, near_stop, side_of as side_of_target}
-use Rattle.apt_stop.proofs.Tests.{near-OnLine}
+use Rattle.apt_stop.proofs.NearLaws.{near-OnLine}
 use Rattle.apt_stop.proofs.Cases.{inside_point}
 use Rattle.apt_certify.specs.Legs.{Leg, IsBounded, IsWithinEdge, IsLegal}
 use Rattle.apt_meaning.specs.declared.motion.Motion.{Motion}

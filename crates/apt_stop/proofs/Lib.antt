@@ -2,4 +2,4 @@ pub mod Sizes
 pub mod Headings
 pub mod Cases
 pub mod Strips
-pub mod Tests
+pub mod NearLaws
