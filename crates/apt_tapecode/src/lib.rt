@@ -212,8 +212,8 @@ mod tests {
         for (ch, rs244, rs358) in HEAD {
             assert_eq!(rt; punch(Code::Rs244, ch), Some(rs244));
             assert_eq!(rt; punch(Code::Rs358, ch), Some(rs358));
-            assert_eq!(rt; sense(Code::Rs244, rs244), Read::Char(ch));
-            assert_eq!(rt; sense(Code::Rs358, rs358), Read::Char(ch));
+            assert!(rt; sense(Code::Rs244, rs244) == Read::Char(ch));
+            assert!(rt; sense(Code::Rs358, rs358) == Read::Char(ch));
         }
     }
 
@@ -233,7 +233,7 @@ mod tests {
             (Code::Rs358, 0x31, Read::BadParity),
             (Code::Rs358, 0x41, Read::BadCode),
         ] {
-            assert_eq!(rt; sense(code, byte), want, "at {byte}");
+            assert!(rt; sense(code, byte) == want, "at {byte}");
         }
     }
 
