@@ -5,11 +5,11 @@ use Rattle.apt_num.proofs.Ring.{as_diff, diff-pos, diff-same, differences}
 use Rattle.apt_plane.specs.declared.figures.Pt.{Pt}
 use Rattle.apt_plane.specs.declared.figures.Dir.{Dir}
 use Rattle.apt_plane.specs.declared.figures.Line.{Line}
-use Rattle.apt_plane.specs.Vectors.{way, cross}
+use Rattle.apt_plane.specs.Vectors.{displacement, cross}
 use Rattle.apt_plane.specs.Ranges.{IsLine}
-use Rattle.apt_plane.proofs.Ways.{cross_self, cross_swap, cross_minus, cross_sum}
-use Rattle.apt_plane.proofs.Moved.{near_way, moved}
-use Rattle.apt_canon.specs.Meeting.{unit, length_of, meeting_way, meeting_point, IsNearLine}
+use Rattle.apt_plane.proofs.Displacements.{cross_self, cross_swap, cross_minus, cross_sum}
+use Rattle.apt_plane.proofs.Moved.{near_displacement, moved}
+use Rattle.apt_canon.specs.Meeting.{unit, length_of, meeting_displacement, meeting_point, IsNearLine}
 use Rattle.apt_canon.proofs.NearLine.{near_line}
 
 first_only : (d x y : ℤ) → (d *ℤ x) -ℤ (pos 0 *ℤ y) ≡ d *ℤ x
@@ -19,17 +19,17 @@ second_only : (d x y : ℤ) → (pos 0 *ℤ x) -ℤ (neg_ℤ d *ℤ y) ≡ d *�
 second_only d x y = rw (as_diff d, as_diff x, as_diff y, diff-pos 0) (simp differences (diff-same _ _ _ _ (omega arith)))
 
 -- the heights of the way above both directions
-pub way_above_first : (a b : Line) (ha hb : ℤ) → cross a.dir (meeting_way a ha b hb) ≡ cross a.dir b.dir *ℤ (ha *ℤ length_of a.dir)
-way_above_first a b ha hb =
+pub displacement_above_first : (a b : Line) (ha hb : ℤ) → cross a.dir (meeting_displacement a ha b hb) ≡ cross a.dir b.dir *ℤ (ha *ℤ length_of a.dir)
+displacement_above_first a b ha hb =
     let first = ha *ℤ length_of a.dir in
-    let second = (hb *ℤ length_of b.dir) -ℤ (cross b.dir (way b.base a.base) *ℤ unit) in
+    let second = (hb *ℤ length_of b.dir) -ℤ (cross b.dir (displacement b.base a.base) *ℤ unit) in
     cross_minus a.dir b.dir a.dir first second ∙ rw (cross_self a.dir) (first_only (cross a.dir b.dir) first second)
 
-pub way_above_second : (a b : Line) (ha hb : ℤ)
-    → cross b.dir (meeting_way a ha b hb) ≡ cross a.dir b.dir *ℤ ((hb *ℤ length_of b.dir) -ℤ (cross b.dir (way b.base a.base) *ℤ unit))
-way_above_second a b ha hb =
+pub displacement_above_second : (a b : Line) (ha hb : ℤ)
+    → cross b.dir (meeting_displacement a ha b hb) ≡ cross a.dir b.dir *ℤ ((hb *ℤ length_of b.dir) -ℤ (cross b.dir (displacement b.base a.base) *ℤ unit))
+displacement_above_second a b ha hb =
     let first = ha *ℤ length_of a.dir in
-    let second = (hb *ℤ length_of b.dir) -ℤ (cross b.dir (way b.base a.base) *ℤ unit) in
+    let second = (hb *ℤ length_of b.dir) -ℤ (cross b.dir (displacement b.base a.base) *ℤ unit) in
     cross_minus b.dir b.dir a.dir first second ∙ rw (cross_self b.dir, cross_swap a.dir b.dir) (second_only (cross a.dir b.dir) first second)
 
 there_and_back : (p q : ℤ) → (p +ℤ q) -ℤ p ≡ q
@@ -38,11 +38,11 @@ there_and_back p q = omega (arith, ints)
 from_other : (p q r : ℤ) → (p +ℤ q) -ℤ r ≡ (p -ℤ r) +ℤ q
 from_other p q r = omega (arith, ints)
 
-height_at_first : (d : Dir) (p : Pt) (v : Dir) → cross d (way p (record { x = p.x +ℤ v.dx; y = p.y +ℤ v.dy })) ≡ cross d v
+height_at_first : (d : Dir) (p : Pt) (v : Dir) → cross d (displacement p (record { x = p.x +ℤ v.dx; y = p.y +ℤ v.dy })) ≡ cross d v
 height_at_first d p v = rw (there_and_back p.x v.dx, there_and_back p.y v.dy) refl
 
-height_at_second : (d : Dir) (p q : Pt) (v : Dir) → cross d (way q (record { x = p.x +ℤ v.dx; y = p.y +ℤ v.dy })) ≡ cross d (way q p) +ℤ cross d v
-height_at_second d p q v = rw (from_other p.x v.dx q.x, from_other p.y v.dy q.y) (cross_sum d (way q p) v)
+height_at_second : (d : Dir) (p q : Pt) (v : Dir) → cross d (displacement q (record { x = p.x +ℤ v.dx; y = p.y +ℤ v.dy })) ≡ cross d (displacement q p) +ℤ cross d v
+height_at_second d p q v = rw (from_other p.x v.dx q.x, from_other p.y v.dy q.y) (cross_sum d (displacement q p) v)
 
 shift_parts : (d u c k e : ℤ) → (d *ℤ u) *ℤ (c +ℤ k) ≡ ((d *ℤ u) *ℤ k) +ℤ (d *ℤ (c *ℤ u))
 shift_parts d u c k e = rw (as_diff d, as_diff u, as_diff c, as_diff k) (simp differences (diff-same _ _ _ _ (omega arith)))
@@ -60,23 +60,23 @@ near_first : (a b : Line) (ha hb : ℤ) → IsLine a → unsigned_abs ha ≤ 10 
     → IsNearLine a ha (pos 1) (meeting_point a ha b hb)
 near_first a b ha hb is small apart =
     let turn = cross a.dir b.dir in
-    let u = meeting_way a ha b hb in
+    let u = meeting_displacement a ha b hb in
     let m = turn *ℤ unit in
     let rounded = moved a.dir u m (units_apart turn apart) in
-    let v = near_way u m in
-    let height : m *ℤ cross a.dir v ≡ (turn *ℤ (ha *ℤ length_of a.dir)) +ℤ rounded.0 = rounded.1 ∙ ap (λ z. z +ℤ rounded.0) (way_above_first a b ha hb) in
+    let v = near_displacement u m in
+    let height : m *ℤ cross a.dir v ≡ (turn *ℤ (ha *ℤ length_of a.dir)) +ℤ rounded.0 = rounded.1 ∙ ap (λ z. z +ℤ rounded.0) (displacement_above_first a b ha hb) in
     rw (height_at_first a.dir a.base v) (near_line a.dir turn (cross a.dir v) ha rounded.0 is.dir apart small height rounded.2)
 
 near_second : (a b : Line) (ha hb : ℤ) → IsLine b → unsigned_abs hb ≤ 10 ^ 8 → cross a.dir b.dir ≢ pos 0
     → IsNearLine b hb (pos 1) (meeting_point a ha b hb)
 near_second a b ha hb is small apart =
     let turn = cross a.dir b.dir in
-    let u = meeting_way a ha b hb in
+    let u = meeting_displacement a ha b hb in
     let m = turn *ℤ unit in
-    let c = cross b.dir (way b.base a.base) in
+    let c = cross b.dir (displacement b.base a.base) in
     let rounded = moved b.dir u m (units_apart turn apart) in
-    let v = near_way u m in
-    let above : m *ℤ cross b.dir v ≡ (turn *ℤ ((hb *ℤ length_of b.dir) -ℤ (c *ℤ unit))) +ℤ rounded.0 = rounded.1 ∙ ap (λ z. z +ℤ rounded.0) (way_above_second a b ha hb) in
+    let v = near_displacement u m in
+    let above : m *ℤ cross b.dir v ≡ (turn *ℤ ((hb *ℤ length_of b.dir) -ℤ (c *ℤ unit))) +ℤ rounded.0 = rounded.1 ∙ ap (λ z. z +ℤ rounded.0) (displacement_above_second a b ha hb) in
     let height = split_height turn unit c (cross b.dir v) (hb *ℤ length_of b.dir) rounded.0 above in
     rw (height_at_second b.dir a.base b.base v) (near_line b.dir turn (c +ℤ cross b.dir v) hb rounded.0 is.dir apart small height rounded.2)
 

@@ -6,7 +6,7 @@ use Rattle.apt_num.specs.Sign.{OnLine}
 use Rattle.apt_plane.specs.declared.figures.Pt.{Pt}
 use Rattle.apt_plane.specs.declared.figures.Dir.{Dir}
 use Rattle.apt_plane.specs.declared.figures.Line.{Line}
-use Rattle.apt_plane.specs.Vectors.{way, cross, norm}
+use Rattle.apt_plane.specs.Vectors.{displacement, cross, length_squared}
 use Rattle.apt_canon.specs.declared.FormFault.{FormFault}
 use Rattle.apt_canon.specs.declared.FormFault.TheVariants as faults
 
@@ -16,23 +16,23 @@ unit = pos (2 ^ 35)
 
 -- the length of a direction in these units, rounded down
 abbrev pub length_of : Dir → ℤ
-length_of d = pos (root (norm d * 2 ^ 70))
+length_of d = pos (root (length_squared d * 2 ^ 70))
 
 -- lines are parallel where the cross product of their directions is 0
 abbrev pub are_parallel : Line → Line → Bool
 are_parallel a b = unsigned_abs (cross a.dir b.dir) == 0
 
 -- the way from the base of the first line to the meeting point, in units, times the cross product of the directions
-abbrev pub meeting_way : Line → ℤ → Line → ℤ → Dir
-meeting_way a ha b hb =
+abbrev pub meeting_displacement : Line → ℤ → Line → ℤ → Dir
+meeting_displacement a ha b hb =
     let ea = ha *ℤ length_of a.dir in
-    let eb = (hb *ℤ length_of b.dir) -ℤ (cross b.dir (way b.base a.base) *ℤ unit) in
+    let eb = (hb *ℤ length_of b.dir) -ℤ (cross b.dir (displacement b.base a.base) *ℤ unit) in
     record { dx = (b.dir.dx *ℤ ea) -ℤ (a.dir.dx *ℤ eb); dy = (b.dir.dy *ℤ ea) -ℤ (a.dir.dy *ℤ eb) }
 
 -- the meeting point of two lines moved to their left, rounded to the grid
 abbrev pub meeting_point : Line → ℤ → Line → ℤ → Pt
 meeting_point a ha b hb =
-    let v = meeting_way a ha b hb in
+    let v = meeting_displacement a ha b hb in
     let d = cross a.dir b.dir *ℤ unit in
     record { x = a.base.x +ℤ near v.dx d; y = a.base.y +ℤ near v.dy d }
 
@@ -47,4 +47,4 @@ line_line a ha b hb = if are_parallel a b then Err faults.NoMeeting else in_rang
 
 -- a point is at most so far from a line moved to its left
 abbrev pub IsNearLine : Line → ℤ → ℤ → Pt → Type 0
-IsNearLine l h g p = OnLine (cross l.dir (way l.base p)) h (norm l.dir) g
+IsNearLine l h g p = OnLine (cross l.dir (displacement l.base p)) h (length_squared l.dir) g

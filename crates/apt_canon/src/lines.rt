@@ -9,7 +9,7 @@ ghost use Rattle.apt_canon.specs.Meeting as meeting;
 
 use crate::FormFault;
 use apt_num::{div_near, isqrt};
-use apt_plane::vectors::{cross_of, height, norm_of};
+use apt_plane::vectors::{cross_of, height, length_squared_of};
 use apt_plane::{Dir, Line, Pt};
 
 /// The coordinate limit, in grid units.
@@ -66,20 +66,20 @@ fn meeting_point(a: &Line, ha: i64, b: &Line, hb: i64, turn: i128) -> Wide
     ensures x { result.x ≡ (meeting.meeting_point a.now ha b.now hb).x }
     ensures y { result.y ≡ (meeting.meeting_point a.now ha b.now hb).y }
 {
-    let way = meeting_way(a, ha, b, hb);
+    let displacement = meeting_displacement(a, ha, b, hb);
     Wide {
-        x: shifted(a.base.x, way.x, turn),
-        y: shifted(a.base.y, way.y, turn),
+        x: shifted(a.base.x, displacement.x, turn),
+        y: shifted(a.base.y, displacement.y, turn),
     }
 }
 
-fn meeting_way(a: &Line, ha: i64, b: &Line, hb: i64) -> Wide
+fn meeting_displacement(a: &Line, ha: i64, b: &Line, hb: i64) -> Wide
     requires a { IsLine a.now }
     requires b { IsLine b.now }
     requires ha { unsigned_abs ha ≤ 10 ^ 8 }
     requires hb { unsigned_abs hb ≤ 10 ^ 8 }
-    ensures x { result.x ≡ (meeting.meeting_way a.now ha b.now hb).dx }
-    ensures y { result.y ≡ (meeting.meeting_way a.now ha b.now hb).dy }
+    ensures x { result.x ≡ (meeting.meeting_displacement a.now ha b.now hb).dx }
+    ensures y { result.y ≡ (meeting.meeting_displacement a.now ha b.now hb).dy }
     ensures x_small { unsigned_abs result.x ≤ 2 ^ 119 }
     ensures y_small { unsigned_abs result.y ≤ 2 ^ 119 }
 {
@@ -107,7 +107,7 @@ fn length_of(dir: Dir) -> i128
     ensures value { result ≡ meeting.length_of dir }
     ensures small { unsigned_abs result < 2 ^ 63 }
 {
-    isqrt(norm_of(dir) * (1 << 70)) as i128
+    isqrt(length_squared_of(dir) * (1 << 70)) as i128
 }
 
 fn shifted(base: i64, share: i128, turn: i128) -> i128

@@ -6,7 +6,7 @@ use Rattle.apt_plane.specs.declared.figures.Pt.{Pt}
 use Rattle.apt_plane.specs.declared.figures.Surface.{Surface}
 use Rattle.apt_plane.specs.declared.figures.Surface.TheVariants as surfaces
 use Rattle.apt_plane.specs.declared.figures.Band.{Band}
-use Rattle.apt_plane.specs.Vectors.{Scaled, scaled, way, cross, dot}
+use Rattle.apt_plane.specs.Vectors.{Scaled, scaled, displacement, cross, dot}
 use Rattle.apt_plane.specs.Distances.{IsOver, IsUnder, InBand, EveryPoint}
 use Rattle.apt_plane.specs.Order.{ComesBefore}
 use Rattle.apt_plane.specs.Axes.{Axis, IsOnAxis}
@@ -63,11 +63,11 @@ IsWithinEdge leg signs.Zero s = Unit {0}
 
 -- one step of a motion: along a line in its sense; round a circle in its sense by less than a quarter, and onwards from the start
 abbrev pub IsStep : Surface → ℤ → Pt → Pt → Pt → Type 0
-IsStep (surfaces.Line l) sense start a b = pos 0 <ℤ (sense *ℤ dot l.dir (way a b))
+IsStep (surfaces.Line l) sense start a b = pos 0 <ℤ (sense *ℤ dot l.dir (displacement a b))
 IsStep (surfaces.Circ c) sense start a b =
-    (pos 0 <ℤ (sense *ℤ cross (way c.c a) (way c.c b)))
-    × (pos 0 <ℤ dot (way c.c a) (way c.c b))
-    × ComesBefore (way c.c start) sense (way c.c a) (way c.c b)
+    (pos 0 <ℤ (sense *ℤ cross (displacement c.c a) (displacement c.c b)))
+    × (pos 0 <ℤ dot (displacement c.c a) (displacement c.c b))
+    × ComesBefore (displacement c.c start) sense (displacement c.c a) (displacement c.c b)
 
 abbrev pub IsOnAxisOrNone : Option Axis → Pt → Type 0
 IsOnAxisOrNone None q = Unit {0}

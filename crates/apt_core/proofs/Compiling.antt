@@ -12,7 +12,7 @@ use Rattle.apt_shelf.specs.declared.files.ReadError.TheVariants as errors
 use Rattle.apt_shelf.proofs.ToldLaws.{get_inserted}
 use Rattle.apt_machine.specs.declared.Machine.{Machine}
 use Rattle.apt_control.specs.Control.{control_run}
-use Rattle.apt_post.specs.Post.{tape_bytes}
+use Rattle.apt_post.specs.Blocks.{tape_bytes}
 use Rattle.apt_report.specs.declared.status.Status.{Status}
 use Rattle.apt_report.specs.declared.status.Status.TheVariants as answers
 use Rattle.apt_report.specs.declared.status.Summary.{Summary}
@@ -156,9 +156,9 @@ unmade_compiles machine part tape text before after _ read has is = absurd is
 
 -- ---- the writing
 
-compiled : (machine : Machine) (part tape text : List ℕ) (m : Contents) (done : Made) (summary : Summary) → length text ≤ part_limit → IsMade machine text done
+compilation : (machine : Machine) (part tape text : List ℕ) (m : Contents) (done : Made) (summary : Summary) → length text ≤ part_limit → IsMade machine text done
     → control_run machine.code (tape_bytes machine done.0) ≡ Ok done.0 → summary ≡ summary_of done → IsCompiled machine (Some text) tape m (insert m tape (tape_bytes machine done.0)) summary
-compiled machine part tape text m done summary short is run counted = record {
+compilation machine part tape text m done summary short is run counted = record {
   text = text;
   bytes = tape_bytes machine done.0;
   read = refl;
@@ -183,7 +183,7 @@ leaves_delivered : (machine : Machine) (part tape text : List ℕ) (before after
     → IsDelivered machine tape done before after told → Leaves machine part (Some text) tape before after told
 leaves_delivered machine part tape text None after done told short is delivered = tt
 leaves_delivered machine part tape text (Some m) after done (answers.Done summary) short is delivered =
-    rw delivered.1.written (compiled machine part tape text m done summary short is delivered.1.run delivered.0)
+    rw delivered.1.written (compilation machine part tape text m done summary short is delivered.1.run delivered.0)
 leaves_delivered machine part tape text (Some m) after done answers.WriteFault short is delivered = may_begin machine part tape text m after done answers.WriteFault short is delivered (λ files b. b)
 leaves_delivered machine part tape text (Some m) after done answers.NoMemory short is delivered = may_begin machine part tape text m after done answers.NoMemory short is delivered (λ files b. b)
 leaves_delivered machine part tape text (Some m) after done _ short is delivered = absurd delivered

@@ -6,7 +6,7 @@ use Rattle.apt_shelf.specs.Files.{WritesPrefix}
 use Rattle.apt_machine.specs.declared.Machine.{Machine}
 use Rattle.apt_control.specs.declared.Act.{Act}
 use Rattle.apt_control.specs.Control.{control_run}
-use Rattle.apt_post.specs.Post.{tape_bytes}
+use Rattle.apt_post.specs.Blocks.{tape_bytes}
 use Rattle.apt_report.specs.declared.status.Status.{Status}
 use Rattle.apt_report.specs.declared.status.Status.TheVariants as answers
 use Rattle.apt_part.specs.Parts.{Made}

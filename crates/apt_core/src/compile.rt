@@ -3,7 +3,7 @@
 ghost use Rattle.std.specs.Prelude.{◌≡◌, ◌≤◌, IfOk};
 ghost use Rattle.apt_shelf.specs.Told.{Rose};
 ghost use Rattle.apt_machine.specs.Machines.{IsMachine};
-ghost use Rattle.apt_post.specs.Post.{IsProgram};
+ghost use Rattle.apt_post.specs.Blocks.{IsProgram};
 ghost use Rattle.apt_core.specs.Unread.{IsUnread};
 ghost use Rattle.apt_core.specs.Delivery.{IsDelivered};
 ghost use Rattle.apt_core.specs.Promise.{Compiles, files_on};

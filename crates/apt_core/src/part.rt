@@ -2,7 +2,7 @@
 
 ghost use Rattle.std.specs.Prelude.{IfOk, IfErr};
 ghost use Rattle.apt_machine.specs.Machines.{IsMachine};
-ghost use Rattle.apt_post.specs.Post.{IsProgram};
+ghost use Rattle.apt_post.specs.Blocks.{IsProgram};
 ghost use Rattle.apt_core.specs.Parts.{IsMade};
 ghost use Rattle.apt_core.specs.Unread.{IsUnmade};
 

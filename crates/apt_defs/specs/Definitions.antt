@@ -8,7 +8,7 @@ use Rattle.apt_words.specs.declared.Units.{Units}
 use Rattle.apt_plane.specs.declared.figures.Pt.{Pt}
 use Rattle.apt_plane.specs.declared.figures.Line.{Line}
 use Rattle.apt_plane.specs.declared.figures.Surface.TheVariants as surfaces
-use Rattle.apt_plane.specs.Vectors.{way, norm}
+use Rattle.apt_plane.specs.Vectors.{displacement, length_squared}
 use Rattle.apt_scalar.specs.Scalars.{grid_units}
 use Rattle.apt_defs.specs.declared.figure.Figure.{Figure}
 use Rattle.apt_defs.specs.declared.figure.Figure.TheVariants as figures
@@ -30,11 +30,11 @@ point_at x y = record { x = x; y = y }
 -- ---- LINE by four numbers: the coordinates of two points that differ
 
 abbrev pub line_between : Pt → Pt → Line
-line_between p q = record { base = p; dir = way p q }
+line_between p q = record { base = p; dir = displacement p q }
 
 abbrev pub ends_cases : Pt → Pt → List Row
 ends_cases p q =
-    out_of_reach p.x ∷ out_of_reach p.y ∷ out_of_reach q.x ∷ out_of_reach q.y ∷ (norm (way p q) == 0, cases.Degenerate) ∷ []
+    out_of_reach p.x ∷ out_of_reach p.y ∷ out_of_reach q.x ∷ out_of_reach q.y ∷ (length_squared (displacement p q) == 0, cases.Degenerate) ∷ []
 
 abbrev pub point_by : Units → ℤ → ℤ → Pt
 point_by units x y = point_at (grid_units units x) (grid_units units y)

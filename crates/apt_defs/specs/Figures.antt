@@ -33,13 +33,13 @@ surface_named table name = defined (figure_named table name) >>= as_surface
 
 -- ---- ranges
 
-pub record IsPlaced (p : Pt) (h : ℤ) : Type 0 where
+pub record IsPointAtHeight (p : Pt) (h : ℤ) : Type 0 where
   pub at : IsPoint p
   pub z : unsigned_abs h ≤ 50000000
 
 -- a figure in its range, in grid units
 abbrev pub IsFigure : Figure → Type 0
-IsFigure (figures.Point at z) = IsPlaced at z
+IsFigure (figures.Point at z) = IsPointAtHeight at z
 IsFigure (figures.Shape s) = IsSurface s
 IsFigure figures.Scalar = Unit {0}
 

@@ -9,7 +9,7 @@ ghost use Rattle.apt_defs.specs.Figures.{IsFigure};
 ghost use Rattle.apt_defs.specs.Definitions as definitions;
 
 use crate::Figure;
-use apt_plane::vectors::{norm, way};
+use apt_plane::vectors::{displacement, length_squared};
 use apt_plane::{Line, Pt, Surface};
 use apt_scalar::grid_units;
 use apt_words::{Case, Units};
@@ -71,15 +71,15 @@ fn between(p: Pt, q: Pt) -> Result<Figure, Case>
     through(p, q)
 }
 
-#[tactic(auto, using(crate::proofs::Lines::way_in_range))]
+#[tactic(auto, using(crate::proofs::Lines::displacement_in_range))]
 fn through(p: Pt, q: Pt) -> Result<Figure, Case>
     requires p { IsPoint p }
     requires q { IsPoint q }
-    ensures value { result ≡ unless ((vectors.norm (vectors.way p q) == 0, Case.Degenerate) ∷ []) (Figure.Shape (Surface.Line (definitions.line_between p q))) }
+    ensures value { result ≡ unless ((vectors.length_squared (vectors.displacement p q) == 0, Case.Degenerate) ∷ []) (Figure.Shape (Surface.Line (definitions.line_between p q))) }
     ensures range { IfOk result IsFigure }
 {
-    let dir = way(p, q);
-    if norm(dir) == 0 {
+    let dir = displacement(p, q);
+    if length_squared(dir) == 0 {
         return Err(Case::Degenerate);
     }
     Ok(Figure::Shape(Surface::Line(Line { base: p, dir })))

@@ -7,8 +7,8 @@ use Rattle.apt_lexis.specs.declared.token.Token.{Token}
 use Rattle.apt_lexis.specs.declared.token.Token.TheVariants as tokens
 use Rattle.apt_expr.specs.declared.parts.Rank.{Rank}
 use Rattle.apt_expr.specs.declared.parts.Rank.TheVariants as ranks
-use Rattle.apt_expr.specs.Parts.{parts, parts_at, additive, multiplicative, outer, open_behind}
-use Rattle.apt_expr.specs.Steps.{rank_of, part_len, others_from}
+use Rattle.apt_expr.specs.Operands.{parts, parts_at, additive, multiplicative, outer, open_behind}
+use Rattle.apt_expr.specs.Scanning.{rank_of, part_len, others_from}
 
 -- an operator opens and closes nothing
 additive_leaves : (t : Token) (op : Op) → additive t ≡ Some op → open_behind t 0 ≡ 0

@@ -11,7 +11,7 @@ use Rattle.apt_words.specs.Vocabulary.{word_of}
 use Rattle.apt_words.specs.Trees.{Tree, Num, Name, Neg, Bin, Root, Abs, operators}
 use Rattle.apt_lexis.specs.declared.token.Token.{Token}
 use Rattle.apt_lexis.specs.declared.token.Token.TheVariants as tokens
-use Rattle.apt_expr.specs.Parts.{parts, additive, multiplicative}
+use Rattle.apt_expr.specs.Operands.{parts, additive, multiplicative}
 
 abbrev pub most_operators : ℕ
 most_operators = 64

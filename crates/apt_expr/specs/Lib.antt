@@ -1,3 +1,3 @@
-pub mod Parts
+pub mod Operands
 pub mod Expressions
-pub mod Steps
+pub mod Scanning

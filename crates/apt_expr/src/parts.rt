@@ -1,8 +1,8 @@
 //! Lists of tokens by their parts between operators.
 
 ghost use Rattle.std.specs.Prelude.{◌≡◌, ◌≤◌, ◌<◌, length, MatchOption, IfSome, [], ◌∷◌};
-ghost use Rattle.apt_expr.specs.Parts as parts;
-ghost use Rattle.apt_expr.specs.Steps as steps;
+ghost use Rattle.apt_expr.specs.Operands as parts;
+ghost use Rattle.apt_expr.specs.Scanning as steps;
 
 use apt_lexis::Token;
 use apt_words::Op;

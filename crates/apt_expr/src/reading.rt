@@ -6,8 +6,8 @@ ghost use Rattle.apt_words.specs.Symbols.{is_name};
 ghost use Rattle.apt_words.specs.Trees.{operators, Name};
 ghost use Rattle.apt_words.specs.Vocabulary as vocabulary;
 ghost use Rattle.apt_expr.specs.Expressions as expressions;
-ghost use Rattle.apt_expr.specs.Parts as parts;
-ghost use Rattle.apt_expr.specs.Steps as steps;
+ghost use Rattle.apt_expr.specs.Operands as parts;
+ghost use Rattle.apt_expr.specs.Scanning as steps;
 
 use crate::parts::{Rank, first_part, next_part};
 use apt_lexis::Token;

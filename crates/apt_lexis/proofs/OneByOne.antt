@@ -10,7 +10,7 @@ use Rattle.apt_lexis.specs.declared.token.Token.{Token}
 use Rattle.apt_lexis.specs.Lines.{in_front}
 use Rattle.apt_lexis.specs.Tokens.{Tokens, is_blank, is_letter, is_letter_or_digit, is_in_run, runs, tokens_of_run, word, number, number_behind, mark, all_good, in_front_of}
 use Rattle.apt_lexis.specs.Sentences.{joined}
-use Rattle.apt_lexis.specs.Steps.{reads_of, behind_blanks, first_length, first_of, behind_first, read_of}
+use Rattle.apt_lexis.specs.TokenFronts.{reads_of, behind_blanks, first_length, first_of, behind_first, read_of}
 
 -- ---- characters
 

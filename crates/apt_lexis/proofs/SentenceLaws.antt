@@ -3,11 +3,11 @@ use Rattle.std.proofs.Common.{◌≡◌, ℕ, ◌+◌, ◌<◌, List, [], ◌∷
 use Rattle.apt_lexis.specs.declared.cause.PartCause.{PartCause}
 use Rattle.apt_lexis.specs.Lines.{line_fault}
 use Rattle.apt_lexis.specs.Tokens.{Read, Tokens, tokens_of, all_good, in_front_of}
-use Rattle.apt_lexis.specs.Steps.{behind_blanks, reads_of, first_of, behind_first, read_of}
+use Rattle.apt_lexis.specs.TokenFronts.{behind_blanks, reads_of, first_of, behind_first, read_of}
 use Rattle.apt_lexis.specs.Titles.{Title}
 use Rattle.apt_lexis.specs.Phrase.{Phrase}
 use Rattle.apt_lexis.specs.Sentences.{Behind, Said, behind_tokens, behind_line, by_title, title_in, tokens_before, said_from, with_first, unless_fault}
-use Rattle.apt_lexis.specs.Readings.{before_line, with_tokens, with_title, behind_good}
+use Rattle.apt_lexis.specs.LineByLine.{before_line, with_tokens, with_title, behind_good}
 use Rattle.apt_lexis.proofs.OneByOne.{reads_behind_blanks, no_blank_behind, reads_first}
 
 -- ---- the tokens of a line

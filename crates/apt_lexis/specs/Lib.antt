@@ -2,9 +2,9 @@ pub mod Causes
 pub mod Lines
 pub mod Cuts
 pub mod Tokens
-pub mod Steps
+pub mod TokenFronts
 pub mod Titles
 pub mod Headings
 pub mod Phrase
 pub mod Sentences
-pub mod Readings
+pub mod LineByLine

@@ -20,13 +20,13 @@ pub(crate) fn cut(text: &[u8], c: u8) -> (&[u8], Option<&[u8]>)
     ensures shorter { IfSome result.1 (λ r. length r.now < length text.now) }
     ensures whole { IsNone result.1 → result.0.now ≡ text.now }
 {
-    match place_of(text, c) {
+    match index_of(text, c) {
         Some(i) => (&text[..i], Some(&text[i + 1..])),
         None => (text, None),
     }
 }
 
-fn place_of(text: &[u8], c: u8) -> Option<usize>
+fn index_of(text: &[u8], c: u8) -> Option<usize>
     ensures value { result ≡ position (λ b. b == c) text.now }
     ensures small { IfSome result (λ i. i < length text.now) }
 {

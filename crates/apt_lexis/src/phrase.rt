@@ -2,7 +2,7 @@
 
 ghost use Rattle.std.specs.Prelude.{◌≡◌, ◌+◌, ◌<◌, ◌≤◌, length, IfOk, IfSome};
 ghost use Rattle.apt_lexis.specs.Lines as lines;
-ghost use Rattle.apt_lexis.specs.Readings as spec;
+ghost use Rattle.apt_lexis.specs.LineByLine as spec;
 ghost use Rattle.apt_lexis.specs.Sentences as sentences;
 ghost use Rattle.apt_lexis.specs.Tokens as tokens;
 

@@ -5,7 +5,7 @@ ghost use Rattle.apt_words.specs.Options.{only_if};
 ghost use Rattle.apt_words.specs.Symbols.{is_symbol};
 ghost use Rattle.apt_lexis.specs.Phrase.{good};
 ghost use Rattle.apt_lexis.specs.Sentences as sentences;
-ghost use Rattle.apt_lexis.specs.Steps as steps;
+ghost use Rattle.apt_lexis.specs.TokenFronts as steps;
 ghost use Rattle.apt_lexis.specs.Tokens as spec;
 
 use crate::PartCause;

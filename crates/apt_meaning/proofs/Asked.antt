@@ -15,7 +15,7 @@ use Rattle.apt_plane.specs.declared.figures.Pt.{Pt}
 use Rattle.apt_plane.specs.declared.figures.Surface.{Surface}
 use Rattle.apt_plane.specs.declared.figures.Surface.TheVariants as surfaces
 use Rattle.apt_plane.specs.Ranges.{IsPoint, IsSurface}
-use Rattle.apt_plane.specs.Vectors.{way, norm}
+use Rattle.apt_plane.specs.Vectors.{displacement, length_squared}
 use Rattle.apt_offset.specs.Turns.{is_zero}
 use Rattle.apt_cldata.specs.Ranges.{IsPosition, IsNote}
 use Rattle.apt_cldata.specs.declared.record.Note.{Note}
@@ -27,7 +27,7 @@ use Rattle.apt_defs.specs.declared.figure.Figure.{Figure}
 use Rattle.apt_defs.specs.declared.figure.Figure.TheVariants as figures
 use Rattle.apt_defs.specs.Figures.{IsFigure, figure_named}
 use Rattle.apt_defs.specs.Definitions.{is_in_reach, ends_cases, line_figure, line_between, point_by}
-use Rattle.apt_defs.proofs.Lines.{way_in_range}
+use Rattle.apt_defs.proofs.Lines.{displacement_in_range}
 use Rattle.apt_defs.proofs.Tables.{looked_up}
 use Rattle.apt_meaning.specs.declared.situation.Settings.{Settings}
 use Rattle.apt_meaning.specs.declared.situation.Situation.{Situation}
@@ -37,17 +37,17 @@ use Rattle.apt_meaning.specs.declared.effect.Effect.{Effect}
 use Rattle.apt_meaning.specs.declared.effect.Effect.TheVariants as effects
 use Rattle.apt_meaning.specs.Situations.{radius_of, lacks_feed, with_side, at_height}
 use Rattle.apt_meaning.specs.Motions.{as_surface, surface_in, turn_at, if_turned, is_defined, motion, motion_at}
-use Rattle.apt_meaning.specs.StartUps.{start_up_at, start_up_cases, start_point, started}
-use Rattle.apt_meaning.specs.Effects.{moves, cuts, place_by, moved_by, started_at, effect_of}
+use Rattle.apt_meaning.specs.StartUps.{start_up_at, start_up_cases, start_point, start_position}
+use Rattle.apt_meaning.specs.Effects.{moves, cuts, position_by, moved_by, start_position_at, effect_of}
 use Rattle.apt_meaning.specs.Refusals.{is_other_kind, position_cases, move_cases, motion_cases, turned_cases, surface_cases, contour_cases, start_cases, go_cases, start_up_or_not_built, cases_of, refusal_of}
 use Rattle.apt_meaning.specs.Records.{AreLegal}
 use Rattle.apt_meaning.specs.Compiled.{ends_of}
 use Rattle.apt_meaning.specs.Ranges.{IsPositionOrNone, AreSettings, IsSituation, IsMotion, IsEffect}
-use Rattle.apt_scalar.specs.Numbers.{HasScalars}
-use Rattle.apt_meaning.specs.Numbers.{HasIn}
+use Rattle.apt_scalar.specs.StepScalars.{HasScalars}
+use Rattle.apt_meaning.specs.Vertices.{HasIn}
 use Rattle.apt_meaning.proofs.Refused.{first_none, none_first}
 use Rattle.apt_meaning.proofs.Legal.{motion_legal, motion_contact, motion_defined, start_up_point}
-use Rattle.apt_meaning.proofs.Numbers.{reach_in, up_to_in, tolerance_in, radius_in, feed_in, feed_note, with_units, with_radius, with_intol, with_outtol, with_feed, with_rapid, with_ended, on_side, on_side_or_as_it_was, sense_in, allowance_in}
+use Rattle.apt_meaning.proofs.EffectRanges.{reach_in, up_to_in, tolerance_in, radius_in, feed_in, feed_note, with_units, with_radius, with_intol, with_outtol, with_feed, with_rapid, with_ended, on_side, on_side_or_as_it_was, sense_in, allowance_in}
 
 -- an effect in range, whose contour is legal where it runs to its contact
 pub record Asks (o : Option Effect) : Type 0 where
@@ -84,7 +84,7 @@ line_is : (p q : Pt) → NoneHolds (ends_cases p q) → IsFigure (figures.Shape 
 line_is p q none =
     let is_p = point_is p none.0 none.1.0 in
     let is_q = point_is q none.1.1.0 none.1.1.1.0 in
-    record { base = is_p; dir = way_in_range p q is_p is_q (differ (norm (way p q)) none.1.1.1.1.0) }
+    record { base = is_p; dir = displacement_in_range p q is_p is_q (differ (length_squared (displacement p q)) none.1.1.1.1.0) }
 
 position_is : (to : Position) (more : List Row) → NoneHolds (position_cases to more) → IsPosition to
 position_is to more none = record { at = point_is to.at none.0 none.1.0; z = reach_in to.z none.1.1.0 }
@@ -115,7 +115,7 @@ started_there : (b : Bool) (to : Position) → b ≡ true → IsPosition to → 
 started_there true to e is = moves_to reaches.Start to is
 started_there false to e is = absurd (true≢false (sym e))
 
-pub starts : (u : StartUp) → IsPosition u.start → NoneHolds (start_up_cases u) → Asks (moves reaches.Start (started u))
+pub starts : (u : StartUp) → IsPosition u.start → NoneHolds (start_up_cases u) → Asks (moves reaches.Start (start_position u))
 starts u is none =
     started_there (is_none (first_of (start_up_cases u))) (at_height u.start.z (start_point u)) (ap is_none (none_first (start_up_cases u) none))
     (record { at = start_up_point u none; z = is.z })
@@ -128,14 +128,14 @@ start_up_on at how_a how_b p a b = p >>= λ start. a >>= λ x. b >>= λ y. Some 
 
 start_asks : (at : Situation) (how_a how_b : Stop) (p : Option Position) (a b : Option Surface) → IsPositionOrNone p
     → is_none p ≡ false → is_none a ≡ false → is_none b ≡ false
-    → NoneHolds (start_cases (start_up_on at how_a how_b p a b)) → Asks (moves reaches.Start (start_up_on at how_a how_b p a b >>= started))
+    → NoneHolds (start_cases (start_up_on at how_a how_b p a b)) → Asks (moves reaches.Start (start_up_on at how_a how_b p a b >>= start_position))
 start_asks at how_a how_b None a b is e f g none = absurd (true≢false e)
 start_asks at how_a how_b (Some start) None b is e f g none = absurd (true≢false f)
 start_asks at how_a how_b (Some start) (Some a) None is e f g none = absurd (true≢false g)
 start_asks at how_a how_b (Some start) (Some a) (Some b) is e f g none = starts (start_up at how_a how_b start a b) is none
 
 go_asks : (at : Situation) (how_a : Stop) (a : List ℕ) (how_b : Stop) (b : List ℕ) → IsSituation at
-    → NoneHolds (go_cases at how_a a how_b b) → Asks (moves reaches.Start (start_up_at at how_a a how_b b >>= started))
+    → NoneHolds (go_cases at how_a a how_b b) → Asks (moves reaches.Start (start_up_at at how_a a how_b b >>= start_position))
 unfolding start_up_at
 go_asks at how_a a how_b b is none =
     let names = none.1 in
@@ -143,7 +143,7 @@ go_asks at how_a a how_b b is none =
     (surface_there (figure_named at.table a) names.0 names.1.1.0) (surface_there (figure_named at.table b) names.1.0 names.1.1.1.0) names.1.1.1.1.1
 
 go_or_refused : (at : Situation) (how_a : Stop) (a : List ℕ) (b : Option (Stop × List ℕ)) → IsSituation at
-    → NoneHolds (start_up_or_not_built at how_a a b) → Asks (moves reaches.Start (started_at at how_a a b))
+    → NoneHolds (start_up_or_not_built at how_a a b) → Asks (moves reaches.Start (start_position_at at how_a a b))
 go_or_refused at how_a a None is none = absurd (true≢false none.0)
 go_or_refused at how_a a (Some b) is none = go_asks at how_a a b.0 b.1 is none
 
@@ -232,9 +232,9 @@ asks at (deeds.Cutter v) is numbers none =
 asks at (deeds.Intol v) is numbers none = says (record at.settings { intol = grid_units at.settings.units v }) (notes.Intol (grid_units at.settings.units v)) (with_intol at.settings (grid_units at.settings.units v) is.settings (tolerance_in (grid_units at.settings.units v) none.0)) (up_to_in (pos 10000) (grid_units at.settings.units v) none.0)
 asks at (deeds.Outtol v) is numbers none = says (record at.settings { outtol = grid_units at.settings.units v }) (notes.Outtol (grid_units at.settings.units v)) (with_outtol at.settings (grid_units at.settings.units v) is.settings (tolerance_in (grid_units at.settings.units v) none.0)) (up_to_in (pos 10000) (grid_units at.settings.units v) none.0)
 asks at (deeds.Tool side) is numbers none = sets (record at.settings { side = side }) (on_side at.settings side is.settings)
-asks at (deeds.FromXy x y z) is numbers none = moves_to reaches.From (place_by at.settings.units x y z) (position_is (place_by at.settings.units x y z) [] none.1)
+asks at (deeds.FromXy x y z) is numbers none = moves_to reaches.From (position_by at.settings.units x y z) (position_is (position_by at.settings.units x y z) [] none.1)
 asks at (deeds.FromPoint p) is numbers none = absurd (true≢false none.0)
-asks at (deeds.GotoXy x y z) is numbers none = move_asks reaches.Goto at.settings (Some (place_by at.settings.units x y z)) refl none
+asks at (deeds.GotoXy x y z) is numbers none = move_asks reaches.Goto at.settings (Some (position_by at.settings.units x y z)) refl none
 asks at (deeds.GotoPoint p) is numbers none = absurd (true≢false none.0)
 asks at (deeds.Godlta x y z) is numbers none =
     move_asks reaches.Godlta at.settings (at.position >>= λ p. Some (moved_by at.settings.units x y z p)) (still_there at.position (moved_by at.settings.units x y z) none.0) none.1

@@ -14,7 +14,7 @@ use Rattle.apt_meaning.specs.declared.effect.Effect.{Effect}
 use Rattle.apt_meaning.specs.declared.effect.Effect.TheVariants as effects
 use Rattle.apt_meaning.specs.Effects.{effect_of}
 use Rattle.apt_meaning.specs.Records.{records_of, after, FollowsAs}
-use Rattle.apt_words.specs.Endings.{is_ended, StepsEnd}
+use Rattle.apt_words.specs.ProgramEnds.{is_ended, StepsEnd}
 use Rattle.apt_meaning.specs.Sayings.{IsNoteOf, IsSaidBy}
 use Rattle.apt_meaning.proofs.Said.{said_by}
 

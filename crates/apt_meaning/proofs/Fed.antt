@@ -18,7 +18,7 @@ use Rattle.apt_meaning.specs.declared.effect.Effect.{Effect}
 use Rattle.apt_meaning.specs.declared.effect.Effect.TheVariants as effects
 use Rattle.apt_meaning.specs.Situations.{has_feed, lacks_feed, with_side}
 use Rattle.apt_meaning.specs.Motions.{surface_in, turn_at, if_turned, motion_at}
-use Rattle.apt_meaning.specs.Effects.{moves, cuts, place_by, moved_from, started_at, effect_of}
+use Rattle.apt_meaning.specs.Effects.{moves, cuts, position_by, moved_from, start_position_at, effect_of}
 use Rattle.apt_meaning.specs.Refusals.{move_cases, surface_cases, start_up_or_not_built, cases_of}
 use Rattle.apt_meaning.proofs.Said.{of_some}
 
@@ -46,9 +46,9 @@ starts_fed s None fed = tt
 starts_fed s (Some to) fed = fed
 
 go_fed : (at : Situation) (how_a : Stop) (a : List ℕ) (b : Option (Stop × List ℕ)) → NoneHolds (start_up_or_not_built at how_a a b)
-    → IfSome (moves reaches.Start (started_at at how_a a b)) (IsFed at.settings)
+    → IfSome (moves reaches.Start (start_position_at at how_a a b)) (IsFed at.settings)
 go_fed at how_a a None none = tt
-go_fed at how_a a (Some b) none = starts_fed at.settings (started_at at how_a a (Some b)) none.1.1.1.1.1.0
+go_fed at how_a a (Some b) none = starts_fed at.settings (start_position_at at how_a a (Some b)) none.1.1.1.1.1.0
 
 cuts_fed : (s : Settings) (o : Option Motion) → not (has_feed s) ≡ false → IfSome (cuts o) (IsFed s)
 cuts_fed s None fed = tt
@@ -99,7 +99,7 @@ all_fed at (deeds.Outtol v) none = tt
 all_fed at (deeds.Tool side) none = tt
 all_fed at (deeds.FromXy x y z) none = tt
 all_fed at (deeds.FromPoint p) none = tt
-all_fed at (deeds.GotoXy x y z) none = moves_fed at.settings reaches.Goto (Some (place_by at.settings.units x y z)) none
+all_fed at (deeds.GotoXy x y z) none = moves_fed at.settings reaches.Goto (Some (position_by at.settings.units x y z)) none
 all_fed at (deeds.GotoPoint p) none = tt
 all_fed at (deeds.Godlta x y z) none = moves_fed at.settings reaches.Godlta (moved_from at x y z) none.1
 all_fed at (deeds.GoStart how_a a b) none = go_fed at how_a a b none

@@ -8,7 +8,7 @@ use Rattle.apt_plane.specs.declared.figures.Dir.{Dir}
 use Rattle.apt_plane.specs.declared.figures.Surface.{Surface}
 use Rattle.apt_plane.specs.declared.figures.Surface.TheVariants as surfaces
 use Rattle.apt_plane.specs.Ranges.{IsPoint, IsSurface, IsSense}
-use Rattle.apt_plane.specs.Vectors.{way, norm, perp}
+use Rattle.apt_plane.specs.Vectors.{displacement, length_squared, perp}
 use Rattle.apt_offset.specs.Turns.{tangent}
 use Rattle.apt_stop.specs.Nearness.{heading}
 use Rattle.apt_stop.proofs.Headings.{kept as forwards, turned as backwards}
@@ -25,15 +25,15 @@ use Rattle.apt_meaning.specs.declared.motion.Motion.{Motion}
 use Rattle.apt_meaning.specs.declared.effect.Effect.{Effect}
 use Rattle.apt_meaning.specs.declared.effect.Effect.TheVariants as effects
 use Rattle.apt_meaning.specs.Situations.{first_situation, settings_behind, forward_behind, at_height}
-use Rattle.apt_meaning.specs.Records.{with_statement, said, records_of, after}
+use Rattle.apt_meaning.specs.Records.{with_statement, effect_records, records_of, after}
 use Rattle.apt_meaning.specs.Ranges.{IsPositionOrNone, IsForward, AreSettings, IsSituation, IsMotion, IsEffect}
-use Rattle.apt_meaning.specs.Numbers.{ArePoints, HasIn}
-use Rattle.apt_meaning.proofs.Numbers.{with_rapid, on_side}
+use Rattle.apt_meaning.specs.Vertices.{ArePoints, HasIn}
+use Rattle.apt_meaning.proofs.EffectRanges.{with_rapid, on_side}
 
 -- ---- directions
 
-way_short : (p q : Pt) → IsPoint p → IsPoint q → IsForward (way p q)
-way_short p q is_p is_q =
+displacement_short : (p q : Pt) → IsPoint p → IsPoint q → IsForward (displacement p q)
+displacement_short p q is_p is_q =
     let x : unsigned_abs (q.x -ℤ p.x) ≤ unsigned_abs q.x + unsigned_abs p.x = size_minus q.x p.x in
     let y : unsigned_abs (q.y -ℤ p.y) ≤ unsigned_abs q.y + unsigned_abs p.y = size_minus q.y p.y in
     record { dx = omega (arith, x, is_p.x, is_q.x); dy = omega (arith, y, is_p.y, is_q.y) }
@@ -45,14 +45,14 @@ either_forward false d e is_d is_e = is_e
 forward_kept : (p : Option Position) (to : Pt) (forward : Dir) → IsPositionOrNone p → IsPoint to → IsForward forward → IsForward (forward_behind p to forward)
 forward_kept None to forward is_p is_to is = is
 forward_kept (Some from) to forward is_p is_to is =
-    either_forward (norm (way from.at to) == 0) forward (way from.at to) is (way_short from.at to is_p.at is_to)
+    either_forward (length_squared (displacement from.at to) == 0) forward (displacement from.at to) is (displacement_short from.at to is_p.at is_to)
 
 turned_short : (d : Dir) → IsForward d → IsForward (perp d)
 turned_short d is = record { dx = rw (size_neg d.dy) is.dy; dy = is.dx }
 
 tangent_short : (s : Surface) (p : Pt) → IsSurface s → IsPoint p → IsForward (tangent s p)
 tangent_short (surfaces.Line l) p is is_p = record { dx = is.dir.dx; dy = is.dir.dy }
-tangent_short (surfaces.Circ c) p is is_p = turned_short (way c.c p) (way_short c.c p is.centre is_p)
+tangent_short (surfaces.Circ c) p is is_p = turned_short (displacement c.c p) (displacement_short c.c p is.centre is_p)
 
 sense_short : (sense z : ℤ) → IsSense sense → unsigned_abs z ≤ 10 ^ 8 → unsigned_abs (sense *ℤ z) ≤ 10 ^ 8
 sense_short sense z (inl e) is = rw (e, forwards z) is
@@ -113,7 +113,7 @@ positions_in : (z : ℤ) (vertices : List Pt) → unsigned_abs z ≤ 50000000 �
 positions_in z [] high are = tt
 positions_in z (v ∷ vs) high are = (record { at = are.0; z = high }, positions_in z vs high are.1)
 
-said_in : (e : Effect) (vertices : List Pt) → IsEffect e → HasIn e vertices → AreRecords (said e vertices)
+said_in : (e : Effect) (vertices : List Pt) → IsEffect e → HasIn e vertices → AreRecords (effect_records e vertices)
 said_in (effects.Defines n f) vertices good within = tt
 said_in (effects.Sets s None) vertices good within = tt
 said_in (effects.Sets s (Some note)) vertices good within = (good.1, tt)
@@ -125,7 +125,7 @@ statement_in step [] are = tt
 statement_in step (r ∷ rs) are = (tt, are)
 
 pub records_in : (step : Step) (e : Effect) (vertices : List Pt) → IsEffect e → HasIn e vertices → AreRecords (records_of step e vertices)
-records_in step e vertices good within = statement_in step (said e vertices) (said_in e vertices good within)
+records_in step e vertices good within = statement_in step (effect_records e vertices) (said_in e vertices good within)
 
 pub records-append : (xs ys : List Record) → AreRecords xs → AreRecords ys → AreRecords (xs ++ ys)
 records-append [] ys are more = more

@@ -14,7 +14,7 @@ use Rattle.apt_plane.specs.declared.figures.Line.{Line}
 use Rattle.apt_plane.specs.declared.figures.Surface.{Surface}
 use Rattle.apt_plane.specs.declared.figures.Surface.TheVariants as surfaces
 use Rattle.apt_plane.specs.Ranges.{IsPoint}
-use Rattle.apt_plane.specs.Vectors.{way, cross, norm}
+use Rattle.apt_plane.specs.Vectors.{displacement, cross, length_squared}
 use Rattle.apt_plane.specs.Distances.{EveryPoint}
 use Rattle.apt_canon.proofs.MeetingLaws.{meeting_point-near}
 use Rattle.apt_offset.specs.Ranges.{IsRadius}
@@ -36,7 +36,7 @@ use Rattle.apt_meaning.proofs.Bands.{HasRoom, band_at-HasRoom, near_in_band}
 use Rattle.apt_meaning.proofs.Starts.{IsFar, far_on_side}
 use Rattle.apt_meaning.proofs.Leads.{Leads, runs_in_sense}
 use Rattle.apt_meaning.proofs.Edges.{stays_before}
-use Rattle.apt_meaning.proofs.Straight.{straight, IsUnrefused, unrefused}
+use Rattle.apt_meaning.proofs.LineLegs.{straight, IsUnrefused, unrefused}
 
 -- ---- the side of the stop on which a motion runs
 
@@ -62,9 +62,9 @@ stop_side-from m d e fine =
     ∙ else_side (is_near (stop_of (straight m d e)) near_stop m.start.at) (sign_of (cross e.dir (heading m.sense d.dir))) (from_side (straight m d e)) fine.far
 
 start_far : (m : Motion) (d e : Line) → IsUnrefused (straight m d e) d e
-    → IsFar (from_side (straight m d e)) (cross e.dir (way e.base m.start.at)) (stop_offset (straight m d e)) (norm e.dir)
+    → IsFar (from_side (straight m d e)) (cross e.dir (displacement e.base m.start.at)) (stop_offset (straight m d e)) (length_squared e.dir)
 start_far m d e fine =
-    far_on_side (from_side (straight m d e)) (cross e.dir (way e.base m.start.at)) (stop_offset (straight m d e)) (norm e.dir) refl fine.far
+    far_on_side (from_side (straight m d e)) (cross e.dir (displacement e.base m.start.at)) (stop_offset (straight m d e)) (length_squared e.dir) refl fine.far
 
 far_not_zero : (side : Sign) (k h : ℤ) (n : ℕ) → IsFar side k h n → is_zero side ≡ false
 far_not_zero signs.Plus k h n far = refl
@@ -132,7 +132,7 @@ straight_legal m d e is none =
     let fine = unrefused m d e none in
     let side = stop_side-from m d e fine in record {
       bounded = bounded_by (leg_of (straight m d e)) (from_side (straight m d e)) (ap opposite side)
-          (far_not_zero (from_side (straight m d e)) (cross e.dir (way e.base m.start.at)) (stop_offset (straight m d e)) (norm e.dir) (start_far m d e fine));
+          (far_not_zero (from_side (straight m d e)) (cross e.dir (displacement e.base m.start.at)) (stop_offset (straight m d e)) (length_squared e.dir) (start_far m d e fine));
       legal = leads_legal m d e (contact (straight m d e)) is (unrefused_leads m d e is fine) side;
     }
 
@@ -146,7 +146,7 @@ straight_defined m d e none =
     let fine = unrefused m d e none in
     all_there (starts_on_check (straight m d e)) (is_zero (stop_side (straight m d e))) fine.off_check
     (ap is_zero (stop_side-from m d e fine)
-    ∙ far_not_zero (from_side (straight m d e)) (cross e.dir (way e.base m.start.at)) (stop_offset (straight m d e)) (norm e.dir) (start_far m d e fine))
+    ∙ far_not_zero (from_side (straight m d e)) (cross e.dir (displacement e.base m.start.at)) (stop_offset (straight m d e)) (length_squared e.dir) (start_far m d e fine))
 
 -- a motion on these surfaces
 abbrev on_surfaces : Motion → Surface → Surface → Motion

@@ -2,13 +2,13 @@ pub mod Order
 pub mod Bands
 pub mod Starts
 pub mod Leads
-pub mod Straight
+pub mod LineLegs
 pub mod Edges
 pub mod Legal
 mod Plates
 pub mod Said
 pub mod Refused
-pub mod Numbers
+pub mod EffectRanges
 pub mod Asked
 pub mod Fed
 pub mod Kept

@@ -8,9 +8,9 @@ use Rattle.apt_num.proofs.Ring.{as_diff, diff-same, differences}
 use Rattle.apt_num.proofs.Squares.{root_lt, size_neg, size_mul}
 use Rattle.apt_plane.specs.declared.figures.Dir.{Dir}
 use Rattle.apt_plane.specs.Ranges.{IsSense}
-use Rattle.apt_plane.specs.Vectors.{cross, dot, norm}
+use Rattle.apt_plane.specs.Vectors.{cross, dot, length_squared}
 use Rattle.apt_plane.proofs.Heights.{one-times}
-use Rattle.apt_plane.proofs.Ways.{square_norm, dot_square}
+use Rattle.apt_plane.proofs.Displacements.{square_length_squared, dot_square}
 use Rattle.apt_stop.specs.Nearness.{heading}
 use Rattle.apt_stop.proofs.Headings.{turned}
 
@@ -21,8 +21,8 @@ parts : (dx dy ex ey vx vy : ℤ) →
 parts dx dy ex ey vx vy =
     rw (as_diff dx, as_diff dy, as_diff ex, as_diff ey, as_diff vx, as_diff vy) (simp differences (diff-same _ _ _ _ (omega arith)))
 
-along_and_across : (d e v : Dir) → pos (norm d) *ℤ cross e v ≡ (dot d v *ℤ cross e d) +ℤ (cross d v *ℤ dot e d)
-along_and_across d e v = rw (square_norm d) (parts d.dx d.dy e.dx e.dy v.dx v.dy)
+along_and_across : (d e v : Dir) → pos (length_squared d) *ℤ cross e v ≡ (dot d v *ℤ cross e d) +ℤ (cross d v *ℤ dot e d)
+along_and_across d e v = rw (square_length_squared d) (parts d.dx d.dy e.dx e.dy v.dx v.dy)
 
 -- of lengths: across by at most 4, and towards the stop by at least 7
 across_less : (n m a t w : ℕ) → 0 < n → 0 < m → a * a ≤ 16 * n → t * t ≤ m * n → 49 * m ≤ w * w → a * t < n * w
@@ -53,29 +53,29 @@ at_least_seven (negsuc w) m h p = absurd p
 
 -- a way that stays near a track and comes nearer to a stop by much
 pub record Approach (d e v : Dir) : Type 0 where
-  pub track : 0 < norm d
-  pub stop : 0 < norm e
-  pub left : AtLeast (cross d v) (negsuc 3) (norm d)
-  pub right : AtLeast (neg_ℤ (cross d v)) (negsuc 3) (norm d)
+  pub track : 0 < length_squared d
+  pub stop : 0 < length_squared e
+  pub left : AtLeast (cross d v) (negsuc 3) (length_squared d)
+  pub right : AtLeast (neg_ℤ (cross d v)) (negsuc 3) (length_squared d)
 
-sideways : (d e v : Dir) (w : ℤ) → Approach d e v → 49 * norm e ≤ unsigned_abs w * unsigned_abs w
-    → unsigned_abs (cross d v *ℤ dot e d) < norm d * unsigned_abs w
+sideways : (d e v : Dir) (w : ℤ) → Approach d e v → 49 * length_squared e ≤ unsigned_abs w * unsigned_abs w
+    → unsigned_abs (cross d v *ℤ dot e d) < length_squared d * unsigned_abs w
 sideways d e v w is far =
     rw (size_mul (cross d v) (dot e d))
-    (across_less (norm d) (norm e) (unsigned_abs (cross d v)) (unsigned_abs (dot e d)) (unsigned_abs w) is.track is.stop (at_most_four (cross d v) (norm d) is.left is.right) (dot_square e d) far)
+    (across_less (length_squared d) (length_squared e) (unsigned_abs (cross d v)) (unsigned_abs (dot e d)) (unsigned_abs w) is.track is.stop (at_most_four (cross d v) (length_squared d) is.left is.right) (dot_square e d) far)
 
 -- towards the stop's right, and towards its left
-pub along-right : (d e v : Dir) → Approach d e v → AtLeast (neg_ℤ (cross e v)) (pos 7) (norm e) → (dot d v *ℤ cross e d) <ℤ pos 0
+pub along-right : (d e v : Dir) → Approach d e v → AtLeast (neg_ℤ (cross e v)) (pos 7) (length_squared e) → (dot d v *ℤ cross e d) <ℤ pos 0
 along-right d e v is p =
-    let far = at_least_seven (neg_ℤ (cross e v)) (norm e) is.stop p in
-    negative_part (norm d) (cross e v) (dot d v *ℤ cross e d) (cross d v *ℤ dot e d) (along_and_across d e v)
+    let far = at_least_seven (neg_ℤ (cross e v)) (length_squared e) is.stop p in
+    negative_part (length_squared d) (cross e v) (dot d v *ℤ cross e d) (cross d v *ℤ dot e d) (along_and_across d e v)
     (sideways d e v (cross e v) is (rw (size_neg (cross e v)) at far.1))
     (omega (arith, ints, far.0))
 
-pub along-left : (d e v : Dir) → Approach d e v → AtLeast (cross e v) (pos 7) (norm e) → pos 0 <ℤ (dot d v *ℤ cross e d)
+pub along-left : (d e v : Dir) → Approach d e v → AtLeast (cross e v) (pos 7) (length_squared e) → pos 0 <ℤ (dot d v *ℤ cross e d)
 along-left d e v is p =
-    let far = at_least_seven (cross e v) (norm e) is.stop p in
-    positive_part (norm d) (cross e v) (dot d v *ℤ cross e d) (cross d v *ℤ dot e d) (along_and_across d e v) (sideways d e v (cross e v) is far.1) far.0
+    let far = at_least_seven (cross e v) (length_squared e) is.stop p in
+    positive_part (length_squared d) (cross e v) (dot d v *ℤ cross e d) (cross d v *ℤ dot e d) (along_and_across d e v) (sideways d e v (cross e v) is far.1) far.0
 
 -- ---- in the sense of the motion
 pub heading_cross : (sense : ℤ) (d e : Dir) → cross e (heading sense d) ≡ sense *ℤ cross e d

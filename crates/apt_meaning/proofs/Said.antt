@@ -18,8 +18,8 @@ use Rattle.apt_meaning.specs.declared.motion.Motion.{Motion}
 use Rattle.apt_meaning.specs.declared.effect.Effect.{Effect}
 use Rattle.apt_meaning.specs.Situations.{with_side}
 use Rattle.apt_meaning.specs.Motions.{surface_in, turn_at, if_turned, is_defined, motion, motion_at}
-use Rattle.apt_meaning.specs.Effects.{moves, cuts, moved_from, started_at, effect_of}
-use Rattle.apt_words.specs.Endings.{is_ended}
+use Rattle.apt_meaning.specs.Effects.{moves, cuts, moved_from, start_position_at, effect_of}
+use Rattle.apt_words.specs.ProgramEnds.{is_ended}
 use Rattle.apt_meaning.specs.Sayings.{IsSaidBy}
 
 pub of_some : {A : Type 0} (P : A → Type 0) (o : Option A) (x : A) → o ≡ Some x → IfSome o P → P x
@@ -92,7 +92,7 @@ told at (deeds.FromPoint p) = tt
 told at (deeds.GotoXy x y z) = refl
 told at (deeds.GotoPoint p) = tt
 told at (deeds.Godlta x y z) = moves_said at (deeds.Godlta x y z) reaches.Godlta (moved_from at x y z) refl
-told at (deeds.GoStart how_a a b) = moves_said at (deeds.GoStart how_a a b) reaches.Start (started_at at how_a a b) refl
+told at (deeds.GoStart how_a a b) = moves_said at (deeds.GoStart how_a a b) reaches.Start (start_position_at at how_a a b) refl
 told at (deeds.Contour side go drive how check) = contour_said at (deeds.Contour side go drive how check) side go how at.position (surface_in at.table drive) (surface_in at.table check) refl refl
 told at deeds.Rapid = record { said = refl; settings = refl }
 told at deeds.Halt = record { said = refl; settings = refl }

@@ -11,10 +11,10 @@ use Rattle.apt_meaning.specs.declared.effect.Effect.TheVariants as effects
 use Rattle.apt_meaning.specs.Effects.{effect_of}
 use Rattle.apt_meaning.specs.Refusals.{refusal_of}
 use Rattle.apt_meaning.specs.Records.{MayHave, AreLegal, FollowsLegally, records_of, after}
-use Rattle.apt_meaning.specs.Compiled.{ends_of, with_front, asked, or_refused, compiled}
+use Rattle.apt_meaning.specs.Compiled.{ends_of, with_front, asked, or_refused, compilation}
 use Rattle.apt_meaning.specs.Ranges.{IsSituation, IsEffect}
-use Rattle.apt_scalar.specs.Numbers.{AreScalars}
-use Rattle.apt_meaning.specs.Numbers.{HasIn}
+use Rattle.apt_scalar.specs.StepScalars.{AreScalars}
+use Rattle.apt_meaning.specs.Vertices.{HasIn}
 use Rattle.apt_meaning.proofs.Asked.{Asks, answered}
 use Rattle.apt_meaning.proofs.Kept.{kept, records_in, records-append}
 
@@ -70,17 +70,17 @@ pub record Arrives (at : Situation) (steps : List Step) (written : List Record) 
   pub situation : IsSituation behind
   pub records : AreRecords written
 
-pub compiled_follows : (at : Situation) (steps : List Step) (written : List Record) → IsSituation at → AreScalars steps → compiled at steps ≡ Ok written
+pub compiled_follows : (at : Situation) (steps : List Step) (written : List Record) → IsSituation at → AreScalars steps → compilation at steps ≡ Ok written
     → Arrives at steps written
 compiled_follows at [] written is numbers h =
     let none = nothing_left written h in
     record { behind = at; follows = (none, refl); situation = is; records = rw none tt }
 compiled_follows at (step ∷ steps) written is numbers h =
     let d = done step (refusal_of at step.deed) (effect_of at step.deed)
-    (λ e. with_front (records_of step e (ends_of e)) (compiled (after at e (ends_of e)) steps)) written h in
+    (λ e. with_front (records_of step e (ends_of e)) (compilation (after at e (ends_of e)) steps)) written h in
     let e = d.e in
     let ok = fit (effect_of at step.deed) e d.asked (answered at step.deed is numbers.0 d.fine) in
-    let f = front_ok (records_of step e (ends_of e)) (compiled (after at e (ends_of e)) steps) written d.rest in
+    let f = front_ok (records_of step e (ends_of e)) (compilation (after at e (ends_of e)) steps) written d.rest in
     let more = compiled_follows (after at e (ends_of e)) steps f.0 (kept at e (ends_of e) is ok.good ok.ends) numbers.1 f.1 in record {
       behind = more.behind;
       follows = (e, ends_of e, f.0, record { asked = d.asked; front = f.2; only_contours = may_have e }, ok.legal, more.follows);

@@ -23,7 +23,7 @@ use Rattle.apt_cldata.specs.declared.record.Record.TheVariants as records
 use Rattle.apt_meaning.specs.Situations.{first_situation, position_at}
 use Rattle.apt_meaning.specs.Motions.{motion_at}
 use Rattle.apt_meaning.specs.StartUps.{start_up_at}
-use Rattle.apt_meaning.specs.Compiled.{compiled}
+use Rattle.apt_meaning.specs.Compiled.{compilation}
 
 -- steps on the lines from the n-th on
 abbrev numbered : ℕ → List Deed → List Step
@@ -31,13 +31,13 @@ numbered n [] = []
 numbered n (deed ∷ more) = record { line = n; step = n; deed = deed } ∷ numbered (n + 1) more
 
 abbrev made : List Deed → Result (List Record) Refusal
-made steps = compiled first_situation (numbered 1 steps)
+made steps = compilation first_situation (numbered 1 steps)
 
 abbrev refused : ℕ → Case → Result (List Record) Refusal
 refused n case = Err (record { line = n; step = n; case = case })
 
-abbrev noted : ℕ → Note → List Record
-noted n note = records.Statement n n ∷ records.Note note ∷ []
+abbrev with_note : ℕ → Note → List Record
+with_note n note = records.Statement n n ∷ records.Note note ∷ []
 
 abbrev reached : ℕ → Reach → Position → List Record
 reached n reach to = records.Statement n n ∷ records.Point reach to ∷ []
@@ -54,8 +54,8 @@ first_part =
     ∷ deeds.GotoXy (whole 1) (whole 2) (Some (whole 3)) ∷ deeds.Fini ∷ []
 
 first_records : made first_part ≡
-    Ok (noted 1 (notes.Partno (codes "FIRST")) ++ noted 2 (notes.Fedrat (pos 100)) ++ reached 3 reaches.From (position_at (pos 0) (pos 0) (pos 0))
-    ++ reached 4 reaches.Goto (position_at (pos 100000) (pos 200000) (pos 300000)) ++ noted 5 notes.Fini)
+    Ok (with_note 1 (notes.Partno (codes "FIRST")) ++ with_note 2 (notes.Fedrat (pos 100)) ++ reached 3 reaches.From (position_at (pos 0) (pos 0) (pos 0))
+    ++ reached 4 reaches.Goto (position_at (pos 100000) (pos 200000) (pos 300000)) ++ with_note 5 notes.Fini)
 first_records = refl
 
 -- ---- a square plate, round which the cutter goes on the right
@@ -102,9 +102,9 @@ cut n drive check x y =
     ∷ records.Contour (position_at x y (pos 50000) ∷ []) ∷ []
 
 plate_records : made plate ≡
-    Ok (noted 1 (notes.Partno (codes "SQUARE")) ++ noted 2 (notes.Cutter (pos 50000)) ++ noted 7 (notes.Fedrat (pos 100))
+    Ok (with_note 1 (notes.Partno (codes "SQUARE")) ++ with_note 2 (notes.Cutter (pos 50000)) ++ with_note 7 (notes.Fedrat (pos 100))
     ++ reached 8 reaches.From (position_at (neg_ℤ (pos 100000)) (neg_ℤ (pos 100000)) (pos 50000)) ++ reached 9 reaches.Start (position_at low low (pos 50000))
-    ++ cut 10 bottom right high low ++ cut 11 right top high high ++ cut 12 top left low high ++ cut 13 left bottom low low ++ noted 14 notes.Fini)
+    ++ cut 10 bottom right high low ++ cut 11 right top high high ++ cut 12 top left low high ++ cut 13 left bottom low low ++ with_note 14 notes.Fini)
 unfolding root motion_at start_up_at
 plate_records = refl
 
@@ -113,9 +113,9 @@ plate_records = refl
 -- a move spends RAPID, and FROM does not
 millimetres : made (deeds.Partno (codes "") ∷ deeds.Units the_units.Mm ∷ deeds.Rapid ∷ deeds.FromXy (pos 0) (pos 0) None
     ∷ deeds.Godlta (whole 1) (whole 2) (neg_ℤ (pos 500000)) ∷ deeds.Fedrat (pos 100000) ∷ deeds.GotoXy (whole 1) (whole 2) None ∷ deeds.EndWord ∷ deeds.Fini ∷ []) ≡
-    Ok (noted 1 (notes.Partno (codes "")) ++ noted 2 (notes.Units the_units.Mm) ++ noted 3 notes.Rapid ++ reached 4 reaches.From (position_at (pos 0) (pos 0) (pos 0))
-    ++ reached 5 reaches.Godlta (position_at (pos 10000) (pos 20000) (neg_ℤ (pos 5000))) ++ noted 6 (notes.Fedrat (pos 1))
-    ++ reached 7 reaches.Goto (position_at (pos 10000) (pos 20000) (pos 0)) ++ noted 8 notes.End ++ noted 9 notes.Fini)
+    Ok (with_note 1 (notes.Partno (codes "")) ++ with_note 2 (notes.Units the_units.Mm) ++ with_note 3 notes.Rapid ++ reached 4 reaches.From (position_at (pos 0) (pos 0) (pos 0))
+    ++ reached 5 reaches.Godlta (position_at (pos 10000) (pos 20000) (neg_ℤ (pos 5000))) ++ with_note 6 (notes.Fedrat (pos 1))
+    ++ reached 7 reaches.Goto (position_at (pos 10000) (pos 20000) (pos 0)) ++ with_note 8 notes.End ++ with_note 9 notes.Fini)
 millimetres = refl
 
 -- the first step that a case refuses
@@ -129,5 +129,5 @@ position_again : made (deeds.Partno (codes "") ∷ deeds.FromXy (pos 0) (pos 0) 
 position_again = refl
 
 -- a name that stands for a number can stand for a line later
-line_again : made (deeds.Assign (codes "L1") (whole 5) ∷ edge (codes "L1") 0 0 5 0 ∷ deeds.Fini ∷ []) ≡ Ok (noted 3 notes.Fini)
+line_again : made (deeds.Assign (codes "L1") (whole 5) ∷ edge (codes "L1") 0 0 5 0 ∷ deeds.Fini ∷ []) ≡ Ok (with_note 3 notes.Fini)
 line_again = refl

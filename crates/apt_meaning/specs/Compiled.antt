@@ -38,8 +38,8 @@ or_refused step (Err case) more = Err (refused_at step case)
 or_refused step (Ok e) more = more e
 
 -- the records of all steps, or the first step that a case refuses
-abbrev pub compiled : Situation → List Step → Result (List Record) Refusal
-compiled at [] = Ok []
-compiled at (step ∷ steps) =
+abbrev pub compilation : Situation → List Step → Result (List Record) Refusal
+compilation at [] = Ok []
+compilation at (step ∷ steps) =
     or_refused step (asked (refusal_of at step.deed) (effect_of at step.deed))
-    (λ e. with_front (records_of step e (ends_of e)) (compiled (after at e (ends_of e)) steps))
+    (λ e. with_front (records_of step e (ends_of e)) (compilation (after at e (ends_of e)) steps))

@@ -20,7 +20,7 @@ use Rattle.apt_meaning.specs.declared.effect.Effect.{Effect}
 use Rattle.apt_meaning.specs.declared.effect.Effect.TheVariants as effects
 use Rattle.apt_meaning.specs.Situations.{radius_of, position_at}
 use Rattle.apt_meaning.specs.Motions.{motion_at}
-use Rattle.apt_meaning.specs.StartUps.{start_up_at, started}
+use Rattle.apt_meaning.specs.StartUps.{start_up_at, start_position}
 
 abbrev pub sets : Settings → Option Effect
 sets s = Some (effects.Sets s None)
@@ -43,8 +43,8 @@ abbrev pub height_by : Units → Option ℤ → ℤ
 height_by units None = pos 0
 height_by units (Some z) = grid_units units z
 
-abbrev pub place_by : Units → ℤ → ℤ → Option ℤ → Position
-place_by units x y z = position_at (grid_units units x) (grid_units units y) (height_by units z)
+abbrev pub position_by : Units → ℤ → ℤ → Option ℤ → Position
+position_by units x y z = position_at (grid_units units x) (grid_units units y) (height_by units z)
 
 -- a position moved by three scalars
 abbrev pub moved_by : Units → ℤ → ℤ → ℤ → Position → Position
@@ -53,9 +53,9 @@ moved_by units x y z p = position_at (p.at.x +ℤ grid_units units x) (p.at.y +�
 abbrev pub moved_from : Situation → ℤ → ℤ → ℤ → Option Position
 moved_from at x y z = at.position >>= λ p. Some (moved_by at.settings.units x y z p)
 
-abbrev pub started_at : Situation → Stop → List ℕ → Option (Stop × List ℕ) → Option Position
-started_at at how_a a None = None
-started_at at how_a a (Some b) = start_up_at at how_a a b.0 b.1 >>= started
+abbrev pub start_position_at : Situation → Stop → List ℕ → Option (Stop × List ℕ) → Option Position
+start_position_at at how_a a None = None
+start_position_at at how_a a (Some b) = start_up_at at how_a a b.0 b.1 >>= start_position
 
 -- ---- the table of statements; those that the compiler does not have yet ask for nothing that it knows
 
@@ -89,12 +89,12 @@ effect_of at (deeds.Cutter v) =
 effect_of at (deeds.Intol v) = says (record at.settings { intol = grid_units at.settings.units v }) (notes.Intol (grid_units at.settings.units v))
 effect_of at (deeds.Outtol v) = says (record at.settings { outtol = grid_units at.settings.units v }) (notes.Outtol (grid_units at.settings.units v))
 effect_of at (deeds.Tool side) = sets (record at.settings { side = side })
-effect_of at (deeds.FromXy x y z) = Some (effects.Moves reaches.From (place_by at.settings.units x y z))
+effect_of at (deeds.FromXy x y z) = Some (effects.Moves reaches.From (position_by at.settings.units x y z))
 effect_of at (deeds.FromPoint p) = None
-effect_of at (deeds.GotoXy x y z) = Some (effects.Moves reaches.Goto (place_by at.settings.units x y z))
+effect_of at (deeds.GotoXy x y z) = Some (effects.Moves reaches.Goto (position_by at.settings.units x y z))
 effect_of at (deeds.GotoPoint p) = None
 effect_of at (deeds.Godlta x y z) = moves reaches.Godlta (moved_from at x y z)
-effect_of at (deeds.GoStart how_a a b) = moves reaches.Start (started_at at how_a a b)
+effect_of at (deeds.GoStart how_a a b) = moves reaches.Start (start_position_at at how_a a b)
 effect_of at (deeds.Contour side go drive how check) = cuts (motion_at at side go drive how check)
 effect_of at deeds.Rapid = says (record at.settings { rapid = true }) notes.Rapid
 effect_of at deeds.Halt = says at.settings notes.Stop

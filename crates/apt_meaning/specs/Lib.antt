@@ -6,5 +6,5 @@ pub mod Refusals
 pub mod Records
 pub mod Compiled
 pub mod Ranges
-pub mod Numbers
+pub mod Vertices
 pub mod Sayings

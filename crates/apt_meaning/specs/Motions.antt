@@ -16,8 +16,8 @@ use Rattle.apt_defs.specs.declared.figure.Figure.TheVariants as figures
 use Rattle.apt_defs.specs.Figures.{Table, figure_named}
 use Rattle.apt_offset.specs.declared.Target.{Target}
 use Rattle.apt_offset.specs.Turns.{tangent, turn, is_zero}
-use Rattle.apt_offset.specs.Places.{drive_place, check_place, is_on_check}
-use Rattle.apt_offset.specs.Targets.{signed, greater, moved, lacks_room, band_at}
+use Rattle.apt_offset.specs.Sides.{side_at_drive, side_at_check, is_on_check}
+use Rattle.apt_offset.specs.Targets.{signed, greater, offset_surface, lacks_room, band_at}
 use Rattle.apt_stop.specs.Nearness.{heading}
 use Rattle.apt_stop.specs.Lines.{line_side}
 use Rattle.apt_certify.specs.Legs.{Leg, beyond_of}
@@ -61,17 +61,17 @@ motion s start drive turned how check = record {
 
 -- the place of the cutter at the drive surface, and at the check surface behind the motion
 abbrev pub drive_side : Motion → Sign
-drive_side m = drive_place m.side m.sense
+drive_side m = side_at_drive m.side m.sense
 
 abbrev pub check_side : Motion → Sign
-check_side m = check_place m.check m.how m.start.at m.drive (drive_side m)
+check_side m = side_at_check m.check m.how m.start.at m.drive (drive_side m)
 
 -- the targets: the curve of the cutter's centre, and the one at which it stops
 abbrev pub track_of : Motion → Target
-track_of m = moved m.drive (drive_side m) m.radius
+track_of m = offset_surface m.drive (drive_side m) m.radius
 
 abbrev pub stop_of : Motion → Target
-stop_of m = moved m.check (check_side m) m.radius
+stop_of m = offset_surface m.check (check_side m) m.radius
 
 -- the start is on the check surface, under TO or PAST
 abbrev pub starts_on_check : Motion → Bool

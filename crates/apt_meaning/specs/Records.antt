@@ -20,12 +20,12 @@ use Rattle.apt_meaning.specs.Effects.{effect_of}
 -- ---- what an effect writes and leaves; only a contour has vertices, those of its leg behind the start
 
 -- a contour keeps the height
-abbrev pub said : Effect → List Pt → List Record
-said (effects.Defines n f) vertices = []
-said (effects.Sets s None) vertices = []
-said (effects.Sets s (Some note)) vertices = records.Note note ∷ []
-said (effects.Moves reach to) vertices = records.Point reach to ∷ []
-said (effects.Cuts m) vertices =
+abbrev pub effect_records : Effect → List Pt → List Record
+effect_records (effects.Defines n f) vertices = []
+effect_records (effects.Sets s None) vertices = []
+effect_records (effects.Sets s (Some note)) vertices = records.Note note ∷ []
+effect_records (effects.Moves reach to) vertices = records.Point reach to ∷ []
+effect_records (effects.Cuts m) vertices =
     records.Drive m.drive m.side m.sense ∷ records.Check m.check m.how ∷ records.Contour (map (at_height m.start.z) vertices) ∷ []
 
 -- the records of a step begin with its line and number
@@ -34,7 +34,7 @@ with_statement step [] = []
 with_statement step (r ∷ rs) = records.Statement step.line step.step ∷ r ∷ rs
 
 abbrev pub records_of : Step → Effect → List Pt → List Record
-records_of step e vertices = with_statement step (said e vertices)
+records_of step e vertices = with_statement step (effect_records e vertices)
 
 -- the situation behind an effect; behind a contour forward is the tangent of the drive surface, in its sense
 abbrev pub after : Situation → Effect → List Pt → Situation

@@ -29,7 +29,7 @@ use Rattle.apt_meaning.specs.declared.motion.StartUp.{StartUp}
 use Rattle.apt_meaning.specs.Situations.{has_feed, lacks_feed, with_side}
 use Rattle.apt_meaning.specs.Motions.{motion, is_too_fine, as_surface, surface_in, turn_at, track_of, stop_of, starts_on_check, line_offset, stop_offset}
 use Rattle.apt_meaning.specs.StartUps.{start_up_at, start_up_cases}
-use Rattle.apt_meaning.specs.Effects.{place_by, moved_by}
+use Rattle.apt_meaning.specs.Effects.{position_by, moved_by}
 
 -- ---- numbers and names
 
@@ -159,9 +159,9 @@ cases_of at (deeds.Cutter v) = length_cases (pos 1000000) (grid_units at.setting
 cases_of at (deeds.Intol v) = length_cases (pos 10000) (grid_units at.settings.units v)
 cases_of at (deeds.Outtol v) = length_cases (pos 10000) (grid_units at.settings.units v)
 cases_of at (deeds.Tool side) = []
-cases_of at (deeds.FromXy x y z) = (is_some at.position, cases.FromAgain) ∷ position_cases (place_by at.settings.units x y z) []
+cases_of at (deeds.FromXy x y z) = (is_some at.position, cases.FromAgain) ∷ position_cases (position_by at.settings.units x y z) []
 cases_of at (deeds.FromPoint p) = not_built
-cases_of at (deeds.GotoXy x y z) = move_cases at.settings (Some (place_by at.settings.units x y z))
+cases_of at (deeds.GotoXy x y z) = move_cases at.settings (Some (position_by at.settings.units x y z))
 cases_of at (deeds.GotoPoint p) = not_built
 cases_of at (deeds.Godlta x y z) = godlta_cases at x y z
 cases_of at (deeds.GoStart how_a a b) = start_up_or_not_built at how_a a b

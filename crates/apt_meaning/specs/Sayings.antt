@@ -3,7 +3,7 @@ use Rattle.std.specs.Prelude.{◌≡◌, ℤ, pos, unsigned_abs, true, false, So
 use Rattle.apt_words.specs.declared.Units.{Units}
 use Rattle.apt_words.specs.declared.deed.Deed.{Deed}
 use Rattle.apt_words.specs.declared.deed.Deed.TheVariants as deeds
-use Rattle.apt_words.specs.Endings.{is_ended}
+use Rattle.apt_words.specs.ProgramEnds.{is_ended}
 use Rattle.apt_scalar.specs.Scalars.{grid_units, tenths}
 use Rattle.apt_cldata.specs.declared.record.Note.{Note}
 use Rattle.apt_cldata.specs.declared.record.Note.TheVariants as notes
@@ -14,21 +14,21 @@ use Rattle.apt_meaning.specs.declared.effect.Effect.TheVariants as effects
 use Rattle.apt_meaning.specs.Situations.{radius_of}
 
 -- the settings behind a note
-abbrev pub noted : Settings → Note → Settings
-noted s (notes.Partno text) = s
-noted s (notes.Units units) = record s { units = units }
-noted s (notes.Cutter d) = record s { radius = pos (radius_of (unsigned_abs d)) }
-noted s (notes.Intol t) = record s { intol = t }
-noted s (notes.Outtol t) = record s { outtol = t }
-noted s (notes.Fedrat f) = record s { feed = f }
-noted s (notes.Spindl turn n) = s
-noted s (notes.Coolnt c) = s
-noted s (notes.Loadtl n) = s
-noted s notes.Rapid = record s { rapid = true }
-noted s notes.Stop = s
-noted s notes.OptStop = s
-noted s notes.End = record s { ended = true }
-noted s notes.Fini = s
+abbrev pub settings_with : Settings → Note → Settings
+settings_with s (notes.Partno text) = s
+settings_with s (notes.Units units) = record s { units = units }
+settings_with s (notes.Cutter d) = record s { radius = pos (radius_of (unsigned_abs d)) }
+settings_with s (notes.Intol t) = record s { intol = t }
+settings_with s (notes.Outtol t) = record s { outtol = t }
+settings_with s (notes.Fedrat f) = record s { feed = f }
+settings_with s (notes.Spindl turn n) = s
+settings_with s (notes.Coolnt c) = s
+settings_with s (notes.Loadtl n) = s
+settings_with s notes.Rapid = record s { rapid = true }
+settings_with s notes.Stop = s
+settings_with s notes.OptStop = s
+settings_with s notes.End = record s { ended = true }
+settings_with s notes.Fini = s
 
 -- the statement that says a note
 abbrev pub IsNoteOf : Units → Deed → Note → Type 0
@@ -50,7 +50,7 @@ IsNoteOf units deed notes.Fini = deed ≡ deeds.Fini
 -- a note is said by its statement, and the settings change just as it says
 pub record SaysNote (at : Situation) (deed : Deed) (s : Settings) (note : Note) : Type 0 where
   pub said : IsNoteOf at.settings.units deed note
-  pub settings : s ≡ noted at.settings note
+  pub settings : s ≡ settings_with at.settings note
 
 -- a step that says no note changes no setting but the side of the cutter
 pub record SaysNothing (at : Situation) (deed : Deed) (s : Settings) : Type 0 where

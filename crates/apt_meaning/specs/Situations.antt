@@ -5,7 +5,7 @@ use Rattle.apt_words.specs.declared.Side.{Side}
 use Rattle.apt_words.specs.declared.Side.TheVariants as sides
 use Rattle.apt_plane.specs.declared.figures.Pt.{Pt}
 use Rattle.apt_plane.specs.declared.figures.Dir.{Dir}
-use Rattle.apt_plane.specs.Vectors.{way, norm}
+use Rattle.apt_plane.specs.Vectors.{displacement, length_squared}
 use Rattle.apt_cldata.specs.declared.record.Position.{Position}
 use Rattle.apt_cldata.specs.declared.record.Reach.{Reach}
 use Rattle.apt_cldata.specs.declared.record.Reach.TheVariants as reaches
@@ -58,7 +58,7 @@ settings_behind reach s = if is_move reach then record s { rapid = false } else 
 -- forward after a move is its way, and stays where it has none or where there was no position
 abbrev pub forward_behind : Option Position → Pt → Dir → Dir
 forward_behind None to forward = forward
-forward_behind (Some from) to forward = if norm (way from.at to) == 0 then forward else way from.at to
+forward_behind (Some from) to forward = if length_squared (displacement from.at to) == 0 then forward else displacement from.at to
 
 abbrev pub position_at : ℤ → ℤ → ℤ → Position
 position_at x y z = record { at = record { x = x; y = y }; z = z }

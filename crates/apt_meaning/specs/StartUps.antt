@@ -10,8 +10,8 @@ use Rattle.apt_plane.specs.declared.figures.Pt.{Pt}
 use Rattle.apt_plane.specs.declared.figures.Surface.{Surface}
 use Rattle.apt_plane.specs.declared.figures.Surface.TheVariants as surfaces
 use Rattle.apt_canon.specs.Meeting.{meeting_point, are_parallel, is_in_range}
-use Rattle.apt_offset.specs.Places.{check_place, is_on_check}
-use Rattle.apt_offset.specs.Targets.{signed, moved, lacks_room}
+use Rattle.apt_offset.specs.Sides.{side_at_check, is_on_check}
+use Rattle.apt_offset.specs.Targets.{signed, offset_surface, lacks_room}
 use Rattle.apt_cldata.specs.declared.record.Position.{Position}
 use Rattle.apt_meaning.specs.declared.situation.Situation.{Situation}
 use Rattle.apt_meaning.specs.declared.motion.StartUp.{StartUp}
@@ -27,17 +27,17 @@ start_up_at at how_a a how_b b = do
   Some (record { start = start; how_a = how_a; a = a; how_b = how_b; b = b; radius = at.settings.radius })
 
 -- the place of the cutter at a surface on which it starts
-abbrev pub start_place : StartUp → Stop → Surface → Sign
-start_place u how surface = check_place surface how u.start.at surface signs.Zero
+abbrev pub start_side : StartUp → Stop → Surface → Sign
+start_side u how surface = side_at_check surface how u.start.at surface signs.Zero
 
 abbrev pub is_on : StartUp → Stop → Surface → Bool
-is_on u how surface = is_on_check how (start_place u how surface)
+is_on u how surface = is_on_check how (start_side u how surface)
 
 abbrev pub has_no_room : StartUp → Stop → Surface → Bool
-has_no_room u how surface = not (is_on u how surface) && lacks_room (moved surface (start_place u how surface) u.radius)
+has_no_room u how surface = not (is_on u how surface) && lacks_room (offset_surface surface (start_side u how surface) u.radius)
 
 abbrev pub start_offset : StartUp → Stop → Surface → ℤ
-start_offset u how surface = signed (start_place u how surface) u.radius
+start_offset u how surface = signed (start_side u how surface) u.radius
 
 -- where the moved surfaces meet: lines so far; a surface that is a circle has no meeting yet
 abbrev pub meeting_of : StartUp → Surface → Surface → Pt
@@ -60,5 +60,5 @@ start_up_cases u =
     ∷ (is_on u u.how_a u.a, cases.OnCheck) ∷ (is_on u u.how_b u.b, cases.OnCheck) ∷ meeting_cases u u.a u.b
 
 -- the position that GO moves to, where there is one; it keeps the height
-abbrev pub started : StartUp → Option Position
-started u = if is_none (first_of (start_up_cases u)) then Some (at_height u.start.z (start_point u)) else None
+abbrev pub start_position : StartUp → Option Position
+start_position u = if is_none (first_of (start_up_cases u)) then Some (at_height u.start.z (start_point u)) else None

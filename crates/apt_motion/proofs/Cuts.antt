@@ -22,7 +22,7 @@ use Rattle.apt_meaning.specs.Ranges.{AreSettings, IsSituation}
 use Rattle.apt_meaning.specs.Compiled.{asked}
 use Rattle.apt_meaning.proofs.Refused.{first_none}
 use Rattle.apt_meaning.proofs.Legal.{motion_defined}
-use Rattle.apt_meaning.proofs.Numbers.{on_side_or_as_it_was}
+use Rattle.apt_meaning.proofs.EffectRanges.{on_side_or_as_it_was}
 use Rattle.apt_meaning.proofs.Asked.{motion_is}
 use Rattle.apt_motion.specs.declared.contours.Cut.{Cut}
 use Rattle.apt_motion.specs.Asking.{IsSurfaceNamed, cut_to, IsCut}

@@ -20,7 +20,7 @@ use Rattle.apt_meaning.specs.declared.situation.Situation.{Situation}
 use Rattle.apt_meaning.specs.declared.motion.StartUp.{StartUp}
 use Rattle.apt_meaning.specs.Situations.{at_height, lacks_feed}
 use Rattle.apt_meaning.specs.Motions.{as_surface}
-use Rattle.apt_meaning.specs.StartUps.{start_up_at, start_up_cases, start_point, started}
+use Rattle.apt_meaning.specs.StartUps.{start_up_at, start_up_cases, start_point, start_position}
 use Rattle.apt_meaning.specs.Effects.{moves, effect_of}
 use Rattle.apt_meaning.specs.Refusals.{is_other_kind, start_cases, refusal_of}
 use Rattle.apt_meaning.specs.Compiled.{asked}
@@ -40,7 +40,7 @@ rows_on s start how_a a how_b b = (lacks_feed s, cases.NoFeed) ∷ start_cases (
 
 on : (s : Settings) (start : Position) (how_a : Stop) (a : Option Surface) (how_b : Stop) (b : Option Surface)
     → start_on s start how_a a how_b b
-    ≡ asked (first_of ((is_none a, cases.WrongKind) ∷ (is_none b, cases.WrongKind) ∷ rows_on s start how_a a how_b b)) (moves reaches.Start (two s start how_a a how_b b >>= started))
+    ≡ asked (first_of ((is_none a, cases.WrongKind) ∷ (is_none b, cases.WrongKind) ∷ rows_on s start how_a a how_b b)) (moves reaches.Start (two s start how_a a how_b b >>= start_position))
 on s start how_a None how_b b = refl
 on s start how_a (Some a) how_b None = refl
 on s start how_a (Some a) how_b (Some b) =
@@ -50,7 +50,7 @@ on s start how_a (Some a) how_b (Some b) =
 by : (s : Settings) (start : Position) (how_a : Stop) (a : Option Figure) (how_b : Stop) (b : Option Figure)
     → start_by s start how_a a how_b b
     ≡ asked (first_of ((is_none a, cases.Undefined) ∷ (is_none b, cases.Undefined) ∷ (is_other_kind a, cases.WrongKind) ∷ (is_other_kind b, cases.WrongKind) ∷ rows_on s start how_a (a >>= as_surface) how_b (b >>= as_surface)))
-    (moves reaches.Start (two s start how_a (a >>= as_surface) how_b (b >>= as_surface) >>= started))
+    (moves reaches.Start (two s start how_a (a >>= as_surface) how_b (b >>= as_surface) >>= start_position))
 by s start how_a None how_b b = refl
 by s start how_a (Some a) how_b None = refl
 by s start how_a (Some a) how_b (Some b) = on s start how_a (as_surface a) how_b (as_surface b)
@@ -62,7 +62,7 @@ from : (s : Settings) (p : Option Position) (how_a : Stop) (a : Option Figure) (
     → start_from s p how_a a how_b b
     ≡ asked (first_of ((is_none p, cases.NoFrom) ∷ (is_none a, cases.Undefined) ∷ (is_none b, cases.Undefined) ∷ (is_other_kind a, cases.WrongKind) ∷ (is_other_kind b, cases.WrongKind)
     ∷ (lacks_feed s, cases.NoFeed) ∷ start_cases (from_any s p how_a (a >>= as_surface) how_b (b >>= as_surface))))
-    (moves reaches.Start (from_any s p how_a (a >>= as_surface) how_b (b >>= as_surface) >>= started))
+    (moves reaches.Start (from_any s p how_a (a >>= as_surface) how_b (b >>= as_surface) >>= start_position))
 from s None how_a a how_b b = refl
 from s (Some start) how_a a how_b b = by s start how_a a how_b b
 

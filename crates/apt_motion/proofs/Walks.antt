@@ -4,7 +4,7 @@ use Rattle.apt_words.specs.declared.Case.{Case}
 use Rattle.apt_words.specs.declared.Refusal.{Refusal}
 use Rattle.apt_words.specs.declared.deed.Deed.{Deed}
 use Rattle.apt_words.specs.declared.deed.Step.{Step}
-use Rattle.apt_scalar.specs.Numbers.{HasScalars, AreScalars}
+use Rattle.apt_scalar.specs.StepScalars.{HasScalars, AreScalars}
 use Rattle.apt_plane.specs.declared.figures.Pt.{Pt}
 use Rattle.apt_plane.specs.Ranges.{IsPoint}
 use Rattle.apt_cldata.specs.declared.record.Record.{Record}
@@ -17,9 +17,9 @@ use Rattle.apt_meaning.specs.Effects.{effect_of}
 use Rattle.apt_meaning.specs.Refusals.{refusal_of}
 use Rattle.apt_meaning.specs.Situations.{first_situation}
 use Rattle.apt_meaning.specs.Records.{FollowsLegally, records_of, after}
-use Rattle.apt_meaning.specs.Compiled.{ends_of, with_front, asked, or_refused, compiled}
+use Rattle.apt_meaning.specs.Compiled.{ends_of, with_front, asked, or_refused, compilation}
 use Rattle.apt_meaning.specs.Ranges.{IsSituation, IsEffect}
-use Rattle.apt_meaning.specs.Numbers.{HasIn}
+use Rattle.apt_meaning.specs.Vertices.{HasIn}
 use Rattle.apt_meaning.proofs.Asked.{answered}
 use Rattle.apt_meaning.proofs.Kept.{kept, first_situation-IsSituation}
 use Rattle.apt_meaning.proofs.Walk.{compiled_follows}
@@ -33,19 +33,19 @@ regroup front more (Err refusal) = refl
 
 -- one more step of the walk
 pub step_on : (front : List Record) (at : Situation) (step : Step) (steps : List Step) (e : Effect) (total : Result (List Record) Refusal)
-    → asked (refusal_of at step.deed) (effect_of at step.deed) ≡ Ok e → with_front front (compiled at (step ∷ steps)) ≡ total
-    → with_front (front ++ records_of step e (ends_of e)) (compiled (after at e (ends_of e)) steps) ≡ total
+    → asked (refusal_of at step.deed) (effect_of at step.deed) ≡ Ok e → with_front front (compilation at (step ∷ steps)) ≡ total
+    → with_front (front ++ records_of step e (ends_of e)) (compilation (after at e (ends_of e)) steps) ≡ total
 step_on front at step steps e total does so_far =
-    let one : compiled at (step ∷ steps) ≡ with_front (records_of step e (ends_of e)) (compiled (after at e (ends_of e)) steps) =
-    ap (λ (a : Result Effect Case). or_refused step a (λ e. with_front (records_of step e (ends_of e)) (compiled (after at e (ends_of e)) steps))) does in
-    sym (regroup front (records_of step e (ends_of e)) (compiled (after at e (ends_of e)) steps)) ∙ sym (ap (with_front front) one) ∙ so_far
+    let one : compilation at (step ∷ steps) ≡ with_front (records_of step e (ends_of e)) (compilation (after at e (ends_of e)) steps) =
+    ap (λ (a : Result Effect Case). or_refused step a (λ e. with_front (records_of step e (ends_of e)) (compilation (after at e (ends_of e)) steps))) does in
+    sym (regroup front (records_of step e (ends_of e)) (compilation (after at e (ends_of e)) steps)) ∙ sym (ap (with_front front) one) ∙ so_far
 
 -- a step that is refused
 pub step_refused : (front : List Record) (at : Situation) (step : Step) (steps : List Step) (case : Case) (total : Result (List Record) Refusal)
-    → asked (refusal_of at step.deed) (effect_of at step.deed) ≡ Err case → with_front front (compiled at (step ∷ steps)) ≡ total
+    → asked (refusal_of at step.deed) (effect_of at step.deed) ≡ Err case → with_front front (compilation at (step ∷ steps)) ≡ total
     → total ≡ or_refused step (Err case) (λ e. Ok [])
 step_refused front at step steps case total refuses so_far =
-    sym so_far ∙ ap (λ (a : Result Effect Case). with_front front (or_refused step a (λ e. with_front (records_of step e (ends_of e)) (compiled (after at e (ends_of e)) steps)))) refuses
+    sym so_far ∙ ap (λ (a : Result Effect Case). with_front front (or_refused step a (λ e. with_front (records_of step e (ends_of e)) (compilation (after at e (ends_of e)) steps)))) refuses
 
 -- ---- what a step asks for is in range, and so is what holds behind it
 
@@ -92,14 +92,14 @@ end_in (effects.Cuts m) (Some p) is same = subst IsPoint (same_end (contact m) p
 
 -- ---- runs
 
-pub run_follows : {A : Type 0} (steps : List Step) (result : Result (Vec Record A) RunError) → AreScalars steps → Ends (compiled first_situation steps) result
+pub run_follows : {A : Type 0} (steps : List Step) (result : Result (Vec Record A) RunError) → AreScalars steps → Ends (compilation first_situation steps) result
     → IfOk result (λ records. (behind : Situation) × FollowsLegally first_situation steps records.items behind)
 run_follows steps (Ok records) scalars is =
     let a = compiled_follows first_situation steps records.items first_situation-IsSituation scalars is in
     (a.behind, a.follows)
 run_follows steps (Err e) scalars is = tt
 
-pub run_in_range : {A : Type 0} (steps : List Step) (result : Result (Vec Record A) RunError) → AreScalars steps → Ends (compiled first_situation steps) result
+pub run_in_range : {A : Type 0} (steps : List Step) (result : Result (Vec Record A) RunError) → AreScalars steps → Ends (compilation first_situation steps) result
     → IfOk result (λ records. AreRecords records.items)
 run_in_range steps (Ok records) scalars is = (compiled_follows first_situation steps records.items first_situation-IsSituation scalars is).records
 run_in_range steps (Err e) scalars is = tt

@@ -24,7 +24,9 @@ use apt_defs::{Figure, Table};
 use apt_meaning::{Motion, Settings, Situation};
 use apt_num::Sign;
 use apt_offset::signs::is_zero;
-use apt_offset::{check_place, drive_place, is_on_check, lacks_room, moved, signed, tangent, turn};
+use apt_offset::{
+    is_on_check, lacks_room, offset_surface, side_at_check, side_at_drive, signed, tangent, turn,
+};
 use apt_plane::{Dir, Line, Pt, Surface};
 use apt_stop::{is_near, line_stop};
 use apt_words::{Case, Go, Side, Stop, Symbol};
@@ -199,7 +201,7 @@ fn allowance(tolerance: i64) -> i64
 fn drive_side(m: &Motion) -> Sign
     ensures { result ≡ motions.drive_side m.now }
 {
-    drive_place(m.side, m.sense)
+    side_at_drive(m.side, m.sense)
 }
 
 /// The place of the cutter at the check surface behind the motion.
@@ -207,7 +209,7 @@ fn check_side(m: &Motion) -> Sign
     requires { IsMotion m.now }
     ensures { result ≡ motions.check_side m.now }
 {
-    check_place(&m.check, m.how, m.start.at, &m.drive, drive_side(m))
+    side_at_check(&m.check, m.how, m.start.at, &m.drive, drive_side(m))
 }
 
 /// Where a motion ends.
@@ -220,10 +222,10 @@ fn end_of(m: &Motion) -> Result<Pt, Case>
     requires { IsMotion m.now }
     ensures { result ≡ unless (refusals.motion_cases m.now) (motions.contact m.now) }
 {
-    let track = moved(&m.drive, drive_side(m), m.radius);
-    let place = check_side(m);
-    let stop = moved(&m.check, place, m.radius);
-    let on = is_on_check(m.how, place);
+    let track = offset_surface(&m.drive, drive_side(m), m.radius);
+    let side = check_side(m);
+    let stop = offset_surface(&m.check, side, m.radius);
+    let on = is_on_check(m.how, side);
     if lacks_room(&track) {
         return Err(Case::NoRoom);
     }
@@ -236,17 +238,17 @@ fn end_of(m: &Motion) -> Result<Pt, Case>
     if on {
         return Err(Case::OnCheck);
     }
-    stopped(m, place)
+    stopped(m, side)
 }
 
 /// Where a motion on its track ends.
-fn stopped(m: &Motion, place: Sign) -> Result<Pt, Case>
+fn stopped(m: &Motion, side: Sign) -> Result<Pt, Case>
     requires motion { IsMotion m.now }
-    requires place { place ≡ motions.check_side m.now }
+    requires side { side ≡ motions.check_side m.now }
     ensures { result ≡ unless (refusals.stop_cases m.now m.now.drive m.now.check) (motions.contact m.now) }
 {
     match (&m.drive, &m.check) {
-        (Surface::Line(drive), Surface::Line(check)) => line_end(m, drive, check, place),
+        (Surface::Line(drive), Surface::Line(check)) => line_end(m, drive, check, side),
         (Surface::Line(_), Surface::Circ(_)) | (Surface::Circ(_), _) => Err(Case::NotBuilt),
     }
 }
@@ -261,25 +263,25 @@ fn track_offset(m: &Motion) -> i64
 }
 
 /// How far the check line is moved to its left.
-fn stop_offset(m: &Motion, place: Sign) -> i64
+fn stop_offset(m: &Motion, side: Sign) -> i64
     requires motion { IsMotion m.now }
-    requires place { place ≡ motions.check_side m.now }
+    requires side { side ≡ motions.check_side m.now }
     ensures value { result ≡ motions.stop_offset m.now }
     ensures small { unsigned_abs result ≤ 500000 }
 {
-    signed(place, m.radius)
+    signed(side, m.radius)
 }
 
 /// Where a motion along a line stops at a line.
-fn line_end(m: &Motion, drive: &Line, check: &Line, place: Sign) -> Result<Pt, Case>
+fn line_end(m: &Motion, drive: &Line, check: &Line, side: Sign) -> Result<Pt, Case>
     requires motion { IsMotion m.now }
     requires drive { IsLine drive.now }
     requires check { IsLine check.now }
-    requires place { place ≡ motions.check_side m.now }
+    requires side { side ≡ motions.check_side m.now }
     ensures { result ≡ unless (refusals.stop_cases m.now (Surface.Line drive.now) (Surface.Line check.now)) (motions.contact_between m.now (Surface.Line drive.now) (Surface.Line check.now)) }
 {
     let off = track_offset(m);
-    let stop_off = stop_offset(m, place);
+    let stop_off = stop_offset(m, side);
     stop_at(m.start.at, drive, off, m.sense, m.how, check, stop_off)
 }
 

@@ -4,7 +4,7 @@ ghost use Rattle.std.specs.Prelude.{◌≡◌, IfOk};
 ghost use Rattle.apt_scalar.specs.Scalars.{IsScalar};
 ghost use Rattle.apt_words.specs.Built.{IsBuilt};
 ghost use Rattle.apt_words.specs.declared.deed.Deed.TheVariants as deeds;
-ghost use Rattle.apt_scalar.specs.Numbers.{HasScalars};
+ghost use Rattle.apt_scalar.specs.StepScalars.{HasScalars};
 ghost use Rattle.apt_meaning.specs.Compiled.{asked};
 ghost use Rattle.apt_meaning.specs.Effects.{effect_of};
 ghost use Rattle.apt_meaning.specs.Ranges.{IsSituation};

@@ -4,7 +4,7 @@ ghost use Rattle.std.specs.Prelude.{◌≡◌, ◌+ℤ◌, [], Some};
 ghost use Rattle.apt_scalar.specs.Scalars.{IsScalar};
 ghost use Rattle.apt_words.specs.declared.deed.Deed.TheVariants as deeds;
 ghost use Rattle.apt_words.specs.Rows.{first_of};
-ghost use Rattle.apt_scalar.specs.Numbers.{IsScalarOrNone};
+ghost use Rattle.apt_scalar.specs.StepScalars.{IsScalarOrNone};
 ghost use Rattle.apt_defs.specs.Definitions as definitions;
 ghost use Rattle.apt_meaning.specs.Compiled.{asked};
 ghost use Rattle.apt_meaning.specs.Effects as effects;
@@ -41,11 +41,11 @@ fn height(units: Units, z: Option<i64>) -> i64
     }
 }
 
-fn place(units: Units, x: i64, y: i64, z: Option<i64>) -> Position
+fn position_by(units: Units, x: i64, y: i64, z: Option<i64>) -> Position
     requires x { IsScalar x }
     requires y { IsScalar y }
     requires z { IsScalarOrNone z }
-    ensures { result ≡ effects.place_by units x y z }
+    ensures { result ≡ effects.position_by units x y z }
 {
     Position {
         at: Pt {
@@ -66,7 +66,7 @@ pub(crate) fn from(at: &Situation, x: i64, y: i64, z: Option<i64>) -> Result<Eff
     if at.position.is_some() {
         return Err(Case::FromAgain);
     }
-    stand(place(at.settings.units, x, y, z))
+    stand(position_by(at.settings.units, x, y, z))
 }
 
 fn stand(to: Position) -> Result<Effect, Case>
@@ -91,7 +91,7 @@ pub(crate) fn goto(at: &Situation, x: i64, y: i64, z: Option<i64>) -> Result<Eff
     requires z { IsScalarOrNone z }
     ensures { result ≡ asked (refusal_of at.now (deeds.GotoXy x y z)) (effect_of at.now (deeds.GotoXy x y z)) }
 {
-    let to = place(at.settings.units, x, y, z);
+    let to = position_by(at.settings.units, x, y, z);
     let (x, y, z) = (i128::from(to.at.x), i128::from(to.at.y), i128::from(to.z));
     move_to(&at.settings, Reach::Goto, x, y, z)
 }

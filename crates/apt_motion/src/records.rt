@@ -15,7 +15,7 @@ use crate::deeds::Found;
 use apt_cldata::{Position, Reach, Record, Vertices};
 use apt_meaning::{Effect, Motion, Settings, Situation};
 use apt_offset::tangent;
-use apt_plane::vectors::{norm, way};
+use apt_plane::vectors::{displacement, length_squared};
 use apt_plane::{Dir, Pt};
 use apt_stop::heading;
 use apt_words::Step;
@@ -62,8 +62,12 @@ fn forward_from(from: Position, to: Pt, forward: Dir) -> Dir
     requires to { IsPoint to }
     ensures { result ≡ situations.forward_behind (Some from) to forward }
 {
-    let along = way(from.at, to);
-    if norm(along) == 0 { forward } else { along }
+    let along = displacement(from.at, to);
+    if length_squared(along) == 0 {
+        forward
+    } else {
+        along
+    }
 }
 
 /// What holds behind a move.

@@ -2,9 +2,9 @@
 
 ghost use Rattle.std.specs.Prelude.{◌≡◌, IfOk};
 ghost use Rattle.apt_words.specs.Built.{AreBuiltSteps};
-ghost use Rattle.apt_scalar.specs.Numbers.{AreScalars};
+ghost use Rattle.apt_scalar.specs.StepScalars.{AreScalars};
 ghost use Rattle.apt_cldata.specs.Ranges.{AreRecords};
-ghost use Rattle.apt_meaning.specs.Compiled.{compiled, refused_at};
+ghost use Rattle.apt_meaning.specs.Compiled.{compilation, refused_at};
 ghost use Rattle.apt_meaning.specs.Records.{FollowsLegally};
 ghost use Rattle.apt_meaning.specs.Situations.{first_situation};
 ghost use Rattle.apt_meaning.specs.declared.situation.Situation.{Situation};
@@ -51,7 +51,7 @@ fn refused(step: &Step, case: Case) -> RunError
 fn run_all(alloc: Global, steps: &[Step]) -> Result<Vec<Record>, RunError>
     requires scalars { AreScalars steps.now }
     requires built { AreBuiltSteps steps.now }
-    ensures { Ends (compiled first_situation steps.now) result }
+    ensures { Ends (compilation first_situation steps.now) result }
 {
     let mut at = Situation::first(alloc);
     let mut records = Vec::new(alloc);
@@ -72,7 +72,7 @@ fn run_all(alloc: Global, steps: &[Step]) -> Result<Vec<Record>, RunError>
 pub fn run(alloc: Global, steps: &[Step]) -> Result<Vec<Record>, RunError>
     requires scalars { AreScalars steps.now }
     requires built { AreBuiltSteps steps.now }
-    ensures value { Ends (compiled first_situation steps.now) result }
+    ensures value { Ends (compilation first_situation steps.now) result }
     ensures follows { IfOk result (λ records. (behind : Situation) × FollowsLegally first_situation steps.now records.items behind) }
     ensures range { IfOk result (λ records. AreRecords records.items) }
 {

@@ -22,7 +22,7 @@ use apt_cldata::{Position, Reach};
 use apt_defs::Figure;
 use apt_meaning::{Effect, Settings, Situation, StartUp};
 use apt_num::Sign;
-use apt_offset::{check_place, is_on_check, lacks_room, moved, signed};
+use apt_offset::{is_on_check, lacks_room, offset_surface, side_at_check, signed};
 use apt_plane::{Line, Pt, Surface};
 use apt_words::{Case, Stop, Symbol};
 
@@ -175,12 +175,12 @@ fn start_move(start: Position, point: Result<Pt, Case>) -> Result<Effect, Case>
 }
 
 /// The place of the cutter at a surface on which it starts.
-fn start_place(u: &StartUp, how: Stop, surface: &Surface) -> Sign
+fn start_side(u: &StartUp, how: Stop, surface: &Surface) -> Sign
     requires start { IsPosition u.now.start }
     requires surface { IsSurface surface.now }
-    ensures { result ≡ start_ups.start_place u.now how surface.now }
+    ensures { result ≡ start_ups.start_side u.now how surface.now }
 {
-    check_place(surface, how, u.start.at, surface, Sign::Zero)
+    side_at_check(surface, how, u.start.at, surface, Sign::Zero)
 }
 
 fn is_on(u: &StartUp, how: Stop, surface: &Surface) -> bool
@@ -188,7 +188,7 @@ fn is_on(u: &StartUp, how: Stop, surface: &Surface) -> bool
     requires surface { IsSurface surface.now }
     ensures { result ≡ start_ups.is_on u.now how surface.now }
 {
-    is_on_check(how, start_place(u, how, surface))
+    is_on_check(how, start_side(u, how, surface))
 }
 
 fn has_no_room(u: &StartUp, how: Stop, surface: &Surface) -> bool
@@ -196,7 +196,7 @@ fn has_no_room(u: &StartUp, how: Stop, surface: &Surface) -> bool
     requires surface { IsSurface surface.now }
     ensures { result ≡ start_ups.has_no_room u.now how surface.now }
 {
-    let target = moved(surface, start_place(u, how, surface), u.radius);
+    let target = offset_surface(surface, start_side(u, how, surface), u.radius);
     !is_on(u, how, surface) && lacks_room(&target)
 }
 
@@ -241,7 +241,7 @@ fn start_offset(u: &StartUp, how: Stop, surface: &Surface) -> i64
     ensures value { result ≡ start_ups.start_offset u.now how surface.now }
     ensures small { unsigned_abs result ≤ 500000 }
 {
-    signed(start_place(u, how, surface), u.radius)
+    signed(start_side(u, how, surface), u.radius)
 }
 
 /// Where two moved lines meet.

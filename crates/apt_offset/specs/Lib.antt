@@ -1,4 +1,4 @@
 pub mod Turns
-pub mod Places
+pub mod Sides
 pub mod Targets
 pub mod Ranges

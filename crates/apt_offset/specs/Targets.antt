@@ -13,7 +13,7 @@ use Rattle.apt_plane.specs.declared.figures.Surface.TheVariants as surfaces
 use Rattle.apt_plane.specs.declared.figures.Band.{Band}
 use Rattle.apt_offset.specs.declared.Target.{Target}
 use Rattle.apt_offset.specs.declared.Target.TheVariants as targets
-use Rattle.apt_offset.specs.Places.{drive_place, stop_place}
+use Rattle.apt_offset.specs.Sides.{side_at_drive, side_at_stop}
 
 abbrev pub signed : Sign → ℤ → ℤ
 signed signs.Plus r = r
@@ -25,9 +25,9 @@ abbrev pub least_radius : ℤ
 least_radius = pos 100
 
 -- a surface moved by the cutter's radius to the cutter's place: a line to its left or right, a circle inwards or outwards
-abbrev pub moved : Surface → Sign → ℤ → Target
-moved (surfaces.Line l) v r = targets.Line l.base l.dir (signed v r)
-moved (surfaces.Circ c) v r = targets.Circ c.c (c.r -ℤ signed v r)
+abbrev pub offset_surface : Surface → Sign → ℤ → Target
+offset_surface (surfaces.Line l) v r = targets.Line l.base l.dir (signed v r)
+offset_surface (surfaces.Circ c) v r = targets.Circ c.c (c.r -ℤ signed v r)
 
 -- a circle that is too small
 abbrev pub lacks_room : Target → Bool
@@ -35,7 +35,7 @@ lacks_room (targets.Line base dir off) = false
 lacks_room (targets.Circ c r) = int_lt r least_radius
 
 abbrev pub target : Surface → Sign → ℤ → Result Target Case
-target surface v r = if lacks_room (moved surface v r) then Err cases.NoRoom else Ok (moved surface v r)
+target surface v r = if lacks_room (offset_surface surface v r) then Err cases.NoRoom else Ok (offset_surface surface v r)
 
 abbrev pub greater : ℤ → ℤ → ℤ
 greater a b = if int_le a b then b else a
@@ -60,15 +60,15 @@ band_at (surfaces.Circ c) v r i o = circle_band c.r v r i o
 
 -- the track: the drive surface moved to the side of the cutter
 abbrev pub drive_target : Surface → Side → ℤ → ℤ → Result Target Case
-drive_target drive side sense r = target drive (drive_place side sense) r
+drive_target drive side sense r = target drive (side_at_drive side sense) r
 
 abbrev pub drive_band : Surface → Side → ℤ → ℤ → ℤ → ℤ → Band
-drive_band drive side sense r i o = band_at drive (drive_place side sense) r i o
+drive_band drive side sense r i o = band_at drive (side_at_drive side sense) r i o
 
 -- the stop target, from the start of the motion
 abbrev pub stop_target : Surface → Stop → Pt → Surface → Side → ℤ → ℤ → Result Target Case
 stop_target check how start drive side sense r =
-    stop_place check how start drive (drive_place side sense) >>= λ v. target check v r
+    side_at_stop check how start drive (side_at_drive side sense) >>= λ v. target check v r
 
 abbrev pub band_or_on : Surface → Result Sign Case → ℤ → ℤ → ℤ → Band
 band_or_on check (Ok v) r i o = band_at check v r i o
@@ -76,4 +76,4 @@ band_or_on check (Err case) r i o = band_at check signs.Zero r i o
 
 -- the band in which the motion ends
 abbrev pub stop_band : Surface → Stop → Pt → Surface → Side → ℤ → ℤ → ℤ → ℤ → Band
-stop_band check how start drive side sense r i o = band_or_on check (stop_place check how start drive (drive_place side sense)) r i o
+stop_band check how start drive side sense r i o = band_or_on check (side_at_stop check how start drive (side_at_drive side sense)) r i o

@@ -11,12 +11,12 @@ use Rattle.apt_plane.specs.declared.figures.Pt.{Pt}
 use Rattle.apt_plane.specs.declared.figures.Dir.{Dir}
 use Rattle.apt_plane.specs.declared.figures.Surface.{Surface}
 use Rattle.apt_plane.specs.declared.figures.Surface.TheVariants as surfaces
-use Rattle.apt_plane.specs.Vectors.{way, cross, dot, perp}
+use Rattle.apt_plane.specs.Vectors.{displacement, cross, dot, perp}
 
 -- the direction of a drive surface at a point: that of a line, or the tangent of a circle, anticlockwise
 abbrev pub tangent : Surface → Pt → Dir
 tangent (surfaces.Line l) p = l.dir
-tangent (surfaces.Circ c) p = perp (way c.c p)
+tangent (surfaces.Circ c) p = perp (displacement c.c p)
 
 abbrev pub opposite : Sign → Sign
 opposite signs.Minus = signs.Plus

@@ -1,7 +1,7 @@
 //! Where the cutter's centre goes: turns, targets and tolerance bands.
 #![tactic(auto)]
 
-mod places;
+mod sides;
 pub mod signs;
 mod targets;
 #[cfg(test)]
@@ -9,8 +9,10 @@ mod tests;
 mod turns;
 
 use apt_plane::{Dir, Pt};
-pub use places::{check_place, drive_place, is_on_check, stop_place};
-pub use targets::{drive_band, drive_target, lacks_room, moved, signed, stop_band, stop_target};
+pub use sides::{is_on_check, side_at_check, side_at_drive, side_at_stop};
+pub use targets::{
+    drive_band, drive_target, lacks_room, offset_surface, signed, stop_band, stop_target,
+};
 pub use turns::{tangent, turn, turn_sense};
 
 /// A surface moved for the cutter's radius: a line `off` grid units to its left, or a circle.

@@ -2,7 +2,7 @@
 
 ghost use Rattle.std.specs.Prelude.{◌≡◌};
 ghost use Rattle.apt_offset.specs.Turns as turning;
-ghost use Rattle.apt_offset.specs.Places as placing;
+ghost use Rattle.apt_offset.specs.Sides as spec;
 
 use apt_num::Sign;
 
@@ -19,7 +19,7 @@ pub fn opposite(sign: Sign) -> Sign
 
 /// The sign of a product.
 pub fn times(first: Sign, second: Sign) -> Sign
-    ensures { result ≡ placing.times first second }
+    ensures { result ≡ spec.times first second }
 {
     match first {
         Sign::Plus => second,

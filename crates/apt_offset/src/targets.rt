@@ -6,7 +6,7 @@ ghost use Rattle.apt_offset.specs.Targets as moving;
 ghost use Rattle.apt_offset.specs.Ranges.{IsRadius, IsTolerance, IsTarget};
 
 use crate::Target;
-use crate::places::{drive_place, stop_place};
+use crate::sides::{side_at_drive, side_at_stop};
 use apt_num::Sign;
 use apt_plane::{Band, Pt, Surface};
 use apt_words::{Case, Side, Stop};
@@ -25,7 +25,7 @@ pub fn drive_target(s: &Surface, side: Side, sense: i8, r: i64) -> Result<Target
     ensures value { result ≡ moving.drive_target s.now side sense r }
     ensures fits { IfOk result IsTarget }
 {
-    target(s, drive_place(side, sense), r)
+    target(s, side_at_drive(side, sense), r)
 }
 
 /// The target at which a motion stops, seen from its start, by the cutter's radius `r` in grid units.
@@ -50,8 +50,8 @@ pub fn stop_target(
     ensures value { result ≡ moving.stop_target check.now how start drive.now side sense r }
     ensures fits { IfOk result IsTarget }
 {
-    let place = stop_place(check, how, start, drive, drive_place(side, sense))?;
-    target(check, place, r)
+    let side = side_at_stop(check, how, start, drive, side_at_drive(side, sense))?;
+    target(check, side, r)
 }
 
 /// The band of the cutter's centre along its track: of distances to the left of a line, or from a
@@ -65,7 +65,7 @@ pub fn drive_band(s: &Surface, side: Side, sense: i8, r: i64, i: i64, o: i64) ->
     ensures value { result ≡ moving.drive_band s.now side sense r i o }
     ensures fits { IsBand result }
 {
-    band_at(s, drive_place(side, sense), r, i, o)
+    band_at(s, side_at_drive(side, sense), r, i, o)
 }
 
 /// The band about the check surface in which the motion ends. A start on the check surface has the
@@ -90,20 +90,20 @@ pub fn stop_band(
     ensures value { result ≡ moving.stop_band check.now how start drive.now side sense r i o }
     ensures fits { IsBand result }
 {
-    match stop_place(check, how, start, drive, drive_place(side, sense)) {
-        Ok(place) => band_at(check, place, r, i, o),
+    match side_at_stop(check, how, start, drive, side_at_drive(side, sense)) {
+        Ok(side) => band_at(check, side, r, i, o),
         Err(_) => band_at(check, Sign::Zero, r, i, o),
     }
 }
 
 /// A surface moved by the cutter's radius `r`, in grid units, to a place of the cutter.
-pub fn moved(s: &Surface, place: Sign, r: i64) -> Target
+pub fn offset_surface(s: &Surface, side: Sign, r: i64) -> Target
     requires surface { IsSurface s.now }
     requires radius { IsRadius r }
-    ensures value { result ≡ moving.moved s.now place r }
+    ensures value { result ≡ moving.offset_surface s.now side r }
     ensures fits { moving.lacks_room result ≡ false → IsTarget result }
 {
-    let off = signed(place, r);
+    let off = signed(side, r);
     match s {
         Surface::Line(line) => Target::Line {
             base: line.base,
@@ -127,13 +127,13 @@ pub fn lacks_room(target: &Target) -> bool
     }
 }
 
-fn target(s: &Surface, place: Sign, r: i64) -> Result<Target, Case>
+fn target(s: &Surface, side: Sign, r: i64) -> Result<Target, Case>
     requires surface { IsSurface s.now }
     requires radius { IsRadius r }
-    ensures value { result ≡ moving.target s.now place r }
+    ensures value { result ≡ moving.target s.now side r }
     ensures fits { IfOk result IsTarget }
 {
-    let target = moved(s, place, r);
+    let target = offset_surface(s, side, r);
     if lacks_room(&target) {
         Err(Case::NoRoom)
     } else {
@@ -142,12 +142,12 @@ fn target(s: &Surface, place: Sign, r: i64) -> Result<Target, Case>
 }
 
 /// A length to the left, to the right or none.
-pub fn signed(place: Sign, r: i64) -> i64
+pub fn signed(side: Sign, r: i64) -> i64
     requires { IsRadius r }
-    ensures value { result ≡ moving.signed place r }
+    ensures value { result ≡ moving.signed side r }
     ensures small { unsigned_abs result ≤ 500000 }
 {
-    match place {
+    match side {
         Sign::Plus => r,
         Sign::Zero => 0,
         Sign::Minus => -r,
@@ -163,28 +163,28 @@ fn greater(a: i64, b: i64) -> i64
     if a <= b { b } else { a }
 }
 
-fn band_at(s: &Surface, place: Sign, r: i64, i: i64, o: i64) -> Band
+fn band_at(s: &Surface, side: Sign, r: i64, i: i64, o: i64) -> Band
     requires surface { IsSurface s.now }
     requires radius { IsRadius r }
     requires inwards { IsTolerance i }
     requires outwards { IsTolerance o }
-    ensures value { result ≡ moving.band_at s.now place r i o }
+    ensures value { result ≡ moving.band_at s.now side r i o }
     ensures fits { IsBand result }
 {
     match s {
-        Surface::Line(_) => line_band(place, r, i, o),
-        Surface::Circ(circle) => circle_band(circle.r, place, r, i, o),
+        Surface::Line(_) => line_band(side, r, i, o),
+        Surface::Circ(circle) => circle_band(circle.r, side, r, i, o),
     }
 }
 
-fn line_band(place: Sign, r: i64, i: i64, o: i64) -> Band
+fn line_band(side: Sign, r: i64, i: i64, o: i64) -> Band
     requires radius { IsRadius r }
     requires inwards { IsTolerance i }
     requires outwards { IsTolerance o }
-    ensures value { result ≡ moving.line_band place r i o }
+    ensures value { result ≡ moving.line_band side r i o }
     ensures fits { IsBand result }
 {
-    match place {
+    match side {
         Sign::Plus => Band {
             lo: r - i,
             hi: r + o,
@@ -203,16 +203,16 @@ fn line_band(place: Sign, r: i64, i: i64, o: i64) -> Band
     }
 }
 
-fn circle_band(circle: i64, place: Sign, r: i64, i: i64, o: i64) -> Band
+fn circle_band(circle: i64, side: Sign, r: i64, i: i64, o: i64) -> Band
     requires least { pos 100 ≤ℤ circle }
     requires most { circle ≤ℤ pos 49000000 }
     requires radius { IsRadius r }
     requires inwards { IsTolerance i }
     requires outwards { IsTolerance o }
-    ensures value { result ≡ moving.circle_band circle place r i o }
+    ensures value { result ≡ moving.circle_band circle side r i o }
     ensures fits { IsBand result }
 {
-    match place {
+    match side {
         Sign::Plus => Band {
             lo: circle - r - o,
             hi: circle - r + i,

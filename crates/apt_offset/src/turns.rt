@@ -6,7 +6,7 @@ ghost use Rattle.apt_offset.specs.Turns as turning;
 
 use crate::signs::opposite;
 use apt_num::{Sign, sign_of};
-use apt_plane::vectors::{cross, dot, perp, way};
+use apt_plane::vectors::{cross, displacement, dot, perp};
 use apt_plane::{Dir, Pt, Surface};
 use apt_words::{Case, Go};
 
@@ -41,7 +41,7 @@ pub fn tangent(drive: &Surface, at: Pt) -> Dir
 {
     match drive {
         Surface::Line(line) => line.dir,
-        Surface::Circ(circle) => perp(way(circle.c, at)),
+        Surface::Circ(circle) => perp(displacement(circle.c, at)),
     }
 }
 

@@ -3,7 +3,7 @@ use Rattle.std.proofs.Common.{◌≡◌, ℕ, Bool, true, false, IsTrue, List, [
 use Rattle.std.specs.Prelude.{IfOk, not}
 use Rattle.std.proofs.lemmas.Result.{IfOk-at_ok}
 use Rattle.apt_words.specs.Built.{is_built, AreBuilt}
-use Rattle.apt_words.specs.Endings.{is_fini}
+use Rattle.apt_words.specs.ProgramEnds.{is_fini}
 use Rattle.apt_words.specs.declared.body.Body.{Body}
 use Rattle.apt_words.specs.declared.body.Stmt.{Stmt}
 use Rattle.apt_words.specs.declared.body.Program.{Program}

@@ -1,3 +1,3 @@
 pub mod Statements
 pub mod Programs
-pub mod Reading
+pub mod ReaderState

@@ -1,7 +1,7 @@
 -- The program of a text, or its first fault.
 use Rattle.std.specs.Prelude.{◌≡◌, ℕ, not, Bool, true, false, List, [], ◌∷◌, ◌++◌, length, Option, Some, None, Result, Ok, Err, max}
 use Rattle.std.specs.List.{list_all, find}
-use Rattle.apt_words.specs.Endings.{is_fini}
+use Rattle.apt_words.specs.ProgramEnds.{is_fini}
 use Rattle.apt_words.specs.declared.body.Body.{Body}
 use Rattle.apt_words.specs.declared.body.Body.TheVariants as bodies
 use Rattle.apt_words.specs.declared.body.Stmt.{Stmt}

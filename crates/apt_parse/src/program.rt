@@ -3,9 +3,9 @@
 ghost use Rattle.std.specs.Prelude.{◌≡◌, ◌≤◌, ◌-◌, None, max, IfOk};
 ghost use Rattle.std.specs.List.{list_all};
 ghost use Rattle.apt_words.specs.Built.{AreBuilt};
-ghost use Rattle.apt_words.specs.Endings.{EndsInFini};
-ghost use Rattle.apt_parse.specs.Reading as reading;
-ghost use Rattle.apt_parse.specs.Reading.{IsRead};
+ghost use Rattle.apt_words.specs.ProgramEnds.{EndsInFini};
+ghost use Rattle.apt_parse.specs.ReaderState as reading;
+ghost use Rattle.apt_parse.specs.ReaderState.{IsRead};
 ghost use Rattle.apt_parse.specs.Statements as statements;
 ghost use Rattle.apt_parse.specs.Programs as programs;
 

@@ -2,7 +2,7 @@
 ghost use Rattle.std.specs.Prelude.{◌≡◌, ℕ, List, [], ◌∷◌, ◌++◌, None, OnOk, false};
 ghost use Rattle.std.specs.List.{list_any};
 ghost use Rattle.apt_parse.specs.Statements as statements;
-ghost use Rattle.apt_parse.specs.Reading.{IsRead};
+ghost use Rattle.apt_parse.specs.ReaderState.{IsRead};
 
 use crate::built::is_built;
 use crate::names::Names;

@@ -15,8 +15,8 @@ use Rattle.apt_lexis.specs.declared.cause.PartCause.TheVariants as causes
 use Rattle.apt_expr.specs.Expressions.{expression}
 use Rattle.apt_shapes.specs.Shapes.{shape}
 use Rattle.apt_parse.specs.Programs.{Fault, program_of}
-use Rattle.apt_unroll.specs.Deeds.{pair, three, four, place, surfaces, executed, deed_of}
-use Rattle.apt_unroll.specs.Straight.{steps_of}
+use Rattle.apt_unroll.specs.Deeds.{pair, three, four, coordinates, surfaces, execution, deed_of}
+use Rattle.apt_unroll.specs.Trace.{trace_of}
 use Rattle.apt_plane.specs.declared.figures.Surface.{Surface}
 use Rattle.apt_plane.specs.declared.figures.Surface.TheVariants as figures
 use Rattle.apt_cldata.specs.declared.record.Note.{Note}
@@ -38,7 +38,7 @@ abbrev largest : Machine
 largest = record { code = Rs358; seq = 1; feedmax = 9999; spinmax = 9999; toolmax = 99 }
 
 abbrev recorded : Result (List Stmt) Fault → Result (Result (List Record) Refusal) Fault
-recorded (Ok statements) = Ok (records_by largest (steps_of statements))
+recorded (Ok statements) = Ok (records_by largest (trace_of statements))
 recorded (Err fault) = Err fault
 
 -- the records of a text
@@ -52,11 +52,11 @@ written rs = Ok (Ok rs)
 abbrev refused : ℕ → Case → Result (Result (List Record) Refusal) Fault
 refused n case = Ok (Err (record { line = n; step = n; case = case }))
 
-abbrev noted : ℕ → Note → List Record
-noted n note = records.Statement n n ∷ records.Note note ∷ []
+abbrev settings_with : ℕ → Note → List Record
+settings_with n note = records.Statement n n ∷ records.Note note ∷ []
 
 abbrev titled : List Record
-titled = noted 1 (notes.Partno (codes "A"))
+titled = settings_with 1 (notes.Partno (codes "A"))
 
 abbrev reached : ℕ → Reach → Position → List Record
 reached n reach to = records.Statement n n ∷ records.Point reach to ∷ []
@@ -74,13 +74,13 @@ cut n drive side sense check how to =
 -- ---- a first part
 
 first_records : records_of (codes "PARTNO FIRST\nFEDRAT/10\nFROM/0,0,0\nGOTO/1,2,3\nFINI\n") ≡
-    written (noted 1 (notes.Partno (codes "FIRST")) ++ noted 2 (notes.Fedrat (pos 100)) ++ reached 3 reaches.From (at 0 0 0) ++ reached 4 reaches.Goto (at 100000 200000 300000) ++ noted 5 notes.Fini)
-unfolding root word_of expression shape pair three four place surfaces executed deed_of motion_at start_up_at
+    written (settings_with 1 (notes.Partno (codes "FIRST")) ++ settings_with 2 (notes.Fedrat (pos 100)) ++ reached 3 reaches.From (at 0 0 0) ++ reached 4 reaches.Goto (at 100000 200000 300000) ++ settings_with 5 notes.Fini)
+unfolding root word_of expression shape pair three four coordinates surfaces execution deed_of motion_at start_up_at
 first_records = refl
 
 first_acts : made_of largest (codes "PARTNO FIRST\nFEDRAT/10\nFROM/0,0,0\nGOTO/1,2,3\nFINI\n") ≡
     Ok (Ok (acts.Units Inch ∷ acts.Cut (pos 100000) (pos 200000) (pos 300000) (pos 100) ∷ acts.End ∷ [], 0))
-unfolding root word_of expression shape pair three four place surfaces executed deed_of motion_at start_up_at
+unfolding root word_of expression shape pair three four coordinates surfaces execution deed_of motion_at start_up_at
 first_acts = refl
 
 -- ---- a square plate
@@ -111,10 +111,10 @@ abbrev edge : ℕ → Surface → Surface → ℤ → ℤ → List Record
 edge n drive check x y = cut n drive sides.Right (pos 1) check stops.Past (position_at x y (pos 50000))
 
 plate_records : records_of plate ≡
-    written (noted 1 (notes.Partno (codes "SQUARE")) ++ noted 2 (notes.Cutter (pos 50000)) ++ noted 7 (notes.Fedrat (pos 100))
+    written (settings_with 1 (notes.Partno (codes "SQUARE")) ++ settings_with 2 (notes.Cutter (pos 50000)) ++ settings_with 7 (notes.Fedrat (pos 100))
     ++ reached 8 reaches.From (position_at (neg_ℤ (pos 100000)) (neg_ℤ (pos 100000)) (pos 50000)) ++ reached 9 reaches.Start (position_at low low (pos 50000))
-    ++ edge 11 bottom right high low ++ edge 12 right top high high ++ edge 13 top left low high ++ edge 14 left bottom low low ++ noted 15 notes.Fini)
-unfolding root word_of expression shape pair three four place surfaces executed deed_of motion_at start_up_at
+    ++ edge 11 bottom right high low ++ edge 12 right top high high ++ edge 13 top left low high ++ edge 14 left bottom low low ++ settings_with 15 notes.Fini)
+unfolding root word_of expression shape pair three four coordinates surfaces execution deed_of motion_at start_up_at
 plate_records = refl
 
 plate_acts : made_of largest plate ≡
@@ -123,41 +123,41 @@ plate_acts : made_of largest plate ≡
           ∷ acts.Cut high low (pos 50000) (pos 100) ∷ acts.Cut high high (pos 50000) (pos 100) ∷ acts.Cut low high (pos 50000) (pos 100) ∷ acts.Cut low low (pos 50000) (pos 100) ∷ acts.End ∷ [],
       4,
     ))
-unfolding root word_of expression shape pair three four place surfaces executed deed_of motion_at start_up_at
+unfolding root word_of expression shape pair three four coordinates surfaces execution deed_of motion_at start_up_at
 plate_acts = refl
 
 -- ---- each statement
 
 -- REMARK, CLPRNT, NOPOST, MACHIN and a scalar write no record
 says_nothing : records_of (codes "PARTNO A\nREMARK B\nCLPRNT\nNOPOST\nMACHIN/1,C\nD=2*3\nFINI\n") ≡
-    written (titled ++ noted 7 notes.Fini)
-unfolding root word_of expression shape pair three four place surfaces executed deed_of motion_at start_up_at
+    written (titled ++ settings_with 7 notes.Fini)
+unfolding root word_of expression shape pair three four coordinates surfaces execution deed_of motion_at start_up_at
 says_nothing = refl
 
 lengths : records_of (codes "PARTNO A\nUNITS/MM\nCUTTER/6\nINTOL/.01\nOUTTOL/.02\nFEDRAT/120\nFINI\n") ≡
-    written (titled ++ noted 2 (notes.Units Mm) ++ noted 3 (notes.Cutter (pos 60000)) ++ noted 4 (notes.Intol (pos 100)) ++ noted 5 (notes.Outtol (pos 200)) ++ noted 6 (notes.Fedrat (pos 1200)) ++ noted 7 notes.Fini)
-unfolding root word_of expression shape pair three four place surfaces executed deed_of motion_at start_up_at
+    written (titled ++ settings_with 2 (notes.Units Mm) ++ settings_with 3 (notes.Cutter (pos 60000)) ++ settings_with 4 (notes.Intol (pos 100)) ++ settings_with 5 (notes.Outtol (pos 200)) ++ settings_with 6 (notes.Fedrat (pos 1200)) ++ settings_with 7 notes.Fini)
+unfolding root word_of expression shape pair three four coordinates surfaces execution deed_of motion_at start_up_at
 lengths = refl
 
 inches : records_of (codes "PARTNO A\nUNITS/INCHES\nFINI\n") ≡
-    written (titled ++ noted 2 (notes.Units Inch) ++ noted 3 notes.Fini)
-unfolding root word_of expression shape pair three four place surfaces executed deed_of motion_at start_up_at
+    written (titled ++ settings_with 2 (notes.Units Inch) ++ settings_with 3 notes.Fini)
+unfolding root word_of expression shape pair three four coordinates surfaces execution deed_of motion_at start_up_at
 inches = refl
 
 moves : records_of (codes "PARTNO A\nFEDRAT/1\nFROM/1,2\nGOTO/3,4,5\nGODLTA/.5,.5,1\nFINI\n") ≡
-    written (titled ++ noted 2 (notes.Fedrat (pos 10)) ++ reached 3 reaches.From (at 100000 200000 0) ++ reached 4 reaches.Goto (at 300000 400000 500000) ++ reached 5 reaches.Godlta (at 350000 450000 600000) ++ noted 6 notes.Fini)
-unfolding root word_of expression shape pair three four place surfaces executed deed_of motion_at start_up_at
+    written (titled ++ settings_with 2 (notes.Fedrat (pos 10)) ++ reached 3 reaches.From (at 100000 200000 0) ++ reached 4 reaches.Goto (at 300000 400000 500000) ++ reached 5 reaches.Godlta (at 350000 450000 600000) ++ settings_with 6 notes.Fini)
+unfolding root word_of expression shape pair three four coordinates surfaces execution deed_of motion_at start_up_at
 moves = refl
 
 commands : records_of (codes "PARTNO A\nSTOP\nOPSTOP\nRAPID\nGOTO/0,0\nEND\nFINI\n") ≡
-    written (titled ++ noted 2 notes.Stop ++ noted 3 notes.OptStop ++ noted 4 notes.Rapid ++ reached 5 reaches.Goto (at 0 0 0) ++ noted 6 notes.End ++ noted 7 notes.Fini)
-unfolding root word_of expression shape pair three four place surfaces executed deed_of motion_at start_up_at
+    written (titled ++ settings_with 2 notes.Stop ++ settings_with 3 notes.OptStop ++ settings_with 4 notes.Rapid ++ reached 5 reaches.Goto (at 0 0 0) ++ settings_with 6 notes.End ++ settings_with 7 notes.Fini)
+unfolding root word_of expression shape pair three four coordinates surfaces execution deed_of motion_at start_up_at
 commands = refl
 
 -- the end is given once
 commands_are_acts : made_of largest (codes "PARTNO A\nSTOP\nOPSTOP\nRAPID\nGOTO/0,0\nEND\nFINI\n") ≡
     Ok (Ok (acts.Units Inch ∷ acts.Stop ∷ acts.OptStop ∷ acts.Rapid (pos 0) (pos 0) (pos 0) ∷ acts.End ∷ [], 0))
-unfolding root word_of expression shape pair three four place surfaces executed deed_of motion_at start_up_at
+unfolding root word_of expression shape pair three four coordinates surfaces execution deed_of motion_at start_up_at
 commands_are_acts = refl
 
 abbrev across : Surface
@@ -168,83 +168,83 @@ up = line (pos 200000) (pos 0) (pos 0) (pos 100000)
 
 -- the lines, the feed, and a move along the first
 abbrev before : Position → List Record
-before to = titled ++ noted 4 (notes.Fedrat (pos 10)) ++ reached 5 reaches.From (position_at (neg_ℤ (pos 100000)) (pos 0) (pos 0)) ++ reached 6 reaches.Goto to
+before to = titled ++ settings_with 4 (notes.Fedrat (pos 10)) ++ reached 5 reaches.From (position_at (neg_ℤ (pos 100000)) (pos 0) (pos 0)) ++ reached 6 reaches.Goto to
 
 forward : records_of (codes "PARTNO A\nL1=LINE/0,0,1,0\nL2=LINE/2,0,2,1\nFEDRAT/1\nFROM/-1,0\nGOTO/0,0\nTLLFT\nGOFWD/L1,TO,L2\nFINI\n") ≡
-    written (before (at 0 0 0) ++ cut 8 across sides.Left (pos 1) up stops.To (at 200000 0 0) ++ noted 9 notes.Fini)
-unfolding root word_of expression shape pair three four place surfaces executed deed_of motion_at start_up_at
+    written (before (at 0 0 0) ++ cut 8 across sides.Left (pos 1) up stops.To (at 200000 0 0) ++ settings_with 9 notes.Fini)
+unfolding root word_of expression shape pair three four coordinates surfaces execution deed_of motion_at start_up_at
 forward = refl
 
 -- a tool word before a contour, and TO where no stop is named
 forward_by_the_stop_alone : records_of (codes "PARTNO A\nL1=LINE/0,0,1,0\nL2=LINE/2,0,2,1\nFEDRAT/1\nFROM/-1,0\nGOTO/0,0\nTLRGT,GOFWD/L1,L2\nFINI\n") ≡
-    written (before (at 0 0 0) ++ cut 7 across sides.Right (pos 1) up stops.To (at 200000 0 0) ++ noted 8 notes.Fini)
-unfolding root word_of expression shape pair three four place surfaces executed deed_of motion_at start_up_at
+    written (before (at 0 0 0) ++ cut 7 across sides.Right (pos 1) up stops.To (at 200000 0 0) ++ settings_with 8 notes.Fini)
+unfolding root word_of expression shape pair three four coordinates surfaces execution deed_of motion_at start_up_at
 forward_by_the_stop_alone = refl
 
 back : records_of (codes "PARTNO A\nL1=LINE/0,0,1,0\nL2=LINE/2,0,2,1\nFEDRAT/1\nFROM/-1,0\nGOTO/3,0\nTLRGT\nGOBACK/L1,TO,L2\nFINI\n") ≡
-    written (before (at 300000 0 0) ++ cut 8 across sides.Right (neg_ℤ (pos 1)) up stops.To (at 200000 0 0) ++ noted 9 notes.Fini)
-unfolding root word_of expression shape pair three four place surfaces executed deed_of motion_at start_up_at
+    written (before (at 300000 0 0) ++ cut 8 across sides.Right (neg_ℤ (pos 1)) up stops.To (at 200000 0 0) ++ settings_with 9 notes.Fini)
+unfolding root word_of expression shape pair three four coordinates surfaces execution deed_of motion_at start_up_at
 back = refl
 
 abbrev onto : List Record
-onto = titled ++ noted 4 (notes.Fedrat (pos 10)) ++ reached 5 reaches.From (position_at (pos 200000) (neg_ℤ (pos 100000)) (pos 0)) ++ reached 6 reaches.Goto (at 200000 0 0)
+onto = titled ++ settings_with 4 (notes.Fedrat (pos 10)) ++ reached 5 reaches.From (position_at (pos 200000) (neg_ℤ (pos 100000)) (pos 0)) ++ reached 6 reaches.Goto (at 200000 0 0)
 
 to_the_left : records_of (codes "PARTNO A\nL1=LINE/0,0,1,0\nL2=LINE/0,0,0,1\nFEDRAT/1\nFROM/2,-1\nGOTO/2,0\nTLLFT\nGOLFT/L1,PAST,L2\nFINI\n") ≡
-    written (onto ++ cut 8 across sides.Left (neg_ℤ (pos 1)) (line (pos 0) (pos 0) (pos 0) (pos 100000)) stops.Past (at 0 0 0) ++ noted 9 notes.Fini)
-unfolding root word_of expression shape pair three four place surfaces executed deed_of motion_at start_up_at
+    written (onto ++ cut 8 across sides.Left (neg_ℤ (pos 1)) (line (pos 0) (pos 0) (pos 0) (pos 100000)) stops.Past (at 0 0 0) ++ settings_with 9 notes.Fini)
+unfolding root word_of expression shape pair three four coordinates surfaces execution deed_of motion_at start_up_at
 to_the_left = refl
 
 to_the_right : records_of (codes "PARTNO A\nL1=LINE/0,0,1,0\nL2=LINE/4,0,4,1\nFEDRAT/1\nFROM/2,-1\nGOTO/2,0\nTLRGT\nGORGT/L1,PAST,L2\nFINI\n") ≡
-    written (onto ++ cut 8 across sides.Right (pos 1) (line (pos 400000) (pos 0) (pos 0) (pos 100000)) stops.Past (at 400000 0 0) ++ noted 9 notes.Fini)
-unfolding root word_of expression shape pair three four place surfaces executed deed_of motion_at start_up_at
+    written (onto ++ cut 8 across sides.Right (pos 1) (line (pos 400000) (pos 0) (pos 0) (pos 100000)) stops.Past (at 400000 0 0) ++ settings_with 9 notes.Fini)
+unfolding root word_of expression shape pair three four coordinates surfaces execution deed_of motion_at start_up_at
 to_the_right = refl
 
 start_up : records_of (codes "PARTNO A\nCUTTER/2\nL1=LINE/0,0,1,0\nL2=LINE/0,0,0,1\nFEDRAT/1\nFROM/5,5,1\nGO/TO,L1,PAST,L2\nFINI\n") ≡
-    written (titled ++ noted 2 (notes.Cutter (pos 200000)) ++ noted 5 (notes.Fedrat (pos 10)) ++ reached 6 reaches.From (at 500000 500000 100000) ++ reached 7 reaches.Start (position_at (neg_ℤ (pos 100000)) (pos 100000) (pos 100000)) ++ noted 8 notes.Fini)
-unfolding root word_of expression shape pair three four place surfaces executed deed_of motion_at start_up_at
+    written (titled ++ settings_with 2 (notes.Cutter (pos 200000)) ++ settings_with 5 (notes.Fedrat (pos 10)) ++ reached 6 reaches.From (at 500000 500000 100000) ++ reached 7 reaches.Start (position_at (neg_ℤ (pos 100000)) (pos 100000) (pos 100000)) ++ settings_with 8 notes.Fini)
+unfolding root word_of expression shape pair three four coordinates surfaces execution deed_of motion_at start_up_at
 start_up = refl
 
 -- ---- refusals and faults
 
 past_the_machine : records_of (codes "PARTNO A\nFEDRAT/1000\nFINI\n") ≡
     refused 2 cases.FeedTooLarge
-unfolding root word_of expression shape pair three four place surfaces executed deed_of motion_at start_up_at
+unfolding root word_of expression shape pair three four coordinates surfaces execution deed_of motion_at start_up_at
 past_the_machine = refl
 
 -- of two refused steps the first
 refused_before_the_machine : records_of (codes "PARTNO A\nGOTO/1,2\nFEDRAT/1000\nFINI\n") ≡
     refused 2 cases.NoFeed
-unfolding root word_of expression shape pair three four place surfaces executed deed_of motion_at start_up_at
+unfolding root word_of expression shape pair three four coordinates surfaces execution deed_of motion_at start_up_at
 refused_before_the_machine = refl
 
 the_machine_first : records_of (codes "PARTNO A\nFEDRAT/1000\nGOTO/1000,2\nFINI\n") ≡
     refused 2 cases.FeedTooLarge
-unfolding root word_of expression shape pair three four place surfaces executed deed_of motion_at start_up_at
+unfolding root word_of expression shape pair three four coordinates surfaces execution deed_of motion_at start_up_at
 the_machine_first = refl
 
 refused_before_unknown : records_of (codes "PARTNO A\nGOTO/1,2\nGOTO/B,2\nFINI\n") ≡
     refused 2 cases.NoFeed
-unfolding root word_of expression shape pair three four place surfaces executed deed_of motion_at start_up_at
+unfolding root word_of expression shape pair three four coordinates surfaces execution deed_of motion_at start_up_at
 refused_before_unknown = refl
 
 machine_before_unknown : records_of (codes "PARTNO A\nFEDRAT/1000\nGOTO/B,2\nFINI\n") ≡
     refused 2 cases.FeedTooLarge
-unfolding root word_of expression shape pair three four place surfaces executed deed_of motion_at start_up_at
+unfolding root word_of expression shape pair three four coordinates surfaces execution deed_of motion_at start_up_at
 machine_before_unknown = refl
 
 -- the steps stop before a value that is refused
 unknown : records_of (codes "PARTNO A\nFEDRAT/1\nGOTO/B,2\nGOTO/1000,2\nFINI\n") ≡
     refused 3 cases.Unknown
-unfolding root word_of expression shape pair three four place surfaces executed deed_of motion_at start_up_at
+unfolding root word_of expression shape pair three four coordinates surfaces execution deed_of motion_at start_up_at
 unknown = refl
 
 no_length : records_of (codes "PARTNO A\nL1=LINE/1,2,1,2\nFINI\n") ≡
     refused 2 cases.Degenerate
-unfolding root word_of expression shape pair three four place surfaces executed deed_of motion_at start_up_at
+unfolding root word_of expression shape pair three four coordinates surfaces execution deed_of motion_at start_up_at
 no_length = refl
 
 -- a fault of the text comes before all steps
 fault_first : records_of (codes "PARTNO A\nGOTO/1,2\nGOTO/1,2,3,4\nFINI\n") ≡
     Err (3, causes.BadShape)
-unfolding root word_of expression shape pair three four place surfaces executed deed_of motion_at start_up_at
+unfolding root word_of expression shape pair three four coordinates surfaces execution deed_of motion_at start_up_at
 fault_first = refl

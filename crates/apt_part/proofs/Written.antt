@@ -27,10 +27,10 @@ use Rattle.apt_meaning.specs.Situations.{has_feed, lacks_feed, settings_behind}
 use Rattle.apt_meaning.specs.Effects.{effect_of}
 use Rattle.apt_meaning.specs.Refusals.{refusal_of, cases_of}
 use Rattle.apt_meaning.specs.Records.{with_statement, said, records_of, after}
-use Rattle.apt_meaning.specs.Compiled.{ends_of, with_front, compiled}
+use Rattle.apt_meaning.specs.Compiled.{ends_of, with_front, compilation}
 use Rattle.apt_meaning.specs.Ranges.{IsSituation}
-use Rattle.apt_scalar.specs.Numbers.{AreScalars}
-use Rattle.apt_meaning.specs.Sayings.{noted, IsNoteOf, IsSaidBy}
+use Rattle.apt_scalar.specs.StepScalars.{AreScalars}
+use Rattle.apt_meaning.specs.Sayings.{settings_with, IsNoteOf, IsSaidBy}
 use Rattle.apt_meaning.proofs.Refused.{first_none}
 use Rattle.apt_meaning.proofs.Said.{said_by}
 use Rattle.apt_meaning.proofs.Fed.{IsFed, fed}
@@ -44,7 +44,7 @@ use Rattle.apt_control.specs.declared.Act.TheVariants as acts
 use Rattle.apt_post.specs.declared.planning.Pending.{Pending}
 use Rattle.apt_post.specs.Limits.{is_past, machine_cases, refused_by, limits}
 use Rattle.apt_post.specs.Plan.{cut_to, move_to}
-use Rattle.apt_post.specs.Post.{IsUpTo, CanWrite}
+use Rattle.apt_post.specs.Blocks.{IsUpTo, CanWrite}
 use Rattle.apt_post.specs.Writing.{CanWriteAll, AreWritten, pending_behind}
 use Rattle.apt_post.proofs.Programs.{written-append}
 
@@ -113,7 +113,7 @@ with_feed p s f agrees most = record { can = (tt, tt); agrees = record { feed = 
 
 -- a note that is said by its statement, which the machine takes
 note_written : (machine : Machine) (p : Pending) (s : Settings) (deed : Deed) (note : Note) → IsMachine machine → Agrees p s → HasRoom s
-    → first_of (machine_cases machine deed) ≡ None → IsNoteOf s.units deed note → Leaves p (records.Note note ∷ []) (noted s note)
+    → first_of (machine_cases machine deed) ≡ None → IsNoteOf s.units deed note → Leaves p (records.Note note ∷ []) (settings_with s note)
 note_written machine p s deed (notes.Partno text) is agrees room takes says = record { can = (tt, tt); agrees = agrees; room = room }
 note_written machine p s deed (notes.Units units) is agrees room takes says = record { can = (tt, tt); agrees = record { feed = agrees.feed; rapid = agrees.rapid }; room = record { most = room.most } }
 note_written machine p s deed (notes.Cutter d) is agrees room takes says = record { can = (tt, tt); agrees = record { feed = agrees.feed; rapid = agrees.rapid }; room = record { most = room.most } }
@@ -169,15 +169,15 @@ taken st None more none = (refl, none)
 taken st (Some case) more none = absurd cc
 
 pub compiled_written : (machine : Machine) (p : Pending) (at : Situation) (steps : List Step) (written : List Record) → IsMachine machine → Agrees p at.settings → HasRoom at.settings
-    → IsSituation at → AreScalars steps → limits machine steps ≡ None → compiled at steps ≡ Ok written → AreWritten p written
+    → IsSituation at → AreScalars steps → limits machine steps ≡ None → compilation at steps ≡ Ok written → AreWritten p written
 compiled_written machine p at [] written is agrees room good numbers within h = rw (nothing_left written h) tt
 compiled_written machine p at (step ∷ steps) written is agrees room good numbers within h =
     let d = done step (refusal_of at step.deed) (effect_of at step.deed)
-    (λ e. with_front (records_of step e (ends_of e)) (compiled (after at e (ends_of e)) steps)) written h in
+    (λ e. with_front (records_of step e (ends_of e)) (compilation (after at e (ends_of e)) steps)) written h in
     let e = d.e in
     let takes = taken step (first_of (machine_cases machine step.deed)) (limits machine steps) within in
     let ok = fit (effect_of at step.deed) e d.asked (answered at step.deed good numbers.0 d.fine) in
-    let f = front_ok (records_of step e (ends_of e)) (compiled (after at e (ends_of e)) steps) written d.rest in
+    let f = front_ok (records_of step e (ends_of e)) (compilation (after at e (ends_of e)) steps) written d.rest in
     let leaves = statement_written p step (said e (ends_of e)) (after at e (ends_of e)).settings
     (said_written machine p at step.deed e (ends_of e) is agrees room takes.0 (said_by at step.deed e d.asked) (fed at step.deed e d.asked (first_none (cases_of at step.deed) d.fine))
     (without_statement step (said e (ends_of e)) (records_in step e (ends_of e) ok.good ok.ends))) in

@@ -3,10 +3,10 @@ use Rattle.std.specs.Prelude.{◌≡◌, ℕ, nat_lt, List, Option, Some, None, 
 use Rattle.apt_words.specs.declared.Refusal.{Refusal}
 use Rattle.apt_words.specs.declared.body.Stmt.{Stmt}
 use Rattle.apt_parse.specs.Programs.{Fault, program_of}
-use Rattle.apt_unroll.specs.Straight.{Steps, steps_of}
+use Rattle.apt_unroll.specs.Trace.{Trace, trace_of}
 use Rattle.apt_cldata.specs.declared.record.Record.{Record}
 use Rattle.apt_meaning.specs.Situations.{first_situation}
-use Rattle.apt_meaning.specs.Compiled.{compiled}
+use Rattle.apt_meaning.specs.Compiled.{compilation}
 use Rattle.apt_motion.specs.declared.runs.RunError.{RunError}
 use Rattle.apt_motion.specs.declared.runs.RunError.TheVariants as run_errors
 use Rattle.apt_machine.specs.declared.Machine.{Machine}
@@ -37,8 +37,8 @@ unless_fault None (Ok records) = Ok records
 unless_fault (Some fault) (Ok records) = Err fault
 
 -- the records of steps, or the first refused step
-abbrev pub records_by : Machine → Steps → Result (List Record) Refusal
-records_by m unrolled = unless_fault unrolled.fault (earlier (limits m unrolled.steps) (compiled first_situation unrolled.steps))
+abbrev pub records_by : Machine → Trace → Result (List Record) Refusal
+records_by m unrolled = unless_fault unrolled.fault (earlier (limits m unrolled.steps) (compilation first_situation unrolled.steps))
 
 -- ---- acts
 
@@ -52,7 +52,7 @@ planned (Err refusal) = Err refusal
 
 -- what statements make, or the first refused step
 abbrev pub statements_make : Machine → List Stmt → Result Made Refusal
-statements_make m statements = planned (records_by m (steps_of statements))
+statements_make m statements = planned (records_by m (trace_of statements))
 
 abbrev pub made_by : Machine → Result (List Stmt) Fault → Result (Result Made Refusal) Fault
 made_by m (Ok statements) = Ok (statements_make m statements)

@@ -3,15 +3,15 @@ use Rattle.std.specs.Prelude.{◌≡◌, ℕ, List, None, Ok}
 use Rattle.apt_words.specs.declared.body.Stmt.{Stmt}
 use Rattle.apt_words.specs.declared.deed.Step.{Step}
 use Rattle.apt_parse.specs.Programs.{program_of}
-use Rattle.apt_unroll.specs.Straight.{steps_of}
+use Rattle.apt_unroll.specs.Trace.{trace_of}
 use Rattle.apt_cldata.specs.declared.record.Record.{Record}
 use Rattle.apt_meaning.specs.declared.situation.Situation.{Situation}
 use Rattle.apt_meaning.specs.Situations.{first_situation}
 use Rattle.apt_meaning.specs.Records.{FollowsLegally, stand_of}
 use Rattle.apt_machine.specs.declared.Machine.{Machine}
 use Rattle.apt_post.specs.Limits.{limits}
-use Rattle.apt_post.specs.Plan.{plan, segments, places, points}
-use Rattle.apt_post.specs.Post.{IsProgram}
+use Rattle.apt_post.specs.Plan.{plan, segments, positions, points}
+use Rattle.apt_post.specs.Blocks.{IsProgram}
 use Rattle.apt_part.specs.Parts.{Made}
 
 -- the acts are the plan of records that follow the steps of the text's statements, every contour legal and no step past the machine's
@@ -20,13 +20,13 @@ pub record Promise (machine : Machine) (text : List ℕ) (m : Made) : Type 0 whe
   pub statements : List Stmt
   pub read : program_of text ≡ Ok statements
   pub steps : List Step
-  pub unrolled : steps_of statements ≡ record { steps = steps; fault = None }
+  pub unrolled : trace_of statements ≡ record { steps = steps; fault = None }
   pub within : limits machine steps ≡ None
   pub written : List Record
   pub behind : Situation
   pub follow : FollowsLegally first_situation steps written behind
   pub planned : m.0 ≡ plan written
   pub counted : m.1 ≡ segments written
-  pub reached : places m.0 ≡ points written
+  pub reached : positions m.0 ≡ points written
   pub stands : stand_of None written ≡ behind.position
   pub program : IsProgram m.0

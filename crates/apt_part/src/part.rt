@@ -2,14 +2,14 @@
 
 ghost use Rattle.std.specs.Prelude.{◌≡◌, IfOk};
 ghost use Rattle.apt_words.specs.Built.{AreBuilt, AreBuiltSteps};
-ghost use Rattle.apt_scalar.specs.Numbers.{AreScalars};
-ghost use Rattle.apt_unroll.specs.Straight.{steps_of};
+ghost use Rattle.apt_scalar.specs.StepScalars.{AreScalars};
+ghost use Rattle.apt_unroll.specs.Trace.{trace_of};
 ghost use Rattle.apt_meaning.specs.Situations.{first_situation};
-ghost use Rattle.apt_meaning.specs.Compiled.{compiled};
+ghost use Rattle.apt_meaning.specs.Compiled.{compilation};
 ghost use Rattle.apt_motion.specs.Ends.{Ends};
 ghost use Rattle.apt_machine.specs.Machines.{IsMachine};
 ghost use Rattle.apt_post.specs.Limits as limiting;
-ghost use Rattle.apt_post.specs.Post.{IsProgram};
+ghost use Rattle.apt_post.specs.Blocks.{IsProgram};
 ghost use Rattle.apt_part.specs.Parts as parts;
 ghost use Rattle.apt_part.specs.Promise.{Promise};
 
@@ -76,7 +76,7 @@ fn planned(alloc: Global, program: &Program, machine: &Machine) -> Result<Planne
 /// The records of statements, or the first refused step.
 fn records_of(alloc: Global, program: &Program, machine: &Machine) -> Result<Vec<Record>, RunError>
     requires { AreBuilt program.now }
-    ensures { Ends (parts.records_by machine.now (steps_of program.now)) result }
+    ensures { Ends (parts.records_by machine.now (trace_of program.now)) result }
 {
     let Ok(unrolled) = unroll(alloc, program) else {
         return Err(RunError::NoMemory);
@@ -92,7 +92,7 @@ fn records_of(alloc: Global, program: &Program, machine: &Machine) -> Result<Vec
 fn recorded(alloc: Global, steps: &[Step], machine: &Machine) -> Result<Vec<Record>, RunError>
     requires scalars { AreScalars steps.now }
     requires built { AreBuiltSteps steps.now }
-    ensures { Ends (parts.earlier (limiting.limits machine.now steps.now) (compiled first_situation steps.now)) result }
+    ensures { Ends (parts.earlier (limiting.limits machine.now steps.now) (compilation first_situation steps.now)) result }
 {
     let past = limits(steps, machine);
     match run(alloc, steps) {

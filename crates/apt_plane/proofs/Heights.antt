@@ -7,14 +7,14 @@ use Rattle.apt_num.proofs.Squares.{size_mul, size_minus}
 use Rattle.apt_plane.specs.declared.figures.Pt.{Pt}
 use Rattle.apt_plane.specs.declared.figures.Dir.{Dir}
 use Rattle.apt_plane.specs.declared.figures.Line.{Line}
-use Rattle.apt_plane.specs.Vectors.{way, cross, norm, scaled, between, height}
+use Rattle.apt_plane.specs.Vectors.{displacement, cross, length_squared, scaled, between, height}
 use Rattle.apt_plane.specs.Ranges.{IsPoint, IsDir}
 
 pub one-times : (z : ℤ) → pos 1 *ℤ z ≡ z
 one-times z = omega (arith, ints)
 
 -- the height of a point is that of the way to it
-pub height_of_point : (l : Line) (p : Pt) → height l (scaled p) ≡ cross l.dir (way l.base p)
+pub height_of_point : (l : Line) (p : Pt) → height l (scaled p) ≡ cross l.dir (displacement l.base p)
 height_of_point l p = rw (one-times l.base.x, one-times l.base.y) refl
 
 difference_small : (a b c d : ℤ) → unsigned_abs a ≤ 10 ^ 8 → unsigned_abs b ≤ 10 ^ 8 → unsigned_abs c ≤ 10 ^ 8 → unsigned_abs d ≤ 10 ^ 8
@@ -27,12 +27,12 @@ difference_small a b c d p q r s =
 pub cross_small : (u v : Dir) → IsDir u → IsDir v → unsigned_abs (cross u v) ≤ 2 * 10 ^ 16
 cross_small u v p q = difference_small u.dx v.dy u.dy v.dx p.dx q.dy p.dy q.dx
 
-pub way_height_small : (base : Pt) (dir : Dir) (p : Pt) → IsPoint base → IsDir dir → IsPoint p → unsigned_abs (cross dir (way base p)) ≤ 2 * 10 ^ 16
-way_height_small base dir p at is point =
+pub displacement_height_small : (base : Pt) (dir : Dir) (p : Pt) → IsPoint base → IsDir dir → IsPoint p → unsigned_abs (cross dir (displacement base p)) ≤ 2 * 10 ^ 16
+displacement_height_small base dir p at is point =
     difference_small dir.dx (p.y -ℤ base.y) dir.dy (p.x -ℤ base.x) is.dx (omega (arith, ints)) is.dy (omega (arith, ints))
 
-pub norm_small : (d : Dir) → IsDir d → norm d ≤ 2 * 10 ^ 16
-norm_small d is = omega (arith, mul-le _ _ (10 ^ 8) (10 ^ 8) is.dx is.dx, mul-le _ _ (10 ^ 8) (10 ^ 8) is.dy is.dy)
+pub length_squared_small : (d : Dir) → IsDir d → length_squared d ≤ 2 * 10 ^ 16
+length_squared_small d is = omega (arith, mul-le _ _ (10 ^ 8) (10 ^ 8) is.dx is.dx, mul-le _ _ (10 ^ 8) (10 ^ 8) is.dy is.dy)
 
 -- the form of a line at a point between, times j + k: the part for P and the part for Q
 form_between : (dx dy bx by px py qx qy : ℤ) (j k : ℕ) →

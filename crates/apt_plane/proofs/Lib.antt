@@ -1,4 +1,4 @@
 pub mod Heights
 pub mod SegmentLaws
-pub mod Ways
+pub mod Displacements
 pub mod Moved

@@ -8,7 +8,7 @@ use Rattle.apt_plane.specs.declared.figures.Pt.{Pt}
 use Rattle.apt_plane.specs.declared.figures.Line.{Line}
 use Rattle.apt_plane.specs.declared.figures.Surface.TheVariants as surfaces
 use Rattle.apt_plane.specs.declared.figures.Band.{Band}
-use Rattle.apt_plane.specs.Vectors.{scaled, between, height, norm}
+use Rattle.apt_plane.specs.Vectors.{scaled, between, height, length_squared}
 use Rattle.apt_plane.specs.Distances.{IsAbove, IsBelow, InBand, EveryPoint}
 use Rattle.apt_plane.proofs.Heights.{one-times, height_between}
 
@@ -32,12 +32,12 @@ neg_parts a b j k = rw (as_diff a, as_diff b, diff-pos k, diff-pos j) (simp diff
 pub above-between : (l : Line) (lo : ℤ) (p q : Pt) (j k : ℕ) → IsAbove l lo (scaled p) → IsAbove l lo (scaled q) → IsAbove l lo (between p q j k)
 above-between l lo p q j k a b =
     rw (height_between l p q j k)
-    (between_root (height l (scaled p)) (height l (scaled q)) lo (norm l.dir) j k (rw (one-times lo) at a) (rw (one-times lo) at b))
+    (between_root (height l (scaled p)) (height l (scaled q)) lo (length_squared l.dir) j k (rw (one-times lo) at a) (rw (one-times lo) at b))
 
 pub below-between : (l : Line) (hi : ℤ) (p q : Pt) (j k : ℕ) → IsBelow l hi (scaled p) → IsBelow l hi (scaled q) → IsBelow l hi (between p q j k)
 below-between l hi p q j k a b =
     rw (height_between l p q j k, neg_parts (height l (scaled p)) (height l (scaled q)) j k, ← *ℤ-neg (pos (j + k)) hi)
-    (between_root (neg_ℤ (height l (scaled p))) (neg_ℤ (height l (scaled q))) (neg_ℤ hi) (norm l.dir) j k (rw (one-times hi) at a) (rw (one-times hi) at b))
+    (between_root (neg_ℤ (height l (scaled p))) (neg_ℤ (height l (scaled q))) (neg_ℤ hi) (length_squared l.dir) j k (rw (one-times hi) at a) (rw (one-times hi) at b))
 
 -- both ends in the band: so is every point between
 pub in_band-between : (l : Line) (band : Band) (p q : Pt) → InBand (surfaces.Line l) band (scaled p) → InBand (surfaces.Line l) band (scaled q) → EveryPoint p q (InBand (surfaces.Line l) band)
@@ -58,7 +58,7 @@ pub ends_decide : (l : Line) (band : Band) (p q : Pt) → EveryPoint p q (InBand
 ends_decide l band p q = (λ all. (start_in_band l band p q all, end_in_band l band p q all), λ ends. in_band-between l band p q ends.0 ends.1)
 
 -- of one point, as its height and the length of the direction tell
-pub point_in_band : (l : Line) (band : Band) (p : Pt) (k : ℤ) (n : ℕ) → k ≡ height l (scaled p) → n ≡ norm l.dir
+pub point_in_band : (l : Line) (band : Band) (p : Pt) (k : ℤ) (n : ℕ) → k ≡ height l (scaled p) → n ≡ length_squared l.dir
     → (AtLeast k band.lo n × AtLeast (neg_ℤ k) (neg_ℤ band.hi) n) ↔ InBand (surfaces.Line l) band (scaled p)
 point_in_band l band p k n e f =
     rw (e, f) (

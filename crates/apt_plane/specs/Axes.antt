@@ -5,7 +5,7 @@ use Rattle.apt_num.specs.declared.Sign.TheVariants as signs
 use Rattle.apt_num.specs.Sign.{OnLine}
 use Rattle.apt_plane.specs.declared.figures.Pt.{Pt}
 use Rattle.apt_plane.specs.declared.figures.Dir.{Dir}
-use Rattle.apt_plane.specs.Vectors.{way, cross, dot, norm}
+use Rattle.apt_plane.specs.Vectors.{displacement, cross, dot, length_squared}
 
 -- a point, a direction, and the half on which the motion ends, Zero where it has none
 pub record Axis : Type 0 where
@@ -20,4 +20,4 @@ IsOnHalf signs.Zero d = Unit {0}
 
 -- on the axis within 8 units, and on its half
 abbrev pub IsOnAxis : Axis → Pt → Type 0
-IsOnAxis axis q = OnLine (cross axis.along (way axis.at q)) (pos 0) (norm axis.along) (pos 8) × IsOnHalf axis.half (dot axis.along (way axis.at q))
+IsOnAxis axis q = OnLine (cross axis.along (displacement axis.at q)) (pos 0) (length_squared axis.along) (pos 8) × IsOnHalf axis.half (dot axis.along (displacement axis.at q))

@@ -6,14 +6,14 @@ use Rattle.apt_plane.specs.declared.figures.Line.{Line}
 use Rattle.apt_plane.specs.declared.figures.Surface.{Surface}
 use Rattle.apt_plane.specs.declared.figures.Surface.TheVariants as surfaces
 use Rattle.apt_plane.specs.declared.figures.Band.{Band}
-use Rattle.apt_plane.specs.Vectors.{Scaled, between, way_to, height, norm}
+use Rattle.apt_plane.specs.Vectors.{Scaled, between, displacement_to, height, length_squared}
 
 -- the signed distance of a point from a line is at least a length, and at most one
 abbrev pub IsAbove : Line → ℤ → Scaled → Type 0
-IsAbove l lo s = AtLeast (height l s) (pos s.m *ℤ lo) (norm l.dir)
+IsAbove l lo s = AtLeast (height l s) (pos s.m *ℤ lo) (length_squared l.dir)
 
 abbrev pub IsBelow : Line → ℤ → Scaled → Type 0
-IsBelow l hi s = AtLeast (neg_ℤ (height l s)) (neg_ℤ (pos s.m *ℤ hi)) (norm l.dir)
+IsBelow l hi s = AtLeast (neg_ℤ (height l s)) (neg_ℤ (pos s.m *ℤ hi)) (length_squared l.dir)
 
 -- a length is at most the root of n
 abbrev pub IsLengthAtMost : ℤ → ℕ → Type 0
@@ -26,11 +26,11 @@ IsRootAtMost n length = MatchBool (int_lt length (pos 0)) ⊥ (n ≤ unsigned_ab
 -- the distance of a point from a surface, signed and to the left for a line, from the centre for a circle: at least a length, at most one
 abbrev pub IsOver : Surface → ℤ → Scaled → Type 0
 IsOver (surfaces.Line l) lo s = IsAbove l lo s
-IsOver (surfaces.Circ c) lo s = IsLengthAtMost (pos s.m *ℤ lo) (norm (way_to c.c s))
+IsOver (surfaces.Circ c) lo s = IsLengthAtMost (pos s.m *ℤ lo) (length_squared (displacement_to c.c s))
 
 abbrev pub IsUnder : Surface → ℤ → Scaled → Type 0
 IsUnder (surfaces.Line l) hi s = IsBelow l hi s
-IsUnder (surfaces.Circ c) hi s = IsRootAtMost (norm (way_to c.c s)) (pos s.m *ℤ hi)
+IsUnder (surfaces.Circ c) hi s = IsRootAtMost (length_squared (displacement_to c.c s)) (pos s.m *ℤ hi)
 
 -- a point is in the band of a surface
 pub record InBand (surface : Surface) (band : Band) (s : Scaled) : Type 0 where

@@ -7,7 +7,7 @@ use Rattle.apt_plane.specs.declared.figures.Circ.{Circ}
 use Rattle.apt_plane.specs.declared.figures.Surface.{Surface}
 use Rattle.apt_plane.specs.declared.figures.Surface.TheVariants as surfaces
 use Rattle.apt_plane.specs.declared.figures.Band.{Band}
-use Rattle.apt_plane.specs.Vectors.{norm}
+use Rattle.apt_plane.specs.Vectors.{length_squared}
 
 -- a point within the coordinate limit
 pub record IsPoint (p : Pt) : Type 0 where
@@ -18,7 +18,7 @@ pub record IsPoint (p : Pt) : Type 0 where
 pub record IsDir (d : Dir) : Type 0 where
   pub dx : unsigned_abs d.dx ≤ 10 ^ 8
   pub dy : unsigned_abs d.dy ≤ 10 ^ 8
-  pub length : 1 ≤ norm d
+  pub length : 1 ≤ length_squared d
 
 -- a way whose products fit
 pub record IsVector (d : Dir) : Type 0 where

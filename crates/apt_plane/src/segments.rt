@@ -8,7 +8,7 @@ ghost use Rattle.apt_plane.specs.Vectors.{scaled};
 ghost use Rattle.apt_num.specs.Sign.{AtLeast};
 
 use crate::figures::{Band, Line, Pt, Spot, Surface};
-use crate::vectors::{height, norm_of};
+use crate::vectors::{height, length_squared_of};
 use apt_num::{Sign, root_sign};
 
 /// Whether every point of the segment PQ has its signed distance to the left of the line in the band.
@@ -42,7 +42,7 @@ fn is_in_band(line: &Line, band: Band, p: Pt) -> bool
     ensures { IsTrue result ↔ InBand (Surface.Line line.now) band (scaled p) }
 {
     let height = height(line.base, line.dir, p);
-    let square = norm_of(line.dir);
+    let square = length_squared_of(line.dir);
     is_at_least(height, band.lo, square) && is_at_most(height, band.hi, square)
 }
 

@@ -3,7 +3,7 @@
 ghost use Rattle.std.specs.Prelude.{IsTrue};
 ghost use Rattle.apt_plane.specs.Ranges.{IsPoint, IsLine, IsBand};
 
-use crate::vectors::{cross, dot, norm, perp, way};
+use crate::vectors::{cross, displacement, dot, length_squared, perp};
 use crate::{Band, Dir, Line, Pt, Spot, segment_in_line_band};
 
 /// Along the x axis, so that a point's distance is its y.
@@ -50,7 +50,7 @@ fn is_line(line: &Line) -> bool
     is_point(line.base)
         && line.dir.dx.unsigned_abs() <= 100_000_000
         && line.dir.dy.unsigned_abs() <= 100_000_000
-        && norm(line.dir) >= 1
+        && length_squared(line.dir) >= 1
 }
 
 fn is_band(band: Band) -> bool
@@ -114,13 +114,13 @@ fn segments_in_bands(rt: HostRuntime) {
 
 #[test]
 fn products(rt: HostRuntime) {
-    let u = way(Pt { x: 1, y: 2 }, Pt { x: 4, y: -2 });
+    let u = displacement(Pt { x: 1, y: 2 }, Pt { x: 4, y: -2 });
     assert_eq!(rt; u, Dir { dx: 3, dy: -4 });
     let v = Dir { dx: 5, dy: 12 };
     assert_eq!(rt; cross(u, v), 56);
     assert_eq!(rt; cross(v, u), -56);
     assert_eq!(rt; dot(u, v), -33);
-    assert_eq!(rt; norm(u), 25);
-    assert_eq!(rt; norm(v), 169);
+    assert_eq!(rt; length_squared(u), 25);
+    assert_eq!(rt; length_squared(v), 169);
     assert_eq!(rt; perp(u), Dir { dx: 4, dy: 3 });
 }

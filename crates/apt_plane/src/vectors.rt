@@ -2,15 +2,15 @@
 
 ghost use Rattle.std.specs.Prelude.{◌≡◌, ◌≤◌, ◌^◌, ◌*◌, ◌*ℤ◌, unsigned_abs};
 ghost use Rattle.apt_plane.specs.Ranges.{IsPoint, IsDir, IsVector};
-ghost use Rattle.apt_plane.specs.Vectors as ways;
+ghost use Rattle.apt_plane.specs.Vectors as spec;
 
 use crate::figures::{Dir, Pt};
 
 /// The way from one point to another, in grid units.
-pub fn way(p: Pt, q: Pt) -> Dir
+pub fn displacement(p: Pt, q: Pt) -> Dir
     requires start { IsPoint p }
     requires end { IsPoint q }
-    ensures value { result ≡ ways.way p q }
+    ensures value { result ≡ spec.displacement p q }
     ensures fits { IsVector result }
 {
     Dir {
@@ -23,7 +23,7 @@ pub fn way(p: Pt, q: Pt) -> Dir
 pub fn cross(u: Dir, v: Dir) -> i128
     requires first { IsVector u }
     requires second { IsVector v }
-    ensures value { result ≡ ways.cross u v }
+    ensures value { result ≡ spec.cross u v }
     ensures small { unsigned_abs result ≤ 2 ^ 125 }
 {
     times(u.dx, v.dy) - times(u.dy, v.dx)
@@ -33,27 +33,27 @@ pub fn cross(u: Dir, v: Dir) -> i128
 pub fn dot(u: Dir, v: Dir) -> i128
     requires first { IsVector u }
     requires second { IsVector v }
-    ensures value { result ≡ ways.dot u v }
+    ensures value { result ≡ spec.dot u v }
     ensures small { unsigned_abs result ≤ 2 ^ 125 }
 {
     times(u.dx, v.dx) + times(u.dy, v.dy)
 }
 
 /// The square of the length.
-pub fn norm(u: Dir) -> u128
-    ensures { result ≡ ways.norm u }
+pub fn length_squared(u: Dir) -> u128
+    ensures { result ≡ spec.length_squared u }
 {
     square(u.dx) + square(u.dy)
 }
 
 /// The square of the length of a direction.
-#[tactic(auto, using(crate::proofs::Heights::norm_small))]
-pub fn norm_of(dir: Dir) -> u128
+#[tactic(auto, using(crate::proofs::Heights::length_squared_small))]
+pub fn length_squared_of(dir: Dir) -> u128
     requires { IsDir dir }
-    ensures value { result ≡ ways.norm dir }
+    ensures value { result ≡ spec.length_squared dir }
     ensures small { result ≤ 2 * 10 ^ 16 }
 {
-    norm(dir)
+    length_squared(dir)
 }
 
 /// The cross product of two directions.
@@ -61,28 +61,28 @@ pub fn norm_of(dir: Dir) -> u128
 pub fn cross_of(first: Dir, second: Dir) -> i128
     requires first { IsDir first }
     requires second { IsDir second }
-    ensures value { result ≡ ways.cross first second }
+    ensures value { result ≡ spec.cross first second }
     ensures small { unsigned_abs result ≤ 2 * 10 ^ 16 }
 {
     cross(first, second)
 }
 
 /// The signed distance to the left of the line through the base, times the length of its direction.
-#[tactic(auto, using(crate::proofs::Heights::way_height_small))]
+#[tactic(auto, using(crate::proofs::Heights::displacement_height_small))]
 pub fn height(base: Pt, dir: Dir, p: Pt) -> i128
     requires base { IsPoint base }
     requires dir { IsDir dir }
     requires point { IsPoint p }
-    ensures value { result ≡ ways.cross dir (ways.way base p) }
+    ensures value { result ≡ spec.cross dir (spec.displacement base p) }
     ensures small { unsigned_abs result ≤ 2 * 10 ^ 16 }
 {
-    cross(dir, way(base, p))
+    cross(dir, displacement(base, p))
 }
 
 /// The way turned by a quarter to the left.
 pub fn perp(u: Dir) -> Dir
     requires { IsVector u }
-    ensures value { result ≡ ways.perp u }
+    ensures value { result ≡ spec.perp u }
     ensures fits { IsVector result }
 {
     Dir {

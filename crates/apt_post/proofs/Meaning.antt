@@ -9,7 +9,7 @@ use Rattle.apt_block.specs.declared.block.TapeWord.{TapeWord}
 use Rattle.apt_control.specs.declared.Act.{Act}
 use Rattle.apt_control.specs.declared.Act.TheVariants as acts
 use Rattle.apt_control.specs.Control.{Held, meaning, held_with, is_end}
-use Rattle.apt_post.specs.Post.{act_words, act_block, CanWrite}
+use Rattle.apt_post.specs.Blocks.{act_words, act_block, CanWrite}
 use Rattle.apt_post.proofs.Numbers.{number_words, number_of, numbered-words}
 
 abbrev pub with_units : Held → Units → Held

@@ -3,7 +3,7 @@ use Rattle.std.specs.Prelude.{◌≡◌, ℕ, ◌+◌, ◌*◌, ◌%◌, ◌≤�
 use Rattle.std.proofs.Common.{refl, arith}
 use Rattle.apt_block.specs.declared.block.TapeWord.{TapeWord}
 use Rattle.apt_block.specs.Block.{tape_word, letter_n}
-use Rattle.apt_post.specs.Post.{numbered}
+use Rattle.apt_post.specs.Blocks.{numbered}
 
 abbrev pub number_words : Option ℕ → List TapeWord
 number_words None = []

@@ -10,7 +10,7 @@ use Rattle.apt_control.specs.declared.Act.{Act}
 use Rattle.apt_control.specs.declared.Act.TheVariants as acts
 use Rattle.apt_post.specs.declared.planning.Pending.{Pending}
 use Rattle.apt_post.specs.Plan.{nothing_pending, cut_to, record_pending, acts_from, plan}
-use Rattle.apt_post.specs.Post.{ToTheEnd, IsProgram}
+use Rattle.apt_post.specs.Blocks.{ToTheEnd, IsProgram}
 use Rattle.apt_post.specs.Writing.{CanWriteAll, AreWritten, pending_behind}
 
 abbrev going_on : ℤ → Bool → Pending

@@ -17,7 +17,7 @@ use Rattle.apt_control.specs.Control.{Held, nothing_held, fault, texts, run, con
 use Rattle.apt_tapecode.specs.Tapecode.{is_tape_character}
 use Rattle.apt_control.proofs.Punched.{is_within, texts-text}
 use Rattle.apt_control.proofs.Steps.{run-block, run-end, control_run-punched}
-use Rattle.apt_post.specs.Post.{act_block, acts_text, tape_bytes, CanWrite, ToTheEnd, IsProgram}
+use Rattle.apt_post.specs.Blocks.{act_block, acts_text, tape_bytes, CanWrite, ToTheEnd, IsProgram}
 use Rattle.apt_post.proofs.Standing.{act_block-IsBlock}
 use Rattle.apt_post.proofs.Meaning.{with_units, Means, IsNoEnd, act_block-means, units_block-means, end_block-ends}
 

@@ -8,7 +8,7 @@ use Rattle.apt_block.specs.declared.block.TapeWord.{TapeWord}
 use Rattle.apt_block.specs.Block.{Form, form, forms, Fits, CanStand, IsBlock, code_fault, letter_n, letter_g, letter_x, letter_y, letter_z, letter_f, letter_s, letter_t, letter_m}
 use Rattle.apt_control.specs.declared.Act.{Act}
 use Rattle.apt_control.specs.declared.Act.TheVariants as acts
-use Rattle.apt_post.specs.Post.{g, act_words, act_block, CanWrite, IsCoordinate, IsUpTo}
+use Rattle.apt_post.specs.Blocks.{g, act_words, act_block, CanWrite, IsCoordinate, IsUpTo}
 use Rattle.apt_post.proofs.Numbers.{number_words, number_of, IsNumber, numbered-words, number_of-IsNumber}
 
 -- the words of a block behind the sequence number

@@ -4,7 +4,7 @@ use Rattle.std.proofs.Common.{ap, subst, sym, ◌∙◌, arith, inl, inr, append
 use Rattle.apt_block.specs.Block.{spelling}
 use Rattle.apt_control.specs.declared.Act.{Act}
 use Rattle.apt_control.specs.declared.Act.TheVariants as acts
-use Rattle.apt_post.specs.Post.{act_block, acts_text, CanWrite, ToTheEnd, IsProgram}
+use Rattle.apt_post.specs.Blocks.{act_block, acts_text, CanWrite, ToTheEnd, IsProgram}
 use Rattle.apt_post.proofs.Running.{first_act}
 
 -- one act more

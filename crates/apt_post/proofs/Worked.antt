@@ -21,7 +21,7 @@ use Rattle.apt_machine.specs.declared.Machine.{Machine}
 use Rattle.apt_control.specs.declared.Act.TheVariants as acts
 use Rattle.apt_post.specs.Limits.{limits}
 use Rattle.apt_post.specs.Plan.{plan, segments}
-use Rattle.apt_post.specs.Post.{tape_text}
+use Rattle.apt_post.specs.Blocks.{tape_text}
 
 empty_tape : tape_text 1 (acts.Units Inch ∷ acts.End ∷ []) ≡ codes "%\nN0001G70G90G94\nN0002M02\n"
 empty_tape = refl

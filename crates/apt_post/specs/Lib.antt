@@ -1,4 +1,4 @@
-pub mod Post
+pub mod Blocks
 pub mod Plan
 pub mod Limits
 pub mod Writing

@@ -156,20 +156,20 @@ segments (r ∷ rs) = record_segments r + segments rs
 
 -- ---- the places to which acts and records lead, read off each by themselves
 
-abbrev pub act_places : Act → List Position
-act_places (acts.Units units) = []
-act_places (acts.Rapid x y z) = record { at = record { x = x; y = y }; z = z } ∷ []
-act_places (acts.Cut x y z feed) = record { at = record { x = x; y = y }; z = z } ∷ []
-act_places (acts.Spindle turn n) = []
-act_places (acts.Coolant c) = []
-act_places (acts.Tool n) = []
-act_places acts.Stop = []
-act_places acts.OptStop = []
-act_places acts.End = []
+abbrev pub act_positions : Act → List Position
+act_positions (acts.Units units) = []
+act_positions (acts.Rapid x y z) = record { at = record { x = x; y = y }; z = z } ∷ []
+act_positions (acts.Cut x y z feed) = record { at = record { x = x; y = y }; z = z } ∷ []
+act_positions (acts.Spindle turn n) = []
+act_positions (acts.Coolant c) = []
+act_positions (acts.Tool n) = []
+act_positions acts.Stop = []
+act_positions acts.OptStop = []
+act_positions acts.End = []
 
-abbrev pub places : List Act → List Position
-places [] = []
-places (act ∷ more) = act_places act ++ places more
+abbrev pub positions : List Act → List Position
+positions [] = []
+positions (act ∷ more) = act_positions act ++ positions more
 
 abbrev pub record_points : Record → List Position
 record_points (records.Statement line step) = []

@@ -4,7 +4,7 @@ use Rattle.apt_cldata.specs.declared.record.Record.{Record}
 use Rattle.apt_control.specs.declared.Act.{Act}
 use Rattle.apt_post.specs.declared.planning.Pending.{Pending}
 use Rattle.apt_post.specs.Plan.{record_acts, record_pending}
-use Rattle.apt_post.specs.Post.{CanWrite}
+use Rattle.apt_post.specs.Blocks.{CanWrite}
 
 abbrev pub CanWriteAll : List Act → Type 0
 CanWriteAll [] = Unit {0}

@@ -2,7 +2,7 @@
 
 ghost use Rattle.std.specs.Prelude.{◌≡◌, ◌+◌, ◌*◌, ◌%◌, ◌≤◌, ◌++◌, length, pos};
 ghost use Rattle.apt_block.specs.Block.{IsBlock, tape_word, letter_g, letter_m};
-ghost use Rattle.apt_post.specs.Post as spec;
+ghost use Rattle.apt_post.specs.Blocks as spec;
 
 use apt_block::{Block, TapeWord};
 use apt_control::Act;

@@ -4,7 +4,7 @@
 
 ghost use Rattle.std.specs.Prelude.{◌≡◌, ℕ, map, IfOk, Ok};
 ghost use Rattle.apt_control.specs.Control.{control_run};
-ghost use Rattle.apt_post.specs.Post as spec;
+ghost use Rattle.apt_post.specs.Blocks as spec;
 ghost use Rattle.apt_tapecode.specs.Tapecode as tapecode;
 
 mod blocks;

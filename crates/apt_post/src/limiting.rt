@@ -1,7 +1,7 @@
 //! The limits of a machine.
 
 ghost use Rattle.std.specs.Prelude.{◌≡◌, Some};
-ghost use Rattle.apt_scalar.specs.Numbers.{HasScalars, AreScalars};
+ghost use Rattle.apt_scalar.specs.StepScalars.{HasScalars, AreScalars};
 ghost use Rattle.apt_words.specs.Rows.{first_of};
 ghost use Rattle.apt_post.specs.Limits as limiting;
 

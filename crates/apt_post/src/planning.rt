@@ -152,7 +152,7 @@ fn segments_of(r: &Record) -> usize
 pub fn plan(alloc: Global, records: &[Record]) -> Result<Planned, AllocError>
     ensures acts { IfOk result (λ p. p.acts.items ≡ plans.plan records.now) }
     ensures segments { IfOk result (λ p. p.segments ≡ plans.segments records.now) }
-    ensures reached { IfOk result (λ p. plans.places p.acts.items ≡ plans.points records.now) }
+    ensures reached { IfOk result (λ p. plans.positions p.acts.items ≡ plans.points records.now) }
 {
     plan_all(alloc, records)
 }

@@ -53,7 +53,7 @@ pub enum Status {
 }
 
 impl Status {
-    ghost use Rattle.apt_report.specs.Numbers.{number_of};
+    ghost use Rattle.apt_report.specs.StatusNumbers.{number_of};
 
     /// The number with which a program of this answer ends.
     pub fn number(&self) -> u8

@@ -19,7 +19,7 @@ use Rattle.apt_scalar.specs.declared.names.Bound.{Bound}
 use Rattle.apt_scalar.specs.declared.names.Bound.TheVariants as bounds
 use Rattle.apt_scalar.specs.Scalars.{one, greatest, IsScalar, in_range, quotient, square_root, apply}
 use Rattle.apt_scalar.specs.Meanings.{Names, Parameters, meaning, scalar_in, scalar_of}
-use Rattle.apt_scalar.specs.Values.{value_of}
+use Rattle.apt_scalar.specs.Evaluation.{value_of}
 
 -- that of a value, and every refusal but that of a statement that is not built
 abbrev pub Tells : {A : Type 0} → (A → Type 0) → Result A Case → Type 0

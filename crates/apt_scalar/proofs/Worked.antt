@@ -11,7 +11,7 @@ use Rattle.apt_scalar.specs.declared.names.Value.TheVariants as values
 use Rattle.apt_scalar.specs.declared.names.Bound.TheVariants as bounds
 use Rattle.apt_scalar.specs.Scalars.{one, grid_units, tenths, whole}
 use Rattle.apt_scalar.specs.Meanings.{Names, Parameters}
-use Rattle.apt_scalar.specs.Values.{value_of}
+use Rattle.apt_scalar.specs.Evaluation.{value_of}
 
 -- a whole number as an expression
 abbrev units : ℕ → Tree

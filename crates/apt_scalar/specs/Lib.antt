@@ -1,4 +1,4 @@
 pub mod Scalars
 pub mod Meanings
-pub mod Values
-pub mod Numbers
+pub mod Evaluation
+pub mod StepScalars

@@ -1,7 +1,7 @@
 //! The value of an expression.
 ghost use Rattle.std.specs.Prelude.{◌≡◌, IfOk};
 ghost use Rattle.apt_scalar.specs.Scalars as scalars;
-ghost use Rattle.apt_scalar.specs.Values as values;
+ghost use Rattle.apt_scalar.specs.Evaluation as values;
 
 use crate::names::{Env, Frame, scalar_named};
 use crate::scalars::{apply, in_range, size, square_root};

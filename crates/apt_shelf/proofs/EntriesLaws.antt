@@ -9,7 +9,7 @@ use Rattle.std.specs.Ordering.{nat_cmp}
 use Rattle.std.specs.Cmp.Lexicographic.{slice_cmp, nat_list_cmp_total, texts_ties, same_text}
 use Rattle.std.specs.FinMap.{get, insert, get-insert, get-empty, same_map, slice_cmp-IsAntisymmetric, nat_cmp-IsAntisymmetric}
 use Rattle.apt_shelf.specs.Told.{Contents, appended}
-use Rattle.apt_shelf.specs.Entries.{Entry, entry, entries, of_entries, contents, held, name_at, IsPlace, IsAbsent}
+use Rattle.apt_shelf.specs.Entries.{Entry, entry, entries, of_entries, contents, held, name_at, IsFirstIndex, IsAbsent}
 use Rattle.apt_shelf.proofs.ToldLaws.{same_name, get_inserted, insert_again, insert_held, appended_held, appended_absent}
 
 some_inj : {A : Type 0} (d x y : A) → Some x ≡ Some y → x ≡ y
@@ -35,14 +35,14 @@ insert_swap m k v l w n = same_map nat_list_cmp_total (slice_cmp-IsAntisymmetric
     ∙ sym (get-insert nat_list_cmp_total (insert m l w) k v q ∙ ap (cond (same_name q k) (Some v)) (get-insert nat_list_cmp_total m l w q)))
 
 -- the facts at the rest of a list
-later : (e : Entry) (es : List Entry) (k : List ℕ) (i : ℕ) → IsPlace (e ∷ es) k (suc i) → IsPlace es k i
+later : (e : Entry) (es : List Entry) (k : List ℕ) (i : ℕ) → IsFirstIndex (e ∷ es) k (suc i) → IsFirstIndex es k i
 later e es k i p = record { within = omega (arith, p.within); here = p.here; before = λ j h. p.before (suc j) (omega arith) }
 
-first_differs : (e : Entry) (es : List Entry) (k : List ℕ) (i : ℕ) → IsPlace (e ∷ es) k (suc i) → k ≢ e.0
+first_differs : (e : Entry) (es : List Entry) (k : List ℕ) (i : ℕ) → IsFirstIndex (e ∷ es) k (suc i) → k ≢ e.0
 first_differs e es k i p h = p.before 0 (omega arith) (ap Some (sym h))
 
 -- a write at the place of a name
-pub put_at : (es : List Entry) (i : ℕ) (k v : List ℕ) → IsPlace es k i → of_entries (set es i (k, v)) ≡ insert (of_entries es) k v
+pub put_at : (es : List Entry) (i : ℕ) (k v : List ℕ) → IsFirstIndex es k i → of_entries (set es i (k, v)) ≡ insert (of_entries es) k v
 put_at [] i k v p = absurd (omega (arith, p.within))
 put_at (e ∷ es) zero k v p =
     let same : e.0 ≡ k = some_inj k _ _ p.here in
@@ -52,15 +52,15 @@ put_at (e ∷ es) (suc i) k v p =
     ∙ insert_swap (of_entries es) k v e.0 e.1 (first_differs e es k i p)
 
 -- what a name holds
-pub get_place : (es : List Entry) (i : ℕ) (k : List ℕ) → IsPlace es k i → held (of_entries es) k ≡ option_map (λ e. e.1) (slice_get es i)
-get_place [] i k p = absurd (omega (arith, p.within))
-get_place (e ∷ es) zero k p =
+pub get_at_index : (es : List Entry) (i : ℕ) (k : List ℕ) → IsFirstIndex es k i → held (of_entries es) k ≡ option_map (λ e. e.1) (slice_get es i)
+get_at_index [] i k p = absurd (omega (arith, p.within))
+get_at_index (e ∷ es) zero k p =
     let same : e.0 ≡ k = some_inj k _ _ p.here in
     ap (λ n. held (insert (of_entries es) n e.1) k) same ∙ get_inserted (of_entries es) k e.1
-get_place (e ∷ es) (suc i) k p =
+get_at_index (e ∷ es) (suc i) k p =
     get-insert nat_list_cmp_total (of_entries es) e.0 e.1 k
     ∙ ap (λ b. cond b (Some e.1) (held (of_entries es) k)) (other_name k e.0 (first_differs e es k i p))
-    ∙ get_place es i k (later e es k i p)
+    ∙ get_at_index es i k (later e es k i p)
 
 pub get_absent : (es : List Entry) (k : List ℕ) → IsAbsent es k → held (of_entries es) k ≡ None
 get_absent [] k a = get-empty (slice_cmp nat_cmp) k
@@ -81,13 +81,13 @@ bytes_of None = refl
 bytes_of (Some f) = refl
 
 -- the same laws over the files themselves
-pub held_place : {A B : Type 0} (files : List (String A × Vec ℕ B)) (i : ℕ) (name : List ℕ) → IsPlace (entries files) name i → held (contents files) name ≡ option_map (λ f. f.1.items) (slice_get files i)
-held_place files i name p =
-    get_place (entries files) i name p
+pub held_at_index : {A B : Type 0} (files : List (String A × Vec ℕ B)) (i : ℕ) (name : List ℕ) → IsFirstIndex (entries files) name i → held (contents files) name ≡ option_map (λ f. f.1.items) (slice_get files i)
+held_at_index files i name p =
+    get_at_index (entries files) i name p
     ∙ ap (option_map (λ e. e.1)) (slice_get-map entry files i)
     ∙ bytes_of (slice_get files i)
 
-pub put_file : {A B : Type 0} (files : List (String A × Vec ℕ B)) (i : ℕ) (f : String A × Vec ℕ B) (name : List ℕ) → IsPlace (entries files) name i → string_bytes f.0 ≡ name → contents (set files i f) ≡ insert (contents files) name f.1.items
+pub put_file : {A B : Type 0} (files : List (String A × Vec ℕ B)) (i : ℕ) (f : String A × Vec ℕ B) (name : List ℕ) → IsFirstIndex (entries files) name i → string_bytes f.0 ≡ name → contents (set files i f) ≡ insert (contents files) name f.1.items
 put_file files i f name p e =
     ap of_entries (map-set entry files i f)
     ∙ ap (λ n. of_entries (set (entries files) i (n, f.1.items))) e
@@ -123,34 +123,34 @@ is_absent files n name h below j there =
     ]
 
 -- the name at the place that was found
-pub name_found : {A B : Type 0} (files : List (String A × Vec ℕ B)) (i : ℕ) (f : String A × Vec ℕ B) (name : List ℕ) → IsPlace (entries files) name i → slice_get files i ≡ Some f → string_bytes f.0 ≡ name
+pub name_found : {A B : Type 0} (files : List (String A × Vec ℕ B)) (i : ℕ) (f : String A × Vec ℕ B) (name : List ℕ) → IsFirstIndex (entries files) name i → slice_get files i ≡ Some f → string_bytes f.0 ≡ name
 name_found files i f name p e = some_inj name _ _ (sym (ap (option_map (λ e. e.0)) (slice_get-map entry files i ∙ ap (option_map entry) e)) ∙ p.here)
 
-at_place : {A B : Type 0} (files : List (String A × Vec ℕ B)) (i : ℕ) (f : String A × Vec ℕ B) (name : List ℕ) → IsPlace (entries files) name i → f ≡ get_or files i f → slice_get files i ≡ Some f
-at_place files i f name p e = slice_get_read files (length files) i f refl (omega (arith, p.within, length-map files entry)) e
+at_index : {A B : Type 0} (files : List (String A × Vec ℕ B)) (i : ℕ) (f : String A × Vec ℕ B) (name : List ℕ) → IsFirstIndex (entries files) name i → f ≡ get_or files i f → slice_get files i ≡ Some f
+at_index files i f name p e = slice_get_read files (length files) i f refl (omega (arith, p.within, length-map files entry)) e
 
-pub held_file : {A B : Type 0} (files : List (String A × Vec ℕ B)) (i : ℕ) (f : String A × Vec ℕ B) (name : List ℕ) → IsPlace (entries files) name i → f ≡ get_or files i f → held (contents files) name ≡ Some f.1.items
-held_file files i f name p e = held_place files i name p ∙ ap (option_map (λ f. f.1.items)) (at_place files i f name p e)
+pub held_file : {A B : Type 0} (files : List (String A × Vec ℕ B)) (i : ℕ) (f : String A × Vec ℕ B) (name : List ℕ) → IsFirstIndex (entries files) name i → f ≡ get_or files i f → held (contents files) name ≡ Some f.1.items
+held_file files i f name p e = held_at_index files i name p ∙ ap (option_map (λ f. f.1.items)) (at_index files i f name p e)
 
 -- the file at the place of a name, with other bytes; `seen` is the list that was searched
 pub file_rewritten : {A B : Type 0} (seen files : List (String A × Vec ℕ B)) (i : ℕ) (f : String A × Vec ℕ B) (fresh : Vec ℕ B) (name v : List ℕ) → seen ≡ files
-    → IsPlace (entries seen) name i → f ≡ get_or files i f → fresh.items ≡ v → contents (set files i (f.0, fresh)) ≡ insert (contents files) name v
+    → IsFirstIndex (entries seen) name i → f ≡ get_or files i f → fresh.items ≡ v → contents (set files i (f.0, fresh)) ≡ insert (contents files) name v
 file_rewritten seen files i f fresh name v d p e w =
-    let q : IsPlace (entries files) name i = rw d at p in
-    put_file files i (f.0, fresh) name q (name_found files i f name q (at_place files i f name q e)) ∙ ap (insert (contents files) name) w
+    let q : IsFirstIndex (entries files) name i = rw d at p in
+    put_file files i (f.0, fresh) name q (name_found files i f name q (at_index files i f name q e)) ∙ ap (insert (contents files) name) w
 
 -- the file of a name, with more bytes
 pub file_appended : {A B : Type 0} (seen files : List (String A × Vec ℕ B)) (i : ℕ) (f : String A × Vec ℕ B) (fresh : Vec ℕ B) (name piece : List ℕ) → seen ≡ files
-    → IsPlace (entries seen) name i → f ≡ get_or files i f → fresh.items ≡ f.1.items ++ piece → contents (set files i (f.0, fresh)) ≡ appended (contents files) name piece
+    → IsFirstIndex (entries seen) name i → f ≡ get_or files i f → fresh.items ≡ f.1.items ++ piece → contents (set files i (f.0, fresh)) ≡ appended (contents files) name piece
 file_appended seen files i f fresh name piece d p e w =
-    let q : IsPlace (entries files) name i = rw d at p in
+    let q : IsFirstIndex (entries files) name i = rw d at p in
     file_rewritten seen files i f fresh name _ d p e w ∙ sym (appended_held (contents files) name _ piece (held_file files i f name q e))
 
 -- the file of a name, with the same bytes
 pub file_kept : {A B : Type 0} (seen files : List (String A × Vec ℕ B)) (i : ℕ) (f : String A × Vec ℕ B) (fresh : Vec ℕ B) (name : List ℕ) → seen ≡ files
-    → IsPlace (entries seen) name i → f ≡ get_or files i f → fresh.items ≡ f.1.items → contents (set files i (f.0, fresh)) ≡ contents files
+    → IsFirstIndex (entries seen) name i → f ≡ get_or files i f → fresh.items ≡ f.1.items → contents (set files i (f.0, fresh)) ≡ contents files
 file_kept seen files i f fresh name d p e w =
-    let q : IsPlace (entries files) name i = rw d at p in
+    let q : IsFirstIndex (entries files) name i = rw d at p in
     file_rewritten seen files i f fresh name _ d p e w ∙ insert_held (contents files) name _ (held_file files i f name q e)
 
 -- a new file at the end of the list

@@ -30,7 +30,7 @@ abbrev pub name_at : List Entry → ℕ → Option (List ℕ)
 name_at es i = option_map (λ e. e.0) (slice_get es i)
 
 -- the first place of a name
-pub record IsPlace (es : List Entry) (name : List ℕ) (i : ℕ) : Type 0 where
+pub record IsFirstIndex (es : List Entry) (name : List ℕ) (i : ℕ) : Type 0 where
   pub within : i < length es
   pub here : name_at es i ≡ Some name
   pub before : (j : ℕ) → j < i → name_at es j ≢ Some name

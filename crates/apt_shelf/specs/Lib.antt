@@ -3,7 +3,7 @@ pub mod Errors
 pub mod Files
 pub mod Folder
 pub mod Memory
-pub mod Numbers
+pub mod Counters
 pub mod Sink
 pub mod Store
 pub mod Sure

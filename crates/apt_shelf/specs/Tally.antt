@@ -1,6 +1,6 @@
 -- Calls of one kind, counted from 1, some of which fail.
 use Rattle.std.specs.Prelude.{ℕ, Bool, List, [], if◌then◌else◌}
-use Rattle.apt_shelf.specs.Numbers.{next, is_listed}
+use Rattle.apt_shelf.specs.Counters.{next, is_listed}
 
 -- how many calls were made, and the numbers of those that fail
 pub record Tally : Type 0 where

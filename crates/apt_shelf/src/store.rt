@@ -2,7 +2,7 @@
 ghost use Rattle.std.specs.Prelude.{◌≡◌, ◌↔◌, ◌++◌, [], min, length, take, drop, is_some, option_map, slice_get, true, Some, None, IsSome, IfSome, IfNone, IsSomeAnd, OnOk, OnErr, IsErrOf};
 ghost use Rattle.std.specs.FinMap.{insert};
 ghost use Rattle.apt_shelf.specs.Told.{appended};
-ghost use Rattle.apt_shelf.specs.Entries.{entries, contents, held, IsPlace, IsAbsent};
+ghost use Rattle.apt_shelf.specs.Entries.{entries, contents, held, IsFirstIndex, IsAbsent};
 ghost use Rattle.apt_shelf.specs.Store.{contents_of, left_of, writing_of};
 
 use crate::reading::Reading;
@@ -36,7 +36,7 @@ impl Store {
     pub(crate) fn file(&self, name: &str) -> Option<&[u8]>
         ensures { option_map (λ bytes. bytes.now) result ≡ held (contents_of self.now) name.now }
     {
-        let i = place(&self.files, name)?;
+        let i = index_of(&self.files, name)?;
         Some(&self.files[i].1)
     }
 
@@ -57,7 +57,7 @@ impl Store {
         ensures writing { self.new.writing ≡ self.old.writing }
     {
         self.reading = None;
-        let Some(i) = place(&self.files, name) else {
+        let Some(i) = index_of(&self.files, name) else {
             return Err(ReadStart::Missing);
         };
         let content = Vec::from_slice(self.alloc, &self.files[i].1)?;
@@ -113,8 +113,8 @@ impl Store {
 }
 
 /// The place of a name.
-fn place(files: &[(String, Vec<u8>)], name: &str) -> Option<usize>
-    ensures found { IfSome result (IsPlace (entries files.now) name.now) }
+fn index_of(files: &[(String, Vec<u8>)], name: &str) -> Option<usize>
+    ensures found { IfSome result (IsFirstIndex (entries files.now) name.now) }
     ensures absent { IfNone result (IsAbsent (entries files.now) name.now) }
     ensures holds { IfSome result (λ i. held (contents files.now) name.now ≡ option_map (λ f. f.1.items) (slice_get files.now i)) }
     ensures holds_none { IfNone result (held (contents files.now) name.now ≡ None) }
@@ -136,7 +136,7 @@ fn empty_file(
     ensures ok { OnOk result (contents files.new.items ≡ insert (contents files.old.items) name.now []) }
     ensures err { OnErr result (files.new.items ≡ files.old.items) }
 {
-    match place(files, name) {
+    match index_of(files, name) {
         Some(i) => files[i].1 = Vec::new(alloc),
         None => files.push((String::from_str(alloc, name)?, Vec::new(alloc)))?,
     }
@@ -153,7 +153,7 @@ fn add_to_file(
     ensures ok { OnOk result (contents files.new.items ≡ appended (contents files.old.items) name.now bytes.now) }
     ensures err { OnErr result (contents files.new.items ≡ contents files.old.items) }
 {
-    match place(files, name) {
+    match index_of(files, name) {
         Some(i) => files[i].1.extend_from_slice(bytes)?,
         None => files.push((
             String::from_str(alloc, name)?,

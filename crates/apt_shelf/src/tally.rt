@@ -1,6 +1,6 @@
 //! Calls that are made to fail, by their numbers.
 ghost use Rattle.std.specs.Prelude.{◌≡◌, ◌≤◌, true, false};
-ghost use Rattle.apt_shelf.specs.Numbers.{next};
+ghost use Rattle.apt_shelf.specs.Counters.{next};
 ghost use Rattle.apt_shelf.specs.Tally.{uncalled, fails_next, counted, faults_after};
 
 use std::marker::Model;

@@ -7,7 +7,7 @@ use Rattle.apt_num.specs.Sign.{AtLeast, OnLine, root_sign_of}
 use Rattle.apt_num.proofs.AtLeast.{root_sign_at_least, root_sign_at_most}
 use Rattle.apt_plane.specs.declared.figures.Pt.{Pt}
 use Rattle.apt_plane.specs.declared.figures.Line.{Line}
-use Rattle.apt_plane.specs.Vectors.{way, cross, norm}
+use Rattle.apt_plane.specs.Vectors.{displacement, cross, length_squared}
 use Rattle.apt_offset.specs.declared.Target.TheVariants as targets
 use Rattle.apt_stop.specs.Nearness.{is_minus, is_at_least, is_near}
 
@@ -37,10 +37,10 @@ pub is_at_least-from : (k h : ℤ) (n : ℕ) → AtLeast k h n → is_at_least k
 is_at_least-from k h n is = tells_minus (root_sign_of k h n) ((root_sign_at_least k h n).1 is)
 
 -- a point that is near a moved line
-pub near-OnLine : (l : Line) (h g : ℤ) (p : Pt) → is_near (targets.Line l.base l.dir h) g p ≡ true → OnLine (cross l.dir (way l.base p)) h (norm l.dir) g
+pub near-OnLine : (l : Line) (h g : ℤ) (p : Pt) → is_near (targets.Line l.base l.dir h) g p ≡ true → OnLine (cross l.dir (displacement l.base p)) h (length_squared l.dir) g
 near-OnLine l h g p e =
-    let k = cross l.dir (way l.base p) in
-    let both = and_parts (is_at_least k (h -ℤ g) (norm l.dir)) (is_at_least (neg_ℤ k) (neg_ℤ h -ℤ g) (norm l.dir)) e in record {
-      right = is_at_least-true k (h -ℤ g) (norm l.dir) both.0;
-      left = is_at_least-true (neg_ℤ k) (neg_ℤ h -ℤ g) (norm l.dir) both.1;
+    let k = cross l.dir (displacement l.base p) in
+    let both = and_parts (is_at_least k (h -ℤ g) (length_squared l.dir)) (is_at_least (neg_ℤ k) (neg_ℤ h -ℤ g) (length_squared l.dir)) e in record {
+      right = is_at_least-true k (h -ℤ g) (length_squared l.dir) both.0;
+      left = is_at_least-true (neg_ℤ k) (neg_ℤ h -ℤ g) (length_squared l.dir) both.1;
     }

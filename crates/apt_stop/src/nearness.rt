@@ -9,7 +9,7 @@ ghost use Rattle.apt_stop.specs.Nearness as near;
 
 use apt_num::{Sign, compare, root_sign};
 use apt_offset::Target;
-use apt_plane::vectors::{height, norm, norm_of, way};
+use apt_plane::vectors::{displacement, height, length_squared, length_squared_of};
 use apt_plane::{Dir, Pt};
 
 /// Whether a point is at most `g` grid units from a target.
@@ -22,9 +22,9 @@ pub fn is_near(target: &Target, g: i64, p: Pt) -> bool
 {
     match target {
         Target::Line { base, dir, off } => {
-            is_in_strip(height(*base, *dir, p), *off, g, norm_of(*dir))
+            is_in_strip(height(*base, *dir, p), *off, g, length_squared_of(*dir))
         }
-        Target::Circ { c, r } => is_in_ring(*r, g, norm(way(*c, p))),
+        Target::Circ { c, r } => is_in_ring(*r, g, length_squared(displacement(*c, p))),
     }
 }
 
@@ -38,9 +38,9 @@ pub fn side_of(target: &Target, p: Pt) -> Sign
         Target::Line { base, dir, off } => side_by_height(
             height(*base, *dir, p),
             *off,
-            norm_of(*dir),
+            length_squared_of(*dir),
         ),
-        Target::Circ { c, r } => compare(square(*r), norm(way(*c, p))),
+        Target::Circ { c, r } => compare(square(*r), length_squared(displacement(*c, p))),
     }
 }
 
@@ -63,25 +63,25 @@ pub fn heading(sense: i8, d: Dir) -> Dir
 }
 
 /// Whether a point of this height over a line is near it, moved to its left.
-fn is_in_strip(height: i128, off: i64, g: i64, norm: u128) -> bool
+fn is_in_strip(height: i128, off: i64, g: i64, length_squared: u128) -> bool
     requires height { unsigned_abs height ≤ 2 * 10 ^ 16 }
     requires off { unsigned_abs off ≤ 500000 }
     requires least { pos 0 ≤ℤ g }
     requires most { g ≤ℤ pos 100 }
-    requires norm { norm ≤ 2 * 10 ^ 16 }
-    ensures { result ≡ (near.is_at_least height (off -ℤ g) norm && near.is_at_least (neg_ℤ height) (neg_ℤ off -ℤ g) norm) }
+    requires length_squared { length_squared ≤ 2 * 10 ^ 16 }
+    ensures { result ≡ (near.is_at_least height (off -ℤ g) length_squared && near.is_at_least (neg_ℤ height) (neg_ℤ off -ℤ g) length_squared) }
 {
-    is_at_least(height, off - g, norm) && is_at_least(-height, -off - g, norm)
+    is_at_least(height, off - g, length_squared) && is_at_least(-height, -off - g, length_squared)
 }
 
-fn is_in_ring(r: i64, g: i64, norm: u128) -> bool
+fn is_in_ring(r: i64, g: i64, length_squared: u128) -> bool
     requires radius { pos 100 ≤ℤ r }
     requires limit { r ≤ℤ pos (10 ^ 8) }
     requires least { pos 0 ≤ℤ g }
     requires most { g ≤ℤ pos 100 }
-    ensures { result ≡ (nat_le (near.square (r -ℤ g)) norm && nat_le norm (near.square (r +ℤ g))) }
+    ensures { result ≡ (nat_le (near.square (r -ℤ g)) length_squared && nat_le length_squared (near.square (r +ℤ g))) }
 {
-    square(r - g) <= norm && norm <= square(r + g)
+    square(r - g) <= length_squared && length_squared <= square(r + g)
 }
 
 /// Whether `k >= h * sqrt(n)`.
@@ -99,13 +99,13 @@ fn is_at_least(k: i128, h: i64, n: u128) -> bool
 }
 
 #[tactic(auto, using(crate::proofs::Sizes::product_fits))]
-fn side_by_height(height: i128, off: i64, norm: u128) -> Sign
+fn side_by_height(height: i128, off: i64, length_squared: u128) -> Sign
     requires height { unsigned_abs height ≤ 2 * 10 ^ 16 }
     requires off { unsigned_abs off ≤ 500000 }
-    requires norm { norm ≤ 2 * 10 ^ 16 }
-    ensures { result ≡ root_sign_of height off norm }
+    requires length_squared { length_squared ≤ 2 * 10 ^ 16 }
+    ensures { result ≡ root_sign_of height off length_squared }
 {
-    root_sign(height, i128::from(off), norm)
+    root_sign(height, i128::from(off), length_squared)
 }
 
 fn square(a: i64) -> u128

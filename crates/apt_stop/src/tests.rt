@@ -101,9 +101,9 @@ fn nears_a_circle(rt: HostRuntime) {
 
 #[test]
 fn heads(rt: HostRuntime) {
-    let way = Dir { dx: 3, dy: -4 };
-    assert_eq!(rt; heading(1, way), way);
-    assert_eq!(rt; heading(-1, way), Dir { dx: -3, dy: 4 });
+    let displacement = Dir { dx: 3, dy: -4 };
+    assert_eq!(rt; heading(1, displacement), displacement);
+    assert_eq!(rt; heading(-1, displacement), Dir { dx: -3, dy: 4 });
 }
 
 /// Along y = 50 to the line up through (1000, 0), moved to x = 950 or to x = 1050: a start within 8 of

@@ -3,7 +3,7 @@ use Rattle.std.proofs.Common.{◌≡◌, ◌≢◌, ℕ, refl, ◌∙◌, Bool, 
 use Rattle.std.specs.Prelude.{ℤ, IsTrue, IfOk, if◌then◌else◌}
 use Rattle.apt_words.specs.Built.{is_start_built, is_built, IsBuilt}
 use Rattle.apt_words.specs.Chains.{◌>>=◌}
-use Rattle.apt_words.specs.Endings.{is_fini}
+use Rattle.apt_words.specs.ProgramEnds.{is_fini}
 use Rattle.apt_words.specs.Trees.{Tree}
 use Rattle.apt_words.specs.declared.Case.{Case}
 use Rattle.apt_words.specs.declared.Case.TheVariants as cases
@@ -16,10 +16,10 @@ use Rattle.apt_scalar.specs.declared.names.Bound.{Bound}
 use Rattle.apt_scalar.specs.declared.names.Bound.TheVariants as bounds
 use Rattle.apt_scalar.specs.Scalars.{IsScalar}
 use Rattle.apt_scalar.specs.Meanings.{Names, Parameters, meaning}
-use Rattle.apt_scalar.specs.Values.{value_of}
+use Rattle.apt_scalar.specs.Evaluation.{value_of}
 use Rattle.apt_scalar.proofs.Ranges.{Tells, then_tells, value_of-scalar}
-use Rattle.apt_unroll.specs.Deeds.{standing_for, named, pair, three, four, optional, place, value_and_name, value_and_pair, second_surface, surfaces, lone_point, all_points, by_points_or_centre, circle_three, defined_name, executed, is_parameter, deed_of}
-use Rattle.apt_scalar.specs.Numbers.{IsScalarOrNone, HasScalars}
+use Rattle.apt_unroll.specs.Deeds.{standing_for, name_for, pair, three, four, optional, coordinates, value_and_name, value_and_pair, second_surface, surfaces, lone_point, all_points, by_points_or_centre, circle_three, defined_name, execution, is_parameter, deed_of}
+use Rattle.apt_scalar.specs.StepScalars.{IsScalarOrNone, HasScalars}
 
 abbrev pub is_end : Deed → Bool
 is_end deeds.Fini = true
@@ -55,11 +55,11 @@ standing_for-tells n None = tt
 standing_for-tells n (Some (bounds.Alias other)) = tt
 standing_for-tells n (Some (bounds.Scalar v)) = λ e. cc
 
-named-tells : (ps : Parameters) (n : List ℕ) → Tells Any (named ps n)
-named-tells ps n = standing_for-tells n (meaning ps n)
+name_for-tells : (ps : Parameters) (n : List ℕ) → Tells Any (name_for ps n)
+name_for-tells ps n = standing_for-tells n (meaning ps n)
 
-of_name : {B : Type 0} (Q : B → Type 0) (ps : Parameters) (n : List ℕ) (f : List ℕ → Result B Case) → ((n : List ℕ) → Tells Q (f n)) → Tells Q (named ps n >>= f)
-of_name Q ps n f h = then_tells Any Q (named ps n) f (named-tells ps n) (λ n _. h n)
+of_name : {B : Type 0} (Q : B → Type 0) (ps : Parameters) (n : List ℕ) (f : List ℕ → Result B Case) → ((n : List ℕ) → Tells Q (f n)) → Tells Q (name_for ps n >>= f)
+of_name Q ps n f h = then_tells Any Q (name_for ps n) f (name_for-tells ps n) (λ n _. h n)
 
 pair-tells : (ps : Parameters) (a b : List ℕ) → Tells Any (pair ps a b)
 unfolding pair
@@ -71,8 +71,8 @@ AreThree r = IsScalar r.0 × IsScalar r.1 × IsScalar r.2
 abbrev AreFour : ℤ × ℤ × ℤ × ℤ → Type 0
 AreFour r = IsScalar r.0 × IsScalar r.1 × IsScalar r.2 × IsScalar r.3
 
-abbrev ArePlace : ℤ × ℤ × Option ℤ → Type 0
-ArePlace r = IsScalar r.0 × IsScalar r.1 × IsScalarOrNone r.2
+abbrev AreCoordinates : ℤ × ℤ × Option ℤ → Type 0
+AreCoordinates r = IsScalar r.0 × IsScalar r.1 × IsScalarOrNone r.2
 
 three-scalars : (names : Names) (ps : Parameters) (x y z : Tree) → Tells AreThree (three names ps x y z)
 unfolding three
@@ -87,11 +87,11 @@ optional-scalar : (names : Names) (ps : Parameters) (e : Option Tree) → Tells 
 optional-scalar names ps None = tt
 optional-scalar names ps (Some e) = of_value IsScalarOrNone names ps e _ (λ v h. h)
 
-place-scalars : (names : Names) (ps : Parameters) (x y : Tree) (z : Option Tree) → Tells ArePlace (place names ps x y z)
-unfolding place
-place-scalars names ps x y z =
-    of_value ArePlace names ps x _ (λ x p. of_value ArePlace names ps y _ (λ y q.
-    then_tells IsScalarOrNone ArePlace (optional names ps z) _ (optional-scalar names ps z) (λ z r. (p, q, r))))
+coordinates-scalars : (names : Names) (ps : Parameters) (x y : Tree) (z : Option Tree) → Tells AreCoordinates (coordinates names ps x y z)
+unfolding coordinates
+coordinates-scalars names ps x y z =
+    of_value AreCoordinates names ps x _ (λ x p. of_value AreCoordinates names ps y _ (λ y q.
+    then_tells IsScalarOrNone AreCoordinates (optional names ps z) _ (optional-scalar names ps z) (λ z r. (p, q, r))))
 
 value_and_name-scalar : (names : Names) (ps : Parameters) (e : Tree) (a : List ℕ) → Tells (λ r. IsScalar r.0) (value_and_name names ps e a)
 unfolding value_and_name
@@ -129,66 +129,66 @@ by_value : (body : Body) (names : Names) (ps : Parameters) (e : Tree) (f : ℤ �
     → ((v : ℤ) → IsScalar v → Gives body (f v)) → Gives body (value_of names ps e >>= f)
 by_value body names ps e f h = then_gives IsScalar body (value_of names ps e) f (value_of-scalar names ps e) h
 
-by_name : (body : Body) (ps : Parameters) (n : List ℕ) (f : List ℕ → Result Deed Case) → ((n : List ℕ) → Gives body (f n)) → Gives body (named ps n >>= f)
-by_name body ps n f h = then_gives Any body (named ps n) f (named-tells ps n) (λ n _. h n)
+by_name : (body : Body) (ps : Parameters) (n : List ℕ) (f : List ℕ → Result Deed Case) → ((n : List ℕ) → Gives body (f n)) → Gives body (name_for ps n >>= f)
+by_name body ps n f h = then_gives Any body (name_for ps n) f (name_for-tells ps n) (λ n _. h n)
 
 by_pair : (body : Body) (ps : Parameters) (a b : List ℕ) (f : List ℕ × List ℕ → Result Deed Case)
     → ((r : List ℕ × List ℕ) → Gives body (f r)) → Gives body (pair ps a b >>= f)
 by_pair body ps a b f h = then_gives Any body (pair ps a b) f (pair-tells ps a b) (λ r _. h r)
 
-executed-suits : (names : Names) (ps : Parameters) (body : Body) → Gives body (executed names ps body)
-unfolding executed
-executed-suits names ps (bodies.Partno text) = (tt, refl, λ _. tt)
-executed-suits names ps (bodies.Remark text) = (tt, refl, λ _. tt)
-executed-suits names ps (bodies.Units units) = (tt, refl, λ _. tt)
-executed-suits names ps bodies.Clprnt = (tt, refl, λ _. tt)
-executed-suits names ps bodies.Nopost = (tt, refl, λ _. tt)
-executed-suits names ps (bodies.Machin es) = (tt, refl, λ _. tt)
-executed-suits names ps (bodies.Assign n e) = by_value (bodies.Assign n e) names ps e _ (λ v h. (h, refl, λ _. tt))
-executed-suits names ps (bodies.PointXy n x y z) = then_gives ArePlace (bodies.PointXy n x y z) (place names ps x y z) _ (place-scalars names ps x y z) (λ r h. (h, refl, no))
-executed-suits names ps (bodies.PointLines n a b) = by_pair (bodies.PointLines n a b) ps a b _ (λ r. (tt, refl, no))
-executed-suits names ps (bodies.PointPick n k a b) = by_pair (bodies.PointPick n k a b) ps a b _ (λ r. (tt, refl, no))
-executed-suits names ps (bodies.PointCenter n c) = by_name (bodies.PointCenter n c) ps c _ (λ c. (tt, refl, no))
-executed-suits names ps (bodies.LineXy n x y u v) = then_gives AreFour (bodies.LineXy n x y u v) (four names ps x y u v) _ (four-scalars names ps x y u v) (λ r h. (h, refl, λ _. tt))
-executed-suits names ps (bodies.LinePoints n p q) = by_pair (bodies.LinePoints n p q) ps p q _ (λ r. (tt, refl, no))
-executed-suits names ps (bodies.LinePar n p l) = by_pair (bodies.LinePar n p l) ps p l _ (λ r. (tt, refl, no))
-executed-suits names ps (bodies.LinePerp n p l) = by_pair (bodies.LinePerp n p l) ps p l _ (λ r. (tt, refl, no))
-executed-suits names ps (bodies.LineAt n l k e) = then_gives (λ r. IsScalar r.0) (bodies.LineAt n l k e) (value_and_name names ps e l) _ (value_and_name-scalar names ps e l) (λ r h. (h, refl, no))
-executed-suits names ps (bodies.LineTan n p h c) = by_pair (bodies.LineTan n p h c) ps p c _ (λ r. (tt, refl, no))
-executed-suits names ps (bodies.LineTwo n h c k d) = by_pair (bodies.LineTwo n h c k d) ps c d _ (λ r. (tt, refl, no))
-executed-suits names ps (bodies.CircleThree n x y z) = circle_three-suits names ps n x y z
-executed-suits names ps (bodies.CircleRadius n p e) = then_gives (λ r. IsScalar r.0) (bodies.CircleRadius n p e) (value_and_name names ps e p) _ (value_and_name-scalar names ps e p) (λ r h. (h, refl, no))
-executed-suits names ps (bodies.CircleTan n p l) = by_pair (bodies.CircleTan n p l) ps p l _ (λ r. (tt, refl, no))
-executed-suits names ps (bodies.CircleThrough n p q) = by_pair (bodies.CircleThrough n p q) ps p q _ (λ r. (tt, refl, no))
-executed-suits names ps (bodies.CircleCorner n j a k b e) = then_gives (λ r. IsScalar r.0) (bodies.CircleCorner n j a k b e) (value_and_pair names ps e a b) _ (value_and_pair-scalar names ps e a b) (λ r h. (h, refl, no))
-executed-suits names ps (bodies.Cutter e) = by_value (bodies.Cutter e) names ps e _ (λ v h. (h, refl, λ _. tt))
-executed-suits names ps (bodies.Intol e) = by_value (bodies.Intol e) names ps e _ (λ v h. (h, refl, λ _. tt))
-executed-suits names ps (bodies.Outtol e) = by_value (bodies.Outtol e) names ps e _ (λ v h. (h, refl, λ _. tt))
-executed-suits names ps (bodies.Tool side) = (tt, refl, λ h. h)
-executed-suits names ps (bodies.FromXy x y z) = then_gives ArePlace (bodies.FromXy x y z) (place names ps x y z) _ (place-scalars names ps x y z) (λ r h. (h, refl, λ _. tt))
-executed-suits names ps (bodies.FromPoint p) = by_name (bodies.FromPoint p) ps p _ (λ p. (tt, refl, no))
-executed-suits names ps (bodies.GotoXy x y z) = then_gives ArePlace (bodies.GotoXy x y z) (place names ps x y z) _ (place-scalars names ps x y z) (λ r h. (h, refl, λ _. tt))
-executed-suits names ps (bodies.GotoPoint p) = by_name (bodies.GotoPoint p) ps p _ (λ p. (tt, refl, no))
-executed-suits names ps (bodies.Godlta x y z) = then_gives AreThree (bodies.Godlta x y z) (three names ps x y z) _ (three-scalars names ps x y z) (λ r h. (h, refl, λ _. tt))
-executed-suits names ps (bodies.GoStart q s other) = then_gives (λ r. is_start_built q r.1 ≡ is_start_built q other) (bodies.GoStart q s other) (surfaces ps s other) _ (surfaces-start ps q s other) (λ r same. (tt, refl, λ h. same ∙ h))
-executed-suits names ps (bodies.Contour side go d q c) = by_pair (bodies.Contour side go d q c) ps d c _ (λ r. (tt, refl, λ h. h))
-executed-suits names ps bodies.Rapid = (tt, refl, λ _. tt)
-executed-suits names ps bodies.Halt = (tt, refl, λ _. tt)
-executed-suits names ps bodies.OptHalt = (tt, refl, λ _. tt)
-executed-suits names ps bodies.EndWord = (tt, refl, λ _. tt)
-executed-suits names ps bodies.Fini = (tt, refl, λ _. tt)
-executed-suits names ps (bodies.Fedrat e) = by_value (bodies.Fedrat e) names ps e _ (λ v h. (h, refl, λ _. tt))
-executed-suits names ps (bodies.Spindl e turn) = by_value (bodies.Spindl e turn) names ps e _ (λ v h. (h, refl, no))
-executed-suits names ps bodies.SpindlOff = (tt, refl, no)
-executed-suits names ps (bodies.Coolnt c) = (tt, refl, no)
-executed-suits names ps (bodies.Loadtl e) = by_value (bodies.Loadtl e) names ps e _ (λ v h. (h, refl, no))
-executed-suits names ps (bodies.Macro m parameters) = no
-executed-suits names ps bodies.Termac = no
-executed-suits names ps (bodies.Call m args) = no
-executed-suits names ps bodies.Loopst = no
-executed-suits names ps bodies.Loopnd = no
-executed-suits names ps (bodies.Jumpto l) = no
-executed-suits names ps (bodies.If e a b c) = no
+execution-suits : (names : Names) (ps : Parameters) (body : Body) → Gives body (execution names ps body)
+unfolding execution
+execution-suits names ps (bodies.Partno text) = (tt, refl, λ _. tt)
+execution-suits names ps (bodies.Remark text) = (tt, refl, λ _. tt)
+execution-suits names ps (bodies.Units units) = (tt, refl, λ _. tt)
+execution-suits names ps bodies.Clprnt = (tt, refl, λ _. tt)
+execution-suits names ps bodies.Nopost = (tt, refl, λ _. tt)
+execution-suits names ps (bodies.Machin es) = (tt, refl, λ _. tt)
+execution-suits names ps (bodies.Assign n e) = by_value (bodies.Assign n e) names ps e _ (λ v h. (h, refl, λ _. tt))
+execution-suits names ps (bodies.PointXy n x y z) = then_gives AreCoordinates (bodies.PointXy n x y z) (coordinates names ps x y z) _ (coordinates-scalars names ps x y z) (λ r h. (h, refl, no))
+execution-suits names ps (bodies.PointLines n a b) = by_pair (bodies.PointLines n a b) ps a b _ (λ r. (tt, refl, no))
+execution-suits names ps (bodies.PointPick n k a b) = by_pair (bodies.PointPick n k a b) ps a b _ (λ r. (tt, refl, no))
+execution-suits names ps (bodies.PointCenter n c) = by_name (bodies.PointCenter n c) ps c _ (λ c. (tt, refl, no))
+execution-suits names ps (bodies.LineXy n x y u v) = then_gives AreFour (bodies.LineXy n x y u v) (four names ps x y u v) _ (four-scalars names ps x y u v) (λ r h. (h, refl, λ _. tt))
+execution-suits names ps (bodies.LinePoints n p q) = by_pair (bodies.LinePoints n p q) ps p q _ (λ r. (tt, refl, no))
+execution-suits names ps (bodies.LinePar n p l) = by_pair (bodies.LinePar n p l) ps p l _ (λ r. (tt, refl, no))
+execution-suits names ps (bodies.LinePerp n p l) = by_pair (bodies.LinePerp n p l) ps p l _ (λ r. (tt, refl, no))
+execution-suits names ps (bodies.LineAt n l k e) = then_gives (λ r. IsScalar r.0) (bodies.LineAt n l k e) (value_and_name names ps e l) _ (value_and_name-scalar names ps e l) (λ r h. (h, refl, no))
+execution-suits names ps (bodies.LineTan n p h c) = by_pair (bodies.LineTan n p h c) ps p c _ (λ r. (tt, refl, no))
+execution-suits names ps (bodies.LineTwo n h c k d) = by_pair (bodies.LineTwo n h c k d) ps c d _ (λ r. (tt, refl, no))
+execution-suits names ps (bodies.CircleThree n x y z) = circle_three-suits names ps n x y z
+execution-suits names ps (bodies.CircleRadius n p e) = then_gives (λ r. IsScalar r.0) (bodies.CircleRadius n p e) (value_and_name names ps e p) _ (value_and_name-scalar names ps e p) (λ r h. (h, refl, no))
+execution-suits names ps (bodies.CircleTan n p l) = by_pair (bodies.CircleTan n p l) ps p l _ (λ r. (tt, refl, no))
+execution-suits names ps (bodies.CircleThrough n p q) = by_pair (bodies.CircleThrough n p q) ps p q _ (λ r. (tt, refl, no))
+execution-suits names ps (bodies.CircleCorner n j a k b e) = then_gives (λ r. IsScalar r.0) (bodies.CircleCorner n j a k b e) (value_and_pair names ps e a b) _ (value_and_pair-scalar names ps e a b) (λ r h. (h, refl, no))
+execution-suits names ps (bodies.Cutter e) = by_value (bodies.Cutter e) names ps e _ (λ v h. (h, refl, λ _. tt))
+execution-suits names ps (bodies.Intol e) = by_value (bodies.Intol e) names ps e _ (λ v h. (h, refl, λ _. tt))
+execution-suits names ps (bodies.Outtol e) = by_value (bodies.Outtol e) names ps e _ (λ v h. (h, refl, λ _. tt))
+execution-suits names ps (bodies.Tool side) = (tt, refl, λ h. h)
+execution-suits names ps (bodies.FromXy x y z) = then_gives AreCoordinates (bodies.FromXy x y z) (coordinates names ps x y z) _ (coordinates-scalars names ps x y z) (λ r h. (h, refl, λ _. tt))
+execution-suits names ps (bodies.FromPoint p) = by_name (bodies.FromPoint p) ps p _ (λ p. (tt, refl, no))
+execution-suits names ps (bodies.GotoXy x y z) = then_gives AreCoordinates (bodies.GotoXy x y z) (coordinates names ps x y z) _ (coordinates-scalars names ps x y z) (λ r h. (h, refl, λ _. tt))
+execution-suits names ps (bodies.GotoPoint p) = by_name (bodies.GotoPoint p) ps p _ (λ p. (tt, refl, no))
+execution-suits names ps (bodies.Godlta x y z) = then_gives AreThree (bodies.Godlta x y z) (three names ps x y z) _ (three-scalars names ps x y z) (λ r h. (h, refl, λ _. tt))
+execution-suits names ps (bodies.GoStart q s other) = then_gives (λ r. is_start_built q r.1 ≡ is_start_built q other) (bodies.GoStart q s other) (surfaces ps s other) _ (surfaces-start ps q s other) (λ r same. (tt, refl, λ h. same ∙ h))
+execution-suits names ps (bodies.Contour side go d q c) = by_pair (bodies.Contour side go d q c) ps d c _ (λ r. (tt, refl, λ h. h))
+execution-suits names ps bodies.Rapid = (tt, refl, λ _. tt)
+execution-suits names ps bodies.Halt = (tt, refl, λ _. tt)
+execution-suits names ps bodies.OptHalt = (tt, refl, λ _. tt)
+execution-suits names ps bodies.EndWord = (tt, refl, λ _. tt)
+execution-suits names ps bodies.Fini = (tt, refl, λ _. tt)
+execution-suits names ps (bodies.Fedrat e) = by_value (bodies.Fedrat e) names ps e _ (λ v h. (h, refl, λ _. tt))
+execution-suits names ps (bodies.Spindl e turn) = by_value (bodies.Spindl e turn) names ps e _ (λ v h. (h, refl, no))
+execution-suits names ps bodies.SpindlOff = (tt, refl, no)
+execution-suits names ps (bodies.Coolnt c) = (tt, refl, no)
+execution-suits names ps (bodies.Loadtl e) = by_value (bodies.Loadtl e) names ps e _ (λ v h. (h, refl, no))
+execution-suits names ps (bodies.Macro m parameters) = no
+execution-suits names ps bodies.Termac = no
+execution-suits names ps (bodies.Call m args) = no
+execution-suits names ps bodies.Loopst = no
+execution-suits names ps bodies.Loopnd = no
+execution-suits names ps (bodies.Jumpto l) = no
+execution-suits names ps (bodies.If e a b c) = no
 
 unless_bound : (body : Body) (bound : Bool) (r : Result Deed Case) → Gives body r → Gives body (if bound then Err cases.BadArgs else r)
 unless_bound body true r h = λ _ e. cc
@@ -196,7 +196,7 @@ unless_bound body false r h = h
 
 deed_of-gives : (names : Names) (ps : Parameters) (body : Body) → Gives body (deed_of names ps body)
 unfolding deed_of
-deed_of-gives names ps body = unless_bound body (is_parameter ps (defined_name body)) (executed names ps body) (executed-suits names ps body)
+deed_of-gives names ps body = unless_bound body (is_parameter ps (defined_name body)) (execution names ps body) (execution-suits names ps body)
 
 suits : (body : Body) (r : Result Deed Case) → Gives body r → IfOk r (Suits body)
 suits body (Ok deed) h = h

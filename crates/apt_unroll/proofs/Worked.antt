@@ -17,8 +17,8 @@ use Rattle.apt_scalar.specs.declared.names.Value.TheVariants as values
 use Rattle.apt_scalar.specs.declared.names.Kind.TheVariants as kinds
 use Rattle.apt_scalar.specs.declared.names.Bound.TheVariants as bounds
 use Rattle.apt_scalar.specs.Meanings.{Names}
-use Rattle.apt_unroll.specs.Deeds.{three, four, place, surfaces, circle_three, executed, deed_of, names_behind}
-use Rattle.apt_unroll.specs.Straight.{Steps, steps_of, deed_at}
+use Rattle.apt_unroll.specs.Deeds.{three, four, coordinates, surfaces, circle_three, execution, deed_of, names_behind}
+use Rattle.apt_unroll.specs.Trace.{Trace, trace_of, deed_at}
 
 abbrev units : ℕ → ℤ
 units n = pos (n * one)
@@ -48,64 +48,64 @@ on line body = record { line = line; label = None; body = body }
 abbrev step : ℕ → ℕ → Deed → Step
 step line n deed = record { line = line; step = n; deed = deed }
 
-abbrev all_of : List Step → Steps
+abbrev all_of : List Step → Trace
 all_of steps = record { steps = steps; fault = None }
 
-abbrev up_to : List Step → ℕ → ℕ → Case → Steps
+abbrev up_to : List Step → ℕ → ℕ → Case → Trace
 up_to steps line n case = record { steps = steps; fault = Some (record { line = line; step = n; case = case }) }
 
 -- a point, a circle and a scalar
 abbrev names : Names
 names = (P, values.Shape kinds.Point) ∷ (C, values.Shape kinds.Circle) ∷ (X, values.Scalar (units 4)) ∷ []
 
-later_by_earlier : steps_of (on 2 (bodies.Assign X (number 1)) ∷ on 5 (bodies.Assign Y (Bin Add (Name X) (number 2))) ∷ [])
+later_by_earlier : trace_of (on 2 (bodies.Assign X (number 1)) ∷ on 5 (bodies.Assign Y (Bin Add (Name X) (number 2))) ∷ [])
     ≡ all_of (step 2 1 (deeds.Assign X (units 1)) ∷ step 5 2 (deeds.Assign Y (units 3)) ∷ [])
-unfolding deed_of executed
+unfolding deed_of execution
 later_by_earlier = refl
 
-name_given_anew : steps_of (on 1 (bodies.Assign X (number 1)) ∷ on 2 (bodies.Assign X (Bin Add (Name X) (number 2))) ∷ on 3 (bodies.Cutter (Name X)) ∷ [])
+name_given_anew : trace_of (on 1 (bodies.Assign X (number 1)) ∷ on 2 (bodies.Assign X (Bin Add (Name X) (number 2))) ∷ on 3 (bodies.Cutter (Name X)) ∷ [])
     ≡ all_of (step 1 1 (deeds.Assign X (units 1)) ∷ step 2 2 (deeds.Assign X (units 3)) ∷ step 3 3 (deeds.Cutter (units 3)) ∷ [])
-unfolding deed_of executed
+unfolding deed_of execution
 name_given_anew = refl
 
-line_by_values : steps_of (on 1 (bodies.LineXy L (number 0) (number 1) (number 2) (Bin Div (number 3) (number 2))) ∷ [])
+line_by_values : trace_of (on 1 (bodies.LineXy L (number 0) (number 1) (number 2) (Bin Div (number 3) (number 2))) ∷ [])
     ≡ all_of (step 1 1 (deeds.LineXy L (units 0) (units 1) (units 2) (pos 1500000)) ∷ [])
-unfolding deed_of executed four
+unfolding deed_of execution four
 line_by_values = refl
 
-behind_end : steps_of (on 1 bodies.EndWord ∷ on 2 bodies.Rapid ∷ on 3 bodies.Fini ∷ []) ≡ up_to (step 1 1 deeds.EndWord ∷ []) 2 2 cases.AfterEnd
-unfolding deed_of executed
+behind_end : trace_of (on 1 bodies.EndWord ∷ on 2 bodies.Rapid ∷ on 3 bodies.Fini ∷ []) ≡ up_to (step 1 1 deeds.EndWord ∷ []) 2 2 cases.AfterEnd
+unfolding deed_of execution
 behind_end = refl
 
-fini_behind_end : steps_of (on 1 bodies.EndWord ∷ on 2 bodies.Fini ∷ []) ≡ all_of (step 1 1 deeds.EndWord ∷ step 2 2 deeds.Fini ∷ [])
-unfolding deed_of executed
+fini_behind_end : trace_of (on 1 bodies.EndWord ∷ on 2 bodies.Fini ∷ []) ≡ all_of (step 1 1 deeds.EndWord ∷ step 2 2 deeds.Fini ∷ [])
+unfolding deed_of execution
 fini_behind_end = refl
 
 -- the left expression is refused first
-left_is_first : steps_of (on 1 (bodies.Godlta (Name X) (Bin Div (number 1) (number 0)) (number 1)) ∷ []) ≡ up_to [] 1 1 cases.Unknown
-unfolding deed_of executed three
+left_is_first : trace_of (on 1 (bodies.Godlta (Name X) (Bin Div (number 1) (number 0)) (number 1)) ∷ []) ≡ up_to [] 1 1 cases.Unknown
+unfolding deed_of execution three
 left_is_first = refl
 
-second_of_two : steps_of (on 1 (bodies.Assign X (number 1)) ∷ on 2 (bodies.GotoXy (Name X) (Name Y) None) ∷ on 3 bodies.Halt ∷ [])
+second_of_two : trace_of (on 1 (bodies.Assign X (number 1)) ∷ on 2 (bodies.GotoXy (Name X) (Name Y) None) ∷ on 3 bodies.Halt ∷ [])
     ≡ up_to (step 1 1 (deeds.Assign X (units 1)) ∷ []) 2 2 cases.Unknown
-unfolding deed_of executed place
+unfolding deed_of execution coordinates
 second_of_two = refl
 
-by_zero : steps_of (on 1 (bodies.Fedrat (Bin Div (number 1) (number 0))) ∷ []) ≡ up_to [] 1 1 cases.DivideByZero
-unfolding deed_of executed
+by_zero : trace_of (on 1 (bodies.Fedrat (Bin Div (number 1) (number 0))) ∷ []) ≡ up_to [] 1 1 cases.DivideByZero
+unfolding deed_of execution
 by_zero = refl
 
 -- a figure is no scalar, and a definition that is refused gives no name
-figure_as_scalar : steps_of (on 1 (bodies.PointXy P (number 0) (number 0) None) ∷ on 2 (bodies.Assign X (Name P)) ∷ [])
+figure_as_scalar : trace_of (on 1 (bodies.PointXy P (number 0) (number 0) None) ∷ on 2 (bodies.Assign X (Name P)) ∷ [])
     ≡ up_to (step 1 1 (deeds.PointXy P (units 0) (units 0) None) ∷ []) 2 2 cases.Unknown
-unfolding deed_of executed place
+unfolding deed_of execution coordinates
 figure_as_scalar = refl
 
 too_many : deed_at 200001 false [] bodies.Rapid ≡ Err cases.Budget
 too_many = refl
 
 last_of_all : deed_at 200000 false [] bodies.Rapid ≡ Ok deeds.Rapid
-unfolding deed_of executed
+unfolding deed_of execution
 last_of_all = refl
 
 -- a program that is too long and has ended
@@ -115,33 +115,33 @@ too_many_first = refl
 -- ---- circles
 
 three_points : deed_of names [] (bodies.CircleThree Y (Name P) (Name P) (Name P)) ≡ Ok (deeds.CirclePoints Y P P P)
-unfolding deed_of executed circle_three three
+unfolding deed_of execution circle_three three
 three_points = refl
 
 by_radius : deed_of names [] (bodies.CircleThree Y (number 1) (Name X) (Bin Add (Name X) (Name X))) ≡ Ok (deeds.CircleXyr Y (units 1) (units 4) (units 8))
-unfolding deed_of executed circle_three three
+unfolding deed_of execution circle_three three
 by_radius = refl
 
 two_points_and_circle : deed_of names [] (bodies.CircleThree Y (Name P) (Name P) (Name C)) ≡ Err cases.Unknown
-unfolding deed_of executed circle_three three
+unfolding deed_of execution circle_three three
 two_points_and_circle = refl
 
 -- ---- macros and their parameters
 
 macro_unbuilt : deed_of names [] bodies.Termac ≡ Err cases.NotBuilt
-unfolding deed_of executed
+unfolding deed_of execution
 macro_unbuilt = refl
 
 parameter_for_figure : deed_of names ((L, bounds.Alias P) ∷ []) (bodies.GotoPoint L) ≡ Ok (deeds.GotoPoint P)
-unfolding deed_of executed
+unfolding deed_of execution
 parameter_for_figure = refl
 
 number_for_figure : deed_of names ((L, bounds.Scalar (units 1)) ∷ []) (bodies.GoStart stops.To L None) ≡ Err cases.WrongKind
-unfolding deed_of executed surfaces
+unfolding deed_of execution surfaces
 number_for_figure = refl
 
 parameter_defined : deed_of names ((X, bounds.Scalar (units 1)) ∷ []) (bodies.Assign X (Name Y)) ≡ Err cases.BadArgs
-unfolding deed_of executed
+unfolding deed_of execution
 parameter_defined = refl
 
 -- ---- names behind a step

@@ -15,7 +15,7 @@ use Rattle.apt_scalar.specs.declared.names.Kind.TheVariants as kinds
 use Rattle.apt_scalar.specs.declared.names.Bound.{Bound}
 use Rattle.apt_scalar.specs.declared.names.Bound.TheVariants as bounds
 use Rattle.apt_scalar.specs.Meanings.{Names, Parameters, meaning, with_entry}
-use Rattle.apt_scalar.specs.Values.{value_of}
+use Rattle.apt_scalar.specs.Evaluation.{value_of}
 
 -- ---- arguments, from left to right
 
@@ -25,13 +25,13 @@ standing_for n None = Ok n
 standing_for n (Some (bounds.Alias other)) = Ok other
 standing_for n (Some (bounds.Scalar v)) = Err cases.WrongKind
 
-abbrev pub named : Parameters → List ℕ → Result (List ℕ) Case
-named ps n = standing_for n (meaning ps n)
+abbrev pub name_for : Parameters → List ℕ → Result (List ℕ) Case
+name_for ps n = standing_for n (meaning ps n)
 
 unfoldable pub pair : Parameters → List ℕ → List ℕ → Result (List ℕ × List ℕ) Case
 pair ps a b = do
-  a ← named ps a
-  b ← named ps b
+  a ← name_for ps a
+  b ← name_for ps b
   Ok (a, b)
 
 unfoldable pub three : Names → Parameters → Tree → Tree → Tree → Result (ℤ × ℤ × ℤ) Case
@@ -53,8 +53,8 @@ abbrev pub optional : Names → Parameters → Option Tree → Result (Option �
 optional names ps None = Ok None
 optional names ps (Some e) = value_of names ps e >>= λ v. Ok (Some v)
 
-unfoldable pub place : Names → Parameters → Tree → Tree → Option Tree → Result (ℤ × ℤ × Option ℤ) Case
-place names ps x y z = do
+unfoldable pub coordinates : Names → Parameters → Tree → Tree → Option Tree → Result (ℤ × ℤ × Option ℤ) Case
+coordinates names ps x y z = do
   x ← value_of names ps x
   y ← value_of names ps y
   z ← optional names ps z
@@ -64,23 +64,23 @@ place names ps x y z = do
 unfoldable pub value_and_name : Names → Parameters → Tree → List ℕ → Result (ℤ × List ℕ) Case
 value_and_name names ps e a = do
   v ← value_of names ps e
-  a ← named ps a
+  a ← name_for ps a
   Ok (v, a)
 
 unfoldable pub value_and_pair : Names → Parameters → Tree → List ℕ → List ℕ → Result (ℤ × List ℕ × List ℕ) Case
 value_and_pair names ps e a b = do
   v ← value_of names ps e
-  a ← named ps a
-  b ← named ps b
+  a ← name_for ps a
+  b ← name_for ps b
   Ok (v, a, b)
 
 abbrev pub second_surface : Parameters → Option (Stop × List ℕ) → Result (Option (Stop × List ℕ)) Case
 second_surface ps None = Ok None
-second_surface ps (Some s) = named ps s.1 >>= λ n. Ok (Some (s.0, n))
+second_surface ps (Some s) = name_for ps s.1 >>= λ n. Ok (Some (s.0, n))
 
 unfoldable pub surfaces : Parameters → List ℕ → Option (Stop × List ℕ) → Result (List ℕ × Option (Stop × List ℕ)) Case
 surfaces ps s other = do
-  s ← named ps s
+  s ← name_for ps s
   other ← second_surface ps other
   Ok (s, other)
 
@@ -99,7 +99,7 @@ point_in names (Err case) = None
 
 abbrev pub lone_point : Names → Parameters → Tree → Option (List ℕ)
 lone_point names ps (Num v) = None
-lone_point names ps (Name n) = point_in names (named ps n)
+lone_point names ps (Name n) = point_in names (name_for ps n)
 lone_point names ps (Neg t) = None
 lone_point names ps (Bin op a b) = None
 lone_point names ps (Root t) = None
@@ -173,58 +173,58 @@ defined_name (bodies.Jumpto l) = None
 defined_name (bodies.If e a b c) = None
 
 -- the macros, loops and jumps are not built yet
-unfoldable pub executed : Names → Parameters → Body → Result Deed Case
-executed names ps (bodies.Partno text) = Ok (deeds.Partno text)
-executed names ps (bodies.Remark text) = Ok (deeds.Remark text)
-executed names ps (bodies.Units units) = Ok (deeds.Units units)
-executed names ps bodies.Clprnt = Ok deeds.Clprnt
-executed names ps bodies.Nopost = Ok deeds.Nopost
-executed names ps (bodies.Machin es) = Ok deeds.Machin
-executed names ps (bodies.Assign n e) = value_of names ps e >>= λ v. Ok (deeds.Assign n v)
-executed names ps (bodies.PointXy n x y z) = place names ps x y z >>= λ r. Ok (deeds.PointXy n r.0 r.1 r.2)
-executed names ps (bodies.PointLines n a b) = pair ps a b >>= λ r. Ok (deeds.PointLines n r.0 r.1)
-executed names ps (bodies.PointPick n k a b) = pair ps a b >>= λ r. Ok (deeds.PointPick n k r.0 r.1)
-executed names ps (bodies.PointCenter n c) = named ps c >>= λ c. Ok (deeds.PointCenter n c)
-executed names ps (bodies.LineXy n x y u v) = four names ps x y u v >>= λ r. Ok (deeds.LineXy n r.0 r.1 r.2 r.3)
-executed names ps (bodies.LinePoints n p q) = pair ps p q >>= λ r. Ok (deeds.LinePoints n r.0 r.1)
-executed names ps (bodies.LinePar n p l) = pair ps p l >>= λ r. Ok (deeds.LinePar n r.0 r.1)
-executed names ps (bodies.LinePerp n p l) = pair ps p l >>= λ r. Ok (deeds.LinePerp n r.0 r.1)
-executed names ps (bodies.LineAt n l k e) = value_and_name names ps e l >>= λ r. Ok (deeds.LineAt n r.1 k r.0)
-executed names ps (bodies.LineTan n p h c) = pair ps p c >>= λ r. Ok (deeds.LineTan n r.0 h r.1)
-executed names ps (bodies.LineTwo n h c k d) = pair ps c d >>= λ r. Ok (deeds.LineTwo n h r.0 k r.1)
-executed names ps (bodies.CircleThree n x y z) = circle_three names ps n x y z
-executed names ps (bodies.CircleRadius n p e) = value_and_name names ps e p >>= λ r. Ok (deeds.CircleRadius n r.1 r.0)
-executed names ps (bodies.CircleTan n p l) = pair ps p l >>= λ r. Ok (deeds.CircleTan n r.0 r.1)
-executed names ps (bodies.CircleThrough n p q) = pair ps p q >>= λ r. Ok (deeds.CircleThrough n r.0 r.1)
-executed names ps (bodies.CircleCorner n j a k b e) = value_and_pair names ps e a b >>= λ r. Ok (deeds.CircleCorner n j r.1 k r.2 r.0)
-executed names ps (bodies.Cutter e) = value_of names ps e >>= λ v. Ok (deeds.Cutter v)
-executed names ps (bodies.Intol e) = value_of names ps e >>= λ v. Ok (deeds.Intol v)
-executed names ps (bodies.Outtol e) = value_of names ps e >>= λ v. Ok (deeds.Outtol v)
-executed names ps (bodies.Tool side) = Ok (deeds.Tool side)
-executed names ps (bodies.FromXy x y z) = place names ps x y z >>= λ r. Ok (deeds.FromXy r.0 r.1 r.2)
-executed names ps (bodies.FromPoint p) = named ps p >>= λ p. Ok (deeds.FromPoint p)
-executed names ps (bodies.GotoXy x y z) = place names ps x y z >>= λ r. Ok (deeds.GotoXy r.0 r.1 r.2)
-executed names ps (bodies.GotoPoint p) = named ps p >>= λ p. Ok (deeds.GotoPoint p)
-executed names ps (bodies.Godlta x y z) = three names ps x y z >>= λ r. Ok (deeds.Godlta r.0 r.1 r.2)
-executed names ps (bodies.GoStart q s other) = surfaces ps s other >>= λ r. Ok (deeds.GoStart q r.0 r.1)
-executed names ps (bodies.Contour side go d q c) = pair ps d c >>= λ r. Ok (deeds.Contour side go r.0 q r.1)
-executed names ps bodies.Rapid = Ok deeds.Rapid
-executed names ps bodies.Halt = Ok deeds.Halt
-executed names ps bodies.OptHalt = Ok deeds.OptHalt
-executed names ps bodies.EndWord = Ok deeds.EndWord
-executed names ps bodies.Fini = Ok deeds.Fini
-executed names ps (bodies.Fedrat e) = value_of names ps e >>= λ v. Ok (deeds.Fedrat v)
-executed names ps (bodies.Spindl e turn) = value_of names ps e >>= λ v. Ok (deeds.Spindl v turn)
-executed names ps bodies.SpindlOff = Ok deeds.SpindlOff
-executed names ps (bodies.Coolnt c) = Ok (deeds.Coolnt c)
-executed names ps (bodies.Loadtl e) = value_of names ps e >>= λ v. Ok (deeds.Loadtl v)
-executed names ps (bodies.Macro m parameters) = Err cases.NotBuilt
-executed names ps bodies.Termac = Err cases.NotBuilt
-executed names ps (bodies.Call m args) = Err cases.NotBuilt
-executed names ps bodies.Loopst = Err cases.NotBuilt
-executed names ps bodies.Loopnd = Err cases.NotBuilt
-executed names ps (bodies.Jumpto l) = Err cases.NotBuilt
-executed names ps (bodies.If e a b c) = Err cases.NotBuilt
+unfoldable pub execution : Names → Parameters → Body → Result Deed Case
+execution names ps (bodies.Partno text) = Ok (deeds.Partno text)
+execution names ps (bodies.Remark text) = Ok (deeds.Remark text)
+execution names ps (bodies.Units units) = Ok (deeds.Units units)
+execution names ps bodies.Clprnt = Ok deeds.Clprnt
+execution names ps bodies.Nopost = Ok deeds.Nopost
+execution names ps (bodies.Machin es) = Ok deeds.Machin
+execution names ps (bodies.Assign n e) = value_of names ps e >>= λ v. Ok (deeds.Assign n v)
+execution names ps (bodies.PointXy n x y z) = coordinates names ps x y z >>= λ r. Ok (deeds.PointXy n r.0 r.1 r.2)
+execution names ps (bodies.PointLines n a b) = pair ps a b >>= λ r. Ok (deeds.PointLines n r.0 r.1)
+execution names ps (bodies.PointPick n k a b) = pair ps a b >>= λ r. Ok (deeds.PointPick n k r.0 r.1)
+execution names ps (bodies.PointCenter n c) = name_for ps c >>= λ c. Ok (deeds.PointCenter n c)
+execution names ps (bodies.LineXy n x y u v) = four names ps x y u v >>= λ r. Ok (deeds.LineXy n r.0 r.1 r.2 r.3)
+execution names ps (bodies.LinePoints n p q) = pair ps p q >>= λ r. Ok (deeds.LinePoints n r.0 r.1)
+execution names ps (bodies.LinePar n p l) = pair ps p l >>= λ r. Ok (deeds.LinePar n r.0 r.1)
+execution names ps (bodies.LinePerp n p l) = pair ps p l >>= λ r. Ok (deeds.LinePerp n r.0 r.1)
+execution names ps (bodies.LineAt n l k e) = value_and_name names ps e l >>= λ r. Ok (deeds.LineAt n r.1 k r.0)
+execution names ps (bodies.LineTan n p h c) = pair ps p c >>= λ r. Ok (deeds.LineTan n r.0 h r.1)
+execution names ps (bodies.LineTwo n h c k d) = pair ps c d >>= λ r. Ok (deeds.LineTwo n h r.0 k r.1)
+execution names ps (bodies.CircleThree n x y z) = circle_three names ps n x y z
+execution names ps (bodies.CircleRadius n p e) = value_and_name names ps e p >>= λ r. Ok (deeds.CircleRadius n r.1 r.0)
+execution names ps (bodies.CircleTan n p l) = pair ps p l >>= λ r. Ok (deeds.CircleTan n r.0 r.1)
+execution names ps (bodies.CircleThrough n p q) = pair ps p q >>= λ r. Ok (deeds.CircleThrough n r.0 r.1)
+execution names ps (bodies.CircleCorner n j a k b e) = value_and_pair names ps e a b >>= λ r. Ok (deeds.CircleCorner n j r.1 k r.2 r.0)
+execution names ps (bodies.Cutter e) = value_of names ps e >>= λ v. Ok (deeds.Cutter v)
+execution names ps (bodies.Intol e) = value_of names ps e >>= λ v. Ok (deeds.Intol v)
+execution names ps (bodies.Outtol e) = value_of names ps e >>= λ v. Ok (deeds.Outtol v)
+execution names ps (bodies.Tool side) = Ok (deeds.Tool side)
+execution names ps (bodies.FromXy x y z) = coordinates names ps x y z >>= λ r. Ok (deeds.FromXy r.0 r.1 r.2)
+execution names ps (bodies.FromPoint p) = name_for ps p >>= λ p. Ok (deeds.FromPoint p)
+execution names ps (bodies.GotoXy x y z) = coordinates names ps x y z >>= λ r. Ok (deeds.GotoXy r.0 r.1 r.2)
+execution names ps (bodies.GotoPoint p) = name_for ps p >>= λ p. Ok (deeds.GotoPoint p)
+execution names ps (bodies.Godlta x y z) = three names ps x y z >>= λ r. Ok (deeds.Godlta r.0 r.1 r.2)
+execution names ps (bodies.GoStart q s other) = surfaces ps s other >>= λ r. Ok (deeds.GoStart q r.0 r.1)
+execution names ps (bodies.Contour side go d q c) = pair ps d c >>= λ r. Ok (deeds.Contour side go r.0 q r.1)
+execution names ps bodies.Rapid = Ok deeds.Rapid
+execution names ps bodies.Halt = Ok deeds.Halt
+execution names ps bodies.OptHalt = Ok deeds.OptHalt
+execution names ps bodies.EndWord = Ok deeds.EndWord
+execution names ps bodies.Fini = Ok deeds.Fini
+execution names ps (bodies.Fedrat e) = value_of names ps e >>= λ v. Ok (deeds.Fedrat v)
+execution names ps (bodies.Spindl e turn) = value_of names ps e >>= λ v. Ok (deeds.Spindl v turn)
+execution names ps bodies.SpindlOff = Ok deeds.SpindlOff
+execution names ps (bodies.Coolnt c) = Ok (deeds.Coolnt c)
+execution names ps (bodies.Loadtl e) = value_of names ps e >>= λ v. Ok (deeds.Loadtl v)
+execution names ps (bodies.Macro m parameters) = Err cases.NotBuilt
+execution names ps bodies.Termac = Err cases.NotBuilt
+execution names ps (bodies.Call m args) = Err cases.NotBuilt
+execution names ps bodies.Loopst = Err cases.NotBuilt
+execution names ps bodies.Loopnd = Err cases.NotBuilt
+execution names ps (bodies.Jumpto l) = Err cases.NotBuilt
+execution names ps (bodies.If e a b c) = Err cases.NotBuilt
 
 abbrev pub is_parameter : Parameters → Option (List ℕ) → Bool
 is_parameter ps None = false
@@ -232,63 +232,63 @@ is_parameter ps (Some n) = is_some (meaning ps n)
 
 -- a name that a statement defines is no parameter of the running macro; then come the values and names of the statement
 unfoldable pub deed_of : Names → Parameters → Body → Result Deed Case
-deed_of names ps body = if is_parameter ps (defined_name body) then Err cases.BadArgs else executed names ps body
+deed_of names ps body = if is_parameter ps (defined_name body) then Err cases.BadArgs else execution names ps body
 
 -- ---- the names behind a step
 
-abbrev pub given : Deed → Option (List ℕ × Value)
-given (deeds.Partno text) = None
-given (deeds.Remark text) = None
-given (deeds.Units units) = None
-given deeds.Clprnt = None
-given deeds.Nopost = None
-given deeds.Machin = None
-given (deeds.Assign n v) = Some (n, values.Scalar v)
-given (deeds.PointXy n x y z) = Some (n, values.Shape kinds.Point)
-given (deeds.PointLines n a b) = Some (n, values.Shape kinds.Point)
-given (deeds.PointPick n k a b) = Some (n, values.Shape kinds.Point)
-given (deeds.PointCenter n c) = Some (n, values.Shape kinds.Point)
-given (deeds.LineXy n x y u v) = Some (n, values.Shape kinds.Line)
-given (deeds.LinePoints n p q) = Some (n, values.Shape kinds.Line)
-given (deeds.LinePar n p l) = Some (n, values.Shape kinds.Line)
-given (deeds.LinePerp n p l) = Some (n, values.Shape kinds.Line)
-given (deeds.LineAt n l k v) = Some (n, values.Shape kinds.Line)
-given (deeds.LineTan n p h c) = Some (n, values.Shape kinds.Line)
-given (deeds.LineTwo n h c k d) = Some (n, values.Shape kinds.Line)
-given (deeds.CircleXyr n x y r) = Some (n, values.Shape kinds.Circle)
-given (deeds.CirclePoints n a b c) = Some (n, values.Shape kinds.Circle)
-given (deeds.CircleRadius n p r) = Some (n, values.Shape kinds.Circle)
-given (deeds.CircleTan n p l) = Some (n, values.Shape kinds.Circle)
-given (deeds.CircleThrough n p q) = Some (n, values.Shape kinds.Circle)
-given (deeds.CircleCorner n j a k b r) = Some (n, values.Shape kinds.Circle)
-given (deeds.Cutter v) = None
-given (deeds.Intol v) = None
-given (deeds.Outtol v) = None
-given (deeds.Tool side) = None
-given (deeds.FromXy x y z) = None
-given (deeds.FromPoint p) = None
-given (deeds.GotoXy x y z) = None
-given (deeds.GotoPoint p) = None
-given (deeds.Godlta x y z) = None
-given (deeds.GoStart q s other) = None
-given (deeds.Contour side go d q c) = None
-given deeds.Rapid = None
-given deeds.Halt = None
-given deeds.OptHalt = None
-given deeds.EndWord = None
-given deeds.Fini = None
-given (deeds.Fedrat v) = None
-given (deeds.Spindl v turn) = None
-given deeds.SpindlOff = None
-given (deeds.Coolnt c) = None
-given (deeds.Loadtl v) = None
-given deeds.Macro = None
-given deeds.Termac = None
-given deeds.Call = None
-given deeds.Loopst = None
-given deeds.Loopnd = None
-given deeds.Jumpto = None
-given deeds.If = None
+abbrev pub definition_of : Deed → Option (List ℕ × Value)
+definition_of (deeds.Partno text) = None
+definition_of (deeds.Remark text) = None
+definition_of (deeds.Units units) = None
+definition_of deeds.Clprnt = None
+definition_of deeds.Nopost = None
+definition_of deeds.Machin = None
+definition_of (deeds.Assign n v) = Some (n, values.Scalar v)
+definition_of (deeds.PointXy n x y z) = Some (n, values.Shape kinds.Point)
+definition_of (deeds.PointLines n a b) = Some (n, values.Shape kinds.Point)
+definition_of (deeds.PointPick n k a b) = Some (n, values.Shape kinds.Point)
+definition_of (deeds.PointCenter n c) = Some (n, values.Shape kinds.Point)
+definition_of (deeds.LineXy n x y u v) = Some (n, values.Shape kinds.Line)
+definition_of (deeds.LinePoints n p q) = Some (n, values.Shape kinds.Line)
+definition_of (deeds.LinePar n p l) = Some (n, values.Shape kinds.Line)
+definition_of (deeds.LinePerp n p l) = Some (n, values.Shape kinds.Line)
+definition_of (deeds.LineAt n l k v) = Some (n, values.Shape kinds.Line)
+definition_of (deeds.LineTan n p h c) = Some (n, values.Shape kinds.Line)
+definition_of (deeds.LineTwo n h c k d) = Some (n, values.Shape kinds.Line)
+definition_of (deeds.CircleXyr n x y r) = Some (n, values.Shape kinds.Circle)
+definition_of (deeds.CirclePoints n a b c) = Some (n, values.Shape kinds.Circle)
+definition_of (deeds.CircleRadius n p r) = Some (n, values.Shape kinds.Circle)
+definition_of (deeds.CircleTan n p l) = Some (n, values.Shape kinds.Circle)
+definition_of (deeds.CircleThrough n p q) = Some (n, values.Shape kinds.Circle)
+definition_of (deeds.CircleCorner n j a k b r) = Some (n, values.Shape kinds.Circle)
+definition_of (deeds.Cutter v) = None
+definition_of (deeds.Intol v) = None
+definition_of (deeds.Outtol v) = None
+definition_of (deeds.Tool side) = None
+definition_of (deeds.FromXy x y z) = None
+definition_of (deeds.FromPoint p) = None
+definition_of (deeds.GotoXy x y z) = None
+definition_of (deeds.GotoPoint p) = None
+definition_of (deeds.Godlta x y z) = None
+definition_of (deeds.GoStart q s other) = None
+definition_of (deeds.Contour side go d q c) = None
+definition_of deeds.Rapid = None
+definition_of deeds.Halt = None
+definition_of deeds.OptHalt = None
+definition_of deeds.EndWord = None
+definition_of deeds.Fini = None
+definition_of (deeds.Fedrat v) = None
+definition_of (deeds.Spindl v turn) = None
+definition_of deeds.SpindlOff = None
+definition_of (deeds.Coolnt c) = None
+definition_of (deeds.Loadtl v) = None
+definition_of deeds.Macro = None
+definition_of deeds.Termac = None
+definition_of deeds.Call = None
+definition_of deeds.Loopst = None
+definition_of deeds.Loopnd = None
+definition_of deeds.Jumpto = None
+definition_of deeds.If = None
 
 abbrev pub names_after : Names → Option (List ℕ × Value) → Names
 names_after names None = names
@@ -296,4 +296,4 @@ names_after names (Some entry) = with_entry names entry.0 entry.1
 
 -- a definition counts as made as soon as its step is executed
 abbrev pub names_behind : Names → Deed → Names
-names_behind names deed = names_after names (given deed)
+names_behind names deed = names_after names (definition_of deed)

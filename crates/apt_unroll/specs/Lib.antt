@@ -1,4 +1,4 @@
 pub mod Deeds
-pub mod Straight
+pub mod Trace
 pub mod Codes
-pub mod Laws
+pub mod TraceFronts

@@ -7,8 +7,8 @@ use apt_scalar::{Bound, Env, Frame, Kind, Value, bound_in, eval};
 use apt_words::{Case, Deed, Expr, Node, Stop, Symbol};
 
 /// The figure's name that a name stands for.
-pub(crate) fn named(frame: &Frame, name: &Symbol) -> Result<Symbol, Case>
-    ensures { result ≡ deeds.named frame.now name.now }
+pub(crate) fn name_for(frame: &Frame, name: &Symbol) -> Result<Symbol, Case>
+    ensures { result ≡ deeds.name_for frame.now name.now }
 {
     match bound_in(frame, name) {
         None => Ok(name.copied()),
@@ -21,8 +21,8 @@ pub(crate) fn named(frame: &Frame, name: &Symbol) -> Result<Symbol, Case>
 pub(crate) fn pair(frame: &Frame, a: &Symbol, b: &Symbol) -> Result<(Symbol, Symbol), Case>
     ensures { result ≡ deeds.pair frame.now a.now b.now }
 {
-    let a = named(frame, a)?;
-    let b = named(frame, b)?;
+    let a = name_for(frame, a)?;
+    let b = name_for(frame, b)?;
     Ok((a, b))
 }
 
@@ -73,15 +73,15 @@ fn optional(env: &Env, frame: &Frame, e: &Option<Expr>) -> Result<Option<i64>, C
 }
 
 /// The values of a place, whose z may be left out.
-#[tactic(auto, unfolding(crate::specs::Deeds::place))]
-pub(crate) fn place(
+#[tactic(auto, unfolding(crate::specs::Deeds::coordinates))]
+pub(crate) fn coordinates(
     env: &Env,
     frame: &Frame,
     x: &Expr,
     y: &Expr,
     z: &Option<Expr>,
 ) -> Result<(i64, i64, Option<i64>), Case>
-    ensures { result ≡ deeds.place env.now frame.now x.now y.now z.now }
+    ensures { result ≡ deeds.coordinates env.now frame.now x.now y.now z.now }
 {
     let x = eval(x, env, frame)?;
     let y = eval(y, env, frame)?;
@@ -99,7 +99,7 @@ pub(crate) fn value_and_name(
     ensures { result ≡ deeds.value_and_name env.now frame.now e.now a.now }
 {
     let v = eval(e, env, frame)?;
-    let a = named(frame, a)?;
+    let a = name_for(frame, a)?;
     Ok((v, a))
 }
 
@@ -114,8 +114,8 @@ pub(crate) fn value_and_pair(
     ensures { result ≡ deeds.value_and_pair env.now frame.now e.now a.now b.now }
 {
     let v = eval(e, env, frame)?;
-    let a = named(frame, a)?;
-    let b = named(frame, b)?;
+    let a = name_for(frame, a)?;
+    let b = name_for(frame, b)?;
     Ok((v, a, b))
 }
 
@@ -128,7 +128,7 @@ fn second_surface(
     match surface {
         None => Ok(None),
         Some((stop, name)) => {
-            let name = named(frame, name)?;
+            let name = name_for(frame, name)?;
             Ok(Some((*stop, name)))
         }
     }
@@ -143,7 +143,7 @@ pub(crate) fn surfaces(
 ) -> Result<(Symbol, Option<(Stop, Symbol)>), Case>
     ensures { result ≡ deeds.surfaces frame.now name.now other.now }
 {
-    let name = named(frame, name)?;
+    let name = name_for(frame, name)?;
     let other = second_surface(frame, other)?;
     Ok((name, other))
 }
@@ -155,7 +155,7 @@ fn lone_point(env: &Env, frame: &Frame, e: &Expr) -> Option<Symbol>
     let Node::Name(name) = &e.node else {
         return None;
     };
-    match named(frame, name) {
+    match name_for(frame, name) {
         Ok(name) => point_named(env, name),
         Err(_) => None,
     }

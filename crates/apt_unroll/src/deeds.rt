@@ -3,13 +3,13 @@ ghost use Rattle.std.specs.Prelude.{◌≡◌, IfOk, OnOk};
 ghost use Rattle.std.specs.Option.{option_copied};
 ghost use Rattle.apt_unroll.specs.Deeds as deeds;
 
-use crate::statements::executed;
+use crate::statements::execution;
 use apt_scalar::{Env, Frame, Kind, Value, bind, bound_in};
 use apt_words::{Body, Case, Deed, Symbol, Text};
 use std::alloc::{AllocError, Global};
 
 /// What a statement does, or its first refusal.
-#[tactic(auto, unfolding(crate::specs::Deeds::deed_of, crate::specs::Deeds::executed))]
+#[tactic(auto, unfolding(crate::specs::Deeds::deed_of, crate::specs::Deeds::execution))]
 pub(crate) fn deed_of(
     env: &Env,
     frame: &Frame,
@@ -29,7 +29,7 @@ pub(crate) fn deed_of(
             let text = copied(text)?;
             Ok(Ok(Deed::Remark(text)))
         }
-        _ => Ok(executed(env, frame, body)),
+        _ => Ok(execution(env, frame, body)),
     }
 }
 
@@ -80,15 +80,15 @@ fn defined_name(body: &Body) -> Option<&Symbol>
 pub(crate) fn bind_behind(alloc: Global, env: &mut Env, deed: &Deed) -> Result<(), AllocError>
     ensures { OnOk result (env.new ≡ deeds.names_behind env.old deed.now) }
 {
-    match given(deed) {
+    match definition_of(deed) {
         None => Ok(()),
         Some((name, v)) => bind(alloc, env, name, v),
     }
 }
 
 /// The name that a step defines, and its value.
-fn given(deed: &Deed) -> Option<(Symbol, Value)>
-    ensures { result ≡ deeds.given deed.now }
+fn definition_of(deed: &Deed) -> Option<(Symbol, Value)>
+    ensures { result ≡ deeds.definition_of deed.now }
 {
     match deed {
         Deed::Assign(n, v) => Some((n.copied(), Value::Scalar(*v))),

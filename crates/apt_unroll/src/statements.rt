@@ -1,19 +1,20 @@
 //! What each statement does.
 ghost use Rattle.std.specs.Prelude.{◌≡◌, false};
 ghost use Rattle.apt_unroll.specs.Deeds as deeds;
-ghost use Rattle.apt_unroll.specs.Laws as laws;
+ghost use Rattle.apt_unroll.specs.TraceFronts as laws;
 
 use crate::arguments::{
-    circle_three, four, named, pair, place, surfaces, three, value_and_name, value_and_pair,
+    circle_three, coordinates, four, name_for, pair, surfaces, three, value_and_name,
+    value_and_pair,
 };
 use apt_scalar::{Env, Frame, eval};
 use apt_words::{Body, Case, Deed};
 
 /// What a statement does; one whose text has to be copied is handled before.
-#[tactic(auto, unfolding(crate::specs::Deeds::executed))]
-pub(crate) fn executed(env: &Env, frame: &Frame, body: &Body) -> Result<Deed, Case>
+#[tactic(auto, unfolding(crate::specs::Deeds::execution))]
+pub(crate) fn execution(env: &Env, frame: &Frame, body: &Body) -> Result<Deed, Case>
     requires { laws.is_text body.now ≡ false }
-    ensures { result ≡ deeds.executed env.now frame.now body.now }
+    ensures { result ≡ deeds.execution env.now frame.now body.now }
 {
     match body {
         Body::Partno(_) | Body::Remark(_) => unreachable!(),
@@ -26,7 +27,7 @@ pub(crate) fn executed(env: &Env, frame: &Frame, body: &Body) -> Result<Deed, Ca
             Ok(Deed::Assign(n.copied(), v))
         }
         Body::PointXy(n, x, y, z) => {
-            let (x, y, z) = place(env, frame, x, y, z)?;
+            let (x, y, z) = coordinates(env, frame, x, y, z)?;
             Ok(Deed::PointXy(n.copied(), x, y, z))
         }
         Body::PointLines(n, a, b) => {
@@ -38,7 +39,7 @@ pub(crate) fn executed(env: &Env, frame: &Frame, body: &Body) -> Result<Deed, Ca
             Ok(Deed::PointPick(n.copied(), *pick, a, b))
         }
         Body::PointCenter(n, c) => {
-            let c = named(frame, c)?;
+            let c = name_for(frame, c)?;
             Ok(Deed::PointCenter(n.copied(), c))
         }
         Body::LineXy(n, x, y, u, v) => {
@@ -91,15 +92,15 @@ pub(crate) fn executed(env: &Env, frame: &Frame, body: &Body) -> Result<Deed, Ca
         Body::Outtol(e) => Ok(Deed::Outtol(eval(e, env, frame)?)),
         Body::Tool(side) => Ok(Deed::Tool(*side)),
         Body::FromXy(x, y, z) => {
-            let (x, y, z) = place(env, frame, x, y, z)?;
+            let (x, y, z) = coordinates(env, frame, x, y, z)?;
             Ok(Deed::FromXy(x, y, z))
         }
-        Body::FromPoint(p) => Ok(Deed::FromPoint(named(frame, p)?)),
+        Body::FromPoint(p) => Ok(Deed::FromPoint(name_for(frame, p)?)),
         Body::GotoXy(x, y, z) => {
-            let (x, y, z) = place(env, frame, x, y, z)?;
+            let (x, y, z) = coordinates(env, frame, x, y, z)?;
             Ok(Deed::GotoXy(x, y, z))
         }
-        Body::GotoPoint(p) => Ok(Deed::GotoPoint(named(frame, p)?)),
+        Body::GotoPoint(p) => Ok(Deed::GotoPoint(name_for(frame, p)?)),
         Body::Godlta(x, y, z) => {
             let (x, y, z) = three(env, frame, x, y, z)?;
             Ok(Deed::Godlta(x, y, z))

@@ -11,7 +11,7 @@ fn symbol(rt: &impl Abort, text: &str) -> Symbol {
     Symbol::new(text).expect(rt, "a symbol")
 }
 
-fn named(rt: &impl Abort, text: &str) -> Expr {
+fn name_for(rt: &impl Abort, text: &str) -> Expr {
     Expr {
         node: Node::Name(symbol(rt, text)),
     }
@@ -33,7 +33,7 @@ fn program(alloc: Global, rt: &impl Abort, text: &str) -> Result<Program, AllocE
 {
     let five = Expr { node: Node::Num(5) };
     let x = on(3, Body::Assign(symbol(rt, "X"), five));
-    let cutter = on(4, Body::Cutter(named(rt, text)));
+    let cutter = on(4, Body::Cutter(name_for(rt, text)));
     let end = on(5, Body::EndWord);
     let stmts = vec![in alloc; x, cutter, end, on(6, Body::Rapid)]?;
     Ok(Program { stmts })

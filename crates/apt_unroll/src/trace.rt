@@ -2,11 +2,11 @@
 
 ghost use Rattle.std.specs.Prelude.{◌≡◌, ◌≢◌, ◌≤◌, [], false, None, IfOk, IfSome};
 ghost use Rattle.apt_words.specs.Built.{AreBuilt, AreBuiltSteps};
-ghost use Rattle.apt_words.specs.Endings as endings;
-ghost use Rattle.apt_words.specs.Endings.{EndsInFini, StepsEnd};
+ghost use Rattle.apt_words.specs.ProgramEnds as endings;
+ghost use Rattle.apt_words.specs.ProgramEnds.{EndsInFini, StepsEnd};
 ghost use Rattle.apt_words.specs.declared.Case.TheVariants as cases;
-ghost use Rattle.apt_scalar.specs.Numbers.{AreScalars};
-ghost use Rattle.apt_unroll.specs.Straight as straight;
+ghost use Rattle.apt_scalar.specs.StepScalars.{AreScalars};
+ghost use Rattle.apt_unroll.specs.Trace as straight;
 
 use crate::deeds::{bind_behind, deed_of};
 use apt_scalar::{Env, Frame};
@@ -25,12 +25,12 @@ pub struct Unrolled {
 }
 
 impl Model for Unrolled {
-    ghost use Rattle.apt_unroll.specs.Straight.{Steps};
-    ghost use Rattle.apt_unroll.specs.Codes.{steps_code};
+    ghost use Rattle.apt_unroll.specs.Trace.{Trace};
+    ghost use Rattle.apt_unroll.specs.Codes.{trace_code};
 
-    ghost Value = { Steps };
+    ghost Value = { Trace };
 
-    ghost coded = { steps_code };
+    ghost coded = { trace_code };
 
     ghost view = { λ u. record { steps = u.steps.items; fault = u.fault } };
 }
@@ -39,7 +39,7 @@ impl Model for Unrolled {
 #[tactic(auto, using(crate::proofs::Numbers::are_scalars, crate::proofs::Building::are_built, crate::proofs::Building::none_unbuilt, crate::proofs::Endings::end_once))]
 pub fn unroll(alloc: Global, p: &Program) -> Result<Unrolled, AllocError>
     requires built { AreBuilt p.now }
-    ensures steps { IfOk result (λ u. u ≡ straight.steps_of p.now) }
+    ensures steps { IfOk result (λ u. u ≡ straight.trace_of p.now) }
     ensures scalars { IfOk result (λ u. AreScalars u.steps) }
     ensures built { IfOk result (λ u. AreBuiltSteps u.steps) }
     ensures none_unbuilt { IfOk result (λ u. IfSome u.fault (λ refusal. refusal.case ≢ cases.NotBuilt)) }
@@ -49,7 +49,7 @@ pub fn unroll(alloc: Global, p: &Program) -> Result<Unrolled, AllocError>
 }
 
 fn unroll_all(alloc: Global, p: &Program) -> Result<Unrolled, AllocError>
-    ensures { IfOk result (λ u. u ≡ straight.steps_of p.now) }
+    ensures { IfOk result (λ u. u ≡ straight.trace_of p.now) }
 {
     let frame = Frame {
         bound: Vec::new(alloc),

@@ -7,5 +7,5 @@ pub mod Names
 pub mod Trees
 pub mod TreeCodes
 pub mod TreeViews
-pub mod Endings
+pub mod ProgramEnds
 pub mod Built

@@ -1,7 +1,7 @@
 //! Statements of part programs.
 
 ghost use Rattle.std.specs.Prelude.{◌≡◌};
-ghost use Rattle.apt_words.specs.Endings as endings;
+ghost use Rattle.apt_words.specs.ProgramEnds as endings;
 
 use crate::{Cool, Expr, Go, Pick, Side, Stop, Symbol, Turn, Units};
 use std::marker::Model;

@@ -1,5 +1,5 @@
 use Rattle.std.proofs.Common.{◌≡◌, ◌++◌, drop}
-use Rattle.apt_post.specs.Post.{acts_text, tape_text}
+use Rattle.apt_post.specs.Blocks.{acts_text, tape_text}
 use Rattle.apt_post.proofs.tape_text.Given as goal
 
 abbrev pub invariant-acts : goal.invariant-acts

@@ -2,31 +2,31 @@ use Rattle.std.proofs.Common.{rules, refl, ◌≡◌, ◌^◌, arith, pos, ◌*�
 use Rattle.std.specs.Int.{w128}
 use Rattle.std.proofs.lemmas.Int.{ints, to_z-of_z}
 use Rattle.apt_num.specs.Near.{near}
-use Rattle.apt_canon.specs.Meeting.{meeting_way}
+use Rattle.apt_canon.specs.Meeting.{meeting_displacement}
 use Rattle.apt_canon.proofs.lines.meeting_point.Goals as goal
 
 pub returns-clause-x : goal.returns-clause-x
 returns-clause-x c =
     let a = c.args.a.now in
-    let way = c.meeting_way-way.result in
+    let displacement = c.meeting_displacement-displacement.result in
     let fits_base : FitsSigned w64 a.base.x = omega (arith, ints) in
-    let fits_way : FitsSigned w128 way.x = omega (arith, ints) in
+    let fits_displacement : FitsSigned w128 displacement.x = omega (arith, ints) in
     let fits_turn : FitsSigned w128 c.args.turn = c.ranges.turn in
     let fits_result : FitsSigned w128 c.shifted.result = search rules in
-    let value : c.shifted.result ≡ a.base.x +ℤ near way.x (c.args.turn *ℤ pos (2 ^ 35)) = simp to_z-of_z at c.shifted.ensures in
-    let same : way.x ≡ (meeting_way a c.args.ha c.args.b.now c.args.hb).dx =
-    rw (to_z-of_z w64 c.args.ha c.ranges.ha, to_z-of_z w64 c.args.hb c.ranges.hb) at c.meeting_way-way.ensures.x in
+    let value : c.shifted.result ≡ a.base.x +ℤ near displacement.x (c.args.turn *ℤ pos (2 ^ 35)) = simp to_z-of_z at c.shifted.ensures in
+    let same : displacement.x ≡ (meeting_displacement a c.args.ha c.args.b.now c.args.hb).dx =
+    rw (to_z-of_z w64 c.args.ha c.ranges.ha, to_z-of_z w64 c.args.hb c.ranges.hb) at c.meeting_displacement-displacement.ensures.x in
     rw (to_z-of_z w128 c.shifted.result fits_result, value, same, c.requires.turn) refl
 
 pub returns-clause-y : goal.returns-clause-y
 returns-clause-y c =
     let a = c.args.a.now in
-    let way = c.meeting_way-way.result in
+    let displacement = c.meeting_displacement-displacement.result in
     let fits_base : FitsSigned w64 a.base.y = omega (arith, ints) in
-    let fits_way : FitsSigned w128 way.y = omega (arith, ints) in
+    let fits_displacement : FitsSigned w128 displacement.y = omega (arith, ints) in
     let fits_turn : FitsSigned w128 c.args.turn = c.ranges.turn in
     let fits_result : FitsSigned w128 c.shifted-2.result = search rules in
-    let value : c.shifted-2.result ≡ a.base.y +ℤ near way.y (c.args.turn *ℤ pos (2 ^ 35)) = simp to_z-of_z at c.shifted-2.ensures in
-    let same : way.y ≡ (meeting_way a c.args.ha c.args.b.now c.args.hb).dy =
-    rw (to_z-of_z w64 c.args.ha c.ranges.ha, to_z-of_z w64 c.args.hb c.ranges.hb) at c.meeting_way-way.ensures.y in
+    let value : c.shifted-2.result ≡ a.base.y +ℤ near displacement.y (c.args.turn *ℤ pos (2 ^ 35)) = simp to_z-of_z at c.shifted-2.ensures in
+    let same : displacement.y ≡ (meeting_displacement a c.args.ha c.args.b.now c.args.hb).dy =
+    rw (to_z-of_z w64 c.args.ha c.ranges.ha, to_z-of_z w64 c.args.hb c.ranges.hb) at c.meeting_displacement-displacement.ensures.y in
     rw (to_z-of_z w128 c.shifted-2.result fits_result, value, same, c.requires.turn) refl

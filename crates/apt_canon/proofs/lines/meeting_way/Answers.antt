@@ -1,7 +1,7 @@
 use Rattle.std.proofs.Common.{rules, refl, ◌≡◌, ◌≤◌, ◌+◌, ◌*◌, ◌^◌, arith, pos, ◌*ℤ◌, ◌-ℤ◌, unsigned_abs, FitsSigned, w64, ◌∙◌}
 use Rattle.std.specs.Int.{w128}
 use Rattle.std.proofs.lemmas.Int.{ints, to_z-of_z}
-use Rattle.apt_canon.proofs.lines.meeting_way.Goals as goal
+use Rattle.apt_canon.proofs.lines.meeting_displacement.Goals as goal
 
 pub returns-clause-x : goal.returns-clause-x
 returns-clause-x c =

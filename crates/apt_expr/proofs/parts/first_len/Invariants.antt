@@ -1,5 +1,5 @@
 use Rattle.std.proofs.Common.{◌≡◌, ◌≤◌, ◌+◌, drop}
-use Rattle.apt_expr.specs.Steps.{rank_of, part_len}
+use Rattle.apt_expr.specs.Scanning.{rank_of, part_len}
 use Rattle.apt_expr.proofs.parts.first_len.Given as goal
 
 abbrev pub invariant-tokens : goal.invariant-tokens

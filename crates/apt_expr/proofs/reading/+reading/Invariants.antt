@@ -1,7 +1,7 @@
 use Rattle.std.proofs.Common.{ℕ, ◌≡◌, ◌+◌, ◌*◌, ◌≤◌, length, Some}
 use Rattle.apt_words.specs.Trees.{operators}
 use Rattle.apt_expr.specs.Expressions as expressions
-use Rattle.apt_expr.specs.Steps.{rank_of, others_from, operand_of}
+use Rattle.apt_expr.specs.Scanning.{rank_of, others_from, operand_of}
 use Rattle.apt_expr.specs.declared.parts.Rank.{Rank}
 use Rattle.apt_expr.specs.declared.parts.Rank.TheVariants as ranks
 use Rattle.apt_expr.proofs.reading.+reading.Given as goal

@@ -1,8 +1,8 @@
 use Rattle.std.proofs.Common.{◌≡◌, ◌∙◌, ◌<◌, List, ℕ, length, false, sym, subst, refl, rules}
 use Rattle.apt_lexis.specs.Tokens.{tokens_of}
-use Rattle.apt_lexis.specs.Steps.{behind_blanks}
+use Rattle.apt_lexis.specs.TokenFronts.{behind_blanks}
 use Rattle.apt_lexis.specs.Sentences.{said_on, goes_on}
-use Rattle.apt_lexis.specs.Readings.{before_line, with_tokens}
+use Rattle.apt_lexis.specs.LineByLine.{before_line, with_tokens}
 use Rattle.apt_lexis.proofs.SentenceLaws.{ends_with}
 use Rattle.apt_lexis.proofs.phrase.behind_tokens.Goals as goal
 

@@ -1,5 +1,5 @@
 use Rattle.std.proofs.Common.{◌∙◌, ◌<◌, ap, sym, refl, rules, length}
-use Rattle.apt_lexis.specs.Steps.{read_of}
+use Rattle.apt_lexis.specs.TokenFronts.{read_of}
 use Rattle.apt_lexis.proofs.OneByOne.{reads_behind_blanks, no_blank_behind, token_added, token_bad}
 use Rattle.apt_lexis.proofs.token.add_tokens.Goals as goal
 

@@ -2,7 +2,7 @@ use Rattle.std.proofs.Common.{◌≡◌, length}
 use Rattle.std.specs.Prelude.{Ok}
 use Rattle.std.specs.List.{prefix_len}
 use Rattle.apt_lexis.specs.Sentences.{joined}
-use Rattle.apt_lexis.specs.Steps.{reads_of}
+use Rattle.apt_lexis.specs.TokenFronts.{reads_of}
 use Rattle.apt_lexis.specs.Tokens.{all_good, tokens_of, is_blank}
 use Rattle.apt_lexis.proofs.token.add_tokens.Given as goal
 

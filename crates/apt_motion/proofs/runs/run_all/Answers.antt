@@ -1,10 +1,10 @@
 use Rattle.std.proofs.Common.{◌≡◌, ◌∙◌, ◌∷◌, ◌+◌, drop, ap, sym, subst}
 use Rattle.std.proofs.lemmas.List.{drop_more}
 use Rattle.apt_words.specs.Built.{AreBuiltSteps}
-use Rattle.apt_scalar.specs.Numbers.{AreScalars}
+use Rattle.apt_scalar.specs.StepScalars.{AreScalars}
 use Rattle.apt_meaning.specs.Situations.{first_situation}
 use Rattle.apt_meaning.specs.Ranges.{IsSituation}
-use Rattle.apt_meaning.specs.Compiled.{compiled, with_front}
+use Rattle.apt_meaning.specs.Compiled.{compilation, with_front}
 use Rattle.apt_motion.proofs.Walks.{step_on, fit, end_in}
 use Rattle.apt_motion.proofs.runs.run_all.Goals as goal
 
@@ -34,11 +34,11 @@ steps-preserved c =
     let at = c.steps.at in
     let e = c.in-Ok.found.effect in
     let rest : drop i xs ≡ st ∷ drop (i + 1) xs = drop_more xs i st c.steps-test.true ∙ ap (λ x. x ∷ drop (i + 1) xs) (sym c.st-item.is) in
-    let so_far = subst (λ ss. with_front c.steps.records.items (compiled at ss) ≡ compiled first_situation xs) rest c.steps.invariant.so_far in
+    let so_far = subst (λ ss. with_front c.steps.records.items (compilation at ss) ≡ compilation first_situation xs) rest c.steps.invariant.so_far in
     let scalars = subst AreScalars rest c.steps.invariant.scalars in
     let fits = fit at st.deed e c.steps.invariant.situation scalars.0 c.in-Ok.ensures.0 in
     record {
-      so_far = rw (c.in_ok-at.ensures.after, c.in_ok-at.ensures.records) (step_on c.steps.records.items at st (drop (i + 1) xs) e (compiled first_situation xs) c.in-Ok.ensures.0 so_far);
+      so_far = rw (c.in_ok-at.ensures.after, c.in_ok-at.ensures.records) (step_on c.steps.records.items at st (drop (i + 1) xs) e (compilation first_situation xs) c.in-Ok.ensures.0 so_far);
       situation = subst IsSituation (sym c.in_ok-at.ensures.after) fits.behind;
       scalars = scalars.1;
       built = (subst AreBuiltSteps rest c.steps.invariant.built).1;

@@ -1,7 +1,7 @@
 use Rattle.std.proofs.Common.{◌≡◌, ◌+◌, length}
 use Rattle.apt_lexis.specs.Lines.{lines_of}
 use Rattle.apt_lexis.specs.Sentences.{said_by}
-use Rattle.apt_parse.specs.Reading.{IsRead}
+use Rattle.apt_parse.specs.ReaderState.{IsRead}
 use Rattle.apt_parse.specs.Programs.{program_from, program_of, last_line}
 use Rattle.apt_parse.proofs.program.parse_all.Given as goal
 

@@ -14,8 +14,8 @@ returns-else-line_behind c =
     let keep_sense = to_z-of_z w8 a.sense c.ranges.sense in
     let keep_stop = to_z-of_z w64 a.stop_off c.ranges.stop_off in
     let met : c.crossing.result ≡ contact_of (line_line a.drive.now a.off a.check.now a.stop_off) = rw (keep_off, keep_stop) at c.crossing.ensures in
-    let way : c.heading.result ≡ heading a.sense a.drive.now.dir = rw keep_sense at c.heading.ensures.value in
+    let displacement : c.heading.result ≡ heading a.sense a.drive.now.dir = rw keep_sense at c.heading.ensures.value in
     let behind : c.line_behind.result ≡ line_behind a.start (heading a.sense a.drive.now.dir) a.check.now a.stop_off =
-    rw (keep_stop, way) at c.line_behind.ensures in
+    rw (keep_stop, displacement) at c.line_behind.ensures in
     let apart : are_parallel a.drive.now a.check.now ≡ false = sym c.are_parallel.ensures ∙ c.if-are_parallel.false in
     met ∙ sym (line_stop-met a.start a.drive.now a.off a.sense a.check.now a.stop_off apart (sym behind ∙ c.if-line_behind.false))

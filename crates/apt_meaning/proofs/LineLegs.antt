@@ -8,7 +8,7 @@ use Rattle.apt_plane.specs.declared.figures.Line.{Line}
 use Rattle.apt_plane.specs.declared.figures.Surface.TheVariants as surfaces
 use Rattle.apt_plane.specs.Ranges.{IsPoint}
 use Rattle.apt_plane.specs.Vectors.{cross}
-use Rattle.apt_plane.proofs.Ways.{cross_swap}
+use Rattle.apt_plane.proofs.Displacements.{cross_swap}
 use Rattle.apt_stop.specs.Nearness.{is_near, side_of, heading, off_track, near_stop}
 use Rattle.apt_stop.specs.Lines.{is_same}
 use Rattle.apt_stop.proofs.Cases.{inside_point}

@@ -3,9 +3,9 @@ use Rattle.std.specs.Prelude.{Bool, true, false, List, ◌++◌}
 use Rattle.apt_words.specs.declared.body.Body.{Body}
 use Rattle.apt_words.specs.declared.body.Body.TheVariants as bodies
 use Rattle.apt_words.specs.declared.deed.Step.{Step}
-use Rattle.apt_unroll.specs.Straight.{Steps}
+use Rattle.apt_unroll.specs.Trace.{Trace}
 
-abbrev pub behind : List Step → Steps → Steps
+abbrev pub behind : List Step → Trace → Trace
 behind before more = record { steps = before ++ more.steps; fault = more.fault }
 
 abbrev pub is_text : Body → Bool

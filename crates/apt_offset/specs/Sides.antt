@@ -13,7 +13,7 @@ use Rattle.apt_plane.specs.declared.figures.Pt.{Pt}
 use Rattle.apt_plane.specs.declared.figures.Circ.{Circ}
 use Rattle.apt_plane.specs.declared.figures.Surface.{Surface}
 use Rattle.apt_plane.specs.declared.figures.Surface.TheVariants as surfaces
-use Rattle.apt_plane.specs.Vectors.{way, cross, norm}
+use Rattle.apt_plane.specs.Vectors.{displacement, cross, length_squared}
 use Rattle.apt_offset.specs.Turns.{opposite, is_zero}
 
 abbrev pub times : Sign → Sign → Sign
@@ -22,15 +22,15 @@ times signs.Zero s = signs.Zero
 times signs.Minus s = opposite s
 
 -- the place at the drive surface: a cutter on the left of a motion in the sense of a line is on the line's left, and of an anticlockwise motion inside the circle
-abbrev pub drive_place : Side → ℤ → Sign
-drive_place sides.Left sense = sign_of sense
-drive_place sides.Right sense = opposite (sign_of sense)
-drive_place sides.On sense = signs.Zero
+abbrev pub side_at_drive : Side → ℤ → Sign
+side_at_drive sides.Left sense = sign_of sense
+side_at_drive sides.Right sense = opposite (sign_of sense)
+side_at_drive sides.On sense = signs.Zero
 
 -- the place of a point at a surface
-abbrev pub place_of : Surface → Pt → Sign
-place_of (surfaces.Line l) p = sign_of (cross l.dir (way l.base p))
-place_of (surfaces.Circ c) p = sign_of ((c.r *ℤ c.r) -ℤ pos (norm (way c.c p)))
+abbrev pub side_at : Surface → Pt → Sign
+side_at (surfaces.Line l) p = sign_of (cross l.dir (displacement l.base p))
+side_at (surfaces.Circ c) p = sign_of ((c.r *ℤ c.r) -ℤ pos (length_squared (displacement c.c p)))
 
 -- Plus in place of Zero
 abbrev pub side_or_left : Sign → Sign
@@ -48,22 +48,22 @@ greater_radius c d = max (unsigned_abs c.r) (unsigned_abs d.r)
 
 -- two circles touch from outside where their centres are at least the greater radius apart
 abbrev pub touch_outside : Circ → Circ → Bool
-touch_outside c d = nat_le (greater_radius c d * greater_radius c d) (norm (way c.c d.c))
+touch_outside c d = nat_le (greater_radius c d * greater_radius c d) (length_squared (displacement c.c d.c))
 
 -- the place at a check surface that is touched, behind the place at the drive surface
-abbrev pub tanto_place : Surface → Surface → Sign → Sign
-tanto_place drive check signs.Zero = signs.Zero
-tanto_place (surfaces.Line l) (surfaces.Line m) v = signs.Zero
-tanto_place (surfaces.Line l) (surfaces.Circ c) v = inside_or_outside (times v (sign_of (cross l.dir (way l.base c.c))))
-tanto_place (surfaces.Circ c) (surfaces.Line l) v = times (side_or_left (sign_of (cross l.dir (way l.base c.c)))) v
-tanto_place (surfaces.Circ c) (surfaces.Circ d) v = if touch_outside c d then opposite v else v
+abbrev pub side_at_tangency : Surface → Surface → Sign → Sign
+side_at_tangency drive check signs.Zero = signs.Zero
+side_at_tangency (surfaces.Line l) (surfaces.Line m) v = signs.Zero
+side_at_tangency (surfaces.Line l) (surfaces.Circ c) v = inside_or_outside (times v (sign_of (cross l.dir (displacement l.base c.c))))
+side_at_tangency (surfaces.Circ c) (surfaces.Line l) v = times (side_or_left (sign_of (cross l.dir (displacement l.base c.c)))) v
+side_at_tangency (surfaces.Circ c) (surfaces.Circ d) v = if touch_outside c d then opposite v else v
 
 -- the place of the cutter at the check surface where the motion stops: on the start's side under TO, on the other under PAST
-abbrev pub check_place : Surface → Stop → Pt → Surface → Sign → Sign
-check_place check stops.To start drive v = place_of check start
-check_place check stops.Past start drive v = opposite (place_of check start)
-check_place check stops.On start drive v = signs.Zero
-check_place check stops.Tanto start drive v = tanto_place drive check v
+abbrev pub side_at_check : Surface → Stop → Pt → Surface → Sign → Sign
+side_at_check check stops.To start drive v = side_at check start
+side_at_check check stops.Past start drive v = opposite (side_at check start)
+side_at_check check stops.On start drive v = signs.Zero
+side_at_check check stops.Tanto start drive v = side_at_tangency drive check v
 
 -- TO and PAST need a start that is not on the check surface
 abbrev pub is_on_check : Stop → Sign → Bool
@@ -72,6 +72,6 @@ is_on_check stops.Past w = is_zero w
 is_on_check stops.On w = false
 is_on_check stops.Tanto w = false
 
-abbrev pub stop_place : Surface → Stop → Pt → Surface → Sign → Result Sign Case
-stop_place check how start drive v =
-    if is_on_check how (check_place check how start drive v) then Err cases.OnCheck else Ok (check_place check how start drive v)
+abbrev pub side_at_stop : Surface → Stop → Pt → Surface → Sign → Result Sign Case
+side_at_stop check how start drive v =
+    if is_on_check how (side_at_check check how start drive v) then Err cases.OnCheck else Ok (side_at_check check how start drive v)

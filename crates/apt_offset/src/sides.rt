@@ -3,17 +3,17 @@
 
 ghost use Rattle.std.specs.Prelude.{◌≡◌};
 ghost use Rattle.apt_plane.specs.Ranges.{IsPoint, IsSurface, IsLine, IsCircle};
-ghost use Rattle.apt_offset.specs.Places as placing;
+ghost use Rattle.apt_offset.specs.Sides as spec;
 
 use crate::signs::{is_zero, opposite, times};
 use apt_num::{Sign, compare, sign_of};
-use apt_plane::vectors::{cross, norm, way};
+use apt_plane::vectors::{cross, displacement, length_squared};
 use apt_plane::{Circ, Line, Pt, Surface};
 use apt_words::{Case, Side, Stop};
 
 /// The place at the drive surface.
-pub fn drive_place(side: Side, sense: i8) -> Sign
-    ensures { result ≡ placing.drive_place side sense }
+pub fn side_at_drive(side: Side, sense: i8) -> Sign
+    ensures { result ≡ spec.side_at_drive side sense }
 {
     match side {
         Side::Left => sign_of(i128::from(sense)),
@@ -23,26 +23,26 @@ pub fn drive_place(side: Side, sense: i8) -> Sign
 }
 
 /// The place at the check surface where the motion stops; Zero under `To` and `Past` where the start is on it.
-pub fn check_place(check: &Surface, how: Stop, start: Pt, drive: &Surface, at_drive: Sign) -> Sign
+pub fn side_at_check(check: &Surface, how: Stop, start: Pt, drive: &Surface, at_drive: Sign) -> Sign
     requires check { IsSurface check.now }
     requires start { IsPoint start }
     requires drive { IsSurface drive.now }
-    ensures { result ≡ placing.check_place check.now how start drive.now at_drive }
+    ensures { result ≡ spec.side_at_check check.now how start drive.now at_drive }
 {
     match how {
-        Stop::To => place_of(check, start),
-        Stop::Past => opposite(place_of(check, start)),
+        Stop::To => side_at(check, start),
+        Stop::Past => opposite(side_at(check, start)),
         Stop::On => Sign::Zero,
-        Stop::Tanto => tanto_place(drive, check, at_drive),
+        Stop::Tanto => side_at_tangency(drive, check, at_drive),
     }
 }
 
 /// Whether a motion that stops so, at this place of its check surface, starts on that surface.
-pub fn is_on_check(how: Stop, place: Sign) -> bool
-    ensures { result ≡ placing.is_on_check how place }
+pub fn is_on_check(how: Stop, side: Sign) -> bool
+    ensures { result ≡ spec.is_on_check how side }
 {
     match how {
-        Stop::To | Stop::Past => is_zero(place),
+        Stop::To | Stop::Past => is_zero(side),
         Stop::On | Stop::Tanto => false,
     }
 }
@@ -52,7 +52,7 @@ pub fn is_on_check(how: Stop, place: Sign) -> bool
 /// # Errors
 ///
 /// `OnCheck` where the start is on the check surface, under `To` and `Past`.
-pub fn stop_place(
+pub fn side_at_stop(
     check: &Surface,
     how: Stop,
     start: Pt,
@@ -62,20 +62,20 @@ pub fn stop_place(
     requires check { IsSurface check.now }
     requires start { IsPoint start }
     requires drive { IsSurface drive.now }
-    ensures { result ≡ placing.stop_place check.now how start drive.now at_drive }
+    ensures { result ≡ spec.side_at_stop check.now how start drive.now at_drive }
 {
-    let place = check_place(check, how, start, drive, at_drive);
-    if is_on_check(how, place) {
+    let side = side_at_check(check, how, start, drive, at_drive);
+    if is_on_check(how, side) {
         Err(Case::OnCheck)
     } else {
-        Ok(place)
+        Ok(side)
     }
 }
 
-fn place_of(surface: &Surface, p: Pt) -> Sign
+fn side_at(surface: &Surface, p: Pt) -> Sign
     requires surface { IsSurface surface.now }
     requires point { IsPoint p }
-    ensures { result ≡ placing.place_of surface.now p }
+    ensures { result ≡ spec.side_at surface.now p }
 {
     match surface {
         Surface::Line(line) => side_of_line(line, p),
@@ -86,25 +86,25 @@ fn place_of(surface: &Surface, p: Pt) -> Sign
 fn side_of_line(line: &Line, p: Pt) -> Sign
     requires line { IsLine line.now }
     requires point { IsPoint p }
-    ensures { result ≡ placing.place_of (Surface.Line line.now) p }
+    ensures { result ≡ spec.side_at (Surface.Line line.now) p }
 {
-    sign_of(cross(line.dir, way(line.base, p)))
+    sign_of(cross(line.dir, displacement(line.base, p)))
 }
 
 #[tactic(auto, using(crate::proofs::Circles::as_square))]
 fn side_of_circle(circle: &Circ, p: Pt) -> Sign
     requires circle { IsCircle circle.now }
     requires point { IsPoint p }
-    ensures { result ≡ placing.place_of (Surface.Circ circle.now) p }
+    ensures { result ≡ spec.side_at (Surface.Circ circle.now) p }
 {
     let size = u128::from(circle.r.unsigned_abs());
-    compare(size * size, norm(way(circle.c, p)))
+    compare(size * size, length_squared(displacement(circle.c, p)))
 }
 
-fn tanto_place(drive: &Surface, check: &Surface, at_drive: Sign) -> Sign
+fn side_at_tangency(drive: &Surface, check: &Surface, at_drive: Sign) -> Sign
     requires drive { IsSurface drive.now }
     requires check { IsSurface check.now }
-    ensures { result ≡ placing.tanto_place drive.now check.now at_drive }
+    ensures { result ≡ spec.side_at_tangency drive.now check.now at_drive }
 {
     if at_drive == Sign::Zero {
         return Sign::Zero;
@@ -128,7 +128,7 @@ fn tanto_place(drive: &Surface, check: &Surface, at_drive: Sign) -> Sign
 }
 
 fn side_or_left(side: Sign) -> Sign
-    ensures { result ≡ placing.side_or_left side }
+    ensures { result ≡ spec.side_or_left side }
 {
     match side {
         Sign::Minus => Sign::Minus,
@@ -136,10 +136,10 @@ fn side_or_left(side: Sign) -> Sign
     }
 }
 
-fn inside_or_outside(place: Sign) -> Sign
-    ensures { result ≡ placing.inside_or_outside place }
+fn inside_or_outside(side: Sign) -> Sign
+    ensures { result ≡ spec.inside_or_outside side }
 {
-    match place {
+    match side {
         Sign::Plus => Sign::Plus,
         Sign::Zero | Sign::Minus => Sign::Minus,
     }
@@ -149,8 +149,8 @@ fn inside_or_outside(place: Sign) -> Sign
 fn touch_outside(first: &Circ, second: &Circ) -> bool
     requires first { IsCircle first.now }
     requires second { IsCircle second.now }
-    ensures { result ≡ placing.touch_outside first.now second.now }
+    ensures { result ≡ spec.touch_outside first.now second.now }
 {
     let greater = u128::from(first.r.unsigned_abs().max(second.r.unsigned_abs()));
-    greater * greater <= norm(way(first.c, second.c))
+    greater * greater <= length_squared(displacement(first.c, second.c))
 }

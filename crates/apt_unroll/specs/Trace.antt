@@ -5,7 +5,7 @@ use Rattle.apt_words.specs.declared.Case.TheVariants as cases
 use Rattle.apt_words.specs.declared.Refusal.{Refusal}
 use Rattle.apt_words.specs.declared.body.Body.{Body}
 use Rattle.apt_words.specs.declared.body.Stmt.{Stmt}
-use Rattle.apt_words.specs.Endings.{is_fini, is_ended}
+use Rattle.apt_words.specs.ProgramEnds.{is_fini, is_ended}
 use Rattle.apt_words.specs.declared.deed.Deed.{Deed}
 use Rattle.apt_words.specs.declared.deed.Step.{Step}
 use Rattle.apt_scalar.specs.Meanings.{Names}
@@ -23,28 +23,28 @@ deed_at n ended names body =
     else deed_of names [] body
 
 -- all steps before the first that is refused, and that refusal
-pub record Steps : Type 0 where
+pub record Trace : Type 0 where
   pub steps : List Step
   pub fault : Option Refusal
 
-abbrev pub no_steps : Steps
-no_steps = record { steps = []; fault = None }
+abbrev pub empty_trace : Trace
+empty_trace = record { steps = []; fault = None }
 
-abbrev pub refused : ℕ → ℕ → Case → Steps
+abbrev pub refused : ℕ → ℕ → Case → Trace
 refused line n case = record { steps = []; fault = Some (record { line = line; step = n; case = case }) }
 
-abbrev pub with_step : ℕ → ℕ → Deed → Steps → Steps
+abbrev pub with_step : ℕ → ℕ → Deed → Trace → Trace
 with_step line n deed more = record { steps = record { line = line; step = n; deed = deed } ∷ more.steps; fault = more.fault }
 
-abbrev pub or_refused : ℕ → ℕ → Result Deed Case → (Deed → Steps) → Steps
+abbrev pub or_refused : ℕ → ℕ → Result Deed Case → (Deed → Trace) → Trace
 or_refused line n (Err case) more = refused line n case
 or_refused line n (Ok deed) more = with_step line n deed (more deed)
 
 -- the statements from the n-th step on
-abbrev pub steps_from : ℕ → Bool → Names → List Stmt → Steps
-steps_from n ended names [] = no_steps
-steps_from n ended names (st ∷ sts) =
-    or_refused st.line n (deed_at n ended names st.body) (λ deed. steps_from (n + 1) (is_ended ended deed) (names_behind names deed) sts)
+abbrev pub trace_from : ℕ → Bool → Names → List Stmt → Trace
+trace_from n ended names [] = empty_trace
+trace_from n ended names (st ∷ sts) =
+    or_refused st.line n (deed_at n ended names st.body) (λ deed. trace_from (n + 1) (is_ended ended deed) (names_behind names deed) sts)
 
-abbrev pub steps_of : List Stmt → Steps
-steps_of sts = steps_from 1 false [] sts
+abbrev pub trace_of : List Stmt → Trace
+trace_of sts = trace_from 1 false [] sts

@@ -4,30 +4,30 @@ use Rattle.std.proofs.lemmas.Int.{ints}
 use Rattle.apt_num.proofs.Ring.{as_diff, diff-pos, diff-same, differences}
 use Rattle.apt_num.proofs.Squares.{size_square}
 use Rattle.apt_plane.specs.declared.figures.Dir.{Dir}
-use Rattle.apt_plane.specs.Vectors.{cross, dot, norm, perp}
+use Rattle.apt_plane.specs.Vectors.{cross, dot, length_squared, perp}
 
 -- a way of parts x and y
 abbrev pub to : ℤ → ℤ → Dir
 to x y = record { dx = x; dy = y }
 
 -- the square of a length, as a whole number
-pub square_norm : (u : Dir) → pos (norm u) ≡ (u.dx *ℤ u.dx) +ℤ (u.dy *ℤ u.dy)
-square_norm u = rw (← size_square u.dx, ← size_square u.dy) (omega (arith, ints))
+pub square_length_squared : (u : Dir) → pos (length_squared u) ≡ (u.dx *ℤ u.dx) +ℤ (u.dy *ℤ u.dy)
+square_length_squared u = rw (← size_square u.dx, ← size_square u.dy) (omega (arith, ints))
 
 lagrange_parts : (a b c d : ℤ) → ((a *ℤ a) +ℤ (b *ℤ b)) *ℤ ((c *ℤ c) +ℤ (d *ℤ d))
     ≡ (((a *ℤ c) +ℤ (b *ℤ d)) *ℤ ((a *ℤ c) +ℤ (b *ℤ d))) +ℤ (((a *ℤ d) -ℤ (b *ℤ c)) *ℤ ((a *ℤ d) -ℤ (b *ℤ c)))
 lagrange_parts a b c d = rw (as_diff a, as_diff b, as_diff c, as_diff d) (simp differences (diff-same _ _ _ _ (omega arith)))
 
 -- the squares of the dot product and of the cross product make the product of the squares of the lengths
-pub lagrange : (u v : Dir) → norm u * norm v ≡ unsigned_abs (dot u v) * unsigned_abs (dot u v) + unsigned_abs (cross u v) * unsigned_abs (cross u v)
+pub lagrange : (u v : Dir) → length_squared u * length_squared v ≡ unsigned_abs (dot u v) * unsigned_abs (dot u v) + unsigned_abs (cross u v) * unsigned_abs (cross u v)
 lagrange u v =
-    let whole = rw (← square_norm u, ← square_norm v, ← size_square (dot u v), ← size_square (cross u v)) at (lagrange_parts u.dx u.dy v.dx v.dy) in
+    let whole = rw (← square_length_squared u, ← square_length_squared v, ← size_square (dot u v), ← size_square (cross u v)) at (lagrange_parts u.dx u.dy v.dx v.dy) in
     omega (arith, ints, whole)
 
-pub cross_square : (u v : Dir) → unsigned_abs (cross u v) * unsigned_abs (cross u v) ≤ norm u * norm v
+pub cross_square : (u v : Dir) → unsigned_abs (cross u v) * unsigned_abs (cross u v) ≤ length_squared u * length_squared v
 cross_square u v = omega (arith, lagrange u v)
 
-pub dot_square : (u v : Dir) → unsigned_abs (dot u v) * unsigned_abs (dot u v) ≤ norm u * norm v
+pub dot_square : (u v : Dir) → unsigned_abs (dot u v) * unsigned_abs (dot u v) ≤ length_squared u * length_squared v
 dot_square u v = omega (arith, lagrange u v)
 
 linear_parts : (a b x p q y r s : ℤ) → (a *ℤ ((x *ℤ q) +ℤ (y *ℤ s))) -ℤ (b *ℤ ((x *ℤ p) +ℤ (y *ℤ r)))

@@ -6,7 +6,7 @@ use Rattle.apt_words.specs.Trees.{Tree, Neg}
 use Rattle.apt_lexis.specs.declared.token.Token.{Token}
 use Rattle.apt_expr.specs.declared.parts.Rank.{Rank}
 use Rattle.apt_expr.specs.declared.parts.Rank.TheVariants as ranks
-use Rattle.apt_expr.specs.Parts.{Parts, parts, additive, multiplicative, outer, open_behind}
+use Rattle.apt_expr.specs.Operands.{Parts, parts, additive, multiplicative, outer, open_behind}
 use Rattle.apt_expr.specs.Expressions.{Reader, term_by, sum_by, factor_of, inside}
 
 abbrev pub rank_of : Rank → (Token → Option Op)

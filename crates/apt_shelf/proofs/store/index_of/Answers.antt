@@ -1,8 +1,8 @@
 use Rattle.std.proofs.Common.{◌≢◌, ◌∙◌, sym, Some, below_more, arith}
 use Rattle.apt_shelf.specs.Entries.{entry, entries, name_at}
 use Rattle.std.proofs.lemmas.List.{length-map}
-use Rattle.apt_shelf.proofs.EntriesLaws.{name_is, name_is_other, is_absent, held_place, get_absent}
-use Rattle.apt_shelf.proofs.store.place.Goals as goal
+use Rattle.apt_shelf.proofs.EntriesLaws.{name_is, name_is_other, is_absent, held_at_index, get_absent}
+use Rattle.apt_shelf.proofs.store.index_of.Goals as goal
 
 pub loop-i-preserved : goal.loop-i-preserved
 loop-i-preserved c =
@@ -17,7 +17,7 @@ returns-then-eq-clause-found c = record {
 }
 
 pub returns-then-eq-clause-holds : goal.returns-then-eq-clause-holds
-returns-then-eq-clause-holds c = held_place c.args.files.now _ _ (returns-then-eq-clause-found c)
+returns-then-eq-clause-holds c = held_at_index c.args.files.now _ _ (returns-then-eq-clause-found c)
 
 pub returns-clause-absent : goal.returns-clause-absent
 returns-clause-absent c = is_absent c.args.files.now c.loop-i.i _ (omega arith) c.loop-i.invariant
