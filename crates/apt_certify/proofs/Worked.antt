@@ -11,7 +11,8 @@ use Rattle.apt_plane.specs.declared.figures.Surface.TheVariants as surfaces
 use Rattle.apt_plane.specs.declared.figures.Band.{Band}
 use Rattle.apt_plane.specs.Vectors.{scaled}
 use Rattle.apt_plane.specs.Distances.{InBand}
-use Rattle.apt_plane.specs.Axes.{Axis, IsOnAxis}
+use Rattle.apt_plane.specs.declared.figures.Axis.{Axis}
+use Rattle.apt_plane.specs.Axes.{IsOnAxis}
 use Rattle.apt_offset.specs.declared.Target.TheVariants as targets
 use Rattle.apt_certify.specs.Legs.{Leg, IsBounded, IsStep, slack_of, IsWithinEdge, OrderOf, BandOf, OverrunOf, StopAt, AxisAt, tests_from}
 

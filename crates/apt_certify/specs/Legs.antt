@@ -9,7 +9,8 @@ use Rattle.apt_plane.specs.declared.figures.Band.{Band}
 use Rattle.apt_plane.specs.Vectors.{Scaled, scaled, displacement, cross, dot}
 use Rattle.apt_plane.specs.Distances.{IsOver, IsUnder, InBand, EveryPoint}
 use Rattle.apt_plane.specs.Order.{ComesBefore}
-use Rattle.apt_plane.specs.Axes.{Axis, IsOnAxis}
+use Rattle.apt_plane.specs.declared.figures.Axis.{Axis}
+use Rattle.apt_plane.specs.Axes.{IsOnAxis}
 use Rattle.apt_offset.specs.declared.Target.{Target}
 use Rattle.apt_offset.specs.declared.Target.TheVariants as targets
 use Rattle.apt_offset.specs.Turns.{opposite}

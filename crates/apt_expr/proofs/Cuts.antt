@@ -33,13 +33,6 @@ test_holds false o op e = cc
 outer_zero : (rank : Token → Option Op) (depth : ℕ) (t : Token) (op : Op) → outer rank depth t ≡ Some op → depth ≡ 0
 outer_zero rank depth t op e = let h : (depth == 0) ≡ true = test_holds (depth == 0) (rank t) op e in grind (arith, nat_tests)
 
-test_gives : (b : Bool) (o : Option Op) (op : Op) → (if b then o else None) ≡ Some op → o ≡ Some op
-test_gives true o op e = e
-test_gives false o op e = cc
-
-pub outer_some : (rank : Token → Option Op) (depth : ℕ) (t : Token) (op : Op) → outer rank depth t ≡ Some op → rank t ≡ Some op
-outer_some rank depth t op e = test_gives (depth == 0) (rank t) op e
-
 pub record Cut (r : Rank) (depth : ℕ) (ts : List Token) : Type 0 where
   pub first : (parts_at depth (rank_of r) ts).first ≡ take (part_len (rank_of r) depth ts) ts
   pub others : (parts_at depth (rank_of r) ts).others ≡ others_from (rank_of r) (drop (part_len (rank_of r) depth ts) ts)

@@ -286,7 +286,3 @@ token_added ts t text h clear e =
 pub token_bad : (ts : List Token) (cause : PartCause) (text : List ℕ) → 0 < length text → prefix_len is_blank text ≡ 0 → read_of (first_of text) ≡ Err cause
     → joined (Ok ts) (all_good (reads_of text)) ≡ Err cause
 token_bad ts cause text h clear e = rw (reads_first text h clear, e) refl
-
-pub no_token : (ts : List Token) (text : List ℕ) → length text ≡ 0 → joined (Ok ts) (all_good (reads_of text)) ≡ Ok ts
-no_token ts [] e = ap (λ (us : List Token). Ok us) (append-nil ts)
-no_token ts (b ∷ bs) e = absurd (omega arith)

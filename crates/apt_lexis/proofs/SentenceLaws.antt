@@ -78,27 +78,3 @@ without_fault n (Some cause) said e = cc
 
 with_none : (said : Said) → with_first None said ≡ said
 with_none said = refl
-
--- a line that leaves a statement begun, or none
-pub said_on_from : (begun then : Option Phrase) (n : ℕ) (line : List ℕ) (lines : List (List ℕ)) → line_fault n line ≡ None → behind_line begun n line ≡ record { begun = then; said = None }
-    → said_from begun n (line ∷ lines) ≡ said_from then (n + 1) lines
-said_on_from begun then n line lines e f =
-    without_fault n (line_fault n line) _ e ∙ ap (λ (b : Behind). with_first b.said (said_from b.begun (n + 1) lines)) f ∙ with_none (said_from then (n + 1) lines)
-
--- a line that completes a statement
-pub said_now : (begun : Option Phrase) (p : Phrase) (n : ℕ) (line : List ℕ) (lines : List (List ℕ)) → line_fault n line ≡ None → behind_line begun n line ≡ record { begun = None; said = Some p }
-    → said_from begun n (line ∷ lines) ≡ with_first (Some p) (said_from None (n + 1) lines)
-said_now begun p n line lines e f =
-    without_fault n (line_fault n line) _ e ∙ ap (λ (b : Behind). with_first b.said (said_from b.begun (n + 1) lines)) f
-
--- a line with a fault
-pub said_fault : (begun : Option Phrase) (n : ℕ) (line : List ℕ) (lines : List (List ℕ)) (cause : PartCause) → line_fault n line ≡ Some cause
-    → said_from begun n (line ∷ lines) ≡ record { phrases = []; fault = Some (n, cause) }
-said_fault begun n line lines cause e = one_fault n (line_fault n line) cause _ e
-  where
-    one_fault : (n : ℕ) (fault : Option PartCause) (cause : PartCause) (said : Said) → fault ≡ Some cause → unless_fault n fault said ≡ record { phrases = []; fault = Some (n, cause) }
-    one_fault n None cause said e = cc
-    one_fault n (Some cause) cause' said e = ap (λ (c : PartCause). record { phrases = []; fault = Some (n, c) }) (same cause cause' e)
-      where
-        same : (a b : PartCause) → Some a ≡ Some b → a ≡ b
-        same a b e = cc

@@ -24,7 +24,7 @@ use apt_cldata::Note;
 use apt_defs::{Figure, line_by};
 use apt_meaning::{Effect, Situation};
 use apt_plane::Pt;
-use apt_words::{Case, Deed, Symbol, Text};
+use apt_words::{Case, Deed, Symbol};
 use std::alloc::AllocError;
 
 /// What a step asks for, with the end of its contour.
@@ -80,7 +80,7 @@ fn effect(at: &Situation, deed: &Deed) -> Result<Effect, Stopped>
     ensures { Answers (asked (refusal_of at.now deed.now) (effect_of at.now deed.now)) result }
 {
     match deed {
-        Deed::Partno(text) => Ok(says(at.settings, Note::Partno(copied(text)?))),
+        Deed::Partno(text) => Ok(says(at.settings, Note::Partno(text.copied()?))),
         Deed::Units(units) => Ok(says(with_units(at.settings, *units), Note::Units(*units))),
         Deed::Remark(_) | Deed::Clprnt | Deed::Nopost | Deed::Machin => Ok(sets(at.settings)),
         Deed::Assign(name, _) => Ok(Effect::Defines(name.copied(), Figure::Scalar)),
@@ -142,12 +142,6 @@ fn answer(effect: Result<Effect, Case>) -> Result<Effect, Stopped>
     }
 }
 
-fn copied(text: &Text) -> Result<Text, AllocError>
-    ensures { IfOk result (λ copy. copy ≡ text.now) }
-{
-    let bytes = text.bytes.clone()?;
-    Ok(Text { bytes })
-}
 
 /// A line by four numbers under a name.
 fn line(at: &Situation, name: &Symbol, x: i64, y: i64, u: i64, v: i64) -> Result<Effect, Case>

@@ -5,13 +5,8 @@ use Rattle.apt_num.specs.declared.Sign.TheVariants as signs
 use Rattle.apt_num.specs.Sign.{OnLine}
 use Rattle.apt_plane.specs.declared.figures.Pt.{Pt}
 use Rattle.apt_plane.specs.declared.figures.Dir.{Dir}
+use Rattle.apt_plane.specs.declared.figures.Axis.{Axis}
 use Rattle.apt_plane.specs.Vectors.{displacement, cross, dot, length_squared}
-
--- a point, a direction, and the half on which the motion ends, Zero where it has none
-pub record Axis : Type 0 where
-  pub at : Pt
-  pub along : Dir
-  pub half : Sign
 
 abbrev pub IsOnHalf : Sign → ℤ → Type 0
 IsOnHalf signs.Plus d = pos 0 <ℤ d

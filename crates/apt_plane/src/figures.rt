@@ -1,5 +1,7 @@
 //! The figures of the plane.
 
+use apt_num::Sign;
+
 /// A point, in grid units.
 #[derive(Clone, Copy, Debug, PartialEq, Eq)]
 pub struct Pt {
@@ -7,7 +9,7 @@ pub struct Pt {
     pub y: i64,
 }
 
-/// A direction or a way: its parts are whole numbers of any scale.
+/// A direction or a displacement: its parts are whole numbers of any scale.
 #[derive(Clone, Copy, Debug, PartialEq, Eq)]
 pub struct Dir {
     pub dx: i64,
@@ -40,6 +42,15 @@ pub enum Surface {
 pub struct Band {
     pub lo: i64,
     pub hi: i64,
+}
+
+/// The axis on which a motion ends that touches its check surface: a point, a direction, and the half on which
+/// the motion ends, `Zero` where it has none.
+#[derive(Clone, Copy)]
+pub struct Axis {
+    pub at: Pt,
+    pub along: Dir,
+    pub half: Sign,
 }
 
 /// The point ((m - j) P + j Q) / m of a segment PQ.

@@ -27,11 +27,6 @@ abbrev pub one : List (List Token) → Option Tree
 one (e ∷ []) = expression e
 one _ = None
 
--- a statement of one expression
-abbrev pub with_one : (Tree → Body) → List (List Token) → Option Body
-with_one body (e ∷ []) = expression e >>= λ e. Some (body e)
-with_one body _ = None
-
 abbrev pub expressions : List (List Token) → Option (List Tree)
 expressions [] = Some []
 expressions (a ∷ args) = expression a >>= λ e. expressions args >>= λ es. Some (e ∷ es)

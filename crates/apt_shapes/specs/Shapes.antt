@@ -14,7 +14,7 @@ use Rattle.apt_shapes.specs.declared.table.Labelled.{Labelled}
 use Rattle.apt_shapes.specs.Arguments.{arguments, or_else}
 use Rattle.apt_shapes.specs.Figures.{assign, point, line, circle}
 use Rattle.apt_shapes.specs.Motions.{from, goto, godlta, start, contour, turned, side_of}
-use Rattle.apt_shapes.specs.Settings.{titled, with_one, machin, units_in, spindl, coolnt}
+use Rattle.apt_shapes.specs.Settings.{titled, one, machin, units_in, spindl, coolnt}
 use Rattle.apt_shapes.specs.Flow.{macro, call, jumpto, if_in}
 
 -- ---- one word
@@ -44,11 +44,11 @@ alone w = or_else (tool w) (command w)
 abbrev pub with_arguments : Option Word → List (List Token) → Option Body
 with_arguments (Some words.Units) args = units_in args
 with_arguments (Some words.Machin) args = machin args
-with_arguments (Some words.Cutter) args = with_one bodies.Cutter args
-with_arguments (Some words.Intol) args = with_one bodies.Intol args
-with_arguments (Some words.Outtol) args = with_one bodies.Outtol args
-with_arguments (Some words.Fedrat) args = with_one bodies.Fedrat args
-with_arguments (Some words.Loadtl) args = with_one bodies.Loadtl args
+with_arguments (Some words.Cutter) args = one args >>= λ e. Some (bodies.Cutter e)
+with_arguments (Some words.Intol) args = one args >>= λ e. Some (bodies.Intol e)
+with_arguments (Some words.Outtol) args = one args >>= λ e. Some (bodies.Outtol e)
+with_arguments (Some words.Fedrat) args = one args >>= λ e. Some (bodies.Fedrat e)
+with_arguments (Some words.Loadtl) args = one args >>= λ e. Some (bodies.Loadtl e)
 with_arguments (Some words.From) args = from args
 with_arguments (Some words.Goto) args = goto args
 with_arguments (Some words.Godlta) args = godlta args

@@ -48,7 +48,6 @@ fn alone(word: Option<Word>) -> Option<Body>
 }
 
 /// A statement of a word, a slash and arguments.
-#[tactic(auto, using(crate::proofs::Ones::with_one_by_one))]
 fn with_arguments(
     alloc: Global,
     word: Option<Word>,

@@ -5,7 +5,7 @@ ghost use Rattle.apt_unroll.specs.Deeds as deeds;
 
 use crate::statements::execution;
 use apt_scalar::{Env, Frame, Kind, Value, bind, bound_in};
-use apt_words::{Body, Case, Deed, Symbol, Text};
+use apt_words::{Body, Case, Deed, Symbol};
 use std::alloc::{AllocError, Global};
 
 /// What a statement does, or its first refusal.
@@ -22,11 +22,11 @@ pub(crate) fn deed_of(
     }
     match body {
         Body::Partno(text) => {
-            let text = copied(text)?;
+            let text = text.copied()?;
             Ok(Ok(Deed::Partno(text)))
         }
         Body::Remark(text) => {
-            let text = copied(text)?;
+            let text = text.copied()?;
             Ok(Ok(Deed::Remark(text)))
         }
         _ => Ok(execution(env, frame, body)),
@@ -43,12 +43,6 @@ fn defines_parameter(frame: &Frame, body: &Body) -> bool
     }
 }
 
-fn copied(text: &Text) -> Result<Text, AllocError>
-    ensures { IfOk result (λ copy. copy ≡ text.now) }
-{
-    let bytes = text.bytes.clone()?;
-    Ok(Text { bytes })
-}
 
 /// The name that a statement defines.
 fn defined_name(body: &Body) -> Option<&Symbol>

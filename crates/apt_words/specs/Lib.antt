@@ -9,3 +9,4 @@ pub mod TreeCodes
 pub mod TreeViews
 pub mod ProgramEnds
 pub mod Built
+pub mod Sources

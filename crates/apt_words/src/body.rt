@@ -1,9 +1,10 @@
 //! Statements of part programs.
 
-ghost use Rattle.std.specs.Prelude.{◌≡◌};
+ghost use Rattle.std.specs.Prelude.{◌≡◌, IfOk};
 ghost use Rattle.apt_words.specs.ProgramEnds as endings;
 
 use crate::{Cool, Expr, Go, Pick, Side, Stop, Symbol, Turn, Units};
+use std::alloc::AllocError;
 use std::marker::Model;
 
 /// The text of PARTNO or REMARK. Clauses see its bytes.
@@ -18,6 +19,15 @@ impl Model for Text {
     ghost Value = { List ℕ };
 
     ghost view = { λ t. t.bytes.items };
+}
+
+impl Text {
+    pub fn copied(&self) -> Result<Text, AllocError>
+        ensures { IfOk result (λ copy. copy ≡ self.now) }
+    {
+        let bytes = self.bytes.clone()?;
+        Ok(Text { bytes })
+    }
 }
 
 /// The list of MACHIN.
