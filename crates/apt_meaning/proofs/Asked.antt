@@ -36,11 +36,11 @@ use Rattle.apt_meaning.specs.declared.motion.StartUp.{StartUp}
 use Rattle.apt_meaning.specs.declared.effect.Effect.{Effect}
 use Rattle.apt_meaning.specs.declared.effect.Effect.TheVariants as effects
 use Rattle.apt_meaning.specs.Situations.{radius_of, lacks_feed, with_side, at_height}
-use Rattle.apt_meaning.specs.Motions.{as_surface, surface_in, turn_at, if_turned, is_defined, motion, motion_at}
+use Rattle.apt_meaning.specs.Motions.{as_surface, surface_in, turn_at, if_turned, motion, motion_at}
 use Rattle.apt_meaning.specs.StartUps.{start_up_at, start_up_cases, start_point, start_position}
 use Rattle.apt_meaning.specs.Effects.{moves, cuts, position_by, moved_by, start_position_at, effect_of}
 use Rattle.apt_meaning.specs.Refusals.{is_other_kind, position_cases, move_cases, motion_cases, turned_cases, surface_cases, contour_cases, start_cases, go_cases, start_up_or_not_built, cases_of, refusal_of}
-use Rattle.apt_meaning.specs.Records.{AreLegal}
+use Rattle.apt_meaning.specs.Records.{AreLegal, MayHave}
 use Rattle.apt_meaning.specs.Compiled.{ends_of}
 use Rattle.apt_meaning.specs.Ranges.{IsPositionOrNone, AreSettings, IsSituation, IsMotion, IsEffect}
 use Rattle.apt_scalar.specs.StepScalars.{HasScalars}
@@ -56,21 +56,22 @@ pub record Asks (o : Option Effect) : Type 0 where
   pub good : IsEffect e
   pub legal : AreLegal e (ends_of e)
   pub ends : HasIn e (ends_of e)
+  pub may : MayHave e (ends_of e)
 
 defines : (n : List ℕ) (f : Figure) → IsFigure f → Asks (Some (effects.Defines n f))
-defines n f is = record { e = effects.Defines n f; asked = refl; good = is; legal = tt; ends = tt }
+defines n f is = record { e = effects.Defines n f; asked = refl; good = is; legal = tt; ends = tt; may = refl }
 
 sets : (s : Settings) → AreSettings s → Asks (Some (effects.Sets s None))
-sets s is = record { e = effects.Sets s None; asked = refl; good = (is, tt); legal = tt; ends = tt }
+sets s is = record { e = effects.Sets s None; asked = refl; good = (is, tt); legal = tt; ends = tt; may = refl }
 
 says : (s : Settings) (note : Note) → AreSettings s → IsNote note → Asks (Some (effects.Sets s (Some note)))
-says s note is said = record { e = effects.Sets s (Some note); asked = refl; good = (is, said); legal = tt; ends = tt }
+says s note is said = record { e = effects.Sets s (Some note); asked = refl; good = (is, said); legal = tt; ends = tt; may = refl }
 
 moves_to : (reach : Reach) (to : Position) → IsPosition to → Asks (Some (effects.Moves reach to))
-moves_to reach to is = record { e = effects.Moves reach to; asked = refl; good = is; legal = tt; ends = tt }
+moves_to reach to is = record { e = effects.Moves reach to; asked = refl; good = is; legal = tt; ends = tt; may = refl }
 
 cuts_on : (m : Motion) → IsMotion m → NoneHolds (motion_cases m) → Asks (Some (effects.Cuts m))
-cuts_on m is none = record { e = effects.Cuts m; asked = refl; good = is; legal = motion_legal m is none; ends = (motion_contact m is none, tt) }
+cuts_on m is none = record { e = effects.Cuts m; asked = refl; good = is; legal = motion_legal m is none; ends = (motion_contact m is none, tt); may = motion_defined m is none }
 
 -- ---- lines and moves
 
@@ -161,10 +162,6 @@ motion_is s start drive turned how check is from d c turns = record {
   outer = allowance_in s.outtol is.outtol;
 }
 
-if_asks : (b : Bool) (m : Motion) → b ≡ true → Asks (cuts (Some m)) → Asks (cuts (cond b (Some m) None))
-if_asks true m e asks = asks
-if_asks false m e asks = absurd (true≢false (sym e))
-
 unless_asks : (b : Bool) (o : Option Motion) → b ≡ false → Asks (cuts o) → Asks (cuts (cond b None o))
 unless_asks true o e asks = absurd (true≢false e)
 unless_asks false o e asks = asks
@@ -176,8 +173,7 @@ turned_asks s start drive turned how check is from d c none =
     let turns = none.1.1.1 in
     let m = motion s start drive turned how check in
     let good = motion_is s start drive turned how check is from d c turns.0 in
-    unless_asks (is_zero turned) (cond (is_defined m) (Some m) None) turns.0
-    (if_asks (is_defined m) m (motion_defined m good turns.1) (cuts_on m good turns.1))
+    unless_asks (is_zero turned) (Some m) turns.0 (cuts_on m good turns.1)
 
 surfaces_ask : (at : Situation) (side : Option Side) (go : Go) (how : Stop) (p : Option Position) (d c : Option Surface)
     → AreSettings at.settings → IsPositionOrNone p → IfSome d IsSurface → IfSome c IsSurface

@@ -17,7 +17,7 @@ use Rattle.apt_meaning.specs.declared.situation.Situation.{Situation}
 use Rattle.apt_meaning.specs.declared.motion.Motion.{Motion}
 use Rattle.apt_meaning.specs.declared.effect.Effect.{Effect}
 use Rattle.apt_meaning.specs.Situations.{with_side}
-use Rattle.apt_meaning.specs.Motions.{surface_in, turn_at, if_turned, is_defined, motion, motion_at}
+use Rattle.apt_meaning.specs.Motions.{surface_in, turn_at, if_turned, motion, motion_at}
 use Rattle.apt_meaning.specs.Effects.{moves, cuts, moved_from, start_position_at, effect_of}
 use Rattle.apt_words.specs.ProgramEnds.{is_ended}
 use Rattle.apt_meaning.specs.Sayings.{IsSaidBy}
@@ -31,11 +31,6 @@ moves_said : (at : Situation) (deed : Deed) (reach : Reach) (o : Option Position
 moves_said at deed reach None on = tt
 moves_said at deed reach (Some to) on = on
 
-if_said : (at : Situation) (deed : Deed) (b : Bool) (m : Motion) → is_ended false deed ≡ false → at.position ≡ Some m.start
-    → IfSome (cuts (cond b (Some m) None)) (IsSaidBy at deed)
-if_said at deed true m on here = (on, here)
-if_said at deed false m on here = tt
-
 unless_said : (at : Situation) (deed : Deed) (b : Bool) (o : Option Motion) → IfSome (cuts o) (IsSaidBy at deed) → IfSome (cuts (cond b None o)) (IsSaidBy at deed)
 unless_said at deed true o said = tt
 unless_said at deed false o said = said
@@ -44,7 +39,7 @@ turned_said : (at : Situation) (deed : Deed) (s : Settings) (start : Position) (
     → is_ended false deed ≡ false → at.position ≡ Some start → IfSome (cuts (if_turned s start drive turned how check)) (IsSaidBy at deed)
 turned_said at deed s start drive turned how check on here =
     let m = motion s start drive turned how check in
-    unless_said at deed (is_zero turned) (cond (is_defined m) (Some m) None) (if_said at deed (is_defined m) m on here)
+    unless_said at deed (is_zero turned) (Some m) (on, here)
 
 contour_said : (at : Situation) (deed : Deed) (side : Option Side) (go : Go) (how : Stop) (p : Option Position) (d c : Option Surface)
     → is_ended false deed ≡ false → at.position ≡ p

@@ -18,12 +18,6 @@ use Rattle.apt_meaning.specs.Vertices.{HasIn}
 use Rattle.apt_meaning.proofs.Asked.{Asks, answered}
 use Rattle.apt_meaning.proofs.Kept.{kept, records_in, records-append}
 
-may_have : (e : Effect) → MayHave e (ends_of e)
-may_have (effects.Defines n f) = refl
-may_have (effects.Sets s said) = refl
-may_have (effects.Moves reach to) = refl
-may_have (effects.Cuts m) = tt
-
 -- ---- a step that is done, and the records of those behind it
 
 pub record Done (refusal : Option Case) (effect : Option Effect) (more : Effect → Result (List Record) Refusal) (written : List Record) : Type 0 where
@@ -57,9 +51,10 @@ pub record IsFit (e : Effect) : Type 0 where
   pub good : IsEffect e
   pub legal : AreLegal e (ends_of e)
   pub ends : HasIn e (ends_of e)
+  pub may : MayHave e (ends_of e)
 
 pub fit : (o : Option Effect) (e : Effect) → o ≡ Some e → Asks o → IsFit e
-fit o e h asks = subst IsFit (same_some asks.e e (sym asks.asked ∙ h)) (record { good = asks.good; legal = asks.legal; ends = asks.ends })
+fit o e h asks = subst IsFit (same_some asks.e e (sym asks.asked ∙ h)) (record { good = asks.good; legal = asks.legal; ends = asks.ends; may = asks.may })
 
 -- ---- the walk
 
@@ -83,7 +78,7 @@ compiled_follows at (step ∷ steps) written is numbers h =
     let f = front_ok (records_of step e (ends_of e)) (compilation (after at e (ends_of e)) steps) written d.rest in
     let more = compiled_follows (after at e (ends_of e)) steps f.0 (kept at e (ends_of e) is ok.good ok.ends) numbers.1 f.1 in record {
       behind = more.behind;
-      follows = (e, ends_of e, f.0, record { asked = d.asked; front = f.2; only_contours = may_have e }, ok.legal, more.follows);
+      follows = (e, ends_of e, f.0, record { asked = d.asked; front = f.2; may = ok.may }, ok.legal, more.follows);
       situation = more.situation;
       records = rw f.2 (records-append (records_of step e (ends_of e)) f.0 (records_in step e (ends_of e) ok.good ok.ends) more.records);
     }

@@ -1,4 +1,4 @@
--- What a step asks for, wherever the figures, the turn and the sides that it needs are there.
+-- What a step asks for, wherever the figures and the turn that it needs are there.
 use Rattle.std.specs.Prelude.{ℕ, ℤ, pos, ◌+ℤ◌, unsigned_abs, true, List, Option, Some, None}
 use Rattle.apt_words.specs.declared.Stop.{Stop}
 use Rattle.apt_words.specs.declared.Units.{Units}

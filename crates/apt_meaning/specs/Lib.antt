@@ -8,3 +8,4 @@ pub mod Compiled
 pub mod Ranges
 pub mod Vertices
 pub mod Sayings
+pub mod Expectations

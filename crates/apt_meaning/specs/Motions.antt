@@ -124,21 +124,24 @@ leg_of m = record {
   axis = None;
 }
 
--- its sense, its targets and its side are there
-abbrev pub is_defined : Motion → Bool
-is_defined m = not (lacks_room (track_of m)) && not (starts_on_check m) && not (lacks_room (stop_of m)) && not (is_zero (stop_side m))
+-- its track is there; its stop and the side on which it runs are there
+abbrev pub has_track : Motion → Bool
+has_track m = not (lacks_room (track_of m))
 
-abbrev pub if_defined : Motion → Option Motion
-if_defined m = if is_defined m then Some m else None
+abbrev pub has_stop : Motion → Bool
+has_stop m = not (starts_on_check m) && not (lacks_room (stop_of m)) && not (is_zero (stop_side m))
+
+abbrev pub is_defined : Motion → Bool
+is_defined m = has_track m && has_stop m
 
 abbrev pub if_turned : Settings → Position → Surface → Sign → Stop → Surface → Option Motion
-if_turned s start drive turned how check = if is_zero turned then None else if_defined (motion s start drive turned how check)
+if_turned s start drive turned how check = if is_zero turned then None else Some (motion s start drive turned how check)
 
 -- how the drive surface runs at the start against forward
 abbrev pub turn_at : Situation → Position → Surface → Go → Sign
 turn_at at start drive go = turn at.forward (tangent drive start.at) go
 
--- the motion that a contour statement asks for, where its names stand for surfaces
+-- the motion that a contour statement asks for, where its names stand for surfaces and its sense is there
 unfoldable pub motion_at : Situation → Option Side → Go → List ℕ → Stop → List ℕ → Option Motion
 motion_at at side go drive how check = do
   start ← at.position

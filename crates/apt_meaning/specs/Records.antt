@@ -1,5 +1,5 @@
 -- Which records answer which steps: what an effect writes, what it leaves, and the walk over both.
-use Rattle.std.specs.Prelude.{◌≡◌, List, [], ◌∷◌, ◌++◌, map, Option, Some, None}
+use Rattle.std.specs.Prelude.{◌≡◌, true, List, [], ◌∷◌, ◌++◌, map, Option, Some, None}
 use Rattle.apt_plane.specs.declared.figures.Pt.{Pt}
 use Rattle.apt_words.specs.declared.deed.Step.{Step}
 use Rattle.apt_cldata.specs.declared.record.Record.{Record}
@@ -14,7 +14,7 @@ use Rattle.apt_meaning.specs.declared.motion.Motion.{Motion}
 use Rattle.apt_meaning.specs.declared.effect.Effect.{Effect}
 use Rattle.apt_meaning.specs.declared.effect.Effect.TheVariants as effects
 use Rattle.apt_meaning.specs.Situations.{settings_behind, forward_behind, at_height}
-use Rattle.apt_meaning.specs.Motions.{leg_of}
+use Rattle.apt_meaning.specs.Motions.{leg_of, is_defined}
 use Rattle.apt_meaning.specs.Effects.{effect_of}
 
 -- ---- what an effect writes and leaves; only a contour has vertices, those of its leg behind the start
@@ -53,17 +53,18 @@ after at (effects.Cuts m) vertices = record at {
 
 -- ---- the walk
 
+-- only a contour has vertices, and its track and its stop are there
 abbrev pub MayHave : Effect → List Pt → Type 0
 MayHave (effects.Defines n f) vertices = vertices ≡ []
 MayHave (effects.Sets s saying) vertices = vertices ≡ []
 MayHave (effects.Moves reach to) vertices = vertices ≡ []
-MayHave (effects.Cuts m) vertices = Unit {0}
+MayHave (effects.Cuts m) vertices = is_defined m ≡ true
 
 -- the records begin with those of the step's effect, whose contour has these vertices, and rest is behind them
 pub record Begins (at : Situation) (step : Step) (written : List Record) (e : Effect) (vertices : List Pt) (rest : List Record) : Type 0 where
   pub asked : effect_of at step.deed ≡ Some e
   pub front : written ≡ records_of step e vertices ++ rest
-  pub only_contours : MayHave e vertices
+  pub may : MayHave e vertices
 
 -- records follow steps from the situation before them to the one behind, each contour with vertices as Allowed says
 abbrev pub FollowsAs : (Effect → List Pt → Type 0) → Situation → List Step → List Record → Situation → Type 0

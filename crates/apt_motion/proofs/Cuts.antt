@@ -21,9 +21,7 @@ use Rattle.apt_meaning.specs.Refusals.{turned_cases, refusal_of}
 use Rattle.apt_meaning.specs.Ranges.{AreSettings, IsSituation}
 use Rattle.apt_meaning.specs.Compiled.{asked}
 use Rattle.apt_meaning.proofs.Refused.{first_none}
-use Rattle.apt_meaning.proofs.Legal.{motion_defined}
 use Rattle.apt_meaning.proofs.EffectRanges.{on_side_or_as_it_was}
-use Rattle.apt_meaning.proofs.Asked.{motion_is}
 use Rattle.apt_motion.specs.declared.contours.Cut.{Cut}
 use Rattle.apt_motion.specs.Asking.{IsSurfaceNamed, cut_to, IsCut}
 
@@ -37,9 +35,7 @@ turned_there : (s : Settings) (start : Position) (drive : Surface) (turned : Sig
 turned_there s start drive turned how check is from d c fine =
     let none = first_none (turned_cases s start drive turned how check) fine in
     let turns = none.1.1.1 in
-    let m = motion s start drive turned how check in
-    let good = motion_is s start drive turned how check is from d c turns.0 in
-    rw (turns.0, motion_defined m good turns.1) refl
+    rw turns.0 refl
 
 pub turned_cut : (s : Settings) (start : Position) (drive : Surface) (turned : Sign) (how : Stop) (check : Surface) (result : Result Cut Case)
     → AreSettings s → IsPosition start → IsSurface drive → IsSurface check
