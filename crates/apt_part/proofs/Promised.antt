@@ -104,7 +104,7 @@ promised machine text p is h =
     let are = are_steps machine text p h in
     let follow = compiled_follows first_situation p.steps p.records first_situation-IsSituation are.scalars are.sources q.compiled in
     let ends : StepsEnd false p.steps = subst (StepsEnd false) (steps_by q.statements p q.unrolled)
-        (end_once q.statements (trace_of q.statements) refl (of_text EndsInFini text q.statements q.read (program_of-ends text)) (ap (λ (u : Trace). u.fault) q.unrolled)) in
+    (end_once q.statements (trace_of q.statements) refl (of_text EndsInFini text q.statements q.read (program_of-ends text)) (ap (λ (u : Trace). u.fault) q.unrolled)) in
     let can = compiled_written machine nothing_pending first_situation p.steps p.records is (record { feed = refl; rapid = refl }) (record { most = omega (arith, ints) }) first_situation-IsSituation are.scalars are.sources q.within q.compiled in record {
       passes = q;
       behind = follow.behind;
