@@ -1,6 +1,8 @@
 //! The certificate of contour motions.
 #![tactic(auto)]
 
+mod deviations;
+mod distances;
 mod leg;
 mod verdict;
 
