@@ -4,6 +4,7 @@
 mod deviations;
 mod distances;
 mod leg;
+mod segments;
 mod verdict;
 
 pub use leg::{Job, Leg, Points};
