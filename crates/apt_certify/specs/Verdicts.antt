@@ -13,7 +13,7 @@ use Rattle.apt_certify.specs.declared.verdict.Reason.TheVariants as reasons
 use Rattle.apt_certify.specs.declared.verdict.Bad.{Bad}
 use Rattle.apt_certify.specs.declared.verdict.Verdict.{Verdict}
 use Rattle.apt_certify.specs.Legs.{Test, OrderOf, BandOf, OverrunOf, StopAt, AxisAt, tests_from, Holds, AllHold, IsWithinEdge}
-use Rattle.apt_certify.specs.Jobs.{AreLegal, segments_of}
+use Rattle.apt_certify.specs.Jobs.{AreLegal, segment_count}
 use Rattle.apt_certify.specs.Deviations.{Inwards, Outwards, IsWorst}
 
 abbrev pub name_of : Reason → List ℕ
@@ -65,9 +65,9 @@ pub record IsFault (leg : Leg) (start : Pt) (tests : List Test) (segment : ℕ) 
   pub has_reason : reason ≡ reason_of test
   pub at_spot : IsSpot leg test spot
 
-abbrev pub IsFaultOfPath : Leg → List Pt → Bad → Type 0
-IsFaultOfPath leg [] bad = ⊥
-IsFaultOfPath leg (p ∷ ps) bad = IsFault leg p (tests_from p ps) bad.segment bad.reason bad.spot
+abbrev pub IsFaultOfPath : Leg → List Pt → ℕ → Reason → Spot → Type 0
+IsFaultOfPath leg [] segment reason spot = ⊥
+IsFaultOfPath leg (p ∷ ps) segment reason spot = IsFault leg p (tests_from p ps) segment reason spot
 
 -- the first motion that is not legal, and its fault
 pub record IsFirstBad (jobs : List Job) (bad : Bad) : Type 0 where
@@ -77,7 +77,7 @@ pub record IsFirstBad (jobs : List Job) (bad : Bad) : Type 0 where
   pub split : jobs ≡ before ++ job ∷ behind
   pub legal : AreLegal before
   pub motion : bad.motion ≡ length before + 1
-  pub fault : IsFaultOfPath job.leg job.points bad
+  pub fault : IsFaultOfPath job.leg job.points bad.segment bad.reason bad.spot
 
 abbrev pub IsFirstBadOrNone : List Job → Option Bad → Type 0
 IsFirstBadOrNone jobs None = AreLegal jobs
@@ -86,7 +86,7 @@ IsFirstBadOrNone jobs (Some bad) = IsFirstBad jobs bad
 -- ---- the verdict
 
 pub record IsVerdict (jobs : List Job) (v : Verdict) : Type 0 where
-  pub segments : v.segments ≡ segments_of jobs
+  pub segments : v.segments ≡ segment_count jobs
   pub worst_in : IsWorst Inwards jobs v.worst_in
   pub worst_out : IsWorst Outwards jobs v.worst_out
   pub first_bad : IsFirstBadOrNone jobs v.first_bad
