@@ -24,12 +24,11 @@ within-append way u (x ∷ xs) ys =
 pub worst_of_none : (way : Way) → IsWorst way [] (pos 0)
 worst_of_none way = record { least = omega (arith, ints); bounds = λ u h. (λ p. h, λ p. tt) }
 
-pub worst_of_one : (way : Way) (job : Job) (w : ℤ) → pos 0 ≤ℤ w
-    → ((u : ℤ) → pos 0 ≤ℤ u → EveryPointAlong job.points (IsAtMostPast job.leg.track (way_sign way job) u) ↔ (w ≤ℤ u)) → IsWorst way (job ∷ []) w
-worst_of_one way job w least bounds = record {
-  least = least;
-  bounds = λ u h. (λ p. (bounds u h).0 p.0, λ p. ((bounds u h).1 p, tt));
-}
+pub worst_of_one : (way : Way) (job : Job) (sign w v : ℤ) → pos 0 ≤ℤ w → ((u : ℤ) → pos 0 ≤ℤ u → EveryPointAlong job.points (IsAtMostPast job.leg.track sign u) ↔ (w ≤ℤ u))
+    → sign ≡ way_sign way job → v ≡ w → IsWorst way (job ∷ []) v
+worst_of_one way job sign w v least bounds e f =
+    let same = rw e at bounds in
+    rw f (record { least = least; bounds = λ u h. (λ p. (same u h).0 p.0, λ p. ((same u h).1 p, tt)) })
 
 pub worst-append : (way : Way) (xs ys : List Job) (v w : ℤ) → IsWorst way xs v → IsWorst way ys w → IsWorst way (xs ++ ys) (greater v w)
 worst-append way xs ys v w first second = record {

@@ -2,7 +2,7 @@
 
 ghost use Rattle.std.specs.Prelude.{◌≡◌, ◌↔◌, ◌≤◌, ◌<◌, ◌+◌, ◌^◌, [], ◌∷◌, length, IsNone, IfSome};
 ghost use Rattle.std.specs.List.{All};
-ghost use Rattle.apt_plane.specs.Ranges.{IsPoint};
+ghost use Rattle.apt_plane.specs.Ranges.{IsPoint, IsSense};
 ghost use Rattle.apt_certify.specs.Legs.{tests_from};
 ghost use Rattle.apt_certify.specs.Jobs.{ArePoints, IsJudged, IsJob, point_count, AreLegal};
 ghost use Rattle.apt_certify.specs.Faults.{IsFirstFault, IsFirstFaultOfPath};
@@ -61,12 +61,22 @@ fn job_verdict(job: &Job) -> Verdict
     ensures verdict { IsVerdict (job.now ∷ []) result }
     ensures motion { IfSome result.first_bad (λ bad. bad.motion ≡ 1) }
 {
-    let points: &[Pt] = &job.points.at;
+    path_verdict(&job.leg, job.out_sign, &job.points.at)
+}
+
+fn path_verdict(leg: &Leg, out_sign: i8, points: &[Pt]) -> Verdict
+    requires leg { IsJudged leg.now }
+    requires out_sign { IsSense out_sign }
+    requires moves { 2 ≤ length points.now }
+    requires points { ArePoints points.now }
+    ensures verdict { IsVerdict (record { leg = leg.now; out_sign = out_sign; points = points.now } ∷ []) result }
+    ensures motion { IfSome result.first_bad (λ bad. bad.motion ≡ 1) }
+{
     Verdict {
         segments: points.len() as u64 - 1,
-        worst_in: worst(&job.leg.track, -job.out_sign, points),
-        worst_out: worst(&job.leg.track, job.out_sign, points),
-        first_bad: path_fault(&job.leg, points),
+        worst_in: worst(&leg.track, -out_sign, points),
+        worst_out: worst(&leg.track, out_sign, points),
+        first_bad: path_fault(leg, points),
     }
 }
 
