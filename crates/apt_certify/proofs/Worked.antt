@@ -14,7 +14,8 @@ use Rattle.apt_plane.specs.Distances.{InBand}
 use Rattle.apt_plane.specs.declared.figures.Axis.{Axis}
 use Rattle.apt_plane.specs.Axes.{IsOnAxis}
 use Rattle.apt_offset.specs.declared.Target.TheVariants as targets
-use Rattle.apt_certify.specs.Legs.{Leg, IsBounded, IsStep, slack_of, IsWithinEdge, OrderOf, BandOf, OverrunOf, StopAt, AxisAt, tests_from}
+use Rattle.apt_certify.specs.declared.leg.Leg.{Leg}
+use Rattle.apt_certify.specs.Legs.{IsBounded, IsStep, slack_of, IsWithinEdge, OrderOf, BandOf, OverrunOf, StopAt, AxisAt, tests_from}
 
 abbrev pt : ℤ → ℤ → Pt
 pt x y = record { x = x; y = y }

@@ -14,17 +14,7 @@ use Rattle.apt_plane.specs.Axes.{IsOnAxis}
 use Rattle.apt_offset.specs.declared.Target.{Target}
 use Rattle.apt_offset.specs.declared.Target.TheVariants as targets
 use Rattle.apt_offset.specs.Turns.{opposite}
-
--- a leg: its drive surface, the track and the band about it, its check surface, the band in which it ends and the edge that it must not pass (Plus: the far one, Zero: none), its sense, and its axis where it touches
-pub record Leg : Type 0 where
-  pub drive : Surface
-  pub track : Target
-  pub band : Band
-  pub check : Surface
-  pub stop_band : Band
-  pub beyond : Sign
-  pub sense : ℤ
-  pub axis : Option Axis
+use Rattle.apt_certify.specs.declared.leg.Leg.{Leg}
 
 -- a leg has an edge that it must not pass, or an axis on which it ends
 abbrev pub IsBounded : Leg → Type 0

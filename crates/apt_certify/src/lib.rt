@@ -1,2 +1,8 @@
 //! The certificate of contour motions.
 #![tactic(auto)]
+
+mod leg;
+mod verdict;
+
+pub use leg::{Job, Leg, Points};
+pub use verdict::{Bad, Reason, Verdict};

@@ -1,0 +1,112 @@
+-- The verdict over jobs: the first test that a motion fails, and the merge of two verdicts.
+use Rattle.std.specs.Prelude.{◌≡◌, ◌⊎◌, ℕ, ◌+◌, ℤ, int_le, if◌then◌else◌, List, [], ◌∷◌, ◌++◌, length, codes, Option, Some, None}
+use Rattle.apt_plane.specs.declared.figures.Pt.{Pt}
+use Rattle.apt_plane.specs.declared.figures.Spot.{Spot}
+use Rattle.apt_plane.specs.Vectors.{Scaled, scaled}
+use Rattle.apt_plane.specs.Distances.{InBand}
+use Rattle.apt_plane.specs.Segments.{start_spot, end_spot}
+use Rattle.apt_certify.specs.declared.leg.Leg.{Leg}
+use Rattle.apt_certify.specs.declared.leg.Job.{Job}
+use Rattle.apt_certify.specs.declared.verdict.Reason.{Reason}
+use Rattle.apt_certify.specs.declared.verdict.Reason.TheVariants as reasons
+use Rattle.apt_certify.specs.declared.verdict.Bad.{Bad}
+use Rattle.apt_certify.specs.declared.verdict.Verdict.{Verdict}
+use Rattle.apt_certify.specs.Legs.{Test, OrderOf, BandOf, OverrunOf, StopAt, AxisAt, tests_from, Holds, AllHold, IsWithinEdge}
+use Rattle.apt_certify.specs.Jobs.{AreLegal, segments_of}
+use Rattle.apt_certify.specs.Deviations.{Inwards, Outwards, IsWorst}
+
+abbrev pub name_of : Reason → List ℕ
+name_of reasons.Order = codes "Order"
+name_of reasons.Band = codes "Band"
+name_of reasons.Overrun = codes "Overrun"
+name_of reasons.Stop = codes "Stop"
+name_of reasons.Axis = codes "Axis"
+
+-- ---- where a test fails
+
+abbrev pub reason_of : Test → Reason
+reason_of (OrderOf a b) = reasons.Order
+reason_of (BandOf a b) = reasons.Band
+reason_of (OverrunOf a b) = reasons.Overrun
+reason_of (StopAt q) = reasons.Stop
+reason_of (AxisAt q) = reasons.Axis
+
+-- the first of the two ends of a segment that a fact is not true of
+abbrev pub IsFirstEnd : (Scaled → Type 0) → Pt → Pt → Spot → Type 0
+IsFirstEnd P a b spot = ((spot ≡ start_spot) × ¬ P (scaled a)) ⊎ ((spot ≡ end_spot) × P (scaled a) × ¬ P (scaled b))
+
+-- a test of all points of a segment fails at an end of it, the others fail at the end
+abbrev pub IsSpot : Leg → Test → Spot → Type 0
+IsSpot leg (OrderOf a b) spot = spot ≡ end_spot
+IsSpot leg (BandOf a b) spot = IsFirstEnd (InBand leg.drive leg.band) a b spot
+IsSpot leg (OverrunOf a b) spot = IsFirstEnd (IsWithinEdge leg leg.beyond) a b spot
+IsSpot leg (StopAt q) spot = spot ≡ end_spot
+IsSpot leg (AxisAt q) spot = spot ≡ end_spot
+
+-- the number of segments to which tests belong: each begins with its test of order
+abbrev pub segments_tested : List Test → ℕ
+segments_tested [] = 0
+segments_tested (OrderOf a b ∷ tests) = 1 + segments_tested tests
+segments_tested (BandOf a b ∷ tests) = segments_tested tests
+segments_tested (OverrunOf a b ∷ tests) = segments_tested tests
+segments_tested (StopAt q ∷ tests) = segments_tested tests
+segments_tested (AxisAt q ∷ tests) = segments_tested tests
+
+-- the first of the tests that does not hold
+pub record IsFault (leg : Leg) (start : Pt) (tests : List Test) (bad : Bad) : Type 0 where
+  pub before : List Test
+  pub test : Test
+  pub behind : List Test
+  pub split : tests ≡ before ++ test ∷ behind
+  pub hold : AllHold leg start before
+  pub fails : ¬ Holds leg start test
+  pub segment : bad.segment ≡ segments_tested (before ++ test ∷ [])
+  pub reason : bad.reason ≡ reason_of test
+  pub spot : IsSpot leg test bad.spot
+
+abbrev pub IsFaultOfPath : Leg → List Pt → Bad → Type 0
+IsFaultOfPath leg [] bad = ⊥
+IsFaultOfPath leg (p ∷ ps) bad = IsFault leg p (tests_from p ps) bad
+
+-- the first motion that is not legal, and its fault
+pub record IsFirstBad (jobs : List Job) (bad : Bad) : Type 0 where
+  pub before : List Job
+  pub job : Job
+  pub behind : List Job
+  pub split : jobs ≡ before ++ job ∷ behind
+  pub legal : AreLegal before
+  pub motion : bad.motion ≡ length before + 1
+  pub fault : IsFaultOfPath job.leg job.points bad
+
+abbrev pub IsFirstBadOrNone : List Job → Option Bad → Type 0
+IsFirstBadOrNone jobs None = AreLegal jobs
+IsFirstBadOrNone jobs (Some bad) = IsFirstBad jobs bad
+
+-- ---- the verdict
+
+pub record IsVerdict (jobs : List Job) (v : Verdict) : Type 0 where
+  pub segments : v.segments ≡ segments_of jobs
+  pub worst_in : IsWorst Inwards jobs v.worst_in
+  pub worst_out : IsWorst Outwards jobs v.worst_out
+  pub first_bad : IsFirstBadOrNone jobs v.first_bad
+
+-- ---- the merge of the verdicts of two lists, the first of n motions
+
+abbrev pub greater : ℤ → ℤ → ℤ
+greater a b = if int_le a b then b else a
+
+abbrev pub behind_motions : ℕ → Option Bad → Option Bad
+behind_motions n None = None
+behind_motions n (Some bad) = Some (record bad { motion = n + bad.motion })
+
+abbrev pub or_else : Option Bad → Option Bad → Option Bad
+or_else None other = other
+or_else (Some bad) other = Some bad
+
+abbrev pub merged : Verdict → ℕ → Verdict → Verdict
+merged v n w = record {
+  segments = v.segments + w.segments;
+  worst_in = greater v.worst_in w.worst_in;
+  worst_out = greater v.worst_out w.worst_out;
+  first_bad = or_else v.first_bad (behind_motions n w.first_bad);
+}
