@@ -14,6 +14,7 @@ pub mod Fed
 pub mod Kept
 pub mod Stands
 pub mod Walk
+pub mod Begins
 pub mod Ends
 mod Worked
 mod Statements

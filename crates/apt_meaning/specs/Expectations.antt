@@ -1,5 +1,5 @@
 -- What the records of a step must be, one after the other, and the first record that isn't.
-use Rattle.std.specs.Prelude.{◌≡◌, ◌+◌, ℕ, zero, suc, ℤ, Bool, true, false, List, [], ◌∷◌, length, map, Option, Some, None}
+use Rattle.std.specs.Prelude.{◌≡◌, ◌⊎◌, ◌+◌, ℕ, zero, suc, ℤ, Bool, true, false, List, [], ◌∷◌, length, map, Option, Some, None}
 use Rattle.apt_plane.specs.declared.figures.Pt.{Pt}
 use Rattle.apt_words.specs.declared.deed.Step.{Step}
 use Rattle.apt_cldata.specs.declared.record.Record.{Record}
