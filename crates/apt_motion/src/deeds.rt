@@ -142,7 +142,6 @@ fn answer(effect: Result<Effect, Case>) -> Result<Effect, Stopped>
     }
 }
 
-
 /// A line by four numbers under a name.
 fn line(at: &Situation, name: &Symbol, x: i64, y: i64, u: i64, v: i64) -> Result<Effect, Case>
     requires x { IsScalar x }

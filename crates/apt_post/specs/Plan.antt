@@ -154,7 +154,15 @@ abbrev pub segments : List Record → ℕ
 segments [] = 0
 segments (r ∷ rs) = record_segments r + segments rs
 
--- ---- the places to which acts and records lead, read off each by themselves
+-- the acts of records, and how many segments their contours have
+pub record ActsAndSegments : Type 0 where
+  pub acts : List Act
+  pub segments : ℕ
+
+abbrev pub planning : List Record → ActsAndSegments
+planning rs = record { acts = plan rs; segments = segments rs }
+
+-- ---- the positions to which acts and records lead, read off each by themselves
 
 abbrev pub act_positions : Act → List Position
 act_positions (acts.Units units) = []

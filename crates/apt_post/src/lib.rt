@@ -19,7 +19,7 @@ use apt_machine::Machine;
 use apt_tapecode::{Code, punch};
 use blocks::act_block;
 pub use limiting::limits;
-pub use planning::{Pending, Planned, plan};
+pub use planning::{Pending, Planning, plan};
 use std::alloc::{AllocError, Global};
 
 /// The bytes of the tape of acts: rewind stop, end of block, and a block for each act. A control

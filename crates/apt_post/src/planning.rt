@@ -7,12 +7,22 @@ use apt_cldata::{Note, Position, Reach, Record};
 use apt_control::Act;
 use apt_words::Units;
 use std::alloc::{AllocError, Global};
+use std::marker::Model;
 
-/// The acts of records, and the number of contour segments among them.
+/// The acts of records, and the number of contour segments among them. Clauses see the list of the acts, and
+/// the number.
 #[derive(Drop)]
-pub struct Planned {
+pub struct Planning {
     pub acts: Vec<Act>,
     pub segments: u64,
+}
+
+impl Model for Planning {
+    ghost use Rattle.apt_post.specs.Plan as plans;
+
+    ghost Value = { plans.ActsAndSegments };
+
+    ghost view = { λ p. record { acts = p.acts.items; segments = p.segments } };
 }
 
 /// What holds for the records to come: the feed of the last FEDRAT, whether RAPID is pending, and whether the end
@@ -149,17 +159,15 @@ fn segments_of(r: &Record) -> usize
 
 /// The units, and the acts that records ask for; they lead where the records lead.
 #[tactic(auto, using(crate::proofs::Reaching::plan_reaches))]
-pub fn plan(alloc: Global, records: &[Record]) -> Result<Planned, AllocError>
-    ensures acts { IfOk result (λ p. p.acts.items ≡ plans.plan records.now) }
-    ensures segments { IfOk result (λ p. p.segments ≡ plans.segments records.now) }
-    ensures reached { IfOk result (λ p. plans.positions p.acts.items ≡ plans.points records.now) }
+pub fn plan(alloc: Global, records: &[Record]) -> Result<Planning, AllocError>
+    ensures value { IfOk result (λ p. p ≡ plans.planning records.now) }
+    ensures reached { IfOk result (λ p. plans.positions p.acts ≡ plans.points records.now) }
 {
     plan_all(alloc, records)
 }
 
-fn plan_all(alloc: Global, records: &[Record]) -> Result<Planned, AllocError>
-    ensures acts { IfOk result (λ p. p.acts.items ≡ plans.plan records.now) }
-    ensures segments { IfOk result (λ p. p.segments ≡ plans.segments records.now) }
+fn plan_all(alloc: Global, records: &[Record]) -> Result<Planning, AllocError>
+    ensures { IfOk result (λ p. p ≡ plans.planning records.now) }
 {
     let mut acts = Vec::new(alloc);
     acts.push(Act::Units(units_of(records)))?;
@@ -174,7 +182,7 @@ fn plan_all(alloc: Global, records: &[Record]) -> Result<Planned, AllocError>
         segments += segments_of(record);
         pending = record_pending(pending, record);
     }
-    Ok(Planned {
+    Ok(Planning {
         acts,
         segments: segments as u64,
     })

@@ -6,6 +6,9 @@ mod status;
 #[cfg(test)]
 mod tests;
 
+pub use apt_block::TapeCause;
+pub use apt_certify::{Bad, Reason, Verdict};
+pub use apt_cldata::ClCause;
 pub use apt_lexis::PartCause;
 pub use line::line_of;
-pub use status::{FileName, Status, Summary};
+pub use status::{FileName, Miss, Status, Summary};

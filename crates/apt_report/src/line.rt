@@ -4,7 +4,7 @@ ghost use Rattle.std.specs.Prelude.{◌≡◌, IfOk};
 ghost use Rattle.std.specs.String.{string_bytes};
 ghost use Rattle.apt_report.specs.Lines as lines;
 
-use crate::{PartCause, Status, Summary};
+use crate::{Bad, ClCause, Miss, PartCause, Status, Summary, TapeCause, Verdict};
 use apt_words::Case;
 use std::alloc::{AllocError, Global};
 
@@ -27,11 +27,15 @@ fn text_of(alloc: Global, s: &Status) -> Result<String, AllocError>
                 segments,
             },
         ) => compiled_line(alloc, *records, *acts, *segments),
+        Status::Done(Summary::Certified(verdict)) => certified_line(alloc, verdict),
         Status::Usage => String::from_str(alloc, "USAGE\n"),
         Status::Missing { name } => format!(in alloc; "MISSING {}\n", name.text),
         Status::TooLong { name } => format!(in alloc; "TOO LONG {}\n", name.text),
         Status::BadPart { line, cause } => bad_part_line(alloc, *line, *cause),
         Status::Refused { line, step, case } => refused_line(alloc, *line, *step, *case),
+        Status::BadCl { at, cause } => bad_cl_line(alloc, *at, *cause),
+        Status::BadTape { at, cause } => bad_tape_line(alloc, *at, *cause),
+        Status::NotCertified { miss } => miss_line(alloc, miss),
         Status::ReadFault | Status::WriteFault | Status::NoMemory => Ok(String::new(alloc)),
     }
 }
@@ -59,4 +63,47 @@ fn refused_line(alloc: Global, line: u32, step: u32, case: Case) -> Result<Strin
 {
     let case = case.name();
     format!(in alloc; "REFUSED LINE {line} STEP {step} {case}\n")
+}
+
+fn certified_line(alloc: Global, verdict: &Verdict) -> Result<String, AllocError>
+    ensures { IfOk result (λ t. string_bytes t ≡ lines.certified_line verdict.now) }
+{
+    format!(in alloc;
+        "YES {} SEGMENTS IN {} OUT {}\n",
+        verdict.segments, verdict.worst_in, verdict.worst_out
+    )
+}
+
+fn bad_cl_line(alloc: Global, at: u64, cause: ClCause) -> Result<String, AllocError>
+    ensures { IfOk result (λ t. string_bytes t ≡ lines.bad_cl_line at cause) }
+{
+    let why = cause.name();
+    format!(in alloc; "BAD CL AT {at} {why}\n")
+}
+
+fn bad_tape_line(alloc: Global, at: u64, cause: TapeCause) -> Result<String, AllocError>
+    ensures { IfOk result (λ t. string_bytes t ≡ lines.bad_tape_line at cause) }
+{
+    let why = cause.name();
+    format!(in alloc; "BAD TAPE AT {at} {why}\n")
+}
+
+fn miss_line(alloc: Global, miss: &Miss) -> Result<String, AllocError>
+    ensures { IfOk result (λ t. string_bytes t ≡ lines.miss_line miss.now) }
+{
+    match miss {
+        Miss::Entry { seq } => format!(in alloc; "NOT CERTIFIED ENTRY {}\n", *seq),
+        Miss::Motion(bad) => motion_line(alloc, bad),
+        Miss::Act { at } => format!(in alloc; "NOT CERTIFIED ACT {}\n", *at),
+    }
+}
+
+fn motion_line(alloc: Global, bad: &Bad) -> Result<String, AllocError>
+    ensures { IfOk result (λ t. string_bytes t ≡ lines.motion_line bad.now) }
+{
+    let reason = bad.reason.name();
+    format!(in alloc;
+        "NOT CERTIFIED MOTION {} SEGMENT {} {} AT {}/{}\n",
+        bad.motion, bad.segment, reason, bad.spot.j, bad.spot.m
+    )
 }

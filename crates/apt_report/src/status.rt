@@ -2,6 +2,9 @@
 
 ghost use Rattle.std.specs.Prelude.{◌≡◌};
 
+use apt_block::TapeCause;
+use apt_certify::{Bad, Verdict};
+use apt_cldata::ClCause;
 use apt_lexis::PartCause;
 use apt_words::Case;
 use std::marker::Model;
@@ -29,6 +32,19 @@ pub enum Summary {
         acts: u64,
         segments: u64,
     },
+    /// A CL file and a tape were found right, with this verdict over the contours.
+    Certified(Verdict),
+}
+
+/// Where a CL file or a tape is not right.
+#[derive(Clone, Copy, PartialEq, Eq)]
+pub enum Miss {
+    /// The number of the first record that does not answer the part, from 1.
+    Entry { seq: u64 },
+    /// The first contour that is not legal.
+    Motion(Bad),
+    /// The first place, from 1, at which the tape's acts and those of the CL file differ.
+    Act { at: u64 },
 }
 
 /// What the program answers.
@@ -47,6 +63,12 @@ pub enum Status {
     BadPart { line: u32, cause: PartCause },
     /// The first step of the part that can't be done: its line and its number, both from 1, and the case.
     Refused { line: u32, step: u32, case: Case },
+    /// The bytes are no CL file: the first place, from 0, and why.
+    BadCl { at: u64, cause: ClCause },
+    /// A control can't run the tape: the first place, from 0, and why.
+    BadTape { at: u64, cause: TapeCause },
+    /// The CL file or the tape is not that of the part.
+    NotCertified { miss: Miss },
     /// A file could not be written.
     WriteFault,
     NoMemory,
@@ -67,6 +89,9 @@ impl Status {
             Status::TooLong { .. } => 4,
             Status::BadPart { .. } => 6,
             Status::Refused { .. } => 7,
+            Status::BadCl { .. } => 8,
+            Status::BadTape { .. } => 9,
+            Status::NotCertified { .. } => 10,
             Status::WriteFault => 11,
             Status::NoMemory => 12,
         }

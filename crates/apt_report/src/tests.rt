@@ -1,4 +1,7 @@
-use crate::{FileName, PartCause, Status, Summary, line_of};
+use crate::{
+    Bad, ClCause, FileName, Miss, PartCause, Reason, Status, Summary, TapeCause, Verdict, line_of,
+};
+use apt_plane::Spot;
 use apt_words::Case;
 use std::test::Fail;
 
@@ -7,6 +10,12 @@ fn lines_of_answers(rt: HostRuntime) -> Result<(), Fail> {
     let alloc = rt.alloc();
     let name = FileName {
         text: String::from_str(alloc, "NONE")?,
+    };
+    let bad = Bad {
+        motion: 1,
+        segment: 1,
+        spot: Spot { j: 1, m: 1 },
+        reason: Reason::Band,
     };
     let answers = [
         (
@@ -32,6 +41,47 @@ fn lines_of_answers(rt: HostRuntime) -> Result<(), Fail> {
                 case: Case::TooFine,
             },
             "REFUSED LINE 13 STEP 13 TooFine\n",
+        ),
+        (
+            Status::Done(Summary::Certified(Verdict {
+                segments: 4,
+                worst_in: 8,
+                worst_out: 0,
+                first_bad: None,
+            })),
+            "YES 4 SEGMENTS IN 8 OUT 0\n",
+        ),
+        (
+            Status::BadCl {
+                at: 8,
+                cause: ClCause::Truncated,
+            },
+            "BAD CL AT 8 Truncated\n",
+        ),
+        (
+            Status::BadTape {
+                at: 3,
+                cause: TapeCause::BadParity,
+            },
+            "BAD TAPE AT 3 BadParity\n",
+        ),
+        (
+            Status::NotCertified {
+                miss: Miss::Entry { seq: 1 },
+            },
+            "NOT CERTIFIED ENTRY 1\n",
+        ),
+        (
+            Status::NotCertified {
+                miss: Miss::Motion(bad),
+            },
+            "NOT CERTIFIED MOTION 1 SEGMENT 1 Band AT 1/1\n",
+        ),
+        (
+            Status::NotCertified {
+                miss: Miss::Act { at: 9 },
+            },
+            "NOT CERTIFIED ACT 9\n",
         ),
         (Status::Usage, "USAGE\n"),
         (Status::WriteFault, ""),

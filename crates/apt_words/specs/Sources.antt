@@ -1,5 +1,5 @@
 -- The lines, numbers and texts of statements and steps.
-use Rattle.std.specs.Prelude.{ℕ, Bool, List, [], ◌∷◌, ◌≤◌, ◌==◌, ◌&&◌, ◌||◌, nat_le, IsTrue}
+use Rattle.std.specs.Prelude.{ℕ, Bool, List, [], ◌∷◌, length, ◌≤◌, ◌==◌, ◌&&◌, ◌||◌, nat_le, IsTrue}
 use Rattle.std.specs.List.{list_all}
 use Rattle.apt_words.specs.declared.body.Body.{Body}
 use Rattle.apt_words.specs.declared.body.Body.TheVariants as bodies
@@ -19,10 +19,14 @@ is_text_byte b = b == 9 || (nat_le 32 b && nat_le b 126)
 abbrev pub IsText : List ℕ → Type 0
 IsText text = IsTrue (list_all is_text_byte text)
 
+-- the text of PARTNO stands on one line
+abbrev pub IsTitle : List ℕ → Type 0
+IsTitle text = IsText text × (length text ≤ 256)
+
 -- ---- statements
 
 abbrev pub HasText : Body → Type 0
-HasText (bodies.Partno text) = IsText text
+HasText (bodies.Partno text) = IsTitle text
 HasText _ = Unit {0}
 
 pub record IsStmt (st : Stmt) : Type 0 where
@@ -36,7 +40,7 @@ AreStmts (st ∷ sts) = IsStmt st × AreStmts sts
 -- ---- steps
 
 abbrev pub DeedHasText : Deed → Type 0
-DeedHasText (deeds.Partno text) = IsText text
+DeedHasText (deeds.Partno text) = IsTitle text
 DeedHasText _ = Unit {0}
 
 pub record IsExecuted (st : Step) : Type 0 where

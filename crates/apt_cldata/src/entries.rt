@@ -1,0 +1,343 @@
+//! The record that words say.
+ghost use Rattle.std.specs.Prelude.{◌≡◌, ◌+◌, ◌<◌, ◌^◌, IfOk};
+ghost use Rattle.apt_cldata.specs.Records as spec;
+
+use crate::fields::{
+    GREATEST, Misfit, circle_at, cool_at, coordinate, count_at, dir_at, from_to, point_at,
+    sense_at, side_at, stop_at, text_byte, turn_at, units_at, zero_at,
+};
+use crate::{Note, Position, Reach, Record, Vertices};
+use apt_plane::{Line, Surface};
+use apt_words::Text;
+use std::alloc::{AllocError, Global};
+
+/// The record of a class, a subtype and the words behind them, or what keeps them from being one.
+pub(crate) fn record_of(
+    alloc: Global,
+    class: i64,
+    sub: i64,
+    words: &[i64],
+) -> Result<Result<Record, Misfit>, AllocError>
+    ensures { IfOk result (λ r. r ≡ spec.record_of class sub words.now) }
+{
+    match class {
+        1000 if sub == 0 => Ok(statement_by(words)),
+        2000 => command_by(alloc, sub, words),
+        3000 => Ok(surface_record_by(sub, words)),
+        5000 => motion_by(alloc, sub, words),
+        6000 => Ok(setting_by(sub, words)),
+        14_000 if sub == 0 => Ok(note_alone(Note::Fini, words)),
+        1000 | 14_000 => Ok(Err(Misfit::Subtype)),
+        _ => Ok(Err(Misfit::Class)),
+    }
+}
+
+fn statement_by(words: &[i64]) -> Result<Record, Misfit>
+    ensures { result ≡ spec.statement_by words.now }
+{
+    let [line, step] = words else {
+        return Err(Misfit::Count);
+    };
+    let line = count_at(0, *line)?;
+    let step = count_at(1, *step)?;
+    Ok(Record::Statement { line, step })
+}
+
+/// A text, or its first bad word.
+fn text_by(alloc: Global, words: &[i64]) -> Result<Result<Text, Misfit>, AllocError>
+    ensures { IfOk result (λ r. r ≡ spec.text_by 0 words.now) }
+{
+    let mut bytes = Vec::new(alloc);
+    'words: for (i, word) in words.iter().enumerate() {
+        match text_byte(i, *word) {
+            Ok(byte) => bytes.push(byte)?,
+            Err(misfit) => return Ok(Err(misfit)),
+        }
+    }
+    Ok(Ok(Text { bytes }))
+}
+
+fn partno_by(alloc: Global, words: &[i64]) -> Result<Result<Record, Misfit>, AllocError>
+    ensures { IfOk result (λ r. r ≡ spec.partno_by words.now) }
+{
+    match text_by(alloc, words)? {
+        Ok(text) => Ok(Ok(Record::Note(Note::Partno(text)))),
+        Err(misfit) => Ok(Err(misfit)),
+    }
+}
+
+/// A note of no words.
+fn note_alone(note: Note, words: &[i64]) -> Result<Record, Misfit>
+    ensures { result ≡ spec.note_alone note words.now }
+{
+    if words.is_empty() {
+        Ok(Record::Note(note))
+    } else {
+        Err(Misfit::Count)
+    }
+}
+
+/// The number of a note of one word.
+fn number_alone(least: i64, most: i64, words: &[i64]) -> Result<i64, Misfit>
+    ensures { result ≡ spec.number_alone least most words.now }
+{
+    match words {
+        [n] => from_to(least, most, 0, *n),
+        _ => Err(Misfit::Count),
+    }
+}
+
+fn spindl_at(n: i64, turn: i64) -> Result<Record, Misfit>
+    ensures { result ≡ spec.spindl_at n turn }
+{
+    let n = from_to(0, GREATEST, 0, n)?;
+    let turn = turn_at(1, n, turn)?;
+    Ok(Record::Note(Note::Spindl(turn, n)))
+}
+
+fn spindl_by(words: &[i64]) -> Result<Record, Misfit>
+    ensures { result ≡ spec.spindl_by words.now }
+{
+    match words {
+        [n, turn] => spindl_at(*n, *turn),
+        _ => Err(Misfit::Count),
+    }
+}
+
+fn coolnt_by(words: &[i64]) -> Result<Record, Misfit>
+    ensures { result ≡ spec.coolnt_by words.now }
+{
+    let [c] = words else {
+        return Err(Misfit::Count);
+    };
+    Ok(Record::Note(Note::Coolnt(cool_at(0, *c)?)))
+}
+
+fn units_by(words: &[i64]) -> Result<Record, Misfit>
+    ensures { result ≡ spec.units_by words.now }
+{
+    let [u] = words else {
+        return Err(Misfit::Count);
+    };
+    Ok(Record::Note(Note::Units(units_at(0, *u)?)))
+}
+
+fn command_by(alloc: Global, sub: i64, words: &[i64]) -> Result<Result<Record, Misfit>, AllocError>
+    ensures { IfOk result (λ r. r ≡ spec.command_by sub words.now) }
+{
+    match sub {
+        1 => partno_by(alloc, words),
+        2 => Ok(note_alone(Note::Rapid, words)),
+        3 => Ok(note_alone(Note::Stop, words)),
+        4 => Ok(note_alone(Note::OptStop, words)),
+        5 => Ok(note_alone(Note::End, words)),
+        6 => Ok(fedrat_by(words)),
+        7 => Ok(spindl_by(words)),
+        8 => Ok(coolnt_by(words)),
+        9 => Ok(loadtl_by(words)),
+        _ => Ok(Err(Misfit::Subtype)),
+    }
+}
+
+fn fedrat_by(words: &[i64]) -> Result<Record, Misfit>
+    ensures { result ≡ spec.fedrat_by words.now }
+{
+    Ok(Record::Note(Note::Fedrat(number_alone(1, GREATEST, words)?)))
+}
+
+fn loadtl_by(words: &[i64]) -> Result<Record, Misfit>
+    ensures { result ≡ spec.loadtl_by words.now }
+{
+    Ok(Record::Note(Note::Loadtl(number_alone(1, GREATEST, words)?)))
+}
+
+fn cutter_by(words: &[i64]) -> Result<Record, Misfit>
+    ensures { result ≡ spec.cutter_by words.now }
+{
+    Ok(Record::Note(Note::Cutter(number_alone(0, 1_000_000, words)?)))
+}
+
+fn intol_by(words: &[i64]) -> Result<Record, Misfit>
+    ensures { result ≡ spec.intol_by words.now }
+{
+    Ok(Record::Note(Note::Intol(number_alone(0, 10_000, words)?)))
+}
+
+fn outtol_by(words: &[i64]) -> Result<Record, Misfit>
+    ensures { result ≡ spec.outtol_by words.now }
+{
+    Ok(Record::Note(Note::Outtol(number_alone(0, 10_000, words)?)))
+}
+
+fn setting_by(sub: i64, words: &[i64]) -> Result<Record, Misfit>
+    ensures { result ≡ spec.setting_by sub words.now }
+{
+    match sub {
+        1 => cutter_by(words),
+        2 => intol_by(words),
+        3 => outtol_by(words),
+        4 => units_by(words),
+        _ => Err(Misfit::Subtype),
+    }
+}
+
+fn line_by(x: i64, y: i64, dx: i64, dy: i64) -> Result<Surface, Misfit>
+    ensures { result ≡ spec.line_by x y dx dy }
+{
+    let base = point_at(1, x, y)?;
+    let dir = dir_at(3, dx, dy)?;
+    Ok(Surface::Line(Line { base, dir }))
+}
+
+fn circle_by(x: i64, y: i64, r: i64, zero: i64) -> Result<Surface, Misfit>
+    ensures { result ≡ spec.circle_by x y r zero }
+{
+    let centre = point_at(1, x, y)?;
+    let circle = circle_at(3, centre, r)?;
+    zero_at(4, zero)?;
+    Ok(Surface::Circ(circle))
+}
+
+#[tactic(auto, unfolding(crate::specs::Records::surface_by))]
+fn surface_by(kind: i64, a: i64, b: i64, c: i64, d: i64) -> Result<Surface, Misfit>
+    ensures { result ≡ spec.surface_by kind a b c d }
+{
+    match kind {
+        1 => line_by(a, b, c, d),
+        2 => circle_by(a, b, c, d),
+        _ => Err(Misfit::Word(0)),
+    }
+}
+
+/// The words behind a surface.
+fn drive_on(surface: Surface, side: i64, sense: i64) -> Result<Record, Misfit>
+    ensures { result ≡ spec.drive_on surface side sense }
+{
+    let side = side_at(5, side)?;
+    let sense = sense_at(6, sense)?;
+    Ok(Record::Drive {
+        surface,
+        side,
+        sense,
+    })
+}
+
+#[tactic(auto, unfolding(crate::specs::Records::drive_at))]
+fn drive_at(
+    kind: i64,
+    a: i64,
+    b: i64,
+    c: i64,
+    d: i64,
+    side: i64,
+    sense: i64,
+) -> Result<Record, Misfit>
+    ensures { result ≡ spec.drive_at kind a b c d side sense }
+{
+    let surface = surface_by(kind, a, b, c, d)?;
+    drive_on(surface, side, sense)
+}
+
+fn drive_by(words: &[i64]) -> Result<Record, Misfit>
+    ensures { result ≡ spec.drive_by words.now }
+{
+    match words {
+        [kind, a, b, c, d, side, sense] => drive_at(*kind, *a, *b, *c, *d, *side, *sense),
+        _ => Err(Misfit::Count),
+    }
+}
+
+#[tactic(auto, unfolding(crate::specs::Records::check_at))]
+fn check_at(kind: i64, a: i64, b: i64, c: i64, d: i64, how: i64) -> Result<Record, Misfit>
+    ensures { result ≡ spec.check_at kind a b c d how }
+{
+    let surface = surface_by(kind, a, b, c, d)?;
+    let how = stop_at(5, how)?;
+    Ok(Record::Check { surface, how })
+}
+
+fn check_by(words: &[i64]) -> Result<Record, Misfit>
+    ensures { result ≡ spec.check_by words.now }
+{
+    match words {
+        [kind, a, b, c, d, how] => check_at(*kind, *a, *b, *c, *d, *how),
+        _ => Err(Misfit::Count),
+    }
+}
+
+fn surface_record_by(sub: i64, words: &[i64]) -> Result<Record, Misfit>
+    ensures { result ≡ spec.surface_record_by sub words.now }
+{
+    match sub {
+        1 => drive_by(words),
+        2 => check_by(words),
+        _ => Err(Misfit::Subtype),
+    }
+}
+
+/// The position whose first word has an index.
+fn position_by(i: usize, x: i64, y: i64, z: i64) -> Result<Position, Misfit>
+    requires { i + 2 < 2 ^ 64 }
+    ensures { result ≡ spec.position_by i x y z }
+{
+    let at = point_at(i, x, y)?;
+    let z = coordinate(i + 2, z)?;
+    Ok(Position { at, z })
+}
+
+fn reached_by(reach: Reach, words: &[i64]) -> Result<Record, Misfit>
+    ensures { result ≡ spec.reached_by reach words.now }
+{
+    let [x, y, z] = words else {
+        return Err(Misfit::Count);
+    };
+    let to = position_by(0, *x, *y, *z)?;
+    Ok(Record::Point(reach, to))
+}
+
+/// Positions of three words each, or the first bad word.
+fn positions_by(alloc: Global, words: &[i64]) -> Result<Result<Vertices, Misfit>, AllocError>
+    ensures { IfOk result (λ r. r ≡ spec.positions_by 0 words.now) }
+{
+    let mut at = Vec::new(alloc);
+    let mut i = 0;
+    let mut rest = words;
+    'triples: while let [x, y, z, after @ ..] = rest {
+        match position_by(i, *x, *y, *z) {
+            Ok(position) => at.push(position)?,
+            Err(misfit) => return Ok(Err(misfit)),
+        }
+        i += 3;
+        rest = after;
+    }
+    if rest.is_empty() {
+        Ok(Ok(Vertices { at }))
+    } else {
+        Ok(Err(Misfit::Count))
+    }
+}
+
+fn contour_by(alloc: Global, words: &[i64]) -> Result<Result<Record, Misfit>, AllocError>
+    ensures { IfOk result (λ r. r ≡ spec.contour_by words.now) }
+{
+    if words.is_empty() || words.len() % 3 != 0 {
+        return Ok(Err(Misfit::Count));
+    }
+    match positions_by(alloc, words)? {
+        Ok(vertices) => Ok(Ok(Record::Contour(vertices))),
+        Err(misfit) => Ok(Err(misfit)),
+    }
+}
+
+fn motion_by(alloc: Global, sub: i64, words: &[i64]) -> Result<Result<Record, Misfit>, AllocError>
+    ensures { IfOk result (λ r. r ≡ spec.motion_by sub words.now) }
+{
+    match sub {
+        1 => Ok(reached_by(Reach::From, words)),
+        2 => Ok(reached_by(Reach::Goto, words)),
+        3 => Ok(reached_by(Reach::Godlta, words)),
+        4 => Ok(reached_by(Reach::Start, words)),
+        5 => contour_by(alloc, words),
+        _ => Ok(Err(Misfit::Subtype)),
+    }
+}
