@@ -13,7 +13,7 @@ use Rattle.apt_defs.specs.Definitions.{line_cases, line_figure}
 use Rattle.apt_meaning.specs.declared.situation.Situation.{Situation}
 use Rattle.apt_meaning.specs.declared.effect.Effect.{Effect}
 use Rattle.apt_meaning.specs.declared.effect.Effect.TheVariants as effects
-use Rattle.apt_meaning.specs.Effects.{moves, moved_from, started_at, effect_of}
+use Rattle.apt_meaning.specs.Effects.{moves, moved_from, start_position_at, effect_of}
 use Rattle.apt_meaning.specs.Refusals.{refusal_of}
 use Rattle.apt_meaning.specs.Compiled.{asked, ends_of}
 use Rattle.apt_motion.specs.declared.contours.Cut.{Cut}
@@ -66,7 +66,7 @@ no_end at (deeds.FromPoint p) plain = tt
 no_end at (deeds.GotoXy x y z) plain = refl
 no_end at (deeds.GotoPoint p) plain = tt
 no_end at (deeds.Godlta x y z) plain = moved_no_end reaches.Godlta (moved_from at x y z)
-no_end at (deeds.GoStart how_a a b) plain = moved_no_end reaches.Start (started_at at how_a a b)
+no_end at (deeds.GoStart how_a a b) plain = moved_no_end reaches.Start (start_position_at at how_a a b)
 no_end at (deeds.Contour side go drive how check) plain = absurd (plain side go drive how check refl)
 no_end at deeds.Rapid plain = refl
 no_end at deeds.Halt plain = refl
