@@ -114,3 +114,7 @@ promised machine text p is h =
       reached = plan_reaches p.records;
       program = planned_program p.records (ends_once AreLegal false first_situation p.steps p.records follow.behind follow.follows ends) can;
     }
+
+-- and a text that passes comes to its part
+pub passes_comes : (machine : Machine) (text : List ℕ) (p : Compiled) → Passes machine text p → part_of machine text ≡ Ok (Ok p)
+passes_comes machine text p q = rw (q.read, q.unrolled, q.within, q.compiled) refl
