@@ -19,9 +19,9 @@ track_distance (targets.Line base dir off) = off
 track_distance (targets.Circ c r) = r
 
 -- a point lies at most w past a track, to the greater distances (1) or to the less (-1)
-abbrev pub IsPastBy : Target → ℤ → ℤ → Scaled → Type 0
-IsPastBy track (pos n) w s = IsUnder (track_surface track) (track_distance track +ℤ w) s
-IsPastBy track (negsuc n) w s = IsOver (track_surface track) (track_distance track -ℤ w) s
+abbrev pub IsAtMostPast : Target → ℤ → ℤ → Scaled → Type 0
+IsAtMostPast track (pos n) w s = IsUnder (track_surface track) (track_distance track +ℤ w) s
+IsAtMostPast track (negsuc n) w s = IsOver (track_surface track) (track_distance track -ℤ w) s
 
 -- a fact of every point of every segment of a path
 abbrev pub EveryPointFrom : Pt → List Pt → (Scaled → Type 0) → Type 0
@@ -36,14 +36,14 @@ pub data Way : Type 0 where
   Inwards : Way
   Outwards : Way
 
-abbrev pub sign_of : Way → Job → ℤ
-sign_of Inwards job = neg_ℤ job.out_sign
-sign_of Outwards job = job.out_sign
+abbrev pub way_sign : Way → Job → ℤ
+way_sign Inwards job = neg_ℤ job.out_sign
+way_sign Outwards job = job.out_sign
 
 -- no point of any segment lies more than w past the track of its motion
 abbrev pub AreWithin : Way → ℤ → List Job → Type 0
 AreWithin way w [] = Unit {0}
-AreWithin way w (job ∷ jobs) = EveryPointAlong job.points (IsPastBy job.leg.track (sign_of way job) w) × AreWithin way w jobs
+AreWithin way w (job ∷ jobs) = EveryPointAlong job.points (IsAtMostPast job.leg.track (way_sign way job) w) × AreWithin way w jobs
 
 -- the greatest deviation, rounded up: no point lies more than u past its track exactly where u is at least w
 pub record IsWorst (way : Way) (jobs : List Job) (w : ℤ) : Type 0 where

@@ -58,13 +58,10 @@ pub record IsJob (job : Job) : Type 0 where
   pub moves : 2 ≤ length job.points
   pub points : ArePoints job.points
 
-abbrev pub AreJobs : List Job → Type 0
-AreJobs [] = Unit {0}
-AreJobs (job ∷ jobs) = IsJob job × AreJobs jobs
-
-abbrev pub points_of : List Job → ℕ
-points_of [] = 0
-points_of (job ∷ jobs) = length job.points + points_of jobs
+-- the number of all points
+abbrev pub point_count : List Job → ℕ
+point_count [] = 0
+point_count (job ∷ jobs) = length job.points + point_count jobs
 
 -- ---- legal
 
@@ -77,6 +74,6 @@ abbrev pub AreLegal : List Job → Type 0
 AreLegal [] = Unit {0}
 AreLegal (job ∷ jobs) = IsLegalPath job.leg job.points × AreLegal jobs
 
-abbrev pub segments_of : List Job → ℕ
-segments_of [] = 0
-segments_of (job ∷ jobs) = (length job.points - 1) + segments_of jobs
+abbrev pub segment_count : List Job → ℕ
+segment_count [] = 0
+segment_count (job ∷ jobs) = (length job.points - 1) + segment_count jobs

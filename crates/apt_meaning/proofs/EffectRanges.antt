@@ -8,7 +8,8 @@ use Rattle.apt_num.specs.declared.Sign.TheVariants as signs
 use Rattle.apt_num.proofs.Nearest.{near-IsNear}
 use Rattle.apt_words.specs.declared.Side.{Side}
 use Rattle.apt_words.specs.declared.Units.{Units}
-use Rattle.apt_scalar.specs.Scalars.{IsScalar, tenths}
+use Rattle.apt_words.specs.declared.Units.TheVariants as the_units
+use Rattle.apt_scalar.specs.Scalars.{IsScalar, grid_units, tenths}
 use Rattle.apt_plane.specs.Ranges.{IsSense}
 use Rattle.apt_offset.specs.Ranges.{IsRadius, IsTolerance}
 use Rattle.apt_offset.specs.Turns.{is_zero}
@@ -39,6 +40,12 @@ pub radius_in : (v : ℤ) → not (is_up_to (pos 1000000) v) ≡ false → IsRad
 radius_in v e =
     let h = up_to_in (pos 1000000) v e in
     record { least = omega (arith, ints); most = omega (arith, ints, h) }
+
+-- ---- lengths
+
+pub grid_units_small : (units : Units) (v : ℤ) → IsScalar v → unsigned_abs (grid_units units v) ≤ 10 ^ 12
+grid_units_small the_units.Inch v h = omega (arith, ints, (near-IsNear v (pos 10) (omega (arith, ints))).nearest, h)
+grid_units_small the_units.Mm v h = omega (arith, ints, (near-IsNear v (pos 100) (omega (arith, ints))).nearest, h)
 
 -- ---- feeds
 

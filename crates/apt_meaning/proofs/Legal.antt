@@ -19,15 +19,15 @@ use Rattle.apt_plane.specs.Distances.{EveryPoint}
 use Rattle.apt_canon.proofs.MeetingLaws.{meeting_point-near}
 use Rattle.apt_offset.specs.Ranges.{IsRadius}
 use Rattle.apt_offset.specs.Turns.{opposite, is_zero}
-use Rattle.apt_offset.specs.Targets.{signed}
+use Rattle.apt_offset.specs.Targets.{signed, lacks_room}
 use Rattle.apt_stop.specs.Nearness.{is_near, heading, off_track, near_stop, side_of as side_of_target}
 use Rattle.apt_stop.proofs.NearLaws.{near-OnLine}
 use Rattle.apt_stop.proofs.Cases.{inside_point}
 use Rattle.apt_certify.specs.declared.leg.Leg.{Leg}
-use Rattle.apt_certify.specs.Legs.{IsBounded, IsWithinEdge, IsLegal}
+use Rattle.apt_certify.specs.Legs.{beyond_of, IsBounded, IsWithinEdge, IsLegal}
 use Rattle.apt_meaning.specs.declared.motion.Motion.{Motion}
 use Rattle.apt_meaning.specs.declared.motion.StartUp.{StartUp}
-use Rattle.apt_meaning.specs.Motions.{stop_of, drive_side, check_side, line_offset, stop_offset, starts_on_check, side_between, side_of, stop_side, contact, leg_of, is_defined}
+use Rattle.apt_meaning.specs.Motions.{stop_of, drive_side, check_side, line_offset, stop_offset, starts_on_check, side_between, side_of, stop_side, contact, leg_of, has_track, is_defined}
 use Rattle.apt_meaning.specs.StartUps.{start_point, meeting_cases, start_up_cases}
 use Rattle.apt_meaning.specs.Refusals.{motion_cases, is_tanto}
 use Rattle.apt_meaning.specs.Ranges.{IsMotion}
@@ -72,10 +72,18 @@ far_not_zero signs.Plus k h n far = refl
 far_not_zero signs.Minus k h n far = refl
 far_not_zero signs.Zero k h n far = absurd far
 
+opposite_not_zero : (side : Sign) → is_zero side ≡ false → is_zero (opposite side) ≡ false
+opposite_not_zero signs.Plus d = refl
+opposite_not_zero signs.Minus d = refl
+opposite_not_zero signs.Zero d = absurd (true≢false d)
+
+edge_bounded : (leg : Leg) (edge : Sign) → leg.beyond ≡ edge → is_zero edge ≡ false → IsBounded leg
+edge_bounded leg signs.Plus e d = rw e tt
+edge_bounded leg signs.Minus e d = rw e tt
+edge_bounded leg signs.Zero e d = absurd (true≢false d)
+
 bounded_by : (leg : Leg) (side : Sign) → leg.beyond ≡ opposite side → is_zero side ≡ false → IsBounded leg
-bounded_by leg signs.Plus e d = rw e tt
-bounded_by leg signs.Minus e d = rw e tt
-bounded_by leg signs.Zero e d = absurd (true≢false d)
+bounded_by leg side e d = edge_bounded leg (opposite side) e (opposite_not_zero side d)
 
 -- ---- what leads to a stop is a legal leg
 
@@ -179,6 +187,27 @@ motion_contact m is none = contact_on m m.drive m.check none
 -- and what it asks for is there
 pub motion_defined : (m : Motion) → IsMotion m → NoneHolds (motion_cases m) → is_defined m ≡ true
 motion_defined m is none = defined_on m m.drive m.check none
+
+-- ---- a motion whose stop is there has an edge that it must not pass
+
+beyond_not_zero : (check : Surface) (side : Sign) → is_zero side ≡ false → is_zero (beyond_of check side) ≡ false
+beyond_not_zero (surfaces.Line l) side d = opposite_not_zero side d
+beyond_not_zero (surfaces.Circ c) side d = d
+
+last_of_three : (a b c : Bool) → (a && not b && not c) ≡ true → c ≡ false
+last_of_three true false false e = refl
+last_of_three true false true e = absurd (true≢false (sym e))
+last_of_three true true c e = absurd (true≢false (sym e))
+last_of_three false b c e = absurd (true≢false (sym e))
+
+side_there : (track on_check lacks_room no_side : Bool) → (track && (not on_check && not lacks_room && not no_side)) ≡ true → no_side ≡ false
+side_there false on_check lacks_room no_side e = absurd (true≢false (sym e))
+side_there true on_check lacks_room no_side e = last_of_three (not on_check) lacks_room no_side e
+
+pub defined_bounded : (m : Motion) → is_defined m ≡ true → IsBounded (leg_of m)
+defined_bounded m is =
+    let side = side_there (has_track m) (starts_on_check m) (lacks_room (stop_of m)) (is_zero (stop_side m)) is in
+    edge_bounded (leg_of m) (beyond_of m.check (stop_side m)) refl (beyond_not_zero m.check (stop_side m) side)
 
 -- ---- start-up
 

@@ -15,6 +15,8 @@ pub mod Fed
 pub mod Kept
 pub mod Stands
 pub mod Walk
+pub mod Begins
+pub mod Meetings
 pub mod Ends
 mod Worked
 mod Statements

@@ -1,14 +1,17 @@
 -- Start-up on two surfaces.
-use Rattle.std.specs.Prelude.{ℤ, ◌&&◌, not, Bool, true, List, [], ◌∷◌, ℕ, Option, Some, None, is_none, if◌then◌else◌}
+use Rattle.std.specs.Prelude.{ℤ, ◌&&◌, not, Bool, true, List, [], ◌∷◌, ℕ, Option, Some, None, is_none, Result, Ok, Err, if◌then◌else◌}
 use Rattle.apt_num.specs.declared.Sign.{Sign}
 use Rattle.apt_num.specs.declared.Sign.TheVariants as signs
 use Rattle.apt_words.specs.declared.Stop.{Stop}
+use Rattle.apt_words.specs.declared.Case.{Case}
 use Rattle.apt_words.specs.declared.Case.TheVariants as cases
 use Rattle.apt_words.specs.Rows.{Row, first_of}
 use Rattle.apt_words.specs.Options.{◌>>=◌}
 use Rattle.apt_plane.specs.declared.figures.Pt.{Pt}
 use Rattle.apt_plane.specs.declared.figures.Surface.{Surface}
 use Rattle.apt_plane.specs.declared.figures.Surface.TheVariants as surfaces
+use Rattle.apt_canon.specs.declared.FormFault.{FormFault}
+use Rattle.apt_canon.specs.declared.FormFault.TheVariants as faults
 use Rattle.apt_canon.specs.Meeting.{meeting_point, are_parallel, is_in_range}
 use Rattle.apt_offset.specs.Sides.{side_at_check, is_on_check}
 use Rattle.apt_offset.specs.Targets.{signed, offset_surface, lacks_room}
@@ -62,3 +65,11 @@ start_up_cases u =
 -- the position that GO moves to, where there is one; it keeps the height
 abbrev pub start_position : StartUp → Option Position
 start_position u = if is_none (first_of (start_up_cases u)) then Some (at_height u.start.z (start_point u)) else None
+
+-- two lines meet, or the case that refuses it
+abbrev pub met : Result Pt FormFault → Result Pt Case
+met (Ok p) = Ok p
+met (Err faults.NoMeeting) = Err cases.Parallel
+met (Err faults.OutOfRange) = Err cases.OutOfRange
+met (Err faults.Degenerate) = Err cases.OutOfRange
+met (Err faults.TooLarge) = Err cases.OutOfRange

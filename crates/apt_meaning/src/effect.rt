@@ -1,4 +1,7 @@
 //! Effects.
+
+ghost use Rattle.std.specs.Prelude.{◌≡◌, Some, None};
+
 use crate::{Motion, Settings};
 use apt_cldata::{Note, Position, Reach};
 use apt_defs::Figure;
@@ -15,4 +18,20 @@ pub enum Effect {
     Moves(Reach, Position),
     /// A contour is cut.
     Cuts(Motion),
+}
+
+impl Effect {
+    /// The settings change, and one record says so.
+    pub fn says(settings: Settings, note: Note) -> Effect
+        ensures { result ≡ Effect.Sets settings (Some note) }
+    {
+        Effect::Sets(settings, Some(note))
+    }
+
+    /// The settings change.
+    pub fn sets(settings: Settings) -> Effect
+        ensures { result ≡ Effect.Sets settings None }
+    {
+        Effect::Sets(settings, None)
+    }
 }

@@ -4,8 +4,14 @@
 
 mod effect;
 mod motion;
+mod moves;
+mod settings;
 mod situation;
+mod start_up;
+mod surface;
 
 pub use effect::Effect;
-pub use motion::{Motion, StartUp};
+pub use motion::{Motion, StartUp, is_too_fine, turn_at};
+pub use moves::{moved_by, position_by};
 pub use situation::{Settings, Situation};
+pub use surface::{surface_in, surface_of};

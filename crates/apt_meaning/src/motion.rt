@@ -1,7 +1,25 @@
 //! Motions.
+
+ghost use Rattle.std.specs.Prelude.{◌≡◌, ◌≤◌, false, pos, unsigned_abs};
+ghost use Rattle.apt_plane.specs.Ranges.{IsSurface, IsSense};
+ghost use Rattle.apt_offset.specs.Ranges.{IsTarget, IsTolerance};
+ghost use Rattle.apt_offset.specs.Targets as targets;
+ghost use Rattle.apt_offset.specs.Turns as turns;
+ghost use Rattle.apt_cldata.specs.Ranges.{IsPosition};
+ghost use Rattle.apt_meaning.specs.Motions as motions;
+ghost use Rattle.apt_meaning.specs.Ranges.{AreSettings, IsForward, IsAllowance, IsMotion};
+
+use crate::Settings;
 use apt_cldata::Position;
-use apt_plane::Surface;
-use apt_words::{Side, Stop};
+use apt_num::Sign;
+use apt_offset::{
+    Target, is_on_check, offset_surface, side_at_check, side_at_drive, signed, tangent, turn,
+};
+use apt_plane::{Dir, Surface};
+use apt_words::{Go, Side, Stop};
+
+/// A grid step, in grid units.
+const GRID_STEP: i64 = 8;
 
 /// A contour motion as a step asks for it: where it starts, along which drive surface, with the cutter on which
 /// side and in which sense (1 along a line's direction or anticlockwise round a circle, -1 the other way), and
@@ -29,4 +47,145 @@ pub struct StartUp {
     pub how_b: Stop,
     pub b: Surface,
     pub radius: i64,
+}
+
+impl Motion {
+    /// The motion along a drive surface that runs so against forward.
+    pub fn along(
+        settings: &Settings,
+        start: Position,
+        drive: &Surface,
+        turned: Sign,
+        how: Stop,
+        check: &Surface,
+    ) -> Motion
+        requires settings { AreSettings settings.now }
+        requires start { IsPosition start }
+        requires drive { IsSurface drive.now }
+        requires turned { turns.is_zero turned ≡ false }
+        requires check { IsSurface check.now }
+        ensures value { result ≡ motions.motion settings.now start drive.now turned how check.now }
+        ensures range { IsMotion result }
+    {
+        Motion {
+            start,
+            drive: *drive,
+            side: settings.side,
+            sense: sense_of(turned),
+            check: *check,
+            how,
+            radius: settings.radius,
+            inner: allowance(settings.intol),
+            outer: allowance(settings.outtol),
+        }
+    }
+
+    /// The place of the cutter at the drive surface.
+    pub fn drive_side(&self) -> Sign
+        ensures { result ≡ motions.drive_side self.now }
+    {
+        side_at_drive(self.side, self.sense)
+    }
+
+    /// The place of the cutter at the check surface behind the motion.
+    pub fn check_side(&self) -> Sign
+        requires { IsMotion self.now }
+        ensures { result ≡ motions.check_side self.now }
+    {
+        side_at_check(
+            &self.check,
+            self.how,
+            self.start.at,
+            &self.drive,
+            self.drive_side(),
+        )
+    }
+
+    /// The curve of the cutter's centre.
+    pub fn track(&self) -> Target
+        requires { IsMotion self.now }
+        ensures value { result ≡ motions.track_of self.now }
+        ensures range { targets.lacks_room result ≡ false → IsTarget result }
+    {
+        offset_surface(&self.drive, self.drive_side(), self.radius)
+    }
+
+    /// The curve at which it stops.
+    pub fn stop(&self) -> Target
+        requires { IsMotion self.now }
+        ensures value { result ≡ motions.stop_of self.now }
+        ensures range { targets.lacks_room result ≡ false → IsTarget result }
+    {
+        offset_surface(&self.check, self.check_side(), self.radius)
+    }
+
+    /// Whether the start is on the check surface, under `To` or `Past`.
+    pub fn starts_on_check(&self) -> bool
+        requires { IsMotion self.now }
+        ensures { result ≡ motions.starts_on_check self.now }
+    {
+        is_on_check(self.how, self.check_side())
+    }
+
+    /// How far a drive line is moved to its left, in grid units.
+    pub fn track_offset(&self) -> i64
+        requires { IsMotion self.now }
+        ensures value { result ≡ motions.line_offset self.now }
+        ensures small { unsigned_abs result ≤ 500000 }
+    {
+        signed(self.drive_side(), self.radius)
+    }
+
+    /// How far a check line is moved to its left, in grid units.
+    pub fn stop_offset(&self) -> i64
+        requires { IsMotion self.now }
+        ensures value { result ≡ motions.stop_offset self.now }
+        ensures small { unsigned_abs result ≤ 500000 }
+    {
+        signed(self.check_side(), self.radius)
+    }
+}
+
+/// How a drive surface runs at the start against forward.
+pub fn turn_at(forward: Dir, start: Position, drive: &Surface, go: Go) -> Sign
+    requires forward { IsForward forward }
+    requires start { IsPosition start }
+    requires drive { IsSurface drive.now }
+    ensures { result ≡ turns.turn forward (turns.tangent drive.now start.at) go }
+{
+    let along = tangent(drive, start.at);
+    turn(forward, along, go)
+}
+
+/// Whether both tolerances are below a grid step.
+pub fn is_too_fine(settings: &Settings) -> bool
+    ensures { result ≡ motions.is_too_fine settings.now }
+{
+    settings.intol < GRID_STEP && settings.outtol < GRID_STEP
+}
+
+/// The sense of a motion: 1 along a line's direction or anticlockwise round a circle, -1 the other way.
+fn sense_of(turned: Sign) -> i8
+    requires { turns.is_zero turned ≡ false }
+    ensures value { result ≡ targets.signed turned (pos 1) }
+    ensures range { IsSense result }
+{
+    match turned {
+        Sign::Plus => 1,
+        Sign::Zero => 0,
+        Sign::Minus => -1,
+    }
+}
+
+/// A tolerance counts as at least a grid step.
+fn allowance(tolerance: i64) -> i64
+    requires { IsTolerance tolerance }
+    ensures value { result ≡ targets.greater tolerance motions.grid_step }
+    ensures range { IsAllowance result }
+{
+    if tolerance <= GRID_STEP {
+        GRID_STEP
+    } else {
+        tolerance
+    }
 }

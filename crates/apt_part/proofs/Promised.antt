@@ -104,7 +104,7 @@ promised machine text p is h =
     let are = are_steps machine text p h in
     let follow = compiled_follows first_situation p.steps p.records first_situation-IsSituation are.scalars are.sources q.compiled in
     let ends : StepsEnd false p.steps = subst (StepsEnd false) (steps_by q.statements p q.unrolled)
-        (end_once q.statements (trace_of q.statements) refl (of_text EndsInFini text q.statements q.read (program_of-ends text)) (ap (λ (u : Trace). u.fault) q.unrolled)) in
+    (end_once q.statements (trace_of q.statements) refl (of_text EndsInFini text q.statements q.read (program_of-ends text)) (ap (λ (u : Trace). u.fault) q.unrolled)) in
     let can = compiled_written machine nothing_pending first_situation p.steps p.records is (record { feed = refl; rapid = refl }) (record { most = omega (arith, ints) }) first_situation-IsSituation are.scalars are.sources q.within q.compiled in record {
       passes = q;
       behind = follow.behind;
@@ -114,3 +114,7 @@ promised machine text p is h =
       reached = plan_reaches p.records;
       program = planned_program p.records (ends_once AreLegal false first_situation p.steps p.records follow.behind follow.follows ends) can;
     }
+
+-- and a text that passes comes to its part
+pub passes_comes : (machine : Machine) (text : List ℕ) (p : Compiled) → Passes machine text p → part_of machine text ≡ Ok (Ok p)
+passes_comes machine text p q = rw (q.read, q.unrolled, q.within, q.compiled) refl

@@ -1,0 +1,42 @@
+-- The jobs of records that follow steps: one for each contour.
+use Rattle.std.specs.Prelude.{◌≡◌, ℤ, pos, negsuc, List, [], ◌∷◌, ◌++◌}
+use Rattle.apt_num.specs.declared.Sign.{Sign}
+use Rattle.apt_num.specs.declared.Sign.TheVariants as signs
+use Rattle.apt_words.specs.declared.deed.Step.{Step}
+use Rattle.apt_plane.specs.declared.figures.Pt.{Pt}
+use Rattle.apt_plane.specs.declared.figures.Surface.{Surface}
+use Rattle.apt_plane.specs.declared.figures.Surface.TheVariants as surfaces
+use Rattle.apt_certify.specs.declared.leg.Job.{Job}
+use Rattle.apt_cldata.specs.declared.record.Record.{Record}
+use Rattle.apt_meaning.specs.declared.situation.Situation.{Situation}
+use Rattle.apt_meaning.specs.declared.motion.Motion.{Motion}
+use Rattle.apt_meaning.specs.declared.effect.Effect.{Effect}
+use Rattle.apt_meaning.specs.declared.effect.Effect.TheVariants as effects
+use Rattle.apt_meaning.specs.Motions.{drive_side, leg_of}
+use Rattle.apt_meaning.specs.Records.{Begins, after}
+
+-- 1 where outside, by the place of the cutter at a surface, is further to a line's left or further from a circle's centre, else -1
+abbrev pub out_sign_at : Surface → Sign → ℤ
+out_sign_at (surfaces.Line l) signs.Plus = pos 1
+out_sign_at (surfaces.Line l) signs.Zero = pos 1
+out_sign_at (surfaces.Line l) signs.Minus = negsuc 0
+out_sign_at (surfaces.Circ c) signs.Plus = negsuc 0
+out_sign_at (surfaces.Circ c) signs.Zero = pos 1
+out_sign_at (surfaces.Circ c) signs.Minus = pos 1
+
+-- the job of a contour: its leg, on which side of its track outside lies, and its points
+abbrev pub job_of : Motion → List Pt → Job
+job_of m vertices = record { leg = leg_of m; out_sign = out_sign_at m.drive (drive_side m); points = m.start.at ∷ vertices }
+
+abbrev pub jobs_by : Effect → List Pt → List Job
+jobs_by (effects.Defines n f) vertices = []
+jobs_by (effects.Sets s saying) vertices = []
+jobs_by (effects.Moves reach to) vertices = []
+jobs_by (effects.Cuts m) vertices = job_of m vertices ∷ []
+
+-- records follow steps, and these are the jobs of their contours
+abbrev pub MakesJobs : Situation → List Step → List Record → List Job → Type 0
+MakesJobs at [] written jobs = (written ≡ []) × (jobs ≡ [])
+MakesJobs at (step ∷ steps) written jobs =
+    (e : Effect) × (vertices : List Pt) × (rest : List Record) × (more : List Job)
+    × Begins at step written e vertices rest × (jobs ≡ jobs_by e vertices ++ more) × MakesJobs (after at e vertices) steps rest more

@@ -1,0 +1,3 @@
+//! The jobs of a CL file: whether its records answer the steps of a part program, and the contour motions that
+//! they make.
+#![tactic(auto)]

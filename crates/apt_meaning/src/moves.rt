@@ -1,0 +1,158 @@
+//! Positions by scalars, and what holds behind moves and contours.
+
+ghost use Rattle.std.specs.Prelude.{◌≡◌, ◌≤◌, ◌+ℤ◌, [], Some, unsigned_abs};
+ghost use Rattle.apt_scalar.specs.Scalars.{IsScalar, grid_units};
+ghost use Rattle.apt_scalar.specs.StepScalars.{IsScalarOrNone};
+ghost use Rattle.apt_plane.specs.Ranges.{IsPoint};
+ghost use Rattle.apt_certify.specs.Legs as legs;
+ghost use Rattle.apt_cldata.specs.Ranges.{IsPosition};
+ghost use Rattle.apt_meaning.specs.Effects as asking;
+ghost use Rattle.apt_meaning.specs.Ranges.{IsSituation, IsMotion, IsPositionOrNone};
+ghost use Rattle.apt_meaning.specs.Records as written;
+ghost use Rattle.apt_meaning.specs.Situations as situations;
+ghost use Rattle.apt_meaning.specs.Vertices.{ArePoints};
+ghost use Rattle.apt_meaning.specs.declared.effect.Effect.TheVariants as effects;
+
+use crate::{Motion, Situation};
+use apt_cldata::{Position, Reach};
+use apt_offset::tangent;
+use apt_plane::vectors::{displacement, length_squared};
+use apt_plane::{Dir, Pt};
+use apt_scalar::grid_units;
+use apt_stop::heading;
+use apt_words::Units;
+
+/// A position by scalars; the height is 0 where it is left out.
+pub fn position_by(units: Units, x: i64, y: i64, z: Option<i64>) -> Position
+    requires x { IsScalar x }
+    requires y { IsScalar y }
+    requires z { IsScalarOrNone z }
+    ensures { result ≡ asking.position_by units x y z }
+{
+    Position {
+        at: Pt {
+            x: grid_units(units, x),
+            y: grid_units(units, y),
+        },
+        z: height(units, z),
+    }
+}
+
+/// The height is 0 where it is left out.
+fn height(units: Units, z: Option<i64>) -> i64
+    requires { IsScalarOrNone z }
+    ensures { result ≡ asking.height_by units z }
+{
+    match z {
+        None => 0,
+        Some(z) => grid_units(units, z),
+    }
+}
+
+/// A position moved by three scalars.
+pub fn moved_by(units: Units, x: i64, y: i64, z: i64, from: Position) -> Position
+    requires x { IsScalar x }
+    requires y { IsScalar y }
+    requires z { IsScalar z }
+    requires from { IsPosition from }
+    ensures { result ≡ asking.moved_by units x y z from }
+{
+    Position {
+        at: Pt {
+            x: coordinate_moved(units, x, from.at.x),
+            y: coordinate_moved(units, y, from.at.y),
+        },
+        z: coordinate_moved(units, z, from.z),
+    }
+}
+
+#[tactic(auto, using(crate::proofs::EffectRanges::grid_units_small))]
+fn coordinate_moved(units: Units, by: i64, from: i64) -> i64
+    requires by { IsScalar by }
+    requires from { unsigned_abs from ≤ 50000000 }
+    ensures { result ≡ from +ℤ grid_units units by }
+{
+    from + grid_units(units, by)
+}
+
+impl Situation {
+    /// What holds behind a position that is reached.
+    pub fn behind_move(self, reach: Reach, to: Position) -> Situation
+        requires situation { IsSituation self }
+        requires to { IsPosition to }
+        ensures { result ≡ written.after self (effects.Moves reach to) [] }
+    {
+        let forward = forward_behind(self.position, to.at, self.forward);
+        Situation {
+            settings: self.settings.behind_move(reach),
+            position: Some(to),
+            forward,
+            table: self.table,
+        }
+    }
+
+    /// What holds behind a contour with these vertices.
+    pub fn behind_cut(self, motion: &Motion, vertices: &[Pt]) -> Situation
+        requires motion { IsMotion motion.now }
+        requires vertices { ArePoints vertices.now }
+        ensures { result ≡ written.after self (effects.Cuts motion.now) vertices.now }
+    {
+        let end = end_of(motion.start.at, vertices);
+        let forward = heading(motion.sense, tangent(&motion.drive, end));
+        Situation {
+            settings: self.settings.on_side(motion.side),
+            position: Some(Position {
+                at: end,
+                z: motion.start.z,
+            }),
+            forward,
+            table: self.table,
+        }
+    }
+}
+
+/// Forward after a move.
+fn forward_behind(from: Option<Position>, to: Pt, forward: Dir) -> Dir
+    requires from { IsPositionOrNone from }
+    requires to { IsPoint to }
+    ensures { result ≡ situations.forward_behind from to forward }
+{
+    match from {
+        None => forward,
+        Some(from) => forward_from(from, to, forward),
+    }
+}
+
+fn forward_from(from: Position, to: Pt, forward: Dir) -> Dir
+    requires from { IsPosition from }
+    requires to { IsPoint to }
+    ensures { result ≡ situations.forward_behind (Some from) to forward }
+{
+    let along = displacement(from.at, to);
+    if length_squared(along) == 0 {
+        forward
+    } else {
+        along
+    }
+}
+
+/// The last of a start and the vertices behind it.
+#[tactic(auto, using(crate::proofs::Kept::last_point))]
+fn end_of(start: Pt, vertices: &[Pt]) -> Pt
+    requires start { IsPoint start }
+    requires vertices { ArePoints vertices.now }
+    ensures value { result ≡ legs.last_of start vertices.now }
+    ensures range { IsPoint result }
+{
+    last_of(start, vertices)
+}
+
+fn last_of(start: Pt, vertices: &[Pt]) -> Pt
+    ensures { result ≡ legs.last_of start vertices.now }
+{
+    let mut last = start;
+    for p in vertices {
+        last = *p;
+    }
+    last
+}
