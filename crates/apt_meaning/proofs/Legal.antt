@@ -23,7 +23,8 @@ use Rattle.apt_offset.specs.Targets.{signed}
 use Rattle.apt_stop.specs.Nearness.{is_near, heading, off_track, near_stop, side_of as side_of_target}
 use Rattle.apt_stop.proofs.NearLaws.{near-OnLine}
 use Rattle.apt_stop.proofs.Cases.{inside_point}
-use Rattle.apt_certify.specs.Legs.{Leg, IsBounded, IsWithinEdge, IsLegal}
+use Rattle.apt_certify.specs.declared.leg.Leg.{Leg}
+use Rattle.apt_certify.specs.Legs.{IsBounded, IsWithinEdge, IsLegal}
 use Rattle.apt_meaning.specs.declared.motion.Motion.{Motion}
 use Rattle.apt_meaning.specs.declared.motion.StartUp.{StartUp}
 use Rattle.apt_meaning.specs.Motions.{stop_of, drive_side, check_side, line_offset, stop_offset, starts_on_check, side_between, side_of, stop_side, contact, leg_of, is_defined}

@@ -13,7 +13,7 @@ use Rattle.apt_plane.specs.declared.figures.Surface.TheVariants as surfaces
 use Rattle.apt_defs.specs.declared.figure.Figure.TheVariants as figures
 use Rattle.apt_defs.specs.Figures.{Table}
 use Rattle.apt_offset.specs.declared.Target.TheVariants as targets
-use Rattle.apt_certify.specs.Legs.{Leg}
+use Rattle.apt_certify.specs.declared.leg.Leg.{Leg}
 use Rattle.apt_meaning.specs.declared.situation.Settings.{Settings}
 use Rattle.apt_meaning.specs.declared.situation.Situation.{Situation}
 use Rattle.apt_meaning.specs.declared.motion.Motion.{Motion}

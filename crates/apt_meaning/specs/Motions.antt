@@ -20,7 +20,8 @@ use Rattle.apt_offset.specs.Sides.{side_at_drive, side_at_check, is_on_check}
 use Rattle.apt_offset.specs.Targets.{signed, greater, offset_surface, lacks_room, band_at}
 use Rattle.apt_stop.specs.Nearness.{heading}
 use Rattle.apt_stop.specs.Lines.{line_side}
-use Rattle.apt_certify.specs.Legs.{Leg, beyond_of}
+use Rattle.apt_certify.specs.declared.leg.Leg.{Leg}
+use Rattle.apt_certify.specs.Legs.{beyond_of}
 use Rattle.apt_cldata.specs.declared.record.Position.{Position}
 use Rattle.apt_meaning.specs.declared.situation.Settings.{Settings}
 use Rattle.apt_meaning.specs.declared.situation.Situation.{Situation}
