@@ -24,7 +24,7 @@ legal_at : (before : List Job) (job : Job) (behind : List Job) → AreLegal (bef
 legal_at [] job behind legal = legal.0
 legal_at (x ∷ before) job behind legal = legal_at before job behind legal.1
 
-bad_not_legal : (jobs : List Job) (bad : Bad) → IsFirstBad jobs bad → ¬ AreLegal jobs
+pub bad_not_legal : (jobs : List Job) (bad : Bad) → IsFirstBad jobs bad → ¬ AreLegal jobs
 bad_not_legal jobs bad first = λ legal.
     faulty_path first.job.leg first.job.points bad.segment bad.reason bad.spot first.fault (legal_at first.before first.job first.behind (rw first.split at legal))
 
