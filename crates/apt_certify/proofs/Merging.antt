@@ -34,11 +34,11 @@ pub worst-append : (way : Way) (xs ys : List Job) (v w : ℤ) → IsWorst way xs
 worst-append way xs ys v w first second = record {
   least = greater_least v w first.least;
   bounds = λ u h.
-    let parts = within-append way u xs ys in
-    let both = greater_bounds v w u in (
-      λ p. both.1 ((first.bounds u h).0 (parts.0 p).0, (second.bounds u h).0 (parts.0 p).1),
-      λ p. parts.1 ((first.bounds u h).1 (both.0 p).0, (second.bounds u h).1 (both.0 p).1),
-    );
+      let parts = within-append way u xs ys in
+      let both = greater_bounds v w u in (
+        λ p. both.1 ((first.bounds u h).0 (parts.0 p).0, (second.bounds u h).0 (parts.0 p).1),
+        λ p. parts.1 ((first.bounds u h).1 (both.0 p).0, (second.bounds u h).1 (both.0 p).1),
+      );
 }
 
 -- ---- the first bad motion

@@ -103,11 +103,11 @@ walk_on track sign all left p w past read more next e f g is walked =
       in_range = walked.in_range.1;
       least = greater_least w past walked.least;
       bounds = λ u h.
-        let so_far = walked.bounds u h in
-        let both = greater_bounds w past u in (
-          λ every. let rest = so_far.0 every in (both.1 (rest.0, (is u).0 rest.1.0), rest.1.1),
-          λ rest. so_far.1 ((both.0 rest.0).0, ((is u).1 (both.0 rest.0).1, rest.1)),
-        );
+          let so_far = walked.bounds u h in
+          let both = greater_bounds w past u in (
+            λ every. let rest = so_far.0 every in (both.1 (rest.0, (is u).0 rest.1.0), rest.1.1),
+            λ rest. so_far.1 ((both.0 rest.0).0, ((is u).1 (both.0 rest.0).1, rest.1)),
+          );
     })
 
 -- and at its end
