@@ -1,5 +1,5 @@
 -- Jobs have one verdict.
-use Rattle.std.proofs.Common.{refl, ◌≡◌, ◌⊎◌, inl, inr, ◌∙◌, sym, ap, subst, ℕ, List, [], ◌∷◌, ◌++◌, length, Option, Some, None, arith, ℤ, pos, ◌≤ℤ◌}
+use Rattle.std.proofs.Common.{refl, ◌≡◌, inl, inr, ◌∙◌, sym, ap, subst, ℕ, List, [], ◌∷◌, ◌++◌, length, Option, Some, None, arith, ℤ, ◌≤ℤ◌}
 use Rattle.std.proofs.lemmas.Int.{ints}
 use Rattle.apt_plane.specs.declared.figures.Pt.{Pt}
 use Rattle.apt_plane.specs.declared.figures.Spot.{Spot}
@@ -13,7 +13,7 @@ use Rattle.apt_certify.specs.declared.verdict.Verdict.{Verdict}
 use Rattle.apt_certify.specs.Legs.{Test, OrderOf, BandOf, OverrunOf, StopAt, AxisAt, Holds, AllHold, IsWithinEdge}
 use Rattle.apt_certify.specs.Jobs.{IsLegalPath, AreLegal}
 use Rattle.apt_certify.specs.Deviations.{Way, Inwards, Outwards, IsWorst}
-use Rattle.apt_certify.specs.Verdicts.{segments_tested, reason_of, IsFirstEnd, IsSpot, IsFault, IsFaultOfPath, IsFirstBad, IsFirstBadOrNone, IsVerdict}
+use Rattle.apt_certify.specs.Verdicts.{reason_of, IsFirstEnd, IsSpot, IsFault, IsFaultOfPath, IsFirstBad, IsFirstBadOrNone, IsVerdict}
 use Rattle.apt_certify.proofs.Legality.{faulty_path, bad_not_legal}
 
 -- ---- one first fault

@@ -227,12 +227,12 @@ fn motions(rt: HostRuntime) -> Result<(), Fail> {
 /// The second motion leaves its band and the third one turns back: the second is named.
 #[test]
 fn the_first_fault_is_named(rt: HostRuntime) -> Result<(), Fail> {
-    let start = pt(0, 100);
-    let end = pt(900, 100);
+    let start = Pt { x: 0, y: 100 };
+    let end = Pt { x: 900, y: 100 };
     let jobs = [
-        job(rt.alloc(), None, start, pt(500, 97), end)?,
-        job(rt.alloc(), None, start, pt(500, 109), end)?,
-        job(rt.alloc(), None, start, pt(-500, 88), end)?,
+        job(rt.alloc(), None, start, Pt { x: 500, y: 97 }, end)?,
+        job(rt.alloc(), None, start, Pt { x: 500, y: 109 }, end)?,
+        job(rt.alloc(), None, start, Pt { x: -500, y: 88 }, end)?,
     ];
     let bad = Bad {
         motion: 2,
