@@ -1,5 +1,5 @@
 -- The verdict over two lists of jobs is the merge of the verdicts over each.
-use Rattle.std.proofs.Common.{refl, ◌≡◌, ◌↔◌, ◌∙◌, sym, ap, ℕ, ◌+◌, ◌≤◌, List, [], ◌∷◌, ◌++◌, length, append_assoc, length-append, Option, Some, None, arith, ℤ, pos, ◌≤ℤ◌}
+use Rattle.std.proofs.Common.{refl, ◌≡◌, ◌↔◌, ◌∙◌, sym, ap, ◌+◌, ◌≤◌, List, [], ◌∷◌, ◌++◌, length, append_assoc, length-append, Option, Some, None, arith, ℤ, pos, ◌≤ℤ◌}
 use Rattle.std.proofs.lemmas.Int.{ints}
 use Rattle.apt_plane.specs.declared.figures.Pt.{Pt}
 use Rattle.apt_offset.specs.Targets.{greater}

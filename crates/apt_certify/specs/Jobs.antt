@@ -1,7 +1,6 @@
 -- The jobs that can be judged, and which are legal.
 use Rattle.std.specs.Prelude.{◌≡◌, ℕ, ◌^◌, ◌≤◌, ◌+◌, ◌-◌, unsigned_abs, List, [], ◌∷◌, length, Option, Some, None}
 use Rattle.apt_plane.specs.declared.figures.Pt.{Pt}
-use Rattle.apt_plane.specs.declared.figures.Dir.{Dir}
 use Rattle.apt_plane.specs.declared.figures.Surface.{Surface}
 use Rattle.apt_plane.specs.declared.figures.Surface.TheVariants as surfaces
 use Rattle.apt_plane.specs.declared.figures.Band.{Band}
@@ -57,6 +56,10 @@ pub record IsJob (job : Job) : Type 0 where
   pub out_sign : IsSense job.out_sign
   pub moves : 2 ≤ length job.points
   pub points : ArePoints job.points
+
+abbrev pub AreJobs : List Job → Type 0
+AreJobs [] = Unit {0}
+AreJobs (job ∷ jobs) = IsJob job × AreJobs jobs
 
 -- the number of all points
 abbrev pub point_count : List Job → ℕ
