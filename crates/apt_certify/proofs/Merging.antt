@@ -1,5 +1,6 @@
 -- The verdict over two lists of jobs is the merge of the verdicts over each.
 use Rattle.std.proofs.Common.{refl, ◌≡◌, ◌↔◌, ◌∙◌, sym, ap, ◌+◌, ◌≤◌, List, [], ◌∷◌, ◌++◌, length, append_assoc, length-append, Option, Some, None, arith, ℤ, pos, ◌≤ℤ◌}
+use Rattle.std.specs.Option.{option_or}
 use Rattle.std.proofs.lemmas.Int.{ints}
 use Rattle.apt_plane.specs.declared.figures.Pt.{Pt}
 use Rattle.apt_offset.specs.Targets.{greater}
@@ -9,7 +10,7 @@ use Rattle.apt_certify.specs.declared.verdict.Bad.{Bad}
 use Rattle.apt_certify.specs.declared.verdict.Verdict.{Verdict}
 use Rattle.apt_certify.specs.Jobs.{IsLegalPath, AreLegal, segment_count}
 use Rattle.apt_certify.specs.Deviations.{IsAtMostPast, EveryPointAlong, Way, Inwards, Outwards, way_sign, AreWithin, IsWorst}
-use Rattle.apt_certify.specs.Verdicts.{IsFaultOfPath, IsFirstBad, IsFirstBadOrNone, IsVerdict, behind_motions, or_else, merged}
+use Rattle.apt_certify.specs.Verdicts.{IsFaultOfPath, IsFirstBad, IsFirstBadOrNone, IsVerdict, behind_motions, merged}
 use Rattle.apt_certify.specs.Faults.{IsFirstFaultOfPath}
 use Rattle.apt_certify.proofs.Past.{greater_bounds, greater_least}
 
@@ -69,7 +70,7 @@ bad_before xs ys bad first = record {
   fault = first.fault;
 }
 
-pub first_bad-append : (xs ys : List Job) (a b : Option Bad) → IsFirstBadOrNone xs a → IsFirstBadOrNone ys b → IsFirstBadOrNone (xs ++ ys) (or_else a (behind_motions (length xs) b))
+pub first_bad-append : (xs ys : List Job) (a b : Option Bad) → IsFirstBadOrNone xs a → IsFirstBadOrNone ys b → IsFirstBadOrNone (xs ++ ys) (option_or a (behind_motions (length xs) b))
 first_bad-append xs ys (Some bad) b first second = bad_before xs ys bad first
 first_bad-append xs ys None None first second = legal-append xs ys first second
 first_bad-append xs ys None (Some bad) first second = bad_behind xs ys bad first second

@@ -1,5 +1,6 @@
 -- The verdict over jobs: the first test that a motion fails, and the merge of two verdicts.
 use Rattle.std.specs.Prelude.{◌≡◌, ◌⊎◌, ℕ, ◌+◌, List, [], ◌∷◌, ◌++◌, length, codes, Option, Some, None}
+use Rattle.std.specs.Option.{option_or}
 use Rattle.apt_plane.specs.declared.figures.Pt.{Pt}
 use Rattle.apt_plane.specs.declared.figures.Spot.{Spot}
 use Rattle.apt_plane.specs.Vectors.{Scaled, scaled}
@@ -97,14 +98,10 @@ abbrev pub behind_motions : ℕ → Option Bad → Option Bad
 behind_motions n None = None
 behind_motions n (Some bad) = Some (record bad { motion = n + bad.motion })
 
-abbrev pub or_else : Option Bad → Option Bad → Option Bad
-or_else None other = other
-or_else (Some bad) other = Some bad
-
 abbrev pub merged : Verdict → ℕ → Verdict → Verdict
 merged v n w = record {
   segments = v.segments + w.segments;
   worst_in = greater v.worst_in w.worst_in;
   worst_out = greater v.worst_out w.worst_out;
-  first_bad = or_else v.first_bad (behind_motions n w.first_bad);
+  first_bad = option_or v.first_bad (behind_motions n w.first_bad);
 }

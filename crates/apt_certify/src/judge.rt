@@ -43,14 +43,20 @@ pub fn merged(v: Verdict, n: u64, w: Verdict) -> Verdict
         segments: v.segments + w.segments,
         worst_in: greater(v.worst_in, w.worst_in),
         worst_out: greater(v.worst_out, w.worst_out),
-        first_bad: match (v.first_bad, w.first_bad) {
-            (Some(bad), _) => Some(bad),
-            (None, Some(bad)) => Some(Bad {
-                motion: n + bad.motion,
-                ..bad
-            }),
-            (None, None) => None,
-        },
+        first_bad: v.first_bad.or(behind_motions(n, w.first_bad)),
+    }
+}
+
+fn behind_motions(n: u64, bad: Option<Bad>) -> Option<Bad>
+    requires { IfSome bad (λ b. n + b.motion < 2 ^ 64) }
+    ensures { result ≡ verdicts.behind_motions n bad }
+{
+    match bad {
+        Some(bad) => Some(Bad {
+            motion: n + bad.motion,
+            ..bad
+        }),
+        None => None,
     }
 }
 
