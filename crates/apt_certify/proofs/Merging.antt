@@ -9,33 +9,33 @@ use Rattle.apt_certify.specs.declared.leg.Job.{Job}
 use Rattle.apt_certify.specs.declared.verdict.Bad.{Bad}
 use Rattle.apt_certify.specs.declared.verdict.Verdict.{Verdict}
 use Rattle.apt_certify.specs.Jobs.{IsLegalPath, AreLegal, segment_count}
-use Rattle.apt_certify.specs.Deviations.{IsAtMostPast, EveryPointAlong, Way, Inwards, Outwards, way_sign, AreWithin, IsWorst}
+use Rattle.apt_certify.specs.Deviations.{IsAtMostPast, EveryPointAlong, inwards, outwards, AreWithin, IsWorst}
 use Rattle.apt_certify.specs.Verdicts.{IsFaultOfPath, IsFirstBad, IsFirstBadOrNone, IsVerdict, behind_motions, merged}
 use Rattle.apt_certify.specs.Faults.{IsFirstFaultOfPath}
 use Rattle.apt_certify.proofs.Past.{greater_bounds, greater_least}
 
 -- ---- deviations
 
-within-append : (way : Way) (u : ℤ) (xs ys : List Job) → AreWithin way u (xs ++ ys) ↔ (AreWithin way u xs × AreWithin way u ys)
-within-append way u [] ys = (λ p. (tt, p), λ p. p.1)
-within-append way u (x ∷ xs) ys =
-    let rest = within-append way u xs ys in
+within-append : (sense : Job → ℤ) (u : ℤ) (xs ys : List Job) → AreWithin sense u (xs ++ ys) ↔ (AreWithin sense u xs × AreWithin sense u ys)
+within-append sense u [] ys = (λ p. (tt, p), λ p. p.1)
+within-append sense u (x ∷ xs) ys =
+    let rest = within-append sense u xs ys in
     (λ p. ((p.0, (rest.0 p.1).0), (rest.0 p.1).1), λ p. (p.0.0, rest.1 (p.0.1, p.1)))
 
-pub worst_of_none : (way : Way) → IsWorst way [] (pos 0)
-worst_of_none way = record { least = omega (arith, ints); bounds = λ u h. (λ p. h, λ p. tt) }
+pub worst_of_none : (sense : Job → ℤ) → IsWorst sense [] (pos 0)
+worst_of_none sense = record { least = omega (arith, ints); bounds = λ u h. (λ p. h, λ p. tt) }
 
-pub worst_of_one : (way : Way) (job : Job) (sign w v : ℤ) → pos 0 ≤ℤ w → ((u : ℤ) → pos 0 ≤ℤ u → EveryPointAlong job.points (IsAtMostPast job.leg.track sign u) ↔ (w ≤ℤ u))
-    → sign ≡ way_sign way job → v ≡ w → IsWorst way (job ∷ []) v
-worst_of_one way job sign w v least bounds e f =
+pub worst_of_one : (sense : Job → ℤ) (job : Job) (sign w v : ℤ) → pos 0 ≤ℤ w → ((u : ℤ) → pos 0 ≤ℤ u → EveryPointAlong job.points (IsAtMostPast job.leg.track sign u) ↔ (w ≤ℤ u))
+    → sign ≡ sense job → v ≡ w → IsWorst sense (job ∷ []) v
+worst_of_one sense job sign w v least bounds e f =
     let same = rw e at bounds in
     rw f (record { least = least; bounds = λ u h. (λ p. (same u h).0 p.0, λ p. ((same u h).1 p, tt)) })
 
-pub worst-append : (way : Way) (xs ys : List Job) (v w : ℤ) → IsWorst way xs v → IsWorst way ys w → IsWorst way (xs ++ ys) (greater v w)
-worst-append way xs ys v w first second = record {
+pub worst-append : (sense : Job → ℤ) (xs ys : List Job) (v w : ℤ) → IsWorst sense xs v → IsWorst sense ys w → IsWorst sense (xs ++ ys) (greater v w)
+worst-append sense xs ys v w first second = record {
   least = greater_least v w first.least;
   bounds = λ u h.
-      let parts = within-append way u xs ys in
+      let parts = within-append sense u xs ys in
       let both = greater_bounds v w u in (
         λ p. both.1 ((first.bounds u h).0 (parts.0 p).0, (second.bounds u h).0 (parts.0 p).1),
         λ p. parts.1 ((first.bounds u h).1 (both.0 p).0, (second.bounds u h).1 (both.0 p).1),
@@ -100,10 +100,10 @@ segment_count-append (x ∷ xs) ys = omega (arith, segment_count-append xs ys)
 pub verdict-append : (xs ys : List Job) (v w : Verdict) → IsVerdict xs v → IsVerdict ys w → IsVerdict (xs ++ ys) (merged v (length xs) w)
 verdict-append xs ys v w first second = record {
   segments = omega (arith, first.segments, second.segments, segment_count-append xs ys);
-  worst_in = worst-append Inwards xs ys v.worst_in w.worst_in first.worst_in second.worst_in;
-  worst_out = worst-append Outwards xs ys v.worst_out w.worst_out first.worst_out second.worst_out;
+  worst_in = worst-append inwards xs ys v.worst_in w.worst_in first.worst_in second.worst_in;
+  worst_out = worst-append outwards xs ys v.worst_out w.worst_out first.worst_out second.worst_out;
   first_bad = first_bad-append xs ys v.first_bad w.first_bad first.first_bad second.first_bad;
 }
 
 pub verdict_of_none : IsVerdict [] (record { segments = 0; worst_in = pos 0; worst_out = pos 0; first_bad = None })
-verdict_of_none = record { segments = refl; worst_in = worst_of_none Inwards; worst_out = worst_of_none Outwards; first_bad = tt }
+verdict_of_none = record { segments = refl; worst_in = worst_of_none inwards; worst_out = worst_of_none outwards; first_bad = tt }

@@ -32,20 +32,19 @@ abbrev pub EveryPointAlong : List Pt → (Scaled → Type 0) → Type 0
 EveryPointAlong [] P = Unit {0}
 EveryPointAlong (p ∷ ps) P = EveryPointFrom p ps P
 
-pub data Way : Type 0 where
-  Inwards : Way
-  Outwards : Way
+-- the greater distances (1) or the less (-1) are outside, or inside
+abbrev pub outwards : Job → ℤ
+outwards job = job.out_sign
 
-abbrev pub way_sign : Way → Job → ℤ
-way_sign Inwards job = neg_ℤ job.out_sign
-way_sign Outwards job = job.out_sign
+abbrev pub inwards : Job → ℤ
+inwards job = neg_ℤ job.out_sign
 
--- no point of any segment lies more than w past the track of its motion
-abbrev pub AreWithin : Way → ℤ → List Job → Type 0
-AreWithin way w [] = Unit {0}
-AreWithin way w (job ∷ jobs) = EveryPointAlong job.points (IsAtMostPast job.leg.track (way_sign way job) w) × AreWithin way w jobs
+-- no point of any segment lies more than w past the track of its motion, in a sense
+abbrev pub AreWithin : (Job → ℤ) → ℤ → List Job → Type 0
+AreWithin sense w [] = Unit {0}
+AreWithin sense w (job ∷ jobs) = EveryPointAlong job.points (IsAtMostPast job.leg.track (sense job) w) × AreWithin sense w jobs
 
 -- the greatest deviation, rounded up: no point lies more than u past its track exactly where u is at least w
-pub record IsWorst (way : Way) (jobs : List Job) (w : ℤ) : Type 0 where
+pub record IsWorst (sense : Job → ℤ) (jobs : List Job) (w : ℤ) : Type 0 where
   pub least : pos 0 ≤ℤ w
-  pub bounds : (u : ℤ) → pos 0 ≤ℤ u → AreWithin way u jobs ↔ (w ≤ℤ u)
+  pub bounds : (u : ℤ) → pos 0 ≤ℤ u → AreWithin sense u jobs ↔ (w ≤ℤ u)

@@ -42,7 +42,7 @@ ArePoints [] = Unit {0}
 ArePoints (p ∷ ps) = IsPoint p × ArePoints ps
 
 -- the parts of a leg that are judged
-pub record IsJudged (leg : Leg) : Type 0 where
+pub record IsLeg (leg : Leg) : Type 0 where
   pub drive : IsStraight leg.drive
   pub track : IsTrackOf leg.drive leg.track
   pub band : IsNarrow leg.band
@@ -52,7 +52,7 @@ pub record IsJudged (leg : Leg) : Type 0 where
   pub axis : IsAxisOrNone leg.axis
 
 pub record IsJob (job : Job) : Type 0 where
-  pub leg : IsJudged job.leg
+  pub leg : IsLeg job.leg
   pub out_sign : IsSense job.out_sign
   pub moves : 2 ≤ length job.points
   pub points : ArePoints job.points

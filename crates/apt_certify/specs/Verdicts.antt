@@ -15,7 +15,7 @@ use Rattle.apt_certify.specs.declared.verdict.Bad.{Bad}
 use Rattle.apt_certify.specs.declared.verdict.Verdict.{Verdict}
 use Rattle.apt_certify.specs.Legs.{Test, OrderOf, BandOf, OverrunOf, StopAt, AxisAt, tests_from, Holds, AllHold, IsWithinEdge}
 use Rattle.apt_certify.specs.Jobs.{AreLegal, segment_count}
-use Rattle.apt_certify.specs.Deviations.{Inwards, Outwards, IsWorst}
+use Rattle.apt_certify.specs.Deviations.{inwards, outwards, IsWorst}
 
 abbrev pub name_of : Reason → List ℕ
 name_of reasons.Order = codes "Order"
@@ -88,8 +88,8 @@ IsFirstBadOrNone jobs (Some bad) = IsFirstBad jobs bad
 
 pub record IsVerdict (jobs : List Job) (v : Verdict) : Type 0 where
   pub segments : v.segments ≡ segment_count jobs
-  pub worst_in : IsWorst Inwards jobs v.worst_in
-  pub worst_out : IsWorst Outwards jobs v.worst_out
+  pub worst_in : IsWorst inwards jobs v.worst_in
+  pub worst_out : IsWorst outwards jobs v.worst_out
   pub first_bad : IsFirstBadOrNone jobs v.first_bad
 
 -- ---- the merge of the verdicts of two lists, the first of n motions

@@ -2,7 +2,7 @@
 
 ghost use Rattle.std.specs.Prelude.{◌≡◌, ◌≤◌, length, IfOk, IsTrue};
 ghost use Rattle.apt_plane.specs.Ranges.{IsPoint};
-ghost use Rattle.apt_certify.specs.Jobs.{IsJudged, IsJob};
+ghost use Rattle.apt_certify.specs.Jobs.{IsLeg, IsJob};
 
 use crate::{Bad, Job, Leg, Points, Reason, Verdict, check_jobs};
 use apt_num::Sign;
@@ -34,7 +34,7 @@ fn is_point(p: Pt) -> bool
 /// With a track 100 to the left, within 8 units, up to 100 units before the stop; where a half is given, to the
 /// axis up through (905, 0).
 fn leg(half: Option<Sign>) -> Leg
-    ensures { IsJudged result }
+    ensures { IsLeg result }
 {
     let band = Band { lo: 92, hi: 108 };
     Leg {
