@@ -103,11 +103,11 @@ one_first_bad jobs (Some a) (Some b) f g = ap Some (one_bad jobs a b f g)
 
 -- ---- one verdict
 
-not_less : (sense : Job → ℤ) (jobs : List Job) (v w : ℤ) → IsWorst sense jobs v → IsWorst sense jobs w → v ≤ℤ w
-not_less sense jobs v w f g = (f.bounds w g.least).0 ((g.bounds w g.least).1 (omega (arith, ints)))
+not_less : (side : Job → ℤ) (jobs : List Job) (v w : ℤ) → IsWorst side jobs v → IsWorst side jobs w → v ≤ℤ w
+not_less side jobs v w f g = (f.bounds w g.least).0 ((g.bounds w g.least).1 (omega (arith, ints)))
 
-one_worst : (sense : Job → ℤ) (jobs : List Job) (v w : ℤ) → IsWorst sense jobs v → IsWorst sense jobs w → v ≡ w
-one_worst sense jobs v w f g = omega (arith, ints, not_less sense jobs v w f g, not_less sense jobs w v g f)
+one_worst : (side : Job → ℤ) (jobs : List Job) (v w : ℤ) → IsWorst side jobs v → IsWorst side jobs w → v ≡ w
+one_worst side jobs v w f g = omega (arith, ints, not_less side jobs v w f g, not_less side jobs w v g f)
 
 abbrev verdict : ℕ → ℤ → ℤ → Option Bad → Verdict
 verdict segments worst_in worst_out bad = record { segments = segments; worst_in = worst_in; worst_out = worst_out; first_bad = bad }
