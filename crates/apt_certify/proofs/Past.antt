@@ -1,11 +1,11 @@
 -- How far points lie past a straight track.
-use Rattle.std.proofs.Common.{◌≡◌, ◌↔◌, ℕ, suc, ◌≤◌, List, [], ◌∷◌, length, arith, ℤ, pos, negsuc, neg_ℤ, ◌+ℤ◌, ◌-ℤ◌, ◌≤ℤ◌, int_le, true, false}
+use Rattle.std.proofs.Common.{◌≡◌, ◌↔◌, ℕ, ◌≤◌, List, [], ◌∷◌, length, arith, ℤ, pos, negsuc, neg_ℤ, ◌+ℤ◌, ◌-ℤ◌, ◌≤ℤ◌}
 use Rattle.std.proofs.lemmas.Int.{ints}
 use Rattle.apt_num.specs.Sign.{AtLeast}
 use Rattle.apt_plane.specs.declared.figures.Pt.{Pt}
 use Rattle.apt_plane.specs.declared.figures.Dir.{Dir}
 use Rattle.apt_plane.specs.declared.figures.Line.{Line}
-use Rattle.apt_plane.specs.Vectors.{displacement, cross, length_squared, scaled, between}
+use Rattle.apt_plane.specs.Vectors.{displacement, cross, length_squared, scaled}
 use Rattle.apt_plane.specs.Distances.{IsAbove, IsBelow, EveryPoint}
 use Rattle.apt_plane.proofs.SegmentLaws.{above-between, below-between}
 use Rattle.apt_offset.specs.declared.Target.{Target}

@@ -1,10 +1,9 @@
 //! The judge of jobs.
 
 ghost use Rattle.std.specs.Prelude.{◌≡◌, ◌↔◌, ◌≤◌, ◌<◌, ◌+◌, ◌^◌, [], ◌∷◌, length, IsNone, IfSome};
-ghost use Rattle.std.specs.List.{All};
 ghost use Rattle.apt_plane.specs.Ranges.{IsPoint, IsSense};
 ghost use Rattle.apt_certify.specs.Legs.{tests_from};
-ghost use Rattle.apt_certify.specs.Jobs.{ArePoints, IsJudged, IsJob, point_count, AreLegal};
+ghost use Rattle.apt_certify.specs.Jobs.{ArePoints, IsJudged, IsJob, AreJobs, point_count, AreLegal};
 ghost use Rattle.apt_certify.specs.Faults.{IsFirstFault, IsFirstFaultOfPath};
 ghost use Rattle.apt_certify.specs.Verdicts.{IsVerdict};
 ghost use Rattle.apt_certify.specs.Verdicts as verdicts;
@@ -17,7 +16,7 @@ use apt_plane::Pt;
 
 /// The verdict over jobs, of less than 2^63 points together. Their surfaces are lines so far.
 pub fn check_jobs(jobs: &[Job]) -> Verdict
-    requires jobs { All IsJob jobs.now }
+    requires jobs { AreJobs jobs.now }
     requires few { point_count jobs.now < 2 ^ 63 }
     ensures verdict { IsVerdict jobs.now result }
     ensures legal { IsNone result.first_bad ↔ AreLegal jobs.now }

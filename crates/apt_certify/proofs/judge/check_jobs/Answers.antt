@@ -1,8 +1,13 @@
-use Rattle.std.proofs.Common.{sym, arith}
+use Rattle.std.proofs.Common.{arith}
 use Rattle.std.proofs.lemmas.List.{take_all}
-use Rattle.apt_certify.proofs.Counting.{segments_small, one_more}
+use Rattle.apt_certify.proofs.Counting.{is_job, segments_small, one_more}
 use Rattle.apt_certify.proofs.Legality.{none_where_legal}
 use Rattle.apt_certify.proofs.judge.check_jobs.Goals as goal
+
+pub job_verdict-requires : goal.job_verdict-requires
+job_verdict-requires c =
+    let job = c.index-jobs-i in
+    is_job c.args.jobs.now c.jobs.i job.result c.requires.jobs c.jobs-test.true job.is
 
 pub merged-verdict-requires-clause-segments : goal.merged-verdict-requires-clause-segments
 merged-verdict-requires-clause-segments c =
