@@ -18,6 +18,7 @@ pub mod Walk
 pub mod Begins
 pub mod Meetings
 pub mod Ends
+pub mod Files
 mod Worked
 mod Statements
 mod Cases

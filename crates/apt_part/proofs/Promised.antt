@@ -100,8 +100,8 @@ are_steps machine text p h =
     let q = passes machine text p h in
     let same = steps_by q.statements p q.unrolled in record {
       scalars = subst AreScalars same (are_scalars q.statements (trace_of q.statements) refl);
-      built = subst AreBuiltSteps same (are_built q.statements (trace_of q.statements) (of_text (λ sts. AreBuilt sts) text q.statements q.read (program_of-built text)) refl);
-      sources = subst AreExecuted same (are_executed q.statements (trace_of q.statements) (of_text AreStmts text q.statements q.read (program_of-stmts text)) refl);
+      built = subst AreBuiltSteps same (are_built q.statements (trace_of q.statements) refl (of_text (λ sts. AreBuilt sts) text q.statements q.read (program_of-built text)));
+      sources = subst AreExecuted same (are_executed q.statements (trace_of q.statements) refl (of_text AreStmts text q.statements q.read (program_of-stmts text)));
     }
 
 pub promised : (machine : Machine) (text : List ℕ) (p : Compiled) → IsMachine machine → part_of machine text ≡ Ok (Ok p) → Promise machine text p
