@@ -12,7 +12,7 @@ use Rattle.apt_certify.specs.declared.verdict.Bad.{Bad}
 use Rattle.apt_certify.specs.declared.verdict.Verdict.{Verdict}
 use Rattle.apt_certify.specs.Legs.{Test, OrderOf, BandOf, OverrunOf, StopAt, AxisAt, Holds, AllHold, IsWithinEdge}
 use Rattle.apt_certify.specs.Jobs.{IsLegalPath, AreLegal}
-use Rattle.apt_certify.specs.Deviations.{Way, Inwards, Outwards, IsWorst}
+use Rattle.apt_certify.specs.Deviations.{inwards, outwards, IsWorst}
 use Rattle.apt_certify.specs.Verdicts.{reason_of, IsFirstEnd, IsSpot, IsFault, IsFaultOfPath, IsFirstBad, IsFirstBadOrNone, IsVerdict}
 use Rattle.apt_certify.proofs.Legality.{faulty_path, bad_not_legal}
 
@@ -103,21 +103,25 @@ one_first_bad jobs (Some a) (Some b) f g = ap Some (one_bad jobs a b f g)
 
 -- ---- one verdict
 
-not_less : (way : Way) (jobs : List Job) (v w : ℤ) → IsWorst way jobs v → IsWorst way jobs w → v ≤ℤ w
-not_less way jobs v w f g = (f.bounds w g.least).0 ((g.bounds w g.least).1 (omega (arith, ints)))
+not_less : (side : Job → ℤ) (jobs : List Job) (v w : ℤ) → IsWorst side jobs v → IsWorst side jobs w → v ≤ℤ w
+not_less side jobs v w f g = (f.bounds w g.least).0 ((g.bounds w g.least).1 (omega (arith, ints)))
 
-one_worst : (way : Way) (jobs : List Job) (v w : ℤ) → IsWorst way jobs v → IsWorst way jobs w → v ≡ w
-one_worst way jobs v w f g = omega (arith, ints, not_less way jobs v w f g, not_less way jobs w v g f)
+one_worst : (side : Job → ℤ) (jobs : List Job) (v w : ℤ) → IsWorst side jobs v → IsWorst side jobs w → v ≡ w
+one_worst side jobs v w f g = omega (arith, ints, not_less side jobs v w f g, not_less side jobs w v g f)
 
 abbrev verdict : ℕ → ℤ → ℤ → Option Bad → Verdict
-verdict segments inwards outwards bad = record { segments = segments; worst_in = inwards; worst_out = outwards; first_bad = bad }
+verdict segments worst_in worst_out bad = record { segments = segments; worst_in = worst_in; worst_out = worst_out; first_bad = bad }
 
 same_verdict : (n m : ℕ) (i j o p : ℤ) (a b : Option Bad) → n ≡ m → i ≡ j → o ≡ p → a ≡ b → verdict n i o a ≡ verdict m j p b
 same_verdict n m i j o p a b e f g h = rw (e, f, g, h) refl
 
-pub one_verdict : (jobs : List Job) (v w : Verdict) → IsVerdict jobs v → IsVerdict jobs w → v ≡ w
+one_verdict : (jobs : List Job) (v w : Verdict) → IsVerdict jobs v → IsVerdict jobs w → v ≡ w
 one_verdict jobs v w f g =
     same_verdict v.segments w.segments v.worst_in w.worst_in v.worst_out w.worst_out v.first_bad w.first_bad (f.segments ∙ sym g.segments)
-    (one_worst Inwards jobs v.worst_in w.worst_in f.worst_in g.worst_in)
-    (one_worst Outwards jobs v.worst_out w.worst_out f.worst_out g.worst_out)
+    (one_worst inwards jobs v.worst_in w.worst_in f.worst_in g.worst_in)
+    (one_worst outwards jobs v.worst_out w.worst_out f.worst_out g.worst_out)
     (one_first_bad jobs v.first_bad w.first_bad f.first_bad g.first_bad)
+
+-- so what is one is the only one
+pub only_verdict : (jobs : List Job) (v : Verdict) → IsVerdict jobs v → (w : Verdict) → IsVerdict jobs w → w ≡ v
+only_verdict jobs v f w g = one_verdict jobs w v g f

@@ -1,9 +1,10 @@
 //! Answers worked out by hand, of motions along the x axis that stop before a line up through (1000, 0).
 
 ghost use Rattle.std.specs.Prelude.{◌≡◌, ◌≤◌, length, IfOk, IsTrue};
-ghost use Rattle.apt_plane.specs.Ranges.{IsPoint};
-ghost use Rattle.apt_certify.specs.Jobs.{IsJudged, IsJob};
+ghost use Rattle.apt_plane.specs.Ranges.{IsPoint, IsSense};
+ghost use Rattle.apt_certify.specs.Jobs.{IsLeg, IsJob};
 
+use crate::deviations::worst;
 use crate::{Bad, Job, Leg, Points, Reason, Verdict, check_jobs};
 use apt_num::Sign;
 use apt_offset::Target;
@@ -34,7 +35,7 @@ fn is_point(p: Pt) -> bool
 /// With a track 100 to the left, within 8 units, up to 100 units before the stop; where a half is given, to the
 /// axis up through (905, 0).
 fn leg(half: Option<Sign>) -> Leg
-    ensures { IsJudged result }
+    ensures { IsLeg result }
 {
     let band = Band { lo: 92, hi: 108 };
     Leg {
@@ -248,6 +249,41 @@ fn the_first_fault_is_named(rt: HostRuntime) -> Result<(), Fail> {
     };
     assert_eq!(rt; check_jobs(&jobs), want);
     Ok(())
+}
+
+/// How far two points in range lie past a line 20 to the left of the origin along (1, 1), where a distance is
+/// `(y - x) / sqrt(2) - 20`.
+fn worst_of(sign: i8, p: Pt, q: Pt) -> Option<i64>
+    requires { IsSense sign }
+{
+    let track = Target::Line {
+        base: ORIGIN,
+        dir: Dir { dx: 1, dy: 1 },
+        off: 20,
+    };
+    if is_point(p) && is_point(q) {
+        Some(worst(&track, sign, &[p, q]))
+    } else {
+        None
+    }
+}
+
+#[test]
+fn deviations_are_rounded_up(rt: HostRuntime) {
+    let table: [(Pt, Pt, i64, i64); 8] = [
+        (pt(0, 20), pt(0, 28), 0, 6),
+        (pt(0, 0), pt(0, 0), 0, 20),
+        (pt(0, 41), pt(41, 82), 9, 0),
+        (pt(0, 99), pt(0, 0), 51, 20),
+        (pt(0, 0), pt(99, 0), 0, 91),
+        (pt(0, 41), pt(0, 42), 10, 0),
+        (pt(-50_000_000, 50_000_000), pt(0, 50), 70_710_659, 0),
+        (pt(0, 50), pt(50_000_000, -50_000_000), 16, 70_710_699),
+    ];
+    for (p, q, above, below) in table {
+        assert_eq!(rt; worst_of(1, p, q), Some(above), "at {p:?}, {q:?}");
+        assert_eq!(rt; worst_of(-1, p, q), Some(below), "at {p:?}, {q:?}");
+    }
 }
 
 #[test]

@@ -8,6 +8,7 @@ use Rattle.apt_certify.specs.declared.verdict.Verdict.{Verdict}
 use Rattle.apt_certify.specs.Jobs.{AreLegal}
 use Rattle.apt_certify.specs.Verdicts.{IsVerdict, IsFirstBadOrNone}
 use Rattle.apt_meaning.specs.Situations.{first_situation}
+use Rattle.apt_meaning.specs.Compiled.{compilation}
 use Rattle.apt_meaning.specs.Records.{AreLegal as IsLegalEffect, FollowsLegally}
 use Rattle.apt_meaning.proofs.Stands.{stands}
 use Rattle.apt_job.specs.Jobs.{MakesJobs}
@@ -42,7 +43,7 @@ good_is_right machine text cl tape p written acts v promise read run good =
         behind = follow.0;
         follow = follow.1;
         stands = stands IsLegalEffect first_situation p.steps written follow.0 follow.1;
-        acts = run ∙ ap Ok good.plan;
+        acts = run ∙ ap Ok good.planned;
         reached = plan_reaches written;
       };
       jobs = good.jobs;
@@ -63,3 +64,7 @@ no_part_judged machine text cl tape (answers.BadPart line cause) is = inl is
 no_part_judged machine text cl tape (answers.Refused line step case) is = inl is
 no_part_judged machine text cl tape answers.NoMemory is = inr refl
 no_part_judged machine text cl tape _ is = absurd is
+
+-- steps whose records are known pass
+pub passes_by : (steps : List Step) (written : List Record) → compilation first_situation steps ≡ Ok written → (rs : List Record) × (compilation first_situation steps ≡ Ok rs)
+passes_by steps written e = (written, e)

@@ -5,5 +5,6 @@ pub mod Compiling
 pub mod Judging
 pub mod Certifying
 pub mod Right
+pub mod Differences
 pub mod Putting
 pub mod Running

@@ -64,11 +64,11 @@ IsMiss steps written acts (misses.Act at) =
     (jobs : List Job) × MakesJobs first_situation steps written jobs × AreLegal jobs × DifferAt acts (plan written) at
 
 -- all is right, with the verdict over the contours
-pub record IsCertified (machine : Machine) (text cl tape : List ℕ) (verdict : Verdict) : Type 0 where
+pub record IsCertified (machine : Machine) (text cl tape : List ℕ) (v : Verdict) : Type 0 where
   pub right : IsRight machine text cl tape
   pub jobs : List Job
   pub makes : MakesJobs first_situation right.part.steps right.records jobs
-  pub verdict : IsVerdict jobs verdict
+  pub verdict : IsVerdict jobs v
 
 -- the answer to the three texts, in the order in which they are judged
 abbrev pub IsJudgement : Machine → List ℕ → List ℕ → List ℕ → Status → Type 0

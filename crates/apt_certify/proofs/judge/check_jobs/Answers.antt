@@ -1,6 +1,7 @@
 use Rattle.std.proofs.Common.{arith}
 use Rattle.std.proofs.lemmas.List.{take_all}
 use Rattle.apt_certify.proofs.Counting.{is_job, segments_small, one_more}
+use Rattle.apt_certify.proofs.Single.{only_verdict}
 use Rattle.apt_certify.proofs.Legality.{none_where_legal}
 use Rattle.apt_certify.proofs.judge.check_jobs.Goals as goal
 
@@ -18,6 +19,11 @@ pub jobs-preserved : goal.jobs-preserved
 jobs-preserved c =
     let job = c.index-jobs-i in
     one_more c.args.jobs.now c.jobs.i job.result c.merged-verdict.result c.jobs.verdict c.job_verdict.result c.jobs-test.true job.is c.merged-verdict.ensures c.jobs.invariant c.job_verdict.ensures.verdict
+
+pub returns-clause-only : goal.returns-clause-only
+returns-clause-only c =
+    let all = rw (take_all c.jobs.i c.args.jobs.now c.jobs-test.false) at c.jobs.invariant in
+    only_verdict c.args.jobs.now c.jobs.verdict all
 
 pub returns-clause-legal : goal.returns-clause-legal
 returns-clause-legal c =
