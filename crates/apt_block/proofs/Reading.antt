@@ -1,11 +1,14 @@
 -- What is spelled is read back.
-use Rattle.std.proofs.Common.{◌≡◌, ℕ, zero, suc, ◌+◌, ◌-◌, ◌*◌, ◌/◌, ◌%◌, ◌^◌, ◌≤◌, ◌<◌, ℤ, pos, negsuc, neg_ℤ, unsigned_abs, ◌==◌, ◌&&◌, nat_le, Bool, true, false, List, [], ◌∷◌, ◌++◌, None, Result, Ok, Err, cond, MatchBool, refl, ap, sym, ◌∙◌, subst, arith, append_assoc, append-nil, eqb-true, lit<}
+use Rattle.std.proofs.Common.{◌≡◌, ℕ, zero, suc, ◌+◌, ◌-◌, ◌*◌, ◌/◌, ◌%◌, ◌^◌, ◌≤◌, ◌<◌, ℤ, pos, negsuc, neg_ℤ, unsigned_abs, ◌==◌, ◌&&◌, Bool, true, false, List, [], ◌∷◌, ◌++◌, None, Result, Ok, cond, MatchBool, refl, ap, sym, ◌∙◌, subst, arith, append_assoc, append-nil, eqb-true, lit<}
+use Rattle.std.proofs.lemmas.Bool.{and_parts, eq-eqb}
 use Rattle.std.proofs.lemmas.Bool.Decides.{nat_tests}
 use Rattle.std.proofs.Math.Nat.{div-one, div-div-eq-div-mul, div-eq_of_lt, pow-suc}
 use Rattle.std.specs.List.{flat_map, list_all}
 use Rattle.std.proofs.lemmas.List.Folds.{list_all-append}
 use Rattle.apt_block.specs.declared.block.TapeWord.{TapeWord}
-use Rattle.apt_block.specs.Block.{Fault, bad_block, ◌>>=◌, Form, form, g_word, letter_n, letter_x, letter_y, letter_z, letter_f, letter_s, letter_t, letter_m, forms, form_in, line_feed, is_digit, is_word_character, Digits, digits_at, size_at, Number, plus, minus, signed_at, number_at, unless, word_at, tape_word, code_fault, words_at, block_of, block_text, marks, digits, sign, number_text, word_text, spelling, Fits, CanStand, IsBlock}
+use Rattle.apt_block.specs.declared.block.Fault.{Fault}
+use Rattle.apt_block.specs.declared.table.Form.{Form}
+use Rattle.apt_block.specs.Block.{◌>>=◌, form, g_word, letter_n, letter_x, letter_y, letter_z, letter_f, letter_s, letter_t, letter_m, forms, form_in, line_feed, is_digit, is_word_character, Digits, digits_at, in_range, size_at, Number, plus, minus, signed_at, number_at, unless, word_at, tape_word, code_fault, words_at, block_of, block_text, marks, digits, sign, number_text, word_text, spelling, Fits, CanStand, IsBlock, StandsAlone}
 
 -- ---- digits
 digit_test : (d : ℕ) → d < 10 → is_digit (48 + d) ≡ true
@@ -34,29 +37,29 @@ ReadsSize r size rest = (last : ℕ) × (next : ℕ) × (r ≡ Ok (record { size
 step : (b : Bool) (m n : ℕ) (r : ℕ → Result Digits Fault) (e : Result Digits Fault) (size : ℕ) (rest : List ℕ) → b ≡ true → m ≡ n → ReadsSize (r n) size rest → ReadsSize (cond b (r m) e) size rest
 step b m n r e size rest is same read = rw (is, same) read
 
-digits_again : (n v last at : ℕ) (end : Fault) (rest : List ℕ) → ReadsSize (digits_at n (v / 10 ^ n) last end (marks at (digits n v ++ rest))) v rest
-digits_again zero v last at end rest = (last, at, ap (λ (s : ℕ). Ok (record { size = s; last = last; rest = marks at rest })) (div-one v))
-digits_again (suc n) v last at end rest =
-    step (is_digit (48 + v / 10 ^ n % 10)) _ (v / 10 ^ n) (λ s. digits_at n s at end (marks (at + 1) (digits n v ++ rest))) (Err (bad_block at)) v rest
+digits_again : (n must v last at : ℕ) (end : Fault) (rest : List ℕ) → ReadsSize (digits_at n must (v / 10 ^ n) last end (marks at (digits n v ++ rest))) v rest
+digits_again zero must v last at end rest = (last, at, ap (λ (s : ℕ). Ok (record { size = s; last = last; rest = marks at rest })) (div-one v))
+digits_again (suc n) must v last at end rest =
+    step (is_digit (48 + v / 10 ^ n % 10)) _ (v / 10 ^ n) (λ s. digits_at n (must - 1) s at end (marks (at + 1) (digits n v ++ rest))) _ v rest
     (digit_test (v / 10 ^ n % 10) (omega arith))
     (one_more v n)
-    (digits_again n v at (at + 1) end rest)
+    (digits_again n (must - 1) v at (at + 1) end rest)
 
 -- ---- numbers
-in_range : (f : Form) (n : Digits) → f.least ≤ n.size → n.size ≤ f.most → cond (nat_le f.least n.size && nat_le n.size f.most) (Ok n) (Err (bad_block n.last)) ≡ Ok n
-in_range f n low high = grind (arith, nat_tests)
+is_in_range : (f : Form) (n : Digits) → f.least ≤ n.size → n.size ≤ f.most → in_range f n ≡ Ok n
+is_in_range f n low high = grind (arith, nat_tests)
 
 size_again : (f : Form) (size at : ℕ) (end : Fault) (rest : List ℕ) → f.least ≤ size → size ≤ f.most → f.most < 10 ^ f.digits
     → ReadsSize (size_at f end (marks at (digits f.digits size ++ rest))) size rest
 size_again f size at end rest low high room =
-    let read = digits_again f.digits size 0 at end rest in
+    let read = digits_again f.digits f.fewest size 0 at end rest in
     let text = marks at (digits f.digits size ++ rest) in
     let none : size / 10 ^ f.digits ≡ 0 = div-eq_of_lt (omega arith) in
     let n : Digits = record { size = size; last = read.0; rest = marks read.1 rest } in (
       read.0,
       read.1,
-      ap (λ r. r >>= λ n. cond (nat_le f.least n.size && nat_le n.size f.most) (Ok n) (Err (bad_block n.last))) (ap (λ m. digits_at f.digits m 0 end text) (sym none) ∙ read.2)
-          ∙ in_range f n low high,
+      ap (λ r. r >>= in_range f) (ap (λ m. digits_at f.digits f.fewest m 0 end text) (sym none) ∙ read.2)
+          ∙ is_in_range f n low high,
     )
 
 -- the word's value, and the rest behind it
@@ -101,15 +104,15 @@ stands f found room no_end is_character = record { found = found; room = room; n
 
 forms_stand : AllStand forms
 forms_stand =
-    let n = stands (form letter_n 4 false 0 9999) refl (lit< tt) refl refl in
+    let n = stands (form letter_n 4 4 false 0 9999) refl (lit< tt) refl refl in
     let g = stands g_word refl (lit< tt) refl refl in
-    let x = stands (form letter_x 8 true 0 50000000) refl (lit< tt) refl refl in
-    let y = stands (form letter_y 8 true 0 50000000) refl (lit< tt) refl refl in
-    let z = stands (form letter_z 8 true 0 50000000) refl (lit< tt) refl refl in
-    let f = stands (form letter_f 4 false 1 9999) refl (lit< tt) refl refl in
-    let s = stands (form letter_s 4 false 1 9999) refl (lit< tt) refl refl in
-    let t = stands (form letter_t 2 false 1 99) refl (lit< tt) refl refl in
-    let m = stands (form letter_m 2 false 0 99) refl (lit< tt) refl refl in
+    let x = stands (form letter_x 8 8 true 0 50000000) refl (lit< tt) refl refl in
+    let y = stands (form letter_y 8 8 true 0 50000000) refl (lit< tt) refl refl in
+    let z = stands (form letter_z 8 8 true 0 50000000) refl (lit< tt) refl refl in
+    let f = stands (form letter_f 4 4 false 1 9999) refl (lit< tt) refl refl in
+    let s = stands (form letter_s 4 4 false 1 9999) refl (lit< tt) refl refl in
+    let t = stands (form letter_t 2 2 false 1 99) refl (lit< tt) refl refl in
+    let m = stands (form letter_m 2 2 false 0 99) refl (lit< tt) refl refl in
     (n, (g, (g, (g, (g, (g, (x, (y, (z, (f, (s, (t, (m, tt)))))))))))))
 
 -- ---- words
@@ -223,3 +226,27 @@ no_line_feed ch is = other (ch == line_feed) refl
 -- a block by itself
 pub block_text_again : (words : List TapeWord) → IsBlock words → block_text (spelling words) ≡ Ok words
 block_text_again words is = block_of-spelling _ 0 words is
+
+-- ---- no block's characters are a front part of another's
+
+no_end_before : (c : ℕ) (xs ys rest : List ℕ) → is_word_character c ≡ true → line_feed ∷ ys ≡ c ∷ xs → rest ≡ []
+no_end_before c xs ys rest is same = absurd (apart (sym (no_line_feed c is) ∙ eq-eqb c line_feed (sym (head_same line_feed c ys xs same))))
+  where
+    apart : false ≡ true → ⊥
+    apart e = cc
+
+    head_same : (a b : ℕ) (xs ys : List ℕ) → a ∷ xs ≡ b ∷ ys → a ≡ b
+    head_same a b xs ys e = cc
+
+tail_same : (a b : ℕ) (xs ys : List ℕ) → a ∷ xs ≡ b ∷ ys → xs ≡ ys
+tail_same a b xs ys e = cc
+
+one_end : (xs ys rest : List ℕ) → list_all is_word_character xs ≡ true → list_all is_word_character ys ≡ true
+    → ys ++ line_feed ∷ [] ≡ (xs ++ line_feed ∷ []) ++ rest → rest ≡ []
+one_end [] [] rest plain later same = sym (tail_same _ _ _ _ same)
+one_end [] (y ∷ ys) rest plain later same = no_end_before y _ _ rest (and_parts _ _ later).0 (sym same)
+one_end (x ∷ xs) [] rest plain later same = no_end_before x _ _ rest (and_parts _ _ plain).0 same
+one_end (x ∷ xs) (y ∷ ys) rest plain later same = one_end xs ys rest (and_parts _ _ plain).1 (and_parts _ _ later).1 (tail_same _ _ _ _ same)
+
+pub block_stands_alone : (words : List TapeWord) → IsBlock words → StandsAlone words
+block_stands_alone words is other rest others same = one_end (flat_map word_text words) (flat_map word_text other) rest (word_characters words is) (word_characters other others) same

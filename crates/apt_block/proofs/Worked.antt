@@ -1,12 +1,8 @@
 -- Small blocks, which the checker reads.
-use Rattle.std.specs.Prelude.{◌≡◌, ℕ, pos, negsuc, [], ◌∷◌, Ok, Err, codes}
+use Rattle.std.specs.Prelude.{◌≡◌, pos, negsuc, [], ◌∷◌, Ok, Err, codes}
 use Rattle.std.proofs.Common.{refl}
-use Rattle.apt_block.specs.declared.block.TapeCause.{TapeCause}
 use Rattle.apt_block.specs.declared.block.TapeCause.TheVariants as causes
-use Rattle.apt_block.specs.Block.{block_text, spelling, tape_word, Fault}
-
-abbrev fault : ℕ → TapeCause → Fault
-fault at cause = record { at = at; cause = cause }
+use Rattle.apt_block.specs.Block.{block_text, fault, spelling, tape_word}
 
 -- a move, as it is read and as it is spelled
 a_move : block_text (codes "N0002G01X-00100000Y+00000007F0100\n") ≡ Ok (tape_word 78 (pos 2) ∷ tape_word 71 (pos 1) ∷ tape_word 88 (negsuc 99999) ∷ tape_word 89 (pos 7) ∷ tape_word 70 (pos 100) ∷ [])

@@ -2,26 +2,23 @@
 use Rattle.std.specs.Prelude.{◌≡◌, ℕ, zero, suc, ◌+◌, ◌-◌, ◌*◌, ◌/◌, ◌%◌, ◌^◌, ◌≤◌, ℤ, pos, negsuc, neg_ℤ, unsigned_abs, ◌==◌, ◌&&◌, ◌||◌, nat_le, Bool, true, false, not, List, [], ◌∷◌, ◌++◌, length, Option, Some, None, Result, Ok, Err, MatchBool, codes, if◌then◌else◌}
 use Rattle.std.specs.List.{list_any, flat_map}
 use Rattle.apt_block.specs.declared.block.TapeWord.{TapeWord}
+use Rattle.apt_block.specs.declared.block.Mark.{Mark}
+use Rattle.apt_block.specs.declared.block.Fault.{Fault}
 use Rattle.apt_block.specs.declared.block.TapeCause.{TapeCause}
 use Rattle.apt_block.specs.declared.block.TapeCause.TheVariants as causes
-
--- a character of a tape, and its place
-pub record Mark : Type 0 where
-  pub at : ℕ
-  pub ch : ℕ
-
--- the place at which reading stops, and why
-pub record Fault : Type 0 where
-  pub at : ℕ
-  pub cause : TapeCause
+use Rattle.apt_block.specs.declared.table.Form.{Form}
 
 infixl 10 ◌>>=◌
 abbrev pub ◌>>=◌ : {A B : Type 0} → Result A Fault → (A → Result B Fault) → Result B Fault
 (Ok x) >>= f = f x
 (Err e) >>= f = Err e
 
+-- the place of a character at which reading stops, and why
+abbrev pub fault : ℕ → TapeCause → Fault
+fault at cause = record { at = at; cause = cause }
+
 abbrev pub bad_block : ℕ → Fault
-bad_block at = record { at = at; cause = causes.BadBlock }
+bad_block at = fault at causes.BadBlock
 
 -- the letters of words: sequence number, preparatory function, coordinates, feed, spindle speed, tool, miscellaneous function
 abbrev pub letter_n : ℕ
@@ -60,32 +57,26 @@ minus_sign = 45
 abbrev pub line_feed : ℕ
 line_feed = 10
 
--- how the words of a letter are written: the number of digits, whether a sign may stand, and the least and the greatest size
-pub record Form : Type 0 where
-  pub letter : ℕ
-  pub digits : ℕ
-  pub signed : Bool
-  pub least : ℕ
-  pub most : ℕ
-
-abbrev pub form : ℕ → ℕ → Bool → ℕ → ℕ → Form
-form letter digits signed least most = record { letter = letter; digits = digits; signed = signed; least = least; most = most }
+-- how the words of a letter are written: the fewest digits and the most, whether a sign may stand, and the least and the greatest size
+abbrev pub form : ℕ → ℕ → ℕ → Bool → ℕ → ℕ → Form
+form letter fewest digits signed least most =
+    record { letter = letter; fewest = fewest; digits = digits; signed = signed; least = least; most = most }
 
 abbrev pub g_word : Form
-g_word = form letter_g 2 false 0 99
+g_word = form letter_g 2 2 false 0 99
 
 -- the words of a block, in order. Of the G words four can stand, one of each group; a fifth is read and refused
 abbrev pub forms : List Form
 forms =
-    form letter_n 4 false 0 9999
+    form letter_n 4 4 false 0 9999
     ∷ g_word ∷ g_word ∷ g_word ∷ g_word ∷ g_word
-    ∷ form letter_x 8 true 0 50000000
-    ∷ form letter_y 8 true 0 50000000
-    ∷ form letter_z 8 true 0 50000000
-    ∷ form letter_f 4 false 1 9999
-    ∷ form letter_s 4 false 1 9999
-    ∷ form letter_t 2 false 1 99
-    ∷ form letter_m 2 false 0 99
+    ∷ form letter_x 8 8 true 0 50000000
+    ∷ form letter_y 8 8 true 0 50000000
+    ∷ form letter_z 8 8 true 0 50000000
+    ∷ form letter_f 4 4 false 1 9999
+    ∷ form letter_s 4 4 false 1 9999
+    ∷ form letter_t 2 2 false 1 99
+    ∷ form letter_m 2 2 false 0 99
     ∷ []
 
 -- the groups of G codes: motion (rapid, straight cut), units (inch, millimetre), absolute positions, feed per minute
@@ -127,16 +118,21 @@ pub record Digits : Type 0 where
 abbrev pub is_digit : ℕ → Bool
 is_digit ch = nat_le 48 ch && nat_le ch 57
 
--- so many digits more, behind a number; what is met where the characters end
-abbrev pub digits_at : ℕ → ℕ → ℕ → Fault → List Mark → Result Digits Fault
-digits_at zero size last end text = Ok (record { size = size; last = last; rest = text })
-digits_at (suc n) size last end [] = Err end
-digits_at (suc n) size last end (c ∷ text) = if is_digit c.ch then digits_at n (10 * size + (c.ch - 48)) c.at end text else Err (bad_block c.at)
+-- behind a number so many digits more may stand, of which so many must; what is met where the characters end
+abbrev pub digits_at : ℕ → ℕ → ℕ → ℕ → Fault → List Mark → Result Digits Fault
+digits_at zero must size last end text = Ok (record { size = size; last = last; rest = text })
+digits_at (suc n) must size last end [] = Err end
+digits_at (suc n) must size last end (c ∷ text) =
+    if is_digit c.ch then digits_at n (must - 1) (10 * size + (c.ch - 48)) c.at end text
+    else if must == 0 then Ok (record { size = size; last = last; rest = c ∷ text })
+    else Err (bad_block c.at)
 
 -- a size out of range can't stand at its last digit
+abbrev pub in_range : Form → Digits → Result Digits Fault
+in_range form n = if nat_le form.least n.size && nat_le n.size form.most then Ok n else Err (bad_block n.last)
+
 abbrev pub size_at : Form → Fault → List Mark → Result Digits Fault
-size_at form end text =
-    digits_at form.digits 0 0 end text >>= λ n. if nat_le form.least n.size && nat_le n.size form.most then Ok n else Err (bad_block n.last)
+size_at form end text = digits_at form.digits form.fewest 0 0 end text >>= in_range form
 
 -- a word, and the characters after it
 pub record Number : Type 0 where
@@ -162,7 +158,7 @@ number_at form end text = if form.signed then signed_at form end text else (size
 
 abbrev pub unless : {A : Type 0} → ℕ → Option TapeCause → A → Result A Fault
 unless at None x = Ok x
-unless at (Some cause) x = Err (record { at = at; cause = cause })
+unless at (Some cause) x = Err (fault at cause)
 
 -- the word whose letter stands at a place, behind the words before it
 abbrev pub word_at : Form → List TapeWord → ℕ → Fault → List Mark → Result Number Fault
@@ -173,12 +169,15 @@ abbrev pub tape_word : ℕ → ℤ → TapeWord
 tape_word letter value = record { letter = letter; value = value }
 
 -- a block ends with its end of block, and nothing after it
+abbrev pub nothing_at : List TapeWord → List Mark → Result (List TapeWord) Fault
+nothing_at words [] = Ok words
+nothing_at words (c ∷ text) = Err (bad_block c.at)
+
 abbrev pub end_at : List TapeWord → Fault → List Mark → Result (List TapeWord) Fault
 end_at words end [] = Err end
-end_at words end (c ∷ []) = if c.ch == line_feed then Ok words else Err (bad_block c.at)
-end_at words end (c ∷ d ∷ text) = if c.ch == line_feed then Err (bad_block d.at) else Err (bad_block c.at)
+end_at words end (c ∷ text) = if c.ch == line_feed then nothing_at words text else Err (bad_block c.at)
 
--- the words from here on, each in its place, behind the words before them
+-- the words from here on, in the order of the table, behind the words before them
 abbrev pub words_at : List Form → List TapeWord → Fault → List Mark → Result (List TapeWord) Fault
 words_at [] before end text = end_at before end text
 words_at (form ∷ later) before end [] = Err end
@@ -198,7 +197,7 @@ marks at (ch ∷ chs) = record { at = at; ch = ch } ∷ marks (at + 1) chs
 
 -- the block of a text by itself
 abbrev pub block_text : List ℕ → Result (List TapeWord) Fault
-block_text text = block_of (record { at = length text; cause = causes.Truncated }) (marks 0 text)
+block_text text = block_of (fault (length text) causes.Truncated) (marks 0 text)
 
 -- ---- the one spelling
 
@@ -208,7 +207,7 @@ digits zero v = []
 digits (suc n) v = (48 + v / 10 ^ n % 10) ∷ digits n v
 
 abbrev pub form_in : List Form → ℕ → Form
-form_in [] letter = form letter 0 false 0 0
+form_in [] letter = form letter 0 0 false 0 0
 form_in (f ∷ fs) letter = if f.letter == letter then f else form_in fs letter
 
 -- plus for 0
@@ -247,3 +246,7 @@ CanStand (form ∷ later) before (w ∷ ws) =
 -- the words of a block
 abbrev pub IsBlock : List TapeWord → Type 0
 IsBlock words = CanStand forms [] words
+
+-- a block whose characters, with their end of block, are no front part of another's
+abbrev pub StandsAlone : List TapeWord → Type 0
+StandsAlone words = (other : List TapeWord) (rest : List ℕ) → IsBlock other → spelling other ≡ spelling words ++ rest → rest ≡ []

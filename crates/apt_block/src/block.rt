@@ -11,10 +11,24 @@ pub struct TapeWord {
     pub value: i64,
 }
 
+/// A character of a tape, and the place of its byte.
+#[derive(Clone, Copy)]
+pub struct Mark {
+    pub at: u64,
+    pub ch: u8,
+}
+
+/// The place at which reading stops, and why.
+#[derive(Clone, Copy)]
+pub struct Fault {
+    pub at: u64,
+    pub cause: TapeCause,
+}
+
 /// The words of a block, in order. Clauses see their list.
 #[derive(Drop)]
 pub struct Block {
-    pub words: ArrayVec<TapeWord, 12>,
+    pub words: ArrayVec<TapeWord, 13>,
 }
 
 impl Model for Block {
@@ -35,9 +49,9 @@ impl Block {
         }
     }
 
-    /// Adds a word at the end; a block has at most twelve.
+    /// Adds a word at the end; there is room for one of each form in the table.
     pub fn push(&mut self, word: TapeWord)
-        requires room { length self.old < 12 }
+        requires room { length self.old < 13 }
         ensures { self.new ≡ self.old ++ word ∷ [] }
     {
         self.words.push(word);
@@ -45,7 +59,7 @@ impl Block {
 }
 
 /// Why a tape can't be read.
-#[derive(Clone, Copy, PartialEq, Eq)]
+#[derive(Clone, Copy, Debug, PartialEq, Eq)]
 pub enum TapeCause {
     NoStart,
     BadParity,

@@ -1,10 +1,16 @@
-//! Blocks of a tape: their words, the grammar of their characters, and their one spelling.
+//! Blocks of a tape: their words, the grammar of their characters, how they are read, and their one spelling.
 #![tactic(auto)]
 
 mod block;
+mod machine;
+mod read;
+mod table;
 #[cfg(test)]
 mod tests;
 mod write;
 
-pub use block::{Block, TapeCause, TapeWord};
+pub use block::{Block, Fault, Mark, TapeCause, TapeWord};
+pub use machine::BlockReader;
+pub use read::{BlockError, read_block};
+pub use table::Form;
 pub use write::write_block;

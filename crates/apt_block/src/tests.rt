@@ -1,7 +1,7 @@
 ghost use Rattle.std.specs.Prelude.{◌≡◌, ◌≤◌, length};
 ghost use Rattle.apt_block.specs.Block.{IsBlock, tape_word};
 
-use crate::{Block, TapeCause, TapeWord, write_block};
+use crate::{Block, BlockError, TapeCause, TapeWord, read_block, write_block};
 use std::alloc::{AllocError, Global};
 use std::test::Fail;
 
@@ -102,6 +102,48 @@ fn appends_blocks(rt: HostRuntime) -> Result<(), Fail> {
     write_block(alloc, &end(), &mut text)?;
     assert_eq!(rt; text.as_slice(), "N0001G70G90G94\nM02\n".as_bytes());
     Ok(())
+}
+
+fn is_read(text: &str, want: &Block) -> bool {
+    match read_block(text.as_bytes()) {
+        Ok(block) => block.words.as_slice() == want.words.as_slice(),
+        Err(_) => false,
+    }
+}
+
+#[test]
+fn reads_blocks(rt: HostRuntime) {
+    assert!(rt; is_read("N0001G70G90G94\n", &start()));
+    assert!(rt; is_read("N0002G01X+00100000Y+00200000Z+00300000F0100\n", &cut()));
+    assert!(rt; is_read("X-50000000Y-00000000Z-00000001S1250T07\n", &below_zero()));
+    assert!(rt; is_read("M02\n", &end()));
+    assert!(rt; is_read("\n", &Block::new()));
+}
+
+fn refusal(text: &str) -> Option<BlockError> {
+    read_block(text.as_bytes()).err()
+}
+
+#[test]
+fn refuses_blocks(rt: HostRuntime) {
+    let cases = [
+        ("", 0, TapeCause::Truncated),
+        ("N0001G7", 7, TapeCause::Truncated),
+        ("M02", 3, TapeCause::Truncated),
+        ("N0001Q\n", 5, TapeCause::BadBlock),
+        ("N001G70\n", 4, TapeCause::BadBlock),
+        ("X+50000001\n", 9, TapeCause::BadBlock),
+        ("F0000\n", 4, TapeCause::BadBlock),
+        ("G90N0001\n", 3, TapeCause::BadBlock),
+        ("M00\nM01\n", 4, TapeCause::BadBlock),
+        ("G00G90G01\n", 6, TapeCause::BadG),
+        ("G02X+00000000\n", 0, TapeCause::BadG),
+        ("G00G70G90G94G00\n", 12, TapeCause::BadG),
+        ("M10\n", 0, TapeCause::BadM),
+    ];
+    for (text, at, cause) in cases {
+        assert!(rt; refusal(text) == Some(BlockError { at, cause }));
+    }
 }
 
 #[test]

@@ -1,6 +1,6 @@
 ghost use Rattle.std.specs.Prelude.{◌≡◌, ◌≤◌, ◌+◌, ◌/◌, ◌%◌, ◌^◌, ◌++◌, ◌∷◌, [], length, take, if◌then◌else◌, OnOk, OnErr};
 ghost use Rattle.arrayvec.specs.ArrayVec.{array_vec_len};
-ghost use Rattle.apt_block.specs.Block.{IsBlock, block_text, forms, form_in, spelling, word_text};
+ghost use Rattle.apt_block.specs.Block.{IsBlock, StandsAlone, block_text, forms, form_in, spelling, word_text};
 ghost use Rattle.apt_block.specs.Block as spec;
 
 use crate::{Block, TapeWord};
@@ -10,12 +10,14 @@ use std::alloc::{AllocError, Global};
 /// The characters of one word: a letter, a sign and eight digits are ten.
 type WordText = ArrayVec<u8, 16>;
 
-/// Appends the characters of a block, with its end of block. After a refusal `out` is as before.
-#[tactic(auto, using(crate::proofs::Reading::block_text_again))]
+/// Appends the characters of a block, with its end of block; they are read as the same block, and are no
+/// front part of another's. After a refusal `out` is as before.
+#[tactic(auto, using(crate::proofs::Reading::block_text_again, crate::proofs::Reading::block_stands_alone))]
 pub fn write_block(_alloc: Global, b: &Block, out: &mut Vec<u8>) -> Result<(), AllocError>
     requires { IsBlock b.now }
     ensures ok { OnOk result (out.new.items ≡ out.old.items ++ spelling b.now) }
     ensures read { OnOk result (block_text (spelling b.now) ≡ Ok b.now) }
+    ensures alone { StandsAlone b.now }
     ensures err { OnErr result (out.new.items ≡ out.old.items) }
 {
     let before = out.len();
@@ -41,33 +43,33 @@ fn append_block(b: &Block, out: &mut Vec<u8>) -> Result<(), AllocError>
     Ok(())
 }
 
-/// How the words of a letter are written.
+/// What is written behind a letter.
 #[derive(Clone, Copy)]
-struct Form {
+struct Layout {
     digits: u8,
     signed: bool,
 }
 
-/// The form of a letter that is not in the table has no digits.
-fn form_of(letter: u8) -> Form
+/// Behind a letter that is not in the table nothing is written.
+fn layout_of(letter: u8) -> Layout
     ensures digits { result.digits ≡ (form_in forms letter).digits }
     ensures signed { result.signed ≡ (form_in forms letter).signed }
     ensures short { result.digits ≤ 8 }
 {
     match letter {
-        b'X' | b'Y' | b'Z' => Form {
+        b'X' | b'Y' | b'Z' => Layout {
             digits: 8,
             signed: true,
         },
-        b'N' | b'F' | b'S' => Form {
+        b'N' | b'F' | b'S' => Layout {
             digits: 4,
             signed: false,
         },
-        b'G' | b'T' | b'M' => Form {
+        b'G' | b'T' | b'M' => Layout {
             digits: 2,
             signed: false,
         },
-        _ => Form {
+        _ => Layout {
             digits: 0,
             signed: false,
         },
@@ -77,11 +79,11 @@ fn form_of(letter: u8) -> Form
 fn text_of(word: TapeWord) -> WordText
     ensures { result.items ≡ word_text word }
 {
-    let form = form_of(word.letter);
+    let layout = layout_of(word.letter);
     let mut text = ArrayVec::new();
     text.push(word.letter);
-    push_sign(&mut text, form.signed, word.value);
-    push_digits(&mut text, form.digits, word.value.unsigned_abs());
+    push_sign(&mut text, layout.signed, word.value);
+    push_digits(&mut text, layout.digits, word.value.unsigned_abs());
     text
 }
 
@@ -114,11 +116,11 @@ fn push_digits(text: &mut WordText, count: u8, size: u64)
     }
 }
 
-/// The digit of a number at a place, counted from the last one.
+/// The digit of a number that so many digits follow.
 #[tactic(auto, using(crate::proofs::Reading::some_ten))]
-fn digit(size: u64, place: u8) -> u8
-    requires { place ≤ 8 }
-    ensures { result ≡ 48 + size / 10 ^ place % 10 }
+fn digit(size: u64, later: u8) -> u8
+    requires { later ≤ 8 }
+    ensures { result ≡ 48 + size / 10 ^ later % 10 }
 {
-    b'0' + (size / 10u64.pow(place as u32) % 10) as u8
+    b'0' + (size / 10u64.pow(later as u32) % 10) as u8
 }

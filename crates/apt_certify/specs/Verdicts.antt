@@ -1,10 +1,11 @@
 -- The verdict over jobs: the first test that a motion fails, and the merge of two verdicts.
-use Rattle.std.specs.Prelude.{◌≡◌, ◌⊎◌, ℕ, ◌+◌, ℤ, int_le, if◌then◌else◌, List, [], ◌∷◌, ◌++◌, length, codes, Option, Some, None}
+use Rattle.std.specs.Prelude.{◌≡◌, ◌⊎◌, ℕ, ◌+◌, List, [], ◌∷◌, ◌++◌, length, codes, Option, Some, None}
 use Rattle.apt_plane.specs.declared.figures.Pt.{Pt}
 use Rattle.apt_plane.specs.declared.figures.Spot.{Spot}
 use Rattle.apt_plane.specs.Vectors.{Scaled, scaled}
 use Rattle.apt_plane.specs.Distances.{InBand}
 use Rattle.apt_plane.specs.Segments.{start_spot, end_spot}
+use Rattle.apt_offset.specs.Targets.{greater}
 use Rattle.apt_certify.specs.declared.leg.Leg.{Leg}
 use Rattle.apt_certify.specs.declared.leg.Job.{Job}
 use Rattle.apt_certify.specs.declared.verdict.Reason.{Reason}
@@ -12,7 +13,7 @@ use Rattle.apt_certify.specs.declared.verdict.Reason.TheVariants as reasons
 use Rattle.apt_certify.specs.declared.verdict.Bad.{Bad}
 use Rattle.apt_certify.specs.declared.verdict.Verdict.{Verdict}
 use Rattle.apt_certify.specs.Legs.{Test, OrderOf, BandOf, OverrunOf, StopAt, AxisAt, tests_from, Holds, AllHold, IsWithinEdge}
-use Rattle.apt_certify.specs.Jobs.{AreLegal, segments_of}
+use Rattle.apt_certify.specs.Jobs.{AreLegal, segment_count}
 use Rattle.apt_certify.specs.Deviations.{Inwards, Outwards, IsWorst}
 
 abbrev pub name_of : Reason → List ℕ
@@ -52,21 +53,21 @@ segments_tested (OverrunOf a b ∷ tests) = segments_tested tests
 segments_tested (StopAt q ∷ tests) = segments_tested tests
 segments_tested (AxisAt q ∷ tests) = segments_tested tests
 
--- the first of the tests that does not hold
-pub record IsFault (leg : Leg) (start : Pt) (tests : List Test) (bad : Bad) : Type 0 where
+-- the first of the tests that does not hold, with the number of its segment, its reason and its spot
+pub record IsFault (leg : Leg) (start : Pt) (tests : List Test) (segment : ℕ) (reason : Reason) (spot : Spot) : Type 0 where
   pub before : List Test
   pub test : Test
   pub behind : List Test
   pub split : tests ≡ before ++ test ∷ behind
   pub hold : AllHold leg start before
   pub fails : ¬ Holds leg start test
-  pub segment : bad.segment ≡ segments_tested (before ++ test ∷ [])
-  pub reason : bad.reason ≡ reason_of test
-  pub spot : IsSpot leg test bad.spot
+  pub in_segment : segment ≡ segments_tested (before ++ test ∷ [])
+  pub has_reason : reason ≡ reason_of test
+  pub at_spot : IsSpot leg test spot
 
-abbrev pub IsFaultOfPath : Leg → List Pt → Bad → Type 0
-IsFaultOfPath leg [] bad = ⊥
-IsFaultOfPath leg (p ∷ ps) bad = IsFault leg p (tests_from p ps) bad
+abbrev pub IsFaultOfPath : Leg → List Pt → ℕ → Reason → Spot → Type 0
+IsFaultOfPath leg [] segment reason spot = ⊥
+IsFaultOfPath leg (p ∷ ps) segment reason spot = IsFault leg p (tests_from p ps) segment reason spot
 
 -- the first motion that is not legal, and its fault
 pub record IsFirstBad (jobs : List Job) (bad : Bad) : Type 0 where
@@ -76,7 +77,7 @@ pub record IsFirstBad (jobs : List Job) (bad : Bad) : Type 0 where
   pub split : jobs ≡ before ++ job ∷ behind
   pub legal : AreLegal before
   pub motion : bad.motion ≡ length before + 1
-  pub fault : IsFaultOfPath job.leg job.points bad
+  pub fault : IsFaultOfPath job.leg job.points bad.segment bad.reason bad.spot
 
 abbrev pub IsFirstBadOrNone : List Job → Option Bad → Type 0
 IsFirstBadOrNone jobs None = AreLegal jobs
@@ -85,15 +86,12 @@ IsFirstBadOrNone jobs (Some bad) = IsFirstBad jobs bad
 -- ---- the verdict
 
 pub record IsVerdict (jobs : List Job) (v : Verdict) : Type 0 where
-  pub segments : v.segments ≡ segments_of jobs
+  pub segments : v.segments ≡ segment_count jobs
   pub worst_in : IsWorst Inwards jobs v.worst_in
   pub worst_out : IsWorst Outwards jobs v.worst_out
   pub first_bad : IsFirstBadOrNone jobs v.first_bad
 
 -- ---- the merge of the verdicts of two lists, the first of n motions
-
-abbrev pub greater : ℤ → ℤ → ℤ
-greater a b = if int_le a b then b else a
 
 abbrev pub behind_motions : ℕ → Option Bad → Option Bad
 behind_motions n None = None

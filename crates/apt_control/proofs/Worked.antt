@@ -6,7 +6,8 @@ use Rattle.apt_words.specs.declared.Units.TheVariants.{Inch}
 use Rattle.apt_tapecode.specs.declared.Code.TheVariants.{Rs244, Rs358}
 use Rattle.apt_block.specs.declared.block.TapeCause.TheVariants as causes
 use Rattle.apt_control.specs.declared.Act.TheVariants as acts
-use Rattle.apt_control.specs.Control.{control_run, fault}
+use Rattle.apt_block.specs.Block.{fault}
+use Rattle.apt_control.specs.Control.{control_run}
 
 -- the tape of an empty part in both codes
 abbrev empty_rs358 : List ℕ

@@ -1,1 +1,3 @@
 pub mod Control
+pub mod Walk
+pub mod Answers

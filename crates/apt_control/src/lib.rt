@@ -1,7 +1,21 @@
 //! What a control does with a tape: its acts, and the meaning of blocks.
 #![tactic(auto)]
 
+ghost use Rattle.apt_control.specs.Answers.{IsAnswer};
+ghost use Rattle.apt_control.specs.Control.{control_run};
+
+mod error;
+mod held;
+#[cfg(test)]
+mod tests;
+mod walk;
+
+use apt_tapecode::Code;
 use apt_words::{Cool, Turn, Units};
+pub use error::ControlError;
+use held::Held;
+use std::alloc::Global;
+use walk::acts_of;
 
 /// An act of a control. Coordinates are in grid units, feeds in tenths of an inch or of a millimetre
 /// per minute, spindle speeds in turns per minute (0 with `Off`).
@@ -16,4 +30,11 @@ pub enum Act {
     Stop,
     OptStop,
     End,
+}
+
+/// The acts of a tape, which is read to the end and the last byte, or its fault of least place.
+pub fn read_tape(alloc: Global, code: Code, tape: &[u8]) -> Result<Vec<Act>, ControlError>
+    ensures { IsAnswer (λ v. v.items) result (control_run code tape.now) }
+{
+    acts_of::<Held>(alloc, code, tape)
 }

@@ -1,6 +1,10 @@
-pub mod Parts
 pub mod Words
-pub mod Unread
-pub mod Promise
 pub mod Request
+pub mod Outputs
 pub mod Delivery
+pub mod Inputs
+pub mod Unread
+pub mod Certificates
+pub mod OutputOf
+pub mod Judging
+pub mod Promise

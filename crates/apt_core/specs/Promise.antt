@@ -1,5 +1,5 @@
 -- The promise of the top call: what a run answers, and what it does to what stands outside the program.
-use Rattle.std.specs.Prelude.{◌≡◌, ◌⊎◌, ℕ, ◌≤◌, List, length, take, Option, Some, None}
+use Rattle.std.specs.Prelude.{◌≡◌, ◌⊎◌, ℕ, ◌≤◌, List, [], ◌∷◌, length, Option, Some, None, Ok}
 use Rattle.std.specs.FinMap.{get, insert}
 use Rattle.apt_shelf.specs.declared.shelf.Shelf as shelves
 use Rattle.apt_shelf.specs.declared.shelf.Sink as sinks
@@ -9,9 +9,16 @@ use Rattle.apt_machine.specs.declared.Machine.{Machine}
 use Rattle.apt_report.specs.declared.status.Status.{Status}
 use Rattle.apt_report.specs.declared.status.Status.TheVariants as answers
 use Rattle.apt_report.specs.declared.status.Summary.{Summary}
+use Rattle.apt_report.specs.declared.status.Summary.TheVariants as summaries
+use Rattle.apt_certify.specs.declared.verdict.Verdict.{Verdict}
 use Rattle.apt_report.specs.Lines.{line_of}
-use Rattle.apt_core.specs.Words.{Ask, Compile}
-use Rattle.apt_core.specs.Parts.{part_limit, due, IsTapeOf, MakesAll}
+use Rattle.apt_part.specs.Compilation.{Compiled, part_of}
+use Rattle.apt_part.specs.Promise.{Promise}
+use Rattle.apt_core.specs.Words.{FourNames, Ask, Compile, Certify}
+use Rattle.apt_core.specs.Outputs.{Output, output_of, part_limit, due}
+use Rattle.apt_core.specs.Delivery.{with_output, IsBegun}
+use Rattle.apt_core.specs.Inputs.{Input, IsFirstUnread, ReadsAll}
+use Rattle.apt_core.specs.Certificates.{IsRight, IsJudgement}
 
 -- the machine of each tape: RS-358, blocks numbered by one
 abbrev pub the_machine : Machine
@@ -46,7 +53,7 @@ lines_on k sink = record { shown = k.shown sink; put_faults = k.faults sink }
 abbrev pub outside : {H K : Type 0} → shelves.Ghosts H → sinks.Ghosts K → H → K → Outside
 outside h k shelf sink = record { files = files_on h shelf; lines = lines_on k sink }
 
--- ---- what is read, and the answer that is told
+-- ---- `compile`: what is read, and the answer that is told
 
 -- what a name holds; where no files are told it may be anything, but nothing only where the count of faults of reading rose
 abbrev pub Holds : Option Contents → List ℕ → ℕ → ℕ → Option (List ℕ) → Type 0
@@ -75,67 +82,104 @@ IsBeforeWriting answers.ReadFault = Unit {0}
 IsBeforeWriting (answers.TooLong name) = Unit {0}
 IsBeforeWriting (answers.BadPart line cause) = Unit {0}
 IsBeforeWriting (answers.Refused line step case) = Unit {0}
+IsBeforeWriting (answers.BadCl at cause) = Unit {0}
+IsBeforeWriting (answers.BadTape at cause) = Unit {0}
+IsBeforeWriting (answers.NotCertified miss) = Unit {0}
 IsBeforeWriting answers.WriteFault = ⊥
 IsBeforeWriting answers.NoMemory = ⊥
 
--- ---- the files afterwards
+-- ---- the files behind `compile`
 
--- the name TAPE holds the tape of the part that was read, whose contours are all legal, and all other names hold what they held
-pub record IsCompiled (machine : Machine) (held : Option (List ℕ)) (tape : List ℕ) (before after : Contents) (summary : Summary) : Type 0 where
+-- the names CL and TAPE hold the CL file and the tape of the part that was read: they are those of its records, right for it, and all that
+-- `certify` asks of them holds; all other names hold what they held
+pub record IsCompiled (machine : Machine) (held : Option (List ℕ)) (cl tape : List ℕ) (before after : Contents) (summary : Summary) : Type 0 where
   pub text : List ℕ
-  pub bytes : List ℕ
   pub read : held ≡ Some text
   pub short : length text ≤ part_limit
-  pub made : IsTapeOf machine text summary bytes
-  pub written : after ≡ insert before tape bytes
-  pub holds : get after tape ≡ Some bytes
+  pub part : Compiled
+  pub comes : part_of machine text ≡ Ok (Ok part)
+  pub promise : Promise machine text part
+  pub told : summary ≡ (output_of machine part.records).summary
+  pub written : after ≡ with_output cl tape (output_of machine part.records) before
+  pub cl_holds : get after cl ≡ Some (output_of machine part.records).cl
+  pub tape_holds : get after tape ≡ Some (output_of machine part.records).tape
+  pub right : IsRight machine text (output_of machine part.records).cl (output_of machine part.records).tape
 
--- the name TAPE holds a front part of the tape that is due, or all of it, and all other names hold what they held
-pub record IsBegun (due_tape : Option (List ℕ)) (tape : List ℕ) (before after : Contents) : Type 0 where
-  pub bytes : List ℕ
-  pub count : ℕ
-  pub due : due_tape ≡ Some bytes
-  pub written : after ≡ insert before tape (take count bytes)
-
--- as before, or begun
-abbrev pub MayBeBegun : Option (List ℕ) → List ℕ → Contents → Contents → Type 0
-MayBeBegun due_tape tape before after = (after ≡ before) ⊎ IsBegun due_tape tape before after
+-- as before, or a front part of the output that is due stands under the names
+abbrev pub MayBeBegun : Option Output → List ℕ → List ℕ → Contents → Contents → Type 0
+MayBeBegun due_output cl tape before after = (after ≡ before) ⊎ ((o : Output) × (due_output ≡ Some o) × IsBegun cl tape o before after)
 
 -- by what is told
-abbrev pub LeavesFiles : Machine → List ℕ → Option (List ℕ) → List ℕ → Contents → Contents → Status → Type 0
-LeavesFiles machine part held tape before after (answers.Done summary) = IsCompiled machine held tape before after summary
-LeavesFiles machine part held tape before after answers.Usage = after ≡ before
-LeavesFiles machine part held tape before after (answers.Missing name) = after ≡ before
-LeavesFiles machine part held tape before after answers.ReadFault = after ≡ before
-LeavesFiles machine part held tape before after (answers.TooLong name) = after ≡ before
-LeavesFiles machine part held tape before after (answers.BadPart line cause) = after ≡ before
-LeavesFiles machine part held tape before after (answers.Refused line step case) = after ≡ before
-LeavesFiles machine part held tape before after answers.WriteFault = MayBeBegun (due machine part held).tape tape before after
-LeavesFiles machine part held tape before after answers.NoMemory = MayBeBegun (due machine part held).tape tape before after
+abbrev pub LeavesFiles : Machine → FourNames → Option (List ℕ) → Contents → Contents → Status → Type 0
+LeavesFiles machine n held before after (answers.Done summary) = IsCompiled machine held n.cl n.tape before after summary
+LeavesFiles machine n held before after answers.Usage = after ≡ before
+LeavesFiles machine n held before after (answers.Missing name) = after ≡ before
+LeavesFiles machine n held before after answers.ReadFault = after ≡ before
+LeavesFiles machine n held before after (answers.TooLong name) = after ≡ before
+LeavesFiles machine n held before after (answers.BadPart line cause) = after ≡ before
+LeavesFiles machine n held before after (answers.Refused line step case) = after ≡ before
+LeavesFiles machine n held before after (answers.BadCl at cause) = after ≡ before
+LeavesFiles machine n held before after (answers.BadTape at cause) = after ≡ before
+LeavesFiles machine n held before after (answers.NotCertified miss) = after ≡ before
+LeavesFiles machine n held before after answers.WriteFault = MayBeBegun (due machine n.part held).output n.cl n.tape before after
+LeavesFiles machine n held before after answers.NoMemory = MayBeBegun (due machine n.part held).output n.cl n.tape before after
 
 -- told files stay told
-abbrev pub Leaves : Machine → List ℕ → Option (List ℕ) → List ℕ → Option Contents → Option Contents → Status → Type 0
-Leaves machine part held tape None after told = Unit {0}
-Leaves machine part held tape (Some before) None told = ⊥
-Leaves machine part held tape (Some before) (Some after) told = LeavesFiles machine part held tape before after told
+abbrev pub Leaves : Machine → FourNames → Option (List ℕ) → Option Contents → Option Contents → Status → Type 0
+Leaves machine n held None after told = Unit {0}
+Leaves machine n held (Some before) None told = ⊥
+Leaves machine n held (Some before) (Some after) told = LeavesFiles machine n held before after told
 
--- ---- a run
-
--- the work of `compile`: what the name PART holds, the answer to it, and what it leaves. Where the answer comes before the writing, no write is begun.
-pub record Compiles (machine : Machine) (part tape : List ℕ) (before after : Files) (told : Status) : Type 0 where
+-- the work of `compile`: what the name PART holds, the answer to it, and what it leaves. Where the answer comes before the writing, no write is begun
+pub record Compiles (machine : Machine) (n : FourNames) (before after : Files) (told : Status) : Type 0 where
   pub held : Option (List ℕ)
-  pub holds : Holds before.told part before.read_faults after.read_faults held
-  pub tells : Tells (due machine part held).answer before after told
-  pub leaves : Leaves machine part held tape before.told after.told told
+  pub holds : Holds before.told n.part before.read_faults after.read_faults held
+  pub tells : Tells (due machine n.part held).answer before after told
+  pub leaves : Leaves machine n held before.told after.told told
   pub writing : IsBeforeWriting told → after.writing ≡ before.writing
   pub unfailed : IsBeforeWriting told → after.write_faults ≡ before.write_faults
   pub reads_later : before.read_faults ≤ after.read_faults
   pub writes_later : before.write_faults ≤ after.write_faults
 
+-- ---- `certify`
+
+-- the longest CL file and the longest tape, in bytes
+abbrev pub file_limit : ℕ
+file_limit = 67108864
+
+-- the files that are read, in order
+abbrev pub inputs : FourNames → List Input
+inputs n =
+    record { name = n.part; limit = part_limit } ∷ record { name = n.cl; limit = file_limit } ∷ record { name = n.tape; limit = file_limit } ∷ []
+
+-- the three texts, and the answer to them
+pub record Judges (machine : Machine) (n : FourNames) (told : Option Contents) (answer : Status) : Type 0 where
+  pub text : List ℕ
+  pub cl : List ℕ
+  pub tape : List ℕ
+  pub reads : ReadsAll told (inputs n) (text ∷ cl ∷ tape ∷ [])
+  pub judgement : IsJudgement machine text cl tape answer
+
+-- the work of `certify`: the first file that can't be read, or the answer to what they hold, or that reading failed, or that memory ran out. Nothing is
+-- written
+pub record Certifies (machine : Machine) (n : FourNames) (before after : Files) (told : Status) : Type 0 where
+  pub tells :
+    IsFirstUnread before.told (inputs n) before.read_faults after.read_faults told
+    ⊎ (Judges machine n before.told told
+    ⊎ (((told ≡ answers.ReadFault) × Rose before.read_faults after.read_faults)
+    ⊎ (told ≡ answers.NoMemory)))
+  pub files : after.told ≡ before.told
+  pub writing : after.writing ≡ before.writing
+  pub unfailed : after.write_faults ≡ before.write_faults
+  pub reads_later : before.read_faults ≤ after.read_faults
+
+-- ---- a run
+
 -- the work that is asked for, none where the words fit no shape
 abbrev pub Works : Machine → Option Ask → Files → Files → Status → Type 0
 Works machine None before after told = (told ≡ answers.Usage) × (after ≡ before)
-Works machine (Some (Compile part name cl tape)) before after told = Compiles machine part tape before after told
+Works machine (Some (Compile n)) before after told = Compiles machine n before after told
+Works machine (Some (Certify n)) before after told = Certifies machine n before after told
 
 -- the line was cut short: putting failed, or memory ran out
 abbrev pub IsCut : Lines → Lines → Status → Type 0
@@ -166,9 +210,16 @@ pub record NoneRose (before after : Outside) : Type 0 where
   pub writing : ¬ (Rose before.files.write_faults after.files.write_faults)
   pub putting : ¬ (Rose before.lines.put_faults after.lines.put_faults)
 
--- where no count rose, a part under the name PART without fault, of which no step is refused, is compiled, or memory ran out
+-- a part without fault, of which no step is refused, is compiled; a CL file and a tape that are right for their part are certified
+abbrev pub CompletesIn : Machine → Ask → Contents → Status → Type 0
+CompletesIn machine (Compile n) m answer =
+    (text : List ℕ) (p : Compiled) → get m n.part ≡ Some text → length text ≤ part_limit → part_of machine text ≡ Ok (Ok p)
+    → (answer ≡ answers.Done (output_of machine p.records).summary) ⊎ (answer ≡ answers.NoMemory)
+CompletesIn machine (Certify n) m answer =
+    (text cl tape : List ℕ) → ReadsAll (Some m) (inputs n) (text ∷ cl ∷ tape ∷ []) → IsRight machine text cl tape
+    → ((verdict : Verdict) × (answer ≡ answers.Done (summaries.Certified verdict))) ⊎ (answer ≡ answers.NoMemory)
+
+-- where no count rose, or memory ran out
 abbrev pub Completes : Machine → Option Ask → Outside → Outside → Status → Type 0
 Completes machine None before after answer = Unit {0}
-Completes machine (Some (Compile part name cl tape)) before after answer =
-    (m : Contents) (text : List ℕ) (summary : Summary) → before.files.told ≡ Some m → get m part ≡ Some text → length text ≤ part_limit → MakesAll machine text summary
-    → NoneRose before after → (answer ≡ answers.Done summary) ⊎ (answer ≡ answers.NoMemory)
+Completes machine (Some ask) before after answer = (m : Contents) → before.files.told ≡ Some m → NoneRose before after → CompletesIn machine ask m answer

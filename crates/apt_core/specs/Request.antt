@@ -1,7 +1,12 @@
 -- What a request of the code asks.
+use Rattle.apt_core.specs.declared.words.Names.{Names}
 use Rattle.apt_core.specs.declared.words.Request.{Request}
 use Rattle.apt_core.specs.declared.words.Request.TheVariants as requests
-use Rattle.apt_core.specs.Words.{Ask, Compile}
+use Rattle.apt_core.specs.Words.{FourNames, names_of, Ask, Compile, Certify}
+
+abbrev pub four_names : Names → FourNames
+four_names n = names_of n.part.now n.machine.now n.cl.now n.tape.now
 
 abbrev pub ask_of : Request → Ask
-ask_of (requests.Compile part machine cl tape) = Compile part.now machine.now cl.now tape.now
+ask_of (requests.Compile n) = Compile (four_names n)
+ask_of (requests.Certify n) = Certify (four_names n)

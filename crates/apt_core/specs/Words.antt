@@ -5,29 +5,45 @@ use Rattle.std.proofs.Common.{String, string_bytes, bytes_eq}
 abbrev pub texts : {A : Type 0} → List (String A) → List (List ℕ)
 texts words = map string_bytes words
 
--- what is asked: to compile a part for a machine, to a CL file and a tape
+-- the names PART, MACHINE, CL and TAPE
+pub record FourNames : Type 0 where
+  pub part : List ℕ
+  pub machine : List ℕ
+  pub cl : List ℕ
+  pub tape : List ℕ
+
+abbrev pub names_of : List ℕ → List ℕ → List ℕ → List ℕ → FourNames
+names_of part machine cl tape = record { part = part; machine = machine; cl = cl; tape = tape }
+
+-- to compile a part for a machine, to a CL file and a tape; or to certify a CL file and a tape against them
 pub data Ask : Type 0 where
-  Compile : List ℕ → List ℕ → List ℕ → List ℕ → Ask
+  Compile : FourNames → Ask
+  Certify : FourNames → Ask
 
 -- a name has at least one byte
 abbrev pub is_name : List ℕ → Bool
 is_name word = not (length word == 0)
 
-abbrev pub are_names : List ℕ → List ℕ → List ℕ → List ℕ → Bool
-are_names part machine cl tape = is_name part && is_name machine && is_name cl && is_name tape
+abbrev pub are_names : FourNames → Bool
+are_names n = is_name n.part && is_name n.machine && is_name n.cl && is_name n.tape
 
 abbrev pub differ : List ℕ → List ℕ → Bool
 differ a b = not (bytes_eq a b)
 
 -- the outputs differ from each other and from the inputs
-abbrev pub are_apart : List ℕ → List ℕ → List ℕ → List ℕ → Bool
-are_apart part machine cl tape = differ cl part && differ cl machine && differ cl tape && differ tape part && differ tape machine
+abbrev pub are_apart : FourNames → Bool
+are_apart n = differ n.cl n.part && differ n.cl n.machine && differ n.cl n.tape && differ n.tape n.part && differ n.tape n.machine
 
-abbrev pub compile_of : List ℕ → List ℕ → List ℕ → List ℕ → Option Ask
-compile_of part machine cl tape =
-    if are_names part machine cl tape && are_apart part machine cl tape then Some (Compile part machine cl tape) else None
+abbrev pub compile_ask : FourNames → Option Ask
+compile_ask n = if are_names n && are_apart n then Some (Compile n) else None
 
--- the words by their shapes
+abbrev pub certify_ask : FourNames → Option Ask
+certify_ask n = if are_names n then Some (Certify n) else None
+
+abbrev pub command_ask : List ℕ → FourNames → Option Ask
+command_ask word n = if bytes_eq word (codes "compile") then compile_ask n else if bytes_eq word (codes "certify") then certify_ask n else None
+
+-- what the words ask, by their shapes
 abbrev pub asked : List (List ℕ) → Option Ask
-asked (word ∷ part ∷ machine ∷ cl ∷ tape ∷ []) = if bytes_eq word (codes "compile") then compile_of part machine cl tape else None
+asked (word ∷ part ∷ machine ∷ cl ∷ tape ∷ []) = command_ask word (names_of part machine cl tape)
 asked _ = None

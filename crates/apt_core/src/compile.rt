@@ -1,94 +1,123 @@
 //! The command `compile`.
 
-ghost use Rattle.std.specs.Prelude.{◌≡◌, ◌≤◌, IfOk};
+ghost use Rattle.std.specs.Prelude.{◌≡◌, ◌≤◌, IfOk, IfErr, Ok};
 ghost use Rattle.apt_shelf.specs.Told.{Rose};
+ghost use Rattle.apt_cldata.specs.Files.{IsFile};
+ghost use Rattle.apt_cldata.specs.Reading.{read_of};
+ghost use Rattle.apt_control.specs.Control.{control_run};
 ghost use Rattle.apt_machine.specs.Machines.{IsMachine};
+ghost use Rattle.apt_post.specs.Plan as plans;
 ghost use Rattle.apt_post.specs.Blocks.{IsProgram};
-ghost use Rattle.apt_core.specs.Unread.{IsUnread};
+ghost use Rattle.apt_core.specs.Request.{four_names};
+ghost use Rattle.apt_core.specs.Outputs as outputs;
+ghost use Rattle.apt_core.specs.Unread.{HasNoPart};
 ghost use Rattle.apt_core.specs.Delivery.{IsDelivered};
+ghost use Rattle.apt_core.specs.OutputOf.{IsOutput};
 ghost use Rattle.apt_core.specs.Promise.{Compiles, files_on};
 
-use crate::part::output_of;
+use crate::part::part_on;
+use crate::reading::{PART_LIMIT, read_input};
+use crate::words::Names;
+use apt_cldata::write;
 use apt_machine::Machine;
-use apt_post::{Planned, tape};
-use apt_report::{FileName, Status, Summary};
-use apt_shelf::{ReadError, Shelf, ShelfFault, read_all, write_all};
+use apt_part::Part;
+use apt_post::{plan, tape};
+use apt_report::{Status, Summary};
+use apt_shelf::{Shelf, ShelfFault, write_all};
 use std::alloc::{AllocError, Global};
+use std::marker::Model;
 
-/// The longest part program, in bytes.
-const PART_LIMIT: usize = 4_194_304;
+/// The bytes of a CL file and of its tape, and what is told of them. Clauses see the two texts and the summary.
+#[derive(Drop)]
+pub(crate) struct Output {
+    pub cl: Vec<u8>,
+    pub tape: Vec<u8>,
+    pub summary: Summary,
+}
 
-/// Reads the part and writes its tape.
+impl Model for Output {
+    ghost use Rattle.apt_core.specs.Outputs as outputs;
+
+    ghost Value = { outputs.Output };
+
+    ghost view = { λ o. record { cl = o.cl.items; tape = o.tape.items; summary = o.summary } };
+}
+
+/// Reads the part, and writes its CL file and then its tape.
 pub(crate) fn compile<H: Shelf>(
     alloc: Global,
     shelf: &mut H,
     machine: &Machine,
-    part: &str,
-    tape_name: &str,
+    names: Names<'_>,
 ) -> Status
     requires { IsMachine machine.now }
-    ensures { Compiles machine.now part.now tape_name.now (files_on H.Shelf shelf.old) (files_on H.Shelf shelf.new) result }
+    ensures { Compiles machine.now (four_names names) (files_on H.Shelf shelf.old) (files_on H.Shelf shelf.new) result }
 {
-    let text = match read_all(alloc, shelf, part, PART_LIMIT) {
+    let text = match read_input(alloc, shelf, names.part, PART_LIMIT) {
         Ok(text) => text,
-        Err(error) => return unread(alloc, error, part),
+        Err(status) => return status,
     };
-    match output_of(alloc, &text, machine) {
-        Ok(output) => deliver(alloc, shelf, machine, &output, tape_name),
+    match output_on(alloc, &text, machine) {
+        Ok(output) => deliver(shelf, &output, names.cl, names.tape),
         Err(status) => status,
     }
 }
 
-/// Writes the tape of the acts.
-fn deliver<H: Shelf>(
-    alloc: Global,
-    shelf: &mut H,
-    machine: &Machine,
-    output: &Planned,
-    name: &str,
-) -> Status
-    requires { IsProgram output.now.acts.items }
-    ensures delivered { IsDelivered machine.now name.now (output.now.acts.items, output.now.segments) (H.told shelf.old) (H.told shelf.new) result }
+/// What a text is compiled to, or the answer where it comes to no part.
+#[tactic(auto, using(crate::proofs::Outputs::output_is))]
+fn output_on(alloc: Global, text: &[u8], machine: &Machine) -> Result<Output, Status>
+    requires { IsMachine machine.now }
+    ensures output { IfOk result (λ o. IsOutput machine.now text.now o) }
+    ensures none { IfErr result (λ s. HasNoPart machine.now text.now s) }
+{
+    let part = match part_on(alloc, text, machine) {
+        Ok(part) => part,
+        Err(status) => return Err(status),
+    };
+    match output_of(alloc, &part, machine) {
+        Ok(output) => Ok(output),
+        Err(_) => Err(Status::NoMemory),
+    }
+}
+
+/// The files of the records of a part.
+fn output_of(alloc: Global, part: &Part, machine: &Machine) -> Result<Output, AllocError>
+    requires file { IsFile part.now.records }
+    requires program { IsProgram (plans.plan part.now.records) }
+    ensures value { IfOk result (λ o. o ≡ outputs.output_of machine.now part.now.records) }
+    ensures read { IfOk result (λ o. read_of o.cl ≡ Ok part.now.records) }
+    ensures run { IfOk result (λ o. control_run machine.now.code o.tape ≡ Ok (plans.plan part.now.records)) }
+{
+    let planned = plan(alloc, &part.records)?;
+    let cl = write(alloc, &part.records)?;
+    let tape = tape(alloc, &planned.acts, machine)?;
+    Ok(Output {
+        cl,
+        tape,
+        summary: Summary::Compiled {
+            records: part.records.len() as u64,
+            acts: planned.acts.len() as u64,
+            segments: planned.segments,
+        },
+    })
+}
+
+/// Writes the CL file whole, and then the tape.
+#[tactic(auto, using(crate::proofs::Deliveries::none_written, crate::proofs::Deliveries::cl_written, crate::proofs::Deliveries::both_written))]
+fn deliver<H: Shelf>(shelf: &mut H, output: &Output, cl: &str, tape: &str) -> Status
+    ensures delivered { IsDelivered cl.now tape.now output.now (H.told shelf.old) (H.told shelf.new) result }
     ensures write_fault { result ≡ Status.WriteFault → Rose (H.write_faults shelf.old) (H.write_faults shelf.new) }
     ensures later { H.write_faults shelf.old ≤ H.write_faults shelf.new }
     ensures read_faults { H.read_faults shelf.new ≡ H.read_faults shelf.old }
 {
-    let Ok(bytes) = tape(alloc, &output.acts, machine) else {
-        return Status::NoMemory;
-    };
-    match write_all(shelf, name, &bytes) {
-        Ok(()) => Status::Done(Summary::Compiled {
-            records: 0,
-            acts: output.acts.len() as u64,
-            segments: output.segments,
-        }),
+    match write_all(shelf, cl, &output.cl) {
+        Ok(()) => {}
+        Err(ShelfFault::Fault) => return Status::WriteFault,
+        Err(ShelfFault::NoMemory) => return Status::NoMemory,
+    }
+    match write_all(shelf, tape, &output.tape) {
+        Ok(()) => Status::Done(output.summary),
         Err(ShelfFault::Fault) => Status::WriteFault,
         Err(ShelfFault::NoMemory) => Status::NoMemory,
     }
-}
-
-/// The answer where a name was not read.
-fn unread(alloc: Global, error: ReadError, name: &str) -> Status
-    ensures { IsUnread error name.now result }
-{
-    match error {
-        ReadError::Missing => match file_name(alloc, name) {
-            Ok(name) => Status::Missing { name },
-            Err(_) => Status::NoMemory,
-        },
-        ReadError::Fault => Status::ReadFault,
-        ReadError::TooLong => match file_name(alloc, name) {
-            Ok(name) => Status::TooLong { name },
-            Err(_) => Status::NoMemory,
-        },
-        ReadError::NoMemory => Status::NoMemory,
-    }
-}
-
-fn file_name(alloc: Global, name: &str) -> Result<FileName, AllocError>
-    ensures { IfOk result (λ n. n ≡ name.now) }
-{
-    Ok(FileName {
-        text: String::from_str(alloc, name)?,
-    })
 }

@@ -1,26 +1,26 @@
-//! What parts make.
+//! The part of a text.
 
-ghost use Rattle.std.specs.Prelude.{IfOk, IfErr};
+ghost use Rattle.std.specs.Prelude.{◌≡◌, IfOk, IfErr, Ok};
 ghost use Rattle.apt_machine.specs.Machines.{IsMachine};
-ghost use Rattle.apt_post.specs.Blocks.{IsProgram};
-ghost use Rattle.apt_core.specs.Parts.{IsMade};
-ghost use Rattle.apt_core.specs.Unread.{IsUnmade};
+ghost use Rattle.apt_part.specs.Compilation as parts;
+ghost use Rattle.apt_part.specs.Promise.{Promise, AreSteps};
+ghost use Rattle.apt_core.specs.Unread.{HasNoPart};
 
 use apt_machine::Machine;
-use apt_part::{PartError, made};
-use apt_post::Planned;
+use apt_part::{Part, PartError, part_of};
 use apt_report::Status;
 use std::alloc::Global;
 
-/// What the statements of a text make on a machine, or the answer where they make nothing.
-pub(crate) fn output_of(alloc: Global, text: &[u8], machine: &Machine) -> Result<Planned, Status>
+/// The part of a text on a machine, or the answer where it comes to none.
+pub(crate) fn part_on(alloc: Global, text: &[u8], machine: &Machine) -> Result<Part, Status>
     requires { IsMachine machine.now }
-    ensures made { IfOk result (λ o. IsMade machine.now text.now (o.acts.items, o.segments)) }
-    ensures program { IfOk result (λ o. IsProgram o.acts.items) }
-    ensures unmade { IfErr result (λ s. IsUnmade machine.now text.now s) }
+    ensures part { IfOk result (λ p. parts.part_of machine.now text.now ≡ Ok (Ok p)) }
+    ensures promise { IfOk result (λ p. Promise machine.now text.now p) }
+    ensures steps { IfOk result (λ p. AreSteps p.steps) }
+    ensures none { IfErr result (λ s. HasNoPart machine.now text.now s) }
 {
-    match made(alloc, text, machine) {
-        Ok(planned) => Ok(planned),
+    match part_of(alloc, text, machine) {
+        Ok(part) => Ok(part),
         Err(PartError::Bad { line, cause }) => Err(Status::BadPart { line, cause }),
         Err(PartError::Refused(r)) => Err(Status::Refused {
             line: r.line,

@@ -2,17 +2,23 @@
 
 ghost use Rattle.std.specs.Prelude.{◌≡◌, Some, None, option_map};
 ghost use Rattle.apt_core.specs.Words as words;
-ghost use Rattle.apt_core.specs.Words.{asked, texts, compile_of};
-ghost use Rattle.apt_core.specs.Request.{ask_of};
+ghost use Rattle.apt_core.specs.Words.{asked, texts};
+ghost use Rattle.apt_core.specs.Request.{ask_of, four_names};
+
+/// The names PART, MACHINE, CL and TAPE.
+#[derive(Clone, Copy)]
+pub(crate) struct Names<'a> {
+    pub part: &'a str,
+    pub machine: &'a str,
+    pub cl: &'a str,
+    pub tape: &'a str,
+}
 
 /// A command with its names.
+#[derive(Clone, Copy)]
 pub(crate) enum Request<'a> {
-    Compile {
-        part: &'a str,
-        machine: &'a str,
-        cl: &'a str,
-        tape: &'a str,
-    },
+    Compile(Names<'a>),
+    Certify(Names<'a>),
 }
 
 /// The command that the words ask for.
@@ -20,41 +26,63 @@ pub(crate) fn request_of<'a>(words: &'a [String]) -> Option<Request<'a>>
     ensures { option_map ask_of result ≡ asked (texts words.now) }
 {
     match words {
-        [word, part, machine, cl, tape] if word.as_str() == "compile" => {
-            compile_request(part, machine, cl, tape)
-        }
+        [word, part, machine, cl, tape] => command_request(
+            word,
+            Names {
+                part,
+                machine,
+                cl,
+                tape,
+            },
+        ),
         _ => None,
     }
 }
 
-fn compile_request<'a>(
-    part: &'a str,
-    machine: &'a str,
-    cl: &'a str,
-    tape: &'a str,
-) -> Option<Request<'a>>
-    ensures { option_map ask_of result ≡ compile_of part.now machine.now cl.now tape.now }
+fn command_request<'a>(word: &str, names: Names<'a>) -> Option<Request<'a>>
+    ensures { option_map ask_of result ≡ words.command_ask word.now (four_names names) }
 {
-    if are_names(part, machine, cl, tape) && are_apart(part, machine, cl, tape) {
-        Some(Request::Compile {
-            part,
-            machine,
-            cl,
-            tape,
-        })
+    if word == "compile" {
+        compile_request(names)
+    } else if word == "certify" {
+        certify_request(names)
     } else {
         None
     }
 }
 
-fn are_names(part: &str, machine: &str, cl: &str, tape: &str) -> bool
-    ensures { result ≡ words.are_names part.now machine.now cl.now tape.now }
+fn compile_request<'a>(names: Names<'a>) -> Option<Request<'a>>
+    ensures { option_map ask_of result ≡ words.compile_ask (four_names names) }
 {
-    !part.is_empty() && !machine.is_empty() && !cl.is_empty() && !tape.is_empty()
+    if are_names(&names) && are_apart(&names) {
+        Some(Request::Compile(names))
+    } else {
+        None
+    }
 }
 
-fn are_apart(part: &str, machine: &str, cl: &str, tape: &str) -> bool
-    ensures { result ≡ words.are_apart part.now machine.now cl.now tape.now }
+fn certify_request<'a>(names: Names<'a>) -> Option<Request<'a>>
+    ensures { option_map ask_of result ≡ words.certify_ask (four_names names) }
 {
-    cl != part && cl != machine && cl != tape && tape != part && tape != machine
+    if are_names(&names) {
+        Some(Request::Certify(names))
+    } else {
+        None
+    }
+}
+
+fn are_names(n: &Names<'_>) -> bool
+    ensures { result ≡ words.are_names (four_names n.now) }
+{
+    !n.part.is_empty() && !n.machine.is_empty() && !n.cl.is_empty() && !n.tape.is_empty()
+}
+
+fn are_apart(n: &Names<'_>) -> bool
+    ensures { result ≡ words.are_apart (four_names n.now) }
+{
+    n.cl != n.part
+        && n.cl != n.machine
+        && n.cl != n.tape
+        && n.tape != n.part
+        && n.tape != n.machine
 }

@@ -4,6 +4,7 @@ ghost use Rattle.std.specs.Prelude.{◌≡◌, ◌≤◌, ◌-◌, None, max, If
 ghost use Rattle.std.specs.List.{list_all};
 ghost use Rattle.apt_words.specs.Built.{AreBuilt};
 ghost use Rattle.apt_words.specs.ProgramEnds.{EndsInFini};
+ghost use Rattle.apt_words.specs.Sources.{AreStmts};
 ghost use Rattle.apt_parse.specs.ReaderState as reading;
 ghost use Rattle.apt_parse.specs.ReaderState.{IsRead};
 ghost use Rattle.apt_parse.specs.Statements as statements;
@@ -21,11 +22,12 @@ use std::alloc::Global;
 /// # Errors
 ///
 /// `Bad` is the first fault in the order of reading, with its line.
-#[tactic(auto, using(crate::proofs::Endings::parsed_ends, crate::proofs::AllBuilt::parsed_built))]
+#[tactic(auto, using(crate::proofs::Endings::parsed_ends, crate::proofs::AllBuilt::parsed_built, crate::proofs::AllSources::parsed_stmts))]
 pub fn parse(alloc: Global, text: &[u8]) -> Result<Program, ParseError>
     ensures program { programs.IsParsed (programs.program_of text.now) result }
     ensures ends { IfOk result (λ p. EndsInFini p) }
     ensures built { IfOk result (λ p. AreBuilt p) }
+    ensures sources { IfOk result (λ p. AreStmts p) }
 {
     parse_all(alloc, text)
 }

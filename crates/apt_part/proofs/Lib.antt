@@ -1,3 +1,4 @@
 mod Worked
 pub mod Written
+pub mod Filed
 pub mod Promised

@@ -32,7 +32,8 @@ use Rattle.apt_meaning.specs.StartUps.{start_up_at}
 use Rattle.apt_tapecode.specs.declared.Code.TheVariants.{Rs358}
 use Rattle.apt_machine.specs.declared.Machine.{Machine}
 use Rattle.apt_control.specs.declared.Act.TheVariants as acts
-use Rattle.apt_part.specs.Parts.{records_by, made_of}
+use Rattle.apt_post.specs.Plan.{ActsAndSegments, planning}
+use Rattle.apt_part.specs.Compilation.{Compiled, records_by, part_of}
 
 abbrev largest : Machine
 largest = record { code = Rs358; seq = 1; feedmax = 9999; spinmax = 9999; toolmax = 99 }
@@ -48,15 +49,24 @@ records_of text = recorded (program_of text)
 abbrev written : List Record → Result (Result (List Record) Refusal) Fault
 written rs = Ok (Ok rs)
 
+abbrev planned : Result (Result Compiled Refusal) Fault → Result (Result ActsAndSegments Refusal) Fault
+planned (Ok (Ok p)) = Ok (Ok (planning p.records))
+planned (Ok (Err refusal)) = Ok (Err refusal)
+planned (Err fault) = Err fault
+
+-- the acts of a text
+abbrev acts_of : List ℕ → Result (Result ActsAndSegments Refusal) Fault
+acts_of text = planned (part_of largest text)
+
 -- the n-th step, on the n-th line
 abbrev refused : ℕ → Case → Result (Result (List Record) Refusal) Fault
 refused n case = Ok (Err (record { line = n; step = n; case = case }))
 
-abbrev settings_with : ℕ → Note → List Record
-settings_with n note = records.Statement n n ∷ records.Note note ∷ []
+abbrev note_at : ℕ → Note → List Record
+note_at n note = records.Statement n n ∷ records.Note note ∷ []
 
 abbrev titled : List Record
-titled = settings_with 1 (notes.Partno (codes "A"))
+titled = note_at 1 (notes.Partno (codes "A"))
 
 abbrev reached : ℕ → Reach → Position → List Record
 reached n reach to = records.Statement n n ∷ records.Point reach to ∷ []
@@ -74,12 +84,12 @@ cut n drive side sense check how to =
 -- ---- a first part
 
 first_records : records_of (codes "PARTNO FIRST\nFEDRAT/10\nFROM/0,0,0\nGOTO/1,2,3\nFINI\n") ≡
-    written (settings_with 1 (notes.Partno (codes "FIRST")) ++ settings_with 2 (notes.Fedrat (pos 100)) ++ reached 3 reaches.From (at 0 0 0) ++ reached 4 reaches.Goto (at 100000 200000 300000) ++ settings_with 5 notes.Fini)
+    written (note_at 1 (notes.Partno (codes "FIRST")) ++ note_at 2 (notes.Fedrat (pos 100)) ++ reached 3 reaches.From (at 0 0 0) ++ reached 4 reaches.Goto (at 100000 200000 300000) ++ note_at 5 notes.Fini)
 unfolding root word_of expression shape pair three four coordinates surfaces execution deed_of motion_at start_up_at
 first_records = refl
 
-first_acts : made_of largest (codes "PARTNO FIRST\nFEDRAT/10\nFROM/0,0,0\nGOTO/1,2,3\nFINI\n") ≡
-    Ok (Ok (acts.Units Inch ∷ acts.Cut (pos 100000) (pos 200000) (pos 300000) (pos 100) ∷ acts.End ∷ [], 0))
+first_acts : acts_of (codes "PARTNO FIRST\nFEDRAT/10\nFROM/0,0,0\nGOTO/1,2,3\nFINI\n") ≡
+    Ok (Ok (record { acts = acts.Units Inch ∷ acts.Cut (pos 100000) (pos 200000) (pos 300000) (pos 100) ∷ acts.End ∷ []; segments = 0 }))
 unfolding root word_of expression shape pair three four coordinates surfaces execution deed_of motion_at start_up_at
 first_acts = refl
 
@@ -111,18 +121,18 @@ abbrev edge : ℕ → Surface → Surface → ℤ → ℤ → List Record
 edge n drive check x y = cut n drive sides.Right (pos 1) check stops.Past (position_at x y (pos 50000))
 
 plate_records : records_of plate ≡
-    written (settings_with 1 (notes.Partno (codes "SQUARE")) ++ settings_with 2 (notes.Cutter (pos 50000)) ++ settings_with 7 (notes.Fedrat (pos 100))
+    written (note_at 1 (notes.Partno (codes "SQUARE")) ++ note_at 2 (notes.Cutter (pos 50000)) ++ note_at 7 (notes.Fedrat (pos 100))
     ++ reached 8 reaches.From (position_at (neg_ℤ (pos 100000)) (neg_ℤ (pos 100000)) (pos 50000)) ++ reached 9 reaches.Start (position_at low low (pos 50000))
-    ++ edge 11 bottom right high low ++ edge 12 right top high high ++ edge 13 top left low high ++ edge 14 left bottom low low ++ settings_with 15 notes.Fini)
+    ++ edge 11 bottom right high low ++ edge 12 right top high high ++ edge 13 top left low high ++ edge 14 left bottom low low ++ note_at 15 notes.Fini)
 unfolding root word_of expression shape pair three four coordinates surfaces execution deed_of motion_at start_up_at
 plate_records = refl
 
-plate_acts : made_of largest plate ≡
-    Ok (Ok (
-      acts.Units Inch ∷ acts.Cut low low (pos 50000) (pos 100)
-          ∷ acts.Cut high low (pos 50000) (pos 100) ∷ acts.Cut high high (pos 50000) (pos 100) ∷ acts.Cut low high (pos 50000) (pos 100) ∷ acts.Cut low low (pos 50000) (pos 100) ∷ acts.End ∷ [],
-      4,
-    ))
+plate_acts : acts_of plate ≡
+    Ok (Ok (record {
+      acts = acts.Units Inch ∷ acts.Cut low low (pos 50000) (pos 100)
+          ∷ acts.Cut high low (pos 50000) (pos 100) ∷ acts.Cut high high (pos 50000) (pos 100) ∷ acts.Cut low high (pos 50000) (pos 100) ∷ acts.Cut low low (pos 50000) (pos 100) ∷ acts.End ∷ [];
+      segments = 4;
+    }))
 unfolding root word_of expression shape pair three four coordinates surfaces execution deed_of motion_at start_up_at
 plate_acts = refl
 
@@ -130,33 +140,33 @@ plate_acts = refl
 
 -- REMARK, CLPRNT, NOPOST, MACHIN and a scalar write no record
 says_nothing : records_of (codes "PARTNO A\nREMARK B\nCLPRNT\nNOPOST\nMACHIN/1,C\nD=2*3\nFINI\n") ≡
-    written (titled ++ settings_with 7 notes.Fini)
+    written (titled ++ note_at 7 notes.Fini)
 unfolding root word_of expression shape pair three four coordinates surfaces execution deed_of motion_at start_up_at
 says_nothing = refl
 
 lengths : records_of (codes "PARTNO A\nUNITS/MM\nCUTTER/6\nINTOL/.01\nOUTTOL/.02\nFEDRAT/120\nFINI\n") ≡
-    written (titled ++ settings_with 2 (notes.Units Mm) ++ settings_with 3 (notes.Cutter (pos 60000)) ++ settings_with 4 (notes.Intol (pos 100)) ++ settings_with 5 (notes.Outtol (pos 200)) ++ settings_with 6 (notes.Fedrat (pos 1200)) ++ settings_with 7 notes.Fini)
+    written (titled ++ note_at 2 (notes.Units Mm) ++ note_at 3 (notes.Cutter (pos 60000)) ++ note_at 4 (notes.Intol (pos 100)) ++ note_at 5 (notes.Outtol (pos 200)) ++ note_at 6 (notes.Fedrat (pos 1200)) ++ note_at 7 notes.Fini)
 unfolding root word_of expression shape pair three four coordinates surfaces execution deed_of motion_at start_up_at
 lengths = refl
 
 inches : records_of (codes "PARTNO A\nUNITS/INCHES\nFINI\n") ≡
-    written (titled ++ settings_with 2 (notes.Units Inch) ++ settings_with 3 notes.Fini)
+    written (titled ++ note_at 2 (notes.Units Inch) ++ note_at 3 notes.Fini)
 unfolding root word_of expression shape pair three four coordinates surfaces execution deed_of motion_at start_up_at
 inches = refl
 
 moves : records_of (codes "PARTNO A\nFEDRAT/1\nFROM/1,2\nGOTO/3,4,5\nGODLTA/.5,.5,1\nFINI\n") ≡
-    written (titled ++ settings_with 2 (notes.Fedrat (pos 10)) ++ reached 3 reaches.From (at 100000 200000 0) ++ reached 4 reaches.Goto (at 300000 400000 500000) ++ reached 5 reaches.Godlta (at 350000 450000 600000) ++ settings_with 6 notes.Fini)
+    written (titled ++ note_at 2 (notes.Fedrat (pos 10)) ++ reached 3 reaches.From (at 100000 200000 0) ++ reached 4 reaches.Goto (at 300000 400000 500000) ++ reached 5 reaches.Godlta (at 350000 450000 600000) ++ note_at 6 notes.Fini)
 unfolding root word_of expression shape pair three four coordinates surfaces execution deed_of motion_at start_up_at
 moves = refl
 
 commands : records_of (codes "PARTNO A\nSTOP\nOPSTOP\nRAPID\nGOTO/0,0\nEND\nFINI\n") ≡
-    written (titled ++ settings_with 2 notes.Stop ++ settings_with 3 notes.OptStop ++ settings_with 4 notes.Rapid ++ reached 5 reaches.Goto (at 0 0 0) ++ settings_with 6 notes.End ++ settings_with 7 notes.Fini)
+    written (titled ++ note_at 2 notes.Stop ++ note_at 3 notes.OptStop ++ note_at 4 notes.Rapid ++ reached 5 reaches.Goto (at 0 0 0) ++ note_at 6 notes.End ++ note_at 7 notes.Fini)
 unfolding root word_of expression shape pair three four coordinates surfaces execution deed_of motion_at start_up_at
 commands = refl
 
 -- the end is given once
-commands_are_acts : made_of largest (codes "PARTNO A\nSTOP\nOPSTOP\nRAPID\nGOTO/0,0\nEND\nFINI\n") ≡
-    Ok (Ok (acts.Units Inch ∷ acts.Stop ∷ acts.OptStop ∷ acts.Rapid (pos 0) (pos 0) (pos 0) ∷ acts.End ∷ [], 0))
+commands_are_acts : acts_of (codes "PARTNO A\nSTOP\nOPSTOP\nRAPID\nGOTO/0,0\nEND\nFINI\n") ≡
+    Ok (Ok (record { acts = acts.Units Inch ∷ acts.Stop ∷ acts.OptStop ∷ acts.Rapid (pos 0) (pos 0) (pos 0) ∷ acts.End ∷ []; segments = 0 }))
 unfolding root word_of expression shape pair three four coordinates surfaces execution deed_of motion_at start_up_at
 commands_are_acts = refl
 
@@ -168,39 +178,39 @@ up = line (pos 200000) (pos 0) (pos 0) (pos 100000)
 
 -- the lines, the feed, and a move along the first
 abbrev before : Position → List Record
-before to = titled ++ settings_with 4 (notes.Fedrat (pos 10)) ++ reached 5 reaches.From (position_at (neg_ℤ (pos 100000)) (pos 0) (pos 0)) ++ reached 6 reaches.Goto to
+before to = titled ++ note_at 4 (notes.Fedrat (pos 10)) ++ reached 5 reaches.From (position_at (neg_ℤ (pos 100000)) (pos 0) (pos 0)) ++ reached 6 reaches.Goto to
 
 forward : records_of (codes "PARTNO A\nL1=LINE/0,0,1,0\nL2=LINE/2,0,2,1\nFEDRAT/1\nFROM/-1,0\nGOTO/0,0\nTLLFT\nGOFWD/L1,TO,L2\nFINI\n") ≡
-    written (before (at 0 0 0) ++ cut 8 across sides.Left (pos 1) up stops.To (at 200000 0 0) ++ settings_with 9 notes.Fini)
+    written (before (at 0 0 0) ++ cut 8 across sides.Left (pos 1) up stops.To (at 200000 0 0) ++ note_at 9 notes.Fini)
 unfolding root word_of expression shape pair three four coordinates surfaces execution deed_of motion_at start_up_at
 forward = refl
 
 -- a tool word before a contour, and TO where no stop is named
 forward_by_the_stop_alone : records_of (codes "PARTNO A\nL1=LINE/0,0,1,0\nL2=LINE/2,0,2,1\nFEDRAT/1\nFROM/-1,0\nGOTO/0,0\nTLRGT,GOFWD/L1,L2\nFINI\n") ≡
-    written (before (at 0 0 0) ++ cut 7 across sides.Right (pos 1) up stops.To (at 200000 0 0) ++ settings_with 8 notes.Fini)
+    written (before (at 0 0 0) ++ cut 7 across sides.Right (pos 1) up stops.To (at 200000 0 0) ++ note_at 8 notes.Fini)
 unfolding root word_of expression shape pair three four coordinates surfaces execution deed_of motion_at start_up_at
 forward_by_the_stop_alone = refl
 
 back : records_of (codes "PARTNO A\nL1=LINE/0,0,1,0\nL2=LINE/2,0,2,1\nFEDRAT/1\nFROM/-1,0\nGOTO/3,0\nTLRGT\nGOBACK/L1,TO,L2\nFINI\n") ≡
-    written (before (at 300000 0 0) ++ cut 8 across sides.Right (neg_ℤ (pos 1)) up stops.To (at 200000 0 0) ++ settings_with 9 notes.Fini)
+    written (before (at 300000 0 0) ++ cut 8 across sides.Right (neg_ℤ (pos 1)) up stops.To (at 200000 0 0) ++ note_at 9 notes.Fini)
 unfolding root word_of expression shape pair three four coordinates surfaces execution deed_of motion_at start_up_at
 back = refl
 
 abbrev onto : List Record
-onto = titled ++ settings_with 4 (notes.Fedrat (pos 10)) ++ reached 5 reaches.From (position_at (pos 200000) (neg_ℤ (pos 100000)) (pos 0)) ++ reached 6 reaches.Goto (at 200000 0 0)
+onto = titled ++ note_at 4 (notes.Fedrat (pos 10)) ++ reached 5 reaches.From (position_at (pos 200000) (neg_ℤ (pos 100000)) (pos 0)) ++ reached 6 reaches.Goto (at 200000 0 0)
 
 to_the_left : records_of (codes "PARTNO A\nL1=LINE/0,0,1,0\nL2=LINE/0,0,0,1\nFEDRAT/1\nFROM/2,-1\nGOTO/2,0\nTLLFT\nGOLFT/L1,PAST,L2\nFINI\n") ≡
-    written (onto ++ cut 8 across sides.Left (neg_ℤ (pos 1)) (line (pos 0) (pos 0) (pos 0) (pos 100000)) stops.Past (at 0 0 0) ++ settings_with 9 notes.Fini)
+    written (onto ++ cut 8 across sides.Left (neg_ℤ (pos 1)) (line (pos 0) (pos 0) (pos 0) (pos 100000)) stops.Past (at 0 0 0) ++ note_at 9 notes.Fini)
 unfolding root word_of expression shape pair three four coordinates surfaces execution deed_of motion_at start_up_at
 to_the_left = refl
 
 to_the_right : records_of (codes "PARTNO A\nL1=LINE/0,0,1,0\nL2=LINE/4,0,4,1\nFEDRAT/1\nFROM/2,-1\nGOTO/2,0\nTLRGT\nGORGT/L1,PAST,L2\nFINI\n") ≡
-    written (onto ++ cut 8 across sides.Right (pos 1) (line (pos 400000) (pos 0) (pos 0) (pos 100000)) stops.Past (at 400000 0 0) ++ settings_with 9 notes.Fini)
+    written (onto ++ cut 8 across sides.Right (pos 1) (line (pos 400000) (pos 0) (pos 0) (pos 100000)) stops.Past (at 400000 0 0) ++ note_at 9 notes.Fini)
 unfolding root word_of expression shape pair three four coordinates surfaces execution deed_of motion_at start_up_at
 to_the_right = refl
 
 start_up : records_of (codes "PARTNO A\nCUTTER/2\nL1=LINE/0,0,1,0\nL2=LINE/0,0,0,1\nFEDRAT/1\nFROM/5,5,1\nGO/TO,L1,PAST,L2\nFINI\n") ≡
-    written (titled ++ settings_with 2 (notes.Cutter (pos 200000)) ++ settings_with 5 (notes.Fedrat (pos 10)) ++ reached 6 reaches.From (at 500000 500000 100000) ++ reached 7 reaches.Start (position_at (neg_ℤ (pos 100000)) (pos 100000) (pos 100000)) ++ settings_with 8 notes.Fini)
+    written (titled ++ note_at 2 (notes.Cutter (pos 200000)) ++ note_at 5 (notes.Fedrat (pos 10)) ++ reached 6 reaches.From (at 500000 500000 100000) ++ reached 7 reaches.Start (position_at (neg_ℤ (pos 100000)) (pos 100000) (pos 100000)) ++ note_at 8 notes.Fini)
 unfolding root word_of expression shape pair three four coordinates surfaces execution deed_of motion_at start_up_at
 start_up = refl
 

@@ -26,7 +26,7 @@ use Rattle.apt_meaning.specs.declared.effect.Effect.TheVariants as effects
 use Rattle.apt_meaning.specs.Situations.{has_feed, lacks_feed, settings_behind}
 use Rattle.apt_meaning.specs.Effects.{effect_of}
 use Rattle.apt_meaning.specs.Refusals.{refusal_of, cases_of}
-use Rattle.apt_meaning.specs.Records.{with_statement, said, records_of, after}
+use Rattle.apt_meaning.specs.Records.{with_statement, effect_records, records_of, after}
 use Rattle.apt_meaning.specs.Compiled.{ends_of, with_front, compilation}
 use Rattle.apt_meaning.specs.Ranges.{IsSituation}
 use Rattle.apt_scalar.specs.StepScalars.{AreScalars}
@@ -143,8 +143,8 @@ nothing_written p s t agrees room f r =
     record { can = tt; agrees = record { feed = agrees.feed ∙ sym f; rapid = agrees.rapid ∙ sym r }; room = record { most = subst (λ (g : ℤ). g ≤ℤ pos 9999) (sym f) room.most } }
 
 said_written : (machine : Machine) (p : Pending) (at : Situation) (deed : Deed) (e : Effect) (vertices : List Pt) → IsMachine machine → Agrees p at.settings → HasRoom at.settings
-    → first_of (machine_cases machine deed) ≡ None → IsSaidBy at deed e → IsFed at.settings e → AreRecords (said e vertices)
-    → Leaves p (said e vertices) (after at e vertices).settings
+    → first_of (machine_cases machine deed) ≡ None → IsSaidBy at deed e → IsFed at.settings e → AreRecords (effect_records e vertices)
+    → Leaves p (effect_records e vertices) (after at e vertices).settings
 said_written machine p at deed (effects.Defines n f) vertices is agrees room takes says on in_range = nothing_written p at.settings at.settings agrees room refl refl
 said_written machine p at deed (effects.Sets s None) vertices is agrees room takes says on in_range =
     nothing_written p at.settings s agrees room (ap (λ (t : Settings). t.feed) says.settings) (ap (λ (t : Settings). t.rapid) says.settings)
@@ -152,7 +152,7 @@ said_written machine p at deed (effects.Sets s (Some note)) vertices is agrees r
     subst (Leaves p (records.Note note ∷ [])) (sym says.settings) (note_written machine p at.settings deed note is agrees room takes says.said)
 said_written machine p at deed (effects.Moves reach to) vertices is agrees room takes says on in_range = moved p at.settings reach to agrees room in_range.0 on
 said_written machine p at deed (effects.Cuts m) vertices is agrees room takes says on in_range =
-    record { can = (tt, (tt, (written_cuts p at.settings _ agrees room in_range.1.1.0 on, tt))); agrees = record { feed = agrees.feed; rapid = agrees.rapid }; room = record { most = room.most } }
+    record { can = (tt, (tt, (written_cuts p at.settings _ agrees room in_range.1.1.0.1 on, tt))); agrees = record { feed = agrees.feed; rapid = agrees.rapid }; room = record { most = room.most } }
 
 statement_written : (p : Pending) (step : Step) (rs : List Record) (s : Settings) → Leaves p rs s → Leaves p (with_statement step rs) s
 statement_written p step [] s leaves = leaves
@@ -178,9 +178,9 @@ compiled_written machine p at (step ∷ steps) written is agrees room good numbe
     let takes = taken step (first_of (machine_cases machine step.deed)) (limits machine steps) within in
     let ok = fit (effect_of at step.deed) e d.asked (answered at step.deed good numbers.0 d.fine) in
     let f = front_ok (records_of step e (ends_of e)) (compilation (after at e (ends_of e)) steps) written d.rest in
-    let leaves = statement_written p step (said e (ends_of e)) (after at e (ends_of e)).settings
+    let leaves = statement_written p step (effect_records e (ends_of e)) (after at e (ends_of e)).settings
     (said_written machine p at step.deed e (ends_of e) is agrees room takes.0 (said_by at step.deed e d.asked) (fed at step.deed e d.asked (first_none (cases_of at step.deed) d.fine))
-    (without_statement step (said e (ends_of e)) (records_in step e (ends_of e) ok.good ok.ends))) in
+    (without_statement step (effect_records e (ends_of e)) (records_in step e (ends_of e) ok.good ok.ends))) in
     let more = compiled_written machine (pending_behind p (records_of step e (ends_of e))) (after at e (ends_of e)) steps f.0 is leaves.agrees leaves.room
     (kept at e (ends_of e) good ok.good ok.ends) numbers.1 takes.1 f.1 in
     rw f.2 (written-append p (records_of step e (ends_of e)) f.0 leaves.can more)

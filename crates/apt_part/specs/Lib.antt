@@ -1,2 +1,3 @@
-pub mod Parts
+pub mod Compilation
+pub mod Answering
 pub mod Promise

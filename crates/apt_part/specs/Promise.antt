@@ -1,32 +1,44 @@
--- What holds of the acts that a text makes.
+-- What holds of the steps of a text and of their records.
 use Rattle.std.specs.Prelude.{◌≡◌, ℕ, List, None, Ok}
 use Rattle.apt_words.specs.declared.body.Stmt.{Stmt}
 use Rattle.apt_words.specs.declared.deed.Step.{Step}
+use Rattle.apt_words.specs.Built.{AreBuiltSteps}
+use Rattle.apt_words.specs.Sources.{AreExecuted}
 use Rattle.apt_parse.specs.Programs.{program_of}
+use Rattle.apt_scalar.specs.StepScalars.{AreScalars}
 use Rattle.apt_unroll.specs.Trace.{trace_of}
-use Rattle.apt_cldata.specs.declared.record.Record.{Record}
+use Rattle.apt_cldata.specs.Files.{IsFile}
 use Rattle.apt_meaning.specs.declared.situation.Situation.{Situation}
 use Rattle.apt_meaning.specs.Situations.{first_situation}
+use Rattle.apt_meaning.specs.Compiled.{compilation}
 use Rattle.apt_meaning.specs.Records.{FollowsLegally, stand_of}
 use Rattle.apt_machine.specs.declared.Machine.{Machine}
 use Rattle.apt_post.specs.Limits.{limits}
-use Rattle.apt_post.specs.Plan.{plan, segments, positions, points}
+use Rattle.apt_post.specs.Plan.{plan, positions, points}
 use Rattle.apt_post.specs.Blocks.{IsProgram}
-use Rattle.apt_part.specs.Parts.{Made}
+use Rattle.apt_part.specs.Compilation.{Compiled}
 
--- the acts are the plan of records that follow the steps of the text's statements, every contour legal and no step past the machine's
--- limits; the acts lead where the records lead, the records leave the tool where the steps have it, and the acts are a program of a control
-pub record Promise (machine : Machine) (text : List ℕ) (m : Made) : Type 0 where
+-- these are the steps of a text, all of them, and no case and no limit of the machine refuses one
+pub record Passes (machine : Machine) (text : List ℕ) (p : Compiled) : Type 0 where
   pub statements : List Stmt
   pub read : program_of text ≡ Ok statements
-  pub steps : List Step
-  pub unrolled : trace_of statements ≡ record { steps = steps; fault = None }
-  pub within : limits machine steps ≡ None
-  pub written : List Record
+  pub unrolled : trace_of statements ≡ record { steps = p.steps; fault = None }
+  pub within : limits machine p.steps ≡ None
+  pub compiled : compilation first_situation p.steps ≡ Ok p.records
+
+-- the records follow the steps, every contour legal; they leave the tool where the steps have it, and are those of a CL file; the acts that
+-- they ask for lead where they lead, and are a program of a control
+pub record Promise (machine : Machine) (text : List ℕ) (p : Compiled) : Type 0 where
+  pub passes : Passes machine text p
   pub behind : Situation
-  pub follow : FollowsLegally first_situation steps written behind
-  pub planned : m.0 ≡ plan written
-  pub counted : m.1 ≡ segments written
-  pub reached : positions m.0 ≡ points written
-  pub stands : stand_of None written ≡ behind.position
-  pub program : IsProgram m.0
+  pub follow : FollowsLegally first_situation p.steps p.records behind
+  pub stands : stand_of None p.records ≡ behind.position
+  pub file : IsFile p.records
+  pub reached : positions (plan p.records) ≡ points p.records
+  pub program : IsProgram (plan p.records)
+
+-- what the crates below know of steps
+pub record AreSteps (steps : List Step) : Type 0 where
+  pub scalars : AreScalars steps
+  pub built : AreBuiltSteps steps
+  pub sources : AreExecuted steps

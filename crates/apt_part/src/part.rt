@@ -1,7 +1,8 @@
 //! Parts.
 
-ghost use Rattle.std.specs.Prelude.{◌≡◌, IfOk};
+ghost use Rattle.std.specs.Prelude.{IfOk};
 ghost use Rattle.apt_words.specs.Built.{AreBuilt, AreBuiltSteps};
+ghost use Rattle.apt_words.specs.Sources.{AreStmts, AreExecuted};
 ghost use Rattle.apt_scalar.specs.StepScalars.{AreScalars};
 ghost use Rattle.apt_unroll.specs.Trace.{trace_of};
 ghost use Rattle.apt_meaning.specs.Situations.{first_situation};
@@ -9,21 +10,37 @@ ghost use Rattle.apt_meaning.specs.Compiled.{compilation};
 ghost use Rattle.apt_motion.specs.Ends.{Ends};
 ghost use Rattle.apt_machine.specs.Machines.{IsMachine};
 ghost use Rattle.apt_post.specs.Limits as limiting;
-ghost use Rattle.apt_post.specs.Blocks.{IsProgram};
-ghost use Rattle.apt_part.specs.Parts as parts;
-ghost use Rattle.apt_part.specs.Promise.{Promise};
+ghost use Rattle.apt_part.specs.Compilation as parts;
+ghost use Rattle.apt_part.specs.Answering.{IsPart, IsPartBy};
+ghost use Rattle.apt_part.specs.Promise.{Promise, AreSteps};
 
 use apt_cldata::Record;
 use apt_lexis::{ParseError, PartCause};
 use apt_machine::Machine;
 use apt_motion::{RunError, run};
 use apt_parse::parse;
-use apt_post::{Planned, limits, plan};
+use apt_post::limits;
 use apt_unroll::unroll;
 use apt_words::{Program, Refusal, Step};
 use std::alloc::Global;
+use std::marker::Model;
 
-/// Why a part has no acts: the first fault of its text with its line, the first refused step, or want of memory.
+/// The steps of a part program, and the records that they ask for. Clauses see the two lists.
+#[derive(Drop)]
+pub struct Part {
+    pub steps: Vec<Step>,
+    pub records: Vec<Record>,
+}
+
+impl Model for Part {
+    ghost use Rattle.apt_part.specs.Compilation.{Compiled};
+
+    ghost Value = { Compiled };
+
+    ghost view = { λ p. record { steps = p.steps.items; records = p.records.items } };
+}
+
+/// Why a part has no records: the first fault of its text with its line, the first refused step, or want of memory.
 #[derive(Drop)]
 pub enum PartError {
     Bad { line: u32, cause: PartCause },
@@ -31,73 +48,66 @@ pub enum PartError {
     NoMemory,
 }
 
-/// The acts that a text makes on a machine, and the number of contour segments among them.
+/// The part of a text on a machine: its steps, and their records.
 ///
 /// # Errors
 ///
 /// `Bad` is the first fault of the text, and else `Refused` the first step that is refused.
-#[tactic(auto, using(crate::proofs::Promised::promised, crate::proofs::Promised::programmed))]
-pub fn made(alloc: Global, text: &[u8], machine: &Machine) -> Result<Planned, PartError>
+#[tactic(auto, using(crate::proofs::Promised::promised, crate::proofs::Promised::are_steps))]
+pub fn part_of(alloc: Global, text: &[u8], machine: &Machine) -> Result<Part, PartError>
     requires { IsMachine machine.now }
-    ensures value { parts.Answers (parts.made_of machine.now text.now) result }
-    ensures promise { IfOk result (λ p. Promise machine.now text.now (parts.made_in p)) }
-    ensures program { IfOk result (λ p. IsProgram p.acts.items) }
+    ensures value { IsPart (parts.part_of machine.now text.now) result }
+    ensures promise { IfOk result (λ p. Promise machine.now text.now p) }
+    ensures steps { IfOk result (λ p. AreSteps p.steps) }
 {
-    made_all(alloc, text, machine)
+    whole_part(alloc, text, machine)
 }
 
-fn made_all(alloc: Global, text: &[u8], machine: &Machine) -> Result<Planned, PartError>
-    ensures { parts.Answers (parts.made_of machine.now text.now) result }
+fn whole_part(alloc: Global, text: &[u8], machine: &Machine) -> Result<Part, PartError>
+    ensures { IsPart (parts.part_of machine.now text.now) result }
 {
     let program = match parse(alloc, text) {
         Ok(program) => program,
         Err(ParseError::Bad { line, cause }) => return Err(PartError::Bad { line, cause }),
         Err(ParseError::NoMemory) => return Err(PartError::NoMemory),
     };
-    match planned(alloc, &program, machine) {
-        Ok(planned) => Ok(planned),
+    match part_by(alloc, &program, machine) {
+        Ok(part) => Ok(part),
         Err(RunError::Refused(refusal)) => Err(PartError::Refused(refusal)),
         Err(RunError::NoMemory) => Err(PartError::NoMemory),
     }
 }
 
-/// What statements make, or the first refused step.
-fn planned(alloc: Global, program: &Program, machine: &Machine) -> Result<Planned, RunError>
-    requires { AreBuilt program.now }
-    ensures { parts.Plans (parts.statements_make machine.now program.now) result }
-{
-    let records = records_of(alloc, program, machine)?;
-    match plan(alloc, &records) {
-        Ok(planned) => Ok(planned),
-        Err(_) => Err(RunError::NoMemory),
-    }
-}
-
-/// The records of statements, or the first refused step.
-fn records_of(alloc: Global, program: &Program, machine: &Machine) -> Result<Vec<Record>, RunError>
-    requires { AreBuilt program.now }
-    ensures { Ends (parts.records_by machine.now (trace_of program.now)) result }
+/// What statements come to, or the first refused step.
+fn part_by(alloc: Global, program: &Program, machine: &Machine) -> Result<Part, RunError>
+    requires built { AreBuilt program.now }
+    requires sources { AreStmts program.now }
+    ensures { IsPartBy (parts.part_by machine.now program.now) result }
 {
     let Ok(unrolled) = unroll(alloc, program) else {
         return Err(RunError::NoMemory);
     };
-    let written = recorded(alloc, &unrolled.steps, machine)?;
+    let records = records_of(alloc, &unrolled.steps, machine)?;
     match unrolled.fault {
-        None => Ok(written),
+        None => Ok(Part {
+            steps: unrolled.steps,
+            records,
+        }),
         Some(fault) => Err(RunError::Refused(fault)),
     }
 }
 
 /// The records of steps, or the first that its own cases or the machine refuse.
-fn recorded(alloc: Global, steps: &[Step], machine: &Machine) -> Result<Vec<Record>, RunError>
+fn records_of(alloc: Global, steps: &[Step], machine: &Machine) -> Result<Vec<Record>, RunError>
     requires scalars { AreScalars steps.now }
     requires built { AreBuiltSteps steps.now }
+    requires sources { AreExecuted steps.now }
     ensures { Ends (parts.earlier (limiting.limits machine.now steps.now) (compilation first_situation steps.now)) result }
 {
     let past = limits(steps, machine);
     match run(alloc, steps) {
-        Ok(written) => match past {
-            None => Ok(written),
+        Ok(records) => match past {
+            None => Ok(records),
             Some(past) => Err(RunError::Refused(past)),
         },
         Err(RunError::Refused(own)) => Err(RunError::Refused(earliest(past, own))),

@@ -1,5 +1,5 @@
 -- A control runs the tape of acts to just these acts.
-use Rattle.std.specs.Prelude.{◌≡◌, ◌⊎◌, ℕ, ◌+◌, ◌&&◌, Bool, true, List, [], ◌∷◌, ◌++◌, length, Ok}
+use Rattle.std.specs.Prelude.{◌≡◌, ◌⊎◌, ℕ, ◌+◌, ◌&&◌, Bool, true, false, List, [], ◌∷◌, ◌++◌, length, Ok}
 use Rattle.std.specs.List.{list_all, flat_map}
 use Rattle.std.proofs.Common.{ap, sym, subst, ◌∙◌, refl, arith, inl, inr, append_assoc}
 use Rattle.std.proofs.lemmas.Bool.{and_parts}
@@ -9,11 +9,13 @@ use Rattle.apt_words.specs.declared.Units.{Units}
 use Rattle.apt_machine.specs.declared.Machine.{Machine}
 use Rattle.apt_block.specs.declared.block.TapeWord.{TapeWord}
 use Rattle.apt_block.specs.declared.block.TapeCause.TheVariants as causes
-use Rattle.apt_block.specs.Block.{Fault, marks, spelling, word_text, line_feed, is_word_character, IsBlock}
+use Rattle.apt_block.specs.declared.block.Fault.{Fault}
+use Rattle.apt_block.specs.Block.{fault, marks, spelling, word_text, line_feed, is_word_character, IsBlock}
 use Rattle.apt_block.proofs.Reading.{block_of-spelling, word_characters}
 use Rattle.apt_control.specs.declared.Act.{Act}
 use Rattle.apt_control.specs.declared.Act.TheVariants as acts
-use Rattle.apt_control.specs.Control.{Held, nothing_held, fault, texts, run, control_run}
+use Rattle.apt_control.specs.declared.held.Held.{Held}
+use Rattle.apt_control.specs.Control.{meaning, nothing_held, texts, run, control_run}
 use Rattle.apt_tapecode.specs.Tapecode.{is_tape_character}
 use Rattle.apt_control.proofs.Punched.{is_within, texts-text}
 use Rattle.apt_control.proofs.Steps.{run-block, run-end, control_run-punched}
@@ -94,32 +96,32 @@ cut_at place = fault place causes.Truncated
 
 -- acts from anywhere on, where the units are known
 abbrev Runs : ℕ → ℕ → List Act → Type 0
-Runs place step more = (at k : ℕ) (held : Held) (u : Units) → run (with_units held u) (cut_at place) (texts (marks at (acts_text step k more))) ≡ Ok more
+Runs place step more = (at k : ℕ) (held : Held) (u : Units) → run meaning (with_units held u) (cut_at place) (texts (marks at (acts_text step k more))) ≡ Ok more
 
 run-act : (place step at k : ℕ) (held : Held) (act : Act) (more : List Act) → CanWrite act → Means held (act_block step k act) act → Runs place step more
-    → run held (cut_at place) (texts (marks at (acts_text step k (act ∷ more)))) ≡ Ok (act ∷ more)
+    → run meaning held (cut_at place) (texts (marks at (acts_text step k (act ∷ more)))) ≡ Ok (act ∷ more)
 run-act place step at k held act more can means rest =
     let words = act_block step k act in
     let is : IsBlock words = act_block-IsBlock step k act can in
-    ap (run held (cut_at place)) (texts-block at words (acts_text step (k + 1) more) is)
-    ∙ run-block held (cut_at place) (marks at (spelling words)) (texts (marks (at + length (flat_map word_text words) + 1) (acts_text step (k + 1) more))) words
-    (record { held = with_units means.now means.units; acts = act ∷ [] }) more
-    (block_of-spelling (cut_at place) at words is) means.means means.goes_on (rest _ (k + 1) means.now means.units)
+    ap (run meaning held (cut_at place)) (texts-block at words (acts_text step (k + 1) more) is)
+    ∙ run-block meaning held (cut_at place) (marks at (spelling words)) (texts (marks (at + length (flat_map word_text words) + 1) (acts_text step (k + 1) more))) words
+    (record { held = with_units means.now means.units; acts = act ∷ []; ends = false }) more
+    (block_of-spelling (cut_at place) at words is) (means.means _) refl (rest _ (k + 1) means.now means.units)
 
-run-last : (place step at k : ℕ) (held : Held) → run held (cut_at place) (texts (marks at (acts_text step k (acts.End ∷ [])))) ≡ Ok (acts.End ∷ [])
+run-last : (place step at k : ℕ) (held : Held) → run meaning held (cut_at place) (texts (marks at (acts_text step k (acts.End ∷ [])))) ≡ Ok (acts.End ∷ [])
 run-last place step at k held =
     let words = act_block step k acts.End in
     let is : IsBlock words = act_block-IsBlock step k acts.End tt in
     let ends = end_block-ends held step k in
-    ap (run held (cut_at place)) (texts-block at words [] is)
-    ∙ run-end held place (marks at (spelling words)) words (record { held = ends.now; acts = acts.End ∷ [] })
-    (block_of-spelling (cut_at place) at words is) ends.means ends.ends
+    ap (run meaning held (cut_at place)) (texts-block at words [] is)
+    ∙ run-end meaning held place (marks at (spelling words)) words (record { held = ends.now; acts = acts.End ∷ []; ends = true })
+    (block_of-spelling (cut_at place) at words is) (ends.means _) refl
 
 acts-run : (place step : ℕ) (done : List Act) → ToTheEnd done → Runs place step done
 acts-run place step [] is at k held u = absurd is
 acts-run place step (act ∷ more) is at k held u =
     elim (first_act act more is) [
-      | inl end ↦ subst (λ done. run (with_units held u) (cut_at place) (texts (marks at (acts_text step k done))) ≡ Ok done) (sym end) (run-last place step at k (with_units held u))
+      | inl end ↦ subst (λ done. run meaning (with_units held u) (cut_at place) (texts (marks at (acts_text step k done))) ≡ Ok done) (sym end) (run-last place step at k (with_units held u))
       | inr goes_on ↦ run-act place step at k (with_units held u) act more goes_on.0 (act_block-means held u step k act goes_on.0 goes_on.1) (acts-run place step more goes_on.2)
     ]
 

@@ -5,7 +5,8 @@ use Rattle.apt_words.specs.declared.Units.TheVariants.{Inch, Mm}
 use Rattle.apt_words.specs.declared.Turn.TheVariants as turns
 use Rattle.apt_words.specs.declared.Cool.TheVariants as coolants
 use Rattle.apt_block.specs.declared.block.TapeWord.{TapeWord}
-use Rattle.apt_block.specs.Block.{Form, form, forms, Fits, CanStand, IsBlock, code_fault, letter_n, letter_g, letter_x, letter_y, letter_z, letter_f, letter_s, letter_t, letter_m}
+use Rattle.apt_block.specs.declared.table.Form.{Form}
+use Rattle.apt_block.specs.Block.{form, forms, Fits, CanStand, IsBlock, code_fault, letter_n, letter_g, letter_x, letter_y, letter_z, letter_f, letter_s, letter_t, letter_m}
 use Rattle.apt_control.specs.declared.Act.{Act}
 use Rattle.apt_control.specs.declared.Act.TheVariants as acts
 use Rattle.apt_post.specs.Blocks.{g, act_words, act_block, CanWrite, IsCoordinate, IsUpTo}
@@ -19,13 +20,13 @@ tail_of (f ∷ fs) = fs
 abbrev later : List Form
 later = tail_of forms
 
-fits_code : (letter c : ℕ) → c ≤ 99 → Fits (form letter 2 false 0 99) (pos c)
+fits_code : (letter c : ℕ) → c ≤ 99 → Fits (form letter 2 2 false 0 99) (pos c)
 fits_code letter c small = record { sign = refl; least = omega arith; most = small }
 
-fits_coordinate : (letter : ℕ) (v : ℤ) → IsCoordinate v → Fits (form letter 8 true 0 50000000) v
+fits_coordinate : (letter : ℕ) (v : ℤ) → IsCoordinate v → Fits (form letter 8 8 true 0 50000000) v
 fits_coordinate letter v small = record { sign = tt; least = omega arith; most = small }
 
-fits_number : (letter digits most : ℕ) (v : ℤ) → IsUpTo most v → Fits (form letter digits false 1 most) v
+fits_number : (letter digits most : ℕ) (v : ℤ) → IsUpTo most v → Fits (form letter digits digits false 1 most) v
 fits_number letter digits most v is = record { sign = is.0; least = is.1; most = is.2 }
 
 -- a number in front changes nothing of the G codes that can stand

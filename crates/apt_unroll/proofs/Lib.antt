@@ -2,4 +2,5 @@ pub mod Suits
 pub mod Numbers
 pub mod Building
 pub mod Endings
+pub mod Executed
 mod Worked

@@ -1,9 +1,10 @@
--- What holds of each deed that a statement gives: its numbers are scalars, it is Fini where the statement is FINI, and it is built where the statement is, which is then not refused as unbuilt.
+-- What holds of each deed that a statement gives: its numbers are scalars, it is Fini where the statement is FINI, it has the statement's text, and it is built where the statement is, which is then not refused as unbuilt.
 use Rattle.std.proofs.Common.{◌≡◌, ◌≢◌, ℕ, refl, ◌∙◌, Bool, true, false, Option, Some, None, Result, Ok, Err, List}
 use Rattle.std.specs.Prelude.{ℤ, IsTrue, IfOk, if◌then◌else◌}
 use Rattle.apt_words.specs.Built.{is_start_built, is_built, IsBuilt}
 use Rattle.apt_words.specs.Chains.{◌>>=◌}
 use Rattle.apt_words.specs.ProgramEnds.{is_fini}
+use Rattle.apt_words.specs.Sources.{HasText, DeedHasText}
 use Rattle.apt_words.specs.Trees.{Tree}
 use Rattle.apt_words.specs.declared.Case.{Case}
 use Rattle.apt_words.specs.declared.Case.TheVariants as cases
@@ -26,7 +27,10 @@ is_end deeds.Fini = true
 is_end _ = false
 
 abbrev pub Suits : Body → Deed → Type 0
-Suits body deed = HasScalars deed × (is_end deed ≡ is_fini body) × (IsTrue (is_built body) → IsBuilt deed)
+Suits body deed = HasScalars deed × (is_end deed ≡ is_fini body) × (HasText body → DeedHasText deed) × (IsTrue (is_built body) → IsBuilt deed)
+
+plain : {A : Type 0} → A → Unit {0}
+plain _ = tt
 
 no : {A : Type 0} → IsTrue false → A
 no built = absurd (cc)
@@ -117,8 +121,8 @@ surfaces-start ps q s other =
 
 by_points-suits : (n : List ℕ) (x y z : Tree) (points : Option (List ℕ × List ℕ × List ℕ)) (numbers : Result (ℤ × ℤ × ℤ) Case)
     → Tells AreThree numbers → Gives (bodies.CircleThree n x y z) (by_points_or_centre n points numbers)
-by_points-suits n x y z (Some points) numbers are = (tt, refl, no)
-by_points-suits n x y z None numbers are = then_gives AreThree (bodies.CircleThree n x y z) numbers _ are (λ r h. (h, refl, no))
+by_points-suits n x y z (Some points) numbers are = (tt, refl, plain, no)
+by_points-suits n x y z None numbers are = then_gives AreThree (bodies.CircleThree n x y z) numbers _ are (λ r h. (h, refl, plain, no))
 
 circle_three-suits : (names : Names) (ps : Parameters) (n : List ℕ) (x y z : Tree) → Gives (bodies.CircleThree n x y z) (circle_three names ps n x y z)
 unfolding circle_three
@@ -138,50 +142,50 @@ by_pair body ps a b f h = then_gives Any body (pair ps a b) f (pair-tells ps a b
 
 execution-suits : (names : Names) (ps : Parameters) (body : Body) → Gives body (execution names ps body)
 unfolding execution
-execution-suits names ps (bodies.Partno text) = (tt, refl, λ _. tt)
-execution-suits names ps (bodies.Remark text) = (tt, refl, λ _. tt)
-execution-suits names ps (bodies.Units units) = (tt, refl, λ _. tt)
-execution-suits names ps bodies.Clprnt = (tt, refl, λ _. tt)
-execution-suits names ps bodies.Nopost = (tt, refl, λ _. tt)
-execution-suits names ps (bodies.Machin es) = (tt, refl, λ _. tt)
-execution-suits names ps (bodies.Assign n e) = by_value (bodies.Assign n e) names ps e _ (λ v h. (h, refl, λ _. tt))
-execution-suits names ps (bodies.PointXy n x y z) = then_gives AreCoordinates (bodies.PointXy n x y z) (coordinates names ps x y z) _ (coordinates-scalars names ps x y z) (λ r h. (h, refl, no))
-execution-suits names ps (bodies.PointLines n a b) = by_pair (bodies.PointLines n a b) ps a b _ (λ r. (tt, refl, no))
-execution-suits names ps (bodies.PointPick n k a b) = by_pair (bodies.PointPick n k a b) ps a b _ (λ r. (tt, refl, no))
-execution-suits names ps (bodies.PointCenter n c) = by_name (bodies.PointCenter n c) ps c _ (λ c. (tt, refl, no))
-execution-suits names ps (bodies.LineXy n x y u v) = then_gives AreFour (bodies.LineXy n x y u v) (four names ps x y u v) _ (four-scalars names ps x y u v) (λ r h. (h, refl, λ _. tt))
-execution-suits names ps (bodies.LinePoints n p q) = by_pair (bodies.LinePoints n p q) ps p q _ (λ r. (tt, refl, no))
-execution-suits names ps (bodies.LinePar n p l) = by_pair (bodies.LinePar n p l) ps p l _ (λ r. (tt, refl, no))
-execution-suits names ps (bodies.LinePerp n p l) = by_pair (bodies.LinePerp n p l) ps p l _ (λ r. (tt, refl, no))
-execution-suits names ps (bodies.LineAt n l k e) = then_gives (λ r. IsScalar r.0) (bodies.LineAt n l k e) (value_and_name names ps e l) _ (value_and_name-scalar names ps e l) (λ r h. (h, refl, no))
-execution-suits names ps (bodies.LineTan n p h c) = by_pair (bodies.LineTan n p h c) ps p c _ (λ r. (tt, refl, no))
-execution-suits names ps (bodies.LineTwo n h c k d) = by_pair (bodies.LineTwo n h c k d) ps c d _ (λ r. (tt, refl, no))
+execution-suits names ps (bodies.Partno text) = (tt, refl, (λ h. h), λ _. tt)
+execution-suits names ps (bodies.Remark text) = (tt, refl, plain, λ _. tt)
+execution-suits names ps (bodies.Units units) = (tt, refl, plain, λ _. tt)
+execution-suits names ps bodies.Clprnt = (tt, refl, plain, λ _. tt)
+execution-suits names ps bodies.Nopost = (tt, refl, plain, λ _. tt)
+execution-suits names ps (bodies.Machin es) = (tt, refl, plain, λ _. tt)
+execution-suits names ps (bodies.Assign n e) = by_value (bodies.Assign n e) names ps e _ (λ v h. (h, refl, plain, λ _. tt))
+execution-suits names ps (bodies.PointXy n x y z) = then_gives AreCoordinates (bodies.PointXy n x y z) (coordinates names ps x y z) _ (coordinates-scalars names ps x y z) (λ r h. (h, refl, plain, no))
+execution-suits names ps (bodies.PointLines n a b) = by_pair (bodies.PointLines n a b) ps a b _ (λ r. (tt, refl, plain, no))
+execution-suits names ps (bodies.PointPick n k a b) = by_pair (bodies.PointPick n k a b) ps a b _ (λ r. (tt, refl, plain, no))
+execution-suits names ps (bodies.PointCenter n c) = by_name (bodies.PointCenter n c) ps c _ (λ c. (tt, refl, plain, no))
+execution-suits names ps (bodies.LineXy n x y u v) = then_gives AreFour (bodies.LineXy n x y u v) (four names ps x y u v) _ (four-scalars names ps x y u v) (λ r h. (h, refl, plain, λ _. tt))
+execution-suits names ps (bodies.LinePoints n p q) = by_pair (bodies.LinePoints n p q) ps p q _ (λ r. (tt, refl, plain, no))
+execution-suits names ps (bodies.LinePar n p l) = by_pair (bodies.LinePar n p l) ps p l _ (λ r. (tt, refl, plain, no))
+execution-suits names ps (bodies.LinePerp n p l) = by_pair (bodies.LinePerp n p l) ps p l _ (λ r. (tt, refl, plain, no))
+execution-suits names ps (bodies.LineAt n l k e) = then_gives (λ r. IsScalar r.0) (bodies.LineAt n l k e) (value_and_name names ps e l) _ (value_and_name-scalar names ps e l) (λ r h. (h, refl, plain, no))
+execution-suits names ps (bodies.LineTan n p h c) = by_pair (bodies.LineTan n p h c) ps p c _ (λ r. (tt, refl, plain, no))
+execution-suits names ps (bodies.LineTwo n h c k d) = by_pair (bodies.LineTwo n h c k d) ps c d _ (λ r. (tt, refl, plain, no))
 execution-suits names ps (bodies.CircleThree n x y z) = circle_three-suits names ps n x y z
-execution-suits names ps (bodies.CircleRadius n p e) = then_gives (λ r. IsScalar r.0) (bodies.CircleRadius n p e) (value_and_name names ps e p) _ (value_and_name-scalar names ps e p) (λ r h. (h, refl, no))
-execution-suits names ps (bodies.CircleTan n p l) = by_pair (bodies.CircleTan n p l) ps p l _ (λ r. (tt, refl, no))
-execution-suits names ps (bodies.CircleThrough n p q) = by_pair (bodies.CircleThrough n p q) ps p q _ (λ r. (tt, refl, no))
-execution-suits names ps (bodies.CircleCorner n j a k b e) = then_gives (λ r. IsScalar r.0) (bodies.CircleCorner n j a k b e) (value_and_pair names ps e a b) _ (value_and_pair-scalar names ps e a b) (λ r h. (h, refl, no))
-execution-suits names ps (bodies.Cutter e) = by_value (bodies.Cutter e) names ps e _ (λ v h. (h, refl, λ _. tt))
-execution-suits names ps (bodies.Intol e) = by_value (bodies.Intol e) names ps e _ (λ v h. (h, refl, λ _. tt))
-execution-suits names ps (bodies.Outtol e) = by_value (bodies.Outtol e) names ps e _ (λ v h. (h, refl, λ _. tt))
-execution-suits names ps (bodies.Tool side) = (tt, refl, λ h. h)
-execution-suits names ps (bodies.FromXy x y z) = then_gives AreCoordinates (bodies.FromXy x y z) (coordinates names ps x y z) _ (coordinates-scalars names ps x y z) (λ r h. (h, refl, λ _. tt))
-execution-suits names ps (bodies.FromPoint p) = by_name (bodies.FromPoint p) ps p _ (λ p. (tt, refl, no))
-execution-suits names ps (bodies.GotoXy x y z) = then_gives AreCoordinates (bodies.GotoXy x y z) (coordinates names ps x y z) _ (coordinates-scalars names ps x y z) (λ r h. (h, refl, λ _. tt))
-execution-suits names ps (bodies.GotoPoint p) = by_name (bodies.GotoPoint p) ps p _ (λ p. (tt, refl, no))
-execution-suits names ps (bodies.Godlta x y z) = then_gives AreThree (bodies.Godlta x y z) (three names ps x y z) _ (three-scalars names ps x y z) (λ r h. (h, refl, λ _. tt))
-execution-suits names ps (bodies.GoStart q s other) = then_gives (λ r. is_start_built q r.1 ≡ is_start_built q other) (bodies.GoStart q s other) (surfaces ps s other) _ (surfaces-start ps q s other) (λ r same. (tt, refl, λ h. same ∙ h))
-execution-suits names ps (bodies.Contour side go d q c) = by_pair (bodies.Contour side go d q c) ps d c _ (λ r. (tt, refl, λ h. h))
-execution-suits names ps bodies.Rapid = (tt, refl, λ _. tt)
-execution-suits names ps bodies.Halt = (tt, refl, λ _. tt)
-execution-suits names ps bodies.OptHalt = (tt, refl, λ _. tt)
-execution-suits names ps bodies.EndWord = (tt, refl, λ _. tt)
-execution-suits names ps bodies.Fini = (tt, refl, λ _. tt)
-execution-suits names ps (bodies.Fedrat e) = by_value (bodies.Fedrat e) names ps e _ (λ v h. (h, refl, λ _. tt))
-execution-suits names ps (bodies.Spindl e turn) = by_value (bodies.Spindl e turn) names ps e _ (λ v h. (h, refl, no))
-execution-suits names ps bodies.SpindlOff = (tt, refl, no)
-execution-suits names ps (bodies.Coolnt c) = (tt, refl, no)
-execution-suits names ps (bodies.Loadtl e) = by_value (bodies.Loadtl e) names ps e _ (λ v h. (h, refl, no))
+execution-suits names ps (bodies.CircleRadius n p e) = then_gives (λ r. IsScalar r.0) (bodies.CircleRadius n p e) (value_and_name names ps e p) _ (value_and_name-scalar names ps e p) (λ r h. (h, refl, plain, no))
+execution-suits names ps (bodies.CircleTan n p l) = by_pair (bodies.CircleTan n p l) ps p l _ (λ r. (tt, refl, plain, no))
+execution-suits names ps (bodies.CircleThrough n p q) = by_pair (bodies.CircleThrough n p q) ps p q _ (λ r. (tt, refl, plain, no))
+execution-suits names ps (bodies.CircleCorner n j a k b e) = then_gives (λ r. IsScalar r.0) (bodies.CircleCorner n j a k b e) (value_and_pair names ps e a b) _ (value_and_pair-scalar names ps e a b) (λ r h. (h, refl, plain, no))
+execution-suits names ps (bodies.Cutter e) = by_value (bodies.Cutter e) names ps e _ (λ v h. (h, refl, plain, λ _. tt))
+execution-suits names ps (bodies.Intol e) = by_value (bodies.Intol e) names ps e _ (λ v h. (h, refl, plain, λ _. tt))
+execution-suits names ps (bodies.Outtol e) = by_value (bodies.Outtol e) names ps e _ (λ v h. (h, refl, plain, λ _. tt))
+execution-suits names ps (bodies.Tool side) = (tt, refl, plain, λ h. h)
+execution-suits names ps (bodies.FromXy x y z) = then_gives AreCoordinates (bodies.FromXy x y z) (coordinates names ps x y z) _ (coordinates-scalars names ps x y z) (λ r h. (h, refl, plain, λ _. tt))
+execution-suits names ps (bodies.FromPoint p) = by_name (bodies.FromPoint p) ps p _ (λ p. (tt, refl, plain, no))
+execution-suits names ps (bodies.GotoXy x y z) = then_gives AreCoordinates (bodies.GotoXy x y z) (coordinates names ps x y z) _ (coordinates-scalars names ps x y z) (λ r h. (h, refl, plain, λ _. tt))
+execution-suits names ps (bodies.GotoPoint p) = by_name (bodies.GotoPoint p) ps p _ (λ p. (tt, refl, plain, no))
+execution-suits names ps (bodies.Godlta x y z) = then_gives AreThree (bodies.Godlta x y z) (three names ps x y z) _ (three-scalars names ps x y z) (λ r h. (h, refl, plain, λ _. tt))
+execution-suits names ps (bodies.GoStart q s other) = then_gives (λ r. is_start_built q r.1 ≡ is_start_built q other) (bodies.GoStart q s other) (surfaces ps s other) _ (surfaces-start ps q s other) (λ r same. (tt, refl, plain, λ h. same ∙ h))
+execution-suits names ps (bodies.Contour side go d q c) = by_pair (bodies.Contour side go d q c) ps d c _ (λ r. (tt, refl, plain, λ h. h))
+execution-suits names ps bodies.Rapid = (tt, refl, plain, λ _. tt)
+execution-suits names ps bodies.Halt = (tt, refl, plain, λ _. tt)
+execution-suits names ps bodies.OptHalt = (tt, refl, plain, λ _. tt)
+execution-suits names ps bodies.EndWord = (tt, refl, plain, λ _. tt)
+execution-suits names ps bodies.Fini = (tt, refl, plain, λ _. tt)
+execution-suits names ps (bodies.Fedrat e) = by_value (bodies.Fedrat e) names ps e _ (λ v h. (h, refl, plain, λ _. tt))
+execution-suits names ps (bodies.Spindl e turn) = by_value (bodies.Spindl e turn) names ps e _ (λ v h. (h, refl, plain, no))
+execution-suits names ps bodies.SpindlOff = (tt, refl, plain, no)
+execution-suits names ps (bodies.Coolnt c) = (tt, refl, plain, no)
+execution-suits names ps (bodies.Loadtl e) = by_value (bodies.Loadtl e) names ps e _ (λ v h. (h, refl, plain, no))
 execution-suits names ps (bodies.Macro m parameters) = no
 execution-suits names ps bodies.Termac = no
 execution-suits names ps (bodies.Call m args) = no
@@ -206,7 +210,7 @@ pub deed_of-suits : (names : Names) (ps : Parameters) (body : Body) → IfOk (de
 deed_of-suits names ps body = suits body (deed_of names ps body) (deed_of-gives names ps body)
 
 built : (body : Body) (r : Result Deed Case) → IsTrue (is_built body) → Gives body r → Tells IsBuilt r
-built body (Ok deed) is h = h.2 is
+built body (Ok deed) is h = h.3 is
 built body (Err case) is h = h is
 
 -- a statement that is built gives a deed that is built, and is not refused as unbuilt

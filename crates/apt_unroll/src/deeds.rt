@@ -43,7 +43,6 @@ fn defines_parameter(frame: &Frame, body: &Body) -> bool
     }
 }
 
-
 /// The name that a statement defines.
 fn defined_name(body: &Body) -> Option<&Symbol>
     ensures { option_copied result ≡ deeds.defined_name body.now }

@@ -1,5 +1,6 @@
 ghost use Rattle.std.specs.Prelude.{◌≡◌, IfOk};
 ghost use Rattle.apt_words.specs.Built.{AreBuilt};
+ghost use Rattle.apt_words.specs.Sources.{AreStmts};
 
 use crate::unroll;
 use apt_words::{Body, Case, Expr, Node, Program, Refusal, Stmt, Symbol};
@@ -18,7 +19,8 @@ fn name_for(rt: &impl Abort, text: &str) -> Expr {
 }
 
 fn on(line: u32, body: Body) -> Stmt
-    ensures { result.body ≡ body }
+    ensures line { result.line ≡ line }
+    ensures body { result.body ≡ body }
 {
     Stmt {
         line,
@@ -29,7 +31,8 @@ fn on(line: u32, body: Body) -> Stmt
 
 /// X=.000005, CUTTER of a name, END and a motion, from line 3 on.
 fn program(alloc: Global, rt: &impl Abort, text: &str) -> Result<Program, AllocError>
-    ensures { IfOk result (λ p. AreBuilt p) }
+    ensures built { IfOk result (λ p. AreBuilt p) }
+    ensures sources { IfOk result (λ p. AreStmts p) }
 {
     let five = Expr { node: Node::Num(5) };
     let x = on(3, Body::Assign(symbol(rt, "X"), five));

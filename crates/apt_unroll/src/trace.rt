@@ -4,6 +4,7 @@ ghost use Rattle.std.specs.Prelude.{◌≡◌, ◌≢◌, ◌≤◌, [], false, 
 ghost use Rattle.apt_words.specs.Built.{AreBuilt, AreBuiltSteps};
 ghost use Rattle.apt_words.specs.ProgramEnds as endings;
 ghost use Rattle.apt_words.specs.ProgramEnds.{EndsInFini, StepsEnd};
+ghost use Rattle.apt_words.specs.Sources.{AreStmts, AreExecuted};
 ghost use Rattle.apt_words.specs.declared.Case.TheVariants as cases;
 ghost use Rattle.apt_scalar.specs.StepScalars.{AreScalars};
 ghost use Rattle.apt_unroll.specs.Trace as straight;
@@ -36,12 +37,14 @@ impl Model for Unrolled {
 }
 
 /// The steps of a program whose statements are executed in order.
-#[tactic(auto, using(crate::proofs::Numbers::are_scalars, crate::proofs::Building::are_built, crate::proofs::Building::none_unbuilt, crate::proofs::Endings::end_once))]
+#[tactic(auto, using(crate::proofs::Numbers::are_scalars, crate::proofs::Building::are_built, crate::proofs::Building::none_unbuilt, crate::proofs::Endings::end_once, crate::proofs::Executed::are_executed))]
 pub fn unroll(alloc: Global, p: &Program) -> Result<Unrolled, AllocError>
     requires built { AreBuilt p.now }
+    requires sources { AreStmts p.now }
     ensures steps { IfOk result (λ u. u ≡ straight.trace_of p.now) }
     ensures scalars { IfOk result (λ u. AreScalars u.steps) }
     ensures built { IfOk result (λ u. AreBuiltSteps u.steps) }
+    ensures sources { IfOk result (λ u. AreExecuted u.steps) }
     ensures none_unbuilt { IfOk result (λ u. IfSome u.fault (λ refusal. refusal.case ≢ cases.NotBuilt)) }
     ensures ends { EndsInFini p.now → IfOk result (λ u. u.fault ≡ None → StepsEnd false u.steps) }
 {

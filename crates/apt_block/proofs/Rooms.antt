@@ -1,0 +1,97 @@
+-- The size of a word that is begun.
+use Rattle.std.proofs.Common.{◌≡◌, ℕ, zero, suc, ◌+◌, ◌-◌, ◌*◌, ◌^◌, ◌≤◌, ◌<◌, ◌==◌, true, false, Bool, List, [], ◌∷◌, length, drop, Option, Some, None, cond, arith, lit<, ap, sym, subst, IfSome}
+use Rattle.std.proofs.lemmas.Bool.Decides.{nat_tests}
+use Rattle.std.proofs.Math.Nat.{pow-suc, one-le-pow, pow-le-pow_right}
+use Rattle.std.proofs.lemmas.Nat.{mul-le}
+use Rattle.std.proofs.lemmas.List.{length-drop}
+use Rattle.apt_block.specs.declared.table.Form.{Form}
+use Rattle.apt_block.specs.declared.block.Mark.{Mark}
+use Rattle.apt_block.specs.declared.machine.OpenWord.{OpenWord}
+use Rattle.apt_block.specs.declared.machine.Want.{Want}
+use Rattle.apt_block.specs.declared.machine.Want.TheVariants as wants
+use Rattle.apt_block.specs.Block.{is_digit, forms}
+use Rattle.apt_block.specs.Machine.{FrontPart, form_for, new_word, first_want, with_digit, HasDigits, HasRoom, IsFrontPart}
+
+-- the size itself fits
+pub size_fits : (size n : ℕ) → (size + 1) * 10 ^ n ≤ 10 ^ 8 → size + 1 ≤ 10 ^ 8
+size_fits size n h = omega (arith, mul-le (size + 1) 1 (size + 1) (10 ^ n) (omega arith) (one-le-pow n 10 (lit< tt)))
+
+-- one digit more
+pub room_more : (size d n : ℕ) → d ≤ 9 → (size + 1) * 10 ^ (suc n) ≤ 10 ^ 8 → (10 * size + d + 1) * 10 ^ n ≤ 10 ^ 8
+room_more size d n h room = omega (arith, ap (λ p. (size + 1) * p) (pow-suc 10 n), mul-le (10 * size + d + 1) (10 ^ n) (10 * size + 10) (10 ^ n) (omega arith) (omega arith))
+
+-- a new word has room
+pub room_new : (n : ℕ) → n ≤ 8 → (0 + 1) * 10 ^ (n - 1 + 1) ≤ 10 ^ 8
+room_new n h = omega (arith, pow-le-pow_right {n = 10} (lit< tt) {i = n - 1 + 1} {j = 8} (omega arith))
+
+pub digit_size : (ch : ℕ) → is_digit ch ≡ true → (48 ≤ ch) × (ch ≤ 57)
+digit_size ch e = grind (arith, nat_tests)
+
+-- ---- the form that is found
+abbrev AreSmall : List Form → Type 0
+AreSmall [] = Unit {0}
+AreSmall (f ∷ fs) = (f.digits ≤ 8) × AreSmall fs
+
+small_drop : (n : ℕ) (fs : List Form) → AreSmall fs → AreSmall (drop n fs)
+small_drop zero fs small = small
+small_drop (suc n) [] small = tt
+small_drop (suc n) (f ∷ fs) small = small_drop n fs small.1
+
+abbrev IsFound : ℕ → ℕ → Option (Form × ℕ) → Type 0
+IsFound used most None = Unit {0}
+IsFound used most (Some f) = (f.0.digits ≤ 8) × (used < f.1) × (f.1 ≤ most)
+
+chosen : (b : Bool) (o p : Option (Form × ℕ)) (used most : ℕ) → IsFound used most o → IsFound used most p → IsFound used most (cond b o p)
+chosen true o p used most x y = x
+chosen false o p used most x y = y
+
+weaker : (o : Option (Form × ℕ)) (used most : ℕ) → IsFound (used + 1) most o → IsFound used most o
+weaker None used most is = tt
+weaker (Some f) used most is = (is.0, omega (arith, is.1), is.2)
+
+found_in : (used : ℕ) (fs : List Form) (ch : ℕ) (most : ℕ) → used + length fs ≤ most → AreSmall fs → IsFound used most (form_for used fs ch)
+found_in used [] ch most h small = tt
+found_in used (f ∷ fs) ch most h small =
+    chosen (ch == f.letter) (Some (f, used + 1)) (form_for (used + 1) fs ch) used most
+    (small.0, omega arith, omega (arith, h))
+    (weaker _ used most (found_in (used + 1) fs ch most (omega (arith, h)) small.1))
+
+forms_small : AreSmall forms
+forms_small = (lit< tt, (lit< tt, (lit< tt, (lit< tt, (lit< tt, (lit< tt, (lit< tt, (lit< tt, (lit< tt, (lit< tt, (lit< tt, (lit< tt, (lit< tt, tt)))))))))))))
+
+dropped : (n : ℕ) (fs : List Form) → n ≤ length fs → n + length (drop n fs) ≤ length fs
+dropped n fs h = omega (arith, length-drop n fs)
+
+if_found : (o : Option (Form × ℕ)) (used : ℕ) → IsFound used 13 o → IfSome o (λ f. (f.0.digits ≤ 8) × (used < f.1) × (f.1 ≤ 13))
+if_found None used is = tt
+if_found (Some f) used is = is
+
+pub found : (used ch : ℕ) (o : Option (Form × ℕ)) → used ≤ 13 → o ≡ form_for used (drop used forms) ch → IfSome o (λ f. (f.0.digits ≤ 8) × (used < f.1) × (f.1 ≤ 13))
+found used ch o h is = subst (λ o. IfSome o (λ f. (f.0.digits ≤ 8) × (used < f.1) × (f.1 ≤ 13))) (sym is) (if_found _ used (found_in used (drop used forms) ch 13 (dropped used forms h) (small_drop used forms forms_small)))
+
+pub small : (w : OpenWord) → HasDigits w → w.size < 10 ^ 8
+small w room = omega (arith, size_fits w.size (w.later + 1) room)
+
+one_later : (n : ℕ) → suc n + 1 ≡ suc (n + 1)
+one_later n = omega arith
+
+one_less : (n : ℕ) → n + 1 ≡ suc n - 1 + 1
+one_less n = omega arith
+
+no_true : true ≡ false → ⊥
+no_true e = cc
+
+pub room_step : (w : OpenWord) (c : Mark) → HasDigits w → is_digit c.ch ≡ true → (w.later == 0) ≡ false → HasDigits (with_digit w c)
+room_step w c room digit later = go w.later later room
+  where
+    go : (n : ℕ) → (n == 0) ≡ false → (w.size + 1) * 10 ^ (n + 1) ≤ 10 ^ 8 → (10 * w.size + (c.ch - 48) + 1) * 10 ^ (n - 1 + 1) ≤ 10 ^ 8
+    go zero e h = absurd (no_true e)
+    go (suc n) e h = subst (λ m. (10 * w.size + (c.ch - 48) + 1) * 10 ^ m ≤ 10 ^ 8) (one_less n) (room_more w.size (c.ch - 48) (n + 1) (omega (arith, digit_size c.ch digit)) (subst (λ m. (w.size + 1) * 10 ^ m ≤ 10 ^ 8) (one_later n) h))
+
+pub want_room : (b : FrontPart) (used at : ℕ) (form : Form) (want : Want) → length b.words < used → used ≤ 13 → form.digits ≤ 8 → want ≡ first_want form at
+    → IsFrontPart (record { words = b.words; used = used; want = want })
+want_room b used at form want h room small is = subst (λ want. IsFrontPart (record { words = b.words; used = used; want = want })) (sym is) (record { used = room; room = go form.signed })
+  where
+    go : (s : Bool) → HasRoom (record { words = b.words; used = used; want = cond s (wants.Sign (new_word form at)) (wants.Digit (new_word form at)) }) (cond s (wants.Sign (new_word form at)) (wants.Digit (new_word form at)))
+    go true = (h, room_new form.digits small)
+    go false = (h, room_new form.digits small)

@@ -1,0 +1,243 @@
+//! A block read character by character.
+
+ghost use Rattle.std.specs.Prelude.{◌≡◌, ◌≤◌, ◌<◌, ◌^◌, length, true};
+ghost use Rattle.apt_block.specs.Block as spec;
+ghost use Rattle.apt_block.specs.Machine as machine;
+ghost use Rattle.apt_block.specs.Machine.{IsStep, HasDigits};
+
+use crate::table::{code_fault, form_for};
+use crate::{Block, Fault, Form, Mark, TapeCause, TapeWord};
+use std::marker::Model;
+
+/// A word that has no end yet: the place of its letter, how many digits may come behind the next one and
+/// how many must come, and the size and the place of the last digit so far.
+#[derive(Clone, Copy)]
+pub struct OpenWord {
+    pub form: Form,
+    pub at: u64,
+    pub minus: bool,
+    pub later: u8,
+    pub must: u8,
+    pub size: u64,
+    pub last: u64,
+}
+
+/// What may come next in a block.
+#[derive(Clone, Copy)]
+pub enum Want {
+    Letter,
+    Sign(OpenWord),
+    Digit(OpenWord),
+    Nothing,
+}
+
+/// The front part of a block. It takes its characters one by one.
+#[derive(Drop)]
+pub struct BlockReader {
+    block: Block,
+    used: u8,
+    want: Want,
+}
+
+impl Model for BlockReader {
+    ghost use Rattle.apt_block.specs.Machine.{FrontPart, IsFrontPart};
+
+    ghost Value = { FrontPart };
+
+    ghost view = { λ b. record { words = b.block; used = b.used; want = b.want } };
+
+    ghost invariant = { λ b. IsFrontPart (record { words = b.block; used = b.used; want = b.want }) };
+}
+
+fn bad_block(at: u64) -> Fault
+    ensures { result ≡ spec.bad_block at }
+{
+    Fault {
+        at,
+        cause: TapeCause::BadBlock,
+    }
+}
+
+fn new_word(form: Form, at: u64) -> OpenWord
+    ensures { result ≡ machine.new_word form at }
+{
+    OpenWord {
+        form,
+        at,
+        minus: false,
+        later: form.digits.saturating_sub(1),
+        must: form.fewest,
+        size: 0,
+        last: 0,
+    }
+}
+
+fn first_want(form: Form, at: u64) -> Want
+    ensures { result ≡ machine.first_want form at }
+{
+    let word = new_word(form, at);
+    if form.signed {
+        Want::Sign(word)
+    } else {
+        Want::Digit(word)
+    }
+}
+
+fn value_of(word: &OpenWord) -> i64
+    requires { word.now.size < 10 ^ 8 }
+    ensures { result ≡ machine.value_of word.now }
+{
+    let size = word.size as i64;
+    if word.minus { -size } else { size }
+}
+
+fn is_digit(ch: u8) -> bool
+    ensures { result ≡ spec.is_digit ch }
+{
+    ch.is_ascii_digit()
+}
+
+/// The word with one digit more.
+#[tactic(auto, using(crate::proofs::Rooms::size_fits, crate::proofs::Rooms::digit_size))]
+fn with_digit(word: OpenWord, c: Mark) -> OpenWord
+    requires room { HasDigits word }
+    requires digit { spec.is_digit c.ch ≡ true }
+    ensures { result ≡ machine.with_digit word c }
+{
+    OpenWord {
+        later: word.later.saturating_sub(1),
+        must: word.must.saturating_sub(1),
+        size: 10 * word.size + (c.ch - b'0') as u64,
+        last: c.at,
+        ..word
+    }
+}
+
+impl BlockReader {
+    pub fn new() -> BlockReader
+        ensures { result ≡ machine.block_start }
+    {
+        BlockReader {
+            block: Block::new(),
+            used: 0,
+            want: Want::Letter,
+        }
+    }
+
+    /// The words so far.
+    pub fn words(&self) -> &[TapeWord]
+        ensures { result.now ≡ self.now.words }
+    {
+        self.block.words.as_slice()
+    }
+
+    /// The words so far, as a block.
+    pub fn into_block(self) -> Block
+        ensures { result ≡ self.words }
+    {
+        self.block
+    }
+
+    /// Whether the block is at its end.
+    pub fn is_whole(&self) -> bool
+        ensures { result ≡ machine.is_whole self.now }
+    {
+        matches!(self.want, Want::Nothing)
+    }
+
+    /// Takes one character more. After a fault the block can't be read on.
+    pub fn step(&mut self, c: Mark) -> Result<(), Fault>
+        ensures { IsStep (machine.step self.old c) self.new result }
+    {
+        match self.want {
+            Want::Letter => self.letter_step(c),
+            Want::Sign(word) => self.sign_step(word, c),
+            Want::Digit(word) => self.digit_step(word, c),
+            Want::Nothing => Err(bad_block(c.at)),
+        }
+    }
+
+    #[tactic(auto, using(crate::proofs::Rooms::want_room))]
+    fn letter_step(&mut self, c: Mark) -> Result<(), Fault>
+        requires used { length self.old.words ≤ self.old.used }
+        ensures { IsStep (machine.letter_step self.old c) self.new result }
+    {
+        match form_for(self.used, c.ch) {
+            Some((form, used)) => {
+                self.want = first_want(form, c.at);
+                self.used = used;
+                Ok(())
+            }
+            None if c.ch == b'\n' => {
+                self.want = Want::Nothing;
+                Ok(())
+            }
+            None => Err(bad_block(c.at)),
+        }
+    }
+
+    fn sign_step(&mut self, word: OpenWord, c: Mark) -> Result<(), Fault>
+        requires used { length self.old.words < self.old.used }
+        requires room { HasDigits word }
+        ensures { IsStep (machine.sign_step self.old word c) self.new result }
+    {
+        if c.ch == b'+' {
+            self.want = Want::Digit(word);
+            Ok(())
+        } else if c.ch == b'-' {
+            self.want = Want::Digit(OpenWord {
+                minus: true,
+                ..word
+            });
+            Ok(())
+        } else {
+            self.digit_step(word, c)
+        }
+    }
+
+    #[tactic(auto, using(crate::proofs::Rooms::room_step, crate::proofs::Rooms::small))]
+    fn digit_step(&mut self, word: OpenWord, c: Mark) -> Result<(), Fault>
+        requires used { length self.old.words < self.old.used }
+        requires room { HasDigits word }
+        ensures { IsStep (machine.digit_step self.old word c) self.new result }
+    {
+        if is_digit(c.ch) {
+            let longer = with_digit(word, c);
+            if word.later == 0 {
+                self.word_end(longer)
+            } else {
+                self.want = Want::Digit(longer);
+                Ok(())
+            }
+        } else if word.must == 0 {
+            self.word_end(word)?;
+            self.letter_step(c)
+        } else {
+            Err(bad_block(c.at))
+        }
+    }
+
+    /// Adds a word that has its last digit.
+    fn word_end(&mut self, word: OpenWord) -> Result<(), Fault>
+        requires used { length self.old.words < self.old.used }
+        requires small { word.size < 10 ^ 8 }
+        ensures { IsStep (machine.word_end self.old word) self.new result }
+    {
+        if word.form.least <= word.size && word.size <= word.form.most {
+            let value = value_of(&word);
+            match code_fault(self.words(), word.form.letter, value.unsigned_abs()) {
+                Some(cause) => Err(Fault { at: word.at, cause }),
+                None => {
+                    self.block.push(TapeWord {
+                        letter: word.form.letter,
+                        value,
+                    });
+                    self.want = Want::Letter;
+                    Ok(())
+                }
+            }
+        } else {
+            Err(bad_block(word.last))
+        }
+    }
+}

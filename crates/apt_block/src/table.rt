@@ -1,0 +1,128 @@
+//! The table of words, and the codes that can stand.
+
+ghost use Rattle.std.specs.Prelude.{◌≡◌, ◌≤◌, ◌<◌, ◌+◌, [], ◌∷◌, length, drop, IfSome};
+ghost use Rattle.std.specs.List.{list_any};
+ghost use Rattle.apt_block.specs.Block as spec;
+ghost use Rattle.apt_block.specs.Machine as machine;
+
+use crate::{TapeCause, TapeWord};
+
+/// How the words of a letter are written: the fewest digits and the most, whether a sign may stand,
+/// and the least and the greatest size.
+#[derive(Clone, Copy)]
+pub struct Form {
+    pub letter: u8,
+    pub fewest: u8,
+    pub digits: u8,
+    pub signed: bool,
+    pub least: u64,
+    pub most: u64,
+}
+
+const fn row(letter: u8, fewest: u8, digits: u8, signed: bool, least: u64, most: u64) -> Form
+    ensures { result ≡ spec.form letter fewest digits signed least most }
+{
+    Form {
+        letter,
+        fewest,
+        digits,
+        signed,
+        least,
+        most,
+    }
+}
+
+fn forms() -> [Form; 13]
+    ensures { result ≡ spec.forms }
+{
+    [
+        row(b'N', 4, 4, false, 0, 9_999),
+        row(b'G', 2, 2, false, 0, 99),
+        row(b'G', 2, 2, false, 0, 99),
+        row(b'G', 2, 2, false, 0, 99),
+        row(b'G', 2, 2, false, 0, 99),
+        row(b'G', 2, 2, false, 0, 99),
+        row(b'X', 8, 8, true, 0, 50_000_000),
+        row(b'Y', 8, 8, true, 0, 50_000_000),
+        row(b'Z', 8, 8, true, 0, 50_000_000),
+        row(b'F', 4, 4, false, 1, 9_999),
+        row(b'S', 4, 4, false, 1, 9_999),
+        row(b'T', 2, 2, false, 1, 99),
+        row(b'M', 2, 2, false, 0, 99),
+    ]
+}
+
+/// The form of a letter behind so many forms of the table, and how many forms are behind it.
+#[tactic(auto, using(crate::proofs::Rooms::found))]
+pub fn form_for(used: u8, letter: u8) -> Option<(Form, u8)>
+    requires { used ≤ 13 }
+    ensures found { result ≡ machine.form_for used (drop used spec.forms) letter }
+    ensures later { IfSome result (λ f. (f.0.digits ≤ 8) × (used < f.1) × (f.1 ≤ 13)) }
+{
+    let forms = forms();
+    find_form(&forms[used as usize..], used, letter)
+}
+
+/// The first of some forms that has a letter.
+fn find_form(forms: &[Form], used: u8, letter: u8) -> Option<(Form, u8)>
+    requires { used + length forms.now ≤ 13 }
+    ensures { result ≡ machine.form_for used forms.now letter }
+{
+    let mut at = used;
+    'forms: for form in forms {
+        at += 1;
+        if form.letter == letter {
+            return Some((*form, at));
+        }
+    }
+    None
+}
+
+fn is_in(c: u64, a: u64, b: u64) -> bool
+    ensures { result ≡ spec.is_in (a ∷ b ∷ []) c }
+{
+    a == c || b == c
+}
+
+fn is_same_group(c: u64, d: u64) -> bool
+    ensures { result ≡ spec.is_same_group c d }
+{
+    is_in(c, 0, 1) && is_in(d, 0, 1)
+        || is_in(c, 70, 71) && is_in(d, 70, 71)
+        || c == 90 && d == 90
+        || c == 94 && d == 94
+}
+
+fn is_g_again(c: u64, word: &TapeWord) -> bool
+    ensures { result ≡ spec.is_g_again c word.now }
+{
+    word.letter == b'G' && is_same_group(c, word.value.unsigned_abs())
+}
+
+fn has_again(before: &[TapeWord], c: u64) -> bool
+    ensures { result ≡ list_any (spec.is_g_again c) before.now }
+{
+    'words: for word in before {
+        if is_g_again(c, word) {
+            return true;
+        }
+    }
+    false
+}
+
+/// What is wrong with the code of a letter behind the words before it.
+pub fn code_fault(before: &[TapeWord], letter: u8, c: u64) -> Option<TapeCause>
+    ensures { result ≡ spec.code_fault before.now letter c }
+{
+    if letter == b'G' {
+        if is_same_group(c, c) && !has_again(before, c) {
+            None
+        } else {
+            Some(TapeCause::BadG)
+        }
+    } else if letter == b'M' {
+        if c <= 9 { None } else { Some(TapeCause::BadM) }
+    } else {
+        None
+    }
+}

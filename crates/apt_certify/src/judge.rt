@@ -1,0 +1,124 @@
+//! The judge of jobs.
+
+ghost use Rattle.std.specs.Prelude.{◌≡◌, ◌↔◌, ◌≤◌, ◌<◌, ◌+◌, ◌^◌, [], ◌∷◌, length, IsNone, IfSome};
+ghost use Rattle.std.specs.List.{All};
+ghost use Rattle.apt_plane.specs.Ranges.{IsPoint, IsSense};
+ghost use Rattle.apt_certify.specs.Legs.{tests_from};
+ghost use Rattle.apt_certify.specs.Jobs.{ArePoints, IsJudged, IsJob, point_count, AreLegal};
+ghost use Rattle.apt_certify.specs.Faults.{IsFirstFault, IsFirstFaultOfPath};
+ghost use Rattle.apt_certify.specs.Verdicts.{IsVerdict};
+ghost use Rattle.apt_certify.specs.Verdicts as verdicts;
+
+use crate::deviations::{greater, worst};
+use crate::leg::{Job, Leg};
+use crate::segments::{Fault, end_fault, segment_fault};
+use crate::verdict::{Bad, Verdict};
+use apt_plane::Pt;
+
+/// The verdict over jobs, of less than 2^63 points together. Their surfaces are lines so far.
+pub fn check_jobs(jobs: &[Job]) -> Verdict
+    requires jobs { All IsJob jobs.now }
+    requires few { point_count jobs.now < 2 ^ 63 }
+    ensures verdict { IsVerdict jobs.now result }
+    ensures legal { IsNone result.first_bad ↔ AreLegal jobs.now }
+{
+    let mut verdict = Verdict {
+        segments: 0,
+        worst_in: 0,
+        worst_out: 0,
+        first_bad: None,
+    };
+    'jobs: for (i, job) in jobs.iter().enumerate() {
+        verdict = merged(verdict, i as u64, job_verdict(job));
+    }
+    verdict
+}
+
+/// The verdict over two lists of jobs, the first of `n` motions, from the verdicts over each.
+pub fn merged(v: Verdict, n: u64, w: Verdict) -> Verdict
+    requires segments { v.segments + w.segments < 2 ^ 64 }
+    requires motions { IfSome w.first_bad (λ bad. n + bad.motion < 2 ^ 64) }
+    ensures { result ≡ verdicts.merged v n w }
+{
+    Verdict {
+        segments: v.segments + w.segments,
+        worst_in: greater(v.worst_in, w.worst_in),
+        worst_out: greater(v.worst_out, w.worst_out),
+        first_bad: match (v.first_bad, w.first_bad) {
+            (Some(bad), _) => Some(bad),
+            (None, Some(bad)) => Some(Bad {
+                motion: n + bad.motion,
+                ..bad
+            }),
+            (None, None) => None,
+        },
+    }
+}
+
+/// The verdict over one job.
+fn job_verdict(job: &Job) -> Verdict
+    requires { IsJob job.now }
+    ensures verdict { IsVerdict (job.now ∷ []) result }
+    ensures motion { IfSome result.first_bad (λ bad. bad.motion ≡ 1) }
+{
+    path_verdict(&job.leg, job.out_sign, &job.points.at)
+}
+
+fn path_verdict(leg: &Leg, out_sign: i8, points: &[Pt]) -> Verdict
+    requires leg { IsJudged leg.now }
+    requires out_sign { IsSense out_sign }
+    requires moves { 2 ≤ length points.now }
+    requires points { ArePoints points.now }
+    ensures verdict { IsVerdict (record { leg = leg.now; out_sign = out_sign; points = points.now } ∷ []) result }
+    ensures motion { IfSome result.first_bad (λ bad. bad.motion ≡ 1) }
+{
+    Verdict {
+        segments: points.len() as u64 - 1,
+        worst_in: worst(&leg.track, -out_sign, points),
+        worst_out: worst(&leg.track, out_sign, points),
+        first_bad: path_fault(leg, points),
+    }
+}
+
+/// The first test of a motion that fails, as that of motion 1.
+fn path_fault(leg: &Leg, points: &[Pt]) -> Option<Bad>
+    requires leg { IsJudged leg.now }
+    requires moves { 2 ≤ length points.now }
+    requires points { ArePoints points.now }
+    ensures { IsFirstFaultOfPath leg.now points.now result }
+{
+    match points {
+        [start, vertices @ ..] => leg_fault(leg, *start, vertices),
+        [] => unreachable!(),
+    }
+}
+
+fn leg_fault(leg: &Leg, start: Pt, vertices: &[Pt]) -> Option<Bad>
+    requires leg { IsJudged leg.now }
+    requires start { IsPoint start }
+    requires vertices { ArePoints vertices.now }
+    ensures { IsFirstFault leg.now start (tests_from start vertices.now) result }
+{
+    let mut at = start;
+    'vertices: for (i, q) in vertices.iter().enumerate() {
+        if let Some(fault) = segment_fault(leg, at, *q) {
+            return Some(first_motion(i as u64 + 1, fault));
+        }
+        at = *q;
+    }
+    match end_fault(leg, at) {
+        Some(fault) => Some(first_motion(vertices.len() as u64, fault)),
+        None => None,
+    }
+}
+
+fn first_motion(segment: u64, fault: Fault) -> Bad
+    ensures { result ≡ record { motion = 1; segment = segment; spot = fault.spot; reason = fault.reason } }
+{
+    Bad {
+        motion: 1,
+        segment,
+        spot: fault.spot,
+        reason: fault.reason,
+    }
+}

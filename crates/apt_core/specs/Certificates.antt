@@ -1,0 +1,90 @@
+-- When a CL file and a tape are right for a part, and where they are not.
+use Rattle.std.specs.Prelude.{◌≡◌, ◌≢◌, ℕ, ◌+◌, List, [], ◌∷◌, ◌++◌, length, None, Ok, Err}
+use Rattle.apt_words.specs.declared.deed.Step.{Step}
+use Rattle.apt_cldata.specs.declared.record.Record.{Record}
+use Rattle.apt_cldata.specs.Reading.{read_of, fault as cl_fault}
+use Rattle.apt_certify.specs.declared.leg.Job.{Job}
+use Rattle.apt_certify.specs.declared.verdict.Verdict.{Verdict}
+use Rattle.apt_certify.specs.Jobs.{AreLegal}
+use Rattle.apt_certify.specs.Verdicts.{IsFirstBad, IsVerdict}
+use Rattle.apt_meaning.specs.declared.situation.Situation.{Situation}
+use Rattle.apt_meaning.specs.Situations.{first_situation}
+use Rattle.apt_meaning.specs.Records.{FollowsLegally, stand_of}
+use Rattle.apt_meaning.specs.Expectations.{FailsAt}
+use Rattle.apt_job.specs.Jobs.{MakesJobs}
+use Rattle.apt_machine.specs.declared.Machine.{Machine}
+use Rattle.apt_control.specs.declared.Act.{Act}
+use Rattle.apt_control.specs.Control.{control_run, fault as tape_fault}
+use Rattle.apt_post.specs.Plan.{plan, positions, points}
+use Rattle.apt_part.specs.Compilation.{Compiled, part_of}
+use Rattle.apt_part.specs.Promise.{Passes}
+use Rattle.apt_report.specs.declared.status.Status.{Status}
+use Rattle.apt_report.specs.declared.status.Status.TheVariants as answers
+use Rattle.apt_report.specs.declared.status.Summary.TheVariants as summaries
+use Rattle.apt_report.specs.declared.status.Miss.{Miss}
+use Rattle.apt_report.specs.declared.status.Miss.TheVariants as misses
+
+-- the tape's bytes decode to the plan of the CL file's records; these follow the steps of the part's text, none of which is refused; every contour
+-- is legal: all points of its segments are in the drive band, none is past its stop, and it ends in the stop band. The acts lead where the records
+-- lead, and the records leave the tool where the steps have it
+pub record IsRight (machine : Machine) (text cl tape : List ℕ) : Type 0 where
+  pub part : Compiled
+  pub passes : Passes machine text part
+  pub records : List Record
+  pub read : read_of cl ≡ Ok records
+  pub behind : Situation
+  pub follow : FollowsLegally first_situation part.steps records behind
+  pub stands : stand_of None records ≡ behind.position
+  pub acts : control_run machine.code tape ≡ Ok (plan records)
+  pub reached : positions (plan records) ≡ points records
+
+-- ---- where they are not
+
+abbrev pub HeadsDiffer : List Act → List Act → Type 0
+HeadsDiffer [] [] = ⊥
+HeadsDiffer [] (y ∷ ys) = Unit {0}
+HeadsDiffer (x ∷ xs) [] = Unit {0}
+HeadsDiffer (x ∷ xs) (y ∷ ys) = x ≢ y
+
+-- the first place, from 1, at which two lists of acts differ
+pub record DifferAt (xs ys : List Act) (at : ℕ) : Type 0 where
+  pub same : List Act
+  pub left : List Act
+  pub right : List Act
+  pub first : xs ≡ same ++ left
+  pub second : ys ≡ same ++ right
+  pub differ : HeadsDiffer left right
+  pub number : at ≡ length same + 1
+
+-- the first that fails: that the records answer the steps, that all contours are legal, that the acts are the plan
+abbrev pub IsMiss : List Step → List Record → List Act → Miss → Type 0
+IsMiss steps written acts (misses.Entry seq) = FailsAt first_situation 1 steps written seq
+IsMiss steps written acts (misses.Motion bad) = (jobs : List Job) × MakesJobs first_situation steps written jobs × IsFirstBad jobs bad
+IsMiss steps written acts (misses.Act at) =
+    (jobs : List Job) × MakesJobs first_situation steps written jobs × AreLegal jobs × DifferAt acts (plan written) at
+
+-- all is right, with the verdict over the contours
+pub record IsCertified (machine : Machine) (text cl tape : List ℕ) (verdict : Verdict) : Type 0 where
+  pub right : IsRight machine text cl tape
+  pub jobs : List Job
+  pub makes : MakesJobs first_situation right.part.steps right.records jobs
+  pub verdict : IsVerdict jobs verdict
+
+-- the answer to the three texts, in the order in which they are judged
+abbrev pub IsJudgement : Machine → List ℕ → List ℕ → List ℕ → Status → Type 0
+IsJudgement machine text cl tape (answers.BadPart line cause) = part_of machine text ≡ Err (line, cause)
+IsJudgement machine text cl tape (answers.Refused line step case) = part_of machine text ≡ Ok (Err (record { line = line; step = step; case = case }))
+IsJudgement machine text cl tape (answers.BadCl at cause) = (p : Compiled) × (part_of machine text ≡ Ok (Ok p)) × (read_of cl ≡ Err (cl_fault at cause))
+IsJudgement machine text cl tape (answers.BadTape at cause) =
+    (p : Compiled) × (written : List Record) × (part_of machine text ≡ Ok (Ok p)) × (read_of cl ≡ Ok written) × (control_run machine.code tape ≡ Err (tape_fault at cause))
+IsJudgement machine text cl tape (answers.NotCertified miss) =
+    (p : Compiled) × (written : List Record) × (acts : List Act)
+    × (part_of machine text ≡ Ok (Ok p)) × (read_of cl ≡ Ok written) × (control_run machine.code tape ≡ Ok acts) × IsMiss p.steps written acts miss
+IsJudgement machine text cl tape (answers.Done (summaries.Certified verdict)) = IsCertified machine text cl tape verdict
+IsJudgement machine text cl tape (answers.Done (summaries.Compiled records acts segments)) = ⊥
+IsJudgement machine text cl tape answers.Usage = ⊥
+IsJudgement machine text cl tape (answers.Missing name) = ⊥
+IsJudgement machine text cl tape answers.ReadFault = ⊥
+IsJudgement machine text cl tape (answers.TooLong name) = ⊥
+IsJudgement machine text cl tape answers.WriteFault = ⊥
+IsJudgement machine text cl tape answers.NoMemory = ⊥
