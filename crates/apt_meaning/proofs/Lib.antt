@@ -16,6 +16,8 @@ pub mod Stands
 pub mod Walk
 pub mod Begins
 pub mod Meetings
+pub mod Straight
+pub mod Agree
 pub mod Ends
 mod Worked
 mod Statements
