@@ -1,3 +1,8 @@
 //! The jobs of a CL file: whether its records answer the steps of a part program, and the contour motions that
 //! they make.
 #![tactic(auto)]
+
+mod fronts;
+mod legs;
+mod matches;
+

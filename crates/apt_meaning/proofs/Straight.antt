@@ -32,21 +32,11 @@ use Rattle.apt_meaning.specs.Situations.{with_side}
 use Rattle.apt_meaning.specs.Motions.{as_surface, surface_in, motion, if_turned, motion_at}
 use Rattle.apt_meaning.specs.Effects.{moves, cuts, moved_from, start_position_at, effect_of}
 use Rattle.apt_meaning.specs.Ranges.{IsPositionOrNone, AreSettings, IsSituation, IsMotion}
+use Rattle.apt_meaning.specs.Straight.{IsNoCircle, HasNoCircle, IsStraightMotion, IsLined}
 use Rattle.apt_meaning.proofs.Asked.{motion_is}
 use Rattle.apt_meaning.proofs.EffectRanges.{on_side_or_as_it_was}
 
 -- ---- tables of lines
-
--- a figure is no circle
-abbrev pub IsNoCircle : Figure → Type 0
-IsNoCircle (figures.Point at z) = Unit {0}
-IsNoCircle (figures.Shape (surfaces.Line l)) = Unit {0}
-IsNoCircle (figures.Shape (surfaces.Circ c)) = ⊥
-IsNoCircle figures.Scalar = Unit {0}
-
-abbrev pub HasNoCircle : Table → Type 0
-HasNoCircle [] = Unit {0}
-HasNoCircle (e ∷ es) = IsNoCircle e.1 × HasNoCircle es
 
 either : (b : Bool) (f : Figure) (rest : Option Figure) → IsNoCircle f → IfSome rest IsNoCircle → IfSome (cond b (Some f) rest) IsNoCircle
 either true f rest is later = is
@@ -80,19 +70,6 @@ straight_surface (surfaces.Line l) is = is
 straight_surface (surfaces.Circ c) is = absurd is
 
 -- ---- what steps ask for, whether or not a case refuses them
-
--- a motion in range along a line to a line
-pub record IsStraightMotion (m : Motion) : Type 0 where
-  pub motion : IsMotion m
-  pub drive : IsStraight m.drive
-  pub check : IsStraight m.check
-
--- no name is given a circle, and contours run along lines to lines
-abbrev pub IsLined : Effect → Type 0
-IsLined (effects.Defines n f) = IsNoCircle f
-IsLined (effects.Sets s said) = Unit {0}
-IsLined (effects.Moves reach to) = Unit {0}
-IsLined (effects.Cuts m) = IsStraightMotion m
 
 moves_made : (reach : Reach) (o : Option Position) → IfSome (moves reach o) IsLined
 moves_made reach None = tt
