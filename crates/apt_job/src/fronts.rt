@@ -1,11 +1,12 @@
 //! The records in front of a list: whether they are those of a step.
 
-ghost use Rattle.std.specs.Prelude.{◌≡◌, [], Some, IfSome};
+ghost use Rattle.std.specs.Prelude.{◌≡◌, ◌≤◌, [], List, Some, IfSome, IfErr, MatchOption};
+ghost use Rattle.apt_plane.specs.declared.figures.Pt.{Pt};
 ghost use Rattle.apt_meaning.specs.Expectations as expectations;
 ghost use Rattle.apt_meaning.specs.Motions as motions;
 ghost use Rattle.apt_meaning.specs.Straight.{IsStraightMotion, IsLined};
 ghost use Rattle.apt_meaning.specs.declared.effect.Effect.TheVariants as effects;
-ghost use Rattle.apt_job.specs.Fronts.{is_silent, IsBehind, AreSaid, AreTaken};
+ghost use Rattle.apt_job.specs.Fronts.{points_at, is_silent, IsBehind, AreSaid, AreTaken};
 
 use crate::legs::{has_stop, has_track};
 use crate::matches::{are_at, is_check, is_drive, is_note, is_point, is_statement};
@@ -87,26 +88,41 @@ fn check<'a>(m: &Motion, records: &'a [Record]) -> Option<Front<'a>>
     }
 }
 
-fn contour(z: i64, records: &[Record]) -> Option<Front<'_>>
-    ensures { IsBehind (expectations.VerticesAt z) records.now result }
+/// The vertices of a contour at the height of its start.
+#[tactic(auto, using(crate::proofs::InFront::at_one_height, crate::proofs::InFront::not_one_height))]
+fn vertices_at(start: Position, r: &Record) -> Option<&[Position]>
+    ensures { MatchOption result (¬ ((vertices : List Pt) × expectations.Meets (expectations.VerticesAt start.z) r.now vertices)) (λ ps. expectations.Meets (expectations.VerticesAt start.z) r.now (points_at ps.now)) }
 {
-    let [Record::Contour(vertices), rest @ ..] = records else {
+    match r {
+        Record::Contour(vertices) => {
+            if are_at(start, &vertices.at) {
+                Some(&vertices.at)
+            } else {
+                None
+            }
+        }
+        _ => None,
+    }
+}
+
+fn contour(start: Position, records: &[Record]) -> Option<Front<'_>>
+    ensures { IsBehind (expectations.VerticesAt start.z) records.now result }
+{
+    let [first, rest @ ..] = records else {
         return None;
     };
-    if are_at(z, &vertices.at) {
-        Some(Front {
-            vertices: &vertices.at,
-            rest,
-        })
-    } else {
-        None
+    match vertices_at(start, first) {
+        Some(vertices) => Some(Front { vertices, rest }),
+        None => None,
     }
 }
 
 /// The records of a contour.
+#[tactic(auto, using(crate::proofs::InFront::cut_said, crate::proofs::InFront::cut_departs))]
 fn cut<'a>(m: &Motion, records: &'a [Record]) -> Result<Front<'a>, u64>
     requires { IsStraightMotion m.now }
-    ensures { AreSaid (Some (effects.Cuts m.now)) records.now result }
+    ensures said { AreSaid (Some (effects.Cuts m.now)) records.now result }
+    ensures few { IfErr result (λ k. k ≤ 2) }
 {
     let Some(behind_drive) = drive(m, records) else {
         return Err(0);
@@ -114,13 +130,17 @@ fn cut<'a>(m: &Motion, records: &'a [Record]) -> Result<Front<'a>, u64>
     let Some(behind_check) = check(m, behind_drive.rest) else {
         return Err(1);
     };
-    contour(m.start.z, behind_check.rest).ok_or(2)
+    match contour(m.start, behind_check.rest) {
+        Some(front) => Ok(front),
+        None => Err(2),
+    }
 }
 
 /// The records of an effect.
 fn said<'a>(effect: &Option<Effect>, records: &'a [Record]) -> Result<Front<'a>, u64>
     requires { IfSome effect.now IsLined }
-    ensures { AreSaid effect.now records.now result }
+    ensures said { AreSaid effect.now records.now result }
+    ensures few { IfErr result (λ k. k ≤ 2) }
 {
     match effect {
         None => Err(0),
@@ -141,14 +161,16 @@ fn is_silent(effect: &Option<Effect>) -> bool
     matches!(effect, Some(Effect::Defines(_, _) | Effect::Sets(_, None)))
 }
 
-/// The records of a step, which begin with its statement.
+/// The records of a step, which begin with its statement; else how many records in front are as they are due.
+#[tactic(auto, using(crate::proofs::InFront::statement_amiss, crate::proofs::InFront::departs_later))]
 pub(crate) fn taken<'a>(
     step: &Step,
     effect: &Option<Effect>,
     records: &'a [Record],
 ) -> Result<Front<'a>, u64>
     requires { IfSome effect.now IsLined }
-    ensures { AreTaken step.now effect.now records.now result }
+    ensures taken { AreTaken step.now effect.now records.now result }
+    ensures few { IfErr result (λ k. k ≤ 3) }
 {
     if is_silent(effect) {
         return Ok(Front {
@@ -161,6 +183,6 @@ pub(crate) fn taken<'a>(
     };
     match said(effect, behind.rest) {
         Ok(front) => Ok(front),
-        Err(fitting) => Err(1 + fitting),
+        Err(fitting) => Err(fitting + 1),
     }
 }

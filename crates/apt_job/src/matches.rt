@@ -5,7 +5,7 @@ ghost use Rattle.apt_job.specs.Fronts as fronts;
 
 use apt_cldata::{Note, Position, Reach, Record};
 use apt_meaning::Motion;
-use apt_plane::{Circ, Line, Surface};
+use apt_plane::{Circ, Dir, Line, Pt, Surface};
 use apt_words::{Side, Step, Stop};
 
 /// Whether two notes say the same.
@@ -70,10 +70,22 @@ pub(crate) fn is_point(reach: Reach, to: Position, r: &Record) -> bool
     }
 }
 
+fn is_same_base(p: Pt, q: Pt) -> bool
+    ensures { IsTrue result ↔ (p ≡ q) }
+{
+    p == q
+}
+
+fn is_same_dir(a: Dir, b: Dir) -> bool
+    ensures { IsTrue result ↔ (a ≡ b) }
+{
+    a == b
+}
+
 fn is_same_line(a: &Line, b: &Line) -> bool
     ensures { IsTrue result ↔ (a.now ≡ b.now) }
 {
-    a == b
+    is_same_base(a.base, b.base) && is_same_dir(a.dir, b.dir)
 }
 
 fn is_same_circle(a: &Circ, b: &Circ) -> bool
@@ -132,12 +144,12 @@ pub(crate) fn is_check(m: &Motion, r: &Record) -> bool
     }
 }
 
-/// Whether positions are all at one height.
-pub(crate) fn are_at(z: i64, positions: &[Position]) -> bool
-    ensures { result ≡ fronts.are_at z positions.now }
+/// Whether positions are all at the height of a start.
+pub(crate) fn are_at(start: Position, positions: &[Position]) -> bool
+    ensures { result ≡ fronts.are_at start.z positions.now }
 {
     for p in positions {
-        if p.z != z {
+        if p.z != start.z {
             return false;
         }
     }
