@@ -121,10 +121,10 @@ letter_law b end c text = letter_go b end c text (drop b.used forms) b.used refl
 
 -- ---- the end of a word
 
-close_law : (b : FrontPart) (w : OpenWord) (end : Fault) (rest : List Mark) (K : FrontPart → Result (List TapeWord) Fault)
+word_end_law : (b : FrontPart) (w : OpenWord) (end : Fault) (rest : List Mark) (K : FrontPart → Result (List TapeWord) Fault)
     → ((words : List TapeWord) → K (record { words = words; used = b.used; want = wants.Letter }) ≡ words_at (drop b.used forms) words end rest)
     → behind b.words b.used w.form w.at end (in_range w.form (record { size = w.size; last = w.last; rest = rest }) >>= λ n. Ok (number_with w.minus n)) ≡ (word_end b w >>= K)
-close_law b w end rest K same = go (nat_le w.form.least w.size && nat_le w.size w.form.most)
+word_end_law b w end rest K same = go (nat_le w.form.least w.size && nat_le w.size w.form.most)
   where
     n : Digits
     n = record { size = w.size; last = w.last; rest = rest }
@@ -165,12 +165,12 @@ digit_law b w end c text = go w.later (is_digit c.ch) (w.must == 0)
     go : (n : ℕ) (d t : Bool)
         → number b w end (cond d (digits_at n (w.must - 1) (10 * w.size + (c.ch - 48)) c.at end text) (cond t (Ok (record { size = w.size; last = w.last; rest = c ∷ text })) (Err (bad_block c.at))))
         ≡ (cond d (cond (n == 0) (word_end b (longer w c n)) (Ok (record b { want = wants.Digit (longer w c n) }))) (cond t (word_end b w >>= λ b. letter_step b c) (Err (bad_block c.at))) >>= goes_on end text)
-    go zero true t = close_law b (longer w c zero) end text (goes_on end text) (λ words. refl)
+    go zero true t = word_end_law b (longer w c zero) end text (goes_on end text) (λ words. refl)
     go (suc n) true t =
         ap (λ m. number b w end (digits_at (suc m) (w.must - 1) (10 * w.size + (c.ch - 48)) c.at end text)) (less n)
         ∙ ap (λ t. cond t (word_end b (longer w c (suc n))) (Ok (record b { want = wants.Digit (longer w c (suc n)) })) >>= goes_on end text) (no_zero n)
     go n false true =
-        close_law b w end (c ∷ text) (λ b. letter_step b c >>= goes_on end text) (λ words. sym (letter_law (record { words = words; used = b.used; want = wants.Letter }) end c text))
+        word_end_law b w end (c ∷ text) (λ b. letter_step b c >>= goes_on end text) (λ words. sym (letter_law (record { words = words; used = b.used; want = wants.Letter }) end c text))
         ∙ sym (then_all (word_end b w) (λ b. letter_step b c) (goes_on end text))
     go n false false = refl
 

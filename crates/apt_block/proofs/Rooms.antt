@@ -41,9 +41,9 @@ abbrev IsFound : ℕ → ℕ → Option (Form × ℕ) → Type 0
 IsFound used most None = Unit {0}
 IsFound used most (Some f) = (f.0.digits ≤ 8) × (used < f.1) × (f.1 ≤ most)
 
-chosen : (b : Bool) (o p : Option (Form × ℕ)) (used most : ℕ) → IsFound used most o → IsFound used most p → IsFound used most (cond b o p)
-chosen true o p used most x y = x
-chosen false o p used most x y = y
+either_found : (b : Bool) (o p : Option (Form × ℕ)) (used most : ℕ) → IsFound used most o → IsFound used most p → IsFound used most (cond b o p)
+either_found true o p used most x y = x
+either_found false o p used most x y = y
 
 weaker : (o : Option (Form × ℕ)) (used most : ℕ) → IsFound (used + 1) most o → IsFound used most o
 weaker None used most is = tt
@@ -52,22 +52,22 @@ weaker (Some f) used most is = (is.0, omega (arith, is.1), is.2)
 found_in : (used : ℕ) (fs : List Form) (ch : ℕ) (most : ℕ) → used + length fs ≤ most → AreSmall fs → IsFound used most (form_for used fs ch)
 found_in used [] ch most h small = tt
 found_in used (f ∷ fs) ch most h small =
-    chosen (ch == f.letter) (Some (f, used + 1)) (form_for (used + 1) fs ch) used most
+    either_found (ch == f.letter) (Some (f, used + 1)) (form_for (used + 1) fs ch) used most
     (small.0, omega arith, omega (arith, h))
     (weaker _ used most (found_in (used + 1) fs ch most (omega (arith, h)) small.1))
 
 forms_small : AreSmall forms
 forms_small = (lit< tt, (lit< tt, (lit< tt, (lit< tt, (lit< tt, (lit< tt, (lit< tt, (lit< tt, (lit< tt, (lit< tt, (lit< tt, (lit< tt, (lit< tt, tt)))))))))))))
 
-dropped : (n : ℕ) (fs : List Form) → n ≤ length fs → n + length (drop n fs) ≤ length fs
-dropped n fs h = omega (arith, length-drop n fs)
+length_behind : (n : ℕ) (fs : List Form) → n ≤ length fs → n + length (drop n fs) ≤ length fs
+length_behind n fs h = omega (arith, length-drop n fs)
 
 if_found : (o : Option (Form × ℕ)) (used : ℕ) → IsFound used 13 o → IfSome o (λ f. (f.0.digits ≤ 8) × (used < f.1) × (f.1 ≤ 13))
 if_found None used is = tt
 if_found (Some f) used is = is
 
-pub found : (used ch : ℕ) (o : Option (Form × ℕ)) → used ≤ 13 → o ≡ form_for used (drop used forms) ch → IfSome o (λ f. (f.0.digits ≤ 8) × (used < f.1) × (f.1 ≤ 13))
-found used ch o h is = subst (λ o. IfSome o (λ f. (f.0.digits ≤ 8) × (used < f.1) × (f.1 ≤ 13))) (sym is) (if_found _ used (found_in used (drop used forms) ch 13 (dropped used forms h) (small_drop used forms forms_small)))
+pub form_is_small : (used ch : ℕ) (o : Option (Form × ℕ)) → used ≤ 13 → o ≡ form_for used (drop used forms) ch → IfSome o (λ f. (f.0.digits ≤ 8) × (used < f.1) × (f.1 ≤ 13))
+form_is_small used ch o h is = subst (λ o. IfSome o (λ f. (f.0.digits ≤ 8) × (used < f.1) × (f.1 ≤ 13))) (sym is) (if_found _ used (found_in used (drop used forms) ch 13 (length_behind used forms h) (small_drop used forms forms_small)))
 
 pub small : (w : OpenWord) → HasDigits w → w.size < 10 ^ 8
 small w room = omega (arith, size_fits w.size (w.later + 1) room)

@@ -1,4 +1,6 @@
 -- Blocks of a tape: the table of words, how a block is read, and how it is spelled.
+-- A Mark is a character with the place of its byte, a Fault a place with a cause, a Form a row of the table, a TapeWord a
+-- letter with its number.
 use Rattle.std.specs.Prelude.{◌≡◌, ℕ, zero, suc, ◌+◌, ◌-◌, ◌*◌, ◌/◌, ◌%◌, ◌^◌, ◌≤◌, ℤ, pos, negsuc, neg_ℤ, unsigned_abs, ◌==◌, ◌&&◌, ◌||◌, nat_le, Bool, true, false, not, List, [], ◌∷◌, ◌++◌, length, Option, Some, None, Result, Ok, Err, MatchBool, codes, if◌then◌else◌}
 use Rattle.std.specs.List.{list_any, flat_map}
 use Rattle.apt_block.specs.declared.block.TapeWord.{TapeWord}
@@ -13,7 +15,7 @@ abbrev pub ◌>>=◌ : {A B : Type 0} → Result A Fault → (A → Result B Fau
 (Ok x) >>= f = f x
 (Err e) >>= f = Err e
 
--- the place of a character at which reading stops, and why
+-- the place at which reading stops, and why
 abbrev pub fault : ℕ → TapeCause → Fault
 fault at cause = record { at = at; cause = cause }
 

@@ -53,7 +53,7 @@ fn forms() -> [Form; 13]
 }
 
 /// The form of a letter behind so many forms of the table, and how many forms are behind it.
-#[tactic(auto, using(crate::proofs::Rooms::found))]
+#[tactic(auto, using(crate::proofs::Rooms::form_is_small))]
 pub fn form_for(used: u8, letter: u8) -> Option<(Form, u8)>
     requires { used ≤ 13 }
     ensures found { result ≡ machine.form_for used (drop used spec.forms) letter }

@@ -1,5 +1,5 @@
 -- The ends of a segment tell whether all of it is before an edge.
-use Rattle.std.proofs.Common.{pos, ◌+ℤ◌, ◌-ℤ◌}
+use Rattle.std.proofs.Common.{◌+ℤ◌, ◌-ℤ◌}
 use Rattle.apt_num.specs.declared.Sign.{Sign}
 use Rattle.apt_num.specs.declared.Sign.TheVariants as signs
 use Rattle.apt_plane.specs.declared.figures.Pt.{Pt}

@@ -1,5 +1,5 @@
 -- The first test that fails.
-use Rattle.std.proofs.Common.{refl, sym, ◌↔◌, IsTrue, false, true≢false, ◌≡◌, ◌⊎◌, inl, inr, ℕ, [], ◌∷◌, Option, Some, None}
+use Rattle.std.proofs.Common.{refl, sym, ◌↔◌, IsTrue, false, true≢false, inl, inr, [], ◌∷◌}
 use Rattle.apt_plane.specs.declared.figures.Pt.{Pt}
 use Rattle.apt_plane.specs.declared.figures.Spot.{Spot}
 use Rattle.apt_plane.specs.Vectors.{Scaled, scaled}

@@ -1,11 +1,11 @@
 -- How far points lie past a straight track.
-use Rattle.std.proofs.Common.{◌≡◌, ◌↔◌, ℕ, suc, ◌≤◌, List, [], ◌∷◌, length, arith, ℤ, pos, negsuc, neg_ℤ, ◌+ℤ◌, ◌-ℤ◌, ◌≤ℤ◌, int_le, true, false}
+use Rattle.std.proofs.Common.{◌≡◌, ◌↔◌, ℕ, ◌≤◌, List, [], ◌∷◌, length, arith, ℤ, pos, negsuc, neg_ℤ, ◌+ℤ◌, ◌-ℤ◌, ◌≤ℤ◌}
 use Rattle.std.proofs.lemmas.Int.{ints}
 use Rattle.apt_num.specs.Sign.{AtLeast}
 use Rattle.apt_plane.specs.declared.figures.Pt.{Pt}
 use Rattle.apt_plane.specs.declared.figures.Dir.{Dir}
 use Rattle.apt_plane.specs.declared.figures.Line.{Line}
-use Rattle.apt_plane.specs.Vectors.{displacement, cross, length_squared, scaled, between}
+use Rattle.apt_plane.specs.Vectors.{displacement, cross, length_squared, scaled}
 use Rattle.apt_plane.specs.Distances.{IsAbove, IsBelow, EveryPoint}
 use Rattle.apt_plane.proofs.SegmentLaws.{above-between, below-between}
 use Rattle.apt_offset.specs.declared.Target.{Target}
@@ -103,11 +103,11 @@ walk_on track sign all left p w past read more next e f g is walked =
       in_range = walked.in_range.1;
       least = greater_least w past walked.least;
       bounds = λ u h.
-        let so_far = walked.bounds u h in
-        let both = greater_bounds w past u in (
-          λ every. let rest = so_far.0 every in (both.1 (rest.0, (is u).0 rest.1.0), rest.1.1),
-          λ rest. so_far.1 ((both.0 rest.0).0, ((is u).1 (both.0 rest.0).1, rest.1)),
-        );
+          let so_far = walked.bounds u h in
+          let both = greater_bounds w past u in (
+            λ every. let rest = so_far.0 every in (both.1 (rest.0, (is u).0 rest.1.0), rest.1.1),
+            λ rest. so_far.1 ((both.0 rest.0).0, ((is u).1 (both.0 rest.0).1, rest.1)),
+          );
     })
 
 -- and at its end

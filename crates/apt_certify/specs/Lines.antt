@@ -19,6 +19,6 @@ IsStraightTrack (targets.Line base dir off) = IsPoint base × IsDir dir × (unsi
 IsStraightTrack (targets.Circ c r) = ⊥
 
 -- q is the greatest number for which q times the root of n is at most k
-pub record IsCount (k n q : ℕ) : Type 0 where
+pub record IsRootCount (k n q : ℕ) : Type 0 where
   pub low : q * q * n ≤ k * k
   pub high : k * k < (q + 1) * (q + 1) * n

@@ -1,5 +1,6 @@
 -- The verdict over jobs: the first test that a motion fails, and the merge of two verdicts.
 use Rattle.std.specs.Prelude.{◌≡◌, ◌⊎◌, ℕ, ◌+◌, List, [], ◌∷◌, ◌++◌, length, codes, Option, Some, None}
+use Rattle.std.specs.Option.{option_or}
 use Rattle.apt_plane.specs.declared.figures.Pt.{Pt}
 use Rattle.apt_plane.specs.declared.figures.Spot.{Spot}
 use Rattle.apt_plane.specs.Vectors.{Scaled, scaled}
@@ -14,7 +15,7 @@ use Rattle.apt_certify.specs.declared.verdict.Bad.{Bad}
 use Rattle.apt_certify.specs.declared.verdict.Verdict.{Verdict}
 use Rattle.apt_certify.specs.Legs.{Test, OrderOf, BandOf, OverrunOf, StopAt, AxisAt, tests_from, Holds, AllHold, IsWithinEdge}
 use Rattle.apt_certify.specs.Jobs.{AreLegal, segment_count}
-use Rattle.apt_certify.specs.Deviations.{Inwards, Outwards, IsWorst}
+use Rattle.apt_certify.specs.Deviations.{inwards, outwards, IsWorst}
 
 abbrev pub name_of : Reason → List ℕ
 name_of reasons.Order = codes "Order"
@@ -87,8 +88,8 @@ IsFirstBadOrNone jobs (Some bad) = IsFirstBad jobs bad
 
 pub record IsVerdict (jobs : List Job) (v : Verdict) : Type 0 where
   pub segments : v.segments ≡ segment_count jobs
-  pub worst_in : IsWorst Inwards jobs v.worst_in
-  pub worst_out : IsWorst Outwards jobs v.worst_out
+  pub worst_in : IsWorst inwards jobs v.worst_in
+  pub worst_out : IsWorst outwards jobs v.worst_out
   pub first_bad : IsFirstBadOrNone jobs v.first_bad
 
 -- ---- the merge of the verdicts of two lists, the first of n motions
@@ -97,14 +98,10 @@ abbrev pub behind_motions : ℕ → Option Bad → Option Bad
 behind_motions n None = None
 behind_motions n (Some bad) = Some (record bad { motion = n + bad.motion })
 
-abbrev pub or_else : Option Bad → Option Bad → Option Bad
-or_else None other = other
-or_else (Some bad) other = Some bad
-
 abbrev pub merged : Verdict → ℕ → Verdict → Verdict
 merged v n w = record {
   segments = v.segments + w.segments;
   worst_in = greater v.worst_in w.worst_in;
   worst_out = greater v.worst_out w.worst_out;
-  first_bad = or_else v.first_bad (behind_motions n w.first_bad);
+  first_bad = option_or v.first_bad (behind_motions n w.first_bad);
 }

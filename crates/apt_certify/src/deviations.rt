@@ -7,7 +7,7 @@ ghost use Rattle.apt_plane.specs.Vectors.{scaled};
 ghost use Rattle.apt_offset.specs.Targets as moving;
 ghost use Rattle.apt_certify.specs.Jobs.{ArePoints};
 ghost use Rattle.apt_certify.specs.Deviations.{IsAtMostPast, EveryPointAlong};
-ghost use Rattle.apt_certify.specs.Lines.{IsStraightTrack, IsCount};
+ghost use Rattle.apt_certify.specs.Lines.{IsStraightTrack, IsRootCount};
 
 use apt_num::isqrt;
 use apt_offset::Target;
@@ -71,7 +71,7 @@ fn past_line(base: Pt, dir: Dir, off: i64, sign: i8, p: Pt) -> i64
 fn root_count(k: u128, n: u128) -> u128
     requires k { k ≤ 2 * 10 ^ 16 }
     requires n { 1 ≤ n }
-    ensures count { IsCount k n result }
+    ensures count { IsRootCount k n result }
     ensures small { result ≤ 2 * 10 ^ 16 }
 {
     isqrt(k * k / n)

@@ -1,10 +1,10 @@
 //! The judge of jobs.
 
 ghost use Rattle.std.specs.Prelude.{◌≡◌, ◌↔◌, ◌≤◌, ◌<◌, ◌+◌, ◌^◌, [], ◌∷◌, length, IsNone, IfSome};
-ghost use Rattle.std.specs.List.{All};
 ghost use Rattle.apt_plane.specs.Ranges.{IsPoint, IsSense};
+ghost use Rattle.apt_certify.specs.declared.verdict.Verdict.{Verdict};
 ghost use Rattle.apt_certify.specs.Legs.{tests_from};
-ghost use Rattle.apt_certify.specs.Jobs.{ArePoints, IsJudged, IsJob, point_count, AreLegal};
+ghost use Rattle.apt_certify.specs.Jobs.{ArePoints, IsLeg, IsJob, AreJobs, point_count, AreLegal};
 ghost use Rattle.apt_certify.specs.Faults.{IsFirstFault, IsFirstFaultOfPath};
 ghost use Rattle.apt_certify.specs.Verdicts.{IsVerdict};
 ghost use Rattle.apt_certify.specs.Verdicts as verdicts;
@@ -17,9 +17,10 @@ use apt_plane::Pt;
 
 /// The verdict over jobs, of less than 2^63 points together. Their surfaces are lines so far.
 pub fn check_jobs(jobs: &[Job]) -> Verdict
-    requires jobs { All IsJob jobs.now }
+    requires jobs { AreJobs jobs.now }
     requires few { point_count jobs.now < 2 ^ 63 }
     ensures verdict { IsVerdict jobs.now result }
+    ensures only { (v : Verdict) → IsVerdict jobs.now v → v ≡ result }
     ensures legal { IsNone result.first_bad ↔ AreLegal jobs.now }
 {
     let mut verdict = Verdict {
@@ -44,14 +45,20 @@ pub fn merged(v: Verdict, n: u64, w: Verdict) -> Verdict
         segments: v.segments + w.segments,
         worst_in: greater(v.worst_in, w.worst_in),
         worst_out: greater(v.worst_out, w.worst_out),
-        first_bad: match (v.first_bad, w.first_bad) {
-            (Some(bad), _) => Some(bad),
-            (None, Some(bad)) => Some(Bad {
-                motion: n + bad.motion,
-                ..bad
-            }),
-            (None, None) => None,
-        },
+        first_bad: v.first_bad.or(behind_motions(n, w.first_bad)),
+    }
+}
+
+fn behind_motions(n: u64, bad: Option<Bad>) -> Option<Bad>
+    requires { IfSome bad (λ b. n + b.motion < 2 ^ 64) }
+    ensures { result ≡ verdicts.behind_motions n bad }
+{
+    match bad {
+        Some(bad) => Some(Bad {
+            motion: n + bad.motion,
+            ..bad
+        }),
+        None => None,
     }
 }
 
@@ -65,7 +72,7 @@ fn job_verdict(job: &Job) -> Verdict
 }
 
 fn path_verdict(leg: &Leg, out_sign: i8, points: &[Pt]) -> Verdict
-    requires leg { IsJudged leg.now }
+    requires leg { IsLeg leg.now }
     requires out_sign { IsSense out_sign }
     requires moves { 2 ≤ length points.now }
     requires points { ArePoints points.now }
@@ -82,7 +89,7 @@ fn path_verdict(leg: &Leg, out_sign: i8, points: &[Pt]) -> Verdict
 
 /// The first test of a motion that fails, as that of motion 1.
 fn path_fault(leg: &Leg, points: &[Pt]) -> Option<Bad>
-    requires leg { IsJudged leg.now }
+    requires leg { IsLeg leg.now }
     requires moves { 2 ≤ length points.now }
     requires points { ArePoints points.now }
     ensures { IsFirstFaultOfPath leg.now points.now result }
@@ -94,7 +101,7 @@ fn path_fault(leg: &Leg, points: &[Pt]) -> Option<Bad>
 }
 
 fn leg_fault(leg: &Leg, start: Pt, vertices: &[Pt]) -> Option<Bad>
-    requires leg { IsJudged leg.now }
+    requires leg { IsLeg leg.now }
     requires start { IsPoint start }
     requires vertices { ArePoints vertices.now }
     ensures { IsFirstFault leg.now start (tests_from start vertices.now) result }
@@ -112,6 +119,7 @@ fn leg_fault(leg: &Leg, start: Pt, vertices: &[Pt]) -> Option<Bad>
     }
 }
 
+/// A fault in a segment of motion 1.
 fn first_motion(segment: u64, fault: Fault) -> Bad
     ensures { result ≡ record { motion = 1; segment = segment; spot = fault.spot; reason = fault.reason } }
 {

@@ -8,7 +8,7 @@ ghost use Rattle.apt_plane.specs.Vectors as ways;
 ghost use Rattle.apt_plane.specs.Distances.{InBand};
 ghost use Rattle.apt_plane.specs.Axes.{IsOnHalf};
 ghost use Rattle.apt_certify.specs.Legs.{IsStep, IsWithinEdge, IsOnAxisOrNone};
-ghost use Rattle.apt_certify.specs.Jobs.{IsStraight, IsNarrow, IsAxis, IsAxisOrNone, IsJudged};
+ghost use Rattle.apt_certify.specs.Jobs.{IsStraight, IsNarrow, IsAxis, IsAxisOrNone, IsLeg};
 ghost use Rattle.apt_certify.specs.Lines.{IsEveryOrEnd};
 ghost use Rattle.apt_certify.specs.Faults.{segment_tests, end_tests, IsFaultOrNone};
 
@@ -35,7 +35,7 @@ pub(crate) struct Fault {
 
 /// The first test of a segment that fails.
 pub(crate) fn segment_fault(leg: &Leg, p: Pt, q: Pt) -> Option<Fault>
-    requires leg { IsJudged leg.now }
+    requires leg { IsLeg leg.now }
     requires start { IsPoint p }
     requires end { IsPoint q }
     ensures { (start : Pt) → IsFaultOrNone leg.now start (segment_tests p q) 1 result }
@@ -63,7 +63,7 @@ pub(crate) fn segment_fault(leg: &Leg, p: Pt, q: Pt) -> Option<Fault>
 
 /// The first test of the last point that fails.
 pub(crate) fn end_fault(leg: &Leg, q: Pt) -> Option<Fault>
-    requires leg { IsJudged leg.now }
+    requires leg { IsLeg leg.now }
     requires end { IsPoint q }
     ensures { (start : Pt) → IsFaultOrNone leg.now start (end_tests q) 0 result }
 {
@@ -84,7 +84,7 @@ pub(crate) fn end_fault(leg: &Leg, q: Pt) -> Option<Fault>
 
 /// Whether a segment goes onwards along its drive surface.
 fn is_step(leg: &Leg, p: Pt, q: Pt) -> bool
-    requires leg { IsJudged leg.now }
+    requires leg { IsLeg leg.now }
     requires start { IsPoint p }
     requires end { IsPoint q }
     ensures { (start : Pt) → IsTrue result ↔ IsStep leg.now.drive leg.now.sense start p q }
@@ -125,7 +125,7 @@ fn out_of_band(drive: &Surface, band: Band, p: Pt, q: Pt) -> Option<Spot>
 
 /// The first end of a segment that is past the edge of the stop, if not all of it is before it.
 fn past_edge(leg: &Leg, p: Pt, q: Pt) -> Option<Spot>
-    requires leg { IsJudged leg.now }
+    requires leg { IsLeg leg.now }
     requires start { IsPoint p }
     requires end { IsPoint q }
     ensures { IsEveryOrEnd (IsWithinEdge leg.now leg.now.beyond) p q result }
@@ -141,7 +141,7 @@ fn past_edge(leg: &Leg, p: Pt, q: Pt) -> Option<Spot>
 
 /// Whether a point is not past the edge of the stop. Along a line there is no slack.
 fn is_within_edge(leg: &Leg, p: Pt) -> bool
-    requires leg { IsJudged leg.now }
+    requires leg { IsLeg leg.now }
     requires point { IsPoint p }
     ensures { IsTrue result ↔ IsWithinEdge leg.now leg.now.beyond (ways.scaled p) }
 {

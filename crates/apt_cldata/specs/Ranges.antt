@@ -1,5 +1,7 @@
 -- The numbers of records, in grid units, and how a list of records ends.
-use Rattle.std.specs.Prelude.{◌≤◌, ◌^◌, ℤ, pos, ◌≤ℤ◌, unsigned_abs, Bool, true, false, List, [], ◌∷◌}
+use Rattle.std.specs.Prelude.{◌≡◌, ◌⊎◌, ℕ, ◌≤◌, length, ℤ, pos, ◌≤ℤ◌, unsigned_abs, Bool, true, false, List, [], ◌∷◌}
+use Rattle.apt_words.specs.declared.Turn.{Turn}
+use Rattle.apt_words.specs.declared.Turn.TheVariants as turns
 use Rattle.apt_plane.specs.Ranges.{IsPoint, IsSurface, IsSense}
 use Rattle.apt_cldata.specs.declared.record.Position.{Position}
 use Rattle.apt_cldata.specs.declared.record.Note.{Note}
@@ -20,14 +22,32 @@ IsFromTo least most n = (least ≤ℤ n) × (n ≤ℤ most)
 abbrev pub greatest : ℤ
 greatest = pos 2147483647
 
+-- a character from space to tilde, or a tab
+abbrev pub IsTextByte : ℕ → Type 0
+IsTextByte b = ((32 ≤ b) × (b ≤ 126)) ⊎ (b ≡ 9)
+
+abbrev pub IsText : List ℕ → Type 0
+IsText [] = Unit {0}
+IsText (b ∷ bs) = IsTextByte b × IsText bs
+
+-- the number of a line or a step
+abbrev pub IsCount : ℕ → Type 0
+IsCount n = (1 ≤ n) × (n ≤ 2147483647)
+
+-- turns per minute: 0 with Off alone
+abbrev pub IsSpeed : Turn → ℤ → Type 0
+IsSpeed turns.Cw n = IsFromTo (pos 1) greatest n
+IsSpeed turns.Ccw n = IsFromTo (pos 1) greatest n
+IsSpeed turns.Off n = n ≡ pos 0
+
 abbrev pub IsNote : Note → Type 0
-IsNote (notes.Partno text) = Unit {0}
+IsNote (notes.Partno text) = IsText text
 IsNote (notes.Units units) = Unit {0}
 IsNote (notes.Cutter d) = IsFromTo (pos 0) (pos 1000000) d
 IsNote (notes.Intol t) = IsFromTo (pos 0) (pos 10000) t
 IsNote (notes.Outtol t) = IsFromTo (pos 0) (pos 10000) t
 IsNote (notes.Fedrat f) = IsFromTo (pos 1) greatest f
-IsNote (notes.Spindl turn n) = IsFromTo (pos 0) greatest n
+IsNote (notes.Spindl turn n) = IsSpeed turn n
 IsNote (notes.Coolnt c) = Unit {0}
 IsNote (notes.Loadtl n) = IsFromTo (pos 1) greatest n
 IsNote notes.Rapid = Unit {0}
@@ -41,12 +61,12 @@ ArePositions [] = Unit {0}
 ArePositions (p ∷ ps) = IsPosition p × ArePositions ps
 
 abbrev pub IsRecord : Record → Type 0
-IsRecord (records.Statement line step) = Unit {0}
+IsRecord (records.Statement line step) = IsCount line × IsCount step
 IsRecord (records.Note note) = IsNote note
 IsRecord (records.Drive surface side sense) = IsSurface surface × IsSense sense
 IsRecord (records.Check surface how) = IsSurface surface
 IsRecord (records.Point reach to) = IsPosition to
-IsRecord (records.Contour vertices) = ArePositions vertices
+IsRecord (records.Contour vertices) = (1 ≤ length vertices) × ArePositions vertices
 
 abbrev pub AreRecords : List Record → Type 0
 AreRecords [] = Unit {0}

@@ -17,7 +17,7 @@ ok-then : {A B : Type 0} (r : Result A Fault) (x : A) (f : A → Result B Fault)
 ok-then r x f e = ap (λ s. s >>= f) e
 
 -- what a block's meaning comes to, by whether the block is an end
-abbrev meaning_run : {H A : Type 0} → MeaningOf H A → Fault → List (List Mark) → Meaning H A → Bool → Result (List A) Fault
+abbrev pub meaning_run : {H A : Type 0} → MeaningOf H A → Fault → List (List Mark) → Meaning H A → Bool → Result (List A) Fault
 meaning_run means end more m t = cond t (unless_fault (after_end end (flat_map (λ text. text) more)) m.acts) (acts_and m.acts (run means m.held end more))
 
 block-run : {H A : Type 0} (means : MeaningOf H A) (held : H) (end : Fault) (text : List Mark) (more : List (List Mark)) (words : List TapeWord) (m : Meaning H A)

@@ -16,6 +16,7 @@ use Rattle.apt_block.proofs.Ending.{Ends, step_ends}
 use Rattle.apt_control.specs.declared.walk.Phase.{Phase}
 use Rattle.apt_control.specs.declared.walk.Phase.TheVariants as phases
 use Rattle.apt_control.specs.Control.{Characters, in_front, characters, is_rewind_stop, after_start, with_character, texts, last_place, Meaning, MeaningOf, after_end, unless_fault, acts_and, run, run_characters, tape_run}
+use Rattle.apt_control.proofs.Steps.{meaning_run}
 use Rattle.apt_control.specs.Walk.{outcome, outcome_as, Walk, walk_start, start_step, past_byte, with_meaning, character_step, block_step, end_step, byte_as, byte_step, byte_steps}
 
 -- ---- what the run comes to from here on
@@ -23,7 +24,15 @@ abbrev run_from : {H A : Type 0} → MeaningOf H A → H → FrontPart → Fault
 run_from means held b end [] = Err end
 run_from means held b end (text ∷ more) =
     resume b end text >>= λ words. means held (last_place text) words >>= λ m.
-    cond m.ends (unless_fault (after_end end (flat_map (λ text. text) more)) m.acts) (acts_and m.acts (run means m.held end more))
+    meaning_run means end more m m.ends
+
+-- the characters behind the next byte
+abbrev ahead : {H A : Type 0} → Walk H A → List ℕ → Characters
+ahead s bytes = characters s.code (s.count + 1) bytes
+
+-- the next byte as a character
+abbrev next_mark : {H A : Type 0} → Walk H A → ℕ → Mark
+next_mark s ch = record { at = s.count; ch = ch }
 
 abbrev start_from : {H A : Type 0} → MeaningOf H A → H → FrontPart → ℕ → Option Characters → Result (List A) Fault
 start_from means held b at None = Err (fault at causes.NoStart)
@@ -37,13 +46,13 @@ rest_as means s bytes phases.BehindEnd = unless_fault (after_end (characters s.c
 abbrev pub rest : {H A : Type 0} → MeaningOf H A → Walk H A → List ℕ → Result (List A) Fault
 rest means s bytes = rest_as means s bytes s.phase
 
-front_again : {A : Type 0} (acts more : List A) (r : Result (List A) Fault) → acts_and acts (acts_and more r) ≡ acts_and (acts ++ more) r
-front_again acts more (Ok later) = ap Ok (sym (append_assoc acts more later))
-front_again acts more (Err e) = refl
+acts_and_again : {A : Type 0} (acts more : List A) (r : Result (List A) Fault) → acts_and acts (acts_and more r) ≡ acts_and (acts ++ more) r
+acts_and_again acts more (Ok later) = ap Ok (sym (append_assoc acts more later))
+acts_and_again acts more (Err e) = refl
 
-front_ended : {A : Type 0} (acts more : List A) (o : Option Fault) → acts_and acts (unless_fault o more) ≡ unless_fault o (acts ++ more)
-front_ended acts more None = refl
-front_ended acts more (Some f) = refl
+acts_and_unless : {A : Type 0} (acts more : List A) (o : Option Fault) → acts_and acts (unless_fault o more) ≡ unless_fault o (acts ++ more)
+acts_and_unless acts more None = refl
+acts_and_unless acts more (Some f) = refl
 
 run_is_from : {H A : Type 0} (means : MeaningOf H A) (held : H) (end : Fault) (ts : List (List Mark)) → run means held end ts ≡ run_from means held block_start end ts
 run_is_from means held end [] = refl
@@ -53,16 +62,16 @@ run_is_from means held end (text ∷ more) = refl
 pub run_is_rest : {H A : Type 0} (means : MeaningOf H A) (held : H) (code : Code) (tape : List ℕ) → tape_run means held code tape ≡ rest means (walk_start held code) tape
 run_is_rest {A = A} means held code tape = go (after_start code 0 tape)
   where
-    nil_front : (r : Result (List A) Fault) → r ≡ acts_and [] r
-    nil_front (Ok acts) = refl
-    nil_front (Err e) = refl
+    acts_and_none : (r : Result (List A) Fault) → r ≡ acts_and [] r
+    acts_and_none (Ok acts) = refl
+    acts_and_none (Err e) = refl
 
-    zero_plus : length tape ≡ 0 + length tape
-    zero_plus = omega arith
+    no_bytes_before : length tape ≡ 0 + length tape
+    no_bytes_before = omega arith
 
     go : (o : Option Characters) → run_characters means held (length tape) o ≡ acts_and [] (start_from means held block_start (0 + length tape) o)
-    go None = ap (λ n. Err (fault n causes.NoStart)) zero_plus
-    go (Some cs) = run_is_from means held cs.end (texts cs.marks) ∙ nil_front _
+    go None = ap (λ n. Err (fault n causes.NoStart)) no_bytes_before
+    go (Some cs) = run_is_from means held cs.end (texts cs.marks) ∙ acts_and_none _
 
 abbrev first_of : {X : Type 0} → List X → Option X
 first_of [] = None
@@ -92,34 +101,34 @@ has_first (c ∷ cs) = go (c.ch == end_of_block) (texts cs)
 
 abbrev behind_block : {H A : Type 0} → MeaningOf H A → H → Fault → ℕ → List (List Mark) → Result (List TapeWord) Fault → Result (List A) Fault
 behind_block means held end at more read =
-    read >>= λ words. means held at words >>= λ m. cond m.ends (unless_fault (after_end end (flat_map (λ text. text) more)) m.acts) (acts_and m.acts (run means m.held end more))
+    read >>= λ words. means held at words >>= λ m. meaning_run means end more m m.ends
 
 open_ends : (end : Fault) (b : FrontPart) → is_whole b ≡ false → resume b end [] ≡ Err end
 open_ends end b is = resume_end b end ∙ words_open end b is
 
 -- ---- one character
 -- a character that ends no block, before the first text
-inner : {H A : Type 0} (means : MeaningOf H A) (held : H) (b : FrontPart) (end : Fault) (c : Mark) (text : List Mark) (more : List (List Mark)) → is_whole b ≡ false
+before_text : {H A : Type 0} (means : MeaningOf H A) (held : H) (b : FrontPart) (end : Fault) (c : Mark) (text : List Mark) (more : List (List Mark)) → is_whole b ≡ false
     → behind_block means held end (last_place (c ∷ text)) more (resume b end text) ≡ run_from means held b end (text ∷ more)
-inner means held b end c [] more is = ap (behind_block means held end c.at more) (open_ends end b is) ∙ sym (ap (behind_block means held end 0 more) (open_ends end b is))
-inner means held b end c (d ∷ text) more is = refl
+before_text means held b end c [] more is = ap (behind_block means held end c.at more) (open_ends end b is) ∙ sym (ap (behind_block means held end 0 more) (open_ends end b is))
+before_text means held b end c (d ∷ text) more is = refl
 
-each_in : {H A : Type 0} (means : MeaningOf H A) (held : H) (end : Fault) (c : Mark) (text : List Mark) (more : List (List Mark)) (r : Result FrontPart Fault) → Ends false r
+before_text_as : {H A : Type 0} (means : MeaningOf H A) (held : H) (end : Fault) (c : Mark) (text : List Mark) (more : List (List Mark)) (r : Result FrontPart Fault) → Ends false r
     → behind_block means held end (last_place (c ∷ text)) more (r >>= λ b. resume b end text) ≡ (r >>= λ b. run_from means held b end (text ∷ more))
-each_in means held end c text more (Ok b) is = inner means held b end c text more is
-each_in means held end c text more (Err e) is = refl
+before_text_as means held end c text more (Ok b) is = before_text means held b end c text more is
+before_text_as means held end c text more (Err e) is = refl
 
-within : {H A : Type 0} (means : MeaningOf H A) (held : H) (b : FrontPart) (end : Fault) (c : Mark) (ts : List (List Mark)) → Ends false (step b c) → IsSome (first_of ts)
+character_in_text : {H A : Type 0} (means : MeaningOf H A) (held : H) (b : FrontPart) (end : Fault) (c : Mark) (ts : List (List Mark)) → Ends false (step b c) → IsSome (first_of ts)
     → run_from means held b end (with_character c ts) ≡ (step b c >>= λ b. run_from means held b end ts)
-within means held b end c [] is some = absurd (no_true some)
-within means held b end c (text ∷ more) is some =
-    ap (behind_block means held end (last_place (c ∷ text)) more) (resume_step b end c text) ∙ each_in means held end c text more (step b c) is
+character_in_text means held b end c [] is some = absurd (no_true some)
+character_in_text means held b end c (text ∷ more) is some =
+    ap (behind_block means held end (last_place (c ∷ text)) more) (resume_step b end c text) ∙ before_text_as means held end c text more (step b c) is
 
 -- an end of block
-closing : {H A : Type 0} (means : MeaningOf H A) (held : H) (end : Fault) (at : ℕ) (more : List (List Mark)) (r : Result FrontPart Fault) → Ends true r
+end_in_text : {H A : Type 0} (means : MeaningOf H A) (held : H) (end : Fault) (at : ℕ) (more : List (List Mark)) (r : Result FrontPart Fault) → Ends true r
     → behind_block means held end at more (r >>= λ b. resume b end []) ≡ (r >>= λ b. behind_block means held end at more (Ok b.words))
-closing means held end at more (Ok b) is = ap (behind_block means held end at more) (resume_end b end ∙ words_whole end b is)
-closing means held end at more (Err e) is = refl
+end_in_text means held end at more (Ok b) is = ap (behind_block means held end at more) (resume_end b end ∙ words_whole end b is)
+end_in_text means held end at more (Err e) is = refl
 
 -- ---- one byte
 abbrev pub IsOpen : {H A : Type 0} → Walk H A → Type 0
@@ -131,60 +140,54 @@ AreOpen (Err f) = Unit {0}
 
 -- what a block's meaning comes to
 meaning_step : {H A : Type 0} (means : MeaningOf H A) (s : Walk H A) (bytes : List ℕ) (q : Result (Meaning H A) Fault)
-    → acts_and s.acts (q >>= λ m. cond m.ends (unless_fault (after_end (characters s.code (s.count + 1) bytes).end (flat_map (λ text. text) (texts (characters s.code (s.count + 1) bytes).marks))) m.acts) (acts_and m.acts (run means m.held (characters s.code (s.count + 1) bytes).end (texts (characters s.code (s.count + 1) bytes).marks))))
+    → acts_and s.acts (q >>= λ m. meaning_run means (ahead s bytes).end (texts (ahead s bytes).marks) m m.ends)
     ≡ (q >>= (λ m. Ok (with_meaning s m)) >>= λ s. rest means s bytes)
 meaning_step means s bytes (Err e) = refl
 meaning_step {H = H} {A = A} means s bytes (Ok m) = go m.ends
   where
-    cs : Characters
-    cs = characters s.code (s.count + 1) bytes
-
-    go : (u : Bool) → acts_and s.acts (cond u (unless_fault (after_end (characters s.code (s.count + 1) bytes).end (flat_map (λ text. text) (texts (characters s.code (s.count + 1) bytes).marks))) m.acts) (acts_and m.acts (run means m.held (characters s.code (s.count + 1) bytes).end (texts (characters s.code (s.count + 1) bytes).marks))))
+    go : (u : Bool) → acts_and s.acts (meaning_run means (ahead s bytes).end (texts (ahead s bytes).marks) m u)
         ≡ rest_as means (with_meaning s m) bytes (cond u phases.BehindEnd phases.InBlock)
     go true =
-        front_ended s.acts m.acts _
-        ∙ ap (λ marks. unless_fault (after_end (characters s.code (s.count + 1) bytes).end marks) (s.acts ++ m.acts)) (flat_texts (characters s.code (s.count + 1) bytes).marks)
+        acts_and_unless s.acts m.acts _
+        ∙ ap (λ marks. unless_fault (after_end (ahead s bytes).end marks) (s.acts ++ m.acts)) (flat_texts (ahead s bytes).marks)
     go false =
-        front_again s.acts m.acts _
-        ∙ ap (acts_and (s.acts ++ m.acts)) (run_is_from means m.held (characters s.code (s.count + 1) bytes).end (texts (characters s.code (s.count + 1) bytes).marks))
+        acts_and_again s.acts m.acts _
+        ∙ ap (acts_and (s.acts ++ m.acts)) (run_is_from means m.held (ahead s bytes).end (texts (ahead s bytes).marks))
 
-abbrev chosen_step : {H A : Type 0} → MeaningOf H A → Walk H A → FrontPart → Bool → Result (Walk H A) Fault
-chosen_step means s b t = cond t (means s.held s.count b.words >>= λ m. Ok (with_meaning s m)) (Ok (record s { block = b; count = s.count + 1 }))
+abbrev step_by_end : {H A : Type 0} → MeaningOf H A → Walk H A → FrontPart → Bool → Result (Walk H A) Fault
+step_by_end means s b t = cond t (means s.held s.count b.words >>= λ m. Ok (with_meaning s m)) (Ok (record s { block = b; count = s.count + 1 }))
 
 closed_step : {H A : Type 0} (means : MeaningOf H A) (s : Walk H A) (bytes : List ℕ) (r : Result FrontPart Fault) → Ends true r
-    → acts_and s.acts (behind_block means s.held (characters s.code (s.count + 1) bytes).end s.count (texts (characters s.code (s.count + 1) bytes).marks) (r >>= λ b. resume b (characters s.code (s.count + 1) bytes).end []))
-    ≡ (r >>= (λ b. chosen_step means s b (is_whole b)) >>= λ s. rest means s bytes)
+    → acts_and s.acts (behind_block means s.held (ahead s bytes).end s.count (texts (ahead s bytes).marks) (r >>= λ b. resume b (ahead s bytes).end []))
+    ≡ (r >>= (λ b. step_by_end means s b (is_whole b)) >>= λ s. rest means s bytes)
 closed_step means s bytes (Err e) is = refl
 closed_step means s bytes (Ok b) is =
-    ap (λ read. acts_and s.acts (behind_block means s.held (characters s.code (s.count + 1) bytes).end s.count (texts (characters s.code (s.count + 1) bytes).marks) read)) (resume_end b _ ∙ words_whole _ b is)
+    ap (λ read. acts_and s.acts (behind_block means s.held (ahead s bytes).end s.count (texts (ahead s bytes).marks) read)) (resume_end b _ ∙ words_whole _ b is)
     ∙ meaning_step means s bytes (means s.held s.count b.words)
-    ∙ ap (λ t. chosen_step means s b t >>= λ s. rest means s bytes) (sym is)
+    ∙ ap (λ t. step_by_end means s b t >>= λ s. rest means s bytes) (sym is)
 
 open_step : {H A : Type 0} (means : MeaningOf H A) (s : Walk H A) (bytes : List ℕ) (r : Result FrontPart Fault) → s.phase ≡ phases.InBlock → Ends false r
-    → acts_and s.acts (r >>= λ b. run_from means s.held b (characters s.code (s.count + 1) bytes).end (texts (characters s.code (s.count + 1) bytes).marks))
-    ≡ (r >>= (λ b. chosen_step means s b (is_whole b)) >>= λ s. rest means s bytes)
+    → acts_and s.acts (r >>= λ b. run_from means s.held b (ahead s bytes).end (texts (ahead s bytes).marks))
+    ≡ (r >>= (λ b. step_by_end means s b (is_whole b)) >>= λ s. rest means s bytes)
 open_step means s bytes (Err e) phase is = refl
 open_step means s bytes (Ok b) phase is =
     ap (rest_as means (record s { block = b; count = s.count + 1 }) bytes) (sym phase)
-    ∙ ap (λ t. chosen_step means s b t >>= λ s. rest means s bytes) (sym is)
+    ∙ ap (λ t. step_by_end means s b t >>= λ s. rest means s bytes) (sym is)
 
 character_law : {H A : Type 0} (means : MeaningOf H A) (s : Walk H A) (ch : ℕ) (bytes : List ℕ) → s.phase ≡ phases.InBlock
-    → acts_and s.acts (run_from means s.held s.block (characters s.code (s.count + 1) bytes).end (texts (record { at = s.count; ch = ch } ∷ (characters s.code (s.count + 1) bytes).marks)))
+    → acts_and s.acts (run_from means s.held s.block (ahead s bytes).end (texts (next_mark s ch ∷ (ahead s bytes).marks)))
     ≡ (character_step means s ch >>= λ s. rest means s bytes)
-character_law {H = H} {A = A} means s ch bytes phase = go (ch == end_of_block) (step_ends s.block (record { at = s.count; ch = ch }))
+character_law {H = H} {A = A} means s ch bytes phase = go (ch == end_of_block) (step_ends s.block (next_mark s ch))
   where
-    c : Mark
-    c = record { at = s.count; ch = ch }
-
-    go : (t : Bool) → Ends t (step s.block (record { at = s.count; ch = ch }))
-        → acts_and s.acts (run_from means s.held s.block (characters s.code (s.count + 1) bytes).end (cond t ((record { at = s.count; ch = ch } ∷ []) ∷ texts (characters s.code (s.count + 1) bytes).marks) (with_character (record { at = s.count; ch = ch }) (texts (characters s.code (s.count + 1) bytes).marks))))
+    go : (t : Bool) → Ends t (step s.block (next_mark s ch))
+        → acts_and s.acts (run_from means s.held s.block (ahead s bytes).end (cond t ((next_mark s ch ∷ []) ∷ texts (ahead s bytes).marks) (with_character (next_mark s ch) (texts (ahead s bytes).marks))))
         ≡ (character_step means s ch >>= λ s. rest means s bytes)
     go true is =
-        ap (λ read. acts_and s.acts (behind_block means s.held (characters s.code (s.count + 1) bytes).end s.count (texts (characters s.code (s.count + 1) bytes).marks) read)) (resume_step s.block _ (record { at = s.count; ch = ch }) [])
-        ∙ closed_step means s bytes (step s.block (record { at = s.count; ch = ch })) is
+        ap (λ read. acts_and s.acts (behind_block means s.held (ahead s bytes).end s.count (texts (ahead s bytes).marks) read)) (resume_step s.block _ (next_mark s ch) [])
+        ∙ closed_step means s bytes (step s.block (next_mark s ch)) is
     go false is =
-        ap (acts_and s.acts) (within means s.held s.block _ (record { at = s.count; ch = ch }) (texts (characters s.code (s.count + 1) bytes).marks) is (has_first (characters s.code (s.count + 1) bytes).marks))
-        ∙ open_step means s bytes (step s.block (record { at = s.count; ch = ch })) phase is
+        ap (acts_and s.acts) (character_in_text means s.held s.block _ (next_mark s ch) (texts (ahead s bytes).marks) is (has_first (ahead s bytes).marks))
+        ∙ open_step means s bytes (step s.block (next_mark s ch)) phase is
 
 bad_end : {H A : Type 0} (means : MeaningOf H A) (s : Walk H A) (f : Fault) → IsOpen s → acts_and s.acts (run_from means s.held s.block f (texts [])) ≡ Err f
 bad_end means s f is = ap (λ read. acts_and s.acts (behind_block means s.held f 0 [] read)) (open_ends f s.block is)
@@ -194,29 +197,29 @@ pub rest_step : {H A : Type 0} (means : MeaningOf H A) (s : Walk H A) (byte : �
     → rest means s (byte ∷ bytes) ≡ (byte_step means s byte >>= λ s. rest means s bytes)
 rest_step {H = H} {A = A} means s byte bytes is = go s.phase refl
   where
-    counted_rest : (p : Phase) → s.phase ≡ p → rest_as means (past_byte s) bytes p ≡ rest means (past_byte s) bytes
-    counted_rest p e = ap (rest_as means (past_byte s) bytes) (sym e)
+    rest_past : (p : Phase) → s.phase ≡ p → rest_as means (past_byte s) bytes p ≡ rest means (past_byte s) bytes
+    rest_past p e = ap (rest_as means (past_byte s) bytes) (sym e)
 
-    before : (t : Bool) → acts_and s.acts (start_from means s.held s.block (s.count + length (byte ∷ bytes)) (cond t (Some (characters s.code (s.count + 1) bytes)) (after_start s.code (s.count + 1) bytes)))
+    before : (t : Bool) → acts_and s.acts (start_from means s.held s.block (s.count + length (byte ∷ bytes)) (cond t (Some (ahead s bytes)) (after_start s.code (s.count + 1) bytes)))
         ≡ rest means (start_step t s) bytes
     before true = refl
     before false = ap (λ n. acts_and s.acts (start_from means s.held s.block n (after_start s.code (s.count + 1) bytes))) (omega arith)
 
     block : s.phase ≡ phases.InBlock → (r : Read)
-        → acts_and s.acts (start_from means s.held s.block 0 (Some (in_front s.count r (characters s.code (s.count + 1) bytes)))) ≡ (block_step means s r >>= λ s. rest means s bytes)
+        → acts_and s.acts (start_from means s.held s.block 0 (Some (in_front s.count r (ahead s bytes)))) ≡ (block_step means s r >>= λ s. rest means s bytes)
     block e (reads.Char ch) = character_law means s ch bytes e
-    block e reads.Skip = counted_rest phases.InBlock e
+    block e reads.Skip = rest_past phases.InBlock e
     block e reads.BadParity = bad_end means s _ is
     block e reads.BadCode = bad_end means s _ is
 
     behind : s.phase ≡ phases.BehindEnd → (r : Read)
-        → unless_fault (after_end (in_front s.count r (characters s.code (s.count + 1) bytes)).end (in_front s.count r (characters s.code (s.count + 1) bytes)).marks) s.acts ≡ (end_step s r >>= λ s. rest means s bytes)
+        → unless_fault (after_end (in_front s.count r (ahead s bytes)).end (in_front s.count r (ahead s bytes)).marks) s.acts ≡ (end_step s r >>= λ s. rest means s bytes)
     behind e (reads.Char ch) = stop (ch == rewind_stop)
       where
-        stop : (t : Bool) → unless_fault (cond t (after_end (characters s.code (s.count + 1) bytes).end (characters s.code (s.count + 1) bytes).marks) (Some (fault s.count causes.AfterEnd))) s.acts ≡ (cond t (Ok (past_byte s)) (Err (fault s.count causes.AfterEnd)) >>= λ s. rest means s bytes)
-        stop true = counted_rest phases.BehindEnd e
+        stop : (t : Bool) → unless_fault (cond t (after_end (ahead s bytes).end (ahead s bytes).marks) (Some (fault s.count causes.AfterEnd))) s.acts ≡ (cond t (Ok (past_byte s)) (Err (fault s.count causes.AfterEnd)) >>= λ s. rest means s bytes)
+        stop true = rest_past phases.BehindEnd e
         stop false = refl
-    behind e reads.Skip = counted_rest phases.BehindEnd e
+    behind e reads.Skip = rest_past phases.BehindEnd e
     behind e reads.BadParity = refl
     behind e reads.BadCode = refl
 
@@ -233,16 +236,16 @@ open_kept {H = H} {A = A} means s byte is = go s.phase
     after_meaning (Ok m) = refl
     after_meaning (Err e) = tt
 
-    after_step : (b : FrontPart) (t : Bool) → is_whole b ≡ t → AreOpen (chosen_step means s b t)
+    after_step : (b : FrontPart) (t : Bool) → is_whole b ≡ t → AreOpen (step_by_end means s b t)
     after_step b true e = after_meaning (means s.held s.count b.words)
     after_step b false e = e
 
-    character : (r : Result FrontPart Fault) → AreOpen (r >>= λ b. chosen_step means s b (is_whole b))
+    character : (r : Result FrontPart Fault) → AreOpen (r >>= λ b. step_by_end means s b (is_whole b))
     character (Ok b) = after_step b (is_whole b) refl
     character (Err e) = tt
 
     block : (r : Read) → AreOpen (block_step means s r)
-    block (reads.Char ch) = character (step s.block (record { at = s.count; ch = ch }))
+    block (reads.Char ch) = character (step s.block (next_mark s ch))
     block reads.Skip = is
     block reads.BadParity = tt
     block reads.BadCode = tt

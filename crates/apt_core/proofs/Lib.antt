@@ -1,3 +1,9 @@
+pub mod Apart
+pub mod Outputs
+pub mod Deliveries
 pub mod Compiling
+pub mod Judging
+pub mod Certifying
+pub mod Right
 pub mod Putting
 pub mod Running

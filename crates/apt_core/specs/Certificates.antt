@@ -2,7 +2,7 @@
 use Rattle.std.specs.Prelude.{◌≡◌, ◌≢◌, ℕ, ◌+◌, List, [], ◌∷◌, ◌++◌, length, None, Ok, Err}
 use Rattle.apt_words.specs.declared.deed.Step.{Step}
 use Rattle.apt_cldata.specs.declared.record.Record.{Record}
-use Rattle.apt_cldata.specs.Reading.{read_of, fault as cl_fault}
+use Rattle.apt_cldata.specs.Reading.{read_of}
 use Rattle.apt_certify.specs.declared.leg.Job.{Job}
 use Rattle.apt_certify.specs.declared.verdict.Verdict.{Verdict}
 use Rattle.apt_certify.specs.Jobs.{AreLegal}
@@ -14,7 +14,7 @@ use Rattle.apt_meaning.specs.Expectations.{FailsAt}
 use Rattle.apt_job.specs.Jobs.{MakesJobs}
 use Rattle.apt_machine.specs.declared.Machine.{Machine}
 use Rattle.apt_control.specs.declared.Act.{Act}
-use Rattle.apt_control.specs.Control.{control_run, fault as tape_fault}
+use Rattle.apt_control.specs.Control.{control_run}
 use Rattle.apt_post.specs.Plan.{plan, positions, points}
 use Rattle.apt_part.specs.Compilation.{Compiled, part_of}
 use Rattle.apt_part.specs.Promise.{Passes}
@@ -74,9 +74,9 @@ pub record IsCertified (machine : Machine) (text cl tape : List ℕ) (verdict : 
 abbrev pub IsJudgement : Machine → List ℕ → List ℕ → List ℕ → Status → Type 0
 IsJudgement machine text cl tape (answers.BadPart line cause) = part_of machine text ≡ Err (line, cause)
 IsJudgement machine text cl tape (answers.Refused line step case) = part_of machine text ≡ Ok (Err (record { line = line; step = step; case = case }))
-IsJudgement machine text cl tape (answers.BadCl at cause) = (p : Compiled) × (part_of machine text ≡ Ok (Ok p)) × (read_of cl ≡ Err (cl_fault at cause))
+IsJudgement machine text cl tape (answers.BadCl at cause) = (p : Compiled) × (part_of machine text ≡ Ok (Ok p)) × (read_of cl ≡ Err (record { at = at; cause = cause }))
 IsJudgement machine text cl tape (answers.BadTape at cause) =
-    (p : Compiled) × (written : List Record) × (part_of machine text ≡ Ok (Ok p)) × (read_of cl ≡ Ok written) × (control_run machine.code tape ≡ Err (tape_fault at cause))
+    (p : Compiled) × (written : List Record) × (part_of machine text ≡ Ok (Ok p)) × (read_of cl ≡ Ok written) × (control_run machine.code tape ≡ Err (record { at = at; cause = cause }))
 IsJudgement machine text cl tape (answers.NotCertified miss) =
     (p : Compiled) × (written : List Record) × (acts : List Act)
     × (part_of machine text ≡ Ok (Ok p)) × (read_of cl ≡ Ok written) × (control_run machine.code tape ≡ Ok acts) × IsMiss p.steps written acts miss

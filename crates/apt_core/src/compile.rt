@@ -1,6 +1,6 @@
 //! The command `compile`.
 
-ghost use Rattle.std.specs.Prelude.{◌≡◌, ◌≤◌, IfOk, IfErr, Ok};
+ghost use Rattle.std.specs.Prelude.{◌≡◌, ◌≢◌, ◌≤◌, IfOk, IfErr, Ok};
 ghost use Rattle.apt_shelf.specs.Told.{Rose};
 ghost use Rattle.apt_cldata.specs.Files.{IsFile};
 ghost use Rattle.apt_cldata.specs.Reading.{read_of};
@@ -50,7 +50,8 @@ pub(crate) fn compile<H: Shelf>(
     machine: &Machine,
     names: Names<'_>,
 ) -> Status
-    requires { IsMachine machine.now }
+    requires machine { IsMachine machine.now }
+    requires apart { names.cl.now ≢ names.tape.now }
     ensures { Compiles machine.now (four_names names) (files_on H.Shelf shelf.old) (files_on H.Shelf shelf.new) result }
 {
     let text = match read_input(alloc, shelf, names.part, PART_LIMIT) {
@@ -103,7 +104,7 @@ fn output_of(alloc: Global, part: &Part, machine: &Machine) -> Result<Output, Al
 }
 
 /// Writes the CL file whole, and then the tape.
-#[tactic(auto, using(crate::proofs::Deliveries::none_written, crate::proofs::Deliveries::cl_written, crate::proofs::Deliveries::both_written))]
+#[tactic(auto, using(crate::proofs::Deliveries::cl_cut, crate::proofs::Deliveries::tape_cut, crate::proofs::Deliveries::both_whole))]
 fn deliver<H: Shelf>(shelf: &mut H, output: &Output, cl: &str, tape: &str) -> Status
     ensures delivered { IsDelivered cl.now tape.now output.now (H.told shelf.old) (H.told shelf.new) result }
     ensures write_fault { result ≡ Status.WriteFault → Rose (H.write_faults shelf.old) (H.write_faults shelf.new) }

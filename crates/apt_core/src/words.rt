@@ -1,9 +1,9 @@
 //! The words of the command line.
 
-ghost use Rattle.std.specs.Prelude.{◌≡◌, Some, None, option_map};
+ghost use Rattle.std.specs.Prelude.{◌≡◌, option_map, IfSome};
 ghost use Rattle.apt_core.specs.Words as words;
 ghost use Rattle.apt_core.specs.Words.{asked, texts};
-ghost use Rattle.apt_core.specs.Request.{ask_of, four_names};
+ghost use Rattle.apt_core.specs.Request.{ask_of, four_names, IsApart};
 
 /// The names PART, MACHINE, CL and TAPE.
 #[derive(Clone, Copy)]
@@ -23,7 +23,8 @@ pub(crate) enum Request<'a> {
 
 /// The command that the words ask for.
 pub(crate) fn request_of<'a>(words: &'a [String]) -> Option<Request<'a>>
-    ensures { option_map ask_of result ≡ asked (texts words.now) }
+    ensures ask { option_map ask_of result ≡ asked (texts words.now) }
+    ensures apart { IfSome result IsApart }
 {
     match words {
         [word, part, machine, cl, tape] => command_request(
@@ -40,7 +41,8 @@ pub(crate) fn request_of<'a>(words: &'a [String]) -> Option<Request<'a>>
 }
 
 fn command_request<'a>(word: &str, names: Names<'a>) -> Option<Request<'a>>
-    ensures { option_map ask_of result ≡ words.command_ask word.now (four_names names) }
+    ensures ask { option_map ask_of result ≡ words.command_ask word.now (four_names names) }
+    ensures apart { IfSome result IsApart }
 {
     if word == "compile" {
         compile_request(names)
@@ -51,8 +53,10 @@ fn command_request<'a>(word: &str, names: Names<'a>) -> Option<Request<'a>>
     }
 }
 
+#[tactic(auto, using(crate::proofs::Apart::outputs_differ))]
 fn compile_request<'a>(names: Names<'a>) -> Option<Request<'a>>
-    ensures { option_map ask_of result ≡ words.compile_ask (four_names names) }
+    ensures ask { option_map ask_of result ≡ words.compile_ask (four_names names) }
+    ensures apart { IfSome result IsApart }
 {
     if are_names(&names) && are_apart(&names) {
         Some(Request::Compile(names))
@@ -62,7 +66,8 @@ fn compile_request<'a>(names: Names<'a>) -> Option<Request<'a>>
 }
 
 fn certify_request<'a>(names: Names<'a>) -> Option<Request<'a>>
-    ensures { option_map ask_of result ≡ words.certify_ask (four_names names) }
+    ensures ask { option_map ask_of result ≡ words.certify_ask (four_names names) }
+    ensures apart { IfSome result IsApart }
 {
     if are_names(&names) {
         Some(Request::Certify(names))

@@ -1,5 +1,5 @@
 -- A step that no case refuses has an effect in range, and a contour that it asks for is legal to its contact.
-use Rattle.std.proofs.Common.{◌≡◌, ◌≢◌, ◌==◌, ℕ, unsigned_abs, not, Bool, true, false, List, [], ◌∷◌, Option, Some, None, is_none, IfSome, refl, cond, sym, ap, subst, ◌∙◌, pos}
+use Rattle.std.proofs.Common.{◌≡◌, ◌≢◌, ◌==◌, ℕ, unsigned_abs, not, Bool, true, false, List, [], ◌∷◌, Option, Some, None, is_none, IfSome, refl, cond, sym, ap, subst, ◌∙◌, pos, arith}
 use Rattle.std.proofs.lemmas.Bool.{true≢false, eqb-false}
 use Rattle.apt_num.specs.declared.Sign.{Sign}
 use Rattle.apt_words.specs.declared.Go.{Go}
@@ -10,6 +10,7 @@ use Rattle.apt_words.specs.declared.deed.Deed.{Deed}
 use Rattle.apt_words.specs.declared.deed.Deed.TheVariants as deeds
 use Rattle.apt_words.specs.Options.{◌>>=◌}
 use Rattle.apt_words.specs.Rows.{Row, first_of, NoneHolds}
+use Rattle.apt_words.specs.Sources.{DeedHasText}
 use Rattle.apt_scalar.specs.Scalars.{grid_units, tenths}
 use Rattle.apt_plane.specs.declared.figures.Pt.{Pt}
 use Rattle.apt_plane.specs.declared.figures.Surface.{Surface}
@@ -46,6 +47,7 @@ use Rattle.apt_meaning.specs.Ranges.{IsPositionOrNone, AreSettings, IsSituation,
 use Rattle.apt_scalar.specs.StepScalars.{HasScalars}
 use Rattle.apt_meaning.specs.Vertices.{HasIn}
 use Rattle.apt_meaning.proofs.Refused.{first_none, none_first}
+use Rattle.apt_meaning.proofs.Titles.{record_text}
 use Rattle.apt_meaning.proofs.Legal.{motion_legal, motion_contact, motion_defined, start_up_point}
 use Rattle.apt_meaning.proofs.EffectRanges.{reach_in, up_to_in, tolerance_in, radius_in, feed_in, feed_note, with_units, with_radius, with_intol, with_outtol, with_feed, with_rapid, with_ended, on_side, on_side_or_as_it_was, sense_in, allowance_in}
 
@@ -71,7 +73,7 @@ moves_to : (reach : Reach) (to : Position) → IsPosition to → Asks (Some (eff
 moves_to reach to is = record { e = effects.Moves reach to; asked = refl; good = is; legal = tt; ends = tt; may = refl }
 
 cuts_on : (m : Motion) → IsMotion m → NoneHolds (motion_cases m) → Asks (Some (effects.Cuts m))
-cuts_on m is none = record { e = effects.Cuts m; asked = refl; good = is; legal = motion_legal m is none; ends = (motion_contact m is none, tt); may = motion_defined m is none }
+cuts_on m is none = record { e = effects.Cuts m; asked = refl; good = is; legal = motion_legal m is none; ends = (omega arith, (motion_contact m is none, tt)); may = motion_defined m is none }
 
 -- ---- lines and moves
 
@@ -197,74 +199,74 @@ contour_asks at side go drive how check is none =
 
 -- ---- a line for each statement
 
-pub asks : (at : Situation) (deed : Deed) → IsSituation at → HasScalars deed → NoneHolds (cases_of at deed) → Asks (effect_of at deed)
-asks at (deeds.Partno text) is numbers none = says at.settings (notes.Partno text) is.settings tt
-asks at (deeds.Remark text) is numbers none = sets at.settings is.settings
-asks at (deeds.Units units) is numbers none = says (record at.settings { units = units }) (notes.Units units) (with_units at.settings units is.settings) tt
-asks at deeds.Clprnt is numbers none = sets at.settings is.settings
-asks at deeds.Nopost is numbers none = sets at.settings is.settings
-asks at deeds.Machin is numbers none = sets at.settings is.settings
-asks at (deeds.Assign n v) is numbers none = defines n figures.Scalar tt
-asks at (deeds.PointXy n x y z) is numbers none = absurd (true≢false none.0)
-asks at (deeds.PointLines n a b) is numbers none = absurd (true≢false none.0)
-asks at (deeds.PointPick n k a b) is numbers none = absurd (true≢false none.0)
-asks at (deeds.PointCenter n c) is numbers none = absurd (true≢false none.0)
-asks at (deeds.LineXy n x y u v) is numbers none = defines n (line_figure at.settings.units x y u v) (line_is (point_by at.settings.units x y) (point_by at.settings.units u v) none)
-asks at (deeds.LinePoints n p q) is numbers none = absurd (true≢false none.0)
-asks at (deeds.LinePar n p l) is numbers none = absurd (true≢false none.0)
-asks at (deeds.LinePerp n p l) is numbers none = absurd (true≢false none.0)
-asks at (deeds.LineAt n l k v) is numbers none = absurd (true≢false none.0)
-asks at (deeds.LineTan n p h c) is numbers none = absurd (true≢false none.0)
-asks at (deeds.LineTwo n h c k d) is numbers none = absurd (true≢false none.0)
-asks at (deeds.CircleXyr n x y r) is numbers none = absurd (true≢false none.0)
-asks at (deeds.CirclePoints n a b c) is numbers none = absurd (true≢false none.0)
-asks at (deeds.CircleRadius n p r) is numbers none = absurd (true≢false none.0)
-asks at (deeds.CircleTan n p l) is numbers none = absurd (true≢false none.0)
-asks at (deeds.CircleThrough n p q) is numbers none = absurd (true≢false none.0)
-asks at (deeds.CircleCorner n j a k b r) is numbers none = absurd (true≢false none.0)
-asks at (deeds.Cutter v) is numbers none =
+pub asks : (at : Situation) (deed : Deed) → IsSituation at → HasScalars deed → DeedHasText deed → NoneHolds (cases_of at deed) → Asks (effect_of at deed)
+asks at (deeds.Partno text) is numbers worded none = says at.settings (notes.Partno text) is.settings (record_text text worded.0)
+asks at (deeds.Remark text) is numbers worded none = sets at.settings is.settings
+asks at (deeds.Units units) is numbers worded none = says (record at.settings { units = units }) (notes.Units units) (with_units at.settings units is.settings) tt
+asks at deeds.Clprnt is numbers worded none = sets at.settings is.settings
+asks at deeds.Nopost is numbers worded none = sets at.settings is.settings
+asks at deeds.Machin is numbers worded none = sets at.settings is.settings
+asks at (deeds.Assign n v) is numbers worded none = defines n figures.Scalar tt
+asks at (deeds.PointXy n x y z) is numbers worded none = absurd (true≢false none.0)
+asks at (deeds.PointLines n a b) is numbers worded none = absurd (true≢false none.0)
+asks at (deeds.PointPick n k a b) is numbers worded none = absurd (true≢false none.0)
+asks at (deeds.PointCenter n c) is numbers worded none = absurd (true≢false none.0)
+asks at (deeds.LineXy n x y u v) is numbers worded none = defines n (line_figure at.settings.units x y u v) (line_is (point_by at.settings.units x y) (point_by at.settings.units u v) none)
+asks at (deeds.LinePoints n p q) is numbers worded none = absurd (true≢false none.0)
+asks at (deeds.LinePar n p l) is numbers worded none = absurd (true≢false none.0)
+asks at (deeds.LinePerp n p l) is numbers worded none = absurd (true≢false none.0)
+asks at (deeds.LineAt n l k v) is numbers worded none = absurd (true≢false none.0)
+asks at (deeds.LineTan n p h c) is numbers worded none = absurd (true≢false none.0)
+asks at (deeds.LineTwo n h c k d) is numbers worded none = absurd (true≢false none.0)
+asks at (deeds.CircleXyr n x y r) is numbers worded none = absurd (true≢false none.0)
+asks at (deeds.CirclePoints n a b c) is numbers worded none = absurd (true≢false none.0)
+asks at (deeds.CircleRadius n p r) is numbers worded none = absurd (true≢false none.0)
+asks at (deeds.CircleTan n p l) is numbers worded none = absurd (true≢false none.0)
+asks at (deeds.CircleThrough n p q) is numbers worded none = absurd (true≢false none.0)
+asks at (deeds.CircleCorner n j a k b r) is numbers worded none = absurd (true≢false none.0)
+asks at (deeds.Cutter v) is numbers worded none =
     let radius = pos (radius_of (unsigned_abs (grid_units at.settings.units v))) in
     says (record at.settings { radius = radius }) (notes.Cutter (grid_units at.settings.units v)) (with_radius at.settings radius is.settings (radius_in (grid_units at.settings.units v) none.0)) (up_to_in (pos 1000000) (grid_units at.settings.units v) none.0)
-asks at (deeds.Intol v) is numbers none = says (record at.settings { intol = grid_units at.settings.units v }) (notes.Intol (grid_units at.settings.units v)) (with_intol at.settings (grid_units at.settings.units v) is.settings (tolerance_in (grid_units at.settings.units v) none.0)) (up_to_in (pos 10000) (grid_units at.settings.units v) none.0)
-asks at (deeds.Outtol v) is numbers none = says (record at.settings { outtol = grid_units at.settings.units v }) (notes.Outtol (grid_units at.settings.units v)) (with_outtol at.settings (grid_units at.settings.units v) is.settings (tolerance_in (grid_units at.settings.units v) none.0)) (up_to_in (pos 10000) (grid_units at.settings.units v) none.0)
-asks at (deeds.Tool side) is numbers none = sets (record at.settings { side = side }) (on_side at.settings side is.settings)
-asks at (deeds.FromXy x y z) is numbers none = moves_to reaches.From (position_by at.settings.units x y z) (position_is (position_by at.settings.units x y z) [] none.1)
-asks at (deeds.FromPoint p) is numbers none = absurd (true≢false none.0)
-asks at (deeds.GotoXy x y z) is numbers none = move_asks reaches.Goto at.settings (Some (position_by at.settings.units x y z)) refl none
-asks at (deeds.GotoPoint p) is numbers none = absurd (true≢false none.0)
-asks at (deeds.Godlta x y z) is numbers none =
+asks at (deeds.Intol v) is numbers worded none = says (record at.settings { intol = grid_units at.settings.units v }) (notes.Intol (grid_units at.settings.units v)) (with_intol at.settings (grid_units at.settings.units v) is.settings (tolerance_in (grid_units at.settings.units v) none.0)) (up_to_in (pos 10000) (grid_units at.settings.units v) none.0)
+asks at (deeds.Outtol v) is numbers worded none = says (record at.settings { outtol = grid_units at.settings.units v }) (notes.Outtol (grid_units at.settings.units v)) (with_outtol at.settings (grid_units at.settings.units v) is.settings (tolerance_in (grid_units at.settings.units v) none.0)) (up_to_in (pos 10000) (grid_units at.settings.units v) none.0)
+asks at (deeds.Tool side) is numbers worded none = sets (record at.settings { side = side }) (on_side at.settings side is.settings)
+asks at (deeds.FromXy x y z) is numbers worded none = moves_to reaches.From (position_by at.settings.units x y z) (position_is (position_by at.settings.units x y z) [] none.1)
+asks at (deeds.FromPoint p) is numbers worded none = absurd (true≢false none.0)
+asks at (deeds.GotoXy x y z) is numbers worded none = move_asks reaches.Goto at.settings (Some (position_by at.settings.units x y z)) refl none
+asks at (deeds.GotoPoint p) is numbers worded none = absurd (true≢false none.0)
+asks at (deeds.Godlta x y z) is numbers worded none =
     move_asks reaches.Godlta at.settings (at.position >>= λ p. Some (moved_by at.settings.units x y z p)) (still_there at.position (moved_by at.settings.units x y z) none.0) none.1
-asks at (deeds.GoStart how_a a b) is numbers none = go_or_refused at how_a a b is none
-asks at (deeds.Contour side go drive how check) is numbers none = contour_asks at side go drive how check is none
-asks at deeds.Rapid is numbers none = says (record at.settings { rapid = true }) notes.Rapid (with_rapid at.settings true is.settings) tt
-asks at deeds.Halt is numbers none = says at.settings notes.Stop is.settings tt
-asks at deeds.OptHalt is numbers none = says at.settings notes.OptStop is.settings tt
-asks at deeds.EndWord is numbers none = says (record at.settings { ended = true }) notes.End (with_ended at.settings true is.settings) tt
-asks at deeds.Fini is numbers none = says at.settings notes.Fini is.settings tt
-asks at (deeds.Fedrat v) is numbers none =
+asks at (deeds.GoStart how_a a b) is numbers worded none = go_or_refused at how_a a b is none
+asks at (deeds.Contour side go drive how check) is numbers worded none = contour_asks at side go drive how check is none
+asks at deeds.Rapid is numbers worded none = says (record at.settings { rapid = true }) notes.Rapid (with_rapid at.settings true is.settings) tt
+asks at deeds.Halt is numbers worded none = says at.settings notes.Stop is.settings tt
+asks at deeds.OptHalt is numbers worded none = says at.settings notes.OptStop is.settings tt
+asks at deeds.EndWord is numbers worded none = says (record at.settings { ended = true }) notes.End (with_ended at.settings true is.settings) tt
+asks at deeds.Fini is numbers worded none = says at.settings notes.Fini is.settings tt
+asks at (deeds.Fedrat v) is numbers worded none =
     let good = feed_in v numbers none.0 in
     says (record at.settings { feed = tenths v }) (notes.Fedrat (tenths v)) (with_feed at.settings (tenths v) is.settings good) (feed_note v good none.0)
-asks at (deeds.Spindl n turn) is numbers none = absurd (true≢false none.0)
-asks at deeds.SpindlOff is numbers none = absurd (true≢false none.0)
-asks at (deeds.Coolnt c) is numbers none = absurd (true≢false none.0)
-asks at (deeds.Loadtl n) is numbers none = absurd (true≢false none.0)
-asks at deeds.Macro is numbers none = absurd (true≢false none.0)
-asks at deeds.Termac is numbers none = absurd (true≢false none.0)
-asks at deeds.Call is numbers none = absurd (true≢false none.0)
-asks at deeds.Loopst is numbers none = absurd (true≢false none.0)
-asks at deeds.Loopnd is numbers none = absurd (true≢false none.0)
-asks at deeds.Jumpto is numbers none = absurd (true≢false none.0)
-asks at deeds.If is numbers none = absurd (true≢false none.0)
+asks at (deeds.Spindl n turn) is numbers worded none = absurd (true≢false none.0)
+asks at deeds.SpindlOff is numbers worded none = absurd (true≢false none.0)
+asks at (deeds.Coolnt c) is numbers worded none = absurd (true≢false none.0)
+asks at (deeds.Loadtl n) is numbers worded none = absurd (true≢false none.0)
+asks at deeds.Macro is numbers worded none = absurd (true≢false none.0)
+asks at deeds.Termac is numbers worded none = absurd (true≢false none.0)
+asks at deeds.Call is numbers worded none = absurd (true≢false none.0)
+asks at deeds.Loopst is numbers worded none = absurd (true≢false none.0)
+asks at deeds.Loopnd is numbers worded none = absurd (true≢false none.0)
+asks at deeds.Jumpto is numbers worded none = absurd (true≢false none.0)
+asks at deeds.If is numbers worded none = absurd (true≢false none.0)
 
 -- where no case refuses it, a step has an effect
-pub answered : (at : Situation) (deed : Deed) → IsSituation at → HasScalars deed → refusal_of at deed ≡ None → Asks (effect_of at deed)
-answered at deed is numbers fine = asks at deed is numbers (first_none (cases_of at deed) fine)
+pub answered : (at : Situation) (deed : Deed) → IsSituation at → HasScalars deed → DeedHasText deed → refusal_of at deed ≡ None → Asks (effect_of at deed)
+answered at deed is numbers worded fine = asks at deed is numbers worded (first_none (cases_of at deed) fine)
 
 same : {A : Type 0} (x y : A) → Some x ≡ Some y → x ≡ y
 same x y e = cc
 
 -- and it is in range
-pub good : (at : Situation) (deed : Deed) (e : Effect) → effect_of at deed ≡ Some e → NoneHolds (cases_of at deed) → IsSituation at → HasScalars deed → IsEffect e
-good at deed e asked none is numbers =
-    let a = asks at deed is numbers none in
+pub good : (at : Situation) (deed : Deed) (e : Effect) → effect_of at deed ≡ Some e → NoneHolds (cases_of at deed) → IsSituation at → HasScalars deed → DeedHasText deed → IsEffect e
+good at deed e asked none is numbers worded =
+    let a = asks at deed is numbers worded none in
     subst IsEffect (same a.e e (sym a.asked ∙ asked)) a.good

@@ -22,7 +22,6 @@ use Rattle.apt_meaning.specs.Expectations.{Expectation, Exactly, VerticesAt, Not
 same_point : (z : ℤ) (p q : Pt) → at_height z p ≡ at_height z q → p ≡ q
 same_point z p q e = ap (λ (x : Position). x.at) e
 
-
 heights_same : (z : ℤ) (ps qs : List Pt) → map (at_height z) ps ≡ map (at_height z) qs → ps ≡ qs
 heights_same z [] [] e = refl
 heights_same z [] (q ∷ qs) e = absurd cc

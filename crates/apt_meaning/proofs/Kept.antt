@@ -1,8 +1,9 @@
 -- Effects in range leave situations and records in range.
-use Rattle.std.proofs.Common.{◌+◌, ◌≤◌, ◌^◌, ℤ, ◌*ℤ◌, ◌-ℤ◌, unsigned_abs, ◌==◌, Bool, true, false, List, [], ◌∷◌, ◌++◌, map, Option, Some, None, inl, inr, arith, cond}
+use Rattle.std.proofs.Common.{◌+◌, ◌≤◌, ◌^◌, ℤ, ◌*ℤ◌, ◌-ℤ◌, unsigned_abs, ◌==◌, Bool, true, false, List, [], ◌∷◌, ◌++◌, length, map, Option, Some, None, inl, inr, arith, cond}
 use Rattle.std.proofs.lemmas.Int.{ints}
 use Rattle.apt_num.proofs.Squares.{size_minus, size_neg}
 use Rattle.apt_words.specs.declared.deed.Step.{Step}
+use Rattle.apt_words.specs.Sources.{IsExecuted}
 use Rattle.apt_plane.specs.declared.figures.Pt.{Pt}
 use Rattle.apt_plane.specs.declared.figures.Dir.{Dir}
 use Rattle.apt_plane.specs.declared.figures.Surface.{Surface}
@@ -92,7 +93,7 @@ kept at (effects.Moves reach to) vertices is good within = record {
   forward = forward_kept at.position to.at at.forward is.position good.at is.forward;
   table = is.table;
 }
-kept at (effects.Cuts m) vertices is good within = cut_kept at m (last_of m.start.at vertices) is good (last_point m.start.at vertices good.start.at within)
+kept at (effects.Cuts m) vertices is good within = cut_kept at m (last_of m.start.at vertices) is good (last_point m.start.at vertices good.start.at within.1)
 
 pub first_situation-IsSituation : IsSituation first_situation
 first_situation-IsSituation = record {
@@ -113,19 +114,23 @@ positions_in : (z : ℤ) (vertices : List Pt) → unsigned_abs z ≤ 50000000 �
 positions_in z [] high are = tt
 positions_in z (v ∷ vs) high are = (record { at = are.0; z = high }, positions_in z vs high are.1)
 
+still_some : (z : ℤ) (vertices : List Pt) → 1 ≤ length vertices → 1 ≤ length (map (at_height z) vertices)
+still_some z [] h = h
+still_some z (v ∷ vs) h = omega arith
+
 said_in : (e : Effect) (vertices : List Pt) → IsEffect e → HasIn e vertices → AreRecords (effect_records e vertices)
 said_in (effects.Defines n f) vertices good within = tt
 said_in (effects.Sets s None) vertices good within = tt
 said_in (effects.Sets s (Some note)) vertices good within = (good.1, tt)
 said_in (effects.Moves reach to) vertices good within = (good, tt)
-said_in (effects.Cuts m) vertices good within = ((good.drive, good.sense), (good.check, (positions_in m.start.z vertices good.start.z within, tt)))
+said_in (effects.Cuts m) vertices good within = ((good.drive, good.sense), (good.check, ((still_some m.start.z vertices within.0, positions_in m.start.z vertices good.start.z within.1), tt)))
 
-statement_in : (step : Step) (rs : List Record) → AreRecords rs → AreRecords (with_statement step rs)
-statement_in step [] are = tt
-statement_in step (r ∷ rs) are = (tt, are)
+statement_in : (step : Step) (rs : List Record) → IsExecuted step → AreRecords rs → AreRecords (with_statement step rs)
+statement_in step [] is are = tt
+statement_in step (r ∷ rs) is are = ((is.line, is.step), are)
 
-pub records_in : (step : Step) (e : Effect) (vertices : List Pt) → IsEffect e → HasIn e vertices → AreRecords (records_of step e vertices)
-records_in step e vertices good within = statement_in step (effect_records e vertices) (said_in e vertices good within)
+pub records_in : (step : Step) (e : Effect) (vertices : List Pt) → IsExecuted step → IsEffect e → HasIn e vertices → AreRecords (records_of step e vertices)
+records_in step e vertices is good within = statement_in step (effect_records e vertices) is (said_in e vertices good within)
 
 pub records-append : (xs ys : List Record) → AreRecords xs → AreRecords ys → AreRecords (xs ++ ys)
 records-append [] ys are more = more

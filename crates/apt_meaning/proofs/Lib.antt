@@ -8,6 +8,7 @@ pub mod Legal
 mod Plates
 pub mod Said
 pub mod Refused
+pub mod Titles
 pub mod EffectRanges
 pub mod Asked
 pub mod Fed

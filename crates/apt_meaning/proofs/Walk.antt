@@ -13,6 +13,7 @@ use Rattle.apt_meaning.specs.Refusals.{refusal_of}
 use Rattle.apt_meaning.specs.Records.{MayHave, AreLegal, FollowsLegally, records_of, after}
 use Rattle.apt_meaning.specs.Compiled.{ends_of, with_front, asked, or_refused, compilation}
 use Rattle.apt_meaning.specs.Ranges.{IsSituation, IsEffect}
+use Rattle.apt_words.specs.Sources.{AreExecuted}
 use Rattle.apt_scalar.specs.StepScalars.{AreScalars}
 use Rattle.apt_meaning.specs.Vertices.{HasIn}
 use Rattle.apt_meaning.proofs.Asked.{Asks, answered}
@@ -65,20 +66,20 @@ pub record Arrives (at : Situation) (steps : List Step) (written : List Record) 
   pub situation : IsSituation behind
   pub records : AreRecords written
 
-pub compiled_follows : (at : Situation) (steps : List Step) (written : List Record) → IsSituation at → AreScalars steps → compilation at steps ≡ Ok written
+pub compiled_follows : (at : Situation) (steps : List Step) (written : List Record) → IsSituation at → AreScalars steps → AreExecuted steps → compilation at steps ≡ Ok written
     → Arrives at steps written
-compiled_follows at [] written is numbers h =
+compiled_follows at [] written is numbers sources h =
     let none = nothing_left written h in
     record { behind = at; follows = (none, refl); situation = is; records = rw none tt }
-compiled_follows at (step ∷ steps) written is numbers h =
+compiled_follows at (step ∷ steps) written is numbers sources h =
     let d = done step (refusal_of at step.deed) (effect_of at step.deed)
     (λ e. with_front (records_of step e (ends_of e)) (compilation (after at e (ends_of e)) steps)) written h in
     let e = d.e in
-    let ok = fit (effect_of at step.deed) e d.asked (answered at step.deed is numbers.0 d.fine) in
+    let ok = fit (effect_of at step.deed) e d.asked (answered at step.deed is numbers.0 sources.0.text d.fine) in
     let f = front_ok (records_of step e (ends_of e)) (compilation (after at e (ends_of e)) steps) written d.rest in
-    let more = compiled_follows (after at e (ends_of e)) steps f.0 (kept at e (ends_of e) is ok.good ok.ends) numbers.1 f.1 in record {
+    let more = compiled_follows (after at e (ends_of e)) steps f.0 (kept at e (ends_of e) is ok.good ok.ends) numbers.1 sources.1 f.1 in record {
       behind = more.behind;
       follows = (e, ends_of e, f.0, record { asked = d.asked; front = f.2; may = ok.may }, ok.legal, more.follows);
       situation = more.situation;
-      records = rw f.2 (records-append (records_of step e (ends_of e)) f.0 (records_in step e (ends_of e) ok.good ok.ends) more.records);
+      records = rw f.2 (records-append (records_of step e (ends_of e)) f.0 (records_in step e (ends_of e) sources.0 ok.good ok.ends) more.records);
     }

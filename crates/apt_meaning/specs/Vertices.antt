@@ -1,5 +1,5 @@
 -- The vertices of contours.
-use Rattle.std.specs.Prelude.{List, [], ◌∷◌}
+use Rattle.std.specs.Prelude.{◌≤◌, List, [], ◌∷◌, length}
 use Rattle.apt_plane.specs.declared.figures.Pt.{Pt}
 use Rattle.apt_plane.specs.Ranges.{IsPoint}
 use Rattle.apt_meaning.specs.declared.effect.Effect.{Effect}
@@ -10,8 +10,9 @@ abbrev pub ArePoints : List Pt → Type 0
 ArePoints [] = Unit {0}
 ArePoints (p ∷ ps) = IsPoint p × ArePoints ps
 
+-- a contour has at least one vertex
 abbrev pub HasIn : Effect → List Pt → Type 0
 HasIn (effects.Defines n f) vertices = Unit {0}
 HasIn (effects.Sets s said) vertices = Unit {0}
 HasIn (effects.Moves reach to) vertices = Unit {0}
-HasIn (effects.Cuts m) vertices = ArePoints vertices
+HasIn (effects.Cuts m) vertices = (1 ≤ length vertices) × ArePoints vertices

@@ -4,6 +4,7 @@ use Rattle.apt_words.specs.declared.Case.{Case}
 use Rattle.apt_words.specs.declared.Refusal.{Refusal}
 use Rattle.apt_words.specs.declared.deed.Deed.{Deed}
 use Rattle.apt_words.specs.declared.deed.Step.{Step}
+use Rattle.apt_words.specs.Sources.{DeedHasText, AreExecuted}
 use Rattle.apt_scalar.specs.StepScalars.{HasScalars, AreScalars}
 use Rattle.apt_plane.specs.declared.figures.Pt.{Pt}
 use Rattle.apt_plane.specs.Ranges.{IsPoint}
@@ -69,10 +70,10 @@ asked_fine (Some case) o e h = absurd (no_ok case e h)
 same_some : (d e : Effect) → ◌≡◌ {A = Option Effect} (Some d) (Some e) → d ≡ e
 same_some d e h = cc
 
-pub fit : (at : Situation) (deed : Deed) (e : Effect) → IsSituation at → HasScalars deed → asked (refusal_of at deed) (effect_of at deed) ≡ Ok e → IsFit at e
-fit at deed e is scalars does =
+pub fit : (at : Situation) (deed : Deed) (e : Effect) → IsSituation at → HasScalars deed → DeedHasText deed → asked (refusal_of at deed) (effect_of at deed) ≡ Ok e → IsFit at e
+fit at deed e is scalars worded does =
     let h = asked_fine (refusal_of at deed) (effect_of at deed) e does in
-    let a = answered at deed is scalars h.0 in
+    let a = answered at deed is scalars worded h.0 in
     let fits : IsFit at a.e = record { good = a.good; ends = a.ends; behind = kept at a.e (ends_of a.e) is a.good a.ends } in
     subst (IsFit at) (same_some a.e e (sym a.asked ∙ h.1)) fits
 
@@ -88,18 +89,18 @@ end_in e None is same = tt
 end_in (effects.Defines n f) (Some p) is same = absurd (no_ends p same)
 end_in (effects.Sets s said) (Some p) is same = absurd (no_ends p same)
 end_in (effects.Moves reach to) (Some p) is same = absurd (no_ends p same)
-end_in (effects.Cuts m) (Some p) is same = subst IsPoint (same_end (contact m) p same) is.0
+end_in (effects.Cuts m) (Some p) is same = subst IsPoint (same_end (contact m) p same) is.1.0
 
 -- ---- runs
 
-pub run_follows : {A : Type 0} (steps : List Step) (result : Result (Vec Record A) RunError) → AreScalars steps → Ends (compilation first_situation steps) result
+pub run_follows : {A : Type 0} (steps : List Step) (result : Result (Vec Record A) RunError) → AreScalars steps → AreExecuted steps → Ends (compilation first_situation steps) result
     → IfOk result (λ records. (behind : Situation) × FollowsLegally first_situation steps records.items behind)
-run_follows steps (Ok records) scalars is =
-    let a = compiled_follows first_situation steps records.items first_situation-IsSituation scalars is in
+run_follows steps (Ok records) scalars sources is =
+    let a = compiled_follows first_situation steps records.items first_situation-IsSituation scalars sources is in
     (a.behind, a.follows)
-run_follows steps (Err e) scalars is = tt
+run_follows steps (Err e) scalars sources is = tt
 
-pub run_in_range : {A : Type 0} (steps : List Step) (result : Result (Vec Record A) RunError) → AreScalars steps → Ends (compilation first_situation steps) result
+pub run_in_range : {A : Type 0} (steps : List Step) (result : Result (Vec Record A) RunError) → AreScalars steps → AreExecuted steps → Ends (compilation first_situation steps) result
     → IfOk result (λ records. AreRecords records.items)
-run_in_range steps (Ok records) scalars is = (compiled_follows first_situation steps records.items first_situation-IsSituation scalars is).records
-run_in_range steps (Err e) scalars is = tt
+run_in_range steps (Ok records) scalars sources is = (compiled_follows first_situation steps records.items first_situation-IsSituation scalars sources is).records
+run_in_range steps (Err e) scalars sources is = tt

@@ -2,6 +2,7 @@
 
 ghost use Rattle.std.specs.Prelude.{◌≡◌, IfOk};
 ghost use Rattle.apt_words.specs.Built.{AreBuiltSteps};
+ghost use Rattle.apt_words.specs.Sources.{AreExecuted};
 ghost use Rattle.apt_scalar.specs.StepScalars.{AreScalars};
 ghost use Rattle.apt_cldata.specs.Ranges.{AreRecords};
 ghost use Rattle.apt_meaning.specs.Compiled.{compilation, refused_at};
@@ -51,6 +52,7 @@ fn refused(step: &Step, case: Case) -> RunError
 fn run_all(alloc: Global, steps: &[Step]) -> Result<Vec<Record>, RunError>
     requires scalars { AreScalars steps.now }
     requires built { AreBuiltSteps steps.now }
+    requires sources { AreExecuted steps.now }
     ensures { Ends (compilation first_situation steps.now) result }
 {
     let mut at = Situation::first(alloc);
@@ -72,6 +74,7 @@ fn run_all(alloc: Global, steps: &[Step]) -> Result<Vec<Record>, RunError>
 pub fn run(alloc: Global, steps: &[Step]) -> Result<Vec<Record>, RunError>
     requires scalars { AreScalars steps.now }
     requires built { AreBuiltSteps steps.now }
+    requires sources { AreExecuted steps.now }
     ensures value { Ends (compilation first_situation steps.now) result }
     ensures follows { IfOk result (λ records. (behind : Situation) × FollowsLegally first_situation steps.now records.items behind) }
     ensures range { IfOk result (λ records. AreRecords records.items) }

@@ -11,7 +11,9 @@ fn symbol(rt: &impl Abort, text: &str) -> Symbol {
 }
 
 fn step(step: u32, deed: Deed) -> Step
-    ensures { result.deed ≡ deed }
+    ensures line { result.line ≡ step }
+    ensures step { result.step ≡ step }
+    ensures deed { result.deed ≡ deed }
 {
     Step {
         line: step,

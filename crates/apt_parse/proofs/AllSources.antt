@@ -2,7 +2,7 @@
 use Rattle.std.proofs.Common.{ℕ, Bool, true, false, List, [], ◌∷◌, ◌++◌, Option, Some, None, Result, Ok, Err}
 use Rattle.std.specs.Prelude.{IfOk, IfSome}
 use Rattle.std.proofs.lemmas.Result.{IfOk-at_ok}
-use Rattle.apt_words.specs.Sources.{IsCount, IsText, IsStmt, AreStmts}
+use Rattle.apt_words.specs.Sources.{IsCount, IsTitle, IsStmt, AreStmts}
 use Rattle.apt_words.specs.ProgramEnds.{is_fini}
 use Rattle.apt_words.specs.declared.body.Stmt.{Stmt}
 use Rattle.apt_words.specs.declared.body.Program.{Program}
@@ -33,7 +33,7 @@ of_shape-stmt : (before : List Stmt) (line : ℕ) (s : Option Labelled) → IsCo
 of_shape-stmt before line None count text = tt
 of_shape-stmt before line (Some s) count text = unless_fault-stmt line s (first_fault before s.label s.body) count text
 
-of_tokens-stmt : (before : List Stmt) (line : ℕ) (text : Option (List ℕ)) (ts : Tokens) → IsCount line → IfSome text IsText → IfOk (of_tokens before line text ts) IsStmt
+of_tokens-stmt : (before : List Stmt) (line : ℕ) (text : Option (List ℕ)) (ts : Tokens) → IsCount line → IfSome text IsTitle → IfOk (of_tokens before line text ts) IsStmt
 of_tokens-stmt before line text (Err cause) count is = tt
 of_tokens-stmt before line text (Ok ts) count is = of_shape-stmt before line (shape ts text) count (shape-fits ts text is)
 

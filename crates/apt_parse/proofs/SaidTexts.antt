@@ -3,7 +3,7 @@ use Rattle.std.proofs.Common.{◌≡◌, ℕ, ◌+◌, ◌≤◌, Bool, true, fa
 use Rattle.std.specs.Prelude.{IfSome, not, nat_lt, if◌then◌else◌}
 use Rattle.std.specs.List.{list_all}
 use Rattle.std.proofs.lemmas.Bool.Decides.{nat_tests}
-use Rattle.apt_words.specs.Sources.{IsCount, IsText}
+use Rattle.apt_words.specs.Sources.{IsCount, IsTitle}
 use Rattle.apt_lexis.specs.declared.cause.PartCause.{PartCause}
 use Rattle.apt_lexis.specs.declared.cause.PartCause.TheVariants as causes
 use Rattle.apt_lexis.specs.Lines.{lines_of, line_fault, most_lines, most_bytes, is_character}
@@ -11,11 +11,11 @@ use Rattle.apt_lexis.specs.Tokens.{Tokens, tokens_of}
 use Rattle.apt_lexis.specs.Titles.{Title}
 use Rattle.apt_lexis.specs.Phrase.{Phrase}
 use Rattle.apt_lexis.specs.Sentences.{Behind, Said, said_on, goes_on, first_line, tokens_before, behind_tokens, title_in, by_title, behind_line, all_of, with_first, unless_fault, said_from, said_in}
-use Rattle.apt_parse.proofs.TitleTexts.{HasTitleText, title_behind-text}
+use Rattle.apt_parse.proofs.TitleTexts.{HasTitle, title_behind-text}
 
 pub record IsSaid (p : Phrase) : Type 0 where
   pub line : IsCount p.line
-  pub text : IfSome p.text IsText
+  pub text : IfSome p.text IsTitle
 
 abbrev pub AreSaid : List Phrase → Type 0
 AreSaid [] = Unit {0}
@@ -40,15 +40,15 @@ behind_tokens-said begun n (Ok []) on is h = record { begun = is; said = tt }
 behind_tokens-said begun n (Ok (t ∷ ts)) on is h = spoken _ on (record { line = first_line-count begun n is h; text = tt })
 behind_tokens-said begun n (Err cause) on is h = spoken _ on (record { line = first_line-count begun n is h; text = tt })
 
-title_in-text : (before : Tokens) (line : List ℕ) → IsText line → IfSome (title_in before line) HasTitleText
+title_in-text : (before : Tokens) (line : List ℕ) → IsTitle line → IfSome (title_in before line) HasTitle
 title_in-text (Err cause) line h = tt
 title_in-text (Ok ts) line h = title_behind-text ts line h
 
-by_title-said : (begun : Option Phrase) (n : ℕ) (line : List ℕ) (t : Option Title) → IfSome begun IsSaid → IsCount n → IfSome t HasTitleText → IsBehind (by_title begun n line t)
+by_title-said : (begun : Option Phrase) (n : ℕ) (line : List ℕ) (t : Option Title) → IfSome begun IsSaid → IsCount n → IfSome t HasTitle → IsBehind (by_title begun n line t)
 by_title-said begun n line (Some (ts, text)) is h is_text = record { begun = tt; said = record { line = first_line-count begun n is h; text = is_text } }
 by_title-said begun n line None is h is_text = behind_tokens-said begun n (tokens_of (said_on line)) (goes_on line) is h
 
-behind_line-said : (begun : Option Phrase) (n : ℕ) (line : List ℕ) → IfSome begun IsSaid → IsCount n → IsText line → IsBehind (behind_line begun n line)
+behind_line-said : (begun : Option Phrase) (n : ℕ) (line : List ℕ) → IfSome begun IsSaid → IsCount n → IsTitle line → IsBehind (behind_line begun n line)
 behind_line-said begun n line is h is_text =
     by_title-said begun n line (title_in (tokens_before begun) line) is h (title_in-text (tokens_before begun) line is_text)
 
@@ -56,22 +56,22 @@ behind_line-said begun n line is h is_text =
 
 -- a line without fault
 abbrev IsLine : ℕ → List ℕ → Type 0
-IsLine n line = (n ≤ 50000) × IsText line
+IsLine n line = (n ≤ 50000) × IsTitle line
 
 without_fault : (late long good : Bool)
     → (if late then Some causes.TooManyLines else if long then Some causes.LineTooLong else if not good then Some causes.BadByte else None) ≡ None
-    → (late ≡ false) × (good ≡ true)
+    → (late ≡ false) × (long ≡ false) × (good ≡ true)
 without_fault true long good e = cc
 without_fault false true good e = cc
-without_fault false false true e = (refl, refl)
+without_fault false false true e = (refl, refl, refl)
 without_fault false false false e = cc
 
-not_late : (n : ℕ) → nat_lt most_lines n ≡ false → n ≤ 50000
-not_late n e = grind (arith, nat_tests)
+at_most : (limit n : ℕ) → nat_lt limit n ≡ false → n ≤ limit
+at_most limit n e = grind (arith, nat_tests)
 
 line_is : (n : ℕ) (line : List ℕ) → line_fault n line ≡ None → IsLine n line
 line_is n line e =
-    let r = without_fault (nat_lt most_lines n) (nat_lt most_bytes (length line)) (list_all is_character line) e in (not_late n r.0, r.1)
+    let r = without_fault (nat_lt most_lines n) (nat_lt most_bytes (length line)) (list_all is_character line) e in (at_most most_lines n r.0, (r.2, at_most most_bytes (length line) r.1))
 
 all_of-said : (first : Option Phrase) (said : Said) → IfSome first IsSaid → AreSaid said.phrases → AreSaid (with_first first said).phrases
 all_of-said None said is are = are

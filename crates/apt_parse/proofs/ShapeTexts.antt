@@ -13,7 +13,7 @@ use Rattle.apt_words.specs.Options.{◌>>=◌, only_if}
 use Rattle.apt_words.specs.Symbols.{is_name}
 use Rattle.apt_words.specs.Trees.{Tree}
 use Rattle.apt_words.specs.Vocabulary.{word_of}
-use Rattle.apt_words.specs.Sources.{IsText, HasText}
+use Rattle.apt_words.specs.Sources.{IsTitle, HasText}
 use Rattle.apt_lexis.specs.declared.token.Token.{Token}
 use Rattle.apt_lexis.specs.declared.token.Token.TheVariants as tokens
 use Rattle.apt_expr.specs.Expressions.{expression}
@@ -229,16 +229,16 @@ untitled-fits (tokens.Word w ∷ tokens.Comma ∷ ts) = by (side_of (word_of w))
 untitled-fits (tokens.Word w ∷ tokens.Open ∷ ts) = if_word-fits (word_of w) ts
 untitled-fits _ = tt
 
-titled-fits : (w : Option Word) (text : List ℕ) → IsText text → FitsText (titled w text)
+titled-fits : (w : Option Word) (text : List ℕ) → IsTitle text → FitsText (titled w text)
 titled-fits (Some words.Partno) text h = h
 titled-fits (Some words.Remark) text h = tt
 titled-fits _ text h = tt
 
-with_text-fits : (ts : List Token) (text : List ℕ) → IsText text → FitsText (with_text ts text)
+with_text-fits : (ts : List Token) (text : List ℕ) → IsTitle text → FitsText (with_text ts text)
 with_text-fits (tokens.Word w ∷ []) text h = titled-fits (word_of w) text h
 with_text-fits _ text h = tt
 
-body-fits : (ts : List Token) (text : Option (List ℕ)) → IfSome text IsText → FitsText (body ts text)
+body-fits : (ts : List Token) (text : Option (List ℕ)) → IfSome text IsTitle → FitsText (body ts text)
 body-fits ts None h = untitled-fits ts
 body-fits ts (Some text) h = with_text-fits ts text h
 
@@ -250,14 +250,14 @@ labelled-fits : (label : Option (List ℕ)) (b : Option Body) → FitsText b →
 labelled-fits label None h = tt
 labelled-fits label (Some b) h = h
 
-behind_label-fits : (l : List ℕ) (ts : List Token) (text : Option (List ℕ)) → IfSome text IsText → IfSome (behind_label l ts text) HasTextSaid
+behind_label-fits : (l : List ℕ) (ts : List Token) (text : Option (List ℕ)) → IfSome text IsTitle → IfSome (behind_label l ts text) HasTextSaid
 behind_label-fits l ts text h = named_label (only_if (is_name l) l)
   where
     named_label : (o : Option (List ℕ)) → IfSome (o >>= λ l. body ts text >>= λ b. Some (record { label = Some l; body = b })) HasTextSaid
     named_label None = tt
     named_label (Some l) = labelled-fits (Some l) (body ts text) (body-fits ts text h)
 
-pub shape-fits : (ts : List Token) (text : Option (List ℕ)) → IfSome text IsText → IfSome (shape ts text) HasTextSaid
+pub shape-fits : (ts : List Token) (text : Option (List ℕ)) → IfSome text IsTitle → IfSome (shape ts text) HasTextSaid
 unfolding shape
 shape-fits (tokens.Word l ∷ tokens.Close ∷ ts) text h = behind_label-fits l ts text h
 shape-fits ts text h = labelled-fits None (body ts text) (body-fits ts text h)

@@ -1,10 +1,10 @@
--- The text of a title consists of bytes of its line.
-use Rattle.std.proofs.Common.{ℕ, zero, suc, ◌==◌, Bool, true, false, List, [], ◌∷◌, drop, Option, Some, None, refl, cond}
+-- The text of a title consists of bytes of its line, and is no longer than that.
+use Rattle.std.proofs.Common.{ℕ, zero, suc, ◌+◌, ◌≤◌, ◌==◌, Bool, true, false, List, [], ◌∷◌, length, drop, Option, Some, None, refl, cond, arith}
 use Rattle.std.specs.Prelude.{IfSome, ◌&&◌, IsTrue}
 use Rattle.std.specs.List.{list_all, prefix_len}
 use Rattle.apt_words.specs.Options.{◌>>=◌, only_if}
 use Rattle.apt_words.specs.Symbols.{is_name}
-use Rattle.apt_words.specs.Sources.{is_text_byte, IsText}
+use Rattle.apt_words.specs.Sources.{is_text_byte, IsText, IsTitle}
 use Rattle.apt_lexis.specs.declared.token.Token.{Token}
 use Rattle.apt_lexis.specs.declared.token.Token.TheVariants as tokens
 use Rattle.apt_lexis.specs.Tokens.{is_blank, is_letter_or_digit}
@@ -27,21 +27,36 @@ text_behind b bs h = other_bytes (is_text_byte b) (list_all is_text_byte bs) h
 byte_and_text : (b : ℕ) (bs : List ℕ) → IsTrue (is_text_byte b) → IsText bs → IsText (b ∷ bs)
 byte_and_text b bs first h = rw (first, h) refl
 
-drop-text : (n : ℕ) (text : List ℕ) → IsText text → IsText (drop n text)
-drop-text zero text h = h
-drop-text (suc n) [] h = refl
-drop-text (suc n) (b ∷ bs) h = drop-text n bs (text_behind b bs h)
+title_behind_byte : (b : ℕ) (bs : List ℕ) → IsTitle (b ∷ bs) → IsTitle bs
+title_behind_byte b bs h = (text_behind b bs h.0, omega (arith, h.1))
 
-behind-text : (test : ℕ → Bool) (line : List ℕ) → IsText line → IsText (behind test line)
-behind-text test line h = drop-text (prefix_len test line) line h
+no_title : IsTitle []
+no_title = (refl, omega arith)
+
+drop-title : (n : ℕ) (line : List ℕ) → IsTitle line → IsTitle (drop n line)
+drop-title zero line h = h
+drop-title (suc n) [] h = no_title
+drop-title (suc n) (b ∷ bs) h = drop-title n bs (title_behind_byte b bs h)
+
+behind-title : (test : ℕ → Bool) (line : List ℕ) → IsTitle line → IsTitle (behind test line)
+behind-title test line h = drop-title (prefix_len test line) line h
 
 of_two : {A : Type 0} (P : A → Type 0) (b : Bool) (x y : A) → P x → P y → P (cond b x y)
 of_two P true x y p q = p
 of_two P false x y p q = q
 
-without_blank-text : (line : List ℕ) → IsText line → IsText (without_blank line)
-without_blank-text [] h = refl
-without_blank-text (b ∷ bs) h = of_two IsText (b == blank) bs (b ∷ bs) (text_behind b bs h) h
+without_blank-title : (line : List ℕ) → IsTitle line → IsTitle (without_blank line)
+without_blank-title [] h = no_title
+without_blank-title (b ∷ bs) h = of_two IsTitle (b == blank) bs (b ∷ bs) (title_behind_byte b bs h) h
+
+-- at most as long
+unless_last-short : (b : ℕ) (bs : List ℕ) → length (unless_last b bs) ≤ length bs + 1
+unless_last-short b [] = of_two (λ text. length text ≤ 1) (b == blank) [] (b ∷ []) (omega arith) (omega arith)
+unless_last-short b (c ∷ cs) = omega arith
+
+without_blanks-short : (line : List ℕ) → length (without_blanks line) ≤ length line
+without_blanks-short [] = omega arith
+without_blanks-short (b ∷ bs) = omega (arith, unless_last-short b (without_blanks bs), without_blanks-short bs)
 
 unless_last-text : (b : ℕ) (bs : List ℕ) → IsText (b ∷ bs) → IsText (unless_last b bs)
 unless_last-text b [] h = of_two IsText (b == blank) [] (b ∷ []) refl h
@@ -51,6 +66,9 @@ without_blanks-text : (line : List ℕ) → IsText line → IsText (without_blan
 without_blanks-text [] h = refl
 without_blanks-text (b ∷ bs) h =
     unless_last-text b (without_blanks bs) (byte_and_text b (without_blanks bs) (first_byte (is_text_byte b) (list_all is_text_byte bs) h) (without_blanks-text bs (text_behind b bs h)))
+
+without_blanks-title : (line : List ℕ) → IsTitle line → IsTitle (without_blanks line)
+without_blanks-title line h = (without_blanks-text line h.0, omega (arith, h.1, without_blanks-short line))
 
 -- ---- titles
 
@@ -63,51 +81,51 @@ then_holds : {A B : Type 0} (P : A → Type 0) (Q : B → Type 0) (o : Option A)
 then_holds P Q None f h more = tt
 then_holds P Q (Some x) f h more = more x h
 
-abbrev pub HasTitleText : Title → Type 0
-HasTitleText t = IsText t.1
+abbrev pub HasTitle : Title → Type 0
+HasTitle t = IsTitle t.1
 
-title_word-text : (word rest : List ℕ) → IsText rest → IfSome (title_word word rest) HasTitleText
+title_word-text : (word rest : List ℕ) → IsTitle rest → IfSome (title_word word rest) HasTitle
 title_word-text word rest h =
-    only_if-holds HasTitleText (is_title_word word) _ (without_blanks-text (without_blank rest) (without_blank-text rest h))
+    only_if-holds HasTitle (is_title_word word) _ (without_blanks-title (without_blank rest) (without_blank-title rest h))
 
-title-text : (line : List ℕ) → IsText line → IfSome (title line) HasTitleText
+title-text : (line : List ℕ) → IsTitle line → IfSome (title line) HasTitle
 title-text line h =
     let line' = behind is_blank line in
-    title_word-text (front_word line') (behind is_letter_or_digit line') (behind-text is_letter_or_digit line' (behind-text is_blank line h))
+    title_word-text (front_word line') (behind is_letter_or_digit line') (behind-title is_letter_or_digit line' (behind-title is_blank line h))
 
-close_first-text : (line : List ℕ) → IsText line → IfSome (close_first line) IsText
+close_first-text : (line : List ℕ) → IsTitle line → IfSome (close_first line) IsTitle
 close_first-text [] h = tt
-close_first-text (b ∷ bs) h = only_if-holds IsText (b == 41) bs (text_behind b bs h)
+close_first-text (b ∷ bs) h = only_if-holds IsTitle (b == 41) bs (title_behind_byte b bs h)
 
-behind_close-text : (line : List ℕ) → IsText line → IfSome (behind_close line) IsText
-behind_close-text line h = close_first-text (behind is_blank line) (behind-text is_blank line h)
+behind_close-text : (line : List ℕ) → IsTitle line → IfSome (behind_close line) IsTitle
+behind_close-text line h = close_first-text (behind is_blank line) (behind-title is_blank line h)
 
-with_tokens-text : (ts : List Token) (t : Title) → HasTitleText t → HasTitleText (with_tokens ts t)
+with_tokens-text : (ts : List Token) (t : Title) → HasTitle t → HasTitle (with_tokens ts t)
 with_tokens-text ts (us, text) h = h
 
 -- a title behind what stands before it
-with_before-text : (ts : List Token) (line : Option (List ℕ)) → IfSome line IsText → IfSome (line >>= title >>= λ t. Some (with_tokens ts t)) HasTitleText
+with_before-text : (ts : List Token) (line : Option (List ℕ)) → IfSome line IsTitle → IfSome (line >>= title >>= λ t. Some (with_tokens ts t)) HasTitle
 with_before-text ts line h =
-    then_holds HasTitleText HasTitleText (line >>= title) _ (then_holds IsText HasTitleText line title h title-text) (with_tokens-text ts)
+    then_holds HasTitle HasTitle (line >>= title) _ (then_holds IsTitle HasTitle line title h title-text) (with_tokens-text ts)
 
-labelled-text : (name line : List ℕ) → IsText line → IfSome (labelled name line) HasTitleText
+labelled-text : (name line : List ℕ) → IsTitle line → IfSome (labelled name line) HasTitle
 labelled-text name line h =
     with_before-text (tokens.Word name ∷ tokens.Close ∷ []) (only_if (is_name name) line >>= behind_close)
-    (then_holds IsText IsText (only_if (is_name name) line) behind_close (only_if-holds IsText (is_name name) line h) behind_close-text)
+    (then_holds IsTitle IsTitle (only_if (is_name name) line) behind_close (only_if-holds IsTitle (is_name name) line h) behind_close-text)
 
-or_else-text : (t other : Option Title) → IfSome t HasTitleText → IfSome other HasTitleText → IfSome (or_else t other) HasTitleText
+or_else-text : (t other : Option Title) → IfSome t HasTitle → IfSome other HasTitle → IfSome (or_else t other) HasTitle
 or_else-text None other h h' = h'
 or_else-text (Some t) other h h' = h
 
-title_or_labelled-text : (line : List ℕ) → IsText line → IfSome (title_or_labelled line) HasTitleText
+title_or_labelled-text : (line : List ℕ) → IsTitle line → IfSome (title_or_labelled line) HasTitle
 title_or_labelled-text line h =
     let line' = behind is_blank line in
     or_else-text (title line) _ (title-text line h)
-    (labelled-text (front_word line') (behind is_letter_or_digit line') (behind-text is_letter_or_digit line' (behind-text is_blank line h)))
+    (labelled-text (front_word line') (behind is_letter_or_digit line') (behind-title is_letter_or_digit line' (behind-title is_blank line h)))
 
-pub title_behind-text : (ts : List Token) (line : List ℕ) → IsText line → IfSome (title_behind ts line) HasTitleText
+pub title_behind-text : (ts : List Token) (line : List ℕ) → IsTitle line → IfSome (title_behind ts line) HasTitle
 title_behind-text [] line h = title_or_labelled-text line h
 title_behind-text (tokens.Word name ∷ []) line h = labelled-text name line h
 title_behind-text (tokens.Word name ∷ tokens.Close ∷ []) line h =
-    with_before-text (tokens.Word name ∷ tokens.Close ∷ []) (only_if (is_name name) line) (only_if-holds IsText (is_name name) line h)
+    with_before-text (tokens.Word name ∷ tokens.Close ∷ []) (only_if (is_name name) line) (only_if-holds IsTitle (is_name name) line h)
 title_behind-text _ line h = tt

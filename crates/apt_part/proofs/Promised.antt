@@ -4,6 +4,7 @@ use Rattle.std.specs.Prelude.{IfOk}
 use Rattle.std.proofs.lemmas.Int.{ints}
 use Rattle.apt_words.specs.declared.Refusal.{Refusal}
 use Rattle.apt_words.specs.declared.body.Stmt.{Stmt}
+use Rattle.apt_words.specs.declared.deed.Step.{Step}
 use Rattle.apt_words.specs.Built.{AreBuilt, AreBuiltSteps}
 use Rattle.apt_words.specs.Sources.{AreStmts, AreExecuted}
 use Rattle.apt_scalar.specs.StepScalars.{AreScalars}
@@ -67,6 +68,11 @@ were_written machine u (Some fault) None (Ok records) written f p o h = absurd c
 were_written machine u fault (Some past) (Ok records) written f p o h = absurd cc
 were_written machine u fault past (Err own) written f p o h = absurd cc
 
+trace_is : (u : Trace) (steps : List Step) → steps ≡ u.steps → u.fault ≡ None → u ≡ record { steps = steps; fault = None }
+trace_is u steps same none =
+    let by_fault : u ≡ record { steps = u.steps; fault = None } = ap (λ (o : Option Refusal). record { steps = u.steps; fault = o }) none in
+    by_fault ∙ ap (λ (ss : List Step). record { steps = ss; fault = None }) (sym same)
+
 -- a text whose steps were not refused
 passes : (machine : Machine) (text : List ℕ) (p : Compiled) → part_of machine text ≡ Ok (Ok p) → Passes machine text p
 passes machine text p h =
@@ -75,9 +81,9 @@ passes machine text p h =
     let w = were_written machine u u.fault (limits machine u.steps) (compilation first_situation u.steps) p.records refl refl refl r.recorded in record {
       statements = r.statements;
       read = r.read;
-      unrolled = rw (r.steps, sym w.fault) refl;
-      within = rw r.steps w.within;
-      compiled = rw r.steps w.compiled;
+      unrolled = trace_is u p.steps r.steps w.fault;
+      within = subst (λ (ss : List Step). limits machine ss ≡ None) (sym r.steps) w.within;
+      compiled = subst (λ (ss : List Step). compilation first_situation ss ≡ Ok p.records) (sym r.steps) w.compiled;
     }
 
 -- ---- the promise
@@ -114,3 +120,7 @@ promised machine text p is h =
       reached = plan_reaches p.records;
       program = planned_program p.records (ends_once AreLegal false first_situation p.steps p.records follow.behind follow.follows ends) can;
     }
+
+-- and a text that passes comes to its part
+pub passes_comes : (machine : Machine) (text : List ℕ) (p : Compiled) → Passes machine text p → part_of machine text ≡ Ok (Ok p)
+passes_comes machine text p q = rw (q.read, q.unrolled, q.within, q.compiled) refl

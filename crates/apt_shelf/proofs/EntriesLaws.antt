@@ -21,6 +21,10 @@ one_name q k e = same_text q k (sym (texts_ties q k ∙ e))
 pub other_name : (q k : List ℕ) → q ≢ k → same_name q k ≡ false
 other_name q k n = elim (same_name q k) as (λ b. same_name q k ≡ b → b ≡ false) [ true ↦ λ e. absurd (n (one_name q k e)) | false ↦ λ e. refl ] refl
 
+-- another name holds what it held
+pub get_other : (m : Contents) (k q v : List ℕ) → q ≢ k → get (insert m k v) q ≡ get m q
+get_other m k q v n = get-insert nat_list_cmp_total m k v q ∙ ap (λ b. cond b (Some v) (get m q)) (other_name q k n)
+
 swapped : {A : Type 0} (a b : Bool) (x y z : A) → (a ≡ true → b ≡ true → ⊥) → cond a x (cond b y z) ≡ cond b y (cond a x z)
 swapped true true x y z apart = absurd (apart refl refl)
 swapped true false x y z apart = refl

@@ -1,7 +1,7 @@
-use Rattle.std.proofs.Common.{◌≡◌, ◌+◌, ◌∷◌, [], drop, get_or, subst, refl, arith, FitsSigned, w8, pos}
+use Rattle.std.proofs.Common.{arith, FitsSigned, w8, pos}
 use Rattle.std.proofs.lemmas.Int.{ints, to_z-of_z}
 use Rattle.std.proofs.lemmas.List.{drop_more, drop_all}
-use Rattle.apt_certify.proofs.Past.{IsWalked, walk_on, walk_done}
+use Rattle.apt_certify.proofs.Past.{walk_on, walk_done}
 use Rattle.apt_certify.proofs.deviations.worst.Goals as goal
 
 pub points-preserved : goal.points-preserved

@@ -1,5 +1,6 @@
 use Rattle.std.proofs.Common.{◌≡◌, drop}
 use Rattle.apt_words.specs.Built.{AreBuiltSteps}
+use Rattle.apt_words.specs.Sources.{AreExecuted}
 use Rattle.apt_scalar.specs.StepScalars.{AreScalars}
 use Rattle.apt_meaning.specs.Situations.{first_situation}
 use Rattle.apt_meaning.specs.Ranges.{IsSituation}
@@ -12,5 +13,6 @@ invariant-steps l =
       so_far : with_front l.records.items (compilation l.at (drop l.st-index l.steps)) ≡ compilation first_situation l.fn.steps;
       situation : IsSituation l.at;
       scalars : AreScalars (drop l.st-index l.steps);
+      sources : AreExecuted (drop l.st-index l.steps);
       built : AreBuiltSteps (drop l.st-index l.steps);
     }

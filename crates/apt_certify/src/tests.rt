@@ -1,0 +1,301 @@
+//! Answers worked out by hand, of motions along the x axis that stop before a line up through (1000, 0).
+
+ghost use Rattle.std.specs.Prelude.{◌≡◌, ◌≤◌, length, IfOk, IsTrue};
+ghost use Rattle.apt_plane.specs.Ranges.{IsPoint, IsSense};
+ghost use Rattle.apt_certify.specs.Jobs.{IsLeg, IsJob};
+
+use crate::deviations::worst;
+use crate::{Bad, Job, Leg, Points, Reason, Verdict, check_jobs};
+use apt_num::Sign;
+use apt_offset::Target;
+use apt_plane::{Axis, Band, Dir, Line, Pt, Spot, Surface};
+use std::alloc::{AllocError, Global};
+use std::test::Fail;
+
+const EAST: Dir = Dir { dx: 1, dy: 0 };
+
+const NORTH: Dir = Dir { dx: 0, dy: 1 };
+
+const ORIGIN: Pt = Pt { x: 0, y: 0 };
+
+const START: Spot = Spot { j: 0, m: 1 };
+
+const END: Spot = Spot { j: 1, m: 1 };
+
+fn pt(x: i64, y: i64) -> Pt {
+    Pt { x, y }
+}
+
+fn is_point(p: Pt) -> bool
+    ensures { IsTrue result → IsPoint p }
+{
+    p.x.unsigned_abs() <= 50_000_000 && p.y.unsigned_abs() <= 50_000_000
+}
+
+/// With a track 100 to the left, within 8 units, up to 100 units before the stop; where a half is given, to the
+/// axis up through (905, 0).
+fn leg(half: Option<Sign>) -> Leg
+    ensures { IsLeg result }
+{
+    let band = Band { lo: 92, hi: 108 };
+    Leg {
+        drive: Surface::Line(Line {
+            base: ORIGIN,
+            dir: EAST,
+        }),
+        track: Target::Line {
+            base: ORIGIN,
+            dir: EAST,
+            off: 100,
+        },
+        band,
+        check: Surface::Line(Line {
+            base: Pt { x: 1000, y: 0 },
+            dir: NORTH,
+        }),
+        stop_band: band,
+        beyond: Sign::Minus,
+        sense: 1,
+        axis: match half {
+            Some(half) => Some(Axis {
+                at: Pt { x: 905, y: 0 },
+                along: NORTH,
+                half,
+            }),
+            None => None,
+        },
+    }
+}
+
+fn job(alloc: Global, half: Option<Sign>, a: Pt, b: Pt, c: Pt) -> Result<Job, AllocError>
+    requires start { IsPoint a }
+    requires middle { IsPoint b }
+    requires end { IsPoint c }
+    ensures { IfOk result IsJob }
+{
+    let mut at = Vec::new(alloc);
+    at.push(a)?;
+    at.push(b)?;
+    at.push(c)?;
+    Ok(Job {
+        leg: leg(half),
+        out_sign: 1,
+        points: Points { at },
+    })
+}
+
+/// The verdict over one motion through points in range.
+fn verdict(
+    alloc: Global,
+    half: Option<Sign>,
+    a: Pt,
+    b: Pt,
+    c: Pt,
+) -> Result<Option<Verdict>, AllocError> {
+    if is_point(a) && is_point(b) && is_point(c) {
+        let jobs = [job(alloc, half, a, b, c)?];
+        Ok(Some(check_jobs(&jobs)))
+    } else {
+        Ok(None)
+    }
+}
+
+type Fault = Option<(u64, Spot, Reason)>;
+
+#[test]
+fn motions(rt: HostRuntime) -> Result<(), Fail> {
+    let table: [(Option<Sign>, Pt, Pt, Pt, i64, i64, Fault); 14] = [
+        (None, pt(0, 100), pt(500, 100), pt(900, 100), 0, 0, None),
+        (None, pt(0, 108), pt(500, 108), pt(900, 108), 0, 8, None),
+        (None, pt(0, 92), pt(500, 92), pt(900, 92), 8, 0, None),
+        (None, pt(0, 92), pt(500, 108), pt(892, 100), 8, 8, None),
+        (
+            Some(Sign::Plus),
+            pt(0, 100),
+            pt(500, 100),
+            pt(897, 100),
+            0,
+            0,
+            None,
+        ),
+        (
+            Some(Sign::Zero),
+            pt(0, 100),
+            pt(500, 100),
+            pt(908, 100),
+            0,
+            0,
+            None,
+        ),
+        (
+            None,
+            pt(0, 100),
+            pt(900, 100),
+            pt(900, 100),
+            0,
+            0,
+            Some((2, END, Reason::Order)),
+        ),
+        (
+            None,
+            pt(500, 100),
+            pt(0, 109),
+            pt(909, 100),
+            0,
+            9,
+            Some((1, END, Reason::Order)),
+        ),
+        (
+            None,
+            pt(0, 91),
+            pt(500, 100),
+            pt(900, 100),
+            9,
+            0,
+            Some((1, START, Reason::Band)),
+        ),
+        (
+            None,
+            pt(0, 100),
+            pt(500, 109),
+            pt(909, 100),
+            0,
+            9,
+            Some((1, END, Reason::Band)),
+        ),
+        (
+            None,
+            pt(0, 100),
+            pt(500, 100),
+            pt(909, 100),
+            0,
+            0,
+            Some((2, END, Reason::Overrun)),
+        ),
+        (
+            Some(Sign::Plus),
+            pt(0, 100),
+            pt(500, 100),
+            pt(891, 100),
+            0,
+            0,
+            Some((2, END, Reason::Stop)),
+        ),
+        (
+            Some(Sign::Plus),
+            pt(0, 100),
+            pt(500, 100),
+            pt(896, 100),
+            0,
+            0,
+            Some((2, END, Reason::Axis)),
+        ),
+        (
+            Some(Sign::Minus),
+            pt(0, 100),
+            pt(500, 100),
+            pt(900, 100),
+            0,
+            0,
+            Some((2, END, Reason::Axis)),
+        ),
+    ];
+    for (half, a, b, c, worst_in, worst_out, fault) in table {
+        let first_bad = match fault {
+            Some((segment, spot, reason)) => Some(Bad {
+                motion: 1,
+                segment,
+                spot,
+                reason,
+            }),
+            None => None,
+        };
+        let want = Verdict {
+            segments: 2,
+            worst_in,
+            worst_out,
+            first_bad,
+        };
+        assert_eq!(rt;
+            verdict(rt.alloc(), half, a, b, c)?,
+            Some(want),
+            "through {a:?}, {b:?} to {c:?}"
+        );
+    }
+    Ok(())
+}
+
+/// The second motion leaves its band and the third one turns back: the second is named.
+#[test]
+fn the_first_fault_is_named(rt: HostRuntime) -> Result<(), Fail> {
+    let start = Pt { x: 0, y: 100 };
+    let end = Pt { x: 900, y: 100 };
+    let jobs = [
+        job(rt.alloc(), None, start, Pt { x: 500, y: 97 }, end)?,
+        job(rt.alloc(), None, start, Pt { x: 500, y: 109 }, end)?,
+        job(rt.alloc(), None, start, Pt { x: -500, y: 88 }, end)?,
+    ];
+    let bad = Bad {
+        motion: 2,
+        segment: 1,
+        spot: END,
+        reason: Reason::Band,
+    };
+    let want = Verdict {
+        segments: 6,
+        worst_in: 12,
+        worst_out: 9,
+        first_bad: Some(bad),
+    };
+    assert_eq!(rt; check_jobs(&jobs), want);
+    Ok(())
+}
+
+/// How far two points in range lie past a line 20 to the left of the origin along (1, 1), where a distance is
+/// `(y - x) / sqrt(2) - 20`.
+fn worst_of(sign: i8, p: Pt, q: Pt) -> Option<i64>
+    requires { IsSense sign }
+{
+    let track = Target::Line {
+        base: ORIGIN,
+        dir: Dir { dx: 1, dy: 1 },
+        off: 20,
+    };
+    if is_point(p) && is_point(q) {
+        Some(worst(&track, sign, &[p, q]))
+    } else {
+        None
+    }
+}
+
+#[test]
+fn deviations_are_rounded_up(rt: HostRuntime) {
+    let table: [(Pt, Pt, i64, i64); 8] = [
+        (pt(0, 20), pt(0, 28), 0, 6),
+        (pt(0, 0), pt(0, 0), 0, 20),
+        (pt(0, 41), pt(41, 82), 9, 0),
+        (pt(0, 99), pt(0, 0), 51, 20),
+        (pt(0, 0), pt(99, 0), 0, 91),
+        (pt(0, 41), pt(0, 42), 10, 0),
+        (pt(-50_000_000, 50_000_000), pt(0, 50), 70_710_659, 0),
+        (pt(0, 50), pt(50_000_000, -50_000_000), 16, 70_710_699),
+    ];
+    for (p, q, above, below) in table {
+        assert_eq!(rt; worst_of(1, p, q), Some(above), "at {p:?}, {q:?}");
+        assert_eq!(rt; worst_of(-1, p, q), Some(below), "at {p:?}, {q:?}");
+    }
+}
+
+#[test]
+fn names(rt: HostRuntime) {
+    let table: [(Reason, &str); 5] = [
+        (Reason::Order, "Order"),
+        (Reason::Band, "Band"),
+        (Reason::Overrun, "Overrun"),
+        (Reason::Stop, "Stop"),
+        (Reason::Axis, "Axis"),
+    ];
+    for (reason, name) in table {
+        assert_eq!(rt; reason.name(), name);
+    }
+}
