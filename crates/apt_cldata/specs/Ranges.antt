@@ -1,5 +1,5 @@
 -- The numbers of records, in grid units, and how a list of records ends.
-use Rattle.std.specs.Prelude.{◌≡◌, ◌⊎◌, ℕ, ◌≤◌, length, ℤ, pos, ◌≤ℤ◌, unsigned_abs, Bool, true, false, List, [], ◌∷◌}
+use Rattle.std.specs.Prelude.{◌≡◌, ◌⊎◌, ℕ, ◌+◌, ◌≤◌, length, ℤ, pos, ◌≤ℤ◌, unsigned_abs, Bool, true, false, List, [], ◌∷◌}
 use Rattle.apt_words.specs.declared.Turn.{Turn}
 use Rattle.apt_words.specs.declared.Turn.TheVariants as turns
 use Rattle.apt_plane.specs.Ranges.{IsPoint, IsSurface, IsSense}
@@ -71,6 +71,22 @@ IsRecord (records.Contour vertices) = (1 ≤ length vertices) × ArePositions ve
 abbrev pub AreRecords : List Record → Type 0
 AreRecords [] = Unit {0}
 AreRecords (r ∷ rs) = IsRecord r × AreRecords rs
+
+-- ---- how many vertices there are
+
+-- the vertices of a contour
+abbrev pub vertices_in : Record → ℕ
+vertices_in (records.Statement line step) = 0
+vertices_in (records.Note note) = 0
+vertices_in (records.Drive surface side sense) = 0
+vertices_in (records.Check surface how) = 0
+vertices_in (records.Point reach to) = 0
+vertices_in (records.Contour vertices) = length vertices
+
+-- the vertices of the contours among records
+abbrev pub vertex_count : List Record → ℕ
+vertex_count [] = 0
+vertex_count (r ∷ rs) = vertices_in r + vertex_count rs
 
 -- ---- how a list of records ends
 

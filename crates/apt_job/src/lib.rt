@@ -2,7 +2,10 @@
 //! they make.
 #![tactic(auto)]
 
+mod effects;
+mod error;
 mod fronts;
 mod legs;
 mod matches;
 
+pub use error::JobError;
