@@ -19,6 +19,7 @@ pub mod Begins
 pub mod Meetings
 pub mod Straight
 pub mod Agree
+pub mod Follower
 pub mod Ends
 mod Worked
 mod Statements
