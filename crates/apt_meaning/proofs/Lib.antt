@@ -16,6 +16,9 @@ pub mod Stands
 pub mod Walk
 pub mod Begins
 pub mod Meetings
+pub mod Straight
+pub mod Agree
+pub mod Follower
 pub mod Ends
 pub mod Files
 mod Worked
