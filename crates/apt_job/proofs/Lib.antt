@@ -1,3 +1,4 @@
 pub mod Walks
 pub mod InFront
 pub mod Asking
+pub mod Ranges
