@@ -3,3 +3,4 @@ pub mod InFront
 pub mod Asking
 pub mod Ranges
 pub mod Steps
+mod Worked
