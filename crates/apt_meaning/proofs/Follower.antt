@@ -4,6 +4,7 @@ use Rattle.apt_words.specs.Sources.{DeedHasText}
 use Rattle.apt_words.specs.declared.deed.Step.{Step}
 use Rattle.apt_scalar.specs.StepScalars.{HasScalars}
 use Rattle.apt_plane.specs.declared.figures.Pt.{Pt}
+use Rattle.apt_certify.specs.Jobs.{ArePoints}
 use Rattle.apt_cldata.specs.Ranges.{IsPosition, ArePositions, AreRecords}
 use Rattle.apt_cldata.specs.declared.record.Note.{Note}
 use Rattle.apt_cldata.specs.declared.record.Record.{Record}
@@ -20,7 +21,7 @@ use Rattle.apt_meaning.specs.Records.{records_of, after}
 use Rattle.apt_meaning.specs.Compiled.{ends_of, with_front, compilation}
 use Rattle.apt_meaning.specs.Ranges.{AreSettings, IsNoteOrNone, IsSituation, IsEffect}
 use Rattle.apt_meaning.specs.Straight.{HasNoCircle, IsLined}
-use Rattle.apt_meaning.specs.Vertices.{ArePoints, HasIn}
+use Rattle.apt_meaning.specs.Vertices.{HasIn}
 use Rattle.apt_meaning.proofs.Agree.{Agrees, AreLike, alike, agrees_behind, agrees_first}
 use Rattle.apt_meaning.proofs.Asked.{answered}
 use Rattle.apt_meaning.proofs.Kept.{kept, first_situation-IsSituation}
