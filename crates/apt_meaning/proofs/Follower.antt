@@ -123,7 +123,7 @@ steps_on at step steps written d us rest keeps numbers worded are asked front =
     let beside = keeps.beside in
     let c = beside.c in
     let does = done step (refusal_of c step.deed) (effect_of c step.deed)
-        (λ e. with_front (records_of step e (ends_of e)) (compilation (after c e (ends_of e)) steps)) beside.records beside.passes in
+    (λ e. with_front (records_of step e (ends_of e)) (compilation (after c e (ends_of e)) steps)) beside.records beside.passes in
     let e = does.e in
     let fits = fit (effect_of c step.deed) e does.asked (answered c step.deed beside.situation numbers worded does.fine) in
     let later = front_ok (records_of step e (ends_of e)) (compilation (after c e (ends_of e)) steps) beside.records does.rest in
