@@ -26,6 +26,7 @@ use Rattle.apt_report.specs.declared.status.Summary.TheVariants as summaries
 use Rattle.apt_core.specs.Certificates.{IsRight, IsMiss, IsCertified, IsJudgement}
 use Rattle.apt_core.specs.Judging.{IsJudged, IsGood, IsVerdictOn}
 use Rattle.apt_core.specs.Unread.{HasNoPart}
+use Rattle.apt_core.proofs.Counting.{makes_segments}
 
 -- a verdict without a bad motion finds all legal
 all_legal : (jobs : List Job) (v : Verdict) → IsVerdict jobs v → v.first_bad ≡ None → AreLegal jobs
@@ -49,6 +50,7 @@ good_is_right machine text cl tape p written acts v promise read run good =
       jobs = good.jobs;
       makes = good.makes;
       verdict = good.verdict;
+      counted = good.verdict.segments ∙ makes_segments first_situation p.steps written good.jobs good.makes;
     }
 
 pub on_verdict : (machine : Machine) (text cl tape : List ℕ) (p : Compiled) (written : List Record) (acts : List Act) (answer : Status) → part_of machine text ≡ Ok (Ok p) → Promise machine text p

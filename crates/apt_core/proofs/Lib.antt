@@ -2,6 +2,7 @@ pub mod Apart
 pub mod Outputs
 pub mod Deliveries
 pub mod Compiling
+pub mod Counting
 pub mod Judging
 pub mod Certifying
 pub mod Right

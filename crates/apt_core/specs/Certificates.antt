@@ -15,7 +15,7 @@ use Rattle.apt_job.specs.Jobs.{MakesJobs}
 use Rattle.apt_machine.specs.declared.Machine.{Machine}
 use Rattle.apt_control.specs.declared.Act.{Act}
 use Rattle.apt_control.specs.Control.{control_run}
-use Rattle.apt_post.specs.Plan.{plan, positions, points}
+use Rattle.apt_post.specs.Plan.{plan, segments, positions, points}
 use Rattle.apt_part.specs.Compilation.{Compiled, part_of}
 use Rattle.apt_part.specs.Promise.{Passes}
 use Rattle.apt_report.specs.declared.status.Status.{Status}
@@ -69,6 +69,7 @@ pub record IsCertified (machine : Machine) (text cl tape : List ℕ) (v : Verdic
   pub jobs : List Job
   pub makes : MakesJobs first_situation right.part.steps right.records jobs
   pub verdict : IsVerdict jobs v
+  pub counted : v.segments ≡ segments right.records
 
 -- the answer to the three texts, in the order in which they are judged
 abbrev pub IsJudgement : Machine → List ℕ → List ℕ → List ℕ → Status → Type 0
