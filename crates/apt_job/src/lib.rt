@@ -7,5 +7,7 @@ mod error;
 mod fronts;
 mod legs;
 mod matches;
+mod walk;
 
 pub use error::JobError;
+pub use walk::jobs;

@@ -4,6 +4,7 @@ use Rattle.apt_words.specs.Sources.{DeedHasText}
 use Rattle.apt_words.specs.declared.deed.Step.{Step}
 use Rattle.apt_scalar.specs.StepScalars.{HasScalars}
 use Rattle.apt_plane.specs.declared.figures.Pt.{Pt}
+use Rattle.apt_certify.specs.Jobs.{ArePoints}
 use Rattle.apt_cldata.specs.Ranges.{IsPosition, ArePositions, AreRecords}
 use Rattle.apt_cldata.specs.declared.record.Note.{Note}
 use Rattle.apt_cldata.specs.declared.record.Record.{Record}
@@ -20,7 +21,7 @@ use Rattle.apt_meaning.specs.Records.{records_of, after}
 use Rattle.apt_meaning.specs.Compiled.{ends_of, with_front, compilation}
 use Rattle.apt_meaning.specs.Ranges.{AreSettings, IsNoteOrNone, IsSituation, IsEffect}
 use Rattle.apt_meaning.specs.Straight.{HasNoCircle, IsLined}
-use Rattle.apt_meaning.specs.Vertices.{ArePoints, HasIn}
+use Rattle.apt_meaning.specs.Vertices.{HasIn}
 use Rattle.apt_meaning.proofs.Agree.{Agrees, AreLike, alike, agrees_behind, agrees_first}
 use Rattle.apt_meaning.proofs.Asked.{answered}
 use Rattle.apt_meaning.proofs.Kept.{kept, first_situation-IsSituation}
@@ -122,7 +123,7 @@ steps_on at step steps written d us rest keeps numbers worded are asked front =
     let beside = keeps.beside in
     let c = beside.c in
     let does = done step (refusal_of c step.deed) (effect_of c step.deed)
-        (λ e. with_front (records_of step e (ends_of e)) (compilation (after c e (ends_of e)) steps)) beside.records beside.passes in
+    (λ e. with_front (records_of step e (ends_of e)) (compilation (after c e (ends_of e)) steps)) beside.records beside.passes in
     let e = does.e in
     let fits = fit (effect_of c step.deed) e does.asked (answered c step.deed beside.situation numbers worded does.fine) in
     let later = front_ok (records_of step e (ends_of e)) (compilation (after c e (ends_of e)) steps) beside.records does.rest in

@@ -5,7 +5,7 @@ pub mod Leads
 pub mod LineLegs
 pub mod Edges
 pub mod Legal
-mod Plates
+pub mod Plates
 pub mod Said
 pub mod Refused
 pub mod EffectRanges
