@@ -4,3 +4,4 @@ pub mod Asking
 pub mod Ranges
 pub mod Steps
 mod Worked
+pub mod Edge

@@ -7,6 +7,8 @@ mod error;
 mod fronts;
 mod legs;
 mod matches;
+#[cfg(test)]
+mod tests;
 mod walk;
 
 pub use error::JobError;
