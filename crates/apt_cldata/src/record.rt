@@ -4,14 +4,14 @@ use apt_words::{Cool, Side, Stop, Text, Turn, Units};
 use std::marker::Model;
 
 /// A point and its height, in grid units.
-#[derive(Clone, Copy)]
+#[derive(Clone, Copy, PartialEq, Eq)]
 pub struct Position {
     pub at: Pt,
     pub z: i64,
 }
 
 /// How a position is reached: set by FROM, or moved to.
-#[derive(Clone, Copy)]
+#[derive(Clone, Copy, PartialEq, Eq)]
 pub enum Reach {
     From,
     Goto,
