@@ -15,7 +15,7 @@ use Rattle.apt_job.specs.Jobs.{jobs_by, MakesJobs}
 use Rattle.apt_post.specs.Plan.{record_segments, segments}
 
 segments-append : (xs ys : List Record) → segments (xs ++ ys) ≡ segments xs + segments ys
-segments-append [] ys = refl
+segments-append [] ys = omega arith
 segments-append (r ∷ rs) ys = omega (arith, segments-append rs ys)
 
 effect_segments : (step : Step) (e : Effect) (vertices : List Pt) → MayHave e vertices → segments (records_of step e vertices) ≡ length vertices
@@ -26,9 +26,9 @@ effect_segments step (effects.Moves reach to) vertices may = rw may refl
 effect_segments step (effects.Cuts m) vertices may = omega (arith, length-map vertices (at_height m.start.z))
 
 job_segments : (e : Effect) (vertices : List Pt) (more : List Job) → MayHave e vertices → segment_count (jobs_by e vertices ++ more) ≡ length vertices + segment_count more
-job_segments (effects.Defines n f) vertices more may = rw may refl
-job_segments (effects.Sets s said) vertices more may = rw may refl
-job_segments (effects.Moves reach to) vertices more may = rw may refl
+job_segments (effects.Defines n f) vertices more may = rw may (omega arith)
+job_segments (effects.Sets s said) vertices more may = rw may (omega arith)
+job_segments (effects.Moves reach to) vertices more may = rw may (omega arith)
 job_segments (effects.Cuts m) vertices more may = omega arith
 
 pub makes_segments : (at : Situation) (steps : List Step) (written : List Record) (jobs : List Job) → MakesJobs at steps written jobs → segment_count jobs ≡ segments written
