@@ -15,7 +15,7 @@ use std::rt::Files;
 ///
 /// A file that was opened to be read is never written: where a name leads to one, by any path or
 /// link, `start_write` answers `Fault`, the count of writing faults rises, and the file stays as it
-/// is. Which file it is say its device and its inode number.
+/// is. Files are told apart by device and inode number.
 #[derive(Drop)]
 pub struct FolderShelf<'a, R: Files> {
     rt: &'a R,
@@ -29,7 +29,7 @@ pub struct FolderShelf<'a, R: Files> {
     writing: Option<String>,
 }
 
-/// Which file it is, under whatever name.
+/// Which file it is, under whatever name. Under a runtime that numbers no files all are alike.
 #[derive(Clone, Copy, PartialEq, Eq)]
 struct FileId {
     device: u64,
@@ -87,7 +87,7 @@ fn open_source<R: Files>(rt: &R, path: &str) -> io::Result<(R::File, FileId)> {
 }
 
 /// An empty file to be written. `None` where the system refuses it, and where the path leads to one
-/// of the sources, which stays as it is: so it is opened with its bytes, and emptied after that.
+/// of the sources. A file is opened with its bytes, and emptied once it is known to be no source.
 fn open_output<R: Files>(rt: &R, path: &str, sources: &[FileId]) -> Option<R::File> {
     let file = OpenOptions::new()
         .write(true)
