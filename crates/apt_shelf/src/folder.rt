@@ -23,7 +23,7 @@ pub struct FolderShelf<'a, R: Files> {
     folder: String,
     read_faults: u64,
     pub(crate) write_faults: u64,
-    sources: Vec<FileId>,
+    opened: Vec<FileId>,
     input: Option<R::File>,
     output: Option<R::File>,
     writing: Option<String>,
@@ -60,7 +60,7 @@ impl<'a, R: Files> FolderShelf<'a, R> {
             folder: String::from_str(alloc, folder)?,
             read_faults: 0,
             write_faults: 0,
-            sources: Vec::new(alloc),
+            opened: Vec::new(alloc),
             input: None,
             output: None,
             writing: None,
@@ -86,23 +86,25 @@ fn open_source<R: Files>(rt: &R, path: &str) -> io::Result<(R::File, FileId)> {
     Ok((file, id))
 }
 
-/// An empty file to be written. `None` where the system refuses it, and where the path leads to one
-/// of the sources. A file is opened with its bytes, and emptied once it is known to be no source.
-fn open_output<R: Files>(rt: &R, path: &str, sources: &[FileId]) -> Option<R::File> {
+/// An empty file to be written, and which one it is. `None` where the system refuses it, and where
+/// the path leads to one of those that were opened, which stays as it is: so it is opened with its
+/// bytes, and emptied after that.
+fn open_output<R: Files>(rt: &R, path: &str, opened: &[FileId]) -> Option<(R::File, FileId)> {
     let file = OpenOptions::new()
         .write(true)
         .create(true)
         .open(rt, path)
         .ok()?;
     let found = file.metadata().ok()?;
-    if sources.contains(&FileId::of(&found)) {
+    let id = FileId::of(&found);
+    if opened.contains(&id) {
         return None;
     }
     // a device or a pipe has no length
     if found.is_file() {
         file.set_len(0).ok()?;
     }
-    Some(file)
+    Some((file, id))
 }
 
 impl<'a, R: Files> Shelf for FolderShelf<'a, R> {
@@ -125,7 +127,7 @@ impl<'a, R: Files> Shelf for FolderShelf<'a, R> {
         let path = path_of(self.alloc, &self.folder, name)?;
         match open_source(self.rt, path.as_str()) {
             Ok((file, id)) => {
-                self.sources.push(id).map_err(AllocError::from)?;
+                self.opened.push(id).map_err(AllocError::from)?;
                 self.input = Some(file);
                 Ok(())
             }
@@ -158,8 +160,9 @@ impl<'a, R: Files> Shelf for FolderShelf<'a, R> {
         self.writing = None;
         let path = path_of(self.alloc, &self.folder, name)?;
         let name = String::from_str(self.alloc, name)?;
-        match open_output(self.rt, path.as_str(), &self.sources) {
-            Some(file) => {
+        match open_output(self.rt, path.as_str(), &self.opened) {
+            Some((file, id)) => {
+                self.opened.push(id).map_err(AllocError::from)?;
                 self.output = Some(file);
                 self.writing = Some(name);
                 Ok(())

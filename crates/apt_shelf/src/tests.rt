@@ -131,7 +131,7 @@ fn folder_keeps_files(rt: HostRuntime) -> Result<(), Fail> {
 }
 
 #[test]
-fn folder_spares_what_it_read(rt: HostRuntime) -> Result<(), Fail> {
+fn folder_spares_what_it_opened(rt: HostRuntime) -> Result<(), Fail> {
     let _ = fs::remove_dir_all(&rt, "apt_shelf_test");
     fs::create_dir(&rt, "apt_shelf_test")?;
     for name in ["part", "machine", "tape"] {
@@ -163,6 +163,8 @@ fn folder_spares_what_it_read(rt: HostRuntime) -> Result<(), Fail> {
     assert_writes(&rt, &mut shelf, "./tape", b"%", Ok(()));
     assert_writes(&rt, &mut shelf, "new", b"%", Ok(()));
     assert_writes(&rt, &mut shelf, "/dev/null", b"%", Ok(()));
+    assert_eq!(rt; shelf.start_write("tape"), Err(ShelfFault::Fault));
+    assert_eq!(rt; shelf.write_faults, 8);
     assert_reads(&rt, &mut shelf, "tape", 5, b"%");
     assert_reads(&rt, &mut shelf, "new", 5, b"%");
     fs::remove_dir_all(&rt, "apt_shelf_test")?;
