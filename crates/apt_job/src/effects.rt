@@ -10,7 +10,6 @@ ghost use Rattle.apt_defs.specs.Definitions as definitions;
 ghost use Rattle.apt_defs.specs.Definitions.{line_figure};
 ghost use Rattle.apt_meaning.specs.Effects as asking;
 ghost use Rattle.apt_meaning.specs.Effects.{effect_of};
-
 ghost use Rattle.apt_meaning.specs.Ranges.{IsSituation, IsStartUp};
 ghost use Rattle.apt_meaning.specs.Situations as situations;
 ghost use Rattle.apt_meaning.specs.StartUps as start_ups;
@@ -19,9 +18,7 @@ ghost use Rattle.apt_job.specs.Asking.{IsStill};
 
 use apt_cldata::{Note, Position, Reach};
 use apt_defs::Figure;
-use apt_meaning::{
-    Effect, Motion, Situation, StartUp, moved_by, position_by, surface_in, turn_at,
-};
+use apt_meaning::{Effect, Motion, Situation, StartUp, moved_by, position_by, surface_in, turn_at};
 use apt_offset::signs::is_zero;
 use apt_plane::{Dir, Line, Pt, Surface};
 use apt_scalar::{grid_units, tenths};
@@ -276,7 +273,5 @@ fn contour(
     if is_zero(turned) {
         return None;
     }
-    Some(Effect::Cuts(Motion::along(
-        &settings, start, &drive, turned, how, &check,
-    )))
+    Some(Effect::Cuts(Motion::along(&settings, start, &drive, turned, how, &check)))
 }

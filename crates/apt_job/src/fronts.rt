@@ -28,7 +28,10 @@ fn statement<'a>(step: &Step, records: &'a [Record]) -> Option<Front<'a>>
         return None;
     };
     if is_statement(step, first) {
-        Some(Front { vertices: &[], rest })
+        Some(Front {
+            vertices: &[],
+            rest,
+        })
     } else {
         None
     }
@@ -41,7 +44,10 @@ fn note<'a>(note: &Note, records: &'a [Record]) -> Option<Front<'a>>
         return None;
     };
     if is_note(note, first) {
-        Some(Front { vertices: &[], rest })
+        Some(Front {
+            vertices: &[],
+            rest,
+        })
     } else {
         None
     }
@@ -54,7 +60,10 @@ fn point<'a>(reach: Reach, to: Position, records: &'a [Record]) -> Option<Front<
         return None;
     };
     if is_point(reach, to, first) {
-        Some(Front { vertices: &[], rest })
+        Some(Front {
+            vertices: &[],
+            rest,
+        })
     } else {
         None
     }
@@ -68,7 +77,10 @@ fn drive<'a>(m: &Motion, records: &'a [Record]) -> Option<Front<'a>>
         return None;
     };
     if has_track(m) && is_drive(m, first) {
-        Some(Front { vertices: &[], rest })
+        Some(Front {
+            vertices: &[],
+            rest,
+        })
     } else {
         None
     }
@@ -82,7 +94,10 @@ fn check<'a>(m: &Motion, records: &'a [Record]) -> Option<Front<'a>>
         return None;
     };
     if has_stop(m) && is_check(m, first) {
-        Some(Front { vertices: &[], rest })
+        Some(Front {
+            vertices: &[],
+            rest,
+        })
     } else {
         None
     }

@@ -125,9 +125,7 @@ pub(crate) fn is_drive(m: &Motion, r: &Record) -> bool
             side,
             sense,
         } => {
-            is_same_surface(surface, &m.drive)
-                && is_same_side(*side, m.side)
-                && *sense == m.sense
+            is_same_surface(surface, &m.drive) && is_same_side(*side, m.side) && *sense == m.sense
         }
         _ => false,
     }

@@ -6,16 +6,13 @@ use Rattle.apt_words.specs.declared.deed.Step.{Step}
 use Rattle.apt_plane.specs.declared.figures.Pt.{Pt}
 use Rattle.apt_cldata.specs.declared.record.Position.{Position}
 use Rattle.apt_cldata.specs.declared.record.Record.{Record}
-use Rattle.apt_cldata.specs.declared.record.Record.TheVariants as records
 use Rattle.apt_meaning.specs.declared.situation.Situation.{Situation}
-use Rattle.apt_meaning.specs.declared.motion.Motion.{Motion}
 use Rattle.apt_meaning.specs.declared.effect.Effect.{Effect}
 use Rattle.apt_meaning.specs.declared.effect.Effect.TheVariants as effects
 use Rattle.apt_meaning.specs.Situations.{at_height}
-use Rattle.apt_meaning.specs.Motions.{has_track, has_stop, is_defined}
-use Rattle.apt_meaning.specs.Effects.{effect_of}
+use Rattle.apt_meaning.specs.Motions.{has_track, has_stop}
 use Rattle.apt_meaning.specs.Records.{Begins, MayHave, records_of}
-use Rattle.apt_meaning.specs.Expectations.{Expectation, Exactly, VerticesAt, Nothing, expected, expected_of, exactly_if, behind_statement, Meets, Departs}
+use Rattle.apt_meaning.specs.Expectations.{Expectation, expected, expected_of, behind_statement, Meets, Departs}
 
 -- ---- in one way only
 

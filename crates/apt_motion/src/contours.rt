@@ -104,9 +104,7 @@ fn cut_turned(
     if is_zero(turned) {
         return Err(Case::NoTurn);
     }
-    to_contact(Motion::along(
-        settings, start, drive, turned, how, check,
-    ))
+    to_contact(Motion::along(settings, start, drive, turned, how, check))
 }
 
 /// A motion with its contact.

@@ -80,7 +80,9 @@ fn effect(at: &Situation, deed: &Deed) -> Result<Effect, Stopped>
     match deed {
         Deed::Partno(text) => Ok(Effect::says(at.settings, Note::Partno(text.copied()?))),
         Deed::Units(units) => Ok(Effect::says(at.settings.with_units(*units), Note::Units(*units))),
-        Deed::Remark(_) | Deed::Clprnt | Deed::Nopost | Deed::Machin => Ok(Effect::sets(at.settings)),
+        Deed::Remark(_) | Deed::Clprnt | Deed::Nopost | Deed::Machin => Ok(Effect::sets(
+            at.settings,
+        )),
         Deed::Assign(name, _) => Ok(Effect::Defines(name.copied(), Figure::Scalar)),
         Deed::LineXy(name, x, y, u, v) => answer(line(at, name, *x, *y, *u, *v)),
         Deed::Cutter(v) => answer(cutter(at, *v)),

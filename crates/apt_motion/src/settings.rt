@@ -49,10 +49,7 @@ pub(crate) fn intol(at: &Situation, v: i64) -> Result<Effect, Case>
     if !is_up_to(10_000, intol) {
         return Err(Case::OutOfRange);
     }
-    Ok(Effect::says(
-        at.settings.with_intol(intol),
-        Note::Intol(intol),
-    ))
+    Ok(Effect::says(at.settings.with_intol(intol), Note::Intol(intol)))
 }
 
 /// A tolerance is at most 10,000 grid units.
@@ -64,10 +61,7 @@ pub(crate) fn outtol(at: &Situation, v: i64) -> Result<Effect, Case>
     if !is_up_to(10_000, outtol) {
         return Err(Case::OutOfRange);
     }
-    Ok(Effect::says(
-        at.settings.with_outtol(outtol),
-        Note::Outtol(outtol),
-    ))
+    Ok(Effect::says(at.settings.with_outtol(outtol), Note::Outtol(outtol)))
 }
 
 /// A feed is at least one tenth.
@@ -79,8 +73,5 @@ pub(crate) fn fedrat(at: &Situation, v: i64) -> Result<Effect, Case>
     if feed < 1 {
         return Err(Case::OutOfRange);
     }
-    Ok(Effect::says(
-        at.settings.with_feed(feed),
-        Note::Fedrat(feed),
-    ))
+    Ok(Effect::says(at.settings.with_feed(feed), Note::Fedrat(feed)))
 }
