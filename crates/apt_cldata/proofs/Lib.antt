@@ -1,3 +1,15 @@
 pub mod Chains
 pub mod Triples
 pub mod Surfaces
+pub mod WordByWord
+pub mod Stands
+pub mod Heads
+pub mod Laws
+pub mod Conditions
+pub mod FieldLaws
+pub mod RecordLaws
+pub mod RecordOnly
+pub mod ByteLaws
+pub mod WordsFit
+pub mod PieceLaws
+mod Worked

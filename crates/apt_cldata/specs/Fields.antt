@@ -1,5 +1,5 @@
 -- What the single words of a record say, and what keeps them from saying it.
-use Rattle.std.specs.Prelude.{ℕ, ◌≤◌, ◌+◌, ℤ, pos, negsuc, int_le, unsigned_abs, nat_le, ◌==◌, Bool, true, false, not, ◌&&◌, ◌||◌, Result, Ok, Err, if◌then◌else◌}
+use Rattle.std.specs.Prelude.{ℕ, ◌+◌, ℤ, pos, negsuc, int_le, unsigned_abs, nat_le, Bool, not, ◌&&◌, ◌||◌, Result, Ok, Err, if◌then◌else◌}
 use Rattle.std.specs.Ordering.{int_eq}
 use Rattle.apt_words.specs.declared.Units.{Units}
 use Rattle.apt_words.specs.declared.Units.TheVariants as units
@@ -45,13 +45,13 @@ count_at i n = from_to (pos 1) greatest i n >>= λ n. Ok (unsigned_abs n)
 abbrev pub coordinate : ℕ → ℤ → Result ℤ Misfit
 coordinate i n = at_if (is_sized 50000000 n) i n
 
--- the place of a point whose first word has an index
+-- the point whose first word has an index
 abbrev pub point_at : ℕ → ℤ → ℤ → Result Pt Misfit
 point_at i x y = coordinate i x >>= λ x. coordinate (i + 1) y >>= λ y. Ok (record { x = x; y = y })
 
 -- a part of a direction
-abbrev pub way_part : ℕ → ℤ → Result ℤ Misfit
-way_part i n = at_if (is_sized 100000000 n) i n
+abbrev pub direction_part : ℕ → ℤ → Result ℤ Misfit
+direction_part i n = at_if (is_sized 100000000 n) i n
 
 abbrev pub is_nowhere : ℤ → ℤ → Bool
 is_nowhere dx dy = int_eq dx (pos 0) && int_eq dy (pos 0)
@@ -59,7 +59,7 @@ is_nowhere dx dy = int_eq dx (pos 0) && int_eq dy (pos 0)
 -- a direction; where its parts are both 0, its second word is the bad one
 abbrev pub dir_at : ℕ → ℤ → ℤ → Result Dir Misfit
 dir_at i dx dy =
-    way_part i dx >>= λ dx. way_part (i + 1) dy >>= λ dy. at_if (not (is_nowhere dx dy)) (i + 1) (record { dx = dx; dy = dy })
+    direction_part i dx >>= λ dx. direction_part (i + 1) dy >>= λ dy. at_if (not (is_nowhere dx dy)) (i + 1) (record { dx = dx; dy = dy })
 
 -- a radius keeps its circle within the limit of circles, by one coordinate of the centre
 abbrev pub is_within_edge : ℤ → ℤ → Bool

@@ -1,7 +1,8 @@
 -- The numbers of records, in grid units, and how a list of records ends.
-use Rattle.std.specs.Prelude.{◌≡◌, ◌⊎◌, ℕ, ◌+◌, ◌≤◌, length, ℤ, pos, ◌≤ℤ◌, unsigned_abs, Bool, true, false, List, [], ◌∷◌}
+use Rattle.std.specs.Prelude.{◌≡◌, ℕ, ◌+◌, ◌≤◌, length, ℤ, pos, ◌≤ℤ◌, unsigned_abs, Bool, true, false, List, [], ◌∷◌}
 use Rattle.apt_words.specs.declared.Turn.{Turn}
 use Rattle.apt_words.specs.declared.Turn.TheVariants as turns
+use Rattle.apt_words.specs.Sources.{IsCount, IsText}
 use Rattle.apt_plane.specs.Ranges.{IsPoint, IsSurface, IsSense}
 use Rattle.apt_cldata.specs.declared.record.Position.{Position}
 use Rattle.apt_cldata.specs.declared.record.Note.{Note}
@@ -21,18 +22,6 @@ IsFromTo least most n = (least ≤ℤ n) × (n ≤ℤ most)
 -- the greatest number of a command
 abbrev pub greatest : ℤ
 greatest = pos 2147483647
-
--- a character from space to tilde, or a tab
-abbrev pub IsTextByte : ℕ → Type 0
-IsTextByte b = ((32 ≤ b) × (b ≤ 126)) ⊎ (b ≡ 9)
-
-abbrev pub IsText : List ℕ → Type 0
-IsText [] = Unit {0}
-IsText (b ∷ bs) = IsTextByte b × IsText bs
-
--- the number of a line or a step
-abbrev pub IsCount : ℕ → Type 0
-IsCount n = (1 ≤ n) × (n ≤ 2147483647)
 
 -- turns per minute: 0 with Off alone
 abbrev pub IsSpeed : Turn → ℤ → Type 0

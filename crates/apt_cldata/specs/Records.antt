@@ -171,7 +171,7 @@ motion_by sub ws =
 abbrev pub only_zero : ℤ → Result Record Misfit → Result Record Misfit
 only_zero sub r = if int_eq sub (pos 0) then r else Err misfits.Subtype
 
-abbrev pub record_of : ℤ → ℤ → List ℤ → Result Record Misfit
+unfoldable pub record_of : ℤ → ℤ → List ℤ → Result Record Misfit
 record_of class sub ws =
     if int_eq class (pos 1000) then only_zero sub (statement_by ws)
     else if int_eq class (pos 2000) then command_by sub ws

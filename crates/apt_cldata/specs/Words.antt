@@ -1,5 +1,5 @@
 -- The words of a record: its class, its subtype, and the words of its kind.
-use Rattle.std.specs.Prelude.{ℕ, ℤ, pos, List, [], ◌∷◌, ◌++◌, map}
+use Rattle.std.specs.Prelude.{ℤ, pos, List, [], ◌∷◌, ◌++◌, map}
 use Rattle.std.specs.List.{flat_map}
 use Rattle.apt_words.specs.declared.Units.{Units}
 use Rattle.apt_words.specs.declared.Units.TheVariants as units
@@ -55,10 +55,10 @@ reach_word reaches.Start = pos 4
 abbrev pub position_words : Position → List ℤ
 position_words p = p.at.x ∷ p.at.y ∷ p.z ∷ []
 
--- a surface's kind and its four numbers, and the words behind them
-abbrev pub surface_words : Surface → List ℤ → List ℤ
-surface_words (surfaces.Line l) ws = pos 1 ∷ l.base.x ∷ l.base.y ∷ l.dir.dx ∷ l.dir.dy ∷ ws
-surface_words (surfaces.Circ c) ws = pos 2 ∷ c.c.x ∷ c.c.y ∷ c.r ∷ pos 0 ∷ ws
+-- a surface's kind and its four numbers
+abbrev pub surface_words : Surface → List ℤ
+surface_words (surfaces.Line l) = pos 1 ∷ l.base.x ∷ l.base.y ∷ l.dir.dx ∷ l.dir.dy ∷ []
+surface_words (surfaces.Circ c) = pos 2 ∷ c.c.x ∷ c.c.y ∷ c.r ∷ pos 0 ∷ []
 
 abbrev pub note_words : Note → List ℤ
 note_words (notes.Partno text) = pos 2000 ∷ pos 1 ∷ map pos text
@@ -80,7 +80,7 @@ note_words notes.Fini = pos 14000 ∷ pos 0 ∷ []
 abbrev pub words_of : Record → List ℤ
 words_of (records.Statement line step) = pos 1000 ∷ pos 0 ∷ pos line ∷ pos step ∷ []
 words_of (records.Note note) = note_words note
-words_of (records.Drive surface side sense) = pos 3000 ∷ pos 1 ∷ surface_words surface (side_word side ∷ sense ∷ [])
-words_of (records.Check surface how) = pos 3000 ∷ pos 2 ∷ surface_words surface (stop_word how ∷ [])
+words_of (records.Drive surface side sense) = pos 3000 ∷ pos 1 ∷ surface_words surface ++ side_word side ∷ sense ∷ []
+words_of (records.Check surface how) = pos 3000 ∷ pos 2 ∷ surface_words surface ++ stop_word how ∷ []
 words_of (records.Point reach to) = pos 5000 ∷ reach_word reach ∷ position_words to
 words_of (records.Contour vertices) = pos 5000 ∷ pos 5 ∷ flat_map position_words vertices

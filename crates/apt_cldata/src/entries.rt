@@ -1,5 +1,5 @@
 //! The record that words say.
-ghost use Rattle.std.specs.Prelude.{◌≡◌, ◌+◌, ◌<◌, ◌^◌, IfOk};
+ghost use Rattle.std.specs.Prelude.{◌≡◌, ◌+◌, ◌<◌, ◌^◌, length, IfOk};
 ghost use Rattle.apt_cldata.specs.Records as spec;
 
 use crate::fields::{
@@ -12,12 +12,14 @@ use apt_words::Text;
 use std::alloc::{AllocError, Global};
 
 /// The record of a class, a subtype and the words behind them, or what keeps them from being one.
+#[tactic(auto, unfolding(crate::specs::Records::record_of))]
 pub(crate) fn record_of(
     alloc: Global,
     class: i64,
     sub: i64,
     words: &[i64],
 ) -> Result<Result<Record, Misfit>, AllocError>
+    requires { length words.now < 2 ^ 32 }
     ensures { IfOk result (λ r. r ≡ spec.record_of class sub words.now) }
 {
     match class {
@@ -45,11 +47,12 @@ fn statement_by(words: &[i64]) -> Result<Record, Misfit>
 
 /// A text, or its first bad word.
 fn text_by(alloc: Global, words: &[i64]) -> Result<Result<Text, Misfit>, AllocError>
+    requires { length words.now < 2 ^ 32 }
     ensures { IfOk result (λ r. r ≡ spec.text_by 0 words.now) }
 {
     let mut bytes = Vec::new(alloc);
     'words: for (i, word) in words.iter().enumerate() {
-        match text_byte(i, *word) {
+        match text_byte(i as u32, *word) {
             Ok(byte) => bytes.push(byte)?,
             Err(misfit) => return Ok(Err(misfit)),
         }
@@ -58,6 +61,7 @@ fn text_by(alloc: Global, words: &[i64]) -> Result<Result<Text, Misfit>, AllocEr
 }
 
 fn partno_by(alloc: Global, words: &[i64]) -> Result<Result<Record, Misfit>, AllocError>
+    requires { length words.now < 2 ^ 32 }
     ensures { IfOk result (λ r. r ≡ spec.partno_by words.now) }
 {
     match text_by(alloc, words)? {
@@ -123,6 +127,7 @@ fn units_by(words: &[i64]) -> Result<Record, Misfit>
 }
 
 fn command_by(alloc: Global, sub: i64, words: &[i64]) -> Result<Result<Record, Misfit>, AllocError>
+    requires { length words.now < 2 ^ 32 }
     ensures { IfOk result (λ r. r ≡ spec.command_by sub words.now) }
 {
     match sub {
@@ -276,8 +281,8 @@ fn surface_record_by(sub: i64, words: &[i64]) -> Result<Record, Misfit>
 }
 
 /// The position whose first word has an index.
-fn position_by(i: usize, x: i64, y: i64, z: i64) -> Result<Position, Misfit>
-    requires { i + 2 < 2 ^ 64 }
+fn position_by(i: u32, x: i64, y: i64, z: i64) -> Result<Position, Misfit>
+    requires { i + 2 < 2 ^ 32 }
     ensures { result ≡ spec.position_by i x y z }
 {
     let at = point_at(i, x, y)?;
@@ -297,6 +302,7 @@ fn reached_by(reach: Reach, words: &[i64]) -> Result<Record, Misfit>
 
 /// Positions of three words each, or the first bad word.
 fn positions_by(alloc: Global, words: &[i64]) -> Result<Result<Vertices, Misfit>, AllocError>
+    requires { length words.now < 2 ^ 32 }
     ensures { IfOk result (λ r. r ≡ spec.positions_by 0 words.now) }
 {
     let mut at = Vec::new(alloc);
@@ -318,6 +324,7 @@ fn positions_by(alloc: Global, words: &[i64]) -> Result<Result<Vertices, Misfit>
 }
 
 fn contour_by(alloc: Global, words: &[i64]) -> Result<Result<Record, Misfit>, AllocError>
+    requires { length words.now < 2 ^ 32 }
     ensures { IfOk result (λ r. r ≡ spec.contour_by words.now) }
 {
     if words.is_empty() || words.len() % 3 != 0 {
@@ -330,6 +337,7 @@ fn contour_by(alloc: Global, words: &[i64]) -> Result<Result<Record, Misfit>, Al
 }
 
 fn motion_by(alloc: Global, sub: i64, words: &[i64]) -> Result<Result<Record, Misfit>, AllocError>
+    requires { length words.now < 2 ^ 32 }
     ensures { IfOk result (λ r. r ≡ spec.motion_by sub words.now) }
 {
     match sub {

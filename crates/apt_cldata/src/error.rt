@@ -1,6 +1,7 @@
 //! The refusal of a CL file.
 ghost use Rattle.std.specs.Prelude.{◌≡◌};
 ghost use Rattle.apt_cldata.specs.Causes as causes;
+ghost use Rattle.apt_cldata.specs.Reading as reading;
 
 use std::alloc::{AllocError, AllocFailed};
 use thiserror::Error;
@@ -68,5 +69,33 @@ impl<T: Drop> From<AllocFailed<T>> for ClError {
 
     fn from(_: AllocFailed<T>) -> Self {
         ClError::NoMemory
+    }
+}
+
+/// The first place of some bytes that can't stand, counted from 0, and why.
+#[derive(Clone, Copy, PartialEq, Eq)]
+pub(crate) struct Fault {
+    pub at: u64,
+    pub cause: ClCause,
+}
+
+impl Fault {
+    pub(crate) fn new(at: u64, cause: ClCause) -> Fault
+        ensures { result ≡ reading.fault at cause }
+    {
+        Fault { at, cause }
+    }
+}
+
+impl From<Fault> for ClError {
+    ghost use Rattle.apt_cldata.specs.declared.error.ClError.TheVariants as errors;
+
+    ghost from_gives = { λ f e. e ≡ errors.Bad f.at f.cause };
+
+    fn from(fault: Fault) -> Self {
+        ClError::Bad {
+            at: fault.at,
+            cause: fault.cause,
+        }
     }
 }

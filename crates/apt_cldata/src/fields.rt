@@ -19,11 +19,11 @@ pub(crate) enum Misfit {
     /// There are more or fewer words than the kind has.
     Count,
     /// The first bad word, by its index behind the subtype.
-    Word(usize),
+    Word(u32),
 }
 
 /// A word by its index behind the subtype, if a test of it is passed.
-fn at_if<T: Copy>(test: bool, i: usize, value: T) -> Result<T, Misfit>
+fn at_if<T: Copy>(test: bool, i: u32, value: T) -> Result<T, Misfit>
     ensures { result ≡ spec.at_if test i value }
 {
     if test {
@@ -39,14 +39,14 @@ fn is_from_to(least: i64, most: i64, n: i64) -> bool
     least <= n && n <= most
 }
 
-pub(crate) fn from_to(least: i64, most: i64, i: usize, n: i64) -> Result<i64, Misfit>
+pub(crate) fn from_to(least: i64, most: i64, i: u32, n: i64) -> Result<i64, Misfit>
     ensures { result ≡ spec.from_to least most i n }
 {
     at_if(is_from_to(least, most, n), i, n)
 }
 
 /// The number of a line or a step.
-pub(crate) fn count_at(i: usize, n: i64) -> Result<u32, Misfit>
+pub(crate) fn count_at(i: u32, n: i64) -> Result<u32, Misfit>
     ensures { result ≡ spec.count_at i n }
 {
     let n = from_to(1, GREATEST, i, n)?;
@@ -59,16 +59,16 @@ fn is_sized(most: u64, n: i64) -> bool
     n.unsigned_abs() <= most
 }
 
-pub(crate) fn coordinate(i: usize, n: i64) -> Result<i64, Misfit>
+pub(crate) fn coordinate(i: u32, n: i64) -> Result<i64, Misfit>
     ensures value { result ≡ spec.coordinate i n }
     ensures near { IfOk result (λ n. unsigned_abs n ≤ 50000000) }
 {
     at_if(is_sized(50_000_000, n), i, n)
 }
 
-/// The place of a point whose first word has an index.
-pub(crate) fn point_at(i: usize, x: i64, y: i64) -> Result<Pt, Misfit>
-    requires { i + 1 < 2 ^ 64 }
+/// The point whose first word has an index.
+pub(crate) fn point_at(i: u32, x: i64, y: i64) -> Result<Pt, Misfit>
+    requires { i + 1 < 2 ^ 32 }
     ensures value { result ≡ spec.point_at i x y }
     ensures near { IfOk result IsPoint }
 {
@@ -77,8 +77,8 @@ pub(crate) fn point_at(i: usize, x: i64, y: i64) -> Result<Pt, Misfit>
     Ok(Pt { x, y })
 }
 
-fn way_part(i: usize, n: i64) -> Result<i64, Misfit>
-    ensures { result ≡ spec.way_part i n }
+fn direction_part(i: u32, n: i64) -> Result<i64, Misfit>
+    ensures { result ≡ spec.direction_part i n }
 {
     at_if(is_sized(100_000_000, n), i, n)
 }
@@ -90,12 +90,12 @@ fn is_nowhere(dx: i64, dy: i64) -> bool
 }
 
 /// A direction; where its parts are both 0, its second word is the bad one.
-pub(crate) fn dir_at(i: usize, dx: i64, dy: i64) -> Result<Dir, Misfit>
-    requires { i + 1 < 2 ^ 64 }
+pub(crate) fn dir_at(i: u32, dx: i64, dy: i64) -> Result<Dir, Misfit>
+    requires { i + 1 < 2 ^ 32 }
     ensures { result ≡ spec.dir_at i dx dy }
 {
-    let dx = way_part(i, dx)?;
-    let dy = way_part(i + 1, dy)?;
+    let dx = direction_part(i, dx)?;
+    let dy = direction_part(i + 1, dy)?;
     at_if(!is_nowhere(dx, dy), i + 1, Dir { dx, dy })
 }
 
@@ -115,14 +115,14 @@ fn is_radius(c: Pt, r: i64) -> bool
     r >= 100 && is_within_edge(c.x, r) && is_within_edge(c.y, r)
 }
 
-pub(crate) fn circle_at(i: usize, c: Pt, r: i64) -> Result<Circ, Misfit>
+pub(crate) fn circle_at(i: u32, c: Pt, r: i64) -> Result<Circ, Misfit>
     requires { IsPoint c }
     ensures { result ≡ spec.circle_at i c r }
 {
     at_if(is_radius(c, r), i, Circ { c, r })
 }
 
-pub(crate) fn zero_at(i: usize, n: i64) -> Result<i64, Misfit>
+pub(crate) fn zero_at(i: u32, n: i64) -> Result<i64, Misfit>
     ensures { result ≡ spec.zero_at i n }
 {
     at_if(n == 0, i, n)
@@ -135,7 +135,7 @@ fn is_text(n: i64) -> bool
 }
 
 /// A byte of a text: a character from space to tilde, or a tab.
-pub(crate) fn text_byte(i: usize, n: i64) -> Result<u8, Misfit>
+pub(crate) fn text_byte(i: u32, n: i64) -> Result<u8, Misfit>
     ensures { result ≡ spec.text_byte i n }
 {
     if is_text(n) {
@@ -145,7 +145,7 @@ pub(crate) fn text_byte(i: usize, n: i64) -> Result<u8, Misfit>
     }
 }
 
-pub(crate) fn side_at(i: usize, n: i64) -> Result<Side, Misfit>
+pub(crate) fn side_at(i: u32, n: i64) -> Result<Side, Misfit>
     ensures { result ≡ spec.side_at i n }
 {
     match n {
@@ -156,7 +156,7 @@ pub(crate) fn side_at(i: usize, n: i64) -> Result<Side, Misfit>
     }
 }
 
-pub(crate) fn sense_at(i: usize, n: i64) -> Result<i8, Misfit>
+pub(crate) fn sense_at(i: u32, n: i64) -> Result<i8, Misfit>
     ensures { result ≡ spec.sense_at i n }
 {
     match n {
@@ -166,7 +166,7 @@ pub(crate) fn sense_at(i: usize, n: i64) -> Result<i8, Misfit>
     }
 }
 
-pub(crate) fn stop_at(i: usize, n: i64) -> Result<Stop, Misfit>
+pub(crate) fn stop_at(i: u32, n: i64) -> Result<Stop, Misfit>
     ensures { result ≡ spec.stop_at i n }
 {
     match n {
@@ -178,7 +178,7 @@ pub(crate) fn stop_at(i: usize, n: i64) -> Result<Stop, Misfit>
     }
 }
 
-pub(crate) fn cool_at(i: usize, n: i64) -> Result<Cool, Misfit>
+pub(crate) fn cool_at(i: u32, n: i64) -> Result<Cool, Misfit>
     ensures { result ≡ spec.cool_at i n }
 {
     match n {
@@ -189,7 +189,7 @@ pub(crate) fn cool_at(i: usize, n: i64) -> Result<Cool, Misfit>
     }
 }
 
-pub(crate) fn units_at(i: usize, n: i64) -> Result<Units, Misfit>
+pub(crate) fn units_at(i: u32, n: i64) -> Result<Units, Misfit>
     ensures { result ≡ spec.units_at i n }
 {
     match n {
@@ -200,7 +200,7 @@ pub(crate) fn units_at(i: usize, n: i64) -> Result<Units, Misfit>
 }
 
 /// The turn that goes with a number: 0 with 0 alone, a greater one with 1 or 2.
-pub(crate) fn turn_at(i: usize, speed: i64, n: i64) -> Result<Turn, Misfit>
+pub(crate) fn turn_at(i: u32, speed: i64, n: i64) -> Result<Turn, Misfit>
     ensures { result ≡ spec.turn_at i speed n }
 {
     if speed == 0 {

@@ -1,10 +1,18 @@
 //! The records of a CL file, as what they say, and their bytes.
 #![tactic(auto)]
 
+mod bytes;
 mod entries;
 mod error;
 mod fields;
+mod reading;
 mod record;
+#[cfg(test)]
+mod tests;
+mod words;
+mod writing;
 
 pub use error::{ClCause, ClError};
+pub use reading::read;
 pub use record::{Note, Position, Reach, Record, Vertices};
+pub use writing::write;

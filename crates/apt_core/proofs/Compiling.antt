@@ -1,5 +1,5 @@
 -- From the parts of the work to what a compile tells and leaves.
-use Rattle.std.proofs.Common.{◌≡◌, ◌⊎◌, inl, inr, ℕ, ◌+◌, ◌≤◌, ◌<◌, List, [], length, replicate, true, false, Option, Some, None, Result, Ok, Err, ap, sym, ◌∙◌, refl, subst, arith, elim}
+use Rattle.std.proofs.Common.{◌≡◌, ◌⊎◌, inl, inr, ℕ, ◌+◌, ◌≤◌, ◌<◌, List, [], length, replicate, true, false, Option, Some, None, Result, Ok, Err, ap, sym, ◌∙◌, refl, subst, arith}
 use Rattle.std.proofs.lemmas.List.{length-replicate}
 use Rattle.std.specs.Prelude.{nat_lt, IsSomeAnd, ◌≢◌}
 use Rattle.std.specs.FinMap.{get, insert}

@@ -8,6 +8,7 @@ use Rattle.apt_certify.specs.declared.verdict.Verdict.{Verdict}
 use Rattle.apt_certify.specs.Jobs.{AreLegal}
 use Rattle.apt_certify.specs.Verdicts.{IsVerdict, IsFirstBadOrNone}
 use Rattle.apt_meaning.specs.Situations.{first_situation}
+use Rattle.apt_meaning.specs.Compiled.{compilation}
 use Rattle.apt_meaning.specs.Records.{AreLegal as IsLegalEffect, FollowsLegally}
 use Rattle.apt_meaning.proofs.Stands.{stands}
 use Rattle.apt_job.specs.Jobs.{MakesJobs}
@@ -25,6 +26,7 @@ use Rattle.apt_report.specs.declared.status.Summary.TheVariants as summaries
 use Rattle.apt_core.specs.Certificates.{IsRight, IsMiss, IsCertified, IsJudgement}
 use Rattle.apt_core.specs.Judging.{IsJudged, IsGood, IsVerdictOn}
 use Rattle.apt_core.specs.Unread.{HasNoPart}
+use Rattle.apt_core.proofs.Counting.{makes_segments}
 
 -- a verdict without a bad motion finds all legal
 all_legal : (jobs : List Job) (v : Verdict) → IsVerdict jobs v → v.first_bad ≡ None → AreLegal jobs
@@ -42,12 +44,13 @@ good_is_right machine text cl tape p written acts v promise read run good =
         behind = follow.0;
         follow = follow.1;
         stands = stands IsLegalEffect first_situation p.steps written follow.0 follow.1;
-        acts = run ∙ ap Ok good.plan;
+        acts = run ∙ ap Ok good.planned;
         reached = plan_reaches written;
       };
       jobs = good.jobs;
       makes = good.makes;
       verdict = good.verdict;
+      counted = good.verdict.segments ∙ makes_segments first_situation p.steps written good.jobs good.makes;
     }
 
 pub on_verdict : (machine : Machine) (text cl tape : List ℕ) (p : Compiled) (written : List Record) (acts : List Act) (answer : Status) → part_of machine text ≡ Ok (Ok p) → Promise machine text p
@@ -63,3 +66,7 @@ no_part_judged machine text cl tape (answers.BadPart line cause) is = inl is
 no_part_judged machine text cl tape (answers.Refused line step case) is = inl is
 no_part_judged machine text cl tape answers.NoMemory is = inr refl
 no_part_judged machine text cl tape _ is = absurd is
+
+-- steps whose records are known pass
+pub passes_by : (steps : List Step) (written : List Record) → compilation first_situation steps ≡ Ok written → (rs : List Record) × (compilation first_situation steps ≡ Ok rs)
+passes_by steps written e = (written, e)

@@ -2,8 +2,10 @@ pub mod Apart
 pub mod Outputs
 pub mod Deliveries
 pub mod Compiling
+pub mod Counting
 pub mod Judging
 pub mod Certifying
 pub mod Right
+pub mod Differences
 pub mod Putting
 pub mod Running

@@ -51,13 +51,13 @@ one_text o a b e f = let same : Some a ≡ Some b = sym e ∙ f in cc
 
 -- ---- the answer
 
-same_part : (r : Result (Result Compiled _) _) (a b : Compiled) → r ≡ Ok (Ok a) → r ≡ Ok (Ok b) → a ≡ b
+same_part : {E F : Type 0} (r : Result (Result Compiled E) F) (a b : Compiled) → r ≡ Ok (Ok a) → r ≡ Ok (Ok b) → a ≡ b
 same_part r a b e f = let same = sym e ∙ f in cc
 
-same_records : (r : Result (List Record) _) (a b : List Record) → r ≡ Ok a → r ≡ Ok b → a ≡ b
+same_records : {E : Type 0} (r : Result (List Record) E) (a b : List Record) → r ≡ Ok a → r ≡ Ok b → a ≡ b
 same_records r a b e f = let same = sym e ∙ f in cc
 
-same_acts : (r : Result (List Act) _) (a b : List Act) → r ≡ Ok a → r ≡ Ok b → a ≡ b
+same_acts : {E : Type 0} (r : Result (List Act) E) (a b : List Act) → r ≡ Ok a → r ≡ Ok b → a ≡ b
 same_acts r a b e f = let same = sym e ∙ f in cc
 
 not_differ : (xs : List Act) → HeadsDiffer xs xs → ⊥

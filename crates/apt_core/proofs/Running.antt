@@ -1,5 +1,5 @@
 -- From the work and its line to the run.
-use Rattle.std.proofs.Common.{◌≡◌, ◌⊎◌, inl, inr, ℕ, ◌≤◌, List, [], ◌∷◌, length, Bool, true, false, Option, Some, None, Result, Ok, Err, ap, sym, ◌∙◌, refl, subst, elim}
+use Rattle.std.proofs.Common.{◌≡◌, ◌⊎◌, inl, inr, ℕ, ◌≤◌, List, [], ◌∷◌, length, Bool, true, false, Option, Some, None, Result, Ok, Err, ap, sym, ◌∙◌, refl, subst}
 use Rattle.std.specs.Prelude.{nat_lt, ◌≢◌}
 use Rattle.std.specs.FinMap.{get}
 use borrow.Author.Tests.{le-ltb}

@@ -15,7 +15,7 @@ use Rattle.apt_job.specs.Jobs.{MakesJobs}
 use Rattle.apt_machine.specs.declared.Machine.{Machine}
 use Rattle.apt_control.specs.declared.Act.{Act}
 use Rattle.apt_control.specs.Control.{control_run}
-use Rattle.apt_post.specs.Plan.{plan, positions, points}
+use Rattle.apt_post.specs.Plan.{plan, segments, positions, points}
 use Rattle.apt_part.specs.Compilation.{Compiled, part_of}
 use Rattle.apt_part.specs.Promise.{Passes}
 use Rattle.apt_report.specs.declared.status.Status.{Status}
@@ -64,11 +64,12 @@ IsMiss steps written acts (misses.Act at) =
     (jobs : List Job) × MakesJobs first_situation steps written jobs × AreLegal jobs × DifferAt acts (plan written) at
 
 -- all is right, with the verdict over the contours
-pub record IsCertified (machine : Machine) (text cl tape : List ℕ) (verdict : Verdict) : Type 0 where
+pub record IsCertified (machine : Machine) (text cl tape : List ℕ) (v : Verdict) : Type 0 where
   pub right : IsRight machine text cl tape
   pub jobs : List Job
   pub makes : MakesJobs first_situation right.part.steps right.records jobs
-  pub verdict : IsVerdict jobs verdict
+  pub verdict : IsVerdict jobs v
+  pub counted : v.segments ≡ segments right.records
 
 -- the answer to the three texts, in the order in which they are judged
 abbrev pub IsJudgement : Machine → List ℕ → List ℕ → List ℕ → Status → Type 0

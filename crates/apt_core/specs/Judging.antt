@@ -19,12 +19,12 @@ abbrev pub IsJudged : Machine → List ℕ → List ℕ → List ℕ → Status 
 IsJudged machine text cl tape answer = IsJudgement machine text cl tape answer ⊎ (answer ≡ answers.NoMemory)
 
 -- the records answer the steps, every contour is legal, and the acts are the plan
-pub record IsGood (steps : List Step) (written : List Record) (acts : List Act) (verdict : Verdict) : Type 0 where
+pub record IsGood (steps : List Step) (written : List Record) (acts : List Act) (v : Verdict) : Type 0 where
   pub jobs : List Job
   pub makes : MakesJobs first_situation steps written jobs
-  pub verdict : IsVerdict jobs verdict
-  pub legal : verdict.first_bad ≡ None
-  pub plan : acts ≡ plan written
+  pub verdict : IsVerdict jobs v
+  pub legal : v.first_bad ≡ None
+  pub planned : acts ≡ plan written
 
 -- the answer to records and acts
 abbrev pub IsVerdictOn : List Step → List Record → List Act → Status → Type 0

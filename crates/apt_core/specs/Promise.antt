@@ -164,10 +164,10 @@ pub record Judges (machine : Machine) (n : FourNames) (told : Option Contents) (
 -- written
 pub record Certifies (machine : Machine) (n : FourNames) (before after : Files) (told : Status) : Type 0 where
   pub tells :
-    IsFirstUnread before.told (inputs n) before.read_faults after.read_faults told
-    ⊎ (Judges machine n before.told told
-    ⊎ (((told ≡ answers.ReadFault) × Rose before.read_faults after.read_faults)
-    ⊎ (told ≡ answers.NoMemory)))
+      IsFirstUnread before.told (inputs n) before.read_faults after.read_faults told
+      ⊎ (Judges machine n before.told told
+      ⊎ (((told ≡ answers.ReadFault) × Rose before.read_faults after.read_faults)
+      ⊎ (told ≡ answers.NoMemory)))
   pub files : after.told ≡ before.told
   pub writing : after.writing ≡ before.writing
   pub unfailed : after.write_faults ≡ before.write_faults

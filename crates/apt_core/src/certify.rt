@@ -1,9 +1,14 @@
 //! The command `certify`.
 
-ghost use Rattle.std.specs.Prelude.{◌≡◌, None, IfSome};
+ghost use Rattle.std.specs.Prelude.{◌≡◌, ◌↔◌, ◌+◌, ◌<◌, ◌≤◌, ◌^◌, IsTrue, List, ◌∷◌, length, None, Ok, IfSome};
+ghost use Rattle.apt_cldata.specs.Ranges.{AreRecords, vertex_count};
+ghost use Rattle.apt_meaning.specs.Situations.{first_situation};
+ghost use Rattle.apt_meaning.specs.Compiled.{compilation};
+ghost use Rattle.apt_part.specs.Promise.{AreSteps};
 ghost use Rattle.apt_machine.specs.Machines.{IsMachine};
 ghost use Rattle.apt_core.specs.Request.{four_names};
-ghost use Rattle.apt_core.specs.Certificates.{DifferAt};
+ghost use Rattle.apt_control.specs.declared.Act.{Act};
+ghost use Rattle.apt_core.specs.Certificates.{DifferAt, HeadsDiffer};
 ghost use Rattle.apt_core.specs.Judging.{IsJudged, IsVerdictOn};
 ghost use Rattle.apt_core.specs.Promise.{Certifies, files_on};
 
@@ -29,7 +34,7 @@ pub(crate) fn certify<H: Shelf>(
     names: Names<'_>,
 ) -> Status
     requires { IsMachine machine.now }
-    ensures { Certifies machine.now (four_names names) (files_on H.Shelf shelf.old) (files_on H.Shelf shelf.new) result }
+    ensures { Certifies machine.now (four_names names.entry) (files_on H.Shelf shelf.old) (files_on H.Shelf shelf.new) result }
 {
     let text = match read_input(alloc, shelf, names.part, PART_LIMIT) {
         Ok(text) => text,
@@ -48,7 +53,8 @@ pub(crate) fn certify<H: Shelf>(
 
 /// The answer to a part, a CL file and a tape.
 fn judged(alloc: Global, machine: &Machine, text: &[u8], cl: &[u8], tape: &[u8]) -> Status
-    requires { IsMachine machine.now }
+    requires machine { IsMachine machine.now }
+    requires short { length cl.now ≤ 67108864 }
     ensures { IsJudged machine.now text.now cl.now tape.now result }
 {
     let part = match part_on(alloc, text, machine) {
@@ -69,40 +75,86 @@ fn judged(alloc: Global, machine: &Machine, text: &[u8], cl: &[u8], tape: &[u8])
 }
 
 /// The answer to records and acts that were read.
+#[tactic(auto, using(crate::proofs::Judging::passes_by))]
 fn verdict_on(alloc: Global, part: &Part, records: &[Record], acts: &[Act]) -> Status
+    requires steps { AreSteps part.now.steps }
+    requires passes { compilation first_situation part.now.steps ≡ Ok part.now.records }
+    requires records { AreRecords records.now }
+    requires few { vertex_count records.now + length records.now < 2 ^ 62 }
     ensures { IsVerdictOn part.now.steps records.now acts.now result }
 {
     let jobs = match jobs(alloc, &part.steps, records) {
         Ok(jobs) => jobs,
-        Err(JobError::Entry { seq }) => return Status::NotCertified { miss: Miss::Entry { seq } },
+        Err(JobError::Entry { seq }) => return Status::NotCertified {
+            miss: Miss::Entry { seq },
+        },
         Err(JobError::NoMemory) => return Status::NoMemory,
     };
     let verdict = check_jobs(&jobs);
     if let Some(bad) = verdict.first_bad {
-        return Status::NotCertified { miss: Miss::Motion(bad) };
+        return Status::NotCertified {
+            miss: Miss::Motion(bad),
+        };
     }
     let Ok(planned) = plan(alloc, records) else {
         return Status::NoMemory;
     };
     match first_difference(acts, &planned.acts) {
-        Some(at) => Status::NotCertified { miss: Miss::Act { at } },
+        Some(at) => Status::NotCertified {
+            miss: Miss::Act { at },
+        },
         None => Status::Done(Summary::Certified(verdict)),
     }
 }
 
 /// The first place, from 1, at which two lists of acts differ.
+#[tactic(auto, using(crate::proofs::Differences::same_lists))]
 fn first_difference(xs: &[Act], ys: &[Act]) -> Option<u64>
     ensures differ { IfSome result (λ at. DifferAt xs.now ys.now at) }
     ensures same { result ≡ None → xs.now ≡ ys.now }
 {
     let mut at = 1;
-    let mut ys = ys;
+    let mut left = ys;
     'acts: for x in xs {
-        match ys {
-            [y, rest @ ..] if x == y => ys = rest,
-            _ => return Some(at),
+        match behind_same(*x, left) {
+            Some(rest) => left = rest,
+            None => return Some(at),
         }
         at += 1;
     }
-    if ys.is_empty() { None } else { Some(at) }
+    if left.is_empty() { None } else { Some(at) }
+}
+
+/// The acts behind the first, where it is this one.
+fn behind_same(x: Act, ys: &[Act]) -> Option<&[Act]>
+    ensures same { IfSome result (λ rest. ys.now ≡ x ∷ rest.now) }
+    ensures differ { result ≡ None → (xs : List Act) → HeadsDiffer (x ∷ xs) ys.now }
+{
+    match ys.split_first() {
+        Some((y, rest)) if is_same(x, *y) => Some(rest),
+        _ => None,
+    }
+}
+
+fn is_same(x: Act, y: Act) -> bool
+    ensures { IsTrue result ↔ (x ≡ y) }
+{
+    match (x, y) {
+        (Act::Units(a), Act::Units(b)) => a == b,
+        (Act::Rapid { x, y, z }, Act::Rapid { x: u, y: v, z: w }) => x == u && y == v && z == w,
+        (
+            Act::Cut { x, y, z, feed },
+            Act::Cut {
+                x: u,
+                y: v,
+                z: w,
+                feed: f,
+            },
+        ) => x == u && y == v && z == w && feed == f,
+        (Act::Spindle { turn, n }, Act::Spindle { turn: t, n: m }) => turn == t && n == m,
+        (Act::Coolant(a), Act::Coolant(b)) => a == b,
+        (Act::Tool(a), Act::Tool(b)) => a == b,
+        (Act::Stop, Act::Stop) | (Act::OptStop, Act::OptStop) | (Act::End, Act::End) => true,
+        _ => false,
+    }
 }

@@ -52,7 +52,7 @@ pub(crate) fn compile<H: Shelf>(
 ) -> Status
     requires machine { IsMachine machine.now }
     requires apart { names.cl.now ≢ names.tape.now }
-    ensures { Compiles machine.now (four_names names) (files_on H.Shelf shelf.old) (files_on H.Shelf shelf.new) result }
+    ensures { Compiles machine.now (four_names names.entry) (files_on H.Shelf shelf.old) (files_on H.Shelf shelf.new) result }
 {
     let text = match read_input(alloc, shelf, names.part, PART_LIMIT) {
         Ok(text) => text,

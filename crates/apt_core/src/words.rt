@@ -41,7 +41,7 @@ pub(crate) fn request_of<'a>(words: &'a [String]) -> Option<Request<'a>>
 }
 
 fn command_request<'a>(word: &str, names: Names<'a>) -> Option<Request<'a>>
-    ensures ask { option_map ask_of result ≡ words.command_ask word.now (four_names names) }
+    ensures ask { option_map ask_of result ≡ words.command_ask word.now (four_names names.entry) }
     ensures apart { IfSome result IsApart }
 {
     if word == "compile" {
@@ -55,7 +55,7 @@ fn command_request<'a>(word: &str, names: Names<'a>) -> Option<Request<'a>>
 
 #[tactic(auto, using(crate::proofs::Apart::outputs_differ))]
 fn compile_request<'a>(names: Names<'a>) -> Option<Request<'a>>
-    ensures ask { option_map ask_of result ≡ words.compile_ask (four_names names) }
+    ensures ask { option_map ask_of result ≡ words.compile_ask (four_names names.entry) }
     ensures apart { IfSome result IsApart }
 {
     if are_names(&names) && are_apart(&names) {
@@ -66,7 +66,7 @@ fn compile_request<'a>(names: Names<'a>) -> Option<Request<'a>>
 }
 
 fn certify_request<'a>(names: Names<'a>) -> Option<Request<'a>>
-    ensures ask { option_map ask_of result ≡ words.certify_ask (four_names names) }
+    ensures ask { option_map ask_of result ≡ words.certify_ask (four_names names.entry) }
     ensures apart { IfSome result IsApart }
 {
     if are_names(&names) {
@@ -85,9 +85,5 @@ fn are_names(n: &Names<'_>) -> bool
 fn are_apart(n: &Names<'_>) -> bool
     ensures { result ≡ words.are_apart (four_names n.now) }
 {
-    n.cl != n.part
-        && n.cl != n.machine
-        && n.cl != n.tape
-        && n.tape != n.part
-        && n.tape != n.machine
+    n.cl != n.part && n.cl != n.machine && n.cl != n.tape && n.tape != n.part && n.tape != n.machine
 }

@@ -83,7 +83,6 @@ fn take(
 }
 
 /// The jobs of records that answer steps, whether or not their contours are legal: one for each contour, in order.
-/// It takes time in proportion to the records and steps.
 ///
 /// # Errors
 ///

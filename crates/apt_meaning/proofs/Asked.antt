@@ -47,7 +47,6 @@ use Rattle.apt_meaning.specs.Ranges.{IsPositionOrNone, AreSettings, IsSituation,
 use Rattle.apt_scalar.specs.StepScalars.{HasScalars}
 use Rattle.apt_meaning.specs.Vertices.{HasIn}
 use Rattle.apt_meaning.proofs.Refused.{first_none, none_first}
-use Rattle.apt_meaning.proofs.Titles.{record_text}
 use Rattle.apt_meaning.proofs.Legal.{motion_legal, motion_contact, motion_defined, start_up_point}
 use Rattle.apt_meaning.proofs.EffectRanges.{reach_in, up_to_in, tolerance_in, radius_in, feed_in, feed_note, with_units, with_radius, with_intol, with_outtol, with_feed, with_rapid, with_ended, on_side, on_side_or_as_it_was, sense_in, allowance_in}
 
@@ -200,7 +199,7 @@ contour_asks at side go drive how check is none =
 -- ---- a line for each statement
 
 pub asks : (at : Situation) (deed : Deed) → IsSituation at → HasScalars deed → DeedHasText deed → NoneHolds (cases_of at deed) → Asks (effect_of at deed)
-asks at (deeds.Partno text) is numbers worded none = says at.settings (notes.Partno text) is.settings (record_text text worded.0)
+asks at (deeds.Partno text) is numbers worded none = says at.settings (notes.Partno text) is.settings worded.0
 asks at (deeds.Remark text) is numbers worded none = sets at.settings is.settings
 asks at (deeds.Units units) is numbers worded none = says (record at.settings { units = units }) (notes.Units units) (with_units at.settings units is.settings) tt
 asks at deeds.Clprnt is numbers worded none = sets at.settings is.settings

@@ -8,7 +8,6 @@ pub mod Legal
 pub mod Plates
 pub mod Said
 pub mod Refused
-pub mod Titles
 pub mod EffectRanges
 pub mod Asked
 pub mod Fed
@@ -21,6 +20,7 @@ pub mod Straight
 pub mod Agree
 pub mod Follower
 pub mod Ends
+pub mod Files
 mod Worked
 mod Statements
 mod Cases

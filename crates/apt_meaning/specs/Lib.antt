@@ -1,3 +1,4 @@
+pub mod OnLines
 pub mod Situations
 pub mod Motions
 pub mod StartUps

@@ -29,11 +29,10 @@ use Rattle.apt_meaning.proofs.Stands.{stands}
 use Rattle.apt_machine.specs.declared.Machine.{Machine}
 use Rattle.apt_machine.specs.Machines.{IsMachine}
 use Rattle.apt_post.specs.Limits.{limits}
-use Rattle.apt_post.specs.Plan.{plan, nothing_pending}
-use Rattle.apt_post.specs.Blocks.{IsProgram}
+use Rattle.apt_post.specs.Plan.{nothing_pending}
 use Rattle.apt_post.proofs.Reaching.{plan_reaches}
 use Rattle.apt_post.proofs.Programs.{planned_program}
-use Rattle.apt_part.specs.Compilation.{Compiled, earlier, unless_fault, records_by, with_steps, part_by, or_fault, part_of}
+use Rattle.apt_part.specs.Compilation.{Compiled, earlier, unless_fault, records_by, with_steps, or_fault, part_of}
 use Rattle.apt_part.specs.Promise.{Passes, Promise, AreSteps}
 use Rattle.apt_part.proofs.Filed.{compiled_file}
 use Rattle.apt_part.proofs.Written.{compiled_written}
@@ -100,8 +99,8 @@ are_steps machine text p h =
     let q = passes machine text p h in
     let same = steps_by q.statements p q.unrolled in record {
       scalars = subst AreScalars same (are_scalars q.statements (trace_of q.statements) refl);
-      built = subst AreBuiltSteps same (are_built q.statements (trace_of q.statements) (of_text (λ sts. AreBuilt sts) text q.statements q.read (program_of-built text)) refl);
-      sources = subst AreExecuted same (are_executed q.statements (trace_of q.statements) (of_text AreStmts text q.statements q.read (program_of-stmts text)) refl);
+      built = subst AreBuiltSteps same (are_built q.statements (trace_of q.statements) refl (of_text (λ sts. AreBuilt sts) text q.statements q.read (program_of-built text)));
+      sources = subst AreExecuted same (are_executed q.statements (trace_of q.statements) refl (of_text AreStmts text q.statements q.read (program_of-stmts text)));
     }
 
 pub promised : (machine : Machine) (text : List ℕ) (p : Compiled) → IsMachine machine → part_of machine text ≡ Ok (Ok p) → Promise machine text p

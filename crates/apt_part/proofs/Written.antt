@@ -9,6 +9,7 @@ use Rattle.apt_words.specs.declared.deed.Deed.{Deed}
 use Rattle.apt_words.specs.declared.deed.Deed.TheVariants as deeds
 use Rattle.apt_words.specs.declared.deed.Step.{Step}
 use Rattle.apt_words.specs.Rows.{first_of}
+use Rattle.apt_words.specs.Sources.{AreExecuted}
 use Rattle.apt_scalar.specs.Scalars.{tenths}
 use Rattle.apt_plane.specs.declared.figures.Pt.{Pt}
 use Rattle.apt_cldata.specs.declared.record.Position.{Position}
@@ -169,18 +170,18 @@ taken st None more none = (refl, none)
 taken st (Some case) more none = absurd cc
 
 pub compiled_written : (machine : Machine) (p : Pending) (at : Situation) (steps : List Step) (written : List Record) → IsMachine machine → Agrees p at.settings → HasRoom at.settings
-    → IsSituation at → AreScalars steps → limits machine steps ≡ None → compilation at steps ≡ Ok written → AreWritten p written
-compiled_written machine p at [] written is agrees room good numbers within h = rw (nothing_left written h) tt
-compiled_written machine p at (step ∷ steps) written is agrees room good numbers within h =
+    → IsSituation at → AreScalars steps → AreExecuted steps → limits machine steps ≡ None → compilation at steps ≡ Ok written → AreWritten p written
+compiled_written machine p at [] written is agrees room good numbers sources within h = rw (nothing_left written h) tt
+compiled_written machine p at (step ∷ steps) written is agrees room good numbers sources within h =
     let d = done step (refusal_of at step.deed) (effect_of at step.deed)
     (λ e. with_front (records_of step e (ends_of e)) (compilation (after at e (ends_of e)) steps)) written h in
     let e = d.e in
     let takes = taken step (first_of (machine_cases machine step.deed)) (limits machine steps) within in
-    let ok = fit (effect_of at step.deed) e d.asked (answered at step.deed good numbers.0 d.fine) in
+    let ok = fit (effect_of at step.deed) e d.asked (answered at step.deed good numbers.0 sources.0.text d.fine) in
     let f = front_ok (records_of step e (ends_of e)) (compilation (after at e (ends_of e)) steps) written d.rest in
     let leaves = statement_written p step (effect_records e (ends_of e)) (after at e (ends_of e)).settings
     (said_written machine p at step.deed e (ends_of e) is agrees room takes.0 (said_by at step.deed e d.asked) (fed at step.deed e d.asked (first_none (cases_of at step.deed) d.fine))
-    (without_statement step (effect_records e (ends_of e)) (records_in step e (ends_of e) ok.good ok.ends))) in
+    (without_statement step (effect_records e (ends_of e)) (records_in step e (ends_of e) sources.0 ok.good ok.ends))) in
     let more = compiled_written machine (pending_behind p (records_of step e (ends_of e))) (after at e (ends_of e)) steps f.0 is leaves.agrees leaves.room
-    (kept at e (ends_of e) good ok.good ok.ends) numbers.1 takes.1 f.1 in
+    (kept at e (ends_of e) good ok.good ok.ends) numbers.1 sources.1 takes.1 f.1 in
     rw f.2 (written-append p (records_of step e (ends_of e)) f.0 leaves.can more)

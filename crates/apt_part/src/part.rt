@@ -1,6 +1,6 @@
 //! Parts.
 
-ghost use Rattle.std.specs.Prelude.{IfOk};
+ghost use Rattle.std.specs.Prelude.{◌≡◌, IfOk};
 ghost use Rattle.apt_words.specs.Built.{AreBuilt, AreBuiltSteps};
 ghost use Rattle.apt_words.specs.Sources.{AreStmts, AreExecuted};
 ghost use Rattle.apt_scalar.specs.StepScalars.{AreScalars};

@@ -1,5 +1,5 @@
 -- The steps of a program have its lines and texts, and are numbered from 1.
-use Rattle.std.proofs.Common.{◌≡◌, ℕ, ◌+◌, ◌≤◌, ◌&&◌, nat_lt, not, Bool, true, false, List, [], ◌∷◌, Result, Ok, Err, refl, sym, subst, arith}
+use Rattle.std.proofs.Common.{◌≡◌, ℕ, ◌+◌, ◌≤◌, ◌&&◌, nat_lt, not, Bool, true, false, List, [], ◌∷◌, length, Result, Ok, Err, refl, sym, subst, arith}
 use Rattle.std.specs.Prelude.{IfOk, if◌then◌else◌}
 use Rattle.std.proofs.lemmas.Bool.Decides.{nat_tests}
 use Rattle.std.proofs.lemmas.Result.{IfOk-weaker}
@@ -48,3 +48,26 @@ trace_from-executed n ended names (st ∷ sts) h are =
 
 pub are_executed : (sts : List Stmt) (u : Trace) → u ≡ trace_of sts → AreStmts sts → AreExecuted u.steps
 are_executed sts u is are = subst (λ u. AreExecuted u.steps) (sym is) (trace_from-executed 1 false [] sts (omega arith) are)
+
+-- ---- their number
+
+or_refused-few : (line n : ℕ) (deed : Result Deed Case) (more : Deed → Trace) → n ≤ 200001 → IfOk deed (λ _. n ≤ 200000)
+    → ((deed : Deed) → n ≤ 200000 → length (more deed).steps + (n + 1) ≤ 200001) → length (or_refused line n deed more).steps + n ≤ 200001
+or_refused-few line n (Err case) more h early rest = omega (arith, h)
+or_refused-few line n (Ok deed) more h early rest = omega (arith, rest deed early)
+
+early : (n : ℕ) (late ended : Bool) (deed : Result Deed Case) → nat_lt most_steps n ≡ late
+    → IfOk (if late then Err cases.Budget else if ended then Err cases.AfterEnd else deed) (λ _. n ≤ 200000)
+early n true ended deed e = tt
+early n false true deed e = tt
+early n false false (Err case) e = tt
+early n false false (Ok deed) e = not_late n e
+
+trace_from-few : (n : ℕ) (ended : Bool) (names : Names) (sts : List Stmt) → n ≤ 200001 → length (trace_from n ended names sts).steps + n ≤ 200001
+trace_from-few n ended names [] h = omega (arith, h)
+trace_from-few n ended names (st ∷ sts) h =
+    or_refused-few st.line n (deed_at n ended names st.body) _ h (early n (nat_lt most_steps n) (ended && not (is_fini st.body)) (deed_of names [] st.body) refl)
+    (λ deed at. trace_from-few (n + 1) (is_ended ended deed) (names_behind names deed) sts (omega (arith, at)))
+
+pub few_steps : (sts : List Stmt) (u : Trace) → u ≡ trace_of sts → length u.steps ≤ 200000
+few_steps sts u is = omega (arith, subst (λ u. length u.steps + 1 ≤ 200001) (sym is) (trace_from-few 1 false [] sts (omega arith)))

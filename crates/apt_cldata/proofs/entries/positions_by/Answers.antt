@@ -1,9 +1,7 @@
-use Rattle.std.proofs.Common.{rules, ◌≡◌, ◌+◌, ◌≤◌, length, get_or, pos, Ok, sym, ◌∙◌, ap, arith}
+use Rattle.std.proofs.Common.{rules, get_or, pos, sym, ◌∙◌, arith}
 use Rattle.std.specs.Prelude.{FitsSigned}
 use Rattle.std.specs.Int.{w64}
 use Rattle.std.proofs.lemmas.Int.{to_z-of_z}
-use Rattle.apt_cldata.specs.Records as spec
-use Rattle.apt_cldata.proofs.Chains.{behind}
 use Rattle.apt_cldata.proofs.Triples.{triples_more, triples_left}
 use Rattle.apt_cldata.proofs.entries.positions_by.Goals as goal
 

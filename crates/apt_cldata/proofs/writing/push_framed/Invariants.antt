@@ -1,0 +1,7 @@
+use Rattle.std.proofs.Common.{◌≡◌, ◌*◌, ◌++◌, length, take}
+use Rattle.std.specs.List.{flat_map}
+use Rattle.apt_cldata.specs.Files.{length_bytes, word_bytes}
+use Rattle.apt_cldata.proofs.writing.push_framed.Given as goal
+
+abbrev pub invariant-words : goal.invariant-words
+invariant-words l = l.bytes.items ≡ l.fn.bytes.items ++ (length_bytes (8 * length l.words) ++ flat_map word_bytes (take l.word-index l.words))

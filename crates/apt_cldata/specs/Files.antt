@@ -1,0 +1,73 @@
+-- The bytes of a CL file: its head, and its records one behind the other.
+use Rattle.std.specs.Prelude.{◌≡◌, ℕ, ◌+◌, ◌*◌, ◌^◌, ◌<◌, ◌≤◌, ℤ, pos, Bool, true, false, List, [], ◌∷◌, ◌++◌, length, MatchBool, codes}
+use Rattle.std.specs.List.{flat_map}
+use Rattle.std.specs.Int.{w32, w64, to_be_bytes, cast_unsigned}
+use Rattle.apt_cldata.specs.declared.record.Record.{Record}
+use Rattle.apt_cldata.specs.Ranges.{AreRecords, Mark, Begin, End, Fini, Other, mark_of}
+use Rattle.apt_cldata.specs.Words.{words_of}
+
+-- ---- words and bytes
+
+-- a length is four bytes, the highest first
+unfoldable pub length_bytes : ℕ → List ℕ
+length_bytes n = to_be_bytes w32 n
+
+-- a word is eight bytes, the highest first, in two's complement
+unfoldable pub word_bytes : ℤ → List ℕ
+word_bytes w = to_be_bytes w64 (cast_unsigned w64 w)
+
+-- words behind their length in bytes
+abbrev pub framed : List ℤ → List ℕ
+framed ws = length_bytes (8 * length ws) ++ flat_map word_bytes ws
+
+-- the most bytes that the words of a record have
+abbrev pub most_bytes : ℕ
+most_bytes = 67108864
+
+-- ---- records
+
+-- a record with its number: the number, the class, the subtype, and the words behind them
+abbrev pub record_bytes : ℕ → Record → List ℕ
+record_bytes seq r = framed (pos seq ∷ words_of r)
+
+-- records, numbered by one from a number on
+abbrev pub records_bytes : ℕ → List Record → List ℕ
+records_bytes seq [] = []
+records_bytes seq (r ∷ rs) = record_bytes seq r ++ records_bytes (seq + 1) rs
+
+-- ---- files
+
+abbrev pub head : List ℕ
+head = codes "APTCL 1\n"
+
+abbrev pub file_of : List Record → List ℕ
+file_of rs = head ++ records_bytes 1 rs
+
+abbrev pub is_fini_mark : Mark → Bool
+is_fini_mark Begin = false
+is_fini_mark End = false
+is_fini_mark Fini = true
+is_fini_mark Other = false
+
+abbrev pub is_fini : Record → Bool
+is_fini r = is_fini_mark (mark_of r)
+
+-- the record of FINI stands last and nowhere else
+abbrev pub HasFiniLast : List Record → Type 0
+HasFiniLast [] = ⊥
+HasFiniLast (r ∷ rs) = MatchBool (is_fini r) (rs ≡ []) (HasFiniLast rs)
+
+-- the words of each record fit a length
+abbrev pub IsShort : Record → Type 0
+IsShort r = 8 * (1 + length (words_of r)) ≤ most_bytes
+
+abbrev pub AreShort : List Record → Type 0
+AreShort [] = Unit {0}
+AreShort (r ∷ rs) = IsShort r × AreShort rs
+
+-- the records of a file; their numbers fit a word
+pub record IsFile (rs : List Record) : Type 0 where
+  pub ranges : AreRecords rs
+  pub last : HasFiniLast rs
+  pub short : AreShort rs
+  pub numbers : length rs < 2 ^ 63

@@ -1,0 +1,58 @@
+//! Lengths and words by their bytes, the highest first.
+ghost use Rattle.std.specs.Prelude.{◌≡◌, ◌*◌, ◌^◌, ◌<◌, ◌≤◌, ◌++◌, length, vec_len, OnOk, IfOk};
+ghost use Rattle.apt_cldata.specs.Files as files;
+ghost use Rattle.apt_cldata.specs.Reading as spec;
+
+use std::alloc::{AllocError, Global};
+
+/// The word in the first eight bytes.
+#[tactic(auto, unfolding(crate::specs::Reading::word_in))]
+pub(crate) fn word_in(bytes: &[u8]) -> i64
+    requires { 8 ≤ length bytes.now }
+    ensures { result ≡ spec.word_in bytes.now }
+{
+    i64::from_be_bytes(*bytes.first_chunk().unwrap())
+}
+
+/// So many words from the front.
+pub(crate) fn words_in(alloc: Global, count: usize, bytes: &[u8]) -> Result<Vec<i64>, AllocError>
+    requires { 8 * count ≤ length bytes.now }
+    ensures value { IfOk result (λ v. v.items ≡ spec.words_in count bytes.now) }
+    ensures count { IfOk result (λ v. vec_len v ≡ count) }
+{
+    let mut words = Vec::new(alloc);
+    let mut rest = bytes;
+    let mut left = count;
+    'words: while left > 0 {
+        words.push(word_in(rest))?;
+        rest = &rest[8..];
+        left -= 1;
+    }
+    Ok(words)
+}
+
+/// The length in the first four bytes.
+#[tactic(auto, unfolding(crate::specs::Reading::length_in))]
+pub(crate) fn length_in(bytes: &[u8]) -> usize
+    requires { 4 ≤ length bytes.now }
+    ensures value { result ≡ spec.length_in bytes.now }
+    ensures fits { result < 2 ^ 32 }
+{
+    u32::from_be_bytes(*bytes.first_chunk().unwrap()) as usize
+}
+
+/// Appends a length.
+#[tactic(auto, unfolding(crate::specs::Files::length_bytes))]
+pub(crate) fn push_length(bytes: &mut Vec<u8>, length: u32) -> Result<(), AllocError>
+    ensures { OnOk result (bytes.new.items ≡ bytes.old.items ++ files.length_bytes length) }
+{
+    bytes.extend_from_slice(&length.to_be_bytes())
+}
+
+/// Appends a word.
+#[tactic(auto, unfolding(crate::specs::Files::word_bytes))]
+pub(crate) fn push_word(bytes: &mut Vec<u8>, word: i64) -> Result<(), AllocError>
+    ensures { OnOk result (bytes.new.items ≡ bytes.old.items ++ files.word_bytes word) }
+{
+    bytes.extend_from_slice(&word.to_be_bytes())
+}

@@ -1,0 +1,210 @@
+//! Reading a CL file.
+ghost use Rattle.std.specs.Prelude.{◌≡◌, ◌+◌, ◌^◌, ◌<◌, ◌≤◌, length, drop, Ok, Err, IfOk, MatchResult};
+ghost use Rattle.apt_cldata.specs.Ranges.{vertex_count};
+ghost use Rattle.apt_cldata.specs.Files.{IsFile, file_of};
+ghost use Rattle.apt_cldata.specs.Files as files;
+ghost use Rattle.apt_cldata.specs.Reading.{IsFault, read_of};
+ghost use Rattle.apt_cldata.specs.Reading as spec;
+
+use crate::bytes::{length_in, word_in, words_in};
+use crate::entries::record_of;
+use crate::error::Fault;
+use crate::fields::Misfit;
+use crate::{ClCause, ClError, Note, Record};
+use std::alloc::{AllocError, Global};
+
+/// How a file begins.
+pub(crate) const HEAD: &[u8] = b"APTCL 1\n";
+
+/// The most bytes that the words of a record have.
+const MOST_BYTES: usize = 67_108_864;
+
+fn is_length(n: usize) -> bool
+    ensures { result ≡ spec.is_length n }
+{
+    n % 8 == 0 && 24 <= n && n <= MOST_BYTES
+}
+
+/// Where the file ends.
+fn cut_short(at: u64, bytes: &[u8]) -> Fault
+    requires { at + length bytes.now < 2 ^ 64 }
+    ensures { result ≡ spec.cut_short at bytes.now }
+{
+    Fault::new(at + bytes.len() as u64, ClCause::Truncated)
+}
+
+/// The length of the first record, whose bytes are all there.
+#[tactic(auto, unfolding(crate::specs::Reading::length_of))]
+fn length_of(at: u64, bytes: &[u8]) -> Result<usize, Fault>
+    requires { at + length bytes.now < 2 ^ 64 }
+    ensures value { result ≡ spec.length_of at bytes.now }
+    ensures least { IfOk result (λ n. 24 ≤ n) }
+    ensures most { IfOk result (λ n. n < 2 ^ 32) }
+    ensures there { IfOk result (λ n. 4 + n ≤ length bytes.now) }
+{
+    if bytes.len() < 4 {
+        return Err(cut_short(at, bytes));
+    }
+    let n = length_in(bytes);
+    if !is_length(n) {
+        return Err(Fault::new(at, ClCause::Length));
+    }
+    if bytes.len() < 4 + n {
+        return Err(cut_short(at, bytes));
+    }
+    Ok(n)
+}
+
+/// The place of a misfit, of a record at a place.
+fn misfit_at(at: u64, misfit: Misfit) -> Fault
+    requires { at < 2 ^ 63 }
+    ensures { result ≡ spec.misfit_at at misfit }
+{
+    match misfit {
+        Misfit::Class => Fault::new(at + 12, ClCause::Class),
+        Misfit::Subtype => Fault::new(at + 20, ClCause::Class),
+        Misfit::Count => Fault::new(at, ClCause::Length),
+        Misfit::Word(i) => Fault::new(at + 28 + 8 * u64::from(i), ClCause::Range),
+    }
+}
+
+/// What is said, or its misfit by its place.
+fn located(at: u64, said: Result<Record, Misfit>) -> Result<Record, Fault>
+    requires { at < 2 ^ 63 }
+    ensures { result ≡ spec.located at said }
+{
+    match said {
+        Ok(record) => Ok(record),
+        Err(misfit) => Err(misfit_at(at, misfit)),
+    }
+}
+
+/// The record of so many bytes behind their length.
+fn record_in(alloc: Global, n: usize, bytes: &[u8]) -> Result<Result<Record, Misfit>, AllocError>
+    requires least { 24 ≤ n }
+    requires most { n < 2 ^ 32 }
+    requires there { 4 + n ≤ length bytes.now }
+    ensures { IfOk result (λ r. r ≡ spec.record_in n bytes.now) }
+{
+    let class = word_in(&bytes[12..]);
+    let sub = word_in(&bytes[20..]);
+    let words = words_in(alloc, n / 8 - 3, &bytes[28..])?;
+    record_of(alloc, class, sub, &words)
+}
+
+/// That record, if it has the number that is due.
+#[tactic(auto, unfolding(crate::specs::Reading::said_by))]
+fn said_by(
+    alloc: Global,
+    seq: i64,
+    at: u64,
+    n: usize,
+    bytes: &[u8],
+) -> Result<Result<Record, Fault>, AllocError>
+    requires least { 24 ≤ n }
+    requires most { n < 2 ^ 32 }
+    requires there { 4 + n ≤ length bytes.now }
+    requires place { at < 2 ^ 63 }
+    ensures { IfOk result (λ r. r ≡ spec.said_by seq at n bytes.now) }
+{
+    if word_in(&bytes[4..]) == seq {
+        Ok(located(at, record_in(alloc, n, bytes)?))
+    } else {
+        Ok(Err(Fault::new(at + 4, ClCause::Seq)))
+    }
+}
+
+fn is_fini(record: &Record) -> bool
+    ensures { result ≡ files.is_fini «record».now }
+{
+    matches!(record, Record::Note(Note::Fini))
+}
+
+/// The first record, which has the number that is due, and how many bytes it has.
+#[tactic(auto, unfolding(crate::specs::Reading::first_of))]
+fn first_of(alloc: Global, seq: u64, at: u64, bytes: &[u8]) -> Result<(Record, usize), ClError>
+    requires number { seq < 2 ^ 63 }
+    requires place { at + length bytes.now < 2 ^ 63 }
+    ensures value { MatchResult result (λ p. spec.first_of seq at bytes.now ≡ Ok (spec.piece p.0 (at + p.1) (drop p.1 bytes.now))) (IsFault (spec.first_of seq at bytes.now)) }
+    ensures there { IfOk result (λ p. p.1 ≤ length bytes.now) }
+    ensures some { IfOk result (λ p. 28 ≤ p.1) }
+{
+    let n = length_of(at, bytes)?;
+    let record = said_by(alloc, seq as i64, at, n, bytes)??;
+    Ok((record, 4 + n))
+}
+
+/// The records from a place on, numbered from 1.
+fn records_from(alloc: Global, start: u64, bytes: &[u8]) -> Result<Vec<Record>, ClError>
+    requires some { 0 < start }
+    requires place { start + length bytes.now < 2 ^ 63 }
+    ensures { MatchResult result (λ v. spec.records_from (start + length bytes.now) 1 start bytes.now ≡ Ok v.items) (IsFault (spec.records_from (start + length bytes.now) 1 start bytes.now)) }
+{
+    let mut records = Vec::new(alloc);
+    let mut seq = 1;
+    let mut at = start;
+    let mut rest = bytes;
+    'records: loop {
+        let (record, size) = first_of(alloc, seq, at, rest)?;
+        let is_last = is_fini(&record);
+        records.push(record)?;
+        at += size as u64;
+        rest = &rest[size..];
+        seq += 1;
+        if is_last {
+            break;
+        }
+    }
+    if rest.is_empty() {
+        Ok(records)
+    } else {
+        Err(ClError::Bad {
+            at,
+            cause: ClCause::AfterFini,
+        })
+    }
+}
+
+/// The bytes behind a head.
+fn behind_head<'a>(head: &[u8], bytes: &'a [u8]) -> Result<&'a [u8], Fault>
+    ensures { MatchResult result (λ rest. spec.behind_head 0 head.now bytes.now ≡ Ok rest.now) (λ f. spec.behind_head 0 head.now bytes.now ≡ Err f) }
+{
+    'places: for (i, want) in head.iter().enumerate() {
+        let at = i as u64;
+        match bytes.get(i) {
+            None => {
+                return Err(Fault::new(at, ClCause::Truncated));
+            }
+            Some(byte) if byte != want => {
+                return Err(Fault::new(at, ClCause::Header));
+            }
+            Some(_) => {}
+        }
+    }
+    Ok(&bytes[head.len()..])
+}
+
+/// The records of a CL file.
+///
+/// # Errors
+///
+/// `Bad` with the first place that can't stand and its cause; `NoMemory`.
+#[tactic(auto, using(crate::proofs::Laws::read_gives_bytes, crate::proofs::Laws::read_gives_file, crate::proofs::Laws::read_gives_few))]
+pub fn read(alloc: Global, bytes: &[u8]) -> Result<Vec<Record>, ClError>
+    requires { length bytes.now < 2 ^ 63 }
+    ensures value { MatchResult result (λ v. read_of bytes.now ≡ Ok v.items) (IsFault (read_of bytes.now)) }
+    ensures bytes { IfOk result (λ v. bytes.now ≡ file_of v.items) }
+    ensures file { IfOk result (λ v. IsFile v.items) }
+    ensures few { IfOk result (λ v. vertex_count v.items + length v.items ≤ length bytes.now) }
+{
+    read_exactly(alloc, bytes)
+}
+
+#[tactic(auto, unfolding(crate::specs::Reading::read_of))]
+fn read_exactly(alloc: Global, bytes: &[u8]) -> Result<Vec<Record>, ClError>
+    requires { length bytes.now < 2 ^ 63 }
+    ensures { MatchResult result (λ v. read_of bytes.now ≡ Ok v.items) (IsFault (read_of bytes.now)) }
+{
+    let rest = behind_head(HEAD, bytes)?;
+    records_from(alloc, HEAD.len() as u64, rest)
+}

@@ -1,0 +1,62 @@
+//! Writing a CL file.
+ghost use Rattle.std.specs.Prelude.{◌≡◌, ◌*◌, ◌^◌, ◌<◌, ◌++◌, Ok, length, OnOk, IfOk};
+ghost use Rattle.apt_cldata.specs.Files.{IsFile, IsShort, file_of};
+ghost use Rattle.apt_cldata.specs.Files as spec;
+ghost use Rattle.apt_cldata.specs.Reading.{read_of};
+
+use crate::Record;
+use crate::bytes::{push_length, push_word};
+use crate::reading::HEAD;
+use crate::words::numbered;
+use std::alloc::{AllocError, Global};
+
+/// The bytes of a CL file of these records, which are read as them again.
+#[tactic(auto, using(crate::proofs::Laws::file_again))]
+pub fn write(alloc: Global, records: &[Record]) -> Result<Vec<u8>, AllocError>
+    requires { IsFile records.now }
+    ensures bytes { IfOk result (λ v. v.items ≡ file_of records.now) }
+    ensures again { IfOk result (λ v. read_of v.items ≡ Ok records.now) }
+{
+    write_exactly(alloc, records)
+}
+
+fn write_exactly(alloc: Global, records: &[Record]) -> Result<Vec<u8>, AllocError>
+    requires { IsFile records.now }
+    ensures { IfOk result (λ v. v.items ≡ file_of records.now) }
+{
+    let mut bytes = Vec::new(alloc);
+    bytes.extend_from_slice(HEAD)?;
+    let mut seq = 1;
+    'records: for record in records {
+        push_record(alloc, &mut bytes, seq, record)?;
+        seq += 1;
+    }
+    Ok(bytes)
+}
+
+/// Appends a record with its number; after a refusal a part of it may stand there.
+fn push_record(
+    alloc: Global,
+    bytes: &mut Vec<u8>,
+    seq: u64,
+    said: &Record,
+) -> Result<(), AllocError>
+    requires short { IsShort said.now }
+    requires number { seq < 2 ^ 63 }
+    ensures { OnOk result (bytes.new.items ≡ bytes.old.items ++ spec.record_bytes seq said.now) }
+{
+    let words = numbered(alloc, seq as i64, said)?;
+    push_framed(bytes, &words)
+}
+
+/// Appends words behind their length.
+fn push_framed(bytes: &mut Vec<u8>, words: &[i64]) -> Result<(), AllocError>
+    requires { 8 * length words.now < 2 ^ 32 }
+    ensures { OnOk result (bytes.new.items ≡ bytes.old.items ++ spec.framed words.now) }
+{
+    push_length(bytes, 8 * words.len() as u32)?;
+    'words: for word in words {
+        push_word(bytes, *word)?;
+    }
+    Ok(())
+}
