@@ -1,7 +1,6 @@
 -- The records in front, one after the other.
 use Rattle.std.proofs.Common.{◌≡◌, ◌∙◌, ◌+◌, ℕ, suc, ℤ, Bool, true, false, List, [], ◌∷◌, map, Option, Some, None, refl, sym, ap, int_eq, add-one}
 use Rattle.std.proofs.lemmas.Bool.Decides.{Decides-int_eq}
-use Rattle.std.specs.Prelude.{◌&&◌}
 use Rattle.std.proofs.lemmas.Bool.{true≢false}
 use Rattle.apt_words.specs.declared.deed.Step.{Step}
 use Rattle.apt_plane.specs.declared.figures.Pt.{Pt}
@@ -16,12 +15,9 @@ use Rattle.apt_meaning.specs.Motions.{has_track, has_stop}
 use Rattle.apt_meaning.specs.Records.{effect_records}
 use Rattle.apt_meaning.specs.Expectations.{Expectation, Exactly, VerticesAt, exactly_if, expected_of, behind_statement, Meets, Departs}
 use Rattle.apt_job.specs.Fronts.{points_at, are_at, IsNext, IsAmiss, StandsFirst, is_silent}
+use Rattle.apt_meaning.proofs.Begins.{both}
 
 -- ---- heights
-
-both : (a b : Bool) → (a && b) ≡ true → (a ≡ true) × (b ≡ true)
-both true b e = (refl, e)
-both false b e = absurd (true≢false (sym e))
 
 same_position : (z : ℤ) (p : Position) → int_eq p.z z ≡ true → p ≡ at_height z p.at
 same_position z p e = ap (λ (n : ℤ). record { at = p.at; z = n }) ((Decides-int_eq p.z z).0 e)
