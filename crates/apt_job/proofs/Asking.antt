@@ -1,5 +1,5 @@
 -- What steps ask for.
-use Rattle.std.proofs.Common.{◌≡◌, Bool, true, false, Option, Some, None, Result, Ok, Err, IfSome, is_none, refl, subst, sym, cond}
+use Rattle.std.proofs.Common.{◌≡◌, Option, Some, None, Result, Ok, Err, IfSome, is_none, refl, subst, sym, cond}
 use Rattle.apt_words.specs.declared.Case.{Case}
 use Rattle.apt_words.specs.declared.deed.Deed.{Deed}
 use Rattle.apt_words.specs.Rows.{first_of, unless, unless_case}

@@ -1,7 +1,6 @@
 -- The records in front, one after the other.
-use Rattle.std.proofs.Common.{◌≡◌, ◌∙◌, ◌+◌, ℕ, zero, suc, ℤ, Bool, true, false, List, [], ◌∷◌, ◌++◌, map, Option, Some, None, Result, Ok, Err, refl, sym, ap, subst, int_eq, add-one}
+use Rattle.std.proofs.Common.{◌≡◌, ◌∙◌, ◌+◌, ℕ, suc, ℤ, Bool, true, false, List, [], ◌∷◌, map, Option, Some, None, refl, sym, ap, int_eq, add-one}
 use Rattle.std.proofs.lemmas.Bool.Decides.{Decides-int_eq}
-use Rattle.std.specs.Prelude.{◌&&◌}
 use Rattle.std.proofs.lemmas.Bool.{true≢false}
 use Rattle.apt_words.specs.declared.deed.Step.{Step}
 use Rattle.apt_plane.specs.declared.figures.Pt.{Pt}
@@ -12,16 +11,13 @@ use Rattle.apt_meaning.specs.declared.motion.Motion.{Motion}
 use Rattle.apt_meaning.specs.declared.effect.Effect.{Effect}
 use Rattle.apt_meaning.specs.declared.effect.Effect.TheVariants as effects
 use Rattle.apt_meaning.specs.Situations.{at_height}
-use Rattle.apt_meaning.specs.Motions.{has_track, has_stop, is_defined}
+use Rattle.apt_meaning.specs.Motions.{has_track, has_stop}
 use Rattle.apt_meaning.specs.Records.{effect_records}
 use Rattle.apt_meaning.specs.Expectations.{Expectation, Exactly, VerticesAt, exactly_if, expected_of, behind_statement, Meets, Departs}
 use Rattle.apt_job.specs.Fronts.{points_at, are_at, IsNext, IsAmiss, StandsFirst, is_silent}
+use Rattle.apt_meaning.proofs.Begins.{both}
 
 -- ---- heights
-
-both : (a b : Bool) → (a && b) ≡ true → (a ≡ true) × (b ≡ true)
-both true b e = (refl, e)
-both false b e = absurd (true≢false (sym e))
 
 same_position : (z : ℤ) (p : Position) → int_eq p.z z ≡ true → p ≡ at_height z p.at
 same_position z p e = ap (λ (n : ℤ). record { at = p.at; z = n }) ((Decides-int_eq p.z z).0 e)

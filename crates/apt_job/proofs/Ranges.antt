@@ -1,5 +1,5 @@
 -- Jobs are in the range in which they are judged.
-use Rattle.std.proofs.Common.{◌≡◌, ◌≤◌, ◌+◌, ◌^◌, ℕ, ℤ, pos, unsigned_abs, arith, List, [], ◌∷◌, ◌++◌, length, inl, inr, refl}
+use Rattle.std.proofs.Common.{◌≡◌, ◌≤◌, ◌+◌, ◌^◌, ℤ, unsigned_abs, arith, List, [], ◌∷◌, ◌++◌, length, inl, inr, refl}
 use Rattle.std.proofs.lemmas.Int.{ints}
 use Rattle.apt_num.specs.declared.Sign.{Sign}
 use Rattle.apt_num.specs.declared.Sign.TheVariants as signs
@@ -14,8 +14,8 @@ use Rattle.apt_certify.specs.Jobs.{IsStraight, IsTrackOf, IsNarrow, ArePoints, I
 use Rattle.apt_meaning.specs.declared.motion.Motion.{Motion}
 use Rattle.apt_meaning.specs.declared.effect.Effect.{Effect}
 use Rattle.apt_meaning.specs.declared.effect.Effect.TheVariants as effects
-use Rattle.apt_meaning.specs.Motions.{drive_side, check_side, track_of, leg_of}
-use Rattle.apt_meaning.specs.Ranges.{IsAllowance, IsMotion}
+use Rattle.apt_meaning.specs.Motions.{drive_side, check_side, leg_of}
+use Rattle.apt_meaning.specs.Ranges.{IsAllowance}
 use Rattle.apt_meaning.specs.Straight.{IsStraightMotion, IsLined}
 use Rattle.apt_meaning.specs.Vertices.{HasIn}
 use Rattle.apt_job.specs.Jobs.{out_sign_at, job_of, jobs_by}

@@ -10,7 +10,7 @@ use Rattle.apt_plane.specs.declared.figures.Pt.{Pt}
 use Rattle.apt_certify.specs.declared.leg.Job.{Job}
 use Rattle.apt_certify.specs.Jobs.{AreJobs, point_count}
 use Rattle.apt_cldata.specs.declared.record.Record.{Record}
-use Rattle.apt_cldata.specs.Ranges.{vertices_in, vertex_count, AreRecords}
+use Rattle.apt_cldata.specs.Ranges.{vertex_count, AreRecords}
 use Rattle.apt_meaning.specs.declared.situation.Situation.{Situation}
 use Rattle.apt_meaning.specs.declared.effect.Effect.{Effect}
 use Rattle.apt_meaning.specs.declared.effect.Effect.TheVariants as effects
@@ -20,6 +20,7 @@ use Rattle.apt_meaning.specs.Compiled.{compilation}
 use Rattle.apt_meaning.specs.Records.{Begins, records_of, after}
 use Rattle.apt_meaning.specs.Expectations.{expected_of, behind_statement, Departs, FailsAt}
 use Rattle.apt_meaning.proofs.Follower.{KeepsUp, keeps_up_first, StepsOn, steps_on}
+use Rattle.apt_meaning.proofs.Walk.{same_some}
 use Rattle.apt_job.specs.Fronts.{StandsFirst}
 use Rattle.apt_job.specs.Jobs.{jobs_by, MakesJobs}
 use Rattle.apt_job.proofs.Ranges.{jobs_in, points-append}
@@ -141,9 +142,6 @@ walk_left all written at (r ∷ rs) jobs walk some =
     subst (λ (k : ℕ). FailsAt first_situation 1 all written k) (sym same) (walk.fails (number written (r ∷ rs)) refl)
 
 -- ---- what is in front, by the effect that was asked for
-
-same_some : (e d : Effect) → ◌≡◌ {A = Option Effect} (Some e) (Some d) → e ≡ d
-same_some e d h = cc
 
 pub stands_first : (step : Step) (o : Option Effect) (d : Effect) (written : List Record) (vertices : List Pt) (rest : List Record)
     → ((e : Effect) × (o ≡ Some e) × StandsFirst e (records_of step e vertices) written vertices rest) → o ≡ Some d

@@ -1,6 +1,5 @@
 -- The jobs of records that follow steps are legal exactly where the records follow legally.
-use Rattle.std.proofs.Common.{◌≡◌, ◌∙◌, ℕ, ◌+◌, zero, suc, List, [], ◌∷◌, ◌++◌, length, inl, inr, refl, sym, ap, subst}
-use Rattle.std.specs.Prelude.{◌↔◌}
+use Rattle.std.proofs.Common.{ℕ, ◌+◌, List, [], ◌∷◌, ◌++◌, length, inl, inr, refl, sym, subst}
 use Rattle.apt_words.specs.declared.deed.Step.{Step}
 use Rattle.apt_plane.specs.declared.figures.Pt.{Pt}
 use Rattle.apt_certify.specs.declared.leg.Job.{Job}
@@ -58,10 +57,6 @@ follows_legal at (step ∷ steps) written jobs behind makes follows =
     (subst (λ (ps : List Pt). FollowsLegally (after at follows.0 ps) steps rest behind) (sym same.vertices)
     (subst (λ (rs : List Record). FollowsLegally (after at follows.0 follows.1) steps rs behind) (sym same.rest) follows.5)) in
     rw makes.5 (jobs_legal e vertices more legal (follows_legal (after at e vertices) steps rest more behind makes.6 later))
-
-pub legal_exactly : (at : Situation) (steps : List Step) (written : List Record) (jobs : List Job) → MakesJobs at steps written jobs
-    → AreLegal jobs ↔ ((behind : Situation) × FollowsLegally at steps written behind)
-legal_exactly at steps written jobs makes = (legal_follows at steps written jobs makes, λ f. follows_legal at steps written jobs f.0 makes f.1)
 
 -- records that follow legally have jobs
 pub follows_makes : (at : Situation) (steps : List Step) (written : List Record) (behind : Situation) → FollowsLegally at steps written behind

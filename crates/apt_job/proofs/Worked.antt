@@ -1,5 +1,5 @@
 -- One contour step along the lower edge of a plate, and records that answer it, or don't.
-use Rattle.std.specs.Prelude.{◌≡◌, refl, ℕ, ℤ, pos, neg_ℤ, negsuc, codes, List, [], ◌∷◌, Some, None}
+use Rattle.std.specs.Prelude.{◌≡◌, refl, ℕ, ℤ, pos, neg_ℤ, negsuc, codes, List, [], ◌∷◌, None}
 use Rattle.std.proofs.Common.{inl, inr}
 use Rattle.apt_words.specs.declared.Go.TheVariants as turns
 use Rattle.apt_words.specs.declared.Side.{Side}
@@ -7,7 +7,6 @@ use Rattle.apt_words.specs.declared.Side.TheVariants as sides
 use Rattle.apt_words.specs.declared.Stop.TheVariants as stops
 use Rattle.apt_words.specs.declared.deed.Deed.TheVariants as deeds
 use Rattle.apt_words.specs.declared.deed.Step.{Step}
-use Rattle.apt_plane.specs.declared.figures.Pt.{Pt}
 use Rattle.apt_plane.specs.declared.figures.Surface.TheVariants as surfaces
 use Rattle.apt_certify.specs.declared.leg.Job.{Job}
 use Rattle.apt_cldata.specs.declared.record.Note.TheVariants as notes

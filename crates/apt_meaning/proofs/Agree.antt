@@ -1,6 +1,5 @@
 -- Two situations that differ only in where the tool stands, and what steps ask for at both.
-use Rattle.std.proofs.Common.{◌≡◌, ◌∙◌, ℕ, Bool, true, false, List, Option, Some, None, is_none, refl, sym, ap, subst, cond}
-use Rattle.apt_num.specs.declared.Sign.{Sign}
+use Rattle.std.proofs.Common.{◌≡◌, ◌∙◌, Bool, true, false, List, Option, Some, None, is_none, refl, sym, ap, subst, cond}
 use Rattle.apt_words.specs.declared.Go.{Go}
 use Rattle.apt_words.specs.declared.Stop.{Stop}
 use Rattle.apt_words.specs.declared.deed.Deed.{Deed}
@@ -13,13 +12,12 @@ use Rattle.apt_offset.specs.Turns.{tangent, turn, is_zero}
 use Rattle.apt_cldata.specs.declared.record.Position.{Position}
 use Rattle.apt_cldata.specs.declared.record.Reach.{Reach}
 use Rattle.apt_cldata.specs.declared.record.Reach.TheVariants as reaches
-use Rattle.apt_defs.specs.Definitions.{table_with}
 use Rattle.apt_meaning.specs.declared.situation.Settings.{Settings}
 use Rattle.apt_meaning.specs.declared.situation.Situation.{Situation}
 use Rattle.apt_meaning.specs.declared.motion.Motion.{Motion}
 use Rattle.apt_meaning.specs.declared.effect.Effect.{Effect}
 use Rattle.apt_meaning.specs.declared.effect.Effect.TheVariants as effects
-use Rattle.apt_meaning.specs.Situations.{with_side, settings_behind}
+use Rattle.apt_meaning.specs.Situations.{with_side}
 use Rattle.apt_meaning.specs.Motions.{surface_in, motion, if_turned, motion_at}
 use Rattle.apt_meaning.specs.Effects.{moves, cuts, moved_from, start_position_at, effect_of}
 use Rattle.apt_meaning.specs.Records.{after}

@@ -13,6 +13,7 @@ use Rattle.apt_meaning.specs.Situations.{at_height}
 use Rattle.apt_meaning.specs.Motions.{has_track, has_stop}
 use Rattle.apt_meaning.specs.Records.{Begins, MayHave, records_of}
 use Rattle.apt_meaning.specs.Expectations.{Expectation, expected, expected_of, behind_statement, Meets, Departs}
+use Rattle.apt_meaning.proofs.Walk.{same_some}
 
 -- ---- in one way only
 
@@ -35,9 +36,6 @@ front_once step (effects.Moves reach to) vs us xs ys v u e = (v ∙ sym u, cc)
 front_once step (effects.Cuts m) vs us xs ys v u e =
     let same : map (at_height m.start.z) vs ≡ map (at_height m.start.z) us = cc in
     (heights_same m.start.z vs us same, cc)
-
-same_some : (d e : Effect) → ◌≡◌ {A = Option Effect} (Some d) (Some e) → d ≡ e
-same_some d e h = cc
 
 pub record AreSame (e d : Effect) (vs us : List Pt) (xs ys : List Record) : Type 0 where
   pub effect : e ≡ d
@@ -68,7 +66,7 @@ met_no_departs (x ∷ xs) [] rest k met departs = met
 met_no_departs (x ∷ xs) (r ∷ rs) rest zero met departs = departs met.0
 met_no_departs (x ∷ xs) (r ∷ rs) rest (suc k) met departs = met_no_departs xs rs rest k met.1 departs.1
 
-both : (a b : Bool) → (a && b) ≡ true → (a ≡ true) × (b ≡ true)
+pub both : (a b : Bool) → (a && b) ≡ true → (a ≡ true) × (b ≡ true)
 both true b e = (refl, e)
 both false b e = absurd (true≢false (sym e))
 

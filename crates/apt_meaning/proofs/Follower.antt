@@ -1,16 +1,13 @@
 -- A situation that agrees with the compiler's at the same step, and is left in range by records in range.
-use Rattle.std.proofs.Common.{◌≡◌, ◌≤◌, ℤ, arith, List, [], ◌∷◌, ◌++◌, length, map, Option, Some, None, Result, Ok, IfSome, refl, sym, subst, ap}
+use Rattle.std.proofs.Common.{◌≡◌, ◌≤◌, ℤ, arith, List, [], ◌∷◌, ◌++◌, length, map, Some, None, Ok, subst}
 use Rattle.apt_words.specs.Sources.{DeedHasText}
 use Rattle.apt_words.specs.declared.deed.Step.{Step}
 use Rattle.apt_scalar.specs.StepScalars.{HasScalars}
 use Rattle.apt_plane.specs.declared.figures.Pt.{Pt}
 use Rattle.apt_certify.specs.Jobs.{ArePoints}
 use Rattle.apt_cldata.specs.Ranges.{IsPosition, ArePositions, AreRecords}
-use Rattle.apt_cldata.specs.declared.record.Note.{Note}
 use Rattle.apt_cldata.specs.declared.record.Record.{Record}
-use Rattle.apt_defs.specs.declared.figure.Figure.{Figure}
 use Rattle.apt_defs.specs.Figures.{IsFigure}
-use Rattle.apt_meaning.specs.declared.situation.Settings.{Settings}
 use Rattle.apt_meaning.specs.declared.situation.Situation.{Situation}
 use Rattle.apt_meaning.specs.declared.effect.Effect.{Effect}
 use Rattle.apt_meaning.specs.declared.effect.Effect.TheVariants as effects
@@ -27,7 +24,7 @@ use Rattle.apt_meaning.proofs.Asked.{answered}
 use Rattle.apt_meaning.proofs.Kept.{kept, first_situation-IsSituation}
 use Rattle.apt_meaning.proofs.Said.{of_some}
 use Rattle.apt_meaning.proofs.Straight.{still_lines, made}
-use Rattle.apt_meaning.proofs.Walk.{IsFit, fit, done, front_ok}
+use Rattle.apt_meaning.proofs.Walk.{fit, done, front_ok}
 
 -- ---- what records in range say of their effect
 

@@ -43,7 +43,7 @@ front_ok front (Err refusal) written h = absurd (no_ok refusal written h)
 pub nothing_left : (written : List Record) → ◌≡◌ {A = Result (List Record) Refusal} (Ok []) (Ok written) → written ≡ []
 nothing_left written h = cc
 
-same_some : (d e : Effect) → ◌≡◌ {A = Option Effect} (Some d) (Some e) → d ≡ e
+pub same_some : (d e : Effect) → ◌≡◌ {A = Option Effect} (Some d) (Some e) → d ≡ e
 same_some d e h = cc
 
 -- an effect that is asked for, where no case refuses its step

@@ -13,7 +13,6 @@ use Rattle.apt_words.specs.Options.{◌>>=◌}
 use Rattle.apt_words.specs.Rows.{Row, first_of}
 use Rattle.apt_scalar.specs.Scalars.{grid_units, tenths}
 use Rattle.apt_plane.specs.declared.figures.Surface.{Surface}
-use Rattle.apt_plane.specs.declared.figures.Surface.TheVariants as surfaces
 use Rattle.apt_defs.specs.declared.figure.Figure.{Figure}
 use Rattle.apt_defs.specs.Definitions.{out_of_reach, line_cases as definition_cases}
 use Rattle.apt_defs.specs.Figures.{Table, figure_named}

@@ -1,5 +1,5 @@
 -- Surfaces are lines so far: no name stands for a circle, and contours run along lines to lines.
-use Rattle.std.specs.Prelude.{List, [], ◌∷◌}
+use Rattle.std.specs.Prelude.{[], ◌∷◌}
 use Rattle.apt_plane.specs.declared.figures.Surface.TheVariants as surfaces
 use Rattle.apt_certify.specs.Jobs.{IsStraight}
 use Rattle.apt_defs.specs.declared.figure.Figure.{Figure}

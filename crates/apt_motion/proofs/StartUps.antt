@@ -1,11 +1,11 @@
 -- Start-up in the compiling pass's order is what the manual's table asks for.
-use Rattle.std.proofs.Common.{◌≡◌, Bool, true, false, not, ℕ, ℤ, List, [], ◌∷◌, Option, Some, None, Ok, Err, is_none, refl, cond}
+use Rattle.std.proofs.Common.{◌≡◌, Bool, true, false, ℕ, List, ◌∷◌, Option, Some, None, is_none, refl, cond}
 use Rattle.apt_words.specs.declared.Case.{Case}
 use Rattle.apt_words.specs.declared.Case.TheVariants as cases
 use Rattle.apt_words.specs.declared.Stop.{Stop}
 use Rattle.apt_words.specs.declared.deed.Deed.TheVariants as deeds
 use Rattle.apt_words.specs.Options.{◌>>=◌}
-use Rattle.apt_words.specs.Rows.{Row, first_of, unless, unless_case}
+use Rattle.apt_words.specs.Rows.{Row, first_of, unless_case}
 use Rattle.apt_plane.specs.declared.figures.Pt.{Pt}
 use Rattle.apt_plane.specs.declared.figures.Surface.{Surface}
 use Rattle.apt_cldata.specs.declared.record.Position.{Position}

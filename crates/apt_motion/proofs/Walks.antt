@@ -23,7 +23,7 @@ use Rattle.apt_meaning.specs.Ranges.{IsSituation, IsEffect}
 use Rattle.apt_meaning.specs.Vertices.{HasIn}
 use Rattle.apt_meaning.proofs.Asked.{answered}
 use Rattle.apt_meaning.proofs.Kept.{kept, first_situation-IsSituation}
-use Rattle.apt_meaning.proofs.Walk.{compiled_follows}
+use Rattle.apt_meaning.proofs.Walk.{same_some, compiled_follows}
 use Rattle.apt_motion.specs.declared.runs.RunError.{RunError}
 use Rattle.apt_motion.specs.Ends.{Ends}
 use Rattle.apt_motion.specs.Finding.{ends_at}
@@ -66,9 +66,6 @@ asked_fine : (f : Option Case) (o : Option Effect) (e : Effect) → asked f o �
 asked_fine None None e h = absurd (no_ok _ e h)
 asked_fine None (Some d) e h = (refl, ap Some (same_ok d e h))
 asked_fine (Some case) o e h = absurd (no_ok case e h)
-
-same_some : (d e : Effect) → ◌≡◌ {A = Option Effect} (Some d) (Some e) → d ≡ e
-same_some d e h = cc
 
 pub fit : (at : Situation) (deed : Deed) (e : Effect) → IsSituation at → HasScalars deed → DeedHasText deed → asked (refusal_of at deed) (effect_of at deed) ≡ Ok e → IsFit at e
 fit at deed e is scalars worded does =

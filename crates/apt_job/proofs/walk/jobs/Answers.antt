@@ -1,14 +1,8 @@
-use Rattle.std.proofs.Common.{◌≡◌, ◌∙◌, ◌∷◌, ◌++◌, ◌+◌, [], drop, ap, sym, subst}
+use Rattle.std.proofs.Common.{◌≡◌, ◌∙◌, ◌∷◌, ◌+◌, [], drop, ap, sym, subst}
 use Rattle.std.proofs.Math.ListN.{drop_of_length-le}
 use Rattle.std.proofs.lemmas.List.{drop_more}
-use Rattle.apt_words.specs.declared.deed.Step.{Step}
-use Rattle.apt_certify.specs.declared.leg.Job.{Job}
-use Rattle.apt_meaning.specs.declared.situation.Situation.{Situation}
-use Rattle.apt_meaning.specs.Effects.{effect_of}
-use Rattle.apt_meaning.specs.Records.{after}
 use Rattle.apt_job.specs.Answering.{IsEntry}
 use Rattle.apt_job.specs.Fronts.{points_at}
-use Rattle.apt_job.specs.Jobs.{jobs_by}
 use Rattle.apt_job.proofs.Steps.{IsWalk, steps_in, walk_on, walk_departs, walk_ends, walk_left, stands_first}
 use Rattle.apt_job.proofs.walk.jobs.Goals as goal
 
