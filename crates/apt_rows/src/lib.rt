@@ -2,13 +2,19 @@
 #![tactic(auto)]
 
 #[cfg(test)]
+mod cl;
+#[cfg(test)]
 mod contours;
+#[cfg(test)]
+mod empty;
 #[cfg(test)]
 mod failing;
 #[cfg(test)]
 mod first_run;
 #[cfg(test)]
 mod parts;
+#[cfg(test)]
+mod plate;
 #[cfg(test)]
 mod reading;
 #[cfg(test)]

@@ -1,5 +1,5 @@
 //! Texts of part programs: their first fault, by its printed line, spellings of one part, and the longest texts.
-use crate::parts::{EMPTY_LINE, EMPTY_TAPE, FIRST, FIRST_LINE, FIRST_TAPE};
+use crate::parts::{EMPTY_TAPE, FIRST, FIRST_LINE, FIRST_TAPE};
 use crate::run::{Long, Row, assert_long, assert_rows};
 use std::test::Fail;
 
@@ -146,7 +146,7 @@ const SPELLINGS: [Row; 10] = [
     ),
     (
         "PARTNO $$ 1\nCLPRNT\nNOPOST\nMACHIN/1,2*3\nREMARK $ no comment\nCUTTER/1\nINTOL/.0005\nFEDRAT/10\nFROM/0,0\nGOTO/1,2,3\nFINI\n",
-        FIRST_LINE,
+        "DONE 14 RECORDS 3 ACTS 0 SEGMENTS\n",
         FIRST_TAPE,
     ),
 ];
@@ -155,6 +155,9 @@ const SPELLINGS: [Row; 10] = [
 fn spellings_of_one_part_give_one_tape(rt: HostRuntime) -> Result<(), Fail> {
     assert_rows(&rt, &SPELLINGS)
 }
+
+/// The line of the empty part.
+const EMPTY_LINE: &str = "DONE 4 RECORDS 2 ACTS 0 SEGMENTS\n";
 
 /// Lines of 256 and 257 bytes, texts of 50,000 and 50,001 lines, and of 4 MiB and one byte more.
 const LONG: [Long; 9] = [
