@@ -1,5 +1,5 @@
 -- A word is read as what was written, and only as that.
-use Rattle.std.proofs.Common.{◌≡◌, ℕ, zero, suc, ◌+◌, ◌*◌, ◌≤◌, ℤ, pos, negsuc, unsigned_abs, nat_le, ◌==◌, ◌⊎◌, List, [], ◌∷◌, ◌&&◌, ◌||◌, not, Bool, true, false, cond, Result, Ok, Err, refl, ap, sym, ◌∙◌, subst, inl, inr, arith}
+use Rattle.std.proofs.Common.{◌≡◌, ℕ, zero, suc, ◌+◌, ◌*◌, ◌≤◌, ℤ, pos, negsuc, unsigned_abs, nat_le, ◌==◌, ◌⊎◌, List, ◌∷◌, ◌&&◌, ◌||◌, not, Bool, true, false, cond, Result, Ok, Err, refl, ap, sym, ◌∙◌, subst, inl, inr, arith}
 use Rattle.std.specs.Prelude.{◌≤ℤ◌, int_le}
 use Rattle.std.specs.List.{list_all}
 use Rattle.std.specs.Ordering.{int_eq}
@@ -182,7 +182,7 @@ zero_only i n m e = equal_only n (pos 0) (at_if_only (int_eq n (pos 0)) i n m e)
 abbrev pub IsTextByte : ℕ → Type 0
 IsTextByte b = ((32 ≤ b) × (b ≤ 126)) ⊎ (b ≡ 9)
 
-less_test : (a b : ℕ) → nat_le a b ≡ true → a ≤ b
+pub less_test : (a b : ℕ) → nat_le a b ≡ true → a ≤ b
 less_test a b h = grind (arith, nat_tests)
 
 less_is : (a b : ℕ) → a ≤ b → nat_le a b ≡ true
@@ -192,7 +192,7 @@ either_true : (a b : Bool) → b ≡ true → (a || b) ≡ true
 either_true true b h = refl
 either_true false b h = h
 
-equal_test : (a b : ℕ) → (a == b) ≡ true → a ≡ b
+pub equal_test : (a b : ℕ) → (a == b) ≡ true → a ≡ b
 equal_test a b h = grind (arith, nat_tests)
 
 text_byte_only : (b : ℕ) → is_text_byte b ≡ true → IsTextByte b

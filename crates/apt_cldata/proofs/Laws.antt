@@ -10,7 +10,7 @@ use Rattle.apt_cldata.specs.Words.{words_of}
 use Rattle.apt_cldata.specs.Fields.{◌>>=◌}
 use Rattle.apt_cldata.specs.Files.{head, record_bytes, records_bytes, file_of, is_fini, HasFiniLast, AreShort, IsFile}
 use Rattle.apt_cldata.specs.Reading.{fault, Piece, piece, first_of, last_of, records_from, behind_head, read_of}
-use Rattle.apt_cldata.proofs.FieldLaws.{bind_only, pick, pick_both}
+use Rattle.apt_cldata.proofs.FieldLaws.{bind_only, equal_test, pick, pick_both}
 use Rattle.apt_cldata.proofs.RecordLaws.{bind_again, triples_length}
 use Rattle.apt_cldata.proofs.ByteLaws.{AreBytes, bytes_behind}
 use Rattle.apt_cldata.proofs.PieceLaws.{framed_length, piece_again, piece_only}
@@ -23,9 +23,6 @@ head_again at (h ∷ hs) rest = ap (λ b. cond b (behind_head (at + 1) hs (hs ++
   where
     same : (h : ℕ) → (h == h) ≡ true
     same h = grind (arith, nat_tests)
-
-equal_test : (a b : ℕ) → (a == b) ≡ true → a ≡ b
-equal_test a b h = grind (arith, nat_tests)
 
 head_only : (at : ℕ) (hs bytes rest : List ℕ) → behind_head at hs bytes ≡ Ok rest → bytes ≡ hs ++ rest
 head_only at [] bytes rest e = cc

@@ -5,6 +5,7 @@ pub mod WordByWord
 pub mod Stands
 pub mod Heads
 pub mod Laws
+pub mod Conditions
 pub mod FieldLaws
 pub mod RecordLaws
 pub mod RecordOnly

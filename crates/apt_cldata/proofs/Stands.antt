@@ -1,5 +1,5 @@
 -- Where the reading of records stands.
-use Rattle.std.proofs.Common.{◌≡◌, ℕ, zero, suc, ◌+◌, ◌<◌, true, false, List, [], ◌∷◌, ◌++◌, length, ◌==◌, cond, Result, Ok, Err, refl, ap, sym, ◌∙◌, arith, append_assoc}
+use Rattle.std.proofs.Common.{◌≡◌, ℕ, zero, suc, ◌+◌, ◌<◌, true, false, List, [], ◌∷◌, ◌++◌, length, ◌==◌, cond, Result, Ok, Err, refl, ap, sym, ◌∙◌, arith}
 use Rattle.apt_cldata.specs.declared.error.ClCause.TheVariants as causes
 use Rattle.apt_cldata.specs.declared.error.ClError.{ClError}
 use Rattle.apt_cldata.specs.declared.error.ClError.TheVariants as errors
@@ -8,7 +8,7 @@ use Rattle.apt_cldata.specs.declared.record.Record.{Record}
 use Rattle.apt_cldata.specs.Fields.{◌>>=◌}
 use Rattle.apt_cldata.specs.Files.{is_fini}
 use Rattle.apt_cldata.specs.Reading.{fault, IsFault, Piece, first_of, last_of, records_from}
-use Rattle.apt_cldata.proofs.Chains.{behind}
+use Rattle.apt_cldata.proofs.Chains.{behind, behind_one}
 
 -- behind the front that was read, the records from here on are the rest of the whole
 pub record Stands (front : List Record) (seq at : ℕ) (rest : List ℕ) (whole : Result (List Record) Fault) : Type 0 where
@@ -38,10 +38,6 @@ whole_is_fault front seq at rest whole f s is = go s.fuel s.enough s.same
     go : (fuel : ℕ) → length rest < fuel → behind front (records_from fuel seq at rest) ≡ whole → whole ≡ Err f
     go zero enough same = absurd (omega arith)
     go (suc fuel) enough same = sym (by_first fuel seq at rest front whole (Err f) is same)
-
-behind_one : (front : List Record) (b : Record) (r : Result (List Record) Fault) → behind (front ++ b ∷ []) r ≡ behind front (r >>= λ rs. Ok (b ∷ rs))
-behind_one front b (Ok rs) = ap Ok (append_assoc front (b ∷ []) rs)
-behind_one front b (Err f) = refl
 
 pub whole_is_last : (front : List Record) (seq at : ℕ) (rest : List ℕ) (whole : Result (List Record) Fault) (p : Piece) → Stands front seq at rest whole → first_of seq at rest ≡ Ok p
     → is_fini p.said ≡ true → whole ≡ behind front (last_of p)

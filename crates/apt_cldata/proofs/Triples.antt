@@ -1,15 +1,11 @@
 -- Positions are read one by one.
-use Rattle.std.proofs.Common.{◌≡◌, ℕ, ◌+◌, ◌-◌, ◌≤◌, ℤ, List, [], ◌∷◌, ◌++◌, length, get_or, take, drop, Result, Ok, Err, refl, ap, ◌∙◌, arith, append_assoc}
+use Rattle.std.proofs.Common.{◌≡◌, ℕ, ◌+◌, ◌-◌, ◌≤◌, ℤ, List, [], ◌∷◌, ◌++◌, length, get_or, take, drop, Result, Ok, ap, ◌∙◌, arith}
 use Rattle.std.proofs.lemmas.List.{take_rest, length-drop}
 use Rattle.apt_cldata.specs.declared.fields.Misfit.{Misfit}
 use Rattle.apt_cldata.specs.declared.record.Position.{Position}
 use Rattle.apt_cldata.specs.Fields.{◌>>=◌}
 use Rattle.apt_cldata.specs.Records.{position_by, positions_by}
-use Rattle.apt_cldata.proofs.Chains.{behind}
-
-behind_one : (at : List Position) (p : Position) (r : Result (List Position) Misfit) → behind (at ++ p ∷ []) r ≡ behind at (r >>= λ ps. Ok (p ∷ ps))
-behind_one at p (Ok ps) = ap Ok (append_assoc at (p ∷ []) ps)
-behind_one at p (Err e) = refl
+use Rattle.apt_cldata.proofs.Chains.{behind, behind_one}
 
 first_is : (at : List Position) (i : ℕ) (ws : List ℤ) (r : Result Position Misfit) (p : Position) → Ok p ≡ r
     → behind (at ++ p ∷ []) (positions_by (i + 3) ws) ≡ behind at (r >>= λ p. positions_by (i + 3) ws >>= λ ps. Ok (p ∷ ps))

@@ -1,24 +1,25 @@
 -- Where two lists of acts differ, one of which was gone through so far.
-use Rattle.std.proofs.Common.{◌≡◌, ◌<◌, ◌≤◌, ◌+◌, ℕ, zero, suc, List, [], ◌∷◌, ◌++◌, length, take, drop, get_or, sym, ap, ◌∙◌, refl, subst, arith}
-use Rattle.std.proofs.lemmas.List.{take-append-drop, length-take-le, append-nil}
+use Rattle.std.proofs.Common.{◌≡◌, ◌==◌, false, ◌<◌, ◌≤◌, ◌+◌, ℕ, zero, suc, List, [], ◌∷◌, ◌++◌, length, take, drop, get_or, sym, ap, ◌∙◌, refl, subst, arith}
+use Rattle.std.proofs.lemmas.List.{take-append-drop, take_all, length-take-le, append-nil}
+use Rattle.std.proofs.lemmas.Bool.Decides.{nat_tests}
 use Rattle.apt_control.specs.declared.Act.{Act}
 use Rattle.apt_core.specs.Certificates.{HeadsDiffer, DifferAt}
 
 -- the act at a place, and those behind it
-drop_one : (xs : List Act) (i : ℕ) (d : Act) → i < length xs → drop i xs ≡ get_or xs i d ∷ drop (i + 1) xs
+drop_one : (xs : List Act) (i : ℕ) (d : Act) → i < length xs → drop i xs ≡ get_or xs i d ∷ drop (suc i) xs
 drop_one [] i d h = absurd (omega (arith, h))
 drop_one (x ∷ xs) zero d h = refl
 drop_one (x ∷ xs) (suc i) d h = drop_one xs i d (omega (arith, h))
 
-pub difference : (xs ys left : List Act) (i at : ℕ) (x : Act) → i < length xs → x ≡ get_or xs i x → ys ≡ take i xs ++ left → at ≡ i + 1 → ((more : List Act) → HeadsDiffer (x ∷ more) left)
+pub difference : (xs ys left : List Act) (i at : ℕ) (d : Act) → i < length xs → ys ≡ take i xs ++ left → at ≡ i + 1 → ((more : List Act) → HeadsDiffer (get_or xs i d ∷ more) left)
     → DifferAt xs ys at
-difference xs ys left i at x h here same number differ = record {
+difference xs ys left i at d h same number differ = record {
   same = take i xs;
   left = drop i xs;
   right = left;
   first = sym (take-append-drop i xs);
   second = same;
-  differ = subst (λ (l : List Act). HeadsDiffer l left) (sym (drop_one xs i x h ∙ ap (λ (y : Act). y ∷ drop (i + 1) xs) (sym here))) (differ (drop (i + 1) xs));
+  differ = subst (λ (l : List Act). HeadsDiffer l left) (sym (drop_one xs i d h)) (differ (drop (suc i) xs));
   number = number ∙ ap (λ n. n + 1) (sym (length-take-le i xs (omega (arith, h))));
 }
 
@@ -41,3 +42,11 @@ ends_differ xs ys left at same number h = record {
 pub same_lists : (xs ys left : List Act) → ys ≡ xs ++ left → length left ≡ 0 → xs ≡ ys
 same_lists xs ys [] same none = sym (same ∙ append-nil xs)
 same_lists xs ys (x ∷ left) same none = absurd (omega (arith, none))
+
+positive : (n : ℕ) → (n == 0) ≡ false → 0 < n
+positive n e = grind (arith, nat_tests)
+
+-- the first list was gone through
+pub ended : (xs ys left : List Act) (i at : ℕ) → length xs ≤ i → i ≤ length xs → ys ≡ take i xs ++ left → at ≡ i + 1 → (length left == 0) ≡ false → DifferAt xs ys at
+ended xs ys left i at h g same number more =
+    ends_differ xs ys left at (same ∙ ap (λ (zs : List Act). zs ++ left) (take_all i xs h)) (omega (arith, number, h, g)) (positive (length left) more)

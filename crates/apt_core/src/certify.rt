@@ -1,6 +1,6 @@
 //! The command `certify`.
 
-ghost use Rattle.std.specs.Prelude.{◌≡◌, ◌+◌, ◌<◌, ◌≤◌, ◌^◌, List, ◌∷◌, length, None, Ok, IfSome};
+ghost use Rattle.std.specs.Prelude.{◌≡◌, ◌↔◌, ◌+◌, ◌<◌, ◌≤◌, ◌^◌, IsTrue, List, ◌∷◌, length, None, Ok, IfSome};
 ghost use Rattle.apt_cldata.specs.Ranges.{AreRecords, vertex_count};
 ghost use Rattle.apt_meaning.specs.Situations.{first_situation};
 ghost use Rattle.apt_meaning.specs.Compiled.{compilation};
@@ -108,7 +108,7 @@ fn verdict_on(alloc: Global, part: &Part, records: &[Record], acts: &[Act]) -> S
 }
 
 /// The first place, from 1, at which two lists of acts differ.
-#[tactic(auto, using(crate::proofs::Differences::difference, crate::proofs::Differences::ends_differ, crate::proofs::Differences::same_lists))]
+#[tactic(auto, using(crate::proofs::Differences::same_lists))]
 fn first_difference(xs: &[Act], ys: &[Act]) -> Option<u64>
     ensures differ { IfSome result (λ at. DifferAt xs.now ys.now at) }
     ensures same { result ≡ None → xs.now ≡ ys.now }
@@ -130,8 +130,31 @@ fn behind_same(x: Act, ys: &[Act]) -> Option<&[Act]>
     ensures same { IfSome result (λ rest. ys.now ≡ x ∷ rest.now) }
     ensures differ { result ≡ None → (xs : List Act) → HeadsDiffer (x ∷ xs) ys.now }
 {
-    match ys {
-        [y, rest @ ..] if x == *y => Some(rest),
+    match ys.split_first() {
+        Some((y, rest)) if is_same(x, *y) => Some(rest),
         _ => None,
+    }
+}
+
+fn is_same(x: Act, y: Act) -> bool
+    ensures { IsTrue result ↔ (x ≡ y) }
+{
+    match (x, y) {
+        (Act::Units(a), Act::Units(b)) => a == b,
+        (Act::Rapid { x, y, z }, Act::Rapid { x: u, y: v, z: w }) => x == u && y == v && z == w,
+        (
+            Act::Cut { x, y, z, feed },
+            Act::Cut {
+                x: u,
+                y: v,
+                z: w,
+                feed: f,
+            },
+        ) => x == u && y == v && z == w && feed == f,
+        (Act::Spindle { turn, n }, Act::Spindle { turn: t, n: m }) => turn == t && n == m,
+        (Act::Coolant(a), Act::Coolant(b)) => a == b,
+        (Act::Tool(a), Act::Tool(b)) => a == b,
+        (Act::Stop, Act::Stop) | (Act::OptStop, Act::OptStop) | (Act::End, Act::End) => true,
+        _ => false,
     }
 }

@@ -55,8 +55,8 @@ follows_legal at (step ∷ steps) written jobs behind makes follows =
     let same = begins_once at step written e follows.0 vertices follows.1 rest follows.2 makes.4 follows.3 in
     let legal = subst (λ (x : Effect). IsLegalEffect x vertices) (sym same.effect) (subst (λ (ps : List Pt). IsLegalEffect follows.0 ps) (sym same.vertices) follows.4) in
     let later = subst (λ (x : Effect). FollowsLegally (after at x vertices) steps rest behind) (sym same.effect)
-        (subst (λ (ps : List Pt). FollowsLegally (after at follows.0 ps) steps rest behind) (sym same.vertices)
-        (subst (λ (rs : List Record). FollowsLegally (after at follows.0 follows.1) steps rs behind) (sym same.rest) follows.5)) in
+    (subst (λ (ps : List Pt). FollowsLegally (after at follows.0 ps) steps rest behind) (sym same.vertices)
+    (subst (λ (rs : List Record). FollowsLegally (after at follows.0 follows.1) steps rs behind) (sym same.rest) follows.5)) in
     rw makes.5 (jobs_legal e vertices more legal (follows_legal (after at e vertices) steps rest more behind makes.6 later))
 
 pub legal_exactly : (at : Situation) (steps : List Step) (written : List Record) (jobs : List Job) → MakesJobs at steps written jobs
@@ -86,6 +86,6 @@ makes_no_fails at (step ∷ steps) written jobs seq k makes (inr f) =
     let same = begins_once at step written e f.0 vertices f.1 rest f.2 makes.4 f.3 in
     let n = seq + length (records_of step f.0 f.1) in
     let later = subst (λ (x : Effect). FailsAt (after at x vertices) n steps rest k) (sym same.effect)
-        (subst (λ (ps : List Pt). FailsAt (after at f.0 ps) n steps rest k) (sym same.vertices)
-        (subst (λ (rs : List Record). FailsAt (after at f.0 f.1) n steps rs k) (sym same.rest) f.4)) in
+    (subst (λ (ps : List Pt). FailsAt (after at f.0 ps) n steps rest k) (sym same.vertices)
+    (subst (λ (rs : List Record). FailsAt (after at f.0 f.1) n steps rs k) (sym same.rest) f.4)) in
     makes_no_fails (after at e vertices) steps rest makes.3 n k makes.6 later

@@ -1,1 +1,4 @@
 pub mod Jobs
+pub mod Fronts
+pub mod Answering
+pub mod Asking

@@ -13,6 +13,7 @@ use Rattle.apt_plane.specs.Vectors.{displacement, length_squared, perp}
 use Rattle.apt_offset.specs.Turns.{tangent}
 use Rattle.apt_stop.specs.Nearness.{heading}
 use Rattle.apt_stop.proofs.Headings.{kept as forwards, turned as backwards}
+use Rattle.apt_certify.specs.Jobs.{ArePoints}
 use Rattle.apt_certify.specs.Legs.{last_of}
 use Rattle.apt_cldata.specs.declared.record.Position.{Position}
 use Rattle.apt_cldata.specs.declared.record.Reach.{Reach}
@@ -28,7 +29,7 @@ use Rattle.apt_meaning.specs.declared.effect.Effect.TheVariants as effects
 use Rattle.apt_meaning.specs.Situations.{first_situation, settings_behind, forward_behind, at_height}
 use Rattle.apt_meaning.specs.Records.{with_statement, effect_records, records_of, after}
 use Rattle.apt_meaning.specs.Ranges.{IsPositionOrNone, IsForward, AreSettings, IsSituation, IsMotion, IsEffect}
-use Rattle.apt_meaning.specs.Vertices.{ArePoints, HasIn}
+use Rattle.apt_meaning.specs.Vertices.{HasIn}
 use Rattle.apt_meaning.proofs.EffectRanges.{with_rapid, on_side}
 
 -- ---- directions

@@ -5,7 +5,7 @@ pub mod Leads
 pub mod LineLegs
 pub mod Edges
 pub mod Legal
-mod Plates
+pub mod Plates
 pub mod Said
 pub mod Refused
 pub mod EffectRanges
@@ -16,6 +16,9 @@ pub mod Stands
 pub mod Walk
 pub mod Begins
 pub mod Meetings
+pub mod Straight
+pub mod Agree
+pub mod Follower
 pub mod Ends
 pub mod Files
 mod Worked

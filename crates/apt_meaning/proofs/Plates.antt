@@ -23,32 +23,32 @@ use Rattle.apt_meaning.specs.Motions.{motion_at, contact, leg_of}
 use Rattle.apt_meaning.specs.StartUps.{start_up_at, start_point}
 use Rattle.apt_meaning.specs.Refusals.{refusal_of}
 
-abbrev point : ℤ → ℤ → Pt
+abbrev pub point : ℤ → ℤ → Pt
 point x y = record { x = x; y = y }
 
-abbrev line : ℤ → ℤ → ℤ → ℤ → Line
+abbrev pub line : ℤ → ℤ → ℤ → ℤ → Line
 line x y dx dy = record { base = point x y; dir = record { dx = dx; dy = dy } }
 
-abbrev lower : Line
+abbrev pub lower : Line
 lower = line (pos 0) (pos 0) (pos 500000) (pos 0)
 
-abbrev right : Line
+abbrev pub right : Line
 right = line (pos 500000) (pos 0) (pos 0) (pos 500000)
 
-abbrev left : Line
+abbrev pub left : Line
 left = line (pos 0) (pos 500000) (pos 0) (neg_ℤ (pos 500000))
 
-abbrev edges : Table
+abbrev pub edges : Table
 edges =
     (codes "L1", figures.Shape (surfaces.Line lower)) ∷ (codes "L2", figures.Shape (surfaces.Line right))
     ∷ (codes "L4", figures.Shape (surfaces.Line left)) ∷ []
 
-abbrev cutting : Settings
+abbrev pub cutting : Settings
 cutting = record first_settings { radius = pos 25000; side = sides.Right; feed = pos 100 }
 
 -- ---- start-up
 
-abbrev outside : Situation
+abbrev pub outside : Situation
 outside = record {
   settings = cutting;
   position = Some (position_at (neg_ℤ (pos 100000)) (neg_ℤ (pos 100000)) (pos 50000));
@@ -56,7 +56,7 @@ outside = record {
   table = edges;
 }
 
-abbrev to_corner : StartUp
+abbrev pub to_corner : StartUp
 to_corner = record {
   start = position_at (neg_ℤ (pos 100000)) (neg_ℤ (pos 100000)) (pos 50000);
   how_a = stops.To;
@@ -76,7 +76,7 @@ start_is = refl
 
 -- ---- the contour
 
-abbrev at_corner : Situation
+abbrev pub at_corner : Situation
 at_corner = record {
   settings = cutting;
   position = Some (position_at (neg_ℤ (pos 25000)) (neg_ℤ (pos 25000)) (pos 50000));
@@ -84,7 +84,7 @@ at_corner = record {
   table = edges;
 }
 
-abbrev along_lower : Motion
+abbrev pub along_lower : Motion
 along_lower = record {
   start = position_at (neg_ℤ (pos 25000)) (neg_ℤ (pos 25000)) (pos 50000);
   drive = surfaces.Line lower;
@@ -97,7 +97,7 @@ along_lower = record {
   outer = pos 50;
 }
 
-runs_along : motion_at at_corner None turns.Right (codes "L1") stops.Past (codes "L2") ≡ Some along_lower
+pub runs_along : motion_at at_corner None turns.Right (codes "L1") stops.Past (codes "L2") ≡ Some along_lower
 unfolding motion_at
 runs_along = refl
 
@@ -106,7 +106,7 @@ unfolding root
 contact_is = refl
 
 -- from 50 outside its track up to 8 inside, and not past the band of its stop, to the right of the right edge
-abbrev leg : Leg
+abbrev pub leg : Leg
 leg = record {
   drive = surfaces.Line lower;
   track = targets.Line (point (pos 0) (pos 0)) (record { dx = pos 500000; dy = pos 0 }) (neg_ℤ (pos 25000));
@@ -118,7 +118,7 @@ leg = record {
   axis = None;
 }
 
-leg_is : leg_of along_lower ≡ leg
+pub leg_is : leg_of along_lower ≡ leg
 leg_is = refl
 
 unrefused : refusal_of at_corner (deeds.Contour None turns.Right (codes "L1") stops.Past (codes "L2")) ≡ None

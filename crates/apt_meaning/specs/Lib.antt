@@ -1,3 +1,4 @@
+pub mod OnLines
 pub mod Situations
 pub mod Motions
 pub mod StartUps
@@ -6,6 +7,7 @@ pub mod Refusals
 pub mod Records
 pub mod Compiled
 pub mod Ranges
+pub mod Straight
 pub mod Vertices
 pub mod Sayings
 pub mod Expectations

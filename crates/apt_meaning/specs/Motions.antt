@@ -26,6 +26,7 @@ use Rattle.apt_cldata.specs.declared.record.Position.{Position}
 use Rattle.apt_meaning.specs.declared.situation.Settings.{Settings}
 use Rattle.apt_meaning.specs.declared.situation.Situation.{Situation}
 use Rattle.apt_meaning.specs.declared.motion.Motion.{Motion}
+use Rattle.apt_meaning.specs.OnLines.{on_lines}
 use Rattle.apt_meaning.specs.Situations.{with_side}
 
 -- ---- the parts of a motion
@@ -78,7 +79,7 @@ stop_of m = offset_surface m.check (check_side m) m.radius
 abbrev pub starts_on_check : Motion → Bool
 starts_on_check m = is_on_check m.how (check_side m)
 
--- ---- sides and contacts: lines so far; a surface that is a circle has none yet
+-- ---- sides and contacts
 
 abbrev pub line_offset : Motion → ℤ
 line_offset m = signed (drive_side m) m.radius
@@ -88,9 +89,7 @@ stop_offset m = signed (check_side m) m.radius
 
 -- the side of the stop on which the motion runs
 abbrev pub side_between : Motion → Surface → Surface → Sign
-side_between m (surfaces.Line d) (surfaces.Line e) = line_side m.start.at (heading m.sense d.dir) e (stop_offset m)
-side_between m (surfaces.Line d) (surfaces.Circ e) = signs.Zero
-side_between m (surfaces.Circ d) check = signs.Zero
+side_between m drive check = on_lines signs.Zero drive check (λ d e. line_side m.start.at (heading m.sense d.dir) e (stop_offset m))
 
 -- a motion that touches its check surface has no side
 abbrev pub side_of : Motion → Stop → Sign
@@ -104,9 +103,7 @@ stop_side m = side_of m m.how
 
 -- where the motion meets its stop
 abbrev pub contact_between : Motion → Surface → Surface → Pt
-contact_between m (surfaces.Line d) (surfaces.Line e) = meeting_point d (line_offset m) e (stop_offset m)
-contact_between m (surfaces.Line d) (surfaces.Circ e) = m.start.at
-contact_between m (surfaces.Circ d) check = m.start.at
+contact_between m drive check = on_lines m.start.at drive check (λ d e. meeting_point d (line_offset m) e (stop_offset m))
 
 abbrev pub contact : Motion → Pt
 contact m = contact_between m m.drive m.check

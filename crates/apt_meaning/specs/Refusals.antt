@@ -26,6 +26,7 @@ use Rattle.apt_meaning.specs.declared.situation.Settings.{Settings}
 use Rattle.apt_meaning.specs.declared.situation.Situation.{Situation}
 use Rattle.apt_meaning.specs.declared.motion.Motion.{Motion}
 use Rattle.apt_meaning.specs.declared.motion.StartUp.{StartUp}
+use Rattle.apt_meaning.specs.OnLines.{on_lines}
 use Rattle.apt_meaning.specs.Situations.{has_feed, lacks_feed, with_side}
 use Rattle.apt_meaning.specs.Motions.{motion, is_too_fine, as_surface, surface_in, turn_at, track_of, stop_of, starts_on_check, line_offset, stop_offset}
 use Rattle.apt_meaning.specs.StartUps.{start_up_at, start_up_cases}
@@ -85,12 +86,10 @@ is_tanto stops.On = false
 is_tanto stops.Past = false
 is_tanto stops.Tanto = true
 
--- the stop of a motion on its track: lines so far, and no line touches a line
+-- the stop of a motion on its track; no line touches a line
 abbrev pub stop_cases : Motion → Surface → Surface → List Row
-stop_cases m (surfaces.Line d) (surfaces.Line e) =
-    (is_tanto m.how, cases.Parallel) ∷ line_cases m.start.at d (line_offset m) m.sense e (stop_offset m)
-stop_cases m (surfaces.Line d) (surfaces.Circ e) = (true, cases.NotBuilt) ∷ []
-stop_cases m (surfaces.Circ d) check = (true, cases.NotBuilt) ∷ []
+stop_cases m drive check =
+    on_lines ((true, cases.NotBuilt) ∷ []) drive check (λ d e. (is_tanto m.how, cases.Parallel) ∷ line_cases m.start.at d (line_offset m) m.sense e (stop_offset m))
 
 abbrev pub motion_cases : Motion → List Row
 motion_cases m =

@@ -16,6 +16,7 @@ use Rattle.apt_canon.specs.Meeting.{meeting_point, are_parallel, is_in_range}
 use Rattle.apt_offset.specs.Sides.{side_at_check, is_on_check}
 use Rattle.apt_offset.specs.Targets.{signed, offset_surface, lacks_room}
 use Rattle.apt_cldata.specs.declared.record.Position.{Position}
+use Rattle.apt_meaning.specs.OnLines.{on_lines}
 use Rattle.apt_meaning.specs.declared.situation.Situation.{Situation}
 use Rattle.apt_meaning.specs.declared.motion.StartUp.{StartUp}
 use Rattle.apt_meaning.specs.Situations.{at_height}
@@ -42,19 +43,16 @@ has_no_room u how surface = not (is_on u how surface) && lacks_room (offset_surf
 abbrev pub start_offset : StartUp → Stop → Surface → ℤ
 start_offset u how surface = signed (start_side u how surface) u.radius
 
--- where the moved surfaces meet: lines so far; a surface that is a circle has no meeting yet
+-- where the moved surfaces meet
 abbrev pub meeting_of : StartUp → Surface → Surface → Pt
-meeting_of u (surfaces.Line l) (surfaces.Line k) = meeting_point l (start_offset u u.how_a u.a) k (start_offset u u.how_b u.b)
-meeting_of u (surfaces.Line l) (surfaces.Circ k) = u.start.at
-meeting_of u (surfaces.Circ l) b = u.start.at
+meeting_of u a b = on_lines u.start.at a b (λ l k. meeting_point l (start_offset u u.how_a u.a) k (start_offset u u.how_b u.b))
 
 abbrev pub start_point : StartUp → Pt
 start_point u = meeting_of u u.a u.b
 
 abbrev pub meeting_cases : StartUp → Surface → Surface → List Row
-meeting_cases u (surfaces.Line l) (surfaces.Line k) = (are_parallel l k, cases.Parallel) ∷ (not (is_in_range (start_point u)), cases.OutOfRange) ∷ []
-meeting_cases u (surfaces.Line l) (surfaces.Circ k) = (true, cases.NotBuilt) ∷ []
-meeting_cases u (surfaces.Circ l) b = (true, cases.NotBuilt) ∷ []
+meeting_cases u a b =
+    on_lines ((true, cases.NotBuilt) ∷ []) a b (λ l k. (are_parallel l k, cases.Parallel) ∷ (not (is_in_range (start_point u)), cases.OutOfRange) ∷ [])
 
 -- room at both surfaces, then whether the position is on either, then their meeting
 abbrev pub start_up_cases : StartUp → List Row

@@ -1,14 +1,9 @@
 -- The vertices of contours.
-use Rattle.std.specs.Prelude.{◌≤◌, List, [], ◌∷◌, length}
+use Rattle.std.specs.Prelude.{◌≤◌, List, length}
 use Rattle.apt_plane.specs.declared.figures.Pt.{Pt}
-use Rattle.apt_plane.specs.Ranges.{IsPoint}
+use Rattle.apt_certify.specs.Jobs.{ArePoints}
 use Rattle.apt_meaning.specs.declared.effect.Effect.{Effect}
 use Rattle.apt_meaning.specs.declared.effect.Effect.TheVariants as effects
-
--- the vertices of a contour are points
-abbrev pub ArePoints : List Pt → Type 0
-ArePoints [] = Unit {0}
-ArePoints (p ∷ ps) = IsPoint p × ArePoints ps
 
 -- a contour has at least one vertex
 abbrev pub HasIn : Effect → List Pt → Type 0

@@ -4,13 +4,13 @@ ghost use Rattle.std.specs.Prelude.{◌≡◌, ◌≤◌, ◌+ℤ◌, [], Some, 
 ghost use Rattle.apt_scalar.specs.Scalars.{IsScalar, grid_units};
 ghost use Rattle.apt_scalar.specs.StepScalars.{IsScalarOrNone};
 ghost use Rattle.apt_plane.specs.Ranges.{IsPoint};
+ghost use Rattle.apt_certify.specs.Jobs.{ArePoints};
 ghost use Rattle.apt_certify.specs.Legs as legs;
 ghost use Rattle.apt_cldata.specs.Ranges.{IsPosition};
 ghost use Rattle.apt_meaning.specs.Effects as asking;
 ghost use Rattle.apt_meaning.specs.Ranges.{IsSituation, IsMotion, IsPositionOrNone};
 ghost use Rattle.apt_meaning.specs.Records as written;
 ghost use Rattle.apt_meaning.specs.Situations as situations;
-ghost use Rattle.apt_meaning.specs.Vertices.{ArePoints};
 ghost use Rattle.apt_meaning.specs.declared.effect.Effect.TheVariants as effects;
 
 use crate::{Motion, Situation};

@@ -7,10 +7,7 @@ use Rattle.apt_words.specs.declared.deed.Deed.TheVariants as deeds
 use Rattle.apt_words.specs.Options.{◌>>=◌}
 use Rattle.apt_words.specs.Rows.{Row, first_of, unless, unless_case}
 use Rattle.apt_plane.specs.declared.figures.Pt.{Pt}
-use Rattle.apt_plane.specs.declared.figures.Line.{Line}
 use Rattle.apt_plane.specs.declared.figures.Surface.{Surface}
-use Rattle.apt_canon.specs.declared.FormFault.TheVariants as faults
-use Rattle.apt_canon.specs.Meeting.{are_parallel, is_in_range, meeting_point, line_line}
 use Rattle.apt_cldata.specs.declared.record.Position.{Position}
 use Rattle.apt_cldata.specs.declared.record.Reach.TheVariants as reaches
 use Rattle.apt_defs.specs.declared.figure.Figure.{Figure}
@@ -24,7 +21,7 @@ use Rattle.apt_meaning.specs.StartUps.{start_up_at, start_up_cases, start_point,
 use Rattle.apt_meaning.specs.Effects.{moves, effect_of}
 use Rattle.apt_meaning.specs.Refusals.{is_other_kind, start_cases, refusal_of}
 use Rattle.apt_meaning.specs.Compiled.{asked}
-use Rattle.apt_motion.specs.StartUps.{start_up, start_move, start_on, start_by, start_from, met}
+use Rattle.apt_motion.specs.StartUps.{start_up, start_move, start_on, start_by, start_from}
 
 fed : (b : Bool) (f : Option Case) (start : Position) (p : Pt)
     → start_move start (unless_case (cond b (Some cases.NoFeed) f) p) ≡ asked (cond b (Some cases.NoFeed) f) (moves reaches.Start (cond (is_none f) (Some (at_height start.z p)) None))
@@ -71,12 +68,3 @@ pub start_asked : (at : Situation) (how_a : Stop) (a : List ℕ) (how_b : Stop) 
     ≡ asked (refusal_of at (deeds.GoStart how_a a (Some (how_b, b)))) (effect_of at (deeds.GoStart how_a a (Some (how_b, b))))
 unfolding start_up_at
 start_asked at how_a a how_b b = from at.settings at.position how_a (figure_named at.table a) how_b (figure_named at.table b)
-
-met_if : (parallel inside : Bool) (p : Pt) → met (cond parallel (Err faults.NoMeeting) (cond inside (Ok p) (Err faults.OutOfRange))) ≡ unless ((parallel, cases.Parallel) ∷ (not inside, cases.OutOfRange) ∷ []) p
-met_if true inside p = refl
-met_if false true p = refl
-met_if false false p = refl
-
-pub lines_met : (a : Line) (off_a : ℤ) (b : Line) (off_b : ℤ)
-    → met (line_line a off_a b off_b) ≡ unless ((are_parallel a b, cases.Parallel) ∷ (not (is_in_range (meeting_point a off_a b off_b)), cases.OutOfRange) ∷ []) (meeting_point a off_a b off_b)
-lines_met a off_a b off_b = met_if (are_parallel a b) (is_in_range (meeting_point a off_a b off_b)) (meeting_point a off_a b off_b)

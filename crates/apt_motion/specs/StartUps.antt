@@ -6,13 +6,8 @@ use Rattle.apt_words.specs.declared.Stop.{Stop}
 use Rattle.apt_words.specs.Rows.{unless}
 use Rattle.apt_plane.specs.declared.figures.Surface.{Surface}
 use Rattle.apt_plane.specs.declared.figures.Pt.{Pt}
-use Rattle.apt_plane.specs.Ranges.{IsSurface}
-use Rattle.apt_canon.specs.declared.FormFault.{FormFault}
-use Rattle.apt_canon.specs.declared.FormFault.TheVariants as faults
-use Rattle.apt_offset.specs.Ranges.{IsRadius}
 use Rattle.apt_cldata.specs.declared.record.Position.{Position}
 use Rattle.apt_cldata.specs.declared.record.Reach.TheVariants as reaches
-use Rattle.apt_cldata.specs.Ranges.{IsPosition}
 use Rattle.apt_defs.specs.declared.figure.Figure.{Figure}
 use Rattle.apt_meaning.specs.declared.situation.Settings.{Settings}
 use Rattle.apt_meaning.specs.declared.motion.StartUp.{StartUp}
@@ -21,12 +16,6 @@ use Rattle.apt_meaning.specs.declared.effect.Effect.TheVariants as effects
 use Rattle.apt_meaning.specs.Situations.{at_height, lacks_feed}
 use Rattle.apt_meaning.specs.Motions.{as_surface}
 use Rattle.apt_meaning.specs.StartUps.{start_up_cases, start_point}
-
-pub record IsStartUp (u : StartUp) : Type 0 where
-  pub start : IsPosition u.start
-  pub a : IsSurface u.a
-  pub b : IsSurface u.b
-  pub radius : IsRadius u.radius
 
 abbrev pub start_up : Settings → Position → Stop → Surface → Stop → Surface → StartUp
 start_up s start how_a a how_b b = record { start = start; how_a = how_a; a = a; how_b = how_b; b = b; radius = s.radius }
@@ -55,11 +44,3 @@ start_by s start how_a (Some a) how_b (Some b) = start_on s start how_a (as_surf
 abbrev pub start_from : Settings → Option Position → Stop → Option Figure → Stop → Option Figure → Result Effect Case
 start_from s None how_a a how_b b = Err cases.NoFrom
 start_from s (Some start) how_a a how_b b = start_by s start how_a a how_b b
-
--- two lines meet, or the case that refuses it
-abbrev pub met : Result Pt FormFault → Result Pt Case
-met (Ok p) = Ok p
-met (Err faults.NoMeeting) = Err cases.Parallel
-met (Err faults.OutOfRange) = Err cases.OutOfRange
-met (Err faults.Degenerate) = Err cases.OutOfRange
-met (Err faults.TooLarge) = Err cases.OutOfRange

@@ -15,9 +15,7 @@ ghost use Rattle.apt_motion.specs.Finding as finding;
 
 use crate::contours::{Cut, contour};
 use crate::moves::{from, godlta, goto};
-use crate::settings::{
-    cutter, ended, fedrat, intol, on_side, outtol, says, sets, with_rapid, with_units,
-};
+use crate::settings::{cutter, fedrat, intol, outtol};
 use crate::starts::go;
 use crate::stopped::Stopped;
 use apt_cldata::Note;
@@ -80,25 +78,27 @@ fn effect(at: &Situation, deed: &Deed) -> Result<Effect, Stopped>
     ensures { Answers (asked (refusal_of at.now deed.now) (effect_of at.now deed.now)) result }
 {
     match deed {
-        Deed::Partno(text) => Ok(says(at.settings, Note::Partno(text.copied()?))),
-        Deed::Units(units) => Ok(says(with_units(at.settings, *units), Note::Units(*units))),
-        Deed::Remark(_) | Deed::Clprnt | Deed::Nopost | Deed::Machin => Ok(sets(at.settings)),
+        Deed::Partno(text) => Ok(Effect::says(at.settings, Note::Partno(text.copied()?))),
+        Deed::Units(units) => Ok(Effect::says(at.settings.with_units(*units), Note::Units(*units))),
+        Deed::Remark(_) | Deed::Clprnt | Deed::Nopost | Deed::Machin => Ok(Effect::sets(
+            at.settings,
+        )),
         Deed::Assign(name, _) => Ok(Effect::Defines(name.copied(), Figure::Scalar)),
         Deed::LineXy(name, x, y, u, v) => answer(line(at, name, *x, *y, *u, *v)),
         Deed::Cutter(v) => answer(cutter(at, *v)),
         Deed::Intol(v) => answer(intol(at, *v)),
         Deed::Outtol(v) => answer(outtol(at, *v)),
         Deed::Fedrat(v) => answer(fedrat(at, *v)),
-        Deed::Tool(side) => Ok(sets(on_side(at.settings, *side))),
+        Deed::Tool(side) => Ok(Effect::sets(at.settings.on_side(*side))),
         Deed::FromXy(x, y, z) => answer(from(at, *x, *y, *z)),
         Deed::GotoXy(x, y, z) => answer(goto(at, *x, *y, *z)),
         Deed::Godlta(x, y, z) => answer(godlta(at, *x, *y, *z)),
         Deed::GoStart(how_a, a, Some((how_b, b))) => answer(go(at, *how_a, a, *how_b, b)),
-        Deed::Rapid => Ok(says(with_rapid(at.settings), Note::Rapid)),
-        Deed::Halt => Ok(says(at.settings, Note::Stop)),
-        Deed::OptHalt => Ok(says(at.settings, Note::OptStop)),
-        Deed::EndWord => Ok(says(ended(at.settings), Note::End)),
-        Deed::Fini => Ok(says(at.settings, Note::Fini)),
+        Deed::Rapid => Ok(Effect::says(at.settings.with_rapid(), Note::Rapid)),
+        Deed::Halt => Ok(Effect::says(at.settings, Note::Stop)),
+        Deed::OptHalt => Ok(Effect::says(at.settings, Note::OptStop)),
+        Deed::EndWord => Ok(Effect::says(at.settings.behind_end(), Note::End)),
+        Deed::Fini => Ok(Effect::says(at.settings, Note::Fini)),
         Deed::GoStart(_, _, None)
         | Deed::Contour(_, _, _, _, _)
         | Deed::PointXy(_, _, _, _)

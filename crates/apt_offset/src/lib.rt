@@ -11,7 +11,7 @@ mod turns;
 use apt_plane::{Dir, Pt};
 pub use sides::{is_on_check, side_at_check, side_at_drive, side_at_stop};
 pub use targets::{
-    drive_band, drive_target, lacks_room, offset_surface, signed, stop_band, stop_target,
+    band_at, drive_band, drive_target, lacks_room, offset_surface, signed, stop_band, stop_target,
 };
 pub use turns::{tangent, turn, turn_sense};
 

@@ -163,7 +163,10 @@ fn greater(a: i64, b: i64) -> i64
     if a <= b { b } else { a }
 }
 
-fn band_at(s: &Surface, side: Sign, r: i64, i: i64, o: i64) -> Band
+/// The band of the cutter's centre about a surface, at a place of the cutter with the radius `r`: of distances to
+/// the left of a line, or from a circle's centre. `i` is the tolerance towards the surface and `o` the one away
+/// from it, in grid units.
+pub fn band_at(s: &Surface, side: Sign, r: i64, i: i64, o: i64) -> Band
     requires surface { IsSurface s.now }
     requires radius { IsRadius r }
     requires inwards { IsTolerance i }

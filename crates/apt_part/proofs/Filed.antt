@@ -1,5 +1,5 @@
 -- The compiler's records are those of a CL file.
-use Rattle.std.proofs.Common.{◌≡◌, ℕ, ◌≤◌, ◌<◌, ◌^◌, false, List, length, None, Ok, sym, arith}
+use Rattle.std.proofs.Common.{◌≡◌, false, List, None, Ok, sym, arith}
 use Rattle.apt_words.specs.declared.body.Stmt.{Stmt}
 use Rattle.apt_words.specs.declared.deed.Step.{Step}
 use Rattle.apt_words.specs.ProgramEnds.{StepsEnd}

@@ -29,11 +29,10 @@ use Rattle.apt_meaning.proofs.Stands.{stands}
 use Rattle.apt_machine.specs.declared.Machine.{Machine}
 use Rattle.apt_machine.specs.Machines.{IsMachine}
 use Rattle.apt_post.specs.Limits.{limits}
-use Rattle.apt_post.specs.Plan.{plan, nothing_pending}
-use Rattle.apt_post.specs.Blocks.{IsProgram}
+use Rattle.apt_post.specs.Plan.{nothing_pending}
 use Rattle.apt_post.proofs.Reaching.{plan_reaches}
 use Rattle.apt_post.proofs.Programs.{planned_program}
-use Rattle.apt_part.specs.Compilation.{Compiled, earlier, unless_fault, records_by, with_steps, part_by, or_fault, part_of}
+use Rattle.apt_part.specs.Compilation.{Compiled, earlier, unless_fault, records_by, with_steps, or_fault, part_of}
 use Rattle.apt_part.specs.Promise.{Passes, Promise, AreSteps}
 use Rattle.apt_part.proofs.Filed.{compiled_file}
 use Rattle.apt_part.proofs.Written.{compiled_written}

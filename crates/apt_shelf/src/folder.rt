@@ -5,22 +5,44 @@ ghost use Rattle.apt_shelf.specs.Folder.{folder_of, path_in};
 
 use crate::shelf::{ReadStart, Shelf, ShelfFault};
 use std::alloc::{AllocError, Global};
-use std::fs;
-use std::io::{ErrorKind, Read, Write};
+use std::fs::{self, Metadata, OpenFile, OpenOptions};
+use std::io::{self, ErrorKind, Read, Write};
+use std::os::unix::fs::MetadataExt;
 use std::rt::Files;
 
 /// The files of a folder; a name that begins with `/` is taken as it is. Each error of the system
 /// counts as a fault, a missing file too.
+///
+/// A file that was opened to be read is never written: where a name leads to one, by any path or
+/// link, `start_write` answers `Fault`, the count of writing faults rises, and the file stays as it
+/// is. Which file it is say its device and its inode number.
 #[derive(Drop)]
 pub struct FolderShelf<'a, R: Files> {
     rt: &'a R,
     alloc: Global,
     folder: String,
     read_faults: u64,
-    write_faults: u64,
+    pub(crate) write_faults: u64,
+    sources: Vec<FileId>,
     input: Option<R::File>,
     output: Option<R::File>,
     writing: Option<String>,
+}
+
+/// Which file it is, under whatever name.
+#[derive(Clone, Copy, PartialEq, Eq)]
+struct FileId {
+    device: u64,
+    inode: u64,
+}
+
+impl FileId {
+    fn of(file: &Metadata) -> FileId {
+        FileId {
+            device: file.dev(),
+            inode: file.ino(),
+        }
+    }
 }
 
 impl<'a, R: Files> FolderShelf<'a, R> {
@@ -38,6 +60,7 @@ impl<'a, R: Files> FolderShelf<'a, R> {
             folder: String::from_str(alloc, folder)?,
             read_faults: 0,
             write_faults: 0,
+            sources: Vec::new(alloc),
             input: None,
             output: None,
             writing: None,
@@ -54,6 +77,32 @@ fn path_of(alloc: Global, folder: &str, name: &str) -> Result<String, AllocError
     } else {
         format!(in alloc; "{folder}/{name}")
     }
+}
+
+/// A file to be read, and which one it is.
+fn open_source<R: Files>(rt: &R, path: &str) -> io::Result<(R::File, FileId)> {
+    let file = fs::open(rt, path)?;
+    let id = FileId::of(&file.metadata()?);
+    Ok((file, id))
+}
+
+/// An empty file to be written. `None` where the system refuses it, and where the path leads to one
+/// of the sources, which stays as it is: so it is opened with its bytes, and emptied after that.
+fn open_output<R: Files>(rt: &R, path: &str, sources: &[FileId]) -> Option<R::File> {
+    let file = OpenOptions::new()
+        .write(true)
+        .create(true)
+        .open(rt, path)
+        .ok()?;
+    let found = file.metadata().ok()?;
+    if sources.contains(&FileId::of(&found)) {
+        return None;
+    }
+    // a device or a pipe has no length
+    if found.is_file() {
+        file.set_len(0).ok()?;
+    }
+    Some(file)
 }
 
 impl<'a, R: Files> Shelf for FolderShelf<'a, R> {
@@ -74,8 +123,9 @@ impl<'a, R: Files> Shelf for FolderShelf<'a, R> {
     fn start_read(&mut self, name: &str) -> Result<(), ReadStart> {
         self.input = None;
         let path = path_of(self.alloc, &self.folder, name)?;
-        match fs::open(self.rt, path.as_str()) {
-            Ok(file) => {
+        match open_source(self.rt, path.as_str()) {
+            Ok((file, id)) => {
+                self.sources.push(id).map_err(AllocError::from)?;
                 self.input = Some(file);
                 Ok(())
             }
@@ -108,13 +158,13 @@ impl<'a, R: Files> Shelf for FolderShelf<'a, R> {
         self.writing = None;
         let path = path_of(self.alloc, &self.folder, name)?;
         let name = String::from_str(self.alloc, name)?;
-        match fs::create(self.rt, path.as_str()) {
-            Ok(file) => {
+        match open_output(self.rt, path.as_str(), &self.sources) {
+            Some(file) => {
                 self.output = Some(file);
                 self.writing = Some(name);
                 Ok(())
             }
-            Err(_) => {
+            None => {
                 self.write_faults = self.write_faults.saturating_add(1);
                 Err(ShelfFault::Fault)
             }

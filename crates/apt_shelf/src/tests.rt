@@ -1,6 +1,7 @@
 use super::*;
 use std::alloc::{AllocGlobal, Global};
 use std::fs;
+use std::os::unix::fs::symlink;
 use std::process::Abort;
 use std::test::Fail;
 
@@ -126,6 +127,45 @@ fn folder_keeps_files(rt: HostRuntime) -> Result<(), Fail> {
     );
     assert_reads(&rt, &mut shelf, "/dev/null", 5, b"");
     fs::remove_file(&rt, "apt_shelf_test.txt")?;
+    Ok(())
+}
+
+#[test]
+fn folder_spares_what_it_read(rt: HostRuntime) -> Result<(), Fail> {
+    let _ = fs::remove_dir_all(&rt, "apt_shelf_test");
+    fs::create_dir(&rt, "apt_shelf_test")?;
+    for name in ["part", "machine", "tape"] {
+        let path = format!(in rt.alloc(); "apt_shelf_test/{name}")?;
+        fs::write(&rt, &path, "bytes")?;
+    }
+    symlink(&rt, "part", "apt_shelf_test/soft")?;
+    fs::hard_link(&rt, "apt_shelf_test/part", "apt_shelf_test/hard")?;
+    let whole = fs::canonicalize(&rt, "apt_shelf_test/part")?;
+    let mut shelf = FolderShelf::new(&rt, rt.alloc(), "apt_shelf_test")?;
+    assert_reads(&rt, &mut shelf, "part", 5, b"bytes");
+    assert_reads(&rt, &mut shelf, "machine", 5, b"bytes");
+    let names = [
+        "./part",
+        "part",
+        "../apt_shelf_test/part",
+        whole.as_str(),
+        "soft",
+        "hard",
+        "./machine",
+    ];
+    for (refused, name) in (1u64..).zip(names) {
+        assert_eq!(rt; shelf.start_write(name), Err(ShelfFault::Fault), "{name}");
+        assert_eq!(rt; shelf.write_faults, refused, "{name}");
+    }
+    assert_reads(&rt, &mut shelf, "part", 5, b"bytes");
+    assert_reads(&rt, &mut shelf, "machine", 5, b"bytes");
+    // another file is emptied and written, a new one too, and a device
+    assert_writes(&rt, &mut shelf, "./tape", b"%", Ok(()));
+    assert_writes(&rt, &mut shelf, "new", b"%", Ok(()));
+    assert_writes(&rt, &mut shelf, "/dev/null", b"%", Ok(()));
+    assert_reads(&rt, &mut shelf, "tape", 5, b"%");
+    assert_reads(&rt, &mut shelf, "new", 5, b"%");
+    fs::remove_dir_all(&rt, "apt_shelf_test")?;
     Ok(())
 }
 

@@ -7,4 +7,4 @@ mod straight;
 mod tests;
 
 pub use nearness::{heading, is_near, side_of};
-pub use straight::{are_parallel, line_behind, line_stop};
+pub use straight::{are_parallel, line_behind, line_side, line_stop};

@@ -96,6 +96,27 @@ pub fn are_parallel(a: &Line, b: &Line) -> bool
     cross(a.dir, b.dir).unsigned_abs() == 0
 }
 
+/// The side of the stop, a line moved `off` grid units to its left, on which a motion runs: that of its start, or
+/// where the start is near the stop the one into which it heads.
+pub fn line_side(start: Pt, heading: Dir, stop: &Line, off: i64) -> Sign
+    requires start { IsPoint start }
+    requires heading { IsVector heading }
+    requires stop { IsLine stop.now }
+    requires off { unsigned_abs off ≤ 500000 }
+    ensures { result ≡ stops.line_side start heading stop.now off }
+{
+    let target = Target::Line {
+        base: stop.base,
+        dir: stop.dir,
+        off,
+    };
+    if is_near(&target, NEAR_STOP, start) {
+        sign_of(cross(stop.dir, heading))
+    } else {
+        side_of(&target, start)
+    }
+}
+
 /// Whether the stop, a line moved `off` grid units to its left, lies behind a motion: the start is near it, or the
 /// motion heads to the start's side of it.
 pub fn line_behind(start: Pt, heading: Dir, stop: &Line, off: i64) -> bool

@@ -1,0 +1,110 @@
+-- The records in front, one after the other.
+use Rattle.std.proofs.Common.{◌≡◌, ◌∙◌, ◌+◌, ℕ, zero, suc, ℤ, Bool, true, false, List, [], ◌∷◌, ◌++◌, map, Option, Some, None, Result, Ok, Err, refl, sym, ap, subst, int_eq, add-one}
+use Rattle.std.proofs.lemmas.Bool.Decides.{Decides-int_eq}
+use Rattle.std.specs.Prelude.{◌&&◌}
+use Rattle.std.proofs.lemmas.Bool.{true≢false}
+use Rattle.apt_words.specs.declared.deed.Step.{Step}
+use Rattle.apt_plane.specs.declared.figures.Pt.{Pt}
+use Rattle.apt_cldata.specs.declared.record.Position.{Position}
+use Rattle.apt_cldata.specs.declared.record.Record.{Record}
+use Rattle.apt_cldata.specs.declared.record.Record.TheVariants as records
+use Rattle.apt_meaning.specs.declared.motion.Motion.{Motion}
+use Rattle.apt_meaning.specs.declared.effect.Effect.{Effect}
+use Rattle.apt_meaning.specs.declared.effect.Effect.TheVariants as effects
+use Rattle.apt_meaning.specs.Situations.{at_height}
+use Rattle.apt_meaning.specs.Motions.{has_track, has_stop, is_defined}
+use Rattle.apt_meaning.specs.Records.{effect_records}
+use Rattle.apt_meaning.specs.Expectations.{Expectation, Exactly, VerticesAt, exactly_if, expected_of, behind_statement, Meets, Departs}
+use Rattle.apt_job.specs.Fronts.{points_at, are_at, IsNext, IsAmiss, StandsFirst, is_silent}
+
+-- ---- heights
+
+both : (a b : Bool) → (a && b) ≡ true → (a ≡ true) × (b ≡ true)
+both true b e = (refl, e)
+both false b e = absurd (true≢false (sym e))
+
+same_position : (z : ℤ) (p : Position) → int_eq p.z z ≡ true → p ≡ at_height z p.at
+same_position z p e = ap (λ (n : ℤ). record { at = p.at; z = n }) ((Decides-int_eq p.z z).0 e)
+
+pub at_one_height : (z : ℤ) (ps : List Position) → are_at z ps ≡ true → ps ≡ map (at_height z) (points_at ps)
+at_one_height z [] e = refl
+at_one_height z (p ∷ ps) e =
+    let h = both (int_eq p.z z) (are_at z ps) e in
+    ap (λ (q : Position). q ∷ ps) (same_position z p h.0) ∙ ap (λ (qs : List Position). at_height z p.at ∷ qs) (at_one_height z ps h.1)
+
+are_at-map : (z : ℤ) (vs : List Pt) → are_at z (map (at_height z) vs) ≡ true
+are_at-map z [] = refl
+are_at-map z (v ∷ vs) = rw ((Decides-int_eq z z).1 refl) (are_at-map z vs)
+
+pub not_one_height : (z : ℤ) (ps : List Position) (vs : List Pt) → are_at z ps ≡ false → ps ≡ map (at_height z) vs → ⊥
+not_one_height z ps vs e same = true≢false (sym (are_at-map z vs) ∙ ap (are_at z) (sym same) ∙ e)
+
+-- ---- one record after the other
+
+pub amiss_departs : (x : Expectation) (xs : List Expectation) (written : List Record) → IsAmiss x written → Departs (x ∷ xs) written 0
+amiss_departs x xs [] amiss = refl
+amiss_departs x xs (r ∷ rs) amiss = amiss
+
+next_departs : (x : Expectation) (xs : List Expectation) (written : List Record) (vs : List Pt) (rest : List Record) (k : ℕ) → IsNext x written vs rest
+    → Departs xs rest k → Departs (x ∷ xs) written (suc k)
+next_departs x xs written vs rest k next departs = rw next.split ((vs, next.met), departs)
+
+next_if : (b : Bool) (due : Record) (written : List Record) (vs : List Pt) (rest : List Record) → IsNext (exactly_if b due) written vs rest → (b ≡ true) × (written ≡ due ∷ rest)
+next_if true due written vs rest next = (refl, next.split ∙ ap (λ (r : Record). r ∷ rest) next.met.0)
+next_if false due written vs rest next = absurd next.met
+
+contour_met : (z : ℤ) (r : Record) (vs : List Pt) → Meets (VerticesAt z) r vs → r ≡ records.Contour (map (at_height z) vs)
+contour_met z (records.Statement line step) vs met = absurd met
+contour_met z (records.Note note) vs met = absurd met
+contour_met z (records.Drive surface side sense) vs met = absurd met
+contour_met z (records.Check surface how) vs met = absurd met
+contour_met z (records.Point reach to) vs met = absurd met
+contour_met z (records.Contour ps) vs met = ap (λ (qs : List Position). records.Contour qs) met
+
+-- ---- contours
+
+abbrev drive_due : Motion → Expectation
+drive_due m = exactly_if (has_track m) (records.Drive m.drive m.side m.sense)
+
+abbrev check_due : Motion → Expectation
+check_due m = exactly_if (has_stop m) (records.Check m.check m.how)
+
+pub cut_said : (m : Motion) (written d c rest : List Record) (us ws vs : List Pt) → IsNext (drive_due m) written us d → IsNext (check_due m) d ws c
+    → IsNext (VerticesAt m.start.z) c vs rest → StandsFirst (effects.Cuts m) (effect_records (effects.Cuts m) vs) written vs rest
+cut_said m written d c rest us ws vs drive check contour =
+    let a = next_if (has_track m) (records.Drive m.drive m.side m.sense) written us d drive in
+    let b = next_if (has_stop m) (records.Check m.check m.how) d ws c check in
+    let vertices = contour.split ∙ ap (λ (r : Record). r ∷ rest) (contour_met m.start.z contour.first vs contour.met) in
+    record {
+      split = a.1 ∙ ap (λ (rs : List Record). records.Drive m.drive m.side m.sense ∷ rs) (b.1 ∙ ap (λ (rs : List Record). records.Check m.check m.how ∷ rs) vertices);
+      may = rw (a.0, b.0) refl;
+    }
+
+pub cut_departs : (m : Motion) (written d c : List Record) (us ws : List Pt) → IsNext (drive_due m) written us d → IsNext (check_due m) d ws c
+    → IsAmiss (VerticesAt m.start.z) c → Departs (expected_of (Some (effects.Cuts m))) written 2
+cut_departs m written d c us ws drive check amiss =
+    next_departs (drive_due m) (check_due m ∷ VerticesAt m.start.z ∷ []) written us d 1 drive
+    (next_departs (check_due m) (VerticesAt m.start.z ∷ []) d ws c 0 check (amiss_departs (VerticesAt m.start.z) [] c amiss))
+
+-- ---- steps
+
+abbrev statement_due : Step → Expectation
+statement_due step = Exactly (records.Statement step.line step.step)
+
+-- what is said stands behind the statement
+behind_due : (step : Step) (o : Option Effect) → is_silent o ≡ false → behind_statement step (expected_of o) ≡ statement_due step ∷ expected_of o
+behind_due step None e = refl
+behind_due step (Some (effects.Defines n f)) e = absurd (true≢false e)
+behind_due step (Some (effects.Sets s None)) e = absurd (true≢false e)
+behind_due step (Some (effects.Sets s (Some note))) e = refl
+behind_due step (Some (effects.Moves reach to)) e = refl
+behind_due step (Some (effects.Cuts m)) e = refl
+
+pub statement_amiss : (step : Step) (o : Option Effect) (written : List Record) → is_silent o ≡ false → IsAmiss (statement_due step) written
+    → Departs (behind_statement step (expected_of o)) written 0
+statement_amiss step o written says amiss = rw (behind_due step o says) (amiss_departs (statement_due step) (expected_of o) written amiss)
+
+pub departs_later : (step : Step) (o : Option Effect) (written rest : List Record) (vs : List Pt) (k : ℕ) → is_silent o ≡ false → IsNext (statement_due step) written vs rest
+    → Departs (expected_of o) rest k → Departs (behind_statement step (expected_of o)) written (k + 1)
+departs_later step o written rest vs k says next departs =
+    rw (behind_due step o says, add-one k) (next_departs (statement_due step) (expected_of o) written vs rest k next departs)

@@ -1,0 +1,152 @@
+-- The walk of a judge over steps and records.
+use Rattle.std.proofs.Common.{◌≡◌, ◌∙◌, ◌+◌, ◌-◌, ◌≤◌, ℕ, suc, ℤ, arith, List, [], ◌∷◌, ◌++◌, length, map, Option, Some, None, Ok, refl, sym, ap, subst, inl, inr, append_assoc, append-nil}
+use Rattle.std.proofs.Common.{length-append, ◌==◌, true, false}
+use Rattle.std.proofs.lemmas.Bool.{true≢false, eqb-true}
+use Rattle.apt_words.specs.Built.{AreBuiltSteps}
+use Rattle.apt_words.specs.Sources.{AreExecuted}
+use Rattle.apt_words.specs.declared.deed.Step.{Step}
+use Rattle.apt_scalar.specs.StepScalars.{AreScalars}
+use Rattle.apt_plane.specs.declared.figures.Pt.{Pt}
+use Rattle.apt_certify.specs.declared.leg.Job.{Job}
+use Rattle.apt_certify.specs.Jobs.{AreJobs, point_count}
+use Rattle.apt_cldata.specs.declared.record.Record.{Record}
+use Rattle.apt_cldata.specs.Ranges.{vertices_in, vertex_count, AreRecords}
+use Rattle.apt_meaning.specs.declared.situation.Situation.{Situation}
+use Rattle.apt_meaning.specs.declared.effect.Effect.{Effect}
+use Rattle.apt_meaning.specs.declared.effect.Effect.TheVariants as effects
+use Rattle.apt_meaning.specs.Situations.{first_situation, at_height}
+use Rattle.apt_meaning.specs.Effects.{effect_of}
+use Rattle.apt_meaning.specs.Compiled.{compilation}
+use Rattle.apt_meaning.specs.Records.{Begins, records_of, after}
+use Rattle.apt_meaning.specs.Expectations.{expected_of, behind_statement, Departs, FailsAt}
+use Rattle.apt_meaning.proofs.Follower.{KeepsUp, keeps_up_first, StepsOn, steps_on}
+use Rattle.apt_job.specs.Fronts.{StandsFirst}
+use Rattle.apt_job.specs.Jobs.{jobs_by, MakesJobs}
+use Rattle.apt_job.proofs.Ranges.{jobs_in, points-append}
+
+-- ---- lengths
+
+abbrev pub weight : List Record → ℕ
+weight rs = vertex_count rs + length rs
+
+vertices-append : (xs ys : List Record) → vertex_count (xs ++ ys) ≡ vertex_count xs + vertex_count ys
+vertices-append [] ys = omega arith
+vertices-append (x ∷ xs) ys = omega (arith, vertices-append xs ys)
+
+weight-append : (xs ys : List Record) → weight (xs ++ ys) ≡ weight xs + weight ys
+weight-append xs ys = omega (arith, vertices-append xs ys, length-append xs ys)
+
+length-heights : (z : ℤ) (vertices : List Pt) → length (map (at_height z) vertices) ≡ length vertices
+length-heights z [] = refl
+length-heights z (v ∷ vs) = ap suc (length-heights z vs)
+
+-- a contour has more records than its job has points before its vertices
+light : (step : Step) (e : Effect) (vertices : List Pt) → point_count (jobs_by e vertices) ≤ weight (records_of step e vertices)
+light step (effects.Defines n f) vertices = omega arith
+light step (effects.Sets s None) vertices = omega arith
+light step (effects.Sets s (Some note)) vertices = omega arith
+light step (effects.Moves reach to) vertices = omega arith
+light step (effects.Cuts m) vertices = omega (arith, length-heights m.start.z vertices)
+
+-- the number of the first of the rest
+abbrev pub number : List Record → List Record → ℕ
+number written rest = (length written - length rest) + 1
+
+-- ---- how far the walk has come
+
+pub record IsWalk (all : List Step) (written : List Record) (at : Situation) (rest : List Record) (jobs : List Job) (steps : List Step) : Type 0 where
+  pub keeps : KeepsUp at steps
+  pub scalars : AreScalars steps
+  pub sources : AreExecuted steps
+  pub built : AreBuiltSteps steps
+  pub records : AreRecords rest
+  pub part : length rest ≤ length written
+  pub makes : (more : List Job) → MakesJobs at steps rest more → MakesJobs first_situation all written (jobs ++ more)
+  pub fails : (k : ℕ) → FailsAt at (number written rest) steps rest k → FailsAt first_situation 1 all written k
+  pub range : AreJobs jobs
+  pub points : point_count jobs + weight rest ≤ weight written
+
+pub walk_first : (all : List Step) (written : List Record) → AreScalars all → AreBuiltSteps all → AreExecuted all
+    → (rs : List Record) × (compilation first_situation all ≡ Ok rs) → AreRecords written → IsWalk all written first_situation written [] all
+walk_first all written scalars built sources passes are = record {
+  keeps = keeps_up_first all passes.0 passes.1;
+  scalars = scalars;
+  sources = sources;
+  built = built;
+  records = are;
+  part = omega arith;
+  makes = λ more makes. makes;
+  fails = λ k fails. subst (λ (n : ℕ). FailsAt first_situation n all written k) (first_number (length written)) fails;
+  range = tt;
+  points = omega arith;
+}
+  where
+    first_number : (n : ℕ) → (n - n) + 1 ≡ 1
+    first_number n = omega arith
+
+-- the step that is due, with its records in front
+pub steps_in : (all : List Step) (written : List Record) (at : Situation) (rest : List Record) (jobs : List Job) (step : Step) (steps : List Step) (e : Effect) (vertices : List Pt) (later : List Record)
+    → IsWalk all written at rest jobs (step ∷ steps) → effect_of at step.deed ≡ Some e → StandsFirst e (records_of step e vertices) rest vertices later → StepsOn at steps e vertices later
+steps_in all written at rest jobs step steps e vertices later walk asked stands =
+    steps_on at step steps rest e vertices later walk.keeps walk.scalars.0 walk.sources.0.text walk.records asked stands.split
+
+pub walk_on : (all : List Step) (written : List Record) (at : Situation) (rest : List Record) (jobs : List Job) (step : Step) (steps : List Step) (e : Effect) (vertices : List Pt) (later : List Record)
+    → IsWalk all written at rest jobs (step ∷ steps) → effect_of at step.deed ≡ Some e → StandsFirst e (records_of step e vertices) rest vertices later
+    → IsWalk all written (after at e vertices) later (jobs ++ jobs_by e vertices) steps
+walk_on all written at rest jobs step steps e vertices later walk asked stands =
+    let on = steps_in all written at rest jobs step steps e vertices later walk asked stands in
+    let due = records_of step e vertices in
+    let begins : Begins at step rest e vertices later = record { asked = asked; front = stands.split; may = stands.may } in
+    let size : length rest ≡ length due + length later = ap length stands.split ∙ length-append due later in
+    let load : weight rest ≡ weight due + weight later = ap weight stands.split ∙ weight-append due later in
+    let further : number written rest + length due ≡ number written later = omega (arith, size, walk.part) in
+    record {
+      keeps = on.behind;
+      scalars = walk.scalars.1;
+      sources = walk.sources.1;
+      built = walk.built.1;
+      records = on.later;
+      part = omega (arith, size, walk.part);
+      makes = λ more makes. subst (λ (js : List Job). MakesJobs first_situation all written js) (sym (append_assoc jobs (jobs_by e vertices) more))
+          (walk.makes (jobs_by e vertices ++ more) (e, vertices, later, more, begins, refl, makes));
+      fails = λ k fails. walk.fails k (inr (e, vertices, later, begins, subst (λ (n : ℕ). FailsAt (after at e vertices) n steps later k) (sym further) fails));
+      range = jobs_in jobs e vertices walk.range on.lined on.within;
+      points = omega (arith, points-append jobs (jobs_by e vertices), light step e vertices, load, walk.points);
+    }
+
+-- ---- where it ends
+
+-- records that are not those of the step
+pub walk_departs : (all : List Step) (written : List Record) (at : Situation) (rest : List Record) (jobs : List Job) (step : Step) (steps : List Step) (o : Option Effect) (k : ℕ)
+    → IsWalk all written at rest jobs (step ∷ steps) → o ≡ effect_of at step.deed → Departs (behind_statement step (expected_of o)) rest k
+    → FailsAt first_situation 1 all written (number written rest + k)
+walk_departs all written at rest jobs step steps o k walk asked departs =
+    walk.fails (number written rest + k) (inl (k, subst (λ (o : Option Effect). Departs (behind_statement step (expected_of o)) rest k) asked departs, refl))
+
+none_left : (rest : List Record) → (length rest == 0) ≡ true → rest ≡ []
+none_left [] e = refl
+none_left (r ∷ rs) e = absurd (omega (arith, eqb-true (length (r ∷ rs)) 0 e))
+
+pub walk_ends : (all : List Step) (written : List Record) (at : Situation) (rest : List Record) (jobs : List Job) → IsWalk all written at rest jobs []
+    → (length rest == 0) ≡ true → MakesJobs first_situation all written jobs
+walk_ends all written at rest jobs walk none =
+    subst (λ (js : List Job). MakesJobs first_situation all written js) (append-nil jobs) (walk.makes [] (none_left rest none, refl))
+
+-- records behind the last step
+pub walk_left : (all : List Step) (written : List Record) (at : Situation) (rest : List Record) (jobs : List Job) → IsWalk all written at rest jobs []
+    → (length rest == 0) ≡ false → FailsAt first_situation 1 all written (number written rest + 0)
+walk_left all written at [] jobs walk some = absurd (true≢false some)
+walk_left all written at (r ∷ rs) jobs walk some =
+    let same : number written (r ∷ rs) + 0 ≡ number written (r ∷ rs) = omega arith in
+    subst (λ (k : ℕ). FailsAt first_situation 1 all written k) (sym same) (walk.fails (number written (r ∷ rs)) refl)
+
+-- ---- what is in front, by the effect that was asked for
+
+same_some : (e d : Effect) → ◌≡◌ {A = Option Effect} (Some e) (Some d) → e ≡ d
+same_some e d h = cc
+
+pub stands_first : (step : Step) (o : Option Effect) (d : Effect) (written : List Record) (vertices : List Pt) (rest : List Record)
+    → ((e : Effect) × (o ≡ Some e) × StandsFirst e (records_of step e vertices) written vertices rest) → o ≡ Some d
+    → StandsFirst d (records_of step d vertices) written vertices rest
+stands_first step o d written vertices rest taken some =
+    subst (λ (x : Effect). StandsFirst x (records_of step x vertices) written vertices rest) (same_some taken.0 d (sym taken.1 ∙ some)) taken.2

@@ -1,0 +1,15 @@
+use Rattle.std.proofs.Common.{◌≡◌, ◌∙◌, subst, sym, ap, false}
+use Rattle.apt_cldata.specs.declared.record.Position.{Position}
+use Rattle.apt_cldata.specs.declared.record.Record.{Record}
+use Rattle.apt_meaning.specs.Expectations.{VerticesAt, Meets}
+use Rattle.apt_job.specs.Fronts.{are_at}
+use Rattle.apt_job.proofs.InFront.{not_one_height}
+use Rattle.apt_job.proofs.fronts.vertices_at.Goals as goal
+
+pub returns-else-are_at : goal.returns-else-are_at
+returns-else-are_at c = λ m.
+    let z = c.args.start.z in
+    let ps = c.in-Contour.vertices in
+    let e : are_at z ps ≡ false = ap (are_at z) (sym c.vertices.view_is ∙ sym c.deref.ensures.value) ∙ sym c.are_at.ensures ∙ c.if-are_at.false in
+    let met = subst (λ (r : Record). Meets (VerticesAt z) r m.0) c.in-Contour.is m.1 in
+    not_one_height z ps m.0 e met

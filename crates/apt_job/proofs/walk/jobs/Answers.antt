@@ -1,0 +1,80 @@
+use Rattle.std.proofs.Common.{◌≡◌, ◌∙◌, ◌∷◌, ◌++◌, ◌+◌, [], drop, ap, sym, subst}
+use Rattle.std.proofs.Math.ListN.{drop_of_length-le}
+use Rattle.std.proofs.lemmas.List.{drop_more}
+use Rattle.apt_words.specs.declared.deed.Step.{Step}
+use Rattle.apt_certify.specs.declared.leg.Job.{Job}
+use Rattle.apt_meaning.specs.declared.situation.Situation.{Situation}
+use Rattle.apt_meaning.specs.Effects.{effect_of}
+use Rattle.apt_meaning.specs.Records.{after}
+use Rattle.apt_job.specs.Answering.{IsEntry}
+use Rattle.apt_job.specs.Fronts.{points_at}
+use Rattle.apt_job.specs.Jobs.{jobs_by}
+use Rattle.apt_job.proofs.Steps.{IsWalk, steps_in, walk_on, walk_departs, walk_ends, walk_left, stands_first}
+use Rattle.apt_job.proofs.walk.jobs.Goals as goal
+
+pub returns-in-Err-clause-entry : goal.returns-in-Err-clause-entry
+returns-in-Err-clause-entry c =
+    let xs = c.args.steps.now in
+    let i = c.steps.st-index in
+    let st = c.st-item.result in
+    let written = c.args.records.now in
+    let split : drop i xs ≡ st ∷ drop (i + 1) xs = drop_more xs i st c.steps-test.true ∙ ap (λ x. x ∷ drop (i + 1) xs) (sym c.st-item.is) in
+    let walk = subst (IsWalk xs written c.steps.at c.steps.rest.now c.steps.jobs.items) split c.steps.invariant in
+    subst (IsEntry xs written) (sym c.entry.ensures)
+    (walk_departs xs written c.steps.at c.steps.rest.now c.steps.jobs.items st (drop (i + 1) xs) c.in_ok-found.found c.in-Err.fitting walk c.in_ok-found.ensures.value c.in-Err.ensures.taken)
+
+pub take-requires-clause-effect : goal.take-requires-clause-effect
+take-requires-clause-effect c =
+    let xs = c.args.steps.now in
+    let i = c.steps.st-index in
+    let st = c.st-item.result in
+    let e = c.in-Some.found in
+    let vertices = points_at c.in-Ok.front.vertices.now in
+    let later = c.in-Ok.front.rest.now in
+    let split : drop i xs ≡ st ∷ drop (i + 1) xs = drop_more xs i st c.steps-test.true ∙ ap (λ x. x ∷ drop (i + 1) xs) (sym c.st-item.is) in
+    let walk = subst (IsWalk xs c.args.records.now c.steps.at c.steps.rest.now c.steps.jobs.items) split c.steps.invariant in
+    let stands = stands_first st c.in_ok-found.found e c.steps.rest.now vertices later c.in-Ok.ensures.taken c.in-Some.is in
+    (steps_in xs c.args.records.now c.steps.at c.steps.rest.now c.steps.jobs.items st (drop (i + 1) xs) e vertices later walk (sym c.in_ok-found.ensures.value ∙ c.in-Some.is) stands).good
+
+pub take-requires-clause-vertices : goal.take-requires-clause-vertices
+take-requires-clause-vertices c =
+    let xs = c.args.steps.now in
+    let i = c.steps.st-index in
+    let st = c.st-item.result in
+    let e = c.in-Some.found in
+    let vertices = points_at c.in-Ok.front.vertices.now in
+    let later = c.in-Ok.front.rest.now in
+    let split : drop i xs ≡ st ∷ drop (i + 1) xs = drop_more xs i st c.steps-test.true ∙ ap (λ x. x ∷ drop (i + 1) xs) (sym c.st-item.is) in
+    let walk = subst (IsWalk xs c.args.records.now c.steps.at c.steps.rest.now c.steps.jobs.items) split c.steps.invariant in
+    let stands = stands_first st c.in_ok-found.found e c.steps.rest.now vertices later c.in-Ok.ensures.taken c.in-Some.is in
+    (steps_in xs c.args.records.now c.steps.at c.steps.rest.now c.steps.jobs.items st (drop (i + 1) xs) e vertices later walk (sym c.in_ok-found.ensures.value ∙ c.in-Some.is) stands).within
+
+pub steps-preserved : goal.steps-preserved
+steps-preserved c =
+    let xs = c.args.steps.now in
+    let i = c.steps.st-index in
+    let st = c.st-item.result in
+    let written = c.args.records.now in
+    let e = c.in-Some.found in
+    let vertices = points_at c.in-Ok.front.vertices.now in
+    let later = c.in-Ok.front.rest.now in
+    let split : drop i xs ≡ st ∷ drop (i + 1) xs = drop_more xs i st c.steps-test.true ∙ ap (λ x. x ∷ drop (i + 1) xs) (sym c.st-item.is) in
+    let walk = subst (IsWalk xs written c.steps.at c.steps.rest.now c.steps.jobs.items) split c.steps.invariant in
+    let stands = stands_first st c.in_ok-found.found e c.steps.rest.now vertices later c.in-Ok.ensures.taken c.in-Some.is in
+    let on = walk_on xs written c.steps.at c.steps.rest.now c.steps.jobs.items st (drop (i + 1) xs) e vertices later walk (sym c.in_ok-found.ensures.value ∙ c.in-Some.is) stands in
+    rw (c.in_ok-at.ensures.after, c.in_ok-at.ensures.jobs) on
+
+pub returns-then-is_empty-clause-jobs : goal.returns-then-is_empty-clause-jobs
+returns-then-is_empty-clause-jobs c =
+    let xs = c.args.steps.now in
+    let none : drop c.steps.st-index xs ≡ [] = drop_of_length-le xs c.steps-test.false in
+    let walk = subst (IsWalk xs c.args.records.now c.steps.at c.steps.rest.now c.steps.jobs.items) none c.steps.invariant in
+    walk_ends xs c.args.records.now c.steps.at c.steps.rest.now c.steps.jobs.items walk (sym c.is_empty.ensures ∙ c.if-is_empty.true)
+
+pub returns-clause-entry : goal.returns-clause-entry
+returns-clause-entry c =
+    let xs = c.args.steps.now in
+    let written = c.args.records.now in
+    let none : drop c.steps.st-index xs ≡ [] = drop_of_length-le xs c.steps-test.false in
+    let walk = subst (IsWalk xs written c.steps.at c.steps.rest.now c.steps.jobs.items) none c.steps.invariant in
+    subst (IsEntry xs written) (sym c.entry-else-is_empty.ensures) (walk_left xs written c.steps.at c.steps.rest.now c.steps.jobs.items walk (sym c.is_empty.ensures ∙ c.if-is_empty.false))

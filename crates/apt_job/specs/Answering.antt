@@ -1,0 +1,13 @@
+-- What `jobs` answers where there are none.
+use Rattle.std.specs.Prelude.{List}
+use Rattle.apt_words.specs.declared.deed.Step.{Step}
+use Rattle.apt_cldata.specs.declared.record.Record.{Record}
+use Rattle.apt_meaning.specs.Situations.{first_situation}
+use Rattle.apt_meaning.specs.Expectations.{FailsAt}
+use Rattle.apt_job.specs.declared.error.JobError.{JobError}
+use Rattle.apt_job.specs.declared.error.JobError.TheVariants as errors
+
+-- the first record that does not answer the steps, or memory ran out
+abbrev pub IsEntry : List Step → List Record → JobError → Type 0
+IsEntry steps written (errors.Entry seq) = FailsAt first_situation 1 steps written seq
+IsEntry steps written errors.NoMemory = Unit {0}

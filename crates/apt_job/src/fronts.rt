@@ -1,0 +1,203 @@
+//! The records in front of a list: whether they are those of a step.
+
+ghost use Rattle.std.specs.Prelude.{◌≡◌, ◌≤◌, [], List, Some, IfSome, IfErr, MatchOption};
+ghost use Rattle.apt_plane.specs.declared.figures.Pt.{Pt};
+ghost use Rattle.apt_meaning.specs.Expectations as expectations;
+ghost use Rattle.apt_meaning.specs.Motions as motions;
+ghost use Rattle.apt_meaning.specs.Straight.{IsStraightMotion, IsLined};
+ghost use Rattle.apt_meaning.specs.declared.effect.Effect.TheVariants as effects;
+ghost use Rattle.apt_job.specs.Fronts.{points_at, is_silent, IsBehind, AreSaid, AreTaken};
+
+use crate::legs::{has_stop, has_track};
+use crate::matches::{are_at, is_check, is_drive, is_note, is_point, is_statement};
+use apt_cldata::{Note, Position, Reach, Record};
+use apt_meaning::{Effect, Motion};
+use apt_words::Step;
+
+/// The vertices of a contour in front, and the records behind what is in front.
+#[derive(Clone, Copy)]
+pub(crate) struct Front<'a> {
+    pub vertices: &'a [Position],
+    pub rest: &'a [Record],
+}
+
+fn statement<'a>(step: &Step, records: &'a [Record]) -> Option<Front<'a>>
+    ensures { IsBehind (expectations.Exactly (Record.Statement step.now.line step.now.step)) records.now result }
+{
+    let [first, rest @ ..] = records else {
+        return None;
+    };
+    if is_statement(step, first) {
+        Some(Front {
+            vertices: &[],
+            rest,
+        })
+    } else {
+        None
+    }
+}
+
+fn note<'a>(note: &Note, records: &'a [Record]) -> Option<Front<'a>>
+    ensures { IsBehind (expectations.Exactly (Record.Note note.now)) records.now result }
+{
+    let [first, rest @ ..] = records else {
+        return None;
+    };
+    if is_note(note, first) {
+        Some(Front {
+            vertices: &[],
+            rest,
+        })
+    } else {
+        None
+    }
+}
+
+fn point<'a>(reach: Reach, to: Position, records: &'a [Record]) -> Option<Front<'a>>
+    ensures { IsBehind (expectations.Exactly (Record.Point reach to)) records.now result }
+{
+    let [first, rest @ ..] = records else {
+        return None;
+    };
+    if is_point(reach, to, first) {
+        Some(Front {
+            vertices: &[],
+            rest,
+        })
+    } else {
+        None
+    }
+}
+
+fn drive<'a>(m: &Motion, records: &'a [Record]) -> Option<Front<'a>>
+    requires { IsStraightMotion m.now }
+    ensures { IsBehind (expectations.exactly_if (motions.has_track m.now) (Record.Drive m.now.drive m.now.side m.now.sense)) records.now result }
+{
+    let [first, rest @ ..] = records else {
+        return None;
+    };
+    if has_track(m) && is_drive(m, first) {
+        Some(Front {
+            vertices: &[],
+            rest,
+        })
+    } else {
+        None
+    }
+}
+
+fn check<'a>(m: &Motion, records: &'a [Record]) -> Option<Front<'a>>
+    requires { IsStraightMotion m.now }
+    ensures { IsBehind (expectations.exactly_if (motions.has_stop m.now) (Record.Check m.now.check m.now.how)) records.now result }
+{
+    let [first, rest @ ..] = records else {
+        return None;
+    };
+    if has_stop(m) && is_check(m, first) {
+        Some(Front {
+            vertices: &[],
+            rest,
+        })
+    } else {
+        None
+    }
+}
+
+/// The vertices of a contour at the height of its start.
+#[tactic(auto, using(crate::proofs::InFront::at_one_height, crate::proofs::InFront::not_one_height))]
+fn vertices_at(start: Position, r: &Record) -> Option<&[Position]>
+    ensures { MatchOption result (¬ ((vertices : List Pt) × expectations.Meets (expectations.VerticesAt start.z) r.now vertices)) (λ ps. expectations.Meets (expectations.VerticesAt start.z) r.now (points_at ps.now)) }
+{
+    match r {
+        Record::Contour(vertices) => {
+            if are_at(start, &vertices.at) {
+                Some(&vertices.at)
+            } else {
+                None
+            }
+        }
+        _ => None,
+    }
+}
+
+fn contour(start: Position, records: &[Record]) -> Option<Front<'_>>
+    ensures { IsBehind (expectations.VerticesAt start.z) records.now result }
+{
+    let [first, rest @ ..] = records else {
+        return None;
+    };
+    match vertices_at(start, first) {
+        Some(vertices) => Some(Front { vertices, rest }),
+        None => None,
+    }
+}
+
+/// The records of a contour.
+#[tactic(auto, using(crate::proofs::InFront::cut_said, crate::proofs::InFront::cut_departs))]
+fn cut<'a>(m: &Motion, records: &'a [Record]) -> Result<Front<'a>, u64>
+    requires { IsStraightMotion m.now }
+    ensures said { AreSaid (Some (effects.Cuts m.now)) records.now result }
+    ensures few { IfErr result (λ k. k ≤ 2) }
+{
+    let Some(behind_drive) = drive(m, records) else {
+        return Err(0);
+    };
+    let Some(behind_check) = check(m, behind_drive.rest) else {
+        return Err(1);
+    };
+    match contour(m.start, behind_check.rest) {
+        Some(front) => Ok(front),
+        None => Err(2),
+    }
+}
+
+/// The records of an effect.
+fn said<'a>(effect: &Option<Effect>, records: &'a [Record]) -> Result<Front<'a>, u64>
+    requires { IfSome effect.now IsLined }
+    ensures said { AreSaid effect.now records.now result }
+    ensures few { IfErr result (λ k. k ≤ 2) }
+{
+    match effect {
+        None => Err(0),
+        Some(Effect::Defines(_, _) | Effect::Sets(_, None)) => Ok(Front {
+            vertices: &[],
+            rest: records,
+        }),
+        Some(Effect::Sets(_, Some(said))) => note(said, records).ok_or(0),
+        Some(Effect::Moves(reach, to)) => point(*reach, *to, records).ok_or(0),
+        Some(Effect::Cuts(m)) => cut(m, records),
+    }
+}
+
+/// Whether an effect has no record.
+fn is_silent(effect: &Option<Effect>) -> bool
+    ensures { result ≡ is_silent effect.now }
+{
+    matches!(effect, Some(Effect::Defines(_, _) | Effect::Sets(_, None)))
+}
+
+/// The records of a step, which begin with its statement; else how many records in front are as they are due.
+#[tactic(auto, using(crate::proofs::InFront::statement_amiss, crate::proofs::InFront::departs_later))]
+pub(crate) fn taken<'a>(
+    step: &Step,
+    effect: &Option<Effect>,
+    records: &'a [Record],
+) -> Result<Front<'a>, u64>
+    requires { IfSome effect.now IsLined }
+    ensures taken { AreTaken step.now effect.now records.now result }
+    ensures few { IfErr result (λ k. k ≤ 3) }
+{
+    if is_silent(effect) {
+        return Ok(Front {
+            vertices: &[],
+            rest: records,
+        });
+    }
+    let Some(behind) = statement(step, records) else {
+        return Err(0);
+    };
+    match said(effect, behind.rest) {
+        Ok(front) => Ok(front),
+        Err(fitting) => Err(fitting + 1),
+    }
+}

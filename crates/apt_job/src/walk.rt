@@ -1,0 +1,121 @@
+//! The walk over steps and records.
+
+ghost use Rattle.std.specs.Prelude.{◌≡◌, ◌+◌, ◌-◌, ◌<◌, ◌≤◌, ◌^◌, ◌++◌, List, length, Ok, IfOk, IfErr, OnOk};
+ghost use Rattle.apt_words.specs.Built.{AreBuiltSteps};
+ghost use Rattle.apt_words.specs.Sources.{AreExecuted};
+ghost use Rattle.apt_scalar.specs.StepScalars.{AreScalars};
+ghost use Rattle.apt_certify.specs.Jobs.{AreJobs, point_count};
+ghost use Rattle.apt_cldata.specs.Ranges.{AreRecords, vertex_count};
+ghost use Rattle.apt_cldata.specs.declared.record.Record.{Record};
+ghost use Rattle.apt_meaning.specs.Compiled.{compilation};
+ghost use Rattle.apt_meaning.specs.Ranges.{IsSituation, IsEffect};
+ghost use Rattle.apt_meaning.specs.Records as written;
+ghost use Rattle.apt_meaning.specs.Situations.{first_situation};
+ghost use Rattle.apt_meaning.specs.Straight.{IsLined};
+ghost use Rattle.apt_meaning.specs.Vertices.{HasIn};
+ghost use Rattle.apt_meaning.specs.declared.effect.Effect.TheVariants as effects;
+ghost use Rattle.apt_job.specs.Answering.{IsEntry};
+ghost use Rattle.apt_job.specs.Fronts.{points_at};
+ghost use Rattle.apt_job.specs.Jobs.{jobs_by, MakesJobs};
+
+use crate::JobError;
+use crate::effects::effect;
+use crate::fronts::taken;
+use crate::legs::job_of;
+use apt_certify::Job;
+use apt_cldata::{Position, Record};
+use apt_meaning::{Effect, Motion, Situation};
+use apt_words::Step;
+use std::alloc::{AllocError, Global};
+
+/// The record behind which records cease to answer steps: so many of `rest` still answer them.
+fn entry(records: &[Record], rest: &[Record], fitting: u64) -> JobError
+    requires part { length rest.now ≤ length records.now }
+    requires few { length records.now < 2 ^ 62 }
+    requires fitting { fitting ≤ 3 }
+    ensures { result ≡ JobError.Entry (((length records.now - length rest.now) + 1) + fitting) }
+{
+    let seq = (records.len() - rest.len()) as u64 + 1;
+    JobError::Entry { seq: seq + fitting }
+}
+
+/// The job of a contour, and what holds behind it.
+fn cut(
+    alloc: Global,
+    jobs: &mut Vec<Job>,
+    at: Situation,
+    motion: &Motion,
+    vertices: &[Position],
+) -> Result<Situation, AllocError>
+    requires motion { IsLined (effects.Cuts motion.now) }
+    requires vertices { HasIn (effects.Cuts motion.now) (points_at vertices.now) }
+    ensures after { IfOk result (λ s. s ≡ written.after at (effects.Cuts motion.now) (points_at vertices.now)) }
+    ensures jobs { OnOk result (jobs.new.items ≡ jobs.old.items ++ jobs_by (effects.Cuts motion.now) (points_at vertices.now)) }
+{
+    let job = job_of(alloc, motion, vertices)?;
+    let behind = at.behind_cut(motion, &job.points.at[1..]);
+    jobs.push(job)?;
+    Ok(behind)
+}
+
+/// The job of an effect that is a contour, and what holds behind it.
+fn take(
+    alloc: Global,
+    jobs: &mut Vec<Job>,
+    mut at: Situation,
+    effect: &Effect,
+    vertices: &[Position],
+) -> Result<Situation, AllocError>
+    requires situation { IsSituation at }
+    requires effect { IsEffect effect.now }
+    requires lined { IsLined effect.now }
+    requires vertices { HasIn effect.now (points_at vertices.now) }
+    ensures after { IfOk result (λ s. s ≡ written.after at effect.now (points_at vertices.now)) }
+    ensures jobs { OnOk result (jobs.new.items ≡ jobs.old.items ++ jobs_by effect.now (points_at vertices.now)) }
+{
+    match effect {
+        Effect::Defines(name, figure) => at.table.set(name.copied(), *figure)?,
+        Effect::Sets(settings, _) => at.settings = *settings,
+        Effect::Moves(reach, to) => at = at.behind_move(*reach, *to),
+        Effect::Cuts(motion) => at = cut(alloc, jobs, at, motion, vertices)?,
+    }
+    Ok(at)
+}
+
+/// The jobs of records that answer steps, whether or not their contours are legal: one for each contour, in order.
+/// It takes time in proportion to the records and steps.
+///
+/// # Errors
+///
+/// `Entry` has the number of the first record that does not answer the steps, from 1.
+pub fn jobs(alloc: Global, steps: &[Step], records: &[Record]) -> Result<Vec<Job>, JobError>
+    requires scalars { AreScalars steps.now }
+    requires built { AreBuiltSteps steps.now }
+    requires sources { AreExecuted steps.now }
+    requires passes { (rs : List Record) × (compilation first_situation steps.now ≡ Ok rs) }
+    requires records { AreRecords records.now }
+    requires few { vertex_count records.now + length records.now < 2 ^ 62 }
+    ensures jobs { IfOk result (λ js. MakesJobs first_situation steps.now records.now js.items) }
+    ensures range { IfOk result (λ js. AreJobs js.items) }
+    ensures few { IfOk result (λ js. point_count js.items < 2 ^ 63) }
+    ensures entry { IfErr result (IsEntry steps.now records.now) }
+{
+    let mut at = Situation::first(alloc);
+    let mut rest = records;
+    let mut jobs = Vec::new(alloc);
+    'steps: for st in steps {
+        let found = effect(&at, &st.deed)?;
+        let front = match taken(st, &found, rest) {
+            Ok(front) => front,
+            Err(fitting) => return Err(entry(records, rest, fitting)),
+        };
+        let Some(found) = &found else { unreachable!() };
+        at = take(alloc, &mut jobs, at, found, front.vertices)?;
+        rest = front.rest;
+    }
+    if rest.is_empty() {
+        Ok(jobs)
+    } else {
+        Err(entry(records, rest, 0))
+    }
+}
