@@ -1,6 +1,6 @@
 //! Parts whose moves are GOTO statements.
 use crate::cl::cl_file;
-use crate::parts::{EMPTY_TAPE, FIRST, FIRST_CL, FIRST_LINE, FIRST_TAPE, PLATE_TAPE};
+use crate::parts::{EMPTY_TAPE, FIRST, FIRST_CL, FIRST_LINES, FIRST_TAPE, PLATE_TAPE};
 use crate::run::{COMPILE, Row, answer, assert_rows, named, rs358, with_part};
 use apt_shelf::{MemSink, SureShelf};
 use std::test::Fail;
@@ -9,20 +9,20 @@ use std::test::Fail;
 const MOVES: [Row; 4] = [
     (
         "PARTNO EMPTY\nFEDRAT/1.5\nFROM/0,0,0\nFINI\n",
-        "DONE 8 RECORDS 2 ACTS 0 SEGMENTS\n",
+        "DONE 8 RECORDS 2 ACTS 0 SEGMENTS\nYES 0 SEGMENTS IN 0 OUT 0\n",
         EMPTY_TAPE,
     ),
     (
         "PARTNO 2\nFEDRAT/999.9\nFROM/-1,.5,500\nGOTO/-1,.5,-500\nGOTO/-0,5.,-.00001\nFINI\n",
-        "DONE 12 RECORDS 4 ACTS 0 SEGMENTS\n",
+        "DONE 12 RECORDS 4 ACTS 0 SEGMENTS\nYES 0 SEGMENTS IN 0 OUT 0\n",
         "%\nN0001G70G90G94\nN0002G01X-00100000Y+00050000Z-50000000F9999\nN0003G01X+00000000Y+00500000Z-00000001F9999\nN0004M02\n",
     ),
     (
         "PARTNO TWICE\nFEDRAT/0.1\nFROM/0,0,0\nGOTO/1,1,0\nGOTO/1,1,0\nFINI\n",
-        "DONE 12 RECORDS 4 ACTS 0 SEGMENTS\n",
+        "DONE 12 RECORDS 4 ACTS 0 SEGMENTS\nYES 0 SEGMENTS IN 0 OUT 0\n",
         "%\nN0001G70G90G94\nN0002G01X+00100000Y+00100000Z+00000000F0001\nN0003G01X+00100000Y+00100000Z+00000000F0001\nN0004M02\n",
     ),
-    (FIRST, FIRST_LINE, FIRST_TAPE),
+    (FIRST, FIRST_LINES, FIRST_TAPE),
 ];
 
 #[test]

@@ -340,9 +340,10 @@ const ACTS: [(Text, &str); 11] = [
     ((237, 0, "M00\n"), "NOT CERTIFIED ACT 7\n"),
 ];
 
-/// A tape that a control runs to the same acts, and those that it can't run.
-const TAPES: [(Text, &str); 14] = [
+/// Tapes that a control runs to the same acts, and those that it can't run.
+const TAPES: [(Text, &str); 15] = [
     ((61, 44, "X00525000\n"), "YES 4 SEGMENTS IN 0 OUT 0\n"),
+    ((246, 0, "%"), "YES 4 SEGMENTS IN 0 OUT 0\n"),
     ((61, 44, "X525000\n"), "BAD TAPE AT 68 BadBlock\n"),
     ((0, 2, ""), "BAD TAPE AT 244 NoStart\n"),
     ((2, 0, "A"), "BAD TAPE AT 2 BadCode\n"),
@@ -355,7 +356,7 @@ const TAPES: [(Text, &str); 14] = [
     ((35, 10, ""), "BAD TAPE AT 50 NoPosition\n"),
     ((55, 5, ""), "BAD TAPE AT 55 NoFeed\n"),
     ((245, 1, ""), "BAD TAPE AT 245 Truncated\n"),
-    ((246, 0, "\n%\nM02\n"), "BAD TAPE AT 249 AfterEnd\n"),
+    ((246, 0, "%M02\n"), "BAD TAPE AT 247 AfterEnd\n"),
 ];
 
 fn assert_tapes<R: Threads + Sync + Abort + AllocGlobal>(

@@ -16,10 +16,11 @@ pub const OLD_CL: &[u8] = b"old cl";
 
 pub const OLD_TAPE: &[u8] = b"old tape";
 
-/// A part, the printed line, and the characters of the tape, none where no tape is written.
+/// A part, the printed lines, and the characters of the tape, none where no tape is written. Where the part is
+/// compiled there is a second line, that of its certificate.
 pub type Row = (&'static str, &'static str, &'static str);
 
-/// A part, as a front, a piece so many times, and an end; the printed line, and the characters of the tape.
+/// A part, as a front, a piece so many times, and an end; the printed lines, and the characters of the tape.
 pub type Long = (
     &'static str,
     usize,
@@ -228,26 +229,26 @@ fn number_of(line: &str) -> u8 {
     }
 }
 
-/// A CL file of as many records as the line says; the old one where the line tells no compilation.
-fn assert_cl<R: Abort + AllocGlobal>(rt: &R, cl: Option<&[u8]>, line: &str) -> Result<(), Fail> {
-    if number_of(line) != 0 {
-        assert_eq!(rt; cl, Some(OLD_CL), "at {line}");
+/// The CL file has as many records as the lines say; the old one stands where they tell no compilation.
+fn assert_cl<R: Abort + AllocGlobal>(rt: &R, cl: &[u8], lines: &str) -> Result<(), Fail> {
+    if number_of(lines) != 0 {
+        assert_eq!(rt; cl, OLD_CL, "at {lines}");
         return Ok(());
     }
-    let count = record_count(cl.ok_or("no CL file")?);
+    let count = record_count(cl);
     let front = format!(in rt.alloc(); "DONE {count} RECORDS ")?;
     assert!(rt;
-        line.as_bytes().starts_with(front.as_bytes()),
-        "{front} at {line}"
+        lines.as_bytes().starts_with(front.as_bytes()),
+        "{front} at {lines}"
     );
     Ok(())
 }
 
-/// The part is answered by this line, and by a tape of these characters.
+/// The part is answered by these lines, and by a tape of these characters. Where it is compiled it is certified too.
 fn assert_row<R: Threads + Sync + Abort + AllocGlobal>(
     rt: &R,
     part: &[u8],
-    line: &str,
+    lines: &str,
     tape: &str,
 ) -> Result<(), Fail> {
     let tape = tape_of(rt.alloc(), tape)?;
@@ -257,20 +258,24 @@ fn assert_row<R: Threads + Sync + Abort + AllocGlobal>(
         kind: Kind::Put,
         call: 0,
     };
-    let ran = run(rt, asked)?;
-    assert_eq!(rt; ran.number, number_of(line), "at {line}");
-    assert_eq!(rt; ran.out.bytes(), line.as_bytes(), "at {line}");
-    assert_eq!(rt; ran.shelf.file("tape"), Some(tape.as_slice()), "at {line}");
-    assert_eq!(rt; ran.shelf.file("part"), Some(part), "at {line}");
-    assert_cl(rt, ran.shelf.file("cl"), line)
+    let mut ran = run(rt, asked)?;
+    assert_eq!(rt; ran.number, number_of(lines), "at {lines}");
+    if ran.number == 0 {
+        let status = answer(rt, &mut ran.shelf, &mut ran.out, CERTIFY)?;
+        assert_eq!(rt; status.number(), 0, "at {lines}");
+    }
+    assert_eq!(rt; ran.out.bytes(), lines.as_bytes(), "at {lines}");
+    assert_eq!(rt; ran.shelf.file("tape"), Some(tape.as_slice()), "at {lines}");
+    assert_eq!(rt; ran.shelf.file("part"), Some(part), "at {lines}");
+    assert_cl(rt, ran.shelf.file("cl").ok_or("no CL file")?, lines)
 }
 
 pub fn assert_rows<R: Threads + Sync + Abort + AllocGlobal>(
     rt: &R,
     rows: &[Row],
 ) -> Result<(), Fail> {
-    for (part, line, tape) in rows {
-        assert_row(rt, part.as_bytes(), line, tape)?;
+    for (part, lines, tape) in rows {
+        assert_row(rt, part.as_bytes(), lines, tape)?;
     }
     Ok(())
 }
@@ -295,9 +300,9 @@ pub fn assert_long<R: Threads + Sync + Abort + AllocGlobal>(
     rt: &R,
     rows: &[Long],
 ) -> Result<(), Fail> {
-    for (front, times, piece, end, line, tape) in rows {
+    for (front, times, piece, end, lines, tape) in rows {
         let part = long_text(rt.alloc(), front, *times, piece, end)?;
-        assert_row(rt, &part, line, tape)?;
+        assert_row(rt, &part, lines, tape)?;
     }
     Ok(())
 }
