@@ -22,4 +22,6 @@ mod run;
 #[cfg(test)]
 mod steps;
 #[cfg(test)]
+mod tolerance;
+#[cfg(test)]
 mod words;

@@ -105,7 +105,7 @@ fn changed_cl(alloc: Global, change: Records) -> Result<Vec<u8>, Fail> {
 }
 
 /// A changed record, and its number.
-const ENTRIES: [(Records, &str); 12] = [
+const ENTRIES: [(Records, &str); 13] = [
     ((1, 1, &[&[2000, 1]]), "NOT CERTIFIED ENTRY 2\n"),
     ((3, 1, &[&[6000, 1, 49_999]]), "NOT CERTIFIED ENTRY 4\n"),
     ((3, 1, &[&[6000, 2, 5000]]), "NOT CERTIFIED ENTRY 4\n"),
@@ -144,6 +144,11 @@ const ENTRIES: [(Records, &str); 12] = [
     (
         (13, 1, &[&[5000, 2, 525_000, -25_000, 50_000]]),
         "NOT CERTIFIED ENTRY 14\n",
+    ),
+    // a first side that ends on the third leaves the second one no stop
+    (
+        (13, 1, &[&[5000, 5, 525_000, 500_000, 50_000]]),
+        "NOT CERTIFIED ENTRY 17\n",
     ),
 ];
 
