@@ -13,7 +13,8 @@ pub fn push_record(alloc: Global, cl: &mut Vec<u8>, seq: i64, words: &[i64]) -> 
     for word in words {
         bytes.extend_from_slice(&word.to_be_bytes())?;
     }
-    cl.extend_from_slice(&(bytes.len() as u32).to_be_bytes())?;
+    let length = u32::try_from(bytes.len()).ok().ok_or("too long")?;
+    cl.extend_from_slice(&length.to_be_bytes())?;
     cl.extend_from_slice(&bytes)?;
     Ok(())
 }
@@ -33,9 +34,12 @@ pub fn cl_file(alloc: Global, records: &[Words]) -> Result<Vec<u8>, Fail> {
 pub fn record_count(cl: &[u8]) -> u64 {
     let mut rest = cl.get(HEAD.len()..).unwrap_or(&[]);
     let mut count: u64 = 0;
-    while let Some(length) = rest.first_chunk::<4>() {
-        let behind = u32::from_be_bytes(*length) as usize;
-        rest = rest[4..].get(behind..).unwrap_or(&[]);
+    for _ in 0..cl.len() {
+        let Some((length, behind)) = rest.split_first_chunk::<4>() else {
+            break;
+        };
+        let words = u32::from_be_bytes(*length) as usize;
+        rest = behind.get(words..).unwrap_or(&[]);
         count = count.wrapping_add(1);
     }
     count

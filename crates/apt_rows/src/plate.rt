@@ -73,9 +73,10 @@ fn changed_bytes_are_judged(rt: HostRuntime) -> Result<(), Fail> {
     Ok(())
 }
 
-/// A place, how many characters of the tape or records of the CL file are left out there, and others in their place.
+/// A place of the tape, how many characters are left out there, and others in their place.
 type Text = (usize, usize, &'static str);
 
+/// A place among the records of the CL file, from 0, how many are left out there, and others in their place.
 type Records = (usize, usize, &'static [Words]);
 
 /// The plate with this CL file, and with its tape changed, is judged by this line.
@@ -104,7 +105,7 @@ fn changed_cl(alloc: Global, change: Records) -> Result<Vec<u8>, Fail> {
     cl_file(alloc, &records)
 }
 
-/// A changed record, and its number.
+/// A changed record, and the line, which tells its number from 1.
 const ENTRIES: [(Records, &str); 13] = [
     ((1, 1, &[&[2000, 1]]), "NOT CERTIFIED ENTRY 2\n"),
     ((3, 1, &[&[6000, 1, 49_999]]), "NOT CERTIFIED ENTRY 4\n"),

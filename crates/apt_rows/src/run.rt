@@ -16,6 +16,8 @@ pub const OLD_CL: &[u8] = b"old cl";
 
 pub const OLD_TAPE: &[u8] = b"old tape";
 
+const MACHINE: &[u8] = b"MACHINE 1\n";
+
 /// A part, the printed lines, and the characters of the tape, none where no tape is written. Where the part is
 /// compiled there is a second line, that of its certificate.
 pub type Row = (&'static str, &'static str, &'static str);
@@ -87,7 +89,7 @@ pub fn named(alloc: Global, files: Files<'_>) -> Result<Vec<(String, Vec<u8>)>, 
     let mut list = Vec::new(alloc);
     for (name, bytes) in [
         ("part", files.part),
-        ("machine", b"MACHINE 1\n".as_slice()),
+        ("machine", MACHINE),
         ("cl", files.cl),
         ("tape", files.tape),
     ] {
@@ -143,7 +145,7 @@ fn run<R: Threads + Sync + Abort + AllocGlobal>(rt: &R, asked: Asked<'_>) -> Res
     })
 }
 
-/// A run shows what it should.
+/// A run shows what it should, and leaves the machine table as it is.
 pub fn assert_shows<R: Threads + Sync + Abort + AllocGlobal>(
     rt: &R,
     asked: Asked<'_>,
@@ -156,6 +158,7 @@ pub fn assert_shows<R: Threads + Sync + Abort + AllocGlobal>(
     assert_eq!(rt; ran.shelf.file("cl"), Some(want.files.cl), "at {line}");
     assert_eq!(rt; ran.shelf.file("tape"), Some(want.files.tape), "at {line}");
     assert_eq!(rt; ran.shelf.file("part"), Some(want.files.part), "at {line}");
+    assert_eq!(rt; ran.shelf.file("machine"), Some(MACHINE), "at {line}");
     Ok(())
 }
 
