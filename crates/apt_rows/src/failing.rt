@@ -25,16 +25,13 @@ fn long_part(alloc: Global) -> Result<Outputs, Fail> {
     push_record(alloc, &mut cl, 5, &[1000, 0, 3, 3])?;
     push_record(alloc, &mut cl, 6, &[5000, 1, 0, 0, 0])?;
     let mut text = Vec::from_slice(alloc, b"%\nN0001G70G90G94\n")?;
+    let mut seq: i64 = 6;
     for k in 2..102 {
         part.extend_from_slice(b"GOTO/1,2,3\n")?;
         let line: i64 = k + 2;
-        push_record(alloc, &mut cl, 2 * line - 1, &[1000, 0, line, line])?;
-        push_record(
-            alloc,
-            &mut cl,
-            2 * line,
-            &[5000, 2, 100_000, 200_000, 300_000],
-        )?;
+        seq = seq.wrapping_add(2);
+        push_record(alloc, &mut cl, seq.wrapping_sub(1), &[1000, 0, line, line])?;
+        push_record(alloc, &mut cl, seq, &[5000, 2, 100_000, 200_000, 300_000])?;
         let block = format!(in alloc; "N{k:04}G01X+00100000Y+00200000Z+00300000F0100\n")?;
         text.extend_from_slice(block.as_bytes())?;
     }
