@@ -1,6 +1,7 @@
 //! Parts whose moves are GOTO statements.
-use crate::parts::{EMPTY_LINE, EMPTY_TAPE, FIRST, FIRST_LINE, FIRST_TAPE, PLATE_TAPE};
-use crate::run::{COMPILE, Row, answer, assert_rows, files_with, rs358};
+use crate::cl::cl_file;
+use crate::parts::{EMPTY_TAPE, FIRST, FIRST_CL, FIRST_LINES, FIRST_TAPE, PLATE_TAPE};
+use crate::run::{COMPILE, Row, answer, assert_rows, named, rs358, with_part};
 use apt_shelf::{MemSink, SureShelf};
 use std::test::Fail;
 
@@ -8,20 +9,20 @@ use std::test::Fail;
 const MOVES: [Row; 4] = [
     (
         "PARTNO EMPTY\nFEDRAT/1.5\nFROM/0,0,0\nFINI\n",
-        EMPTY_LINE,
+        "DONE 8 RECORDS 2 ACTS 0 SEGMENTS\nYES 0 SEGMENTS IN 0 OUT 0\n",
         EMPTY_TAPE,
     ),
     (
         "PARTNO 2\nFEDRAT/999.9\nFROM/-1,.5,500\nGOTO/-1,.5,-500\nGOTO/-0,5.,-.00001\nFINI\n",
-        "DONE 0 RECORDS 4 ACTS 0 SEGMENTS\n",
+        "DONE 12 RECORDS 4 ACTS 0 SEGMENTS\nYES 0 SEGMENTS IN 0 OUT 0\n",
         "%\nN0001G70G90G94\nN0002G01X-00100000Y+00050000Z-50000000F9999\nN0003G01X+00000000Y+00500000Z-00000001F9999\nN0004M02\n",
     ),
     (
         "PARTNO TWICE\nFEDRAT/0.1\nFROM/0,0,0\nGOTO/1,1,0\nGOTO/1,1,0\nFINI\n",
-        "DONE 0 RECORDS 4 ACTS 0 SEGMENTS\n",
+        "DONE 12 RECORDS 4 ACTS 0 SEGMENTS\nYES 0 SEGMENTS IN 0 OUT 0\n",
         "%\nN0001G70G90G94\nN0002G01X+00100000Y+00100000Z+00000000F0001\nN0003G01X+00100000Y+00100000Z+00000000F0001\nN0004M02\n",
     ),
-    (FIRST, FIRST_LINE, FIRST_TAPE),
+    (FIRST, FIRST_LINES, FIRST_TAPE),
 ];
 
 #[test]
@@ -30,14 +31,16 @@ fn moves_follow_the_goto_lines(rt: HostRuntime) -> Result<(), Fail> {
 }
 
 #[test]
-fn a_shelf_that_never_fails_gets_a_tape_of_70_bytes(rt: HostRuntime) -> Result<(), Fail> {
+fn a_shelf_that_never_fails_gets_both_outputs(rt: HostRuntime) -> Result<(), Fail> {
     let alloc = rt.alloc();
-    let mut sure = SureShelf::new(alloc, files_with(alloc, FIRST.as_bytes())?)?;
+    let mut sure = SureShelf::new(alloc, named(alloc, with_part(FIRST.as_bytes()))?)?;
     let mut out = MemSink::new(alloc, Vec::new(alloc));
     let status = answer(&rt, &mut sure, &mut out, COMPILE)?;
+    let cl = cl_file(alloc, &FIRST_CL)?;
     let tape = rs358(alloc, FIRST_TAPE.as_bytes())?;
     assert_eq!(rt; status.number(), 0);
+    assert_eq!(rt; sure.file("cl"), Some(cl.as_slice()));
     assert_eq!(rt; sure.file("tape"), Some(tape.as_slice()));
-    assert_eq!(rt; (tape.len(), PLATE_TAPE.len()), (70, 246));
+    assert_eq!(rt; (cl.len(), tape.len(), PLATE_TAPE.len()), (464, 70, 246));
     Ok(())
 }

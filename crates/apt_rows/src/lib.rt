@@ -2,7 +2,11 @@
 #![tactic(auto)]
 
 #[cfg(test)]
+mod cl;
+#[cfg(test)]
 mod contours;
+#[cfg(test)]
+mod empty;
 #[cfg(test)]
 mod failing;
 #[cfg(test)]
@@ -10,10 +14,14 @@ mod first_run;
 #[cfg(test)]
 mod parts;
 #[cfg(test)]
+mod plate;
+#[cfg(test)]
 mod reading;
 #[cfg(test)]
 mod run;
 #[cfg(test)]
 mod steps;
+#[cfg(test)]
+mod tolerance;
 #[cfg(test)]
 mod words;

@@ -1,5 +1,5 @@
 //! Texts of part programs: their first fault, by its printed line, spellings of one part, and the longest texts.
-use crate::parts::{EMPTY_LINE, EMPTY_TAPE, FIRST, FIRST_LINE, FIRST_TAPE};
+use crate::parts::{EMPTY_TAPE, FIRST, FIRST_LINES, FIRST_TAPE};
 use crate::run::{Long, Row, assert_long, assert_rows};
 use std::test::Fail;
 
@@ -103,50 +103,50 @@ fn the_first_fault_of_a_text_is_told(rt: HostRuntime) -> Result<(), Fail> {
 /// The first part in other spellings: ends of lines, blanks and tabs, small letters, comments, a statement
 /// that goes on, text behind FINI, and numbers as expressions.
 const SPELLINGS: [Row; 10] = [
-    (FIRST, FIRST_LINE, FIRST_TAPE),
+    (FIRST, FIRST_LINES, FIRST_TAPE),
     (
         "PARTNO FIRST\r\nFEDRAT/10\r\nFROM/0,0,0\r\nGOTO/1,2,3\r\nFINI\r\n",
-        FIRST_LINE,
+        FIRST_LINES,
         FIRST_TAPE,
     ),
     (
         "PARTNO FIRST\nFEDRAT/10\nFROM/0,0,0\nGOTO/1,2,3\nFINI",
-        FIRST_LINE,
+        FIRST_LINES,
         FIRST_TAPE,
     ),
     (
         "\tPARTNO\tFIRST\n\n FEDRAT /\t10\n\tFROM / 0 , 0 , 0\nGOTO/1, 2,3 \n\t\nFINI \n",
-        FIRST_LINE,
+        FIRST_LINES,
         FIRST_TAPE,
     ),
     (
         "partno first\nfedrat/10\nfrom/0,0,0\ngoto/1,2,3\nfini\n",
-        FIRST_LINE,
+        FIRST_LINES,
         FIRST_TAPE,
     ),
     (
         "$$ the first part\nPARTNO FIRST\nFEDRAT/10 $$ feed\nFROM/0,0,0\nGOTO/1,2,3\nFINI\n",
-        FIRST_LINE,
+        FIRST_LINES,
         FIRST_TAPE,
     ),
     (
         "PARTNO FIRST\nFEDRAT/10\nFROM/0,0,0\nGOTO/1, $ the rest follows\n$$ later\n\n 2 $\n,3\nFINI\n",
-        FIRST_LINE,
+        FIRST_LINES,
         FIRST_TAPE,
     ),
     (
         "PARTNO FIRST\nFEDRAT/10\nFROM/0,0,0\nGOTO/1,2,3\nFINI\nGOTO/\u{1}1.2.3 LONGNAME\n",
-        FIRST_LINE,
+        FIRST_LINES,
         FIRST_TAPE,
     ),
     (
         "PARTNO FIRST\nA=1\nB=A+A\nFEDRAT/5*B\nLA)FROM/0,A-A\nGOTO/B-A,SQRTF(4),ABSF(-3)\nFINI\n",
-        FIRST_LINE,
+        FIRST_LINES,
         FIRST_TAPE,
     ),
     (
         "PARTNO $$ 1\nCLPRNT\nNOPOST\nMACHIN/1,2*3\nREMARK $ no comment\nCUTTER/1\nINTOL/.0005\nFEDRAT/10\nFROM/0,0\nGOTO/1,2,3\nFINI\n",
-        FIRST_LINE,
+        "DONE 14 RECORDS 3 ACTS 0 SEGMENTS\nYES 0 SEGMENTS IN 0 OUT 0\n",
         FIRST_TAPE,
     ),
 ];
@@ -156,10 +156,20 @@ fn spellings_of_one_part_give_one_tape(rt: HostRuntime) -> Result<(), Fail> {
     assert_rows(&rt, &SPELLINGS)
 }
 
+/// The line of the empty part.
+const EMPTY_LINES: &str = "DONE 4 RECORDS 2 ACTS 0 SEGMENTS\nYES 0 SEGMENTS IN 0 OUT 0\n";
+
 /// Lines of 256 and 257 bytes, texts of 50,000 and 50,001 lines, and of 4 MiB and one byte more.
 const LONG: [Long; 9] = [
-    ("PARTNO\n$$", 254, "x", "\nFINI\n", EMPTY_LINE, EMPTY_TAPE),
-    ("PARTNO\n$$", 254, "x", "\r\nFINI\n", EMPTY_LINE, EMPTY_TAPE),
+    ("PARTNO\n$$", 254, "x", "\nFINI\n", EMPTY_LINES, EMPTY_TAPE),
+    (
+        "PARTNO\n$$",
+        254,
+        "x",
+        "\r\nFINI\n",
+        EMPTY_LINES,
+        EMPTY_TAPE,
+    ),
     (
         "PARTNO\n$$",
         255,
@@ -176,8 +186,8 @@ const LONG: [Long; 9] = [
         "BAD PART LINE 2 LineTooLong\n",
         "",
     ),
-    ("PARTNO\n", 49_998, "\n", "FINI", EMPTY_LINE, EMPTY_TAPE),
-    ("PARTNO\n", 49_998, "\n", "FINI\n", EMPTY_LINE, EMPTY_TAPE),
+    ("PARTNO\n", 49_998, "\n", "FINI", EMPTY_LINES, EMPTY_TAPE),
+    ("PARTNO\n", 49_998, "\n", "FINI\n", EMPTY_LINES, EMPTY_TAPE),
     (
         "PARTNO\n",
         49_998,
@@ -186,7 +196,7 @@ const LONG: [Long; 9] = [
         "BAD PART LINE 50001 TooManyLines\n",
         "",
     ),
-    (FIRST, 4_194_254, "\n", "", FIRST_LINE, FIRST_TAPE),
+    (FIRST, 4_194_254, "\n", "", FIRST_LINES, FIRST_TAPE),
     (FIRST, 4_194_255, "\n", "", "TOO LONG part\n", ""),
 ];
 

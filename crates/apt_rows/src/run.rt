@@ -1,4 +1,5 @@
 //! A run over files in memory, for tests.
+use crate::cl::record_count;
 use apt_core::{Status, apt};
 use apt_shelf::{FailList, MemShelf, MemSink, Shelf};
 use std::alloc::{AllocGlobal, Global};
@@ -8,29 +9,25 @@ use std::thread::Threads;
 
 pub const COMPILE: &str = "compile part machine cl tape";
 
-/// What stands under the name `tape` before each run.
+pub const CERTIFY: &str = "certify part machine cl tape";
+
+/// What stands under the names `cl` and `tape` before a part is compiled.
+pub const OLD_CL: &[u8] = b"old cl";
+
 pub const OLD_TAPE: &[u8] = b"old tape";
 
-/// A part, the printed line, and the characters of the tape, none where no tape is written.
+const MACHINE: &[u8] = b"MACHINE 1\n";
+
+/// A part, the printed lines, and the characters of the tape, none where no tape is written. Where the part is
+/// compiled there is a second line, that of its certificate.
 pub type Row = (&'static str, &'static str, &'static str);
 
-/// A part, as a front, a piece so many times, and an end; the printed line, and the characters of the tape.
+/// A part, as a front, a piece so many times, and an end; the printed lines, and the characters of the tape.
 pub type Long = (
     &'static str,
     usize,
     &'static str,
     &'static str,
-    &'static str,
-    &'static str,
-);
-
-/// Words, a part, the call that fails, the status number, what is printed, and the characters of the tape.
-pub type Run = (
-    &'static str,
-    &'static str,
-    Kind,
-    u64,
-    u8,
     &'static str,
     &'static str,
 );
@@ -45,38 +42,63 @@ pub enum Kind {
     Put,
 }
 
-/// A run: the words, parted by blanks, the part, and the call that fails, by its number from 1.
+/// The bytes under the names `part`, `cl` and `tape`.
+#[derive(Clone, Copy)]
+pub struct Files<'a> {
+    pub part: &'a [u8],
+    pub cl: &'a [u8],
+    pub tape: &'a [u8],
+}
+
+/// A run: the words, parted by blanks, the files, and the call that fails, by its number from 1.
 #[derive(Clone, Copy)]
 pub struct Asked<'a> {
     pub words: &'a str,
-    pub part: &'a [u8],
+    pub files: Files<'a>,
     pub kind: Kind,
     pub call: u64,
 }
 
-/// What it shows: the status number, what is printed, and the bytes under the name `tape`.
+/// What it shows: the status number, what is printed, and the files behind it.
 #[derive(Clone, Copy)]
 pub struct Shown<'a> {
     pub number: u8,
     pub line: &'a str,
-    pub tape: &'a [u8],
+    pub files: Files<'a>,
 }
 
-/// The part under the name `part`, a machine table, and old outputs.
-pub fn files_with(alloc: Global, part: &[u8]) -> Result<Vec<(String, Vec<u8>)>, Fail> {
-    let mut files = Vec::new(alloc);
+/// What a run comes to.
+#[derive(Drop)]
+pub struct Ran {
+    pub number: u8,
+    pub shelf: MemShelf,
+    pub out: MemSink,
+}
+
+/// A part and old outputs.
+pub fn with_part(part: &[u8]) -> Files<'_> {
+    Files {
+        part,
+        cl: OLD_CL,
+        tape: OLD_TAPE,
+    }
+}
+
+/// The files, and a machine table.
+pub fn named(alloc: Global, files: Files<'_>) -> Result<Vec<(String, Vec<u8>)>, Fail> {
+    let mut list = Vec::new(alloc);
     for (name, bytes) in [
-        ("part", part),
-        ("machine", b"MACHINE 1\n".as_slice()),
-        ("cl", b"old cl".as_slice()),
-        ("tape", OLD_TAPE),
+        ("part", files.part),
+        ("machine", MACHINE),
+        ("cl", files.cl),
+        ("tape", files.tape),
     ] {
-        files.push((
+        list.push((
             String::from_str(alloc, name)?,
             Vec::from_slice(alloc, bytes)?,
         ))?;
     }
-    Ok(files)
+    Ok(list)
 }
 
 /// The calls that fail, on the shelf and on the sink.
@@ -109,24 +131,55 @@ pub fn answer<R: Threads + Sync + Abort + AllocGlobal, H: Shelf>(
     Ok(apt(rt, alloc, &list, shelf, out))
 }
 
-/// A run shows what it should. All names but `tape` hold what they held.
+/// The run that is asked for.
+fn run<R: Threads + Sync + Abort + AllocGlobal>(rt: &R, asked: Asked<'_>) -> Result<Ran, Fail> {
+    let alloc = rt.alloc();
+    let (fail, puts) = failing(alloc, asked.kind, asked.call)?;
+    let mut shelf = MemShelf::new(alloc, named(alloc, asked.files)?, fail)?;
+    let mut out = MemSink::new(alloc, puts);
+    let status = answer(rt, &mut shelf, &mut out, asked.words)?;
+    Ok(Ran {
+        number: status.number(),
+        shelf,
+        out,
+    })
+}
+
+/// A run shows what it should, and leaves the machine table as it is.
 pub fn assert_shows<R: Threads + Sync + Abort + AllocGlobal>(
     rt: &R,
     asked: Asked<'_>,
     want: Shown<'_>,
 ) -> Result<(), Fail> {
-    let alloc = rt.alloc();
-    let (fail, puts) = failing(alloc, asked.kind, asked.call)?;
-    let mut shelf = MemShelf::new(alloc, files_with(alloc, asked.part)?, fail)?;
-    let mut out = MemSink::new(alloc, puts);
-    let status = answer(rt, &mut shelf, &mut out, asked.words)?;
+    let ran = run(rt, asked)?;
     let line = want.line;
-    assert_eq!(rt; status.number(), want.number, "at {line}");
-    assert_eq!(rt; out.bytes(), line.as_bytes(), "at {line}");
-    assert_eq!(rt; shelf.file("tape"), Some(want.tape), "at {line}");
-    assert_eq!(rt; shelf.file("cl"), Some(b"old cl".as_slice()), "at {line}");
-    assert_eq!(rt; shelf.file("part"), Some(asked.part), "at {line}");
+    assert_eq!(rt; ran.number, want.number, "at {line}");
+    assert_eq!(rt; ran.out.bytes(), line.as_bytes(), "at {line}");
+    assert_eq!(rt; ran.shelf.file("cl"), Some(want.files.cl), "at {line}");
+    assert_eq!(rt; ran.shelf.file("tape"), Some(want.files.tape), "at {line}");
+    assert_eq!(rt; ran.shelf.file("part"), Some(want.files.part), "at {line}");
+    assert_eq!(rt; ran.shelf.file("machine"), Some(MACHINE), "at {line}");
     Ok(())
+}
+
+/// The files are judged by this line, and stay as they are.
+pub fn assert_judged<R: Threads + Sync + Abort + AllocGlobal>(
+    rt: &R,
+    files: Files<'_>,
+    line: &str,
+) -> Result<(), Fail> {
+    let asked = Asked {
+        words: CERTIFY,
+        files,
+        kind: Kind::Put,
+        call: 0,
+    };
+    let want = Shown {
+        number: number_of(line),
+        line,
+        files,
+    };
+    assert_shows(rt, asked, want)
 }
 
 /// The bytes of a text in RS-358: ASCII with even parity in track 8.
@@ -150,44 +203,82 @@ fn tape_of(alloc: Global, text: &str) -> Result<Vec<u8>, Fail> {
     rs358(alloc, text.as_bytes())
 }
 
+/// A list with others in place of so many from a place on.
+pub fn spliced<T: Copy>(
+    alloc: Global,
+    list: &[T],
+    at: usize,
+    gone: usize,
+    put: &[T],
+) -> Result<Vec<T>, Fail> {
+    let mut new = Vec::from_slice(alloc, list.get(..at).ok_or("front")?)?;
+    new.extend_from_slice(put)?;
+    let behind = list.get(at..).ok_or("place")?;
+    new.extend_from_slice(behind.get(gone..).ok_or("behind")?)?;
+    Ok(new)
+}
+
 /// The status number of the answer that is told by a line.
 fn number_of(line: &str) -> u8 {
     match line.as_bytes() {
-        [b'D', ..] => 0,
+        [b'D' | b'Y', ..] => 0,
+        [b'M', ..] => 2,
         [b'T', ..] => 4,
-        [b'B', ..] => 6,
+        [b'B', _, _, _, b'P', ..] => 6,
+        [b'B', _, _, _, b'C', ..] => 8,
+        [b'B', ..] => 9,
+        [b'N', ..] => 10,
         _ => 7,
     }
 }
 
-/// The part is answered by this line, and by a tape of these characters.
+/// The CL file has as many records as the lines say; the old one stands where they tell no compilation.
+fn assert_cl<R: Abort + AllocGlobal>(rt: &R, cl: &[u8], lines: &str) -> Result<(), Fail> {
+    if number_of(lines) != 0 {
+        assert_eq!(rt; cl, OLD_CL, "at {lines}");
+        return Ok(());
+    }
+    let count = record_count(cl);
+    let front = format!(in rt.alloc(); "DONE {count} RECORDS ")?;
+    assert!(rt;
+        lines.as_bytes().starts_with(front.as_bytes()),
+        "{front} at {lines}"
+    );
+    Ok(())
+}
+
+/// The part is answered by these lines, and by a tape of these characters. Where it is compiled it is certified too.
 fn assert_row<R: Threads + Sync + Abort + AllocGlobal>(
     rt: &R,
     part: &[u8],
-    line: &str,
+    lines: &str,
     tape: &str,
 ) -> Result<(), Fail> {
     let tape = tape_of(rt.alloc(), tape)?;
     let asked = Asked {
         words: COMPILE,
-        part,
+        files: with_part(part),
         kind: Kind::Put,
         call: 0,
     };
-    let want = Shown {
-        number: number_of(line),
-        line,
-        tape: &tape,
-    };
-    assert_shows(rt, asked, want)
+    let mut ran = run(rt, asked)?;
+    assert_eq!(rt; ran.number, number_of(lines), "at {lines}");
+    if ran.number == 0 {
+        let status = answer(rt, &mut ran.shelf, &mut ran.out, CERTIFY)?;
+        assert_eq!(rt; status.number(), 0, "at {lines}");
+    }
+    assert_eq!(rt; ran.out.bytes(), lines.as_bytes(), "at {lines}");
+    assert_eq!(rt; ran.shelf.file("tape"), Some(tape.as_slice()), "at {lines}");
+    assert_eq!(rt; ran.shelf.file("part"), Some(part), "at {lines}");
+    assert_cl(rt, ran.shelf.file("cl").ok_or("no CL file")?, lines)
 }
 
 pub fn assert_rows<R: Threads + Sync + Abort + AllocGlobal>(
     rt: &R,
     rows: &[Row],
 ) -> Result<(), Fail> {
-    for (part, line, tape) in rows {
-        assert_row(rt, part.as_bytes(), line, tape)?;
+    for (part, lines, tape) in rows {
+        assert_row(rt, part.as_bytes(), lines, tape)?;
     }
     Ok(())
 }
@@ -212,31 +303,9 @@ pub fn assert_long<R: Threads + Sync + Abort + AllocGlobal>(
     rt: &R,
     rows: &[Long],
 ) -> Result<(), Fail> {
-    for (front, times, piece, end, line, tape) in rows {
+    for (front, times, piece, end, lines, tape) in rows {
         let part = long_text(rt.alloc(), front, *times, piece, end)?;
-        assert_row(rt, &part, line, tape)?;
-    }
-    Ok(())
-}
-
-pub fn assert_runs<R: Threads + Sync + Abort + AllocGlobal>(
-    rt: &R,
-    rows: &[Run],
-) -> Result<(), Fail> {
-    for (words, part, kind, call, number, line, tape) in rows {
-        let tape = tape_of(rt.alloc(), tape)?;
-        let asked = Asked {
-            words,
-            part: part.as_bytes(),
-            kind: *kind,
-            call: *call,
-        };
-        let want = Shown {
-            number: *number,
-            line,
-            tape: &tape,
-        };
-        assert_shows(rt, asked, want)?;
+        assert_row(rt, &part, lines, tape)?;
     }
     Ok(())
 }

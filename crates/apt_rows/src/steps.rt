@@ -1,5 +1,5 @@
 //! Steps of part programs: their refusals, by the printed line, and their tapes.
-use crate::parts::{PLATE, PLATE_BY_DEFAULT, PLATE_LINE, PLATE_TAPE};
+use crate::parts::{PLATE, PLATE_BY_DEFAULT, PLATE_TAPE};
 use crate::run::{Row, assert_rows};
 use std::test::Fail;
 
@@ -229,43 +229,47 @@ fn the_first_refused_step_is_told(rt: HostRuntime) -> Result<(), Fail> {
 const TAPES: [Row; 8] = [
     (
         "PARTNO\nFINI\n",
-        "DONE 0 RECORDS 2 ACTS 0 SEGMENTS\n",
+        "DONE 4 RECORDS 2 ACTS 0 SEGMENTS\nYES 0 SEGMENTS IN 0 OUT 0\n",
         "%\nN0001G70G90G94\nN0002M02\n",
     ),
     // END gives the end, and FINI gives no other
     (
         "PARTNO\nUNITS/MM\nFEDRAT/.1\nFROM/0,0\nRAPID\nGODLTA/1,2,-.5\nGOTO/1,2\nEND\nFINI\n",
-        "DONE 0 RECORDS 4 ACTS 0 SEGMENTS\n",
+        "DONE 18 RECORDS 4 ACTS 0 SEGMENTS\nYES 0 SEGMENTS IN 0 OUT 0\n",
         "%\nN0001G71G90G94\nN0002G00X+00010000Y+00020000Z-00005000\nN0003G01X+00010000Y+00020000Z+00000000F0001\nN0004M02\n",
     ),
     // values are rounded to millionths, and lengths to grid units, a half away from zero
     (
         "PARTNO\nFEDRAT/999.94\nGOTO/2/3,SQRTF(2),-.000001*.5\nGOTO/.000005,-.000005,.000004\nFINI\n",
-        "DONE 0 RECORDS 4 ACTS 0 SEGMENTS\n",
+        "DONE 10 RECORDS 4 ACTS 0 SEGMENTS\nYES 0 SEGMENTS IN 0 OUT 0\n",
         "%\nN0001G70G90G94\nN0002G01X+00066667Y+00141421Z+00000000F9999\nN0003G01X+00000001Y-00000001Z+00000000F9999\nN0004M02\n",
     ),
     // RAPID holds for one move, and a pending one needs no feed
     (
         "PARTNO\nRAPID\nGOTO/1,2,3\nSTOP\nOPSTOP\nFEDRAT/.05\nRAPID\nRAPID\nGOTO/1,2,3\nGOTO/1,2,3\nFINI\n",
-        "DONE 0 RECORDS 7 ACTS 0 SEGMENTS\n",
+        "DONE 22 RECORDS 7 ACTS 0 SEGMENTS\nYES 0 SEGMENTS IN 0 OUT 0\n",
         "%\nN0001G70G90G94\nN0002G00X+00100000Y+00200000Z+00300000\nN0003M00\nN0004M01\nN0005G00X+00100000Y+00200000Z+00300000\nN0006G01X+00100000Y+00200000Z+00300000F0001\nN0007M02\n",
     ),
     // the latest value of a name counts, and a name may come to stand for another kind
     (
         "PARTNO\nA=1\nA=A+1\nFEDRAT/A\nGOTO/A,-A*A-A,A/4\nA=LINE/0,0,1,0\nFINI\n",
-        "DONE 0 RECORDS 3 ACTS 0 SEGMENTS\n",
+        "DONE 8 RECORDS 3 ACTS 0 SEGMENTS\nYES 0 SEGMENTS IN 0 OUT 0\n",
         "%\nN0001G70G90G94\nN0002G01X+00200000Y-00600000Z+00050000F0020\nN0003M02\n",
     ),
-    (PLATE, "DONE 0 RECORDS 7 ACTS 4 SEGMENTS\n", PLATE_TAPE),
+    (
+        PLATE,
+        "DONE 28 RECORDS 7 ACTS 4 SEGMENTS\nYES 4 SEGMENTS IN 0 OUT 0\n",
+        PLATE_TAPE,
+    ),
     (
         PLATE_BY_DEFAULT,
-        "DONE 0 RECORDS 7 ACTS 4 SEGMENTS\n",
+        "DONE 30 RECORDS 7 ACTS 4 SEGMENTS\nYES 4 SEGMENTS IN 0 OUT 0\n",
         PLATE_TAPE,
     ),
     // the greatest lengths
     (
         "PARTNO\nCUTTER/10\nINTOL/.1\nOUTTOL/.1\nFEDRAT/1\nFROM/-500,-500,-500\nGODLTA/1000,1000,1000\nFINI\n",
-        "DONE 0 RECORDS 3 ACTS 0 SEGMENTS\n",
+        "DONE 16 RECORDS 3 ACTS 0 SEGMENTS\nYES 0 SEGMENTS IN 0 OUT 0\n",
         "%\nN0001G70G90G94\nN0002G01X+50000000Y+50000000Z+50000000F0010\nN0003M02\n",
     ),
 ];
@@ -275,21 +279,24 @@ fn steps_give_their_blocks(rt: HostRuntime) -> Result<(), Fail> {
     assert_rows(&rt, &TAPES)
 }
 
+const PLATE_WITH_TOLERANCE_LINES: &str =
+    "DONE 30 RECORDS 7 ACTS 4 SEGMENTS\nYES 4 SEGMENTS IN 0 OUT 0\n";
+
 /// The square plate with a tolerance: one grid step is enough.
 const TOLERANCES: [Row; 5] = [
     (
         "PARTNO SQUARE\nCUTTER/.5\nOUTTOL/.00008\nL1=LINE/0,0,5,0\nL2=LINE/5,0,5,5\nL3=LINE/5,5,0,5\nL4=LINE/0,5,0,0\nFEDRAT/10\nFROM/-1,-1,.5\nGO/TO,L1,TO,L4\nTLRGT\nGORGT/L1,PAST,L2\nGOLFT/L2,PAST,L3\nGOLFT/L3,PAST,L4\nGOLFT/L4,PAST,L1\nFINI\n",
-        PLATE_LINE,
+        PLATE_WITH_TOLERANCE_LINES,
         PLATE_TAPE,
     ),
     (
         "PARTNO SQUARE\nCUTTER/.5\nL1=LINE/0,0,5,0\nL2=LINE/5,0,5,5\nL3=LINE/5,5,0,5\nL4=LINE/0,5,0,0\nFEDRAT/10\nFROM/-1,-1,.5\nGO/TO,L1,TO,L4\nTLRGT\nGORGT/L1,PAST,L2\nGOLFT/L2,PAST,L3\nOUTTOL/.001\nGOLFT/L3,PAST,L4\nGOLFT/L4,PAST,L1\nFINI\n",
-        PLATE_LINE,
+        PLATE_WITH_TOLERANCE_LINES,
         PLATE_TAPE,
     ),
     (
         "PARTNO SQUARE\nCUTTER/.5\nL1=LINE/0,0,5,0\nL2=LINE/5,0,5,5\nL3=LINE/5,5,0,5\nL4=LINE/0,5,0,0\nFEDRAT/10\nINTOL/.0001\nFROM/-1,-1,.5\nGO/TO,L1,TO,L4\nTLRGT\nGORGT/L1,PAST,L2\nGOLFT/L2,PAST,L3\nGOLFT/L3,PAST,L4\nGOLFT/L4,PAST,L1\nFINI\n",
-        PLATE_LINE,
+        PLATE_WITH_TOLERANCE_LINES,
         PLATE_TAPE,
     ),
     (
