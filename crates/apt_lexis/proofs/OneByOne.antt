@@ -1,16 +1,18 @@
 -- The tokens of a text, one after another.
-use Rattle.std.proofs.Common.{◌≡◌, ℕ, ◌+◌, ◌<◌, ◌≤◌, List, [], ◌∷◌, ◌++◌, length, take, drop, Bool, true, false, ap, ◌∙◌, sym, refl, arith, cond, subst, append_assoc, append-nil}
+use Rattle.std.proofs.Common.{◌≡◌, ℕ, ◌+◌, ◌<◌, List, [], ◌∷◌, ◌++◌, length, take, drop, Bool, true, false, ap, ◌∙◌, sym, refl, arith, cond, subst, append_assoc, append-nil}
 use Rattle.std.specs.Prelude.{◌||◌, Ok, Err}
-use Rattle.std.specs.List.{prefix_len, flat_map}
+use Rattle.std.specs.List.{prefix_len, take_while, flat_map}
 use Rattle.std.proofs.lemmas.Grind.{common_steps}
 use Rattle.std.proofs.lemmas.Bool.Decides.{nat_tests}
-use Rattle.std.proofs.lemmas.List.Sums.{prefix_len-le-length}
-use Rattle.apt_lexis.specs.declared.cause.PartCause.{PartCause}
 use Rattle.apt_lexis.specs.declared.token.Token.{Token}
 use Rattle.apt_lexis.specs.Lines.{in_front}
-use Rattle.apt_lexis.specs.Tokens.{Tokens, is_blank, is_letter, is_letter_or_digit, is_in_run, runs, tokens_of_run, word, number, number_behind, mark, all_good, in_front_of}
+use Rattle.apt_lexis.specs.Tokens.{Read, Tokens, tokens_of, is_blank, is_letter, is_letter_or_digit, is_in_run, runs, tokens_of_run, word, number, number_behind, mark, all_good, in_front_of}
+use Rattle.apt_lexis.specs.Titles.{behind}
 use Rattle.apt_lexis.specs.Sentences.{joined}
-use Rattle.apt_lexis.specs.TokenFronts.{reads_of, behind_blanks, first_length, first_of, behind_first, read_of}
+use Rattle.apt_lexis.proofs.Splitting.{take_one_more}
+
+abbrev reads_of : List ℕ → List Read
+reads_of text = flat_map tokens_of_run (runs text)
 
 -- ---- characters
 
@@ -41,9 +43,6 @@ prefix_yes test b bs e = rw e refl
 prefix_no : (test : ℕ → Bool) (b : ℕ) (bs : List ℕ) → test b ≡ false → prefix_len test (b ∷ bs) ≡ 0
 prefix_no test b bs e = rw e refl
 
-take_one_more : (i b : ℕ) (bs : List ℕ) → take (1 + i) (b ∷ bs) ≡ b ∷ take i bs
-take_one_more i b bs = grind (arith, common_steps)
-
 drop_one_more : (i b : ℕ) (bs : List ℕ) → drop (1 + i) (b ∷ bs) ≡ drop i bs
 drop_one_more i b bs = grind (arith, common_steps)
 
@@ -52,36 +51,11 @@ drop_one_more i b bs = grind (arith, common_steps)
 reads_blank : (b : ℕ) (bs : List ℕ) → is_blank b ≡ true → reads_of (b ∷ bs) ≡ reads_of bs
 reads_blank b bs e = rw (no_run_of_blank b e, e) refl
 
-pub reads_behind_blanks : (text : List ℕ) → reads_of (behind_blanks text) ≡ reads_of text
+reads_behind_blanks : (text : List ℕ) → reads_of (behind is_blank text) ≡ reads_of text
 reads_behind_blanks [] = refl
 reads_behind_blanks (b ∷ bs) = elim (is_blank b) as (λ t. is_blank b ≡ t → reads_of (drop (cond t (1 + prefix_len is_blank bs) 0) (b ∷ bs)) ≡ reads_of (b ∷ bs)) [
   | true ↦ λ e. rw (drop_one_more (prefix_len is_blank bs) b bs) (reads_behind_blanks bs ∙ sym (reads_blank b bs e))
   | false ↦ λ e. refl
-] refl
-
--- ---- the first token
-
-pub first_short : (text : List ℕ) → 0 < length text → first_length text ≤ length text
-first_short [] h = omega arith
-first_short (b ∷ bs) h = elim (is_letter b) as (λ t. cond t (prefix_len is_letter_or_digit (b ∷ bs)) (cond (is_in_run b) (prefix_len is_in_run (b ∷ bs)) 1) ≤ length (b ∷ bs)) [
-  | true ↦ prefix_len-le-length is_letter_or_digit (b ∷ bs)
-  | false ↦ elim (is_in_run b) as (λ t. cond t (prefix_len is_in_run (b ∷ bs)) 1 ≤ length (b ∷ bs)) [
-    | true ↦ prefix_len-le-length is_in_run (b ∷ bs)
-    | false ↦ omega arith
-  ]
-]
-
-some_front : (test : ℕ → Bool) (b : ℕ) (bs : List ℕ) → test b ≡ true → 0 < prefix_len test (b ∷ bs)
-some_front test b bs e = rw e (omega arith)
-
-pub first_some : (text : List ℕ) → 0 < length text → 0 < first_length text
-first_some [] h = omega arith
-first_some (b ∷ bs) h = elim (is_letter b) as (λ t. is_letter b ≡ t → 0 < cond t (prefix_len is_letter_or_digit (b ∷ bs)) (cond (is_in_run b) (prefix_len is_in_run (b ∷ bs)) 1)) [
-  | true ↦ λ e. some_front is_letter_or_digit b bs (letter_or_digit_of_letter b e)
-  | false ↦ λ _. elim (is_in_run b) as (λ t. is_in_run b ≡ t → 0 < cond t (prefix_len is_in_run (b ∷ bs)) 1) [
-    | true ↦ λ e. some_front is_in_run b bs e
-    | false ↦ λ _. omega arith
-  ] refl
 ] refl
 
 -- ---- runs
@@ -91,7 +65,7 @@ runs_begun : (b : ℕ) (bs : List ℕ) → is_in_run b ≡ true → runs (b ∷ 
 runs_begun b [] e = rw e refl
 runs_begun b (c ∷ cs) e = elim (is_in_run c) as (λ t. is_in_run c ≡ t → runs (b ∷ c ∷ cs) ≡ take (prefix_len is_in_run (b ∷ c ∷ cs)) (b ∷ c ∷ cs) ∷ runs (drop (prefix_len is_in_run (b ∷ c ∷ cs)) (b ∷ c ∷ cs))) [
   | true ↦ λ f.
-      rw (prefix_yes is_in_run b (c ∷ cs) e, take_one_more (prefix_len is_in_run (c ∷ cs)) b (c ∷ cs), drop_one_more (prefix_len is_in_run (c ∷ cs)) b (c ∷ cs))
+      rw (prefix_yes is_in_run b (c ∷ cs) e, take_one_more b (prefix_len is_in_run (c ∷ cs)) (c ∷ cs), drop_one_more (prefix_len is_in_run (c ∷ cs)) b (c ∷ cs))
       (runs_longer b c cs e f ∙ ap (in_front b) (runs_begun c cs f))
   | false ↦ λ f. rw (prefix_yes is_in_run b (c ∷ cs) e, prefix_no is_in_run c cs f) (runs_ended b c cs e f)
 ] refl
@@ -139,7 +113,7 @@ reads_mark b bs e f =
 -- ---- a number
 
 take_front : (test : ℕ → Bool) (b : ℕ) (bs : List ℕ) → test b ≡ true → take (prefix_len test (b ∷ bs)) (b ∷ bs) ≡ b ∷ take (prefix_len test bs) bs
-take_front test b bs e = rw (prefix_yes test b bs e) (take_one_more (prefix_len test bs) b bs)
+take_front test b bs e = rw (prefix_yes test b bs e) (take_one_more b (prefix_len test bs) bs)
 
 number_alone : (b : ℕ) (bs : List ℕ) → is_letter b ≡ false → is_in_run b ≡ true → tokens_of_run (b ∷ bs) ≡ number (b ∷ bs) ∷ []
 number_alone b bs e f = choose_second (is_letter b) (is_in_run b) _ _ _ e f
@@ -167,7 +141,7 @@ inner_length p q (b ∷ bs) h = elim (p b) as (λ t. p b ≡ t → prefix_len p 
 inner_front : (p q : ℕ → Bool) (text : List ℕ) → ((b : ℕ) → p b ≡ true → q b ≡ true) → take (prefix_len p text) (take (prefix_len q text) text) ≡ take (prefix_len p text) text
 inner_front p q [] h = refl
 inner_front p q (b ∷ bs) h = elim (p b) as (λ t. p b ≡ t → take (prefix_len p (b ∷ bs)) (take (prefix_len q (b ∷ bs)) (b ∷ bs)) ≡ take (prefix_len p (b ∷ bs)) (b ∷ bs)) [
-  | true ↦ λ e. rw (take_front q b bs (h b e), prefix_yes p b bs e, take_one_more (prefix_len p bs) b (take (prefix_len q bs) bs), take_one_more (prefix_len p bs) b bs) (ap (λ cs. b ∷ cs) (inner_front p q bs h))
+  | true ↦ λ e. rw (take_front q b bs (h b e), prefix_yes p b bs e, take_one_more b (prefix_len p bs) (take (prefix_len q bs) bs), take_one_more b (prefix_len p bs) bs) (ap (λ cs. b ∷ cs) (inner_front p q bs h))
   | false ↦ λ e. rw (prefix_no p b bs e) refl
 ] refl
 
@@ -242,47 +216,54 @@ reads_word b bs e =
     ∙ ap (λ rs. rs ++ reads_of (drop (prefix_len is_in_run (b ∷ bs)) (b ∷ bs))) (word_run b bs e)
     ∙ word_then (b ∷ bs)
 
--- ---- the first token and what stands behind it
+-- ---- the first token and those behind it
 
-first_word : (b : ℕ) (bs : List ℕ) → is_letter b ≡ true → read_of (take (prefix_len is_letter_or_digit (b ∷ bs)) (b ∷ bs)) ≡ word (take (prefix_len is_letter_or_digit (b ∷ bs)) (b ∷ bs))
-first_word b bs e = subst (λ text. read_of text ≡ word text) (sym (take_front is_letter_or_digit b bs (letter_or_digit_of_letter b e))) (choose_first (is_letter b) _ _ e)
+tokens_behind_blanks : (text : List ℕ) → tokens_of text ≡ tokens_of (behind is_blank text)
+tokens_behind_blanks text = ap all_good (sym (reads_behind_blanks text))
 
-first_number : (b : ℕ) (bs : List ℕ) → is_letter b ≡ false → is_in_run b ≡ true → read_of (take (prefix_len is_in_run (b ∷ bs)) (b ∷ bs)) ≡ number (take (prefix_len is_in_run (b ∷ bs)) (b ∷ bs))
-first_number b bs e f = subst (λ text. read_of text ≡ number text) (sym (take_front is_in_run b bs f)) (choose_second (is_letter b) (is_in_run b) _ _ _ e f)
+pub no_tokens : (text : List ℕ) → length (behind is_blank text) ≡ 0 → tokens_of text ≡ Ok []
+no_tokens text h = tokens_behind_blanks text ∙ none (behind is_blank text) h
+  where
+    none : (text : List ℕ) → length text ≡ 0 → tokens_of text ≡ Ok []
+    none [] h = refl
+    none (b ∷ bs) h = absurd (omega arith)
 
-first_mark : (b : ℕ) (bs : List ℕ) → is_letter b ≡ false → is_in_run b ≡ false → read_of (b ∷ bs) ≡ mark b
-first_mark b bs e f = choose_third (is_letter b) (is_in_run b) _ _ _ e f
+pub first_word : (text : List ℕ) (b : ℕ) (bs : List ℕ) → behind is_blank text ≡ b ∷ bs → is_letter b ≡ true
+    → tokens_of text ≡ in_front_of (word (take_while is_letter_or_digit (b ∷ bs))) (tokens_of (behind is_letter_or_digit (b ∷ bs)))
+first_word text b bs e f = tokens_behind_blanks text ∙ ap tokens_of e ∙ ap all_good (reads_word b bs f)
 
-by_length : (n : ℕ) (text : List ℕ) → first_length text ≡ n → reads_of text ≡ read_of (take n text) ∷ reads_of (drop n text) → reads_of text ≡ read_of (first_of text) ∷ reads_of (behind_first text)
-by_length n text e h = subst (λ m. reads_of text ≡ read_of (take m text) ∷ reads_of (drop m text)) (sym e) h
+pub first_number : (text : List ℕ) (b : ℕ) (bs : List ℕ) → behind is_blank text ≡ b ∷ bs → is_letter b ≡ false → is_in_run b ≡ true
+    → tokens_of text ≡ in_front_of (number (take_while is_in_run (b ∷ bs))) (tokens_of (behind is_in_run (b ∷ bs)))
+first_number text b bs e f g = tokens_behind_blanks text ∙ ap tokens_of e ∙ ap all_good (reads_number b bs f g)
 
-pub reads_first : (text : List ℕ) → 0 < length text → prefix_len is_blank text ≡ 0 → reads_of text ≡ read_of (first_of text) ∷ reads_of (behind_first text)
-reads_first [] h clear = absurd (omega arith)
-reads_first (b ∷ bs) h clear = elim (is_letter b) as (λ t. is_letter b ≡ t → reads_of (b ∷ bs) ≡ read_of (first_of (b ∷ bs)) ∷ reads_of (behind_first (b ∷ bs))) [
-  | true ↦ λ e. by_length (prefix_len is_letter_or_digit (b ∷ bs)) (b ∷ bs) (choose_first (is_letter b) _ _ e)
-      (reads_word b bs e ∙ ap (λ r. r ∷ reads_of (drop (prefix_len is_letter_or_digit (b ∷ bs)) (b ∷ bs))) (sym (first_word b bs e)))
-  | false ↦ λ e. elim (is_in_run b) as (λ t. is_in_run b ≡ t → reads_of (b ∷ bs) ≡ read_of (first_of (b ∷ bs)) ∷ reads_of (behind_first (b ∷ bs))) [
-    | true ↦ λ f. by_length (prefix_len is_in_run (b ∷ bs)) (b ∷ bs) (choose_second (is_letter b) (is_in_run b) _ _ _ e f)
-        (reads_number b bs e f ∙ ap (λ r. r ∷ reads_of (drop (prefix_len is_in_run (b ∷ bs)) (b ∷ bs))) (sym (first_number b bs e f)))
-    | false ↦ λ f. by_length 1 (b ∷ bs) (choose_third (is_letter b) (is_in_run b) _ _ _ e f)
-        (reads_mark b bs f (none_first is_blank b bs clear) ∙ ap (λ r. r ∷ reads_of bs) (sym (first_mark b [] e f)))
-  ] refl
-] refl
+pub first_mark : (text : List ℕ) (b : ℕ) (bs : List ℕ) → behind is_blank text ≡ b ∷ bs → is_in_run b ≡ false
+    → tokens_of text ≡ in_front_of (mark b) (tokens_of bs)
+first_mark text b bs e f =
+    let clear : prefix_len is_blank (b ∷ bs) ≡ 0 = subst (λ (t : List ℕ). prefix_len is_blank t ≡ 0) e (none_behind is_blank text) in
+    tokens_behind_blanks text ∙ ap tokens_of e ∙ ap all_good (reads_mark b bs f (none_first is_blank b bs clear))
+
+abbrev HasFirst : Tokens → Type 0
+HasFirst ts = (first : Read) × (more : Tokens) × (ts ≡ in_front_of first more)
+
+-- a text that is not all blanks has a token, or a bad one
+pub some_token : (text : List ℕ) → 0 < length (behind is_blank text) → HasFirst (tokens_of text)
+some_token text h = of_first text (behind is_blank text) refl h
+  where
+    of_first : (text rest : List ℕ) → behind is_blank text ≡ rest → 0 < length rest → HasFirst (tokens_of text)
+    of_first text [] e h = absurd (omega arith)
+    of_first text (b ∷ bs) e h = elim (is_letter b) as (λ t. is_letter b ≡ t → HasFirst (tokens_of text)) [
+      | true ↦ λ f. (_, _, first_word text b bs e f)
+      | false ↦ λ f. elim (is_in_run b) as (λ t. is_in_run b ≡ t → HasFirst (tokens_of text)) [
+        | true ↦ λ g. (_, _, first_number text b bs e f g)
+        | false ↦ λ g. (_, _, first_mark text b bs e g)
+      ] refl
+    ] refl
 
 -- ---- all tokens
 
-pub no_blank_behind : (text : List ℕ) → prefix_len is_blank (behind_blanks text) ≡ 0
-no_blank_behind text = none_behind is_blank text
+pub joined_none : (ts : List Token) → joined (Ok ts) (Ok []) ≡ Ok ts
+joined_none ts = ap (λ (us : List Token). Ok us) (append-nil ts)
 
-joined_one_more : (ts : List Token) (t : Token) (more : Tokens) → joined (Ok ts) (in_front_of (Ok t) more) ≡ joined (Ok (ts ++ t ∷ [])) more
+pub joined_one_more : (ts : List Token) (t : Token) (more : Tokens) → joined (Ok ts) (in_front_of (Ok t) more) ≡ joined (Ok (ts ++ t ∷ [])) more
 joined_one_more ts t (Err cause) = refl
 joined_one_more ts t (Ok more) = ap (λ (us : List Token). Ok us) (sym (append_assoc ts (t ∷ []) more))
-
-pub token_added : (ts : List Token) (t : Token) (text : List ℕ) → 0 < length text → prefix_len is_blank text ≡ 0 → read_of (first_of text) ≡ Ok t
-    → joined (Ok ts) (all_good (reads_of text)) ≡ joined (Ok (ts ++ t ∷ [])) (all_good (reads_of (behind_blanks (behind_first text))))
-token_added ts t text h clear e =
-    rw (reads_first text h clear, e, reads_behind_blanks (behind_first text)) (joined_one_more ts t (all_good (reads_of (behind_first text))))
-
-pub token_bad : (ts : List Token) (cause : PartCause) (text : List ℕ) → 0 < length text → prefix_len is_blank text ≡ 0 → read_of (first_of text) ≡ Err cause
-    → joined (Ok ts) (all_good (reads_of text)) ≡ Err cause
-token_bad ts cause text h clear e = rw (reads_first text h clear, e) refl

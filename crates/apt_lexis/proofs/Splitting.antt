@@ -11,7 +11,7 @@ use Rattle.apt_lexis.specs.Tokens.{decimal}
 abbrev far : ℕ → List ℕ → ℕ
 far c text = prefix_len (λ b. not (b == c)) text
 
-take_one_more : (b i : ℕ) (bs : List ℕ) → take (1 + i) (b ∷ bs) ≡ b ∷ take i bs
+pub take_one_more : (b i : ℕ) (bs : List ℕ) → take (1 + i) (b ∷ bs) ≡ b ∷ take i bs
 take_one_more b i bs = grind (arith, common_steps)
 
 drop_one_more : (b i : ℕ) (bs : List ℕ) → drop (1 + i + 1) (b ∷ bs) ≡ drop (i + 1) bs

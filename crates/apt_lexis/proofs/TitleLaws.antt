@@ -1,15 +1,13 @@
 -- Titles and the blanks round them.
 use Rattle.std.proofs.Common.{◌≡◌, ℕ, ◌-◌, ◌==◌, List, [], ◌∷◌, length, take, drop, Bool, true, false, Some, None, ap, ◌∙◌, sym, refl, subst, ◌⊎◌, inl, inr}
-use Rattle.std.specs.Prelude.{◌||◌, codes, Option}
+use Rattle.std.specs.Prelude.{◌||◌, codes, Option, option_map, option_and_then}
 use Rattle.std.proofs.Common.{bytes_eq}
 use native.Mathlib.Numerals.{unary_clauses}
 use Rattle.std.proofs.lemmas.Slice.Eq.{bytes_eq-Decides}
 use Rattle.apt_words.specs.Options.{◌>>=◌, only_if}
 use Rattle.apt_words.specs.Symbols.{is_symbol, is_name}
-use Rattle.apt_lexis.specs.declared.token.Token.{Token}
 use Rattle.apt_lexis.specs.declared.token.Token.TheVariants as tokens
-use Rattle.apt_lexis.specs.Titles.{Title, without_blanks, unless_last, title_word, title, labelled, title_behind, behind_close, with_tokens}
-use Rattle.apt_lexis.specs.Headings.{is_title_word, closed_title, with_before}
+use Rattle.apt_lexis.specs.Titles.{Title, without_blanks, unless_last, is_title_word, title_word, title, labelled, title_behind, behind_close, with_tokens}
 
 -- ---- blanks at the end
 
@@ -56,10 +54,6 @@ only_some : {A : Type 0} (b : Bool) (x y : A) → only_if b x ≡ Some y → y �
 only_some true x y e = cc
 only_some false x y e = cc
 
-only_true : {A : Type 0} (b : Bool) (x : A) → b ≡ true → only_if b x ≡ Some x
-only_true true x e = refl
-only_true false x e = cc
-
 only_false : {A : Type 0} (b : Bool) (x : A) → b ≡ false → only_if b x ≡ None
 only_false true x e = cc
 only_false false x e = refl
@@ -80,28 +74,29 @@ no_title_word word rest e = only_false (is_title_word word) _ (no_symbol word (o
 pub no_label : (name rest : List ℕ) → is_name name ≡ false → labelled name rest ≡ None
 no_label name rest e = rw e refl
 
-pub behind_nothing : (t : Option Title) → with_before [] t ≡ t
+pub behind_nothing : (t : Option Title) → option_map (with_tokens []) t ≡ t
 behind_nothing None = refl
 behind_nothing (Some (ts, text)) = refl
 
-add_name : (name : List ℕ) (t : Option Title)
-    → with_before (tokens.Word name ∷ []) (t >>= λ u. Some (with_tokens (tokens.Close ∷ []) u)) ≡ (t >>= λ u. Some (with_tokens (tokens.Word name ∷ tokens.Close ∷ []) u))
+add_name : (name : List ℕ) (line : Option (List ℕ))
+    → option_map (with_tokens (tokens.Word name ∷ [])) (option_map (with_tokens (tokens.Close ∷ [])) (option_and_then title line)) ≡ (line >>= title >>= λ t. Some (with_tokens (tokens.Word name ∷ tokens.Close ∷ []) t))
 add_name name None = refl
-add_name name (Some (ts, text)) = refl
+add_name name (Some line) = of_title name (title line)
+  where
+    of_title : (name : List ℕ) (t : Option Title) → option_map (with_tokens (tokens.Word name ∷ [])) (option_map (with_tokens (tokens.Close ∷ [])) t) ≡ (t >>= λ t. Some (with_tokens (tokens.Word name ∷ tokens.Close ∷ []) t))
+    of_title name None = refl
+    of_title name (Some (ts, text)) = refl
 
-pub behind_name : (name line : List ℕ) → is_name name ≡ true → with_before (tokens.Word name ∷ []) (closed_title line) ≡ labelled name line
-behind_name name line e =
-    add_name name (behind_close line >>= title)
-    ∙ sym (ap (λ (o : Option (List ℕ)). o >>= behind_close >>= title >>= λ u. Some (with_tokens (tokens.Word name ∷ tokens.Close ∷ []) u)) (only_true (is_name name) line e))
+pub behind_name : (name line : List ℕ) → is_name name ≡ true
+    → option_map (with_tokens (tokens.Word name ∷ [])) (option_map (with_tokens (tokens.Close ∷ [])) (option_and_then title (behind_close line))) ≡ labelled name line
+behind_name name line e = rw e (add_name name (behind_close line))
 
-with_before_is : (ts : List Token) (t : Option Title) → with_before ts t ≡ (t >>= λ u. Some (with_tokens ts u))
-with_before_is ts None = refl
-with_before_is ts (Some t) = refl
+option_map_is : {A B : Type 0} (f : A → B) (o : Option A) → option_map f o ≡ (o >>= λ u. Some (f u))
+option_map_is f None = refl
+option_map_is f (Some x) = refl
 
-pub behind_closed : (name line : List ℕ) → is_name name ≡ true → with_before (tokens.Word name ∷ tokens.Close ∷ []) (title line) ≡ title_behind (tokens.Word name ∷ tokens.Close ∷ []) line
-behind_closed name line e =
-    with_before_is (tokens.Word name ∷ tokens.Close ∷ []) (title line)
-    ∙ sym (ap (λ (o : Option (List ℕ)). o >>= title >>= λ u. Some (with_tokens (tokens.Word name ∷ tokens.Close ∷ []) u)) (only_true (is_name name) line e))
+pub behind_closed : (name line : List ℕ) → is_name name ≡ true → option_map (with_tokens (tokens.Word name ∷ tokens.Close ∷ [])) (title line) ≡ title_behind (tokens.Word name ∷ tokens.Close ∷ []) line
+behind_closed name line e = rw e (option_map_is (with_tokens (tokens.Word name ∷ tokens.Close ∷ [])) (title line))
 
 pub behind_others : (name line : List ℕ) → is_name name ≡ false → title_behind (tokens.Word name ∷ tokens.Close ∷ []) line ≡ None
 behind_others name line e = rw e refl

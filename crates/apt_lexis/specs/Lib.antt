@@ -1,10 +1,6 @@
 pub mod Causes
 pub mod Lines
-pub mod Cuts
 pub mod Tokens
-pub mod TokenFronts
 pub mod Titles
-pub mod Headings
 pub mod Phrase
 pub mod Sentences
-pub mod LineByLine

@@ -33,13 +33,15 @@ abbrev pub without_blanks : List ℕ → List ℕ
 without_blanks [] = []
 without_blanks (b ∷ bs) = unless_last b (without_blanks bs)
 
+abbrev pub is_title_word : List ℕ → Bool
+is_title_word word = bytes_eq word (codes "PARTNO") || bytes_eq word (codes "REMARK")
+
 -- a word with the text behind it
 abbrev pub Title : Type 0
 Title = List Token × List ℕ
 
 abbrev pub title_word : List ℕ → List ℕ → Option Title
-title_word word rest =
-    only_if (bytes_eq word (codes "PARTNO") || bytes_eq word (codes "REMARK")) (tokens.Word word ∷ [], without_blanks (without_blank rest))
+title_word word rest = only_if (is_title_word word) (tokens.Word word ∷ [], without_blanks (without_blank rest))
 
 -- PARTNO or REMARK at the front of a line
 abbrev pub title : List ℕ → Option Title
@@ -60,14 +62,17 @@ with_tokens ts (words, text) = (ts ++ words, text)
 abbrev pub labelled : List ℕ → List ℕ → Option Title
 labelled name line = only_if (is_name name) line >>= behind_close >>= title >>= λ t. Some (with_tokens (tokens.Word name ∷ tokens.Close ∷ []) t)
 
+-- a label, its parenthesis and a title
+abbrev pub labelled_title : List ℕ → Option Title
+labelled_title line = let line = behind is_blank line in labelled (front_word line) (behind is_letter_or_digit line)
+
 abbrev pub or_else : Option Title → Option Title → Option Title
 or_else None other = other
 or_else (Some t) other = Some t
 
 -- a line that begins a statement
 abbrev pub title_or_labelled : List ℕ → Option Title
-title_or_labelled line =
-    or_else (title line) (let line = behind is_blank line in labelled (front_word line) (behind is_letter_or_digit line))
+title_or_labelled line = or_else (title line) (labelled_title line)
 
 -- the tokens and the text of a statement that has these tokens before the line
 abbrev pub title_behind : List Token → List ℕ → Option Title

@@ -1,9 +1,8 @@
 //! The lines of a text.
 
-ghost use Rattle.std.specs.Prelude.{◌≡◌, ◌<◌, ◌≤◌, ◌==◌, position, length, IfSome, IsNone, option_map};
+ghost use Rattle.std.specs.Prelude.{◌≡◌, ◌<◌, ◌≤◌, ◌==◌, [], ◌∷◌, position, length, IfSome, IsNone};
 ghost use Rattle.std.specs.List.{list_all};
 ghost use Rattle.apt_lexis.specs.Lines as lines;
-ghost use Rattle.apt_lexis.specs.Cuts as cuts;
 
 use crate::PartCause;
 
@@ -16,8 +15,9 @@ const MOST_BYTES: usize = 256;
 /// A text up to the first byte of a kind, and what stands behind that byte.
 #[tactic(auto, using(crate::proofs::Splitting::split_found, crate::proofs::Splitting::split_absent))]
 pub(crate) fn cut(text: &[u8], c: u8) -> (&[u8], Option<&[u8]>)
-    ensures parts { lines.split c text.now ≡ cuts.cut_parts c result.0.now (option_map (λ r. r.now) result.1) }
-    ensures shorter { IfSome result.1 (λ r. length r.now < length text.now) }
+    ensures found { IfSome result.1 (λ rest. lines.split c text.now ≡ result.0.now ∷ lines.split c rest.now) }
+    ensures absent { IsNone result.1 → lines.split c text.now ≡ result.0.now ∷ [] }
+    ensures shorter { IfSome result.1 (λ rest. length rest.now < length text.now) }
     ensures whole { IsNone result.1 → result.0.now ≡ text.now }
 {
     match index_of(text, c) {
@@ -36,7 +36,8 @@ fn index_of(text: &[u8], c: u8) -> Option<usize>
 /// The first line of a text, and what stands behind it; none where the text is empty.
 #[tactic(auto, using(crate::proofs::LineLaws::no_lines, crate::proofs::LineLaws::line_first, crate::proofs::LineLaws::line_last))]
 pub(crate) fn next_line(rest: &[u8]) -> Option<(&[u8], &[u8])>
-    ensures lines { lines.lines_of rest.now ≡ cuts.lines_from (option_map (λ r. (r.0.now, r.1.now)) result) }
+    ensures none { IsNone result → lines.lines_of rest.now ≡ [] }
+    ensures some { IfSome result (λ r. lines.lines_of rest.now ≡ r.0.now ∷ lines.lines_of r.1.now) }
     ensures shorter { IfSome result (λ r. length r.1.now < length rest.now) }
 {
     if rest.is_empty() {

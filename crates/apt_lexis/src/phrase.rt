@@ -1,9 +1,10 @@
 //! Statements as they are read.
 
-ghost use Rattle.std.specs.Prelude.{◌≡◌, ◌+◌, ◌<◌, ◌≤◌, length, IfOk, IfSome};
+ghost use Rattle.std.specs.Prelude.{◌≡◌, ◌+◌, ◌<◌, ◌≤◌, length, None, Some, Ok, IfOk, IfSome, IsSome, IsNone};
+ghost use Rattle.std.specs.Result.{IsOkAnd};
 ghost use Rattle.apt_lexis.specs.Lines as lines;
-ghost use Rattle.apt_lexis.specs.LineByLine as spec;
-ghost use Rattle.apt_lexis.specs.Sentences as sentences;
+ghost use Rattle.apt_lexis.specs.Sentences as spec;
+ghost use Rattle.apt_lexis.specs.Titles as titles;
 ghost use Rattle.apt_lexis.specs.Tokens as tokens;
 
 use crate::character::no_dollars;
@@ -33,16 +34,9 @@ impl Model for Phrase {
     ghost view = { λ p. record { line = p.line; tokens = good p.fault p.tokens.items; text = p.text } };
 }
 
-/// What is behind a line: the statement that is begun, if there is one, or the statement that the line completes.
-#[derive(Drop)]
-pub(crate) enum Reading {
-    Begun(Option<Phrase>),
-    Said(Phrase),
-}
-
 /// The statement that a line belongs to, as it is before that line.
 fn before_line(alloc: Global, begun: Option<Phrase>, number: u32) -> Phrase
-    ensures { result ≡ spec.before_line begun number }
+    ensures { result ≡ record { line = spec.first_line begun number; tokens = spec.tokens_before begun; text = None } }
 {
     match begun {
         None => Phrase {
@@ -58,25 +52,39 @@ fn before_line(alloc: Global, begun: Option<Phrase>, number: u32) -> Phrase
     }
 }
 
-fn with_tokens(mut phrase: Phrase, text: &[u8]) -> Result<Phrase, AllocError>
-    ensures { IfOk result (λ p. p ≡ spec.with_tokens phrase (tokens.tokens_of text.now)) }
+/// The statement that a line belongs to, with the tokens of that line.
+fn with_tokens(
+    alloc: Global,
+    begun: Option<Phrase>,
+    number: u32,
+    text: &[u8],
+) -> Result<Phrase, AllocError>
+    ensures { IfOk result (λ p. p ≡ record { line = spec.first_line begun number; tokens = spec.joined (spec.tokens_before begun) (tokens.tokens_of text.now); text = None }) }
 {
+    let mut phrase = before_line(alloc, begun, number);
     if phrase.fault.is_none() {
         phrase.fault = add_tokens(&mut phrase.tokens, text)?;
     }
     Ok(phrase)
 }
 
-fn with_title(alloc: Global, mut phrase: Phrase, title: Heading<'_>) -> Result<Phrase, AllocError>
-    ensures { IfOk result (λ p. p ≡ spec.with_title phrase title.entry) }
+/// The statement that a title's line belongs to, with the title.
+fn with_title(
+    alloc: Global,
+    begun: Option<Phrase>,
+    number: u32,
+    title: Heading<'_>,
+) -> Result<Phrase, AllocError>
+    ensures { IfOk result (λ p. p ≡ record { line = spec.first_line begun number; tokens = spec.joined (spec.tokens_before begun) (Ok title.entry.0); text = Some title.entry.1 }) }
 {
+    let mut phrase = before_line(alloc, begun, number);
     phrase.text = Some(add_heading(alloc, &mut phrase.tokens, title)?);
     Ok(phrase)
 }
 
 /// Whether a `$` begins a text with no other behind it.
 fn is_single(text: &[u8]) -> bool
-    ensures { result ≡ sentences.is_single text.now }
+    ensures { result ≡ spec.is_single text.now }
 {
     match text {
         [] => false,
@@ -85,9 +93,10 @@ fn is_single(text: &[u8]) -> bool
     }
 }
 
-/// The title of a line behind the statement that is begun.
+/// The title of a line behind the statement that is begun, which has no bad token then.
 fn title_in<'a>(begun: &Option<Phrase>, line: &'a [u8]) -> Option<Heading<'a>>
-    ensures { spec.behind_good (sentences.tokens_before begun.now) result ≡ sentences.title_in (sentences.tokens_before begun.now) line.now }
+    ensures none { IsNone result → spec.title_in (spec.tokens_before begun.now) line.now ≡ None }
+    ensures some { IfSome result (λ t. IsOkAnd (spec.tokens_before begun.now) (λ ts. spec.title_in (Ok ts) line.now ≡ Some (titles.with_tokens ts t))) }
 {
     match begun {
         None => heading_behind(&[], line),
@@ -99,49 +108,53 @@ fn title_in<'a>(begun: &Option<Phrase>, line: &'a [u8]) -> Option<Heading<'a>>
 /// A line up to its first `$`, and whether its statement goes on with the next line.
 #[tactic(auto, using(crate::proofs::Fronts::front_short))]
 fn said_on(line: &[u8]) -> (&[u8], bool)
-    ensures front { result.0.now ≡ sentences.said_on line.now }
-    ensures on { result.1 ≡ sentences.goes_on line.now }
+    ensures front { result.0.now ≡ spec.said_on line.now }
+    ensures on { result.1 ≡ spec.goes_on line.now }
 {
     let (front, rest) = line.split_at(no_dollars(line));
     (front, is_single(rest))
 }
 
-/// What is behind a line that has no title.
+/// Takes a line that has no title into the statement that is begun, and gives the statement that the line completes.
 #[tactic(auto, using(crate::proofs::SentenceLaws::silent, crate::proofs::SentenceLaws::goes_on_with, crate::proofs::SentenceLaws::ends_with))]
-fn behind_tokens(
+fn take_tokens(
     alloc: Global,
-    begun: Option<Phrase>,
+    begun: &mut Option<Phrase>,
     number: u32,
     line: &[u8],
-) -> Result<Reading, AllocError>
-    ensures { IfOk result (λ r. spec.behind_of r ≡ sentences.by_title begun number line.now None) }
+) -> Result<Option<Phrase>, AllocError>
+    ensures behind { IfOk result (λ said. spec.by_title begun.old number line.now None ≡ record { begun = begun.new; said = said }) }
+    ensures ended { IfOk result (λ said. IsSome said → begun.new ≡ None) }
 {
     let (front, on) = said_on(line);
     if behind_blanks(front).is_empty() {
-        return Ok(Reading::Begun(begun));
+        return Ok(None);
     }
-    let phrase = with_tokens(before_line(alloc, begun, number), front)?;
+    let phrase = with_tokens(alloc, begun.take(), number, front)?;
     if on {
-        Ok(Reading::Begun(Some(phrase)))
+        *begun = Some(phrase);
+        Ok(None)
     } else {
-        Ok(Reading::Said(phrase))
+        Ok(Some(phrase))
     }
 }
 
+/// Takes a line into the statement that is begun, and gives the statement that the line completes.
 #[tactic(auto, using(crate::proofs::SentenceLaws::by_tokens, crate::proofs::SentenceLaws::ends_with_title))]
-fn behind_line(
+fn take_line(
     alloc: Global,
-    begun: Option<Phrase>,
+    begun: &mut Option<Phrase>,
     number: u32,
     line: &[u8],
-) -> Result<Reading, AllocError>
-    ensures { IfOk result (λ r. spec.behind_of r ≡ sentences.behind_line begun number line.now) }
+) -> Result<Option<Phrase>, AllocError>
+    ensures behind { IfOk result (λ said. spec.behind_line begun.old number line.now ≡ record { begun = begun.new; said = said }) }
+    ensures ended { IfOk result (λ said. IsSome said → begun.new ≡ None) }
 {
-    match title_in(&begun, line) {
-        None => behind_tokens(alloc, begun, number, line),
+    match title_in(begun, line) {
+        None => take_tokens(alloc, begun, number, line),
         Some(title) => {
-            let phrase = with_title(alloc, before_line(alloc, begun, number), title)?;
-            Ok(Reading::Said(phrase))
+            let phrase = with_title(alloc, begun.take(), number, title)?;
+            Ok(Some(phrase))
         }
     }
 }
@@ -184,7 +197,7 @@ impl<'a> Phrases<'a> {
     /// `Bad` is the first fault of a line: `TooManyLines` at line 50,001, `LineTooLong` past 256 bytes,
     /// `BadByte`. The reader then stands at that line, and gives its fault again.
     pub fn next(&mut self, alloc: Global) -> Result<Option<Phrase>, ParseError>
-        ensures given { sentences.Gives self.old self.new result }
+        ensures given { spec.Gives self.old self.new result }
         ensures counted { IfOk result (λ _. self.new.line + length self.new.lines ≡ self.old.line + length self.old.lines) }
         ensures shorter { IfOk result (λ p. IfSome p (λ _. length self.new.lines < length self.old.lines)) }
     {
@@ -199,9 +212,9 @@ impl<'a> Phrases<'a> {
             let number = self.line;
             self.rest = after;
             self.line += 1;
-            match behind_line(alloc, begun, number, line)? {
-                Reading::Said(phrase) => return Ok(Some(phrase)),
-                Reading::Begun(phrase) => begun = phrase,
+            let said = take_line(alloc, &mut begun, number, line)?;
+            if said.is_some() {
+                return Ok(said);
             }
         }
         Ok(begun)

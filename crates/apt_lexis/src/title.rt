@@ -1,11 +1,12 @@
 //! Titles: PARTNO and REMARK with the text behind them.
 
-ghost use Rattle.std.specs.Prelude.{◌≡◌, ◌++◌, true, OnOk, IfOk, option_map};
+ghost use Rattle.std.specs.Prelude.{◌≡◌, [], ◌∷◌, ◌++◌, true, OnOk, IfOk, option_map, option_and_then};
+ghost use Rattle.std.specs.Option.{option_to_list};
 ghost use Rattle.apt_words.specs.Options.{only_if};
 ghost use Rattle.apt_words.specs.Symbols as symbols;
-ghost use Rattle.apt_lexis.specs.Headings as headings;
 ghost use Rattle.apt_lexis.specs.Titles as spec;
-ghost use Rattle.apt_lexis.specs.Tokens as tokens;
+ghost use Rattle.apt_lexis.specs.Tokens as characters;
+ghost use Rattle.apt_lexis.specs.declared.token.Token.TheVariants as tokens;
 
 use crate::Token;
 use crate::character::letters_or_digits;
@@ -14,33 +15,27 @@ use apt_words::{Symbol, Text};
 use std::alloc::{AllocError, Global};
 use std::marker::Model;
 
-/// What stands in front of the word of a title on its line.
-#[derive(Drop)]
-pub(crate) enum Front {
-    Nothing,
-    Close,
-    Label(Symbol),
-}
-
-/// A title's line. Clauses see its tokens and the text.
+/// A title's line: a label and its parenthesis where they stand on it, the word and the text.
 #[derive(Drop)]
 pub(crate) struct Heading<'a> {
-    front: Front,
-    word: Symbol,
+    label: Option<Token>,
+    close: Option<Token>,
+    word: Token,
     text: &'a [u8],
 }
 
 impl<'a> Model for Heading<'a> {
+    ghost use Rattle.std.specs.Prelude.{[], ◌∷◌, ◌++◌};
+    ghost use Rattle.std.specs.Option.{option_to_list};
     ghost use Rattle.apt_lexis.specs.Titles.{Title};
-    ghost use Rattle.apt_lexis.specs.Headings.{heading_tokens};
 
     ghost Value = { Title };
 
-    ghost view = { λ h. (heading_tokens h.front h.word, h.text.now) };
+    ghost view = { λ h. (option_to_list h.label ++ option_to_list h.close ++ h.word ∷ [], h.text.now) };
 }
 
 fn is_title_word(word: &Symbol) -> bool
-    ensures { result ≡ headings.is_title_word word.now }
+    ensures { result ≡ spec.is_title_word word.now }
 {
     word.as_str() == "PARTNO" || word.as_str() == "REMARK"
 }
@@ -55,7 +50,7 @@ fn is_name(word: &Symbol) -> bool
 #[tactic(auto, using(crate::proofs::Fronts::front_short))]
 fn front_word(line: &[u8]) -> (Option<Symbol>, &[u8])
     ensures word { result.0 ≡ only_if (symbols.is_symbol (spec.front_word line.now)) (spec.front_word line.now) }
-    ensures rest { result.1.now ≡ spec.behind tokens.is_letter_or_digit line.now }
+    ensures rest { result.1.now ≡ spec.behind characters.is_letter_or_digit line.now }
 {
     let (word, rest) = line.split_at(letters_or_digits(line));
     (symbol(word), rest)
@@ -84,7 +79,7 @@ fn without_blanks(text: &[u8]) -> &[u8]
 /// PARTNO or REMARK at the front of a line, and the text behind it.
 #[tactic(auto, using(crate::proofs::TitleLaws::no_title_word, crate::proofs::TitleLaws::symbol_is))]
 fn title(line: &[u8]) -> Option<(Symbol, &[u8])>
-    ensures { option_map (λ r. headings.as_title r.0 r.1.now) result ≡ spec.title line.now }
+    ensures { option_map (λ r. (tokens.Word r.0 ∷ [], r.1.now)) result ≡ spec.title line.now }
 {
     match front_word(behind_blanks(line)) {
         (Some(word), rest) if is_title_word(&word) => {
@@ -106,34 +101,32 @@ fn behind_close(line: &[u8]) -> Option<&[u8]>
 fn plain_title(line: &[u8]) -> Option<Heading<'_>>
     ensures { result ≡ spec.title line.now }
 {
-    match title(line) {
-        None => None,
-        Some((word, text)) => Some(Heading {
-            front: Front::Nothing,
-            word,
-            text,
-        }),
-    }
+    let (word, text) = title(line)?;
+    Some(Heading {
+        label: None,
+        close: None,
+        word: Token::Word(word),
+        text,
+    })
 }
 
 /// A title behind the parenthesis that closes a label.
 fn closed_title(line: &[u8]) -> Option<Heading<'_>>
-    ensures { result ≡ headings.closed_title line.now }
+    ensures { result ≡ option_map (spec.with_tokens (tokens.Close ∷ [])) (option_and_then spec.title (spec.behind_close line.now)) }
 {
-    match title(behind_close(line)?) {
-        None => None,
-        Some((word, text)) => Some(Heading {
-            front: Front::Close,
-            word,
-            text,
-        }),
-    }
+    let (word, text) = title(behind_close(line)?)?;
+    Some(Heading {
+        label: None,
+        close: Some(Token::Close),
+        word: Token::Word(word),
+        text,
+    })
 }
 
-/// A title behind a label and its parenthesis.
+/// A label, its parenthesis and a title.
 #[tactic(auto, using(crate::proofs::TitleLaws::no_label))]
 fn labelled_title(line: &[u8]) -> Option<Heading<'_>>
-    ensures { result ≡ headings.labelled_title line.now }
+    ensures { result ≡ spec.labelled_title line.now }
 {
     match front_word(behind_blanks(line)) {
         (Some(name), rest) if is_name(&name) => behind_label(name, rest),
@@ -145,14 +138,13 @@ fn behind_label(name: Symbol, rest: &[u8]) -> Option<Heading<'_>>
     requires { symbols.is_name name ≡ true }
     ensures { result ≡ spec.labelled name rest.now }
 {
-    match title(behind_close(rest)?) {
-        None => None,
-        Some((word, text)) => Some(Heading {
-            front: Front::Label(name),
-            word,
-            text,
-        }),
-    }
+    let (word, text) = title(behind_close(rest)?)?;
+    Some(Heading {
+        label: Some(Token::Word(name)),
+        close: Some(Token::Close),
+        word: Token::Word(word),
+        text,
+    })
 }
 
 fn first_title(line: &[u8]) -> Option<Heading<'_>>
@@ -164,7 +156,7 @@ fn first_title(line: &[u8]) -> Option<Heading<'_>>
 /// The title on a line behind some tokens of its statement.
 #[tactic(auto, using(crate::proofs::TitleLaws::behind_nothing, crate::proofs::TitleLaws::behind_name, crate::proofs::TitleLaws::behind_closed, crate::proofs::TitleLaws::behind_others))]
 pub(crate) fn heading_behind<'a>(tokens: &[Token], line: &'a [u8]) -> Option<Heading<'a>>
-    ensures { headings.with_before tokens.now result ≡ spec.title_behind tokens.now line.now }
+    ensures { option_map (spec.with_tokens tokens.now) result ≡ spec.title_behind tokens.now line.now }
 {
     match tokens {
         [] => first_title(line),
@@ -174,21 +166,13 @@ pub(crate) fn heading_behind<'a>(tokens: &[Token], line: &'a [u8]) -> Option<Hea
     }
 }
 
-fn add_front(tokens: &mut Vec<Token>, front: Front) -> Result<(), AllocError>
-    ensures { OnOk result (tokens.new.items ≡ tokens.old.items ++ headings.front_tokens front) }
+fn add_token(tokens: &mut Vec<Token>, token: Option<Token>) -> Result<(), AllocError>
+    ensures { OnOk result (tokens.new.items ≡ tokens.old.items ++ option_to_list token) }
 {
-    match front {
-        Front::Nothing => Ok(()),
-        Front::Close => {
-            tokens.push(Token::Close)?;
-            Ok(())
-        }
-        Front::Label(name) => {
-            tokens.push(Token::Word(name))?;
-            tokens.push(Token::Close)?;
-            Ok(())
-        }
+    if let Some(token) = token {
+        tokens.push(token)?;
     }
+    Ok(())
 }
 
 /// Adds the tokens of a title's line, and gives its text.
@@ -200,9 +184,15 @@ pub(crate) fn add_heading(
     ensures tokens { OnOk result (tokens.new.items ≡ tokens.old.items ++ heading.entry.0) }
     ensures text { IfOk result (λ t. t ≡ heading.entry.1) }
 {
-    let Heading { front, word, text } = heading;
-    add_front(tokens, front)?;
-    tokens.push(Token::Word(word))?;
+    let Heading {
+        label,
+        close,
+        word,
+        text,
+    } = heading;
+    add_token(tokens, label)?;
+    add_token(tokens, close)?;
+    tokens.push(word)?;
     let mut bytes = Vec::new(alloc);
     bytes.extend_from_slice(text)?;
     Ok(Text { bytes })

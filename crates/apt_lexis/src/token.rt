@@ -1,11 +1,11 @@
 //! Tokens.
 
-ghost use Rattle.std.specs.Prelude.{◌≡◌, ◌<◌, length, IfOk, Ok, map};
+ghost use Rattle.std.specs.Prelude.{◌≡◌, ◌<◌, [], length, IfOk, Ok, IfSome, IsNone, map};
 ghost use Rattle.apt_words.specs.Options.{only_if};
 ghost use Rattle.apt_words.specs.Symbols.{is_symbol};
 ghost use Rattle.apt_lexis.specs.Phrase.{good};
 ghost use Rattle.apt_lexis.specs.Sentences as sentences;
-ghost use Rattle.apt_lexis.specs.TokenFronts as steps;
+ghost use Rattle.apt_lexis.specs.Titles.{behind};
 ghost use Rattle.apt_lexis.specs.Tokens as spec;
 
 use crate::PartCause;
@@ -79,65 +79,49 @@ fn mark(b: u8) -> Result<Token, PartCause>
     }
 }
 
-/// How many bytes the first token of a text takes that begins with it.
-fn first_length(text: &[u8]) -> usize
-    ensures { result ≡ steps.first_length text.now }
-{
-    match text {
-        [] => 0,
-        [b, ..] if is_letter(*b) => letters_or_digits(text),
-        [b, ..] if is_in_run(*b) => in_run(text),
-        _ => 1,
-    }
-}
-
-/// The token of a text that is one token.
-fn read(text: &[u8]) -> Result<Token, PartCause>
-    ensures { result ≡ steps.read_of text.now }
-{
-    match text {
-        [] => Err(PartCause::BadWord),
-        [b, ..] if is_letter(*b) => word(text),
-        [b, ..] if is_in_run(*b) => number(text),
-        [b, ..] => mark(*b),
-    }
-}
-
 /// A text behind the blanks at its front.
 #[tactic(auto, using(crate::proofs::Fronts::front_short))]
 pub(crate) fn behind_blanks(text: &[u8]) -> &[u8]
-    ensures { result.now ≡ steps.behind_blanks text.now }
+    ensures { result.now ≡ behind spec.is_blank text.now }
 {
     &text[blanks(text)..]
 }
 
-/// The bytes of the first token of a text that begins with it, and what stands behind them.
-#[tactic(auto, using(crate::proofs::OneByOne::first_short, crate::proofs::OneByOne::first_some))]
-fn first(text: &[u8]) -> (&[u8], &[u8])
-    requires { 0 < length text.now }
-    ensures front { result.0.now ≡ steps.first_of text.now }
-    ensures rest { result.1.now ≡ steps.behind_first text.now }
-    ensures shorter { length result.1.now < length text.now }
+/// The first token of a text, or why it is none, and what stands behind it; none where there are blanks alone.
+#[tactic(auto, using(crate::proofs::Fronts::front_short, crate::proofs::OneByOne::no_tokens, crate::proofs::OneByOne::first_word, crate::proofs::OneByOne::first_number, crate::proofs::OneByOne::first_mark))]
+fn next_token(text: &[u8]) -> Option<(Result<Token, PartCause>, &[u8])>
+    ensures none { IsNone result → spec.tokens_of text.now ≡ Ok [] }
+    ensures some { IfSome result (λ r. spec.tokens_of text.now ≡ spec.in_front_of r.0 (spec.tokens_of r.1.now)) }
+    ensures shorter { IfSome result (λ r. length r.1.now < length text.now) }
 {
-    text.split_at(first_length(text))
+    let text = behind_blanks(text);
+    let (b, after) = text.split_first()?;
+    if is_letter(*b) {
+        let (front, rest) = text.split_at(letters_or_digits(text));
+        Some((word(front), rest))
+    } else if is_in_run(*b) {
+        let (front, rest) = text.split_at(in_run(text));
+        Some((number(front), rest))
+    } else {
+        Some((mark(*b), after))
+    }
 }
 
 /// Adds the tokens of a text up to the first bad one, whose cause is given.
-#[tactic(auto, using(crate::proofs::OneByOne::reads_behind_blanks))]
+#[tactic(auto, using(crate::proofs::OneByOne::joined_none, crate::proofs::OneByOne::joined_one_more))]
 pub(crate) fn add_tokens(
     tokens: &mut Vec<Token>,
     text: &[u8],
 ) -> Result<Option<PartCause>, AllocError>
     ensures { IfOk result (λ fault. good fault tokens.new.items ≡ sentences.joined (Ok tokens.old.items) (spec.tokens_of text.now)) }
 {
-    let mut rest = behind_blanks(text);
-    'tokens: while !rest.is_empty() {
-        let (front, after) = first(rest);
-        match read(front) {
+    let mut rest = text;
+    'tokens: while let Some((token, after)) = next_token(rest) {
+        match token {
             Ok(token) => tokens.push(token)?,
             Err(cause) => return Ok(Some(cause)),
         }
-        rest = behind_blanks(after);
+        rest = after;
     }
     Ok(None)
 }

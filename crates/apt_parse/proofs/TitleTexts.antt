@@ -8,8 +8,7 @@ use Rattle.apt_words.specs.Sources.{is_text_byte, IsText, IsTitle}
 use Rattle.apt_lexis.specs.declared.token.Token.{Token}
 use Rattle.apt_lexis.specs.declared.token.Token.TheVariants as tokens
 use Rattle.apt_lexis.specs.Tokens.{is_blank, is_letter_or_digit}
-use Rattle.apt_lexis.specs.Titles.{Title, blank, behind, front_word, without_blank, unless_last, without_blanks, title_word, title, close_first, behind_close, with_tokens, labelled, or_else, title_or_labelled, title_behind}
-use Rattle.apt_lexis.specs.Headings.{is_title_word}
+use Rattle.apt_lexis.specs.Titles.{Title, blank, behind, front_word, without_blank, unless_last, without_blanks, is_title_word, title_word, title, close_first, behind_close, with_tokens, labelled, or_else, title_or_labelled, title_behind}
 
 -- ---- bytes of a line
 
