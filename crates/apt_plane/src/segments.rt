@@ -1,6 +1,6 @@
 //! All points of a segment against a band along a line.
 
-ghost use Rattle.std.specs.Prelude.{◌≡◌, ◌≤◌, ◌*◌, ◌^◌, ◌↔◌, IsTrue, IsOk, IfErr, unsigned_abs, neg_ℤ};
+ghost use Rattle.std.specs.Prelude.{◌≤◌, ◌*◌, ◌^◌, ◌↔◌, IsTrue, IsOk, IfErr, unsigned_abs, neg_ℤ};
 ghost use Rattle.apt_plane.specs.Ranges.{IsPoint, IsLine, IsBand};
 ghost use Rattle.apt_plane.specs.Distances.{InBand, EveryPoint};
 ghost use Rattle.apt_plane.specs.Segments.{IsFirstOutside};
