@@ -15,7 +15,8 @@ use apt_words::{Symbol, Text};
 use std::alloc::{AllocError, Global};
 use std::marker::Model;
 
-/// A title's line: a label and its parenthesis where they stand on it, the word and the text.
+/// A title's line: a label and its parenthesis where they stand on it, the word and the text. Clauses see its
+/// tokens and the text.
 #[derive(Drop)]
 pub(crate) struct Heading<'a> {
     label: Option<Token>,
