@@ -1,10 +1,10 @@
 -- Lists of tokens that end in a closing parenthesis.
-use Rattle.std.proofs.Common.{◌≡◌, ◌≢◌, List, [], ◌∷◌, ◌++◌, refl, ap, ◌∙◌}
+use Rattle.std.proofs.Common.{ℕ, zero, suc, ◌≡◌, ◌≢◌, ◌-◌, ◌<◌, List, [], ◌∷◌, ◌++◌, refl, ap, ◌∙◌, arith}
 use Rattle.std.specs.Prelude.{Option, Some, None}
 use Rattle.apt_words.specs.Options.{◌>>=◌}
 use Rattle.apt_lexis.specs.declared.token.Token.{Token}
 use Rattle.apt_lexis.specs.declared.token.Token.TheVariants as tokens
-use Rattle.apt_expr.specs.Expressions.{inside}
+use Rattle.apt_expr.specs.Expressions.{inside, sum_by, factor_of}
 
 -- the tokens before a last one
 before : Token → List Token → Option (List Token)
@@ -44,3 +44,9 @@ closed ts = inside_ending ts tokens.Close
 
 pub not_closed : (ts : List Token) (last : Token) → last ≢ tokens.Close → inside (ts ++ last ∷ []) ≡ None
 not_closed ts last h = inside_ending ts last ∙ before_other last ts h
+
+pub factor_of_open : (n : ℕ) (ts inner : List Token) → 0 < n → inside ts ≡ Some inner → factor_of n (tokens.Open ∷ ts) ≡ sum_by (factor_of (n - 1)) inner
+factor_of_open zero ts inner h e = elim h [ ]
+factor_of_open (suc n) ts inner h e =
+    let less : suc n - 1 ≡ n = omega arith in
+    rw (e, less) refl

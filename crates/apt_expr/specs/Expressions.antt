@@ -1,8 +1,7 @@
 -- The expression of a list of tokens: an optional minus and terms between plus and minus; a term is factors between times and divided by;
 -- a factor is a number, a name, an expression in parentheses, or SQRTF or ABSF of one. There are at most 32 nested parentheses and 64 operators.
-use Rattle.std.specs.Prelude.{ℕ, suc, nat_le, List, [], ◌∷◌, Option, Some, None}
+use Rattle.std.specs.Prelude.{ℕ, suc, nat_le, List, [], ◌∷◌, Option, Some, None, option_map}
 use Rattle.apt_words.specs.declared.expr.Op.{Op}
-use Rattle.apt_words.specs.declared.expr.Op.TheVariants as ops
 use Rattle.apt_words.specs.declared.word.Word.{Word}
 use Rattle.apt_words.specs.declared.word.Word.TheVariants as words
 use Rattle.apt_words.specs.Options.{◌>>=◌, only_if}
@@ -11,7 +10,8 @@ use Rattle.apt_words.specs.Vocabulary.{word_of}
 use Rattle.apt_words.specs.Trees.{Tree, Num, Name, Neg, Bin, Root, Abs, operators}
 use Rattle.apt_lexis.specs.declared.token.Token.{Token}
 use Rattle.apt_lexis.specs.declared.token.Token.TheVariants as tokens
-use Rattle.apt_expr.specs.Operands.{parts, additive, multiplicative}
+use Rattle.apt_expr.specs.declared.parts.Rank.TheVariants as ranks
+use Rattle.apt_expr.specs.Operands.{parts}
 
 abbrev pub most_operators : ℕ
 most_operators = 64
@@ -33,15 +33,12 @@ from_left read first [] = first
 from_left read first ((op, part) ∷ more) = from_left read (first >>= λ a. read part >>= λ b. binary op a b) more
 
 abbrev pub term_by : Reader → Reader
-term_by factor ts = let p = parts multiplicative ts in from_left factor (factor p.first) p.others
+term_by factor ts = let p = parts ranks.Multiplicative ts in from_left factor (factor p.first) p.others
 
 -- a minus before the first term belongs to that term
-abbrev pub signed : Reader → List Token → List (Op × List Token) → Option Tree
-signed term [] ((ops.Sub, part) ∷ more) = from_left term (term part >>= λ t. Some (Neg t)) more
-signed term first others = from_left term (term first) others
-
 abbrev pub sum_by : Reader → Reader
-sum_by factor ts = let p = parts additive ts in signed (term_by factor) p.first p.others
+sum_by factor (tokens.Minus ∷ ts) = let p = parts ranks.Additive ts in from_left (term_by factor) (option_map Neg (term_by factor p.first)) p.others
+sum_by factor ts = let p = parts ranks.Additive ts in from_left (term_by factor) (term_by factor p.first) p.others
 
 -- the tokens before the parenthesis that closes them
 abbrev pub inside : List Token → Option (List Token)

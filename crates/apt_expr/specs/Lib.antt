@@ -1,3 +1,2 @@
 pub mod Operands
 pub mod Expressions
-pub mod Scanning

@@ -4,20 +4,16 @@ use Rattle.apt_words.specs.declared.expr.Op.{Op}
 use Rattle.apt_words.specs.declared.expr.Op.TheVariants as ops
 use Rattle.apt_lexis.specs.declared.token.Token.{Token}
 use Rattle.apt_lexis.specs.declared.token.Token.TheVariants as tokens
+use Rattle.apt_expr.specs.declared.parts.Rank.{Rank}
+use Rattle.apt_expr.specs.declared.parts.Rank.TheVariants as ranks
 
--- the operators of one rank
-abbrev pub Rank : Type 0
-Rank = Token → Option Op
-
-abbrev pub additive : Rank
-additive tokens.Plus = Some ops.Add
-additive tokens.Minus = Some ops.Sub
-additive _ = None
-
-abbrev pub multiplicative : Rank
-multiplicative tokens.Star = Some ops.Mul
-multiplicative tokens.Slash = Some ops.Div
-multiplicative _ = None
+-- the operators of each rank
+abbrev pub operator : Rank → Token → Option Op
+operator ranks.Additive tokens.Plus = Some ops.Add
+operator ranks.Additive tokens.Minus = Some ops.Sub
+operator ranks.Multiplicative tokens.Star = Some ops.Mul
+operator ranks.Multiplicative tokens.Slash = Some ops.Div
+operator _ _ = None
 
 -- the first part, and each operator with the part behind it
 pub record Parts : Type 0 where
@@ -32,7 +28,7 @@ open_behind _ depth = depth
 
 -- an operator of the rank outside of parentheses
 abbrev pub outer : Rank → ℕ → Token → Option Op
-outer rank depth t = if depth == 0 then rank t else None
+outer rank depth t = if depth == 0 then operator rank t else None
 
 abbrev pub with_token : Token → Option Op → Parts → Parts
 with_token t None parts = record { first = t ∷ parts.first; others = parts.others }

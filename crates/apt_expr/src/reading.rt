@@ -1,15 +1,15 @@
 //! The expression of a list of tokens.
 
-ghost use Rattle.std.specs.Prelude.{◌≡◌, ◌≤◌, option_map, IfOk, IfSome};
+ghost use Rattle.std.specs.Prelude.{◌≡◌, ◌≤◌, ◌∷◌, if◌then◌else◌, option_map, IfOk, IfSome};
+ghost use Rattle.apt_lexis.specs.declared.token.Token.TheVariants as tokens;
 ghost use Rattle.apt_words.specs.Options.{only_if};
 ghost use Rattle.apt_words.specs.Symbols.{is_name};
-ghost use Rattle.apt_words.specs.Trees.{operators, Name};
+ghost use Rattle.apt_words.specs.Trees.{operators, Name, Neg};
 ghost use Rattle.apt_words.specs.Vocabulary as vocabulary;
 ghost use Rattle.apt_expr.specs.Expressions as expressions;
-ghost use Rattle.apt_expr.specs.Operands as parts;
-ghost use Rattle.apt_expr.specs.Scanning as steps;
+ghost use Rattle.apt_expr.specs.Operands as operands;
 
-use crate::parts::{Rank, first_part, next_part};
+use crate::parts::{Rank, first_part};
 use apt_lexis::Token;
 use apt_words::{Expr, Node, Op, Symbol, Word, is_vocabulary, word_of};
 use std::alloc::{AllocError, Global};
@@ -29,17 +29,49 @@ pub fn expression(alloc: Global, tokens: &[Token]) -> Result<Option<Expr>, Alloc
 
 /// Terms between plus and minus, with so many parentheses that may still be nested.
 #[cycle(reading)]
-#[tactic(auto, using(crate::proofs::Joins::none_stays))]
 fn sum(alloc: Global, nesting: u8, tokens: &[Token]) -> Result<Option<Expr>, AllocError>
     ensures value { IfOk result (λ e. e ≡ expressions.sum_by (expressions.factor_of nesting) tokens.now) }
     ensures small { IfOk result (λ e. IfSome e (λ t. operators t ≤ 64)) }
 {
-    let (minus, first, rest) = first_term(tokens);
-    let Some(tree) = term(alloc, nesting, first)? else {
+    match tokens {
+        [Token::Minus, behind @ ..] => terms(alloc, nesting, true, behind),
+        _ => terms(alloc, nesting, false, tokens),
+    }
+}
+
+/// Terms between plus and minus, where a minus may stand before the first.
+#[cycle(reading)]
+#[tactic(auto, using(crate::proofs::Joins::none_stays))]
+fn terms(
+    alloc: Global,
+    nesting: u8,
+    minus: bool,
+    tokens: &[Token],
+) -> Result<Option<Expr>, AllocError>
+    ensures value { IfOk result (λ e. let term = expressions.term_by (expressions.factor_of nesting) in let p = operands.parts Rank.Additive tokens.now in e ≡ expressions.from_left term (if minus then option_map Neg (term p.first) else term p.first) p.others) }
+    ensures small { IfOk result (λ e. IfSome e (λ t. operators t ≤ 64)) }
+{
+    let (first, mut next) = first_part(Rank::Additive, tokens);
+    let Some(first) = term(alloc, nesting, first)? else {
         return Ok(None);
     };
-    let tree = with_sign(alloc, minus, tree)?;
-    from_left(alloc, Rank::Additive, nesting, tree, rest)
+    let mut tree = if minus {
+        negative(alloc, first)?
+    } else {
+        first
+    };
+    'terms: while let Some((op, behind)) = next {
+        let (part, more) = first_part(Rank::Additive, behind);
+        let Some(right) = term(alloc, nesting, part)? else {
+            return Ok(None);
+        };
+        let Some(sum) = binary(alloc, op, tree, right)? else {
+            return Ok(None);
+        };
+        tree = sum;
+        next = more;
+    }
+    Ok(Some(tree))
 }
 
 /// Factors between times and divided by.
@@ -49,57 +81,22 @@ fn term(alloc: Global, nesting: u8, tokens: &[Token]) -> Result<Option<Expr>, Al
     ensures value { IfOk result (λ e. e ≡ expressions.term_by (expressions.factor_of nesting) tokens.now) }
     ensures small { IfOk result (λ e. IfSome e (λ t. operators t ≤ 64)) }
 {
-    let (first, rest) = first_part(Rank::Multiplicative, tokens);
-    let Some(tree) = factor(alloc, nesting, first)? else {
+    let (first, mut next) = first_part(Rank::Multiplicative, tokens);
+    let Some(mut tree) = factor(alloc, nesting, first)? else {
         return Ok(None);
     };
-    from_left(alloc, Rank::Multiplicative, nesting, tree, rest)
-}
-
-/// A tree with the other parts behind it, from left to right.
-#[cycle(reading)]
-#[tactic(auto, using(crate::proofs::Joins::none_stays))]
-fn from_left(
-    alloc: Global,
-    rank: Rank,
-    nesting: u8,
-    first: Expr,
-    others: &[Token],
-) -> Result<Option<Expr>, AllocError>
-    requires { operators first ≤ 64 }
-    ensures value { IfOk result (λ e. e ≡ expressions.from_left (steps.operand_of rank nesting) (Some first) (steps.others_from (steps.rank_of rank) others.now)) }
-    ensures small { IfOk result (λ e. IfSome e (λ t. operators t ≤ 64)) }
-{
-    let mut tree = first;
-    let mut rest = others;
-    'others: while let Some((op, part, more)) = next_part(rank, rest) {
-        let Some(right) = operand(alloc, rank, nesting, part)? else {
+    'factors: while let Some((op, behind)) = next {
+        let (part, more) = first_part(Rank::Multiplicative, behind);
+        let Some(right) = factor(alloc, nesting, part)? else {
             return Ok(None);
         };
-        let Some(both) = binary(alloc, op, tree, right)? else {
+        let Some(product) = binary(alloc, op, tree, right)? else {
             return Ok(None);
         };
-        tree = both;
-        rest = more;
+        tree = product;
+        next = more;
     }
     Ok(Some(tree))
-}
-
-/// What stands between the operators of a rank.
-#[cycle(reading)]
-fn operand(
-    alloc: Global,
-    rank: Rank,
-    nesting: u8,
-    tokens: &[Token],
-) -> Result<Option<Expr>, AllocError>
-    ensures value { IfOk result (λ e. e ≡ steps.operand_of rank nesting tokens.now) }
-    ensures small { IfOk result (λ e. IfSome e (λ t. operators t ≤ 64)) }
-{
-    match rank {
-        Rank::Additive => term(alloc, nesting, tokens),
-        Rank::Multiplicative => factor(alloc, nesting, tokens),
-    }
 }
 
 /// A number, a name, an expression in parentheses, or a function of one.
@@ -126,8 +123,9 @@ fn factor(alloc: Global, nesting: u8, tokens: &[Token]) -> Result<Option<Expr>, 
 
 /// The expression between a parenthesis that stands before some tokens, and their last.
 #[cycle(reading)]
+#[tactic(auto, using(crate::proofs::Closing::factor_of_open))]
 fn nested(alloc: Global, nesting: u8, behind: &[Token]) -> Result<Option<Expr>, AllocError>
-    ensures value { IfOk result (λ e. e ≡ steps.nested nesting behind.now) }
+    ensures value { IfOk result (λ e. e ≡ expressions.factor_of nesting (tokens.Open ∷ behind.now)) }
     ensures small { IfOk result (λ e. IfSome e (λ t. operators t ≤ 64)) }
 {
     if nesting == 0 {
@@ -151,26 +149,9 @@ fn inside(tokens: &[Token]) -> Option<&[Token]>
     }
 }
 
-/// Whether a minus stands before the first term, that term, and what is behind it.
-fn first_term(tokens: &[Token]) -> (bool, &[Token], &[Token])
-    ensures { (term : expressions.Reader) → let p = parts.parts parts.additive tokens.now in expressions.signed term p.first p.others ≡ expressions.from_left term (steps.with_sign result.0 (term result.1.now)) (steps.others_from parts.additive result.2.now) }
+fn negative(alloc: Global, tree: Expr) -> Result<Expr, AllocError>
+    ensures { IfOk result (λ e. e ≡ Neg tree) }
 {
-    let (first, rest) = first_part(Rank::Additive, tokens);
-    if first.is_empty() {
-        if let Some((Op::Sub, part, more)) = next_part(Rank::Additive, rest) {
-            return (true, part, more);
-        }
-    }
-    (false, first, rest)
-}
-
-fn with_sign(alloc: Global, minus: bool, tree: Expr) -> Result<Expr, AllocError>
-    ensures value { IfOk result (λ e. Some e ≡ steps.with_sign minus (Some tree)) }
-    ensures small { IfOk result (λ e. operators e ≡ operators tree) }
-{
-    if !minus {
-        return Ok(tree);
-    }
     let inner = Box::new(alloc, tree)?;
     Ok(Expr {
         node: Node::Neg(inner),
