@@ -26,38 +26,32 @@ pub loop_from_behind : (before : Option ℕ) (sts : List Stmt) (st : Stmt) → l
 loop_from_behind before [] st = refl
 loop_from_behind before (x ∷ xs) st = loop_from_behind (loop_behind before x.line x.body) xs st
 
+-- the first fault, by the test of each
 abbrev first_of : Bool → Bool → Bool → Bool → Bool → Bool → Bool → Option PartCause
 first_of a b c d e f g =
-    if a then Some causes.BadShape else if b then Some causes.NotBuilt else if c then Some causes.NoPartno
+    if a then Some causes.BadShape else if not b then Some causes.NotBuilt else if c then Some causes.NoPartno
     else if d then Some causes.LabelTwice else if e then Some causes.MacroTwice
     else if f then Some causes.MacroOpen else if g then Some causes.LoopOpen else None
 
-not_twice : (a b c d e f g : Bool) → first_of a b c d e f g ≡ None → (d ≡ false) × (e ≡ false)
-not_twice true b c d e f g h = cc
-not_twice false true c d e f g h = cc
-not_twice false false true d e f g h = cc
-not_twice false false false true e f g h = cc
-not_twice false false false false true f g h = cc
-not_twice false false false false false f g h = (refl, refl)
+none_of : (a b c d e f g : Bool) → first_of a b c d e f g ≡ None → (b ≡ true) × (d ≡ false) × (e ≡ false)
+none_of true b c d e f g h = cc
+none_of false false c d e f g h = cc
+none_of false true true d e f g h = cc
+none_of false true false true e f g h = cc
+none_of false true false false true f g h = cc
+none_of false true false false false f g h = (refl, refl, refl)
 
--- a statement without fault gives no label and no macro again
+-- a statement without fault is built, and gives no label and no macro again
 no_fault : (sts : List Stmt) (label : Option (List ℕ)) (b : Body) → first_fault sts label b ≡ None
-    → (is_label_again sts label ≡ false) × (is_macro_again sts b ≡ false)
+    → (is_built b ≡ true) × (is_label_again sts label ≡ false) × (is_macro_again sts b ≡ false)
 no_fault sts label b h =
-    not_twice (is_misplaced sts b) (not (is_built b)) (lacks_partno sts b) (is_label_again sts label) (is_macro_again sts b) (is_in_macro sts b) (is_out_of_loop sts b) h
+    none_of (is_misplaced sts b) (is_built b) (lacks_partno sts b) (is_label_again sts label) (is_macro_again sts b) (is_in_macro sts b) (is_out_of_loop sts b) h
 
--- and it is built
-not_unbuilt : (a b c d e f g : Bool) → first_of a b c d e f g ≡ None → b ≡ false
-not_unbuilt true b c d e f g h = cc
-not_unbuilt false true c d e f g h = cc
-not_unbuilt false false c d e f g h = refl
-
-pub no_not_built : (sts : List Stmt) (label : Option (List ℕ)) (b : Body) → first_fault sts label b ≡ None → not (is_built b) ≡ false
-no_not_built sts label b h =
-    not_unbuilt (is_misplaced sts b) (not (is_built b)) (lacks_partno sts b) (is_label_again sts label) (is_macro_again sts b) (is_in_macro sts b) (is_out_of_loop sts b) h
+pub no_fault-built : (sts : List Stmt) (label : Option (List ℕ)) (b : Body) → first_fault sts label b ≡ None → is_built b ≡ true
+no_fault-built sts label b h = (no_fault sts label b h).0
 
 pub no_label_again : (sts : List Stmt) (label : Option (List ℕ)) (b : Body) → first_fault sts label b ≡ None → is_label_again sts label ≡ false
-no_label_again sts label b h = (no_fault sts label b h).0
+no_label_again sts label b h = (no_fault sts label b h).1
 
 pub no_macro_again : (sts : List Stmt) (label : Option (List ℕ)) (b : Body) → first_fault sts label b ≡ None → is_macro_again sts b ≡ false
-no_macro_again sts label b h = (no_fault sts label b h).1
+no_macro_again sts label b h = (no_fault sts label b h).2

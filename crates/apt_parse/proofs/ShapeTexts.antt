@@ -1,5 +1,5 @@
 -- The text of PARTNO is the text of its statement.
-use Rattle.std.proofs.Common.{ℕ, Bool, true, false, List, [], ◌∷◌, Option, Some, None}
+use Rattle.std.proofs.Common.{ℕ, List, [], ◌∷◌, Option, Some, None}
 use Rattle.std.specs.Prelude.{IfSome}
 use Rattle.apt_words.specs.declared.Go.{Go}
 use Rattle.apt_words.specs.declared.Side.{Side}
@@ -11,7 +11,6 @@ use Rattle.apt_words.specs.declared.Go.TheVariants as turns
 use Rattle.apt_words.specs.declared.Turn.TheVariants as spins
 use Rattle.apt_words.specs.Options.{◌>>=◌, only_if}
 use Rattle.apt_words.specs.Symbols.{is_name}
-use Rattle.apt_words.specs.Trees.{Tree}
 use Rattle.apt_words.specs.Vocabulary.{word_of}
 use Rattle.apt_words.specs.Sources.{IsTitle, HasText}
 use Rattle.apt_lexis.specs.declared.token.Token.{Token}
@@ -24,6 +23,7 @@ use Rattle.apt_shapes.specs.Motions.{from, goto, godlta, surface, start_one, sta
 use Rattle.apt_shapes.specs.Settings.{titled, one, expressions, units_of, units_in, spindle_turn, spindl_off, spindl_on, spindl, cool_of, coolnt}
 use Rattle.apt_shapes.specs.Flow.{parameters, differ, names_of, macro, arguments_in, call, jumpto, condition, if_in}
 use Rattle.apt_shapes.specs.Shapes.{tool, command, alone, with_arguments, figure, macro_alone, defined, named, if_word, untitled, with_text, body, behind_label, shape}
+use Rattle.apt_parse.proofs.TitleTexts.{only_if-holds}
 
 -- a body that has a text only where it should
 abbrev FitsText : Option Body → Type 0
@@ -84,11 +84,7 @@ circle-fits n (a ∷ b ∷ c ∷ d ∷ e ∷ f ∷ []) =
 circle-fits n _ = tt
 
 macro-fits : (n : List ℕ) (args : List (List Token)) → FitsText (macro n args)
-macro-fits n args = by (parameters args) _ (λ ps. if_fits (differ (names_of ps)) n ps)
-  where
-    if_fits : (b : Bool) (n : List ℕ) (ps : List (List ℕ × Option Tree)) → FitsText (only_if b (bodies.Macro n ps))
-    if_fits true n ps = tt
-    if_fits false n ps = tt
+macro-fits n args = by (parameters args) _ (λ ps. only_if-holds HasText (differ (names_of ps)) (bodies.Macro n ps) tt)
 
 figure-fits : (n : List ℕ) (w : Option Word) (args : List (List Token)) → FitsText (figure n w args)
 figure-fits n (Some words.Point) args = point-fits n args

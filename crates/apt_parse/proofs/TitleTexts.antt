@@ -1,7 +1,8 @@
 -- The text of a title consists of bytes of its line, and is no longer than that.
-use Rattle.std.proofs.Common.{ℕ, zero, suc, ◌+◌, ◌≤◌, ◌==◌, Bool, true, false, List, [], ◌∷◌, length, drop, Option, Some, None, refl, cond, arith}
-use Rattle.std.specs.Prelude.{IfSome, ◌&&◌, IsTrue}
+use Rattle.std.proofs.Common.{ℕ, zero, suc, ◌+◌, ◌≤◌, ◌==◌, Bool, true, false, List, [], ◌∷◌, length, drop, Option, Some, None, refl, arith}
+use Rattle.std.specs.Prelude.{IfSome}
 use Rattle.std.specs.List.{list_all, prefix_len}
+use Rattle.std.proofs.lemmas.Bool.{and_from, and_parts, cond_both}
 use Rattle.apt_words.specs.Options.{◌>>=◌, only_if}
 use Rattle.apt_words.specs.Symbols.{is_name}
 use Rattle.apt_words.specs.Sources.{is_text_byte, IsText, IsTitle}
@@ -12,22 +13,8 @@ use Rattle.apt_lexis.specs.Titles.{Title, blank, behind, front_word, without_bla
 
 -- ---- bytes of a line
 
-first_byte : (b : Bool) (rest : Bool) → IsTrue (b && rest) → IsTrue b
-first_byte true rest h = refl
-first_byte false rest h = h
-
-other_bytes : (b : Bool) (rest : Bool) → IsTrue (b && rest) → IsTrue rest
-other_bytes true rest h = h
-other_bytes false rest h = cc
-
-text_behind : (b : ℕ) (bs : List ℕ) → IsText (b ∷ bs) → IsText bs
-text_behind b bs h = other_bytes (is_text_byte b) (list_all is_text_byte bs) h
-
-byte_and_text : (b : ℕ) (bs : List ℕ) → IsTrue (is_text_byte b) → IsText bs → IsText (b ∷ bs)
-byte_and_text b bs first h = rw (first, h) refl
-
 title_behind_byte : (b : ℕ) (bs : List ℕ) → IsTitle (b ∷ bs) → IsTitle bs
-title_behind_byte b bs h = (text_behind b bs h.0, omega (arith, h.1))
+title_behind_byte b bs h = ((and_parts (is_text_byte b) (list_all is_text_byte bs) h.0).1, omega (arith, h.1))
 
 no_title : IsTitle []
 no_title = (refl, omega arith)
@@ -40,17 +27,13 @@ drop-title (suc n) (b ∷ bs) h = drop-title n bs (title_behind_byte b bs h)
 behind-title : (test : ℕ → Bool) (line : List ℕ) → IsTitle line → IsTitle (behind test line)
 behind-title test line h = drop-title (prefix_len test line) line h
 
-of_two : {A : Type 0} (P : A → Type 0) (b : Bool) (x y : A) → P x → P y → P (cond b x y)
-of_two P true x y p q = p
-of_two P false x y p q = q
-
 without_blank-title : (line : List ℕ) → IsTitle line → IsTitle (without_blank line)
 without_blank-title [] h = no_title
-without_blank-title (b ∷ bs) h = of_two IsTitle (b == blank) bs (b ∷ bs) (title_behind_byte b bs h) h
+without_blank-title (b ∷ bs) h = cond_both (b == blank) bs (b ∷ bs) IsTitle (λ _. title_behind_byte b bs h) (λ _. h)
 
 -- at most as long
 unless_last-short : (b : ℕ) (bs : List ℕ) → length (unless_last b bs) ≤ length bs + 1
-unless_last-short b [] = of_two (λ text. length text ≤ 1) (b == blank) [] (b ∷ []) (omega arith) (omega arith)
+unless_last-short b [] = cond_both (b == blank) [] (b ∷ []) (λ text. length text ≤ 1) (λ _. omega arith) (λ _. omega arith)
 unless_last-short b (c ∷ cs) = omega arith
 
 without_blanks-short : (line : List ℕ) → length (without_blanks line) ≤ length line
@@ -58,20 +41,21 @@ without_blanks-short [] = omega arith
 without_blanks-short (b ∷ bs) = omega (arith, unless_last-short b (without_blanks bs), without_blanks-short bs)
 
 unless_last-text : (b : ℕ) (bs : List ℕ) → IsText (b ∷ bs) → IsText (unless_last b bs)
-unless_last-text b [] h = of_two IsText (b == blank) [] (b ∷ []) refl h
+unless_last-text b [] h = cond_both (b == blank) [] (b ∷ []) IsText (λ _. refl) (λ _. h)
 unless_last-text b (c ∷ cs) h = h
 
 without_blanks-text : (line : List ℕ) → IsText line → IsText (without_blanks line)
 without_blanks-text [] h = refl
 without_blanks-text (b ∷ bs) h =
-    unless_last-text b (without_blanks bs) (byte_and_text b (without_blanks bs) (first_byte (is_text_byte b) (list_all is_text_byte bs) h) (without_blanks-text bs (text_behind b bs h)))
+    let parts = and_parts (is_text_byte b) (list_all is_text_byte bs) h in
+    unless_last-text b (without_blanks bs) (and_from (is_text_byte b) (list_all is_text_byte (without_blanks bs)) parts.0 (without_blanks-text bs parts.1))
 
 without_blanks-title : (line : List ℕ) → IsTitle line → IsTitle (without_blanks line)
 without_blanks-title line h = (without_blanks-text line h.0, omega (arith, h.1, without_blanks-short line))
 
 -- ---- titles
 
-only_if-holds : {A : Type 0} (P : A → Type 0) (b : Bool) (x : A) → P x → IfSome (only_if b x) P
+pub only_if-holds : {A : Type 0} (P : A → Type 0) (b : Bool) (x : A) → P x → IfSome (only_if b x) P
 only_if-holds P true x h = h
 only_if-holds P false x h = tt
 

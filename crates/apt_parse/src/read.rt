@@ -1,5 +1,5 @@
 //! The statements that were read, and what they have opened and named.
-ghost use Rattle.std.specs.Prelude.{◌≡◌, ℕ, List, [], ◌∷◌, ◌++◌, None, OnOk, false};
+ghost use Rattle.std.specs.Prelude.{◌≡◌, [], ◌∷◌, ◌++◌, None, OnOk, false};
 ghost use Rattle.std.specs.List.{list_any};
 ghost use Rattle.apt_parse.specs.Statements as statements;
 ghost use Rattle.apt_parse.specs.ReaderState.{IsRead};
