@@ -8,12 +8,12 @@ use Rattle.apt_cldata.specs.declared.record.Record.TheVariants as records
 use Rattle.apt_cldata.specs.Ranges.{vertices_in, vertex_count, AreRecords}
 use Rattle.apt_cldata.specs.Words.{words_of}
 use Rattle.apt_cldata.specs.Fields.{◌>>=◌}
-use Rattle.apt_cldata.specs.Files.{head, record_bytes, records_bytes, file_of, is_fini, HasFiniLast, AreShort, IsFile}
+use Rattle.apt_cldata.specs.Files.{head, record_bytes, records_bytes, file_of, is_fini, HasFiniLast, AreShort, IsFile, StandApart}
 use Rattle.apt_cldata.specs.Reading.{fault, Piece, piece, first_of, last_of, records_from, behind_head, read_of}
 use Rattle.apt_cldata.proofs.FieldLaws.{bind_only, equal_test, pick, pick_both}
 use Rattle.apt_cldata.proofs.RecordLaws.{bind_again, triples_length}
 use Rattle.apt_cldata.proofs.ByteLaws.{AreBytes, bytes_behind}
-use Rattle.apt_cldata.proofs.PieceLaws.{framed_length, piece_again, piece_only}
+use Rattle.apt_cldata.proofs.PieceLaws.{framed_length, piece_again, piece_only, records_apart}
 
 -- ---- heads
 
@@ -65,6 +65,9 @@ unfolding read_of
 file_again rs is =
     bind_again (behind_head 0 head (file_of rs)) (records_from (length (file_of rs)) 1 (length head)) (records_bytes 1 rs) (Ok rs) (head_again 0 head (records_bytes 1 rs))
     (records_again (length (file_of rs)) 1 (length head) rs is.ranges is.last is.short (omega (arith, is.numbers)) (omega (arith, length-append head (records_bytes 1 rs))))
+
+pub file_apart : (rs : List Record) → IsFile rs → StandApart 1 rs (drop (length head) (file_of rs))
+file_apart rs is = records_apart 1 rs is.ranges is.short (omega (arith, is.numbers))
 
 record AreRead (seq : ℕ) (bytes : List ℕ) (rs : List Record) : Type 0 where
   written : bytes ≡ records_bytes seq rs

@@ -6,14 +6,14 @@ use Rattle.std.specs.Int.{w64}
 use Rattle.std.specs.Ordering.{int_eq}
 use Rattle.std.proofs.Math.Seq.{take-add}
 use Rattle.std.proofs.lemmas.Bool.Decides.{nat_tests}
-use Rattle.std.proofs.lemmas.List.{take_at, drop_at, drop-drop, length-drop, length-append}
+use Rattle.std.proofs.lemmas.List.{drop_at, drop-drop, length-drop, length-append}
 use Rattle.apt_cldata.specs.declared.error.ClCause.TheVariants as causes
 use Rattle.apt_cldata.specs.declared.fields.Misfit.{Misfit}
 use Rattle.apt_cldata.specs.declared.record.Record.{Record}
-use Rattle.apt_cldata.specs.Ranges.{IsRecord}
+use Rattle.apt_cldata.specs.Ranges.{IsRecord, AreRecords}
 use Rattle.apt_cldata.specs.Words.{words_of}
 use Rattle.apt_cldata.specs.Records.{record_of}
-use Rattle.apt_cldata.specs.Files.{most_bytes, length_bytes, word_bytes, framed, record_bytes, IsShort}
+use Rattle.apt_cldata.specs.Files.{most_bytes, length_bytes, word_bytes, framed, record_bytes, records_bytes, IsShort, AreShort, StandApart}
 use Rattle.apt_cldata.specs.Reading.{fault, length_in, word_in, words_in, is_length, length_of, located, record_in, said_by, Piece, piece, first_of}
 use Rattle.apt_cldata.proofs.FieldLaws.{bind_only, equal_test, less_test, both_only, equal_only, equal_again, pick, pick_both}
 use Rattle.apt_cldata.proofs.RecordLaws.{bind_again, SaidBy, record_again}
@@ -207,13 +207,42 @@ piece_only seq at bytes p small e =
       less = omega (arith, length-drop (4 + n) bytes, h.there, h.low);
     })
 
--- no record's bytes are a proper front part of another's
-pub record_bytes_end : (m n : ℕ) (r s : Record) (xs ys : List ℕ) → IsShort r → IsShort s → record_bytes m r ++ xs ≡ record_bytes n s ++ ys → (record_bytes m r ≡ record_bytes n s) × (xs ≡ ys)
-record_bytes_end m n r s xs ys short_r short_s e =
-    let a = framed_at (pos m ∷ words_of r) xs (omega arith) in
-    let b = framed_at (pos n ∷ words_of s) ys (omega arith) in
-    let size : 8 * length (pos m ∷ words_of r) ≡ 8 * length (pos n ∷ words_of s) = sym a.stands ∙ ap length_in e ∙ b.stands in
-    let long : length (record_bytes m r) ≡ length (record_bytes n s) = framed_length (pos m ∷ words_of r) ∙ ap (λ k. 4 + k) size ∙ sym (framed_length (pos n ∷ words_of s)) in (
-      sym (take_at (record_bytes m r) xs (length (record_bytes m r)) refl) ∙ ap (take (length (record_bytes m r))) e ∙ take_at (record_bytes n s) ys (length (record_bytes m r)) (sym long),
-      sym (drop_at (record_bytes m r) xs (length (record_bytes m r)) refl) ∙ ap (drop (length (record_bytes m r))) e ∙ drop_at (record_bytes n s) ys (length (record_bytes m r)) (sym long),
+-- ---- no record's bytes begin another's
+
+framed_alone : (ws vs : List ℤ) (xs ys : List ℕ) → AllFit ws → AllFit vs → 8 * length ws ≤ most_bytes → 8 * length vs ≤ most_bytes → framed ws ++ xs ≡ framed vs ++ ys → (ws ≡ vs) × (xs ≡ ys)
+framed_alone ws vs xs ys fit_w fit_v short_w short_v e =
+    let a = framed_at ws xs short_w in
+    let b = framed_at vs ys short_v in
+    let size : 8 * length ws ≡ 8 * length vs = sym a.stands ∙ ap length_in e ∙ b.stands in
+    let count : length ws ≡ length vs = omega (arith, size) in
+    let read_w : words_in (length ws) (drop 4 (framed ws ++ xs)) ≡ ws = ap (words_in (length ws)) a.body ∙ words_again ws xs fit_w in
+    let read_v : words_in (length vs) (drop 4 (framed vs ++ ys)) ≡ vs = ap (words_in (length vs)) b.body ∙ words_again vs ys fit_v in (
+      sym read_w ∙ (λ i. words_in (count i) (drop 4 (e i))) ∙ read_v,
+      sym a.behind ∙ (λ i. drop (4 + 8 * count i) (e i)) ∙ b.behind,
     )
+
+said_once : (ws : List ℤ) (r s : Record) → SaidBy ws r → SaidBy ws s → r ≡ s
+said_once [] r s h k = absurd h
+said_once (class ∷ []) r s h k = absurd h
+said_once (class ∷ sub ∷ ws) r s h k = let same : Ok r ≡ Ok s = sym h ∙ k in cc
+
+-- bytes that begin with a record begin with no other
+record_alone : (m n : ℕ) (r s : Record) (xs ys : List ℕ) → IsRecord r → IsRecord s → IsShort r → IsShort s → m < 2 ^ 63 → n < 2 ^ 63 → record_bytes m r ++ xs ≡ record_bytes n s ++ ys → (m ≡ n) × (r ≡ s) × (xs ≡ ys)
+record_alone m n r s xs ys is_r is_s short_r short_s few_m few_n e =
+    let fit_r : AllFit (pos m ∷ words_of r) = (record { sfits = few_m }, words_fit r is_r) in
+    let fit_s : AllFit (pos n ∷ words_of s) = (record { sfits = few_n }, words_fit s is_s) in
+    let h = framed_alone (pos m ∷ words_of r) (pos n ∷ words_of s) xs ys fit_r fit_s (omega arith) (omega arith) e in
+    let words : words_of r ≡ words_of s = cc in
+    (cc, said_once (words_of s) r s (subst (λ ws. SaidBy ws r) words (record_again r is_r)) (record_again s is_s), h.1)
+
+pub records_apart : (seq : ℕ) (rs : List Record) → AreRecords rs → AreShort rs → seq + length rs ≤ 2 ^ 63 → StandApart seq rs (records_bytes seq rs)
+records_apart seq [] are short few = refl
+records_apart seq (r ∷ rs) are short few =
+    let rest = records_bytes (seq + 1) rs in
+    let behind : drop (length (record_bytes seq r)) (record_bytes seq r ++ rest) ≡ rest = drop_at (record_bytes seq r) rest (length (record_bytes seq r)) refl in
+    (record {
+      begins = ap (λ bytes. record_bytes seq r ++ bytes) (sym behind);
+      alone = λ {n} {s} {rest = more} few_n is short_s e.
+          let h = record_alone seq n r s rest more are.0 is short.0 short_s (omega arith) few_n e in
+          (h.0, h.1, behind ∙ h.2);
+    }, subst (StandApart (seq + 1) rs) (sym behind) (records_apart (seq + 1) rs are.1 short.1 (omega arith)))

@@ -1,9 +1,9 @@
 -- The bytes of a CL file: its head, and its records one behind the other.
-use Rattle.std.specs.Prelude.{◌≡◌, ℕ, ◌+◌, ◌*◌, ◌^◌, ◌<◌, ◌≤◌, ℤ, pos, Bool, true, false, List, [], ◌∷◌, ◌++◌, length, MatchBool, codes}
+use Rattle.std.specs.Prelude.{◌≡◌, ℕ, ◌+◌, ◌*◌, ◌^◌, ◌<◌, ◌≤◌, ℤ, pos, Bool, true, false, List, [], ◌∷◌, ◌++◌, length, drop, MatchBool, codes}
 use Rattle.std.specs.List.{flat_map}
 use Rattle.std.specs.Int.{w32, w64, to_be_bytes, cast_unsigned}
 use Rattle.apt_cldata.specs.declared.record.Record.{Record}
-use Rattle.apt_cldata.specs.Ranges.{AreRecords, Mark, Begin, End, Fini, Other, mark_of}
+use Rattle.apt_cldata.specs.Ranges.{IsRecord, AreRecords, Mark, Begin, End, Fini, Other, mark_of}
 use Rattle.apt_cldata.specs.Words.{words_of}
 
 -- ---- words and bytes
@@ -35,6 +35,21 @@ abbrev pub records_bytes : ℕ → List Record → List ℕ
 records_bytes seq [] = []
 records_bytes seq (r ∷ rs) = record_bytes seq r ++ records_bytes (seq + 1) rs
 
+-- the words of each record fit a length
+abbrev pub IsShort : Record → Type 0
+IsShort r = 8 * (1 + length (words_of r)) ≤ most_bytes
+
+-- bytes that begin with a record, and with no other
+pub record BeginsAlone (seq : ℕ) (r : Record) (bytes : List ℕ) : Type 0 where
+  pub begins : bytes ≡ record_bytes seq r ++ drop (length (record_bytes seq r)) bytes
+  pub alone : {n : ℕ} {s : Record} {rest : List ℕ} → n < 2 ^ 63 → IsRecord s → IsShort s → bytes ≡ record_bytes n s ++ rest
+      → (seq ≡ n) × (r ≡ s) × (drop (length (record_bytes seq r)) bytes ≡ rest)
+
+-- the bytes of records, numbered by one from a number on, each of which is there alone
+abbrev pub StandApart : ℕ → List Record → List ℕ → Type 0
+StandApart seq [] bytes = bytes ≡ []
+StandApart seq (r ∷ rs) bytes = BeginsAlone seq r bytes × StandApart (seq + 1) rs (drop (length (record_bytes seq r)) bytes)
+
 -- ---- files
 
 abbrev pub head : List ℕ
@@ -56,10 +71,6 @@ is_fini r = is_fini_mark (mark_of r)
 abbrev pub HasFiniLast : List Record → Type 0
 HasFiniLast [] = ⊥
 HasFiniLast (r ∷ rs) = MatchBool (is_fini r) (rs ≡ []) (HasFiniLast rs)
-
--- the words of each record fit a length
-abbrev pub IsShort : Record → Type 0
-IsShort r = 8 * (1 + length (words_of r)) ≤ most_bytes
 
 abbrev pub AreShort : List Record → Type 0
 AreShort [] = Unit {0}

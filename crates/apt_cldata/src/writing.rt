@@ -1,6 +1,6 @@
 //! Writing a CL file.
-ghost use Rattle.std.specs.Prelude.{◌≡◌, ◌*◌, ◌^◌, ◌<◌, ◌++◌, Ok, length, OnOk, IfOk};
-ghost use Rattle.apt_cldata.specs.Files.{IsFile, IsShort, file_of};
+ghost use Rattle.std.specs.Prelude.{◌≡◌, ◌*◌, ◌^◌, ◌<◌, ◌++◌, Ok, length, drop, OnOk, IfOk};
+ghost use Rattle.apt_cldata.specs.Files.{IsFile, IsShort, StandApart, file_of, head};
 ghost use Rattle.apt_cldata.specs.Files as spec;
 ghost use Rattle.apt_cldata.specs.Reading.{read_of};
 
@@ -10,12 +10,14 @@ use crate::reading::HEAD;
 use crate::words::numbered;
 use std::alloc::{AllocError, Global};
 
-/// The bytes of a CL file of these records, which are read as them again.
-#[tactic(auto, using(crate::proofs::Laws::file_again))]
+/// The bytes of a CL file of these records, which are read as them again; where a record begins, no other
+/// record's bytes begin.
+#[tactic(auto, using(crate::proofs::Laws::file_again, crate::proofs::Laws::file_apart))]
 pub fn write(alloc: Global, records: &[Record]) -> Result<Vec<u8>, AllocError>
     requires { IsFile records.now }
     ensures bytes { IfOk result (λ v. v.items ≡ file_of records.now) }
     ensures again { IfOk result (λ v. read_of v.items ≡ Ok records.now) }
+    ensures apart { IfOk result (λ v. StandApart 1 records.now (drop (length head) v.items)) }
 {
     write_exactly(alloc, records)
 }
