@@ -239,10 +239,12 @@ pub records_apart : (seq : ℕ) (rs : List Record) → AreRecords rs → AreShor
 records_apart seq [] are short few = refl
 records_apart seq (r ∷ rs) are short few =
     let rest = records_bytes (seq + 1) rs in
-    let behind : drop (length (record_bytes seq r)) (record_bytes seq r ++ rest) ≡ rest = drop_at (record_bytes seq r) rest (length (record_bytes seq r)) refl in
-    (record {
-      begins = ap (λ bytes. record_bytes seq r ++ bytes) (sym behind);
-      alone = λ {n} {s} {rest = more} few_n is short_s e.
-          let h = record_alone seq n r s rest more are.0 is short.0 short_s (omega arith) few_n e in
-          (h.0, h.1, behind ∙ h.2);
-    }, subst (StandApart (seq + 1) rs) (sym behind) (records_apart (seq + 1) rs are.1 short.1 (omega arith)))
+    let behind : drop (length (record_bytes seq r)) (record_bytes seq r ++ rest) ≡ rest = drop_at (record_bytes seq r) rest (length (record_bytes seq r)) refl in (
+      record {
+        begins = ap (λ bytes. record_bytes seq r ++ bytes) (sym behind);
+        alone = λ {n} {s} {rest = more} few_n is short_s e.
+            let h = record_alone seq n r s rest more are.0 is short.0 short_s (omega arith) few_n e in
+            (h.0, h.1, behind ∙ h.2);
+      },
+      subst (StandApart (seq + 1) rs) (sym behind) (records_apart (seq + 1) rs are.1 short.1 (omega arith)),
+    )
