@@ -1,5 +1,5 @@
 -- Names stand for lines and numbers alone so far, and so contours run along lines to lines.
-use Rattle.std.proofs.Common.{◌≡◌, ℕ, nat_eq, Bool, true, false, List, [], ◌∷◌, Option, Some, None, IfSome, refl, cond}
+use Rattle.std.proofs.Common.{◌≡◌, ℕ, nat_eq, Bool, true, false, List, [], ◌∷◌, Option, Some, None, IfSome, refl, sym, subst, cond}
 use Rattle.std.specs.Map.{lookup}
 use Rattle.std.specs.Cmp.Lexicographic.{pointwise}
 use Rattle.indexmap.specs.IndexMap.{insert_entry}
@@ -25,6 +25,7 @@ use Rattle.apt_defs.proofs.Tables.{looked_up}
 use Rattle.apt_meaning.specs.declared.situation.Settings.{Settings}
 use Rattle.apt_meaning.specs.declared.situation.Situation.{Situation}
 use Rattle.apt_meaning.specs.declared.motion.Motion.{Motion}
+use Rattle.apt_meaning.specs.declared.effect.Effect.{Effect}
 use Rattle.apt_meaning.specs.Situations.{with_side}
 use Rattle.apt_meaning.specs.Motions.{as_surface, surface_in, motion, if_turned, motion_at}
 use Rattle.apt_meaning.specs.Effects.{moves, cuts, moved_from, start_position_at, effect_of}
@@ -145,3 +146,6 @@ made at deeds.Loopst is lines = tt
 made at deeds.Loopnd is lines = tt
 made at deeds.Jumpto is lines = tt
 made at deeds.If is lines = tt
+
+pub lined : (at : Situation) (deed : Deed) (e : Option Effect) → IsSituation at → HasNoCircle at.table → e ≡ effect_of at deed → IfSome e IsLined
+lined at deed e is lines same = subst (λ (o : Option Effect). IfSome o IsLined) (sym same) (made at deed is lines)
