@@ -7,7 +7,6 @@ ghost use Rattle.apt_scalar.specs.Scalars.{IsScalar};
 ghost use Rattle.apt_scalar.specs.StepScalars.{HasScalars, IsScalarOrNone};
 ghost use Rattle.apt_plane.specs.Vectors as vectors;
 ghost use Rattle.apt_defs.specs.Definitions as definitions;
-ghost use Rattle.apt_defs.specs.Definitions.{line_figure};
 ghost use Rattle.apt_meaning.specs.Effects as asking;
 ghost use Rattle.apt_meaning.specs.Ranges.{IsSituation, IsStartUp};
 ghost use Rattle.apt_meaning.specs.Situations as situations;
