@@ -60,7 +60,6 @@ pub(crate) fn refusal(at: &Situation, deed: &Deed) -> Option<Case>
 }
 
 /// A line by four numbers.
-#[tactic(auto, using(crate::proofs::Cases::unless_err))]
 fn line(units: Units, x: i64, y: i64, u: i64, v: i64) -> Option<Case>
     requires x { IsScalar x }
     requires y { IsScalar y }
@@ -148,7 +147,6 @@ fn godlta(at: &Situation, x: i64, y: i64, z: i64) -> Option<Case>
 }
 
 /// GO: both names are there before either's kind is tried.
-#[tactic(auto, using(crate::proofs::Cases::unless_err), unfolding(apt_meaning::specs::StartUps::start_up_at))]
 fn go(at: &Situation, how_a: Stop, a: &Symbol, how_b: Stop, b: &Symbol) -> Option<Case>
     requires { IsSituation at.now }
     ensures { result ≡ first_of (refusals.go_cases at.now how_a a.now how_b b.now) }
