@@ -1,6 +1,5 @@
 pub mod Walks
 pub mod InFront
-pub mod Asking
 pub mod Ranges
 pub mod Steps
 mod Worked

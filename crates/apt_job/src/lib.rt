@@ -2,7 +2,6 @@
 //! they make.
 #![tactic(auto)]
 
-mod effects;
 mod error;
 mod fronts;
 mod legs;

@@ -19,12 +19,11 @@ ghost use Rattle.apt_job.specs.Fronts.{points_at};
 ghost use Rattle.apt_job.specs.Jobs.{jobs_by, MakesJobs};
 
 use crate::JobError;
-use crate::effects::effect;
 use crate::fronts::taken;
 use crate::legs::job_of;
 use apt_certify::Job;
 use apt_cldata::{Position, Record};
-use apt_meaning::{Effect, Motion, Situation};
+use apt_meaning::{Effect, Motion, Situation, effect_of};
 use apt_words::Step;
 use std::alloc::{AllocError, Global};
 
@@ -103,7 +102,7 @@ pub fn jobs(alloc: Global, steps: &[Step], records: &[Record]) -> Result<Vec<Job
     let mut rest = records;
     let mut jobs = Vec::new(alloc);
     'steps: for st in steps {
-        let found = effect(&at, &st.deed)?;
+        let found = effect_of(&at, &st.deed)?;
         let front = match taken(st, &found, rest) {
             Ok(front) => front,
             Err(fitting) => return Err(entry(records, rest, fitting)),

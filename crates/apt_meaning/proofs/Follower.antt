@@ -23,7 +23,7 @@ use Rattle.apt_meaning.proofs.Agree.{Agrees, AreLike, alike, agrees_behind, agre
 use Rattle.apt_meaning.proofs.Asked.{answered}
 use Rattle.apt_meaning.proofs.Kept.{kept, first_situation-IsSituation}
 use Rattle.apt_meaning.proofs.Said.{of_some}
-use Rattle.apt_meaning.proofs.Straight.{still_lines, made}
+use Rattle.apt_meaning.proofs.Straight.{made, lines_behind}
 use Rattle.apt_meaning.proofs.Walk.{fit, done, front_ok}
 
 -- ---- what records in range say of their effect
@@ -75,12 +75,6 @@ effect_in (effects.Cuts m) (effects.Defines n g) same good lined leads = absurd 
 effect_in (effects.Cuts m) (effects.Sets t said) same good lined leads = absurd same
 effect_in (effects.Cuts m) (effects.Moves reach to) same good lined leads = absurd same
 effect_in (effects.Cuts m) (effects.Cuts o) same good lined leads = lined.motion
-
-lines_behind : (at : Situation) (e : Effect) (vertices : List Pt) → HasNoCircle at.table → IsLined e → HasNoCircle (after at e vertices).table
-lines_behind at (effects.Defines n f) vertices lines lined = still_lines at.table n f lines lined
-lines_behind at (effects.Sets s said) vertices lines lined = lines
-lines_behind at (effects.Moves reach to) vertices lines lined = lines
-lines_behind at (effects.Cuts m) vertices lines lined = lines
 
 -- ---- the walk beside the compiler's
 

@@ -16,6 +16,7 @@ pub mod Stands
 pub mod Walk
 pub mod Begins
 pub mod Meetings
+pub mod Moving
 pub mod Straight
 pub mod Agree
 pub mod Follower

@@ -1,5 +1,5 @@
 -- Names stand for lines and numbers alone so far, and so contours run along lines to lines.
-use Rattle.std.proofs.Common.{◌≡◌, ℕ, nat_eq, Bool, true, false, List, [], ◌∷◌, Option, Some, None, IfSome, refl, cond}
+use Rattle.std.proofs.Common.{◌≡◌, ℕ, nat_eq, Bool, true, false, List, [], ◌∷◌, Option, Some, None, IfSome, refl, sym, subst, cond}
 use Rattle.std.specs.Map.{lookup}
 use Rattle.std.specs.Cmp.Lexicographic.{pointwise}
 use Rattle.indexmap.specs.IndexMap.{insert_entry}
@@ -9,6 +9,7 @@ use Rattle.apt_words.specs.declared.deed.Deed.{Deed}
 use Rattle.apt_words.specs.declared.deed.Deed.TheVariants as deeds
 use Rattle.apt_words.specs.Options.{◌>>=◌}
 use Rattle.apt_plane.specs.declared.figures.Dir.{Dir}
+use Rattle.apt_plane.specs.declared.figures.Pt.{Pt}
 use Rattle.apt_plane.specs.declared.figures.Surface.{Surface}
 use Rattle.apt_plane.specs.declared.figures.Surface.TheVariants as surfaces
 use Rattle.apt_plane.specs.Ranges.{IsSurface}
@@ -25,8 +26,11 @@ use Rattle.apt_defs.proofs.Tables.{looked_up}
 use Rattle.apt_meaning.specs.declared.situation.Settings.{Settings}
 use Rattle.apt_meaning.specs.declared.situation.Situation.{Situation}
 use Rattle.apt_meaning.specs.declared.motion.Motion.{Motion}
+use Rattle.apt_meaning.specs.declared.effect.Effect.{Effect}
+use Rattle.apt_meaning.specs.declared.effect.Effect.TheVariants as effects
 use Rattle.apt_meaning.specs.Situations.{with_side}
 use Rattle.apt_meaning.specs.Motions.{as_surface, surface_in, motion, if_turned, motion_at}
+use Rattle.apt_meaning.specs.Records.{after}
 use Rattle.apt_meaning.specs.Effects.{moves, cuts, moved_from, start_position_at, effect_of}
 use Rattle.apt_meaning.specs.Ranges.{IsPositionOrNone, AreSettings, IsSituation}
 use Rattle.apt_meaning.specs.Straight.{IsNoCircle, HasNoCircle, IsStraightMotion, IsLined}
@@ -47,7 +51,7 @@ either_table : (b : Bool) (x y : Table) → HasNoCircle x → HasNoCircle y → 
 either_table true x y p q = p
 either_table false x y p q = q
 
-pub still_lines : (table : Table) (name : List ℕ) (f : Figure) → HasNoCircle table → IsNoCircle f → HasNoCircle (table_with table name f)
+still_lines : (table : Table) (name : List ℕ) (f : Figure) → HasNoCircle table → IsNoCircle f → HasNoCircle (table_with table name f)
 still_lines [] name f lines is = (is, tt)
 still_lines (e ∷ es) name f lines is =
     either_table (pointwise nat_eq name e.0) ((e.0, f) ∷ es) (e ∷ insert_entry (pointwise nat_eq) es name f) (is, lines.1) (lines.0, still_lines es name f lines.1 is)
@@ -145,3 +149,13 @@ made at deeds.Loopst is lines = tt
 made at deeds.Loopnd is lines = tt
 made at deeds.Jumpto is lines = tt
 made at deeds.If is lines = tt
+
+pub lined : (at : Situation) (deed : Deed) (e : Option Effect) → IsSituation at → HasNoCircle at.table → e ≡ effect_of at deed → IfSome e IsLined
+lined at deed e is lines same = subst (λ (o : Option Effect). IfSome o IsLined) (sym same) (made at deed is lines)
+
+-- no name stands for a circle behind a step either
+pub lines_behind : (at : Situation) (e : Effect) (vertices : List Pt) → HasNoCircle at.table → IsLined e → HasNoCircle (after at e vertices).table
+lines_behind at (effects.Defines n f) vertices lines lined = still_lines at.table n f lines lined
+lines_behind at (effects.Sets s said) vertices lines lined = lines
+lines_behind at (effects.Moves reach to) vertices lines lined = lines
+lines_behind at (effects.Cuts m) vertices lines lined = lines

@@ -3,6 +3,7 @@
 #![tactic(auto)]
 
 mod effect;
+mod effects;
 mod motion;
 mod moves;
 mod settings;
@@ -11,6 +12,7 @@ mod start_up;
 mod surface;
 
 pub use effect::Effect;
+pub use effects::effect_of;
 pub use motion::{Motion, StartUp, is_too_fine, turn_at};
 pub use moves::{moved_by, position_by};
 pub use situation::{Settings, Situation};

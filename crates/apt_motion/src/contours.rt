@@ -1,26 +1,24 @@
 //! What contours ask for, and where they end.
 
-ghost use Rattle.std.specs.Prelude.{◌≡◌, ◌≤◌, ◌∷◌, pos, false, unsigned_abs, IfOk};
+ghost use Rattle.std.specs.Prelude.{◌≡◌, ◌≤◌, [], ◌∷◌, false, unsigned_abs, Some, IfOk, MatchResult};
 ghost use Rattle.apt_plane.specs.Ranges.{IsPoint, IsLine, IsSurface, IsSense};
-ghost use Rattle.apt_words.specs.Rows.{unless};
+ghost use Rattle.apt_words.specs.Rows.{first_of, unless};
 ghost use Rattle.apt_words.specs.declared.deed.Deed.TheVariants as deeds;
 ghost use Rattle.apt_canon.specs.Meeting.{meeting_point};
-ghost use Rattle.apt_offset.specs.Ranges.{IsTolerance};
-ghost use Rattle.apt_offset.specs.Targets as targets;
-ghost use Rattle.apt_offset.specs.Turns as turns;
 ghost use Rattle.apt_stop.specs.Lines as lines;
 ghost use Rattle.apt_cldata.specs.Ranges.{IsPosition};
 ghost use Rattle.apt_meaning.specs.Compiled.{asked};
 ghost use Rattle.apt_meaning.specs.Effects.{effect_of};
 ghost use Rattle.apt_meaning.specs.Motions as motions;
-ghost use Rattle.apt_meaning.specs.Ranges.{IsSituation, AreSettings, IsAllowance, IsMotion};
+ghost use Rattle.apt_meaning.specs.Ranges.{IsSituation, AreSettings, IsMotion};
 ghost use Rattle.apt_meaning.specs.Refusals as refusals;
 ghost use Rattle.apt_meaning.specs.Refusals.{refusal_of};
-ghost use Rattle.apt_motion.specs.Asking.{IsSurfaceNamed, IsCut, cut_to};
+ghost use Rattle.apt_motion.specs.Finding.{IsFound, cut_of};
 
+use crate::found::Found;
 use apt_cldata::Position;
-use apt_defs::{Figure, Table};
-use apt_meaning::{Motion, Settings, Situation, is_too_fine, turn_at};
+use apt_defs::Table;
+use apt_meaning::{Effect, Motion, Settings, Situation, is_too_fine, surface_of, turn_at};
 use apt_num::Sign;
 use apt_offset::lacks_room;
 use apt_offset::signs::is_zero;
@@ -31,22 +29,18 @@ use apt_words::{Case, Go, Side, Stop, Symbol};
 /// How far a start may be off its track, in grid units.
 const OFF_TRACK: i64 = 3;
 
-/// A contour that is cut to its end.
-#[derive(Clone, Copy)]
-pub(crate) struct Cut {
-    pub motion: Motion,
-    pub end: Pt,
-}
-
 /// The surface that a name stands for.
-pub(crate) fn surface_named(table: &Table, name: &Symbol) -> Result<Surface, Case>
-    ensures named { IsSurfaceNamed table.now name.now result }
+///
+/// # Errors
+///
+/// The first case that refuses it: `Undefined`, else `WrongKind`.
+fn surface_named(table: &Table, name: &Symbol) -> Result<Surface, Case>
+    ensures named { MatchResult result (λ s. motions.surface_in table.now name.now ≡ Some s) (λ case. first_of (refusals.name_cases table.now name.now []) ≡ Some case) }
     ensures range { IfOk result IsSurface }
 {
     match table.get(name) {
         None => Err(Case::Undefined),
-        Some(Figure::Shape(surface)) => Ok(surface),
-        Some(Figure::Point { .. } | Figure::Scalar) => Err(Case::WrongKind),
+        Some(figure) => surface_of(figure).ok_or(Case::WrongKind),
     }
 }
 
@@ -55,7 +49,6 @@ pub(crate) fn surface_named(table: &Table, name: &Symbol) -> Result<Surface, Cas
 /// # Errors
 ///
 /// The first case that refuses it.
-#[tactic(auto, unfolding(apt_meaning::specs::Motions::motion_at))]
 pub(crate) fn contour(
     at: &Situation,
     side: Option<Side>,
@@ -63,9 +56,9 @@ pub(crate) fn contour(
     drive: &Symbol,
     how: Stop,
     check: &Symbol,
-) -> Result<Cut, Case>
+) -> Result<Found, Case>
     requires { IsSituation at.now }
-    ensures { IsCut (asked (refusal_of at.now (deeds.Contour side go drive.now how check.now)) (effect_of at.now (deeds.Contour side go drive.now how check.now))) result }
+    ensures { IsFound (asked (refusal_of at.now (deeds.Contour side go drive.now how check.now)) (effect_of at.now (deeds.Contour side go drive.now how check.now))) result }
 {
     let Some(start) = at.position else {
         return Err(Case::NoFrom);
@@ -85,12 +78,12 @@ fn cut_turned(
     turned: Sign,
     how: Stop,
     check: &Surface,
-) -> Result<Cut, Case>
+) -> Result<Found, Case>
     requires settings { AreSettings settings.now }
     requires start { IsPosition start }
     requires drive { IsSurface drive.now }
     requires check { IsSurface check.now }
-    ensures { result ≡ cut_to (motions.motion settings.now start drive.now turned how check.now) (unless (refusals.turned_cases settings.now start drive.now turned how check.now) (motions.contact (motions.motion settings.now start drive.now turned how check.now))) }
+    ensures { result ≡ unless (refusals.turned_cases settings.now start drive.now turned how check.now) (cut_of (motions.motion settings.now start drive.now turned how check.now)) }
 {
     if settings.rapid {
         return Err(Case::RapidContour);
@@ -108,12 +101,16 @@ fn cut_turned(
 }
 
 /// A motion with its contact.
-fn to_contact(motion: Motion) -> Result<Cut, Case>
+#[tactic(auto, using(crate::proofs::Cuts::cut_unless))]
+fn to_contact(motion: Motion) -> Result<Found, Case>
     requires { IsMotion motion }
-    ensures { result ≡ cut_to motion (unless (refusals.motion_cases motion) (motions.contact motion)) }
+    ensures { result ≡ unless (refusals.motion_cases motion) (cut_of motion) }
 {
     match end_of(&motion) {
-        Ok(end) => Ok(Cut { motion, end }),
+        Ok(end) => Ok(Found {
+            effect: Effect::Cuts(motion),
+            end: Some(end),
+        }),
         Err(case) => Err(case),
     }
 }

@@ -2,13 +2,10 @@
 #![tactic(auto)]
 
 mod contours;
-mod deeds;
-mod moves;
+mod found;
 mod records;
+mod refusals;
 mod runs;
-mod settings;
-mod starts;
-mod stopped;
 #[cfg(test)]
 mod tests;
 

@@ -9,7 +9,7 @@ ghost use Rattle.apt_meaning.specs.Records as written;
 ghost use Rattle.apt_meaning.specs.declared.effect.Effect.TheVariants as effects;
 ghost use Rattle.apt_motion.specs.Finding.{ends_at};
 
-use crate::deeds::Found;
+use crate::found::Found;
 use apt_cldata::{Position, Record, Vertices};
 use apt_meaning::{Effect, Motion, Situation};
 use apt_plane::Pt;

@@ -11,9 +11,8 @@ ghost use Rattle.apt_meaning.specs.Situations.{first_situation};
 ghost use Rattle.apt_meaning.specs.declared.situation.Situation.{Situation};
 ghost use Rattle.apt_motion.specs.Ends.{Ends};
 
-use crate::deeds::find;
+use crate::found::find;
 use crate::records::take;
-use crate::stopped::Stopped;
 use apt_cldata::Record;
 use apt_meaning::Situation;
 use apt_words::{Case, Refusal, Step};
@@ -58,10 +57,9 @@ fn run_all(alloc: Global, steps: &[Step]) -> Result<Vec<Record>, RunError>
     let mut at = Situation::first(alloc);
     let mut records = Vec::new(alloc);
     'steps: for st in steps {
-        let found = match find(&at, &st.deed) {
+        let found = match find(&at, &st.deed)? {
             Ok(found) => found,
-            Err(Stopped::Refused(case)) => return Err(refused(st, case)),
-            Err(Stopped::NoMemory) => return Err(RunError::NoMemory),
+            Err(case) => return Err(refused(st, case)),
         };
         at = take(alloc, &mut records, at, st, found)?;
     }

@@ -1,4 +1,4 @@
-//! What steps ask for, where no case refuses them.
+//! What steps ask for, refusals aside.
 
 ghost use Rattle.std.specs.Prelude.{◌≡◌, ◌≤◌, ◌^◌, unsigned_abs, Some, IfOk, IfSome};
 ghost use Rattle.apt_words.specs.Built.{IsBuilt};
@@ -7,32 +7,33 @@ ghost use Rattle.apt_scalar.specs.Scalars.{IsScalar};
 ghost use Rattle.apt_scalar.specs.StepScalars.{HasScalars, IsScalarOrNone};
 ghost use Rattle.apt_plane.specs.Vectors as vectors;
 ghost use Rattle.apt_defs.specs.Definitions as definitions;
-ghost use Rattle.apt_defs.specs.Definitions.{line_figure};
 ghost use Rattle.apt_meaning.specs.Effects as asking;
-ghost use Rattle.apt_meaning.specs.Effects.{effect_of};
 ghost use Rattle.apt_meaning.specs.Ranges.{IsSituation, IsStartUp};
 ghost use Rattle.apt_meaning.specs.Situations as situations;
 ghost use Rattle.apt_meaning.specs.StartUps as start_ups;
 ghost use Rattle.apt_meaning.specs.Straight.{HasNoCircle, IsLined};
-ghost use Rattle.apt_job.specs.Asking.{IsStill};
 
+use crate::{Effect, Motion, Situation, StartUp, moved_by, position_by, surface_in, turn_at};
 use apt_cldata::{Note, Position, Reach};
 use apt_defs::Figure;
-use apt_meaning::{Effect, Motion, Situation, StartUp, moved_by, position_by, surface_in, turn_at};
 use apt_offset::signs::is_zero;
 use apt_plane::{Dir, Line, Pt, Surface};
 use apt_scalar::{grid_units, tenths};
 use apt_words::{Deed, Go, Side, Stop, Symbol, Units};
 use std::alloc::AllocError;
 
-/// What a step asks for, None where the point or the turn that it needs is not there.
-#[tactic(auto, using(crate::proofs::Asking::lined))]
-pub(crate) fn effect(at: &Situation, deed: &Deed) -> Result<Option<Effect>, AllocError>
+/// What a step asks for at a situation, whether or not a case refuses it: the figure of a name; the settings
+/// behind it, with the note that says so, where it has one; the position to which it leads, and how; or the
+/// motion of a contour, from the position on. Lengths and coordinates are in grid units by the units that hold,
+/// feeds in tenths. None where a GODLTA, a GO or a contour has no position to start from, a name of GO or a
+/// contour stands for no surface, a case refuses the point of GO, or a contour has no turn.
+#[tactic(auto, using(crate::proofs::Straight::lined))]
+pub fn effect_of(at: &Situation, deed: &Deed) -> Result<Option<Effect>, AllocError>
     requires situation { IsSituation at.now }
     requires lines { HasNoCircle at.now.table }
     requires scalars { HasScalars deed.now }
     requires built { IsBuilt deed.now }
-    ensures value { IfOk result (λ e. e ≡ effect_of at.now deed.now) }
+    ensures value { IfOk result (λ e. e ≡ asking.effect_of at.now deed.now) }
     ensures lined { IfOk result (λ e. IfSome e IsLined) }
 {
     asked(at, deed)
@@ -42,101 +43,54 @@ fn asked(at: &Situation, deed: &Deed) -> Result<Option<Effect>, AllocError>
     requires situation { IsSituation at.now }
     requires scalars { HasScalars deed.now }
     requires built { IsBuilt deed.now }
-    ensures { IfOk result (λ e. e ≡ effect_of at.now deed.now) }
+    ensures { IfOk result (λ e. e ≡ asking.effect_of at.now deed.now) }
 {
+    let s = at.settings;
     match deed {
+        Deed::Partno(text) => Ok(Some(Effect::says(s, Note::Partno(text.copied()?)))),
+        Deed::Units(units) => Ok(Some(Effect::says(s.with_units(*units), Note::Units(*units)))),
+        Deed::Remark(_) | Deed::Clprnt | Deed::Nopost | Deed::Machin => Ok(Some(Effect::sets(s))),
+        Deed::Assign(name, _) => Ok(Some(Effect::Defines(name.copied(), Figure::Scalar))),
+        Deed::LineXy(name, x, y, u, v) => Ok(Some(line(at, name, *x, *y, *u, *v))),
+        Deed::Cutter(v) => Ok(Some(cutter(at, *v))),
+        Deed::Intol(v) => Ok(Some(intol(at, *v))),
+        Deed::Outtol(v) => Ok(Some(outtol(at, *v))),
+        Deed::Fedrat(v) => Ok(Some(fedrat(at, *v))),
+        Deed::Tool(side) => Ok(Some(Effect::sets(s.on_side(*side)))),
         Deed::FromXy(x, y, z) => Ok(Some(reached(at, Reach::From, *x, *y, *z))),
         Deed::GotoXy(x, y, z) => Ok(Some(reached(at, Reach::Goto, *x, *y, *z))),
         Deed::Godlta(x, y, z) => Ok(godlta(at, *x, *y, *z)),
         Deed::GoStart(how_a, a, Some((how_b, b))) => Ok(go(at, *how_a, a, *how_b, b)),
-        Deed::Contour(side, go, drive, how, check) => {
-            Ok(contour(at, *side, *go, drive, *how, check))
-        }
-        _ => match still(at, deed) {
-            Ok(effect) => Ok(Some(effect)),
-            Err(e) => Err(e),
-        },
+        Deed::Contour(side, go, drive, how, check) => Ok(contour(
+            at, *side, *go, drive, *how, check,
+        )),
+        Deed::Rapid => Ok(Some(Effect::says(s.with_rapid(), Note::Rapid))),
+        Deed::Halt => Ok(Some(Effect::says(s, Note::Stop))),
+        Deed::OptHalt => Ok(Some(Effect::says(s, Note::OptStop))),
+        Deed::EndWord => Ok(Some(Effect::says(s.behind_end(), Note::End))),
+        Deed::Fini => Ok(Some(Effect::says(s, Note::Fini))),
+        _ => unreachable!(),
     }
 }
 
-/// What a step asks for that moves no tool.
-fn still(at: &Situation, deed: &Deed) -> Result<Effect, AllocError>
-    requires scalars { HasScalars deed.now }
-    requires built { IsBuilt deed.now }
-    requires still { IsStill deed.now }
-    ensures { IfOk result (λ e. Some e ≡ effect_of at.now deed.now) }
-{
-    let settings = at.settings;
-    match deed {
-        Deed::Partno(text) => Ok(Effect::says(settings, Note::Partno(text.copied()?))),
-        Deed::Units(units) => Ok(Effect::says(settings.with_units(*units), Note::Units(*units))),
-        Deed::Remark(_) | Deed::Clprnt | Deed::Nopost | Deed::Machin => Ok(Effect::sets(settings)),
-        Deed::Assign(name, _) => Ok(Effect::Defines(name.copied(), Figure::Scalar)),
-        Deed::LineXy(name, x, y, u, v) => {
-            Ok(Effect::Defines(name.copied(), line(settings.units, *x, *y, *u, *v)))
-        }
-        Deed::Cutter(v) => Ok(cutter(at, *v)),
-        Deed::Intol(v) => Ok(intol(at, *v)),
-        Deed::Outtol(v) => Ok(outtol(at, *v)),
-        Deed::Fedrat(v) => Ok(fedrat(at, *v)),
-        Deed::Tool(side) => Ok(Effect::sets(settings.on_side(*side))),
-        Deed::Rapid => Ok(Effect::says(settings.with_rapid(), Note::Rapid)),
-        Deed::Halt => Ok(Effect::says(settings, Note::Stop)),
-        Deed::OptHalt => Ok(Effect::says(settings, Note::OptStop)),
-        Deed::EndWord => Ok(Effect::says(settings.behind_end(), Note::End)),
-        Deed::Fini => Ok(Effect::says(settings, Note::Fini)),
-        Deed::FromXy(_, _, _)
-        | Deed::GotoXy(_, _, _)
-        | Deed::Godlta(_, _, _)
-        | Deed::GoStart(_, _, _)
-        | Deed::Contour(_, _, _, _, _)
-        | Deed::PointXy(_, _, _, _)
-        | Deed::PointLines(_, _, _)
-        | Deed::PointPick(_, _, _, _)
-        | Deed::PointCenter(_, _)
-        | Deed::LinePoints(_, _, _)
-        | Deed::LinePar(_, _, _)
-        | Deed::LinePerp(_, _, _)
-        | Deed::LineAt(_, _, _, _)
-        | Deed::LineTan(_, _, _, _)
-        | Deed::LineTwo(_, _, _, _, _)
-        | Deed::CircleXyr(_, _, _, _)
-        | Deed::CirclePoints(_, _, _, _)
-        | Deed::CircleRadius(_, _, _)
-        | Deed::CircleTan(_, _, _)
-        | Deed::CircleThrough(_, _, _)
-        | Deed::CircleCorner(_, _, _, _, _, _)
-        | Deed::FromPoint(_)
-        | Deed::GotoPoint(_)
-        | Deed::Spindl(_, _)
-        | Deed::SpindlOff
-        | Deed::Coolnt(_)
-        | Deed::Loadtl(_)
-        | Deed::Macro
-        | Deed::Termac
-        | Deed::Call
-        | Deed::Loopst
-        | Deed::Loopnd
-        | Deed::Jumpto
-        | Deed::If => unreachable!(),
-    }
-}
-
-/// The line through two points.
-fn line(units: Units, x: i64, y: i64, u: i64, v: i64) -> Figure
+/// The line through two points under a name.
+fn line(at: &Situation, name: &Symbol, x: i64, y: i64, u: i64, v: i64) -> Effect
     requires x { IsScalar x }
     requires y { IsScalar y }
     requires u { IsScalar u }
     requires v { IsScalar v }
-    ensures { result ≡ line_figure units x y u v }
+    ensures { Some result ≡ asking.effect_of at.now (deeds.LineXy name.now x y u v) }
 {
-    let base = point_by(units, x, y);
-    let dir = way(base, point_by(units, u, v));
-    Figure::Shape(Surface::Line(Line { base, dir }))
+    let base = point_by(at.settings.units, x, y);
+    let dir = way(base, point_by(at.settings.units, u, v));
+    Effect::Defines(
+        name.copied(),
+        Figure::Shape(Surface::Line(Line { base, dir })),
+    )
 }
 
 /// The point of two scalars, within the coordinate limit or not.
-#[tactic(auto, using(apt_meaning::proofs::EffectRanges::grid_units_small))]
+#[tactic(auto, using(crate::proofs::EffectRanges::grid_units_small))]
 fn point_by(units: Units, x: i64, y: i64) -> Pt
     requires x { IsScalar x }
     requires y { IsScalar y }
@@ -165,7 +119,7 @@ fn way(p: Pt, q: Pt) -> Dir
 
 fn cutter(at: &Situation, v: i64) -> Effect
     requires { IsScalar v }
-    ensures { Some result ≡ effect_of at.now (deeds.Cutter v) }
+    ensures { Some result ≡ asking.effect_of at.now (deeds.Cutter v) }
 {
     let diameter = grid_units(at.settings.units, v);
     Effect::says(at.settings.with_diameter(diameter), Note::Cutter(diameter))
@@ -173,7 +127,7 @@ fn cutter(at: &Situation, v: i64) -> Effect
 
 fn intol(at: &Situation, v: i64) -> Effect
     requires { IsScalar v }
-    ensures { Some result ≡ effect_of at.now (deeds.Intol v) }
+    ensures { Some result ≡ asking.effect_of at.now (deeds.Intol v) }
 {
     let intol = grid_units(at.settings.units, v);
     Effect::says(at.settings.with_intol(intol), Note::Intol(intol))
@@ -181,7 +135,7 @@ fn intol(at: &Situation, v: i64) -> Effect
 
 fn outtol(at: &Situation, v: i64) -> Effect
     requires { IsScalar v }
-    ensures { Some result ≡ effect_of at.now (deeds.Outtol v) }
+    ensures { Some result ≡ asking.effect_of at.now (deeds.Outtol v) }
 {
     let outtol = grid_units(at.settings.units, v);
     Effect::says(at.settings.with_outtol(outtol), Note::Outtol(outtol))
@@ -189,7 +143,7 @@ fn outtol(at: &Situation, v: i64) -> Effect
 
 fn fedrat(at: &Situation, v: i64) -> Effect
     requires { IsScalar v }
-    ensures { Some result ≡ effect_of at.now (deeds.Fedrat v) }
+    ensures { Some result ≡ asking.effect_of at.now (deeds.Fedrat v) }
 {
     let feed = tenths(v);
     Effect::says(at.settings.with_feed(feed), Note::Fedrat(feed))
@@ -209,7 +163,7 @@ fn godlta(at: &Situation, x: i64, y: i64, z: i64) -> Option<Effect>
     requires x { IsScalar x }
     requires y { IsScalar y }
     requires z { IsScalar z }
-    ensures { result ≡ effect_of at.now (deeds.Godlta x y z) }
+    ensures { result ≡ asking.effect_of at.now (deeds.Godlta x y z) }
 {
     let from = at.position?;
     let to = moved_by(at.settings.units, x, y, z, from);
@@ -217,10 +171,10 @@ fn godlta(at: &Situation, x: i64, y: i64, z: i64) -> Option<Effect>
 }
 
 /// The move to the start-up point on two surfaces.
-#[tactic(auto, unfolding(apt_meaning::specs::StartUps::start_up_at))]
+#[tactic(auto, unfolding(crate::specs::StartUps::start_up_at))]
 fn go(at: &Situation, how_a: Stop, a: &Symbol, how_b: Stop, b: &Symbol) -> Option<Effect>
     requires { IsSituation at.now }
-    ensures { result ≡ effect_of at.now (deeds.GoStart how_a a.now (Some (how_b, b.now))) }
+    ensures { result ≡ asking.effect_of at.now (deeds.GoStart how_a a.now (Some (how_b, b.now))) }
 {
     let start = at.position?;
     let a = surface_in(&at.table, a)?;
@@ -253,7 +207,7 @@ fn start_to(start: Position, at: Pt) -> Effect
     Effect::Moves(Reach::Start, Position { at, z: start.z })
 }
 
-#[tactic(auto, unfolding(apt_meaning::specs::Motions::motion_at))]
+#[tactic(auto, unfolding(crate::specs::Motions::motion_at))]
 fn contour(
     at: &Situation,
     side: Option<Side>,
@@ -263,7 +217,7 @@ fn contour(
     check: &Symbol,
 ) -> Option<Effect>
     requires { IsSituation at.now }
-    ensures { result ≡ effect_of at.now (deeds.Contour side go drive.now how check.now) }
+    ensures { result ≡ asking.effect_of at.now (deeds.Contour side go drive.now how check.now) }
 {
     let start = at.position?;
     let drive = surface_in(&at.table, drive)?;

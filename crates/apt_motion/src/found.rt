@@ -1,0 +1,60 @@
+//! What is found of a step.
+
+ghost use Rattle.std.specs.Prelude.{IfOk};
+ghost use Rattle.apt_words.specs.Built.{IsBuilt};
+ghost use Rattle.apt_scalar.specs.StepScalars.{HasScalars};
+ghost use Rattle.apt_meaning.specs.Compiled.{asked};
+ghost use Rattle.apt_meaning.specs.Effects as asking;
+ghost use Rattle.apt_meaning.specs.Ranges.{IsSituation};
+ghost use Rattle.apt_meaning.specs.Refusals.{refusal_of};
+ghost use Rattle.apt_meaning.specs.Straight.{HasNoCircle};
+ghost use Rattle.apt_motion.specs.Finding.{IsFound, IsNoContour};
+
+use crate::contours::contour;
+use crate::refusals::refusal;
+use apt_meaning::{Effect, Situation, effect_of};
+use apt_plane::Pt;
+use apt_words::{Case, Deed};
+use std::alloc::AllocError;
+
+/// What a step asks for, with the end of its contour.
+#[derive(Drop)]
+pub(crate) struct Found {
+    pub effect: Effect,
+    pub end: Option<Pt>,
+}
+
+/// What a step asks for, or the first case that refuses it.
+pub(crate) fn find(at: &Situation, deed: &Deed) -> Result<Result<Found, Case>, AllocError>
+    requires situation { IsSituation at.now }
+    requires lines { HasNoCircle at.now.table }
+    requires scalars { HasScalars deed.now }
+    requires built { IsBuilt deed.now }
+    ensures { IfOk result (IsFound (asked (refusal_of at.now deed.now) (asking.effect_of at.now deed.now))) }
+{
+    match deed {
+        Deed::Contour(side, go, drive, how, check) => {
+            Ok(contour(at, *side, *go, drive, *how, check))
+        }
+        _ => plain(at, deed),
+    }
+}
+
+/// What a step asks for that is no contour.
+#[tactic(auto, using(crate::proofs::Plain::plain_no_end))]
+fn plain(at: &Situation, deed: &Deed) -> Result<Result<Found, Case>, AllocError>
+    requires situation { IsSituation at.now }
+    requires lines { HasNoCircle at.now.table }
+    requires scalars { HasScalars deed.now }
+    requires built { IsBuilt deed.now }
+    requires plain { IsNoContour deed.now }
+    ensures { IfOk result (IsFound (asked (refusal_of at.now deed.now) (asking.effect_of at.now deed.now))) }
+{
+    if let Some(case) = refusal(at, deed) {
+        return Ok(Err(case));
+    }
+    match effect_of(at, deed)? {
+        Some(effect) => Ok(Ok(Found { effect, end: None })),
+        None => Ok(Err(Case::NotBuilt)),
+    }
+}

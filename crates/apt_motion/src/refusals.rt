@@ -1,0 +1,175 @@
+//! The cases that refuse steps which are no contours.
+
+ghost use Rattle.std.specs.Prelude.{◌≡◌, [], Some};
+ghost use Rattle.apt_words.specs.Built.{IsBuilt};
+ghost use Rattle.apt_words.specs.Rows.{first_of};
+ghost use Rattle.apt_words.specs.declared.deed.Deed.TheVariants as deeds;
+ghost use Rattle.apt_scalar.specs.Scalars.{IsScalar};
+ghost use Rattle.apt_scalar.specs.StepScalars.{HasScalars, IsScalarOrNone};
+ghost use Rattle.apt_defs.specs.Definitions as definitions;
+ghost use Rattle.apt_meaning.specs.Ranges.{IsSituation};
+ghost use Rattle.apt_meaning.specs.Refusals as refusals;
+ghost use Rattle.apt_meaning.specs.Refusals.{refusal_of};
+ghost use Rattle.apt_motion.specs.Finding.{IsNoContour};
+
+use apt_cldata::Position;
+use apt_defs::{is_in_reach, line_by};
+use apt_meaning::{Settings, Situation, StartUp, moved_by, position_by, surface_of};
+use apt_scalar::{grid_units, tenths};
+use apt_words::{Case, Deed, Stop, Symbol, Units};
+
+/// The greatest diameter of a cutter, in grid units.
+const MOST_DIAMETER: i64 = 1_000_000;
+
+/// The greatest tolerance, in grid units.
+const MOST_TOLERANCE: i64 = 10_000;
+
+/// The first case that refuses a step which is no contour.
+pub(crate) fn refusal(at: &Situation, deed: &Deed) -> Option<Case>
+    requires situation { IsSituation at.now }
+    requires scalars { HasScalars deed.now }
+    requires built { IsBuilt deed.now }
+    requires plain { IsNoContour deed.now }
+    ensures { result ≡ refusal_of at.now deed.now }
+{
+    let units = at.settings.units;
+    match deed {
+        Deed::Partno(_)
+        | Deed::Remark(_)
+        | Deed::Units(_)
+        | Deed::Clprnt
+        | Deed::Nopost
+        | Deed::Machin
+        | Deed::Assign(_, _)
+        | Deed::Tool(_)
+        | Deed::Rapid
+        | Deed::Halt
+        | Deed::OptHalt
+        | Deed::EndWord
+        | Deed::Fini => None,
+        Deed::LineXy(_, x, y, u, v) => line(units, *x, *y, *u, *v),
+        Deed::Cutter(v) => length(MOST_DIAMETER, grid_units(units, *v)),
+        Deed::Intol(v) | Deed::Outtol(v) => length(MOST_TOLERANCE, grid_units(units, *v)),
+        Deed::Fedrat(v) => fedrat(at, *v),
+        Deed::FromXy(x, y, z) => from(at, *x, *y, *z),
+        Deed::GotoXy(x, y, z) => move_to(&at.settings, position_by(units, *x, *y, *z)),
+        Deed::Godlta(x, y, z) => godlta(at, *x, *y, *z),
+        Deed::GoStart(how_a, a, Some((how_b, b))) => go(at, *how_a, a, *how_b, b),
+        _ => unreachable!(),
+    }
+}
+
+/// A line by four numbers.
+fn line(units: Units, x: i64, y: i64, u: i64, v: i64) -> Option<Case>
+    requires x { IsScalar x }
+    requires y { IsScalar y }
+    requires u { IsScalar u }
+    requires v { IsScalar v }
+    ensures { result ≡ first_of (definitions.line_cases units x y u v) }
+{
+    line_by(units, x, y, u, v).err()
+}
+
+/// A length is from 0 up to the greatest.
+fn length(most: i64, g: i64) -> Option<Case>
+    ensures { result ≡ first_of (refusals.length_cases most g) }
+{
+    if 0 <= g && g <= most {
+        None
+    } else {
+        Some(Case::OutOfRange)
+    }
+}
+
+/// A feed is at least one tenth.
+fn fedrat(at: &Situation, v: i64) -> Option<Case>
+    requires { IsScalar v }
+    ensures { result ≡ refusal_of at.now (deeds.Fedrat v) }
+{
+    if tenths(v) < 1 {
+        Some(Case::OutOfRange)
+    } else {
+        None
+    }
+}
+
+/// A position is within the coordinate limit.
+fn position(p: Position) -> Option<Case>
+    ensures { result ≡ first_of (refusals.position_cases p []) }
+{
+    if is_in_reach(p.at.x) && is_in_reach(p.at.y) && is_in_reach(p.z) {
+        None
+    } else {
+        Some(Case::OutOfRange)
+    }
+}
+
+/// FROM comes once.
+fn from(at: &Situation, x: i64, y: i64, z: Option<i64>) -> Option<Case>
+    requires x { IsScalar x }
+    requires y { IsScalar y }
+    requires z { IsScalarOrNone z }
+    ensures { result ≡ refusal_of at.now (deeds.FromXy x y z) }
+{
+    if at.position.is_some() {
+        Some(Case::FromAgain)
+    } else {
+        position(position_by(at.settings.units, x, y, z))
+    }
+}
+
+/// A move leads to a position within the limit, and needs a feed.
+#[tactic(auto, using(crate::proofs::Cases::position_refused, crate::proofs::Cases::position_passed))]
+fn move_to(settings: &Settings, to: Position) -> Option<Case>
+    ensures { result ≡ first_of (refusals.move_cases settings.now (Some to)) }
+{
+    if let Some(case) = position(to) {
+        return Some(case);
+    }
+    if settings.lacks_feed() {
+        return Some(Case::NoFeed);
+    }
+    None
+}
+
+/// GODLTA starts from a position; only the new one has to be within the limit.
+fn godlta(at: &Situation, x: i64, y: i64, z: i64) -> Option<Case>
+    requires situation { IsSituation at.now }
+    requires x { IsScalar x }
+    requires y { IsScalar y }
+    requires z { IsScalar z }
+    ensures { result ≡ refusal_of at.now (deeds.Godlta x y z) }
+{
+    let Some(from) = at.position else {
+        return Some(Case::NoFrom);
+    };
+    move_to(&at.settings, moved_by(at.settings.units, x, y, z, from))
+}
+
+/// GO: both names are there before either's kind is tried.
+fn go(at: &Situation, how_a: Stop, a: &Symbol, how_b: Stop, b: &Symbol) -> Option<Case>
+    requires { IsSituation at.now }
+    ensures { result ≡ first_of (refusals.go_cases at.now how_a a.now how_b b.now) }
+{
+    let Some(start) = at.position else {
+        return Some(Case::NoFrom);
+    };
+    let (Some(a), Some(b)) = (at.table.get(a), at.table.get(b)) else {
+        return Some(Case::Undefined);
+    };
+    let (Some(a), Some(b)) = (surface_of(a), surface_of(b)) else {
+        return Some(Case::WrongKind);
+    };
+    if at.settings.lacks_feed() {
+        return Some(Case::NoFeed);
+    }
+    let start_up = StartUp {
+        start,
+        how_a,
+        a,
+        how_b,
+        b,
+        radius: at.settings.radius,
+    };
+    start_up.point().err()
+}
