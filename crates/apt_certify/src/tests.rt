@@ -22,7 +22,7 @@ const START: Spot = Spot { j: 0, m: 1 };
 
 const END: Spot = Spot { j: 1, m: 1 };
 
-fn pt(x: i64, y: i64) -> Pt {
+fn pt((x, y): Xy) -> Pt {
     Pt { x, y }
 }
 
@@ -100,124 +100,129 @@ fn verdict(
     }
 }
 
+type Xy = (i64, i64);
+
 type Fault = Option<(u64, Spot, Reason)>;
+
+/// Motions through three points, with how far they lie inside and outside of their track, and the first bad test.
+const MOTIONS: [(Option<Sign>, Xy, Xy, Xy, i64, i64, Fault); 14] = [
+    (None, (0, 100), (500, 100), (900, 100), 0, 0, None),
+    (None, (0, 108), (500, 108), (900, 108), 0, 8, None),
+    (None, (0, 92), (500, 92), (900, 92), 8, 0, None),
+    (None, (0, 92), (500, 108), (892, 100), 8, 8, None),
+    (
+        Some(Sign::Plus),
+        (0, 100),
+        (500, 100),
+        (897, 100),
+        0,
+        0,
+        None,
+    ),
+    (
+        Some(Sign::Zero),
+        (0, 100),
+        (500, 100),
+        (908, 100),
+        0,
+        0,
+        None,
+    ),
+    (
+        None,
+        (0, 100),
+        (900, 100),
+        (900, 100),
+        0,
+        0,
+        Some((2, END, Reason::Order)),
+    ),
+    (
+        None,
+        (500, 100),
+        (0, 109),
+        (909, 100),
+        0,
+        9,
+        Some((1, END, Reason::Order)),
+    ),
+    (
+        None,
+        (0, 91),
+        (500, 100),
+        (900, 100),
+        9,
+        0,
+        Some((1, START, Reason::Band)),
+    ),
+    (
+        None,
+        (0, 100),
+        (500, 109),
+        (909, 100),
+        0,
+        9,
+        Some((1, END, Reason::Band)),
+    ),
+    (
+        None,
+        (0, 100),
+        (500, 100),
+        (909, 100),
+        0,
+        0,
+        Some((2, END, Reason::Overrun)),
+    ),
+    (
+        Some(Sign::Plus),
+        (0, 100),
+        (500, 100),
+        (891, 100),
+        0,
+        0,
+        Some((2, END, Reason::Stop)),
+    ),
+    (
+        Some(Sign::Plus),
+        (0, 100),
+        (500, 100),
+        (896, 100),
+        0,
+        0,
+        Some((2, END, Reason::Axis)),
+    ),
+    (
+        Some(Sign::Minus),
+        (0, 100),
+        (500, 100),
+        (900, 100),
+        0,
+        0,
+        Some((2, END, Reason::Axis)),
+    ),
+];
+
+fn bad_of(fault: Fault) -> Option<Bad> {
+    let (segment, spot, reason) = fault?;
+    Some(Bad {
+        motion: 1,
+        segment,
+        spot,
+        reason,
+    })
+}
 
 #[test]
 fn motions(rt: HostRuntime) -> Result<(), Fail> {
-    let table: [(Option<Sign>, Pt, Pt, Pt, i64, i64, Fault); 14] = [
-        (None, pt(0, 100), pt(500, 100), pt(900, 100), 0, 0, None),
-        (None, pt(0, 108), pt(500, 108), pt(900, 108), 0, 8, None),
-        (None, pt(0, 92), pt(500, 92), pt(900, 92), 8, 0, None),
-        (None, pt(0, 92), pt(500, 108), pt(892, 100), 8, 8, None),
-        (
-            Some(Sign::Plus),
-            pt(0, 100),
-            pt(500, 100),
-            pt(897, 100),
-            0,
-            0,
-            None,
-        ),
-        (
-            Some(Sign::Zero),
-            pt(0, 100),
-            pt(500, 100),
-            pt(908, 100),
-            0,
-            0,
-            None,
-        ),
-        (
-            None,
-            pt(0, 100),
-            pt(900, 100),
-            pt(900, 100),
-            0,
-            0,
-            Some((2, END, Reason::Order)),
-        ),
-        (
-            None,
-            pt(500, 100),
-            pt(0, 109),
-            pt(909, 100),
-            0,
-            9,
-            Some((1, END, Reason::Order)),
-        ),
-        (
-            None,
-            pt(0, 91),
-            pt(500, 100),
-            pt(900, 100),
-            9,
-            0,
-            Some((1, START, Reason::Band)),
-        ),
-        (
-            None,
-            pt(0, 100),
-            pt(500, 109),
-            pt(909, 100),
-            0,
-            9,
-            Some((1, END, Reason::Band)),
-        ),
-        (
-            None,
-            pt(0, 100),
-            pt(500, 100),
-            pt(909, 100),
-            0,
-            0,
-            Some((2, END, Reason::Overrun)),
-        ),
-        (
-            Some(Sign::Plus),
-            pt(0, 100),
-            pt(500, 100),
-            pt(891, 100),
-            0,
-            0,
-            Some((2, END, Reason::Stop)),
-        ),
-        (
-            Some(Sign::Plus),
-            pt(0, 100),
-            pt(500, 100),
-            pt(896, 100),
-            0,
-            0,
-            Some((2, END, Reason::Axis)),
-        ),
-        (
-            Some(Sign::Minus),
-            pt(0, 100),
-            pt(500, 100),
-            pt(900, 100),
-            0,
-            0,
-            Some((2, END, Reason::Axis)),
-        ),
-    ];
-    for (half, a, b, c, worst_in, worst_out, fault) in table {
-        let first_bad = match fault {
-            Some((segment, spot, reason)) => Some(Bad {
-                motion: 1,
-                segment,
-                spot,
-                reason,
-            }),
-            None => None,
-        };
+    for (half, a, b, c, worst_in, worst_out, fault) in MOTIONS {
         let want = Verdict {
             segments: 2,
             worst_in,
             worst_out,
-            first_bad,
+            first_bad: bad_of(fault),
         };
         assert_eq!(rt;
-            verdict(rt.alloc(), half, a, b, c)?,
+            verdict(rt.alloc(), half, pt(a), pt(b), pt(c))?,
             Some(want),
             "through {a:?}, {b:?} to {c:?}"
         );
@@ -271,14 +276,14 @@ fn worst_of(sign: i8, p: Pt, q: Pt) -> Option<i64>
 #[test]
 fn deviations_are_rounded_up(rt: HostRuntime) {
     let table: [(Pt, Pt, i64, i64); 8] = [
-        (pt(0, 20), pt(0, 28), 0, 6),
-        (pt(0, 0), pt(0, 0), 0, 20),
-        (pt(0, 41), pt(41, 82), 9, 0),
-        (pt(0, 99), pt(0, 0), 51, 20),
-        (pt(0, 0), pt(99, 0), 0, 91),
-        (pt(0, 41), pt(0, 42), 10, 0),
-        (pt(-50_000_000, 50_000_000), pt(0, 50), 70_710_659, 0),
-        (pt(0, 50), pt(50_000_000, -50_000_000), 16, 70_710_699),
+        (pt((0, 20)), pt((0, 28)), 0, 6),
+        (pt((0, 0)), pt((0, 0)), 0, 20),
+        (pt((0, 41)), pt((41, 82)), 9, 0),
+        (pt((0, 99)), pt((0, 0)), 51, 20),
+        (pt((0, 0)), pt((99, 0)), 0, 91),
+        (pt((0, 41)), pt((0, 42)), 10, 0),
+        (pt((-50_000_000, 50_000_000)), pt((0, 50)), 70_710_659, 0),
+        (pt((0, 50)), pt((50_000_000, -50_000_000)), 16, 70_710_699),
     ];
     for (p, q, above, below) in table {
         assert_eq!(rt; worst_of(1, p, q), Some(above), "at {p:?}, {q:?}");

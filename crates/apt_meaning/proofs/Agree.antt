@@ -131,13 +131,13 @@ like at stand forward (deeds.Spindl n turn) = tt
 like at stand forward deeds.SpindlOff = tt
 like at stand forward (deeds.Coolnt c) = tt
 like at stand forward (deeds.Loadtl n) = tt
-like at stand forward deeds.Macro = tt
-like at stand forward deeds.Termac = tt
-like at stand forward deeds.Call = tt
-like at stand forward deeds.Loopst = tt
-like at stand forward deeds.Loopnd = tt
-like at stand forward deeds.Jumpto = tt
-like at stand forward deeds.If = tt
+like at stand forward deeds.Macro = (refl, refl)
+like at stand forward deeds.Termac = (refl, refl)
+like at stand forward deeds.Call = (refl, refl)
+like at stand forward deeds.Loopst = (refl, refl)
+like at stand forward deeds.Loopnd = (refl, refl)
+like at stand forward deeds.Jumpto = (refl, refl)
+like at stand forward deeds.If = (refl, refl)
 
 is_elsewhere : (c at : Situation) → Agrees c at → at ≡ elsewhere c at.position at.forward
 is_elsewhere c at agrees = rw (sym agrees.settings, sym agrees.table) refl

@@ -249,13 +249,13 @@ asks at (deeds.Spindl n turn) is numbers worded none = absurd (true≢false none
 asks at deeds.SpindlOff is numbers worded none = absurd (true≢false none.0)
 asks at (deeds.Coolnt c) is numbers worded none = absurd (true≢false none.0)
 asks at (deeds.Loadtl n) is numbers worded none = absurd (true≢false none.0)
-asks at deeds.Macro is numbers worded none = absurd (true≢false none.0)
-asks at deeds.Termac is numbers worded none = absurd (true≢false none.0)
-asks at deeds.Call is numbers worded none = absurd (true≢false none.0)
-asks at deeds.Loopst is numbers worded none = absurd (true≢false none.0)
-asks at deeds.Loopnd is numbers worded none = absurd (true≢false none.0)
-asks at deeds.Jumpto is numbers worded none = absurd (true≢false none.0)
-asks at deeds.If is numbers worded none = absurd (true≢false none.0)
+asks at deeds.Macro is numbers worded none = sets at.settings is.settings
+asks at deeds.Termac is numbers worded none = sets at.settings is.settings
+asks at deeds.Call is numbers worded none = sets at.settings is.settings
+asks at deeds.Loopst is numbers worded none = sets at.settings is.settings
+asks at deeds.Loopnd is numbers worded none = sets at.settings is.settings
+asks at deeds.Jumpto is numbers worded none = sets at.settings is.settings
+asks at deeds.If is numbers worded none = sets at.settings is.settings
 
 -- where no case refuses it, a step has an effect
 pub answered : (at : Situation) (deed : Deed) → IsSituation at → HasScalars deed → DeedHasText deed → refusal_of at deed ≡ None → Asks (effect_of at deed)

@@ -99,13 +99,13 @@ told at (deeds.Spindl n turn) = tt
 told at deeds.SpindlOff = tt
 told at (deeds.Coolnt c) = tt
 told at (deeds.Loadtl n) = tt
-told at deeds.Macro = tt
-told at deeds.Termac = tt
-told at deeds.Call = tt
-told at deeds.Loopst = tt
-told at deeds.Loopnd = tt
-told at deeds.Jumpto = tt
-told at deeds.If = tt
+told at deeds.Macro = record { goes_on = refl; settings = refl }
+told at deeds.Termac = record { goes_on = refl; settings = refl }
+told at deeds.Call = record { goes_on = refl; settings = refl }
+told at deeds.Loopst = record { goes_on = refl; settings = refl }
+told at deeds.Loopnd = record { goes_on = refl; settings = refl }
+told at deeds.Jumpto = record { goes_on = refl; settings = refl }
+told at deeds.If = record { goes_on = refl; settings = refl }
 
 pub said_by : (at : Situation) (deed : Deed) (e : Effect) → effect_of at deed ≡ Some e → IsSaidBy at deed e
 said_by at deed e asked = of_some (IsSaidBy at deed) (effect_of at deed) e asked (told at deed)

@@ -164,3 +164,23 @@ fini = refl
 -- in tenths of an inch per minute
 fedrat : effect_of at (deeds.Fedrat (pos 12350000)) ≡ says (record here { feed = pos 124 }) (notes.Fedrat (pos 124))
 fedrat = refl
+
+-- ---- macros, loops and jumps: they change nothing but where the run goes on
+
+termac : effect_of at deeds.Termac ≡ sets here
+termac = refl
+
+call : effect_of at deeds.Call ≡ sets here
+call = refl
+
+loopst : effect_of at deeds.Loopst ≡ sets here
+loopst = refl
+
+loopnd : effect_of at deeds.Loopnd ≡ sets here
+loopnd = refl
+
+jumpto : effect_of at deeds.Jumpto ≡ sets here
+jumpto = refl
+
+if_word : effect_of at deeds.If ≡ sets here
+if_word = refl

@@ -174,13 +174,13 @@ cases_of at (deeds.Spindl n turn) = not_built
 cases_of at deeds.SpindlOff = not_built
 cases_of at (deeds.Coolnt c) = not_built
 cases_of at (deeds.Loadtl n) = not_built
-cases_of at deeds.Macro = not_built
-cases_of at deeds.Termac = not_built
-cases_of at deeds.Call = not_built
-cases_of at deeds.Loopst = not_built
-cases_of at deeds.Loopnd = not_built
-cases_of at deeds.Jumpto = not_built
-cases_of at deeds.If = not_built
+cases_of at deeds.Macro = []
+cases_of at deeds.Termac = []
+cases_of at deeds.Call = []
+cases_of at deeds.Loopst = []
+cases_of at deeds.Loopnd = []
+cases_of at deeds.Jumpto = []
+cases_of at deeds.If = []
 
 -- the first case that refuses a step
 abbrev pub refusal_of : Situation → Deed → Option Case

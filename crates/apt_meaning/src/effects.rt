@@ -49,7 +49,17 @@ fn asked(at: &Situation, deed: &Deed) -> Result<Option<Effect>, AllocError>
     match deed {
         Deed::Partno(text) => Ok(Some(Effect::says(s, Note::Partno(text.copied()?)))),
         Deed::Units(units) => Ok(Some(Effect::says(s.with_units(*units), Note::Units(*units)))),
-        Deed::Remark(_) | Deed::Clprnt | Deed::Nopost | Deed::Machin => Ok(Some(Effect::sets(s))),
+        Deed::Remark(_)
+        | Deed::Clprnt
+        | Deed::Nopost
+        | Deed::Machin
+        | Deed::Macro
+        | Deed::Termac
+        | Deed::Call
+        | Deed::Loopst
+        | Deed::Loopnd
+        | Deed::Jumpto
+        | Deed::If => Ok(Some(Effect::sets(s))),
         Deed::Assign(name, _) => Ok(Some(Effect::Defines(name.copied(), Figure::Scalar))),
         Deed::LineXy(name, x, y, u, v) => Ok(Some(line(at, name, *x, *y, *u, *v))),
         Deed::Cutter(v) => Ok(Some(cutter(at, *v))),

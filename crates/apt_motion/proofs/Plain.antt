@@ -65,13 +65,13 @@ no_end at (deeds.Spindl n turn) plain = tt
 no_end at deeds.SpindlOff plain = tt
 no_end at (deeds.Coolnt c) plain = tt
 no_end at (deeds.Loadtl n) plain = tt
-no_end at deeds.Macro plain = tt
-no_end at deeds.Termac plain = tt
-no_end at deeds.Call plain = tt
-no_end at deeds.Loopst plain = tt
-no_end at deeds.Loopnd plain = tt
-no_end at deeds.Jumpto plain = tt
-no_end at deeds.If plain = tt
+no_end at deeds.Macro plain = refl
+no_end at deeds.Termac plain = refl
+no_end at deeds.Call plain = refl
+no_end at deeds.Loopst plain = refl
+no_end at deeds.Loopnd plain = refl
+no_end at deeds.Jumpto plain = refl
+no_end at deeds.If plain = refl
 
 pub plain_no_end : (at : Situation) (deed : Deed) (e : Effect) → IsNoContour deed → effect_of at deed ≡ Some e → ends_of e ≡ []
 plain_no_end at deed e plain asks = of_some HasNoEnd (effect_of at deed) e asks (no_end at deed plain)

@@ -46,7 +46,14 @@ pub(crate) fn refusal(at: &Situation, deed: &Deed) -> Option<Case>
         | Deed::Halt
         | Deed::OptHalt
         | Deed::EndWord
-        | Deed::Fini => None,
+        | Deed::Fini
+        | Deed::Macro
+        | Deed::Termac
+        | Deed::Call
+        | Deed::Loopst
+        | Deed::Loopnd
+        | Deed::Jumpto
+        | Deed::If => None,
         Deed::LineXy(_, x, y, u, v) => line(units, *x, *y, *u, *v),
         Deed::Cutter(v) => length(MOST_DIAMETER, grid_units(units, *v)),
         Deed::Intol(v) | Deed::Outtol(v) => length(MOST_TOLERANCE, grid_units(units, *v)),

@@ -1,9 +1,9 @@
--- A fact of statements that goes on over each statement holds of all programs.
+-- A fact that goes on from statement to statement holds of every program.
 use Rattle.std.proofs.Common.{◌≡◌, ℕ, Bool, true, false, List, [], ◌∷◌, ◌++◌, Option, Some, None, Result, Ok, Err, refl}
 use Rattle.std.specs.Prelude.{IfOk, IfSome}
 use Rattle.std.proofs.lemmas.Result.{IfOk-at_ok}
 use Rattle.apt_words.specs.Sources.{IsCount, IsTitle, IsStmt}
-use Rattle.apt_words.specs.ProgramEnds.{is_fini}
+use Rattle.apt_words.specs.Flow.{is_fini}
 use Rattle.apt_words.specs.declared.body.Stmt.{Stmt}
 use Rattle.apt_words.specs.declared.body.Program.{Program}
 use Rattle.apt_lexis.specs.declared.cause.PartCause.{PartCause}
@@ -21,7 +21,7 @@ use Rattle.apt_parse.proofs.ShapeTexts.{HasTextSaid, shape-fits}
 
 -- ---- one statement
 
--- a statement of a text, which no fault refuses behind others
+-- a statement that may come next: it has a line and a text, and no fault refuses it
 pub record IsNext (before : List Stmt) (st : Stmt) : Type 0 where
   pub stated : IsStmt st
   pub good : first_fault before st.label st.body ≡ None
@@ -41,7 +41,7 @@ of_tokens-next before line text (Ok ts) count is = of_shape-next before line (sh
 
 -- ---- statements in order
 
--- a fact of statements, by whether FINI is the last of them: it goes on over each statement behind others
+-- a fact of statements, by whether FINI is the last of them: if it holds before a statement, it holds with it
 abbrev pub GoesOn : (Bool → List Stmt → Type 0) → Type 0
 GoesOn P = (before : List Stmt) (st : Stmt) → IsNext before st → P false before → P (is_fini st.body) (before ++ st ∷ [])
 

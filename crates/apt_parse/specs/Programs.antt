@@ -1,9 +1,7 @@
 -- The program of a text, or its first fault.
 use Rattle.std.specs.Prelude.{◌≡◌, ℕ, not, Bool, true, false, List, [], ◌∷◌, ◌++◌, length, Option, Some, None, Result, Ok, Err, max}
 use Rattle.std.specs.List.{list_all, find}
-use Rattle.apt_words.specs.ProgramEnds.{is_fini}
-use Rattle.apt_words.specs.declared.body.Body.{Body}
-use Rattle.apt_words.specs.declared.body.Body.TheVariants as bodies
+use Rattle.apt_words.specs.Flow.{Flow, Onward, MacroBegins, MacroEnds, Calls, LoopBegins, LoopEnds, Jumps, Branches, ProgramEnds, flow_of, is_fini}
 use Rattle.apt_words.specs.declared.body.Stmt.{Stmt}
 use Rattle.apt_words.specs.declared.body.Program.{Program}
 use Rattle.apt_lexis.specs.declared.cause.PartCause.{PartCause}
@@ -21,14 +19,21 @@ Fault = ℕ × PartCause
 
 -- ---- the end of a program
 
-abbrev pub jumps : Body → List (List ℕ)
-jumps (bodies.Jumpto l) = l ∷ []
-jumps (bodies.If e a b c) = a ∷ b ∷ c ∷ []
-jumps _ = []
+-- the labels to which a statement jumps
+abbrev pub jumps : Flow → List (List ℕ)
+jumps Onward = []
+jumps (MacroBegins m ps) = []
+jumps MacroEnds = []
+jumps (Calls m args) = []
+jumps LoopBegins = []
+jumps LoopEnds = []
+jumps (Jumps l) = l ∷ []
+jumps (Branches e a b c) = a ∷ b ∷ c ∷ []
+jumps ProgramEnds = []
 
 -- the labels of the program have each label to which the statement jumps
 abbrev pub has_labels : List Stmt → Stmt → Bool
-has_labels sts st = list_all (is_label sts) (jumps st.body)
+has_labels sts st = list_all (is_label sts) (jumps (flow_of st.body))
 
 abbrev pub line_of : Option Stmt → Option ℕ
 line_of None = None

@@ -1,10 +1,11 @@
 -- A statement behind others: what refuses it, in order.
-use Rattle.std.specs.Prelude.{ℕ, ◌&&◌, not, Bool, true, false, List, [], ◌∷◌, ◌++◌, Option, Some, None, Result, Ok, Err, is_some, if◌then◌else◌}
+use Rattle.std.specs.Prelude.{ℕ, ◌&&◌, ◌||◌, not, Bool, true, false, List, [], ◌∷◌, ◌++◌, Option, Some, None, Result, Ok, Err, is_some, if◌then◌else◌}
 use Rattle.std.specs.List.{list_any}
 use Rattle.std.proofs.Common.{bytes_eq}
 use Rattle.apt_words.specs.declared.body.Body.{Body}
 use Rattle.apt_words.specs.declared.body.Body.TheVariants as bodies
 use Rattle.apt_words.specs.declared.body.Stmt.{Stmt}
+use Rattle.apt_words.specs.Flow.{Flow, Onward, MacroBegins, MacroEnds, Calls, LoopBegins, LoopEnds, Jumps, Branches, ProgramEnds, flow_of, macro_name}
 use Rattle.apt_lexis.specs.declared.cause.PartCause.{PartCause}
 use Rattle.apt_lexis.specs.declared.cause.PartCause.TheVariants as causes
 use Rattle.apt_lexis.specs.Tokens.{Tokens}
@@ -16,24 +17,36 @@ use Rattle.apt_words.specs.Built.{is_built}
 -- ---- what the statements before have opened and named
 
 -- the line of the macro that is open behind a statement
-abbrev pub macro_behind : Option ℕ → ℕ → Body → Option ℕ
-macro_behind before line (bodies.Macro m ps) = Some line
-macro_behind before line bodies.Termac = None
-macro_behind before line _ = before
+abbrev pub macro_behind : Option ℕ → ℕ → Flow → Option ℕ
+macro_behind before line Onward = before
+macro_behind before line (MacroBegins m ps) = Some line
+macro_behind before line MacroEnds = None
+macro_behind before line (Calls m args) = before
+macro_behind before line LoopBegins = before
+macro_behind before line LoopEnds = before
+macro_behind before line (Jumps l) = before
+macro_behind before line (Branches e a b c) = before
+macro_behind before line ProgramEnds = before
 
 -- the line of the loop that is open behind a statement
-abbrev pub loop_behind : Option ℕ → ℕ → Body → Option ℕ
-loop_behind before line bodies.Loopst = Some line
-loop_behind before line bodies.Loopnd = None
-loop_behind before line _ = before
+abbrev pub loop_behind : Option ℕ → ℕ → Flow → Option ℕ
+loop_behind before line Onward = before
+loop_behind before line (MacroBegins m ps) = before
+loop_behind before line MacroEnds = before
+loop_behind before line (Calls m args) = before
+loop_behind before line LoopBegins = Some line
+loop_behind before line LoopEnds = None
+loop_behind before line (Jumps l) = before
+loop_behind before line (Branches e a b c) = before
+loop_behind before line ProgramEnds = before
 
 abbrev pub macro_from : Option ℕ → List Stmt → Option ℕ
 macro_from before [] = before
-macro_from before (st ∷ sts) = macro_from (macro_behind before st.line st.body) sts
+macro_from before (st ∷ sts) = macro_from (macro_behind before st.line (flow_of st.body)) sts
 
 abbrev pub loop_from : Option ℕ → List Stmt → Option ℕ
 loop_from before [] = before
-loop_from before (st ∷ sts) = loop_from (loop_behind before st.line st.body) sts
+loop_from before (st ∷ sts) = loop_from (loop_behind before st.line (flow_of st.body)) sts
 
 abbrev pub open_macro : List Stmt → Option ℕ
 open_macro sts = macro_from None sts
@@ -45,10 +58,6 @@ abbrev pub or_none : Option (List ℕ) → List (List ℕ)
 or_none None = []
 or_none (Some n) = n ∷ []
 
-abbrev pub macro_name : Body → Option (List ℕ)
-macro_name (bodies.Macro m ps) = Some m
-macro_name _ = None
-
 -- the labels of statements
 abbrev pub labels_of : List Stmt → List (List ℕ)
 labels_of [] = []
@@ -57,7 +66,7 @@ labels_of (st ∷ sts) = or_none st.label ++ labels_of sts
 -- the names of the macros among statements
 abbrev pub macros_of : List Stmt → List (List ℕ)
 macros_of [] = []
-macros_of (st ∷ sts) = or_none (macro_name st.body) ++ macros_of sts
+macros_of (st ∷ sts) = or_none (macro_name (flow_of st.body)) ++ macros_of sts
 
 abbrev pub is_among : List (List ℕ) → List ℕ → Bool
 is_among names n = list_any (bytes_eq n) names
@@ -83,15 +92,26 @@ abbrev pub is_empty : List Stmt → Bool
 is_empty [] = true
 is_empty _ = false
 
--- PARTNO again, UNITS elsewhere, TERMAC outside of a macro; FINI, LOOPST and LOOPND inside of one
+-- PARTNO that is not first, and UNITS that is not directly behind it
+abbrev pub is_misplaced_heading : List Stmt → Body → Bool
+is_misplaced_heading before (bodies.Partno text) = not (is_empty before)
+is_misplaced_heading before (bodies.Units units) = not (is_only_partno before)
+is_misplaced_heading before _ = false
+
+-- TERMAC outside of a macro; FINI, LOOPST and LOOPND inside of one
+abbrev pub is_out_of_place : Bool → Flow → Bool
+is_out_of_place within Onward = false
+is_out_of_place within (MacroBegins m ps) = false
+is_out_of_place within MacroEnds = not within
+is_out_of_place within (Calls m args) = false
+is_out_of_place within LoopBegins = within
+is_out_of_place within LoopEnds = within
+is_out_of_place within (Jumps l) = false
+is_out_of_place within (Branches e a b c) = false
+is_out_of_place within ProgramEnds = within
+
 abbrev pub is_misplaced : List Stmt → Body → Bool
-is_misplaced before (bodies.Partno text) = not (is_empty before)
-is_misplaced before (bodies.Units units) = not (is_only_partno before)
-is_misplaced before bodies.Termac = not (is_some (open_macro before))
-is_misplaced before bodies.Fini = is_some (open_macro before)
-is_misplaced before bodies.Loopst = is_some (open_macro before)
-is_misplaced before bodies.Loopnd = is_some (open_macro before)
-is_misplaced before _ = false
+is_misplaced before body = is_misplaced_heading before body || is_out_of_place (is_some (open_macro before)) (flow_of body)
 
 -- the first statement is PARTNO
 abbrev pub lacks_partno : List Stmt → Body → Bool
@@ -101,20 +121,41 @@ abbrev pub is_label_again : List Stmt → Option (List ℕ) → Bool
 is_label_again before None = false
 is_label_again before (Some l) = is_label before l
 
-abbrev pub is_macro_again : List Stmt → Body → Bool
-is_macro_again before (bodies.Macro m ps) = is_macro before m
-is_macro_again before _ = false
+-- a macro with the name of another
+abbrev pub is_macro_again : List Stmt → Flow → Bool
+is_macro_again before Onward = false
+is_macro_again before (MacroBegins m ps) = is_macro before m
+is_macro_again before MacroEnds = false
+is_macro_again before (Calls m args) = false
+is_macro_again before LoopBegins = false
+is_macro_again before LoopEnds = false
+is_macro_again before (Jumps l) = false
+is_macro_again before (Branches e a b c) = false
+is_macro_again before ProgramEnds = false
 
 -- a macro within a macro
-abbrev pub is_in_macro : List Stmt → Body → Bool
-is_in_macro before (bodies.Macro m ps) = is_some (open_macro before)
-is_in_macro before _ = false
+abbrev pub is_in_macro : Bool → Flow → Bool
+is_in_macro within Onward = false
+is_in_macro within (MacroBegins m ps) = within
+is_in_macro within MacroEnds = false
+is_in_macro within (Calls m args) = false
+is_in_macro within LoopBegins = false
+is_in_macro within LoopEnds = false
+is_in_macro within (Jumps l) = false
+is_in_macro within (Branches e a b c) = false
+is_in_macro within ProgramEnds = false
 
 -- a loop within a loop, or the end of none
-abbrev pub is_out_of_loop : List Stmt → Body → Bool
-is_out_of_loop before bodies.Loopst = is_some (open_loop before)
-is_out_of_loop before bodies.Loopnd = not (is_some (open_loop before))
-is_out_of_loop before _ = false
+abbrev pub is_out_of_loop : Bool → Flow → Bool
+is_out_of_loop within Onward = false
+is_out_of_loop within (MacroBegins m ps) = false
+is_out_of_loop within MacroEnds = false
+is_out_of_loop within (Calls m args) = false
+is_out_of_loop within LoopBegins = within
+is_out_of_loop within LoopEnds = not within
+is_out_of_loop within (Jumps l) = false
+is_out_of_loop within (Branches e a b c) = false
+is_out_of_loop within ProgramEnds = false
 
 -- ---- the first fault of a statement
 
@@ -124,9 +165,9 @@ first_fault before label body =
     else if not (is_built body) then Some causes.NotBuilt
     else if lacks_partno before body then Some causes.NoPartno
     else if is_label_again before label then Some causes.LabelTwice
-    else if is_macro_again before body then Some causes.MacroTwice
-    else if is_in_macro before body then Some causes.MacroOpen
-    else if is_out_of_loop before body then Some causes.LoopOpen
+    else if is_macro_again before (flow_of body) then Some causes.MacroTwice
+    else if is_in_macro (is_some (open_macro before)) (flow_of body) then Some causes.MacroOpen
+    else if is_out_of_loop (is_some (open_loop before)) (flow_of body) then Some causes.LoopOpen
     else None
 
 abbrev pub unless_fault : ℕ → Labelled → Option PartCause → Result Stmt PartCause

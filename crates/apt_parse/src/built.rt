@@ -29,7 +29,14 @@ pub(crate) fn is_built(body: &Body) -> bool
         | Body::OptHalt
         | Body::EndWord
         | Body::Fini
-        | Body::Fedrat(_) => true,
+        | Body::Fedrat(_)
+        | Body::Macro(..)
+        | Body::Termac
+        | Body::Call(..)
+        | Body::Loopst
+        | Body::Loopnd
+        | Body::Jumpto(_)
+        | Body::If(..) => true,
         Body::Tool(side) => is_side_built(*side),
         Body::GoStart(stop, _, other) => is_start_built(*stop, other),
         Body::Contour(side, _, _, stop, _) => is_side_or_none_built(*side) && is_stop_built(*stop),
@@ -53,14 +60,7 @@ pub(crate) fn is_built(body: &Body) -> bool
         | Body::Spindl(..)
         | Body::SpindlOff
         | Body::Coolnt(_)
-        | Body::Loadtl(_)
-        | Body::Macro(..)
-        | Body::Termac
-        | Body::Call(..)
-        | Body::Loopst
-        | Body::Loopnd
-        | Body::Jumpto(_)
-        | Body::If(..) => false,
+        | Body::Loadtl(_) => false,
     }
 }
 

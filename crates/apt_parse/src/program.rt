@@ -1,9 +1,9 @@
 //! The program of a text.
 
-ghost use Rattle.std.specs.Prelude.{◌≡◌, ◌≤◌, ◌-◌, None, max, IfOk};
+ghost use Rattle.std.specs.Prelude.{◌≡◌, ◌≤◌, ◌-◌, false, None, max, IfOk};
 ghost use Rattle.std.specs.List.{list_all};
 ghost use Rattle.apt_words.specs.Built.{AreBuilt};
-ghost use Rattle.apt_words.specs.ProgramEnds.{EndsInFini};
+ghost use Rattle.apt_words.specs.Flow.{flow_of, AreNested};
 ghost use Rattle.apt_words.specs.Sources.{AreStmts};
 ghost use Rattle.apt_parse.specs.ReaderState as reading;
 ghost use Rattle.apt_parse.specs.ReaderState.{IsRead};
@@ -22,10 +22,10 @@ use std::alloc::Global;
 /// # Errors
 ///
 /// `Bad` is the first fault in the order of reading, with its line.
-#[tactic(auto, using(crate::proofs::Endings::parsed_ends, crate::proofs::AllBuilt::parsed_built, crate::proofs::AllSources::parsed_stmts))]
+#[tactic(auto, using(crate::proofs::Nesting::parsed_nested, crate::proofs::AllBuilt::parsed_built, crate::proofs::AllSources::parsed_stmts))]
 pub fn parse(alloc: Global, text: &[u8]) -> Result<Program, ParseError>
     ensures program { programs.IsParsed (programs.program_of text.now) result }
-    ensures ends { IfOk result (λ p. EndsInFini p) }
+    ensures nested { IfOk result (λ p. AreNested false p) }
     ensures built { IfOk result (λ p. AreBuilt p) }
     ensures sources { IfOk result (λ p. AreStmts p) }
 {
@@ -116,7 +116,7 @@ fn first_missing(read: &Read) -> Option<u32>
 
 /// Whether the labels to which a statement jumps are among these.
 fn has_all(labels: &Names, body: &Body) -> bool
-    ensures { result ≡ list_all (statements.is_among labels.now) (programs.jumps body.now) }
+    ensures { result ≡ list_all (statements.is_among labels.now) (programs.jumps (flow_of body.now)) }
 {
     match body {
         Body::Jumpto(label) => labels.has(label),

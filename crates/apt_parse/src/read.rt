@@ -1,6 +1,7 @@
 //! The statements that were read, and what they have opened and named.
-ghost use Rattle.std.specs.Prelude.{◌≡◌, [], ◌∷◌, ◌++◌, None, OnOk, false};
+ghost use Rattle.std.specs.Prelude.{◌≡◌, [], ◌∷◌, ◌++◌, None, OnOk, false, is_some};
 ghost use Rattle.std.specs.List.{list_any};
+ghost use Rattle.apt_words.specs.Flow.{flow_of, macro_name};
 ghost use Rattle.apt_parse.specs.Statements as statements;
 ghost use Rattle.apt_parse.specs.ReaderState.{IsRead};
 
@@ -90,7 +91,7 @@ impl Read {
 
     fn is_macro_again(&self, body: &Body) -> bool
         requires { IsRead self.now }
-        ensures { result ≡ statements.is_macro_again self.now.stmts.items body.now }
+        ensures { result ≡ statements.is_macro_again self.now.stmts.items (flow_of body.now) }
     {
         match body {
             Body::Macro(name, _) => self.macros.has(name),
@@ -100,7 +101,7 @@ impl Read {
 
     fn is_in_macro(&self, body: &Body) -> bool
         requires { IsRead self.now }
-        ensures { result ≡ statements.is_in_macro self.now.stmts.items body.now }
+        ensures { result ≡ statements.is_in_macro (is_some (statements.open_macro self.now.stmts.items)) (flow_of body.now) }
     {
         match body {
             Body::Macro(..) => self.open_macro.is_some(),
@@ -110,7 +111,7 @@ impl Read {
 
     fn is_out_of_loop(&self, body: &Body) -> bool
         requires { IsRead self.now }
-        ensures { result ≡ statements.is_out_of_loop self.now.stmts.items body.now }
+        ensures { result ≡ statements.is_out_of_loop (is_some (statements.open_loop self.now.stmts.items)) (flow_of body.now) }
     {
         match body {
             Body::Loopst => self.open_loop.is_some(),
@@ -146,8 +147,8 @@ fn add_label(labels: &mut Names, label: &Option<Symbol>) -> Result<(), AllocErro
 }
 
 fn add_macro(macros: &mut Names, body: &Body) -> Result<(), AllocError>
-    requires { list_any (statements.is_among macros.old) (statements.or_none (statements.macro_name body.now)) ≡ false }
-    ensures { OnOk result (macros.new ≡ macros.old ++ statements.or_none (statements.macro_name body.now)) }
+    requires { list_any (statements.is_among macros.old) (statements.or_none (macro_name (flow_of body.now))) ≡ false }
+    ensures { OnOk result (macros.new ≡ macros.old ++ statements.or_none (macro_name (flow_of body.now))) }
 {
     if let Body::Macro(name, _) = body {
         macros.add(name.copied())?;
@@ -156,7 +157,7 @@ fn add_macro(macros: &mut Names, body: &Body) -> Result<(), AllocError>
 }
 
 fn macro_behind(before: Option<u32>, line: u32, body: &Body) -> Option<u32>
-    ensures { result ≡ statements.macro_behind before line body.now }
+    ensures { result ≡ statements.macro_behind before line (flow_of body.now) }
 {
     match body {
         Body::Macro(..) => Some(line),
@@ -166,7 +167,7 @@ fn macro_behind(before: Option<u32>, line: u32, body: &Body) -> Option<u32>
 }
 
 fn loop_behind(before: Option<u32>, line: u32, body: &Body) -> Option<u32>
-    ensures { result ≡ statements.loop_behind before line body.now }
+    ensures { result ≡ statements.loop_behind before line (flow_of body.now) }
 {
     match body {
         Body::Loopst => Some(line),

@@ -10,14 +10,14 @@ use Rattle.apt_words.specs.Sources.{AreStmts, AreExecuted}
 use Rattle.apt_scalar.specs.StepScalars.{AreScalars}
 use Rattle.apt_parse.proofs.AllBuilt.{program_of-built}
 use Rattle.apt_parse.proofs.AllSources.{program_of-stmts}
-use Rattle.apt_unroll.proofs.Building.{are_built}
-use Rattle.apt_unroll.proofs.Executed.{are_executed}
-use Rattle.apt_words.specs.ProgramEnds.{EndsInFini, StepsEnd}
+use Rattle.apt_words.specs.Flow.{AreNested}
+use Rattle.apt_words.specs.ProgramEnds.{StepsEnd}
 use Rattle.apt_parse.specs.Programs.{Fault, program_of}
-use Rattle.apt_parse.proofs.Endings.{program_of-ends}
-use Rattle.apt_unroll.specs.Trace.{Trace, trace_of}
-use Rattle.apt_unroll.proofs.Numbers.{are_scalars}
-use Rattle.apt_unroll.proofs.Endings.{end_once}
+use Rattle.apt_parse.proofs.Nesting.{program_of-nested}
+use Rattle.apt_unroll.specs.Trace.{Trace, IsTrace, trace_of}
+use Rattle.apt_unroll.proofs.Going.{has_trace}
+use Rattle.apt_unroll.proofs.Found.{trace_found}
+use Rattle.apt_unroll.proofs.Steps.{are_scalars, are_built, are_executed, end_once}
 use Rattle.apt_cldata.specs.declared.record.Record.{Record}
 use Rattle.apt_meaning.specs.Situations.{first_situation}
 use Rattle.apt_meaning.specs.Records.{AreLegal}
@@ -36,6 +36,10 @@ use Rattle.apt_part.specs.Compilation.{Compiled, earlier, unless_fault, records_
 use Rattle.apt_part.specs.Promise.{Passes, Promise, AreSteps}
 use Rattle.apt_part.proofs.Filed.{compiled_file}
 use Rattle.apt_part.proofs.Written.{compiled_written}
+
+-- a fact of all programs of texts
+of_text : (P : List Stmt → Type 0) (text : List ℕ) (statements : List Stmt) → program_of text ≡ Ok statements → IfOk (program_of text) P → P statements
+of_text P text statements read all = subst (λ (q : Result (List Stmt) Fault). IfOk q P) read all
 
 -- ---- what passes was not refused
 
@@ -80,27 +84,22 @@ passes machine text p h =
     let w = were_written machine u u.fault (limits machine u.steps) (compilation first_situation u.steps) p.records refl refl refl r.recorded in record {
       statements = r.statements;
       read = r.read;
-      unrolled = trace_is u p.steps r.steps w.fault;
+      unrolled = subst (IsTrace r.statements) (trace_is u p.steps r.steps w.fault) (has_trace r.statements u (of_text (AreNested false) text r.statements r.read (program_of-nested text)) refl);
       within = subst (λ (ss : List Step). limits machine ss ≡ None) (sym r.steps) w.within;
       compiled = subst (λ (ss : List Step). compilation first_situation ss ≡ Ok p.records) (sym r.steps) w.compiled;
     }
 
 -- ---- the promise
 
--- a fact of all programs of texts
-of_text : (P : List Stmt → Type 0) (text : List ℕ) (statements : List Stmt) → program_of text ≡ Ok statements → IfOk (program_of text) P → P statements
-of_text P text statements read all = subst (λ (q : Result (List Stmt) Fault). IfOk q P) read all
-
-steps_by : (statements : List Stmt) (p : Compiled) → trace_of statements ≡ record { steps = p.steps; fault = None } → (trace_of statements).steps ≡ p.steps
-steps_by statements p e = ap (λ (u : Trace). u.steps) e
-
 pub are_steps : (machine : Machine) (text : List ℕ) (p : Compiled) → part_of machine text ≡ Ok (Ok p) → AreSteps p.steps
 are_steps machine text p h =
     let q = passes machine text p h in
-    let same = steps_by q.statements p q.unrolled in record {
-      scalars = subst AreScalars same (are_scalars q.statements (trace_of q.statements) refl);
-      built = subst AreBuiltSteps same (are_built q.statements (trace_of q.statements) refl (of_text (λ sts. AreBuilt sts) text q.statements q.read (program_of-built text)));
-      sources = subst AreExecuted same (are_executed q.statements (trace_of q.statements) refl (of_text AreStmts text q.statements q.read (program_of-stmts text)));
+    let built = of_text (λ sts. AreBuilt sts) text q.statements q.read (program_of-built text) in
+    let stmts = of_text AreStmts text q.statements q.read (program_of-stmts text) in
+    let trace : Trace = record { steps = p.steps; fault = None } in record {
+      scalars = are_scalars q.statements trace built stmts q.unrolled;
+      built = are_built q.statements trace built stmts q.unrolled;
+      sources = are_executed q.statements trace built stmts q.unrolled;
     }
 
 pub promised : (machine : Machine) (text : List ℕ) (p : Compiled) → IsMachine machine → part_of machine text ≡ Ok (Ok p) → Promise machine text p
@@ -108,8 +107,7 @@ promised machine text p is h =
     let q = passes machine text p h in
     let are = are_steps machine text p h in
     let follow = compiled_follows first_situation p.steps p.records first_situation-IsSituation are.scalars are.sources q.compiled in
-    let ends : StepsEnd false p.steps = subst (StepsEnd false) (steps_by q.statements p q.unrolled)
-    (end_once q.statements (trace_of q.statements) refl (of_text EndsInFini text q.statements q.read (program_of-ends text)) (ap (λ (u : Trace). u.fault) q.unrolled)) in
+    let ends : StepsEnd false p.steps = end_once q.statements (record { steps = p.steps; fault = None }) q.unrolled refl in
     let can = compiled_written machine nothing_pending first_situation p.steps p.records is (record { feed = refl; rapid = refl }) (record { most = omega (arith, ints) }) first_situation-IsSituation are.scalars are.sources q.within q.compiled in record {
       passes = q;
       behind = follow.behind;
@@ -122,4 +120,6 @@ promised machine text p is h =
 
 -- and a text that passes comes to its part
 pub passes_comes : (machine : Machine) (text : List ℕ) (p : Compiled) → Passes machine text p → part_of machine text ≡ Ok (Ok p)
-passes_comes machine text p q = rw (q.read, q.unrolled, q.within, q.compiled) refl
+passes_comes machine text p q =
+    let trace = trace_found q.statements (record { steps = p.steps; fault = None }) q.unrolled in
+    rw (q.read, sym trace, q.within, q.compiled) refl

@@ -6,7 +6,7 @@ use Rattle.apt_words.specs.Built.{AreBuiltSteps}
 use Rattle.apt_words.specs.Sources.{AreExecuted}
 use Rattle.apt_parse.specs.Programs.{program_of}
 use Rattle.apt_scalar.specs.StepScalars.{AreScalars}
-use Rattle.apt_unroll.specs.Trace.{trace_of}
+use Rattle.apt_unroll.specs.Trace.{IsTrace}
 use Rattle.apt_cldata.specs.Files.{IsFile}
 use Rattle.apt_meaning.specs.declared.situation.Situation.{Situation}
 use Rattle.apt_meaning.specs.Situations.{first_situation}
@@ -18,11 +18,11 @@ use Rattle.apt_post.specs.Plan.{plan, positions, points}
 use Rattle.apt_post.specs.Blocks.{IsProgram}
 use Rattle.apt_part.specs.Compilation.{Compiled}
 
--- these are the steps of a text, all of them, and no case and no limit of the machine refuses one
+-- these are the steps of the one trace of a text, all of them, and no case and no limit of the machine refuses one
 pub record Passes (machine : Machine) (text : List ℕ) (p : Compiled) : Type 0 where
   pub statements : List Stmt
   pub read : program_of text ≡ Ok statements
-  pub unrolled : trace_of statements ≡ record { steps = p.steps; fault = None }
+  pub unrolled : IsTrace statements (record { steps = p.steps; fault = None })
   pub within : limits machine p.steps ≡ None
   pub compiled : compilation first_situation p.steps ≡ Ok p.records
 

@@ -1,10 +1,10 @@
 //! Parts.
 
-ghost use Rattle.std.specs.Prelude.{◌≡◌, IfOk};
+ghost use Rattle.std.specs.Prelude.{◌≡◌, false, IfOk};
 ghost use Rattle.apt_words.specs.Built.{AreBuilt, AreBuiltSteps};
+ghost use Rattle.apt_words.specs.Flow.{AreNested};
 ghost use Rattle.apt_words.specs.Sources.{AreStmts, AreExecuted};
 ghost use Rattle.apt_scalar.specs.StepScalars.{AreScalars};
-ghost use Rattle.apt_unroll.specs.Trace.{trace_of};
 ghost use Rattle.apt_meaning.specs.Situations.{first_situation};
 ghost use Rattle.apt_meaning.specs.Compiled.{compilation};
 ghost use Rattle.apt_motion.specs.Ends.{Ends};
@@ -82,6 +82,7 @@ fn whole_part(alloc: Global, text: &[u8], machine: &Machine) -> Result<Part, Par
 fn part_by(alloc: Global, program: &Program, machine: &Machine) -> Result<Part, RunError>
     requires built { AreBuilt program.now }
     requires sources { AreStmts program.now }
+    requires nested { AreNested false program.now }
     ensures { IsPartBy (parts.part_by machine.now program.now) result }
 {
     let Ok(unrolled) = unroll(alloc, program) else {

@@ -12,6 +12,8 @@ mod failing;
 #[cfg(test)]
 mod first_run;
 #[cfg(test)]
+mod flow;
+#[cfg(test)]
 mod parts;
 #[cfg(test)]
 mod plate;

@@ -1,6 +1,8 @@
 //! Parts, their CL files and their tapes.
 use crate::cl::Words;
 
+pub const EMPTY_LINES: &str = "DONE 4 RECORDS 2 ACTS 0 SEGMENTS\nYES 0 SEGMENTS IN 0 OUT 0\n";
+
 pub const EMPTY_TAPE: &str = "%\nN0001G70G90G94\nN0002M02\n";
 
 pub const FIRST: &str = "PARTNO FIRST\nFEDRAT/10\nFROM/0,0,0\nGOTO/1,2,3\nFINI\n";

@@ -1,5 +1,5 @@
 //! Texts of part programs: their first fault, by its printed line, spellings of one part, and the longest texts.
-use crate::parts::{EMPTY_TAPE, FIRST, FIRST_LINES, FIRST_TAPE};
+use crate::parts::{EMPTY_LINES, EMPTY_TAPE, FIRST, FIRST_LINES, FIRST_TAPE};
 use crate::run::{Long, Row, assert_long, assert_rows};
 use std::test::Fail;
 
@@ -80,7 +80,7 @@ const FAULTS: [Row; 31] = [
         "BAD PART LINE 2 NotBuilt\n",
         "",
     ),
-    ("LOOPST\nFINI\n", "BAD PART LINE 1 NotBuilt\n", ""),
+    ("SPINDL/OFF\nFINI\n", "BAD PART LINE 1 NotBuilt\n", ""),
     // labels: the shape comes first, then the first statement, then a label that stands already
     (
         "PARTNO\nA)STOP\nB)STOP\nA)END\nFINI\n",
@@ -157,8 +157,6 @@ fn spellings_of_one_part_give_one_tape(rt: HostRuntime) -> Result<(), Fail> {
 }
 
 /// The line of the empty part.
-const EMPTY_LINES: &str = "DONE 4 RECORDS 2 ACTS 0 SEGMENTS\nYES 0 SEGMENTS IN 0 OUT 0\n";
-
 /// Lines of 256 and 257 bytes, texts of 50,000 and 50,001 lines, and of 4 MiB and one byte more.
 const LONG: [Long; 9] = [
     ("PARTNO\n$$", 254, "x", "\nFINI\n", EMPTY_LINES, EMPTY_TAPE),

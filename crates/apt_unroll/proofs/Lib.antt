@@ -1,6 +1,11 @@
 pub mod Suits
-pub mod Numbers
-pub mod Building
-pub mod Endings
-pub mod Executed
+pub mod Acts
+pub mod Binding
+pub mod Tables
+pub mod Nesting
+pub mod Going
+pub mod Found
+pub mod Steps
+pub mod InOrder
+pub mod Prefixes
 mod Worked

@@ -1,9 +1,9 @@
--- What holds of each deed that a statement gives: its numbers are scalars, it is Fini where the statement is FINI, it has the statement's text, and it is built where the statement is, which is then not refused as unbuilt.
-use Rattle.std.proofs.Common.{◌≡◌, ◌≢◌, ℕ, refl, ◌∙◌, Bool, true, false, Option, Some, None, Result, Ok, Err, List}
-use Rattle.std.specs.Prelude.{ℤ, IsTrue, IfOk, if◌then◌else◌}
+-- What holds of each deed that a statement gives: its numbers are scalars, it is Fini where the statement is FINI, it has the statement's text, and it is built where the statement is. No statement is refused as unbuilt.
+use Rattle.std.proofs.Common.{◌≡◌, ℕ, refl, ◌∙◌, Bool, true, false, Option, Some, None, Result, Err, List}
+use Rattle.std.specs.Prelude.{ℤ, IsTrue, if◌then◌else◌}
 use Rattle.apt_words.specs.Built.{is_start_built, is_built, IsBuilt}
 use Rattle.apt_words.specs.Chains.{◌>>=◌}
-use Rattle.apt_words.specs.ProgramEnds.{is_fini}
+use Rattle.apt_words.specs.Flow.{is_fini}
 use Rattle.apt_words.specs.Sources.{HasText, DeedHasText}
 use Rattle.apt_words.specs.Trees.{Tree}
 use Rattle.apt_words.specs.declared.Case.{Case}
@@ -37,13 +37,11 @@ no built = absurd (cc)
 
 -- such a deed, or a refusal
 abbrev Gives : Body → Result Deed Case → Type 0
-Gives body (Ok deed) = Suits body deed
-Gives body (Err case) = IsTrue (is_built body) → case ≢ cases.NotBuilt
+Gives body r = Tells (Suits body) r
 
 then_gives : {A : Type 0} (P : A → Type 0) (body : Body) (r : Result A Case) (f : A → Result Deed Case)
     → Tells P r → ((a : A) → P a → Gives body (f a)) → Gives body (r >>= f)
-then_gives P body (Ok a) f h more = more a h
-then_gives P body (Err case) f h more = λ _. h
+then_gives P body r f h more = then_tells P (Suits body) r f h more
 
 -- ---- arguments
 
@@ -51,7 +49,7 @@ of_value : {B : Type 0} (Q : B → Type 0) (names : Names) (ps : Parameters) (e 
     → ((v : ℤ) → IsScalar v → Tells Q (f v)) → Tells Q (value_of names ps e >>= f)
 of_value Q names ps e f h = then_tells IsScalar Q (value_of names ps e) f (value_of-scalar names ps e) h
 
-abbrev Any : {A : Type 0} → A → Type 0
+abbrev pub Any : {A : Type 0} → A → Type 0
 Any a = Unit {0}
 
 standing_for-tells : (n : List ℕ) (bound : Option Bound) → Tells Any (standing_for n bound)
@@ -186,33 +184,18 @@ execution-suits names ps (bodies.Spindl e turn) = by_value (bodies.Spindl e turn
 execution-suits names ps bodies.SpindlOff = (tt, refl, plain, no)
 execution-suits names ps (bodies.Coolnt c) = (tt, refl, plain, no)
 execution-suits names ps (bodies.Loadtl e) = by_value (bodies.Loadtl e) names ps e _ (λ v h. (h, refl, plain, no))
-execution-suits names ps (bodies.Macro m parameters) = no
-execution-suits names ps bodies.Termac = no
-execution-suits names ps (bodies.Call m args) = no
-execution-suits names ps bodies.Loopst = no
-execution-suits names ps bodies.Loopnd = no
-execution-suits names ps (bodies.Jumpto l) = no
-execution-suits names ps (bodies.If e a b c) = no
+execution-suits names ps (bodies.Macro m parameters) = (tt, refl, plain, λ _. tt)
+execution-suits names ps bodies.Termac = (tt, refl, plain, λ _. tt)
+execution-suits names ps (bodies.Call m args) = (tt, refl, plain, λ _. tt)
+execution-suits names ps bodies.Loopst = (tt, refl, plain, λ _. tt)
+execution-suits names ps bodies.Loopnd = (tt, refl, plain, λ _. tt)
+execution-suits names ps (bodies.Jumpto l) = (tt, refl, plain, λ _. tt)
+execution-suits names ps (bodies.If e a b c) = (tt, refl, plain, λ _. tt)
 
 unless_bound : (body : Body) (bound : Bool) (r : Result Deed Case) → Gives body r → Gives body (if bound then Err cases.BadArgs else r)
-unless_bound body true r h = λ _ e. cc
+unless_bound body true r h = λ e. cc
 unless_bound body false r h = h
 
-deed_of-gives : (names : Names) (ps : Parameters) (body : Body) → Gives body (deed_of names ps body)
+pub deed_of-suits : (names : Names) (ps : Parameters) (body : Body) → Tells (Suits body) (deed_of names ps body)
 unfolding deed_of
-deed_of-gives names ps body = unless_bound body (is_parameter ps (defined_name body)) (execution names ps body) (execution-suits names ps body)
-
-suits : (body : Body) (r : Result Deed Case) → Gives body r → IfOk r (Suits body)
-suits body (Ok deed) h = h
-suits body (Err case) h = tt
-
-pub deed_of-suits : (names : Names) (ps : Parameters) (body : Body) → IfOk (deed_of names ps body) (Suits body)
-deed_of-suits names ps body = suits body (deed_of names ps body) (deed_of-gives names ps body)
-
-built : (body : Body) (r : Result Deed Case) → IsTrue (is_built body) → Gives body r → Tells IsBuilt r
-built body (Ok deed) is h = h.3 is
-built body (Err case) is h = h is
-
--- a statement that is built gives a deed that is built, and is not refused as unbuilt
-pub deed_of-built : (names : Names) (ps : Parameters) (body : Body) → IsTrue (is_built body) → Tells IsBuilt (deed_of names ps body)
-deed_of-built names ps body is = built body (deed_of names ps body) is (deed_of-gives names ps body)
+deed_of-suits names ps body = unless_bound body (is_parameter ps (defined_name body)) (execution names ps body) (execution-suits names ps body)

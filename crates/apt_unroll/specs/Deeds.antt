@@ -172,7 +172,7 @@ defined_name bodies.Loopnd = None
 defined_name (bodies.Jumpto l) = None
 defined_name (bodies.If e a b c) = None
 
--- the macros, loops and jumps are not built yet
+-- the deed of a statement; where macros, loops and jumps go on is no part of it
 unfoldable pub execution : Names → Parameters → Body → Result Deed Case
 execution names ps (bodies.Partno text) = Ok (deeds.Partno text)
 execution names ps (bodies.Remark text) = Ok (deeds.Remark text)
@@ -218,13 +218,13 @@ execution names ps (bodies.Spindl e turn) = value_of names ps e >>= λ v. Ok (de
 execution names ps bodies.SpindlOff = Ok deeds.SpindlOff
 execution names ps (bodies.Coolnt c) = Ok (deeds.Coolnt c)
 execution names ps (bodies.Loadtl e) = value_of names ps e >>= λ v. Ok (deeds.Loadtl v)
-execution names ps (bodies.Macro m parameters) = Err cases.NotBuilt
-execution names ps bodies.Termac = Err cases.NotBuilt
-execution names ps (bodies.Call m args) = Err cases.NotBuilt
-execution names ps bodies.Loopst = Err cases.NotBuilt
-execution names ps bodies.Loopnd = Err cases.NotBuilt
-execution names ps (bodies.Jumpto l) = Err cases.NotBuilt
-execution names ps (bodies.If e a b c) = Err cases.NotBuilt
+execution names ps (bodies.Macro m parameters) = Ok deeds.Macro
+execution names ps bodies.Termac = Ok deeds.Termac
+execution names ps (bodies.Call m args) = Ok deeds.Call
+execution names ps bodies.Loopst = Ok deeds.Loopst
+execution names ps bodies.Loopnd = Ok deeds.Loopnd
+execution names ps (bodies.Jumpto l) = Ok deeds.Jumpto
+execution names ps (bodies.If e a b c) = Ok deeds.If
 
 abbrev pub is_parameter : Parameters → Option (List ℕ) → Bool
 is_parameter ps None = false

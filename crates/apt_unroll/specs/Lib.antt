@@ -1,4 +1,10 @@
 pub mod Deeds
+pub mod Places
+pub mod Tables
+pub mod Calls
+pub mod Situations
+pub mod Actions
 pub mod Trace
+pub mod Straight
 pub mod Codes
-pub mod TraceFronts
+pub mod Texts

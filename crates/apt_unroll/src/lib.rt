@@ -2,7 +2,11 @@
 #![tactic(auto)]
 
 mod arguments;
+mod calls;
 mod deeds;
+mod numbers;
+mod places;
+mod run;
 mod statements;
 #[cfg(test)]
 mod tests;

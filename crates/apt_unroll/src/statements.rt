@@ -1,7 +1,7 @@
 //! What each statement does.
 ghost use Rattle.std.specs.Prelude.{◌≡◌, false};
 ghost use Rattle.apt_unroll.specs.Deeds as deeds;
-ghost use Rattle.apt_unroll.specs.TraceFronts as laws;
+ghost use Rattle.apt_unroll.specs.Texts as texts;
 
 use crate::arguments::{
     circle_three, coordinates, four, name_for, pair, surfaces, three, value_and_name,
@@ -13,7 +13,7 @@ use apt_words::{Body, Case, Deed};
 /// What a statement does; one whose text has to be copied is handled before.
 #[tactic(auto, unfolding(crate::specs::Deeds::execution))]
 pub(crate) fn execution(env: &Env, frame: &Frame, body: &Body) -> Result<Deed, Case>
-    requires { laws.is_text body.now ≡ false }
+    requires { texts.is_text body.now ≡ false }
     ensures { result ≡ deeds.execution env.now frame.now body.now }
 {
     match body {
@@ -123,12 +123,12 @@ pub(crate) fn execution(env: &Env, frame: &Frame, body: &Body) -> Result<Deed, C
         Body::SpindlOff => Ok(Deed::SpindlOff),
         Body::Coolnt(coolant) => Ok(Deed::Coolnt(*coolant)),
         Body::Loadtl(e) => Ok(Deed::Loadtl(eval(e, env, frame)?)),
-        Body::Macro(_, _)
-        | Body::Termac
-        | Body::Call(_, _)
-        | Body::Loopst
-        | Body::Loopnd
-        | Body::Jumpto(_)
-        | Body::If(_, _, _, _) => Err(Case::NotBuilt),
+        Body::Macro(_, _) => Ok(Deed::Macro),
+        Body::Termac => Ok(Deed::Termac),
+        Body::Call(_, _) => Ok(Deed::Call),
+        Body::Loopst => Ok(Deed::Loopst),
+        Body::Loopnd => Ok(Deed::Loopnd),
+        Body::Jumpto(_) => Ok(Deed::Jumpto),
+        Body::If(_, _, _, _) => Ok(Deed::If),
     }
 }

@@ -1,5 +1,6 @@
-ghost use Rattle.std.specs.Prelude.{◌≡◌, IfOk};
+ghost use Rattle.std.specs.Prelude.{◌≡◌, false, IfOk};
 ghost use Rattle.apt_words.specs.Built.{AreBuilt};
+ghost use Rattle.apt_words.specs.Flow.{AreNested};
 ghost use Rattle.apt_words.specs.Sources.{AreStmts};
 
 use crate::unroll;
@@ -29,16 +30,17 @@ fn on(line: u32, body: Body) -> Stmt
     }
 }
 
-/// X=.000005, CUTTER of a name, END and a motion, from line 3 on.
+/// X=.000005, CUTTER of a name, END, a motion and FINI, from line 3 on.
 fn program(alloc: Global, rt: &impl Abort, text: &str) -> Result<Program, AllocError>
     ensures built { IfOk result (λ p. AreBuilt p) }
     ensures sources { IfOk result (λ p. AreStmts p) }
+    ensures nested { IfOk result (λ p. AreNested false p) }
 {
     let five = Expr { node: Node::Num(5) };
     let x = on(3, Body::Assign(symbol(rt, "X"), five));
     let cutter = on(4, Body::Cutter(name_for(rt, text)));
     let end = on(5, Body::EndWord);
-    let stmts = vec![in alloc; x, cutter, end, on(6, Body::Rapid)]?;
+    let stmts = vec![in alloc; x, cutter, end, on(6, Body::Rapid), on(7, Body::Fini)]?;
     Ok(Program { stmts })
 }
 

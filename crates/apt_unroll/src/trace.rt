@@ -1,17 +1,23 @@
-//! The statements of a program, executed in order.
+//! The trace of a program.
 
-ghost use Rattle.std.specs.Prelude.{◌≡◌, ◌≢◌, ◌≤◌, [], false, None, IfOk, IfSome};
+ghost use Rattle.std.specs.Prelude.{◌≡◌, ◌≢◌, ◌≤◌, ◌<◌, ◌^◌, false, None, slice_get, IfOk, IfSome, option_map};
+ghost use Rattle.std.specs.Option.{option_copied};
 ghost use Rattle.apt_words.specs.Built.{AreBuilt, AreBuiltSteps};
-ghost use Rattle.apt_words.specs.ProgramEnds as endings;
-ghost use Rattle.apt_words.specs.ProgramEnds.{EndsInFini, StepsEnd};
+ghost use Rattle.apt_words.specs.Flow.{AreNested, flow_of};
+ghost use Rattle.apt_words.specs.ProgramEnds.{StepsEnd};
 ghost use Rattle.apt_words.specs.Sources.{AreStmts, AreExecuted};
 ghost use Rattle.apt_words.specs.declared.Case.TheVariants as cases;
 ghost use Rattle.apt_scalar.specs.StepScalars.{AreScalars};
-ghost use Rattle.apt_unroll.specs.Trace as straight;
+ghost use Rattle.apt_unroll.specs.Actions.{IsActed, most_steps, step_of};
+ghost use Rattle.apt_unroll.specs.Places.{begins_macro, executed_from};
+ghost use Rattle.apt_unroll.specs.Straight.{AreStraight, in_order};
+ghost use Rattle.apt_unroll.specs.Tables.{ArePlaces};
+ghost use Rattle.apt_unroll.specs.Trace as spec;
+ghost use Rattle.apt_unroll.specs.Trace.{IsTrace, Trace, trace_of};
 
-use crate::deeds::{bind_behind, deed_of};
-use apt_scalar::{Env, Frame};
-use apt_words::{Body, Case, Deed, Program, Refusal, Step};
+use crate::places::Places;
+use crate::run::Run;
+use apt_words::{Case, Deed, Program, Refusal, Step, Stmt};
 use std::alloc::{AllocError, Global};
 use std::marker::Model;
 
@@ -36,77 +42,130 @@ impl Model for Unrolled {
     ghost view = { λ u. record { steps = u.steps.items; fault = u.fault } };
 }
 
-/// The steps of a program whose statements are executed in order.
-#[tactic(auto, using(crate::proofs::Numbers::are_scalars, crate::proofs::Building::are_built, crate::proofs::Building::none_unbuilt, crate::proofs::Endings::end_once, crate::proofs::Executed::are_executed))]
+/// A step that is done, the last one with FINI; or its refusal; or that no statement is left.
+#[derive(Drop)]
+pub(crate) enum Next {
+    On(Step),
+    Last(Step),
+    Refused(Refusal),
+    Out,
+}
+
+/// The one trace of a program: the steps that are executed, up to FINI or to the first that is refused.
+#[tactic(auto, using(crate::proofs::Going::has_trace, crate::proofs::InOrder::straight_in_order))]
 pub fn unroll(alloc: Global, p: &Program) -> Result<Unrolled, AllocError>
     requires built { AreBuilt p.now }
     requires sources { AreStmts p.now }
-    ensures steps { IfOk result (λ u. u ≡ straight.trace_of p.now) }
+    requires nested { AreNested false p.now }
+    ensures trace { IfOk result (λ u. IsTrace p.now u) }
+    ensures only { IfOk result (λ u. (other : Trace) → IsTrace p.now other → other ≡ u) }
+    ensures value { IfOk result (λ u. u ≡ trace_of p.now) }
+    ensures straight { AreStraight p.now → IfOk result (λ u. u ≡ in_order p.now) }
     ensures scalars { IfOk result (λ u. AreScalars u.steps) }
     ensures built { IfOk result (λ u. AreBuiltSteps u.steps) }
     ensures sources { IfOk result (λ u. AreExecuted u.steps) }
     ensures none_unbuilt { IfOk result (λ u. IfSome u.fault (λ refusal. refusal.case ≢ cases.NotBuilt)) }
-    ensures ends { EndsInFini p.now → IfOk result (λ u. u.fault ≡ None → StepsEnd false u.steps) }
+    ensures ends { IfOk result (λ u. u.fault ≡ None → StepsEnd false u.steps) }
 {
     unroll_all(alloc, p)
 }
 
+#[tactic(auto, using(crate::proofs::Prefixes::stepped, crate::proofs::Prefixes::finished, crate::proofs::Prefixes::refused_at, crate::proofs::Prefixes::run_out, crate::proofs::Prefixes::nothing_left))]
 fn unroll_all(alloc: Global, p: &Program) -> Result<Unrolled, AllocError>
-    ensures { IfOk result (λ u. u ≡ straight.trace_of p.now) }
+    ensures { IfOk result (λ u. u ≡ trace_of p.now) }
 {
-    let frame = Frame {
-        bound: Vec::new(alloc),
-    };
-    let mut env = Env::new(alloc);
+    let places = Places::new(alloc, p)?;
+    let mut run = Run::new(alloc);
     let mut steps = Vec::new(alloc);
-    let mut ended = false;
     let mut step = 1;
-    'statements: for stmt in &p.stmts {
-        match deed_at(step, ended, &env, &frame, &stmt.body)? {
-            Err(case) => {
-                let line = stmt.line;
-                let fault = Some(Refusal { line, step, case });
+    let mut left = MOST_STEPS + 1;
+    'steps: while left > 0 {
+        match next_step(alloc, p, &places, &mut run, step)? {
+            Next::Out => return Ok(Unrolled { steps, fault: None }),
+            Next::Refused(refusal) => {
+                let fault = Some(refusal);
                 return Ok(Unrolled { steps, fault });
             }
-            Ok(deed) => {
-                ended = is_ended(ended, &deed);
-                bind_behind(alloc, &mut env, &deed)?;
-                let line = stmt.line;
-                steps.push(Step { line, step, deed })?;
-                step += 1;
+            Next::Last(last) => {
+                steps.push(last)?;
+                return Ok(Unrolled { steps, fault: None });
             }
+            Next::On(next) => steps.push(next)?,
         }
+        step += 1;
+        left -= 1;
     }
     Ok(Unrolled { steps, fault: None })
 }
 
-/// What a step does, or its refusal.
-fn deed_at(
+/// The n-th step, done.
+#[tactic(auto, using(crate::proofs::Acts::moment_last, crate::proofs::Acts::moment_on))]
+fn next_step(
+    alloc: Global,
+    p: &Program,
+    places: &Places,
+    run: &mut Run,
     step: u32,
-    ended: bool,
-    env: &Env,
-    frame: &Frame,
-    body: &Body,
+) -> Result<Next, AllocError>
+    requires { ArePlaces p.now places.now }
+    ensures { IfOk result (λ next. spec.IsNext (spec.moment p.now step run.old) step next run.new) }
+{
+    let Some((i, stmt)) = executed(p, places, run.at()) else {
+        return Ok(Next::Out);
+    };
+    let line = stmt.line;
+    match step_of(alloc, p, places, run, step, i, stmt)? {
+        Err(case) => Ok(Next::Refused(Refusal { line, step, case })),
+        Ok(deed) if stmt.body.is_fini() => Ok(Next::Last(Step { line, step, deed })),
+        Ok(deed) => Ok(Next::On(Step { line, step, deed })),
+    }
+}
+
+fn stmt_at(p: &Program, i: usize) -> Option<&Stmt>
+    ensures value { option_copied result ≡ slice_get p.now i }
+    ensures small { IfSome result (λ _. i < 2 ^ 63) }
+{
+    p.stmts.get(i)
+}
+
+/// The statement that is executed where a run comes to a number, with its own number.
+#[tactic(auto, using(crate::proofs::Tables::runs, crate::proofs::Tables::runs_out, crate::proofs::Tables::runs_past, crate::proofs::Tables::no_macro))]
+fn executed<'a>(p: &'a Program, places: &Places, at: usize) -> Option<(usize, &'a Stmt)>
+    requires { ArePlaces p.now places.now }
+    ensures value { option_map (λ r. (r.0, r.1.now)) result ≡ spec.with_number (executed_from p.now at) (slice_get p.now (executed_from p.now at)) }
+    ensures small { IfSome result (λ r. r.0 < 2 ^ 63) }
+    ensures passed { IfSome result (λ r. begins_macro (flow_of r.1.now.body) ≡ false) }
+{
+    match places.executed_from(at) {
+        None => None,
+        Some(i) => match stmt_at(p, i) {
+            None => None,
+            Some(stmt) => Some((i, stmt)),
+        },
+    }
+}
+
+/// The n-th step, or its refusal.
+fn step_of(
+    alloc: Global,
+    p: &Program,
+    places: &Places,
+    run: &mut Run,
+    step: u32,
+    i: usize,
+    stmt: &Stmt,
 ) -> Result<Result<Deed, Case>, AllocError>
-    requires { frame.now ≡ [] }
-    ensures deed { IfOk result (λ deed. deed ≡ straight.deed_at step ended env.now body.now) }
-    ensures early { IfOk result (λ deed. IfOk deed (λ _. step ≤ straight.most_steps)) }
+    requires places { ArePlaces p.now places.now }
+    requires small { i < 2 ^ 63 }
+    requires passed { begins_macro (flow_of stmt.now.body) ≡ false }
+    ensures deed { IfOk result (λ r. IsActed (step_of p.now step run.old i stmt.now) r run.new) }
+    ensures early { IfOk result (λ r. IfOk r (λ _. step ≤ most_steps)) }
 {
     if step > MOST_STEPS {
         return Ok(Err(Case::Budget));
     }
-    if ended && !body.is_fini() {
+    if run.has_ended() && !stmt.body.is_fini() {
         return Ok(Err(Case::AfterEnd));
     }
-    deed_of(env, frame, body)
-}
-
-/// Whether the program has ended behind a step.
-fn is_ended(before: bool, deed: &Deed) -> bool
-    ensures { result ≡ endings.is_ended before deed.now }
-{
-    match deed {
-        Deed::EndWord => true,
-        _ => before,
-    }
+    run.act(alloc, p, places, i, &stmt.body)
 }

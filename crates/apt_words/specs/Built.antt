@@ -83,13 +83,13 @@ is_built (bodies.Spindl e turn) = false
 is_built bodies.SpindlOff = false
 is_built (bodies.Coolnt c) = false
 is_built (bodies.Loadtl e) = false
-is_built (bodies.Macro m ps) = false
-is_built bodies.Termac = false
-is_built (bodies.Call m args) = false
-is_built bodies.Loopst = false
-is_built bodies.Loopnd = false
-is_built (bodies.Jumpto l) = false
-is_built (bodies.If e a b c) = false
+is_built (bodies.Macro m ps) = true
+is_built bodies.Termac = true
+is_built (bodies.Call m args) = true
+is_built bodies.Loopst = true
+is_built bodies.Loopnd = true
+is_built (bodies.Jumpto l) = true
+is_built (bodies.If e a b c) = true
 
 abbrev pub AreBuilt : List Stmt → Type 0
 AreBuilt [] = Unit {0}
@@ -143,13 +143,13 @@ IsBuilt (deeds.Spindl n turn) = ⊥
 IsBuilt deeds.SpindlOff = ⊥
 IsBuilt (deeds.Coolnt c) = ⊥
 IsBuilt (deeds.Loadtl n) = ⊥
-IsBuilt deeds.Macro = ⊥
-IsBuilt deeds.Termac = ⊥
-IsBuilt deeds.Call = ⊥
-IsBuilt deeds.Loopst = ⊥
-IsBuilt deeds.Loopnd = ⊥
-IsBuilt deeds.Jumpto = ⊥
-IsBuilt deeds.If = ⊥
+IsBuilt deeds.Macro = Unit {0}
+IsBuilt deeds.Termac = Unit {0}
+IsBuilt deeds.Call = Unit {0}
+IsBuilt deeds.Loopst = Unit {0}
+IsBuilt deeds.Loopnd = Unit {0}
+IsBuilt deeds.Jumpto = Unit {0}
+IsBuilt deeds.If = Unit {0}
 
 -- the steps of a program of built statements
 abbrev pub AreBuiltSteps : List Step → Type 0

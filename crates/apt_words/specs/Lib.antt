@@ -8,5 +8,6 @@ pub mod Trees
 pub mod TreeCodes
 pub mod TreeViews
 pub mod ProgramEnds
+pub mod Flow
 pub mod Built
 pub mod Sources

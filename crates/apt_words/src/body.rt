@@ -1,7 +1,7 @@
 //! Statements of part programs.
 
 ghost use Rattle.std.specs.Prelude.{◌≡◌, IfOk};
-ghost use Rattle.apt_words.specs.ProgramEnds as endings;
+ghost use Rattle.apt_words.specs.Flow.{is_fini};
 
 use crate::{Cool, Expr, Go, Pick, Side, Stop, Symbol, Turn, Units};
 use std::alloc::AllocError;
@@ -148,7 +148,7 @@ pub enum Body {
 impl Body {
     /// Whether the statement ends the program.
     pub fn is_fini(&self) -> bool
-        ensures { result ≡ endings.is_fini self.now }
+        ensures { result ≡ is_fini self.now }
     {
         matches!(self, Body::Fini)
     }

@@ -1,11 +1,17 @@
-use Rattle.std.proofs.Common.{◌≡◌, ◌≤◌, ◌+◌, drop}
-use Rattle.apt_unroll.specs.Trace.{trace_from, trace_of, most_steps}
-use Rattle.apt_unroll.specs.TraceFronts.{behind}
+use Rattle.std.proofs.Common.{◌≡◌, ◌+◌}
+use Rattle.apt_unroll.specs.Actions.{most_steps}
+use Rattle.apt_unroll.specs.Tables.{ArePlaces}
+use Rattle.apt_unroll.specs.Trace.{trace_from, trace_of}
+use Rattle.apt_unroll.proofs.Prefixes.{behind}
 use Rattle.apt_unroll.proofs.trace.unroll_all.Given as goal
 
-abbrev pub invariant-statements : goal.invariant-statements
-invariant-statements l =
+abbrev pub invariant-steps : goal.invariant-steps
+invariant-steps l =
     record {
-      steps : behind l.steps.items (trace_from l.step l.ended l.env (drop l.stmt-index l.stmt-items)) ≡ trace_of l.fn.p;
-      few : l.step ≤ most_steps + 1;
+      places : ArePlaces l.fn.p l.places;
+      few : l.step + l.left ≡ most_steps + 2;
+      steps : behind l.steps.items (trace_from l.left l.step l.fn.p l.run) ≡ trace_of l.fn.p;
     }
+
+abbrev pub decreases-steps : goal.decreases-steps
+decreases-steps l = l.left

@@ -1,0 +1,276 @@
+//! What holds between the steps of a run, and what a statement does there.
+ghost use Rattle.std.specs.Prelude.{◌≡◌, ℕ, ◌+◌, ◌<◌, ◌^◌, false, List, [], Option, Some, None, slice_get, reverse, OnOk, IfOk};
+ghost use Rattle.std.specs.Option.{option_copied};
+ghost use Rattle.apt_words.specs.Flow.{flow_of};
+ghost use Rattle.apt_words.specs.declared.body.Body.TheVariants as bodies;
+ghost use Rattle.apt_words.specs.declared.deed.Deed.TheVariants as deeds;
+ghost use Rattle.apt_words.specs.ProgramEnds as endings;
+ghost use Rattle.apt_scalar.specs.Meanings.{meaning};
+ghost use Rattle.apt_unroll.specs.Actions as actions;
+ghost use Rattle.apt_unroll.specs.Actions.{IsActed, action};
+ghost use Rattle.apt_unroll.specs.Places as spec;
+ghost use Rattle.apt_unroll.specs.Places.{begins_macro, named};
+ghost use Rattle.apt_unroll.specs.declared.numbers.Naming.TheVariants as namings;
+ghost use Rattle.apt_unroll.specs.Situations as situations;
+ghost use Rattle.apt_unroll.specs.Tables.{ArePlaces, IsMacroAt};
+
+use crate::calls::bindings;
+use crate::deeds::{bind_behind, deed_of};
+use crate::places::Places;
+use apt_scalar::{Env, Frame, eval};
+use apt_words::{Args, Body, Case, Deed, Params, Program, Stmt, Symbol};
+use arrayvec::ArrayVec;
+use std::alloc::{AllocError, Global};
+use std::default::MadeWith;
+use std::marker::Model;
+
+/// An open call: where its macro returns to, and what the macro's parameters stand for.
+#[derive(Drop)]
+pub(crate) struct Call {
+    back: usize,
+    frame: Frame,
+}
+
+impl Model for Call {
+    ghost use Rattle.apt_unroll.specs.Situations.{Call as Opened};
+
+    ghost Value = { Opened };
+
+    ghost view = { λ c. record { back = c.back; bound = c.frame } };
+}
+
+/// A blank of the call stack.
+impl MadeWith<Global> for Call {
+    ghost use Rattle.std.specs.Prelude.{◌≡◌, []};
+
+    ghost is_made_with = { λ c. c.bound ≡ [] };
+
+    fn made_with(alloc: Global) -> Call {
+        Call {
+            back: 0,
+            frame: Frame {
+                bound: Vec::new(alloc),
+            },
+        }
+    }
+}
+
+/// Where a run stands. Clauses see a situation.
+#[derive(Drop)]
+pub(crate) struct Run {
+    at: usize,
+    ended: bool,
+    env: Env,
+    /// The innermost stands last.
+    calls: ArrayVec<Call, 8, Global>,
+    /// The parameters outside of macros: none.
+    outside: Frame,
+}
+
+impl Model for Run {
+    ghost use Rattle.std.specs.Prelude.{◌≡◌, [], reverse};
+    ghost use Rattle.apt_unroll.specs.Situations.{Situation};
+
+    ghost Value = { Situation };
+
+    ghost view = { λ r. record { at = r.at; ended = r.ended; names = r.env; calls = reverse r.calls.items } };
+
+    ghost invariant = { λ r. r.outside ≡ [] };
+}
+
+impl Run {
+    pub(crate) fn new(alloc: Global) -> Run
+        ensures { result ≡ situations.first_situation }
+    {
+        Run {
+            at: 0,
+            ended: false,
+            env: Env::new(alloc),
+            calls: ArrayVec::new_in(alloc),
+            outside: Frame {
+                bound: Vec::new(alloc),
+            },
+        }
+    }
+
+    /// The number of the statement to which it has come.
+    pub(crate) fn at(&self) -> usize
+        ensures { result ≡ self.now.at }
+    {
+        self.at
+    }
+
+    pub(crate) fn has_ended(&self) -> bool
+        ensures { result ≡ self.now.ended }
+    {
+        self.ended
+    }
+
+    /// The parameters of the running macro.
+    fn frame(&self) -> &Frame
+        ensures { result.now ≡ situations.parameters self.now.calls }
+    {
+        match self.calls.as_slice().last() {
+            Some(call) => &call.frame,
+            None => &self.outside,
+        }
+    }
+
+    /// What a statement does, and where the run goes on behind it.
+    #[tactic(auto, unfolding(crate::specs::Actions::action))]
+    pub(crate) fn act(
+        &mut self,
+        alloc: Global,
+        program: &Program,
+        places: &Places,
+        i: usize,
+        body: &Body,
+    ) -> Result<Result<Deed, Case>, AllocError>
+        requires places { ArePlaces program.now places.now }
+        requires small { i < 2 ^ 63 }
+        requires passed { begins_macro (flow_of body.now) ≡ false }
+        ensures { IfOk result (λ r. IsActed (action program.now self.old i body.now (flow_of body.now)) r self.new) }
+    {
+        match body {
+            Body::Macro(..) => unreachable!(),
+            Body::Termac => Ok(self.go_back()),
+            Body::Call(name, args) => self.call(alloc, program, places, i, name, args),
+            Body::Loopst => self.go_on(alloc, i, Deed::Loopst),
+            Body::Loopnd => self.go_on(alloc, i, Deed::Loopnd),
+            Body::Jumpto(label) => {
+                Ok(self.jump_to(target(program, places, i, label), Deed::Jumpto))
+            }
+            Body::If(e, below, zero, above) => match eval(e, &self.env, self.frame()) {
+                Err(case) => Ok(Err(case)),
+                Ok(v) => {
+                    let label = label_by(v, below, zero, above);
+                    Ok(self.jump_to(target(program, places, i, label), Deed::If))
+                }
+            },
+            Body::Fini => Ok(Ok(Deed::Fini)),
+            _ => match deed_of(&self.env, self.frame(), body)? {
+                Err(case) => Ok(Err(case)),
+                Ok(deed) => self.go_on(alloc, i, deed),
+            },
+        }
+    }
+
+    /// Goes on with the following statement.
+    fn go_on(
+        &mut self,
+        alloc: Global,
+        i: usize,
+        deed: Deed,
+    ) -> Result<Result<Deed, Case>, AllocError>
+        requires { i < 2 ^ 63 }
+        ensures { IfOk result (λ r. IsActed (actions.go_on i self.old deed) r self.new) }
+    {
+        bind_behind(alloc, &mut self.env, &deed)?;
+        self.at = i + 1;
+        self.ended = is_ended(self.ended, &deed);
+        Ok(Ok(deed))
+    }
+
+    /// Goes on with the statement of a label.
+    fn jump_to(&mut self, target: Option<usize>, deed: Deed) -> Result<Deed, Case>
+        ensures { IsActed (actions.jump_to self.old deed target) result self.new }
+    {
+        let Some(target) = target else {
+            return Err(Case::JumpOutside);
+        };
+        self.at = target;
+        Ok(deed)
+    }
+
+    /// Returns behind the innermost call.
+    fn go_back(&mut self) -> Result<Deed, Case>
+        ensures { IsActed (actions.return self.old self.old.calls) result self.new }
+    {
+        let Some(call) = self.calls.pop() else {
+            return Err(Case::JumpOutside);
+        };
+        self.at = call.back;
+        Ok(Deed::Termac)
+    }
+
+    /// Calls a macro.
+    #[tactic(auto, using(crate::proofs::Tables::is_macro))]
+    fn call(
+        &mut self,
+        alloc: Global,
+        program: &Program,
+        places: &Places,
+        i: usize,
+        name: &Symbol,
+        args: &Args,
+    ) -> Result<Result<Deed, Case>, AllocError>
+        requires places { ArePlaces program.now places.now }
+        requires small { i < 2 ^ 63 }
+        ensures { IfOk result (λ r. IsActed (actions.call program.now self.old i args.now (named namings.Macros program.now name.now)) r self.new) }
+    {
+        let Some(begin) = places.macro_named(name) else {
+            return Ok(Err(Case::NoSuchMacro));
+        };
+        if self.calls.is_full() {
+            return Ok(Err(Case::Depth));
+        }
+        let params = parameters_at(program, begin);
+        match bindings(alloc, &self.env, self.frame(), params, args)? {
+            Err(case) => Ok(Err(case)),
+            Ok(frame) => {
+                self.calls.push(Call { back: i + 1, frame });
+                self.at = begin + 1;
+                Ok(Ok(Deed::Call))
+            }
+        }
+    }
+}
+
+/// The statement with a label, where it stands in the region of a statement.
+#[tactic(auto, using(crate::proofs::Tables::target_is))]
+fn target(program: &Program, places: &Places, i: usize, label: &Symbol) -> Option<usize>
+    requires { ArePlaces program.now places.now }
+    ensures { result ≡ spec.target program.now i label.now }
+{
+    places.target(i, label)
+}
+
+/// The parameters of the macro that a statement begins.
+fn parameters_at(program: &Program, begin: usize) -> &Params
+    requires { IsMacroAt (slice_get program.now begin) }
+    ensures value { result.now ≡ actions.formal_of (slice_get program.now begin) }
+    ensures small { begin < 2 ^ 63 }
+{
+    match program.stmts.get(begin) {
+        Some(
+            Stmt {
+                body: Body::Macro(_, params),
+                ..
+            },
+        ) => params,
+        _ => unreachable!(),
+    }
+}
+
+/// The first label for a value below zero, the second for zero, the third above.
+fn label_by<'a>(v: i64, below: &'a Symbol, zero: &'a Symbol, above: &'a Symbol) -> &'a Symbol
+    ensures { result.now ≡ actions.label_by v below.now zero.now above.now }
+{
+    if v < 0 {
+        below
+    } else if v == 0 {
+        zero
+    } else {
+        above
+    }
+}
+
+/// Whether the program has ended behind a step.
+fn is_ended(before: bool, deed: &Deed) -> bool
+    ensures { result ≡ endings.is_ended before deed.now }
+{
+    match deed {
+        Deed::EndWord => true,
+        _ => before,
+    }
+}
