@@ -62,7 +62,7 @@ fn loops_run_to_their_ends(rt: HostRuntime) -> Result<(), Fail> {
 }
 
 /// Macros and calls.
-const MACROS: [Row; 9] = [
+const MACROS: [Row; 10] = [
     (
         "PARTNO CALLS\nM1=MACRO/D=1\nGODLTA/D,0,0\nTERMAC\nFEDRAT/10\nFROM/0,0,0\nCALL/M1\nCALL/M1,D=2.5\nCALL/M1\nFINI\n",
         "DONE 14 RECORDS 5 ACTS 0 SEGMENTS\nYES 0 SEGMENTS IN 0 OUT 0\n",
@@ -114,6 +114,12 @@ const MACROS: [Row; 9] = [
         "PARTNO\nL1=LINE/0,0,5,0\nL4=LINE/0,5,0,0\nP=MACRO/S,T=L4\nCALL/Q,U=S,V=T\nTERMAC\nQ=MACRO/U,V\nGO/TO,U,TO,V\nTERMAC\nCUTTER/.5\nFEDRAT/10\nFROM/-1,-1,.5\nCALL/P,S=L1\nFINI\n",
         "DONE 12 RECORDS 3 ACTS 0 SEGMENTS\nYES 0 SEGMENTS IN 0 OUT 0\n",
         "%\nN0001G70G90G94\nN0002G01X-00025000Y-00025000Z+00050000F0100\nN0003M02\n",
+    ),
+    // a macro that calls itself twice, each time with the names of its two lines exchanged
+    (
+        "PARTNO\nL1=LINE/0,0,1,0\nL2=LINE/0,0,0,1\nM=MACRO/A,B,N=2\nIF(N)Z,Z,P\nP)CALL/M,A=B,B=A,N=N-1\nJUMPTO/E\nZ)GO/TO,A,PAST,B\nE)TERMAC\nCUTTER/2\nFEDRAT/1\nFROM/5,5,1\nCALL/M,A=L1,B=L2\nFINI\n",
+        "DONE 12 RECORDS 3 ACTS 0 SEGMENTS\nYES 0 SEGMENTS IN 0 OUT 0\n",
+        "%\nN0001G70G90G94\nN0002G01X-00100000Y+00100000Z+00100000F0010\nN0003M02\n",
     ),
 ];
 
