@@ -9,7 +9,8 @@ use Rattle.apt_plane.specs.Vectors.{cross}
 use Rattle.apt_plane.specs.Ranges.{IsPoint}
 use Rattle.apt_canon.specs.declared.FormFault.{FormFault}
 use Rattle.apt_canon.specs.declared.FormFault.TheVariants.{NoMeeting, OutOfRange}
-use Rattle.apt_canon.specs.Meeting.{in_range, is_in_range, meeting_point, line_line}
+use Rattle.apt_canon.specs.Scale.{in_range, is_in_range}
+use Rattle.apt_canon.specs.Meeting.{meeting_point, line_line}
 
 pub not_zero-test : (z : ℤ) → z ≢ pos 0 → (unsigned_abs z == 0) ≡ false
 not_zero-test z d = grind (arith, ints, nat_tests)

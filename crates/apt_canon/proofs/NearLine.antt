@@ -10,7 +10,7 @@ use Rattle.apt_num.proofs.Roots.{ScaledRoot, root_facts, five_sevenths, on_line}
 use Rattle.apt_plane.specs.declared.figures.Dir.{Dir}
 use Rattle.apt_plane.specs.Vectors.{length_squared}
 use Rattle.apt_plane.specs.Ranges.{IsDir}
-use Rattle.apt_canon.specs.Meeting.{length_of}
+use Rattle.apt_canon.specs.Scale.{length_of}
 
 taken_out : (d u k h s : ℤ) → ((d *ℤ u) *ℤ k) -ℤ (d *ℤ (h *ℤ s)) ≡ d *ℤ ((k *ℤ u) -ℤ (h *ℤ s))
 taken_out d u k h s = rw (as_diff d, as_diff u, as_diff k, as_diff h, as_diff s) (simp differences (diff-same _ _ _ _ (omega arith)))

@@ -8,7 +8,8 @@ use Rattle.apt_plane.specs.Vectors.{cross}
 use Rattle.apt_plane.specs.Ranges.{IsLine}
 use Rattle.apt_canon.specs.declared.FormFault.{FormFault}
 use Rattle.apt_canon.specs.declared.FormFault.TheVariants.{NoMeeting, OutOfRange}
-use Rattle.apt_canon.specs.Meeting.{in_range, is_in_range, meeting_point, line_line, IsNearLine}
+use Rattle.apt_canon.specs.Scale.{in_range, is_in_range, IsNearLine}
+use Rattle.apt_canon.specs.Meeting.{meeting_point, line_line}
 use Rattle.apt_canon.proofs.Meets.{not_zero-test}
 use Rattle.apt_canon.proofs.MeetingLaws.{meeting_point-near}
 

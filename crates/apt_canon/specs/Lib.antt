@@ -1,1 +1,6 @@
+pub mod Scale
 pub mod Meeting
+pub mod Circles
+pub mod Feet
+pub mod Tangents
+pub mod Rounds

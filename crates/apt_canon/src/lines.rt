@@ -4,8 +4,9 @@ ghost use Rattle.std.specs.Prelude.{◌≡◌, ◌≢◌, ◌↔◌, ◌*◌, �
 ghost use Rattle.apt_num.specs.Near.{near};
 ghost use Rattle.apt_plane.specs.Vectors as vectors;
 ghost use Rattle.apt_plane.specs.Ranges.{IsPoint, IsDir, IsLine};
-ghost use Rattle.apt_canon.specs.Meeting.{IsNearLine};
+ghost use Rattle.apt_canon.specs.Scale.{IsNearLine};
 ghost use Rattle.apt_canon.specs.Meeting as meeting;
+ghost use Rattle.apt_canon.specs.Scale as scale;
 
 use crate::FormFault;
 use apt_num::{div_near, isqrt};
@@ -96,7 +97,7 @@ fn height_from(offset: i64, length: i128, cross: i128) -> i128
     requires offset { unsigned_abs offset ≤ 10 ^ 8 }
     requires length { unsigned_abs length < 2 ^ 63 }
     requires cross { unsigned_abs cross ≤ 2 * 10 ^ 16 }
-    ensures value { result ≡ (offset *ℤ length) -ℤ (cross *ℤ meeting.unit) }
+    ensures value { result ≡ (offset *ℤ length) -ℤ (cross *ℤ scale.unit) }
     ensures small { unsigned_abs result ≤ 2 ^ 91 }
 {
     times(offset, length) - cross * UNIT
@@ -104,7 +105,7 @@ fn height_from(offset: i64, length: i128, cross: i128) -> i128
 
 fn length_of(dir: Dir) -> i128
     requires { IsDir dir }
-    ensures value { result ≡ meeting.length_of dir }
+    ensures value { result ≡ scale.length_of dir }
     ensures small { unsigned_abs result < 2 ^ 63 }
 {
     isqrt(length_squared_of(dir) * (1 << 70)) as i128
@@ -115,13 +116,13 @@ fn shifted(base: i64, share: i128, turn: i128) -> i128
     requires share { unsigned_abs share ≤ 2 ^ 119 }
     requires turn { unsigned_abs turn ≤ 2 * 10 ^ 16 }
     requires not_zero { turn ≢ pos 0 }
-    ensures { result ≡ base +ℤ near share (turn *ℤ meeting.unit) }
+    ensures { result ≡ base +ℤ near share (turn *ℤ scale.unit) }
 {
     i128::from(base) + div_near(share, turn * UNIT)
 }
 
 fn in_range(point: Wide) -> Result<Pt, FormFault>
-    ensures { result ≡ meeting.in_range (record { x = point.x; y = point.y }) }
+    ensures { result ≡ scale.in_range (record { x = point.x; y = point.y }) }
 {
     if point.x.unsigned_abs() <= LIMIT && point.y.unsigned_abs() <= LIMIT {
         Ok(Pt {

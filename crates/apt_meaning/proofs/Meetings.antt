@@ -5,7 +5,8 @@ use Rattle.apt_words.specs.Rows.{unless}
 use Rattle.apt_plane.specs.declared.figures.Pt.{Pt}
 use Rattle.apt_plane.specs.declared.figures.Line.{Line}
 use Rattle.apt_canon.specs.declared.FormFault.TheVariants as faults
-use Rattle.apt_canon.specs.Meeting.{are_parallel, is_in_range, meeting_point, line_line}
+use Rattle.apt_canon.specs.Scale.{is_in_range}
+use Rattle.apt_canon.specs.Meeting.{are_parallel, meeting_point, line_line}
 use Rattle.apt_meaning.specs.StartUps.{met}
 
 met_if : (parallel inside : Bool) (p : Pt) → met (cond parallel (Err faults.NoMeeting) (cond inside (Ok p) (Err faults.OutOfRange))) ≡ unless ((parallel, cases.Parallel) ∷ (not inside, cases.OutOfRange) ∷ []) p

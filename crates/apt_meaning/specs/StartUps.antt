@@ -11,7 +11,8 @@ use Rattle.apt_plane.specs.declared.figures.Pt.{Pt}
 use Rattle.apt_plane.specs.declared.figures.Surface.{Surface}
 use Rattle.apt_canon.specs.declared.FormFault.{FormFault}
 use Rattle.apt_canon.specs.declared.FormFault.TheVariants as faults
-use Rattle.apt_canon.specs.Meeting.{meeting_point, are_parallel, is_in_range}
+use Rattle.apt_canon.specs.Scale.{is_in_range}
+use Rattle.apt_canon.specs.Meeting.{meeting_point, are_parallel}
 use Rattle.apt_offset.specs.Sides.{side_at_check, is_on_check}
 use Rattle.apt_offset.specs.Targets.{signed, offset_surface, lacks_room}
 use Rattle.apt_cldata.specs.declared.record.Position.{Position}

@@ -4,6 +4,7 @@ ghost use Rattle.std.specs.Prelude.{◌≡◌, ◌≤◌, ◌∷◌, [], not, un
 ghost use Rattle.apt_words.specs.Rows.{unless};
 ghost use Rattle.apt_plane.specs.Ranges.{IsLine, IsSurface};
 ghost use Rattle.apt_canon.specs.Meeting as meetings;
+ghost use Rattle.apt_canon.specs.Scale as scale;
 ghost use Rattle.apt_cldata.specs.Ranges.{IsPosition};
 ghost use Rattle.apt_meaning.specs.Ranges.{IsStartUp};
 ghost use Rattle.apt_meaning.specs.StartUps as start_ups;
@@ -98,7 +99,7 @@ fn lines_meeting(a: &Line, off_a: i64, b: &Line, off_b: i64) -> Result<Pt, Case>
     requires off_a { unsigned_abs off_a ≤ 500000 }
     requires b { IsLine b.now }
     requires off_b { unsigned_abs off_b ≤ 500000 }
-    ensures { result ≡ unless ((meetings.are_parallel a.now b.now, Case.Parallel) ∷ (not (meetings.is_in_range (meetings.meeting_point a.now off_a b.now off_b)), Case.OutOfRange) ∷ []) (meetings.meeting_point a.now off_a b.now off_b) }
+    ensures { result ≡ unless ((meetings.are_parallel a.now b.now, Case.Parallel) ∷ (not (scale.is_in_range (meetings.meeting_point a.now off_a b.now off_b)), Case.OutOfRange) ∷ []) (meetings.meeting_point a.now off_a b.now off_b) }
 {
     met(line_line(a, off_a, b, off_b))
 }

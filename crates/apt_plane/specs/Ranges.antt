@@ -3,6 +3,7 @@ use Rattle.std.specs.Prelude.{◌≡◌, ◌⊎◌, ◌+◌, ◌*◌, ◌^◌, �
 use Rattle.apt_plane.specs.declared.figures.Pt.{Pt}
 use Rattle.apt_plane.specs.declared.figures.Dir.{Dir}
 use Rattle.apt_plane.specs.declared.figures.Line.{Line}
+use Rattle.apt_plane.specs.declared.figures.Moved.{Moved}
 use Rattle.apt_plane.specs.declared.figures.Circ.{Circ}
 use Rattle.apt_plane.specs.declared.figures.Surface.{Surface}
 use Rattle.apt_plane.specs.declared.figures.Surface.TheVariants as surfaces
@@ -29,6 +30,10 @@ pub record IsLine (l : Line) : Type 0 where
   pub base : IsPoint l.base
   pub dir : IsDir l.dir
 
+pub record IsMoved (m : Moved) : Type 0 where
+  pub line : IsLine m.line
+  pub off : unsigned_abs m.off ≤ 10 ^ 8
+
 pub record IsBand (b : Band) : Type 0 where
   pub lo : unsigned_abs b.lo ≤ 4 * 10 ^ 8
   pub hi : unsigned_abs b.hi ≤ 4 * 10 ^ 8
@@ -43,6 +48,12 @@ pub record IsCircle (c : Circ) : Type 0 where
   pub least : pos 100 ≤ℤ c.r
   pub x : unsigned_abs c.c.x + unsigned_abs c.r ≤ 49000000
   pub y : unsigned_abs c.c.y + unsigned_abs c.r ≤ 49000000
+
+-- a circle whose radius is a length, surface or not
+pub record IsRound (c : Circ) : Type 0 where
+  pub centre : IsPoint c.c
+  pub least : pos 0 ≤ℤ c.r
+  pub most : c.r ≤ℤ pos (10 ^ 8)
 
 abbrev pub IsSurface : Surface → Type 0
 IsSurface (surfaces.Line l) = IsLine l

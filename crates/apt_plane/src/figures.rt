@@ -23,6 +23,13 @@ pub struct Line {
     pub dir: Dir,
 }
 
+/// A line moved `off` grid units to its left.
+#[derive(Clone, Copy, PartialEq, Eq)]
+pub struct Moved {
+    pub line: Line,
+    pub off: i64,
+}
+
 /// The circle about a centre, its radius in grid units.
 #[derive(Clone, Copy, PartialEq, Eq)]
 pub struct Circ {

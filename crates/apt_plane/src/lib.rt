@@ -5,7 +5,7 @@ mod figures;
 mod segments;
 pub mod vectors;
 
-pub use figures::{Axis, Band, Circ, Dir, Line, Pt, Spot, Surface};
+pub use figures::{Axis, Band, Circ, Dir, Line, Moved, Pt, Spot, Surface};
 pub use segments::segment_in_line_band;
 
 #[cfg(test)]

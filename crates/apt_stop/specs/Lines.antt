@@ -12,7 +12,8 @@ use Rattle.apt_plane.specs.Vectors.{cross}
 use Rattle.apt_words.specs.Rows.{Row, unless}
 use Rattle.apt_canon.specs.declared.FormFault.{FormFault}
 use Rattle.apt_canon.specs.declared.FormFault.TheVariants as faults
-use Rattle.apt_canon.specs.Meeting.{meeting_point, are_parallel, is_in_range}
+use Rattle.apt_canon.specs.Scale.{is_in_range}
+use Rattle.apt_canon.specs.Meeting.{meeting_point, are_parallel}
 use Rattle.apt_offset.specs.declared.Target.TheVariants as targets
 use Rattle.apt_stop.specs.Nearness.{is_near, side_of, heading, near_stop}
 

@@ -1,25 +1,12 @@
 -- How near a point is to a target, and on which side of it.
-use Rattle.std.specs.Prelude.{ℕ, ◌*◌, nat_le, ℤ, pos, neg_ℤ, ◌+ℤ◌, ◌-ℤ◌, ◌*ℤ◌, unsigned_abs, ◌&&◌, Bool, true, false, not}
+use Rattle.std.specs.Prelude.{nat_le, ℤ, pos, neg_ℤ, ◌+ℤ◌, ◌-ℤ◌, ◌*ℤ◌, ◌&&◌, Bool}
 use Rattle.apt_num.specs.declared.Sign.{Sign}
-use Rattle.apt_num.specs.declared.Sign.TheVariants as signs
-use Rattle.apt_num.specs.Sign.{sign_of, root_sign_of}
+use Rattle.apt_num.specs.Sign.{square, sign_of, root_sign_of, is_at_least}
 use Rattle.apt_plane.specs.declared.figures.Pt.{Pt}
 use Rattle.apt_plane.specs.declared.figures.Dir.{Dir}
 use Rattle.apt_plane.specs.Vectors.{displacement, cross, length_squared}
 use Rattle.apt_offset.specs.declared.Target.{Target}
 use Rattle.apt_offset.specs.declared.Target.TheVariants as targets
-
-abbrev pub is_minus : Sign → Bool
-is_minus signs.Minus = true
-is_minus signs.Zero = false
-is_minus signs.Plus = false
-
--- whether k is at least h * sqrt(n)
-abbrev pub is_at_least : ℤ → ℤ → ℕ → Bool
-is_at_least k h n = not (is_minus (root_sign_of k h n))
-
-abbrev pub square : ℤ → ℕ
-square a = unsigned_abs a * unsigned_abs a
 
 -- whether a point is at most g units from a target; a circle has a radius of at least g
 abbrev pub is_near : Target → ℤ → Pt → Bool

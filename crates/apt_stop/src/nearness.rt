@@ -2,6 +2,7 @@
 
 ghost use Rattle.std.specs.Prelude.{◌≡◌, ◌*◌, ◌^◌, ◌≤◌, ◌&&◌, nat_le, pos, neg_ℤ, ◌+ℤ◌, ◌-ℤ◌, ◌≤ℤ◌, unsigned_abs};
 ghost use Rattle.apt_num.specs.Sign.{root_sign_of};
+ghost use Rattle.apt_num.specs.Sign as signs;
 ghost use Rattle.apt_plane.specs.Ranges.{IsPoint, IsDir, IsVector, IsSense};
 ghost use Rattle.apt_plane.specs.Vectors as vectors;
 ghost use Rattle.apt_offset.specs.Ranges.{IsTarget, IsLineTarget, IsCircleTarget};
@@ -69,7 +70,7 @@ fn is_in_strip(height: i128, off: i64, g: i64, length_squared: u128) -> bool
     requires least { pos 0 ≤ℤ g }
     requires most { g ≤ℤ pos 100 }
     requires length_squared { length_squared ≤ 2 * 10 ^ 16 }
-    ensures { result ≡ (near.is_at_least height (off -ℤ g) length_squared && near.is_at_least (neg_ℤ height) (neg_ℤ off -ℤ g) length_squared) }
+    ensures { result ≡ (signs.is_at_least height (off -ℤ g) length_squared && signs.is_at_least (neg_ℤ height) (neg_ℤ off -ℤ g) length_squared) }
 {
     is_at_least(height, off - g, length_squared) && is_at_least(-height, -off - g, length_squared)
 }
@@ -79,7 +80,7 @@ fn is_in_ring(r: i64, g: i64, length_squared: u128) -> bool
     requires limit { r ≤ℤ pos (10 ^ 8) }
     requires least { pos 0 ≤ℤ g }
     requires most { g ≤ℤ pos 100 }
-    ensures { result ≡ (nat_le (near.square (r -ℤ g)) length_squared && nat_le length_squared (near.square (r +ℤ g))) }
+    ensures { result ≡ (nat_le (signs.square (r -ℤ g)) length_squared && nat_le length_squared (signs.square (r +ℤ g))) }
 {
     square(r - g) <= length_squared && length_squared <= square(r + g)
 }
@@ -90,7 +91,7 @@ fn is_at_least(k: i128, h: i64, n: u128) -> bool
     requires k { unsigned_abs k ≤ 2 * 10 ^ 16 }
     requires h { unsigned_abs h ≤ 10 ^ 6 }
     requires n { n ≤ 2 * 10 ^ 16 }
-    ensures { result ≡ near.is_at_least k h n }
+    ensures { result ≡ signs.is_at_least k h n }
 {
     match root_sign(k, i128::from(h), n) {
         Sign::Minus => false,
@@ -109,7 +110,7 @@ fn side_by_height(height: i128, off: i64, length_squared: u128) -> Sign
 }
 
 fn square(a: i64) -> u128
-    ensures { result ≡ near.square a }
+    ensures { result ≡ signs.square a }
 {
     let size = u128::from(a.unsigned_abs());
     size * size

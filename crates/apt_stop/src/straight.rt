@@ -4,6 +4,7 @@ ghost use Rattle.std.specs.Prelude.{◌≡◌, ◌≢◌, ◌↔◌, ◌≤◌, 
 ghost use Rattle.apt_plane.specs.Ranges.{IsPoint, IsLine, IsVector, IsSense};
 ghost use Rattle.apt_plane.specs.Vectors as vectors;
 ghost use Rattle.apt_canon.specs.Meeting as meeting;
+ghost use Rattle.apt_canon.specs.Scale as scale;
 ghost use Rattle.apt_stop.specs.Nearness as near;
 ghost use Rattle.apt_stop.specs.Lines as stops;
 
@@ -43,7 +44,7 @@ pub fn line_stop(
     ensures value { result ≡ stops.line_stop start drive.now off sense check.now stop_off }
     ensures parallel { IsErrOf result Case.Parallel ↔ (vectors.cross drive.now.dir check.now.dir ≡ pos 0) }
     ensures behind { IsErrOf result Case.Behind ↔ ((vectors.cross drive.now.dir check.now.dir ≢ pos 0) × (stops.line_behind start (near.heading sense drive.now.dir) check.now stop_off ≡ true)) }
-    ensures out_of_range { IsErrOf result Case.OutOfRange ↔ ((vectors.cross drive.now.dir check.now.dir ≢ pos 0) × (stops.line_behind start (near.heading sense drive.now.dir) check.now stop_off ≡ false) × (meeting.is_in_range (meeting.meeting_point drive.now off check.now stop_off) ≡ false)) }
+    ensures out_of_range { IsErrOf result Case.OutOfRange ↔ ((vectors.cross drive.now.dir check.now.dir ≢ pos 0) × (stops.line_behind start (near.heading sense drive.now.dir) check.now stop_off ≡ false) × (scale.is_in_range (meeting.meeting_point drive.now off check.now stop_off) ≡ false)) }
     ensures in_range { IfOk result (λ p. IsPoint p) }
 {
     contact(start, drive, off, sense, check, stop_off)

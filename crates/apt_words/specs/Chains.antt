@@ -1,8 +1,7 @@
 -- One step after another: the first refusal stands.
 use Rattle.std.specs.Prelude.{Result, Ok, Err}
-use Rattle.apt_words.specs.declared.Case.{Case}
 
 infixl 10 ◌>>=◌
-abbrev pub ◌>>=◌ : {A B : Type 0} → Result A Case → (A → Result B Case) → Result B Case
+abbrev pub ◌>>=◌ : {A B E : Type 0} → Result A E → (A → Result B E) → Result B E
 (Ok x) >>= f = f x
-(Err case) >>= f = Err case
+(Err e) >>= f = Err e

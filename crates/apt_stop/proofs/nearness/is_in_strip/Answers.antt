@@ -1,7 +1,7 @@
 use Rattle.std.proofs.Common.{arith, ◌≡◌, ◌≤◌, ◌-ℤ◌, neg_ℤ, unsigned_abs}
 use Rattle.std.specs.Int.{w128}
 use Rattle.std.proofs.lemmas.Int.{ints, to_z-of_z}
-use Rattle.apt_stop.specs.Nearness.{is_at_least}
+use Rattle.apt_num.specs.Sign.{is_at_least}
 use Rattle.apt_stop.proofs.Strips.{turned_kept, low_kept, high_kept, first_decides, second_decides}
 use Rattle.apt_stop.proofs.nearness.is_in_strip.Goals as goal
 
