@@ -8,7 +8,7 @@ use Rattle.apt_plane.specs.declared.figures.Line.{Line}
 use Rattle.apt_plane.specs.Vectors.{displacement, cross}
 use Rattle.apt_plane.specs.Ranges.{IsLine}
 use Rattle.apt_plane.proofs.Displacements.{cross_self, cross_swap, cross_minus, cross_sum}
-use Rattle.apt_plane.proofs.Moved.{near_displacement, moved}
+use Rattle.apt_plane.proofs.Rounding.{near_displacement, moved}
 use Rattle.apt_canon.specs.Scale.{unit, length_of, IsNearLine}
 use Rattle.apt_canon.specs.Meeting.{meeting_displacement, meeting_point}
 use Rattle.apt_canon.proofs.NearLine.{near_line}

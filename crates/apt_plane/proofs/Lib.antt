@@ -1,4 +1,4 @@
 pub mod Heights
 pub mod SegmentLaws
 pub mod Displacements
-pub mod Moved
+pub mod Rounding
