@@ -17,7 +17,7 @@ defines name figure = Some (record { name = name; figure = figure })
 abbrev pub definition_of : Units → Table → Deed → Option Definition
 definition_of units t (deeds.Partno text) = None
 definition_of units t (deeds.Remark text) = None
-definition_of units t (deeds.Units units) = None
+definition_of units t (deeds.Units others) = None
 definition_of units t deeds.Clprnt = None
 definition_of units t deeds.Nopost = None
 definition_of units t deeds.Machin = None
