@@ -1,5 +1,6 @@
 -- Two situations that differ only in where the tool stands, and what steps ask for at both.
-use Rattle.std.proofs.Common.{◌≡◌, ◌∙◌, Bool, true, false, List, Option, Some, None, is_none, refl, sym, ap, subst, cond}
+use Rattle.std.proofs.Common.{◌≡◌, ◌∙◌, ℕ, Bool, true, false, List, Result, Ok, Err, Option, Some, None, is_none, refl, sym, ap, subst, cond}
+use Rattle.apt_words.specs.declared.Case.{Case}
 use Rattle.apt_words.specs.declared.Go.{Go}
 use Rattle.apt_words.specs.declared.Stop.{Stop}
 use Rattle.apt_words.specs.declared.deed.Deed.{Deed}
@@ -12,14 +13,17 @@ use Rattle.apt_offset.specs.Turns.{tangent, turn, is_zero}
 use Rattle.apt_cldata.specs.declared.record.Position.{Position}
 use Rattle.apt_cldata.specs.declared.record.Reach.{Reach}
 use Rattle.apt_cldata.specs.declared.record.Reach.TheVariants as reaches
+use Rattle.apt_defs.specs.declared.figure.Figure.{Figure}
+use Rattle.apt_defs.specs.declared.figure.Definition.{Definition}
+use Rattle.apt_defs.specs.Definitions.{definition_of}
 use Rattle.apt_meaning.specs.declared.situation.Settings.{Settings}
 use Rattle.apt_meaning.specs.declared.situation.Situation.{Situation}
 use Rattle.apt_meaning.specs.declared.motion.Motion.{Motion}
 use Rattle.apt_meaning.specs.declared.effect.Effect.{Effect}
 use Rattle.apt_meaning.specs.declared.effect.Effect.TheVariants as effects
 use Rattle.apt_meaning.specs.Situations.{with_side}
-use Rattle.apt_meaning.specs.Motions.{surface_in, motion, if_turned, motion_at}
-use Rattle.apt_meaning.specs.Effects.{moves, cuts, moved_from, start_position_at, effect_of}
+use Rattle.apt_meaning.specs.Motions.{line_in, motion, if_turned, motion_at}
+use Rattle.apt_meaning.specs.Effects.{moves, cuts, place_in, names, defines, defined, moved_from, start_position_at, effect_of}
 use Rattle.apt_meaning.specs.Records.{after}
 
 -- the same settings and names, and both or neither have a position
@@ -57,6 +61,19 @@ AreLikeIfThere None d = Unit {0}
 AreLikeIfThere (Some e) None = Unit {0}
 AreLikeIfThere (Some e) (Some d) = AreLike e d
 
+figure_like : (n : List ℕ) (r : Result Figure Case) → AreLikeIfThere (names n r) (names n r)
+figure_like n (Ok f) = (refl, refl)
+figure_like n (Err case) = tt
+
+definition_like : (o : Option Definition) → AreLikeIfThere (defines o) (defines o)
+definition_like None = tt
+definition_like (Some d) = figure_like d.name d.figure
+
+-- where the tool stands decides no definition
+defined_like : (c : Situation) (p : Option Position) (forward : Dir) (deed : Deed) → AreLikeIfThere (defined c deed) (defined (elsewhere c p forward) deed)
+unfolding defined
+defined_like c p forward deed = definition_like (definition_of c.settings.units c.table deed)
+
 moves_like : (reach : Reach) (o p : Option Position) → AreLikeIfThere (moves reach o) (moves reach p)
 moves_like reach None p = tt
 moves_like reach (Some from) None = tt
@@ -92,35 +109,35 @@ like at stand forward (deeds.Units units) = (refl, refl)
 like at stand forward deeds.Clprnt = (refl, refl)
 like at stand forward deeds.Nopost = (refl, refl)
 like at stand forward deeds.Machin = (refl, refl)
-like at stand forward (deeds.Assign n v) = (refl, refl)
-like at stand forward (deeds.PointXy n x y z) = tt
-like at stand forward (deeds.PointLines n a b) = tt
-like at stand forward (deeds.PointPick n k a b) = tt
-like at stand forward (deeds.PointCenter n c) = tt
-like at stand forward (deeds.LineXy n x y u v) = (refl, refl)
-like at stand forward (deeds.LinePoints n p q) = tt
-like at stand forward (deeds.LinePar n p l) = tt
-like at stand forward (deeds.LinePerp n p l) = tt
-like at stand forward (deeds.LineAt n l k v) = tt
-like at stand forward (deeds.LineTan n p h c) = tt
-like at stand forward (deeds.LineTwo n h c k d) = tt
-like at stand forward (deeds.CircleXyr n x y r) = tt
-like at stand forward (deeds.CirclePoints n a b c) = tt
-like at stand forward (deeds.CircleRadius n p r) = tt
-like at stand forward (deeds.CircleTan n p l) = tt
-like at stand forward (deeds.CircleThrough n p q) = tt
-like at stand forward (deeds.CircleCorner n j a k b r) = tt
+like at stand forward (deeds.Assign n v) = defined_like at stand forward (deeds.Assign n v)
+like at stand forward (deeds.PointXy n x y z) = defined_like at stand forward (deeds.PointXy n x y z)
+like at stand forward (deeds.PointLines n a b) = defined_like at stand forward (deeds.PointLines n a b)
+like at stand forward (deeds.PointPick n k a b) = defined_like at stand forward (deeds.PointPick n k a b)
+like at stand forward (deeds.PointCenter n c) = defined_like at stand forward (deeds.PointCenter n c)
+like at stand forward (deeds.LineXy n x y u v) = defined_like at stand forward (deeds.LineXy n x y u v)
+like at stand forward (deeds.LinePoints n p q) = defined_like at stand forward (deeds.LinePoints n p q)
+like at stand forward (deeds.LinePar n p l) = defined_like at stand forward (deeds.LinePar n p l)
+like at stand forward (deeds.LinePerp n p l) = defined_like at stand forward (deeds.LinePerp n p l)
+like at stand forward (deeds.LineAt n l k v) = defined_like at stand forward (deeds.LineAt n l k v)
+like at stand forward (deeds.LineTan n p h c) = defined_like at stand forward (deeds.LineTan n p h c)
+like at stand forward (deeds.LineTwo n h c k d) = defined_like at stand forward (deeds.LineTwo n h c k d)
+like at stand forward (deeds.CircleXyr n x y r) = defined_like at stand forward (deeds.CircleXyr n x y r)
+like at stand forward (deeds.CirclePoints n a b c) = defined_like at stand forward (deeds.CirclePoints n a b c)
+like at stand forward (deeds.CircleRadius n p r) = defined_like at stand forward (deeds.CircleRadius n p r)
+like at stand forward (deeds.CircleTan n p l) = defined_like at stand forward (deeds.CircleTan n p l)
+like at stand forward (deeds.CircleThrough n p q) = defined_like at stand forward (deeds.CircleThrough n p q)
+like at stand forward (deeds.CircleCorner n j a k b r) = defined_like at stand forward (deeds.CircleCorner n j a k b r)
 like at stand forward (deeds.Cutter v) = (refl, refl)
 like at stand forward (deeds.Intol v) = (refl, refl)
 like at stand forward (deeds.Outtol v) = (refl, refl)
 like at stand forward (deeds.Tool side) = (refl, refl)
 like at stand forward (deeds.FromXy x y z) = refl
-like at stand forward (deeds.FromPoint p) = tt
+like at stand forward (deeds.FromPoint p) = moves_like reaches.From (place_in at.table p) (place_in at.table p)
 like at stand forward (deeds.GotoXy x y z) = refl
-like at stand forward (deeds.GotoPoint p) = tt
+like at stand forward (deeds.GotoPoint p) = moves_like reaches.Goto (place_in at.table p) (place_in at.table p)
 like at stand forward (deeds.Godlta x y z) = moves_like reaches.Godlta (moved_from at x y z) (moved_from (elsewhere at stand forward) x y z)
 like at stand forward (deeds.GoStart how_a a b) = moves_like reaches.Start (start_position_at at how_a a b) (start_position_at (elsewhere at stand forward) how_a a b)
-like at stand forward (deeds.Contour side go drive how check) = contour_like (with_side at.settings side) at.forward forward go how at.position stand (surface_in at.table drive) (surface_in at.table check)
+like at stand forward (deeds.Contour side go drive how check) = contour_like (with_side at.settings side) at.forward forward go how at.position stand (line_in at.table drive) (line_in at.table check)
 like at stand forward deeds.Rapid = (refl, refl)
 like at stand forward deeds.Halt = (refl, refl)
 like at stand forward deeds.OptHalt = (refl, refl)

@@ -1,10 +1,11 @@
 -- A step that no case refuses has an effect in range, and a contour that it asks for is legal to its contact.
-use Rattle.std.proofs.Common.{◌≡◌, ◌≢◌, ◌==◌, ℕ, unsigned_abs, not, Bool, true, false, List, [], ◌∷◌, Option, Some, None, is_none, IfSome, refl, cond, sym, ap, subst, ◌∙◌, pos, arith}
-use Rattle.std.proofs.lemmas.Bool.{true≢false, eqb-false}
+use Rattle.std.proofs.Common.{◌≡◌, ℕ, unsigned_abs, not, Bool, true, false, List, [], ◌∷◌, Option, Some, None, is_none, IsSome, IfSome, Result, Ok, Err, IfOk, refl, cond, sym, ap, subst, ◌∙◌, pos, arith}
+use Rattle.std.proofs.lemmas.Bool.{true≢false}
 use Rattle.apt_num.specs.declared.Sign.{Sign}
 use Rattle.apt_words.specs.declared.Go.{Go}
 use Rattle.apt_words.specs.declared.Side.{Side}
 use Rattle.apt_words.specs.declared.Stop.{Stop}
+use Rattle.apt_words.specs.declared.Case.{Case}
 use Rattle.apt_words.specs.declared.Case.TheVariants as cases
 use Rattle.apt_words.specs.declared.deed.Deed.{Deed}
 use Rattle.apt_words.specs.declared.deed.Deed.TheVariants as deeds
@@ -15,9 +16,9 @@ use Rattle.apt_scalar.specs.Scalars.{grid_units, tenths}
 use Rattle.apt_plane.specs.declared.figures.Pt.{Pt}
 use Rattle.apt_plane.specs.declared.figures.Surface.{Surface}
 use Rattle.apt_plane.specs.declared.figures.Surface.TheVariants as surfaces
-use Rattle.apt_plane.specs.Ranges.{IsPoint, IsSurface}
-use Rattle.apt_plane.specs.Vectors.{displacement, length_squared}
+use Rattle.apt_plane.specs.Ranges.{IsPoint}
 use Rattle.apt_offset.specs.Turns.{is_zero}
+use Rattle.apt_certify.specs.Jobs.{IsStraight}
 use Rattle.apt_cldata.specs.Ranges.{IsPosition, IsNote}
 use Rattle.apt_cldata.specs.declared.record.Note.{Note}
 use Rattle.apt_cldata.specs.declared.record.Note.TheVariants as notes
@@ -27,8 +28,10 @@ use Rattle.apt_cldata.specs.declared.record.Reach.TheVariants as reaches
 use Rattle.apt_defs.specs.declared.figure.Figure.{Figure}
 use Rattle.apt_defs.specs.declared.figure.Figure.TheVariants as figures
 use Rattle.apt_defs.specs.Figures.{IsFigure, figure_named}
-use Rattle.apt_defs.specs.Definitions.{is_in_reach, ends_cases, line_figure, line_between, point_by}
-use Rattle.apt_defs.proofs.Lines.{displacement_in_range}
+use Rattle.apt_defs.specs.declared.figure.Definition.{Definition}
+use Rattle.apt_defs.specs.Forms.{is_in_reach}
+use Rattle.apt_defs.specs.Definitions.{definition_of, IsDefinition}
+use Rattle.apt_defs.proofs.InRange.{definition_in}
 use Rattle.apt_defs.proofs.Tables.{looked_up}
 use Rattle.apt_meaning.specs.declared.situation.Settings.{Settings}
 use Rattle.apt_meaning.specs.declared.situation.Situation.{Situation}
@@ -36,19 +39,22 @@ use Rattle.apt_meaning.specs.declared.motion.Motion.{Motion}
 use Rattle.apt_meaning.specs.declared.motion.StartUp.{StartUp}
 use Rattle.apt_meaning.specs.declared.effect.Effect.{Effect}
 use Rattle.apt_meaning.specs.declared.effect.Effect.TheVariants as effects
+use Rattle.apt_meaning.specs.OnLines.{built}
 use Rattle.apt_meaning.specs.Situations.{radius_of, lacks_feed, with_side, at_height}
-use Rattle.apt_meaning.specs.Motions.{as_surface, surface_in, turn_at, if_turned, motion, motion_at}
+use Rattle.apt_meaning.specs.Motions.{as_surface, line_in, turn_at, if_turned, motion, motion_at}
 use Rattle.apt_meaning.specs.StartUps.{start_up_at, start_up_cases, start_point, start_position}
-use Rattle.apt_meaning.specs.Effects.{moves, cuts, position_by, moved_by, start_position_at, effect_of}
-use Rattle.apt_meaning.specs.Refusals.{is_other_kind, position_cases, move_cases, motion_cases, turned_cases, surface_cases, contour_cases, start_cases, go_cases, start_up_or_not_built, cases_of, refusal_of}
+use Rattle.apt_meaning.specs.Effects.{moves, cuts, as_position, names, defines as gives, defined, position_by, moved_by, start_position_at, effect_of}
+use Rattle.apt_meaning.specs.Refusals.{is_other_kind, is_left_out, is_no_place, refused, refused_if_any, refused_definition, position_cases, move_cases, motion_cases, turned_cases, surface_cases, contour_cases, start_cases, go_cases, start_up_or_not_built, cases_of, refusal_of}
 use Rattle.apt_meaning.specs.Records.{AreLegal, MayHave}
 use Rattle.apt_meaning.specs.Compiled.{ends_of}
-use Rattle.apt_meaning.specs.Ranges.{IsPositionOrNone, AreSettings, IsSituation, IsMotion, IsEffect}
+use Rattle.apt_meaning.specs.Ranges.{IsPositionOrNone, AreSettings, IsSituation, IsEffect}
+use Rattle.apt_meaning.specs.Straight.{IsStraightMotion}
 use Rattle.apt_scalar.specs.StepScalars.{HasScalars}
 use Rattle.apt_meaning.specs.Vertices.{HasIn}
 use Rattle.apt_meaning.proofs.Refused.{first_none, none_first}
 use Rattle.apt_meaning.proofs.Legal.{motion_legal, motion_contact, motion_defined, start_up_point}
-use Rattle.apt_meaning.proofs.EffectRanges.{reach_in, up_to_in, tolerance_in, radius_in, feed_in, feed_note, with_units, with_radius, with_intol, with_outtol, with_feed, with_rapid, with_ended, on_side, on_side_or_as_it_was, sense_in, allowance_in}
+use Rattle.apt_meaning.proofs.EffectRanges.{reach_in, up_to_in, tolerance_in, radius_in, feed_in, feed_note, with_units, with_radius, with_intol, with_outtol, with_feed, with_rapid, with_ended, on_side, on_side_or_as_it_was, motion_is}
+use Rattle.apt_meaning.proofs.Straight.{line_straight, straight_surface}
 
 -- an effect in range, whose contour is legal where it runs to its contact
 pub record Asks (o : Option Effect) : Type 0 where
@@ -71,22 +77,28 @@ says s note is said = record { e = effects.Sets s (Some note); asked = refl; goo
 moves_to : (reach : Reach) (to : Position) → IsPosition to → Asks (Some (effects.Moves reach to))
 moves_to reach to is = record { e = effects.Moves reach to; asked = refl; good = is; legal = tt; ends = tt; may = refl }
 
-cuts_on : (m : Motion) → IsMotion m → NoneHolds (motion_cases m) → Asks (Some (effects.Cuts m))
-cuts_on m is none = record { e = effects.Cuts m; asked = refl; good = is; legal = motion_legal m is none; ends = (omega arith, (motion_contact m is none, tt)); may = motion_defined m is none }
+cuts_on : (m : Motion) → IsStraightMotion m → NoneHolds (motion_cases m) → Asks (Some (effects.Cuts m))
+cuts_on m is none = record { e = effects.Cuts m; asked = refl; good = is.motion; legal = motion_legal m is none; ends = (omega arith, (motion_contact m is none, tt)); may = motion_defined m is none }
 
--- ---- lines and moves
+-- ---- definitions
 
-differ : (n : ℕ) → (n == 0) ≡ false → n ≢ 0
-differ n e f = eqb-false n 0 e f
+figure_asks : (n : List ℕ) (r : Result Figure Case) → IfOk r IsFigure → NoneHolds (refused r) → Asks (names n r)
+figure_asks n (Ok f) is none = defines n f is
+figure_asks n (Err case) is none = absurd (true≢false none.0)
+
+definition_asks : (o : Option Definition) → IsSome o → IfSome o (λ d. IfOk d.figure IsFigure) → NoneHolds (refused_if_any o) → Asks (gives o)
+definition_asks None there is none = absurd (true≢false (sym there))
+definition_asks (Some d) there is none = figure_asks d.name d.figure is none
+
+defined_asks : (at : Situation) (deed : Deed) → IsDefinition at.settings.units at.table deed → IsSituation at → NoneHolds (refused_definition at deed) → Asks (defined at deed)
+unfolding defined refused_definition
+defined_asks at deed there is none =
+    definition_asks (definition_of at.settings.units at.table deed) there (definition_in at.settings.units at.table deed is.table) none
+
+-- ---- moves
 
 point_is : (p : Pt) → not (is_in_reach p.x) ≡ false → not (is_in_reach p.y) ≡ false → IsPoint p
 point_is p x y = record { x = reach_in p.x x; y = reach_in p.y y }
-
-line_is : (p q : Pt) → NoneHolds (ends_cases p q) → IsFigure (figures.Shape (surfaces.Line (line_between p q)))
-line_is p q none =
-    let is_p = point_is p none.0 none.1.0 in
-    let is_q = point_is q none.1.1.0 none.1.1.1.0 in
-    record { base = is_p; dir = displacement_in_range p q is_p is_q (differ (length_squared (displacement p q)) none.1.1.1.1.0) }
 
 position_is : (to : Position) (more : List Row) → NoneHolds (position_cases to more) → IsPosition to
 position_is to more none = record { at = point_is to.at none.0 none.1.0; z = reach_in to.z none.1.1.0 }
@@ -99,17 +111,20 @@ still_there : {A B : Type 0} (o : Option A) (f : A → B) → is_none o ≡ fals
 still_there None f there = absurd (true≢false there)
 still_there (Some x) f there = refl
 
--- ---- surfaces by name
+-- ---- points and lines by name
 
-surface_is : (o : Option Figure) → IfSome o IsFigure → IfSome (o >>= as_surface) IsSurface
-surface_is None is = tt
-surface_is (Some (figures.Point at z)) is = tt
-surface_is (Some (figures.Shape s)) is = is
-surface_is (Some figures.Scalar) is = tt
+place_asks : (reach : Reach) (o : Option Figure) → IfSome o IsFigure → is_none o ≡ false → is_no_place o ≡ false → Asks (moves reach (o >>= as_position))
+place_asks reach None is there kind = absurd (true≢false there)
+place_asks reach (Some (figures.Point at z)) is there kind = moves_to reach (at_height z at) (record { at = is.at; z = is.z })
+place_asks reach (Some (figures.Shape s)) is there kind = absurd (true≢false kind)
+place_asks reach (Some figures.Scalar) is there kind = absurd (true≢false kind)
 
-surface_there : (o : Option Figure) → is_none o ≡ false → is_other_kind o ≡ false → is_none (o >>= as_surface) ≡ false
-surface_there None there kind = absurd (true≢false there)
-surface_there (Some figure) there kind = kind
+line_there : (o : Option Figure) → is_none o ≡ false → is_other_kind o ≡ false → is_left_out (o >>= as_surface) ≡ false → is_none ((o >>= as_surface) >>= built) ≡ false
+line_there None there kind done = absurd (true≢false there)
+line_there (Some (figures.Point at z)) there kind done = absurd (true≢false kind)
+line_there (Some (figures.Shape (surfaces.Line l))) there kind done = refl
+line_there (Some (figures.Shape (surfaces.Circ c))) there kind done = absurd (true≢false done)
+line_there (Some figures.Scalar) there kind done = absurd (true≢false kind)
 
 -- ---- start-up
 
@@ -117,10 +132,10 @@ started_there : (b : Bool) (to : Position) → b ≡ true → IsPosition to → 
 started_there true to e is = moves_to reaches.Start to is
 started_there false to e is = absurd (true≢false (sym e))
 
-pub starts : (u : StartUp) → IsPosition u.start → NoneHolds (start_up_cases u) → Asks (moves reaches.Start (start_position u))
-starts u is none =
+starts : (u : StartUp) → IsPosition u.start → IsStraight u.a → IsStraight u.b → NoneHolds (start_up_cases u) → Asks (moves reaches.Start (start_position u))
+starts u is is_a is_b none =
     started_there (is_none (first_of (start_up_cases u))) (at_height u.start.z (start_point u)) (ap is_none (none_first (start_up_cases u) none))
-    (record { at = start_up_point u none; z = is.z })
+    (record { at = start_up_point u is_a is_b none; z = is.z })
 
 abbrev start_up : Situation → Stop → Stop → Position → Surface → Surface → StartUp
 start_up at how_a how_b start a b = record { start = start; how_a = how_a; a = a; how_b = how_b; b = b; radius = at.settings.radius }
@@ -128,21 +143,23 @@ start_up at how_a how_b start a b = record { start = start; how_a = how_a; a = a
 abbrev start_up_on : Situation → Stop → Stop → Option Position → Option Surface → Option Surface → Option StartUp
 start_up_on at how_a how_b p a b = p >>= λ start. a >>= λ x. b >>= λ y. Some (start_up at how_a how_b start x y)
 
-start_asks : (at : Situation) (how_a how_b : Stop) (p : Option Position) (a b : Option Surface) → IsPositionOrNone p
+start_asks : (at : Situation) (how_a how_b : Stop) (p : Option Position) (a b : Option Surface) → IsPositionOrNone p → IfSome a IsStraight → IfSome b IsStraight
     → is_none p ≡ false → is_none a ≡ false → is_none b ≡ false
     → NoneHolds (start_cases (start_up_on at how_a how_b p a b)) → Asks (moves reaches.Start (start_up_on at how_a how_b p a b >>= start_position))
-start_asks at how_a how_b None a b is e f g none = absurd (true≢false e)
-start_asks at how_a how_b (Some start) None b is e f g none = absurd (true≢false f)
-start_asks at how_a how_b (Some start) (Some a) None is e f g none = absurd (true≢false g)
-start_asks at how_a how_b (Some start) (Some a) (Some b) is e f g none = starts (start_up at how_a how_b start a b) is none
+start_asks at how_a how_b None a b is is_a is_b e f g none = absurd (true≢false e)
+start_asks at how_a how_b (Some start) None b is is_a is_b e f g none = absurd (true≢false f)
+start_asks at how_a how_b (Some start) (Some a) None is is_a is_b e f g none = absurd (true≢false g)
+start_asks at how_a how_b (Some start) (Some a) (Some b) is is_a is_b e f g none = starts (start_up at how_a how_b start a b) is is_a is_b none
 
 go_asks : (at : Situation) (how_a : Stop) (a : List ℕ) (how_b : Stop) (b : List ℕ) → IsSituation at
     → NoneHolds (go_cases at how_a a how_b b) → Asks (moves reaches.Start (start_up_at at how_a a how_b b >>= start_position))
 unfolding start_up_at
 go_asks at how_a a how_b b is none =
     let names = none.1 in
-    start_asks at how_a how_b at.position (surface_in at.table a) (surface_in at.table b) is.position none.0
-    (surface_there (figure_named at.table a) names.0 names.1.1.0) (surface_there (figure_named at.table b) names.1.0 names.1.1.1.0) names.1.1.1.1.1
+    let kinds = names.1.1 in
+    let done = kinds.1.1 in
+    start_asks at how_a how_b at.position (line_in at.table a) (line_in at.table b) is.position (line_straight at.table a is.table) (line_straight at.table b is.table) none.0
+    (line_there (figure_named at.table a) names.0 kinds.0 done.0) (line_there (figure_named at.table b) names.1.0 kinds.1.0 done.1.0) done.1.1.1
 
 go_or_refused : (at : Situation) (how_a : Stop) (a : List ℕ) (b : Option (Stop × List ℕ)) → IsSituation at
     → NoneHolds (start_up_or_not_built at how_a a b) → Asks (moves reaches.Start (start_position_at at how_a a b))
@@ -151,33 +168,21 @@ go_or_refused at how_a a (Some b) is none = go_asks at how_a a b.0 b.1 is none
 
 -- ---- contours
 
-pub motion_is : (s : Settings) (start : Position) (drive : Surface) (turned : Sign) (how : Stop) (check : Surface)
-    → AreSettings s → IsPosition start → IsSurface drive → IsSurface check → is_zero turned ≡ false → IsMotion (motion s start drive turned how check)
-motion_is s start drive turned how check is from d c turns = record {
-  start = from;
-  drive = d;
-  sense = sense_in turned turns;
-  check = c;
-  radius = is.radius;
-  inner = allowance_in s.intol is.intol;
-  outer = allowance_in s.outtol is.outtol;
-}
-
 unless_asks : (b : Bool) (o : Option Motion) → b ≡ false → Asks (cuts o) → Asks (cuts (cond b None o))
 unless_asks true o e asks = absurd (true≢false e)
 unless_asks false o e asks = asks
 
-pub turned_asks : (s : Settings) (start : Position) (drive : Surface) (turned : Sign) (how : Stop) (check : Surface)
-    → AreSettings s → IsPosition start → IsSurface drive → IsSurface check
+turned_asks : (s : Settings) (start : Position) (drive : Surface) (turned : Sign) (how : Stop) (check : Surface)
+    → AreSettings s → IsPosition start → IsStraight drive → IsStraight check
     → NoneHolds (turned_cases s start drive turned how check) → Asks (cuts (if_turned s start drive turned how check))
 turned_asks s start drive turned how check is from d c none =
     let turns = none.1.1.1 in
     let m = motion s start drive turned how check in
-    let good = motion_is s start drive turned how check is from d c turns.0 in
+    let good : IsStraightMotion m = record { motion = motion_is s start drive turned how check is from (straight_surface drive d) (straight_surface check c) turns.0; drive = d; check = c } in
     unless_asks (is_zero turned) (Some m) turns.0 (cuts_on m good turns.1)
 
 surfaces_ask : (at : Situation) (side : Option Side) (go : Go) (how : Stop) (p : Option Position) (d c : Option Surface)
-    → AreSettings at.settings → IsPositionOrNone p → IfSome d IsSurface → IfSome c IsSurface
+    → AreSettings at.settings → IsPositionOrNone p → IfSome d IsStraight → IfSome c IsStraight
     → is_none p ≡ false → is_none d ≡ false → is_none c ≡ false → NoneHolds (surface_cases at side go how p d c)
     → Asks (cuts (p >>= λ start. d >>= λ drive. c >>= λ check. if_turned (with_side at.settings side) start drive (turn_at at start drive go) how check))
 surfaces_ask at side go how None d c is is_p is_d is_c e f g none = absurd (true≢false e)
@@ -192,9 +197,10 @@ unfolding motion_at
 contour_asks at side go drive how check is none =
     let d = none.1 in
     let c = d.1.1 in
-    surfaces_ask at side go how at.position (surface_in at.table drive) (surface_in at.table check) is.settings is.position
-    (surface_is (figure_named at.table drive) (looked_up at.table drive is.table)) (surface_is (figure_named at.table check) (looked_up at.table check is.table))
-    none.0 (surface_there (figure_named at.table drive) d.0 d.1.0) (surface_there (figure_named at.table check) c.0 c.1.0) c.1.1
+    let built = c.1.1 in
+    surfaces_ask at side go how at.position (line_in at.table drive) (line_in at.table check) is.settings is.position
+    (line_straight at.table drive is.table) (line_straight at.table check is.table)
+    none.0 (line_there (figure_named at.table drive) d.0 d.1.0 built.0) (line_there (figure_named at.table check) c.0 c.1.0 built.1.0) built.1.1
 
 -- ---- a line for each statement
 
@@ -205,24 +211,24 @@ asks at (deeds.Units units) is numbers worded none = says (record at.settings { 
 asks at deeds.Clprnt is numbers worded none = sets at.settings is.settings
 asks at deeds.Nopost is numbers worded none = sets at.settings is.settings
 asks at deeds.Machin is numbers worded none = sets at.settings is.settings
-asks at (deeds.Assign n v) is numbers worded none = defines n figures.Scalar tt
-asks at (deeds.PointXy n x y z) is numbers worded none = absurd (true≢false none.0)
-asks at (deeds.PointLines n a b) is numbers worded none = absurd (true≢false none.0)
-asks at (deeds.PointPick n k a b) is numbers worded none = absurd (true≢false none.0)
-asks at (deeds.PointCenter n c) is numbers worded none = absurd (true≢false none.0)
-asks at (deeds.LineXy n x y u v) is numbers worded none = defines n (line_figure at.settings.units x y u v) (line_is (point_by at.settings.units x y) (point_by at.settings.units u v) none)
-asks at (deeds.LinePoints n p q) is numbers worded none = absurd (true≢false none.0)
-asks at (deeds.LinePar n p l) is numbers worded none = absurd (true≢false none.0)
-asks at (deeds.LinePerp n p l) is numbers worded none = absurd (true≢false none.0)
-asks at (deeds.LineAt n l k v) is numbers worded none = absurd (true≢false none.0)
-asks at (deeds.LineTan n p h c) is numbers worded none = absurd (true≢false none.0)
-asks at (deeds.LineTwo n h c k d) is numbers worded none = absurd (true≢false none.0)
-asks at (deeds.CircleXyr n x y r) is numbers worded none = absurd (true≢false none.0)
-asks at (deeds.CirclePoints n a b c) is numbers worded none = absurd (true≢false none.0)
-asks at (deeds.CircleRadius n p r) is numbers worded none = absurd (true≢false none.0)
-asks at (deeds.CircleTan n p l) is numbers worded none = absurd (true≢false none.0)
-asks at (deeds.CircleThrough n p q) is numbers worded none = absurd (true≢false none.0)
-asks at (deeds.CircleCorner n j a k b r) is numbers worded none = absurd (true≢false none.0)
+asks at (deeds.Assign n v) is numbers worded none = defined_asks at (deeds.Assign n v) refl is none
+asks at (deeds.PointXy n x y z) is numbers worded none = defined_asks at (deeds.PointXy n x y z) refl is none
+asks at (deeds.PointLines n a b) is numbers worded none = defined_asks at (deeds.PointLines n a b) refl is none
+asks at (deeds.PointPick n k a b) is numbers worded none = defined_asks at (deeds.PointPick n k a b) refl is none
+asks at (deeds.PointCenter n c) is numbers worded none = defined_asks at (deeds.PointCenter n c) refl is none
+asks at (deeds.LineXy n x y u v) is numbers worded none = defined_asks at (deeds.LineXy n x y u v) refl is none
+asks at (deeds.LinePoints n p q) is numbers worded none = defined_asks at (deeds.LinePoints n p q) refl is none
+asks at (deeds.LinePar n p l) is numbers worded none = defined_asks at (deeds.LinePar n p l) refl is none
+asks at (deeds.LinePerp n p l) is numbers worded none = defined_asks at (deeds.LinePerp n p l) refl is none
+asks at (deeds.LineAt n l k v) is numbers worded none = defined_asks at (deeds.LineAt n l k v) refl is none
+asks at (deeds.LineTan n p h c) is numbers worded none = defined_asks at (deeds.LineTan n p h c) refl is none
+asks at (deeds.LineTwo n h c k d) is numbers worded none = defined_asks at (deeds.LineTwo n h c k d) refl is none
+asks at (deeds.CircleXyr n x y r) is numbers worded none = defined_asks at (deeds.CircleXyr n x y r) refl is none
+asks at (deeds.CirclePoints n a b c) is numbers worded none = defined_asks at (deeds.CirclePoints n a b c) refl is none
+asks at (deeds.CircleRadius n p r) is numbers worded none = defined_asks at (deeds.CircleRadius n p r) refl is none
+asks at (deeds.CircleTan n p l) is numbers worded none = defined_asks at (deeds.CircleTan n p l) refl is none
+asks at (deeds.CircleThrough n p q) is numbers worded none = defined_asks at (deeds.CircleThrough n p q) refl is none
+asks at (deeds.CircleCorner n j a k b r) is numbers worded none = defined_asks at (deeds.CircleCorner n j a k b r) refl is none
 asks at (deeds.Cutter v) is numbers worded none =
     let radius = pos (radius_of (unsigned_abs (grid_units at.settings.units v))) in
     says (record at.settings { radius = radius }) (notes.Cutter (grid_units at.settings.units v)) (with_radius at.settings radius is.settings (radius_in (grid_units at.settings.units v) none.0)) (up_to_in (pos 1000000) (grid_units at.settings.units v) none.0)
@@ -230,9 +236,9 @@ asks at (deeds.Intol v) is numbers worded none = says (record at.settings { into
 asks at (deeds.Outtol v) is numbers worded none = says (record at.settings { outtol = grid_units at.settings.units v }) (notes.Outtol (grid_units at.settings.units v)) (with_outtol at.settings (grid_units at.settings.units v) is.settings (tolerance_in (grid_units at.settings.units v) none.0)) (up_to_in (pos 10000) (grid_units at.settings.units v) none.0)
 asks at (deeds.Tool side) is numbers worded none = sets (record at.settings { side = side }) (on_side at.settings side is.settings)
 asks at (deeds.FromXy x y z) is numbers worded none = moves_to reaches.From (position_by at.settings.units x y z) (position_is (position_by at.settings.units x y z) [] none.1)
-asks at (deeds.FromPoint p) is numbers worded none = absurd (true≢false none.0)
+asks at (deeds.FromPoint p) is numbers worded none = place_asks reaches.From (figure_named at.table p) (looked_up at.table p is.table) none.1.0 none.1.1.0
 asks at (deeds.GotoXy x y z) is numbers worded none = move_asks reaches.Goto at.settings (Some (position_by at.settings.units x y z)) refl none
-asks at (deeds.GotoPoint p) is numbers worded none = absurd (true≢false none.0)
+asks at (deeds.GotoPoint p) is numbers worded none = place_asks reaches.Goto (figure_named at.table p) (looked_up at.table p is.table) none.0 none.1.0
 asks at (deeds.Godlta x y z) is numbers worded none =
     move_asks reaches.Godlta at.settings (at.position >>= λ p. Some (moved_by at.settings.units x y z p)) (still_there at.position (moved_by at.settings.units x y z) none.0) none.1
 asks at (deeds.GoStart how_a a b) is numbers worded none = go_or_refused at how_a a b is none

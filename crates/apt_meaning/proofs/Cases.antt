@@ -23,13 +23,14 @@ use Rattle.apt_meaning.specs.Refusals.{refusal_of}
 abbrev line : ℤ → ℤ → ℤ → ℤ → Surface
 line x y dx dy = surfaces.Line (record { base = record { x = x; y = y }; dir = record { dx = dx; dy = dy } })
 
--- a line to the right, one up, one to the left above, one that meets the first far off, a circle of radius 5000, and a number
+-- a line to the right, one up, one to the left above, one that meets the first far off, a circle of radius 5000, a point, and a number
 abbrev table : Table
 table =
     (codes "L1", figures.Shape (line (pos 0) (pos 0) (pos 100000) (pos 0))) ∷ (codes "L2", figures.Shape (line (pos 100000) (pos 0) (pos 0) (pos 100000)))
     ∷ (codes "L3", figures.Shape (line (pos 0) (pos 50000) (neg_ℤ (pos 100000)) (pos 0)))
     ∷ (codes "L4", figures.Shape (line (pos 0) (pos 50000) (pos 100000) (neg_ℤ (pos 1))))
-    ∷ (codes "C1", figures.Shape (surfaces.Circ (record { c = record { x = pos 5000; y = pos 0 }; r = pos 5000 }))) ∷ (codes "A", figures.Scalar) ∷ []
+    ∷ (codes "C1", figures.Shape (surfaces.Circ (record { c = record { x = pos 5000; y = pos 0 }; r = pos 5000 })))
+    ∷ (codes "P1", figures.Point (record { x = pos 1000; y = pos 2000 }) (pos 300)) ∷ (codes "A", figures.Scalar) ∷ []
 
 -- a cutter of radius 12500 on the left
 abbrev here : Settings
@@ -79,15 +80,6 @@ least_feed = refl
 no_feed_at_all : refusal_of (at here on_track) (deeds.Fedrat (pos 49999)) ≡ Some cases.OutOfRange
 no_feed_at_all = refl
 
--- ---- definitions
-
-far_line : refusal_of (at here on_track) (deeds.LineXy (codes "L9") (pos 0) (pos 0) (pos 0) (whole 501)) ≡ Some cases.OutOfRange
-far_line = refl
-
--- its points are 0 and 4 millionths: the same on the grid
-short_line : refusal_of (at here on_track) (deeds.LineXy (codes "L9") (pos 0) (pos 0) (pos 4) (pos 0)) ≡ Some cases.Degenerate
-short_line = refl
-
 -- ---- moves
 
 from_again : refusal_of (at here on_track) (deeds.FromXy (whole 501) (pos 0) None) ≡ Some cases.FromAgain
@@ -95,6 +87,19 @@ from_again = refl
 
 far_from : refusal_of (at here None) (deeds.FromXy (pos 0) (pos 0) (Some (whole 501))) ≡ Some cases.OutOfRange
 far_from = refl
+
+from_point_again : refusal_of (at here on_track) (deeds.FromPoint (codes "B")) ≡ Some cases.FromAgain
+from_point_again = refl
+
+from_undefined : refusal_of (at here None) (deeds.FromPoint (codes "B")) ≡ Some cases.Undefined
+from_undefined = refl
+
+from_number : refusal_of (at here None) (deeds.FromPoint (codes "A")) ≡ Some cases.WrongKind
+from_number = refl
+
+-- FROM needs no feed
+from_point : refusal_of (at (record here { feed = pos 0 }) None) (deeds.FromPoint (codes "P1")) ≡ None
+from_point = refl
 
 far_goto : refusal_of (at (record here { feed = pos 0 }) None) (deeds.GotoXy (pos 0) (neg_ℤ (whole 501)) None) ≡ Some cases.OutOfRange
 far_goto = refl
@@ -105,6 +110,18 @@ goto_no_feed = refl
 -- RAPID stands for a feed
 goto_rapid : refusal_of (at (record here { feed = pos 0; rapid = true }) None) (deeds.GotoXy (pos 0) (pos 0) None) ≡ None
 goto_rapid = refl
+
+goto_undefined : refusal_of (at (record here { feed = pos 0 }) None) (deeds.GotoPoint (codes "B")) ≡ Some cases.Undefined
+goto_undefined = refl
+
+goto_line : refusal_of (at (record here { feed = pos 0 }) None) (deeds.GotoPoint (codes "L1")) ≡ Some cases.WrongKind
+goto_line = refl
+
+goto_point_no_feed : refusal_of (at (record here { feed = pos 0 }) None) (deeds.GotoPoint (codes "P1")) ≡ Some cases.NoFeed
+goto_point_no_feed = refl
+
+goto_point_rapid : refusal_of (at (record here { feed = pos 0; rapid = true }) None) (deeds.GotoPoint (codes "P1")) ≡ None
+goto_point_rapid = refl
 
 godlta_no_from : refusal_of (at (record here { feed = pos 0 }) None) (deeds.Godlta (pos 0) (pos 0) (pos 0)) ≡ Some cases.NoFrom
 godlta_no_from = refl
@@ -118,15 +135,18 @@ go_no_from = refl
 go_undefined : go (at (record here { feed = pos 0 }) on_track) (codes "A") (codes "B") ≡ Some cases.Undefined
 go_undefined = refl
 
-go_wrong_kind : go (at (record here { feed = pos 0 }) on_track) (codes "L1") (codes "A") ≡ Some cases.WrongKind
+go_wrong_kind : go (at (record here { feed = pos 0 }) on_track) (codes "C1") (codes "P1") ≡ Some cases.WrongKind
 go_wrong_kind = refl
+
+-- a circle is not built yet, wherever it stands
+go_round : go (at (record here { feed = pos 0 }) on_track) (codes "C1") (codes "L1") ≡ Some cases.NotBuilt
+go_round = refl
+
+go_round_too : go (at (record here { feed = pos 0 }) on_track) (codes "L1") (codes "C1") ≡ Some cases.NotBuilt
+go_round_too = refl
 
 go_no_feed : go (at (record here { feed = pos 0 }) on_track) (codes "L1") (codes "L1") ≡ Some cases.NoFeed
 go_no_feed = refl
-
-go_no_room : go (at here (Some (above (pos 5000) (pos 0)))) (codes "L1") (codes "C1") ≡ Some cases.NoRoom
-unfolding start_up_at
-go_no_room = refl
 
 go_on_check : go (at here (Some (above (pos 0) (pos 0)))) (codes "L1") (codes "L1") ≡ Some cases.OnCheck
 unfolding start_up_at
@@ -156,8 +176,15 @@ undefined = refl
 wrong_kind : contour (at (record here { feed = pos 0; rapid = true; outtol = pos 7 }) on_track) turns.Left (codes "A") stops.To (codes "B") ≡ Some cases.WrongKind
 wrong_kind = refl
 
-wrong_check : contour (at (record here { feed = pos 0; rapid = true; outtol = pos 7 }) on_track) turns.Left (codes "L1") stops.To (codes "A") ≡ Some cases.WrongKind
+wrong_check : contour (at (record here { feed = pos 0; rapid = true; outtol = pos 7 }) on_track) turns.Left (codes "C1") stops.To (codes "A") ≡ Some cases.WrongKind
 wrong_check = refl
+
+-- a circle is not built yet, neither as the drive surface nor as the check surface
+round_drive : contour (at (record here { feed = pos 0; rapid = true; outtol = pos 7 }) on_track) turns.Left (codes "C1") stops.To (codes "L2") ≡ Some cases.NotBuilt
+round_drive = refl
+
+round_check : contour (at (record here { feed = pos 0; rapid = true; outtol = pos 7 }) on_track) turns.Left (codes "L1") stops.To (codes "C1") ≡ Some cases.NotBuilt
+round_check = refl
 
 rapid_contour : contour (at (record here { feed = pos 0; rapid = true; outtol = pos 7 }) on_track) turns.Left (codes "L1") stops.To (codes "L2") ≡ Some cases.RapidContour
 rapid_contour = refl
@@ -173,12 +200,8 @@ inward : contour (at (record here { intol = pos 8; outtol = pos 7 }) on_track) t
 unfolding root
 inward = refl
 
-no_turn : contour (at here (Some (above (pos 0) (pos 0)))) turns.Left (codes "L1") stops.To (codes "C1") ≡ Some cases.NoTurn
+no_turn : contour (at here (Some (above (pos 0) (pos 0)))) turns.Left (codes "L1") stops.To (codes "L2") ≡ Some cases.NoTurn
 no_turn = refl
-
--- the cutter does not go round inside so small a circle
-no_room : contour (at here (Some (above (pos 5000) (pos 1000)))) turns.Forward (codes "L1") stops.To (codes "C1") ≡ Some cases.NoRoom
-no_room = refl
 
 off_drive : contour (at here (Some (above (pos 100000) (pos 12504)))) turns.Forward (codes "L1") stops.To (codes "L2") ≡ Some cases.OffDrive
 unfolding root
@@ -219,14 +242,6 @@ unfolding root
 fine = refl
 
 -- ---- what the compiler does not have yet
-
-round_check : contour (at here on_track) turns.Forward (codes "L1") stops.To (codes "C1") ≡ Some cases.NotBuilt
-unfolding root
-round_check = refl
-
-round_start : go (at here on_track) (codes "L1") (codes "C1") ≡ Some cases.NotBuilt
-unfolding start_up_at
-round_start = refl
 
 one_surface : refusal_of (at here on_track) (deeds.GoStart stops.To (codes "L1") None) ≡ Some cases.NotBuilt
 one_surface = refl

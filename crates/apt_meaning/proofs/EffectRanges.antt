@@ -7,20 +7,23 @@ use Rattle.apt_num.specs.declared.Sign.{Sign}
 use Rattle.apt_num.specs.declared.Sign.TheVariants as signs
 use Rattle.apt_num.proofs.Nearest.{near-IsNear}
 use Rattle.apt_words.specs.declared.Side.{Side}
+use Rattle.apt_words.specs.declared.Stop.{Stop}
 use Rattle.apt_words.specs.declared.Units.{Units}
 use Rattle.apt_words.specs.declared.Units.TheVariants as the_units
 use Rattle.apt_scalar.specs.Scalars.{IsScalar, grid_units, tenths}
-use Rattle.apt_plane.specs.Ranges.{IsSense}
+use Rattle.apt_plane.specs.declared.figures.Surface.{Surface}
+use Rattle.apt_plane.specs.Ranges.{IsSurface, IsSense}
 use Rattle.apt_offset.specs.Ranges.{IsRadius, IsTolerance}
 use Rattle.apt_offset.specs.Turns.{is_zero}
 use Rattle.apt_offset.specs.Targets.{signed, greater}
-use Rattle.apt_cldata.specs.Ranges.{IsFromTo}
-use Rattle.apt_defs.specs.Definitions.{is_in_reach}
+use Rattle.apt_cldata.specs.declared.record.Position.{Position}
+use Rattle.apt_cldata.specs.Ranges.{IsPosition, IsFromTo}
+use Rattle.apt_defs.specs.Forms.{is_in_reach}
 use Rattle.apt_meaning.specs.declared.situation.Settings.{Settings}
 use Rattle.apt_meaning.specs.Situations.{radius_of, with_side}
-use Rattle.apt_meaning.specs.Motions.{grid_step}
+use Rattle.apt_meaning.specs.Motions.{grid_step, motion}
 use Rattle.apt_meaning.specs.Refusals.{is_up_to}
-use Rattle.apt_meaning.specs.Ranges.{AreSettings, IsFeed, IsAllowance}
+use Rattle.apt_meaning.specs.Ranges.{AreSettings, IsFeed, IsAllowance, IsMotion}
 
 -- ---- what a condition that fails says
 
@@ -101,3 +104,15 @@ either_allowance false t e is = record { least = grind (arith, ints); most = is.
 
 pub allowance_in : (t : ℤ) → IsTolerance t → IsAllowance (greater t grid_step)
 allowance_in t is = either_allowance (int_le t grid_step) t refl is
+
+pub motion_is : (s : Settings) (start : Position) (drive : Surface) (turned : Sign) (how : Stop) (check : Surface)
+    → AreSettings s → IsPosition start → IsSurface drive → IsSurface check → is_zero turned ≡ false → IsMotion (motion s start drive turned how check)
+motion_is s start drive turned how check is from d c turns = record {
+  start = from;
+  drive = d;
+  sense = sense_in turned turns;
+  check = c;
+  radius = is.radius;
+  inner = allowance_in s.intol is.intol;
+  outer = allowance_in s.outtol is.outtol;
+}

@@ -1,5 +1,6 @@
 -- A contour or a move that no case refuses has a feed; a rapid move needs none.
-use Rattle.std.proofs.Common.{◌≡◌, ℕ, not, false, List, Option, Some, None, IfSome}
+use Rattle.std.proofs.Common.{◌≡◌, ℕ, not, false, List, Result, Ok, Err, Option, Some, None, IfSome}
+use Rattle.apt_words.specs.declared.Case.{Case}
 use Rattle.apt_words.specs.declared.Go.{Go}
 use Rattle.apt_words.specs.declared.Side.{Side}
 use Rattle.apt_words.specs.declared.Stop.{Stop}
@@ -11,14 +12,17 @@ use Rattle.apt_plane.specs.declared.figures.Surface.{Surface}
 use Rattle.apt_cldata.specs.declared.record.Position.{Position}
 use Rattle.apt_cldata.specs.declared.record.Reach.{Reach}
 use Rattle.apt_cldata.specs.declared.record.Reach.TheVariants as reaches
+use Rattle.apt_defs.specs.declared.figure.Figure.{Figure}
+use Rattle.apt_defs.specs.declared.figure.Definition.{Definition}
+use Rattle.apt_defs.specs.Definitions.{definition_of}
 use Rattle.apt_meaning.specs.declared.situation.Settings.{Settings}
 use Rattle.apt_meaning.specs.declared.situation.Situation.{Situation}
 use Rattle.apt_meaning.specs.declared.motion.Motion.{Motion}
 use Rattle.apt_meaning.specs.declared.effect.Effect.{Effect}
 use Rattle.apt_meaning.specs.declared.effect.Effect.TheVariants as effects
 use Rattle.apt_meaning.specs.Situations.{has_feed, lacks_feed, with_side}
-use Rattle.apt_meaning.specs.Motions.{surface_in, turn_at, if_turned, motion_at}
-use Rattle.apt_meaning.specs.Effects.{moves, cuts, position_by, moved_from, start_position_at, effect_of}
+use Rattle.apt_meaning.specs.Motions.{line_in, turn_at, if_turned, motion_at}
+use Rattle.apt_meaning.specs.Effects.{moves, cuts, place_in, names, defines, defined, position_by, moved_from, start_position_at, effect_of}
 use Rattle.apt_meaning.specs.Refusals.{move_cases, surface_cases, start_up_or_not_built, cases_of}
 use Rattle.apt_meaning.proofs.Said.{of_some}
 
@@ -31,6 +35,18 @@ IsFed s (effects.Moves reaches.Godlta to) = lacks_feed s ≡ false
 IsFed s (effects.Moves reaches.Start to) = lacks_feed s ≡ false
 IsFed s (effects.Cuts m) = not (has_feed s) ≡ false
 
+figure_fed : (s : Settings) (n : List ℕ) (r : Result Figure Case) → IfSome (names n r) (IsFed s)
+figure_fed s n (Ok f) = tt
+figure_fed s n (Err case) = tt
+
+definition_fed : (s : Settings) (o : Option Definition) → IfSome (defines o) (IsFed s)
+definition_fed s None = tt
+definition_fed s (Some d) = figure_fed s d.name d.figure
+
+defined_fed : (at : Situation) (deed : Deed) → IfSome (defined at deed) (IsFed at.settings)
+unfolding defined
+defined_fed at deed = definition_fed at.settings (definition_of at.settings.units at.table deed)
+
 move_fed : (s : Settings) (reach : Reach) (to : Position) → lacks_feed s ≡ false → IsFed s (effects.Moves reach to)
 move_fed s reaches.From to fed = tt
 move_fed s reaches.Goto to fed = fed
@@ -41,14 +57,18 @@ moves_fed : (s : Settings) (reach : Reach) (o : Option Position) → NoneHolds (
 moves_fed s reach None none = tt
 moves_fed s reach (Some to) none = move_fed s reach to none.1.1.1.0
 
-starts_fed : (s : Settings) (o : Option Position) → lacks_feed s ≡ false → IfSome (moves reaches.Start o) (IsFed s)
-starts_fed s None fed = tt
-starts_fed s (Some to) fed = fed
+point_fed : (s : Settings) (reach : Reach) (o : Option Position) → lacks_feed s ≡ false → IfSome (moves reach o) (IsFed s)
+point_fed s reach None fed = tt
+point_fed s reach (Some to) fed = move_fed s reach to fed
+
+from_fed : (s : Settings) (o : Option Position) → IfSome (moves reaches.From o) (IsFed s)
+from_fed s None = tt
+from_fed s (Some to) = tt
 
 go_fed : (at : Situation) (how_a : Stop) (a : List ℕ) (b : Option (Stop × List ℕ)) → NoneHolds (start_up_or_not_built at how_a a b)
     → IfSome (moves reaches.Start (start_position_at at how_a a b)) (IsFed at.settings)
 go_fed at how_a a None none = tt
-go_fed at how_a a (Some b) none = starts_fed at.settings (start_position_at at how_a a (Some b)) none.1.1.1.1.1.0
+go_fed at how_a a (Some b) none = point_fed at.settings reaches.Start (start_position_at at how_a a (Some b)) none.1.1.1.1.1.1.1.0
 
 cuts_fed : (s : Settings) (o : Option Motion) → not (has_feed s) ≡ false → IfSome (cuts o) (IsFed s)
 cuts_fed s None fed = tt
@@ -75,35 +95,35 @@ all_fed at (deeds.Units units) none = tt
 all_fed at deeds.Clprnt none = tt
 all_fed at deeds.Nopost none = tt
 all_fed at deeds.Machin none = tt
-all_fed at (deeds.Assign n v) none = tt
-all_fed at (deeds.PointXy n x y z) none = tt
-all_fed at (deeds.PointLines n a b) none = tt
-all_fed at (deeds.PointPick n k a b) none = tt
-all_fed at (deeds.PointCenter n c) none = tt
-all_fed at (deeds.LineXy n x y u v) none = tt
-all_fed at (deeds.LinePoints n p q) none = tt
-all_fed at (deeds.LinePar n p l) none = tt
-all_fed at (deeds.LinePerp n p l) none = tt
-all_fed at (deeds.LineAt n l k v) none = tt
-all_fed at (deeds.LineTan n p h c) none = tt
-all_fed at (deeds.LineTwo n h c k d) none = tt
-all_fed at (deeds.CircleXyr n x y r) none = tt
-all_fed at (deeds.CirclePoints n a b c) none = tt
-all_fed at (deeds.CircleRadius n p r) none = tt
-all_fed at (deeds.CircleTan n p l) none = tt
-all_fed at (deeds.CircleThrough n p q) none = tt
-all_fed at (deeds.CircleCorner n j a k b r) none = tt
+all_fed at (deeds.Assign n v) none = defined_fed at (deeds.Assign n v)
+all_fed at (deeds.PointXy n x y z) none = defined_fed at (deeds.PointXy n x y z)
+all_fed at (deeds.PointLines n a b) none = defined_fed at (deeds.PointLines n a b)
+all_fed at (deeds.PointPick n k a b) none = defined_fed at (deeds.PointPick n k a b)
+all_fed at (deeds.PointCenter n c) none = defined_fed at (deeds.PointCenter n c)
+all_fed at (deeds.LineXy n x y u v) none = defined_fed at (deeds.LineXy n x y u v)
+all_fed at (deeds.LinePoints n p q) none = defined_fed at (deeds.LinePoints n p q)
+all_fed at (deeds.LinePar n p l) none = defined_fed at (deeds.LinePar n p l)
+all_fed at (deeds.LinePerp n p l) none = defined_fed at (deeds.LinePerp n p l)
+all_fed at (deeds.LineAt n l k v) none = defined_fed at (deeds.LineAt n l k v)
+all_fed at (deeds.LineTan n p h c) none = defined_fed at (deeds.LineTan n p h c)
+all_fed at (deeds.LineTwo n h c k d) none = defined_fed at (deeds.LineTwo n h c k d)
+all_fed at (deeds.CircleXyr n x y r) none = defined_fed at (deeds.CircleXyr n x y r)
+all_fed at (deeds.CirclePoints n a b c) none = defined_fed at (deeds.CirclePoints n a b c)
+all_fed at (deeds.CircleRadius n p r) none = defined_fed at (deeds.CircleRadius n p r)
+all_fed at (deeds.CircleTan n p l) none = defined_fed at (deeds.CircleTan n p l)
+all_fed at (deeds.CircleThrough n p q) none = defined_fed at (deeds.CircleThrough n p q)
+all_fed at (deeds.CircleCorner n j a k b r) none = defined_fed at (deeds.CircleCorner n j a k b r)
 all_fed at (deeds.Cutter v) none = tt
 all_fed at (deeds.Intol v) none = tt
 all_fed at (deeds.Outtol v) none = tt
 all_fed at (deeds.Tool side) none = tt
 all_fed at (deeds.FromXy x y z) none = tt
-all_fed at (deeds.FromPoint p) none = tt
+all_fed at (deeds.FromPoint p) none = from_fed at.settings (place_in at.table p)
 all_fed at (deeds.GotoXy x y z) none = moves_fed at.settings reaches.Goto (Some (position_by at.settings.units x y z)) none
-all_fed at (deeds.GotoPoint p) none = tt
+all_fed at (deeds.GotoPoint p) none = point_fed at.settings reaches.Goto (place_in at.table p) none.1.1.0
 all_fed at (deeds.Godlta x y z) none = moves_fed at.settings reaches.Godlta (moved_from at x y z) none.1
 all_fed at (deeds.GoStart how_a a b) none = go_fed at how_a a b none
-all_fed at (deeds.Contour side go drive how check) none = surfaces_fed at side go how at.position (surface_in at.table drive) (surface_in at.table check) none.1.1.1.1.1
+all_fed at (deeds.Contour side go drive how check) none = surfaces_fed at side go how at.position (line_in at.table drive) (line_in at.table check) none.1.1.1.1.1.1.1
 all_fed at deeds.Rapid none = tt
 all_fed at deeds.Halt none = tt
 all_fed at deeds.OptHalt none = tt

@@ -17,13 +17,13 @@ use Rattle.apt_meaning.specs.Refusals.{refusal_of}
 use Rattle.apt_meaning.specs.Records.{records_of, after}
 use Rattle.apt_meaning.specs.Compiled.{ends_of, with_front, compilation}
 use Rattle.apt_meaning.specs.Ranges.{AreSettings, IsNoteOrNone, IsSituation, IsEffect}
-use Rattle.apt_meaning.specs.Straight.{HasNoCircle, IsLined}
+use Rattle.apt_meaning.specs.Straight.{IsLined}
 use Rattle.apt_meaning.specs.Vertices.{HasIn}
 use Rattle.apt_meaning.proofs.Agree.{Agrees, AreLike, alike, agrees_behind, agrees_first}
 use Rattle.apt_meaning.proofs.Asked.{answered}
 use Rattle.apt_meaning.proofs.Kept.{kept, first_situation-IsSituation}
 use Rattle.apt_meaning.proofs.Said.{of_some}
-use Rattle.apt_meaning.proofs.Straight.{made, lines_behind}
+use Rattle.apt_meaning.proofs.Straight.{made}
 use Rattle.apt_meaning.proofs.Walk.{fit, done, front_ok}
 
 -- ---- what records in range say of their effect
@@ -86,16 +86,14 @@ pub record IsBeside (at : Situation) (steps : List Step) : Type 0 where
   pub situation : IsSituation c
   pub agrees : Agrees c at
 
--- a situation in range beside the compiler's, with no name for a circle
+-- a situation in range beside the compiler's
 pub record KeepsUp (at : Situation) (steps : List Step) : Type 0 where
   pub situation : IsSituation at
-  pub lines : HasNoCircle at.table
   pub beside : IsBeside at steps
 
 pub keeps_up_first : (steps : List Step) (records : List Record) → compilation first_situation steps ≡ Ok records → KeepsUp first_situation steps
 keeps_up_first steps records passes = record {
   situation = first_situation-IsSituation;
-  lines = tt;
   beside = record { c = first_situation; records = records; passes = passes; situation = first_situation-IsSituation; agrees = agrees_first first_situation };
 }
 
@@ -118,7 +116,7 @@ steps_on at step steps written d us rest keeps numbers worded are asked front =
     let e = does.e in
     let fits = fit (effect_of c step.deed) e does.asked (answered c step.deed beside.situation numbers worded does.fine) in
     let later = front_ok (records_of step e (ends_of e)) (compilation (after c e (ends_of e)) steps) beside.records does.rest in
-    let lined = of_some IsLined (effect_of at step.deed) d asked (made at step.deed keeps.situation keeps.lines) in
+    let lined = of_some IsLined (effect_of at step.deed) d asked (made at step.deed keeps.situation) in
     let says = says_in step d us rest (subst AreRecords front are) in
     let good = effect_in e d (alike c at step.deed e d beside.agrees does.asked asked) fits.good lined says.leads in
     record {
@@ -127,7 +125,6 @@ steps_on at step steps written d us rest keeps numbers worded are asked front =
       within = says.within;
       behind = record {
         situation = kept at d us keeps.situation good says.within;
-        lines = lines_behind at d us keeps.lines lined;
         beside = record {
           c = after c e (ends_of e);
           records = later.0;

@@ -24,6 +24,7 @@ use Rattle.apt_stop.specs.Nearness.{is_near, heading, off_track, near_stop, side
 use Rattle.apt_stop.proofs.NearLaws.{near-OnLine}
 use Rattle.apt_stop.proofs.Cases.{inside_point}
 use Rattle.apt_certify.specs.declared.leg.Leg.{Leg}
+use Rattle.apt_certify.specs.Jobs.{IsStraight}
 use Rattle.apt_certify.specs.Legs.{beyond_of, IsBounded, IsWithinEdge, IsLegal}
 use Rattle.apt_meaning.specs.declared.motion.Motion.{Motion}
 use Rattle.apt_meaning.specs.declared.motion.StartUp.{StartUp}
@@ -32,6 +33,7 @@ use Rattle.apt_meaning.specs.StartUps.{start_point, meeting_cases, start_up_case
 use Rattle.apt_meaning.specs.Refusals.{motion_cases, is_tanto}
 use Rattle.apt_meaning.specs.Ranges.{IsMotion}
 use Rattle.apt_meaning.specs.Records.{IsLegalCut}
+use Rattle.apt_meaning.specs.Straight.{IsStraightMotion}
 use Rattle.apt_plane.proofs.SegmentLaws.{in_band-between}
 use Rattle.apt_meaning.proofs.Bands.{HasRoom, band_at-HasRoom, near_in_band}
 use Rattle.apt_meaning.proofs.Starts.{IsFar, far_on_side}
@@ -133,7 +135,7 @@ leads_legal m d e x is leads side =
       hold = (onwards, (band, (subst (λ k. EveryPoint start x (IsWithinEdge leg (opposite k))) (sym side) before, (stop, (tt, tt)))));
     }
 
--- ---- of every motion; the one that has a circle is refused
+-- ---- of every motion along a line to a line
 
 straight_legal : (m : Motion) (d e : Line) → IsMotion (straight m d e) → NoneHolds (motion_cases (straight m d e))
     → IsLegalCut (straight m d e) (contact (straight m d e) ∷ [])
@@ -161,32 +163,34 @@ straight_defined m d e none =
 abbrev on_surfaces : Motion → Surface → Surface → Motion
 on_surfaces m drive check = record m { drive = drive; check = check }
 
-legal_on : (m : Motion) (drive check : Surface) → IsMotion (on_surfaces m drive check) → NoneHolds (motion_cases (on_surfaces m drive check))
-    → IsLegalCut (on_surfaces m drive check) (contact (on_surfaces m drive check) ∷ [])
-legal_on m (surfaces.Line d) (surfaces.Line e) is none = straight_legal m d e is none
-legal_on m (surfaces.Line d) (surfaces.Circ e) is none = absurd (true≢false none.1.1.1.1.0)
-legal_on m (surfaces.Circ d) check is none = absurd (true≢false none.1.1.1.1.0)
+legal_on : (m : Motion) (drive check : Surface) → IsStraight drive → IsStraight check → IsMotion (on_surfaces m drive check)
+    → NoneHolds (motion_cases (on_surfaces m drive check)) → IsLegalCut (on_surfaces m drive check) (contact (on_surfaces m drive check) ∷ [])
+legal_on m (surfaces.Line d) (surfaces.Line e) is_d is_e is none = straight_legal m d e is none
+legal_on m (surfaces.Line d) (surfaces.Circ e) is_d is_e is none = absurd is_e
+legal_on m (surfaces.Circ d) check is_d is_e is none = absurd is_d
 
-contact_on : (m : Motion) (drive check : Surface) → NoneHolds (motion_cases (on_surfaces m drive check)) → IsPoint (contact (on_surfaces m drive check))
-contact_on m (surfaces.Line d) (surfaces.Line e) none = (unrefused m d e none).point
-contact_on m (surfaces.Line d) (surfaces.Circ e) none = absurd (true≢false none.1.1.1.1.0)
-contact_on m (surfaces.Circ d) check none = absurd (true≢false none.1.1.1.1.0)
+contact_on : (m : Motion) (drive check : Surface) → IsStraight drive → IsStraight check → NoneHolds (motion_cases (on_surfaces m drive check))
+    → IsPoint (contact (on_surfaces m drive check))
+contact_on m (surfaces.Line d) (surfaces.Line e) is_d is_e none = (unrefused m d e none).point
+contact_on m (surfaces.Line d) (surfaces.Circ e) is_d is_e none = absurd is_e
+contact_on m (surfaces.Circ d) check is_d is_e none = absurd is_d
 
-defined_on : (m : Motion) (drive check : Surface) → NoneHolds (motion_cases (on_surfaces m drive check)) → is_defined (on_surfaces m drive check) ≡ true
-defined_on m (surfaces.Line d) (surfaces.Line e) none = straight_defined m d e none
-defined_on m (surfaces.Line d) (surfaces.Circ e) none = absurd (true≢false none.1.1.1.1.0)
-defined_on m (surfaces.Circ d) check none = absurd (true≢false none.1.1.1.1.0)
+defined_on : (m : Motion) (drive check : Surface) → IsStraight drive → IsStraight check → NoneHolds (motion_cases (on_surfaces m drive check))
+    → is_defined (on_surfaces m drive check) ≡ true
+defined_on m (surfaces.Line d) (surfaces.Line e) is_d is_e none = straight_defined m d e none
+defined_on m (surfaces.Line d) (surfaces.Circ e) is_d is_e none = absurd is_e
+defined_on m (surfaces.Circ d) check is_d is_e none = absurd is_d
 
 -- a motion that no case refuses is legal, and its contact is a point
-pub motion_legal : (m : Motion) → IsMotion m → NoneHolds (motion_cases m) → IsLegalCut m (contact m ∷ [])
-motion_legal m is none = legal_on m m.drive m.check is none
+pub motion_legal : (m : Motion) → IsStraightMotion m → NoneHolds (motion_cases m) → IsLegalCut m (contact m ∷ [])
+motion_legal m is none = legal_on m m.drive m.check is.drive is.check is.motion none
 
-pub motion_contact : (m : Motion) → IsMotion m → NoneHolds (motion_cases m) → IsPoint (contact m)
-motion_contact m is none = contact_on m m.drive m.check none
+pub motion_contact : (m : Motion) → IsStraightMotion m → NoneHolds (motion_cases m) → IsPoint (contact m)
+motion_contact m is none = contact_on m m.drive m.check is.drive is.check none
 
 -- and what it asks for is there
-pub motion_defined : (m : Motion) → IsMotion m → NoneHolds (motion_cases m) → is_defined m ≡ true
-motion_defined m is none = defined_on m m.drive m.check none
+pub motion_defined : (m : Motion) → IsStraightMotion m → NoneHolds (motion_cases m) → is_defined m ≡ true
+motion_defined m is none = defined_on m m.drive m.check is.drive is.check none
 
 -- ---- a motion whose stop is there has an edge that it must not pass
 
@@ -211,11 +215,11 @@ defined_bounded m is =
 
 -- ---- start-up
 
-meeting_point-is : (u : StartUp) (a b : Surface) → NoneHolds (meeting_cases u a b) → IsPoint (start_point u)
-meeting_point-is u (surfaces.Line l) (surfaces.Line k) none = inside_point (start_point u) (not-false _ none.1.0)
-meeting_point-is u (surfaces.Line l) (surfaces.Circ k) none = absurd (true≢false none.0)
-meeting_point-is u (surfaces.Circ l) b none = absurd (true≢false none.0)
+meeting_point-is : (u : StartUp) (a b : Surface) → IsStraight a → IsStraight b → NoneHolds (meeting_cases u a b) → IsPoint (start_point u)
+meeting_point-is u (surfaces.Line l) (surfaces.Line k) is_a is_b none = inside_point (start_point u) (not-false _ none.1.0)
+meeting_point-is u (surfaces.Line l) (surfaces.Circ k) is_a is_b none = absurd is_b
+meeting_point-is u (surfaces.Circ l) b is_a is_b none = absurd is_a
 
--- a start-up that no case refuses ends at a point
-pub start_up_point : (u : StartUp) → NoneHolds (start_up_cases u) → IsPoint (start_point u)
-start_up_point u none = meeting_point-is u u.a u.b none.1.1.1.1
+-- a start-up on lines that no case refuses ends at a point
+pub start_up_point : (u : StartUp) → IsStraight u.a → IsStraight u.b → NoneHolds (start_up_cases u) → IsPoint (start_point u)
+start_up_point u is_a is_b none = meeting_point-is u u.a u.b is_a is_b none.1.1.1.1

@@ -7,6 +7,7 @@ pub mod Edges
 pub mod Legal
 pub mod Plates
 pub mod Said
+pub mod Defined
 pub mod Refused
 pub mod EffectRanges
 pub mod Asked

@@ -1,6 +1,7 @@
 -- What the effect of a step tells of the step.
-use Rattle.std.proofs.Common.{◌≡◌, Bool, true, false, Option, Some, None, IfSome, refl, subst, cond}
+use Rattle.std.proofs.Common.{◌≡◌, ℕ, Bool, true, false, List, Result, Ok, Err, Option, Some, None, IfSome, refl, subst, cond}
 use Rattle.apt_num.specs.declared.Sign.{Sign}
+use Rattle.apt_words.specs.declared.Case.{Case}
 use Rattle.apt_words.specs.declared.Go.{Go}
 use Rattle.apt_words.specs.declared.Side.{Side}
 use Rattle.apt_words.specs.declared.Stop.{Stop}
@@ -12,18 +13,35 @@ use Rattle.apt_offset.specs.Turns.{is_zero}
 use Rattle.apt_cldata.specs.declared.record.Position.{Position}
 use Rattle.apt_cldata.specs.declared.record.Reach.{Reach}
 use Rattle.apt_cldata.specs.declared.record.Reach.TheVariants as reaches
+use Rattle.apt_defs.specs.declared.figure.Figure.{Figure}
+use Rattle.apt_defs.specs.declared.figure.Definition.{Definition}
+use Rattle.apt_defs.specs.Definitions.{definition_of}
 use Rattle.apt_meaning.specs.declared.situation.Settings.{Settings}
 use Rattle.apt_meaning.specs.declared.situation.Situation.{Situation}
 use Rattle.apt_meaning.specs.declared.motion.Motion.{Motion}
 use Rattle.apt_meaning.specs.declared.effect.Effect.{Effect}
 use Rattle.apt_meaning.specs.Situations.{with_side}
-use Rattle.apt_meaning.specs.Motions.{surface_in, turn_at, if_turned, motion, motion_at}
-use Rattle.apt_meaning.specs.Effects.{moves, cuts, moved_from, start_position_at, effect_of}
+use Rattle.apt_meaning.specs.Motions.{line_in, turn_at, if_turned, motion, motion_at}
+use Rattle.apt_meaning.specs.Effects.{moves, cuts, place_in, names, defines, defined, moved_from, start_position_at, effect_of}
 use Rattle.apt_words.specs.ProgramEnds.{is_ended}
 use Rattle.apt_meaning.specs.Sayings.{IsSaidBy}
 
 pub of_some : {A : Type 0} (P : A → Type 0) (o : Option A) (x : A) → o ≡ Some x → IfSome o P → P x
 of_some P o x e held = subst (λ q. IfSome q P) e held
+
+-- ---- definitions
+
+figure_said : (at : Situation) (deed : Deed) (n : List ℕ) (r : Result Figure Case) → is_ended false deed ≡ false → IfSome (names n r) (IsSaidBy at deed)
+figure_said at deed n (Ok f) on = on
+figure_said at deed n (Err case) on = tt
+
+definition_said : (at : Situation) (deed : Deed) (o : Option Definition) → is_ended false deed ≡ false → IfSome (defines o) (IsSaidBy at deed)
+definition_said at deed None on = tt
+definition_said at deed (Some d) on = figure_said at deed d.name d.figure on
+
+defined_said : (at : Situation) (deed : Deed) → is_ended false deed ≡ false → IfSome (defined at deed) (IsSaidBy at deed)
+unfolding defined
+defined_said at deed on = definition_said at deed (definition_of at.settings.units at.table deed) on
 
 -- ---- moves and contours, where what they need is there
 
@@ -60,35 +78,35 @@ told at (deeds.Units units) = record { said = refl; settings = refl }
 told at deeds.Clprnt = record { goes_on = refl; settings = refl }
 told at deeds.Nopost = record { goes_on = refl; settings = refl }
 told at deeds.Machin = record { goes_on = refl; settings = refl }
-told at (deeds.Assign n v) = refl
-told at (deeds.PointXy n x y z) = tt
-told at (deeds.PointLines n a b) = tt
-told at (deeds.PointPick n k a b) = tt
-told at (deeds.PointCenter n c) = tt
-told at (deeds.LineXy n x y u v) = refl
-told at (deeds.LinePoints n p q) = tt
-told at (deeds.LinePar n p l) = tt
-told at (deeds.LinePerp n p l) = tt
-told at (deeds.LineAt n l k v) = tt
-told at (deeds.LineTan n p h c) = tt
-told at (deeds.LineTwo n h c k d) = tt
-told at (deeds.CircleXyr n x y r) = tt
-told at (deeds.CirclePoints n a b c) = tt
-told at (deeds.CircleRadius n p r) = tt
-told at (deeds.CircleTan n p l) = tt
-told at (deeds.CircleThrough n p q) = tt
-told at (deeds.CircleCorner n j a k b r) = tt
+told at (deeds.Assign n v) = defined_said at (deeds.Assign n v) refl
+told at (deeds.PointXy n x y z) = defined_said at (deeds.PointXy n x y z) refl
+told at (deeds.PointLines n a b) = defined_said at (deeds.PointLines n a b) refl
+told at (deeds.PointPick n k a b) = defined_said at (deeds.PointPick n k a b) refl
+told at (deeds.PointCenter n c) = defined_said at (deeds.PointCenter n c) refl
+told at (deeds.LineXy n x y u v) = defined_said at (deeds.LineXy n x y u v) refl
+told at (deeds.LinePoints n p q) = defined_said at (deeds.LinePoints n p q) refl
+told at (deeds.LinePar n p l) = defined_said at (deeds.LinePar n p l) refl
+told at (deeds.LinePerp n p l) = defined_said at (deeds.LinePerp n p l) refl
+told at (deeds.LineAt n l k v) = defined_said at (deeds.LineAt n l k v) refl
+told at (deeds.LineTan n p h c) = defined_said at (deeds.LineTan n p h c) refl
+told at (deeds.LineTwo n h c k d) = defined_said at (deeds.LineTwo n h c k d) refl
+told at (deeds.CircleXyr n x y r) = defined_said at (deeds.CircleXyr n x y r) refl
+told at (deeds.CirclePoints n a b c) = defined_said at (deeds.CirclePoints n a b c) refl
+told at (deeds.CircleRadius n p r) = defined_said at (deeds.CircleRadius n p r) refl
+told at (deeds.CircleTan n p l) = defined_said at (deeds.CircleTan n p l) refl
+told at (deeds.CircleThrough n p q) = defined_said at (deeds.CircleThrough n p q) refl
+told at (deeds.CircleCorner n j a k b r) = defined_said at (deeds.CircleCorner n j a k b r) refl
 told at (deeds.Cutter v) = record { said = (v, refl, refl); settings = refl }
 told at (deeds.Intol v) = record { said = (v, refl, refl); settings = refl }
 told at (deeds.Outtol v) = record { said = (v, refl, refl); settings = refl }
 told at (deeds.Tool side) = record { goes_on = refl; settings = refl }
 told at (deeds.FromXy x y z) = refl
-told at (deeds.FromPoint p) = tt
+told at (deeds.FromPoint p) = moves_said at (deeds.FromPoint p) reaches.From (place_in at.table p) refl
 told at (deeds.GotoXy x y z) = refl
-told at (deeds.GotoPoint p) = tt
+told at (deeds.GotoPoint p) = moves_said at (deeds.GotoPoint p) reaches.Goto (place_in at.table p) refl
 told at (deeds.Godlta x y z) = moves_said at (deeds.Godlta x y z) reaches.Godlta (moved_from at x y z) refl
 told at (deeds.GoStart how_a a b) = moves_said at (deeds.GoStart how_a a b) reaches.Start (start_position_at at how_a a b) refl
-told at (deeds.Contour side go drive how check) = contour_said at (deeds.Contour side go drive how check) side go how at.position (surface_in at.table drive) (surface_in at.table check) refl refl
+told at (deeds.Contour side go drive how check) = contour_said at (deeds.Contour side go drive how check) side go how at.position (line_in at.table drive) (line_in at.table check) refl refl
 told at deeds.Rapid = record { said = refl; settings = refl }
 told at deeds.Halt = record { said = refl; settings = refl }
 told at deeds.OptHalt = record { said = refl; settings = refl }

@@ -1,4 +1,4 @@
--- What each statement asks for.
+-- What each statement asks for that is no definition.
 use Rattle.std.specs.Prelude.{◌≡◌, refl, ℕ, ◌*◌, ℤ, pos, neg_ℤ, true, codes, [], ◌∷◌, Option, Some, None}
 use Rattle.apt_num.specs.Root.{root}
 use Rattle.apt_words.specs.declared.Go.TheVariants as turns
@@ -25,7 +25,7 @@ use Rattle.apt_meaning.specs.Motions.{motion_at}
 use Rattle.apt_meaning.specs.StartUps.{start_up_at}
 use Rattle.apt_meaning.specs.Effects.{effect_of}
 
--- ---- a corner of two lines, with a cutter of radius 12500 on the left
+-- ---- a corner of two lines and a point, with a cutter of radius 12500 on the left
 
 abbrev line : ℤ → ℤ → ℤ → ℤ → Surface
 line x y dx dy = surfaces.Line (record { base = record { x = x; y = y }; dir = record { dx = dx; dy = dy } })
@@ -44,7 +44,7 @@ at = record {
   settings = here;
   position = Some (position_at (pos 0) (pos 12500) (pos 300));
   forward = record { dx = pos 1; dy = pos 0 };
-  table = (codes "L1", figures.Shape across) ∷ (codes "L2", figures.Shape up) ∷ [];
+  table = (codes "L1", figures.Shape across) ∷ (codes "L2", figures.Shape up) ∷ (codes "P1", figures.Point (record { x = pos 400000; y = pos 0 }) (pos 50)) ∷ [];
 }
 
 -- a whole number in millionths
@@ -93,16 +93,6 @@ outtol = refl
 tool : effect_of at (deeds.Tool sides.Right) ≡ sets (record here { side = sides.Right })
 tool = refl
 
--- ---- definitions
-
-assign : effect_of at (deeds.Assign (codes "A") (whole 5)) ≡ Some (effects.Defines (codes "A") figures.Scalar)
-assign = refl
-
--- 1 inch is 100000 grid units
-line_xy : effect_of at (deeds.LineXy (codes "L3") (whole 1) (pos 0) (whole 1) (whole 2)) ≡
-    Some (effects.Defines (codes "L3") (figures.Shape (line (pos 100000) (pos 0) (pos 0) (pos 200000))))
-line_xy = refl
-
 -- ---- moves
 
 from_xy : effect_of at (deeds.FromXy (whole 1) (whole 2) (Some (whole 3))) ≡ moves reaches.From (position_at (pos 100000) (pos 200000) (pos 300000))
@@ -111,6 +101,13 @@ from_xy = refl
 -- the height is 0 where it is left out
 goto_xy : effect_of at (deeds.GotoXy (whole 1) (neg_ℤ (whole 2)) None) ≡ moves reaches.Goto (position_at (pos 100000) (neg_ℤ (pos 200000)) (pos 0))
 goto_xy = refl
+
+-- at the height of the point
+from_point : effect_of at (deeds.FromPoint (codes "P1")) ≡ moves reaches.From (position_at (pos 400000) (pos 0) (pos 50))
+from_point = refl
+
+goto_point : effect_of at (deeds.GotoPoint (codes "P1")) ≡ moves reaches.Goto (position_at (pos 400000) (pos 0) (pos 50))
+goto_point = refl
 
 godlta : effect_of at (deeds.Godlta (whole 1) (pos 0) (neg_ℤ (pos 1000))) ≡ moves reaches.Godlta (position_at (pos 100000) (pos 12500) (pos 200))
 godlta = refl

@@ -1,15 +1,12 @@
--- Names stand for lines and numbers alone so far, and so contours run along lines to lines.
-use Rattle.std.proofs.Common.{◌≡◌, ℕ, nat_eq, Bool, true, false, List, [], ◌∷◌, Option, Some, None, IfSome, refl, sym, subst, cond}
-use Rattle.std.specs.Map.{lookup}
-use Rattle.std.specs.Cmp.Lexicographic.{pointwise}
-use Rattle.indexmap.specs.IndexMap.{insert_entry}
+-- Names stand for lines where contours need surfaces, and so contours run along lines to lines.
+use Rattle.std.proofs.Common.{◌≡◌, ℕ, Bool, true, false, List, Option, Some, None, Result, Ok, Err, IfSome, refl, sym, subst, cond}
+use Rattle.apt_words.specs.declared.Case.{Case}
 use Rattle.apt_words.specs.declared.Go.{Go}
 use Rattle.apt_words.specs.declared.Stop.{Stop}
 use Rattle.apt_words.specs.declared.deed.Deed.{Deed}
 use Rattle.apt_words.specs.declared.deed.Deed.TheVariants as deeds
 use Rattle.apt_words.specs.Options.{◌>>=◌}
 use Rattle.apt_plane.specs.declared.figures.Dir.{Dir}
-use Rattle.apt_plane.specs.declared.figures.Pt.{Pt}
 use Rattle.apt_plane.specs.declared.figures.Surface.{Surface}
 use Rattle.apt_plane.specs.declared.figures.Surface.TheVariants as surfaces
 use Rattle.apt_plane.specs.Ranges.{IsSurface}
@@ -18,57 +15,43 @@ use Rattle.apt_certify.specs.Jobs.{IsStraight}
 use Rattle.apt_cldata.specs.declared.record.Position.{Position}
 use Rattle.apt_cldata.specs.declared.record.Reach.{Reach}
 use Rattle.apt_cldata.specs.declared.record.Reach.TheVariants as reaches
+use Rattle.apt_defs.specs.declared.figure.Definition.{Definition}
 use Rattle.apt_defs.specs.declared.figure.Figure.{Figure}
 use Rattle.apt_defs.specs.declared.figure.Figure.TheVariants as figures
+use Rattle.apt_defs.specs.Definitions.{definition_of}
 use Rattle.apt_defs.specs.Figures.{Table, IsFigure, AreFigures, figure_named}
-use Rattle.apt_defs.specs.Definitions.{table_with}
 use Rattle.apt_defs.proofs.Tables.{looked_up}
 use Rattle.apt_meaning.specs.declared.situation.Settings.{Settings}
 use Rattle.apt_meaning.specs.declared.situation.Situation.{Situation}
 use Rattle.apt_meaning.specs.declared.motion.Motion.{Motion}
 use Rattle.apt_meaning.specs.declared.effect.Effect.{Effect}
-use Rattle.apt_meaning.specs.declared.effect.Effect.TheVariants as effects
+use Rattle.apt_meaning.specs.OnLines.{built}
 use Rattle.apt_meaning.specs.Situations.{with_side}
-use Rattle.apt_meaning.specs.Motions.{as_surface, surface_in, motion, if_turned, motion_at}
-use Rattle.apt_meaning.specs.Records.{after}
-use Rattle.apt_meaning.specs.Effects.{moves, cuts, moved_from, start_position_at, effect_of}
+use Rattle.apt_meaning.specs.Motions.{as_surface, line_in, motion, if_turned, motion_at}
+use Rattle.apt_meaning.specs.Effects.{moves, cuts, moved_from, place_in, start_position_at, names, defines, defined, effect_of}
 use Rattle.apt_meaning.specs.Ranges.{IsPositionOrNone, AreSettings, IsSituation}
-use Rattle.apt_meaning.specs.Straight.{IsNoCircle, HasNoCircle, IsStraightMotion, IsLined}
-use Rattle.apt_meaning.proofs.Asked.{motion_is}
-use Rattle.apt_meaning.proofs.EffectRanges.{on_side_or_as_it_was}
+use Rattle.apt_meaning.specs.Straight.{IsStraightMotion, IsLined}
+use Rattle.apt_meaning.proofs.EffectRanges.{on_side_or_as_it_was, motion_is}
 
--- ---- tables of lines
+-- ---- names of lines
 
-either : (b : Bool) (f : Figure) (rest : Option Figure) → IsNoCircle f → IfSome rest IsNoCircle → IfSome (cond b (Some f) rest) IsNoCircle
-either true f rest is later = is
-either false f rest is later = later
+built_straight : (o : Option Figure) → IfSome o IsFigure → IfSome ((o >>= as_surface) >>= built) IsStraight
+built_straight None is = tt
+built_straight (Some (figures.Point at z)) is = tt
+built_straight (Some (figures.Shape (surfaces.Line l))) is = is
+built_straight (Some (figures.Shape (surfaces.Circ c))) is = tt
+built_straight (Some figures.Scalar) is = tt
 
-found : (table : Table) (test : List ℕ → Bool) → HasNoCircle table → IfSome (lookup test table) IsNoCircle
-found [] test lines = tt
-found (e ∷ es) test lines = either (test e.0) e.1 (lookup test es) lines.0 (found es test lines.1)
+pub line_straight : (table : Table) (name : List ℕ) → AreFigures table → IfSome (line_in table name) IsStraight
+line_straight table name are = built_straight (figure_named table name) (looked_up table name are)
 
-either_table : (b : Bool) (x y : Table) → HasNoCircle x → HasNoCircle y → HasNoCircle (cond b x y)
-either_table true x y p q = p
-either_table false x y p q = q
-
-still_lines : (table : Table) (name : List ℕ) (f : Figure) → HasNoCircle table → IsNoCircle f → HasNoCircle (table_with table name f)
-still_lines [] name f lines is = (is, tt)
-still_lines (e ∷ es) name f lines is =
-    either_table (pointwise nat_eq name e.0) ((e.0, f) ∷ es) (e ∷ insert_entry (pointwise nat_eq) es name f) (is, lines.1) (lines.0, still_lines es name f lines.1 is)
-
-straight_if : (o : Option Figure) → IfSome o IsFigure → IfSome o IsNoCircle → IfSome (o >>= as_surface) IsStraight
-straight_if None is line = tt
-straight_if (Some (figures.Point at z)) is line = tt
-straight_if (Some (figures.Shape (surfaces.Line l))) is line = is
-straight_if (Some (figures.Shape (surfaces.Circ c))) is line = absurd line
-straight_if (Some figures.Scalar) is line = tt
-
-surface_straight : (table : Table) (name : List ℕ) → AreFigures table → HasNoCircle table → IfSome (surface_in table name) IsStraight
-surface_straight table name are lines = straight_if (figure_named table name) (looked_up table name are) (found table (pointwise nat_eq name) lines)
-
-straight_surface : (s : Surface) → IsStraight s → IsSurface s
+pub straight_surface : (s : Surface) → IsStraight s → IsSurface s
 straight_surface (surfaces.Line l) is = is
 straight_surface (surfaces.Circ c) is = absurd is
+
+pub straight_surfaces : (o : Option Surface) → IfSome o IsStraight → IfSome o IsSurface
+straight_surfaces None is = tt
+straight_surfaces (Some s) is = straight_surface s is
 
 -- ---- what steps ask for, whether or not a case refuses them
 
@@ -94,68 +77,73 @@ contour_made s forward go how (Some start) (Some drive) (Some check) is is_p is_
       check = is_c;
     })
 
-pub made : (at : Situation) (deed : Deed) → IsSituation at → HasNoCircle at.table → IfSome (effect_of at deed) IsLined
+names_made : (name : List ℕ) (r : Result Figure Case) → IfSome (names name r) IsLined
+names_made name (Ok f) = tt
+names_made name (Err case) = tt
+
+defines_made : (o : Option Definition) → IfSome (defines o) IsLined
+defines_made None = tt
+defines_made (Some d) = names_made d.name d.figure
+
+defined_made : (at : Situation) (deed : Deed) → IfSome (defined at deed) IsLined
+unfolding defined
+defined_made at deed = defines_made (definition_of at.settings.units at.table deed)
+
+pub made : (at : Situation) (deed : Deed) → IsSituation at → IfSome (effect_of at deed) IsLined
 unfolding motion_at
-made at (deeds.Partno text) is lines = tt
-made at (deeds.Remark text) is lines = tt
-made at (deeds.Units units) is lines = tt
-made at deeds.Clprnt is lines = tt
-made at deeds.Nopost is lines = tt
-made at deeds.Machin is lines = tt
-made at (deeds.Assign n v) is lines = tt
-made at (deeds.PointXy n x y z) is lines = tt
-made at (deeds.PointLines n a b) is lines = tt
-made at (deeds.PointPick n k a b) is lines = tt
-made at (deeds.PointCenter n c) is lines = tt
-made at (deeds.LineXy n x y u v) is lines = tt
-made at (deeds.LinePoints n p q) is lines = tt
-made at (deeds.LinePar n p l) is lines = tt
-made at (deeds.LinePerp n p l) is lines = tt
-made at (deeds.LineAt n l k v) is lines = tt
-made at (deeds.LineTan n p h c) is lines = tt
-made at (deeds.LineTwo n h c k d) is lines = tt
-made at (deeds.CircleXyr n x y r) is lines = tt
-made at (deeds.CirclePoints n a b c) is lines = tt
-made at (deeds.CircleRadius n p r) is lines = tt
-made at (deeds.CircleTan n p l) is lines = tt
-made at (deeds.CircleThrough n p q) is lines = tt
-made at (deeds.CircleCorner n j a k b r) is lines = tt
-made at (deeds.Cutter v) is lines = tt
-made at (deeds.Intol v) is lines = tt
-made at (deeds.Outtol v) is lines = tt
-made at (deeds.Tool side) is lines = tt
-made at (deeds.FromXy x y z) is lines = tt
-made at (deeds.FromPoint p) is lines = tt
-made at (deeds.GotoXy x y z) is lines = tt
-made at (deeds.GotoPoint p) is lines = tt
-made at (deeds.Godlta x y z) is lines = moves_made reaches.Godlta (moved_from at x y z)
-made at (deeds.GoStart how_a a b) is lines = moves_made reaches.Start (start_position_at at how_a a b)
-made at (deeds.Contour side go drive how check) is lines = contour_made (with_side at.settings side) at.forward go how at.position (surface_in at.table drive) (surface_in at.table check)
-    (on_side_or_as_it_was at.settings side is.settings) is.position (surface_straight at.table drive is.table lines) (surface_straight at.table check is.table lines)
-made at deeds.Rapid is lines = tt
-made at deeds.Halt is lines = tt
-made at deeds.OptHalt is lines = tt
-made at deeds.EndWord is lines = tt
-made at deeds.Fini is lines = tt
-made at (deeds.Fedrat v) is lines = tt
-made at (deeds.Spindl n turn) is lines = tt
-made at deeds.SpindlOff is lines = tt
-made at (deeds.Coolnt c) is lines = tt
-made at (deeds.Loadtl n) is lines = tt
-made at deeds.Macro is lines = tt
-made at deeds.Termac is lines = tt
-made at deeds.Call is lines = tt
-made at deeds.Loopst is lines = tt
-made at deeds.Loopnd is lines = tt
-made at deeds.Jumpto is lines = tt
-made at deeds.If is lines = tt
+made at (deeds.Partno text) is = tt
+made at (deeds.Remark text) is = tt
+made at (deeds.Units units) is = tt
+made at deeds.Clprnt is = tt
+made at deeds.Nopost is = tt
+made at deeds.Machin is = tt
+made at (deeds.Assign n v) is = defined_made at (deeds.Assign n v)
+made at (deeds.PointXy n x y z) is = defined_made at (deeds.PointXy n x y z)
+made at (deeds.PointLines n a b) is = defined_made at (deeds.PointLines n a b)
+made at (deeds.PointPick n k a b) is = defined_made at (deeds.PointPick n k a b)
+made at (deeds.PointCenter n c) is = defined_made at (deeds.PointCenter n c)
+made at (deeds.LineXy n x y u v) is = defined_made at (deeds.LineXy n x y u v)
+made at (deeds.LinePoints n p q) is = defined_made at (deeds.LinePoints n p q)
+made at (deeds.LinePar n p l) is = defined_made at (deeds.LinePar n p l)
+made at (deeds.LinePerp n p l) is = defined_made at (deeds.LinePerp n p l)
+made at (deeds.LineAt n l k v) is = defined_made at (deeds.LineAt n l k v)
+made at (deeds.LineTan n p h c) is = defined_made at (deeds.LineTan n p h c)
+made at (deeds.LineTwo n h c k d) is = defined_made at (deeds.LineTwo n h c k d)
+made at (deeds.CircleXyr n x y r) is = defined_made at (deeds.CircleXyr n x y r)
+made at (deeds.CirclePoints n a b c) is = defined_made at (deeds.CirclePoints n a b c)
+made at (deeds.CircleRadius n p r) is = defined_made at (deeds.CircleRadius n p r)
+made at (deeds.CircleTan n p l) is = defined_made at (deeds.CircleTan n p l)
+made at (deeds.CircleThrough n p q) is = defined_made at (deeds.CircleThrough n p q)
+made at (deeds.CircleCorner n j a k b r) is = defined_made at (deeds.CircleCorner n j a k b r)
+made at (deeds.Cutter v) is = tt
+made at (deeds.Intol v) is = tt
+made at (deeds.Outtol v) is = tt
+made at (deeds.Tool side) is = tt
+made at (deeds.FromXy x y z) is = tt
+made at (deeds.FromPoint p) is = moves_made reaches.From (place_in at.table p)
+made at (deeds.GotoXy x y z) is = tt
+made at (deeds.GotoPoint p) is = moves_made reaches.Goto (place_in at.table p)
+made at (deeds.Godlta x y z) is = moves_made reaches.Godlta (moved_from at x y z)
+made at (deeds.GoStart how_a a b) is = moves_made reaches.Start (start_position_at at how_a a b)
+made at (deeds.Contour side go drive how check) is = contour_made (with_side at.settings side) at.forward go how at.position (line_in at.table drive) (line_in at.table check)
+    (on_side_or_as_it_was at.settings side is.settings) is.position (line_straight at.table drive is.table) (line_straight at.table check is.table)
+made at deeds.Rapid is = tt
+made at deeds.Halt is = tt
+made at deeds.OptHalt is = tt
+made at deeds.EndWord is = tt
+made at deeds.Fini is = tt
+made at (deeds.Fedrat v) is = tt
+made at (deeds.Spindl n turn) is = tt
+made at deeds.SpindlOff is = tt
+made at (deeds.Coolnt c) is = tt
+made at (deeds.Loadtl n) is = tt
+made at deeds.Macro is = tt
+made at deeds.Termac is = tt
+made at deeds.Call is = tt
+made at deeds.Loopst is = tt
+made at deeds.Loopnd is = tt
+made at deeds.Jumpto is = tt
+made at deeds.If is = tt
 
-pub lined : (at : Situation) (deed : Deed) (e : Option Effect) → IsSituation at → HasNoCircle at.table → e ≡ effect_of at deed → IfSome e IsLined
-lined at deed e is lines same = subst (λ (o : Option Effect). IfSome o IsLined) (sym same) (made at deed is lines)
-
--- no name stands for a circle behind a step either
-pub lines_behind : (at : Situation) (e : Effect) (vertices : List Pt) → HasNoCircle at.table → IsLined e → HasNoCircle (after at e vertices).table
-lines_behind at (effects.Defines n f) vertices lines lined = still_lines at.table n f lines lined
-lines_behind at (effects.Sets s said) vertices lines lined = lines
-lines_behind at (effects.Moves reach to) vertices lines lined = lines
-lines_behind at (effects.Cuts m) vertices lines lined = lines
+pub lined : (at : Situation) (deed : Deed) (e : Option Effect) → IsSituation at → e ≡ effect_of at deed → IfSome e IsLined
+lined at deed e is same = subst (λ (o : Option Effect). IfSome o IsLined) (sym same) (made at deed is)

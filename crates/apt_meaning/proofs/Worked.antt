@@ -23,6 +23,8 @@ use Rattle.apt_cldata.specs.declared.record.Record.TheVariants as records
 use Rattle.apt_meaning.specs.Situations.{first_situation, position_at}
 use Rattle.apt_meaning.specs.Motions.{motion_at}
 use Rattle.apt_meaning.specs.StartUps.{start_up_at}
+use Rattle.apt_meaning.specs.Effects.{defined}
+use Rattle.apt_meaning.specs.Refusals.{refused_definition}
 use Rattle.apt_meaning.specs.Compiled.{compilation}
 
 -- steps on the lines from the n-th on
@@ -105,7 +107,7 @@ plate_records : made plate ≡
     Ok (with_note 1 (notes.Partno (codes "SQUARE")) ++ with_note 2 (notes.Cutter (pos 50000)) ++ with_note 7 (notes.Fedrat (pos 100))
     ++ reached 8 reaches.From (position_at (neg_ℤ (pos 100000)) (neg_ℤ (pos 100000)) (pos 50000)) ++ reached 9 reaches.Start (position_at low low (pos 50000))
     ++ cut 10 bottom right high low ++ cut 11 right top high high ++ cut 12 top left low high ++ cut 13 left bottom low low ++ with_note 14 notes.Fini)
-unfolding root motion_at start_up_at
+unfolding root motion_at start_up_at refused_definition defined
 plate_records = refl
 
 -- ---- other parts
@@ -130,4 +132,24 @@ position_again = refl
 
 -- a name that stands for a number can stand for a line later
 line_again : made (deeds.Assign (codes "L1") (whole 5) ∷ edge (codes "L1") 0 0 5 0 ∷ deeds.Fini ∷ []) ≡ Ok (with_note 3 notes.Fini)
+unfolding refused_definition defined
 line_again = refl
+
+-- ---- points
+
+-- FROM and GOTO on points take their heights along
+points : made (deeds.Fedrat (whole 10) ∷ deeds.PointXy (codes "P1") (whole 1) (whole 2) (Some (whole 3)) ∷ deeds.PointXy (codes "P2") (pos 0) (whole 2) None
+    ∷ deeds.FromPoint (codes "P1") ∷ deeds.GotoPoint (codes "P2") ∷ deeds.Fini ∷ []) ≡
+    Ok (with_note 1 (notes.Fedrat (pos 100)) ++ reached 4 reaches.From (position_at (pos 100000) (pos 200000) (pos 300000))
+    ++ reached 5 reaches.Goto (position_at (pos 0) (pos 200000) (pos 0)) ++ with_note 6 notes.Fini)
+unfolding refused_definition defined
+points = refl
+
+-- a number is no point, and a refused definition is told
+no_such_point : made (deeds.Assign (codes "P1") (whole 5) ∷ deeds.FromPoint (codes "P1") ∷ deeds.Fini ∷ []) ≡ refused 2 cases.WrongKind
+unfolding refused_definition defined
+no_such_point = refl
+
+far_point : made (deeds.PointXy (codes "P1") (whole 501) (pos 0) None ∷ deeds.FromPoint (codes "P1") ∷ deeds.Fini ∷ []) ≡ refused 1 cases.OutOfRange
+unfolding refused_definition defined
+far_point = refl

@@ -1,5 +1,6 @@
 -- What a step asks for, wherever the figures and the turn that it needs are there.
-use Rattle.std.specs.Prelude.{ℕ, ℤ, pos, ◌+ℤ◌, unsigned_abs, true, List, Option, Some, None}
+use Rattle.std.specs.Prelude.{ℕ, ℤ, pos, ◌+ℤ◌, unsigned_abs, true, List, Option, Some, None, Result, Ok, Err}
+use Rattle.apt_words.specs.declared.Case.{Case}
 use Rattle.apt_words.specs.declared.Stop.{Stop}
 use Rattle.apt_words.specs.declared.Units.{Units}
 use Rattle.apt_words.specs.declared.deed.Deed.{Deed}
@@ -11,14 +12,17 @@ use Rattle.apt_cldata.specs.declared.record.Note.TheVariants as notes
 use Rattle.apt_cldata.specs.declared.record.Position.{Position}
 use Rattle.apt_cldata.specs.declared.record.Reach.{Reach}
 use Rattle.apt_cldata.specs.declared.record.Reach.TheVariants as reaches
+use Rattle.apt_defs.specs.declared.figure.Figure.{Figure}
 use Rattle.apt_defs.specs.declared.figure.Figure.TheVariants as figures
-use Rattle.apt_defs.specs.Definitions.{line_figure}
+use Rattle.apt_defs.specs.declared.figure.Definition.{Definition}
+use Rattle.apt_defs.specs.Figures.{Table, figure_named}
+use Rattle.apt_defs.specs.Definitions.{definition_of}
 use Rattle.apt_meaning.specs.declared.situation.Settings.{Settings}
 use Rattle.apt_meaning.specs.declared.situation.Situation.{Situation}
 use Rattle.apt_meaning.specs.declared.motion.Motion.{Motion}
 use Rattle.apt_meaning.specs.declared.effect.Effect.{Effect}
 use Rattle.apt_meaning.specs.declared.effect.Effect.TheVariants as effects
-use Rattle.apt_meaning.specs.Situations.{radius_of, position_at}
+use Rattle.apt_meaning.specs.Situations.{radius_of, position_at, at_height}
 use Rattle.apt_meaning.specs.Motions.{motion_at}
 use Rattle.apt_meaning.specs.StartUps.{start_up_at, start_position}
 
@@ -53,9 +57,32 @@ moved_by units x y z p = position_at (p.at.x +ℤ grid_units units x) (p.at.y +�
 abbrev pub moved_from : Situation → ℤ → ℤ → ℤ → Option Position
 moved_from at x y z = at.position >>= λ p. Some (moved_by at.settings.units x y z p)
 
+-- the point that a name stands for, with its height
+abbrev pub as_position : Figure → Option Position
+as_position (figures.Point at z) = Some (at_height z at)
+as_position (figures.Shape s) = None
+as_position figures.Scalar = None
+
+abbrev pub place_in : Table → List ℕ → Option Position
+place_in table name = figure_named table name >>= as_position
+
 abbrev pub start_position_at : Situation → Stop → List ℕ → Option (Stop × List ℕ) → Option Position
 start_position_at at how_a a None = None
 start_position_at at how_a a (Some b) = start_up_at at how_a a b.0 b.1 >>= start_position
+
+-- ---- definitions
+
+abbrev pub names : List ℕ → Result Figure Case → Option Effect
+names name (Ok f) = Some (effects.Defines name f)
+names name (Err case) = None
+
+abbrev pub defines : Option Definition → Option Effect
+defines None = None
+defines (Some d) = names d.name d.figure
+
+-- a definition gives its name a figure; a refused one asks for nothing
+unfoldable pub defined : Situation → Deed → Option Effect
+defined at deed = defines (definition_of at.settings.units at.table deed)
 
 -- ---- the table of statements; those that the compiler does not have yet ask for nothing that it knows
 
@@ -66,33 +93,33 @@ effect_of at (deeds.Units units) = says (record at.settings { units = units }) (
 effect_of at deeds.Clprnt = sets at.settings
 effect_of at deeds.Nopost = sets at.settings
 effect_of at deeds.Machin = sets at.settings
-effect_of at (deeds.Assign n v) = Some (effects.Defines n figures.Scalar)
-effect_of at (deeds.PointXy n x y z) = None
-effect_of at (deeds.PointLines n a b) = None
-effect_of at (deeds.PointPick n k a b) = None
-effect_of at (deeds.PointCenter n c) = None
-effect_of at (deeds.LineXy n x y u v) = Some (effects.Defines n (line_figure at.settings.units x y u v))
-effect_of at (deeds.LinePoints n p q) = None
-effect_of at (deeds.LinePar n p l) = None
-effect_of at (deeds.LinePerp n p l) = None
-effect_of at (deeds.LineAt n l k v) = None
-effect_of at (deeds.LineTan n p h c) = None
-effect_of at (deeds.LineTwo n h c k d) = None
-effect_of at (deeds.CircleXyr n x y r) = None
-effect_of at (deeds.CirclePoints n a b c) = None
-effect_of at (deeds.CircleRadius n p r) = None
-effect_of at (deeds.CircleTan n p l) = None
-effect_of at (deeds.CircleThrough n p q) = None
-effect_of at (deeds.CircleCorner n j a k b r) = None
+effect_of at (deeds.Assign n v) = defined at (deeds.Assign n v)
+effect_of at (deeds.PointXy n x y z) = defined at (deeds.PointXy n x y z)
+effect_of at (deeds.PointLines n a b) = defined at (deeds.PointLines n a b)
+effect_of at (deeds.PointPick n k a b) = defined at (deeds.PointPick n k a b)
+effect_of at (deeds.PointCenter n c) = defined at (deeds.PointCenter n c)
+effect_of at (deeds.LineXy n x y u v) = defined at (deeds.LineXy n x y u v)
+effect_of at (deeds.LinePoints n p q) = defined at (deeds.LinePoints n p q)
+effect_of at (deeds.LinePar n p l) = defined at (deeds.LinePar n p l)
+effect_of at (deeds.LinePerp n p l) = defined at (deeds.LinePerp n p l)
+effect_of at (deeds.LineAt n l k v) = defined at (deeds.LineAt n l k v)
+effect_of at (deeds.LineTan n p h c) = defined at (deeds.LineTan n p h c)
+effect_of at (deeds.LineTwo n h c k d) = defined at (deeds.LineTwo n h c k d)
+effect_of at (deeds.CircleXyr n x y r) = defined at (deeds.CircleXyr n x y r)
+effect_of at (deeds.CirclePoints n a b c) = defined at (deeds.CirclePoints n a b c)
+effect_of at (deeds.CircleRadius n p r) = defined at (deeds.CircleRadius n p r)
+effect_of at (deeds.CircleTan n p l) = defined at (deeds.CircleTan n p l)
+effect_of at (deeds.CircleThrough n p q) = defined at (deeds.CircleThrough n p q)
+effect_of at (deeds.CircleCorner n j a k b r) = defined at (deeds.CircleCorner n j a k b r)
 effect_of at (deeds.Cutter v) =
     says (record at.settings { radius = pos (radius_of (unsigned_abs (grid_units at.settings.units v))) }) (notes.Cutter (grid_units at.settings.units v))
 effect_of at (deeds.Intol v) = says (record at.settings { intol = grid_units at.settings.units v }) (notes.Intol (grid_units at.settings.units v))
 effect_of at (deeds.Outtol v) = says (record at.settings { outtol = grid_units at.settings.units v }) (notes.Outtol (grid_units at.settings.units v))
 effect_of at (deeds.Tool side) = sets (record at.settings { side = side })
 effect_of at (deeds.FromXy x y z) = Some (effects.Moves reaches.From (position_by at.settings.units x y z))
-effect_of at (deeds.FromPoint p) = None
+effect_of at (deeds.FromPoint p) = moves reaches.From (place_in at.table p)
 effect_of at (deeds.GotoXy x y z) = Some (effects.Moves reaches.Goto (position_by at.settings.units x y z))
-effect_of at (deeds.GotoPoint p) = None
+effect_of at (deeds.GotoPoint p) = moves reaches.Goto (place_in at.table p)
 effect_of at (deeds.Godlta x y z) = moves reaches.Godlta (moved_from at x y z)
 effect_of at (deeds.GoStart how_a a b) = moves reaches.Start (start_position_at at how_a a b)
 effect_of at (deeds.Contour side go drive how check) = cuts (motion_at at side go drive how check)

@@ -25,7 +25,7 @@ use Rattle.apt_cldata.specs.declared.record.Position.{Position}
 use Rattle.apt_meaning.specs.declared.situation.Settings.{Settings}
 use Rattle.apt_meaning.specs.declared.situation.Situation.{Situation}
 use Rattle.apt_meaning.specs.declared.motion.Motion.{Motion}
-use Rattle.apt_meaning.specs.OnLines.{on_lines}
+use Rattle.apt_meaning.specs.OnLines.{built, on_lines}
 use Rattle.apt_meaning.specs.Situations.{with_side}
 
 -- ---- the parts of a motion
@@ -45,6 +45,10 @@ as_surface figures.Scalar = None
 -- the surface that a name stands for
 abbrev pub surface_in : Table → List ℕ → Option Surface
 surface_in table name = figure_named table name >>= as_surface
+
+-- the same, where it is built
+abbrev pub line_in : Table → List ℕ → Option Surface
+line_in table name = surface_in table name >>= built
 
 -- a motion with these settings, along a drive surface that runs so against forward
 abbrev pub motion : Settings → Position → Surface → Sign → Stop → Surface → Motion
@@ -138,10 +142,10 @@ if_turned s start drive turned how check = if is_zero turned then None else Some
 abbrev pub turn_at : Situation → Position → Surface → Go → Sign
 turn_at at start drive go = turn at.forward (tangent drive start.at) go
 
--- the motion that a contour statement asks for, where its names stand for surfaces and its sense is there
+-- the motion that a contour statement asks for, where its names stand for lines and its sense is there
 unfoldable pub motion_at : Situation → Option Side → Go → List ℕ → Stop → List ℕ → Option Motion
 motion_at at side go drive how check = do
   start ← at.position
-  drive ← surface_in at.table drive
-  check ← surface_in at.table check
+  drive ← line_in at.table drive
+  check ← line_in at.table check
   if_turned (with_side at.settings side) start drive (turn_at at start drive go) how check

@@ -5,7 +5,7 @@ use Rattle.apt_words.specs.declared.deed.Step.{Step}
 use Rattle.apt_cldata.specs.declared.record.Record.{Record}
 use Rattle.apt_cldata.specs.declared.record.Record.TheVariants as records
 use Rattle.apt_cldata.specs.declared.record.Position.{Position}
-use Rattle.apt_defs.specs.Definitions.{table_with}
+use Rattle.apt_defs.specs.Figures.{table_with}
 use Rattle.apt_offset.specs.Turns.{tangent}
 use Rattle.apt_stop.specs.Nearness.{heading}
 use Rattle.apt_certify.specs.Legs.{IsBounded, IsLegal, last_of}

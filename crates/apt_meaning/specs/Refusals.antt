@@ -1,5 +1,5 @@
 -- The manual's table: for each statement the conditions that refuse it, in order, and their cases.
-use Rattle.std.specs.Prelude.{ℕ, ℤ, pos, int_lt, int_le, ◌&&◌, not, Bool, true, false, is_some, is_none, List, [], ◌∷◌, Option, Some, None}
+use Rattle.std.specs.Prelude.{ℕ, ℤ, pos, int_lt, int_le, ◌&&◌, not, Bool, true, false, is_some, is_none, List, [], ◌∷◌, Option, Some, None, Result, Ok, Err}
 use Rattle.apt_num.specs.declared.Sign.{Sign}
 use Rattle.apt_words.specs.declared.Case.{Case}
 use Rattle.apt_words.specs.declared.Case.TheVariants as cases
@@ -14,7 +14,9 @@ use Rattle.apt_words.specs.Rows.{Row, first_of}
 use Rattle.apt_scalar.specs.Scalars.{grid_units, tenths}
 use Rattle.apt_plane.specs.declared.figures.Surface.{Surface}
 use Rattle.apt_defs.specs.declared.figure.Figure.{Figure}
-use Rattle.apt_defs.specs.Definitions.{out_of_reach, line_cases as definition_cases}
+use Rattle.apt_defs.specs.declared.figure.Definition.{Definition}
+use Rattle.apt_defs.specs.Definitions.{definition_of}
+use Rattle.apt_defs.specs.Forms.{is_in_reach}
 use Rattle.apt_defs.specs.Figures.{Table, figure_named}
 use Rattle.apt_offset.specs.Turns.{is_zero}
 use Rattle.apt_offset.specs.Targets.{lacks_room}
@@ -25,11 +27,11 @@ use Rattle.apt_meaning.specs.declared.situation.Settings.{Settings}
 use Rattle.apt_meaning.specs.declared.situation.Situation.{Situation}
 use Rattle.apt_meaning.specs.declared.motion.Motion.{Motion}
 use Rattle.apt_meaning.specs.declared.motion.StartUp.{StartUp}
-use Rattle.apt_meaning.specs.OnLines.{on_lines}
+use Rattle.apt_meaning.specs.OnLines.{built, on_lines}
 use Rattle.apt_meaning.specs.Situations.{has_feed, lacks_feed, with_side}
-use Rattle.apt_meaning.specs.Motions.{motion, is_too_fine, as_surface, surface_in, turn_at, track_of, stop_of, starts_on_check, line_offset, stop_offset}
+use Rattle.apt_meaning.specs.Motions.{motion, is_too_fine, as_surface, surface_in, line_in, turn_at, track_of, stop_of, starts_on_check, line_offset, stop_offset}
 use Rattle.apt_meaning.specs.StartUps.{start_up_at, start_up_cases}
-use Rattle.apt_meaning.specs.Effects.{position_by, moved_by}
+use Rattle.apt_meaning.specs.Effects.{as_position, position_by, moved_by}
 
 -- ---- numbers and names
 
@@ -39,6 +41,9 @@ is_up_to most g = int_le (pos 0) g && int_le g most
 
 abbrev pub length_cases : ℤ → ℤ → List Row
 length_cases most g = (not (is_up_to most g), cases.OutOfRange) ∷ []
+
+abbrev pub out_of_reach : ℤ → Row
+out_of_reach g = (not (is_in_reach g), cases.OutOfRange)
 
 -- a position is within the coordinate limit
 abbrev pub position_cases : Position → List Row → List Row
@@ -56,8 +61,43 @@ is_other_kind (Some figure) = is_none (as_surface figure)
 abbrev pub is_no_surface : Table → List ℕ → Bool
 is_no_surface table name = is_other_kind (figure_named table name)
 
+-- it stands for a surface that is not built
+abbrev pub is_left_out : Option Surface → Bool
+is_left_out None = false
+is_left_out (Some surface) = is_none (built surface)
+
+abbrev pub is_not_built : Table → List ℕ → Bool
+is_not_built table name = is_left_out (surface_in table name)
+
+-- it stands for something that is no point
+abbrev pub is_no_place : Option Figure → Bool
+is_no_place None = false
+is_no_place (Some figure) = is_none (as_position figure)
+
+abbrev pub is_no_point : Table → List ℕ → Bool
+is_no_point table name = is_no_place (figure_named table name)
+
+-- the name of a point
+abbrev pub point_cases : Table → List ℕ → List Row → List Row
+point_cases table name more = (is_undefined table name, cases.Undefined) ∷ (is_no_point table name, cases.WrongKind) ∷ more
+
+-- the name of a surface
 abbrev pub name_cases : Table → List ℕ → List Row → List Row
 name_cases table name more = (is_undefined table name, cases.Undefined) ∷ (is_no_surface table name, cases.WrongKind) ∷ more
+
+-- ---- definitions
+
+abbrev pub refused : Result Figure Case → List Row
+refused (Ok f) = []
+refused (Err case) = (true, case) ∷ []
+
+abbrev pub refused_if_any : Option Definition → List Row
+refused_if_any None = []
+refused_if_any (Some d) = refused d.figure
+
+-- a definition is refused by its own first case
+unfoldable pub refused_definition : Situation → Deed → List Row
+refused_definition at deed = refused_if_any (definition_of at.settings.units at.table deed)
 
 -- ---- moves
 
@@ -69,12 +109,13 @@ abbrev pub start_cases : Option StartUp → List Row
 start_cases None = []
 start_cases (Some u) = start_up_cases u
 
--- GO: both names are there before either's kind is tried
+-- GO: both names are there before either's kind is tried, and both are surfaces before either is built
 abbrev pub go_cases : Situation → Stop → List ℕ → Stop → List ℕ → List Row
 go_cases at how_a a how_b b =
     (is_none at.position, cases.NoFrom)
     ∷ (is_undefined at.table a, cases.Undefined) ∷ (is_undefined at.table b, cases.Undefined)
     ∷ (is_no_surface at.table a, cases.WrongKind) ∷ (is_no_surface at.table b, cases.WrongKind)
+    ∷ (is_not_built at.table a, cases.NotBuilt) ∷ (is_not_built at.table b, cases.NotBuilt)
     ∷ (lacks_feed at.settings, cases.NoFeed) ∷ start_cases (start_up_at at how_a a how_b b)
 
 -- ---- contours
@@ -88,7 +129,7 @@ is_tanto stops.Tanto = true
 -- the stop of a motion on its track; no line touches a line
 abbrev pub stop_cases : Motion → Surface → Surface → List Row
 stop_cases m drive check =
-    on_lines ((true, cases.NotBuilt) ∷ []) drive check (λ d e. (is_tanto m.how, cases.Parallel) ∷ line_cases m.start.at d (line_offset m) m.sense e (stop_offset m))
+    on_lines [] drive check (λ d e. (is_tanto m.how, cases.Parallel) ∷ line_cases m.start.at d (line_offset m) m.sense e (stop_offset m))
 
 abbrev pub motion_cases : Motion → List Row
 motion_cases m =
@@ -97,7 +138,7 @@ motion_cases m =
     ∷ (not (is_near (track_of m) off_track m.start.at), cases.OffDrive)
     ∷ (starts_on_check m, cases.OnCheck) ∷ stop_cases m m.drive m.check
 
--- a contour on known surfaces, whose drive surface runs so against forward
+-- a contour on lines, whose drive surface runs so against forward
 abbrev pub turned_cases : Settings → Position → Surface → Sign → Stop → Surface → List Row
 turned_cases s start drive turned how check =
     (s.rapid, cases.RapidContour) ∷ (not (has_feed s), cases.NoFeed) ∷ (is_too_fine s, cases.TooFine)
@@ -114,7 +155,8 @@ abbrev pub contour_cases : Situation → Option Side → Go → List ℕ → Sto
 contour_cases at side go drive how check =
     (is_none at.position, cases.NoFrom)
     ∷ name_cases at.table drive (name_cases at.table check
-    (surface_cases at side go how at.position (surface_in at.table drive) (surface_in at.table check)))
+    ((is_not_built at.table drive, cases.NotBuilt) ∷ (is_not_built at.table check, cases.NotBuilt)
+    ∷ surface_cases at side go how at.position (line_in at.table drive) (line_in at.table check)))
 
 -- ---- the table of statements
 
@@ -135,32 +177,32 @@ cases_of at (deeds.Units units) = []
 cases_of at deeds.Clprnt = []
 cases_of at deeds.Nopost = []
 cases_of at deeds.Machin = []
-cases_of at (deeds.Assign n v) = []
-cases_of at (deeds.PointXy n x y z) = not_built
-cases_of at (deeds.PointLines n a b) = not_built
-cases_of at (deeds.PointPick n k a b) = not_built
-cases_of at (deeds.PointCenter n c) = not_built
-cases_of at (deeds.LineXy n x y u v) = definition_cases at.settings.units x y u v
-cases_of at (deeds.LinePoints n p q) = not_built
-cases_of at (deeds.LinePar n p l) = not_built
-cases_of at (deeds.LinePerp n p l) = not_built
-cases_of at (deeds.LineAt n l k v) = not_built
-cases_of at (deeds.LineTan n p h c) = not_built
-cases_of at (deeds.LineTwo n h c k d) = not_built
-cases_of at (deeds.CircleXyr n x y r) = not_built
-cases_of at (deeds.CirclePoints n a b c) = not_built
-cases_of at (deeds.CircleRadius n p r) = not_built
-cases_of at (deeds.CircleTan n p l) = not_built
-cases_of at (deeds.CircleThrough n p q) = not_built
-cases_of at (deeds.CircleCorner n j a k b r) = not_built
+cases_of at (deeds.Assign n v) = refused_definition at (deeds.Assign n v)
+cases_of at (deeds.PointXy n x y z) = refused_definition at (deeds.PointXy n x y z)
+cases_of at (deeds.PointLines n a b) = refused_definition at (deeds.PointLines n a b)
+cases_of at (deeds.PointPick n k a b) = refused_definition at (deeds.PointPick n k a b)
+cases_of at (deeds.PointCenter n c) = refused_definition at (deeds.PointCenter n c)
+cases_of at (deeds.LineXy n x y u v) = refused_definition at (deeds.LineXy n x y u v)
+cases_of at (deeds.LinePoints n p q) = refused_definition at (deeds.LinePoints n p q)
+cases_of at (deeds.LinePar n p l) = refused_definition at (deeds.LinePar n p l)
+cases_of at (deeds.LinePerp n p l) = refused_definition at (deeds.LinePerp n p l)
+cases_of at (deeds.LineAt n l k v) = refused_definition at (deeds.LineAt n l k v)
+cases_of at (deeds.LineTan n p h c) = refused_definition at (deeds.LineTan n p h c)
+cases_of at (deeds.LineTwo n h c k d) = refused_definition at (deeds.LineTwo n h c k d)
+cases_of at (deeds.CircleXyr n x y r) = refused_definition at (deeds.CircleXyr n x y r)
+cases_of at (deeds.CirclePoints n a b c) = refused_definition at (deeds.CirclePoints n a b c)
+cases_of at (deeds.CircleRadius n p r) = refused_definition at (deeds.CircleRadius n p r)
+cases_of at (deeds.CircleTan n p l) = refused_definition at (deeds.CircleTan n p l)
+cases_of at (deeds.CircleThrough n p q) = refused_definition at (deeds.CircleThrough n p q)
+cases_of at (deeds.CircleCorner n j a k b r) = refused_definition at (deeds.CircleCorner n j a k b r)
 cases_of at (deeds.Cutter v) = length_cases (pos 1000000) (grid_units at.settings.units v)
 cases_of at (deeds.Intol v) = length_cases (pos 10000) (grid_units at.settings.units v)
 cases_of at (deeds.Outtol v) = length_cases (pos 10000) (grid_units at.settings.units v)
 cases_of at (deeds.Tool side) = []
 cases_of at (deeds.FromXy x y z) = (is_some at.position, cases.FromAgain) ∷ position_cases (position_by at.settings.units x y z) []
-cases_of at (deeds.FromPoint p) = not_built
+cases_of at (deeds.FromPoint p) = (is_some at.position, cases.FromAgain) ∷ point_cases at.table p []
 cases_of at (deeds.GotoXy x y z) = move_cases at.settings (Some (position_by at.settings.units x y z))
-cases_of at (deeds.GotoPoint p) = not_built
+cases_of at (deeds.GotoPoint p) = point_cases at.table p ((lacks_feed at.settings, cases.NoFeed) ∷ [])
 cases_of at (deeds.Godlta x y z) = godlta_cases at x y z
 cases_of at (deeds.GoStart how_a a b) = start_up_or_not_built at how_a a b
 cases_of at (deeds.Contour side go drive how check) = contour_cases at side go drive how check

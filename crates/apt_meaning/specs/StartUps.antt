@@ -1,5 +1,5 @@
 -- Start-up on two surfaces.
-use Rattle.std.specs.Prelude.{ℤ, ◌&&◌, not, Bool, true, List, [], ◌∷◌, ℕ, Option, Some, None, is_none, Result, Ok, Err, if◌then◌else◌}
+use Rattle.std.specs.Prelude.{ℤ, ◌&&◌, not, Bool, List, [], ◌∷◌, ℕ, Option, Some, None, is_none, Result, Ok, Err, if◌then◌else◌}
 use Rattle.apt_num.specs.declared.Sign.{Sign}
 use Rattle.apt_num.specs.declared.Sign.TheVariants as signs
 use Rattle.apt_words.specs.declared.Stop.{Stop}
@@ -20,14 +20,14 @@ use Rattle.apt_meaning.specs.OnLines.{on_lines}
 use Rattle.apt_meaning.specs.declared.situation.Situation.{Situation}
 use Rattle.apt_meaning.specs.declared.motion.StartUp.{StartUp}
 use Rattle.apt_meaning.specs.Situations.{at_height}
-use Rattle.apt_meaning.specs.Motions.{surface_in}
+use Rattle.apt_meaning.specs.Motions.{line_in}
 
--- a start-up where the tool has a position and the names stand for surfaces
+-- a start-up where the tool has a position and the names stand for lines
 unfoldable pub start_up_at : Situation → Stop → List ℕ → Stop → List ℕ → Option StartUp
 start_up_at at how_a a how_b b = do
   start ← at.position
-  a ← surface_in at.table a
-  b ← surface_in at.table b
+  a ← line_in at.table a
+  b ← line_in at.table b
   Some (record { start = start; how_a = how_a; a = a; how_b = how_b; b = b; radius = at.settings.radius })
 
 -- the place of the cutter at a surface on which it starts
@@ -52,7 +52,7 @@ start_point u = meeting_of u u.a u.b
 
 abbrev pub meeting_cases : StartUp → Surface → Surface → List Row
 meeting_cases u a b =
-    on_lines ((true, cases.NotBuilt) ∷ []) a b (λ l k. (are_parallel l k, cases.Parallel) ∷ (not (is_in_range (start_point u)), cases.OutOfRange) ∷ [])
+    on_lines [] a b (λ l k. (are_parallel l k, cases.Parallel) ∷ (not (is_in_range (start_point u)), cases.OutOfRange) ∷ [])
 
 -- room at both surfaces, then whether the position is on either, then their meeting
 abbrev pub start_up_cases : StartUp → List Row

@@ -8,6 +8,7 @@ ghost use Rattle.apt_canon.specs.Scale as scale;
 ghost use Rattle.apt_cldata.specs.Ranges.{IsPosition};
 ghost use Rattle.apt_meaning.specs.Ranges.{IsStartUp};
 ghost use Rattle.apt_meaning.specs.StartUps as start_ups;
+ghost use Rattle.apt_meaning.specs.Straight.{IsStraightStartUp};
 
 use crate::StartUp;
 use apt_canon::{FormFault, line_line};
@@ -21,10 +22,9 @@ impl StartUp {
     ///
     /// # Errors
     ///
-    /// The first case that refuses it: `NoRoom`, `OnCheck`, `Parallel`, `OutOfRange`; `NotBuilt` behind `OnCheck`
-    /// where a surface is a circle.
+    /// The first case that refuses it: `NoRoom`, `OnCheck`, `Parallel`, `OutOfRange`.
     pub fn point(&self) -> Result<Pt, Case>
-        requires { IsStartUp self.now }
+        requires { IsStraightStartUp self.now }
         ensures { result ≡ unless (start_ups.start_up_cases self.now) (start_ups.start_point self.now) }
     {
         if has_no_room(self, self.how_a, &self.a) {
@@ -71,7 +71,7 @@ fn has_no_room(u: &StartUp, how: Stop, surface: &Surface) -> bool
 
 /// Where its moved surfaces meet.
 fn meeting(u: &StartUp) -> Result<Pt, Case>
-    requires { IsStartUp u.now }
+    requires { IsStraightStartUp u.now }
     ensures { result ≡ unless (start_ups.meeting_cases u.now u.now.a u.now.b) (start_ups.start_point u.now) }
 {
     match (&u.a, &u.b) {
@@ -80,7 +80,7 @@ fn meeting(u: &StartUp) -> Result<Pt, Case>
             let off_b = start_offset(u, u.how_b, &u.b);
             lines_meeting(a, off_a, b, off_b)
         }
-        (Surface::Line(_), Surface::Circ(_)) | (Surface::Circ(_), _) => Err(Case::NotBuilt),
+        (Surface::Line(_), Surface::Circ(_)) | (Surface::Circ(_), _) => unreachable!(),
     }
 }
 

@@ -1,10 +1,15 @@
-//! The surfaces of names.
+//! The surfaces and points of names.
 
 ghost use Rattle.std.specs.Prelude.{◌≡◌, IfSome};
 ghost use Rattle.apt_plane.specs.Ranges.{IsSurface};
+ghost use Rattle.apt_certify.specs.Jobs.{IsStraight};
+ghost use Rattle.apt_cldata.specs.Ranges.{IsPosition};
 ghost use Rattle.apt_defs.specs.Figures.{IsFigure};
+ghost use Rattle.apt_meaning.specs.Effects as asking;
 ghost use Rattle.apt_meaning.specs.Motions as motions;
+ghost use Rattle.apt_meaning.specs.OnLines as lines;
 
+use apt_cldata::Position;
 use apt_defs::{Figure, Table};
 use apt_plane::Surface;
 use apt_words::Symbol;
@@ -21,13 +26,62 @@ pub fn surface_of(figure: Figure) -> Option<Surface>
     }
 }
 
+/// A surface that is built so far: a line.
+#[tactic(auto, using(crate::proofs::Straight::straight_surfaces))]
+pub fn built(surface: Surface) -> Option<Surface>
+    requires { IsSurface surface }
+    ensures value { result ≡ lines.built surface }
+    ensures straight { IfSome result IsStraight }
+    ensures range { IfSome result IsSurface }
+{
+    match surface {
+        Surface::Line(line) => Some(Surface::Line(line)),
+        Surface::Circ(_) => None,
+    }
+}
+
 /// The surface that a name stands for.
-pub fn surface_in(table: &Table, name: &Symbol) -> Option<Surface>
+fn surface_in(table: &Table, name: &Symbol) -> Option<Surface>
     ensures value { result ≡ motions.surface_in table.now name.now }
     ensures range { IfSome result IsSurface }
 {
     match table.get(name) {
         None => None,
         Some(figure) => surface_of(figure),
+    }
+}
+
+/// The line that a name stands for.
+pub fn line_in(table: &Table, name: &Symbol) -> Option<Surface>
+    ensures value { result ≡ motions.line_in table.now name.now }
+    ensures straight { IfSome result IsStraight }
+    ensures range { IfSome result IsSurface }
+{
+    match surface_in(table, name) {
+        None => None,
+        Some(surface) => built(surface),
+    }
+}
+
+/// The position that a figure is: a point with its height.
+pub fn position_of(figure: Figure) -> Option<Position>
+    requires { IsFigure figure }
+    ensures value { result ≡ asking.as_position figure }
+    ensures range { IfSome result IsPosition }
+{
+    match figure {
+        Figure::Point { at, z } => Some(Position { at, z }),
+        Figure::Shape(_) | Figure::Scalar => None,
+    }
+}
+
+/// The point that a name stands for, with its height.
+pub fn place_in(table: &Table, name: &Symbol) -> Option<Position>
+    ensures value { result ≡ asking.place_in table.now name.now }
+    ensures range { IfSome result IsPosition }
+{
+    match table.get(name) {
+        None => None,
+        Some(figure) => position_of(figure),
     }
 }
