@@ -18,6 +18,8 @@ use Rattle.apt_cldata.specs.Ranges.{AreRecords, vertex_count}
 use Rattle.apt_cldata.specs.declared.record.Record.{Record}
 use Rattle.apt_meaning.specs.Situations.{first_situation, position_at}
 use Rattle.apt_meaning.specs.Motions.{motion_at}
+use Rattle.apt_meaning.specs.Effects.{defined}
+use Rattle.apt_meaning.specs.Refusals.{refused_definition}
 use Rattle.apt_meaning.specs.Compiled.{compilation}
 
 abbrev step : ℕ → Deed → Step
@@ -48,7 +50,7 @@ own =
     ∷ records.Check (line (pos 500000) (pos 0) (pos 500000)) stops.Past ∷ records.Contour (position (pos 525000) ∷ []) ∷ []
 
 pub edge_passes : (steps : List Step) → steps ≡ edge → (rs : List Record) × (compilation first_situation steps ≡ Ok rs)
-unfolding root motion_at
+unfolding root motion_at refused_definition defined
 edge_passes steps e = (own, ap (compilation first_situation) e)
 
 -- ---- parts of records

@@ -12,10 +12,12 @@ use Rattle.apt_defs.specs.declared.figure.Figure.{Figure}
 use Rattle.apt_defs.specs.declared.figure.Figure.TheVariants as figures
 use Rattle.apt_defs.specs.Figures.{Table, figure_named}
 use Rattle.apt_meaning.specs.declared.situation.Situation.{Situation}
+use Rattle.apt_meaning.specs.OnLines.{built}
 use Rattle.apt_meaning.specs.Situations.{lacks_feed}
 use Rattle.apt_meaning.specs.Motions.{as_surface, surface_in}
 use Rattle.apt_meaning.specs.StartUps.{start_up_at, start_up_cases}
-use Rattle.apt_meaning.specs.Refusals.{position_cases, is_undefined, is_other_kind, is_no_surface, name_cases, go_cases}
+use Rattle.apt_meaning.specs.Refusals.{position_cases, is_undefined, is_other_kind, is_no_surface, point_cases, name_cases, go_cases}
+use Rattle.apt_motion.specs.Finding.{go_cases_on}
 
 -- ---- what refuses a value
 
@@ -46,6 +48,13 @@ pub name_refused : (table : Table) (name : List ℕ) (more : List Row) (case : C
     → first_of (name_cases table name more) ≡ Some case
 name_refused table name more case e = first_append (name_cases table name []) more ∙ ap (λ (f : Option Case). option_or f (first_of more)) e
 
+pub point_refused : (table : Table) (name : List ℕ) (more : List Row) (case : Case) → first_of (point_cases table name []) ≡ Some case
+    → first_of (point_cases table name more) ≡ Some case
+point_refused table name more case e = first_append (point_cases table name []) more ∙ ap (λ (f : Option Case). option_or f (first_of more)) e
+
+pub point_passed : (table : Table) (name : List ℕ) (more : List Row) → first_of (point_cases table name []) ≡ None → first_of (point_cases table name more) ≡ first_of more
+point_passed table name more e = first_append (point_cases table name []) more ∙ ap (λ (f : Option Case). option_or f (first_of more)) e
+
 -- ---- a name that stands for a surface
 
 known : (o : Option Figure) (s : Surface) → o >>= as_surface ≡ Some s → (is_none o ≡ false) × (is_other_kind o ≡ false)
@@ -57,11 +66,15 @@ known (Some figures.Scalar) s e = absurd cc
 pub known_surface : (table : Table) (name : List ℕ) (s : Surface) → surface_in table name ≡ Some s → (is_undefined table name ≡ false) × (is_no_surface table name ≡ false)
 known_surface table name s e = known (figure_named table name) s e
 
--- ---- a start-up that no condition on names and feed refuses
+-- ---- a start-up on known surfaces, and one that no condition on names and feed refuses
 
-pub go_passed : (at : Situation) (how_a : Stop) (a : List ℕ) (how_b : Stop) (b : List ℕ) (start : Position) (f g : Figure) (d e : Surface)
+pub go_known : (at : Situation) (how_a : Stop) (a : List ℕ) (how_b : Stop) (b : List ℕ) (start : Position) (f g : Figure) (d e : Surface)
     → at.position ≡ Some start → figure_named at.table a ≡ Some f → figure_named at.table b ≡ Some g → as_surface f ≡ Some d → as_surface g ≡ Some e
-    → lacks_feed at.settings ≡ false
-    → first_of (go_cases at how_a a how_b b) ≡ first_of (start_up_cases (record { start = start; how_a = how_a; a = d; how_b = how_b; b = e; radius = at.settings.radius }))
+    → first_of (go_cases at how_a a how_b b) ≡ first_of (go_cases_on at start how_a d how_b e)
 unfolding start_up_at
-go_passed at how_a a how_b b start f g d e here is_f is_g on_d on_e fed = rw (here, is_f, is_g, on_d, on_e, fed) refl
+go_known at how_a a how_b b start f g d e here is_f is_g on_d on_e = rw (here, is_f, is_g, on_d, on_e) refl
+
+pub go_passed : (at : Situation) (start : Position) (how_a : Stop) (d : Surface) (how_b : Stop) (e x y : Surface)
+    → built d ≡ Some x → built e ≡ Some y → lacks_feed at.settings ≡ false
+    → first_of (go_cases_on at start how_a d how_b e) ≡ first_of (start_up_cases (record { start = start; how_a = how_a; a = x; how_b = how_b; b = y; radius = at.settings.radius }))
+go_passed at start how_a d how_b e x y on_d on_e fed = rw (on_d, on_e, fed) refl

@@ -1,12 +1,13 @@
 -- A contour that no case refuses is cut to its contact.
-use Rattle.std.proofs.Common.{◌≡◌, ℕ, List, [], Option, Some, None, Result, Ok, Err, refl}
+use Rattle.std.proofs.Common.{◌≡◌, ℕ, List, [], ◌∷◌, Option, Some, None, Result, Ok, Err, refl}
 use Rattle.apt_num.specs.declared.Sign.{Sign}
 use Rattle.apt_words.specs.declared.Case.{Case}
+use Rattle.apt_words.specs.declared.Case.TheVariants as cases
 use Rattle.apt_words.specs.declared.Go.{Go}
 use Rattle.apt_words.specs.declared.Side.{Side}
 use Rattle.apt_words.specs.declared.Stop.{Stop}
 use Rattle.apt_words.specs.declared.deed.Deed.TheVariants as deeds
-use Rattle.apt_words.specs.Rows.{first_of, unless, unless_case}
+use Rattle.apt_words.specs.Rows.{Row, first_of, unless, unless_case}
 use Rattle.apt_plane.specs.declared.figures.Pt.{Pt}
 use Rattle.apt_plane.specs.declared.figures.Surface.{Surface}
 use Rattle.apt_cldata.specs.declared.record.Position.{Position}
@@ -14,14 +15,15 @@ use Rattle.apt_meaning.specs.declared.situation.Settings.{Settings}
 use Rattle.apt_meaning.specs.declared.motion.Motion.{Motion}
 use Rattle.apt_meaning.specs.declared.situation.Situation.{Situation}
 use Rattle.apt_meaning.specs.declared.effect.Effect.TheVariants as effects
+use Rattle.apt_meaning.specs.OnLines.{built}
 use Rattle.apt_meaning.specs.Situations.{with_side}
-use Rattle.apt_meaning.specs.Motions.{surface_in, motion, motion_at, turn_at, contact, if_turned}
+use Rattle.apt_meaning.specs.Motions.{surface_in, line_in, motion, motion_at, turn_at, contact, if_turned}
 use Rattle.apt_meaning.specs.Effects.{cuts, effect_of}
-use Rattle.apt_meaning.specs.Refusals.{name_cases, motion_cases, turned_cases, surface_cases, refusal_of}
+use Rattle.apt_meaning.specs.Refusals.{is_not_built, name_cases, motion_cases, turned_cases, surface_cases, refusal_of}
 use Rattle.apt_meaning.specs.Compiled.{asked}
 use Rattle.apt_meaning.proofs.Refused.{first_none}
 use Rattle.apt_motion.specs.declared.found.Found.{Found}
-use Rattle.apt_motion.specs.Finding.{IsFound, cut_of}
+use Rattle.apt_motion.specs.Finding.{IsFound, cut_of, motion_on, contour_cases_on}
 use Rattle.apt_motion.proofs.Cases.{name_refused, known_surface}
 
 -- ---- a motion with its end
@@ -61,28 +63,38 @@ turned_found s start drive turned how check =
     cut_or_refused (first_of (turned_cases s start drive turned how check)) (if_turned s start drive turned how check) (motion s start drive turned how check)
     (turned_there s start drive turned how check)
 
-pub contour_found : (at : Situation) (side : Option Side) (go : Go) (drive : List ℕ) (how : Stop) (check : List ℕ) (start : Position) (d e : Surface)
+-- on known surfaces
+pub contour_found : (at : Situation) (side : Option Side) (go : Go) (drive : List ℕ) (how : Stop) (check : List ℕ) (start : Position) (d e : Surface) (found : Result Found Case)
     → at.position ≡ Some start → surface_in at.table drive ≡ Some d → surface_in at.table check ≡ Some e
-    → IsFound (asked (refusal_of at (deeds.Contour side go drive how check)) (effect_of at (deeds.Contour side go drive how check)))
-    (turned_to (with_side at.settings side) start d (turn_at at start d go) how e)
+    → IsFound (asked (first_of (contour_cases_on at side go start d how e)) (cuts (motion_on at side go start d how e))) found
+    → IsFound (asked (refusal_of at (deeds.Contour side go drive how check)) (effect_of at (deeds.Contour side go drive how check))) found
 unfolding motion_at
-contour_found at side go drive how check start d e here on_d on_e =
+contour_found at side go drive how check start d e found here on_d on_e is =
     let known_d = known_surface at.table drive d on_d in
     let known_e = known_surface at.table check e on_e in
-    rw (here, known_d.0, known_d.1, known_e.0, known_e.1, on_d, on_e) (turned_found (with_side at.settings side) start d (turn_at at start d go) how e)
+    rw (here, known_d.0, known_d.1, known_e.0, known_e.1, on_d, on_e) is
+
+-- on lines
+pub lines_found : (at : Situation) (side : Option Side) (go : Go) (how : Stop) (start : Position) (d e x y : Surface) (found : Result Found Case)
+    → built d ≡ Some x → built e ≡ Some y → found ≡ turned_to (with_side at.settings side) start x (turn_at at start x go) how y
+    → IsFound (asked (first_of (contour_cases_on at side go start d how e)) (cuts (motion_on at side go start d how e))) found
+lines_found at side go how start d e x y found on_d on_e is = rw (on_d, on_e, is) (turned_found (with_side at.settings side) start x (turn_at at start x go) how y)
 
 -- ---- a contour with a name that stands for no surface
+
+-- the rows behind those of both names
+abbrev behind_names : Situation → Option Side → Go → List ℕ → Stop → List ℕ → Position → List Row
+behind_names at side go drive how check start =
+    (is_not_built at.table drive, cases.NotBuilt) ∷ (is_not_built at.table check, cases.NotBuilt) ∷ surface_cases at side go how (Some start) (line_in at.table drive) (line_in at.table check)
 
 pub drive_refused : (at : Situation) (side : Option Side) (go : Go) (drive : List ℕ) (how : Stop) (check : List ℕ) (start : Position) (case : Case)
     → at.position ≡ Some start → first_of (name_cases at.table drive []) ≡ Some case → refusal_of at (deeds.Contour side go drive how check) ≡ Some case
 drive_refused at side go drive how check start case here refused =
-    let more = surface_cases at side go how (Some start) (surface_in at.table drive) (surface_in at.table check) in
-    rw here (name_refused at.table drive (name_cases at.table check more) case refused)
+    rw here (name_refused at.table drive (name_cases at.table check (behind_names at side go drive how check start)) case refused)
 
 pub check_refused : (at : Situation) (side : Option Side) (go : Go) (drive : List ℕ) (how : Stop) (check : List ℕ) (start : Position) (d : Surface) (case : Case)
     → at.position ≡ Some start → surface_in at.table drive ≡ Some d → first_of (name_cases at.table check []) ≡ Some case
     → refusal_of at (deeds.Contour side go drive how check) ≡ Some case
 check_refused at side go drive how check start d case here on_d refused =
     let known = known_surface at.table drive d on_d in
-    let more = surface_cases at side go how (Some start) (surface_in at.table drive) (surface_in at.table check) in
-    rw (here, known.0, known.1) (name_refused at.table check more case refused)
+    rw (here, known.0, known.1) (name_refused at.table check (behind_names at side go drive how check start) case refused)

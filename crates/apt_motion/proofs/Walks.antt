@@ -20,12 +20,9 @@ use Rattle.apt_meaning.specs.Situations.{first_situation}
 use Rattle.apt_meaning.specs.Records.{FollowsLegally, records_of, after}
 use Rattle.apt_meaning.specs.Compiled.{ends_of, with_front, asked, or_refused, compilation}
 use Rattle.apt_meaning.specs.Ranges.{IsSituation, IsEffect}
-use Rattle.apt_meaning.specs.Straight.{HasNoCircle, IsLined}
 use Rattle.apt_meaning.specs.Vertices.{HasIn}
 use Rattle.apt_meaning.proofs.Asked.{answered}
 use Rattle.apt_meaning.proofs.Kept.{kept, first_situation-IsSituation}
-use Rattle.apt_meaning.proofs.Said.{of_some}
-use Rattle.apt_meaning.proofs.Straight.{made, lines_behind}
 use Rattle.apt_meaning.proofs.Walk.{same_some, compiled_follows}
 use Rattle.apt_motion.specs.declared.runs.RunError.{RunError}
 use Rattle.apt_motion.specs.Ends.{Ends}
@@ -58,7 +55,6 @@ pub record IsFit (at : Situation) (e : Effect) : Type 0 where
   pub good : IsEffect e
   pub ends : HasIn e (ends_of e)
   pub behind : IsSituation (after at e (ends_of e))
-  pub lines : HasNoCircle (after at e (ends_of e)).table
 
 same_ok : (d e : Effect) → ◌≡◌ {A = Result Effect Case} (Ok d) (Ok e) → d ≡ e
 same_ok d e h = cc
@@ -71,16 +67,15 @@ asked_fine None None e h = absurd (no_ok _ e h)
 asked_fine None (Some d) e h = (refl, ap Some (same_ok d e h))
 asked_fine (Some case) o e h = absurd (no_ok case e h)
 
-pub fit : (at : Situation) (deed : Deed) (e : Effect) → IsSituation at → HasNoCircle at.table → HasScalars deed → DeedHasText deed
+pub fit : (at : Situation) (deed : Deed) (e : Effect) → IsSituation at → HasScalars deed → DeedHasText deed
     → asked (refusal_of at deed) (effect_of at deed) ≡ Ok e → IsFit at e
-fit at deed e is lines scalars worded does =
+fit at deed e is scalars worded does =
     let h = asked_fine (refusal_of at deed) (effect_of at deed) e does in
     let a = answered at deed is scalars worded h.0 in
     let fits : IsFit at a.e = record {
       good = a.good;
       ends = a.ends;
       behind = kept at a.e (ends_of a.e) is a.good a.ends;
-      lines = lines_behind at a.e (ends_of a.e) lines (of_some IsLined (effect_of at deed) a.e a.asked (made at deed is lines));
     } in
     subst (IsFit at) (same_some a.e e (sym a.asked ∙ h.1)) fits
 

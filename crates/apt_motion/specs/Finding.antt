@@ -1,21 +1,67 @@
 -- What the compiling pass finds of a step: its effect with the end of its contour, or the case that refuses it.
 use Rattle.std.specs.Prelude.{◌≡◌, ◌≢◌, ℕ, List, [], ◌∷◌, Option, Some, None, Result, Ok, Err}
+use Rattle.apt_words.specs.Options.{◌>>=◌}
+use Rattle.apt_words.specs.Rows.{Row}
 use Rattle.apt_words.specs.declared.Case.{Case}
+use Rattle.apt_words.specs.declared.Case.TheVariants as cases
 use Rattle.apt_words.specs.declared.Go.{Go}
 use Rattle.apt_words.specs.declared.Side.{Side}
 use Rattle.apt_words.specs.declared.Stop.{Stop}
 use Rattle.apt_words.specs.declared.deed.Deed.{Deed}
 use Rattle.apt_words.specs.declared.deed.Deed.TheVariants as deeds
 use Rattle.apt_plane.specs.declared.figures.Pt.{Pt}
+use Rattle.apt_plane.specs.declared.figures.Surface.{Surface}
+use Rattle.apt_cldata.specs.declared.record.Position.{Position}
+use Rattle.apt_defs.specs.declared.figure.Definition.{Definition}
+use Rattle.apt_defs.specs.declared.figure.Figure.{Figure}
+use Rattle.apt_defs.specs.Definitions.{definition_of}
+use Rattle.apt_meaning.specs.declared.situation.Situation.{Situation}
 use Rattle.apt_meaning.specs.declared.motion.Motion.{Motion}
+use Rattle.apt_meaning.specs.declared.motion.StartUp.{StartUp}
 use Rattle.apt_meaning.specs.declared.effect.Effect.{Effect}
 use Rattle.apt_meaning.specs.declared.effect.Effect.TheVariants as effects
-use Rattle.apt_meaning.specs.Motions.{contact}
+use Rattle.apt_meaning.specs.OnLines.{built}
+use Rattle.apt_meaning.specs.Situations.{lacks_feed, with_side}
+use Rattle.apt_meaning.specs.Motions.{contact, turn_at, if_turned}
+use Rattle.apt_meaning.specs.Refusals.{is_left_out, start_cases, surface_cases}
 use Rattle.apt_meaning.specs.Compiled.{ends_of}
 use Rattle.apt_motion.specs.declared.found.Found.{Found}
 
 abbrev pub IsNoContour : Deed → Type 0
 IsNoContour deed = (side : Option Side) (go : Go) (drive : List ℕ) (how : Stop) (check : List ℕ) → deed ≢ deeds.Contour side go drive how check
+
+-- and that defines nothing
+abbrev pub IsNoDefinition : Situation → Deed → Type 0
+IsNoDefinition at deed = definition_of at.settings.units at.table deed ≡ None
+
+-- what a definition asks for, or the case that refuses it
+abbrev pub named : List ℕ → Result Figure Case → Result Effect Case
+named name (Ok f) = Ok (effects.Defines name f)
+named name (Err case) = Err case
+
+abbrev pub given : Definition → Result Effect Case
+given d = named d.name d.figure
+
+-- ---- GO and contours whose names stand for surfaces
+
+abbrev pub start_up_on : Situation → Position → Stop → Surface → Stop → Surface → Option StartUp
+start_up_on at start how_a a how_b b =
+    built a >>= λ x. built b >>= λ y. Some (record { start = start; how_a = how_a; a = x; how_b = how_b; b = y; radius = at.settings.radius })
+
+abbrev pub go_cases_on : Situation → Position → Stop → Surface → Stop → Surface → List Row
+go_cases_on at start how_a a how_b b =
+    (is_left_out (Some a), cases.NotBuilt) ∷ (is_left_out (Some b), cases.NotBuilt)
+    ∷ (lacks_feed at.settings, cases.NoFeed) ∷ start_cases (start_up_on at start how_a a how_b b)
+
+abbrev pub motion_on : Situation → Option Side → Go → Position → Surface → Stop → Surface → Option Motion
+motion_on at side go start d how e =
+    built d >>= λ drive. built e >>= λ check. if_turned (with_side at.settings side) start drive (turn_at at start drive go) how check
+
+abbrev pub contour_cases_on : Situation → Option Side → Go → Position → Surface → Stop → Surface → List Row
+contour_cases_on at side go start d how e =
+    (is_left_out (Some d), cases.NotBuilt) ∷ (is_left_out (Some e), cases.NotBuilt) ∷ surface_cases at side go how (Some start) (built d) (built e)
+
+-- ---- what is found
 
 abbrev pub ends_at : Option Pt → List Pt
 ends_at None = []

@@ -6,19 +6,22 @@ ghost use Rattle.apt_words.specs.Rows.{first_of, unless};
 ghost use Rattle.apt_words.specs.declared.deed.Deed.TheVariants as deeds;
 ghost use Rattle.apt_canon.specs.Meeting.{meeting_point};
 ghost use Rattle.apt_stop.specs.Lines as lines;
+ghost use Rattle.apt_certify.specs.Jobs.{IsStraight};
 ghost use Rattle.apt_cldata.specs.Ranges.{IsPosition};
 ghost use Rattle.apt_meaning.specs.Compiled.{asked};
-ghost use Rattle.apt_meaning.specs.Effects.{effect_of};
+ghost use Rattle.apt_meaning.specs.Effects.{cuts, effect_of};
 ghost use Rattle.apt_meaning.specs.Motions as motions;
 ghost use Rattle.apt_meaning.specs.Ranges.{IsSituation, AreSettings, IsMotion};
 ghost use Rattle.apt_meaning.specs.Refusals as refusals;
 ghost use Rattle.apt_meaning.specs.Refusals.{refusal_of};
+ghost use Rattle.apt_meaning.specs.Straight.{IsStraightMotion};
+ghost use Rattle.apt_motion.specs.Finding as finding;
 ghost use Rattle.apt_motion.specs.Finding.{IsFound, cut_of};
 
 use crate::found::Found;
 use apt_cldata::Position;
 use apt_defs::Table;
-use apt_meaning::{Effect, Motion, Settings, Situation, is_too_fine, surface_of, turn_at};
+use apt_meaning::{Effect, Motion, Settings, Situation, built, is_too_fine, surface_of, turn_at};
 use apt_num::Sign;
 use apt_offset::lacks_room;
 use apt_offset::signs::is_zero;
@@ -65,12 +68,37 @@ pub(crate) fn contour(
     };
     let drive = surface_named(&at.table, drive)?;
     let check = surface_named(&at.table, check)?;
+    on_surfaces(at, side, go, start, drive, how, check)
+}
+
+/// A contour on known surfaces: lines are built so far.
+fn on_surfaces(
+    at: &Situation,
+    side: Option<Side>,
+    go: Go,
+    start: Position,
+    drive: Surface,
+    how: Stop,
+    check: Surface,
+) -> Result<Found, Case>
+    requires situation { IsSituation at.now }
+    requires start { IsPosition start }
+    requires drive { IsSurface drive }
+    requires check { IsSurface check }
+    ensures { IsFound (asked (first_of (finding.contour_cases_on at.now side go start drive how check)) (cuts (finding.motion_on at.now side go start drive how check))) result }
+{
+    let Some(drive) = built(drive) else {
+        return Err(Case::NotBuilt);
+    };
+    let Some(check) = built(check) else {
+        return Err(Case::NotBuilt);
+    };
     let settings = at.settings.with_side(side);
     let turned = turn_at(at.forward, start, &drive, go);
     cut_turned(&settings, start, &drive, turned, how, &check)
 }
 
-/// A contour on known surfaces, whose drive surface runs so against forward.
+/// A contour on lines, whose drive surface runs so against forward.
 fn cut_turned(
     settings: &Settings,
     start: Position,
@@ -81,8 +109,8 @@ fn cut_turned(
 ) -> Result<Found, Case>
     requires settings { AreSettings settings.now }
     requires start { IsPosition start }
-    requires drive { IsSurface drive.now }
-    requires check { IsSurface check.now }
+    requires drive { IsStraight drive.now }
+    requires check { IsStraight check.now }
     ensures { result ≡ unless (refusals.turned_cases settings.now start drive.now turned how check.now) (cut_of (motions.motion settings.now start drive.now turned how check.now)) }
 {
     if settings.rapid {
@@ -103,7 +131,7 @@ fn cut_turned(
 /// A motion with its contact.
 #[tactic(auto, using(crate::proofs::Cuts::cut_unless))]
 fn to_contact(motion: Motion) -> Result<Found, Case>
-    requires { IsMotion motion }
+    requires { IsStraightMotion motion }
     ensures { result ≡ unless (refusals.motion_cases motion) (cut_of motion) }
 {
     match end_of(&motion) {
@@ -119,10 +147,9 @@ fn to_contact(motion: Motion) -> Result<Found, Case>
 ///
 /// # Errors
 ///
-/// The first case that refuses it: `NoRoom`, `OffDrive`, `OnCheck`, `Parallel`, `Behind`, `OutOfRange`;
-/// `NotBuilt` behind `OnCheck` where the drive or the check surface is a circle.
+/// The first case that refuses it: `NoRoom`, `OffDrive`, `OnCheck`, `Parallel`, `Behind`, `OutOfRange`.
 fn end_of(m: &Motion) -> Result<Pt, Case>
-    requires { IsMotion m.now }
+    requires { IsStraightMotion m.now }
     ensures { result ≡ unless (refusals.motion_cases m.now) (motions.contact m.now) }
 {
     let track = m.track();
@@ -144,12 +171,12 @@ fn end_of(m: &Motion) -> Result<Pt, Case>
 
 /// Where a motion on its track ends.
 fn stopped(m: &Motion) -> Result<Pt, Case>
-    requires { IsMotion m.now }
+    requires { IsStraightMotion m.now }
     ensures { result ≡ unless (refusals.stop_cases m.now m.now.drive m.now.check) (motions.contact m.now) }
 {
     match (&m.drive, &m.check) {
         (Surface::Line(drive), Surface::Line(check)) => line_end(m, drive, check),
-        (Surface::Line(_), Surface::Circ(_)) | (Surface::Circ(_), _) => Err(Case::NotBuilt),
+        (Surface::Line(_), Surface::Circ(_)) | (Surface::Circ(_), _) => unreachable!(),
     }
 }
 

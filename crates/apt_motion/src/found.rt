@@ -7,11 +7,11 @@ ghost use Rattle.apt_meaning.specs.Compiled.{asked};
 ghost use Rattle.apt_meaning.specs.Effects as asking;
 ghost use Rattle.apt_meaning.specs.Ranges.{IsSituation};
 ghost use Rattle.apt_meaning.specs.Refusals.{refusal_of};
-ghost use Rattle.apt_meaning.specs.Straight.{HasNoCircle};
-ghost use Rattle.apt_motion.specs.Finding.{IsFound, IsNoContour};
+ghost use Rattle.apt_motion.specs.Finding.{IsFound, IsNoContour, IsNoDefinition, given};
 
 use crate::contours::contour;
 use crate::refusals::refusal;
+use apt_defs::{Definition, definition};
 use apt_meaning::{Effect, Situation, effect_of};
 use apt_plane::Pt;
 use apt_words::{Case, Deed};
@@ -27,7 +27,6 @@ pub(crate) struct Found {
 /// What a step asks for, or the first case that refuses it.
 pub(crate) fn find(at: &Situation, deed: &Deed) -> Result<Result<Found, Case>, AllocError>
     requires situation { IsSituation at.now }
-    requires lines { HasNoCircle at.now.table }
     requires scalars { HasScalars deed.now }
     requires built { IsBuilt deed.now }
     ensures { IfOk result (IsFound (asked (refusal_of at.now deed.now) (asking.effect_of at.now deed.now))) }
@@ -36,18 +35,46 @@ pub(crate) fn find(at: &Situation, deed: &Deed) -> Result<Result<Found, Case>, A
         Deed::Contour(side, go, drive, how, check) => {
             Ok(contour(at, *side, *go, drive, *how, check))
         }
-        _ => plain(at, deed),
+        _ => other(at, deed),
     }
 }
 
 /// What a step asks for that is no contour.
-#[tactic(auto, using(crate::proofs::Plain::plain_no_end))]
-fn plain(at: &Situation, deed: &Deed) -> Result<Result<Found, Case>, AllocError>
+#[tactic(auto, using(crate::proofs::Given::definition_found))]
+fn other(at: &Situation, deed: &Deed) -> Result<Result<Found, Case>, AllocError>
     requires situation { IsSituation at.now }
-    requires lines { HasNoCircle at.now.table }
     requires scalars { HasScalars deed.now }
     requires built { IsBuilt deed.now }
     requires plain { IsNoContour deed.now }
+    ensures { IfOk result (IsFound (asked (refusal_of at.now deed.now) (asking.effect_of at.now deed.now))) }
+{
+    match definition(deed, at.settings.units, &at.table) {
+        Some(definition) => Ok(defined(definition)),
+        None => plain(at, deed),
+    }
+}
+
+/// What a definition asks for: a figure for its name, or the case that refuses it.
+fn defined(definition: Definition) -> Result<Found, Case>
+    ensures { IsFound (given definition) result }
+{
+    match definition.figure {
+        Ok(figure) => Ok(Found {
+            effect: Effect::Defines(definition.name, figure),
+            end: None,
+        }),
+        Err(case) => Err(case),
+    }
+}
+
+/// What a step asks for that is no contour and no definition.
+#[tactic(auto, using(crate::proofs::Plain::plain_no_end))]
+fn plain(at: &Situation, deed: &Deed) -> Result<Result<Found, Case>, AllocError>
+    requires situation { IsSituation at.now }
+    requires scalars { HasScalars deed.now }
+    requires built { IsBuilt deed.now }
+    requires plain { IsNoContour deed.now }
+    requires defines_nothing { IsNoDefinition at.now deed.now }
     ensures { IfOk result (IsFound (asked (refusal_of at.now deed.now) (asking.effect_of at.now deed.now))) }
 {
     if let Some(case) = refusal(at, deed) {

@@ -1,4 +1,4 @@
-//! The cases that refuse steps which are no contours.
+//! The cases that refuse steps which are no contours and no definitions.
 
 ghost use Rattle.std.specs.Prelude.{◌≡◌, [], Some};
 ghost use Rattle.apt_words.specs.Built.{IsBuilt};
@@ -6,17 +6,20 @@ ghost use Rattle.apt_words.specs.Rows.{first_of};
 ghost use Rattle.apt_words.specs.declared.deed.Deed.TheVariants as deeds;
 ghost use Rattle.apt_scalar.specs.Scalars.{IsScalar};
 ghost use Rattle.apt_scalar.specs.StepScalars.{HasScalars, IsScalarOrNone};
-ghost use Rattle.apt_defs.specs.Definitions as definitions;
+ghost use Rattle.apt_plane.specs.Ranges.{IsSurface};
+ghost use Rattle.apt_cldata.specs.Ranges.{IsPosition};
 ghost use Rattle.apt_meaning.specs.Ranges.{IsSituation};
 ghost use Rattle.apt_meaning.specs.Refusals as refusals;
 ghost use Rattle.apt_meaning.specs.Refusals.{refusal_of};
-ghost use Rattle.apt_motion.specs.Finding.{IsNoContour};
+ghost use Rattle.apt_motion.specs.Finding as finding;
+ghost use Rattle.apt_motion.specs.Finding.{IsNoContour, IsNoDefinition};
 
 use apt_cldata::Position;
-use apt_defs::{is_in_reach, line_by};
-use apt_meaning::{Settings, Situation, StartUp, moved_by, position_by, surface_of};
+use apt_defs::{Table, is_in_reach, point};
+use apt_meaning::{Settings, Situation, StartUp, built, moved_by, position_by, surface_of};
+use apt_plane::Surface;
 use apt_scalar::{grid_units, tenths};
-use apt_words::{Case, Deed, Stop, Symbol, Units};
+use apt_words::{Case, Deed, Stop, Symbol};
 
 /// The greatest diameter of a cutter, in grid units.
 const MOST_DIAMETER: i64 = 1_000_000;
@@ -24,12 +27,13 @@ const MOST_DIAMETER: i64 = 1_000_000;
 /// The greatest tolerance, in grid units.
 const MOST_TOLERANCE: i64 = 10_000;
 
-/// The first case that refuses a step which is no contour.
+/// The first case that refuses a step which is no contour and no definition.
 pub(crate) fn refusal(at: &Situation, deed: &Deed) -> Option<Case>
     requires situation { IsSituation at.now }
     requires scalars { HasScalars deed.now }
     requires built { IsBuilt deed.now }
     requires plain { IsNoContour deed.now }
+    requires defines_nothing { IsNoDefinition at.now deed.now }
     ensures { result ≡ refusal_of at.now deed.now }
 {
     let units = at.settings.units;
@@ -40,7 +44,6 @@ pub(crate) fn refusal(at: &Situation, deed: &Deed) -> Option<Case>
         | Deed::Clprnt
         | Deed::Nopost
         | Deed::Machin
-        | Deed::Assign(_, _)
         | Deed::Tool(_)
         | Deed::Rapid
         | Deed::Halt
@@ -54,27 +57,17 @@ pub(crate) fn refusal(at: &Situation, deed: &Deed) -> Option<Case>
         | Deed::Loopnd
         | Deed::Jumpto
         | Deed::If => None,
-        Deed::LineXy(_, x, y, u, v) => line(units, *x, *y, *u, *v),
         Deed::Cutter(v) => length(MOST_DIAMETER, grid_units(units, *v)),
         Deed::Intol(v) | Deed::Outtol(v) => length(MOST_TOLERANCE, grid_units(units, *v)),
         Deed::Fedrat(v) => fedrat(at, *v),
         Deed::FromXy(x, y, z) => from(at, *x, *y, *z),
+        Deed::FromPoint(p) => from_point(at, p),
         Deed::GotoXy(x, y, z) => move_to(&at.settings, position_by(units, *x, *y, *z)),
+        Deed::GotoPoint(p) => goto_point(at, p),
         Deed::Godlta(x, y, z) => godlta(at, *x, *y, *z),
         Deed::GoStart(how_a, a, Some((how_b, b))) => go(at, *how_a, a, *how_b, b),
         _ => unreachable!(),
     }
-}
-
-/// A line by four numbers.
-fn line(units: Units, x: i64, y: i64, u: i64, v: i64) -> Option<Case>
-    requires x { IsScalar x }
-    requires y { IsScalar y }
-    requires u { IsScalar u }
-    requires v { IsScalar v }
-    ensures { result ≡ first_of (definitions.line_cases units x y u v) }
-{
-    line_by(units, x, y, u, v).err()
 }
 
 /// A length is from 0 up to the greatest.
@@ -125,6 +118,39 @@ fn from(at: &Situation, x: i64, y: i64, z: Option<i64>) -> Option<Case>
     }
 }
 
+/// A name stands for a point.
+#[tactic(auto, using(crate::proofs::Places::place_refused))]
+fn no_point(table: &Table, name: &Symbol) -> Option<Case>
+    ensures { result ≡ first_of (refusals.point_cases table.now name.now []) }
+{
+    point(table, name).err()
+}
+
+/// FROM comes once, also at a point.
+fn from_point(at: &Situation, p: &Symbol) -> Option<Case>
+    ensures { result ≡ refusal_of at.now (deeds.FromPoint p.now) }
+{
+    if at.position.is_some() {
+        Some(Case::FromAgain)
+    } else {
+        no_point(&at.table, p)
+    }
+}
+
+/// A move to a point, which is within the limit, needs a feed.
+#[tactic(auto, using(crate::proofs::Cases::point_refused, crate::proofs::Cases::point_passed))]
+fn goto_point(at: &Situation, p: &Symbol) -> Option<Case>
+    ensures { result ≡ refusal_of at.now (deeds.GotoPoint p.now) }
+{
+    if let Some(case) = no_point(&at.table, p) {
+        return Some(case);
+    }
+    if at.settings.lacks_feed() {
+        return Some(Case::NoFeed);
+    }
+    None
+}
+
 /// A move leads to a position within the limit, and needs a feed.
 #[tactic(auto, using(crate::proofs::Cases::position_refused, crate::proofs::Cases::position_passed))]
 fn move_to(settings: &Settings, to: Position) -> Option<Case>
@@ -166,6 +192,30 @@ fn go(at: &Situation, how_a: Stop, a: &Symbol, how_b: Stop, b: &Symbol) -> Optio
     };
     let (Some(a), Some(b)) = (surface_of(a), surface_of(b)) else {
         return Some(Case::WrongKind);
+    };
+    go_on(at, start, how_a, a, how_b, b)
+}
+
+/// GO on known surfaces: lines are built so far.
+fn go_on(
+    at: &Situation,
+    start: Position,
+    how_a: Stop,
+    a: Surface,
+    how_b: Stop,
+    b: Surface,
+) -> Option<Case>
+    requires situation { IsSituation at.now }
+    requires start { IsPosition start }
+    requires a { IsSurface a }
+    requires b { IsSurface b }
+    ensures { result ≡ first_of (finding.go_cases_on at.now start how_a a how_b b) }
+{
+    let Some(a) = built(a) else {
+        return Some(Case::NotBuilt);
+    };
+    let Some(b) = built(b) else {
+        return Some(Case::NotBuilt);
     };
     if at.settings.lacks_feed() {
         return Some(Case::NoFeed);

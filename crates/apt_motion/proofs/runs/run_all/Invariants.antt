@@ -4,7 +4,6 @@ use Rattle.apt_words.specs.Sources.{AreExecuted}
 use Rattle.apt_scalar.specs.StepScalars.{AreScalars}
 use Rattle.apt_meaning.specs.Situations.{first_situation}
 use Rattle.apt_meaning.specs.Ranges.{IsSituation}
-use Rattle.apt_meaning.specs.Straight.{HasNoCircle}
 use Rattle.apt_meaning.specs.Compiled.{compilation, with_front}
 use Rattle.apt_motion.proofs.runs.run_all.Given as goal
 
@@ -13,7 +12,6 @@ invariant-steps l =
     record {
       so_far : with_front l.records.items (compilation l.at (drop l.st-index l.steps)) ≡ compilation first_situation l.fn.steps;
       situation : IsSituation l.at;
-      lines : HasNoCircle l.at.table;
       scalars : AreScalars (drop l.st-index l.steps);
       sources : AreExecuted (drop l.st-index l.steps);
       built : AreBuiltSteps (drop l.st-index l.steps);
