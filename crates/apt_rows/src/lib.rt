@@ -10,6 +10,8 @@ mod empty;
 #[cfg(test)]
 mod failing;
 #[cfg(test)]
+mod figures;
+#[cfg(test)]
 mod first_run;
 #[cfg(test)]
 mod flow;

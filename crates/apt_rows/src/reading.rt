@@ -75,11 +75,7 @@ const FAULTS: [Row; 31] = [
     ("PARTNO\nPARTNO\nFINI\n", "BAD PART LINE 2 BadShape\n", ""),
     // shapes that are not built yet
     ("PARTNO\nTLON\nFINI\n", "BAD PART LINE 2 NotBuilt\n", ""),
-    (
-        "PARTNO\nP=POINT/1,2\nFINI\n",
-        "BAD PART LINE 2 NotBuilt\n",
-        "",
-    ),
+    ("PARTNO\nGO/L\nFINI\n", "BAD PART LINE 2 NotBuilt\n", ""),
     ("SPINDL/OFF\nFINI\n", "BAD PART LINE 1 NotBuilt\n", ""),
     // labels: the shape comes first, then the first statement, then a label that stands already
     (
