@@ -1,7 +1,6 @@
 -- A length in a frame whose unit is a root that was rounded down.
 use Rattle.std.proofs.Common.{◌≡◌, ℕ, zero, suc, ◌+◌, ◌-◌, ◌*◌, ◌^◌, ◌≤◌, arith}
 use Rattle.std.proofs.Math.Nat.{mul-le-mul_left}
-use Rattle.std.proofs.lemmas.Nat.{mul-le}
 use Rattle.apt_num.proofs.Squares.{square_le}
 
 -- the root of n * 2^70, rounded down, against a radius
