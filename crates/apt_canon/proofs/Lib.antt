@@ -1,5 +1,8 @@
 pub mod Products
 pub mod Depths
+pub mod Ways
+pub mod NearCircle
+pub mod Frames
 pub mod Meets
 pub mod NearLine
 pub mod MeetingLaws
