@@ -3,6 +3,8 @@ pub mod Depths
 pub mod Ways
 pub mod NearCircle
 pub mod Frames
+pub mod Rays
+pub mod FootLaws
 pub mod Meets
 pub mod NearLine
 pub mod MeetingLaws

@@ -1,9 +1,11 @@
 //! Closed formulas of the plane: where figures meet, rounded to the grid.
 #![tactic(auto)]
 
+mod feet;
 mod lines;
 mod scale;
 
+pub use feet::{foot, foot_point, parallel_at, ray, ray_point};
 pub use lines::line_line;
 
 /// Why a formula gives no figure.

@@ -69,6 +69,16 @@ pub(crate) fn in_range(point: Wide) -> Result<Pt, FormFault>
     }
 }
 
+/// The same of a point.
+pub(crate) fn within(point: Pt) -> Result<Pt, FormFault>
+    ensures { result ≡ scale.in_range point }
+{
+    in_range(Wide {
+        x: i128::from(point.x),
+        y: i128::from(point.y),
+    })
+}
+
 /// How far a point lies to the left of a moved line, in units of 2^-30.
 pub(crate) fn depth(l: &Moved, p: Pt) -> i128
     requires line { IsMoved l.now }
