@@ -4,7 +4,9 @@ pub mod Ways
 pub mod NearCircle
 pub mod Frames
 pub mod Rays
+pub mod Sharp
 pub mod FootLaws
+pub mod Parallels
 pub mod Meets
 pub mod NearLine
 pub mod MeetingLaws

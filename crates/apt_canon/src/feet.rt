@@ -8,7 +8,7 @@ ghost use Rattle.apt_canon.specs.Scale as scale;
 ghost use Rattle.apt_canon.specs.Feet as feet;
 
 use crate::FormFault;
-use crate::scale::{UNIT, depth, framed, length_of, placed, times, within};
+use crate::scale::{UNIT, depth, framed, length_of, opposite, placed, times, within};
 use apt_num::{Sign, sign_of};
 use apt_plane::vectors::perp;
 use apt_plane::{Circ, Dir, Line, Moved, Pt};
@@ -63,7 +63,7 @@ pub fn foot_point(p: Pt, l: &Moved) -> Pt
     ensures value { result ≡ feet.foot_point p l.now.line l.now.off }
     ensures on_line { IsNearLine l.now.line l.now.off (pos 1) result }
 {
-    framed(p, l.line.dir, 0, -depth(l, p))
+    framed(p, l.line.dir, 0, opposite(depth(l, p)))
 }
 
 /// The parallel of a line at a distance in grid units, on the side of the greater or smaller x or y.
