@@ -7,4 +7,6 @@ pub mod Tests
 pub mod Sums
 pub mod Nearest
 pub mod Roots
+pub mod Framed
+pub mod Footed
 mod Worked
