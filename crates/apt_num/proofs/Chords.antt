@@ -1,12 +1,15 @@
 -- Chords that lines and circles cut out of circles: how near their ends are to the circles, in units of 2^-30.
-use Rattle.std.proofs.Common.{◌≡◌, ℕ, zero, suc, ◌+◌, ◌-◌, ◌*◌, ◌^◌, ◌≤◌, ◌<◌, arith, inl, inr, ℤ, pos, neg_ℤ, ◌-ℤ◌, ◌*ℤ◌, unsigned_abs}
+use Rattle.std.proofs.Common.{◌≡◌, ℕ, zero, suc, ◌+◌, ◌-◌, ◌*◌, ◌^◌, ◌≤◌, ◌<◌, ◌⊎◌, subst, ap, arith, inl, inr, ℤ, pos, neg_ℤ, ◌-ℤ◌, ◌*ℤ◌, unsigned_abs}
+use Rattle.std.proofs.Math.Nat.{mul-le-mul_left}
+use Rattle.std.proofs.lemmas.Nat.{mul-le}
 use Rattle.std.proofs.lemmas.Int.{ints}
 use Rattle.std.proofs.lemmas.Bool.{cases_lt}
 use Rattle.apt_num.specs.Root.{IsRoot}
 use Rattle.apt_num.specs.Sign.{OnLine}
 use Rattle.apt_num.proofs.Ring.{minus-*ℤ, neg-*ℤ, pos-*ℤ}
 use Rattle.apt_num.proofs.Squares.{square_le, root_le, cancel_le}
-use Rattle.apt_num.proofs.Roots.{from_root}
+use Rattle.apt_num.proofs.RootLaws.{one_root}
+use Rattle.apt_num.proofs.Roots.{ScaledRoot, from_root}
 
 -- ---- a line that is at most the radius from a centre
 
@@ -29,24 +32,24 @@ depth_bound g k e h r s p q near small_h small_r large =
 -- where the chord's end lies: between r - 1/8 and r + 1/8 from the centre
 pub record NearCircle (r j : ℕ) : Type 0 where
   pub inside : j ≤ 2 ^ 54 * ((8 * r + 1) * (8 * r + 1))
-  pub outside : 0 < r → 2 ^ 54 * ((8 * r - 1) * (8 * r - 1)) ≤ j
+  pub outside : 2 ^ 54 * ((8 * r - 1) * (8 * r - 1)) ≤ j
 
 eighth_less : (t : ℕ) → 8 * suc t - 1 ≡ 8 * t + 7
 eighth_less t = omega arith
 
 -- a chord that is there: its end is at most the rounding of a root inside the circle
 pub chord_end : (r g t : ℕ) → g * g ≤ r * r * 2 ^ 60 → IsRoot (r * r * 2 ^ 60 - g * g) t → NearCircle r (g * g + t * t)
-chord_end zero g t p at = record { inside = omega (arith, p, at.low); outside = λ h. absurd (omega arith) }
+chord_end zero g t p at = record { inside = omega (arith, p, at.low); outside = omega arith }
 chord_end (suc r) g t p at =
     let half : t ≤ suc r * 2 ^ 30 = root_le t (suc r * 2 ^ 30) (omega (arith, at.low)) in
-    record { inside = omega (arith, p, at.low); outside = λ h. rw (eighth_less r) (omega (arith, p, at.high, half)) }
+    record { inside = omega (arith, p, at.low); outside = rw (eighth_less r) (omega (arith, p, at.high, half)) }
 
 -- a chord past the edge by rounding alone: the point at its depth is as near
 pub edge_end : (r g : ℕ) → r * r * 2 ^ 60 ≤ g * g → g ≤ r * 2 ^ 30 + 2 ^ 23 → NearCircle r (g * g)
-edge_end zero g p q = record { inside = omega (arith, square_le g (2 ^ 23) (omega arith)); outside = λ h. absurd (omega arith) }
+edge_end zero g p q = record { inside = omega (arith, square_le g (2 ^ 23) (omega arith)); outside = omega arith }
 edge_end (suc r) g p q = record {
   inside = omega (arith, square_le g (suc r * 2 ^ 30 + 2 ^ 23) q);
-  outside = λ h. rw (eighth_less r) (omega (arith, p));
+  outside = rw (eighth_less r) (omega (arith, p));
 }
 
 none_left : (t : ℕ) → IsRoot 0 t → t ≡ 0
@@ -62,6 +65,129 @@ half_chord_end r g t q at = elim (cases_lt (r * r * 2 ^ 60) (g * g)) [
   | inl past ↦
       let none : t ≡ 0 = none_left t (rw (no_rest (r * r * 2 ^ 60) (g * g) (omega arith)) at at) in
       let edge = edge_end r g (omega arith) q in
-      record { inside = rw none (omega (arith, edge.inside)); outside = λ h. rw none (omega (arith, edge.outside h)) }
+      record { inside = rw none (omega (arith, edge.inside)); outside = rw none (omega (arith, edge.outside)) }
   | inr there ↦ chord_end r g t there at
 ]
+
+-- ---- two circles of the radii r and q, whose centres are apart by a distance whose square is n
+
+-- d is how far two numbers are apart
+abbrev pub Apart : ℕ → ℕ → ℕ → Type 0
+Apart a b d = (a + d ≡ b) ⊎ (b + d ≡ a)
+
+-- they meet: n is d * d and p, and with w it is the square of the sum of the radii
+pub record Meeting (n r q d p w : ℕ) : Type 0 where
+  pub apart : Apart r q d
+  pub least : n ≡ p + d * d
+  pub most : p + w ≡ 4 * r * q
+
+apart-square : (a b d : ℕ) → Apart a b d → d * d + 2 * (a * b) ≡ a * a + b * b
+apart-square a b d (inl e) = subst (λ m. d * d + 2 * (a * m) ≡ a * a + m * m) e (omega arith)
+apart-square a b d (inr e) = subst (λ m. d * d + 2 * (m * b) ≡ m * m + b * b) e (omega arith)
+
+larger : (r d p w l : ℕ) → p + w ≡ 4 * r * (r + d) → Apart (p + d * d + r * r) ((r + d) * (r + d)) l → l * l + p * w ≡ 4 * (r * r) * (p + d * d)
+larger r d p w l most at = omega (arith, apart-square (p + d * d + r * r) ((r + d) * (r + d)) l at, ap (λ m. p * m) most)
+
+smaller : (q d p w l : ℕ) → p + w ≡ 4 * (q + d) * q → Apart (p + d * d + (q + d) * (q + d)) (q * q) l → l * l + p * w ≡ 4 * ((q + d) * (q + d)) * (p + d * d)
+smaller q d p w l most at = omega (arith, apart-square (p + d * d + (q + d) * (q + d)) (q * q) l at, ap (λ m. p * m) most)
+
+by_radii : (r q d p w l : ℕ) → Apart r q d → p + w ≡ 4 * r * q → Apart (p + d * d + r * r) (q * q) l → l * l + p * w ≡ 4 * (r * r) * (p + d * d)
+by_radii r q d p w l (inl e) most far =
+    subst (λ m. p + w ≡ 4 * r * m → Apart (p + d * d + r * r) (m * m) l → l * l + p * w ≡ 4 * (r * r) * (p + d * d)) e (larger r d p w l) most far
+by_radii r q d p w l (inr e) most far =
+    subst (λ m. p + w ≡ 4 * m * q → Apart (p + d * d + m * m) (q * q) l → l * l + p * w ≡ 4 * (m * m) * (p + d * d)) e (smaller q d p w l) most far
+
+-- l, over twice the distance of the centres, is how far the chord is from the first centre
+pub chord_square : (n r q d p w l : ℕ) → Meeting n r q d p w → Apart (n + r * r) (q * q) l → l * l + p * w ≡ 4 * (r * r) * n
+chord_square n r q d p w l at far = rw at.least (by_radii r q d p w l at.apart at.most (rw at.least at far))
+
+by_difference : (r q d s : ℕ) → Apart r q d → 2 ^ 35 * d ≤ s + 1 → 2 ^ 35 * r ≤ 2 ^ 35 * q + s + 1
+by_difference r q d s (inl e) h = omega (arith, e, h)
+by_difference r q d s (inr e) h = omega (arith, e, h)
+
+-- the radii differ by at most the distance
+pub radius_le : (n r q d p w s : ℕ) → Meeting n r q d p w → n * 2 ^ 70 ≤ (s + 1) * (s + 1) → 2 ^ 35 * r ≤ 2 ^ 35 * q + s + 1
+radius_le n r q d p w s at high =
+    let share : 2 ^ 35 * d ≤ s + 1 = root_le (2 ^ 35 * d) (s + 1) (omega (arith, high, at.least)) in
+    by_difference r q d s at.apart share
+
+-- where they touch, the distance m is whole and so is its root
+pub touching : (m r s l g : ℕ) → 0 < m → IsRoot (m * m * 2 ^ 70) s → l * l ≤ 4 * (r * r) * (m * m) → 2 * (s * g) ≤ 2 ^ 65 * l + s → g ≤ r * 2 ^ 30
+touching m r s l g positive at far p =
+    let whole : s ≡ 2 ^ 35 * m = one_root (m * m * 2 ^ 70) s (2 ^ 35 * m) at (record { low = omega arith; high = omega arith }) in
+    let near : l ≤ 2 * r * m = root_le l (2 * r * m) (omega (arith, far)) in
+    let scaled : 2 * (2 ^ 35 * m * g) ≤ 2 ^ 65 * l + 2 ^ 35 * m = rw whole at p in
+    let cancelled : 2 * g ≤ 2 ^ 31 * r + 1 = cancel_le (2 ^ 35 * m) (2 * g) (2 ^ 31 * r + 1) (omega (arith, positive)) (omega (arith, scaled, near)) in
+    omega arith
+
+-- where they overlap, the rounding does not reach past the edge
+overlapping : (n r q s l g : ℕ) → ScaledRoot n s → 0 < r → 0 < q → l * l + 4 * (r * q) ≤ 4 * (r * r) * n + 1 → 2 ^ 35 * r ≤ 2 ^ 35 * q + s + 1
+    → r * 2 ^ 30 + 1 ≤ g → 2 * (s * g) ≤ 2 ^ 65 * l + s → ⊥
+overlapping n r q s l g at first second far radii past p =
+    let long : s * (r * 2 ^ 31 + 1) ≤ 2 ^ 65 * l = omega (arith, p, mul-le-mul_left s past) in
+    let squares = square_le (s * (r * 2 ^ 31 + 1)) (2 ^ 65 * l) long in
+    let rest : n * 2 ^ 70 ≤ s * s + 2 * s = omega (arith, at.rest, at.low) in
+    let both = mul-le 1 1 r q first second in
+    let sum : r * (2 ^ 32 * (s * s) + 3 * 2 ^ 130 * q) ≤ r * (2 ^ 63 * (r * s)) = omega (arith, squares, far, mul-le-mul_left (r * r) rest, both) in
+    let cancelled : 2 ^ 32 * (s * s) + 3 * 2 ^ 130 * q ≤ 2 ^ 63 * (r * s) = cancel_le r _ _ first sum in
+    let short : s + 1 ≤ 2 ^ 63 = omega (arith, at.small) in
+    omega (arith, cancelled, mul-le-mul_left s radii, mul-le-mul_left q short, at.large, mul-le-mul_left s at.large)
+
+touch-square : (n r q d p w l : ℕ) → Meeting n r q d p w → Apart (n + r * r) (q * q) l → l * l ≤ 4 * (r * r) * n
+touch-square n r q d p w l at far = omega (arith, chord_square n r q d p w l at far)
+
+sum_square : (r q d : ℕ) → Apart r q d → 4 * r * q + d * d ≡ (r + q) * (r + q)
+sum_square r q d far = omega (arith, apart-square r q d far)
+
+overlap-square : (n r q d p w l : ℕ) → Meeting n r q d (suc p) (suc w) → Apart (n + r * r) (q * q) l → l * l + 4 * (r * q) ≤ 4 * (r * r) * n + 1
+overlap-square n r q d p w l at far = omega (arith, chord_square n r q d (suc p) (suc w) l at far, at.most)
+
+within_touch : (m n r s l g : ℕ) → n ≡ m * m → ScaledRoot n s → 0 < n → l * l ≤ 4 * (r * r) * n → 2 * (s * g) ≤ 2 ^ 65 * l + s → g ≤ r * 2 ^ 30
+within_touch zero n r s l g e at positive far p = absurd (omega (arith, e))
+within_touch (suc m) n r s l g e at positive far p = touching (suc m) r s l g (omega arith) (rw e at at.root) (rw e at far) p
+
+-- a chord of two circles that meet is there, whatever the rounding
+pub within_edge : (n r q d p w s l g : ℕ) → ScaledRoot n s → 0 < n → 0 < r → 0 < q → Meeting n r q d p w → Apart (n + r * r) (q * q) l
+    → 2 * (s * g) ≤ 2 ^ 65 * l + s → g ≤ r * 2 ^ 30
+within_edge n r q d zero w s l g at some first second is far p =
+    within_touch d n r s l g (omega (arith, is.least)) at some (touch-square n r q d zero w l is far) p
+within_edge n r q d (suc p) zero s l g at some first second is far h =
+    let whole : n ≡ (r + q) * (r + q) = omega (arith, is.least, is.most, sum_square r q d is.apart) in
+    within_touch (r + q) n r s l g whole at some (touch-square n r q d (suc p) zero l is far) h
+within_edge n r q d (suc p) (suc w) s l g at some first second is far h = elim (cases_lt (r * 2 ^ 30) g) [
+  | inl past ↦
+      absurd (overlapping n r q s l g at first second (overlap-square n r q d p w l is far) (radius_le n r q d (suc p) (suc w) s is at.high) (omega arith) h)
+  | inr there ↦ there
+]
+
+-- ---- the end of the chord against the second circle
+
+-- j is what the root of half the chord leaves over
+pub root_share_small : (n r s j t : ℕ) → ScaledRoot n s → r ≤ 10 ^ 8 → j ≤ 2 * t → t ≤ r * 2 ^ 30 → 2 ^ 14 * (n * j) ≤ 4 * (s * s)
+root_share_small n r s j t at small p q =
+    let rest : n * 2 ^ 70 ≤ s * s + 2 * s = omega (arith, at.rest, at.low) in
+    let chord : n * j ≤ n * (r * 2 ^ 31) = mul-le-mul_left n (omega (arith, p, q)) in
+    let most : n * r ≤ n * 10 ^ 8 = mul-le-mul_left n small in
+    omega (arith, rest, chord, most, mul-le-mul_left s at.large)
+
+pub rest_share : (n q s o : ℕ) → ScaledRoot n s → q ≤ 10 ^ 8 → o ≤ 2 * s → 16 * (o * (q * q)) ≤ q * (s * s)
+rest_share n q s o at small p =
+    let long : 32 * q ≤ s = omega (arith, small, at.large) in
+    omega (arith, mul-le-mul_left (q * q) p, mul-le-mul_left (q * s) long)
+
+pub quotient_share : (n s e : ℕ) → ScaledRoot n s → 2 * e ≤ s → 1024 * (n * e) ≤ 8 * (s * s)
+quotient_share n s e at p = omega (arith, mul-le-mul_left n p, mul-le-mul_left s at.share, mul-le-mul_left s at.large)
+
+pub length_share : (n s o : ℕ) → ScaledRoot n s → o ≤ 2 * s → 16 * (n * o) ≤ s * s
+length_share n s o at p = omega (arith, mul-le-mul_left n p, mul-le-mul_left s at.share, mul-le-mul_left s at.large)
+
+-- the four shares together: the end is between a quarter of a unit inside the second circle and a quarter outside; y is the square of its distance in units of 1 / s
+pub second_end : (n q s o j y a b : ℕ) → 2 ≤ q → y + n * (2 ^ 10 * j + o) + 64 * (n * a) ≡ (s * s + o) * (q * q) + 64 * (n * b)
+    → 2 ^ 14 * (n * j) ≤ 4 * (s * s) → 16 * (o * (q * q)) ≤ q * (s * s) → 1024 * (n * a) ≤ 8 * (s * s) → 1024 * (n * b) ≤ 8 * (s * s) → 16 * (n * o) ≤ s * s
+    → (16 * y ≤ ((4 * q + 1) * s) * ((4 * q + 1) * s)) × (((4 * q - 1) * s) * ((4 * q - 1) * s) ≤ 16 * y)
+second_end n q s o j y a b some e chord rest up down length =
+    let long = mul-le-mul_left (s * s) some in
+    let high : 16 * y ≤ ((4 * q + 1) * s) * ((4 * q + 1) * s) = omega (arith, e, rest, down, long) in
+    let less : (4 * q - 1) + 1 ≡ 4 * q = omega (arith, some) in
+    let t = 4 * q - 1 in
+    (high, omega (arith, e, chord, up, length, long, ap (λ m. m * (s * s)) less, ap (λ m. m * t * (s * s)) less, ap (λ m. m * q * (s * s)) less))
