@@ -10,6 +10,7 @@ use Rattle.apt_num.proofs.Ring.{minus-*ℤ, neg-*ℤ, pos-*ℤ}
 use Rattle.apt_num.proofs.Squares.{square_le, root_le, cancel_le}
 use Rattle.apt_num.proofs.RootLaws.{one_root}
 use Rattle.apt_num.proofs.Roots.{ScaledRoot, from_root}
+use Rattle.apt_num.proofs.Framed.{IsEighth}
 
 -- ---- a line that is at most the radius from a centre
 
@@ -29,27 +30,22 @@ depth_bound g k e h r s p q near small_h small_r large =
 
 -- ---- half of a chord
 
--- where the chord's end lies: between r - 1/8 and r + 1/8 from the centre
-pub record NearCircle (r j : ℕ) : Type 0 where
-  pub inside : j ≤ 2 ^ 54 * ((8 * r + 1) * (8 * r + 1))
-  pub outside : 2 ^ 54 * ((8 * r - 1) * (8 * r - 1)) ≤ j
-
 eighth_less : (t : ℕ) → 8 * suc t - 1 ≡ 8 * t + 7
 eighth_less t = omega arith
 
--- a chord that is there: its end is at most the rounding of a root inside the circle
-pub chord_end : (r g t : ℕ) → g * g ≤ r * r * 2 ^ 60 → IsRoot (r * r * 2 ^ 60 - g * g) t → NearCircle r (g * g + t * t)
-chord_end zero g t p at = record { inside = omega (arith, p, at.low); outside = omega arith }
+-- where the end of a chord lies: where there is one, it is at most the rounding of a root inside the circle
+pub chord_end : (r g t : ℕ) → g * g ≤ r * r * 2 ^ 60 → IsRoot (r * r * 2 ^ 60 - g * g) t → IsEighth r (g * g + t * t)
+chord_end zero g t p at = record { most = omega (arith, p, at.low); least = omega arith }
 chord_end (suc r) g t p at =
     let half : t ≤ suc r * 2 ^ 30 = root_le t (suc r * 2 ^ 30) (omega (arith, at.low)) in
-    record { inside = omega (arith, p, at.low); outside = rw (eighth_less r) (omega (arith, p, at.high, half)) }
+    record { most = omega (arith, p, at.low); least = rw (eighth_less r) (omega (arith, p, at.high, half)) }
 
 -- a chord past the edge by rounding alone: the point at its depth is as near
-pub edge_end : (r g : ℕ) → r * r * 2 ^ 60 ≤ g * g → g ≤ r * 2 ^ 30 + 2 ^ 23 → NearCircle r (g * g)
-edge_end zero g p q = record { inside = omega (arith, square_le g (2 ^ 23) (omega arith)); outside = omega arith }
+pub edge_end : (r g : ℕ) → r * r * 2 ^ 60 ≤ g * g → g ≤ r * 2 ^ 30 + 2 ^ 23 → IsEighth r (g * g)
+edge_end zero g p q = record { most = omega (arith, square_le g (2 ^ 23) (omega arith)); least = omega arith }
 edge_end (suc r) g p q = record {
-  inside = omega (arith, square_le g (suc r * 2 ^ 30 + 2 ^ 23) q);
-  outside = rw (eighth_less r) (omega (arith, p));
+  most = omega (arith, square_le g (suc r * 2 ^ 30 + 2 ^ 23) q);
+  least = rw (eighth_less r) (omega (arith, p));
 }
 
 none_left : (t : ℕ) → IsRoot 0 t → t ≡ 0
@@ -60,12 +56,12 @@ no_rest : (m n : ℕ) → m ≤ n → m - n ≡ 0
 no_rest m n h = omega arith
 
 -- so either way
-pub half_chord_end : (r g t : ℕ) → g ≤ r * 2 ^ 30 + 2 ^ 23 → IsRoot (r * r * 2 ^ 60 - g * g) t → NearCircle r (g * g + t * t)
+pub half_chord_end : (r g t : ℕ) → g ≤ r * 2 ^ 30 + 2 ^ 23 → IsRoot (r * r * 2 ^ 60 - g * g) t → IsEighth r (g * g + t * t)
 half_chord_end r g t q at = elim (cases_lt (r * r * 2 ^ 60) (g * g)) [
   | inl past ↦
       let none : t ≡ 0 = none_left t (rw (no_rest (r * r * 2 ^ 60) (g * g) (omega arith)) at at) in
       let edge = edge_end r g (omega arith) q in
-      record { inside = rw none (omega (arith, edge.inside)); outside = rw none (omega (arith, edge.outside)) }
+      record { most = rw none (omega (arith, edge.most)); least = rw none (omega (arith, edge.least)) }
   | inr there ↦ chord_end r g t there at
 ]
 

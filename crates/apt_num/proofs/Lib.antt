@@ -7,6 +7,6 @@ pub mod Tests
 pub mod Sums
 pub mod Nearest
 pub mod Roots
-pub mod Chords
 pub mod Framed
+pub mod Chords
 mod Worked
