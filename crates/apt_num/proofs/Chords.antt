@@ -1,16 +1,16 @@
 -- Chords that lines and circles cut out of circles: how near their ends are to the circles, in units of 2^-30.
-use Rattle.std.proofs.Common.{◌≡◌, ℕ, zero, suc, ◌+◌, ◌-◌, ◌*◌, ◌^◌, ◌≤◌, ◌<◌, ◌⊎◌, subst, ap, arith, inl, inr, ℤ, pos, neg_ℤ, ◌-ℤ◌, ◌*ℤ◌, unsigned_abs}
+use Rattle.std.proofs.Common.{refl, ◌∙◌, ◌+ℤ◌, ◌≡◌, ℕ, zero, suc, ◌+◌, ◌-◌, ◌*◌, ◌^◌, ◌≤◌, ◌<◌, ◌⊎◌, subst, ap, arith, inl, inr, ℤ, pos, negsuc, neg_ℤ, ◌-ℤ◌, ◌*ℤ◌, unsigned_abs}
 use Rattle.std.proofs.Math.Nat.{mul-le-mul_left}
 use Rattle.std.proofs.lemmas.Nat.{mul-le}
 use Rattle.std.proofs.lemmas.Int.{ints}
 use Rattle.std.proofs.lemmas.Bool.{cases_lt}
 use Rattle.apt_num.specs.Root.{IsRoot}
 use Rattle.apt_num.specs.Sign.{OnLine}
-use Rattle.apt_num.proofs.Ring.{minus-*ℤ, neg-*ℤ, pos-*ℤ}
-use Rattle.apt_num.proofs.Squares.{square_le, root_le, cancel_le}
+use Rattle.apt_num.proofs.Ring.{as_diff, diff-pos, diff-same, differences, minus-*ℤ, neg-*ℤ, pos-*ℤ}
+use Rattle.apt_num.proofs.Squares.{square_le, root_le, cancel_le, size_square}
 use Rattle.apt_num.proofs.RootLaws.{one_root}
 use Rattle.apt_num.proofs.Roots.{ScaledRoot, from_root}
-use Rattle.apt_num.proofs.Framed.{IsEighth}
+use Rattle.apt_num.proofs.Framed.{IsEighth, IsFramed}
 
 -- ---- a line that is at most the radius from a centre
 
@@ -180,10 +180,51 @@ length_share n s o at p = omega (arith, mul-le-mul_left n p, mul-le-mul_left s a
 -- the four shares together: the end is between a quarter of a unit inside the second circle and a quarter outside; y is the square of its distance in units of 1 / s
 pub second_end : (n q s o j y a b : ℕ) → 2 ≤ q → y + n * (2 ^ 10 * j + o) + 64 * (n * a) ≡ (s * s + o) * (q * q) + 64 * (n * b)
     → 2 ^ 14 * (n * j) ≤ 4 * (s * s) → 16 * (o * (q * q)) ≤ q * (s * s) → 1024 * (n * a) ≤ 8 * (s * s) → 1024 * (n * b) ≤ 8 * (s * s) → 16 * (n * o) ≤ s * s
-    → (16 * y ≤ ((4 * q + 1) * s) * ((4 * q + 1) * s)) × (((4 * q - 1) * s) * ((4 * q - 1) * s) ≤ 16 * y)
+    → IsFramed q s y
 second_end n q s o j y a b some e chord rest up down length =
     let long = mul-le-mul_left (s * s) some in
     let high : 16 * y ≤ ((4 * q + 1) * s) * ((4 * q + 1) * s) = omega (arith, e, rest, down, long) in
     let less : (4 * q - 1) + 1 ≡ 4 * q = omega (arith, some) in
     let t = 4 * q - 1 in
-    (high, omega (arith, e, chord, up, length, long, ap (λ m. m * (s * s)) less, ap (λ m. m * t * (s * s)) less, ap (λ m. m * q * (s * s)) less))
+    record {
+      high = high;
+      low = omega (arith, e, chord, up, length, long, ap (λ m. m * (s * s)) less, ap (λ m. m * t * (s * s)) less, ap (λ m. m * q * (s * s)) less);
+    }
+
+depth_square : (s x : ℤ) → ((pos 32 *ℤ x) -ℤ s) *ℤ ((pos 32 *ℤ x) -ℤ s) ≡ ((pos 1024 *ℤ (x *ℤ x)) -ℤ (pos 64 *ℤ (s *ℤ x))) +ℤ (s *ℤ s)
+depth_square s x = rw (as_diff s, as_diff x, diff-pos 32, diff-pos 64, diff-pos 1024) (simp differences (diff-same _ _ _ _ (omega arith)))
+
+-- from the depth of the chord, seen from the first circle, to the way from the second centre: over the square of the distance of the centres
+shares : (w x t j o s n r q a b : ℕ) (z : ℤ) → pos w ≡ ((pos 1024 *ℤ pos x) -ℤ (pos 64 *ℤ z)) +ℤ pos s → z ≡ (((pos n +ℤ pos r) -ℤ pos q) *ℤ pos (2 ^ 64)) +ℤ (pos a -ℤ pos b)
+    → s + o ≡ n * 2 ^ 70 → x + t + j ≡ r * 2 ^ 60 → w + 1024 * t + (2 ^ 10 * j + o) + 64 * a ≡ 2 ^ 70 * q + 64 * b
+shares w x t j o s n r q a b z square depth root chord = omega (arith, ints, square, depth, root, chord)
+
+-- all of what the chord of two circles is made of: x is its depth from the first centre, e what the rounding of that leaves, t half of the chord
+pub record IsChord (n r q s t j o : ℕ) (x e : ℤ) : Type 0 where
+  pub depth : pos s *ℤ x ≡ (((pos n +ℤ (pos r *ℤ pos r)) -ℤ (pos q *ℤ pos q)) *ℤ pos (2 ^ 64)) +ℤ e
+  pub root : s * s + o ≡ n * 2 ^ 70
+  pub chord : unsigned_abs x * unsigned_abs x + t * t + j ≡ r * r * 2 ^ 60
+
+-- the square of the distance of its end from the second centre, in units of 1 / s
+pub end_square : ℤ → ℕ → ℕ → ℕ → ℕ
+end_square x t s n = (unsigned_abs ((pos 32 *ℤ x) -ℤ pos s) * unsigned_abs ((pos 32 *ℤ x) -ℤ pos s) + 32 * t * (32 * t)) * n
+
+end_shares : (n r q s t j o a b : ℕ) (x e : ℤ) → e ≡ pos a -ℤ pos b → IsChord n r q s t j o x e
+    → end_square x t s n + n * (2 ^ 10 * j + o) + 64 * (n * a) ≡ (s * s + o) * (q * q) + 64 * (n * b)
+unfolding end_square
+end_shares n r q s t j o a b x e split is =
+    let way = (pos 32 *ℤ x) -ℤ pos s in
+    let square : pos (unsigned_abs way * unsigned_abs way) ≡ ((pos 1024 *ℤ pos (unsigned_abs x * unsigned_abs x)) -ℤ (pos 64 *ℤ (pos s *ℤ x))) +ℤ pos (s * s) =
+    size_square way ∙ depth_square (pos s) x ∙ rw (← size_square x) refl in
+    let whole = shares (unsigned_abs way * unsigned_abs way) (unsigned_abs x * unsigned_abs x) (t * t) j o (s * s) n (r * r) (q * q) a b (pos s *ℤ x) square (rw split at is.depth) is.root is.chord in
+    omega (arith, ap (λ m. n * m) whole, ap (λ m. m * (q * q)) is.root)
+
+-- so the end of the chord is between a quarter of a unit inside the second circle and a quarter outside
+pub on_second : (n r q s t j o : ℕ) (x e : ℤ) → ScaledRoot n s → r ≤ 10 ^ 8 → 2 ≤ q → q ≤ 10 ^ 8 → IsChord n r q s t j o x e → 2 * unsigned_abs e ≤ s → o ≤ 2 * s
+    → j ≤ 2 * t → t ≤ r * 2 ^ 30 → IsFramed q s (end_square x t s n)
+on_second n r q s t j o x (pos e) at small_r large_q small_q is short rest below half =
+    second_end n q s o j (end_square x t s n) e 0 large_q (end_shares n r q s t j o e 0 x (pos e) (omega (arith, ints)) is) (root_share_small n r s j t at small_r below half) (rest_share n q s o at small_q rest)
+    (quotient_share n s e at short) (quotient_share n s 0 at (omega arith)) (length_share n s o at rest)
+on_second n r q s t j o x (negsuc e) at small_r large_q small_q is short rest below half =
+    second_end n q s o j (end_square x t s n) 0 (suc e) large_q (end_shares n r q s t j o 0 (suc e) x (negsuc e) (omega (arith, ints)) is) (root_share_small n r s j t at small_r below half) (rest_share n q s o at small_q rest)
+    (quotient_share n s 0 at (omega arith)) (quotient_share n s (suc e) at short) (length_share n s o at rest)
