@@ -6,20 +6,20 @@ use Rattle.std.proofs.lemmas.Int.{ints}
 use Rattle.std.proofs.lemmas.Bool.{cases_lt}
 use Rattle.apt_num.specs.Root.{IsRoot}
 use Rattle.apt_num.specs.Sign.{OnLine}
-use Rattle.apt_num.proofs.Ring.{as_diff, diff-pos, diff-same, differences, minus-*ℤ, neg-*ℤ, pos-*ℤ}
+use Rattle.apt_num.proofs.Ring.{as_diff, diff-pos, diff-same, differences, minus-*ℤ, neg-*ℤ}
 use Rattle.apt_num.proofs.Squares.{square_le, root_le, cancel_le, size_square}
 use Rattle.apt_num.proofs.RootLaws.{one_root}
 use Rattle.apt_num.proofs.Roots.{ScaledRoot, from_root}
 use Rattle.apt_num.proofs.Framed.{IsEighth, IsFramed}
+use Rattle.apt_num.proofs.Footed.{lag}
 
 -- ---- a line that is at most the radius from a centre
 
 -- where k is at most r lengths away from h of them: so it is in small units, but for the rounding of the length
-pub meet_near : (k h : ℤ) (r n s : ℕ) → IsRoot (n * 2 ^ 70) s → OnLine k h n (pos r)
-    → unsigned_abs ((k *ℤ pos (2 ^ 35)) -ℤ (h *ℤ pos s)) ≤ r * s + unsigned_abs h + r
+pub meet_near : (k h : ℤ) (r n s : ℕ) → IsRoot (n * 2 ^ 70) s → OnLine k h n (pos r) → unsigned_abs (lag s k h) ≤ r * s + unsigned_abs h + r
 meet_near k h r n s at near =
-    let right = rw (minus-*ℤ h (pos r) (pos s), pos-*ℤ r s) at (from_root k (h -ℤ pos r) n s at near.right) in
-    let left = rw (minus-*ℤ (neg_ℤ h) (pos r) (pos s), neg-*ℤ h (pos s), neg-*ℤ k (pos (2 ^ 35)), pos-*ℤ r s) at (from_root (neg_ℤ k) (neg_ℤ h -ℤ pos r) n s at near.left) in
+    let right = rw (minus-*ℤ h (pos r) (pos s)) at (from_root k (h -ℤ pos r) n s at near.right) in
+    let left = rw (minus-*ℤ (neg_ℤ h) (pos r) (pos s), neg-*ℤ h (pos s), neg-*ℤ k (pos (2 ^ 35))) at (from_root (neg_ℤ k) (neg_ℤ h -ℤ pos r) n s at near.left) in
     omega (arith, ints, right, left)
 
 -- the depth of a chord: at most the radius and 1/128 of a unit

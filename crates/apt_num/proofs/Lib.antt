@@ -8,5 +8,6 @@ pub mod Sums
 pub mod Nearest
 pub mod Roots
 pub mod Framed
+pub mod Footed
 pub mod Chords
 mod Worked
