@@ -37,21 +37,19 @@ from_other : (p q r : ℤ) → (p +ℤ q) -ℤ r ≡ (p -ℤ r) +ℤ q
 from_other p q r = omega (arith, ints)
 
 -- the way before the division, and its length
-pub small_way : Dir → ℤ → ℤ → Dir
+abbrev pub small_way : Dir → ℤ → ℤ → Dir
 small_way d x y = times (pos 32) (in_frame d x y)
 
 norm_of_frame : (n j : ℕ) → 32 * 32 * (j * n) ≡ 2 ^ 10 * n * j
 norm_of_frame n j = omega arith
 
 small_way-length : (d : Dir) (x y : ℤ) → length_squared (small_way d x y) ≡ 2 ^ 10 * length_squared d * (unsigned_abs x * unsigned_abs x + unsigned_abs y * unsigned_abs y)
-unfolding small_way
 small_way-length d x y =
     length_of_times (pos 32) (in_frame d x y) ∙ rw (norm_in_frame d x y) (norm_of_frame (length_squared d) (unsigned_abs x * unsigned_abs x + unsigned_abs y * unsigned_abs y))
 
 -- a point whose two parts make the length of the radius but for an eighth of a unit is near the circle
 pub framed_on_circle : (c : Pt) (d : Dir) (x y : ℤ) (r : ℕ) → IsDir d → r ≤ 10 ^ 8 → IsEighth r (unsigned_abs x * unsigned_abs x + unsigned_abs y * unsigned_abs y)
     → IsInRing r (length_squared (displacement c (framed c d x y)))
-unfolding small_way
 framed_on_circle c d x y r is small eighth =
     let n = length_squared d in
     let s = root (n * 2 ^ 70) in
@@ -123,7 +121,6 @@ height_from l c v = rw (from_other c.x v.dx l.base.x, from_other c.y v.dy l.base
 pub framed_on_line : (l : Line) (h : ℤ) (c : Pt) (x : ℤ) → IsLine l → unsigned_abs h ≤ 10 ^ 8
     → unsigned_abs (lag (root (length_squared l.dir * 2 ^ 70)) (cross l.dir (displacement l.base c)) h) ≤ 2 ^ 28 * root (length_squared l.dir * 2 ^ 70)
     → IsNearLine l h (pos 1) (framed c l.dir x (neg_ℤ (depth l.dir (cross l.dir (displacement l.base c)) h)))
-unfolding small_way
 framed_on_line l h c x is small near =
     let n = length_squared l.dir in
     let s = root (n * 2 ^ 70) in

@@ -5,4 +5,5 @@ pub mod MeetingLaws
 pub mod OnBoth
 pub mod FramedPoints
 pub mod LineCircleLaws
+pub mod CircleCircleLaws
 pub mod Worked

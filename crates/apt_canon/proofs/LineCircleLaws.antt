@@ -77,7 +77,7 @@ point_on_line l h c sigma r e small_r is small_h near =
     framed_on_line l h c.c (sigma *ℤ half_chord c.r (depth l.dir k h)) is small_h
     (lag_below r (unsigned_abs h) s (unsigned_abs (lag s k h)) (lag_near l h c.c r is near) small_r small_h (length_facts l.dir is.dir).large)
 
-ends : (r g t : ℕ) (x y : ℤ) → unsigned_abs x ≡ t → unsigned_abs y ≡ g → IsEighth r (g * g + t * t) → IsEighth r (unsigned_abs x * unsigned_abs x + unsigned_abs y * unsigned_abs y)
+pub ends : (r g t : ℕ) (x y : ℤ) → unsigned_abs x ≡ t → unsigned_abs y ≡ g → IsEighth r (g * g + t * t) → IsEighth r (unsigned_abs x * unsigned_abs x + unsigned_abs y * unsigned_abs y)
 ends r g t x y e f is = rw (e, f) (record { least = omega (arith, is.least); most = omega (arith, is.most) })
 
 pub point_on_circle : (l : Line) (h : ℤ) (c : Circ) (sigma : ℤ) (r : ℕ) → c.r ≡ pos r → r ≤ 10 ^ 8 → IsSense sigma → IsLine l → unsigned_abs h ≤ 10 ^ 8 → IsNearLine l h (pos r) c.c

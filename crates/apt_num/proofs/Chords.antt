@@ -7,7 +7,7 @@ use Rattle.std.proofs.lemmas.Bool.{cases_lt}
 use Rattle.apt_num.specs.Root.{IsRoot}
 use Rattle.apt_num.specs.Sign.{OnLine}
 use Rattle.apt_num.proofs.Ring.{as_diff, diff-pos, diff-same, differences, minus-*ℤ, neg-*ℤ}
-use Rattle.apt_num.proofs.Squares.{square_le, root_le, cancel_le, size_square}
+use Rattle.apt_num.proofs.Squares.{square_le, root_le, cancel_le, size_mul, size_square}
 use Rattle.apt_num.proofs.RootLaws.{one_root}
 use Rattle.apt_num.proofs.Roots.{ScaledRoot, from_root}
 use Rattle.apt_num.proofs.Framed.{IsEighth, IsFramed}
@@ -132,7 +132,7 @@ overlapping n r q s l g at first second far radii past p =
 touch-square : (n r q d p w l : ℕ) → Meeting n r q d p w → Apart (n + r * r) (q * q) l → l * l ≤ 4 * (r * r) * n
 touch-square n r q d p w l at far = omega (arith, chord_square n r q d p w l at far)
 
-sum_square : (r q d : ℕ) → Apart r q d → 4 * r * q + d * d ≡ (r + q) * (r + q)
+pub sum_square : (r q d : ℕ) → Apart r q d → 4 * r * q + d * d ≡ (r + q) * (r + q)
 sum_square r q d far = omega (arith, apart-square r q d far)
 
 overlap-square : (n r q d p w l : ℕ) → Meeting n r q d (suc p) (suc w) → Apart (n + r * r) (q * q) l → l * l + 4 * (r * q) ≤ 4 * (r * r) * n + 1
@@ -208,6 +208,11 @@ pub record IsChord (n r q s t j o : ℕ) (x e : ℤ) : Type 0 where
 -- the square of the distance of its end from the second centre, in units of 1 / s
 pub end_square : ℤ → ℕ → ℕ → ℕ → ℕ
 end_square x t s n = (unsigned_abs ((pos 32 *ℤ x) -ℤ pos s) * unsigned_abs ((pos 32 *ℤ x) -ℤ pos s) + 32 * t * (32 * t)) * n
+
+pub end_square-is : (x y : ℤ) (t s n : ℕ) → unsigned_abs y ≡ t
+    → (unsigned_abs ((pos 32 *ℤ x) -ℤ pos s) * unsigned_abs ((pos 32 *ℤ x) -ℤ pos s) + unsigned_abs (pos 32 *ℤ y) * unsigned_abs (pos 32 *ℤ y)) * n ≡ end_square x t s n
+unfolding end_square
+end_square-is x y t s n e = rw (size_mul (pos 32) y, e) refl
 
 end_shares : (n r q s t j o a b : ℕ) (x e : ℤ) → e ≡ pos a -ℤ pos b → IsChord n r q s t j o x e
     → end_square x t s n + n * (2 ^ 10 * j + o) + 64 * (n * a) ≡ (s * s + o) * (q * q) + 64 * (n * b)
