@@ -1,4 +1,5 @@
 pub mod Products
+pub mod Depths
 pub mod Meets
 pub mod NearLine
 pub mod MeetingLaws

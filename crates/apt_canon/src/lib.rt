@@ -2,6 +2,7 @@
 #![tactic(auto)]
 
 mod lines;
+mod scale;
 
 pub use lines::line_line;
 
