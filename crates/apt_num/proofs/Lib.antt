@@ -9,4 +9,5 @@ pub mod Nearest
 pub mod Roots
 pub mod Framed
 pub mod Footed
+pub mod Chords
 mod Worked

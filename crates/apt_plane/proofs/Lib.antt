@@ -2,4 +2,5 @@ pub mod Heights
 pub mod SegmentLaws
 pub mod Displacements
 pub mod Lengths
+pub mod Frames
 pub mod Rounding
