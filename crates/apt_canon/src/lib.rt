@@ -2,6 +2,7 @@
 #![tactic(auto)]
 
 mod lines;
+mod picks;
 
 pub use lines::line_line;
 
