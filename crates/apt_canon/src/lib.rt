@@ -3,8 +3,10 @@
 
 mod lines;
 mod picks;
+mod rounds;
 
 pub use lines::line_line;
+pub use rounds::{circle_of, circle_three, circle_through, circle_touching, corner};
 
 /// Why a formula gives no figure.
 #[derive(Clone, Copy, Debug, PartialEq, Eq)]

@@ -21,9 +21,9 @@ const UNIT: i128 = 1 << 35;
 
 /// A point or a way that may leave the coordinate limit.
 #[derive(Clone, Copy)]
-struct Wide {
-    x: i128,
-    y: i128,
+pub(crate) struct Wide {
+    pub(crate) x: i128,
+    pub(crate) y: i128,
 }
 
 /// The point, rounded to the grid, in which two lines meet that are moved `ha` and `hb` grid units to their left.
@@ -103,7 +103,7 @@ fn height_from(offset: i64, length: i128, cross: i128) -> i128
     times(offset, length) - cross * UNIT
 }
 
-fn length_of(dir: Dir) -> i128
+pub(crate) fn length_of(dir: Dir) -> i128
     requires { IsDir dir }
     ensures value { result ≡ scale.length_of dir }
     ensures small { unsigned_abs result < 2 ^ 63 }
@@ -134,7 +134,7 @@ fn in_range(point: Wide) -> Result<Pt, FormFault>
     }
 }
 
-fn product_difference(a: i64, b: i128, c: i64, d: i128) -> i128
+pub(crate) fn product_difference(a: i64, b: i128, c: i64, d: i128) -> i128
     requires a { unsigned_abs a ≤ 10 ^ 8 }
     requires b { unsigned_abs b ≤ 2 ^ 91 }
     requires c { unsigned_abs c ≤ 10 ^ 8 }
