@@ -3,4 +3,5 @@ pub mod Meets
 pub mod NearLine
 pub mod MeetingLaws
 pub mod OnBoth
+pub mod RoundsSizes
 pub mod Worked

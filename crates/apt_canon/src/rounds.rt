@@ -1,10 +1,12 @@
 //! Circles about a centre, through points, along lines, and in corners.
 
-ghost use Rattle.std.specs.Prelude.{◌≡◌, ◌≢◌, ◌↔◌, ◌⊎◌, ◌+◌, ◌*◌, ◌^◌, ◌≤◌, pos, ◌≤ℤ◌, ◌<ℤ◌, unsigned_abs, IfOk, IsErrOf, Ok};
+ghost use Rattle.std.specs.Prelude.{◌≡◌, ◌≢◌, ◌↔◌, ◌⊎◌, ◌+◌, ◌*◌, ◌^◌, ◌≤◌, pos, ◌*ℤ◌, ◌-ℤ◌, ◌≤ℤ◌, ◌<ℤ◌, unsigned_abs, IfOk, IsErrOf, Ok};
 ghost use Rattle.apt_num.specs.declared.Sign.TheVariants as signs;
+ghost use Rattle.apt_num.specs.Near.{near};
 ghost use Rattle.apt_plane.specs.Vectors as vectors;
 ghost use Rattle.apt_plane.specs.Ranges.{IsPoint, IsDir, IsLine, IsCircle};
 ghost use Rattle.apt_canon.specs.Scale.{IsNearCircle};
+ghost use Rattle.apt_canon.specs.Scale as scale;
 ghost use Rattle.apt_canon.specs.Feet as feet;
 ghost use Rattle.apt_canon.specs.Rounds as rounds;
 
@@ -106,6 +108,7 @@ fn centre_from(b: Dir, c: Dir, turn: i128) -> Wide
     requires b { IsDir b }
     requires c { IsDir c }
     requires turn { turn ≡ vectors.cross b c }
+    requires turn_small { unsigned_abs turn ≤ 2 * 10 ^ 16 }
     requires not_zero { turn ≢ pos 0 }
     ensures x { result.x ≡ (rounds.centre_from b c).dx }
     ensures y { result.y ≡ (rounds.centre_from b c).dy }
@@ -113,15 +116,22 @@ fn centre_from(b: Dir, c: Dir, turn: i128) -> Wide
     let squared_b = length_squared_of(b) as i128;
     let squared_c = length_squared_of(c) as i128;
     Wide {
-        x: div_near(
-            product_difference(c.dy, squared_b, b.dy, squared_c),
-            2 * turn,
-        ),
-        y: div_near(
-            product_difference(b.dx, squared_c, c.dx, squared_b),
-            2 * turn,
-        ),
+        x: share(c.dy, squared_b, b.dy, squared_c, turn),
+        y: share(b.dx, squared_c, c.dx, squared_b, turn),
     }
+}
+
+/// `a * b - c * d` over twice the cross product.
+fn share(a: i64, b: i128, c: i64, d: i128, turn: i128) -> i128
+    requires a { unsigned_abs a ≤ 10 ^ 8 }
+    requires b { unsigned_abs b ≤ 2 * 10 ^ 16 }
+    requires c { unsigned_abs c ≤ 10 ^ 8 }
+    requires d { unsigned_abs d ≤ 2 * 10 ^ 16 }
+    requires turn_small { unsigned_abs turn ≤ 2 * 10 ^ 16 }
+    requires not_zero { turn ≢ pos 0 }
+    ensures { result ≡ near ((a *ℤ b) -ℤ (c *ℤ d)) (pos 2 *ℤ turn) }
+{
+    div_near(product_difference(a, b, c, d), 2 * turn)
 }
 
 /// The circle whose centre lies so from one of its points.
@@ -136,6 +146,15 @@ fn circle_about(p: Pt, way: Wide) -> Result<Circ, FormFault>
         dx: way.x as i64,
         dy: way.y as i64,
     };
+    circle_from(p, way)
+}
+
+fn circle_from(p: Pt, way: Dir) -> Result<Circ, FormFault>
+    requires p { IsPoint p }
+    requires dx { unsigned_abs way.dx ≤ 2 * 10 ^ 8 }
+    requires dy { unsigned_abs way.dy ≤ 2 * 10 ^ 8 }
+    ensures { result ≡ rounds.circle_of (scale.from p way) (pos (rounds.length_near way)) }
+{
     let centre = Pt {
         x: p.x + way.dx,
         y: p.y + way.dy,
