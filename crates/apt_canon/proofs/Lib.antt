@@ -4,4 +4,8 @@ pub mod NearLine
 pub mod MeetingLaws
 pub mod OnBoth
 pub mod RoundsSizes
+pub mod RoundsRange
+pub mod RoundsDistance
+pub mod RoundsFar
+pub mod RoundsThree
 pub mod Worked
