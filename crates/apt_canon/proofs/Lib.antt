@@ -7,4 +7,9 @@ pub mod OnBoth
 pub mod FramedPoints
 pub mod LineCircleLaws
 pub mod CircleCircleLaws
+pub mod RoundsSizes
+pub mod RoundsRange
+pub mod RoundsDistance
+pub mod RoundsFar
+pub mod RoundsThree
 pub mod Worked

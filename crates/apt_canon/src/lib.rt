@@ -2,9 +2,12 @@
 #![tactic(auto)]
 
 mod lines;
+mod picks;
+mod rounds;
 mod scale;
 
 pub use lines::line_line;
+pub use rounds::{circle_of, circle_three, circle_through, circle_touching, corner};
 
 /// Why a formula gives no figure.
 #[derive(Clone, Copy, Debug, PartialEq, Eq)]
