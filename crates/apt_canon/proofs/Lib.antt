@@ -3,4 +3,7 @@ pub mod Meets
 pub mod NearLine
 pub mod MeetingLaws
 pub mod OnBoth
+pub mod Shares
+pub mod TangentFrame
+pub mod TangentCalls
 pub mod Worked

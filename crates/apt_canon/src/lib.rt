@@ -2,8 +2,10 @@
 #![tactic(auto)]
 
 mod lines;
+mod tangents;
 
 pub use lines::line_line;
+pub use tangents::{tangent_from, tangent_two};
 
 /// Why a formula gives no figure.
 #[derive(Clone, Copy, Debug, PartialEq, Eq)]

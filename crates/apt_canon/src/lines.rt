@@ -21,9 +21,9 @@ const UNIT: i128 = 1 << 35;
 
 /// A point or a way that may leave the coordinate limit.
 #[derive(Clone, Copy)]
-struct Wide {
-    x: i128,
-    y: i128,
+pub(crate) struct Wide {
+    pub(crate) x: i128,
+    pub(crate) y: i128,
 }
 
 /// The point, rounded to the grid, in which two lines meet that are moved `ha` and `hb` grid units to their left.
@@ -134,7 +134,7 @@ fn in_range(point: Wide) -> Result<Pt, FormFault>
     }
 }
 
-fn product_difference(a: i64, b: i128, c: i64, d: i128) -> i128
+pub(crate) fn product_difference(a: i64, b: i128, c: i64, d: i128) -> i128
     requires a { unsigned_abs a ≤ 10 ^ 8 }
     requires b { unsigned_abs b ≤ 2 ^ 91 }
     requires c { unsigned_abs c ≤ 10 ^ 8 }
@@ -145,7 +145,7 @@ fn product_difference(a: i64, b: i128, c: i64, d: i128) -> i128
     times(a, b) - times(c, d)
 }
 
-fn times(a: i64, b: i128) -> i128
+pub(crate) fn times(a: i64, b: i128) -> i128
     requires a { unsigned_abs a ≤ 10 ^ 8 }
     requires b { unsigned_abs b ≤ 2 ^ 91 }
     ensures value { result ≡ a *ℤ b }

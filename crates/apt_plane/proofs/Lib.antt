@@ -1,4 +1,5 @@
 pub mod Heights
 pub mod SegmentLaws
 pub mod Displacements
+pub mod Frames
 pub mod Rounding
