@@ -2,6 +2,7 @@
 #![tactic(auto)]
 
 mod lines;
+mod scale;
 mod tangents;
 
 pub use lines::line_line;

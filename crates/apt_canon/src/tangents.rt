@@ -10,7 +10,8 @@ ghost use Rattle.apt_canon.specs.Scale.{IsNearLine, IsNearCircle};
 ghost use Rattle.apt_canon.specs.Tangents as tangents;
 
 use crate::FormFault;
-use crate::lines::{Wide, product_difference, times};
+use crate::lines::product_difference;
+use crate::scale::{Wide, times};
 use apt_num::{div_near, isqrt};
 use apt_plane::vectors::{displacement, length_squared, length_squared_of};
 use apt_plane::{Circ, Dir, Line, Pt};
