@@ -12,4 +12,7 @@ pub mod RoundsRange
 pub mod RoundsDistance
 pub mod RoundsFar
 pub mod RoundsThree
+pub mod Shares
+pub mod TangentFrame
+pub mod TangentCalls
 pub mod Worked
