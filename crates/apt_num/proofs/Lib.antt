@@ -7,4 +7,5 @@ pub mod Tests
 pub mod Sums
 pub mod Nearest
 pub mod Roots
+pub mod Convex
 mod Worked

@@ -2,3 +2,5 @@ pub mod Heights
 pub mod SegmentLaws
 pub mod Displacements
 pub mod Rounding
+pub mod RingLaws
+pub mod Turns
