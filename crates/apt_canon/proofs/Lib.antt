@@ -1,5 +1,12 @@
 pub mod Products
 pub mod Depths
+pub mod Ways
+pub mod NearCircle
+pub mod Frames
+pub mod Rays
+pub mod Sharp
+pub mod FootLaws
+pub mod Parallels
 pub mod Meets
 pub mod NearLine
 pub mod MeetingLaws
