@@ -1,4 +1,5 @@
 pub mod Products
+pub mod Depths
 pub mod Meets
 pub mod NearLine
 pub mod MeetingLaws
@@ -8,4 +9,5 @@ pub mod RoundsRange
 pub mod RoundsDistance
 pub mod RoundsFar
 pub mod RoundsThree
+pub mod RoundsCorner
 pub mod Worked

@@ -4,6 +4,7 @@
 mod lines;
 mod picks;
 mod rounds;
+mod scale;
 
 pub use lines::line_line;
 pub use rounds::{circle_of, circle_three, circle_through, circle_touching, corner};

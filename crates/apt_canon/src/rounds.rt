@@ -11,11 +11,12 @@ ghost use Rattle.apt_canon.specs.Feet as feet;
 ghost use Rattle.apt_canon.specs.Rounds as rounds;
 
 use crate::FormFault;
-use crate::lines::{Wide, length_of, line_line, product_difference};
+use crate::lines::{line_line, product_difference};
 use crate::picks::{offset_picked, side_picked};
+use crate::scale::{UNIT, Wide, length_of};
 use apt_num::{div_near, root_near};
 use apt_plane::vectors::{cross, displacement, height, length_squared, length_squared_of};
-use apt_plane::{Circ, Dir, Line, Pt};
+use apt_plane::{Circ, Dir, Line, Moved, Pt};
 use apt_words::Pick;
 
 /// The least radius, in grid units.
@@ -26,9 +27,6 @@ const REACH: u128 = 49_000_000;
 
 /// A centre further from a point of its circle makes the circle too large, whatever its radius.
 const FAR: u128 = 200_000_000;
-
-/// One unit of length in the formulas.
-const UNIT: i128 = 1 << 35;
 
 /// The circle about a centre, its radius in grid units. `Degenerate` where the radius is under 100, `TooLarge` where the
 /// circle reaches further from an axis than 49,000,000.
@@ -176,6 +174,6 @@ pub fn corner(a: &Line, pick_a: Pick, b: &Line, pick_b: Pick, r: i64) -> Result<
     }
     let ha = offset_picked(side_picked(a, pick_a), r)?;
     let hb = offset_picked(side_picked(b, pick_b), r)?;
-    let centre = line_line(a, ha, b, hb)?;
+    let centre = line_line(&Moved { line: *a, off: ha }, &Moved { line: *b, off: hb })?;
     circle_of(centre, r)
 }

@@ -8,4 +8,5 @@ pub mod Sums
 pub mod Nearest
 pub mod Roots
 pub mod Framed
+pub mod Footed
 mod Worked

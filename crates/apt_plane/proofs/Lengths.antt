@@ -1,13 +1,16 @@
 -- The lengths of sums of ways, and of ways that are rounded.
-use Rattle.std.proofs.Common.{refl, ◌≡◌, ◌≢◌, ℕ, zero, suc, ◌+◌, ◌-◌, ◌*◌, ◌≤◌, ◌<◌, ◌∙◌, sym, arith, inl, inr, ℤ, pos, ◌+ℤ◌, ◌-ℤ◌, ◌*ℤ◌, neg_ℤ, unsigned_abs}
+use Rattle.std.proofs.Common.{refl, ◌≡◌, ℕ, zero, suc, ◌+◌, ◌-◌, ◌*◌, ◌^◌, ◌≤◌, ◌<◌, ◌∙◌, arith, inl, inr, ℤ, pos, ◌+ℤ◌, ◌-ℤ◌, ◌*ℤ◌, neg_ℤ, unsigned_abs}
+use Rattle.std.proofs.Math.Nat.{mul-le-mul_left}
 use Rattle.std.proofs.lemmas.Int.{ints}
 use Rattle.std.proofs.lemmas.Nat.{mul-le}
 use Rattle.std.proofs.lemmas.Bool.{cases_lt}
 use Rattle.apt_num.proofs.Ring.{as_diff, diff-pos, diff-same, differences}
 use Rattle.apt_num.proofs.Squares.{size_mul, root_le, cancel_le}
 use Rattle.apt_plane.specs.declared.figures.Dir.{Dir}
-use Rattle.apt_plane.specs.Vectors.{dot, length_squared}
-use Rattle.apt_plane.proofs.Displacements.{to, square_length_squared, dot_square}
+use Rattle.apt_plane.specs.declared.figures.Pt.{Pt}
+use Rattle.apt_plane.specs.Vectors.{displacement, cross, dot, length_squared}
+use Rattle.apt_plane.specs.Ranges.{IsPoint}
+use Rattle.apt_plane.proofs.Displacements.{to, square_length_squared, cross_square, dot_square}
 
 abbrev pub plus : Dir → Dir → Dir
 plus u v = to (u.dx +ℤ v.dx) (u.dy +ℤ v.dy)
@@ -39,6 +42,21 @@ dot_below u v A B p g h =
 pub sum_of_lengths : (u v : Dir) (A B p : ℕ) → length_squared u + p ≤ A * A → length_squared v ≤ B * B → length_squared (plus u v) + p ≤ (A + B) * (A + B)
 sum_of_lengths u v A B p g h =
     triangle (length_squared u) (length_squared v) (length_squared (plus u v)) A B p (dot u v) (length_of_sum u v) (dot_below u v A B p g h) g h
+
+displacement_part : (p q : ℤ) → unsigned_abs p ≤ 50000000 → unsigned_abs q ≤ 50000000 → unsigned_abs (q -ℤ p) ≤ 10 ^ 8
+displacement_part p q a b = omega (arith, ints)
+
+-- points in range are at most so far from each other
+pub displacement_short : (p q : Pt) → IsPoint p → IsPoint q → length_squared (displacement p q) ≤ 2 * 10 ^ 16
+displacement_short p q a b =
+    let x = displacement_part p.x q.x a.x b.x in
+    let y = displacement_part p.y q.y a.y b.y in
+    omega (arith, mul-le _ _ (10 ^ 8) (10 ^ 8) x x, mul-le _ _ (10 ^ 8) (10 ^ 8) y y)
+
+-- and so the square of a height is at most so large
+pub height_square : (d : Dir) (base p : Pt) → IsPoint base → IsPoint p
+    → unsigned_abs (cross d (displacement base p)) * unsigned_abs (cross d (displacement base p)) ≤ length_squared d * (2 * 10 ^ 16)
+height_square d base p at is = omega (arith, cross_square d (displacement base p), mul-le-mul_left (length_squared d) (displacement_short base p at is))
 
 -- ---- ways that are rounded
 
