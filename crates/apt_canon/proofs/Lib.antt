@@ -10,4 +10,5 @@ pub mod RoundsDistance
 pub mod RoundsFar
 pub mod RoundsThree
 pub mod RoundsCorner
+pub mod RoundsLaws
 pub mod Worked

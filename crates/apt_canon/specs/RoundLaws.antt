@@ -28,6 +28,9 @@ Touches k l = OnLine (pos (unsigned_abs (cross l.dir (displacement l.base k.c)))
 
 -- ---- through three points
 
+abbrev pub AreOnLine : Pt → Pt → Pt → Type 0
+AreOnLine p q r = cross (displacement p q) (displacement p r) ≡ pos 0
+
 -- the way u / m leads to a point that is as far away as it is from where b and c lead
 pub record IsEquidistant (b c u : Dir) (m : ℤ) : Type 0 where
   pub divisor : m ≢ pos 0

@@ -3,7 +3,7 @@ use Rattle.std.specs.Int.{w128}
 use Rattle.std.proofs.lemmas.Int.{ints, to_z-of_z}
 use Rattle.apt_canon.proofs.Meets.{not_zero-test}
 use Rattle.apt_canon.proofs.RoundsSizes.{first_way, second_way, turn_small}
-use Rattle.apt_canon.proofs.rounds.circle_three.Goals as goal
+use Rattle.apt_canon.proofs.rounds.through_three.Goals as goal
 
 pub centre_from-requires-clause-b : goal.centre_from-requires-clause-b
 centre_from-requires-clause-b c =
