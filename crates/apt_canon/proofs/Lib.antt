@@ -11,4 +11,5 @@ pub mod RoundsFar
 pub mod RoundsThree
 pub mod RoundsCorner
 pub mod RoundsLaws
+pub mod RoundsWorked
 pub mod Worked
