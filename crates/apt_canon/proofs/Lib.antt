@@ -4,6 +4,9 @@ pub mod Meets
 pub mod NearLine
 pub mod MeetingLaws
 pub mod OnBoth
+pub mod FramedPoints
+pub mod LineCircleLaws
+pub mod CircleCircleLaws
 pub mod RoundsSizes
 pub mod RoundsRange
 pub mod RoundsDistance
@@ -12,4 +15,7 @@ pub mod RoundsThree
 pub mod RoundsCorner
 pub mod RoundsLaws
 pub mod RoundsWorked
+pub mod Shares
+pub mod TangentFrame
+pub mod TangentCalls
 pub mod Worked

@@ -5,9 +5,11 @@ mod lines;
 mod picks;
 mod rounds;
 mod scale;
+mod tangents;
 
 pub use lines::line_line;
 pub use rounds::{circle_of, circle_three, circle_through, circle_touching, corner};
+pub use tangents::{tangent_from, tangent_two};
 
 /// Why a formula gives no figure.
 #[derive(Clone, Copy, Debug, PartialEq, Eq)]
