@@ -19,6 +19,9 @@ pub mod RoundsRange
 pub mod RoundsDistance
 pub mod RoundsFar
 pub mod RoundsThree
+pub mod RoundsCorner
+pub mod RoundsLaws
+pub mod RoundsWorked
 pub mod Shares
 pub mod TangentFrame
 pub mod TangentCalls

@@ -34,6 +34,9 @@ nearest_root_small n (suc t) h at =
 pub way_small : (v : Dir) → unsigned_abs v.dx ≤ 2 * 10 ^ 8 → unsigned_abs v.dy ≤ 2 * 10 ^ 8 → length_squared v ≤ 8 * 10 ^ 16
 way_small v p q = omega (arith, square_le (unsigned_abs v.dx) (2 * 10 ^ 8) p, square_le (unsigned_abs v.dy) (2 * 10 ^ 8) q)
 
+pub between_small : (p q : Pt) → IsPoint p → IsPoint q → length_squared (displacement p q) ≤ 8 * 10 ^ 16
+between_small p q at_p at_q = way_small (displacement p q) (omega (arith, ints, at_p.x, at_q.x)) (omega (arith, ints, at_p.y, at_q.y))
+
 -- twice a cross product
 pub twice_size : (z : ℤ) → unsigned_abs z ≤ 2 * 10 ^ 16 → unsigned_abs (pos 2 *ℤ z) ≤ 4 * 10 ^ 16
 twice_size z h = omega (arith, ints)

@@ -1,5 +1,5 @@
 -- What a circle that figures determine has to do with them, and which figures determine none.
-use Rattle.std.specs.Prelude.{◌≡◌, ◌≢◌, ◌*◌, ◌≤◌, ℤ, pos, neg_ℤ, ◌+ℤ◌, ◌-ℤ◌, ◌*ℤ◌, ◌≤ℤ◌, unsigned_abs}
+use Rattle.std.specs.Prelude.{◌≡◌, ◌≢◌, ◌⊎◌, ◌*◌, ◌≤◌, ℤ, pos, neg_ℤ, ◌+ℤ◌, ◌-ℤ◌, ◌*ℤ◌, ◌≤ℤ◌, ◌<ℤ◌, unsigned_abs}
 use Rattle.apt_num.specs.declared.Sign.{Sign}
 use Rattle.apt_num.specs.declared.Sign.TheVariants as signs
 use Rattle.apt_num.specs.Sign.{OnLine}
@@ -9,8 +9,10 @@ use Rattle.apt_plane.specs.declared.figures.Dir.{Dir}
 use Rattle.apt_plane.specs.declared.figures.Line.{Line}
 use Rattle.apt_plane.specs.declared.figures.Circ.{Circ}
 use Rattle.apt_plane.specs.Vectors.{displacement, cross, dot, length_squared}
-use Rattle.apt_plane.specs.Ranges.{IsCircle}
+use Rattle.apt_plane.specs.Ranges.{IsPoint, IsCircle}
 use Rattle.apt_plane.specs.Distances.{IsLengthAtMost, IsRootAtMost}
+use Rattle.apt_canon.specs.declared.FormFault.{FormFault}
+use Rattle.apt_canon.specs.declared.FormFault.TheVariants as faults
 use Rattle.apt_canon.specs.Scale.{times, sum, from, IsNearLine}
 use Rattle.apt_canon.specs.Meeting.{meeting_point}
 use Rattle.apt_canon.specs.Feet.{side_picked}
@@ -25,6 +27,9 @@ abbrev pub Touches : Circ → Line → Type 0
 Touches k l = OnLine (pos (unsigned_abs (cross l.dir (displacement l.base k.c)))) k.r (length_squared l.dir) (pos 1)
 
 -- ---- through three points
+
+abbrev pub AreOnLine : Pt → Pt → Pt → Type 0
+AreOnLine p q r = cross (displacement p q) (displacement p r) ≡ pos 0
 
 -- the way u / m leads to a point that is as far away as it is from where b and c lead
 pub record IsEquidistant (b c u : Dir) (m : ℤ) : Type 0 where
@@ -55,12 +60,6 @@ IsBeside signs.Plus l d p = IsNearLine l d (pos 1) p
 IsBeside signs.Zero l d p = ⊥
 IsBeside signs.Minus l d p = IsNearLine l (neg_ℤ d) (pos 1) p
 
--- two lines have a corner on the sides that modifiers name
-pub record HasCorner (a : Line) (pick_a : Pick) (b : Line) (pick_b : Pick) : Type 0 where
-  pub side_a : side_picked a pick_a ≢ signs.Zero
-  pub side_b : side_picked b pick_b ≢ signs.Zero
-  pub meeting : cross a.dir b.dir ≢ pos 0
-
 abbrev pub offset_to : Sign → ℤ → ℤ
 offset_to signs.Plus d = d
 offset_to signs.Zero d = pos 0
@@ -69,3 +68,17 @@ offset_to signs.Minus d = neg_ℤ d
 -- where both lines meet, each moved by a distance to the side that its modifier names
 abbrev pub corner_centre : Line → Pick → Line → Pick → ℤ → Pt
 corner_centre a pick_a b pick_b d = meeting_point a (offset_to (side_picked a pick_a) d) b (offset_to (side_picked b pick_b) d)
+
+-- the radius is one, and the modifiers name sides
+pub record HasSides (a : Line) (pick_a : Pick) (b : Line) (pick_b : Pick) (r : ℤ) : Type 0 where
+  pub radius : pos 100 ≤ℤ r
+  pub side_a : side_picked a pick_a ≢ signs.Zero
+  pub side_b : side_picked b pick_b ≢ signs.Zero
+
+-- why lines have no circle in their corner
+abbrev pub NoCorner : Line → Pick → Line → Pick → ℤ → FormFault → Type 0
+NoCorner a pick_a b pick_b r faults.Degenerate = (r <ℤ pos 100) ⊎ (side_picked a pick_a ≡ signs.Zero) ⊎ (side_picked b pick_b ≡ signs.Zero)
+NoCorner a pick_a b pick_b r faults.NoMeeting = HasSides a pick_a b pick_b r × (cross a.dir b.dir ≡ pos 0)
+NoCorner a pick_a b pick_b r faults.OutOfRange = HasSides a pick_a b pick_b r × (cross a.dir b.dir ≢ pos 0) × ¬ IsPoint (corner_centre a pick_a b pick_b r)
+NoCorner a pick_a b pick_b r faults.TooLarge =
+    HasSides a pick_a b pick_b r × (cross a.dir b.dir ≢ pos 0) × IsPoint (corner_centre a pick_a b pick_b r) × ¬ IsCircle (circle (corner_centre a pick_a b pick_b r) r)

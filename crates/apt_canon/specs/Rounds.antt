@@ -1,5 +1,5 @@
 -- Circles: their ranges, and those that figures determine.
-use Rattle.std.specs.Prelude.{◌+◌, ◌*◌, ◌^◌, nat_lt, ℤ, pos, ◌-ℤ◌, ◌*ℤ◌, int_lt, unsigned_abs, ◌==◌, ◌||◌, Bool, Result, Ok, Err, if◌then◌else◌}
+use Rattle.std.specs.Prelude.{ℕ, ◌+◌, ◌*◌, ◌^◌, nat_lt, ℤ, pos, ◌-ℤ◌, ◌*ℤ◌, int_lt, unsigned_abs, ◌==◌, ◌||◌, Bool, Result, Ok, Err, if◌then◌else◌}
 use Rattle.apt_num.specs.Root.{root_near}
 use Rattle.apt_num.specs.Near.{near}
 use Rattle.apt_words.specs.declared.Pick.{Pick}
@@ -39,11 +39,18 @@ length_near v = root_near (length_squared v)
 abbrev pub distance_from_line : Pt → Line → ℤ
 distance_from_line p l = near (pos (unsigned_abs (cross l.dir (displacement l.base p))) *ℤ unit) (length_of l.dir)
 
+-- the circles about a centre through a point, and along a line, in range or not
+abbrev pub about_through : Pt → Pt → Circ
+about_through c p = circle c (pos (length_near (displacement c p)))
+
+abbrev pub about_touching : Pt → Line → Circ
+about_touching c l = circle c (distance_from_line c l)
+
 abbrev pub circle_through : Pt → Pt → Result Circ FormFault
-circle_through c p = circle_of c (pos (length_near (displacement c p)))
+circle_through c p = circle_of c (about_through c p).r
 
 abbrev pub circle_touching : Pt → Line → Result Circ FormFault
-circle_touching c l = circle_of c (distance_from_line c l)
+circle_touching c l = circle_of c (about_touching c l).r
 
 -- ---- through three points
 

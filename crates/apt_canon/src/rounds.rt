@@ -9,6 +9,7 @@ ghost use Rattle.apt_canon.specs.Scale.{IsNearCircle};
 ghost use Rattle.apt_canon.specs.Scale as scale;
 ghost use Rattle.apt_canon.specs.Feet as feet;
 ghost use Rattle.apt_canon.specs.Rounds as rounds;
+ghost use Rattle.apt_canon.specs.RoundLaws.{IsTooLarge, Touches, AreOnLine, IsThrough, rounded_through, IsBeside, NoCorner};
 
 use crate::FormFault;
 use crate::lines::{line_line, product_difference};
@@ -28,9 +29,21 @@ const REACH: u128 = 49_000_000;
 /// A centre further from a point of its circle makes the circle too large, whatever its radius.
 const FAR: u128 = 200_000_000;
 
-/// The circle about a centre, its radius in grid units. `Degenerate` where the radius is under 100, `TooLarge` where the
-/// circle reaches further from an axis than 49,000,000.
+/// The circle about a centre, its radius in grid units.
+///
+/// # Errors
+///
+/// `Degenerate` where the radius is under 100, `TooLarge` where the circle reaches further from an axis than 49,000,000.
 pub fn circle_of(c: Pt, r: i64) -> Result<Circ, FormFault>
+    ensures value { result ≡ rounds.circle_of c r }
+    ensures degenerate { IsErrOf result FormFault.Degenerate ↔ (r <ℤ pos 100) }
+    ensures too_large { IsErrOf result FormFault.TooLarge ↔ IsTooLarge (rounds.circle c r) }
+    ensures range { IfOk result (λ k. IsCircle k) }
+{
+    about(c, r)
+}
+
+fn about(c: Pt, r: i64) -> Result<Circ, FormFault>
     ensures { result ≡ rounds.circle_of c r }
 {
     if r < LEAST_RADIUS {
@@ -48,13 +61,22 @@ fn reach(x: i64, r: i64) -> u128
     u128::from(x.unsigned_abs()) + u128::from(r.unsigned_abs())
 }
 
-/// The circle about a centre through a point, its radius rounded. Refused as `circle_of` refuses.
+/// The circle about a centre through a point, its radius rounded.
+///
+/// # Errors
+///
+/// Those of `circle_of`.
 pub fn circle_through(c: Pt, p: Pt) -> Result<Circ, FormFault>
     requires c { IsPoint c }
     requires p { IsPoint p }
-    ensures { result ≡ rounds.circle_through c p }
+    ensures value { result ≡ rounds.circle_through c p }
+    ensures degenerate { IsErrOf result FormFault.Degenerate ↔ ((rounds.about_through c p).r <ℤ pos 100) }
+    ensures too_large { IsErrOf result FormFault.TooLarge ↔ IsTooLarge (rounds.about_through c p) }
+    ensures range { IfOk result (λ k. IsCircle k) }
+    ensures centre { IfOk result (λ k. k.c ≡ c) }
+    ensures through { IfOk result (λ k. IsNearCircle k (pos 1) p) }
 {
-    circle_of(c, length_near(displacement(c, p)))
+    about(c, length_near(displacement(c, p)))
 }
 
 /// The length of a way, to the nearest whole number.
@@ -66,13 +88,22 @@ fn length_near(way: Dir) -> i64
     root_near(length_squared(way)) as i64
 }
 
-/// The circle about a centre that touches a line, its radius rounded. Refused as `circle_of` refuses.
+/// The circle about a centre that touches a line, its radius rounded.
+///
+/// # Errors
+///
+/// Those of `circle_of`.
 pub fn circle_touching(c: Pt, l: &Line) -> Result<Circ, FormFault>
     requires c { IsPoint c }
     requires l { IsLine l.now }
-    ensures { result ≡ rounds.circle_touching c l.now }
+    ensures value { result ≡ rounds.circle_touching c l.now }
+    ensures degenerate { IsErrOf result FormFault.Degenerate ↔ ((rounds.about_touching c l.now).r <ℤ pos 100) }
+    ensures too_large { IsErrOf result FormFault.TooLarge ↔ IsTooLarge (rounds.about_touching c l.now) }
+    ensures range { IfOk result (λ k. IsCircle k) }
+    ensures centre { IfOk result (λ k. k.c ≡ c) }
+    ensures touches { IfOk result (λ k. Touches k l.now) }
 {
-    circle_of(c, distance_from_line(c, l))
+    about(c, distance_from_line(c, l))
 }
 
 fn distance_from_line(p: Pt, l: &Line) -> i64
@@ -84,9 +115,25 @@ fn distance_from_line(p: Pt, l: &Line) -> i64
     div_near(size * UNIT, length_of(l.dir)) as i64
 }
 
-/// The circle through three points, its centre and its radius rounded. `Degenerate` where they are on one line.
-/// Refused as `circle_of` refuses.
+/// The circle through three points, its centre and its radius rounded.
+///
+/// # Errors
+///
+/// `Degenerate` where they are on one line, and those of `circle_of`.
 pub fn circle_three(p: Pt, q: Pt, r: Pt) -> Result<Circ, FormFault>
+    requires p { IsPoint p }
+    requires q { IsPoint q }
+    requires r { IsPoint r }
+    ensures value { result ≡ rounds.circle_three p q r }
+    ensures degenerate { IsErrOf result FormFault.Degenerate ↔ (AreOnLine p q r ⊎ ((rounded_through p q r).r <ℤ pos 100)) }
+    ensures too_large { IsErrOf result FormFault.TooLarge ↔ ((¬ AreOnLine p q r) × IsTooLarge (rounded_through p q r)) }
+    ensures range { IfOk result (λ k. IsCircle k) }
+    ensures through { IfOk result (λ k. IsThrough p q r k) }
+{
+    through_three(p, q, r)
+}
+
+fn through_three(p: Pt, q: Pt, r: Pt) -> Result<Circ, FormFault>
     requires p { IsPoint p }
     requires q { IsPoint q }
     requires r { IsPoint r }
@@ -157,13 +204,30 @@ fn circle_from(p: Pt, way: Dir) -> Result<Circ, FormFault>
         x: p.x + way.dx,
         y: p.y + way.dy,
     };
-    circle_of(centre, length_near(way))
+    about(centre, length_near(way))
 }
 
 /// The circle of a radius, in grid units, in the corner of two lines, on the sides that modifiers name.
-/// `Degenerate` where a modifier names no side, `NoMeeting` where the lines are parallel, `OutOfRange` where the centre
-/// leaves the coordinate limit. Refused as `circle_of` refuses.
+///
+/// # Errors
+///
+/// `Degenerate` where the radius is under 100 or a modifier names no side, then `NoMeeting` where the lines are parallel,
+/// `OutOfRange` where the centre leaves the coordinate limit, and `TooLarge` as in `circle_of`.
 pub fn corner(a: &Line, pick_a: Pick, b: &Line, pick_b: Pick, r: i64) -> Result<Circ, FormFault>
+    requires a { IsLine a.now }
+    requires b { IsLine b.now }
+    requires r { unsigned_abs r ≤ 10 ^ 8 }
+    ensures value { result ≡ rounds.corner a.now pick_a b.now pick_b r }
+    ensures refused { (e : FormFault) → IsErrOf result e ↔ NoCorner a.now pick_a b.now pick_b r e }
+    ensures range { IfOk result (λ k. IsCircle k) }
+    ensures radius { IfOk result (λ k. k.r ≡ r) }
+    ensures on_a { IfOk result (λ k. IsBeside (feet.side_picked a.now pick_a) a.now r k.c) }
+    ensures on_b { IfOk result (λ k. IsBeside (feet.side_picked b.now pick_b) b.now r k.c) }
+{
+    in_corner(a, pick_a, b, pick_b, r)
+}
+
+fn in_corner(a: &Line, pick_a: Pick, b: &Line, pick_b: Pick, r: i64) -> Result<Circ, FormFault>
     requires a { IsLine a.now }
     requires b { IsLine b.now }
     requires r { unsigned_abs r ≤ 10 ^ 8 }
@@ -175,5 +239,5 @@ pub fn corner(a: &Line, pick_a: Pick, b: &Line, pick_b: Pick, r: i64) -> Result<
     let ha = offset_picked(side_picked(a, pick_a), r)?;
     let hb = offset_picked(side_picked(b, pick_b), r)?;
     let centre = line_line(&Moved { line: *a, off: ha }, &Moved { line: *b, off: hb })?;
-    circle_of(centre, r)
+    about(centre, r)
 }
