@@ -22,7 +22,8 @@ use Rattle.apt_plane.proofs.Frames.{in_frame, norm_in_frame}
 use Rattle.apt_plane.proofs.Rounding.{near_displacement, displacement_rest}
 use Rattle.apt_canon.specs.Scale.{IsNearCircle}
 use Rattle.apt_canon.specs.Circles.{framed, half_chord, chord_depth, circle_circle_point}
-use Rattle.apt_canon.proofs.FramedPoints.{length_facts, size_apart, small_way, framed_on_circle, near_circle}
+use Rattle.apt_canon.proofs.Depths.{length_facts}
+use Rattle.apt_canon.proofs.FramedPoints.{size_apart, small_way, framed_on_circle, near_circle}
 use Rattle.apt_canon.proofs.LineCircleLaws.{half_of, half_chord-is, half_of-IsRoot, sense_size, ends}
 
 -- ---- two circles that meet: their radii, and the way from the first centre to the second
