@@ -25,4 +25,5 @@ pub mod RoundsWorked
 pub mod Shares
 pub mod TangentFrame
 pub mod TangentCalls
+pub mod CircleAnswers
 pub mod Worked

@@ -2,6 +2,7 @@
 #![tactic(auto)]
 
 mod feet;
+mod circles;
 mod lines;
 mod picks;
 mod rounds;
@@ -9,6 +10,7 @@ mod scale;
 mod tangents;
 
 pub use feet::{foot, foot_point, parallel_at, ray, ray_point};
+pub use circles::{circle_circle, circle_circle_point, line_circle, line_circle_point};
 pub use lines::line_line;
 pub use rounds::{circle_of, circle_three, circle_through, circle_touching, corner};
 pub use tangents::{tangent_from, tangent_two};
