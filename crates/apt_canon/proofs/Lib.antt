@@ -10,4 +10,7 @@ pub mod CircleCircleLaws
 pub mod Shares
 pub mod TangentFrame
 pub mod TangentCalls
+pub mod TangentLaws
+pub mod TangentTwoLaws
+pub mod TangentAnswers
 pub mod Worked
