@@ -26,4 +26,7 @@ pub mod Shares
 pub mod TangentFrame
 pub mod TangentCalls
 pub mod CircleAnswers
+pub mod TangentLaws
+pub mod TangentTwoLaws
+pub mod TangentAnswers
 pub mod Worked

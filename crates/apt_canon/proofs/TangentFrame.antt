@@ -78,10 +78,10 @@ rest_small a p is =
 
 -- ---- a multiple of it against the same multiple of the divisor
 
-stretched_up : (r w rest m : ℕ) → w + rest ≡ m * m → 16 * (r * r) * w ≤ ((4 * r + 1) * m) * ((4 * r + 1) * m)
+pub stretched_up : (r w rest m : ℕ) → w + rest ≡ m * m → 16 * (r * r) * w ≤ ((4 * r + 1) * m) * ((4 * r + 1) * m)
 stretched_up r w rest m e = omega (arith, ap (λ x. 16 * (r * r) * x) e)
 
-stretched_down : (t w rest m : ℕ) → t + 1 ≤ 99999000 → w + rest ≡ m * m → 4 * 99999000 * rest ≤ m * m
+pub stretched_down : (t w rest m : ℕ) → t + 1 ≤ 99999000 → w + rest ≡ m * m → 4 * 99999000 * rest ≤ m * m
     → ((4 * t + 3) * m) * ((4 * t + 3) * m) ≤ 16 * ((t + 1) * (t + 1)) * w
 stretched_down t w rest m small e p =
     let share : 4 * (t + 1) * rest ≤ m * m = omega (arith, p, mul-le-mul_left rest small) in

@@ -19,19 +19,31 @@ use apt_plane::{Circ, Dir, Line, Pt};
 /// The length of a tangent's direction.
 const LENGTH: i64 = 99_999_000;
 
-/// The tangent from a point to a circle, `left` for the one on the circle's left as seen from the point. Its base is
-/// the point, and its direction is about 99999000 long. `NoMeeting` where the point is inside the circle.
+/// The tangent from a point to a circle: `left` for the one that has the circle on its right, as seen from the point.
+/// Its base is the point, and its direction is about 99999000 long.
+///
+/// # Errors
+///
+/// `NoMeeting` where the point is inside the circle.
 pub fn tangent_from(p: Pt, left: bool, c: &Circ) -> Result<Line, FormFault>
     requires point { IsPoint p }
     requires circle { IsCircle c.now }
     ensures value { result ≡ tangents.tangent_from p left c.now }
+    ensures no_meeting { IsErrOf result FormFault.NoMeeting ↔ (vectors.length_squared (vectors.displacement p c.now.c) < signs.square c.now.r) }
+    ensures range { IfOk result (λ t. IsLine t) }
+    ensures base { IfOk result (λ t. t.base ≡ p) }
+    ensures touches { IfOk result (λ t. IsNearLine t (neg_ℤ (tangents.side_of_circle left *ℤ c.now.r)) (pos 2) c.now.c) }
 {
     from_point(p, left, c)
 }
 
-/// The tangent of two circles, `left_a` and `left_b` for the left of each as seen from the first to the second. Its
-/// base is the touching point on the first, and its direction is about 99999000 long. `Degenerate` where both are one
-/// circle on one side, `NoMeeting` where one is inside the other, or they overlap and the tangent crosses between.
+/// The tangent of two circles: `left_a` and `left_b` where it has the first and the second on its right, as seen from
+/// the first to the second. Its base is the touching point on the first, and its direction is about 99999000 long.
+///
+/// # Errors
+///
+/// `Degenerate` where both are one circle on one side, `NoMeeting` where one is inside the other, or where the circles
+/// overlap and the tangent is to cross between them.
 pub fn tangent_two(
     a: &Circ,
     left_a: bool,
@@ -41,6 +53,12 @@ pub fn tangent_two(
     requires a { IsCircle a.now }
     requires b { IsCircle b.now }
     ensures value { result ≡ tangents.tangent_two a.now left_a b.now left_b }
+    ensures degenerate { IsErrOf result FormFault.Degenerate ↔ ((a.now.c ≡ b.now.c) × (tangents.drop a.now left_a b.now left_b ≡ pos 0)) }
+    ensures no_meeting { IsErrOf result FormFault.NoMeeting ↔ (vectors.length_squared (vectors.displacement a.now.c b.now.c) < signs.square (tangents.drop a.now left_a b.now left_b)) }
+    ensures range { IfOk result (λ t. IsLine t) }
+    ensures base { IfOk result (λ t. IsNearCircle a.now (pos 1) t.base) }
+    ensures touches_a { IfOk result (λ t. IsNearLine t (neg_ℤ (tangents.side_of_circle left_a *ℤ a.now.r)) (pos 2) a.now.c) }
+    ensures touches_b { IfOk result (λ t. IsNearLine t (neg_ℤ (tangents.side_of_circle left_b *ℤ b.now.r)) (pos 2) b.now.c) }
 {
     of_two(a, left_a, b, left_b)
 }
