@@ -9,4 +9,6 @@ pub mod Nearest
 pub mod Roots
 pub mod Framed
 pub mod Footed
+pub mod Chords
+pub mod Convex
 mod Worked
