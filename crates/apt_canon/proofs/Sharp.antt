@@ -38,6 +38,7 @@ way_is c u = displacement_from c.c (rounded_way c.r u)
 no_turn : (u : Dir) (m : ℤ) → cross u (times m u) ≡ pos 0
 no_turn u m = cross_times u u m ∙ rw (cross_self u) (omega (arith, ints))
 
+-- a product that is the rest of a rounding alone
 no_more : (z : ℤ) → pos 0 +ℤ z ≡ z
 no_more z = omega (arith, ints)
 
@@ -46,6 +47,13 @@ off_core s c n rest positive e h =
     let whole : 2 * (s * c) * (s * c) ≤ n * (s * s) = rw e h in
     cancel_le (s * s) (2 * (c * c)) n (omega (arith, mul-le 1 1 s s positive positive)) (omega (arith, whole))
 
+-- of a way that is rounded, with a product of 0: that of the rounded one is less than a unit times the length
+pub rest_alone : (d : Dir) (s k rest : ℤ) → 0 < unsigned_abs s → s *ℤ k ≡ pos 0 +ℤ rest → 2 * unsigned_abs rest * unsigned_abs rest ≤ length_squared d * (unsigned_abs s * unsigned_abs s)
+    → 2 * (unsigned_abs k * unsigned_abs k) ≤ length_squared d
+rest_alone d s k rest positive e short =
+    let size : unsigned_abs s * unsigned_abs k ≡ unsigned_abs rest = sym (size_mul s k) ∙ ap unsigned_abs e ∙ ap unsigned_abs (no_more rest) in
+    off_core (unsigned_abs s) (unsigned_abs k) (length_squared d) (unsigned_abs rest) positive size short
+
 -- it lies less than a unit off the direction
 pub ray_across : (c : Circ) (u : Dir) → IsDir u → 2 * (unsigned_abs (cross u (ray_way c u)) * unsigned_abs (cross u (ray_way c u))) ≤ length_squared u
 ray_across c u is =
@@ -53,9 +61,8 @@ ray_across c u is =
     let v = rounded_way c.r u in
     let rounded = moved u (times (c.r *ℤ unit) u) s (length_positive u is) in
     let height : s *ℤ cross u v ≡ pos 0 +ℤ rounded.0 = rounded.1 ∙ ap (λ z. z +ℤ rounded.0) (no_turn u (c.r *ℤ unit)) in
-    let size : unsigned_abs s * unsigned_abs (cross u v) ≡ unsigned_abs rounded.0 = sym (size_mul s (cross u v)) ∙ ap unsigned_abs height ∙ ap unsigned_abs (no_more rounded.0) in
     subst (λ (w : Dir). 2 * (unsigned_abs (cross u w) * unsigned_abs (cross u w)) ≤ length_squared u) (sym (way_is c u))
-    (off_core (unsigned_abs s) (unsigned_abs (cross u v)) (length_squared u) (unsigned_abs rounded.0) (omega (arith, (length_facts u is).large)) size rounded.2)
+    (rest_alone u s (cross u v) rounded.0 (omega (arith, (length_facts u is).large)) height rounded.2)
 
 -- ---- along the direction
 

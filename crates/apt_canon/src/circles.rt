@@ -10,7 +10,7 @@ ghost use Rattle.apt_canon.specs.Circles as circles;
 ghost use Rattle.apt_canon.specs.Circles.{DoMeet};
 
 use crate::FormFault;
-use crate::scale::{Wide, depth, framed, in_range, length_of, times};
+use crate::scale::{depth, framed, length_of, times, within};
 use apt_num::{Sign, div_near, isqrt, root_sign};
 use apt_plane::vectors::{displacement, height, length_squared, length_squared_of};
 use apt_plane::{Circ, Dir, Moved, Pt};
@@ -41,7 +41,7 @@ fn meet_line(l: &Moved, c: &Circ, sigma: i8) -> Result<Pt, FormFault>
     ensures { result ≡ circles.line_circle l.now.line l.now.off c.now sigma }
 {
     if reaches(l, c) {
-        within_limit(on_chord(l, c, sigma))
+        within(on_chord(l, c, sigma))
     } else {
         Err(FormFault::NoMeeting)
     }
@@ -142,7 +142,7 @@ fn meet_circle(a: &Circ, b: &Circ, sigma: i8) -> Result<Pt, FormFault>
     if square == 0 {
         Err(FormFault::Degenerate)
     } else if overlap(a.r, b.r, square) {
-        within_limit(on_common_chord(a, b, sigma))
+        within(on_common_chord(a, b, sigma))
     } else {
         Err(FormFault::NoMeeting)
     }
@@ -264,14 +264,4 @@ fn turned(sigma: i8, length: i128) -> i128
     ensures small { unsigned_abs result ≤ 2 ^ 57 }
 {
     if sigma < 0 { -length } else { length }
-}
-
-/// A point within the coordinate limit, else `OutOfRange`.
-fn within_limit(point: Pt) -> Result<Pt, FormFault>
-    ensures { result ≡ scale.in_range point }
-{
-    in_range(Wide {
-        x: i128::from(point.x),
-        y: i128::from(point.y),
-    })
 }

@@ -10,8 +10,8 @@ ghost use Rattle.apt_canon.specs.Scale as scale;
 ghost use Rattle.apt_canon.specs.Feet as feet;
 
 use crate::FormFault;
+use crate::picks::{offset_picked, side_picked};
 use crate::scale::{UNIT, depth, framed, length_of, opposite, placed, times, within};
-use apt_num::{Sign, sign_of};
 use apt_plane::vectors::perp;
 use apt_plane::{Circ, Dir, Line, Moved, Pt};
 use apt_words::Pick;
@@ -62,12 +62,13 @@ pub fn foot(p: Pt, l: &Moved) -> Result<Pt, FormFault>
     within(foot_point(p, l))
 }
 
-/// The foot of a point on a moved line, whether or not it is in range.
+/// The foot of a point on a moved line, whether or not it is in range: less than a unit off the square to the line.
 pub fn foot_point(p: Pt, l: &Moved) -> Pt
     requires point { IsPoint p }
     requires line { IsMoved l.now }
     ensures value { result ≡ feet.foot_point p l.now.line l.now.off }
     ensures on_line { IsNearLine l.now.line l.now.off (pos 1) result }
+    ensures across { 2 * square (vectors.dot l.now.line.dir (vectors.displacement p result)) ≤ vectors.length_squared l.now.line.dir }
 {
     framed(p, l.line.dir, 0, opposite(depth(l, p)))
 }
@@ -101,40 +102,6 @@ fn parallel(l: &Line, pick: Pick, d: i64) -> Result<Line, FormFault>
     let off = offset_picked(side_picked(l, pick), d)?;
     let base = within(parallel_point(l, off))?;
     Ok(Line { base, dir: l.dir })
-}
-
-/// The side of a line that a modifier names: `Plus` is its left.
-pub(crate) fn side_picked(l: &Line, pick: Pick) -> Sign
-    requires { IsLine l.now }
-    ensures { result ≡ feet.side_picked l.now pick }
-{
-    sign_of(i128::from(deciding(pick, perp(l.dir))))
-}
-
-fn deciding(pick: Pick, u: Dir) -> i64
-    requires x { unsigned_abs u.dx ≤ 10 ^ 8 }
-    requires y { unsigned_abs u.dy ≤ 10 ^ 8 }
-    ensures { result ≡ feet.deciding pick u }
-{
-    match pick {
-        Pick::XLarge => u.dx,
-        Pick::XSmall => -u.dx,
-        Pick::YLarge => u.dy,
-        Pick::YSmall => -u.dy,
-    }
-}
-
-/// How far a line is moved to its left, for a distance to a side. `Degenerate` where the side is none.
-pub(crate) fn offset_picked(side: Sign, d: i64) -> Result<i64, FormFault>
-    requires { unsigned_abs d ≤ 10 ^ 8 }
-    ensures value { result ≡ feet.offset_picked side d }
-    ensures small { IfOk result (λ h. unsigned_abs h ≤ 10 ^ 8) }
-{
-    match side {
-        Sign::Plus => Ok(d),
-        Sign::Zero => Err(FormFault::Degenerate),
-        Sign::Minus => Ok(-d),
-    }
 }
 
 fn parallel_point(l: &Line, h: i64) -> Pt

@@ -1,6 +1,6 @@
 //! The side of a line that a modifier names.
 
-ghost use Rattle.std.specs.Prelude.{◌≡◌, ◌^◌, ◌≤◌, unsigned_abs};
+ghost use Rattle.std.specs.Prelude.{◌≡◌, ◌^◌, ◌≤◌, unsigned_abs, IfOk};
 ghost use Rattle.apt_plane.specs.Ranges.{IsLine};
 ghost use Rattle.apt_canon.specs.Feet as feet;
 
@@ -28,7 +28,8 @@ pub fn side_picked(l: &Line, pick: Pick) -> Sign
 /// `Degenerate` where it names none.
 pub fn offset_picked(side: Sign, distance: i64) -> Result<i64, FormFault>
     requires { unsigned_abs distance ≤ 10 ^ 8 }
-    ensures { result ≡ feet.offset_picked side distance }
+    ensures value { result ≡ feet.offset_picked side distance }
+    ensures small { IfOk result (λ h. unsigned_abs h ≤ 10 ^ 8) }
 {
     match side {
         Sign::Plus => Ok(distance),

@@ -4,6 +4,7 @@ ghost use Rattle.apt_plane.specs.Ranges.{IsLine, IsMoved};
 use crate::{FormFault, line_line};
 use apt_plane::{Dir, Line, Moved, Pt};
 
+mod feet;
 mod rounds;
 
 fn line(x: i64, y: i64, dx: i64, dy: i64) -> Line
