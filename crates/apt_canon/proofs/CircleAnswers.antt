@@ -1,5 +1,5 @@
 -- How the answers of line_circle and circle_circle are made, and what they tell.
-use Rattle.std.proofs.Common.{refl, ◌≡◌, ◌≢◌, ◌↔◌, ℕ, zero, suc, ◌+◌, ◌*◌, ◌^◌, ◌≤◌, ◌&&◌, Bool, true, false, ap, subst, ◌∙◌, arith, inl, inr, ℤ, pos, negsuc, neg_ℤ, ◌+ℤ◌, ◌-ℤ◌, ◌*ℤ◌, ◌≤ℤ◌, unsigned_abs, ◌==◌, nat_le, Result, Ok, Err, IfOk, IsErrOf}
+use Rattle.std.proofs.Common.{refl, ◌≡◌, ◌≢◌, ◌↔◌, ℕ, zero, suc, ◌+◌, ◌*◌, ◌^◌, ◌≤◌, ◌<◌, ◌&&◌, Bool, true, false, ap, subst, ◌∙◌, arith, inl, inr, ℤ, pos, negsuc, neg_ℤ, ◌+ℤ◌, ◌-ℤ◌, ◌*ℤ◌, ◌≤ℤ◌, unsigned_abs, ◌==◌, nat_le, Result, Ok, Err, IfOk, IsErrOf}
 use Rattle.std.specs.Prelude.{if◌then◌else◌}
 use Rattle.std.proofs.lemmas.Int.{ints}
 use Rattle.std.proofs.lemmas.Bool.Decides.{nat_tests, leb_tells}
@@ -116,6 +116,9 @@ answer_on_circle r l c sigma is round sense e =
     rw e (met (reaches l.line l.off c) (IsNearLine l.line l.off c.r c.c) (IsNearCircle c (pos 1)) (line_circle_point l.line l.off c sigma) (reaches-tells l.line l.off c) (on_circle l c sigma is round sense))
 
 -- ---- two circles
+pub le-fails : (m n : ℕ) → n < m → nat_le m n ≡ false
+le-fails m n h = grind (arith, nat_tests)
+
 abbrev pt : ℤ → ℤ → Pt
 pt x y = record { x = x; y = y }
 
@@ -150,7 +153,7 @@ zero-from n e = rw e refl
 le-true : (m n : ℕ) → nat_le m n ≡ true → m ≤ n
 le-true m n e = grind (arith, nat_tests)
 
-le-from : (m n : ℕ) → m ≤ n → nat_le m n ≡ true
+pub le-from : (m n : ℕ) → m ≤ n → nat_le m n ≡ true
 le-from m n h = grind (arith, nat_tests)
 
 concentric-tells : (a b : Circ) → Tells (are_concentric a b) (a.c ≡ b.c)
