@@ -1,10 +1,9 @@
-use Rattle.std.proofs.Common.{◌≡◌, ◌*◌, ◌-◌, ◌^◌, ◌≤◌, ◌<◌, ◌∙◌, ap, sym, arith, ℕ, ℤ, pos, ◌≤ℤ◌, unsigned_abs, to_z, FitsSigned, w64}
+use Rattle.std.proofs.Common.{◌≡◌, ◌*◌, ◌-◌, ◌^◌, ◌≤◌, ◌∙◌, ap, sym, arith, ℕ, pos, unsigned_abs, to_z, FitsSigned, w64}
 use Rattle.std.specs.Int.{w128}
 use Rattle.std.proofs.lemmas.Int.{ints, to_z-of_z}
 use Rattle.apt_num.specs.Root.{IsRoot, root}
 use Rattle.apt_num.proofs.Squares.{square_le, root_le}
-use Rattle.apt_canon.specs.Circles.{half_chord}
-use Rattle.apt_canon.proofs.LineCircleLaws.{half_of, half_chord-root}
+use Rattle.apt_canon.proofs.LineCircleLaws.{half_chord-root}
 use Rattle.apt_canon.proofs.circles.half_chord.Goals as goal
 
 small : (q r g : ℕ) → r ≤ 10 ^ 8 → IsRoot (r * r * 2 ^ 60 - g * g) q → q ≤ 2 ^ 57

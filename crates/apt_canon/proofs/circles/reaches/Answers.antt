@@ -1,4 +1,4 @@
-use Rattle.std.proofs.Common.{◌≡◌, ◌∙◌, rules, refl, arith, ◌-ℤ◌, neg_ℤ, ◌&&◌, FitsSigned, w64}
+use Rattle.std.proofs.Common.{◌≡◌, ◌∙◌, refl, arith, ◌-ℤ◌, neg_ℤ, ◌&&◌, FitsSigned, w64}
 use Rattle.std.specs.Int.{w128}
 use Rattle.std.proofs.lemmas.Int.{ints, to_z-of_z}
 use Rattle.apt_num.specs.Sign as signs
