@@ -67,7 +67,12 @@ fn on_chord(l: &Moved, c: &Circ, sigma: i8) -> Pt
     ensures { result ≡ circles.line_circle_point l.now.line l.now.off c.now sigma }
 {
     let depth = depth(l, c.c);
-    framed(c.c, l.line.dir, turned(sigma, half_chord(c.r, depth)), -depth)
+    framed(
+        c.c,
+        l.line.dir,
+        turned(sigma, half_chord(c.r, depth)),
+        -depth,
+    )
 }
 
 /// Whether a moved line meets a circle.
@@ -197,7 +202,10 @@ fn chord_depth(a: &Circ, b: &Circ, way: Dir) -> i128
     ensures value { result ≡ circles.chord_depth a.now b.now }
     ensures small { unsigned_abs result ≤ 2 ^ 57 }
 {
-    div_near(chord_share(length_squared_of(way), a.r, b.r), length_of(way))
+    div_near(
+        chord_share(length_squared_of(way), a.r, b.r),
+        length_of(way),
+    )
 }
 
 fn chord_share(square: u128, r: i64, q: i64) -> i128
