@@ -3,9 +3,8 @@ use Rattle.std.specs.Prelude.{◌≡◌, ◌⊎◌, ℕ, ◌+◌, List, [], ◌�
 use Rattle.std.specs.Option.{option_or}
 use Rattle.apt_plane.specs.declared.figures.Pt.{Pt}
 use Rattle.apt_plane.specs.declared.figures.Spot.{Spot}
-use Rattle.apt_plane.specs.Vectors.{Scaled, scaled}
 use Rattle.apt_plane.specs.Distances.{InBand}
-use Rattle.apt_plane.specs.Segments.{start_spot, end_spot}
+use Rattle.apt_plane.specs.Segments.{end_spot, IsFirstEnd}
 use Rattle.apt_offset.specs.Targets.{greater}
 use Rattle.apt_certify.specs.declared.leg.Leg.{Leg}
 use Rattle.apt_certify.specs.declared.leg.Job.{Job}
@@ -32,10 +31,6 @@ reason_of (BandOf a b) = reasons.Band
 reason_of (OverrunOf a b) = reasons.Overrun
 reason_of (StopAt q) = reasons.Stop
 reason_of (AxisAt q) = reasons.Axis
-
--- the first of the two ends of a segment that a fact is not true of
-abbrev pub IsFirstEnd : (Scaled → Type 0) → Pt → Pt → Spot → Type 0
-IsFirstEnd P a b spot = ((spot ≡ start_spot) × ¬ P (scaled a)) ⊎ ((spot ≡ end_spot) × P (scaled a) × ¬ P (scaled b))
 
 -- a test of all points of a segment fails at an end of it, the others fail at the end
 abbrev pub IsSpot : Leg → Test → Spot → Type 0
