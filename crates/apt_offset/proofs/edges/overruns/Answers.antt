@@ -2,7 +2,7 @@ use Rattle.std.proofs.Common.{arith, FitsSigned, w64}
 use Rattle.std.proofs.lemmas.Int.{ints, to_z-of_z}
 use Rattle.std.proofs.lemmas.Result.{IfErr-weaker}
 use Rattle.apt_num.specs.declared.Sign.TheVariants as signs
-use Rattle.apt_plane.specs.Distances.{IsUnder, EveryPoint}
+use Rattle.apt_plane.specs.Distances.{EveryPoint}
 use Rattle.apt_plane.specs.Segments.{IsFirstEnd, IsFirstOff}
 use Rattle.apt_plane.proofs.SegmentLaws.{end_is_first}
 use Rattle.apt_offset.specs.Edges.{IsWithinEdge}
