@@ -1,1 +1,3 @@
-
+pub mod Sides
+pub mod Distances
+pub mod MeetingLaws

@@ -19,7 +19,7 @@ pub record IsTolerance (t : ℤ) : Type 0 where
 pub record IsLineTarget (b : Pt) (d : Dir) (h : ℤ) : Type 0 where
   pub base : IsPoint b
   pub dir : IsDir d
-  pub off : unsigned_abs h ≤ 500000
+  pub off : unsigned_abs h ≤ 10 ^ 8
 
 pub record IsCircleTarget (c : Pt) (r : ℤ) : Type 0 where
   pub centre : IsPoint c
