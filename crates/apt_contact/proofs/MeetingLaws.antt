@@ -22,7 +22,7 @@ use Rattle.apt_contact.proofs.Distances as distances
 
 -- ---- two lines
 
-size_tells : (z : ℤ) → (((unsigned_abs z == 0) ≡ true) × (z ≡ pos 0)) ⊎ (((unsigned_abs z == 0) ≡ false) × (z ≢ pos 0))
+pub size_tells : (z : ℤ) → (((unsigned_abs z == 0) ≡ true) × (z ≡ pos 0)) ⊎ (((unsigned_abs z == 0) ≡ false) × (z ≢ pos 0))
 size_tells z = elim (eqb_tells (unsigned_abs z) 0) [
   | inl none ↦ inl (none.0, omega (arith, ints))
   | inr some ↦ inr (some.0, λ e. some.1 (omega (arith, ints)))
