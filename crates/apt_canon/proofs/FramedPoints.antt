@@ -21,11 +21,7 @@ use Rattle.apt_plane.proofs.Frames.{in_frame, norm_in_frame, cross_in_frame}
 use Rattle.apt_plane.proofs.Rounding.{near_displacement, displacement_rest, moved}
 use Rattle.apt_canon.specs.Scale.{times, from, IsNearLine, IsNearCircle}
 use Rattle.apt_canon.specs.Circles.{depth, framed}
-use Rattle.apt_canon.proofs.NearLine.{length_squared_bound}
-
--- what a direction's length is in units
-pub length_facts : (d : Dir) → IsDir d → ScaledRoot (length_squared d) (root (length_squared d * 2 ^ 70))
-length_facts d is = root_facts (length_squared d) is.length (length_squared_bound d is)
+use Rattle.apt_canon.proofs.Depths.{length_facts, depth_rest}
 
 pub size_apart : (s : ℕ) → 2 ^ 35 ≤ s → pos s ≢ pos 0
 size_apart s large = λ e. omega (arith, ints, large)
@@ -91,27 +87,9 @@ near_circle c p least ring =
     record { outside = both.0; inside = both.1 }
 
 -- ---- a point at a depth is near the line
-depth_ring : (s h p e t u : ℤ) → ((t *ℤ (p *ℤ u)) +ℤ e) -ℤ (s *ℤ (h *ℤ t)) ≡ (t *ℤ ((u *ℤ p) -ℤ (h *ℤ s))) +ℤ e
-depth_ring s h p e t u = rw (as_diff s, as_diff h, as_diff p, as_diff e, as_diff t, as_diff u) (simp differences (diff-same _ _ _ _ (omega arith)))
-
-depth_parts : (s q h p e t : ℤ) → s *ℤ q ≡ (t *ℤ (p *ℤ pos (2 ^ 35))) +ℤ e → s *ℤ (q -ℤ (h *ℤ t)) ≡ (t *ℤ ((pos (2 ^ 35) *ℤ p) -ℤ (h *ℤ s))) +ℤ e
-depth_parts s q h p e t root =
-    *ℤ-minus s q (h *ℤ t) ∙ rw root (depth_ring s h p e t (pos (2 ^ 35)))
-
 height_parts : (s v c g n rest : ℤ) → s *ℤ v ≡ (pos 32 *ℤ (neg_ℤ g *ℤ n)) +ℤ rest → s *ℤ (c +ℤ v) ≡ ((s *ℤ c) -ℤ (pos 32 *ℤ (g *ℤ n))) +ℤ rest
 height_parts s v c g n rest moved =
     *ℤ-+ℤ s c v ∙ rw (moved, neg-*ℤ g n, *ℤ-neg (pos 32) (g *ℤ n)) (omega (arith, ints))
-
-small_units : (c : ℤ) → c *ℤ pos (2 ^ 65) ≡ pos (2 ^ 30) *ℤ (c *ℤ pos (2 ^ 35))
-small_units c = omega (arith, ints)
-
--- what the rounding of a depth leaves
-pub depth_rest : (d : Dir) (k h : ℤ) → IsDir d → let s = root (length_squared d * 2 ^ 70) in
-    (e : ℤ) × (pos s *ℤ depth d k h ≡ (pos (2 ^ 30) *ℤ lag s k h) +ℤ e) × (2 * unsigned_abs e ≤ s)
-depth_rest d k h is =
-    let s = root (length_squared d * 2 ^ 70) in
-    let rest = near_remainder (k *ℤ pos (2 ^ 65)) (pos s) (size_apart s (length_facts d is).large) in
-    (rest.0, depth_parts (pos s) (near (k *ℤ pos (2 ^ 65)) (pos s)) h k rest.0 (pos (2 ^ 30)) (rest.1 ∙ ap (λ z. z +ℤ rest.0) (small_units k)), rest.2)
 
 -- the height of a point that lies so from another
 height_from : (l : Line) (c : Pt) (v : Dir) → cross l.dir (displacement l.base (from c v)) ≡ cross l.dir (displacement l.base c) +ℤ cross l.dir v

@@ -16,7 +16,8 @@ use Rattle.apt_plane.specs.Vectors.{displacement, cross, length_squared}
 use Rattle.apt_plane.specs.Ranges.{IsLine, IsSense}
 use Rattle.apt_canon.specs.Scale.{positive_part, IsNearLine, IsNearCircle}
 use Rattle.apt_canon.specs.Circles.{depth, half_chord, line_circle_point}
-use Rattle.apt_canon.proofs.FramedPoints.{length_facts, depth_rest, framed_on_line, framed_on_circle, near_circle}
+use Rattle.apt_canon.proofs.Depths.{length_facts, depth_rest}
+use Rattle.apt_canon.proofs.FramedPoints.{framed_on_line, framed_on_circle, near_circle}
 
 -- ---- half of a chord
 positive_difference : (m n : ℕ) → positive_part (pos m -ℤ pos n) ≡ m - n

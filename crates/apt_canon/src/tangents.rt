@@ -44,12 +44,7 @@ pub fn tangent_from(p: Pt, left: bool, c: &Circ) -> Result<Line, FormFault>
 ///
 /// `Degenerate` where both are one circle on one side, `NoMeeting` where one is inside the other, or where the circles
 /// overlap and the tangent is to cross between them.
-pub fn tangent_two(
-    a: &Circ,
-    left_a: bool,
-    b: &Circ,
-    left_b: bool,
-) -> Result<Line, FormFault>
+pub fn tangent_two(a: &Circ, left_a: bool, b: &Circ, left_b: bool) -> Result<Line, FormFault>
     requires a { IsCircle a.now }
     requires b { IsCircle b.now }
     ensures value { result ≡ tangents.tangent_two a.now left_a b.now left_b }
@@ -78,12 +73,7 @@ fn from_point(p: Pt, left: bool, c: &Circ) -> Result<Line, FormFault>
     })
 }
 
-fn of_two(
-    a: &Circ,
-    left_a: bool,
-    b: &Circ,
-    left_b: bool,
-) -> Result<Line, FormFault>
+fn of_two(a: &Circ, left_a: bool, b: &Circ, left_b: bool) -> Result<Line, FormFault>
     requires a { IsCircle a.now }
     requires b { IsCircle b.now }
     ensures { result ≡ tangents.tangent_two a.now left_a b.now left_b }

@@ -1,0 +1,7 @@
+use Rattle.apt_canon.proofs.circles.half_chord.Goals as goal
+
+pub returns-clause-value : goal.returns-clause-value
+returns-clause-value c = ?
+
+pub returns-clause-small : goal.returns-clause-small
+returns-clause-small c = ?
