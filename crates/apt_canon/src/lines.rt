@@ -91,7 +91,7 @@ fn height_from(offset: i64, length: i128, cross: i128) -> i128
     times(offset, length) - cross * UNIT
 }
 
-fn product_difference(a: i64, b: i128, c: i64, d: i128) -> i128
+pub(crate) fn product_difference(a: i64, b: i128, c: i64, d: i128) -> i128
     requires a { unsigned_abs a ≤ 10 ^ 8 }
     requires b { unsigned_abs b ≤ 2 ^ 91 }
     requires c { unsigned_abs c ≤ 10 ^ 8 }

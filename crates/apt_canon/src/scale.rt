@@ -1,6 +1,6 @@
 //! What all formulas share: lengths in small units, nearest quotients, frames, and the coordinate limit.
 
-ghost use Rattle.std.specs.Prelude.{◌≡◌, ◌≢◌, ◌*◌, ◌^◌, ◌≤◌, ◌<◌, pos, ◌+ℤ◌, ◌*ℤ◌, unsigned_abs};
+ghost use Rattle.std.specs.Prelude.{◌≡◌, ◌≢◌, ◌*◌, ◌^◌, ◌≤◌, ◌<◌, pos, neg_ℤ, ◌+ℤ◌, ◌*ℤ◌, unsigned_abs};
 ghost use Rattle.apt_num.specs.Near.{near};
 ghost use Rattle.apt_plane.specs.Vectors as vectors;
 ghost use Rattle.apt_plane.specs.Ranges.{IsPoint, IsDir, IsMoved};
@@ -69,6 +69,16 @@ pub(crate) fn in_range(point: Wide) -> Result<Pt, FormFault>
     }
 }
 
+/// The same of a point.
+pub(crate) fn within(point: Pt) -> Result<Pt, FormFault>
+    ensures { result ≡ scale.in_range point }
+{
+    in_range(Wide {
+        x: i128::from(point.x),
+        y: i128::from(point.y),
+    })
+}
+
 /// How far a point lies to the left of a moved line, in units of 2^-30.
 pub(crate) fn depth(l: &Moved, p: Pt) -> i128
     requires line { IsMoved l.now }
@@ -78,6 +88,15 @@ pub(crate) fn depth(l: &Moved, p: Pt) -> i128
 {
     let cross = height(l.line.base, l.line.dir, p);
     div_near(cross * (1 << 65), length_of(l.line.dir)) - i128::from(l.off) * (1 << 30)
+}
+
+/// The same the other way, as of a depth.
+pub(crate) fn opposite(x: i128) -> i128
+    requires { unsigned_abs x ≤ 2 ^ 58 }
+    ensures value { result ≡ neg_ℤ x }
+    ensures small { unsigned_abs result ≤ 2 ^ 58 }
+{
+    -x
 }
 
 /// The point, rounded to the grid, that lies `x` units of 2^-30 along a direction from another, and `y` to its left.

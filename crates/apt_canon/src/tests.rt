@@ -6,6 +6,8 @@ mod circles;
 use crate::{FormFault, line_line};
 use apt_plane::{Dir, Line, Moved, Pt};
 
+mod rounds;
+
 fn line(x: i64, y: i64, dx: i64, dy: i64) -> Line
     requires x { unsigned_abs x ≤ 50000000 }
     requires y { unsigned_abs y ≤ 50000000 }

@@ -5,8 +5,7 @@ use Rattle.std.specs.Map.{lookup}
 use Rattle.std.specs.Cmp.Lexicographic.{pointwise}
 use Rattle.indexmap.specs.IndexMap.{insert_entry}
 use Rattle.apt_defs.specs.declared.figure.Figure.{Figure}
-use Rattle.apt_defs.specs.Figures.{Table, IsFigure, AreFigures, figure_named}
-use Rattle.apt_defs.specs.Definitions.{table_with}
+use Rattle.apt_defs.specs.Figures.{Table, IsFigure, AreFigures, figure_named, table_with}
 
 either : (b : Bool) (f : Figure) (rest : Option Figure) → IsFigure f → IfSome rest IsFigure → IfSome (cond b (Some f) rest) IsFigure
 either true f rest is later = is

@@ -3,8 +3,7 @@
 ghost use Rattle.std.specs.Prelude.{◌≡◌, [], OnOk, OnErr, IfOk, IfSome};
 ghost use Rattle.apt_plane.specs.Ranges.{IsSurface};
 ghost use Rattle.apt_defs.specs.Figures as figures;
-ghost use Rattle.apt_defs.specs.Figures.{IsFigure};
-ghost use Rattle.apt_defs.specs.Definitions.{table_with};
+ghost use Rattle.apt_defs.specs.Figures.{IsFigure, table_with};
 
 use crate::Figure;
 use apt_plane::Surface;

@@ -10,4 +10,5 @@ pub mod Roots
 pub mod Framed
 pub mod Footed
 pub mod Chords
+pub mod Convex
 mod Worked

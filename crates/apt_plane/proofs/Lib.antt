@@ -4,3 +4,5 @@ pub mod Displacements
 pub mod Lengths
 pub mod Frames
 pub mod Rounding
+pub mod RingLaws
+pub mod Turns
