@@ -7,6 +7,7 @@ use crate::{FormFault, line_line};
 use apt_plane::{Dir, Line, Moved, Pt};
 
 mod rounds;
+mod tangents;
 
 fn line(x: i64, y: i64, dx: i64, dy: i64) -> Line
     requires x { unsigned_abs x ≤ 50000000 }
