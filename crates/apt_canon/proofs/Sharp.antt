@@ -6,8 +6,8 @@ use Rattle.std.proofs.lemmas.Bool.{cases_lt}
 use Rattle.std.proofs.lemmas.Int.{ints}
 use Rattle.apt_num.specs.Near.{near}
 use Rattle.apt_num.specs.Root.{root}
-use Rattle.apt_num.proofs.Ring.{as_diff, diff-pos, diff-same, differences, *ℤ-neg}
-use Rattle.apt_num.proofs.Squares.{size_mul, size_square, root_le, cancel_le}
+use Rattle.apt_num.proofs.Ring.{as_diff, diff-pos, diff-same, differences, *ℤ-neg, *ℤ-minus, pos-*ℤ}
+use Rattle.apt_num.proofs.Squares.{size_mul, size_neg, root_le, cancel_le}
 use Rattle.apt_num.proofs.Nearest.{near-neg}
 use Rattle.apt_num.proofs.Roots.{ScaledRoot}
 use Rattle.apt_plane.specs.declared.figures.Pt.{Pt}
@@ -15,7 +15,7 @@ use Rattle.apt_plane.specs.declared.figures.Dir.{Dir}
 use Rattle.apt_plane.specs.declared.figures.Circ.{Circ}
 use Rattle.apt_plane.specs.Vectors.{displacement, cross, dot, length_squared, perp}
 use Rattle.apt_plane.specs.Ranges.{IsDir, IsRound}
-use Rattle.apt_plane.proofs.Displacements.{square_length_squared, cross_times, cross_self, dot_times}
+use Rattle.apt_plane.proofs.Displacements.{square_length_squared, cross_times, cross_self, dot_times, dot_square}
 use Rattle.apt_plane.proofs.Lengths.{times, plus, IsRounded, length_of_sum, length_of_times}
 use Rattle.apt_plane.proofs.Rounding.{near_displacement, moved, moved_dot, displacement_rest}
 use Rattle.apt_canon.specs.Scale.{unit, length_of, from}
@@ -119,3 +119,71 @@ radius_core s g x E A r h gs xs es lo hi = elim (cases_lt (3 * r) (2 * A)) [
       ))
   | inr fine ↦ fine
 ]
+
+times_dot : (m a b p q : ℤ) → ((m *ℤ a) *ℤ p) +ℤ ((m *ℤ b) *ℤ q) ≡ m *ℤ ((a *ℤ p) +ℤ (b *ℤ q))
+times_dot m a b p q = rw (as_diff m, as_diff a, as_diff b, as_diff p, as_diff q) (simp differences (diff-same _ _ _ _ (omega arith)))
+
+-- s times the way is the radius along the direction and the rest: so are the squares of their lengths
+squares_are : (u v e : Dir) (s m : ℤ) → IsRounded (times m u) v e s
+    → pos (unsigned_abs s * unsigned_abs s * length_squared v) ≡ (pos (unsigned_abs m * unsigned_abs m * length_squared u) +ℤ (pos 2 *ℤ (m *ℤ dot u e))) +ℤ pos (length_squared e)
+squares_are u v e s m is =
+    let same : times s v ≡ plus (times m u) e = rw (is.dx, is.dy) refl in
+    ap pos (sym (length_of_times s v))
+    ∙ ap (λ (w : Dir). pos (length_squared w)) same
+    ∙ length_of_sum (times m u) e
+    ∙ rw (length_of_times m u, times_dot m u.dx u.dy e.dx e.dy) refl
+
+difference_scaled : (s a b : ℕ) → s * unsigned_abs (pos a -ℤ pos b) ≡ unsigned_abs (pos (s * a) -ℤ pos (s * b))
+difference_scaled s a b =
+    let whole : pos s *ℤ (pos a -ℤ pos b) ≡ pos (s * a) -ℤ pos (s * b) = *ℤ-minus (pos s) (pos a) (pos b) in
+    sym (size_mul (pos s) (pos a -ℤ pos b)) ∙ ap unsigned_abs whole
+
+radius_step : (q a r g E t : ℕ) (z : ℤ) → pos (q * a) ≡ (pos t +ℤ z) +ℤ pos E → t ≡ r * r * (q + g) → q * unsigned_abs (pos a -ℤ pos (r * r)) ≤ r * r * g + unsigned_abs z + E
+radius_step q a r g E t z e f =
+    let split : t ≡ q * (r * r) + r * r * g = f ∙ omega arith in
+    rw (difference_scaled q a (r * r)) (omega (arith, ints, e, split))
+
+radius_parts : (r n q g : ℕ) → n * 2 ^ 70 ≡ q + g → r * 2 ^ 35 * (r * 2 ^ 35) * n ≡ r * r * (q + g)
+radius_parts r n q g e = omega (arith, ap (λ m. r * r * m) e)
+
+across_square : (d n E s : ℕ) → d * d ≤ n * E → 2 * E ≤ s * s → n * 2 ^ 70 ≤ (s + 1) * (s + 1) → 2 * ((2 ^ 35 * d) * (2 ^ 35 * d)) ≤ (s + 1) * (s + 1) * (s * s)
+across_square d n E s h short high = omega (arith, mul-le-mul_left (2 ^ 71) h, mul-le-mul_left (n * 2 ^ 70) short, mul-le-mul_left (s * s) high)
+
+-- the square of its length is at most one and a half radii from that of the radius
+pub radius_sharp : (r : ℕ) (u : Dir) → 100 ≤ r → r ≤ 10 ^ 8 → IsDir u → 2 * unsigned_abs (pos (length_squared (rounded_way (pos r) u)) -ℤ pos (r * r)) ≤ 3 * r
+radius_sharp r u least most is =
+    let n = length_squared u in
+    let s = root (n * 2 ^ 70) in
+    let root = length_facts u is in
+    let v = rounded_way (pos r) u in
+    let left = displacement_rest (times (pos r *ℤ unit) u) (length_of u) (length_positive u is) in
+    let e = left.0 in
+    let g = n * 2 ^ 70 - s * s in
+    let whole : n * 2 ^ 70 ≡ s * s + g = omega (arith, root.low) in
+    let step = radius_step (s * s) (length_squared v) r g (length_squared e) (r * 2 ^ 35 * (r * 2 ^ 35) * n) (pos 2 *ℤ ((pos r *ℤ unit) *ℤ dot u e)) (squares_are u v e (pos s) (pos r *ℤ unit) left.1) (radius_parts r n (s * s) g whole) in
+    let size : unsigned_abs (pos 2 *ℤ ((pos r *ℤ unit) *ℤ dot u e)) ≡ 2 * (r * (2 ^ 35 * unsigned_abs (dot u e))) =
+    size_mul (pos 2) ((pos r *ℤ unit) *ℤ dot u e) ∙ ap (λ m. 2 * m) (size_mul (pos r *ℤ unit) (dot u e)) ∙ omega arith in
+    radius_core s g (2 ^ 35 * unsigned_abs (dot u e)) (length_squared e) (unsigned_abs (pos (length_squared v) -ℤ pos (r * r))) r
+    (rw size at step) root.rest (across_square (unsigned_abs (dot u e)) n (length_squared e) s (dot_square u e) left.1.short root.high) left.1.short least (omega (arith, root.large, most))
+
+near_radius : (r : ℤ) (u : Dir) → pos 100 ≤ℤ r → r ≤ℤ pos (10 ^ 8) → IsDir u → 2 * unsigned_abs (pos (length_squared (rounded_way r u)) -ℤ (r *ℤ r)) ≤ 3 * unsigned_abs r
+near_radius (pos r) u least most is = rw (pos-*ℤ r r) (radius_sharp r u (omega (arith, ints, least)) (omega (arith, ints, most)) is)
+near_radius (negsuc r) u least most is = absurd (omega (arith, ints, least))
+
+pub ray_radius : (c : Circ) (u : Dir) → pos 100 ≤ℤ c.r → c.r ≤ℤ pos (10 ^ 8) → IsDir u → 2 * unsigned_abs (pos (length_squared (ray_way c u)) -ℤ (c.r *ℤ c.r)) ≤ 3 * unsigned_abs c.r
+ray_radius c u least most is =
+    subst (λ (w : Dir). 2 * unsigned_abs (pos (length_squared w) -ℤ (c.r *ℤ c.r)) ≤ 3 * unsigned_abs c.r) (sym (way_is c u)) (near_radius c.r u least most is)
+
+-- ---- a quarter turn on
+
+turned_length : (u : Dir) → length_of (perp u) ≡ length_of u
+turned_length u = ap (λ n. pos (root (n * 2 ^ 70))) (rw (size_neg u.dy) (omega arith))
+
+turned_way : (r : ℤ) (u : Dir) → rounded_way r (perp u) ≡ perp (rounded_way r u)
+turned_way r u =
+    ap (λ s. near_displacement (times (r *ℤ unit) (perp u)) s) (turned_length u)
+    ∙ rw (*ℤ-neg (r *ℤ unit) u.dy, near-neg ((r *ℤ unit) *ℤ u.dy) (length_of u)) refl
+
+-- the point in a direction turned by a quarter is the point turned by a quarter, exactly
+pub ray_turned : (c : Circ) (u : Dir) → ray_way c (perp u) ≡ perp (ray_way c u)
+ray_turned c u = way_is c (perp u) ∙ turned_way c.r u ∙ ap perp (sym (way_is c u))

@@ -1,7 +1,9 @@
 //! The point of a circle in a direction, the foot of a point on a line, and parallels at a distance.
 
-ghost use Rattle.std.specs.Prelude.{◌≡◌, ◌↔◌, ◌⊎◌, ◌^◌, ◌≤◌, ◌<◌, ◌<ℤ◌, pos, ◌+ℤ◌, ◌*ℤ◌, unsigned_abs, IfOk, IsErrOf, false};
+ghost use Rattle.std.specs.Prelude.{◌≡◌, ◌↔◌, ◌⊎◌, ◌^◌, ◌≤◌, ◌<◌, ◌*◌, ◌<ℤ◌, ◌≤ℤ◌, pos, ◌-ℤ◌, ◌*ℤ◌, unsigned_abs, IfOk, IsErrOf, false};
 ghost use Rattle.apt_num.specs.declared.Sign.TheVariants as signs;
+ghost use Rattle.apt_num.specs.Sign.{square};
+ghost use Rattle.apt_plane.specs.Vectors as vectors;
 ghost use Rattle.apt_plane.specs.Ranges.{IsPoint, IsDir, IsLine, IsMoved, IsRound};
 ghost use Rattle.apt_canon.specs.Scale.{IsNearLine, IsNearCircle};
 ghost use Rattle.apt_canon.specs.Scale as scale;
@@ -30,12 +32,16 @@ pub fn ray(c: &Circ, u: Dir) -> Result<Pt, FormFault>
     within(ray_point(c, u))
 }
 
-/// The point of a circle in a direction from its centre, whether or not it is in range.
+/// The point of a circle in a direction from its centre, whether or not it is in range: less than a unit off the
+/// direction, and within three quarters of one of the circle.
 pub fn ray_point(c: &Circ, u: Dir) -> Pt
     requires circle { IsRound c.now }
     requires dir { IsDir u }
     ensures value { result ≡ feet.ray_point c.now u }
     ensures on_circle { IsNearCircle c.now (pos 1) result }
+    ensures across { 2 * square (vectors.cross u (vectors.displacement c.now.c result)) ≤ vectors.length_squared u }
+    ensures onwards { (pos 0 <ℤ c.now.r) → pos 0 <ℤ vectors.dot u (vectors.displacement c.now.c result) }
+    ensures radius { (pos 100 ≤ℤ c.now.r) → 2 * unsigned_abs (pos (vectors.length_squared (vectors.displacement c.now.c result)) -ℤ (c.now.r *ℤ c.now.r)) ≤ 3 * unsigned_abs c.now.r }
 {
     along(c.c, u, c.r, length_of(u))
 }
