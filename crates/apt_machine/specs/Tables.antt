@@ -1,5 +1,5 @@
 -- The machine of a table, or the first cause of its first line that has one.
-use Rattle.std.specs.Prelude.{ℕ, ◌+◌, ◌==◌, ◌&&◌, nat_le, Bool, List, [], ◌∷◌, length, codes, Option, Some, None, Result, Ok, Err, if◌then◌else◌}
+use Rattle.std.specs.Prelude.{◌≡◌, ℕ, ◌+◌, ◌≤◌, ◌==◌, ◌&&◌, nat_le, Bool, List, [], ◌∷◌, length, codes, Option, Some, None, Result, Ok, Err, if◌then◌else◌}
 use Rattle.std.specs.List.{list_all, list_any}
 use Rattle.apt_lexis.specs.Lines.{lines_of, is_character, most_bytes, tab}
 use Rattle.apt_machine.specs.declared.key.Key.{Key}
@@ -54,14 +54,15 @@ abbrev pub finished : ℕ → Option Machine → Result Machine MachineError
 finished n None = Err (fault n causes.Missing)
 finished n (Some m) = Ok m
 
+-- what follows a line, or its cause
+abbrev pub goes_on : ℕ → Result Draft MachineCause → (Draft → Result Machine MachineError) → Result Machine MachineError
+goes_on n (Err cause) next = Err (fault n cause)
+goes_on n (Ok e) next = next e
+
 -- the machine of the lines from number n on
 abbrev pub machine_from : ℕ → Draft → List (List ℕ) → Result Machine MachineError
 machine_from n d [] = finished n (machine_of d)
-machine_from n d (line ∷ lines) = goes_on (behind_line d line)
-  where
-    goes_on : Result Draft MachineCause → Result Machine MachineError
-    goes_on (Err cause) = Err (fault n cause)
-    goes_on (Ok e) = machine_from (n + 1) e lines
+machine_from n d (line ∷ lines) = goes_on n (behind_line d line) (λ e. machine_from (n + 1) e lines)
 
 -- the first line says what the text is
 abbrev pub machine_of_lines : List (List ℕ) → Result Machine MachineError
@@ -72,3 +73,23 @@ machine_of_lines (line ∷ lines) =
 
 abbrev pub table_of : List ℕ → Result Machine MachineError
 table_of text = machine_of_lines (lines_of text)
+
+-- ---- where a cause can stand
+
+-- the causes of a line behind the first
+abbrev pub IsOfLine : MachineCause → Type 0
+IsOfLine causes.Byte = Unit {0}
+IsOfLine causes.Header = ⊥
+IsOfLine causes.Key = Unit {0}
+IsOfLine causes.Twice = Unit {0}
+IsOfLine causes.Value = Unit {0}
+IsOfLine causes.Missing = ⊥
+
+-- the lines of a text of so many at which a cause can stand
+abbrev pub Stands : ℕ → ℕ → MachineCause → Type 0
+Stands many line causes.Byte = (1 ≤ line) × (line ≤ many)
+Stands many line causes.Header = line ≡ 1
+Stands many line causes.Key = (2 ≤ line) × (line ≤ many)
+Stands many line causes.Twice = (2 ≤ line) × (line ≤ many)
+Stands many line causes.Value = (2 ≤ line) × (line ≤ many)
+Stands many line causes.Missing = line ≡ many + 1

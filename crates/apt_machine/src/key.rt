@@ -4,7 +4,7 @@ ghost use Rattle.std.specs.Prelude.{◌≡◌};
 ghost use Rattle.apt_machine.specs.Keys as keys;
 
 /// A key of a machine table.
-#[derive(Clone, Copy, PartialEq, Eq)]
+#[derive(Clone, Copy)]
 pub(crate) enum Key {
     Code,
     Seq,
@@ -18,13 +18,19 @@ pub(crate) enum Key {
 pub(crate) fn key_named(name: &[u8]) -> Option<Key>
     ensures { result ≡ keys.key_named name.now }
 {
-    match name {
-        b"CODE" => Some(Key::Code),
-        b"SEQ" => Some(Key::Seq),
-        b"FEEDMAX" => Some(Key::Feedmax),
-        b"SPINMAX" => Some(Key::Spinmax),
-        b"TOOLMAX" => Some(Key::Toolmax),
-        b"WORDS" => Some(Key::Words),
-        _ => None,
+    if name == b"CODE".as_slice() {
+        Some(Key::Code)
+    } else if name == b"SEQ".as_slice() {
+        Some(Key::Seq)
+    } else if name == b"FEEDMAX".as_slice() {
+        Some(Key::Feedmax)
+    } else if name == b"SPINMAX".as_slice() {
+        Some(Key::Spinmax)
+    } else if name == b"TOOLMAX".as_slice() {
+        Some(Key::Toolmax)
+    } else if name == b"WORDS".as_slice() {
+        Some(Key::Words)
+    } else {
+        None
     }
 }

@@ -4,12 +4,13 @@
 mod cause;
 mod draft;
 mod key;
+mod line;
 mod machine;
 mod number;
-mod table;
+mod reader;
 #[cfg(test)]
 mod tests;
 
 pub use cause::{MachineCause, MachineError};
 pub use machine::Machine;
-pub use table::table;
+pub use reader::table;

@@ -7,7 +7,7 @@ use apt_tapecode::Code;
 
 /// A machine: the step of its sequence numbers (0 for none) and its greatest feed (in tenths of an
 /// inch or of a millimetre per minute), spindle speed (in turns per minute) and tool number.
-#[derive(Clone, Copy, Debug, PartialEq, Eq)]
+#[derive(Clone, Copy, PartialEq, Eq)]
 pub struct Machine {
     pub code: Code,
     pub seq: u16,
