@@ -1,33 +1,29 @@
 -- The point that the formula gives for two circles that meet is at most one unit from both.
-use Rattle.std.proofs.Common.{refl, ◌≡◌, ◌≢◌, ℕ, ◌+◌, ◌-◌, ◌*◌, ◌^◌, ◌≤◌, ◌<◌, ◌⊎◌, ◌∙◌, ap, arith, inl, inr, ℤ, pos, negsuc, neg_ℤ, ◌+ℤ◌, ◌-ℤ◌, ◌*ℤ◌, ◌≤ℤ◌, unsigned_abs}
-use Rattle.std.proofs.Math.Nat.{mul-le-mul_left}
+use Rattle.std.proofs.Common.{refl, ◌≡◌, ℕ, ◌+◌, ◌-◌, ◌*◌, ◌^◌, ◌≤◌, ◌<◌, ◌∙◌, ap, arith, inl, inr, ℤ, pos, ◌+ℤ◌, ◌-ℤ◌, ◌*ℤ◌, unsigned_abs}
 use Rattle.std.proofs.lemmas.Int.{ints}
 use Rattle.std.proofs.lemmas.Bool.{cases_lt}
 use Rattle.apt_num.specs.Root.{IsRoot, root}
 use Rattle.apt_num.specs.Sign.{square}
 use Rattle.apt_num.proofs.Ring.{as_diff, diff-pos, diff-same, differences, *ℤ-minus}
 use Rattle.apt_num.proofs.Nearest.{near_remainder}
-use Rattle.apt_num.proofs.Squares.{size_mul, size_neg, size_add, square_le, root_le}
-use Rattle.apt_num.proofs.Roots.{ScaledRoot}
+use Rattle.apt_num.proofs.Squares.{size_mul, size_add, square_le, root_le}
 use Rattle.apt_num.proofs.Framed.{IsEighth, IsFramed}
 use Rattle.apt_num.proofs.Chords.{Apart, Meeting, sum_square, IsChord, end_square, end_square-is, within_edge, chord_end, on_second}
-use Rattle.apt_plane.specs.declared.figures.Pt.{Pt}
-use Rattle.apt_plane.specs.declared.figures.Dir.{Dir}
 use Rattle.apt_plane.specs.declared.figures.Circ.{Circ}
-use Rattle.apt_plane.specs.Vectors.{displacement, cross, length_squared, perp}
+use Rattle.apt_plane.specs.Vectors.{displacement, length_squared, perp}
 use Rattle.apt_plane.specs.Ranges.{IsDir, IsSense}
 use Rattle.apt_plane.proofs.Displacements.{to}
 use Rattle.apt_plane.proofs.Lengths.{IsRounded, IsInRing, on_circle}
 use Rattle.apt_plane.proofs.Frames.{in_frame, norm_in_frame}
 use Rattle.apt_plane.proofs.Rounding.{near_displacement, displacement_rest}
 use Rattle.apt_canon.specs.Scale.{IsNearCircle}
-use Rattle.apt_canon.specs.Circles.{framed, half_chord, chord_depth, circle_circle_point}
+use Rattle.apt_canon.specs.Circles.{half_chord, chord_depth, circle_circle_point}
 use Rattle.apt_canon.proofs.Depths.{length_facts}
 use Rattle.apt_canon.proofs.FramedPoints.{size_apart, small_way, framed_on_circle, near_circle}
 use Rattle.apt_canon.proofs.LineCircleLaws.{half_of, half_chord-is, half_of-IsRoot, sense_size, ends}
 
 -- ---- two circles that meet: their radii, and the way from the first centre to the second
-pub record DoMeet (a b : Circ) (r q : ℕ) : Type 0 where
+pub record TwoCircles (a b : Circ) (r q : ℕ) : Type 0 where
   pub first : a.r ≡ pos r
   pub second : b.r ≡ pos q
   pub first_least : 2 ≤ r
@@ -58,7 +54,7 @@ depth_size : (s : ℕ) (x l e : ℤ) → pos s *ℤ x ≡ (l *ℤ pos (2 ^ 64)) 
 depth_size s x l e equal short = omega (arith, size_mul (pos s) x, ap unsigned_abs equal, size_add (l *ℤ pos (2 ^ 64)) e, size_mul l (pos (2 ^ 64)), short)
 
 -- the depth of the chord, with what its rounding leaves
-pub chord_rest : (a b : Circ) (r q : ℕ) → DoMeet a b r q → let n = length_squared (displacement a.c b.c) in let s = root (n * 2 ^ 70) in
+pub chord_rest : (a b : Circ) (r q : ℕ) → TwoCircles a b r q → let n = length_squared (displacement a.c b.c) in let s = root (n * 2 ^ 70) in
     (e : ℤ) × (pos s *ℤ chord_depth a b ≡ (((pos n +ℤ (pos r *ℤ pos r)) -ℤ (pos q *ℤ pos q)) *ℤ pos (2 ^ 64)) +ℤ e) × (2 * unsigned_abs e ≤ s)
 chord_rest a b r q is =
     let n = length_squared (displacement a.c b.c) in
@@ -66,7 +62,7 @@ chord_rest a b r q is =
     rw (is.first, is.second) (near_remainder (((pos n +ℤ (pos r *ℤ pos r)) -ℤ (pos q *ℤ pos q)) *ℤ pos (2 ^ 64)) (pos s) (size_apart s (length_facts (displacement a.c b.c) is.way).large))
 
 -- the chord lies within the first circle
-pub chord_within : (a b : Circ) (r q : ℕ) → DoMeet a b r q → unsigned_abs (chord_depth a b) ≤ r * 2 ^ 30
+pub chord_within : (a b : Circ) (r q : ℕ) → TwoCircles a b r q → unsigned_abs (chord_depth a b) ≤ r * 2 ^ 30
 chord_within a b r q is =
     let n = length_squared (displacement a.c b.c) in
     let s = root (n * 2 ^ 70) in
@@ -77,7 +73,7 @@ chord_within a b r q is =
     (omega (arith, is.first_least)) (omega (arith, is.second_least)) (meeting n r q d (size_Apart r q) is.inside is.outside) (size_Apart (n + r * r) (q * q))
     (depth_size s (chord_depth a b) l rest.0 rest.1 rest.2)
 
-pub chord_root : (a b : Circ) (r q : ℕ) → DoMeet a b r q → let g = unsigned_abs (chord_depth a b) in let t = half_of r (chord_depth a b) in
+pub chord_root : (a b : Circ) (r q : ℕ) → TwoCircles a b r q → let g = unsigned_abs (chord_depth a b) in let t = half_of r (chord_depth a b) in
     (g * g ≤ r * r * 2 ^ 60) × IsRoot (r * r * 2 ^ 60 - g * g) t
 chord_root a b r q is = (omega (arith, square_le (unsigned_abs (chord_depth a b)) (r * 2 ^ 30) (chord_within a b r q is)), half_of-IsRoot r (chord_depth a b) is.first_most)
 
@@ -90,7 +86,7 @@ half_size a x sigma r e sense =
 swapped : (r g t : ℕ) → IsEighth r (g * g + t * t) → IsEighth r (t * t + g * g)
 swapped r g t is = record { least = omega (arith, is.least); most = omega (arith, is.most) }
 
-pub point_on_first : (a b : Circ) (sigma : ℤ) (r q : ℕ) → DoMeet a b r q → IsSense sigma → IsNearCircle a (pos 1) (circle_circle_point a b sigma)
+pub point_on_first : (a b : Circ) (sigma : ℤ) (r q : ℕ) → TwoCircles a b r q → IsSense sigma → IsNearCircle a (pos 1) (circle_circle_point a b sigma)
 point_on_first a b sigma r q is sense =
     let d = displacement a.c b.c in
     let x = chord_depth a b in
@@ -117,7 +113,7 @@ left_over : (r g t : ℕ) → g * g ≤ r * r * 2 ^ 60 → IsRoot (r * r * 2 ^ 6
 left_over r g t inside at =
     (omega (arith, inside, at.low), omega (arith, at.high), root_le t (r * 2 ^ 30) (omega (arith, at.low)))
 
-second_framed : (a b : Circ) (r q : ℕ) → DoMeet a b r q → let n = length_squared (displacement a.c b.c) in let s = root (n * 2 ^ 70) in
+second_framed : (a b : Circ) (r q : ℕ) → TwoCircles a b r q → let n = length_squared (displacement a.c b.c) in let s = root (n * 2 ^ 70) in
     IsFramed q s (end_square (chord_depth a b) (half_of r (chord_depth a b)) s n)
 second_framed a b r q is =
     let n = length_squared (displacement a.c b.c) in
@@ -132,7 +128,7 @@ second_framed a b r q is =
     let chord : IsChord n r q s t (r * r * 2 ^ 60 - g * g - t * t) (n * 2 ^ 70 - s * s) x rest.0 = record { depth = rest.1; root = omega (arith, at.low); chord = left.0 } in
     on_second n r q s t (r * r * 2 ^ 60 - g * g - t * t) (n * 2 ^ 70 - s * s) x rest.0 at is.first_most is.second_least is.second_most chord rest.2 at.rest left.1 left.2
 
-pub point_on_second : (a b : Circ) (sigma : ℤ) (r q : ℕ) → DoMeet a b r q → IsSense sigma → IsNearCircle b (pos 1) (circle_circle_point a b sigma)
+pub point_on_second : (a b : Circ) (sigma : ℤ) (r q : ℕ) → TwoCircles a b r q → IsSense sigma → IsNearCircle b (pos 1) (circle_circle_point a b sigma)
 point_on_second a b sigma r q is sense =
     let d = displacement a.c b.c in
     let n = length_squared d in

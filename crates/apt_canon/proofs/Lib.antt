@@ -7,4 +7,5 @@ pub mod OnBoth
 pub mod FramedPoints
 pub mod LineCircleLaws
 pub mod CircleCircleLaws
+pub mod CircleAnswers
 pub mod Worked

@@ -1,9 +1,9 @@
 //! The points in which a moved line, or a circle, meets a circle.
 
-ghost use Rattle.std.specs.Prelude.{◌≡◌, ◌≢◌, ◌↔◌, ◌*◌, ◌^◌, ◌≤◌, pos, ◌+ℤ◌, ◌-ℤ◌, ◌*ℤ◌, ◌≤ℤ◌, nat_le, ◌&&◌, unsigned_abs, IfOk, IsErrOf};
+ghost use Rattle.std.specs.Prelude.{◌≡◌, ◌≢◌, ◌↔◌, ◌*◌, ◌^◌, ◌≤◌, pos, neg_ℤ, ◌+ℤ◌, ◌-ℤ◌, ◌*ℤ◌, ◌≤ℤ◌, nat_le, ◌&&◌, unsigned_abs, IfOk, IsErrOf};
 ghost use Rattle.apt_num.specs.Sign as signs;
 ghost use Rattle.apt_plane.specs.Vectors as vectors;
-ghost use Rattle.apt_plane.specs.Ranges.{IsPoint, IsMoved, IsRound, IsSense};
+ghost use Rattle.apt_plane.specs.Ranges.{IsPoint, IsDir, IsMoved, IsRound, IsSense};
 ghost use Rattle.apt_canon.specs.Scale.{IsNearLine, IsNearCircle};
 ghost use Rattle.apt_canon.specs.Scale as scale;
 ghost use Rattle.apt_canon.specs.Circles as circles;
@@ -13,7 +13,7 @@ use crate::FormFault;
 use crate::scale::{Wide, depth, framed, in_range, length_of, times};
 use apt_num::{Sign, div_near, isqrt, root_sign};
 use apt_plane::vectors::{displacement, height, length_squared, length_squared_of};
-use apt_plane::{Circ, Moved, Pt};
+use apt_plane::{Circ, Dir, Moved, Pt};
 
 /// The point, rounded to the grid, in which a moved line meets a circle: of the two the one further along the line
 /// for a `sigma` of 1, the other for -1. Where the line touches the circle both are one.
@@ -31,8 +31,17 @@ pub fn line_circle(l: &Moved, c: &Circ, sigma: i8) -> Result<Pt, FormFault>
     ensures on_line { IfOk result (λ p. IsNearLine l.now.line l.now.off (pos 1) p) }
     ensures on_circle { IfOk result (λ p. IsNearCircle c.now (pos 1) p) }
 {
+    meet_line(l, c, sigma)
+}
+
+fn meet_line(l: &Moved, c: &Circ, sigma: i8) -> Result<Pt, FormFault>
+    requires line { IsMoved l.now }
+    requires circle { IsRound c.now }
+    requires sense { IsSense sigma }
+    ensures { result ≡ circles.line_circle l.now.line l.now.off c.now sigma }
+{
     if reaches(l, c) {
-        within_limit(line_circle_point(l, c, sigma))
+        within_limit(on_chord(l, c, sigma))
     } else {
         Err(FormFault::NoMeeting)
     }
@@ -69,7 +78,18 @@ fn reaches(l: &Moved, c: &Circ) -> bool
 {
     let height = height(l.line.base, l.line.dir, c.c);
     let square = length_squared_of(l.line.dir);
-    is_at_least(height, l.off - c.r, square) && is_at_least(-height, -l.off - c.r, square)
+    is_between(height, l.off, c.r, square)
+}
+
+/// Whether `height` is at most `r` lengths away from `off` of them, for the square of a length.
+fn is_between(height: i128, off: i64, r: i64, square: u128) -> bool
+    requires height { unsigned_abs height ≤ 2 * 10 ^ 16 }
+    requires off { unsigned_abs off ≤ 10 ^ 8 }
+    requires r { unsigned_abs r ≤ 10 ^ 8 }
+    requires square { square ≤ 2 * 10 ^ 16 }
+    ensures { result ≡ (signs.is_at_least height (off -ℤ r) square && signs.is_at_least (neg_ℤ height) (neg_ℤ off -ℤ r) square) }
+{
+    is_at_least(height, off - r, square) && is_at_least(-height, -off - r, square)
 }
 
 /// Whether `height >= length * sqrt(square)`.
@@ -102,11 +122,22 @@ pub fn circle_circle(a: &Circ, b: &Circ, sigma: i8) -> Result<Pt, FormFault>
     ensures on_a { IfOk result (λ p. IsNearCircle a.now (pos 1) p) }
     ensures on_b { IfOk result (λ p. IsNearCircle b.now (pos 1) p) }
 {
+    meet_circle(a, b, sigma)
+}
+
+fn meet_circle(a: &Circ, b: &Circ, sigma: i8) -> Result<Pt, FormFault>
+    requires a { IsRound a.now }
+    requires b { IsRound b.now }
+    requires a_least { pos 100 ≤ℤ a.now.r }
+    requires b_least { pos 100 ≤ℤ b.now.r }
+    requires sense { IsSense sigma }
+    ensures { result ≡ circles.circle_circle a.now b.now sigma }
+{
     let square = length_squared(displacement(a.c, b.c));
     if square == 0 {
         Err(FormFault::Degenerate)
     } else if overlap(a.r, b.r, square) {
-        within_limit(circle_circle_point(a, b, sigma))
+        within_limit(on_common_chord(a, b, sigma))
     } else {
         Err(FormFault::NoMeeting)
     }
@@ -138,35 +169,53 @@ fn on_common_chord(a: &Circ, b: &Circ, sigma: i8) -> Pt
     requires meeting { DoMeet a.now b.now }
     ensures { result ≡ circles.circle_circle_point a.now b.now sigma }
 {
-    let depth = chord_depth(a, b);
-    let half = turned(sigma, half_chord(a.r, depth));
-    framed(a.c, displacement(a.c, b.c), depth, half)
+    let way = way_between(a.c, b.c);
+    let depth = chord_depth(a, b, way);
+    framed(a.c, way, depth, turned(sigma, half_chord(a.r, depth)))
+}
+
+/// The way between two points is a direction.
+fn way_between(p: Pt, q: Pt) -> Dir
+    requires start { IsPoint p }
+    requires end { IsPoint q }
+    requires apart { p ≢ q }
+    ensures value { result ≡ vectors.displacement p q }
+    ensures dir { IsDir result }
+{
+    displacement(p, q)
 }
 
 /// How far the common chord of two circles lies from the first centre, in units of 2^-30.
-fn chord_depth(a: &Circ, b: &Circ) -> i128
+fn chord_depth(a: &Circ, b: &Circ, way: Dir) -> i128
     requires a { IsRound a.now }
     requires b { IsRound b.now }
     requires a_least { pos 100 ≤ℤ a.now.r }
     requires b_least { pos 100 ≤ℤ b.now.r }
-    requires apart { a.now.c ≢ b.now.c }
+    requires way { way ≡ vectors.displacement a.now.c b.now.c }
+    requires dir { IsDir way }
     requires meeting { DoMeet a.now b.now }
     ensures value { result ≡ circles.chord_depth a.now b.now }
     ensures small { unsigned_abs result ≤ 2 ^ 57 }
 {
-    let way = displacement(a.c, b.c);
-    let share = chord_share(length_squared_of(way), a.r, b.r);
-    div_near(share * (1 << 64), length_of(way))
+    div_near(chord_share(length_squared_of(way), a.r, b.r), length_of(way))
 }
 
 fn chord_share(square: u128, r: i64, q: i64) -> i128
     requires square { square ≤ 2 * 10 ^ 16 }
     requires r { unsigned_abs r ≤ 10 ^ 8 }
     requires q { unsigned_abs q ≤ 10 ^ 8 }
-    ensures value { result ≡ (pos square +ℤ (r *ℤ r)) -ℤ (q *ℤ q) }
-    ensures small { unsigned_abs result ≤ 4 * 10 ^ 16 }
+    ensures value { result ≡ ((pos square +ℤ (r *ℤ r)) -ℤ (q *ℤ q)) *ℤ pos (2 ^ 64) }
+    ensures small { unsigned_abs result ≤ 2 ^ 120 }
 {
-    square as i128 + times(r, i128::from(r)) - times(q, i128::from(q))
+    (square as i128 + square_of(r) - square_of(q)) * (1 << 64)
+}
+
+fn square_of(r: i64) -> i128
+    requires { unsigned_abs r ≤ 10 ^ 8 }
+    ensures value { result ≡ r *ℤ r }
+    ensures small { unsigned_abs result ≤ 10 ^ 16 }
+{
+    times(r, i128::from(r))
 }
 
 /// Whether the root of a square is at most the sum of two radii, and at least their difference.
@@ -175,9 +224,15 @@ fn overlap(r: i64, q: i64, square: u128) -> bool
     requires q { unsigned_abs q ≤ 10 ^ 8 }
     ensures { result ≡ (nat_le (signs.square (r -ℤ q)) square && nat_le square (signs.square (r +ℤ q))) }
 {
-    let difference = u128::from((r - q).unsigned_abs());
-    let sum = u128::from((r + q).unsigned_abs());
-    difference * difference <= square && square <= sum * sum
+    size_squared(r - q) <= square && square <= size_squared(r + q)
+}
+
+fn size_squared(length: i64) -> u128
+    requires { unsigned_abs length ≤ 2 * 10 ^ 8 }
+    ensures { result ≡ signs.square length }
+{
+    let size = u128::from(length.unsigned_abs());
+    size * size
 }
 
 /// Half of the chord at a depth, in units of 2^-30: none where rounding brought the depth past the edge.
@@ -189,9 +244,8 @@ fn half_chord(r: i64, depth: i128) -> i128
     ensures small { unsigned_abs result ≤ 2 ^ 57 }
 {
     let radius = u128::from(r.unsigned_abs());
-    let depth = depth.unsigned_abs();
-    let square = (radius * radius * (1 << 60)).saturating_sub(depth * depth);
-    isqrt(square) as i128
+    let size = depth.unsigned_abs();
+    isqrt((radius * radius * (1 << 60)).saturating_sub(size * size)) as i128
 }
 
 /// A length that `sigma` turns.
