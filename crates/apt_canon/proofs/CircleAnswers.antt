@@ -1,12 +1,11 @@
 -- How the answers of line_circle and circle_circle are made, and what they tell.
-use Rattle.std.proofs.Common.{refl, ◌≡◌, ◌≢◌, ◌↔◌, ℕ, zero, suc, ◌+◌, ◌*◌, ◌^◌, ◌≤◌, ◌&&◌, Bool, true, false, ap, subst, ◌∙◌, arith, inl, inr, ℤ, pos, negsuc, neg_ℤ, ◌+ℤ◌, ◌-ℤ◌, ◌*ℤ◌, ◌≤ℤ◌, unsigned_abs, ◌==◌, nat_le, Result, Ok, Err, IfOk, IsErrOf}
+use Rattle.std.proofs.Common.{refl, ◌≡◌, ◌≢◌, ◌↔◌, ℕ, zero, suc, ◌+◌, ◌*◌, ◌^◌, ◌≤◌, ◌<◌, ◌&&◌, Bool, true, false, subst, sym, ◌∙◌, arith, inl, inr, ℤ, pos, negsuc, neg_ℤ, ◌+ℤ◌, ◌-ℤ◌, ◌≤ℤ◌, unsigned_abs, ◌==◌, nat_le, Result, Ok, Err, IfOk, IsErrOf}
 use Rattle.std.specs.Prelude.{if◌then◌else◌}
 use Rattle.std.proofs.lemmas.Int.{ints}
 use Rattle.std.proofs.lemmas.Bool.Decides.{nat_tests, leb_tells}
-use Rattle.apt_num.specs.Sign.{OnLine, square, is_at_least}
+use Rattle.apt_num.specs.Sign.{square, is_at_least}
 use Rattle.apt_num.proofs.Tests.{is_at_least-true, is_at_least-from}
 use Rattle.apt_plane.specs.declared.figures.Pt.{Pt}
-use Rattle.apt_plane.specs.declared.figures.Dir.{Dir}
 use Rattle.apt_plane.specs.declared.figures.Line.{Line}
 use Rattle.apt_plane.specs.declared.figures.Moved.{Moved}
 use Rattle.apt_plane.specs.declared.figures.Circ.{Circ}
@@ -15,9 +14,9 @@ use Rattle.apt_plane.specs.Ranges.{IsPoint, IsDir, IsMoved, IsRound, IsSense}
 use Rattle.apt_canon.specs.declared.FormFault.{FormFault}
 use Rattle.apt_canon.specs.declared.FormFault.TheVariants.{NoMeeting, OutOfRange, Degenerate}
 use Rattle.apt_canon.specs.Scale.{in_range, is_in_range, IsNearLine, IsNearCircle}
-use Rattle.apt_canon.specs.Circles.{DoMeet, reaches, line_circle, line_circle_point, are_concentric, overlap, circle_circle, circle_circle_point}
+use Rattle.apt_canon.specs.Circles.{DoMeet, reaches, line_circle, line_circle_point, are_concentric, overlap, chord_depth, circle_circle, circle_circle_point}
 use Rattle.apt_canon.proofs.LineCircleLaws.{point_on_line, point_on_circle}
-use Rattle.apt_canon.proofs.CircleCircleLaws.{TwoCircles, point_on_first, point_on_second}
+use Rattle.apt_canon.proofs.CircleCircleLaws.{TwoCircles, chord_within, point_on_first, point_on_second}
 
 -- ---- a point is tested against the limit
 tested : (fits : Bool) (p : Pt) (fault : FormFault) → fault ≢ OutOfRange → ¬ IsErrOf (if fits then Ok p else Err OutOfRange) fault
@@ -116,6 +115,9 @@ answer_on_circle r l c sigma is round sense e =
     rw e (met (reaches l.line l.off c) (IsNearLine l.line l.off c.r c.c) (IsNearCircle c (pos 1)) (line_circle_point l.line l.off c sigma) (reaches-tells l.line l.off c) (on_circle l c sigma is round sense))
 
 -- ---- two circles
+pub le-fails : (m n : ℕ) → n < m → nat_le m n ≡ false
+le-fails m n h = grind (arith, nat_tests)
+
 abbrev pt : ℤ → ℤ → Pt
 pt x y = record { x = x; y = y }
 
@@ -144,13 +146,16 @@ no_way p = rw (to_itself p.x, to_itself p.y) refl
 zero-true : (n : ℕ) → (n == 0) ≡ true → n ≡ 0
 zero-true n e = grind (arith, nat_tests)
 
+zero-fails : (n : ℕ) → 0 < n → (n == 0) ≡ false
+zero-fails n h = grind (arith, nat_tests)
+
 zero-from : (n : ℕ) → n ≡ 0 → (n == 0) ≡ true
 zero-from n e = rw e refl
 
 le-true : (m n : ℕ) → nat_le m n ≡ true → m ≤ n
 le-true m n e = grind (arith, nat_tests)
 
-le-from : (m n : ℕ) → m ≤ n → nat_le m n ≡ true
+pub le-from : (m n : ℕ) → m ≤ n → nat_le m n ≡ true
 le-from m n h = grind (arith, nat_tests)
 
 concentric-tells : (a b : Circ) → Tells (are_concentric a b) (a.c ≡ b.c)
@@ -232,6 +237,10 @@ two_circles a b is_a is_b large_a large_b way meet =
       outside = sum_inside (a.r) (b.r) (length_squared (displacement a.c b.c)) is_a.least is_b.least meet.outside;
     }
 
+pub within_chord : (a b : Circ) → IsRound a → IsRound b → pos 100 ≤ℤ a.r → pos 100 ≤ℤ b.r → IsDir (displacement a.c b.c) → DoMeet a b → unsigned_abs (chord_depth a b) ≤ 2 ^ 57
+within_chord a b is_a is_b large_a large_b way meet =
+    omega (arith, chord_within a b (unsigned_abs a.r) (unsigned_abs b.r) (two_circles a b is_a is_b large_a large_b way meet), radius_most a is_a)
+
 pub on_first : (a b : Circ) (sigma : ℤ) → IsRound a → IsRound b → pos 100 ≤ℤ a.r → pos 100 ≤ℤ b.r → IsSense sigma → a.c ≢ b.c → DoMeet a b
     → IsNearCircle a (pos 1) (circle_circle_point a b sigma)
 on_first a b sigma is_a is_b large_a large_b sense apart meet =
@@ -265,3 +274,14 @@ pub answer_on_second : (r : Result Pt FormFault) (a b : Circ) (sigma : ℤ) → 
     → IfOk r (λ p. IsNearCircle b (pos 1) p)
 answer_on_second r a b sigma is_a is_b large_a large_b sense e =
     rw e (by_point (are_concentric a b) (overlap a b) (a.c ≡ b.c) (DoMeet a b) (IsNearCircle b (pos 1)) (circle_circle_point a b sigma) (concentric-tells a b) (overlap-tells a b) (on_second a b sigma is_a is_b large_a large_b sense))
+
+-- as its tests say it
+pub tested_meeting : (a b : Circ) (n : ℕ) (test : Bool) → n ≡ length_squared (displacement a.c b.c) → test ≡ (nat_le (square (a.r -ℤ b.r)) n && nat_le n (square (a.r +ℤ b.r)))
+    → test ≡ true → DoMeet a b
+tested_meeting a b n test e f h = overlap-true a b (sym (f ∙ rw e refl) ∙ h)
+
+pub meeting_answer : (a b : Circ) (n : ℕ) (test : Bool) (sigma : ℤ) → 0 < n → n ≡ length_squared (displacement a.c b.c)
+    → test ≡ (nat_le (square (a.r -ℤ b.r)) n && nat_le n (square (a.r +ℤ b.r))) → test ≡ true → in_range (circle_circle_point a b sigma) ≡ circle_circle a b sigma
+meeting_answer a b n test sigma positive e f h =
+    let apart : are_concentric a b ≡ false = zero-fails (length_squared (displacement a.c b.c)) (rw e at positive) in
+    rw (apart, overlap-from a b (tested_meeting a b n test e f h)) refl

@@ -1,27 +1,23 @@
 -- The point that the formula gives for two circles that meet is at most one unit from both.
-use Rattle.std.proofs.Common.{refl, ◌≡◌, ◌≢◌, ℕ, ◌+◌, ◌-◌, ◌*◌, ◌^◌, ◌≤◌, ◌<◌, ◌⊎◌, ◌∙◌, ap, arith, inl, inr, ℤ, pos, negsuc, neg_ℤ, ◌+ℤ◌, ◌-ℤ◌, ◌*ℤ◌, ◌≤ℤ◌, unsigned_abs}
-use Rattle.std.proofs.Math.Nat.{mul-le-mul_left}
+use Rattle.std.proofs.Common.{refl, ◌≡◌, ℕ, ◌+◌, ◌-◌, ◌*◌, ◌^◌, ◌≤◌, ◌<◌, ◌∙◌, ap, arith, inl, inr, ℤ, pos, ◌+ℤ◌, ◌-ℤ◌, ◌*ℤ◌, unsigned_abs}
 use Rattle.std.proofs.lemmas.Int.{ints}
 use Rattle.std.proofs.lemmas.Bool.{cases_lt}
 use Rattle.apt_num.specs.Root.{IsRoot, root}
 use Rattle.apt_num.specs.Sign.{square}
 use Rattle.apt_num.proofs.Ring.{as_diff, diff-pos, diff-same, differences, *ℤ-minus}
 use Rattle.apt_num.proofs.Nearest.{near_remainder}
-use Rattle.apt_num.proofs.Squares.{size_mul, size_neg, size_add, square_le, root_le}
-use Rattle.apt_num.proofs.Roots.{ScaledRoot}
+use Rattle.apt_num.proofs.Squares.{size_mul, size_add, square_le, root_le}
 use Rattle.apt_num.proofs.Framed.{IsEighth, IsFramed}
 use Rattle.apt_num.proofs.Chords.{Apart, Meeting, sum_square, IsChord, end_square, end_square-is, within_edge, chord_end, on_second}
-use Rattle.apt_plane.specs.declared.figures.Pt.{Pt}
-use Rattle.apt_plane.specs.declared.figures.Dir.{Dir}
 use Rattle.apt_plane.specs.declared.figures.Circ.{Circ}
-use Rattle.apt_plane.specs.Vectors.{displacement, cross, length_squared, perp}
+use Rattle.apt_plane.specs.Vectors.{displacement, length_squared, perp}
 use Rattle.apt_plane.specs.Ranges.{IsDir, IsSense}
 use Rattle.apt_plane.proofs.Displacements.{to}
 use Rattle.apt_plane.proofs.Lengths.{IsRounded, IsInRing, on_circle}
 use Rattle.apt_plane.proofs.Frames.{in_frame, norm_in_frame}
 use Rattle.apt_plane.proofs.Rounding.{near_displacement, displacement_rest}
 use Rattle.apt_canon.specs.Scale.{IsNearCircle}
-use Rattle.apt_canon.specs.Circles.{framed, half_chord, chord_depth, circle_circle_point}
+use Rattle.apt_canon.specs.Circles.{half_chord, chord_depth, circle_circle_point}
 use Rattle.apt_canon.proofs.Depths.{length_facts}
 use Rattle.apt_canon.proofs.FramedPoints.{size_apart, small_way, framed_on_circle, near_circle}
 use Rattle.apt_canon.proofs.LineCircleLaws.{half_of, half_chord-is, half_of-IsRoot, sense_size, ends}

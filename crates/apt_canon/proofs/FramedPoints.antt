@@ -3,9 +3,7 @@ use Rattle.std.proofs.Common.{◌≡◌, ◌≢◌, ℕ, zero, suc, ◌+◌, ◌
 use Rattle.std.proofs.lemmas.Int.{ints}
 use Rattle.apt_num.specs.Root.{root}
 use Rattle.apt_num.specs.Near.{near}
-use Rattle.apt_num.proofs.Ring.{as_diff, diff-same, differences, *ℤ-minus, *ℤ-+ℤ, *ℤ-neg, neg-*ℤ}
-use Rattle.apt_num.proofs.Nearest.{near_remainder}
-use Rattle.apt_num.proofs.Roots.{ScaledRoot, root_facts}
+use Rattle.apt_num.proofs.Ring.{*ℤ-+ℤ, *ℤ-neg, neg-*ℤ}
 use Rattle.apt_num.proofs.Framed.{IsEighth, IsFramed, framed as framed_number}
 use Rattle.apt_num.proofs.Footed.{lag, IsAtDepth, footed}
 use Rattle.apt_plane.specs.declared.figures.Pt.{Pt}

@@ -30,4 +30,5 @@ pub mod CircleAnswers
 pub mod TangentLaws
 pub mod TangentTwoLaws
 pub mod TangentAnswers
+pub mod TangentWorked
 pub mod Worked

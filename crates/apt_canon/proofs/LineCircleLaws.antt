@@ -1,5 +1,5 @@
 -- The point that the formula gives for a moved line and a circle that meet is at most one unit from both.
-use Rattle.std.proofs.Common.{refl, ◌≡◌, ℕ, ◌+◌, ◌-◌, ◌*◌, ◌^◌, ◌≤◌, ◌∙◌, ap, arith, inl, inr, ℤ, pos, negsuc, neg_ℤ, ◌+ℤ◌, ◌-ℤ◌, ◌*ℤ◌, unsigned_abs}
+use Rattle.std.proofs.Common.{refl, ◌≡◌, ℕ, ◌+◌, ◌-◌, ◌*◌, ◌^◌, ◌≤◌, ◌∙◌, ap, arith, inl, inr, ℤ, pos, negsuc, neg_ℤ, ◌+ℤ◌, ◌-ℤ◌, ◌*ℤ◌, ◌≤ℤ◌, unsigned_abs}
 use Rattle.std.proofs.Math.Nat.{mul-le-mul_left}
 use Rattle.std.proofs.lemmas.Int.{ints}
 use Rattle.std.proofs.lemmas.Bool.{cases_lt}
@@ -39,6 +39,10 @@ half_of r g = root (r * r * 2 ^ 60 - unsigned_abs g * unsigned_abs g)
 pub half_chord-is : (r : ℕ) (g : ℤ) → half_chord (pos r) g ≡ pos (half_of r g)
 unfolding half_of
 half_chord-is r g = ap (λ m. pos (root m)) (radicand r g)
+
+pub half_chord-root : (r g : ℤ) → pos 0 ≤ℤ r → half_chord r g ≡ pos (root (unsigned_abs r * unsigned_abs r * 2 ^ 60 - unsigned_abs g * unsigned_abs g))
+half_chord-root (pos r) g least = ap (λ m. pos (root m)) (radicand r g)
+half_chord-root (negsuc r) g least = absurd (omega (arith, ints))
 
 pub half_of-IsRoot : (r : ℕ) (g : ℤ) → r ≤ 10 ^ 8 → IsRoot (r * r * 2 ^ 60 - unsigned_abs g * unsigned_abs g) (half_of r g)
 unfolding half_of

@@ -1,5 +1,5 @@
 -- What products of signed numbers are, and how large.
-use Rattle.std.proofs.Common.{◌≡◌, ◌≢◌, ℕ, ◌*◌, ◌+◌, ◌≤◌, ◌<◌, ◌^◌, arith, ℤ, pos, ◌+ℤ◌, ◌*ℤ◌, ◌-ℤ◌, unsigned_abs, FitsSigned, to_z, of_z}
+use Rattle.std.proofs.Common.{◌≡◌, ◌≢◌, ℕ, ◌*◌, ◌+◌, ◌≤◌, ◌<◌, ◌^◌, arith, ℤ, pos, ◌+ℤ◌, ◌*ℤ◌, ◌-ℤ◌, neg_ℤ, unsigned_abs, FitsSigned, to_z, of_z}
 use Rattle.std.specs.Int.{w128}
 use Rattle.std.proofs.Math.Nat.{mul-le-mul_left, mul-le-mul_right}
 use Rattle.std.proofs.lemmas.Int.{to_z-of_z, ints, unsigned_abs-mul}
@@ -118,3 +118,7 @@ scaled_sum_kept x y p q = rw (sum_kept x y (omega arith) (omega arith)) (kept (p
 pub scaled_sum_fits : (x y : ℤ) → unsigned_abs x ≤ 10 ^ 8 * 2 ^ 58 → unsigned_abs y ≤ 10 ^ 8 * 2 ^ 58
     → FitsSigned w128 (pos 32 *ℤ to_z w128 (of_z w128 (to_z w128 (of_z w128 x) +ℤ to_z w128 (of_z w128 y))))
 scaled_sum_fits x y p q = rw (sum_kept x y (omega arith) (omega arith)) (omega (arith, ints, sum_size x y p q))
+
+-- as a number is negated
+pub zero-minus : (z : ℤ) → pos 0 -ℤ z ≡ neg_ℤ z
+zero-minus z = omega (arith, ints)

@@ -3,7 +3,6 @@ use Rattle.std.proofs.Common.{refl, ◌≡◌, ◌↔◌, ℕ, zero, suc, ◌+�
 use Rattle.std.specs.Prelude.{◌&&◌, if◌then◌else◌}
 use Rattle.std.proofs.lemmas.Int.{ints, unsigned_abs-mul}
 use Rattle.std.proofs.lemmas.Bool.{cases_lt, lt-ltb}
-use Rattle.std.proofs.lemmas.Bool.Decides.{nat_tests}
 use Rattle.apt_num.specs.Sign.{square, OnLine}
 use Rattle.apt_num.proofs.Squares.{root_le, square_le, size_neg}
 use Rattle.apt_plane.specs.declared.figures.Pt.{Pt}
@@ -22,7 +21,7 @@ use Rattle.apt_canon.proofs.NearLine.{length_squared_bound}
 use Rattle.apt_canon.proofs.FramedPoints.{near_circle}
 use Rattle.apt_canon.proofs.Shares.{share_small}
 use Rattle.apt_canon.proofs.TangentFrame.{falling_small}
-use Rattle.apt_canon.proofs.TangentCalls.{not_below, way_is_dir, side_size, radius_large, outside_apart}
+use Rattle.apt_canon.proofs.TangentCalls.{not_below, apart_test, same_test, way_is_dir, side_size, radius_large, outside_apart}
 use Rattle.apt_canon.proofs.TangentLaws.{divisor_apart, stretched, falling_dir_long, lag, lag_small, touching_back}
 use Rattle.apt_canon.proofs.TangentTwoLaws.{touch_way, touches_first, touches_second}
 
@@ -112,12 +111,6 @@ from_range r p left c is_p is e = if_from (λ t. IsLine t) r p left c e (λ outs
 })
 
 -- ---- of two circles
-
-apart_test : (n m : ℕ) → 0 < n + m → ((n == 0) && (m == 0)) ≡ false
-apart_test n m h = grind (arith, nat_tests)
-
-same_test : (n m : ℕ) → n + m ≤ 0 → ((n == 0) && (m == 0)) ≡ true
-same_test n m h = grind (arith, nat_tests)
 
 unlike : IsErrOf {T = Line} (Err Degenerate) NoMeeting → ⊥
 unlike h = cc

@@ -79,19 +79,27 @@ fn of_two(a: &Circ, left_a: bool, b: &Circ, left_b: bool) -> Result<Line, FormFa
     ensures { result ≡ tangents.tangent_two a.now left_a b.now left_b }
 {
     let way = displacement(a.c, b.c);
-    let drop = on_side(left_a, a.r) - on_side(left_b, b.r);
+    let drop = drop_between(a, left_a, b, left_b);
     let apart = length_squared(way);
-    let needed = square(drop);
-    if apart == 0 && needed == 0 {
-        return Err(FormFault::Degenerate);
-    }
-    if apart < needed {
+    if apart < square(drop) {
         return Err(FormFault::NoMeeting);
+    }
+    if apart == 0 {
+        return Err(FormFault::Degenerate);
     }
     Ok(Line {
         base: touch_point(a, left_a, way, drop),
         dir: direction(way, drop),
     })
+}
+
+fn drop_between(a: &Circ, left_a: bool, b: &Circ, left_b: bool) -> i64
+    requires a { IsCircle a.now }
+    requires b { IsCircle b.now }
+    ensures value { result ≡ tangents.drop a.now left_a b.now left_b }
+    ensures small { unsigned_abs result ≤ 10 ^ 8 }
+{
+    on_side(left_a, a.r) - on_side(left_b, b.r)
 }
 
 fn touch_point(a: &Circ, left: bool, way: Dir, drop: i64) -> Pt

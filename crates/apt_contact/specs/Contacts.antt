@@ -1,6 +1,6 @@
 -- The contact of two targets, rounded to the grid.
-use Rattle.std.specs.Prelude.{◌≡◌, ◌≢◌, ◌⊎◌, ℤ, pos, neg_ℤ, ◌+ℤ◌, ◌-ℤ◌, ◌*ℤ◌, ◌<ℤ◌, ◌≤◌, Result, Ok, Err, if◌then◌else◌}
-use Rattle.apt_num.specs.Sign.{AtLeast, OnLine, square}
+use Rattle.std.specs.Prelude.{◌≡◌, ◌≢◌, ◌⊎◌, ℤ, pos, neg_ℤ, ◌+ℤ◌, ◌-ℤ◌, ◌≤◌, Result, Ok, Err, if◌then◌else◌}
+use Rattle.apt_num.specs.Sign.{AtLeast, square}
 use Rattle.apt_words.specs.declared.Case.{Case}
 use Rattle.apt_words.specs.declared.Case.TheVariants as cases
 use Rattle.apt_plane.specs.declared.figures.Pt.{Pt}
@@ -12,7 +12,7 @@ use Rattle.apt_offset.specs.declared.Target.{Target}
 use Rattle.apt_offset.specs.declared.Target.TheVariants as targets
 use Rattle.apt_contact.specs.declared.Meeting.{Meeting}
 use Rattle.apt_contact.specs.declared.Meeting.TheVariants as meetings
-use Rattle.apt_contact.specs.Meetings.{line_on, circle_about, meeting_of}
+use Rattle.apt_contact.specs.Meetings.{line_on, circle_about}
 
 -- the point of the closed formula, for sigma 1 or -1; two lines have one
 abbrev pub contact_point : Target → Target → ℤ → Pt

@@ -1,5 +1,5 @@
 -- In how many points two targets meet, exactly: by signs and squares, without a root.
-use Rattle.std.specs.Prelude.{ℕ, nat_lt, nat_eq, ℤ, ◌+ℤ◌, ◌-ℤ◌, ◌==◌, ◌||◌, Bool, if◌then◌else◌}
+use Rattle.std.specs.Prelude.{ℕ, nat_lt, nat_eq, ℤ, ◌+ℤ◌, ◌-ℤ◌, ◌||◌, if◌then◌else◌}
 use Rattle.apt_num.specs.declared.Sign.{Sign}
 use Rattle.apt_num.specs.declared.Sign.TheVariants as signs
 use Rattle.apt_num.specs.Sign.{square, root_sign_of}

@@ -36,7 +36,7 @@ pub at_end : (P : Scaled → Type 0) (p q : Pt) → EveryPoint p q P → P (scal
 at_end P p q every = subst P (between-end p q) (every 1 0 (omega arith))
 
 -- and no fact of every point is off somewhere
-end_off : (P : Scaled → Type 0) (p q : Pt) (s : Spot) → IsFirstEnd P p q s → ¬ EveryPoint p q P
+pub end_off : (P : Scaled → Type 0) (p q : Pt) (s : Spot) → IsFirstEnd P p q s → ¬ EveryPoint p q P
 end_off P p q s (inl start) = λ every. start.1 (at_start P p q every)
 end_off P p q s (inr end) = λ every. end.2 (at_end P p q every)
 
@@ -60,6 +60,10 @@ start_tells (surfaces.Circ c) P p q fails = inl (inl (refl, fails))
 pub end_tells : (surface : Surface) (P : Scaled → Type 0) (p q : Pt) → P (scaled p) → ¬ P (scaled q) → IsFirstOff surface P p q end_spot
 end_tells (surfaces.Line l) P p q start fails = inr (refl, start, fails)
 end_tells (surfaces.Circ c) P p q start fails = inl (inr (refl, start, fails))
+
+pub end_is_first : (surface : Surface) (P : Scaled → Type 0) (p q : Pt) (s : Spot) → IsFirstEnd P p q s → IsFirstOff surface P p q s
+end_is_first (surfaces.Line l) P p q s end = end
+end_is_first (surfaces.Circ c) P p q s end = inl end
 
 pub end_not_all : (P : Scaled → Type 0) (p q : Pt) (s : Spot) → IsFirstEnd P p q s → IsTrue false ↔ EveryPoint p q P
 end_not_all P p q s off = (λ e. absurd (true≢false (sym e)), λ every. absurd (end_off P p q s off every))

@@ -3,7 +3,7 @@ use Rattle.std.specs.Int.{w128}
 use Rattle.std.proofs.lemmas.Int.{ints, to_z-of_z}
 use Rattle.apt_num.specs.Near.{near}
 use Rattle.apt_plane.specs.Vectors.{length_squared}
-use Rattle.apt_canon.specs.Tangents.{falling, fall_divisor, side_of_circle}
+use Rattle.apt_canon.specs.Tangents.{falling, fall_divisor, side_of_circle, touch_point}
 use Rattle.apt_canon.proofs.Products.{kept}
 use Rattle.apt_canon.proofs.Shares.{turned_part_small, side_kept, reached_fits, reached, turned}
 use Rattle.apt_canon.proofs.tangents.touch_point.Goals as goal
@@ -56,4 +56,4 @@ returns c =
       is_x,
       is_y,
       c.divisor-whole.ensures.value,
-    ) refl
+    ) (refl {a = touch_point a c.args.left way c.args.drop})
