@@ -68,7 +68,13 @@ fn refuses_rays_past_the_limit(rt: HostRuntime) {
     let edge = round(49_999_900, 0, 101);
     assert_eq!(rt; ray(&edge, dir(0, 1)), at(49_999_900, 101));
     assert_eq!(rt; ray(&edge, dir(1, 0)), OUT_OF_RANGE);
-    assert_eq!(rt; ray_point(&edge, dir(1, 0)), Pt { x: 50_000_001, y: 0 });
+    assert_eq!(rt;
+        ray_point(&edge, dir(1, 0)),
+        Pt {
+            x: 50_000_001,
+            y: 0
+        }
+    );
     let least = round(49_999_900, 0, 100);
     assert_eq!(rt; ray(&least, dir(1, 0)), at(50_000_000, 0));
 }
