@@ -11,6 +11,7 @@ use Rattle.apt_plane.proofs.Displacements.{cross_self, cross_swap, cross_minus, 
 use Rattle.apt_plane.proofs.Rounding.{near_displacement, moved}
 use Rattle.apt_canon.specs.Scale.{unit, length_of, IsNearLine}
 use Rattle.apt_canon.specs.Meeting.{meeting_displacement, meeting_point}
+use Rattle.apt_canon.proofs.Ways.{height_at_first, height_at_second}
 use Rattle.apt_canon.proofs.NearLine.{near_line}
 
 first_only : (d x y : ℤ) → (d *ℤ x) -ℤ (pos 0 *ℤ y) ≡ d *ℤ x
@@ -32,18 +33,6 @@ displacement_above_second a b ha hb =
     let first = ha *ℤ length_of a.dir in
     let second = (hb *ℤ length_of b.dir) -ℤ (cross b.dir (displacement b.base a.base) *ℤ unit) in
     cross_minus b.dir b.dir a.dir first second ∙ rw (cross_self b.dir, cross_swap a.dir b.dir) (second_only (cross a.dir b.dir) first second)
-
-there_and_back : (p q : ℤ) → (p +ℤ q) -ℤ p ≡ q
-there_and_back p q = omega (arith, ints)
-
-from_other : (p q r : ℤ) → (p +ℤ q) -ℤ r ≡ (p -ℤ r) +ℤ q
-from_other p q r = omega (arith, ints)
-
-height_at_first : (d : Dir) (p : Pt) (v : Dir) → cross d (displacement p (record { x = p.x +ℤ v.dx; y = p.y +ℤ v.dy })) ≡ cross d v
-height_at_first d p v = rw (there_and_back p.x v.dx, there_and_back p.y v.dy) refl
-
-height_at_second : (d : Dir) (p q : Pt) (v : Dir) → cross d (displacement q (record { x = p.x +ℤ v.dx; y = p.y +ℤ v.dy })) ≡ cross d (displacement q p) +ℤ cross d v
-height_at_second d p q v = rw (from_other p.x v.dx q.x, from_other p.y v.dy q.y) (cross_sum d (displacement q p) v)
 
 shift_parts : (d u c k e : ℤ) → (d *ℤ u) *ℤ (c +ℤ k) ≡ ((d *ℤ u) *ℤ k) +ℤ (d *ℤ (c *ℤ u))
 shift_parts d u c k e = rw (as_diff d, as_diff u, as_diff c, as_diff k) (simp differences (diff-same _ _ _ _ (omega arith)))

@@ -2,8 +2,10 @@
 use Rattle.std.proofs.Common.{refl, ◌≡◌, ℤ, pos, neg_ℤ, Ok, Err}
 use Rattle.apt_num.specs.Root.{root}
 use Rattle.apt_plane.specs.declared.figures.Line.{Line}
-use Rattle.apt_canon.specs.declared.FormFault.TheVariants.{NoMeeting, OutOfRange}
+use Rattle.apt_plane.specs.declared.figures.Circ.{Circ}
+use Rattle.apt_canon.specs.declared.FormFault.TheVariants.{NoMeeting, OutOfRange, Degenerate}
 use Rattle.apt_canon.specs.Meeting.{line_line}
+use Rattle.apt_canon.specs.Circles.{line_circle, circle_circle}
 
 line : ℤ → ℤ → ℤ → ℤ → Line
 line x y dx dy = record { base = record { x = x; y = y }; dir = record { dx = dx; dy = dy } }
@@ -27,3 +29,45 @@ past_limit = refl
 opposite : line_line (line (pos 0) (pos 0) (pos 3) (neg_ℤ (pos 4))) (pos 5) (line (pos 10) (pos 10) (neg_ℤ (pos 6)) (pos 8)) (pos 5) ≡ Err NoMeeting
 unfolding root line
 opposite = refl
+
+-- ---- a line and a circle
+circ : ℤ → ℤ → ℤ → Circ
+circ x y r = record { c = record { x = x; y = y }; r = r }
+
+-- the far point of a circle about the origin along the x axis
+onwards : line_circle (line (pos 0) (pos 0) (pos 1) (pos 0)) (pos 0) (circ (pos 0) (pos 0) (pos 200000)) (pos 1) ≡ Ok (record { x = pos 200000; y = pos 0 })
+unfolding root line circ
+onwards = refl
+
+-- a line moved by the radius touches the circle, and one moved by a unit more passes it by
+touch : line_circle (line (pos 0) (pos 0) (pos 1) (pos 0)) (pos 50) (circ (pos 0) (pos 0) (pos 50)) (neg_ℤ (pos 1)) ≡ Ok (record { x = pos 0; y = pos 50 })
+unfolding root line circ
+touch = refl
+
+past_touch : line_circle (line (pos 0) (pos 0) (pos 1) (pos 0)) (pos 51) (circ (pos 0) (pos 0) (pos 50)) (pos 1) ≡ Err NoMeeting
+unfolding root line circ
+past_touch = refl
+
+-- a line that meets the circle by less than the rounding: no chord is left of it
+grazing : line_circle (line (pos 27304196) (neg_ℤ (pos 27304197)) (pos 1) (pos 1)) (pos 0) (circ (pos 0) (pos 0) (pos 38613965)) (pos 1) ≡ Ok (record { x = pos 27304197; y = neg_ℤ (pos 27304197) })
+unfolding root line circ
+grazing = refl
+
+-- ---- two circles
+-- with sides of 3, 4 and 5
+to_the_left : circle_circle (circ (pos 0) (pos 0) (pos 300)) (circ (pos 500) (pos 0) (pos 400)) (pos 1) ≡ Ok (record { x = pos 180; y = pos 240 })
+unfolding root circ
+to_the_left = refl
+
+-- one that touches the other from inside
+inside : circle_circle (circ (pos 0) (pos 0) (pos 300)) (circ (pos 100) (pos 0) (pos 400)) (pos 1) ≡ Ok (record { x = neg_ℤ (pos 300); y = pos 0 })
+unfolding root circ
+inside = refl
+
+nested : circle_circle (circ (pos 0) (pos 0) (pos 300)) (circ (pos 99) (pos 0) (pos 400)) (pos 1) ≡ Err NoMeeting
+unfolding root circ
+nested = refl
+
+concentric : circle_circle (circ (pos 7) (neg_ℤ (pos 9)) (pos 300)) (circ (pos 7) (neg_ℤ (pos 9)) (pos 400)) (pos 1) ≡ Err Degenerate
+unfolding root circ
+concentric = refl

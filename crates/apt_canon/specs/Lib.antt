@@ -4,3 +4,4 @@ pub mod Circles
 pub mod Feet
 pub mod Tangents
 pub mod Rounds
+pub mod RoundLaws

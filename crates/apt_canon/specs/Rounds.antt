@@ -1,5 +1,5 @@
 -- Circles: their ranges, and those that figures determine.
-use Rattle.std.specs.Prelude.{ℕ, ◌+◌, ◌*◌, ◌^◌, nat_lt, ℤ, pos, ◌+ℤ◌, ◌-ℤ◌, ◌*ℤ◌, int_lt, unsigned_abs, ◌==◌, ◌||◌, Bool, Result, Ok, Err, if◌then◌else◌}
+use Rattle.std.specs.Prelude.{ℕ, ◌+◌, ◌*◌, ◌^◌, nat_lt, ℤ, pos, ◌-ℤ◌, ◌*ℤ◌, int_lt, unsigned_abs, ◌==◌, ◌||◌, Bool, Result, Ok, Err, if◌then◌else◌}
 use Rattle.apt_num.specs.Root.{root_near}
 use Rattle.apt_num.specs.Near.{near}
 use Rattle.apt_words.specs.declared.Pick.{Pick}
@@ -31,19 +31,26 @@ abbrev pub circle_of : Pt → ℤ → Result Circ FormFault
 circle_of c r =
     if is_too_small r then Err faults.Degenerate else (if is_too_large c r then Err faults.TooLarge else Ok (circle c r))
 
--- the distance of two points, to the nearest whole number
-abbrev pub distance_near : Pt → Pt → ℤ
-distance_near p q = pos (root_near (length_squared (displacement p q)))
+-- the length of a way, to the nearest whole number
+abbrev pub length_near : Dir → ℕ
+length_near v = root_near (length_squared v)
 
 -- the distance of a point from a line
 abbrev pub distance_from_line : Pt → Line → ℤ
 distance_from_line p l = near (pos (unsigned_abs (cross l.dir (displacement l.base p))) *ℤ unit) (length_of l.dir)
 
+-- the circles about a centre through a point, and along a line, in range or not
+abbrev pub about_through : Pt → Pt → Circ
+about_through c p = circle c (pos (length_near (displacement c p)))
+
+abbrev pub about_touching : Pt → Line → Circ
+about_touching c l = circle c (distance_from_line c l)
+
 abbrev pub circle_through : Pt → Pt → Result Circ FormFault
-circle_through c p = circle_of c (distance_near c p)
+circle_through c p = circle_of c (about_through c p).r
 
 abbrev pub circle_touching : Pt → Line → Result Circ FormFault
-circle_touching c l = circle_of c (distance_from_line c l)
+circle_touching c l = circle_of c (about_touching c l).r
 
 -- ---- through three points
 
@@ -55,19 +62,23 @@ centre_way b c =
 abbrev pub centre_divisor : Dir → Dir → ℤ
 centre_divisor b c = pos 2 *ℤ cross b c
 
+-- the way from the first point to the centre, rounded
+abbrev pub centre_from : Dir → Dir → Dir
+centre_from b c = nearest (centre_way b c) (centre_divisor b c)
+
 -- a centre so far away that the circle is too large, whatever its radius
 abbrev pub is_far : Dir → Bool
 is_far v = nat_lt (2 * 10 ^ 8) (unsigned_abs v.dx) || nat_lt (2 * 10 ^ 8) (unsigned_abs v.dy)
 
 -- the circle whose centre lies so from one of its points
 abbrev pub circle_about : Pt → Dir → Result Circ FormFault
-circle_about p v = if is_far v then Err faults.TooLarge else circle_of (from p v) (pos (root_near (length_squared v)))
+circle_about p v = if is_far v then Err faults.TooLarge else circle_of (from p v) (pos (length_near v))
 
 abbrev pub circle_three : Pt → Pt → Pt → Result Circ FormFault
 circle_three p q r =
     let b = displacement p q in
     let c = displacement p r in
-    if unsigned_abs (cross b c) == 0 then Err faults.Degenerate else circle_about p (nearest (centre_way b c) (centre_divisor b c))
+    if unsigned_abs (cross b c) == 0 then Err faults.Degenerate else circle_about p (centre_from b c)
 
 -- ---- in the corner of two lines, on the sides that modifiers name
 

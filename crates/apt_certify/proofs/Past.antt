@@ -7,14 +7,13 @@ use Rattle.apt_plane.specs.declared.figures.Dir.{Dir}
 use Rattle.apt_plane.specs.declared.figures.Line.{Line}
 use Rattle.apt_plane.specs.Vectors.{displacement, cross, length_squared, scaled}
 use Rattle.apt_plane.specs.Distances.{IsAbove, IsBelow, EveryPoint}
-use Rattle.apt_plane.proofs.SegmentLaws.{above-between, below-between}
+use Rattle.apt_plane.proofs.SegmentLaws.{at_start, at_end, above-between, below-between}
 use Rattle.apt_offset.specs.declared.Target.{Target}
 use Rattle.apt_offset.specs.declared.Target.TheVariants as targets
 use Rattle.apt_offset.specs.Targets.{greater}
 use Rattle.apt_certify.specs.Jobs.{ArePoints}
 use Rattle.apt_certify.specs.Deviations.{IsAtMostPast, EveryPointFrom, EveryPointAlong}
 use Rattle.apt_certify.specs.Lines.{IsStraightTrack}
-use Rattle.apt_certify.proofs.Ends.{at_start, at_end}
 use Rattle.apt_certify.proofs.Telling.{tells_above, tells_below}
 
 -- ---- one point

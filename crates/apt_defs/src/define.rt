@@ -1,86 +1,86 @@
-//! Definitions of names.
+//! Which statements define a name, and what they give it.
 
-ghost use Rattle.std.specs.Prelude.{◌≡◌, ◌==◌, [], ◌∷◌, IfOk};
-ghost use Rattle.apt_words.specs.Rows.{unless};
-ghost use Rattle.apt_plane.specs.Ranges.{IsPoint};
-ghost use Rattle.apt_plane.specs.Vectors as vectors;
-ghost use Rattle.apt_scalar.specs.Scalars.{IsScalar};
+ghost use Rattle.std.specs.Prelude.{◌≡◌, ◌↔◌, OnOk, OnErr, IfOk, IfSome, IsErrOf};
+ghost use Rattle.apt_scalar.specs.StepScalars.{HasScalars};
 ghost use Rattle.apt_defs.specs.Figures.{IsFigure};
 ghost use Rattle.apt_defs.specs.Definitions as definitions;
+ghost use Rattle.apt_defs.specs.Definitions.{IsDefinition, HasDefined, IsRefusedBy};
 
-use crate::Figure;
-use apt_plane::vectors::{displacement, length_squared};
-use apt_plane::{Line, Pt, Surface};
-use apt_scalar::grid_units;
-use apt_words::{Case, Units};
+use crate::circles::{
+    circle_by_point, circle_corner, circle_points, circle_radius, circle_tangent, circle_xyr,
+};
+use crate::figure::{Definition, Figure};
+use crate::lines::{
+    line_at, line_parallel, line_perpendicular, line_points, line_tangent, line_two, line_xy,
+};
+use crate::points::{point_center, point_lines, point_pick, point_xy};
+use crate::table::Table;
+use apt_words::{Case, Deed, Step, Symbol, Units};
+use std::alloc::AllocError;
 
-/// The coordinate limit, in grid units.
-const REACH: u64 = 50_000_000;
-
-/// Whether a coordinate in grid units is within the coordinate limit.
-pub fn is_in_reach(g: i64) -> bool
-    ensures { result ≡ definitions.is_in_reach g }
-{
-    g.unsigned_abs() <= REACH
+/// Why a definition is not made.
+#[derive(Clone, Copy, Debug, PartialEq, Eq)]
+pub enum DefError {
+    Case(Case),
+    NoMemory,
 }
 
-/// The point of two scalars.
-fn point_by(units: Units, x: i64, y: i64) -> Pt
-    requires x { IsScalar x }
-    requires y { IsScalar y }
-    ensures { result ≡ definitions.point_by units x y }
-{
-    Pt {
-        x: grid_units(units, x),
-        y: grid_units(units, y),
+impl From<AllocError> for DefError {
+    ghost use Rattle.std.specs.Prelude.{◌≡◌};
+    ghost use Rattle.apt_defs.specs.declared.define.DefError.TheVariants as errors;
+
+    ghost from_gives = { λ _ e. e ≡ errors.NoMemory };
+
+    fn from(_: AllocError) -> Self {
+        DefError::NoMemory
     }
 }
 
-/// The line that a definition by four numbers gives its name: the coordinates of two of its points.
-///
-/// # Errors
-///
-/// `OutOfRange` for a number beyond the coordinate limit, else `Degenerate` where the two points are one.
-pub fn line_by(units: Units, x: i64, y: i64, u: i64, v: i64) -> Result<Figure, Case>
-    requires x { IsScalar x }
-    requires y { IsScalar y }
-    requires u { IsScalar u }
-    requires v { IsScalar v }
-    ensures value { result ≡ unless (definitions.line_cases units x y u v) (definitions.line_figure units x y u v) }
-    ensures range { IfOk result IsFigure }
+/// What a statement defines, None where it defines nothing.
+pub fn definition(deed: &Deed, units: Units, table: &Table) -> Option<Definition>
+    requires { HasScalars deed.now }
+    ensures value { result ≡ definitions.definition_of units table.now deed.now }
+    ensures range { IfSome result (λ d. IfOk d.figure IsFigure) }
 {
-    between(point_by(units, x, y), point_by(units, u, v))
+    match deed {
+        Deed::Assign(n, _) => defines(n, Ok(Figure::Scalar)),
+        Deed::PointXy(n, x, y, z) => defines(n, point_xy(units, *x, *y, *z)),
+        Deed::PointLines(n, a, b) => defines(n, point_lines(table, a, b)),
+        Deed::PointPick(n, k, a, b) => defines(n, point_pick(table, *k, a, b)),
+        Deed::PointCenter(n, c) => defines(n, point_center(table, c)),
+        Deed::LineXy(n, x, y, u, v) => defines(n, line_xy(units, *x, *y, *u, *v)),
+        Deed::LinePoints(n, p, q) => defines(n, line_points(table, p, q)),
+        Deed::LinePar(n, p, l) => defines(n, line_parallel(table, p, l)),
+        Deed::LinePerp(n, p, l) => defines(n, line_perpendicular(table, p, l)),
+        Deed::LineAt(n, l, k, v) => defines(n, line_at(units, table, l, *k, *v)),
+        Deed::LineTan(n, p, h, c) => defines(n, line_tangent(table, p, *h, c)),
+        Deed::LineTwo(n, h, c, k, d) => defines(n, line_two(table, *h, c, *k, d)),
+        Deed::CircleXyr(n, x, y, r) => defines(n, circle_xyr(units, *x, *y, *r)),
+        Deed::CirclePoints(n, a, b, c) => defines(n, circle_points(table, a, b, c)),
+        Deed::CircleRadius(n, p, r) => defines(n, circle_radius(units, table, p, *r)),
+        Deed::CircleTan(n, p, l) => defines(n, circle_tangent(table, p, l)),
+        Deed::CircleThrough(n, p, q) => defines(n, circle_by_point(table, p, q)),
+        Deed::CircleCorner(n, j, a, k, b, r) => {
+            defines(n, circle_corner(units, table, *j, a, *k, b, *r))
+        }
+        Deed::Partno(_) | Deed::Remark(_) | Deed::Units(_) | Deed::Clprnt | Deed::Nopost => None,
+        Deed::Machin | Deed::Cutter(_) | Deed::Intol(_) | Deed::Outtol(_) | Deed::Tool(_) => None,
+        Deed::FromXy(..) | Deed::FromPoint(_) | Deed::GotoXy(..) | Deed::GotoPoint(_) => None,
+        Deed::Godlta(..) | Deed::GoStart(..) | Deed::Contour(..) | Deed::Rapid => None,
+        Deed::Halt | Deed::OptHalt | Deed::EndWord | Deed::Fini | Deed::Fedrat(_) => None,
+        Deed::Spindl(..) | Deed::SpindlOff | Deed::Coolnt(_) | Deed::Loadtl(_) => None,
+        Deed::Macro | Deed::Termac | Deed::Call | Deed::Loopst | Deed::Loopnd => None,
+        Deed::Jumpto | Deed::If => None,
+    }
 }
 
-fn between(p: Pt, q: Pt) -> Result<Figure, Case>
-    ensures value { result ≡ unless (definitions.ends_cases p q) (Figure.Shape (Surface.Line (definitions.line_between p q))) }
-    ensures range { IfOk result IsFigure }
+fn defines(name: &Symbol, figure: Result<Figure, Case>) -> Option<Definition>
+    requires { IfOk figure IsFigure }
+    ensures value { result ≡ definitions.defines name.now figure }
+    ensures range { IfSome result (λ d. IfOk d.figure IsFigure) }
 {
-    if !is_in_reach(p.x) {
-        return Err(Case::OutOfRange);
-    }
-    if !is_in_reach(p.y) {
-        return Err(Case::OutOfRange);
-    }
-    if !is_in_reach(q.x) {
-        return Err(Case::OutOfRange);
-    }
-    if !is_in_reach(q.y) {
-        return Err(Case::OutOfRange);
-    }
-    through(p, q)
-}
-
-#[tactic(auto, using(crate::proofs::Lines::displacement_in_range))]
-fn through(p: Pt, q: Pt) -> Result<Figure, Case>
-    requires p { IsPoint p }
-    requires q { IsPoint q }
-    ensures value { result ≡ unless ((vectors.length_squared (vectors.displacement p q) == 0, Case.Degenerate) ∷ []) (Figure.Shape (Surface.Line (definitions.line_between p q))) }
-    ensures range { IfOk result IsFigure }
-{
-    let dir = displacement(p, q);
-    if length_squared(dir) == 0 {
-        return Err(Case::Degenerate);
-    }
-    Ok(Figure::Shape(Surface::Line(Line { base: p, dir })))
+    Some(Definition {
+        name: name.copied(),
+        figure,
+    })
 }

@@ -1,12 +1,15 @@
-//! The figures that names stand for.
+//! The figures that names stand for, and the statements that define them.
 #![tactic(auto)]
 
+mod circles;
 mod define;
 mod figure;
+mod lines;
+mod numbers;
+mod points;
 mod table;
-#[cfg(test)]
-mod tests;
 
-pub use define::{is_in_reach, line_by};
-pub use figure::Figure;
-pub use table::{Table, surface};
+pub use define::{DefError, definition};
+pub use figure::{Definition, Figure};
+pub use numbers::is_in_reach;
+pub use table::{Table, point, surface};

@@ -1,12 +1,12 @@
 //! Names with their figures.
 
 ghost use Rattle.std.specs.Prelude.{◌≡◌, [], OnOk, OnErr, IfOk, IfSome};
-ghost use Rattle.apt_plane.specs.Ranges.{IsSurface};
+ghost use Rattle.apt_plane.specs.Ranges.{IsPoint, IsLine, IsCircle, IsSurface};
 ghost use Rattle.apt_defs.specs.Figures as figures;
 ghost use Rattle.apt_defs.specs.Figures.{IsFigure, table_with};
 
 use crate::Figure;
-use apt_plane::Surface;
+use apt_plane::{Circ, Line, Pt, Surface};
 use apt_words::{Case, Symbol};
 use indexmap::IndexMap;
 use std::alloc::{AllocError, Global};
@@ -62,6 +62,26 @@ impl Table {
     }
 }
 
+/// The point that a name stands for, with its height: `Undefined` where it has no figure, `WrongKind` where that is none.
+pub fn point(table: &Table, name: &Symbol) -> Result<(Pt, i64), Case>
+    ensures value { result ≡ figures.place_named table.now name.now }
+    ensures range { IfOk result (λ p. IsPointAtHeight p.0 p.1) }
+{
+    match table.get(name) {
+        None => Err(Case::Undefined),
+        Some(Figure::Point { at, z }) => Ok((at, z)),
+        Some(Figure::Shape(_) | Figure::Scalar) => Err(Case::WrongKind),
+    }
+}
+
+pub(crate) fn point_named(table: &Table, name: &Symbol) -> Result<Pt, Case>
+    ensures value { result ≡ figures.point_named table.now name.now }
+    ensures range { IfOk result IsPoint }
+{
+    let (at, _) = point(table, name)?;
+    Ok(at)
+}
+
 /// The surface that a name stands for: `Undefined` where it has no figure, `WrongKind` where that is none.
 pub fn surface(table: &Table, name: &Symbol) -> Result<Surface, Case>
     ensures value { result ≡ figures.surface_named table.now name.now }
@@ -71,5 +91,25 @@ pub fn surface(table: &Table, name: &Symbol) -> Result<Surface, Case>
         None => Err(Case::Undefined),
         Some(Figure::Shape(surface)) => Ok(surface),
         Some(Figure::Point { .. } | Figure::Scalar) => Err(Case::WrongKind),
+    }
+}
+
+pub(crate) fn line_named(table: &Table, name: &Symbol) -> Result<Line, Case>
+    ensures value { result ≡ figures.line_named table.now name.now }
+    ensures range { IfOk result IsLine }
+{
+    match surface(table, name)? {
+        Surface::Line(line) => Ok(line),
+        Surface::Circ(_) => Err(Case::WrongKind),
+    }
+}
+
+pub(crate) fn circle_named(table: &Table, name: &Symbol) -> Result<Circ, Case>
+    ensures value { result ≡ figures.circle_named table.now name.now }
+    ensures range { IfOk result IsCircle }
+{
+    match surface(table, name)? {
+        Surface::Line(_) => Err(Case::WrongKind),
+        Surface::Circ(circle) => Ok(circle),
     }
 }

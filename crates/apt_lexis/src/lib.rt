@@ -14,5 +14,6 @@ mod token;
 
 pub use cause::PartCause;
 pub use error::ParseError;
+pub use lines::{are_characters, next_line};
 pub use phrase::{Phrase, Phrases};
 pub use token::Token;

@@ -35,7 +35,7 @@ fn index_of(text: &[u8], c: u8) -> Option<usize>
 
 /// The first line of a text, and what stands behind it; none where the text is empty.
 #[tactic(auto, using(crate::proofs::LineLaws::no_lines, crate::proofs::LineLaws::line_first, crate::proofs::LineLaws::line_last))]
-pub(crate) fn next_line(rest: &[u8]) -> Option<(&[u8], &[u8])>
+pub fn next_line(rest: &[u8]) -> Option<(&[u8], &[u8])>
     ensures none { IsNone result → lines.lines_of rest.now ≡ [] }
     ensures some { IfSome result (λ r. lines.lines_of rest.now ≡ r.0.now ∷ lines.lines_of r.1.now) }
     ensures shorter { IfSome result (λ r. length r.1.now < length rest.now) }
@@ -75,7 +75,8 @@ pub(crate) fn line_fault(number: u32, line: &[u8]) -> Option<PartCause>
     }
 }
 
-fn are_characters(line: &[u8]) -> bool
+/// Whether a line has no bytes but tabs and those from a blank to a tilde.
+pub fn are_characters(line: &[u8]) -> bool
     ensures { result ≡ list_all lines.is_character line.now }
 {
     line.iter().all(|b| *b == b'\t' || (32 <= *b && *b <= 126))

@@ -1,1 +1,5 @@
 pub mod Machines
+pub mod Causes
+pub mod Numbers
+pub mod Keys
+pub mod Tables

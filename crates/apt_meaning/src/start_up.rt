@@ -14,7 +14,7 @@ use crate::StartUp;
 use apt_canon::{FormFault, line_line};
 use apt_num::Sign;
 use apt_offset::{is_on_check, lacks_room, offset_surface, side_at_check, signed};
-use apt_plane::{Line, Pt, Surface};
+use apt_plane::{Line, Moved, Pt, Surface};
 use apt_words::{Case, Stop};
 
 impl StartUp {
@@ -101,7 +101,15 @@ fn lines_meeting(a: &Line, off_a: i64, b: &Line, off_b: i64) -> Result<Pt, Case>
     requires off_b { unsigned_abs off_b ≤ 500000 }
     ensures { result ≡ unless ((meetings.are_parallel a.now b.now, Case.Parallel) ∷ (not (scale.is_in_range (meetings.meeting_point a.now off_a b.now off_b)), Case.OutOfRange) ∷ []) (meetings.meeting_point a.now off_a b.now off_b) }
 {
-    met(line_line(a, off_a, b, off_b))
+    let first = Moved {
+        line: *a,
+        off: off_a,
+    };
+    let second = Moved {
+        line: *b,
+        off: off_b,
+    };
+    met(line_line(&first, &second))
 }
 
 fn met(meeting: Result<Pt, FormFault>) -> Result<Pt, Case>

@@ -7,4 +7,8 @@ pub mod Tests
 pub mod Sums
 pub mod Nearest
 pub mod Roots
+pub mod Framed
+pub mod Footed
+pub mod Chords
+pub mod Convex
 mod Worked

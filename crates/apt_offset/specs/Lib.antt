@@ -1,4 +1,5 @@
 pub mod Turns
 pub mod Sides
 pub mod Targets
+pub mod Edges
 pub mod Ranges

@@ -15,11 +15,11 @@ pub record IsTolerance (t : ℤ) : Type 0 where
   pub least : pos 0 ≤ℤ t
   pub most : t ≤ℤ pos 10000
 
--- a line that is moved by at most a greatest radius
+-- a line that is moved to its left
 pub record IsLineTarget (b : Pt) (d : Dir) (h : ℤ) : Type 0 where
   pub base : IsPoint b
   pub dir : IsDir d
-  pub off : unsigned_abs h ≤ 500000
+  pub off : unsigned_abs h ≤ 10 ^ 8
 
 pub record IsCircleTarget (c : Pt) (r : ℤ) : Type 0 where
   pub centre : IsPoint c

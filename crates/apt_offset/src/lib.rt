@@ -1,6 +1,7 @@
-//! Where the cutter's centre goes: turns, targets and tolerance bands.
+//! Where the cutter's centre goes: turns, targets, tolerance bands and their edges.
 #![tactic(auto)]
 
+mod edges;
 mod sides;
 pub mod signs;
 mod targets;
@@ -9,6 +10,7 @@ mod tests;
 mod turns;
 
 use apt_plane::{Dir, Pt};
+pub use edges::overruns;
 pub use sides::{is_on_check, side_at_check, side_at_drive, side_at_stop};
 pub use targets::{
     band_at, drive_band, drive_target, lacks_room, offset_surface, signed, stop_band, stop_target,

@@ -1,8 +1,9 @@
-ghost use Rattle.std.specs.Prelude.{◌≡◌};
-ghost use Rattle.apt_plane.specs.Ranges.{IsSurface, IsCircle};
+ghost use Rattle.std.specs.Prelude.{◌≡◌, IsTrue};
+ghost use Rattle.apt_plane.specs.Ranges.{IsPoint, IsSurface, IsCircle, IsBand};
 
-use crate::{Target, drive_band, drive_target, stop_band, stop_target, turn_sense};
-use apt_plane::{Band, Circ, Dir, Line, Pt, Surface};
+use crate::{Target, drive_band, drive_target, overruns, stop_band, stop_target, turn_sense};
+use apt_num::Sign;
+use apt_plane::{Band, Circ, Dir, Line, Pt, Spot, Surface};
 use apt_words::{Case, Go, Side, Stop};
 
 const EAST: Dir = Dir { dx: 1, dy: 0 };
@@ -261,4 +262,69 @@ fn bands(rt: HostRuntime) {
     assert_eq!(rt; on_check, Band { lo: -7, hi: 7 });
     let inwards = drive_band(&line, Side::On, 1, 50, 9, 7);
     assert_eq!(rt; inwards, Band { lo: -9, hi: 9 });
+}
+
+fn is_point(p: Pt) -> bool
+    ensures { IsTrue result → IsPoint p }
+{
+    p.x.unsigned_abs() <= 50_000_000 && p.y.unsigned_abs() <= 50_000_000
+}
+
+fn is_band(band: Band) -> bool
+    ensures { IsTrue result → IsBand band }
+{
+    band.lo.unsigned_abs() <= 400_000_000 && band.hi.unsigned_abs() <= 400_000_000
+}
+
+fn overrun(p: Pt, q: Pt, check: &Surface, band: Band, beyond: Sign) -> Option<Option<Spot>>
+    requires { IsSurface check.now }
+{
+    if is_point(p) && is_point(q) && is_band(band) {
+        Some(overruns(p, q, check, band, beyond))
+    } else {
+        None
+    }
+}
+
+/// Past an edge at the start, at the end, and for a circle between them: (700, 300) is 424.3 away from its
+/// centre (1000, 0), and (1000, 300) is 300 away.
+#[test]
+fn edges(rt: HostRuntime) {
+    let line = base_line();
+    let round = circle(CENTRE, 300);
+    let start = Some(Spot { j: 0, m: 1 });
+    let end = Some(Spot { j: 1, m: 1 });
+    let foot = Some(Spot {
+        j: 180_000,
+        m: 360_000,
+    });
+    let along: [(Sign, i64, i64, Option<Spot>); 6] = [
+        (Sign::Plus, 0, 60, None),
+        (Sign::Plus, 0, 59, end),
+        (Sign::Plus, 0, 49, start),
+        (Sign::Minus, 50, 0, None),
+        (Sign::Minus, 51, 0, start),
+        (Sign::Zero, 51, 0, None),
+    ];
+    for (beyond, lo, hi, want) in along {
+        let p = Pt { x: 0, y: 50 };
+        let q = Pt { x: 100, y: 60 };
+        let past = overrun(p, q, &line, Band { lo, hi }, beyond);
+        assert_eq!(rt; past, Some(want), "{beyond:?} of {lo}, {hi}");
+    }
+    let across: [(Sign, i64, i64, Option<Spot>); 7] = [
+        (Sign::Plus, 0, 425, None),
+        (Sign::Plus, 0, 424, start),
+        (Sign::Minus, 300, 0, None),
+        (Sign::Minus, 301, 0, foot),
+        (Sign::Minus, 424, 0, foot),
+        (Sign::Minus, 425, 0, start),
+        (Sign::Zero, 425, 0, None),
+    ];
+    for (beyond, lo, hi, want) in across {
+        let p = Pt { x: 700, y: 300 };
+        let q = Pt { x: 1300, y: 300 };
+        let past = overrun(p, q, &round, Band { lo, hi }, beyond);
+        assert_eq!(rt; past, Some(want), "{beyond:?} of {lo}, {hi} round");
+    }
 }

@@ -8,7 +8,7 @@ use Rattle.apt_plane.specs.declared.figures.Pt.{Pt}
 use Rattle.apt_plane.specs.declared.figures.Dir.{Dir}
 use Rattle.apt_plane.specs.declared.figures.Line.{Line}
 use Rattle.apt_plane.specs.Vectors.{displacement, cross, length_squared, scaled, between, height}
-use Rattle.apt_plane.specs.Ranges.{IsPoint, IsDir}
+use Rattle.apt_plane.specs.Ranges.{IsPoint, IsDir, IsShort}
 
 pub one-times : (z : ℤ) → pos 1 *ℤ z ≡ z
 one-times z = omega (arith, ints)
@@ -33,6 +33,12 @@ displacement_height_small base dir p at is point =
 
 pub length_squared_small : (d : Dir) → IsDir d → length_squared d ≤ 2 * 10 ^ 16
 length_squared_small d is = omega (arith, mul-le _ _ (10 ^ 8) (10 ^ 8) is.dx is.dx, mul-le _ _ (10 ^ 8) (10 ^ 8) is.dy is.dy)
+
+pub short_cross_small : (u v : Dir) → IsShort u → IsShort v → unsigned_abs (cross u v) ≤ 2 * 10 ^ 16
+short_cross_small u v p q = difference_small u.dx v.dy u.dy v.dx p.dx q.dy p.dy q.dx
+
+pub short_square_small : (d : Dir) → IsShort d → length_squared d ≤ 2 * 10 ^ 16
+short_square_small d is = omega (arith, mul-le _ _ (10 ^ 8) (10 ^ 8) is.dx is.dx, mul-le _ _ (10 ^ 8) (10 ^ 8) is.dy is.dy)
 
 -- the form of a line at a point between, times j + k: the part for P and the part for Q
 form_between : (dx dy bx by px py qx qy : ℤ) (j k : ℕ) →

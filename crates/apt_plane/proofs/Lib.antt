@@ -1,4 +1,8 @@
 pub mod Heights
 pub mod SegmentLaws
 pub mod Displacements
+pub mod Lengths
+pub mod Frames
 pub mod Rounding
+pub mod RingLaws
+pub mod Turns

@@ -32,6 +32,10 @@ abbrev pub IsUnder : Surface → ℤ → Scaled → Type 0
 IsUnder (surfaces.Line l) hi s = IsBelow l hi s
 IsUnder (surfaces.Circ c) hi s = IsRootAtMost (length_squared (displacement_to c.c s)) (pos s.m *ℤ hi)
 
+-- a circle about a point: distances from it go by its centre alone
+abbrev pub about : Pt → Surface
+about c = surfaces.Circ (record { c = c; r = pos 0 })
+
 -- a point is in the band of a surface
 pub record InBand (surface : Surface) (band : Band) (s : Scaled) : Type 0 where
   pub lo : IsOver surface band.lo s

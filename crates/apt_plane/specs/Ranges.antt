@@ -21,6 +21,11 @@ pub record IsDir (d : Dir) : Type 0 where
   pub dy : unsigned_abs d.dy ≤ 10 ^ 8
   pub length : 1 ≤ length_squared d
 
+-- a way between two points
+pub record IsShort (d : Dir) : Type 0 where
+  pub dx : unsigned_abs d.dx ≤ 10 ^ 8
+  pub dy : unsigned_abs d.dy ≤ 10 ^ 8
+
 -- a way whose products fit
 pub record IsVector (d : Dir) : Type 0 where
   pub dx : unsigned_abs d.dx ≤ 2 ^ 62

@@ -2,11 +2,15 @@
 #![tactic(auto)]
 
 mod figures;
+mod order;
+mod rings;
 mod segments;
 pub mod vectors;
 
 pub use figures::{Axis, Band, Circ, Dir, Line, Moved, Pt, Spot, Surface};
-pub use segments::segment_in_line_band;
+pub use order::before;
+pub use rings::segment_in_ring;
+pub use segments::{segment_in_line_band, segment_over, segment_under};
 
 #[cfg(test)]
 mod tests;

@@ -1,10 +1,10 @@
 //! Answers worked out by hand.
 
 ghost use Rattle.std.specs.Prelude.{IsTrue};
-ghost use Rattle.apt_plane.specs.Ranges.{IsPoint, IsLine, IsBand};
+ghost use Rattle.apt_plane.specs.Ranges.{IsPoint, IsLine, IsVector, IsSense, IsBand};
 
 use crate::vectors::{cross, displacement, dot, length_squared, perp};
-use crate::{Band, Dir, Line, Pt, Spot, segment_in_line_band};
+use crate::{Band, Dir, Line, Pt, Spot, before, segment_in_line_band, segment_in_ring};
 
 /// Along the x axis, so that a point's distance is its y.
 const FLAT: Line = Line {
@@ -109,6 +109,146 @@ fn segments_in_bands(rt: HostRuntime) {
             Some(want),
             "from {p:?} to {q:?} in {band:?}"
         );
+    }
+}
+
+fn ring_answer(p: Pt, q: Pt, c: Pt, band: Band) -> Option<Result<(), Spot>> {
+    if is_point(p) && is_point(q) && is_point(c) && is_band(band) {
+        Some(segment_in_ring(p, q, c, band))
+    } else {
+        None
+    }
+}
+
+fn at_foot(j: i128, m: i128) -> Result<(), Spot> {
+    Err(Spot { j, m })
+}
+
+/// (30, 40) is 50 away from the origin, and the foot of the segment from (-30, 40) to it is 40 away.
+#[test]
+fn segments_in_rings(rt: HostRuntime) {
+    let far = 50_000_000;
+    let table: [(Pt, Pt, Pt, Band, Result<(), Spot>); 21] = [
+        (pt(-30, 40), pt(30, 40), pt(0, 0), band(40, 50), INSIDE),
+        (
+            pt(-30, 40),
+            pt(30, 40),
+            pt(0, 0),
+            band(41, 50),
+            at_foot(1800, 3600),
+        ),
+        (pt(-30, 40), pt(30, 40), pt(0, 0), band(40, 49), AT_START),
+        (pt(0, 40), pt(30, 40), pt(0, 0), band(40, 49), AT_END),
+        (pt(-30, 40), pt(-10, 40), pt(0, 0), band(41, 50), INSIDE),
+        (pt(10, 40), pt(30, 40), pt(0, 0), band(41, 50), INSIDE),
+        (pt(-30, 40), pt(0, 40), pt(0, 0), band(40, 50), INSIDE),
+        (pt(-30, 40), pt(0, 40), pt(0, 0), band(41, 50), AT_END),
+        (pt(0, 40), pt(30, 40), pt(0, 0), band(41, 50), AT_START),
+        (pt(-30, 0), pt(30, 0), pt(0, 0), band(-5, 30), INSIDE),
+        (pt(-30, 0), pt(30, 0), pt(0, 0), band(0, 30), INSIDE),
+        (
+            pt(-30, 0),
+            pt(30, 0),
+            pt(0, 0),
+            band(1, 30),
+            at_foot(1800, 3600),
+        ),
+        (pt(0, 0), pt(0, 0), pt(0, 0), band(0, 0), INSIDE),
+        (pt(0, 0), pt(0, 0), pt(0, 0), band(-5, -1), AT_START),
+        (pt(30, 40), pt(30, 40), pt(0, 0), band(50, 50), INSIDE),
+        (pt(30, 40), pt(30, 40), pt(0, 0), band(51, 60), AT_START),
+        (
+            pt(100, 250),
+            pt(150, 200),
+            pt(100, 200),
+            band(35, 50),
+            INSIDE,
+        ),
+        (
+            pt(100, 250),
+            pt(150, 200),
+            pt(100, 200),
+            band(36, 50),
+            at_foot(2500, 5000),
+        ),
+        (
+            pt(100, 250),
+            pt(160, 190),
+            pt(100, 200),
+            band(36, 61),
+            at_foot(3000, 7200),
+        ),
+        (
+            pt(-far, far),
+            pt(far, far),
+            pt(0, -far),
+            band(100_000_000, 111_803_399),
+            INSIDE,
+        ),
+        (
+            pt(-far, far),
+            pt(far, far),
+            pt(0, -far),
+            band(100_000_001, 111_803_399),
+            at_foot(5_000_000_000_000_000, 10_000_000_000_000_000),
+        ),
+    ];
+    for (p, q, c, band, want) in table {
+        assert_eq!(rt;
+            ring_answer(p, q, c, band),
+            Some(want),
+            "from {p:?} to {q:?} about {c:?} in {band:?}"
+        );
+    }
+}
+
+fn is_short(u: Dir) -> bool
+    ensures { IsTrue result → IsVector u }
+{
+    u.dx.unsigned_abs() <= 100 && u.dy.unsigned_abs() <= 100
+}
+
+fn is_sense(sense: i8) -> bool
+    ensures { IsTrue result → IsSense sense }
+{
+    sense == 1 || sense == -1
+}
+
+fn order_answer(s: Dir, u: Dir, v: Dir, sense: i8) -> Option<bool> {
+    if is_short(s) && is_short(u) && is_short(v) && is_sense(sense) {
+        Some(before(s, u, v, sense))
+    } else {
+        None
+    }
+}
+
+/// Eight directions from (3, 1) on, in each sense.
+#[test]
+fn directions_in_order(rt: HostRuntime) {
+    let start = Dir { dx: 3, dy: 1 };
+    let round: [(Dir, usize, usize); 8] = [
+        (Dir { dx: 6, dy: 2 }, 0, 0),
+        (Dir { dx: 1, dy: 1 }, 1, 7),
+        (Dir { dx: -1, dy: 3 }, 2, 6),
+        (Dir { dx: -2, dy: 1 }, 3, 5),
+        (Dir { dx: -3, dy: -1 }, 4, 4),
+        (Dir { dx: -1, dy: -1 }, 5, 3),
+        (Dir { dx: 1, dy: -3 }, 6, 2),
+        (Dir { dx: 2, dy: -1 }, 7, 1),
+    ];
+    for (u, left, right) in round {
+        for (v, more_left, more_right) in round {
+            assert_eq!(rt;
+                order_answer(start, u, v, 1),
+                Some(left < more_left),
+                "{u:?} and {v:?} to the left"
+            );
+            assert_eq!(rt;
+                order_answer(start, u, v, -1),
+                Some(right < more_right),
+                "{u:?} and {v:?} to the right"
+            );
+        }
     }
 }
 

@@ -1,7 +1,7 @@
 //! Ways between points and their products. Nothing is rounded.
 
 ghost use Rattle.std.specs.Prelude.{◌≡◌, ◌≤◌, ◌^◌, ◌*◌, ◌*ℤ◌, unsigned_abs};
-ghost use Rattle.apt_plane.specs.Ranges.{IsPoint, IsDir, IsVector};
+ghost use Rattle.apt_plane.specs.Ranges.{IsPoint, IsDir, IsShort, IsVector};
 ghost use Rattle.apt_plane.specs.Vectors as spec;
 
 use crate::figures::{Dir, Pt};
@@ -12,6 +12,7 @@ pub fn displacement(p: Pt, q: Pt) -> Dir
     requires end { IsPoint q }
     ensures value { result ≡ spec.displacement p q }
     ensures fits { IsVector result }
+    ensures short { IsShort result }
 {
     Dir {
         dx: q.x - p.x,

@@ -6,10 +6,10 @@ use Rattle.std.proofs.lemmas.Int.{ints}
 pub turned_kept : (k : ℤ) → unsigned_abs k ≤ 2 * 10 ^ 16 → to_z w128 (of_z w128 (pos 0 -ℤ to_z w128 (of_z w128 k))) ≡ neg_ℤ k
 turned_kept k small = omega (arith, ints)
 
-pub low_kept : (h g : ℤ) → unsigned_abs h ≤ 500000 → unsigned_abs g ≤ 100 → to_z w64 (of_z w64 (to_z w64 (of_z w64 h) -ℤ to_z w64 (of_z w64 g))) ≡ h -ℤ g
+pub low_kept : (h g : ℤ) → unsigned_abs h ≤ 10 ^ 8 → unsigned_abs g ≤ 100 → to_z w64 (of_z w64 (to_z w64 (of_z w64 h) -ℤ to_z w64 (of_z w64 g))) ≡ h -ℤ g
 low_kept h g small few = omega (arith, ints)
 
-pub high_kept : (h g : ℤ) → unsigned_abs h ≤ 500000 → unsigned_abs g ≤ 100
+pub high_kept : (h g : ℤ) → unsigned_abs h ≤ 10 ^ 8 → unsigned_abs g ≤ 100
     → to_z w64 (of_z w64 (to_z w64 (of_z w64 (pos 0 -ℤ to_z w64 (of_z w64 h))) -ℤ to_z w64 (of_z w64 g))) ≡ neg_ℤ h -ℤ g
 high_kept h g small few = omega (arith, ints)
 

@@ -66,7 +66,7 @@ pub fn heading(sense: i8, d: Dir) -> Dir
 /// Whether a point of this height over a line is near it, moved to its left.
 fn is_in_strip(height: i128, off: i64, g: i64, length_squared: u128) -> bool
     requires height { unsigned_abs height ≤ 2 * 10 ^ 16 }
-    requires off { unsigned_abs off ≤ 500000 }
+    requires off { unsigned_abs off ≤ 10 ^ 8 }
     requires least { pos 0 ≤ℤ g }
     requires most { g ≤ℤ pos 100 }
     requires length_squared { length_squared ≤ 2 * 10 ^ 16 }
@@ -89,7 +89,7 @@ fn is_in_ring(r: i64, g: i64, length_squared: u128) -> bool
 #[tactic(auto, using(crate::proofs::Sizes::product_fits))]
 fn is_at_least(k: i128, h: i64, n: u128) -> bool
     requires k { unsigned_abs k ≤ 2 * 10 ^ 16 }
-    requires h { unsigned_abs h ≤ 10 ^ 6 }
+    requires h { unsigned_abs h ≤ 2 * 10 ^ 8 }
     requires n { n ≤ 2 * 10 ^ 16 }
     ensures { result ≡ signs.is_at_least k h n }
 {
@@ -102,7 +102,7 @@ fn is_at_least(k: i128, h: i64, n: u128) -> bool
 #[tactic(auto, using(crate::proofs::Sizes::product_fits))]
 fn side_by_height(height: i128, off: i64, length_squared: u128) -> Sign
     requires height { unsigned_abs height ≤ 2 * 10 ^ 16 }
-    requires off { unsigned_abs off ≤ 500000 }
+    requires off { unsigned_abs off ≤ 10 ^ 8 }
     requires length_squared { length_squared ≤ 2 * 10 ^ 16 }
     ensures { result ≡ root_sign_of height off length_squared }
 {

@@ -79,6 +79,36 @@ fn nears_a_diagonal(rt: HostRuntime) {
     }
 }
 
+/// From the lowest points that there are to the highest.
+#[test]
+fn nears_a_line_moved_far(rt: HostRuntime) {
+    let target = Target::Line {
+        base: Pt {
+            x: 0,
+            y: -50_000_000,
+        },
+        dir: Dir { dx: 1, dy: 0 },
+        off: 100_000_000,
+    };
+    let on = Pt {
+        x: 7,
+        y: 50_000_000,
+    };
+    let near = Pt {
+        x: 7,
+        y: 49_999_992,
+    };
+    let far = Pt {
+        x: 7,
+        y: 49_999_991,
+    };
+    assert!(rt; is_near(&target, 0, on));
+    assert_eq!(rt; side_of(&target, on), Sign::Zero);
+    assert!(rt; is_near(&target, 8, near));
+    assert_eq!(rt; side_of(&target, near), Sign::Minus);
+    assert!(rt; !is_near(&target, 8, far));
+}
+
 /// About the origin, with a radius of 100: (60, 80) is on it, 92 and 108 are within 8.
 #[test]
 fn nears_a_circle(rt: HostRuntime) {

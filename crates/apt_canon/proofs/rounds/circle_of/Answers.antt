@@ -1,0 +1,20 @@
+use Rattle.std.proofs.Common.{◌≡◌, w64}
+use Rattle.std.proofs.lemmas.Int.{to_z-of_z}
+use Rattle.apt_canon.specs.Rounds as rounds
+use Rattle.apt_canon.proofs.RoundsLaws.{of_degenerate, of_too_large, of_range}
+use Rattle.apt_canon.proofs.rounds.circle_of.Goals as goal
+
+pub returns-clause-degenerate : goal.returns-clause-degenerate
+returns-clause-degenerate c =
+    let value : c.about.result ≡ rounds.circle_of c.args.c c.args.r = rw (to_z-of_z w64 c.args.r c.ranges.r) at c.about.ensures in
+    of_degenerate c.about.result c.args.c c.args.r value
+
+pub returns-clause-too_large : goal.returns-clause-too_large
+returns-clause-too_large c =
+    let value : c.about.result ≡ rounds.circle_of c.args.c c.args.r = rw (to_z-of_z w64 c.args.r c.ranges.r) at c.about.ensures in
+    of_too_large c.about.result c.args.c c.args.r value
+
+pub returns-clause-range : goal.returns-clause-range
+returns-clause-range c =
+    let value : c.about.result ≡ rounds.circle_of c.args.c c.args.r = rw (to_z-of_z w64 c.args.r c.ranges.r) at c.about.ensures in
+    of_range c.about.result c.args.c c.args.r value

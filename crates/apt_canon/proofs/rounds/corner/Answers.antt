@@ -1,0 +1,30 @@
+use Rattle.std.proofs.Common.{◌≡◌, w64}
+use Rattle.std.proofs.lemmas.Int.{to_z-of_z}
+use Rattle.apt_canon.specs.Rounds as rounds
+use Rattle.apt_canon.proofs.RoundsLaws.{in_refused, in_range, in_radius, in_on_a, in_on_b}
+use Rattle.apt_canon.proofs.rounds.corner.Goals as goal
+
+pub returns-clause-refused : goal.returns-clause-refused
+returns-clause-refused c =
+    let value : c.in_corner.result ≡ rounds.corner c.args.a.now c.args.pick_a c.args.b.now c.args.pick_b c.args.r = rw (to_z-of_z w64 c.args.r c.ranges.r) at c.in_corner.ensures in
+    in_refused c.in_corner.result c.args.a.now c.args.b.now c.args.pick_a c.args.pick_b c.args.r value
+
+pub returns-clause-range : goal.returns-clause-range
+returns-clause-range c =
+    let value : c.in_corner.result ≡ rounds.corner c.args.a.now c.args.pick_a c.args.b.now c.args.pick_b c.args.r = rw (to_z-of_z w64 c.args.r c.ranges.r) at c.in_corner.ensures in
+    in_range c.in_corner.result c.args.a.now c.args.b.now c.args.pick_a c.args.pick_b c.args.r value
+
+pub returns-clause-radius : goal.returns-clause-radius
+returns-clause-radius c =
+    let value : c.in_corner.result ≡ rounds.corner c.args.a.now c.args.pick_a c.args.b.now c.args.pick_b c.args.r = rw (to_z-of_z w64 c.args.r c.ranges.r) at c.in_corner.ensures in
+    in_radius c.in_corner.result c.args.a.now c.args.b.now c.args.pick_a c.args.pick_b c.args.r value
+
+pub returns-clause-on_a : goal.returns-clause-on_a
+returns-clause-on_a c =
+    let value : c.in_corner.result ≡ rounds.corner c.args.a.now c.args.pick_a c.args.b.now c.args.pick_b c.args.r = rw (to_z-of_z w64 c.args.r c.ranges.r) at c.in_corner.ensures in
+    in_on_a c.in_corner.result c.args.a.now c.args.b.now c.args.pick_a c.args.pick_b c.args.r c.requires.a c.requires.b c.requires.r value
+
+pub returns-clause-on_b : goal.returns-clause-on_b
+returns-clause-on_b c =
+    let value : c.in_corner.result ≡ rounds.corner c.args.a.now c.args.pick_a c.args.b.now c.args.pick_b c.args.r = rw (to_z-of_z w64 c.args.r c.ranges.r) at c.in_corner.ensures in
+    in_on_b c.in_corner.result c.args.a.now c.args.b.now c.args.pick_a c.args.pick_b c.args.r c.requires.a c.requires.b c.requires.r value

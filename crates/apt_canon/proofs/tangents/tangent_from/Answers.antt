@@ -1,0 +1,14 @@
+use Rattle.apt_canon.proofs.TangentAnswers.{from_no_meeting, from_range, from_base, from_touches}
+use Rattle.apt_canon.proofs.tangents.tangent_from.Goals as goal
+
+pub returns-clause-no_meeting : goal.returns-clause-no_meeting
+returns-clause-no_meeting c = from_no_meeting c.from_point.result c.args.p c.args.left c.args.c.now c.from_point.ensures
+
+pub returns-clause-range : goal.returns-clause-range
+returns-clause-range c = from_range c.from_point.result c.args.p c.args.left c.args.c.now c.requires.point c.requires.circle c.from_point.ensures
+
+pub returns-clause-base : goal.returns-clause-base
+returns-clause-base c = from_base c.from_point.result c.args.p c.args.left c.args.c.now c.from_point.ensures
+
+pub returns-clause-touches : goal.returns-clause-touches
+returns-clause-touches c = from_touches c.from_point.result c.args.p c.args.left c.args.c.now c.requires.point c.requires.circle c.from_point.ensures

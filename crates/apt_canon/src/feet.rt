@@ -1,0 +1,139 @@
+//! The point of a circle in a direction, the foot of a point on a line, and parallels at a distance.
+
+ghost use Rattle.std.specs.Prelude.{◌≡◌, ◌↔◌, ◌⊎◌, ◌^◌, ◌≤◌, ◌<◌, ◌*◌, ◌<ℤ◌, ◌≤ℤ◌, pos, ◌-ℤ◌, ◌*ℤ◌, unsigned_abs, IfOk, IsErrOf, false};
+ghost use Rattle.apt_num.specs.declared.Sign.TheVariants as signs;
+ghost use Rattle.apt_num.specs.Sign.{square};
+ghost use Rattle.apt_plane.specs.Vectors as vectors;
+ghost use Rattle.apt_plane.specs.Ranges.{IsPoint, IsDir, IsLine, IsMoved, IsRound};
+ghost use Rattle.apt_canon.specs.Scale.{IsNearLine, IsNearCircle};
+ghost use Rattle.apt_canon.specs.Scale as scale;
+ghost use Rattle.apt_canon.specs.Feet as feet;
+
+use crate::FormFault;
+use crate::picks::{offset_picked, side_picked};
+use crate::scale::{UNIT, depth, framed, length_of, opposite, placed, times, within};
+use apt_plane::vectors::perp;
+use apt_plane::{Circ, Dir, Line, Moved, Pt};
+use apt_words::Pick;
+
+/// The point, rounded to the grid, of a circle in a direction from its centre.
+///
+/// # Errors
+///
+/// `OutOfRange` where the point leaves the coordinate limit.
+pub fn ray(c: &Circ, u: Dir) -> Result<Pt, FormFault>
+    requires circle { IsRound c.now }
+    requires dir { IsDir u }
+    ensures value { result ≡ feet.ray c.now u }
+    ensures out_of_range { IsErrOf result FormFault.OutOfRange ↔ (scale.is_in_range (feet.ray_point c.now u) ≡ false) }
+    ensures in_range { IfOk result (λ p. IsPoint p) }
+    ensures on_circle { IfOk result (λ p. IsNearCircle c.now (pos 1) p) }
+{
+    within(ray_point(c, u))
+}
+
+/// The point of a circle in a direction from its centre, whether or not it is in range: less than a unit off the
+/// direction, and within three quarters of one of the circle.
+pub fn ray_point(c: &Circ, u: Dir) -> Pt
+    requires circle { IsRound c.now }
+    requires dir { IsDir u }
+    ensures value { result ≡ feet.ray_point c.now u }
+    ensures on_circle { IsNearCircle c.now (pos 1) result }
+    ensures across { 2 * square (vectors.cross u (vectors.displacement c.now.c result)) ≤ vectors.length_squared u }
+    ensures onwards { (pos 0 <ℤ c.now.r) → pos 0 <ℤ vectors.dot u (vectors.displacement c.now.c result) }
+    ensures radius { (pos 100 ≤ℤ c.now.r) → 2 * unsigned_abs (pos (vectors.length_squared (vectors.displacement c.now.c result)) -ℤ (c.now.r *ℤ c.now.r)) ≤ 3 * unsigned_abs c.now.r }
+{
+    along(c.c, u, c.r, length_of(u))
+}
+
+/// The foot, rounded to the grid, of a point on a moved line.
+///
+/// # Errors
+///
+/// `OutOfRange` where the foot leaves the coordinate limit.
+pub fn foot(p: Pt, l: &Moved) -> Result<Pt, FormFault>
+    requires point { IsPoint p }
+    requires line { IsMoved l.now }
+    ensures value { result ≡ feet.foot p l.now.line l.now.off }
+    ensures out_of_range { IsErrOf result FormFault.OutOfRange ↔ (scale.is_in_range (feet.foot_point p l.now.line l.now.off) ≡ false) }
+    ensures in_range { IfOk result (λ q. IsPoint q) }
+    ensures on_line { IfOk result (λ q. IsNearLine l.now.line l.now.off (pos 1) q) }
+{
+    within(foot_point(p, l))
+}
+
+/// The foot of a point on a moved line, whether or not it is in range: less than a unit off the square to the line.
+pub fn foot_point(p: Pt, l: &Moved) -> Pt
+    requires point { IsPoint p }
+    requires line { IsMoved l.now }
+    ensures value { result ≡ feet.foot_point p l.now.line l.now.off }
+    ensures on_line { IsNearLine l.now.line l.now.off (pos 1) result }
+    ensures across { 2 * square (vectors.dot l.now.line.dir (vectors.displacement p result)) ≤ vectors.length_squared l.now.line.dir }
+{
+    framed(p, l.line.dir, 0, opposite(depth(l, p)))
+}
+
+/// The parallel of a line at a distance in grid units, on the side of the greater or smaller x or y.
+///
+/// # Errors
+///
+/// `Degenerate` where the distance is below 0, or the line runs along the axis of the modifier;
+/// `OutOfRange` where its base leaves the coordinate limit.
+pub fn parallel_at(l: &Line, pick: Pick, d: i64) -> Result<Line, FormFault>
+    requires line { IsLine l.now }
+    requires distance { unsigned_abs d ≤ 10 ^ 8 }
+    ensures value { result ≡ feet.parallel_at l.now pick d }
+    ensures degenerate { IsErrOf result FormFault.Degenerate ↔ ((d <ℤ pos 0) ⊎ (feet.side_picked l.now pick ≡ signs.Zero)) }
+    ensures in_range { IfOk result (λ m. IsLine m) }
+    ensures same_dir { IfOk result (λ m. m.dir ≡ l.now.dir) }
+    ensures on_line { IfOk result (λ m. IfOk (feet.offset_picked (feet.side_picked l.now pick) d) (λ h. IsNearLine l.now h (pos 1) m.base)) }
+{
+    parallel(l, pick, d)
+}
+
+fn parallel(l: &Line, pick: Pick, d: i64) -> Result<Line, FormFault>
+    requires line { IsLine l.now }
+    requires distance { unsigned_abs d ≤ 10 ^ 8 }
+    ensures { result ≡ feet.parallel_at l.now pick d }
+{
+    if d < 0 {
+        return Err(FormFault::Degenerate);
+    }
+    let off = offset_picked(side_picked(l, pick), d)?;
+    let base = within(parallel_point(l, off))?;
+    Ok(Line { base, dir: l.dir })
+}
+
+fn parallel_point(l: &Line, h: i64) -> Pt
+    requires line { IsLine l.now }
+    requires offset { unsigned_abs h ≤ 10 ^ 8 }
+    ensures { result ≡ feet.parallel_point l.now h }
+{
+    along(l.base, perp(l.dir), h, length_of(l.dir))
+}
+
+/// The point at a distance along a direction from another: the direction's length is given.
+fn along(c: Pt, u: Dir, distance: i64, length: i128) -> Pt
+    requires point { IsPoint c }
+    requires x { unsigned_abs u.dx ≤ 10 ^ 8 }
+    requires y { unsigned_abs u.dy ≤ 10 ^ 8 }
+    requires distance { unsigned_abs distance ≤ 10 ^ 8 }
+    requires large { 2 ^ 35 ≤ unsigned_abs length }
+    requires small { unsigned_abs length < 2 ^ 63 }
+    ensures { result ≡ scale.from c (scale.nearest (scale.times (distance *ℤ scale.unit) u) length) }
+{
+    Pt {
+        x: placed(c.x, in_units(u.dx, distance), length),
+        y: placed(c.y, in_units(u.dy, distance), length),
+    }
+}
+
+/// A part of a direction, times a distance in units.
+fn in_units(part: i64, distance: i64) -> i128
+    requires part { unsigned_abs part ≤ 10 ^ 8 }
+    requires distance { unsigned_abs distance ≤ 10 ^ 8 }
+    ensures value { result ≡ (distance *ℤ scale.unit) *ℤ part }
+    ensures small { unsigned_abs result ≤ 2 ^ 91 }
+{
+    times(part, times(distance, UNIT))
+}

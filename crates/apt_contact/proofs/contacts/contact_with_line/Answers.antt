@@ -1,0 +1,22 @@
+use Rattle.std.proofs.Common.{◌≡◌, ◌∙◌}
+use Rattle.apt_offset.specs.Ranges.{IsCircleTarget}
+use Rattle.apt_contact.specs.Meetings.{line_on, circle_about, of_lines, of_line_and_circle}
+use Rattle.apt_contact.specs.Contacts.{HasMeeting}
+use Rattle.apt_contact.proofs.MeetingLaws.{not_negative}
+use Rattle.apt_contact.proofs.ContactLaws.{lines_meet, line_meets_circle}
+use Rattle.apt_contact.proofs.contacts.contact_with_line.Goals as goal
+
+pub returns-in-Line-clause-value : goal.returns-in-Line-clause-value
+returns-in-Line-clause-value c =
+    let l = c.args.l.now in
+    let other = line_on c.in-Line.base c.in-Line.dir in
+    let meeting : HasMeeting (of_lines l.line other) = rw c.in-Line.is at c.requires.meeting in
+    rw c.in-Line.is (c.line_line.ensures.value ∙ lines_meet l.line other l.off c.in-Line.off meeting)
+
+pub returns-in-Circ-clause-value : goal.returns-in-Circ-clause-value
+returns-in-Circ-clause-value c =
+    let l = c.args.l.now in
+    let other = circle_about c.in-Circ.c c.in-Circ.r in
+    let is : IsCircleTarget c.in-Circ.c c.in-Circ.r = rw c.in-Circ.is at c.requires.other in
+    let meeting : HasMeeting (of_line_and_circle l.line l.off other) = rw c.in-Circ.is at c.requires.meeting in
+    rw c.in-Circ.is (c.line_circle.ensures.value ∙ line_meets_circle l.line l.off other c.args.sigma (not_negative other.r is.least) meeting)

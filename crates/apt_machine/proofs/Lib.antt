@@ -1,0 +1,3 @@
+mod Worked
+pub mod Blanks
+pub mod Places

@@ -1,0 +1,89 @@
+//! The lines of a machine table.
+
+ghost use Rattle.std.specs.Prelude.{◌≡◌, ◌<◌, ◌==◌, length, position, option_map, IfOk, IfSome};
+ghost use Rattle.std.specs.List.{list_any};
+ghost use Rattle.std.specs.Result.{IfErr};
+ghost use Rattle.apt_lexis.specs.Lines.{tab};
+ghost use Rattle.apt_machine.specs.Machines.{IsDraft};
+ghost use Rattle.apt_machine.specs.Tables as tables;
+
+use crate::MachineCause;
+use crate::draft::Draft;
+use crate::key::{Key, key_named};
+use apt_lexis::are_characters;
+
+/// The greatest number of bytes of a line.
+const MOST_BYTES: usize = 256;
+
+pub(crate) fn is_readable(line: &[u8]) -> bool
+    ensures { result ≡ tables.is_readable line.now }
+{
+    line.len() <= MOST_BYTES && are_characters(line)
+}
+
+fn first_blank(line: &[u8]) -> Option<usize>
+    ensures value { result ≡ position (λ b. b == tables.blank) line.now }
+    ensures small { IfSome result (λ i. i < length line.now) }
+{
+    line.iter().position(|b| *b == b' ')
+}
+
+/// What stands in front of the first blank, and what behind it.
+#[tactic(auto, using(crate::proofs::Blanks::front_found, crate::proofs::Blanks::behind_found, crate::proofs::Blanks::front_absent, crate::proofs::Blanks::behind_absent))]
+fn cut(line: &[u8]) -> (&[u8], Option<&[u8]>)
+    ensures front { result.0.now ≡ tables.in_front line.now }
+    ensures behind { option_map (λ value. value.now) result.1 ≡ tables.behind line.now }
+{
+    match first_blank(line) {
+        Some(i) => (&line[..i], Some(&line[i + 1..])),
+        None => (line, None),
+    }
+}
+
+fn has_tab(line: &[u8]) -> bool
+    ensures { result ≡ list_any (λ b. b == tab) line.now }
+{
+    line.iter().any(|b| *b == b'\t')
+}
+
+/// The key of a line, of which this stands in front of the first blank.
+fn key_of(line: &[u8], name: &[u8]) -> Option<Key>
+    requires { name.now ≡ tables.in_front line.now }
+    ensures { result ≡ tables.key_of line.now }
+{
+    if has_tab(line) { None } else { key_named(name) }
+}
+
+/// What is said with one key more, which must not stand already, and its value.
+fn keyed(draft: Draft, key: Option<Key>, value: Option<&[u8]>) -> Result<Draft, MachineCause>
+    ensures value { result ≡ tables.keyed draft key (option_map (λ v. v.now) value.entry) }
+    ensures within { IsDraft draft → IfOk result IsDraft }
+    ensures cause { IfErr result tables.IsOfLine }
+{
+    let Some(key) = key else {
+        return Err(MachineCause::Key);
+    };
+    if draft.has(key) {
+        return Err(MachineCause::Twice);
+    }
+    let Some(value) = value else {
+        return Err(MachineCause::Value);
+    };
+    draft.with(key, value).ok_or(MachineCause::Value)
+}
+
+/// What is said behind a line.
+pub(crate) fn behind_line(draft: Draft, line: &[u8]) -> Result<Draft, MachineCause>
+    ensures value { result ≡ tables.behind_line draft line.now }
+    ensures within { IsDraft draft → IfOk result IsDraft }
+    ensures cause { IfErr result tables.IsOfLine }
+{
+    if line.is_empty() {
+        return Ok(draft);
+    }
+    if !is_readable(line) {
+        return Err(MachineCause::Byte);
+    }
+    let (name, value) = cut(line);
+    keyed(draft, key_of(line, name), value)
+}

@@ -1,0 +1,29 @@
+-- The order of directions round a centre, as the code tells it.
+use Rattle.std.proofs.Common.{◌≡◌, ◌↔◌, ◌⊎◌, ℕ, sym, ◌∙◌, IsTrue, arith, ℤ, pos, neg_ℤ, ◌*ℤ◌, ◌<ℤ◌, int_lt, inl, inr}
+use Rattle.std.proofs.lemmas.Int.{ints}
+use Rattle.apt_plane.specs.declared.figures.Dir.{Dir}
+use Rattle.apt_plane.specs.Vectors.{cross}
+use Rattle.apt_plane.specs.Ranges.{IsSense}
+use Rattle.apt_plane.specs.Order.{turn_class, ComesBefore}
+
+-- a number by the sense of a turn
+pub kept : (sense z : ℤ) → IsSense sense → ¬ (sense <ℤ pos 0) → z ≡ sense *ℤ z
+kept sense z (inl e) p = rw e (omega (arith, ints))
+kept sense z (inr e) p = absurd (p (omega (arith, ints)))
+
+pub turned : (sense z : ℤ) → IsSense sense → sense <ℤ pos 0 → neg_ℤ z ≡ sense *ℤ z
+turned sense z (inl e) p = absurd (omega (arith, ints))
+turned sense z (inr e) p = rw e (omega (arith, ints))
+
+is_positive : (z : ℤ) → IsTrue (int_lt (pos 0) z) ↔ (pos 0 <ℤ z)
+is_positive z = (λ t. grind (arith, ints), λ p. grind (arith, ints))
+
+-- of one class, up to a half turn or beyond it
+pub tells_before : (s u v : Dir) (sense z : ℤ) (a b : ℕ) → a ≡ turn_class s sense u → b ≡ turn_class s sense v → a ≡ b → (a ≡ 1) ⊎ (a ≡ 3) → z ≡ sense *ℤ cross u v
+    → IsTrue (int_lt (pos 0) z) ↔ ComesBefore s sense u v
+tells_before s u v sense z a b e f same which g =
+    let first : (turn_class s sense u ≡ 1) ⊎ (turn_class s sense u ≡ 3) = elim which [ inl one ↦ inl (sym e ∙ one) | inr three ↦ inr (sym e ∙ three) ] in
+    let positive = is_positive z in (
+      λ t. inr (sym e ∙ same ∙ f, first, rw g at (positive.0 t)),
+      λ before. elim before [ inl less ↦ absurd (omega (arith, less, e, f, same)) | inr onwards ↦ positive.1 (rw g onwards.2) ],
+    )
