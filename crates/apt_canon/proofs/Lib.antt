@@ -1,6 +1,11 @@
 pub mod Products
+pub mod Depths
 pub mod Meets
 pub mod NearLine
 pub mod MeetingLaws
 pub mod OnBoth
+pub mod FramedPoints
+pub mod LineCircleLaws
+pub mod CircleCircleLaws
+pub mod CircleAnswers
 pub mod Worked

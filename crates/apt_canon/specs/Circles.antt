@@ -1,5 +1,5 @@
 -- Where a moved line, or a circle, meets a circle.
-use Rattle.std.specs.Prelude.{◌^◌, nat_le, ℤ, pos, neg_ℤ, ◌+ℤ◌, ◌-ℤ◌, ◌*ℤ◌, ◌==◌, ◌&&◌, Bool, Result, Err, if◌then◌else◌}
+use Rattle.std.specs.Prelude.{◌^◌, ◌≤◌, nat_le, ℤ, pos, neg_ℤ, ◌+ℤ◌, ◌-ℤ◌, ◌*ℤ◌, ◌==◌, ◌&&◌, Bool, Result, Err, if◌then◌else◌}
 use Rattle.apt_num.specs.Root.{root}
 use Rattle.apt_num.specs.Near.{near}
 use Rattle.apt_num.specs.Sign.{square, is_at_least}
@@ -51,6 +51,10 @@ abbrev pub overlap : Circ → Circ → Bool
 overlap a b =
     let n = length_squared (displacement a.c b.c) in
     nat_le (square (a.r -ℤ b.r)) n && nat_le n (square (a.r +ℤ b.r))
+
+pub record DoMeet (a b : Circ) : Type 0 where
+  pub inside : square (a.r -ℤ b.r) ≤ length_squared (displacement a.c b.c)
+  pub outside : length_squared (displacement a.c b.c) ≤ square (a.r +ℤ b.r)
 
 -- how far from the first centre their common chord lies, towards the second, in units of 2^-30
 abbrev pub chord_depth : Circ → Circ → ℤ

@@ -1,8 +1,11 @@
 //! Closed formulas of the plane: where figures meet, rounded to the grid.
 #![tactic(auto)]
 
+mod circles;
 mod lines;
+mod scale;
 
+pub use circles::{circle_circle, circle_circle_point, line_circle, line_circle_point};
 pub use lines::line_line;
 
 /// Why a formula gives no figure.

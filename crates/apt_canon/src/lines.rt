@@ -1,45 +1,32 @@
 //! The point in which two lines meet.
 
 ghost use Rattle.std.specs.Prelude.{◌≡◌, ◌≢◌, ◌↔◌, ◌*◌, ◌+◌, ◌^◌, ◌≤◌, ◌<◌, pos, ◌+ℤ◌, ◌-ℤ◌, ◌*ℤ◌, unsigned_abs, IfOk, IsErrOf};
-ghost use Rattle.apt_num.specs.Near.{near};
 ghost use Rattle.apt_plane.specs.Vectors as vectors;
-ghost use Rattle.apt_plane.specs.Ranges.{IsPoint, IsDir, IsLine};
+ghost use Rattle.apt_plane.specs.Ranges.{IsPoint, IsLine, IsMoved};
 ghost use Rattle.apt_canon.specs.Scale.{IsNearLine};
 ghost use Rattle.apt_canon.specs.Meeting as meeting;
 ghost use Rattle.apt_canon.specs.Scale as scale;
 
 use crate::FormFault;
-use apt_num::{div_near, isqrt};
-use apt_plane::vectors::{cross_of, height, length_squared_of};
-use apt_plane::{Dir, Line, Pt};
+use crate::scale::{UNIT, Wide, in_range, length_of, shifted, times};
+use apt_plane::vectors::{cross_of, height};
+use apt_plane::{Line, Moved, Pt};
 
-/// The coordinate limit, in grid units.
-const LIMIT: u128 = 50_000_000;
-
-/// One unit of length in the formulas.
-const UNIT: i128 = 1 << 35;
-
-/// A point or a way that may leave the coordinate limit.
-#[derive(Clone, Copy)]
-struct Wide {
-    x: i128,
-    y: i128,
-}
-
-/// The point, rounded to the grid, in which two lines meet that are moved `ha` and `hb` grid units to their left.
+/// The point, rounded to the grid, in which two moved lines meet.
+///
+/// # Errors
+///
 /// `NoMeeting` where they are parallel, `OutOfRange` where the point leaves the coordinate limit.
-pub fn line_line(a: &Line, ha: i64, b: &Line, hb: i64) -> Result<Pt, FormFault>
-    requires a { IsLine a.now }
-    requires b { IsLine b.now }
-    requires ha { unsigned_abs ha ≤ 10 ^ 8 }
-    requires hb { unsigned_abs hb ≤ 10 ^ 8 }
-    ensures value { result ≡ meeting.line_line a.now ha b.now hb }
-    ensures parallel { IsErrOf result FormFault.NoMeeting ↔ (vectors.cross a.now.dir b.now.dir ≡ pos 0) }
+pub fn line_line(a: &Moved, b: &Moved) -> Result<Pt, FormFault>
+    requires a { IsMoved a.now }
+    requires b { IsMoved b.now }
+    ensures value { result ≡ meeting.line_line a.now.line a.now.off b.now.line b.now.off }
+    ensures parallel { IsErrOf result FormFault.NoMeeting ↔ (vectors.cross a.now.line.dir b.now.line.dir ≡ pos 0) }
     ensures in_range { IfOk result (λ p. IsPoint p) }
-    ensures on_a { IfOk result (λ p. IsNearLine a.now ha (pos 1) p) }
-    ensures on_b { IfOk result (λ p. IsNearLine b.now hb (pos 1) p) }
+    ensures on_a { IfOk result (λ p. IsNearLine a.now.line a.now.off (pos 1) p) }
+    ensures on_b { IfOk result (λ p. IsNearLine b.now.line b.now.off (pos 1) p) }
 {
-    meet(a, ha, b, hb)
+    meet(&a.line, a.off, &b.line, b.off)
 }
 
 fn meet(a: &Line, ha: i64, b: &Line, hb: i64) -> Result<Pt, FormFault>
@@ -68,9 +55,10 @@ fn meeting_point(a: &Line, ha: i64, b: &Line, hb: i64, turn: i128) -> Wide
     ensures y { result.y ≡ (meeting.meeting_point a.now ha b.now hb).y }
 {
     let displacement = meeting_displacement(a, ha, b, hb);
+    let divisor = turn * UNIT;
     Wide {
-        x: shifted(a.base.x, displacement.x, turn),
-        y: shifted(a.base.y, displacement.y, turn),
+        x: shifted(a.base.x, displacement.x, divisor),
+        y: shifted(a.base.y, displacement.y, divisor),
     }
 }
 
@@ -103,37 +91,6 @@ fn height_from(offset: i64, length: i128, cross: i128) -> i128
     times(offset, length) - cross * UNIT
 }
 
-fn length_of(dir: Dir) -> i128
-    requires { IsDir dir }
-    ensures value { result ≡ scale.length_of dir }
-    ensures small { unsigned_abs result < 2 ^ 63 }
-{
-    isqrt(length_squared_of(dir) * (1 << 70)) as i128
-}
-
-fn shifted(base: i64, share: i128, turn: i128) -> i128
-    requires base { unsigned_abs base ≤ 50000000 }
-    requires share { unsigned_abs share ≤ 2 ^ 119 }
-    requires turn { unsigned_abs turn ≤ 2 * 10 ^ 16 }
-    requires not_zero { turn ≢ pos 0 }
-    ensures { result ≡ base +ℤ near share (turn *ℤ scale.unit) }
-{
-    i128::from(base) + div_near(share, turn * UNIT)
-}
-
-fn in_range(point: Wide) -> Result<Pt, FormFault>
-    ensures { result ≡ scale.in_range (record { x = point.x; y = point.y }) }
-{
-    if point.x.unsigned_abs() <= LIMIT && point.y.unsigned_abs() <= LIMIT {
-        Ok(Pt {
-            x: point.x as i64,
-            y: point.y as i64,
-        })
-    } else {
-        Err(FormFault::OutOfRange)
-    }
-}
-
 fn product_difference(a: i64, b: i128, c: i64, d: i128) -> i128
     requires a { unsigned_abs a ≤ 10 ^ 8 }
     requires b { unsigned_abs b ≤ 2 ^ 91 }
@@ -143,13 +100,4 @@ fn product_difference(a: i64, b: i128, c: i64, d: i128) -> i128
     ensures small { unsigned_abs result ≤ 10 ^ 8 * (unsigned_abs b + unsigned_abs d) }
 {
     times(a, b) - times(c, d)
-}
-
-fn times(a: i64, b: i128) -> i128
-    requires a { unsigned_abs a ≤ 10 ^ 8 }
-    requires b { unsigned_abs b ≤ 2 ^ 91 }
-    ensures value { result ≡ a *ℤ b }
-    ensures small { unsigned_abs result ≤ 10 ^ 8 * unsigned_abs b }
-{
-    i128::from(a) * b
 }

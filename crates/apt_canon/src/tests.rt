@@ -1,8 +1,8 @@
 ghost use Rattle.std.specs.Prelude.{◌+◌, ◌*◌, ◌^◌, ◌≤◌, unsigned_abs};
-ghost use Rattle.apt_plane.specs.Ranges.{IsLine};
+ghost use Rattle.apt_plane.specs.Ranges.{IsLine, IsMoved};
 
 use crate::{FormFault, line_line};
-use apt_plane::{Dir, Line, Pt};
+use apt_plane::{Dir, Line, Moved, Pt};
 
 fn line(x: i64, y: i64, dx: i64, dy: i64) -> Line
     requires x { unsigned_abs x ≤ 50000000 }
@@ -18,24 +18,35 @@ fn line(x: i64, y: i64, dx: i64, dy: i64) -> Line
     }
 }
 
+fn moved(line: Line, off: i64) -> Moved
+    requires line { IsLine line }
+    requires off { unsigned_abs off ≤ 10 ^ 8 }
+    ensures { IsMoved result }
+{
+    Moved { line, off }
+}
+
 /// To the left is up for a line to the right, and to the left for a line up.
 #[test]
 fn meets_along_the_axes(rt: HostRuntime) {
     let right = line(1000, 2000, 5, 0);
     let up = line(-400, 700, 0, 3);
-    assert_eq!(rt; line_line(&right, 0, &up, 0), Ok(Pt { x: -400, y: 2000 }));
     assert_eq!(rt;
-        line_line(&right, 300, &up, 200),
+        line_line(&moved(right, 0), &moved(up, 0)),
+        Ok(Pt { x: -400, y: 2000 })
+    );
+    assert_eq!(rt;
+        line_line(&moved(right, 300), &moved(up, 200)),
         Ok(Pt { x: -600, y: 2300 })
     );
     assert_eq!(rt;
-        line_line(&up, 200, &right, 300),
+        line_line(&moved(up, 200), &moved(right, 300)),
         Ok(Pt { x: -600, y: 2300 })
     );
     let left = line(1000, 2000, -5, 0);
     let down = line(-400, 700, 0, -3);
     assert_eq!(rt;
-        line_line(&left, 300, &down, 200),
+        line_line(&moved(left, 300), &moved(down, 200)),
         Ok(Pt { x: -200, y: 1700 })
     );
 }
@@ -44,13 +55,14 @@ fn meets_along_the_axes(rt: HostRuntime) {
 /// The others were computed from square roots of 80 digits.
 #[test]
 fn meets_between_slanted_lines(rt: HostRuntime) {
-    let whole = line_line(&line(10, 20, 3, 4), 25, &line(7, -9, -5, 12), -26);
+    let whole = line_line(
+        &moved(line(10, 20, 3, 4), 25),
+        &moved(line(7, -9, -5, 12), -26),
+    );
     assert_eq!(rt; whole, Ok(Pt { x: 7, y: 58 }));
     let far = line_line(
-        &line(1234567, -7654321, 30, 41),
-        12345,
-        &line(-2222222, 3333333, -17, 5),
-        -6789,
+        &moved(line(1234567, -7654321, 30, 41), 12345),
+        &moved(line(-2222222, 3333333, -17, 5), -6789),
     );
     assert_eq!(rt;
         far,
@@ -59,7 +71,10 @@ fn meets_between_slanted_lines(rt: HostRuntime) {
             y: 560344
         })
     );
-    let roots = line_line(&line(0, 0, 1, 1), 100, &line(0, 0, 1, -2), -70);
+    let roots = line_line(
+        &moved(line(0, 0, 1, 1), 100),
+        &moved(line(0, 0, 1, -2), -70),
+    );
     assert_eq!(rt; roots, Ok(Pt { x: -99, y: 42 }));
 }
 
@@ -67,9 +82,9 @@ fn meets_between_slanted_lines(rt: HostRuntime) {
 #[test]
 fn rounds_halves_away_from_zero(rt: HostRuntime) {
     let axis = line(0, 0, 1, 0);
-    let before = line_line(&axis, 0, &line(0, 1, 1, 2), 0);
+    let before = line_line(&moved(axis, 0), &moved(line(0, 1, 1, 2), 0));
     assert_eq!(rt; before, Ok(Pt { x: -1, y: 0 }));
-    let after = line_line(&axis, 0, &line(0, -1, 1, 2), 0);
+    let after = line_line(&moved(axis, 0), &moved(line(0, -1, 1, 2), 0));
     assert_eq!(rt; after, Ok(Pt { x: 1, y: 0 }));
 }
 
@@ -77,9 +92,15 @@ fn rounds_halves_away_from_zero(rt: HostRuntime) {
 #[test]
 fn keeps_the_coordinate_limit(rt: HostRuntime) {
     let axis = line(0, 0, 1, 0);
-    let within = line_line(&axis, 0, &line(0, 100000, 25000000, -50000), 0);
+    let within = line_line(
+        &moved(axis, 0),
+        &moved(line(0, 100000, 25000000, -50000), 0),
+    );
     assert_eq!(rt; within, Ok(Pt { x: 50000000, y: 0 }));
-    let past = line_line(&axis, 0, &line(1, 100000, 25000000, -50000), 0);
+    let past = line_line(
+        &moved(axis, 0),
+        &moved(line(1, 100000, 25000000, -50000), 0),
+    );
     assert_eq!(rt; past, Err(FormFault::OutOfRange));
 }
 
@@ -87,6 +108,12 @@ fn keeps_the_coordinate_limit(rt: HostRuntime) {
 fn finds_no_meeting_of_parallel_lines(rt: HostRuntime) {
     let there = line(0, 0, 3, -4);
     let back = line(10, 10, -6, 8);
-    assert_eq!(rt; line_line(&there, 5, &back, 5), Err(FormFault::NoMeeting));
-    assert_eq!(rt; line_line(&there, 0, &there, 0), Err(FormFault::NoMeeting));
+    assert_eq!(rt;
+        line_line(&moved(there, 5), &moved(back, 5)),
+        Err(FormFault::NoMeeting)
+    );
+    assert_eq!(rt;
+        line_line(&moved(there, 0), &moved(there, 0)),
+        Err(FormFault::NoMeeting)
+    );
 }

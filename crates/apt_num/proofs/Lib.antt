@@ -7,4 +7,7 @@ pub mod Tests
 pub mod Sums
 pub mod Nearest
 pub mod Roots
+pub mod Framed
+pub mod Footed
+pub mod Chords
 mod Worked

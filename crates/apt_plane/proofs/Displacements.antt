@@ -68,6 +68,19 @@ cross_sum d v w = sum_parts d.dx d.dy v.dx v.dy w.dx w.dy
 pub cross_times : (d v : Dir) (m : ℤ) → cross d (to (m *ℤ v.dx) (m *ℤ v.dy)) ≡ m *ℤ cross d v
 cross_times d v m = times_parts d.dx d.dy m v.dx v.dy
 
+dot_parts : (a b p q r s : ℤ) → (a *ℤ (p +ℤ r)) +ℤ (b *ℤ (q +ℤ s)) ≡ ((a *ℤ p) +ℤ (b *ℤ q)) +ℤ ((a *ℤ r) +ℤ (b *ℤ s))
+dot_parts a b p q r s = rw (as_diff a, as_diff b, as_diff p, as_diff q, as_diff r, as_diff s) (simp differences (diff-same _ _ _ _ (omega arith)))
+
+dot_times_parts : (a b m p q : ℤ) → (a *ℤ (m *ℤ p)) +ℤ (b *ℤ (m *ℤ q)) ≡ m *ℤ ((a *ℤ p) +ℤ (b *ℤ q))
+dot_times_parts a b m p q = rw (as_diff a, as_diff b, as_diff m, as_diff p, as_diff q) (simp differences (diff-same _ _ _ _ (omega arith)))
+
+-- and the dot product
+pub dot_sum : (d v w : Dir) → dot d (to (v.dx +ℤ w.dx) (v.dy +ℤ w.dy)) ≡ dot d v +ℤ dot d w
+dot_sum d v w = dot_parts d.dx d.dy v.dx v.dy w.dx w.dy
+
+pub dot_times : (d v : Dir) (m : ℤ) → dot d (to (m *ℤ v.dx) (m *ℤ v.dy)) ≡ m *ℤ dot d v
+dot_times d v m = dot_times_parts d.dx d.dy m v.dx v.dy
+
 pub cross_self : (d : Dir) → cross d d ≡ pos 0
 cross_self d = self_parts d.dx d.dy
 

@@ -5,23 +5,19 @@ use Rattle.apt_num.specs.Near.{near}
 use Rattle.apt_num.proofs.Squares.{square_le}
 use Rattle.apt_num.proofs.Nearest.{near_remainder}
 use Rattle.apt_plane.specs.declared.figures.Dir.{Dir}
-use Rattle.apt_plane.specs.Vectors.{cross, length_squared}
-use Rattle.apt_plane.proofs.Displacements.{to, cross_sum, cross_times, cross_square}
+use Rattle.apt_plane.specs.Vectors.{cross, dot, length_squared}
+use Rattle.apt_plane.proofs.Displacements.{to, cross_sum, cross_times, cross_square, dot_sum, dot_times, dot_square}
+use Rattle.apt_plane.proofs.Lengths.{IsRounded}
 
 -- the nearest quotients of a way over m, by parts
 abbrev pub near_displacement : Dir → ℤ → Dir
 near_displacement u m = to (near u.dx m) (near u.dy m)
 
--- what is left over: e, with m times the quotients the way and e, and twice the square of its length at most that of m
-pub record WayRest (u : Dir) (m : ℤ) (e : Dir) : Type 0 where
-  pub dx : m *ℤ near u.dx m ≡ u.dx +ℤ e.dx
-  pub dy : m *ℤ near u.dy m ≡ u.dy +ℤ e.dy
-  pub short : 2 * length_squared e ≤ unsigned_abs m * unsigned_abs m
-
 short_pair : (x y m : ℕ) → 2 * x ≤ m → 2 * y ≤ m → 2 * (x * x + y * y) ≤ m * m
 short_pair x y m p q = omega (arith, square_le (2 * x) m p, square_le (2 * y) m q)
 
-pub displacement_rest : (u : Dir) (m : ℤ) → m ≢ pos 0 → (e : Dir) × WayRest u m e
+-- what is left over
+pub displacement_rest : (u : Dir) (m : ℤ) → m ≢ pos 0 → (e : Dir) × IsRounded u (near_displacement u m) e m
 displacement_rest u m d =
     let x = near_remainder u.dx m d in
     let y = near_remainder u.dy m d in
@@ -39,3 +35,27 @@ moved d u m h =
     let split : m *ℤ cross d (near_displacement u m) ≡ cross d u +ℤ cross d e =
     sym (cross_times d (near_displacement u m) m) ∙ rw (left.1.dx, left.1.dy) (cross_sum d u e) in
     (cross d e, split, half_square (unsigned_abs (cross d e)) (length_squared d) (length_squared e) (unsigned_abs m) (cross_square d e) left.1.short)
+
+-- and the dot product
+pub moved_dot : (d u : Dir) (m : ℤ) → m ≢ pos 0
+    → (rest : ℤ) × (m *ℤ dot d (near_displacement u m) ≡ dot d u +ℤ rest) × (2 * unsigned_abs rest * unsigned_abs rest ≤ length_squared d * (unsigned_abs m * unsigned_abs m))
+moved_dot d u m h =
+    let left = displacement_rest u m h in
+    let e = left.0 in
+    let split : m *ℤ dot d (near_displacement u m) ≡ dot d u +ℤ dot d e =
+    sym (dot_times d (near_displacement u m) m) ∙ rw (left.1.dx, left.1.dy) (dot_sum d u e) in
+    (dot d e, split, half_square (unsigned_abs (dot d e)) (length_squared d) (length_squared e) (unsigned_abs m) (dot_square d e) left.1.short)
+
+-- one rest for both products
+pub moved_both : (d u : Dir) (m : ℤ) → m ≢ pos 0
+    → (e : Dir) × IsRounded u (near_displacement u m) e m
+    × (m *ℤ cross d (near_displacement u m) ≡ cross d u +ℤ cross d e)
+    × (m *ℤ dot d (near_displacement u m) ≡ dot d u +ℤ dot d e)
+moved_both d u m h =
+    let left = displacement_rest u m h in
+    let e = left.0 in (
+      e,
+      left.1,
+      sym (cross_times d (near_displacement u m) m) ∙ rw (left.1.dx, left.1.dy) (cross_sum d u e),
+      sym (dot_times d (near_displacement u m) m) ∙ rw (left.1.dx, left.1.dy) (dot_sum d u e),
+    )

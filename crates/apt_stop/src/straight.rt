@@ -13,7 +13,7 @@ use apt_canon::line_line;
 use apt_num::{Sign, sign_of};
 use apt_offset::Target;
 use apt_plane::vectors::cross;
-use apt_plane::{Dir, Line, Pt};
+use apt_plane::{Dir, Line, Moved, Pt};
 use apt_words::Case;
 
 /// A stop is near within so many grid units.
@@ -82,7 +82,12 @@ fn crossing(drive: &Line, off: i64, check: &Line, stop_off: i64) -> Result<Pt, C
     requires stop_off { unsigned_abs stop_off ≤ 500000 }
     ensures { result ≡ stops.contact_of (meeting.line_line drive.now off check.now stop_off) }
 {
-    match line_line(drive, off, check, stop_off) {
+    let track = Moved { line: *drive, off };
+    let stop = Moved {
+        line: *check,
+        off: stop_off,
+    };
+    match line_line(&track, &stop) {
         Ok(p) => Ok(p),
         Err(_) => Err(Case::OutOfRange),
     }

@@ -1,5 +1,5 @@
-use Rattle.std.proofs.Common.{◌≡◌, w64}
-use Rattle.std.proofs.lemmas.Int.{to_z-of_z}
+use Rattle.std.proofs.Common.{◌≡◌, w64, arith}
+use Rattle.std.proofs.lemmas.Int.{to_z-of_z, ints}
 use Rattle.apt_canon.specs.Meeting.{line_line}
 use Rattle.apt_canon.proofs.Meets.{answer_parallel, answer_in_range}
 use Rattle.apt_canon.proofs.OnBoth.{answer_on_a, answer_on_b}
@@ -9,34 +9,34 @@ pub returns-clause-parallel : goal.returns-clause-parallel
 returns-clause-parallel c =
     let a = c.args.a.now in
     let b = c.args.b.now in
-    let ha = c.args.ha in
-    let hb = c.args.hb in
-    let value : c.meet.result ≡ line_line a ha b hb = rw (to_z-of_z w64 ha c.ranges.ha, to_z-of_z w64 hb c.ranges.hb) at c.meet.ensures in
-    answer_parallel c.meet.result a b ha hb value
+    let keep_a = to_z-of_z w64 a.off (omega (arith, ints)) in
+    let keep_b = to_z-of_z w64 b.off (omega (arith, ints)) in
+    let value : c.meet.result ≡ line_line a.line a.off b.line b.off = rw (keep_a, keep_b) at c.meet.ensures in
+    answer_parallel c.meet.result a.line b.line a.off b.off value
 
 pub returns-clause-in_range : goal.returns-clause-in_range
 returns-clause-in_range c =
     let a = c.args.a.now in
     let b = c.args.b.now in
-    let ha = c.args.ha in
-    let hb = c.args.hb in
-    let value : c.meet.result ≡ line_line a ha b hb = rw (to_z-of_z w64 ha c.ranges.ha, to_z-of_z w64 hb c.ranges.hb) at c.meet.ensures in
-    answer_in_range c.meet.result a b ha hb value
+    let keep_a = to_z-of_z w64 a.off (omega (arith, ints)) in
+    let keep_b = to_z-of_z w64 b.off (omega (arith, ints)) in
+    let value : c.meet.result ≡ line_line a.line a.off b.line b.off = rw (keep_a, keep_b) at c.meet.ensures in
+    answer_in_range c.meet.result a.line b.line a.off b.off value
 
 pub returns-clause-on_a : goal.returns-clause-on_a
 returns-clause-on_a c =
     let a = c.args.a.now in
     let b = c.args.b.now in
-    let ha = c.args.ha in
-    let hb = c.args.hb in
-    let value : c.meet.result ≡ line_line a ha b hb = rw (to_z-of_z w64 ha c.ranges.ha, to_z-of_z w64 hb c.ranges.hb) at c.meet.ensures in
-    answer_on_a c.meet.result a b ha hb c.requires.a c.requires.b c.requires.ha c.requires.hb value
+    let keep_a = to_z-of_z w64 a.off (omega (arith, ints)) in
+    let keep_b = to_z-of_z w64 b.off (omega (arith, ints)) in
+    let value : c.meet.result ≡ line_line a.line a.off b.line b.off = rw (keep_a, keep_b) at c.meet.ensures in
+    answer_on_a c.meet.result a.line b.line a.off b.off c.requires.a.line c.requires.b.line c.requires.a.off c.requires.b.off value
 
 pub returns-clause-on_b : goal.returns-clause-on_b
 returns-clause-on_b c =
     let a = c.args.a.now in
     let b = c.args.b.now in
-    let ha = c.args.ha in
-    let hb = c.args.hb in
-    let value : c.meet.result ≡ line_line a ha b hb = rw (to_z-of_z w64 ha c.ranges.ha, to_z-of_z w64 hb c.ranges.hb) at c.meet.ensures in
-    answer_on_b c.meet.result a b ha hb c.requires.a c.requires.b c.requires.ha c.requires.hb value
+    let keep_a = to_z-of_z w64 a.off (omega (arith, ints)) in
+    let keep_b = to_z-of_z w64 b.off (omega (arith, ints)) in
+    let value : c.meet.result ≡ line_line a.line a.off b.line b.off = rw (keep_a, keep_b) at c.meet.ensures in
+    answer_on_b c.meet.result a.line b.line a.off b.off c.requires.a.line c.requires.b.line c.requires.a.off c.requires.b.off value

@@ -1,7 +1,7 @@
 use Rattle.std.proofs.Common.{◌≡◌, ◌∙◌, w64, ◌*◌, ◌^◌, ◌≤◌, arith, ◌*ℤ◌, unsigned_abs}
 use Rattle.std.proofs.lemmas.Int.{to_z-of_z}
 use Rattle.apt_canon.proofs.Products.{kept, size_times}
-use Rattle.apt_canon.proofs.lines.times.Goals as goal
+use Rattle.apt_canon.proofs.scale.times.Goals as goal
 
 pub returns-clause-small : goal.returns-clause-small
 returns-clause-small c =
