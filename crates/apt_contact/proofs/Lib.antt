@@ -1,3 +1,4 @@
 pub mod Sides
 pub mod Distances
 pub mod MeetingLaws
+pub mod ContactLaws

@@ -22,7 +22,7 @@ use Rattle.apt_contact.proofs.Distances as distances
 
 -- ---- two lines
 
-size_tells : (z : ℤ) → (((unsigned_abs z == 0) ≡ true) × (z ≡ pos 0)) ⊎ (((unsigned_abs z == 0) ≡ false) × (z ≢ pos 0))
+pub size_tells : (z : ℤ) → (((unsigned_abs z == 0) ≡ true) × (z ≡ pos 0)) ⊎ (((unsigned_abs z == 0) ≡ false) × (z ≢ pos 0))
 size_tells z = elim (eqb_tells (unsigned_abs z) 0) [
   | inl none ↦ inl (none.0, omega (arith, ints))
   | inr some ↦ inr (some.0, λ e. some.1 (omega (arith, ints)))
@@ -106,7 +106,7 @@ parallel_law (targets.Line b d h) (targets.Circ c r) = (λ e. sides.never_parall
 parallel_law (targets.Circ c r) (targets.Line b d h) = (λ e. sides.never_parallel _ _ e, λ p. absurd p)
 parallel_law (targets.Circ c r) (targets.Circ d q) = circles_parallel (circle_about c r) (circle_about d q)
 
-not_negative : (r : ℤ) → pos 100 ≤ℤ r → pos 0 ≤ℤ r
+pub not_negative : (r : ℤ) → pos 100 ≤ℤ r → pos 0 ≤ℤ r
 not_negative r h = omega (arith, ints)
 
 pub apart_law : (a b : Target) → IsTarget a → IsTarget b → (meeting_of a b ≡ Apart) ↔ ((¬ AreParallel a b) × (¬ Meet a b))

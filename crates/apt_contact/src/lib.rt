@@ -1,8 +1,12 @@
 //! Where the targets of a motion meet: whether, exactly, and at which point of the grid.
 #![tactic(auto)]
 
+mod contacts;
 mod meetings;
+#[cfg(test)]
+mod tests;
 
+pub use contacts::contact;
 pub use meetings::meet;
 
 /// How two targets meet.
