@@ -4,7 +4,7 @@ use Rattle.std.specs.Prelude.{if◌then◌else◌}
 use Rattle.std.proofs.lemmas.Int.{ints}
 use Rattle.std.proofs.lemmas.Bool.Decides.{nat_tests, leb_tells}
 use Rattle.apt_num.specs.Sign.{square, is_at_least}
-use Rattle.apt_num.proofs.Tests.{is_at_least-true, is_at_least-from}
+use Rattle.apt_num.proofs.Testing.{is_at_least-true, is_at_least-from}
 use Rattle.apt_plane.specs.declared.figures.Pt.{Pt}
 use Rattle.apt_plane.specs.declared.figures.Line.{Line}
 use Rattle.apt_plane.specs.declared.figures.Moved.{Moved}

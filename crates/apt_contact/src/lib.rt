@@ -3,6 +3,8 @@
 
 mod contacts;
 mod meetings;
+#[cfg(test)]
+mod tests;
 
 pub use contacts::contact;
 pub use meetings::meet;

@@ -6,7 +6,7 @@ use Rattle.apt_num.specs.declared.Sign.{Sign}
 use Rattle.apt_num.specs.declared.Sign.TheVariants as signs
 use Rattle.apt_num.specs.Sign.{AtLeast, root_sign_of, is_at_least}
 use Rattle.apt_num.proofs.AtLeast.{root_sign_at_least, root_sign_at_most}
-use Rattle.apt_num.proofs.Tests.{is_at_least-false, is_at_least-from}
+use Rattle.apt_num.proofs.Testing.{is_at_least-false, is_at_least-from}
 use Rattle.apt_num.proofs.Sums.{at_least-weaker}
 
 -- at least h: so it is not refused at 8 units less

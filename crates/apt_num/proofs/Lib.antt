@@ -3,7 +3,7 @@ pub mod Squares
 pub mod RootLaws
 pub mod Signs
 pub mod AtLeast
-pub mod Tests
+pub mod Testing
 pub mod Sums
 pub mod Nearest
 pub mod Roots

@@ -2,7 +2,7 @@
 use Rattle.std.proofs.Common.{◌≡◌, ℤ, ◌-ℤ◌, neg_ℤ, true}
 use Rattle.std.proofs.lemmas.Bool.{and_parts}
 use Rattle.apt_num.specs.Sign.{OnLine, is_at_least}
-use Rattle.apt_num.proofs.Tests.{is_at_least-true}
+use Rattle.apt_num.proofs.Testing.{is_at_least-true}
 use Rattle.apt_plane.specs.declared.figures.Pt.{Pt}
 use Rattle.apt_plane.specs.declared.figures.Line.{Line}
 use Rattle.apt_plane.specs.Vectors.{displacement, cross, length_squared}
