@@ -1,22 +1,4 @@
 -- Where targets meet, the closed formula has no fault but a point out of range.
-<<<<<<< HEAD
-use Rattle.std.proofs.Common.{refl, ◌≡◌, ◌≢◌, ◌↔◌, ℕ, ◌≤◌, Bool, true, false, arith, inl, inr, ℤ, pos, ◌+ℤ◌, ◌-ℤ◌, ◌≤ℤ◌, neg_ℤ, Result, Ok, Err, IfOk, IsErrOf}
-use Rattle.std.specs.Prelude.{if◌then◌else◌, not, nat_le}
-use Rattle.std.proofs.lemmas.Int.{ints}
-use Rattle.std.proofs.lemmas.Bool.Decides.{leb_tells, eqb_tells}
-use Rattle.apt_num.specs.declared.Sign.{Sign}
-use Rattle.apt_num.specs.declared.Sign.TheVariants.{Minus, Zero, Plus}
-use Rattle.apt_num.specs.Sign.{square, is_minus, root_sign_of, AtLeast}
-use Rattle.apt_num.proofs.AtLeast.{root_sign_at_least}
-use Rattle.apt_plane.specs.declared.figures.Pt.{Pt}
-use Rattle.apt_plane.specs.declared.figures.Dir.{Dir}
-use Rattle.apt_plane.specs.declared.figures.Line.{Line}
-use Rattle.apt_plane.specs.declared.figures.Circ.{Circ}
-use Rattle.apt_plane.specs.Vectors.{displacement, cross, length_squared}
-use Rattle.apt_words.specs.declared.Case.{Case}
-use Rattle.apt_words.specs.declared.Case.TheVariants as cases
-use Rattle.apt_canon.specs.declared.FormFault.{FormFault}
-=======
 use Rattle.std.proofs.Common.{refl, ◌≡◌, ◌≢◌, ℕ, ◌≤◌, Bool, true, false, arith, inl, inr, ℤ, pos, ◌+ℤ◌, ◌-ℤ◌, ◌≤ℤ◌, neg_ℤ, Ok, Err}
 use Rattle.std.specs.Prelude.{if◌then◌else◌, not, nat_le}
 use Rattle.std.proofs.lemmas.Bool.Decides.{leb_tells, eqb_tells}
@@ -29,23 +11,14 @@ use Rattle.apt_plane.specs.declared.figures.Line.{Line}
 use Rattle.apt_plane.specs.declared.figures.Circ.{Circ}
 use Rattle.apt_plane.specs.Vectors.{displacement, cross, length_squared}
 use Rattle.apt_words.specs.declared.Case.TheVariants.{OutOfRange}
->>>>>>> c1597ce3f5deb0ea7474da1ec568205d5099370c
 use Rattle.apt_canon.specs.declared.FormFault.TheVariants as faults
 use Rattle.apt_canon.specs.Scale.{is_in_range, in_range}
 use Rattle.apt_canon.specs.Meeting.{line_line, meeting_point}
 use Rattle.apt_canon.specs.Circles.{line_circle, line_circle_point, circle_circle, circle_circle_point}
-<<<<<<< HEAD
-use Rattle.apt_contact.specs.declared.Meeting.{Meeting}
-use Rattle.apt_contact.specs.Meetings.{of_lines, of_line_and_circle, of_circles, by_sides, by_distance}
-use Rattle.apt_contact.specs.Contacts.{HasMeeting}
-use Rattle.apt_contact.proofs.Sides.{InOrder, Between, signs_in_order, between_is}
-use Rattle.apt_contact.proofs.Distances.{Case as DistanceCase, cases as distance_cases, by_their_distance}
-=======
 use Rattle.apt_contact.specs.Meetings.{of_lines, of_line_and_circle, of_circles, by_sides, by_distance}
 use Rattle.apt_contact.specs.Contacts.{HasMeeting}
 use Rattle.apt_contact.proofs.Sides.{InOrder, Between, signs_in_order, between_is}
 use Rattle.apt_contact.proofs.Distances.{Within, Beyond, Inner, Outer, Crossing, cases}
->>>>>>> c1597ce3f5deb0ea7474da1ec568205d5099370c
 use Rattle.apt_contact.proofs.MeetingLaws.{size_tells}
 
 -- ---- two lines
@@ -93,17 +66,10 @@ circles_meet a b sigma m = elim (eqb_tells (length_squared (displacement a.c b.c
 ]
   where
     le : (x y : ℕ) → x ≤ y → nat_le x y ≡ true
-<<<<<<< HEAD
-    le x y h = elim (leb_tells x y) [ inl is ↦ is.0 | inr no ↦ let more = no.1 in absurd (omega arith) ]
-
-    reached : (least n most : ℕ) → HasMeeting (by_distance least n most) → (nat_le least n ≡ true) × (nat_le n most ≡ true)
-    reached least n most m = elim (distance_cases least n most) [
-=======
     le x y h = elim (leb_tells x y) [ inl is ↦ is.0 | inr past ↦ let more = past.1 in absurd (omega arith) ]
 
     reached : (least n most : ℕ) → HasMeeting (by_distance least n most) → (nat_le least n ≡ true) × (nat_le n most ≡ true)
     reached least n most m = elim (cases least n most) [
->>>>>>> c1597ce3f5deb0ea7474da1ec568205d5099370c
       | Within h f ↦ absurd (rw f at m)
       | Beyond h f ↦ absurd (rw f at m)
       | Inner h before f ↦ (le least n (omega arith), le n most before)
@@ -113,16 +79,9 @@ circles_meet a b sigma m = elim (eqb_tells (length_squared (displacement a.c b.c
 
 -- ---- what is answered
 
-<<<<<<< HEAD
-pub ok_is : (p q : Pt) → Ok q ≡ in_range p → Ok q ≡ (if is_in_range p then Ok p else Err cases.OutOfRange)
-ok_is p q e = by_test (is_in_range p) e
-  where
-    by_test : (fits : Bool) → Ok q ≡ (if fits then Ok p else Err faults.OutOfRange) → Ok q ≡ (if fits then Ok p else Err cases.OutOfRange)
-=======
 pub ok_is : (p q : Pt) → Ok q ≡ in_range p → Ok q ≡ (if is_in_range p then Ok p else Err OutOfRange)
 ok_is p q e = by_test (is_in_range p) e
   where
     by_test : (fits : Bool) → Ok q ≡ (if fits then Ok p else Err faults.OutOfRange) → Ok q ≡ (if fits then Ok p else Err OutOfRange)
->>>>>>> c1597ce3f5deb0ea7474da1ec568205d5099370c
     by_test true e = cc
     by_test false e = absurd cc

@@ -1,10 +1,6 @@
-<<<<<<< HEAD
-use Rattle.std.proofs.Common.{◌≡◌, ◌∙◌}
-=======
 use Rattle.std.proofs.Common.{◌∙◌, arith, FitsSigned, w8, w64}
 use Rattle.std.proofs.lemmas.Int.{ints, to_z-of_z}
 use Rattle.apt_offset.specs.Ranges.{IsLineTarget, IsCircleTarget}
->>>>>>> c1597ce3f5deb0ea7474da1ec568205d5099370c
 use Rattle.apt_contact.specs.Meetings.{line_on, circle_about, of_line_and_circle, of_circles}
 use Rattle.apt_contact.specs.Contacts.{HasMeeting}
 use Rattle.apt_contact.proofs.MeetingLaws.{not_negative}
@@ -15,16 +11,6 @@ pub returns-in-Line-clause-value : goal.returns-in-Line-clause-value
 returns-in-Line-clause-value c =
     let circle = c.args.c.now in
     let line = line_on c.in-Line.base c.in-Line.dir in
-<<<<<<< HEAD
-    let meeting : HasMeeting (of_line_and_circle line c.in-Line.off circle) = rw c.in-Line.is at c.requires.meeting in
-    rw c.in-Line.is (c.line_circle.ensures.value ∙ line_meets_circle line c.in-Line.off circle c.args.sigma (not_negative circle.r c.requires.circle.least) meeting)
-
-pub returns-in-Circ-clause-value : goal.returns-in-Circ-clause-value
-returns-in-Circ-clause-value c =
-    let other = circle_about c.in-Circ.centre c.in-Circ.r in
-    let meeting : HasMeeting (of_circles c.args.c.now other) = rw c.in-Circ.is at c.requires.meeting in
-    rw c.in-Circ.is (c.circle_circle.ensures.value ∙ circles_meet c.args.c.now other c.args.sigma meeting)
-=======
     let off = c.in-Line.off in
     let is : IsLineTarget c.in-Line.base c.in-Line.dir off = rw c.in-Line.is at c.requires.other in
     let fits : FitsSigned w64 off = omega (arith, ints, is.off) in
@@ -42,4 +28,3 @@ returns-in-Circ-clause-value c =
     let meeting : HasMeeting (of_circles c.args.c.now (circle_about c.in-Circ.centre r)) = rw c.in-Circ.is at c.requires.meeting in
     let value = simp to_z-of_z at c.circle_circle.ensures.value in
     rw c.in-Circ.is (value ∙ circles_meet c.args.c.now (circle_about c.in-Circ.centre r) c.args.sigma meeting)
->>>>>>> c1597ce3f5deb0ea7474da1ec568205d5099370c

@@ -1,11 +1,6 @@
-<<<<<<< HEAD
-use Rattle.std.proofs.Common.{◌≡◌, ◌∙◌}
-use Rattle.apt_offset.specs.Ranges.{IsCircleTarget}
-=======
 use Rattle.std.proofs.Common.{◌∙◌, arith, FitsSigned, w8, w64}
 use Rattle.std.proofs.lemmas.Int.{ints, to_z-of_z}
 use Rattle.apt_offset.specs.Ranges.{IsLineTarget, IsCircleTarget}
->>>>>>> c1597ce3f5deb0ea7474da1ec568205d5099370c
 use Rattle.apt_contact.specs.Meetings.{line_on, circle_about, of_lines, of_line_and_circle}
 use Rattle.apt_contact.specs.Contacts.{HasMeeting}
 use Rattle.apt_contact.proofs.MeetingLaws.{not_negative}
@@ -15,28 +10,16 @@ use Rattle.apt_contact.proofs.contacts.contact_with_line.Goals as goal
 pub returns-in-Line-clause-value : goal.returns-in-Line-clause-value
 returns-in-Line-clause-value c =
     let l = c.args.l.now in
-<<<<<<< HEAD
-    let other = line_on c.in-Line.base c.in-Line.dir in
-    let meeting : HasMeeting (of_lines l.line other) = rw c.in-Line.is at c.requires.meeting in
-    rw c.in-Line.is (c.line_line.ensures.value ∙ lines_meet l.line other l.off c.in-Line.off meeting)
-=======
     let off = c.in-Line.off in
     let is : IsLineTarget c.in-Line.base c.in-Line.dir off = rw c.in-Line.is at c.requires.other in
     let fits : FitsSigned w64 off = omega (arith, ints, is.off) in
     let meeting : HasMeeting (of_lines l.line (line_on c.in-Line.base c.in-Line.dir)) = rw c.in-Line.is at c.requires.meeting in
     let value = simp to_z-of_z at c.line_line.ensures.value in
     rw c.in-Line.is (value ∙ lines_meet l.line (line_on c.in-Line.base c.in-Line.dir) l.off off meeting)
->>>>>>> c1597ce3f5deb0ea7474da1ec568205d5099370c
 
 pub returns-in-Circ-clause-value : goal.returns-in-Circ-clause-value
 returns-in-Circ-clause-value c =
     let l = c.args.l.now in
-<<<<<<< HEAD
-    let other = circle_about c.in-Circ.c c.in-Circ.r in
-    let is : IsCircleTarget c.in-Circ.c c.in-Circ.r = rw c.in-Circ.is at c.requires.other in
-    let meeting : HasMeeting (of_line_and_circle l.line l.off other) = rw c.in-Circ.is at c.requires.meeting in
-    rw c.in-Circ.is (c.line_circle.ensures.value ∙ line_meets_circle l.line l.off other c.args.sigma (not_negative other.r is.least) meeting)
-=======
     let r = c.in-Circ.r in
     let is : IsCircleTarget c.in-Circ.c r = rw c.in-Circ.is at c.requires.other in
     let fits : FitsSigned w64 r = omega (arith, ints, is.least, is.most) in
@@ -44,4 +27,3 @@ returns-in-Circ-clause-value c =
     let meeting : HasMeeting (of_line_and_circle l.line l.off (circle_about c.in-Circ.c r)) = rw c.in-Circ.is at c.requires.meeting in
     let value = simp to_z-of_z at c.line_circle.ensures.value in
     rw c.in-Circ.is (value ∙ line_meets_circle l.line l.off (circle_about c.in-Circ.c r) c.args.sigma (not_negative r is.least) meeting)
->>>>>>> c1597ce3f5deb0ea7474da1ec568205d5099370c
