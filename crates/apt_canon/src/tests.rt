@@ -1,11 +1,10 @@
 ghost use Rattle.std.specs.Prelude.{◌+◌, ◌*◌, ◌^◌, ◌≤◌, unsigned_abs};
 ghost use Rattle.apt_plane.specs.Ranges.{IsLine, IsMoved};
 
-mod circles;
-
 use crate::{FormFault, line_line};
 use apt_plane::{Dir, Line, Moved, Pt};
 
+mod circles;
 mod rounds;
 
 fn line(x: i64, y: i64, dx: i64, dy: i64) -> Line
