@@ -1,12 +1,11 @@
 ghost use Rattle.std.specs.Prelude.{◌+◌, ◌*◌, ◌^◌, ◌≤◌, unsigned_abs};
 ghost use Rattle.apt_plane.specs.Ranges.{IsLine, IsMoved};
 
-mod circles;
-
 use crate::{FormFault, line_line};
 use apt_plane::{Dir, Line, Moved, Pt};
 
 mod feet;
+mod circles;
 mod rounds;
 mod tangents;
 
