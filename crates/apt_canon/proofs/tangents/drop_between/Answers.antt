@@ -1,4 +1,4 @@
-use Rattle.std.proofs.Common.{◌≡◌, ◌≤◌, ◌^◌, arith, ◌-ℤ◌, ◌*ℤ◌, unsigned_abs, refl}
+use Rattle.std.proofs.Common.{◌≡◌, arith, ◌*ℤ◌, unsigned_abs, refl}
 use Rattle.apt_canon.specs.Tangents.{side_of_circle}
 use Rattle.apt_canon.proofs.Shares.{side_kept}
 use Rattle.apt_canon.proofs.TangentCalls.{drop_fits, drop_kept, drop_small}

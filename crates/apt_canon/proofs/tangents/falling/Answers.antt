@@ -1,8 +1,6 @@
-use Rattle.std.proofs.Common.{rules, ◌≡◌, ◌≤◌, ◌^◌, ◌*◌, arith, pos, ◌+ℤ◌, ◌-ℤ◌, ◌*ℤ◌, unsigned_abs, FitsSigned, w64, ◌∙◌}
+use Rattle.std.proofs.Common.{rules, ◌≡◌, ◌≤◌, ◌^◌, ◌*◌, arith, pos, ◌-ℤ◌, ◌*ℤ◌, unsigned_abs, FitsSigned, w64, ◌∙◌}
 use Rattle.std.specs.Int.{w128}
 use Rattle.std.proofs.lemmas.Int.{ints, to_z-of_z}
-use Rattle.apt_plane.specs.Vectors.{length_squared}
-use Rattle.apt_canon.specs.Tangents.{falling}
 use Rattle.apt_canon.proofs.TangentFrame.{reach, falling_x, falling_y, falling_small}
 use Rattle.apt_canon.proofs.tangents.falling.Goals as goal
 

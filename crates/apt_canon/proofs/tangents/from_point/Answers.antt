@@ -1,5 +1,4 @@
-use Rattle.std.proofs.Common.{rules, ◌≡◌, ◌≤◌, ◌<◌, ◌+◌, ◌*◌, ◌^◌, ◌∙◌, ap, arith, pos, neg_ℤ, ◌-ℤ◌, ◌*ℤ◌, unsigned_abs, w64}
-use Rattle.std.proofs.lemmas.Int.{ints, to_z-of_z}
+use Rattle.std.proofs.Common.{◌≡◌, ◌≤◌, ◌∙◌, ap, arith, neg_ℤ, ◌*ℤ◌, unsigned_abs}
 use Rattle.apt_num.specs.Sign.{square}
 use Rattle.apt_num.proofs.Squares.{size_neg}
 use Rattle.apt_plane.specs.Vectors.{displacement, length_squared}

@@ -1,5 +1,4 @@
-use Rattle.std.proofs.Common.{◌≡◌, ◌≤◌, ◌<◌, ◌∙◌, ap, arith, w64, FitsSigned}
-use Rattle.std.proofs.lemmas.Int.{to_z-of_z}
+use Rattle.std.proofs.Common.{◌≡◌, ◌∙◌, ap, arith}
 use Rattle.apt_num.specs.Sign.{square}
 use Rattle.apt_plane.specs.Vectors.{displacement, length_squared}
 use Rattle.apt_canon.specs.Tangents.{drop}

@@ -1,4 +1,4 @@
-use Rattle.std.proofs.Common.{rules, ◌≡◌, ◌≤◌, ◌^◌, arith, ◌*ℤ◌, unsigned_abs, FitsSigned, w64}
+use Rattle.std.proofs.Common.{rules, ◌≡◌, ◌≤◌, arith, ◌*ℤ◌, unsigned_abs, FitsSigned, w64}
 use Rattle.std.specs.Int.{w128}
 use Rattle.std.proofs.lemmas.Int.{ints, to_z-of_z}
 use Rattle.apt_num.specs.Near.{near}

@@ -1,9 +1,8 @@
-use Rattle.std.proofs.Common.{◌≡◌, ◌-◌, ◌*◌, ◌^◌, ◌≤◌, ◌<◌, arith, pos, to_z, ap, ◌∙◌, w64}
+use Rattle.std.proofs.Common.{◌≡◌, arith, pos, to_z, ap, ◌∙◌, w64}
 use Rattle.std.specs.Int.{w128}
 use Rattle.std.proofs.lemmas.Int.{ints, to_z-of_z}
 use Rattle.apt_num.specs.Root.{root}
 use Rattle.apt_num.specs.Sign.{square}
-use Rattle.apt_plane.specs.Vectors.{length_squared}
 use Rattle.apt_canon.proofs.Shares.{reach_small}
 use Rattle.apt_canon.proofs.tangents.reach.Goals as goal
 

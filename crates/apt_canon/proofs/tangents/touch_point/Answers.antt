@@ -1,9 +1,8 @@
-use Rattle.std.proofs.Common.{rules, ◌≡◌, ◌≤◌, ◌<◌, ◌+◌, ◌*◌, ◌^◌, arith, pos, neg_ℤ, ◌+ℤ◌, ◌-ℤ◌, ◌*ℤ◌, unsigned_abs, FitsSigned, w64, ap, ◌∙◌, refl}
-use Rattle.std.specs.Int.{w128}
+use Rattle.std.proofs.Common.{◌≡◌, ◌*◌, ◌^◌, arith, pos, ◌-ℤ◌, ◌*ℤ◌, unsigned_abs, FitsSigned, w64, ap, refl}
 use Rattle.std.proofs.lemmas.Int.{ints, to_z-of_z}
 use Rattle.apt_num.specs.Near.{near}
 use Rattle.apt_plane.specs.Vectors.{length_squared}
-use Rattle.apt_canon.specs.Tangents.{falling, fall_divisor, side_of_circle, touch_point}
+use Rattle.apt_canon.specs.Tangents.{falling, side_of_circle, touch_point}
 use Rattle.apt_canon.proofs.Products.{kept}
 use Rattle.apt_canon.proofs.Shares.{turned_part_small, side_kept, reached_fits, reached, turned}
 use Rattle.apt_canon.proofs.tangents.touch_point.Goals as goal
