@@ -1,8 +1,8 @@
 -- The tests that come before a tangent, and the answer after them.
-use Rattle.std.proofs.Common.{refl, ◌∙◌, ap, ◌≡◌, ◌≢◌, ℕ, ◌+◌, ◌-◌, ◌*◌, ◌^◌, ◌≤◌, ◌<◌, Bool, true, false, arith, ℤ, pos, negsuc, neg_ℤ, ◌+ℤ◌, ◌-ℤ◌, ◌*ℤ◌, unsigned_abs, to_z, of_z, w64, ◌==◌, nat_lt, FitsSigned, Ok, Err}
+use Rattle.std.proofs.Common.{refl, ◌∙◌, ap, ◌≡◌, ℕ, ◌+◌, ◌^◌, ◌≤◌, ◌<◌, Bool, true, false, arith, ℤ, pos, neg_ℤ, ◌-ℤ◌, ◌*ℤ◌, unsigned_abs, to_z, of_z, w64, ◌==◌, nat_lt, FitsSigned, Ok, Err}
 use Rattle.std.specs.Prelude.{◌&&◌}
 use Rattle.std.proofs.lemmas.Bool.{lt-ltb}
-use Rattle.std.proofs.lemmas.Int.{ints, unsigned_abs-mul}
+use Rattle.std.proofs.lemmas.Int.{ints}
 use Rattle.std.proofs.lemmas.Bool.Decides.{nat_tests}
 use Rattle.apt_num.specs.Sign.{square}
 use Rattle.apt_num.proofs.Squares.{size_neg, square_le}

@@ -1,25 +1,21 @@
 -- A tangent touches its circle: how long its direction is, and how far it passes the centre.
-use Rattle.std.proofs.Common.{◌≡◌, ◌≢◌, ℕ, zero, suc, ◌+◌, ◌-◌, ◌*◌, ◌^◌, ◌≤◌, ◌<◌, ◌∙◌, refl, ap, sym, arith, Bool, true, false, ℤ, pos, negsuc, neg_ℤ, ◌+ℤ◌, ◌-ℤ◌, ◌*ℤ◌, ◌≤ℤ◌, unsigned_abs}
+use Rattle.std.proofs.Common.{◌≡◌, ◌≢◌, ℕ, zero, suc, ◌+◌, ◌-◌, ◌*◌, ◌^◌, ◌≤◌, ◌<◌, ◌∙◌, refl, ap, arith, ℤ, pos, negsuc, neg_ℤ, ◌+ℤ◌, ◌-ℤ◌, ◌*ℤ◌, unsigned_abs}
 use Rattle.std.proofs.Math.Nat.{mul-le-mul_left}
 use Rattle.std.proofs.lemmas.Int.{ints, unsigned_abs-mul}
 use Rattle.std.proofs.lemmas.Nat.{mul-le}
-use Rattle.apt_num.specs.Sign.{square, AtLeast, OnLine}
-use Rattle.apt_num.proofs.AtLeast.{pos_neg, neg_neg}
-use Rattle.apt_num.proofs.Ring.{as_diff, diff-pos, diff-same, differences, *ℤ-+ℤ}
-use Rattle.apt_num.proofs.Roots.{five_sevenths}
-use Rattle.apt_num.proofs.Squares.{cancel_le, root_le, square_le, size_neg}
-use Rattle.apt_plane.specs.declared.figures.Pt.{Pt}
+use Rattle.apt_num.specs.Sign.{square, OnLine}
+use Rattle.apt_num.proofs.AtLeast.{neg_neg}
+use Rattle.apt_num.proofs.Ring.{as_diff, diff-pos, diff-same, differences}
+use Rattle.apt_num.proofs.Squares.{cancel_le, square_le, size_neg}
 use Rattle.apt_plane.specs.declared.figures.Dir.{Dir}
-use Rattle.apt_plane.specs.declared.figures.Circ.{Circ}
-use Rattle.apt_plane.specs.Vectors.{displacement, cross, dot, length_squared, perp}
-use Rattle.apt_plane.specs.Ranges.{IsPoint, IsDir, IsCircle}
-use Rattle.apt_plane.proofs.Displacements.{cross_swap, cross_times, cross_turn, dot_times}
+use Rattle.apt_plane.specs.Vectors.{cross, length_squared}
+use Rattle.apt_plane.specs.Ranges.{IsDir}
+use Rattle.apt_plane.proofs.Displacements.{cross_times}
 use Rattle.apt_plane.proofs.Frames.{cross_in_frame}
 use Rattle.apt_plane.proofs.Lengths.{length_of_times, IsInRing, on_circle}
-use Rattle.apt_plane.proofs.Rounding.{near_displacement, displacement_rest, moved, moved_dot}
+use Rattle.apt_plane.proofs.Rounding.{near_displacement, displacement_rest, moved}
 use Rattle.apt_canon.specs.Scale.{times}
-use Rattle.apt_canon.specs.Tangents.{side_of_circle, falling, fall_divisor, falling_dir}
-use Rattle.apt_canon.proofs.NearLine.{length_squared_bound}
+use Rattle.apt_canon.specs.Tangents.{falling, fall_divisor, falling_dir}
 use Rattle.apt_canon.proofs.TangentFrame.{reach, reach_rest, falling_norm, rest_small, stretched_up, stretched_down}
 
 -- the divisor is not zero

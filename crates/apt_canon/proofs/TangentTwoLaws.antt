@@ -1,23 +1,21 @@
 -- The tangent of two circles: how far its base and its direction are from the exact ones.
-use Rattle.std.proofs.Common.{◌≡◌, ℕ, ◌+◌, ◌-◌, ◌*◌, ◌^◌, ◌≤◌, ◌<◌, ◌∙◌, ap, sym, arith, ℤ, pos, neg_ℤ, ◌+ℤ◌, ◌-ℤ◌, ◌*ℤ◌, unsigned_abs}
+use Rattle.std.proofs.Common.{◌≡◌, ℕ, ◌+◌, ◌*◌, ◌^◌, ◌≤◌, ◌<◌, ◌∙◌, ap, sym, arith, ℤ, pos, neg_ℤ, ◌+ℤ◌, ◌-ℤ◌, ◌*ℤ◌, unsigned_abs}
 use Rattle.std.proofs.Math.Nat.{mul-le-mul_left}
 use Rattle.std.proofs.lemmas.Int.{ints, unsigned_abs-mul}
 use Rattle.apt_num.specs.Sign.{square, OnLine}
 use Rattle.apt_num.proofs.Ring.{as_diff, diff-pos, diff-same, differences}
 use Rattle.apt_num.proofs.Roots.{five_sevenths}
-use Rattle.apt_num.proofs.Squares.{cancel_le, root_le, square_le, size_add, size_minus, size_neg}
+use Rattle.apt_num.proofs.Squares.{cancel_le, size_add, size_minus, size_neg}
 use Rattle.apt_plane.specs.declared.figures.Pt.{Pt}
 use Rattle.apt_plane.specs.declared.figures.Dir.{Dir}
-use Rattle.apt_plane.specs.declared.figures.Circ.{Circ}
 use Rattle.apt_plane.specs.Vectors.{displacement, cross, dot, length_squared, perp}
-use Rattle.apt_plane.specs.Ranges.{IsDir, IsCircle}
+use Rattle.apt_plane.specs.Ranges.{IsDir}
 use Rattle.apt_plane.proofs.Displacements.{square_length_squared, cross_swap, cross_times, cross_turn, dot_times}
-use Rattle.apt_plane.proofs.Lengths.{IsInRing}
 use Rattle.apt_plane.proofs.Rounding.{near_displacement, moved, moved_dot}
 use Rattle.apt_canon.specs.Scale.{times, from}
 use Rattle.apt_canon.specs.Tangents.{falling, fall_divisor, falling_dir}
 use Rattle.apt_canon.proofs.TangentFrame.{reach_rest, falling_norm, rest_small}
-use Rattle.apt_canon.proofs.TangentLaws.{divisor_size, divisor_apart, falling_dir_long, lag, lag_small, touching_back}
+use Rattle.apt_canon.proofs.TangentLaws.{divisor_size, divisor_apart, falling_dir_long, lag, touching_back}
 
 -- ---- the direction along the way before the division
 
