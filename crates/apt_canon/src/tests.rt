@@ -4,8 +4,8 @@ ghost use Rattle.apt_plane.specs.Ranges.{IsLine, IsMoved};
 use crate::{FormFault, line_line};
 use apt_plane::{Dir, Line, Moved, Pt};
 
-mod feet;
 mod circles;
+mod feet;
 mod rounds;
 mod tangents;
 
