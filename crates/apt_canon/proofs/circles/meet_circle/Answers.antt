@@ -30,4 +30,4 @@ returns-then-overlap c =
     let value : c.overlap.result ≡ (nat_le (square (a.r -ℤ b.r)) n && nat_le n (square (a.r +ℤ b.r))) = simp to_z-of_z at c.overlap.ensures in
     let positive : 0 < n = omega (arith, c.if-square-eq0.false) in
     let point : c.on_common_chord.result ≡ circle_circle_point a b c.args.sigma = simp to_z-of_z at c.on_common_chord.ensures in
-    c.within_limit.ensures ∙ rw point (meeting_answer a b n c.overlap.result c.args.sigma positive distance value c.if-overlap.true)
+    c.within.ensures ∙ rw point (meeting_answer a b n c.overlap.result c.args.sigma positive distance value c.if-overlap.true)
