@@ -1,7 +1,6 @@
 //! The forms of POINT.
 
 ghost use Rattle.std.specs.Prelude.{◌≡◌, pos, ◌≤ℤ◌, IfOk};
-ghost use Rattle.apt_words.specs.Chains.{◌>>=◌};
 ghost use Rattle.apt_plane.specs.Ranges.{IsPoint, IsLine, IsMoved, IsCircle, IsRound, IsSurface};
 ghost use Rattle.apt_scalar.specs.Scalars.{IsScalar};
 ghost use Rattle.apt_scalar.specs.StepScalars.{IsScalarOrNone};
