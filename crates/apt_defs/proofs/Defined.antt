@@ -33,8 +33,10 @@ ok_or_err o f c p q = cc
 
 pub refused_by : (units : Units) (t : Table) (deed : Deed) (n : List ℕ) (c case : Case) → definition_of units t deed ≡ defines n (Err c)
     → (c ≡ case) ↔ IsRefusedBy units t deed case
+unfolding figure_in
 refused_by units t deed n c case d = (λ e. (n, d ∙ ap (λ x. defines n (Err x)) e), λ is. err_case (figure_in (definition_of units t deed)) c case (ap figure_in d) (ap figure_in is.1))
 
 pub not_refused : (units : Units) (t : Table) (deed : Deed) (n : List ℕ) (f : Figure) (case : Case) → definition_of units t deed ≡ defines n (Ok f)
     → IsRefusedBy units t deed case → ⊥
+unfolding figure_in
 not_refused units t deed n f case d is = ok_or_err (figure_in (definition_of units t deed)) f case (ap figure_in d) (ap figure_in is.1)
