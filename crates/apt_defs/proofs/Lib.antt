@@ -1,2 +1,4 @@
 pub mod Tables
-pub mod Lines
+pub mod Ends
+pub mod Named
+pub mod Defined

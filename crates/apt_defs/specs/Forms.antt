@@ -76,6 +76,12 @@ a_line l = Ok (figures.Shape (surfaces.Line l))
 abbrev pub a_circle : Circ → Result Figure Case
 a_circle c = Ok (figures.Shape (surfaces.Circ c))
 
+abbrev pub line_formed : Result Line FormFault → Result Figure Case
+line_formed l = formed l >>= a_line
+
+abbrev pub circle_formed : Result Circ FormFault → Result Figure Case
+circle_formed c = formed c >>= a_circle
+
 -- ---- POINT
 
 abbrev pub point_xy : Units → ℤ → ℤ → Option ℤ → Result Figure Case
@@ -124,8 +130,11 @@ line_between p q = record { base = p; dir = displacement p q }
 abbrev pub line_through : Pt → Pt → Result Figure Case
 line_through p q = if length_squared (displacement p q) == 0 then Err cases.Degenerate else a_line (line_between p q)
 
+abbrev pub line_on : Units → Pt → ℤ → ℤ → Result Figure Case
+line_on units p u v = point_by units u v >>= λ q. line_through p q
+
 abbrev pub line_xy : Units → ℤ → ℤ → ℤ → ℤ → Result Figure Case
-line_xy units x y u v = point_by units x y >>= λ p. point_by units u v >>= λ q. line_through p q
+line_xy units x y u v = point_by units x y >>= λ p. line_on units p u v
 
 abbrev pub line_points : Table → List ℕ → List ℕ → Result Figure Case
 line_points t p q = point_named t p >>= λ a. point_named t q >>= λ b. line_through a b
@@ -138,31 +147,31 @@ line_perpendicular t p l = point_named t p >>= λ a. line_named t l >>= λ m. a_
 
 -- parallel at a distance
 abbrev pub line_at : Units → Table → List ℕ → Pick → ℤ → Result Figure Case
-line_at units t l pick v = line_named t l >>= λ m. length_by units v >>= λ d. formed (parallel_at m pick d) >>= a_line
+line_at units t l pick v = line_named t l >>= λ m. length_by units v >>= λ d. line_formed (parallel_at m pick d)
 
 abbrev pub line_tangent : Table → List ℕ → Bool → List ℕ → Result Figure Case
-line_tangent t p left c = point_named t p >>= λ a. circle_named t c >>= λ k. formed (tangent_from a left k) >>= a_line
+line_tangent t p left c = point_named t p >>= λ a. circle_named t c >>= λ k. line_formed (tangent_from a left k)
 
 abbrev pub line_two : Table → Bool → List ℕ → Bool → List ℕ → Result Figure Case
-line_two t left_c c left_d d = circle_named t c >>= λ j. circle_named t d >>= λ k. formed (tangent_two j left_c k left_d) >>= a_line
+line_two t left_c c left_d d = circle_named t c >>= λ j. circle_named t d >>= λ k. line_formed (tangent_two j left_c k left_d)
 
 -- ---- CIRCLE
 
 abbrev pub circle_xyr : Units → ℤ → ℤ → ℤ → Result Figure Case
-circle_xyr units x y r = point_by units x y >>= λ c. length_by units r >>= λ g. formed (circle_of c g) >>= a_circle
+circle_xyr units x y r = point_by units x y >>= λ c. length_by units r >>= λ g. circle_formed (circle_of c g)
 
 abbrev pub circle_points : Table → List ℕ → List ℕ → List ℕ → Result Figure Case
-circle_points t a b c = point_named t a >>= λ p. point_named t b >>= λ q. point_named t c >>= λ r. formed (circle_three p q r) >>= a_circle
+circle_points t a b c = point_named t a >>= λ p. point_named t b >>= λ q. point_named t c >>= λ r. circle_formed (circle_three p q r)
 
 abbrev pub circle_radius : Units → Table → List ℕ → ℤ → Result Figure Case
-circle_radius units t p r = point_named t p >>= λ c. length_by units r >>= λ g. formed (circle_of c g) >>= a_circle
+circle_radius units t p r = point_named t p >>= λ c. length_by units r >>= λ g. circle_formed (circle_of c g)
 
 abbrev pub circle_tangent : Table → List ℕ → List ℕ → Result Figure Case
-circle_tangent t p l = point_named t p >>= λ c. line_named t l >>= λ m. formed (circle_touching c m) >>= a_circle
+circle_tangent t p l = point_named t p >>= λ c. line_named t l >>= λ m. circle_formed (circle_touching c m)
 
 abbrev pub circle_by_point : Table → List ℕ → List ℕ → Result Figure Case
-circle_by_point t p q = point_named t p >>= λ c. point_named t q >>= λ a. formed (circle_through c a) >>= a_circle
+circle_by_point t p q = point_named t p >>= λ c. point_named t q >>= λ a. circle_formed (circle_through c a)
 
 abbrev pub circle_corner : Units → Table → Pick → List ℕ → Pick → List ℕ → ℤ → Result Figure Case
 circle_corner units t pick_a a pick_b b r =
-    line_named t a >>= λ l. line_named t b >>= λ m. length_by units r >>= λ g. formed (corner l pick_a m pick_b g) >>= a_circle
+    line_named t a >>= λ l. line_named t b >>= λ m. length_by units r >>= λ g. circle_formed (corner l pick_a m pick_b g)

@@ -1,7 +1,6 @@
 //! Figures.
 
 ghost use Rattle.std.specs.Prelude.{◌≡◌, IfOk};
-ghost use Rattle.apt_words.specs.Chains.{◌>>=◌};
 ghost use Rattle.apt_plane.specs.Ranges.{IsPoint, IsLine, IsCircle};
 ghost use Rattle.apt_defs.specs.Figures.{IsFigure};
 ghost use Rattle.apt_defs.specs.Forms as forms;
@@ -69,7 +68,7 @@ pub(crate) fn a_line(line: Line) -> Result<Figure, Case>
 /// A line that a formula gives.
 pub(crate) fn line_formed(line: Result<Line, FormFault>) -> Result<Figure, Case>
     requires { IfOk line IsLine }
-    ensures value { result ≡ (forms.formed line >>= forms.a_line) }
+    ensures value { result ≡ forms.line_formed line }
     ensures range { IfOk result IsFigure }
 {
     match line {
@@ -81,7 +80,7 @@ pub(crate) fn line_formed(line: Result<Line, FormFault>) -> Result<Figure, Case>
 /// A circle that a formula gives.
 pub(crate) fn circle_formed(circle: Result<Circ, FormFault>) -> Result<Figure, Case>
     requires { IfOk circle IsCircle }
-    ensures value { result ≡ (forms.formed circle >>= forms.a_circle) }
+    ensures value { result ≡ forms.circle_formed circle }
     ensures range { IfOk result IsFigure }
 {
     match circle {

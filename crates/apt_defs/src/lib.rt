@@ -2,14 +2,14 @@
 #![tactic(auto)]
 
 mod circles;
-mod define;
+mod definitions;
 mod figure;
 mod lines;
 mod numbers;
 mod points;
 mod table;
 
-pub use define::{DefError, definition};
+pub use definitions::{DefError, define, definition};
 pub use figure::{Definition, Figure};
 pub use numbers::is_in_reach;
 pub use table::{Table, point, surface};

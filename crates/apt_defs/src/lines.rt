@@ -23,6 +23,16 @@ pub fn line_xy(units: Units, x: i64, y: i64, u: i64, v: i64) -> Result<Figure, C
     ensures range { IfOk result IsFigure }
 {
     let p = point_by(units, x, y)?;
+    line_on(units, p, u, v)
+}
+
+fn line_on(units: Units, p: Pt, u: i64, v: i64) -> Result<Figure, Case>
+    requires p { IsPoint p }
+    requires u { IsScalar u }
+    requires v { IsScalar v }
+    ensures value { result ≡ forms.line_on units p u v }
+    ensures range { IfOk result IsFigure }
+{
     let q = point_by(units, u, v)?;
     through(p, q)
 }
@@ -37,7 +47,7 @@ pub fn line_points(table: &Table, p: &Symbol, q: &Symbol) -> Result<Figure, Case
 }
 
 /// The line through two points that differ.
-#[tactic(auto, using(crate::proofs::Lines::displacement_in_range))]
+#[tactic(auto, using(crate::proofs::Ends::displacement_in_range))]
 fn through(p: Pt, q: Pt) -> Result<Figure, Case>
     requires p { IsPoint p }
     requires q { IsPoint q }
@@ -60,7 +70,7 @@ pub fn line_parallel(table: &Table, p: &Symbol, line: &Symbol) -> Result<Figure,
     a_line(Line { base, dir })
 }
 
-#[tactic(auto, using(crate::proofs::Lines::turned_in_range))]
+#[tactic(auto, using(crate::proofs::Ends::turned_in_range))]
 pub fn line_perpendicular(table: &Table, p: &Symbol, line: &Symbol) -> Result<Figure, Case>
     ensures value { result ≡ forms.line_perpendicular table.now p.now line.now }
     ensures range { IfOk result IsFigure }

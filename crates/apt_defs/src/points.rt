@@ -1,8 +1,8 @@
 //! The forms of POINT.
 
 ghost use Rattle.std.specs.Prelude.{◌≡◌, pos, ◌≤ℤ◌, IfOk};
-ghost use Rattle.apt_words.specs.Chains.{◌>>=◌};
 ghost use Rattle.apt_plane.specs.Ranges.{IsPoint, IsLine, IsMoved, IsCircle, IsRound, IsSurface};
+ghost use Rattle.apt_canon.specs.Circles as circles;
 ghost use Rattle.apt_scalar.specs.Scalars.{IsScalar};
 ghost use Rattle.apt_scalar.specs.StepScalars.{IsScalarOrNone};
 ghost use Rattle.apt_defs.specs.Figures.{IsFigure};
@@ -93,6 +93,15 @@ fn on_circle(a: Circ, b: Circ) -> Result<(Pt, Pt), Case>
     if length_squared(displacement(a.c, b.c)) == 0 {
         return Err(Case::NoMeeting);
     }
+    on_both(a, b)
+}
+
+fn on_both(a: Circ, b: Circ) -> Result<(Pt, Pt), Case>
+    requires a { IsCircle a }
+    requires b { IsCircle b }
+    ensures value { result ≡ forms.both_meetings (λ sigma. circles.circle_circle a b sigma) }
+    ensures range { IfOk result (λ m. IsPoint m.0 × IsPoint m.1) }
+{
     let p = formed(circle_circle(&a, &b, 1))?;
     let q = formed(circle_circle(&a, &b, -1))?;
     Ok((p, q))

@@ -3,7 +3,7 @@
 ghost use Rattle.std.specs.Prelude.{◌≡◌, [], OnOk, OnErr, IfOk, IfSome};
 ghost use Rattle.apt_plane.specs.Ranges.{IsPoint, IsLine, IsCircle, IsSurface};
 ghost use Rattle.apt_defs.specs.Figures as figures;
-ghost use Rattle.apt_defs.specs.Figures.{IsFigure, table_with};
+ghost use Rattle.apt_defs.specs.Figures.{IsFigure, IsPointAtHeight, table_with};
 
 use crate::Figure;
 use apt_plane::{Circ, Line, Pt, Surface};

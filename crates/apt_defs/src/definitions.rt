@@ -27,7 +27,7 @@ pub enum DefError {
 
 impl From<AllocError> for DefError {
     ghost use Rattle.std.specs.Prelude.{◌≡◌};
-    ghost use Rattle.apt_defs.specs.declared.define.DefError.TheVariants as errors;
+    ghost use Rattle.apt_defs.specs.declared.definitions.DefError.TheVariants as errors;
 
     ghost from_gives = { λ _ e. e ≡ errors.NoMemory };
 
@@ -83,4 +83,27 @@ fn defines(name: &Symbol, figure: Result<Figure, Case>) -> Option<Definition>
         name: name.copied(),
         figure,
     })
+}
+
+/// Gives the name that a step defines its figure.
+///
+/// # Errors
+///
+/// The case that refuses the figure, before memory is asked for; the table stays as it was.
+#[tactic(auto, using(crate::proofs::Defined::has_defined, crate::proofs::Defined::refused_by, crate::proofs::Defined::not_refused))]
+pub fn define(step: &Step, units: Units, table: &mut Table) -> Result<(), DefError>
+    requires scalars { HasScalars step.now.deed }
+    requires definition { IsDefinition units table.old step.now.deed }
+    ensures ok { OnOk result (HasDefined units table.old step.now.deed table.new) }
+    ensures refused { (case : Case) → IsErrOf result (DefError.Case case) ↔ IsRefusedBy units table.old step.now.deed case }
+    ensures err { OnErr result (table.new ≡ table.old) }
+{
+    let Some(Definition { name, figure }) = definition(&step.deed, units, table) else {
+        return Ok(());
+    };
+    match figure {
+        Ok(figure) => table.set(name, figure)?,
+        Err(case) => return Err(DefError::Case(case)),
+    }
+    Ok(())
 }
