@@ -9,7 +9,7 @@ use Rattle.apt_shelf.specs.Told.{Contents, Rose, Lacks, Steps}
 use Rattle.apt_shelf.specs.Files.{HoldsAt, IsLongerAt}
 use Rattle.apt_shelf.proofs.ToldLaws.{get_inserted}
 use Rattle.apt_shelf.proofs.EntriesLaws.{get_other}
-use Rattle.apt_machine.specs.declared.Machine.{Machine}
+use Rattle.apt_machine.specs.declared.machine.Machine.{Machine}
 use Rattle.apt_report.specs.declared.status.Status.{Status}
 use Rattle.apt_report.specs.declared.status.Status.TheVariants as answers
 use Rattle.apt_report.specs.declared.status.Summary.{Summary}

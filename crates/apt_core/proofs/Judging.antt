@@ -13,7 +13,7 @@ use Rattle.apt_meaning.specs.Records.{AreLegal as IsLegalEffect, FollowsLegally}
 use Rattle.apt_meaning.proofs.Stands.{stands}
 use Rattle.apt_job.specs.Jobs.{MakesJobs}
 use Rattle.apt_job.proofs.Walks.{legal_follows}
-use Rattle.apt_machine.specs.declared.Machine.{Machine}
+use Rattle.apt_machine.specs.declared.machine.Machine.{Machine}
 use Rattle.apt_control.specs.declared.Act.{Act}
 use Rattle.apt_control.specs.Control.{control_run}
 use Rattle.apt_post.specs.Plan.{plan}

@@ -2,7 +2,7 @@
 use Rattle.std.proofs.Common.{◌≡◌, ℕ, List, Ok, ap, sym, ◌∙◌, subst}
 use Rattle.apt_cldata.specs.Reading.{read_of}
 use Rattle.apt_control.specs.Control.{control_run}
-use Rattle.apt_machine.specs.declared.Machine.{Machine}
+use Rattle.apt_machine.specs.declared.machine.Machine.{Machine}
 use Rattle.apt_post.specs.Plan.{plan}
 use Rattle.apt_part.specs.Compilation.{Compiled, part_of}
 use Rattle.apt_part.specs.Promise.{Promise}

@@ -14,7 +14,7 @@ use Rattle.apt_meaning.specs.Records.{FollowsLegally}
 use Rattle.apt_meaning.specs.Expectations.{FailsAt}
 use Rattle.apt_job.specs.Jobs.{MakesJobs}
 use Rattle.apt_job.proofs.Walks.{follows_legal, follows_makes, makes_no_fails}
-use Rattle.apt_machine.specs.declared.Machine.{Machine}
+use Rattle.apt_machine.specs.declared.machine.Machine.{Machine}
 use Rattle.apt_control.specs.declared.Act.{Act}
 use Rattle.apt_control.specs.Control.{control_run}
 use Rattle.apt_post.specs.Plan.{plan}

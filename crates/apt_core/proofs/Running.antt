@@ -7,7 +7,7 @@ use Rattle.apt_shelf.specs.Told.{Contents}
 use Rattle.apt_words.specs.declared.Refusal.{Refusal}
 use Rattle.apt_parse.specs.Programs.{Fault}
 use Rattle.apt_certify.specs.declared.verdict.Verdict.{Verdict}
-use Rattle.apt_machine.specs.declared.Machine.{Machine}
+use Rattle.apt_machine.specs.declared.machine.Machine.{Machine}
 use Rattle.apt_part.specs.Compilation.{Compiled, part_of}
 use Rattle.apt_report.specs.declared.status.Status.{Status}
 use Rattle.apt_report.specs.declared.status.Status.TheVariants as answers

@@ -7,7 +7,7 @@ use Rattle.apt_certify.specs.declared.verdict.Verdict.{Verdict}
 use Rattle.apt_certify.specs.Verdicts.{IsVerdict}
 use Rattle.apt_meaning.specs.Situations.{first_situation}
 use Rattle.apt_job.specs.Jobs.{MakesJobs}
-use Rattle.apt_machine.specs.declared.Machine.{Machine}
+use Rattle.apt_machine.specs.declared.machine.Machine.{Machine}
 use Rattle.apt_control.specs.declared.Act.{Act}
 use Rattle.apt_post.specs.Plan.{plan}
 use Rattle.apt_report.specs.declared.status.Status.{Status}

@@ -1,6 +1,6 @@
 -- What the compiling of a text gives.
 use Rattle.std.specs.Prelude.{◌≡◌, ℕ, List, Ok}
-use Rattle.apt_machine.specs.declared.Machine.{Machine}
+use Rattle.apt_machine.specs.declared.machine.Machine.{Machine}
 use Rattle.apt_part.specs.Compilation.{Compiled, part_of}
 use Rattle.apt_part.specs.Promise.{Promise}
 use Rattle.apt_core.specs.Outputs.{Output, output_of}

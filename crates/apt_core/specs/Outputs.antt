@@ -4,7 +4,7 @@ use Rattle.apt_words.specs.declared.Refusal.{Refusal}
 use Rattle.apt_parse.specs.Programs.{Fault}
 use Rattle.apt_cldata.specs.declared.record.Record.{Record}
 use Rattle.apt_cldata.specs.Files.{file_of}
-use Rattle.apt_machine.specs.declared.Machine.{Machine}
+use Rattle.apt_machine.specs.declared.machine.Machine.{Machine}
 use Rattle.apt_post.specs.Plan.{plan, segments}
 use Rattle.apt_post.specs.Blocks.{tape_bytes}
 use Rattle.apt_part.specs.Compilation.{Compiled, part_of}

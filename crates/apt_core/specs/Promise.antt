@@ -5,7 +5,7 @@ use Rattle.apt_shelf.specs.declared.shelf.Shelf as shelves
 use Rattle.apt_shelf.specs.declared.shelf.Sink as sinks
 use Rattle.apt_shelf.specs.Told.{Contents, Rose, Puts, PutsPrefix}
 use Rattle.apt_tapecode.specs.declared.Code.TheVariants.{Rs358}
-use Rattle.apt_machine.specs.declared.Machine.{Machine}
+use Rattle.apt_machine.specs.declared.machine.Machine.{Machine}
 use Rattle.apt_report.specs.declared.status.Status.{Status}
 use Rattle.apt_report.specs.declared.status.Status.TheVariants as answers
 use Rattle.apt_report.specs.declared.status.Summary.{Summary}

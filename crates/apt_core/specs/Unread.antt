@@ -5,7 +5,7 @@ use Rattle.apt_shelf.specs.declared.files.ReadError.{ReadError}
 use Rattle.apt_shelf.specs.declared.files.ReadError.TheVariants as errors
 use Rattle.apt_report.specs.declared.status.Status.{Status}
 use Rattle.apt_report.specs.declared.status.Status.TheVariants as answers
-use Rattle.apt_machine.specs.declared.Machine.{Machine}
+use Rattle.apt_machine.specs.declared.machine.Machine.{Machine}
 use Rattle.apt_part.specs.Compilation.{part_of}
 use Rattle.apt_core.specs.Inputs.{Input, IsUnread}
 

@@ -26,7 +26,7 @@ use Rattle.apt_meaning.proofs.Kept.{first_situation-IsSituation}
 use Rattle.apt_meaning.proofs.Walk.{compiled_follows}
 use Rattle.apt_meaning.proofs.Ends.{ends_once}
 use Rattle.apt_meaning.proofs.Stands.{stands}
-use Rattle.apt_machine.specs.declared.Machine.{Machine}
+use Rattle.apt_machine.specs.declared.machine.Machine.{Machine}
 use Rattle.apt_machine.specs.Machines.{IsMachine}
 use Rattle.apt_post.specs.Limits.{limits}
 use Rattle.apt_post.specs.Plan.{nothing_pending}

@@ -33,7 +33,7 @@ use Rattle.apt_meaning.specs.StartUps.{start_up_at}
 use Rattle.apt_meaning.specs.Effects.{defined}
 use Rattle.apt_meaning.specs.Refusals.{refused_definition}
 use Rattle.apt_tapecode.specs.declared.Code.TheVariants.{Rs358}
-use Rattle.apt_machine.specs.declared.Machine.{Machine}
+use Rattle.apt_machine.specs.declared.machine.Machine.{Machine}
 use Rattle.apt_control.specs.declared.Act.TheVariants as acts
 use Rattle.apt_post.specs.Plan.{ActsAndSegments, planning}
 use Rattle.apt_part.specs.Compilation.{Compiled, records_by, part_of}

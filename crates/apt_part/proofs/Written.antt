@@ -38,7 +38,7 @@ use Rattle.apt_meaning.proofs.Fed.{IsFed, fed}
 use Rattle.apt_meaning.proofs.Asked.{answered}
 use Rattle.apt_meaning.proofs.Kept.{kept, records_in}
 use Rattle.apt_meaning.proofs.Walk.{done, front_ok, nothing_left, fit}
-use Rattle.apt_machine.specs.declared.Machine.{Machine}
+use Rattle.apt_machine.specs.declared.machine.Machine.{Machine}
 use Rattle.apt_machine.specs.Machines.{IsMachine}
 use Rattle.apt_control.specs.declared.Act.{Act}
 use Rattle.apt_control.specs.declared.Act.TheVariants as acts

@@ -12,7 +12,7 @@ use Rattle.apt_meaning.specs.declared.situation.Situation.{Situation}
 use Rattle.apt_meaning.specs.Situations.{first_situation}
 use Rattle.apt_meaning.specs.Compiled.{compilation}
 use Rattle.apt_meaning.specs.Records.{FollowsLegally, stand_of}
-use Rattle.apt_machine.specs.declared.Machine.{Machine}
+use Rattle.apt_machine.specs.declared.machine.Machine.{Machine}
 use Rattle.apt_post.specs.Limits.{limits}
 use Rattle.apt_post.specs.Plan.{plan, positions, points}
 use Rattle.apt_post.specs.Blocks.{IsProgram}

@@ -4,7 +4,7 @@ use Rattle.apt_words.specs.declared.Units.TheVariants.{Inch, Mm}
 use Rattle.apt_words.specs.declared.Turn.TheVariants as turns
 use Rattle.apt_words.specs.declared.Cool.TheVariants as coolants
 use Rattle.apt_tapecode.specs.Tapecode.{byte_of, end_of_block, rewind_stop}
-use Rattle.apt_machine.specs.declared.Machine.{Machine}
+use Rattle.apt_machine.specs.declared.machine.Machine.{Machine}
 use Rattle.apt_block.specs.declared.block.TapeWord.{TapeWord}
 use Rattle.apt_block.specs.Block.{spelling, tape_word, letter_n, letter_g, letter_x, letter_y, letter_z, letter_f, letter_s, letter_t, letter_m}
 use Rattle.apt_control.specs.declared.Act.{Act}

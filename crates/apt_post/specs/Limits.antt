@@ -8,7 +8,7 @@ use Rattle.apt_words.specs.declared.deed.Deed.TheVariants as deeds
 use Rattle.apt_words.specs.declared.deed.Step.{Step}
 use Rattle.apt_words.specs.Rows.{Row, first_of}
 use Rattle.apt_scalar.specs.Scalars.{tenths, whole}
-use Rattle.apt_machine.specs.declared.Machine.{Machine}
+use Rattle.apt_machine.specs.declared.machine.Machine.{Machine}
 
 -- a number is past a limit
 abbrev pub is_past : ℕ → ℤ → Bool

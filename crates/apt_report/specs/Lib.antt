@@ -1,2 +1,3 @@
 pub mod StatusNumbers
 pub mod Lines
+pub mod Acts

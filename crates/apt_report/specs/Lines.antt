@@ -1,10 +1,12 @@
--- The line that is printed for an answer, none where reading, writing or memory failed.
+-- The line that is printed for an answer, none where a tape was run or where reading, writing or memory failed.
 use Rattle.std.specs.Prelude.{ℕ, List, [], ◌++◌, codes}
 use Rattle.std.specs.Fmt.{decimal, signed_decimal}
 use Rattle.apt_words.specs.declared.Case.{Case}
 use Rattle.apt_words.specs.Names as cases
 use Rattle.apt_lexis.specs.declared.cause.PartCause.{PartCause}
 use Rattle.apt_lexis.specs.Causes as causes
+use Rattle.apt_machine.specs.declared.cause.MachineCause.{MachineCause}
+use Rattle.apt_machine.specs.Causes as machine_causes
 use Rattle.apt_block.specs.declared.block.TapeCause.{TapeCause}
 use Rattle.apt_block.specs.Causes as tape_causes
 use Rattle.apt_certify.specs.declared.verdict.Bad.{Bad}
@@ -24,6 +26,9 @@ compiled_line records acts segments =
 
 abbrev pub bad_part_line : ℕ → PartCause → List ℕ
 bad_part_line line cause = codes "BAD PART LINE " ++ (decimal line ++ (codes " " ++ (causes.name_of cause ++ codes "\n")))
+
+abbrev pub bad_machine_line : ℕ → MachineCause → List ℕ
+bad_machine_line line cause = codes "BAD MACHINE LINE " ++ (decimal line ++ (codes " " ++ (machine_causes.name_of cause ++ codes "\n")))
 
 abbrev pub refused_line : ℕ → ℕ → Case → List ℕ
 refused_line line step case = codes "REFUSED LINE " ++ (decimal line ++ (codes " STEP " ++ (decimal step ++ (codes " " ++ (cases.name_of case ++ codes "\n")))))
@@ -51,10 +56,12 @@ miss_line (misses.Act at) = codes "NOT CERTIFIED ACT " ++ (decimal at ++ codes "
 abbrev pub line_of : Status → List ℕ
 line_of (answers.Done (summaries.Compiled records acts segments)) = compiled_line records acts segments
 line_of (answers.Done (summaries.Certified verdict)) = certified_line verdict
+line_of (answers.Done (summaries.Decoded acts)) = []
 line_of answers.Usage = codes "USAGE\n"
 line_of (answers.Missing name) = codes "MISSING " ++ name ++ codes "\n"
 line_of answers.ReadFault = []
 line_of (answers.TooLong name) = codes "TOO LONG " ++ name ++ codes "\n"
+line_of (answers.BadMachine line cause) = bad_machine_line line cause
 line_of (answers.BadPart line cause) = bad_part_line line cause
 line_of (answers.Refused line step case) = refused_line line step case
 line_of (answers.BadCl at cause) = bad_cl_line at cause

@@ -9,6 +9,7 @@ number_of answers.Usage = 1
 number_of (answers.Missing name) = 2
 number_of answers.ReadFault = 3
 number_of (answers.TooLong name) = 4
+number_of (answers.BadMachine line cause) = 5
 number_of (answers.BadPart line cause) = 6
 number_of (answers.Refused line step case) = 7
 number_of (answers.BadCl at cause) = 8

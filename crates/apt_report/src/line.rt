@@ -4,11 +4,12 @@ ghost use Rattle.std.specs.Prelude.{◌≡◌, IfOk};
 ghost use Rattle.std.specs.String.{string_bytes};
 ghost use Rattle.apt_report.specs.Lines as lines;
 
-use crate::{Bad, ClCause, Miss, PartCause, Status, Summary, TapeCause, Verdict};
+use crate::{Bad, ClCause, MachineCause, Miss, PartCause, Status, Summary, TapeCause, Verdict};
 use apt_words::Case;
 use std::alloc::{AllocError, Global};
 
-/// The line of an answer with its line feed; no bytes where reading, writing or memory failed.
+/// The line of an answer with its line feed; no bytes where a tape was run, whose acts have lines of their
+/// own, and where reading, writing or memory failed.
 pub fn line_of(alloc: Global, s: &Status) -> Result<Vec<u8>, AllocError>
     ensures { IfOk result (λ v. v.items ≡ lines.line_of s.now) }
 {
@@ -28,9 +29,11 @@ fn text_of(alloc: Global, s: &Status) -> Result<String, AllocError>
             },
         ) => compiled_line(alloc, *records, *acts, *segments),
         Status::Done(Summary::Certified(verdict)) => certified_line(alloc, verdict),
+        Status::Done(Summary::Decoded { .. }) => Ok(String::new(alloc)),
         Status::Usage => String::from_str(alloc, "USAGE\n"),
         Status::Missing { name } => format!(in alloc; "MISSING {}\n", name.text),
         Status::TooLong { name } => format!(in alloc; "TOO LONG {}\n", name.text),
+        Status::BadMachine { line, cause } => bad_machine_line(alloc, *line, *cause),
         Status::BadPart { line, cause } => bad_part_line(alloc, *line, *cause),
         Status::Refused { line, step, case } => refused_line(alloc, *line, *step, *case),
         Status::BadCl { at, cause } => bad_cl_line(alloc, *at, *cause),
@@ -56,6 +59,13 @@ fn bad_part_line(alloc: Global, line: u32, cause: PartCause) -> Result<String, A
 {
     let cause = cause.name();
     format!(in alloc; "BAD PART LINE {line} {cause}\n")
+}
+
+fn bad_machine_line(alloc: Global, line: u32, cause: MachineCause) -> Result<String, AllocError>
+    ensures { IfOk result (λ t. string_bytes t ≡ lines.bad_machine_line line cause) }
+{
+    let why = cause.name();
+    format!(in alloc; "BAD MACHINE LINE {line} {why}\n")
 }
 
 fn refused_line(alloc: Global, line: u32, step: u32, case: Case) -> Result<String, AllocError>

@@ -6,6 +6,7 @@ use apt_block::TapeCause;
 use apt_certify::{Bad, Verdict};
 use apt_cldata::ClCause;
 use apt_lexis::PartCause;
+use apt_machine::MachineCause;
 use apt_words::Case;
 use std::marker::Model;
 
@@ -34,6 +35,10 @@ pub enum Summary {
     },
     /// A CL file and a tape were found right, with this verdict over the contours.
     Certified(Verdict),
+    /// A tape was run, with so many acts; their lines are printed in place of one of its own.
+    Decoded {
+        acts: u64,
+    },
 }
 
 /// Where a CL file or a tape is not right.
@@ -59,6 +64,8 @@ pub enum Status {
     ReadFault,
     /// The file of the name is longer than its limit.
     TooLong { name: FileName },
+    /// The text is no machine table: its first fault, with its line (from 1).
+    BadMachine { line: u32, cause: MachineCause },
     /// The text is no part program: its first fault, with its line (from 1).
     BadPart { line: u32, cause: PartCause },
     /// The first step of the part that can't be done: its line and its number, both from 1, and the case.
@@ -87,6 +94,7 @@ impl Status {
             Status::Missing { .. } => 2,
             Status::ReadFault => 3,
             Status::TooLong { .. } => 4,
+            Status::BadMachine { .. } => 5,
             Status::BadPart { .. } => 6,
             Status::Refused { .. } => 7,
             Status::BadCl { .. } => 8,

@@ -1,8 +1,10 @@
 use crate::{
-    Bad, ClCause, FileName, Miss, PartCause, Reason, Status, Summary, TapeCause, Verdict, line_of,
+    Bad, ClCause, FileName, MachineCause, Miss, PartCause, Reason, Status, Summary, TapeCause,
+    Verdict, act_lines, line_of,
 };
+use apt_control::Act;
 use apt_plane::Spot;
-use apt_words::Case;
+use apt_words::{Case, Cool, Turn, Units};
 use std::test::Fail;
 
 const BAD: Bad = Bad {
@@ -12,7 +14,7 @@ const BAD: Bad = Bad {
     reason: Reason::Band,
 };
 
-const ANSWERS: [(Status, &str); 11] = [
+const ANSWERS: [(Status, &str); 13] = [
     (
         Status::Done(Summary::Compiled {
             records: 0,
@@ -77,6 +79,14 @@ const ANSWERS: [(Status, &str); 11] = [
         },
         "NOT CERTIFIED ACT 9\n",
     ),
+    (
+        Status::BadMachine {
+            line: 2,
+            cause: MachineCause::Value,
+        },
+        "BAD MACHINE LINE 2 Value\n",
+    ),
+    (Status::Done(Summary::Decoded { acts: 14 }), ""),
     (Status::Usage, "USAGE\n"),
     (Status::WriteFault, ""),
 ];
@@ -97,5 +107,66 @@ fn a_missing_name_is_told(rt: HostRuntime) -> Result<(), Fail> {
     };
     let line = line_of(alloc, &Status::Missing { name })?;
     assert_eq!(rt; line.as_slice(), "MISSING NONE\n".as_bytes());
+    Ok(())
+}
+
+const ACTS: [(Act, &str); 14] = [
+    (Act::Units(Units::Inch), "UNITS INCH\n"),
+    (Act::Units(Units::Mm), "UNITS MM\n"),
+    (
+        Act::Rapid {
+            x: 0,
+            y: -1,
+            z: 50_000_000,
+        },
+        "RAPID 0 -1 50000000\n",
+    ),
+    (
+        Act::Cut {
+            x: -150_000,
+            y: 2,
+            z: 3,
+            feed: 105,
+        },
+        "CUT -150000 2 3 FEED 105\n",
+    ),
+    (
+        Act::Spindle {
+            turn: Turn::Cw,
+            n: 900,
+        },
+        "SPINDLE CW 900\n",
+    ),
+    (
+        Act::Spindle {
+            turn: Turn::Ccw,
+            n: 1,
+        },
+        "SPINDLE CCW 1\n",
+    ),
+    (
+        Act::Spindle {
+            turn: Turn::Off,
+            n: 0,
+        },
+        "SPINDLE OFF\n",
+    ),
+    (Act::Coolant(Cool::Mist), "COOLANT MIST\n"),
+    (Act::Coolant(Cool::Flood), "COOLANT FLOOD\n"),
+    (Act::Coolant(Cool::Off), "COOLANT OFF\n"),
+    (Act::Tool(7), "TOOL 7\n"),
+    (Act::Stop, "STOP\n"),
+    (Act::OptStop, "OPSTOP\n"),
+    (Act::End, "END\n"),
+];
+
+#[test]
+fn lines_of_acts(rt: HostRuntime) -> Result<(), Fail> {
+    for (act, want) in ACTS {
+        assert_eq!(rt; act_lines(rt.alloc(), &[act])?.as_slice(), want.as_bytes());
+    }
+    let both = act_lines(rt.alloc(), &[Act::Tool(12), Act::End])?;
+    assert_eq!(rt; both.as_slice(), b"TOOL 12\nEND\n".as_slice());
+    assert!(rt; act_lines(rt.alloc(), &[])?.is_empty());
     Ok(())
 }
