@@ -52,6 +52,7 @@ overlap a b =
     let n = length_squared (displacement a.c b.c) in
     nat_le (square (a.r -ℤ b.r)) n && nat_le n (square (a.r +ℤ b.r))
 
+-- the same as a fact
 pub record DoMeet (a b : Circ) : Type 0 where
   pub inside : square (a.r -ℤ b.r) ≤ length_squared (displacement a.c b.c)
   pub outside : length_squared (displacement a.c b.c) ≤ square (a.r +ℤ b.r)
