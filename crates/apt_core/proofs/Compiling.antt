@@ -96,6 +96,7 @@ leaves_same machine n held (Some m) answers.Usage is = refl
 leaves_same machine n held (Some m) (answers.Missing name) is = refl
 leaves_same machine n held (Some m) answers.ReadFault is = refl
 leaves_same machine n held (Some m) (answers.TooLong name) is = refl
+leaves_same machine n held (Some m) (answers.BadMachine line cause) is = refl
 leaves_same machine n held (Some m) (answers.BadPart line cause) is = refl
 leaves_same machine n held (Some m) (answers.Refused line step case) is = refl
 leaves_same machine n held (Some m) (answers.BadCl at cause) is = refl

@@ -83,9 +83,11 @@ IsJudgement machine text cl tape (answers.NotCertified miss) =
     × (part_of machine text ≡ Ok (Ok p)) × (read_of cl ≡ Ok written) × (control_run machine.code tape ≡ Ok acts) × IsMiss p.steps written acts miss
 IsJudgement machine text cl tape (answers.Done (summaries.Certified verdict)) = IsCertified machine text cl tape verdict
 IsJudgement machine text cl tape (answers.Done (summaries.Compiled records acts segments)) = ⊥
+IsJudgement machine text cl tape (answers.Done (summaries.Decoded count)) = ⊥
 IsJudgement machine text cl tape answers.Usage = ⊥
 IsJudgement machine text cl tape (answers.Missing name) = ⊥
 IsJudgement machine text cl tape answers.ReadFault = ⊥
 IsJudgement machine text cl tape (answers.TooLong name) = ⊥
+IsJudgement machine text cl tape (answers.BadMachine line cause) = ⊥
 IsJudgement machine text cl tape answers.WriteFault = ⊥
 IsJudgement machine text cl tape answers.NoMemory = ⊥

@@ -28,6 +28,7 @@ IsDelivered cl tape o before after answers.Usage = ⊥
 IsDelivered cl tape o before after (answers.Missing name) = ⊥
 IsDelivered cl tape o before after answers.ReadFault = ⊥
 IsDelivered cl tape o before after (answers.TooLong name) = ⊥
+IsDelivered cl tape o before after (answers.BadMachine line cause) = ⊥
 IsDelivered cl tape o before after (answers.BadPart line cause) = ⊥
 IsDelivered cl tape o before after (answers.Refused line step case) = ⊥
 IsDelivered cl tape o before after (answers.BadCl at cause) = ⊥

@@ -31,11 +31,13 @@ abbrev pub IsVerdictOn : List Step → List Record → List Act → Status → T
 IsVerdictOn steps written acts (answers.NotCertified miss) = IsMiss steps written acts miss
 IsVerdictOn steps written acts (answers.Done (summaries.Certified verdict)) = IsGood steps written acts verdict
 IsVerdictOn steps written acts (answers.Done (summaries.Compiled records acts_done segments)) = ⊥
+IsVerdictOn steps written acts (answers.Done (summaries.Decoded count)) = ⊥
 IsVerdictOn steps written acts answers.NoMemory = Unit {0}
 IsVerdictOn steps written acts answers.Usage = ⊥
 IsVerdictOn steps written acts (answers.Missing name) = ⊥
 IsVerdictOn steps written acts answers.ReadFault = ⊥
 IsVerdictOn steps written acts (answers.TooLong name) = ⊥
+IsVerdictOn steps written acts (answers.BadMachine line cause) = ⊥
 IsVerdictOn steps written acts (answers.BadPart line cause) = ⊥
 IsVerdictOn steps written acts (answers.Refused line step case) = ⊥
 IsVerdictOn steps written acts (answers.BadCl at cause) = ⊥

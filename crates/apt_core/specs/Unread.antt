@@ -31,6 +31,7 @@ HasNoPart machine text answers.Usage = ⊥
 HasNoPart machine text (answers.Missing name) = ⊥
 HasNoPart machine text answers.ReadFault = ⊥
 HasNoPart machine text (answers.TooLong name) = ⊥
+HasNoPart machine text (answers.BadMachine line cause) = ⊥
 HasNoPart machine text (answers.BadCl at cause) = ⊥
 HasNoPart machine text (answers.BadTape at cause) = ⊥
 HasNoPart machine text (answers.NotCertified miss) = ⊥
