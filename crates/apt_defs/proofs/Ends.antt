@@ -1,5 +1,5 @@
 -- Lines through two points are in range.
-use Rattle.std.proofs.Common.{◌≡◌, ◌≢◌, ℕ, zero, suc, ◌+◌, ◌≤◌, ◌^◌, ℤ, ◌-ℤ◌, unsigned_abs, neg_ℤ, arith}
+use Rattle.std.proofs.Common.{◌≡◌, ◌≢◌, ◌+◌, ◌≤◌, ℤ, ◌-ℤ◌, unsigned_abs, neg_ℤ, arith}
 use Rattle.apt_num.proofs.Squares.{size_minus}
 use Rattle.std.proofs.lemmas.Int.{ints}
 use Rattle.apt_plane.specs.declared.figures.Pt.{Pt}

@@ -1,5 +1,5 @@
 -- The figures of tables are in range.
-use Rattle.std.proofs.Common.{◌≡◌, ℕ, nat_eq, List, [], ◌∷◌, Bool, true, false, Option, Some, None, cond}
+use Rattle.std.proofs.Common.{ℕ, nat_eq, List, [], ◌∷◌, Bool, true, false, Option, Some, cond}
 use Rattle.std.specs.Prelude.{IfSome}
 use Rattle.std.specs.Map.{lookup}
 use Rattle.std.specs.Cmp.Lexicographic.{pointwise}

@@ -1,0 +1,125 @@
+//! Definitions by their statements, in inches.
+
+ghost use Rattle.apt_words.specs.declared.Units.TheVariants as units;
+ghost use Rattle.apt_scalar.specs.StepScalars.{HasScalars};
+ghost use Rattle.apt_defs.specs.Definitions.{IsDefinition};
+
+use crate::{DefError, Figure, Table, define};
+use apt_plane::{Circ, Dir, Line, Pt, Surface};
+use apt_words::{Case, Deed, Pick, Step, Symbol, Units};
+use std::process::Abort;
+
+/// One inch in millionths.
+const INCH: i64 = 1_000_000;
+
+fn symbol(rt: &impl Abort, text: &str) -> Symbol {
+    Symbol::new(text).expect(rt, "a name")
+}
+
+fn given(table: &mut Table, deed: Deed) -> Result<(), DefError>
+    requires scalars { HasScalars deed }
+    requires definition { IsDefinition units.Inch table.old deed }
+{
+    let step = Step {
+        line: 1,
+        step: 1,
+        deed,
+    };
+    define(&step, Units::Inch, table)
+}
+
+fn refused(case: Case) -> Result<(), DefError> {
+    Err(DefError::Case(case))
+}
+
+fn at(x: i64, y: i64, z: i64) -> Option<Figure> {
+    Some(Figure::Point { at: Pt { x, y }, z })
+}
+
+fn line(x: i64, y: i64, dx: i64, dy: i64) -> Option<Figure> {
+    Some(Figure::Shape(Surface::Line(Line {
+        base: Pt { x, y },
+        dir: Dir { dx, dy },
+    })))
+}
+
+fn circle(x: i64, y: i64, r: i64) -> Option<Figure> {
+    Some(Figure::Shape(Surface::Circ(Circ { c: Pt { x, y }, r })))
+}
+
+/// The x axis and the circle of two inches at the origin: each modifier names one of their two points, or by the other
+/// coordinate where both are as far.
+#[test]
+fn picks_one_of_two_points(rt: HostRuntime) {
+    let mut table = Table::new(rt.alloc());
+    let lx = symbol(&rt, "LX");
+    let c = symbol(&rt, "C");
+    let p = symbol(&rt, "P");
+    let made = given(&mut table, Deed::LineXy(lx.copied(), 0, 0, INCH, 0));
+    assert!(rt; made == Ok(()));
+    let made = given(&mut table, Deed::CircleXyr(c.copied(), 0, 0, 2 * INCH));
+    assert!(rt; made == Ok(()));
+    assert!(rt; table.get(&c) == circle(0, 0, 200_000));
+    let rows = [
+        (Pick::XLarge, 200_000),
+        (Pick::XSmall, -200_000),
+        (Pick::YLarge, 200_000),
+        (Pick::YSmall, -200_000),
+    ];
+    for (pick, x) in rows {
+        let deed = Deed::PointPick(p.copied(), pick, lx.copied(), c.copied());
+        assert!(rt; given(&mut table, deed) == Ok(()));
+        assert!(rt; table.get(&p) == at(x, 0, 0));
+    }
+}
+
+/// From the origin to the left of a circle of three inches, five inches away.
+#[test]
+fn draws_tangents(rt: HostRuntime) {
+    let mut table = Table::new(rt.alloc());
+    let p = symbol(&rt, "P");
+    let c = symbol(&rt, "C");
+    let l = symbol(&rt, "L");
+    let made = given(&mut table, Deed::PointXy(p.copied(), 0, 0, Some(INCH)));
+    assert!(rt; made == Ok(()));
+    assert!(rt; table.get(&p) == at(0, 0, 100_000));
+    let made = given(
+        &mut table,
+        Deed::CircleXyr(c.copied(), 5 * INCH, 0, 3 * INCH),
+    );
+    assert!(rt; made == Ok(()));
+    let deed = Deed::LineTan(l.copied(), p.copied(), true, c.copied());
+    assert!(rt; given(&mut table, deed) == Ok(()));
+    assert!(rt; table.get(&l) == line(0, 0, 79_999_200, 59_999_400));
+    let deed = Deed::LinePerp(l.copied(), p.copied(), l.copied());
+    assert!(rt; given(&mut table, deed) == Ok(()));
+    assert!(rt; table.get(&l) == line(0, 0, -59_999_400, 79_999_200));
+}
+
+/// Names come before numbers, and numbers before the figure's own case; a refused definition leaves the table.
+#[test]
+fn refuses_by_the_first_case(rt: HostRuntime) {
+    let mut table = Table::new(rt.alloc());
+    let p = symbol(&rt, "P");
+    let l = symbol(&rt, "L");
+    let made = given(&mut table, Deed::PointXy(p.copied(), 0, 0, None));
+    assert!(rt; made == Ok(()));
+    let made = given(&mut table, Deed::LineXy(l.copied(), 0, 0, INCH, 0));
+    assert!(rt; made == Ok(()));
+    let n = symbol(&rt, "N");
+    let far = 600 * INCH;
+    let deed = Deed::LineAt(n.copied(), n.copied(), Pick::YLarge, 2_000 * INCH);
+    assert!(rt; given(&mut table, deed) == refused(Case::Undefined));
+    let deed = Deed::CircleRadius(n.copied(), l.copied(), 2_000 * INCH);
+    assert!(rt; given(&mut table, deed) == refused(Case::WrongKind));
+    let deed = Deed::PointXy(p.copied(), far, 0, None);
+    assert!(rt; given(&mut table, deed) == refused(Case::OutOfRange));
+    let deed = Deed::LinePoints(n.copied(), p.copied(), p.copied());
+    assert!(rt; given(&mut table, deed) == refused(Case::Degenerate));
+    let deed = Deed::PointLines(n.copied(), l.copied(), l.copied());
+    assert!(rt; given(&mut table, deed) == refused(Case::NoMeeting));
+    let deed = Deed::CircleXyr(n.copied(), 480 * INCH, 0, 11 * INCH);
+    assert!(rt; given(&mut table, deed) == refused(Case::CircleTooLarge));
+    assert!(rt; table.get(&n) == None);
+    assert!(rt; table.get(&p) == at(0, 0, 0));
+}
