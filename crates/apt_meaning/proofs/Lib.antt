@@ -25,4 +25,5 @@ pub mod Ends
 pub mod Files
 mod Worked
 mod Statements
+mod Definitions
 mod Cases

@@ -153,3 +153,9 @@ no_such_point = refl
 far_point : made (deeds.PointXy (codes "P1") (whole 501) (pos 0) None ∷ deeds.FromPoint (codes "P1") ∷ deeds.Fini ∷ []) ≡ refused 1 cases.OutOfRange
 unfolding refused_definition defined
 far_point = refl
+
+-- to the point in which two lines meet
+meeting : made (deeds.Rapid ∷ edge (codes "L1") 0 0 5 0 ∷ edge (codes "L2") 3 4 3 0 ∷ deeds.PointLines (codes "P1") (codes "L1") (codes "L2") ∷ deeds.GotoPoint (codes "P1") ∷ deeds.Fini ∷ []) ≡
+    Ok (with_note 1 notes.Rapid ++ reached 5 reaches.Goto (position_at (pos 300000) (pos 0) (pos 0)) ++ with_note 6 notes.Fini)
+unfolding root refused_definition defined
+meeting = refl
