@@ -47,8 +47,8 @@ fn circle(x: i64, y: i64, r: i64) -> Option<Figure> {
     Some(Figure::Shape(Surface::Circ(Circ { c: Pt { x, y }, r })))
 }
 
-/// The x axis and the circle of two inches at the origin: each modifier names one of their two points, or by the other
-/// coordinate where both are as far.
+/// The circle of two inches at the origin with the x axis and with the y axis: each modifier names one of their two
+/// points, or by the other coordinate where both are as far.
 #[test]
 fn picks_one_of_two_points(rt: HostRuntime) {
     let mut table = Table::new(rt.alloc());
@@ -60,16 +60,22 @@ fn picks_one_of_two_points(rt: HostRuntime) {
     let made = given(&mut table, Deed::CircleXyr(c.copied(), 0, 0, 2 * INCH));
     assert!(rt; made == Ok(()));
     assert!(rt; table.get(&c) == circle(0, 0, 200_000));
+    let ly = symbol(&rt, "LY");
+    let made = given(&mut table, Deed::LineXy(ly.copied(), 0, 0, 0, INCH));
+    assert!(rt; made == Ok(()));
     let rows = [
         (Pick::XLarge, 200_000),
         (Pick::XSmall, -200_000),
         (Pick::YLarge, 200_000),
         (Pick::YSmall, -200_000),
     ];
-    for (pick, x) in rows {
+    for (pick, further) in rows {
         let deed = Deed::PointPick(p.copied(), pick, lx.copied(), c.copied());
         assert!(rt; given(&mut table, deed) == Ok(()));
-        assert!(rt; table.get(&p) == at(x, 0, 0));
+        assert!(rt; table.get(&p) == at(further, 0, 0));
+        let deed = Deed::PointPick(p.copied(), pick, ly.copied(), c.copied());
+        assert!(rt; given(&mut table, deed) == Ok(()));
+        assert!(rt; table.get(&p) == at(0, further, 0));
     }
 }
 
@@ -94,6 +100,27 @@ fn draws_tangents(rt: HostRuntime) {
     let deed = Deed::LinePerp(l.copied(), p.copied(), l.copied());
     assert!(rt; given(&mut table, deed) == Ok(()));
     assert!(rt; table.get(&l) == line(0, 0, -59_999_400, 79_999_200));
+}
+
+/// Through the origin, four inches along the x axis and two along the y axis. The name then stands for its centre.
+#[test]
+fn draws_circles(rt: HostRuntime) {
+    let mut table = Table::new(rt.alloc());
+    let p = symbol(&rt, "P");
+    let q = symbol(&rt, "Q");
+    let r = symbol(&rt, "R");
+    let c = symbol(&rt, "C");
+    let made = given(&mut table, Deed::PointXy(p.copied(), 0, 0, None));
+    assert!(rt; made == Ok(()));
+    let made = given(&mut table, Deed::PointXy(q.copied(), 4 * INCH, 0, None));
+    assert!(rt; made == Ok(()));
+    let made = given(&mut table, Deed::PointXy(r.copied(), 0, 2 * INCH, None));
+    assert!(rt; made == Ok(()));
+    let deed = Deed::CirclePoints(c.copied(), p.copied(), q.copied(), r.copied());
+    assert!(rt; given(&mut table, deed) == Ok(()));
+    assert!(rt; table.get(&c) == circle(200_000, 100_000, 223_607));
+    assert!(rt; given(&mut table, Deed::PointCenter(c.copied(), c.copied())) == Ok(()));
+    assert!(rt; table.get(&c) == at(200_000, 100_000, 0));
 }
 
 /// Names come before numbers, and numbers before the figure's own case; a refused definition leaves the table.
