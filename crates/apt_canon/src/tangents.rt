@@ -93,6 +93,7 @@ fn of_two(a: &Circ, left_a: bool, b: &Circ, left_b: bool) -> Result<Line, FormFa
     })
 }
 
+/// How far a tangent comes nearer from the first centre to the second.
 fn drop_between(a: &Circ, left_a: bool, b: &Circ, left_b: bool) -> i64
     requires a { IsCircle a.now }
     requires b { IsCircle b.now }
@@ -102,6 +103,7 @@ fn drop_between(a: &Circ, left_a: bool, b: &Circ, left_b: bool) -> i64
     on_side(left_a, a.r) - on_side(left_b, b.r)
 }
 
+/// Where the tangent touches the circle that it starts at.
 fn touch_point(a: &Circ, left: bool, way: Dir, drop: i64) -> Pt
     requires circle { IsCircle a.now }
     requires way { IsDir way }
@@ -118,6 +120,7 @@ fn touch_point(a: &Circ, left: bool, way: Dir, drop: i64) -> Pt
     }
 }
 
+/// The direction of the tangent that comes nearer by `drop` along a way.
 fn direction(way: Dir, drop: i64) -> Dir
     requires way { IsDir way }
     requires drop { signs.square drop ≤ vectors.length_squared way }
@@ -144,6 +147,7 @@ fn quotient(n: i64, part: i128, whole: i128) -> i64
     div_near(times(n, part), whole) as i64
 }
 
+/// The same direction, times the length of the way, in units of 2^-30.
 fn falling(way: Dir, drop: i64) -> Wide
     requires way { IsDir way }
     requires drop { signs.square drop ≤ vectors.length_squared way }
@@ -180,6 +184,7 @@ fn divisor(way: Dir) -> i128
     length_squared_of(way) as i128 * (1 << 30)
 }
 
+/// A radius to the side of the circle on which the tangent runs: to the left is positive.
 fn on_side(left: bool, r: i64) -> i64
     requires { unsigned_abs r ≤ 10 ^ 8 }
     ensures value { result ≡ tangents.side_of_circle left *ℤ r }
