@@ -1,5 +1,5 @@
 -- A definition asks for what it defines, and its own case alone refuses it.
-use Rattle.std.proofs.Common.{◌≡◌, true, false, refl, sym}
+use Rattle.std.proofs.Common.{◌≡◌, refl, sym}
 use Rattle.std.proofs.lemmas.Bool.{true≢false}
 use Rattle.apt_words.specs.declared.deed.Deed.{Deed}
 use Rattle.apt_words.specs.declared.deed.Deed.TheVariants as deeds

@@ -35,7 +35,7 @@ at = record first_situation {
       ∷ (codes "P3", figures.Point (place (pos 0) (pos 200000)) (pos 0))
       ∷ (codes "C1", round (pos 0) (pos 0) (pos 200000)) ∷ (codes "C2", round (pos 500000) (pos 0) (pos 300000))
       ∷ (codes "L4", figures.Shape (line (pos 0) (pos 50000) (neg_ℤ (pos 100000)) (pos 0)))
-      ∷ (codes "L5", figures.Shape (line (pos 0) (pos 50000) (pos 100000) (neg_ℤ (pos 1)))) ∷ (codes "A", figures.Scalar) ∷ []
+      ∷ (codes "L5", figures.Shape (line (pos 0) (pos 50000) (pos 100000) (neg_ℤ (pos 1)))) ∷ (codes "A", figures.Scalar) ∷ [];
 }
 
 -- a whole number in millionths

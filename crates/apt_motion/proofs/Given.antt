@@ -1,5 +1,5 @@
 -- What is found of a definition.
-use Rattle.std.proofs.Common.{◌≡◌, ◌∙◌, ℕ, List, Option, Some, None, IsSome, Result, Ok, Err, refl, sym, ap, subst}
+use Rattle.std.proofs.Common.{◌≡◌, ◌∙◌, ℕ, List, Option, Some, IsSome, Result, Ok, Err, refl, sym, ap, subst}
 use Rattle.apt_words.specs.declared.Case.{Case}
 use Rattle.apt_words.specs.declared.deed.Deed.{Deed}
 use Rattle.apt_words.specs.Rows.{Row, first_of}
@@ -9,7 +9,7 @@ use Rattle.apt_defs.specs.Definitions.{definition_of}
 use Rattle.apt_meaning.specs.declared.situation.Situation.{Situation}
 use Rattle.apt_meaning.specs.declared.effect.Effect.{Effect}
 use Rattle.apt_meaning.specs.Effects.{names, defines, defined, effect_of}
-use Rattle.apt_meaning.specs.Refusals.{refused, refused_if_any, refused_definition, cases_of, refusal_of}
+use Rattle.apt_meaning.specs.Refusals.{refused, refused_if_any, refused_definition, refusal_of}
 use Rattle.apt_meaning.specs.Compiled.{asked}
 use Rattle.apt_meaning.proofs.Defined.{its_own}
 use Rattle.apt_motion.specs.declared.found.Found.{Found}
