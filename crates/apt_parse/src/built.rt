@@ -57,10 +57,7 @@ pub(crate) fn is_built(body: &Body) -> bool
         Body::Tool(side) => is_side_built(*side),
         Body::GoStart(stop, _, other) => is_start_built(*stop, other),
         Body::Contour(side, _, _, stop, _) => is_side_or_none_built(*side) && is_stop_built(*stop),
-        Body::Spindl(..)
-        | Body::SpindlOff
-        | Body::Coolnt(_)
-        | Body::Loadtl(_) => false,
+        Body::Spindl(..) | Body::SpindlOff | Body::Coolnt(_) | Body::Loadtl(_) => false,
     }
 }
 
