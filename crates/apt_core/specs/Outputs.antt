@@ -60,7 +60,7 @@ part_limit = 4194304
 abbrev pub machine_limit : ℕ
 machine_limit = 65536
 
--- for what a name holds, where all of it may be read, what is due behind its text
+-- by what a name holds: it may be missing or too long; else what is due for its text
 abbrev pub due_read : ℕ → List ℕ → Option (List ℕ) → (List ℕ → Due) → Due
 due_read limit name None more = no_output (answers.Missing name)
 due_read limit name (Some text) more = if nat_lt limit (length text) then no_output (answers.TooLong name) else more text
