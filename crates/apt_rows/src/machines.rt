@@ -3,7 +3,7 @@ use crate::empty::{EMPTY, EMPTY_CL};
 use crate::parts::{FIRST, FIRST_LINE, FIRST_TAPE};
 use crate::run::{
     Asked, CERTIFY, COMPILE, DECODE, Files, Kind, MACHINE, OLD_CL, Shown, assert_shows_on,
-    number_of, run, tape_of, with_part,
+    number_of, rs358, run, spliced, tape_of, with_part,
 };
 use std::alloc::{AllocGlobal, Global};
 use std::process::Abort;
@@ -217,16 +217,9 @@ type Run = (
 
 const ACTS: &str = "UNITS INCH\nEND\n";
 
-/// A tape in RS-244 whose third byte has a hole too many.
-const WRONG_HOLE: [u8; 5] = [0x0b, 0x80, 0x55, 0x20, 0x20];
+const FIRST_ACTS: &str = "UNITS INCH\nCUT 100000 200000 300000 FEED 100\nEND\n";
 
-/// A tape in RS-358 without its last end of block.
-const CUT: [u8; 25] = [
-    0xa5, 0x0a, 0x4e, 0x30, 0x30, 0x30, 0xb1, 0x47, 0xb7, 0x30, 0x47, 0x39, 0x30, 0x47, 0x39, 0xb4,
-    0x0a, 0x4e, 0x30, 0x30, 0x30, 0xb2, 0x4d, 0x30, 0xb2,
-];
-
-const DECODED: [Run; 22] = [
+const DECODED: [Run; 20] = [
     (DECODE, MACHINE, &TAPE_358, Kind::Put, 0, 0, ACTS),
     (DECODE, RS244, &TAPE_244, Kind::Put, 0, 0, ACTS),
     // a control of the other code runs neither
@@ -247,24 +240,6 @@ const DECODED: [Run; 22] = [
         0,
         9,
         "BAD TAPE AT 26 NoStart\n",
-    ),
-    (
-        DECODE,
-        RS244,
-        &WRONG_HOLE,
-        Kind::Put,
-        0,
-        9,
-        "BAD TAPE AT 2 BadParity\n",
-    ),
-    (
-        DECODE,
-        MACHINE,
-        &CUT,
-        Kind::Put,
-        0,
-        9,
-        "BAD TAPE AT 25 Truncated\n",
     ),
     // the table is read first, and both are read before one is judged
     (
@@ -321,7 +296,7 @@ const DECODED: [Run; 22] = [
     (DECODE, MACHINE, &TAPE_358, Kind::Read, 5, 0, ACTS),
     (DECODE, MACHINE, &TAPE_358, Kind::Put, 1, 11, "UNITS I"),
     (DECODE, MACHINE, &TAPE_358, Kind::Put, 2, 0, ACTS),
-    (DECODE, MACHINE, &CUT, Kind::Put, 1, 11, "BAD TAPE AT "),
+    (DECODE, RS244, &TAPE_358, Kind::Put, 1, 11, "BAD TAPE AT"),
     // nothing is written
     (DECODE, MACHINE, &TAPE_358, Kind::WriteStart, 1, 0, ACTS),
     (DECODE, MACHINE, &TAPE_358, Kind::Append, 1, 0, ACTS),
@@ -347,6 +322,32 @@ fn words_ask_for_the_acts_of_a_tape(rt: HostRuntime) -> Result<(), Fail> {
             files,
         };
         assert_shows_on(&rt, asked, table.as_bytes(), want)?;
+    }
+    Ok(())
+}
+
+#[test]
+fn a_tape_is_run_to_its_acts_or_its_first_fault(rt: HostRuntime) -> Result<(), Fail> {
+    let alloc = rt.alloc();
+    let first = rs358(alloc, FIRST_TAPE.as_bytes())?;
+    let wrong_hole = spliced(alloc, &TAPE_244, 2, 1, &[0x55])?;
+    let cut = TAPE_358.get(..25).ok_or("short")?;
+    for (table, tape, number, line) in [
+        (MACHINE, first.as_slice(), 0, FIRST_ACTS),
+        (RS244, wrong_hole.as_slice(), 9, "BAD TAPE AT 2 BadParity\n"),
+        (MACHINE, cut, 9, "BAD TAPE AT 25 Truncated\n"),
+    ] {
+        let files = Files {
+            part: EMPTY.as_bytes(),
+            cl: OLD_CL,
+            tape,
+        };
+        let want = Shown {
+            number,
+            line,
+            files,
+        };
+        assert_shows_on(&rt, asked(DECODE, files), table.as_bytes(), want)?;
     }
     Ok(())
 }
