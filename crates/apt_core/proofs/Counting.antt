@@ -1,5 +1,5 @@
 -- The segments of jobs are those of the contours of their records.
-use Rattle.std.proofs.Common.{◌≡◌, ◌+◌, ◌-◌, ℕ, List, [], ◌∷◌, ◌++◌, length, map, Some, None, ap, sym, ◌∙◌, refl, arith}
+use Rattle.std.proofs.Common.{◌≡◌, ◌+◌, List, [], ◌∷◌, ◌++◌, length, Some, None, ap, sym, ◌∙◌, refl, arith}
 use Rattle.std.proofs.lemmas.List.{length-map}
 use Rattle.apt_plane.specs.declared.figures.Pt.{Pt}
 use Rattle.apt_words.specs.declared.deed.Step.{Step}
@@ -12,7 +12,7 @@ use Rattle.apt_meaning.specs.declared.effect.Effect.TheVariants as effects
 use Rattle.apt_meaning.specs.Situations.{at_height}
 use Rattle.apt_meaning.specs.Records.{MayHave, records_of, after}
 use Rattle.apt_job.specs.Jobs.{jobs_by, MakesJobs}
-use Rattle.apt_post.specs.Plan.{record_segments, segments}
+use Rattle.apt_post.specs.Plan.{segments}
 
 segments-append : (xs ys : List Record) → segments (xs ++ ys) ≡ segments xs + segments ys
 segments-append [] ys = omega arith

@@ -1,5 +1,5 @@
 -- From what a judging finds to the answer, and to what is right.
-use Rattle.std.proofs.Common.{◌≡◌, ◌≢◌, ◌⊎◌, inl, inr, ℕ, ◌+◌, ◌≤◌, List, [], ◌∷◌, ◌++◌, length, Option, Some, None, Result, Ok, Err, ap, sym, ◌∙◌, refl, subst}
+use Rattle.std.proofs.Common.{◌≡◌, inl, inr, ℕ, List, None, Ok, ap, ◌∙◌, refl, subst}
 use Rattle.apt_words.specs.declared.deed.Step.{Step}
 use Rattle.apt_cldata.specs.declared.record.Record.{Record}
 use Rattle.apt_cldata.specs.Reading.{read_of}
@@ -9,22 +9,21 @@ use Rattle.apt_certify.specs.Jobs.{AreLegal}
 use Rattle.apt_certify.specs.Verdicts.{IsVerdict, IsFirstBadOrNone}
 use Rattle.apt_meaning.specs.Situations.{first_situation}
 use Rattle.apt_meaning.specs.Compiled.{compilation}
-use Rattle.apt_meaning.specs.Records.{AreLegal as IsLegalEffect, FollowsLegally}
+use Rattle.apt_meaning.specs.Records.{AreLegal as IsLegalEffect}
 use Rattle.apt_meaning.proofs.Stands.{stands}
-use Rattle.apt_job.specs.Jobs.{MakesJobs}
 use Rattle.apt_job.proofs.Walks.{legal_follows}
 use Rattle.apt_machine.specs.declared.machine.Machine.{Machine}
+use Rattle.apt_machine.specs.Tables.{table_of}
 use Rattle.apt_control.specs.declared.Act.{Act}
 use Rattle.apt_control.specs.Control.{control_run}
-use Rattle.apt_post.specs.Plan.{plan}
 use Rattle.apt_post.proofs.Reaching.{plan_reaches}
 use Rattle.apt_part.specs.Compilation.{Compiled, part_of}
 use Rattle.apt_part.specs.Promise.{Promise}
 use Rattle.apt_report.specs.declared.status.Status.{Status}
 use Rattle.apt_report.specs.declared.status.Status.TheVariants as answers
 use Rattle.apt_report.specs.declared.status.Summary.TheVariants as summaries
-use Rattle.apt_core.specs.Certificates.{IsRight, IsMiss, IsCertified, IsJudgement}
-use Rattle.apt_core.specs.Judging.{IsJudged, IsGood, IsVerdictOn}
+use Rattle.apt_core.specs.Certificates.{IsCertified, IsBadTable}
+use Rattle.apt_core.specs.Judging.{IsJudgedOn, IsJudged, IsGood, IsVerdictOn}
 use Rattle.apt_core.specs.Unread.{HasNoPart}
 use Rattle.apt_core.proofs.Counting.{makes_segments}
 
@@ -54,18 +53,27 @@ good_is_right machine text cl tape p written acts v promise read run good =
     }
 
 pub on_verdict : (machine : Machine) (text cl tape : List ℕ) (p : Compiled) (written : List Record) (acts : List Act) (answer : Status) → part_of machine text ≡ Ok (Ok p) → Promise machine text p
-    → read_of cl ≡ Ok written → control_run machine.code tape ≡ Ok acts → IsVerdictOn p.steps written acts answer → IsJudged machine text cl tape answer
+    → read_of cl ≡ Ok written → control_run machine.code tape ≡ Ok acts → IsVerdictOn p.steps written acts answer → IsJudgedOn machine text cl tape answer
 on_verdict machine text cl tape p written acts (answers.NotCertified miss) comes promise read run is = inl (p, written, acts, comes, read, run, is)
 on_verdict machine text cl tape p written acts (answers.Done (summaries.Certified v)) comes promise read run is = inl (good_is_right machine text cl tape p written acts v promise read run is)
 on_verdict machine text cl tape p written acts (answers.Done (summaries.Compiled r a s)) comes promise read run is = absurd is
 on_verdict machine text cl tape p written acts answers.NoMemory comes promise read run is = inr refl
 on_verdict machine text cl tape p written acts _ comes promise read run is = absurd is
 
-pub no_part_judged : (machine : Machine) (text cl tape : List ℕ) (answer : Status) → HasNoPart machine text answer → IsJudged machine text cl tape answer
+pub no_part_judged : (machine : Machine) (text cl tape : List ℕ) (answer : Status) → HasNoPart machine text answer → IsJudgedOn machine text cl tape answer
 no_part_judged machine text cl tape (answers.BadPart line cause) is = inl is
 no_part_judged machine text cl tape (answers.Refused line step case) is = inl is
 no_part_judged machine text cl tape answers.NoMemory is = inr refl
 no_part_judged machine text cl tape _ is = absurd is
+
+-- ---- with the text of a table
+
+pub table_judged : (text table cl tape : List ℕ) (answer : Status) → IsBadTable table answer → IsJudged text table cl tape answer
+table_judged text table cl tape answer bad = inl (inl bad)
+
+pub judged_by : (text table cl tape : List ℕ) (machine : Machine) (answer : Status) → table_of table ≡ Ok machine → IsJudgedOn machine text cl tape answer → IsJudged text table cl tape answer
+judged_by text table cl tape machine answer tabled (inl judgement) = inl (inr (record { machine = machine; comes = tabled; judgement = judgement }))
+judged_by text table cl tape machine answer tabled (inr e) = inr e
 
 -- steps whose records are known pass
 pub passes_by : (steps : List Step) (written : List Record) → compilation first_situation steps ≡ Ok written → (rs : List Record) × (compilation first_situation steps ≡ Ok rs)

@@ -1,20 +1,17 @@
 -- Where a CL file and a tape are right, nothing is missed.
-use Rattle.std.proofs.Common.{◌≡◌, ◌⊎◌, inl, inr, ℕ, ◌≤◌, ◌<◌, List, [], ◌∷◌, ◌++◌, length, Option, Some, None, Result, Ok, Err, ap, sym, ◌∙◌, refl, subst, arith}
+use Rattle.std.proofs.Common.{◌≡◌, inl, inr, ℕ, ◌≤◌, ◌<◌, List, [], ◌∷◌, length, Option, Some, None, Result, Ok, sym, ◌∙◌, refl, subst, arith}
 use Rattle.std.proofs.lemmas.List.{append_cancel_left}
 use Rattle.std.specs.Prelude.{IsSomeAnd}
 use Rattle.std.specs.FinMap.{get}
 use Rattle.apt_shelf.specs.Told.{Contents}
 use Rattle.apt_cldata.specs.declared.record.Record.{Record}
 use Rattle.apt_cldata.specs.Reading.{read_of}
-use Rattle.apt_certify.specs.declared.leg.Job.{Job}
 use Rattle.apt_certify.specs.declared.verdict.Verdict.{Verdict}
 use Rattle.apt_certify.proofs.Legality.{bad_not_legal}
 use Rattle.apt_meaning.specs.Situations.{first_situation}
-use Rattle.apt_meaning.specs.Records.{FollowsLegally}
-use Rattle.apt_meaning.specs.Expectations.{FailsAt}
-use Rattle.apt_job.specs.Jobs.{MakesJobs}
 use Rattle.apt_job.proofs.Walks.{follows_legal, follows_makes, makes_no_fails}
 use Rattle.apt_machine.specs.declared.machine.Machine.{Machine}
+use Rattle.apt_machine.specs.Tables.{table_of}
 use Rattle.apt_control.specs.declared.Act.{Act}
 use Rattle.apt_control.specs.Control.{control_run}
 use Rattle.apt_post.specs.Plan.{plan}
@@ -27,7 +24,7 @@ use Rattle.apt_report.specs.declared.status.Miss.{Miss}
 use Rattle.apt_report.specs.declared.status.Miss.TheVariants as misses
 use Rattle.apt_core.specs.Words.{FourNames}
 use Rattle.apt_core.specs.Inputs.{Input, Reads, IsUnread, IsFirstUnread, ReadsAll}
-use Rattle.apt_core.specs.Certificates.{IsRight, HeadsDiffer, DifferAt, IsMiss, IsJudgement}
+use Rattle.apt_core.specs.Certificates.{IsRight, HeadsDiffer, DifferAt, IsMiss, IsAnswerOn, IsJudgement}
 use Rattle.apt_core.specs.Promise.{inputs, Judges}
 
 -- ---- files that are there are read
@@ -46,7 +43,7 @@ right_is_read (x ∷ xs) m [] before now answer reads first = reads
 right_is_read (x ∷ xs) m (text ∷ texts) before now answer reads (inl unread) = reads_no_unread m x text before now answer reads.0 unread
 right_is_read (x ∷ xs) m (text ∷ texts) before now answer reads (inr later) = right_is_read xs m texts before now answer reads.1 later.2
 
-one_text : (o : Option (List ℕ)) (a b : List ℕ) → o ≡ Some a → o ≡ Some b → a ≡ b
+pub one_text : (o : Option (List ℕ)) (a b : List ℕ) → o ≡ Some a → o ≡ Some b → a ≡ b
 one_text o a b e f = let same : Some a ≡ Some b = sym e ∙ f in cc
 
 -- ---- the answer
@@ -78,7 +75,7 @@ no_miss machine text cl tape right acts (misses.Motion bad) same is =
     bad_not_legal is.0 bad is.2 (follows_legal first_situation right.part.steps right.records is.0 right.behind is.1 right.follow)
 no_miss machine text cl tape right acts (misses.Act at) same is = no_difference acts (plan right.records) at same is.3
 
-judged_right : (machine : Machine) (text cl tape : List ℕ) (told : Status) → IsRight machine text cl tape → IsJudgement machine text cl tape told
+judged_right : (machine : Machine) (text cl tape : List ℕ) (told : Status) → IsRight machine text cl tape → IsAnswerOn machine text cl tape told
     → (verdict : Verdict) × (told ≡ answers.Done (summaries.Certified verdict))
 judged_right machine text cl tape (answers.Done (summaries.Certified verdict)) right is = (verdict, refl)
 judged_right machine text cl tape (answers.BadPart line cause) right is =
@@ -95,12 +92,25 @@ judged_right machine text cl tape (answers.NotCertified miss) right is =
     (subst (λ (q : Compiled). IsMiss q.steps right.records is.2 miss) p (subst (λ (rs : List Record). IsMiss is.0.steps rs is.2 miss) rs is.6)))
 judged_right machine text cl tape _ right is = absurd is
 
-pub right_is_done : (machine : Machine) (n : FourNames) (m : Contents) (text cl tape : List ℕ) (told : Status) → ReadsAll (Some m) (inputs n) (text ∷ cl ∷ tape ∷ []) → IsRight machine text cl tape
-    → Judges machine n (Some m) told → (verdict : Verdict) × (told ≡ answers.Done (summaries.Certified verdict))
-right_is_done machine n m text cl tape told reads right judged =
-    let t = one_text (get m n.part) judged.text text judged.reads.0.0 reads.0.0 in
-    let c = one_text (get m n.cl) judged.cl cl judged.reads.1.0.0 reads.1.0.0 in
-    let p = one_text (get m n.tape) judged.tape tape judged.reads.1.1.0.0 reads.1.1.0.0 in
+same_machine : {E : Type 0} (r : Result Machine E) (a b : Machine) → r ≡ Ok a → r ≡ Ok b → a ≡ b
+same_machine r a b e f = let same = sym e ∙ f in cc
+
+-- for the machine of a table
+table_right : (machine : Machine) (text table cl tape : List ℕ) (told : Status) → table_of table ≡ Ok machine → IsRight machine text cl tape → IsJudgement text table cl tape told
+    → (verdict : Verdict) × (told ≡ answers.Done (summaries.Certified verdict))
+table_right machine text table cl tape told tabled right (inl bad) = absurd (let f = sym bad.comes ∙ tabled in let g : ⊥ = cc in g)
+table_right machine text table cl tape told tabled right (inr by) =
     judged_right machine text cl tape told right
-    (subst (λ (x : List ℕ). IsJudgement machine x cl tape told) t (subst (λ (x : List ℕ). IsJudgement machine judged.text x tape told) c
-    (subst (λ (x : List ℕ). IsJudgement machine judged.text judged.cl x told) p judged.judgement)))
+    (subst (λ (m : Machine). IsAnswerOn m text cl tape told) (same_machine (table_of table) by.machine machine by.comes tabled) by.judgement)
+
+pub right_is_done : (machine : Machine) (n : FourNames) (m : Contents) (text table cl tape : List ℕ) (told : Status) → ReadsAll (Some m) (inputs n) (text ∷ table ∷ cl ∷ tape ∷ [])
+    → table_of table ≡ Ok machine → IsRight machine text cl tape → Judges n (Some m) told → (verdict : Verdict) × (told ≡ answers.Done (summaries.Certified verdict))
+right_is_done machine n m text table cl tape told reads tabled right judged =
+    let t = one_text (get m n.part) judged.text text judged.reads.0.0 reads.0.0 in
+    let b = one_text (get m n.machine) judged.table table judged.reads.1.0.0 reads.1.0.0 in
+    let c = one_text (get m n.cl) judged.cl cl judged.reads.1.1.0.0 reads.1.1.0.0 in
+    let p = one_text (get m n.tape) judged.tape tape judged.reads.1.1.1.0.0 reads.1.1.1.0.0 in
+    table_right machine text table cl tape told tabled right
+    (subst (λ (x : List ℕ). IsJudgement x table cl tape told) t (subst (λ (x : List ℕ). IsJudgement judged.text x cl tape told) b
+    (subst (λ (x : List ℕ). IsJudgement judged.text judged.table x tape told) c
+    (subst (λ (x : List ℕ). IsJudgement judged.text judged.table judged.cl x told) p judged.judgement))))

@@ -1,5 +1,5 @@
 -- When a CL file and a tape are right for a part, and where they are not.
-use Rattle.std.specs.Prelude.{◌≡◌, ◌≢◌, ℕ, ◌+◌, List, [], ◌∷◌, ◌++◌, length, None, Ok, Err}
+use Rattle.std.specs.Prelude.{◌≡◌, ◌≢◌, ◌⊎◌, ℕ, ◌+◌, List, [], ◌∷◌, ◌++◌, length, None, Ok, Err}
 use Rattle.apt_words.specs.declared.deed.Step.{Step}
 use Rattle.apt_cldata.specs.declared.record.Record.{Record}
 use Rattle.apt_cldata.specs.Reading.{read_of}
@@ -13,6 +13,8 @@ use Rattle.apt_meaning.specs.Records.{FollowsLegally, stand_of}
 use Rattle.apt_meaning.specs.Expectations.{FailsAt}
 use Rattle.apt_job.specs.Jobs.{MakesJobs}
 use Rattle.apt_machine.specs.declared.machine.Machine.{Machine}
+use Rattle.apt_machine.specs.declared.cause.MachineError.{MachineError}
+use Rattle.apt_machine.specs.Tables.{table_of}
 use Rattle.apt_control.specs.declared.Act.{Act}
 use Rattle.apt_control.specs.Control.{control_run}
 use Rattle.apt_post.specs.Plan.{plan, segments, positions, points}
@@ -71,23 +73,39 @@ pub record IsCertified (machine : Machine) (text cl tape : List ℕ) (v : Verdic
   pub verdict : IsVerdict jobs v
   pub counted : v.segments ≡ segments right.records
 
--- the answer to the three texts, in the order in which they are judged
-abbrev pub IsJudgement : Machine → List ℕ → List ℕ → List ℕ → Status → Type 0
-IsJudgement machine text cl tape (answers.BadPart line cause) = part_of machine text ≡ Err (line, cause)
-IsJudgement machine text cl tape (answers.Refused line step case) = part_of machine text ≡ Ok (Err (record { line = line; step = step; case = case }))
-IsJudgement machine text cl tape (answers.BadCl at cause) = (p : Compiled) × (part_of machine text ≡ Ok (Ok p)) × (read_of cl ≡ Err (record { at = at; cause = cause }))
-IsJudgement machine text cl tape (answers.BadTape at cause) =
+-- the answer on a machine to the three texts, in the order in which they are judged
+abbrev pub IsAnswerOn : Machine → List ℕ → List ℕ → List ℕ → Status → Type 0
+IsAnswerOn machine text cl tape (answers.BadPart line cause) = part_of machine text ≡ Err (line, cause)
+IsAnswerOn machine text cl tape (answers.Refused line step case) = part_of machine text ≡ Ok (Err (record { line = line; step = step; case = case }))
+IsAnswerOn machine text cl tape (answers.BadCl at cause) = (p : Compiled) × (part_of machine text ≡ Ok (Ok p)) × (read_of cl ≡ Err (record { at = at; cause = cause }))
+IsAnswerOn machine text cl tape (answers.BadTape at cause) =
     (p : Compiled) × (written : List Record) × (part_of machine text ≡ Ok (Ok p)) × (read_of cl ≡ Ok written) × (control_run machine.code tape ≡ Err (record { at = at; cause = cause }))
-IsJudgement machine text cl tape (answers.NotCertified miss) =
+IsAnswerOn machine text cl tape (answers.NotCertified miss) =
     (p : Compiled) × (written : List Record) × (acts : List Act)
     × (part_of machine text ≡ Ok (Ok p)) × (read_of cl ≡ Ok written) × (control_run machine.code tape ≡ Ok acts) × IsMiss p.steps written acts miss
-IsJudgement machine text cl tape (answers.Done (summaries.Certified verdict)) = IsCertified machine text cl tape verdict
-IsJudgement machine text cl tape (answers.Done (summaries.Compiled records acts segments)) = ⊥
-IsJudgement machine text cl tape (answers.Done (summaries.Decoded count)) = ⊥
-IsJudgement machine text cl tape answers.Usage = ⊥
-IsJudgement machine text cl tape (answers.Missing name) = ⊥
-IsJudgement machine text cl tape answers.ReadFault = ⊥
-IsJudgement machine text cl tape (answers.TooLong name) = ⊥
-IsJudgement machine text cl tape (answers.BadMachine line cause) = ⊥
-IsJudgement machine text cl tape answers.WriteFault = ⊥
-IsJudgement machine text cl tape answers.NoMemory = ⊥
+IsAnswerOn machine text cl tape (answers.Done (summaries.Certified verdict)) = IsCertified machine text cl tape verdict
+IsAnswerOn machine text cl tape (answers.Done (summaries.Compiled records acts segments)) = ⊥
+IsAnswerOn machine text cl tape (answers.Done (summaries.Decoded count)) = ⊥
+IsAnswerOn machine text cl tape answers.Usage = ⊥
+IsAnswerOn machine text cl tape (answers.Missing name) = ⊥
+IsAnswerOn machine text cl tape answers.ReadFault = ⊥
+IsAnswerOn machine text cl tape (answers.TooLong name) = ⊥
+IsAnswerOn machine text cl tape (answers.BadMachine line cause) = ⊥
+IsAnswerOn machine text cl tape answers.WriteFault = ⊥
+IsAnswerOn machine text cl tape answers.NoMemory = ⊥
+
+-- the table has a fault, which is told
+pub record IsBadTable (table : List ℕ) (answer : Status) : Type 0 where
+  pub fault : MachineError
+  pub comes : table_of table ≡ Err fault
+  pub told : answer ≡ answers.BadMachine fault.line fault.cause
+
+-- the table says a machine, and the answer is the one on it
+pub record IsJudgedBy (text table cl tape : List ℕ) (answer : Status) : Type 0 where
+  pub machine : Machine
+  pub comes : table_of table ≡ Ok machine
+  pub judgement : IsAnswerOn machine text cl tape answer
+
+-- the answer to the texts under PART, MACHINE, CL and TAPE: the table is judged first
+abbrev pub IsJudgement : List ℕ → List ℕ → List ℕ → List ℕ → Status → Type 0
+IsJudgement text table cl tape answer = IsBadTable table answer ⊎ IsJudgedBy text table cl tape answer

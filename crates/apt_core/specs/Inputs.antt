@@ -10,6 +10,9 @@ pub record Input : Type 0 where
   pub name : List ℕ
   pub limit : ℕ
 
+abbrev pub input : List ℕ → ℕ → Input
+input name limit = record { name = name; limit = limit }
+
 -- what it holds is read whole
 abbrev pub Reads : Option Contents → Input → List ℕ → Type 0
 Reads told x text = HoldsAt told x.name text × (length text ≤ x.limit)

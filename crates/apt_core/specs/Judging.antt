@@ -13,10 +13,15 @@ use Rattle.apt_post.specs.Plan.{plan}
 use Rattle.apt_report.specs.declared.status.Status.{Status}
 use Rattle.apt_report.specs.declared.status.Status.TheVariants as answers
 use Rattle.apt_report.specs.declared.status.Summary.TheVariants as summaries
-use Rattle.apt_core.specs.Certificates.{IsMiss, IsJudgement}
+use Rattle.apt_core.specs.Certificates.{IsMiss, IsAnswerOn, IsJudgement}
 
-abbrev pub IsJudged : Machine → List ℕ → List ℕ → List ℕ → Status → Type 0
-IsJudged machine text cl tape answer = IsJudgement machine text cl tape answer ⊎ (answer ≡ answers.NoMemory)
+-- on a machine
+abbrev pub IsJudgedOn : Machine → List ℕ → List ℕ → List ℕ → Status → Type 0
+IsJudgedOn machine text cl tape answer = IsAnswerOn machine text cl tape answer ⊎ (answer ≡ answers.NoMemory)
+
+-- with the text of a table
+abbrev pub IsJudged : List ℕ → List ℕ → List ℕ → List ℕ → Status → Type 0
+IsJudged text table cl tape answer = IsJudgement text table cl tape answer ⊎ (answer ≡ answers.NoMemory)
 
 -- the records answer the steps, every contour is legal, and the acts are the plan
 pub record IsGood (steps : List Step) (written : List Record) (acts : List Act) (v : Verdict) : Type 0 where

@@ -3,8 +3,9 @@ pub mod Request
 pub mod Outputs
 pub mod Delivery
 pub mod Inputs
-pub mod Unread
 pub mod Certificates
+pub mod Unread
 pub mod OutputOf
 pub mod Judging
+pub mod Decoding
 pub mod Promise

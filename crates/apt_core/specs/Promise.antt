@@ -1,11 +1,13 @@
 -- The promise of the top call: what a run answers, and what it does to what stands outside the program.
 use Rattle.std.specs.Prelude.{◌≡◌, ◌⊎◌, ℕ, ◌≤◌, List, [], ◌∷◌, length, Option, Some, None, Ok}
-use Rattle.std.specs.FinMap.{get, insert}
+use Rattle.std.specs.FinMap.{get}
 use Rattle.apt_shelf.specs.declared.shelf.Shelf as shelves
 use Rattle.apt_shelf.specs.declared.shelf.Sink as sinks
 use Rattle.apt_shelf.specs.Told.{Contents, Rose, Puts, PutsPrefix}
-use Rattle.apt_tapecode.specs.declared.Code.TheVariants.{Rs358}
+use Rattle.apt_control.specs.declared.Act.{Act}
+use Rattle.apt_control.specs.Control.{control_run}
 use Rattle.apt_machine.specs.declared.machine.Machine.{Machine}
+use Rattle.apt_machine.specs.Tables.{table_of}
 use Rattle.apt_report.specs.declared.status.Status.{Status}
 use Rattle.apt_report.specs.declared.status.Status.TheVariants as answers
 use Rattle.apt_report.specs.declared.status.Summary.{Summary}
@@ -14,15 +16,12 @@ use Rattle.apt_certify.specs.declared.verdict.Verdict.{Verdict}
 use Rattle.apt_report.specs.Lines.{line_of}
 use Rattle.apt_part.specs.Compilation.{Compiled, part_of}
 use Rattle.apt_part.specs.Promise.{Promise}
-use Rattle.apt_core.specs.Words.{FourNames, Ask, Compile, Certify}
-use Rattle.apt_core.specs.Outputs.{Output, output_of, part_limit, due}
+use Rattle.apt_core.specs.Words.{FourNames, TapeNames, Ask, Compile, Certify, Decode}
+use Rattle.apt_core.specs.Outputs.{Output, output_of, part_limit, machine_limit, Held, due}
 use Rattle.apt_core.specs.Delivery.{with_output, IsBegun}
-use Rattle.apt_core.specs.Inputs.{Input, IsFirstUnread, ReadsAll}
+use Rattle.apt_core.specs.Inputs.{Input, input, IsFirstUnread, ReadsAll}
 use Rattle.apt_core.specs.Certificates.{IsRight, IsJudgement}
-
--- the machine of each tape: RS-358, blocks numbered by one
-abbrev pub the_machine : Machine
-the_machine = record { code = Rs358; seq = 1; feedmax = 9999; spinmax = 9999; toolmax = 99 }
+use Rattle.apt_core.specs.Decoding.{decoding}
 
 -- ---- what stands outside
 
@@ -91,12 +90,17 @@ IsBeforeWriting answers.NoMemory = ⊥
 
 -- ---- the files behind `compile`
 
--- the names CL and TAPE hold the CL file and the tape of the part that was read: they are those of its records, right for it, and all that
--- `certify` asks of them holds; all other names hold what they held
-pub record IsCompiled (machine : Machine) (held : Option (List ℕ)) (cl tape : List ℕ) (before after : Contents) (summary : Summary) : Type 0 where
+-- the names CL and TAPE hold the CL file and the tape of the part that was read, for the machine of the table that was read: they are those of its
+-- records, right for it, and all that `certify` asks of them holds; all other names hold what they held
+pub record IsCompiled (held : Held) (cl tape : List ℕ) (before after : Contents) (summary : Summary) : Type 0 where
   pub text : List ℕ
-  pub read : held ≡ Some text
+  pub read : held.part ≡ Some text
   pub short : length text ≤ part_limit
+  pub machine_text : List ℕ
+  pub machine_read : held.machine ≡ Some machine_text
+  pub machine_short : length machine_text ≤ machine_limit
+  pub machine : Machine
+  pub table : table_of machine_text ≡ Ok machine
   pub part : Compiled
   pub comes : part_of machine text ≡ Ok (Ok part)
   pub promise : Promise machine text part
@@ -111,33 +115,35 @@ abbrev pub MayBeBegun : Option Output → List ℕ → List ℕ → Contents →
 MayBeBegun due_output cl tape before after = (after ≡ before) ⊎ ((o : Output) × (due_output ≡ Some o) × IsBegun cl tape o before after)
 
 -- by what is told
-abbrev pub LeavesFiles : Machine → FourNames → Option (List ℕ) → Contents → Contents → Status → Type 0
-LeavesFiles machine n held before after (answers.Done summary) = IsCompiled machine held n.cl n.tape before after summary
-LeavesFiles machine n held before after answers.Usage = after ≡ before
-LeavesFiles machine n held before after (answers.Missing name) = after ≡ before
-LeavesFiles machine n held before after answers.ReadFault = after ≡ before
-LeavesFiles machine n held before after (answers.TooLong name) = after ≡ before
-LeavesFiles machine n held before after (answers.BadMachine line cause) = after ≡ before
-LeavesFiles machine n held before after (answers.BadPart line cause) = after ≡ before
-LeavesFiles machine n held before after (answers.Refused line step case) = after ≡ before
-LeavesFiles machine n held before after (answers.BadCl at cause) = after ≡ before
-LeavesFiles machine n held before after (answers.BadTape at cause) = after ≡ before
-LeavesFiles machine n held before after (answers.NotCertified miss) = after ≡ before
-LeavesFiles machine n held before after answers.WriteFault = MayBeBegun (due machine n.part held).output n.cl n.tape before after
-LeavesFiles machine n held before after answers.NoMemory = MayBeBegun (due machine n.part held).output n.cl n.tape before after
+abbrev pub LeavesFiles : FourNames → Held → Contents → Contents → Status → Type 0
+LeavesFiles n held before after (answers.Done summary) = IsCompiled held n.cl n.tape before after summary
+LeavesFiles n held before after answers.Usage = after ≡ before
+LeavesFiles n held before after (answers.Missing name) = after ≡ before
+LeavesFiles n held before after answers.ReadFault = after ≡ before
+LeavesFiles n held before after (answers.TooLong name) = after ≡ before
+LeavesFiles n held before after (answers.BadMachine line cause) = after ≡ before
+LeavesFiles n held before after (answers.BadPart line cause) = after ≡ before
+LeavesFiles n held before after (answers.Refused line step case) = after ≡ before
+LeavesFiles n held before after (answers.BadCl at cause) = after ≡ before
+LeavesFiles n held before after (answers.BadTape at cause) = after ≡ before
+LeavesFiles n held before after (answers.NotCertified miss) = after ≡ before
+LeavesFiles n held before after answers.WriteFault = MayBeBegun (due n held).output n.cl n.tape before after
+LeavesFiles n held before after answers.NoMemory = MayBeBegun (due n held).output n.cl n.tape before after
 
 -- told files stay told
-abbrev pub Leaves : Machine → FourNames → Option (List ℕ) → Option Contents → Option Contents → Status → Type 0
-Leaves machine n held None after told = Unit {0}
-Leaves machine n held (Some before) None told = ⊥
-Leaves machine n held (Some before) (Some after) told = LeavesFiles machine n held before after told
+abbrev pub Leaves : FourNames → Held → Option Contents → Option Contents → Status → Type 0
+Leaves n held None after told = Unit {0}
+Leaves n held (Some before) None told = ⊥
+Leaves n held (Some before) (Some after) told = LeavesFiles n held before after told
 
--- the work of `compile`: what the name PART holds, the answer to it, and what it leaves. Where the answer comes before the writing, no write is begun
-pub record Compiles (machine : Machine) (n : FourNames) (before after : Files) (told : Status) : Type 0 where
-  pub held : Option (List ℕ)
-  pub holds : Holds before.told n.part before.read_faults after.read_faults held
-  pub tells : Tells (due machine n.part held).answer before after told
-  pub leaves : Leaves machine n held before.told after.told told
+-- the work of `compile`: what the names PART and MACHINE hold, the answer to it, and what it leaves. Where the answer comes before the writing, no write
+-- is begun
+pub record Compiles (n : FourNames) (before after : Files) (told : Status) : Type 0 where
+  pub held : Held
+  pub holds_part : Holds before.told n.part before.read_faults after.read_faults held.part
+  pub holds_machine : Holds before.told n.machine before.read_faults after.read_faults held.machine
+  pub tells : Tells (due n held).answer before after told
+  pub leaves : Leaves n held before.told after.told told
   pub writing : IsBeforeWriting told → after.writing ≡ before.writing
   pub unfailed : IsBeforeWriting told → after.write_faults ≡ before.write_faults
   pub reads_later : before.read_faults ≤ after.read_faults
@@ -151,23 +157,23 @@ file_limit = 67108864
 
 -- the files that are read, in order
 abbrev pub inputs : FourNames → List Input
-inputs n =
-    record { name = n.part; limit = part_limit } ∷ record { name = n.cl; limit = file_limit } ∷ record { name = n.tape; limit = file_limit } ∷ []
+inputs n = input n.part part_limit ∷ input n.machine machine_limit ∷ input n.cl file_limit ∷ input n.tape file_limit ∷ []
 
--- the three texts, and the answer to them
-pub record Judges (machine : Machine) (n : FourNames) (told : Option Contents) (answer : Status) : Type 0 where
+-- the four texts, and the answer to them
+pub record Judges (n : FourNames) (told : Option Contents) (answer : Status) : Type 0 where
   pub text : List ℕ
+  pub table : List ℕ
   pub cl : List ℕ
   pub tape : List ℕ
-  pub reads : ReadsAll told (inputs n) (text ∷ cl ∷ tape ∷ [])
-  pub judgement : IsJudgement machine text cl tape answer
+  pub reads : ReadsAll told (inputs n) (text ∷ table ∷ cl ∷ tape ∷ [])
+  pub judgement : IsJudgement text table cl tape answer
 
 -- the work of `certify`: the first file that can't be read, or the answer to what they hold, or that reading failed, or that memory ran out. Nothing is
 -- written
-pub record Certifies (machine : Machine) (n : FourNames) (before after : Files) (told : Status) : Type 0 where
+pub record Certifies (n : FourNames) (before after : Files) (told : Status) : Type 0 where
   pub tells :
       IsFirstUnread before.told (inputs n) before.read_faults after.read_faults told
-      ⊎ (Judges machine n before.told told
+      ⊎ (Judges n before.told told
       ⊎ (((told ≡ answers.ReadFault) × Rose before.read_faults after.read_faults)
       ⊎ (told ≡ answers.NoMemory)))
   pub files : after.told ≡ before.told
@@ -175,34 +181,63 @@ pub record Certifies (machine : Machine) (n : FourNames) (before after : Files) 
   pub unfailed : after.write_faults ≡ before.write_faults
   pub reads_later : before.read_faults ≤ after.read_faults
 
+-- ---- `decode`
+
+abbrev pub tape_inputs : TapeNames → List Input
+tape_inputs n = input n.machine machine_limit ∷ input n.tape file_limit ∷ []
+
+-- the two texts, the answer to them, and the text that is put for it
+pub record Runs (n : TapeNames) (files : Option Contents) (told : Status) (text : List ℕ) : Type 0 where
+  pub table : List ℕ
+  pub tape : List ℕ
+  pub reads : ReadsAll files (tape_inputs n) (table ∷ tape ∷ [])
+  pub answer : told ≡ (decoding table tape).answer
+  pub put : text ≡ (decoding table tape).text
+
+-- the work of `decode`: what the tape is decoded to; or, with its line, the first file that can't be read, or that reading failed, or that memory ran
+-- out. Nothing is written
+pub record Decodes (n : TapeNames) (before after : Files) (told : Status) (text : List ℕ) : Type 0 where
+  pub tells :
+      Runs n before.told told text
+      ⊎ ((text ≡ line_of told)
+      × (IsFirstUnread before.told (tape_inputs n) before.read_faults after.read_faults told
+      ⊎ (((told ≡ answers.ReadFault) × Rose before.read_faults after.read_faults)
+      ⊎ (told ≡ answers.NoMemory))))
+  pub files : after.told ≡ before.told
+  pub writing : after.writing ≡ before.writing
+  pub unfailed : after.write_faults ≡ before.write_faults
+  pub reads_later : before.read_faults ≤ after.read_faults
+
 -- ---- a run
 
--- the work that is asked for, none where the words fit no shape
-abbrev pub Works : Machine → Option Ask → Files → Files → Status → Type 0
-Works machine None before after told = (told ≡ answers.Usage) × (after ≡ before)
-Works machine (Some (Compile n)) before after told = Compiles machine n before after told
-Works machine (Some (Certify n)) before after told = Certifies machine n before after told
+-- the work that is asked for, none where the words fit no shape; it comes to what is told, and to the text that is put for it
+abbrev pub Works : Option Ask → Files → Files → Status → List ℕ → Type 0
+Works None before after told text = (text ≡ line_of told) × (told ≡ answers.Usage) × (after ≡ before)
+Works (Some (Compile n)) before after told text = (text ≡ line_of told) × Compiles n before after told
+Works (Some (Certify n)) before after told text = (text ≡ line_of told) × Certifies n before after told
+Works (Some (Decode n)) before after told text = Decodes n before after told text
 
--- the line was cut short: putting failed, or memory ran out
+-- the text was cut short: putting failed, or memory ran out
 abbrev pub IsCut : Lines → Lines → Status → Type 0
 IsCut before after answer = ((answer ≡ answers.WriteFault) × Rose before.put_faults after.put_faults) ⊎ (answer ≡ answers.NoMemory)
 
--- all of the line of what is told stands behind what was shown, or a front part of it where it was cut short
-abbrev pub Shows : Status → Lines → Lines → Status → Type 0
-Shows told before after answer =
-    ((answer ≡ told) × Puts (line_of told) before.shown after.shown)
-    ⊎ (IsCut before after answer × PutsPrefix (line_of told) before.shown after.shown)
+-- all of the text stands behind what was shown, or a front part of it where it was cut short
+abbrev pub Shows : Status → List ℕ → Lines → Lines → Status → Type 0
+Shows told text before after answer =
+    ((answer ≡ told) × Puts text before.shown after.shown)
+    ⊎ (IsCut before after answer × PutsPrefix text before.shown after.shown)
 
--- the putting of the line of what is told
-pub record IsPut (told : Status) (before after : Lines) (answer : Status) : Type 0 where
-  pub shows : Shows told before after answer
+-- the putting of the text
+pub record IsPut (told : Status) (text : List ℕ) (before after : Lines) (answer : Status) : Type 0 where
+  pub shows : Shows told text before after answer
   pub later : before.put_faults ≤ after.put_faults
 
--- first all work is done, which comes to what is told, and then its line is put
-pub record IsRun (machine : Machine) (ask : Option Ask) (before after : Outside) (answer : Status) : Type 0 where
+-- first all work is done, which comes to what is told and to its text, and then the text is put
+pub record IsRun (ask : Option Ask) (before after : Outside) (answer : Status) : Type 0 where
   pub told : Status
-  pub works : Works machine ask before.files after.files told
-  pub puts : IsPut told before.lines after.lines answer
+  pub text : List ℕ
+  pub works : Works ask before.files after.files told text
+  pub puts : IsPut told text before.lines after.lines answer
 
 -- ---- completeness
 
@@ -212,16 +247,20 @@ pub record NoneRose (before after : Outside) : Type 0 where
   pub writing : ¬ (Rose before.files.write_faults after.files.write_faults)
   pub putting : ¬ (Rose before.lines.put_faults after.lines.put_faults)
 
--- a part without fault, of which no step is refused, is compiled; a CL file and a tape that are right for their part are certified
-abbrev pub CompletesIn : Machine → Ask → Contents → Status → Type 0
-CompletesIn machine (Compile n) m answer =
-    (text : List ℕ) (p : Compiled) → get m n.part ≡ Some text → length text ≤ part_limit → part_of machine text ≡ Ok (Ok p)
-    → (answer ≡ answers.Done (output_of machine p.records).summary) ⊎ (answer ≡ answers.NoMemory)
-CompletesIn machine (Certify n) m answer =
-    (text cl tape : List ℕ) → ReadsAll (Some m) (inputs n) (text ∷ cl ∷ tape ∷ []) → IsRight machine text cl tape
+-- for the machine of a table: a part without fault, of which no step is refused, is compiled; a CL file and a tape that are right for their part are
+-- certified; a tape that a control runs is decoded
+abbrev pub CompletesIn : Ask → Contents → Status → Type 0
+CompletesIn (Compile n) m answer =
+    (text table : List ℕ) (machine : Machine) (p : Compiled) → get m n.part ≡ Some text → length text ≤ part_limit → get m n.machine ≡ Some table → length table ≤ machine_limit
+    → table_of table ≡ Ok machine → part_of machine text ≡ Ok (Ok p) → (answer ≡ answers.Done (output_of machine p.records).summary) ⊎ (answer ≡ answers.NoMemory)
+CompletesIn (Certify n) m answer =
+    (text table cl tape : List ℕ) (machine : Machine) → ReadsAll (Some m) (inputs n) (text ∷ table ∷ cl ∷ tape ∷ []) → table_of table ≡ Ok machine → IsRight machine text cl tape
     → ((verdict : Verdict) × (answer ≡ answers.Done (summaries.Certified verdict))) ⊎ (answer ≡ answers.NoMemory)
+CompletesIn (Decode n) m answer =
+    (table tape : List ℕ) (machine : Machine) (acts : List Act) → ReadsAll (Some m) (tape_inputs n) (table ∷ tape ∷ []) → table_of table ≡ Ok machine
+    → control_run machine.code tape ≡ Ok acts → (answer ≡ answers.Done (summaries.Decoded (length acts))) ⊎ (answer ≡ answers.NoMemory)
 
 -- where no count rose, or memory ran out
-abbrev pub Completes : Machine → Option Ask → Outside → Outside → Status → Type 0
-Completes machine None before after answer = Unit {0}
-Completes machine (Some ask) before after answer = (m : Contents) → before.files.told ≡ Some m → NoneRose before after → CompletesIn machine ask m answer
+abbrev pub Completes : Option Ask → Outside → Outside → Status → Type 0
+Completes None before after answer = Unit {0}
+Completes (Some ask) before after answer = (m : Contents) → before.files.told ≡ Some m → NoneRose before after → CompletesIn ask m answer

@@ -1,18 +1,24 @@
 -- What a request of the code asks.
 use Rattle.std.specs.Prelude.{◌≢◌}
 use Rattle.apt_core.specs.declared.words.Names.{Names}
+use Rattle.apt_core.specs.declared.words.TapeNames.{TapeNames as TapeWords}
 use Rattle.apt_core.specs.declared.words.Request.{Request}
 use Rattle.apt_core.specs.declared.words.Request.TheVariants as requests
-use Rattle.apt_core.specs.Words.{FourNames, names_of, Ask, Compile, Certify}
+use Rattle.apt_core.specs.Words.{FourNames, names_of, TapeNames, tape_names_of, Ask, Compile, Certify, Decode}
 
 abbrev pub four_names : Names → FourNames
 four_names n = names_of n.part.now n.machine.now n.cl.now n.tape.now
 
+abbrev pub tape_names : TapeWords → TapeNames
+tape_names n = tape_names_of n.machine.now n.tape.now
+
 abbrev pub ask_of : Request → Ask
 ask_of (requests.Compile n) = Compile (four_names n)
 ask_of (requests.Certify n) = Certify (four_names n)
+ask_of (requests.Decode n) = Decode (tape_names n)
 
 -- the two outputs of `compile` have names of their own
 abbrev pub IsApart : Request → Type 0
 IsApart (requests.Compile n) = n.cl.now ≢ n.tape.now
 IsApart (requests.Certify n) = Unit {0}
+IsApart (requests.Decode n) = Unit {0}

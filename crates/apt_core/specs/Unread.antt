@@ -1,4 +1,4 @@
--- The answers where a file was not read, or where its text comes to no part.
+-- The answers where a file was not read, or where its text comes to no machine or to no part.
 use Rattle.std.specs.Prelude.{◌≡◌, ◌⊎◌, ℕ, List, Option, Ok, Err}
 use Rattle.apt_shelf.specs.Told.{Contents, Rose}
 use Rattle.apt_shelf.specs.declared.files.ReadError.{ReadError}
@@ -6,8 +6,10 @@ use Rattle.apt_shelf.specs.declared.files.ReadError.TheVariants as errors
 use Rattle.apt_report.specs.declared.status.Status.{Status}
 use Rattle.apt_report.specs.declared.status.Status.TheVariants as answers
 use Rattle.apt_machine.specs.declared.machine.Machine.{Machine}
+use Rattle.apt_machine.specs.Tables.{table_of}
 use Rattle.apt_part.specs.Compilation.{part_of}
 use Rattle.apt_core.specs.Inputs.{Input, IsUnread}
+use Rattle.apt_core.specs.Certificates.{IsBadTable}
 
 -- an answer that holds a name may want memory
 abbrev pub IsUnreadFor : ReadError → List ℕ → Status → Type 0
@@ -36,3 +38,7 @@ HasNoPart machine text (answers.BadCl at cause) = ⊥
 HasNoPart machine text (answers.BadTape at cause) = ⊥
 HasNoPart machine text (answers.NotCertified miss) = ⊥
 HasNoPart machine text answers.WriteFault = ⊥
+
+-- the table has a fault, or the text comes to no part on its machine
+abbrev pub HasNoOutput : List ℕ → List ℕ → Status → Type 0
+HasNoOutput text table answer = IsBadTable table answer ⊎ ((machine : Machine) × (table_of table ≡ Ok machine) × HasNoPart machine text answer)

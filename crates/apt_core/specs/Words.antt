@@ -15,10 +15,19 @@ pub record FourNames : Type 0 where
 abbrev pub names_of : List ℕ → List ℕ → List ℕ → List ℕ → FourNames
 names_of part machine cl tape = record { part = part; machine = machine; cl = cl; tape = tape }
 
--- to compile a part for a machine, to a CL file and a tape; or to certify a CL file and a tape against them
+-- the names MACHINE and TAPE
+pub record TapeNames : Type 0 where
+  pub machine : List ℕ
+  pub tape : List ℕ
+
+abbrev pub tape_names_of : List ℕ → List ℕ → TapeNames
+tape_names_of machine tape = record { machine = machine; tape = tape }
+
+-- to compile a part for a machine, to a CL file and a tape; to certify a CL file and a tape against them; or to decode a tape of the machine
 pub data Ask : Type 0 where
   Compile : FourNames → Ask
   Certify : FourNames → Ask
+  Decode : TapeNames → Ask
 
 -- a name has at least one byte
 abbrev pub is_name : List ℕ → Bool
@@ -43,7 +52,14 @@ certify_ask n = if are_names n then Some (Certify n) else None
 abbrev pub command_ask : List ℕ → FourNames → Option Ask
 command_ask word n = if bytes_eq word (codes "compile") then compile_ask n else if bytes_eq word (codes "certify") then certify_ask n else None
 
+abbrev pub are_tape_names : TapeNames → Bool
+are_tape_names n = is_name n.machine && is_name n.tape
+
+abbrev pub decode_ask : List ℕ → TapeNames → Option Ask
+decode_ask word n = if bytes_eq word (codes "decode") && are_tape_names n then Some (Decode n) else None
+
 -- what the words ask, by their shapes
 abbrev pub asked : List (List ℕ) → Option Ask
 asked (word ∷ part ∷ machine ∷ cl ∷ tape ∷ []) = command_ask word (names_of part machine cl tape)
+asked (word ∷ machine ∷ tape ∷ []) = decode_ask word (tape_names_of machine tape)
 asked _ = None

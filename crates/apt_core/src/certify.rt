@@ -9,11 +9,12 @@ ghost use Rattle.apt_machine.specs.Machines.{IsMachine};
 ghost use Rattle.apt_core.specs.Request.{four_names};
 ghost use Rattle.apt_control.specs.declared.Act.{Act};
 ghost use Rattle.apt_core.specs.Certificates.{DifferAt, HeadsDiffer};
-ghost use Rattle.apt_core.specs.Judging.{IsJudged, IsVerdictOn};
+ghost use Rattle.apt_core.specs.Judging.{IsJudged, IsJudgedOn, IsVerdictOn};
 ghost use Rattle.apt_core.specs.Promise.{Certifies, files_on};
 
+use crate::machine::machine_of;
 use crate::part::part_on;
-use crate::reading::{FILE_LIMIT, PART_LIMIT, read_input};
+use crate::reading::{FILE_LIMIT, MACHINE_LIMIT, PART_LIMIT, read_input};
 use crate::words::Names;
 use apt_certify::check_jobs;
 use apt_cldata::{ClError, Record, read};
@@ -26,18 +27,16 @@ use apt_report::{Miss, Status, Summary};
 use apt_shelf::Shelf;
 use std::alloc::Global;
 
-/// Reads the part, the CL file and the tape, and judges the two against the part.
-pub(crate) fn certify<H: Shelf>(
-    alloc: Global,
-    shelf: &mut H,
-    machine: &Machine,
-    names: Names<'_>,
-) -> Status
-    requires { IsMachine machine.now }
-    ensures { Certifies machine.now (four_names names.entry) (files_on H.Shelf shelf.old) (files_on H.Shelf shelf.new) result }
+/// Reads the part, the machine table, the CL file and the tape, and judges the last two against the part.
+pub(crate) fn certify<H: Shelf>(alloc: Global, shelf: &mut H, names: Names<'_>) -> Status
+    ensures { Certifies (four_names names.entry) (files_on H.Shelf shelf.old) (files_on H.Shelf shelf.new) result }
 {
     let text = match read_input(alloc, shelf, names.part, PART_LIMIT) {
         Ok(text) => text,
+        Err(status) => return status,
+    };
+    let table = match read_input(alloc, shelf, names.machine, MACHINE_LIMIT) {
+        Ok(table) => table,
         Err(status) => return status,
     };
     let cl = match read_input(alloc, shelf, names.cl, FILE_LIMIT) {
@@ -48,14 +47,27 @@ pub(crate) fn certify<H: Shelf>(
         Ok(tape) => tape,
         Err(status) => return status,
     };
-    judged(alloc, machine, &text, &cl, &tape)
+    judged_by(alloc, &text, &table, &cl, &tape)
 }
 
-/// The answer to a part, a CL file and a tape.
+/// The answer to a part, a machine table, a CL file and a tape.
+#[tactic(auto, using(crate::proofs::Judging::table_judged, crate::proofs::Judging::judged_by))]
+fn judged_by(alloc: Global, text: &[u8], table: &[u8], cl: &[u8], tape: &[u8]) -> Status
+    requires table { length table.now ≤ 65536 }
+    requires short { length cl.now ≤ 67108864 }
+    ensures { IsJudged text.now table.now cl.now tape.now result }
+{
+    match machine_of(table) {
+        Ok(machine) => judged(alloc, &machine, text, cl, tape),
+        Err(status) => status,
+    }
+}
+
+/// The answer on a machine to a part, a CL file and a tape.
 fn judged(alloc: Global, machine: &Machine, text: &[u8], cl: &[u8], tape: &[u8]) -> Status
     requires machine { IsMachine machine.now }
     requires short { length cl.now ≤ 67108864 }
-    ensures { IsJudged machine.now text.now cl.now tape.now result }
+    ensures { IsJudgedOn machine.now text.now cl.now tape.now result }
 {
     let part = match part_on(alloc, text, machine) {
         Ok(part) => part,

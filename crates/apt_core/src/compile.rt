@@ -1,6 +1,6 @@
 //! The command `compile`.
 
-ghost use Rattle.std.specs.Prelude.{◌≡◌, ◌≢◌, ◌≤◌, IfOk, IfErr, Ok};
+ghost use Rattle.std.specs.Prelude.{◌≡◌, ◌≢◌, ◌≤◌, length, IfOk, IfErr, Ok};
 ghost use Rattle.apt_shelf.specs.Told.{Rose};
 ghost use Rattle.apt_cldata.specs.Files.{IsFile};
 ghost use Rattle.apt_cldata.specs.Reading.{read_of};
@@ -10,13 +10,14 @@ ghost use Rattle.apt_post.specs.Plan as plans;
 ghost use Rattle.apt_post.specs.Blocks.{IsProgram};
 ghost use Rattle.apt_core.specs.Request.{four_names};
 ghost use Rattle.apt_core.specs.Outputs as outputs;
-ghost use Rattle.apt_core.specs.Unread.{HasNoPart};
+ghost use Rattle.apt_core.specs.Unread.{HasNoPart, HasNoOutput};
 ghost use Rattle.apt_core.specs.Delivery.{IsDelivered};
-ghost use Rattle.apt_core.specs.OutputOf.{IsOutput};
+ghost use Rattle.apt_core.specs.OutputOf.{IsOutput, IsOutputBy};
 ghost use Rattle.apt_core.specs.Promise.{Compiles, files_on};
 
+use crate::machine::machine_of;
 use crate::part::part_on;
-use crate::reading::{PART_LIMIT, read_input};
+use crate::reading::{MACHINE_LIMIT, PART_LIMIT, read_input};
 use crate::words::Names;
 use apt_cldata::write;
 use apt_machine::Machine;
@@ -43,24 +44,34 @@ impl Model for Output {
     ghost view = { λ o. record { cl = o.cl.items; tape = o.tape.items; summary = o.summary } };
 }
 
-/// Reads the part, and writes its CL file and then its tape.
-pub(crate) fn compile<H: Shelf>(
-    alloc: Global,
-    shelf: &mut H,
-    machine: &Machine,
-    names: Names<'_>,
-) -> Status
-    requires machine { IsMachine machine.now }
+/// Reads the part and the machine table, and writes the part's CL file and then its tape.
+pub(crate) fn compile<H: Shelf>(alloc: Global, shelf: &mut H, names: Names<'_>) -> Status
     requires apart { names.cl.now ≢ names.tape.now }
-    ensures { Compiles machine.now (four_names names.entry) (files_on H.Shelf shelf.old) (files_on H.Shelf shelf.new) result }
+    ensures { Compiles (four_names names.entry) (files_on H.Shelf shelf.old) (files_on H.Shelf shelf.new) result }
 {
     let text = match read_input(alloc, shelf, names.part, PART_LIMIT) {
         Ok(text) => text,
         Err(status) => return status,
     };
-    match output_on(alloc, &text, machine) {
+    let table = match read_input(alloc, shelf, names.machine, MACHINE_LIMIT) {
+        Ok(table) => table,
+        Err(status) => return status,
+    };
+    match output_by(alloc, &text, &table) {
         Ok(output) => deliver(shelf, &output, names.cl, names.tape),
         Err(status) => status,
+    }
+}
+
+/// What a text is compiled to for the machine of a table, or the answer where it comes to none.
+fn output_by(alloc: Global, text: &[u8], table: &[u8]) -> Result<Output, Status>
+    requires short { length table.now ≤ 65536 }
+    ensures output { IfOk result (λ o. IsOutputBy text.now table.now o) }
+    ensures none { IfErr result (λ s. HasNoOutput text.now table.now s) }
+{
+    match machine_of(table) {
+        Ok(machine) => output_on(alloc, text, &machine),
+        Err(status) => Err(status),
     }
 }
 

@@ -1,38 +1,47 @@
 //! The top call: the words of a command line over a shelf of files and a sink of lines.
 #![tactic(auto)]
 
-ghost use Rattle.std.specs.Prelude.{◌≡◌, None};
+ghost use Rattle.std.specs.Prelude.{◌≡◌, Some, None};
 ghost use Rattle.apt_core.specs.Words.{asked, texts};
-ghost use Rattle.apt_core.specs.Promise.{IsRun, Completes, Works, the_machine, files_on, outside};
+ghost use Rattle.apt_core.specs.Request.{ask_of, IsApart};
+ghost use Rattle.apt_core.specs.Promise.{IsRun, Completes, Works, files_on, outside};
 
 mod certify;
 mod compile;
+mod decode;
+mod machine;
 mod part;
 mod put;
 mod reading;
 mod words;
 
-use apt_machine::Machine;
 pub use apt_report::{
-    Bad, ClCause, FileName, Miss, PartCause, Reason, Status, Summary, TapeCause, Verdict,
+    Bad, ClCause, FileName, MachineCause, Miss, PartCause, Reason, Status, Summary, TapeCause,
+    Verdict,
 };
 use apt_shelf::{Shelf, Sink};
 use certify::certify;
 use compile::compile;
-use put::tell;
+use decode::decode;
+use put::{Reply, tell};
 use std::alloc::Global;
 use std::thread::Threads;
 use words::{Request, request_of};
 
-/// Does what the words ask, and puts the answer's line.
+/// Does what the words ask, and puts the answer's line, or the lines of a tape's acts.
 ///
-/// `compile PART MACHINE CL TAPE` reads a part under the name PART (at most 4 MiB), writes its CL file under the
-/// name CL, and then its tape, in RS-358 with blocks numbered by one, under the name TAPE.
+/// `compile PART MACHINE CL TAPE` reads a part under the name PART (at most 4 MiB) and a machine table under the name
+/// MACHINE (at most 65,536 bytes), writes the part's CL file under the name CL, and then its tape for this machine
+/// under the name TAPE.
 ///
-/// `certify PART MACHINE CL TAPE` reads a part, a CL file and a tape (at most 64 MiB each), and answers whether the
-/// CL file and the tape are right for the part. It writes nothing.
+/// `certify PART MACHINE CL TAPE` reads a part, a machine table, a CL file and a tape (the last two at most 64 MiB
+/// each), in this order, and answers whether the CL file and the tape are right for the part on this machine. It
+/// writes nothing.
 ///
-/// Nothing is read or written under the name MACHINE.
+/// `decode MACHINE TAPE` reads a machine table and a tape, and puts a line for each act to which a control of this
+/// machine runs the tape, and no other line. It writes nothing.
+///
+/// A table is judged when all that is read has been read, and before the part.
 #[tactic(auto, using(crate::proofs::Running::run_is, crate::proofs::Running::usage_asked, crate::proofs::Running::completes))]
 pub fn apt<H: Shelf, K: Sink>(
     rt: &(impl Threads + Sync),
@@ -41,25 +50,34 @@ pub fn apt<H: Shelf, K: Sink>(
     shelf: &mut H,
     out: &mut K,
 ) -> Status
-    ensures runs { IsRun the_machine (asked (texts words.now)) (outside H.Shelf K.Sink shelf.old out.old) (outside H.Shelf K.Sink shelf.new out.new) result }
+    ensures runs { IsRun (asked (texts words.now)) (outside H.Shelf K.Sink shelf.old out.old) (outside H.Shelf K.Sink shelf.new out.new) result }
     ensures usage { result ≡ Status.Usage → asked (texts words.now) ≡ None }
     ensures untouched { asked (texts words.now) ≡ None → shelf.new ≡ shelf.old }
-    ensures complete { Completes the_machine (asked (texts words.now)) (outside H.Shelf K.Sink shelf.old out.old) (outside H.Shelf K.Sink shelf.new out.new) result }
+    ensures complete { Completes (asked (texts words.now)) (outside H.Shelf K.Sink shelf.old out.old) (outside H.Shelf K.Sink shelf.new out.new) result }
 {
-    let status = answer(alloc, words, shelf);
-    tell(alloc, out, status)
+    let reply = answer(alloc, words, shelf);
+    tell(alloc, out, reply)
 }
 
 /// The answer to the words.
-fn answer<H: Shelf>(alloc: Global, words: &[String], shelf: &mut H) -> Status
-    ensures works { Works the_machine (asked (texts words.now)) (files_on H.Shelf shelf.old) (files_on H.Shelf shelf.new) result }
+fn answer<H: Shelf>(alloc: Global, words: &[String], shelf: &mut H) -> Reply
+    ensures works { Works (asked (texts words.now)) (files_on H.Shelf shelf.old) (files_on H.Shelf shelf.new) result.answer result.text }
     ensures untouched { asked (texts words.now) ≡ None → shelf.new ≡ shelf.old }
 {
-    let Some(request) = request_of(words) else {
-        return Status::Usage;
-    };
+    match request_of(words) {
+        Some(request) => answer_to(alloc, request, shelf),
+        None => Reply::lined(Status::Usage),
+    }
+}
+
+/// The answer to a request.
+fn answer_to<H: Shelf>(alloc: Global, request: Request<'_>, shelf: &mut H) -> Reply
+    requires { IsApart request }
+    ensures { Works (Some (ask_of request.entry)) (files_on H.Shelf shelf.old) (files_on H.Shelf shelf.new) result.answer result.text }
+{
     match request {
-        Request::Compile(names) => compile(alloc, shelf, &Machine::largest(), names),
-        Request::Certify(names) => certify(alloc, shelf, &Machine::largest(), names),
+        Request::Compile(names) => Reply::lined(compile(alloc, shelf, names)),
+        Request::Certify(names) => Reply::lined(certify(alloc, shelf, names)),
+        Request::Decode(names) => decode(alloc, shelf, names),
     }
 }

@@ -11,6 +11,9 @@ use std::alloc::{AllocError, Global};
 /// The longest part program, in bytes.
 pub(crate) const PART_LIMIT: usize = 4_194_304;
 
+/// The longest machine table, in bytes.
+pub(crate) const MACHINE_LIMIT: usize = 65_536;
+
 /// The longest CL file and the longest tape, in bytes.
 pub(crate) const FILE_LIMIT: usize = 67_108_864;
 

@@ -3,7 +3,7 @@
 ghost use Rattle.std.specs.Prelude.{◌≡◌, option_map, IfSome};
 ghost use Rattle.apt_core.specs.Words as words;
 ghost use Rattle.apt_core.specs.Words.{asked, texts};
-ghost use Rattle.apt_core.specs.Request.{ask_of, four_names, IsApart};
+ghost use Rattle.apt_core.specs.Request.{ask_of, four_names, tape_names, IsApart};
 
 /// The names PART, MACHINE, CL and TAPE.
 #[derive(Clone, Copy)]
@@ -14,11 +14,19 @@ pub(crate) struct Names<'a> {
     pub tape: &'a str,
 }
 
+/// The names MACHINE and TAPE.
+#[derive(Clone, Copy)]
+pub(crate) struct TapeNames<'a> {
+    pub machine: &'a str,
+    pub tape: &'a str,
+}
+
 /// A command with its names.
 #[derive(Clone, Copy)]
 pub(crate) enum Request<'a> {
     Compile(Names<'a>),
     Certify(Names<'a>),
+    Decode(TapeNames<'a>),
 }
 
 /// The command that the words ask for.
@@ -36,6 +44,7 @@ pub(crate) fn request_of<'a>(words: &'a [String]) -> Option<Request<'a>>
                 tape,
             },
         ),
+        [word, machine, tape] => decode_request(word, TapeNames { machine, tape }),
         _ => None,
     }
 }
@@ -76,10 +85,27 @@ fn certify_request<'a>(names: Names<'a>) -> Option<Request<'a>>
     }
 }
 
+fn decode_request<'a>(word: &str, names: TapeNames<'a>) -> Option<Request<'a>>
+    ensures ask { option_map ask_of result ≡ words.decode_ask word.now (tape_names names.entry) }
+    ensures apart { IfSome result IsApart }
+{
+    if word == "decode" && are_tape_names(&names) {
+        Some(Request::Decode(names))
+    } else {
+        None
+    }
+}
+
 fn are_names(n: &Names<'_>) -> bool
     ensures { result ≡ words.are_names (four_names n.now) }
 {
     !n.part.is_empty() && !n.machine.is_empty() && !n.cl.is_empty() && !n.tape.is_empty()
+}
+
+fn are_tape_names(n: &TapeNames<'_>) -> bool
+    ensures { result ≡ words.are_tape_names (tape_names n.now) }
+{
+    !n.machine.is_empty() && !n.tape.is_empty()
 }
 
 fn are_apart(n: &Names<'_>) -> bool

@@ -5,10 +5,10 @@ use crate::run::{
 };
 use std::test::Fail;
 
-const EMPTY: &str = "PARTNO\nFINI\n";
+pub const EMPTY: &str = "PARTNO\nFINI\n";
 
 /// The first file: PARTNO on line 1 and FINI on line 2.
-const EMPTY_CL: [u8; 152] = [
+pub const EMPTY_CL: [u8; 152] = [
     0x41, 0x50, 0x54, 0x43, 0x4c, 0x20, 0x31, 0x0a, // 0: head
     0x00, 0x00, 0x00, 0x28, // 8: 40 bytes
     0x00, 0x00, 0x00, 0x00, 0x00, 0x00, 0x00, 0x01, // 12: record 1

@@ -47,10 +47,13 @@ const LONG_LINE: &str = "DONE 208 RECORDS 102 ACTS 0 SEGMENTS\n";
 
 /// The call that fails, the status number, what is shown, and how many bytes of the CL file and of the tape are
 /// written, none where the old one stands.
-const FAILS: [(Kind, u64, u8, &str, usize, usize); 14] = [
+const FAILS: [(Kind, u64, u8, &str, usize, usize); 17] = [
     (Kind::ReadStart, 1, 3, "", 0, 0),
+    (Kind::ReadStart, 2, 3, "", 0, 0),
     (Kind::Read, 1, 3, "", 0, 0),
     (Kind::Read, 2, 3, "", 0, 0),
+    (Kind::Read, 3, 3, "", 0, 0),
+    (Kind::Read, 4, 3, "", 0, 0),
     (Kind::WriteStart, 1, 11, "", 0, 0),
     // a failing append keeps half of its piece, and nothing is shown
     (Kind::Append, 1, 11, "", 2048, 0),

@@ -16,6 +16,8 @@ mod first_run;
 #[cfg(test)]
 mod flow;
 #[cfg(test)]
+mod machines;
+#[cfg(test)]
 mod parts;
 #[cfg(test)]
 mod plate;

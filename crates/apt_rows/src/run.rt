@@ -11,12 +11,15 @@ pub const COMPILE: &str = "compile part machine cl tape";
 
 pub const CERTIFY: &str = "certify part machine cl tape";
 
+pub const DECODE: &str = "decode machine tape";
+
 /// What stands under the names `cl` and `tape` before a part is compiled.
 pub const OLD_CL: &[u8] = b"old cl";
 
 pub const OLD_TAPE: &[u8] = b"old tape";
 
-const MACHINE: &[u8] = b"MACHINE 1\n";
+/// The machine table of a run that names none: RS-358, blocks numbered by one, and the greatest limits.
+pub const MACHINE: &str = "MACHINE 1\nCODE RS358\nSEQ 1\nFEEDMAX 9999\nSPINMAX 9999\nTOOLMAX 99\n";
 
 /// A part, the printed lines, and the characters of the tape, none where no tape is written. Where the part is
 /// compiled there is a second line, that of its certificate.
@@ -84,12 +87,17 @@ pub fn with_part(part: &[u8]) -> Files<'_> {
     }
 }
 
-/// The files, and a machine table.
+/// The files, and the machine table.
 pub fn named(alloc: Global, files: Files<'_>) -> Result<Vec<(String, Vec<u8>)>, Fail> {
+    named_on(alloc, files, MACHINE.as_bytes())
+}
+
+/// The files, and a machine table.
+fn named_on(alloc: Global, files: Files<'_>, table: &[u8]) -> Result<Vec<(String, Vec<u8>)>, Fail> {
     let mut list = Vec::new(alloc);
     for (name, bytes) in [
         ("part", files.part),
-        ("machine", MACHINE),
+        ("machine", table),
         ("cl", files.cl),
         ("tape", files.tape),
     ] {
@@ -131,11 +139,15 @@ pub fn answer<R: Threads + Sync + Abort + AllocGlobal, H: Shelf>(
     Ok(apt(rt, alloc, &list, shelf, out))
 }
 
-/// The run that is asked for.
-fn run<R: Threads + Sync + Abort + AllocGlobal>(rt: &R, asked: Asked<'_>) -> Result<Ran, Fail> {
+/// The run that is asked for, with a machine table.
+pub fn run<R: Threads + Sync + Abort + AllocGlobal>(
+    rt: &R,
+    asked: Asked<'_>,
+    table: &[u8],
+) -> Result<Ran, Fail> {
     let alloc = rt.alloc();
     let (fail, puts) = failing(alloc, asked.kind, asked.call)?;
-    let mut shelf = MemShelf::new(alloc, named(alloc, asked.files)?, fail)?;
+    let mut shelf = MemShelf::new(alloc, named_on(alloc, asked.files, table)?, fail)?;
     let mut out = MemSink::new(alloc, puts);
     let status = answer(rt, &mut shelf, &mut out, asked.words)?;
     Ok(Ran {
@@ -145,20 +157,30 @@ fn run<R: Threads + Sync + Abort + AllocGlobal>(rt: &R, asked: Asked<'_>) -> Res
     })
 }
 
-/// A run shows what it should, and leaves the machine table as it is.
+/// A run shows what it should.
 pub fn assert_shows<R: Threads + Sync + Abort + AllocGlobal>(
     rt: &R,
     asked: Asked<'_>,
     want: Shown<'_>,
 ) -> Result<(), Fail> {
-    let ran = run(rt, asked)?;
+    assert_shows_on(rt, asked, MACHINE.as_bytes(), want)
+}
+
+/// A run with a machine table shows what it should, and leaves the table as it is.
+pub fn assert_shows_on<R: Threads + Sync + Abort + AllocGlobal>(
+    rt: &R,
+    asked: Asked<'_>,
+    table: &[u8],
+    want: Shown<'_>,
+) -> Result<(), Fail> {
+    let ran = run(rt, asked, table)?;
     let line = want.line;
     assert_eq!(rt; ran.number, want.number, "at {line}");
     assert_eq!(rt; ran.out.bytes(), line.as_bytes(), "at {line}");
     assert_eq!(rt; ran.shelf.file("cl"), Some(want.files.cl), "at {line}");
     assert_eq!(rt; ran.shelf.file("tape"), Some(want.files.tape), "at {line}");
     assert_eq!(rt; ran.shelf.file("part"), Some(want.files.part), "at {line}");
-    assert_eq!(rt; ran.shelf.file("machine"), Some(MACHINE), "at {line}");
+    assert_eq!(rt; ran.shelf.file("machine"), Some(table), "at {line}");
     Ok(())
 }
 
@@ -196,7 +218,7 @@ pub fn rs358(alloc: Global, text: &[u8]) -> Result<Vec<u8>, Fail> {
 }
 
 /// The tape of these characters; of none, the tape that stands before each run.
-fn tape_of(alloc: Global, text: &str) -> Result<Vec<u8>, Fail> {
+pub fn tape_of(alloc: Global, text: &str) -> Result<Vec<u8>, Fail> {
     if text.is_empty() {
         return Ok(Vec::from_slice(alloc, OLD_TAPE)?);
     }
@@ -219,11 +241,12 @@ pub fn spliced<T: Copy>(
 }
 
 /// The status number of the answer that is told by a line.
-fn number_of(line: &str) -> u8 {
+pub fn number_of(line: &str) -> u8 {
     match line.as_bytes() {
         [b'D' | b'Y', ..] => 0,
         [b'M', ..] => 2,
         [b'T', ..] => 4,
+        [b'B', _, _, _, b'M', ..] => 5,
         [b'B', _, _, _, b'P', ..] => 6,
         [b'B', _, _, _, b'C', ..] => 8,
         [b'B', ..] => 9,
@@ -261,7 +284,7 @@ fn assert_row<R: Threads + Sync + Abort + AllocGlobal>(
         kind: Kind::Put,
         call: 0,
     };
-    let mut ran = run(rt, asked)?;
+    let mut ran = run(rt, asked, MACHINE.as_bytes())?;
     assert_eq!(rt; ran.number, number_of(lines), "at {lines}");
     if ran.number == 0 {
         let status = answer(rt, &mut ran.shelf, &mut ran.out, CERTIFY)?;

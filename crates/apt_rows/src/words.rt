@@ -5,7 +5,7 @@ use crate::run::{Asked, CERTIFY, COMPILE, Files, Kind, Shown, assert_shows, rs35
 use std::test::Fail;
 
 /// Words that fit no command.
-const MISFITS: [&str; 24] = [
+const MISFITS: [&str; 33] = [
     "",
     "--help",
     "--version",
@@ -32,6 +32,15 @@ const MISFITS: [&str; 24] = [
     "certify part machine cl ",
     "Certify part machine cl tape",
     "part machine cl tape",
+    "decode",
+    "decode machine",
+    "decode machine tape tape",
+    "decode part machine cl tape",
+    "decode  tape",
+    "decode machine ",
+    "Decode machine tape",
+    "compile machine tape",
+    "certify machine tape",
 ];
 
 #[test]
@@ -66,25 +75,34 @@ type Run = (
     bool,
 );
 
-const RUNS: [Run; 10] = [
-    // no file is read under the name MACHINE
+const RUNS: [Run; 16] = [
+    // the part is read first, and then the machine table
     (
         "compile part part cl tape",
         FIRST,
         Kind::Put,
         0,
-        0,
-        FIRST_LINE,
-        true,
+        5,
+        "BAD MACHINE LINE 1 Header\n",
+        false,
     ),
     (
         "compile part none cl tape",
         FIRST,
         Kind::Put,
         0,
+        2,
+        "MISSING none\n",
+        false,
+    ),
+    (
+        "compile none NONE cl tape",
+        FIRST,
+        Kind::Put,
         0,
-        FIRST_LINE,
-        true,
+        2,
+        "MISSING none\n",
+        false,
     ),
     (
         "compile none machine cl tape",
@@ -104,8 +122,13 @@ const RUNS: [Run; 10] = [
         "MISSING NONE\n",
         false,
     ),
+    (COMPILE, FIRST, Kind::Put, 0, 0, FIRST_LINE, true),
     // what is shown where a call fails: nothing, or half a line
     (COMPILE, FIRST, Kind::Read, 1, 3, "", false),
+    (COMPILE, FIRST, Kind::Read, 4, 3, "", false),
+    (COMPILE, FIRST, Kind::Read, 5, 0, FIRST_LINE, true),
+    (COMPILE, FIRST, Kind::ReadStart, 2, 3, "", false),
+    (COMPILE, FIRST, Kind::ReadStart, 3, 0, FIRST_LINE, true),
     (COMPILE, FIRST, Kind::Put, 1, 11, "DONE 10 RECORDS 3", true),
     (COMPILE, "PARTNO\n", Kind::Put, 1, 11, "BAD PART LI", false),
     (
@@ -152,14 +175,32 @@ fn words_ask_for_a_part_and_its_outputs(rt: HostRuntime) -> Result<(), Fail> {
 const YES: &str = "YES 0 SEGMENTS IN 0 OUT 0\n";
 
 /// Words, the call that fails, the status number, and what is printed, over the first part with its outputs.
-const CERTIFIED: [(&str, Kind, u64, u8, &str); 24] = [
+const CERTIFIED: [(&str, Kind, u64, u8, &str); 29] = [
     (CERTIFY, Kind::Put, 0, 0, YES),
-    // no file is read under the name MACHINE
-    ("certify part none cl tape", Kind::Put, 0, 0, YES),
-    ("certify part tape cl tape", Kind::Put, 0, 0, YES),
-    // names may be equal
+    // names may be equal; the table is judged before the part
+    (
+        "certify part tape cl tape",
+        Kind::Put,
+        0,
+        5,
+        "BAD MACHINE LINE 1 Byte\n",
+    ),
     (
         "certify part part part part",
+        Kind::Put,
+        0,
+        5,
+        "BAD MACHINE LINE 1 Header\n",
+    ),
+    (
+        "certify cl cl cl cl",
+        Kind::Put,
+        0,
+        5,
+        "BAD MACHINE LINE 1 Header\n",
+    ),
+    (
+        "certify part machine part part",
         Kind::Put,
         0,
         8,
@@ -180,13 +221,13 @@ const CERTIFIED: [(&str, Kind, u64, u8, &str); 24] = [
         "BAD TAPE AT 464 NoStart\n",
     ),
     (
-        "certify cl cl cl cl",
+        "certify cl machine cl cl",
         Kind::Put,
         0,
         6,
         "BAD PART LINE 1 BadShape\n",
     ),
-    // the part is read first, then the CL file, then the tape
+    // the part is read first, then the machine table, the CL file and the tape
     (
         "certify none machine none none",
         Kind::Put,
@@ -196,6 +237,20 @@ const CERTIFIED: [(&str, Kind, u64, u8, &str); 24] = [
     ),
     (
         "certify NONE machine none none",
+        Kind::Put,
+        0,
+        2,
+        "MISSING NONE\n",
+    ),
+    (
+        "certify NONE none none none",
+        Kind::Put,
+        0,
+        2,
+        "MISSING NONE\n",
+    ),
+    (
+        "certify part NONE none none",
         Kind::Put,
         0,
         2,
@@ -222,7 +277,8 @@ const CERTIFIED: [(&str, Kind, u64, u8, &str); 24] = [
         2,
         "MISSING CL\n",
     ),
-    // all three are read before one is judged
+    // all four are read before one is judged
+    ("certify cl cl cl NONE", Kind::Put, 0, 2, "MISSING NONE\n"),
     (
         "certify cl machine cl NONE",
         Kind::Put,
@@ -234,10 +290,11 @@ const CERTIFIED: [(&str, Kind, u64, u8, &str); 24] = [
     (CERTIFY, Kind::ReadStart, 1, 3, ""),
     (CERTIFY, Kind::ReadStart, 2, 3, ""),
     (CERTIFY, Kind::ReadStart, 3, 3, ""),
-    (CERTIFY, Kind::ReadStart, 4, 0, YES),
+    (CERTIFY, Kind::ReadStart, 4, 3, ""),
+    (CERTIFY, Kind::ReadStart, 5, 0, YES),
     (CERTIFY, Kind::Read, 1, 3, ""),
-    (CERTIFY, Kind::Read, 6, 3, ""),
-    (CERTIFY, Kind::Read, 7, 0, YES),
+    (CERTIFY, Kind::Read, 8, 3, ""),
+    (CERTIFY, Kind::Read, 9, 0, YES),
     (CERTIFY, Kind::Put, 1, 11, "YES 0 SEGMENT"),
     (CERTIFY, Kind::Put, 2, 0, YES),
     // nothing is written

@@ -1,26 +1,34 @@
-use Rattle.std.proofs.Common.{◌∙◌, subst}
+use Rattle.std.proofs.Common.{[], ◌∷◌, refl}
+use Rattle.apt_core.specs.Outputs.{part_limit, machine_limit}
 use Rattle.apt_core.specs.Request.{four_names}
-use Rattle.apt_core.specs.Inputs.{Reads}
-use Rattle.apt_core.specs.Promise.{Files, files_on}
-use Rattle.apt_core.proofs.Compiling.{AreRead}
-use Rattle.apt_core.proofs.Certifying.{cl_input, tape_input, read_on, all_judged}
+use Rattle.apt_core.specs.Inputs.{input}
+use Rattle.apt_core.specs.Promise.{Files, file_limit, files_on}
+use Rattle.apt_core.proofs.Readings.{AreRead, read_on, reads_on, not_read_on}
+use Rattle.apt_core.proofs.Certifying.{unread_certifies}
 use Rattle.apt_core.proofs.certify.certify.Goals as goal
 
-pub returns : goal.returns
-returns g c =
+pub returns-in-Err-read_input-3 : goal.returns-in-Err-read_input-3
+returns-in-Err-read_input-3 g c =
     let n = four_names c.args.names in
     let before : Files = files_on g.H.Shelf c.args.shelf.now in
     let one : Files = files_on g.H.Shelf c.read_input.new.shelf in
     let two : Files = files_on g.H.Shelf c.read_input-2.new.shelf in
     let three : Files = files_on g.H.Shelf c.read_input-3.new.shelf in
-    let d = c.in-Ok.ensures in
-    let e = c.in-Ok-read_input.ensures in
-    let f = c.in-Ok-read_input-2.ensures in
-    let first : AreRead before one = record { told = d.told; writing = d.writing; write_faults = d.write_faults; later = d.later } in
-    let second : AreRead one two = record { told = e.told; writing = e.writing; write_faults = e.write_faults; later = e.later } in
-    let third : AreRead two three = record { told = f.told; writing = f.writing; write_faults = f.write_faults; later = f.later } in
-    all_judged c.args.machine.now n c.in-Ok.text.items c.in-Ok-read_input.cl.items c.in-Ok-read_input-2.tape.items before three c.judged.result
-    (read_on before two three (read_on before one two first second) third) d.text
-    (subst (λ t. Reads t (cl_input n) c.in-Ok-read_input.cl.items) d.told e.text)
-    (subst (λ t. Reads t (tape_input n) c.in-Ok-read_input-2.tape.items) (e.told ∙ d.told) f.text)
-    (rw (c.deref.ensures.value, c.deref-2.ensures.value, c.deref-3.ensures.value) at c.judged.ensures)
+    let four : Files = files_on g.H.Shelf c.read_input-4.new.shelf in
+    let a = c.in-Ok.ensures in
+    let b = c.in-Ok-read_input.ensures in
+    let d = c.in-Ok-read_input-2.ensures in
+    let e = c.in-Err-read_input-3.ensures in
+    let first : AreRead before one = record { told = a.told; writing = a.writing; write_faults = a.write_faults; later = a.later } in
+    let second : AreRead before two = read_on before one two first (record { told = b.told; writing = b.writing; write_faults = b.write_faults; later = b.later }) in
+    let third : AreRead before three = read_on before two three second (record { told = d.told; writing = d.writing; write_faults = d.write_faults; later = d.later }) in
+    let fourth : AreRead before four = read_on before three four third (record { told = e.told; writing = e.writing; write_faults = e.write_faults; later = e.later }) in
+    unread_certifies n (input n.part part_limit ∷ input n.machine machine_limit ∷ input n.cl file_limit ∷ [])
+    (c.in-Ok.text.items ∷ c.in-Ok-read_input.table.items ∷ c.in-Ok-read_input-2.cl.items ∷ []) (input n.tape file_limit) [] before four c.in-Err-read_input-3.status refl fourth (
+      a.text,
+      (
+        reads_on before one (input n.machine machine_limit) c.in-Ok-read_input.table.items first b.text,
+        (reads_on before two (input n.cl file_limit) c.in-Ok-read_input-2.cl.items second d.text, tt),
+      ),
+    )
+    (not_read_on before three (input n.tape file_limit) four.read_faults c.in-Err-read_input-3.status third e.unread)
