@@ -1,5 +1,5 @@
 -- Which statements define a name, and what they give it.
-use Rattle.std.specs.Prelude.{◌≡◌, ◌≢◌, ℕ, List, Option, Some, None, IsSome, Result, Ok, Err}
+use Rattle.std.specs.Prelude.{◌≡◌, ◌≢◌, ℕ, Bool, true, false, List, Option, Some, None, IsSome, Result, Ok, Err}
 use Rattle.apt_words.specs.declared.Case.{Case}
 use Rattle.apt_words.specs.declared.Units.{Units}
 use Rattle.apt_words.specs.declared.deed.Deed.{Deed}
@@ -80,6 +80,11 @@ pub record IsDefinedIn (units : Units) (before : Table) (deed : Deed) (now : Tab
 
 abbrev pub HasDefined : Units → Table → Deed → Table → Type 0
 HasDefined units before deed now = (name : List ℕ) × (f : Figure) × IsDefinedIn units before deed now name f
+
+-- a step that defines a name, or one that defines none and leaves the table as it was
+abbrev pub HasOrNone : Units → Table → Deed → Table → Bool → Type 0
+HasOrNone units before deed now true = HasDefined units before deed now
+HasOrNone units before deed now false = (definition_of units before deed ≡ None) × (now ≡ before)
 
 -- the case that refuses a definition
 abbrev pub IsRefusedBy : Units → Table → Deed → Case → Type 0

@@ -1,10 +1,10 @@
 //! Which statements define a name, and what they give it.
 
-ghost use Rattle.std.specs.Prelude.{◌≡◌, ◌↔◌, OnOk, OnErr, IfOk, IfSome, IsErrOf};
+ghost use Rattle.std.specs.Prelude.{◌≡◌, ◌↔◌, OnErr, IfOk, IfSome, IsErrOf};
 ghost use Rattle.apt_scalar.specs.StepScalars.{HasScalars};
 ghost use Rattle.apt_defs.specs.Figures.{IsFigure};
 ghost use Rattle.apt_defs.specs.Definitions as definitions;
-ghost use Rattle.apt_defs.specs.Definitions.{IsDefinition, HasDefined, IsRefusedBy};
+ghost use Rattle.apt_defs.specs.Definitions.{HasOrNone, IsRefusedBy};
 
 use crate::circles::{
     circle_by_point, circle_corner, circle_points, circle_radius, circle_tangent, circle_xyr,
@@ -85,25 +85,24 @@ fn defines(name: &Symbol, figure: Result<Figure, Case>) -> Option<Definition>
     })
 }
 
-/// Gives the name that a step defines its figure.
+/// Gives the name that a step defines its figure. False where the step defines no name: the table stays as it was.
 ///
 /// # Errors
 ///
 /// The case that refuses the figure, before memory is asked for; the table stays as it was.
 #[tactic(auto, using(crate::proofs::Defined::has_defined, crate::proofs::Defined::refused_by, crate::proofs::Defined::not_refused))]
-pub fn define(step: &Step, units: Units, table: &mut Table) -> Result<(), DefError>
-    requires scalars { HasScalars step.now.deed }
-    requires definition { IsDefinition units table.old step.now.deed }
-    ensures ok { OnOk result (HasDefined units table.old step.now.deed table.new) }
+pub fn define(step: &Step, units: Units, table: &mut Table) -> Result<bool, DefError>
+    requires { HasScalars step.now.deed }
+    ensures ok { IfOk result (HasOrNone units table.old step.now.deed table.new) }
     ensures refused { (case : Case) → IsErrOf result (DefError.Case case) ↔ IsRefusedBy units table.old step.now.deed case }
     ensures err { OnErr result (table.new ≡ table.old) }
 {
     let Some(Definition { name, figure }) = definition(&step.deed, units, table) else {
-        return Ok(());
+        return Ok(false);
     };
     match figure {
         Ok(figure) => table.set(name, figure)?,
         Err(case) => return Err(DefError::Case(case)),
     }
-    Ok(())
+    Ok(true)
 }

@@ -1,8 +1,6 @@
 //! Definitions by their statements, in inches.
 
-ghost use Rattle.apt_words.specs.declared.Units.TheVariants as units;
 ghost use Rattle.apt_scalar.specs.StepScalars.{HasScalars};
-ghost use Rattle.apt_defs.specs.Definitions.{IsDefinition};
 
 use crate::{DefError, Figure, Table, define};
 use apt_plane::{Circ, Dir, Line, Pt, Surface};
@@ -16,9 +14,8 @@ fn symbol(rt: &impl Abort, text: &str) -> Symbol {
     Symbol::new(text).expect(rt, "a name")
 }
 
-fn given(table: &mut Table, deed: Deed) -> Result<(), DefError>
-    requires scalars { HasScalars deed }
-    requires definition { IsDefinition units.Inch table.old deed }
+fn given(table: &mut Table, deed: Deed) -> Result<bool, DefError>
+    requires { HasScalars deed }
 {
     let step = Step {
         line: 1,
@@ -28,7 +25,7 @@ fn given(table: &mut Table, deed: Deed) -> Result<(), DefError>
     define(&step, Units::Inch, table)
 }
 
-fn refused(case: Case) -> Result<(), DefError> {
+fn refused(case: Case) -> Result<bool, DefError> {
     Err(DefError::Case(case))
 }
 
@@ -56,13 +53,13 @@ fn picks_one_of_two_points(rt: HostRuntime) {
     let c = symbol(&rt, "C");
     let p = symbol(&rt, "P");
     let made = given(&mut table, Deed::LineXy(lx.copied(), 0, 0, INCH, 0));
-    assert!(rt; made == Ok(()));
+    assert!(rt; made == Ok(true));
     let made = given(&mut table, Deed::CircleXyr(c.copied(), 0, 0, 2 * INCH));
-    assert!(rt; made == Ok(()));
+    assert!(rt; made == Ok(true));
     assert!(rt; table.get(&c) == circle(0, 0, 200_000));
     let ly = symbol(&rt, "LY");
     let made = given(&mut table, Deed::LineXy(ly.copied(), 0, 0, 0, INCH));
-    assert!(rt; made == Ok(()));
+    assert!(rt; made == Ok(true));
     let rows = [
         (Pick::XLarge, 200_000),
         (Pick::XSmall, -200_000),
@@ -71,10 +68,10 @@ fn picks_one_of_two_points(rt: HostRuntime) {
     ];
     for (pick, further) in rows {
         let deed = Deed::PointPick(p.copied(), pick, lx.copied(), c.copied());
-        assert!(rt; given(&mut table, deed) == Ok(()));
+        assert!(rt; given(&mut table, deed) == Ok(true));
         assert!(rt; table.get(&p) == at(further, 0, 0));
         let deed = Deed::PointPick(p.copied(), pick, ly.copied(), c.copied());
-        assert!(rt; given(&mut table, deed) == Ok(()));
+        assert!(rt; given(&mut table, deed) == Ok(true));
         assert!(rt; table.get(&p) == at(0, further, 0));
     }
 }
@@ -87,18 +84,18 @@ fn draws_tangents(rt: HostRuntime) {
     let c = symbol(&rt, "C");
     let l = symbol(&rt, "L");
     let made = given(&mut table, Deed::PointXy(p.copied(), 0, 0, Some(INCH)));
-    assert!(rt; made == Ok(()));
+    assert!(rt; made == Ok(true));
     assert!(rt; table.get(&p) == at(0, 0, 100_000));
     let made = given(
         &mut table,
         Deed::CircleXyr(c.copied(), 5 * INCH, 0, 3 * INCH),
     );
-    assert!(rt; made == Ok(()));
+    assert!(rt; made == Ok(true));
     let deed = Deed::LineTan(l.copied(), p.copied(), true, c.copied());
-    assert!(rt; given(&mut table, deed) == Ok(()));
+    assert!(rt; given(&mut table, deed) == Ok(true));
     assert!(rt; table.get(&l) == line(0, 0, 79_999_200, 59_999_400));
     let deed = Deed::LinePerp(l.copied(), p.copied(), l.copied());
-    assert!(rt; given(&mut table, deed) == Ok(()));
+    assert!(rt; given(&mut table, deed) == Ok(true));
     assert!(rt; table.get(&l) == line(0, 0, -59_999_400, 79_999_200));
 }
 
@@ -111,15 +108,15 @@ fn draws_circles(rt: HostRuntime) {
     let r = symbol(&rt, "R");
     let c = symbol(&rt, "C");
     let made = given(&mut table, Deed::PointXy(p.copied(), 0, 0, None));
-    assert!(rt; made == Ok(()));
+    assert!(rt; made == Ok(true));
     let made = given(&mut table, Deed::PointXy(q.copied(), 4 * INCH, 0, None));
-    assert!(rt; made == Ok(()));
+    assert!(rt; made == Ok(true));
     let made = given(&mut table, Deed::PointXy(r.copied(), 0, 2 * INCH, None));
-    assert!(rt; made == Ok(()));
+    assert!(rt; made == Ok(true));
     let deed = Deed::CirclePoints(c.copied(), p.copied(), q.copied(), r.copied());
-    assert!(rt; given(&mut table, deed) == Ok(()));
+    assert!(rt; given(&mut table, deed) == Ok(true));
     assert!(rt; table.get(&c) == circle(200_000, 100_000, 223_607));
-    assert!(rt; given(&mut table, Deed::PointCenter(c.copied(), c.copied())) == Ok(()));
+    assert!(rt; given(&mut table, Deed::PointCenter(c.copied(), c.copied())) == Ok(true));
     assert!(rt; table.get(&c) == at(200_000, 100_000, 0));
 }
 
@@ -130,9 +127,9 @@ fn refuses_by_the_first_case(rt: HostRuntime) {
     let p = symbol(&rt, "P");
     let l = symbol(&rt, "L");
     let made = given(&mut table, Deed::PointXy(p.copied(), 0, 0, None));
-    assert!(rt; made == Ok(()));
+    assert!(rt; made == Ok(true));
     let made = given(&mut table, Deed::LineXy(l.copied(), 0, 0, INCH, 0));
-    assert!(rt; made == Ok(()));
+    assert!(rt; made == Ok(true));
     let n = symbol(&rt, "N");
     let far = 600 * INCH;
     let deed = Deed::LineAt(n.copied(), n.copied(), Pick::YLarge, 2_000 * INCH);
@@ -149,4 +146,5 @@ fn refuses_by_the_first_case(rt: HostRuntime) {
     assert!(rt; given(&mut table, deed) == refused(Case::CircleTooLarge));
     assert!(rt; table.get(&n) == None);
     assert!(rt; table.get(&p) == at(0, 0, 0));
+    assert!(rt; given(&mut table, Deed::Rapid) == Ok(false));
 }

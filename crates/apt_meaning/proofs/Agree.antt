@@ -1,8 +1,10 @@
 -- Two situations that differ only in where the tool stands, and what steps ask for at both.
-use Rattle.std.proofs.Common.{◌≡◌, ◌∙◌, ℕ, Bool, true, false, List, Result, Ok, Err, Option, Some, None, is_none, refl, sym, ap, subst, cond}
+use Rattle.std.proofs.Common.{◌≡◌, ◌∙◌, ℕ, ℤ, Bool, true, false, List, Result, Ok, Err, Option, Some, None, is_none, refl, sym, ap, subst, cond}
 use Rattle.apt_words.specs.declared.Case.{Case}
 use Rattle.apt_words.specs.declared.Go.{Go}
 use Rattle.apt_words.specs.declared.Stop.{Stop}
+use Rattle.apt_words.specs.declared.Turn.{Turn}
+use Rattle.apt_words.specs.declared.Turn.TheVariants as turns
 use Rattle.apt_words.specs.declared.deed.Deed.{Deed}
 use Rattle.apt_words.specs.declared.deed.Deed.TheVariants as deeds
 use Rattle.apt_words.specs.Options.{◌>>=◌}
@@ -23,7 +25,7 @@ use Rattle.apt_meaning.specs.declared.effect.Effect.{Effect}
 use Rattle.apt_meaning.specs.declared.effect.Effect.TheVariants as effects
 use Rattle.apt_meaning.specs.Situations.{with_side}
 use Rattle.apt_meaning.specs.Motions.{line_in, motion, if_turned, motion_at}
-use Rattle.apt_meaning.specs.Effects.{moves, cuts, place_in, names, defines, defined, moved_from, start_position_at, effect_of}
+use Rattle.apt_meaning.specs.Effects.{moves, cuts, place_in, names, defines, defined, moved_from, start_position_at, spins, effect_of}
 use Rattle.apt_meaning.specs.Records.{after}
 
 -- the same settings and names, and both or neither have a position
@@ -101,6 +103,11 @@ contour_like s from to go how (Some start) (Some here) (Some drive) (Some check)
     turned_like (is_zero (turn from (tangent drive start.at) go)) (is_zero (turn to (tangent drive here.at) go))
     (motion s start drive (turn from (tangent drive start.at) go) how check) (motion s here drive (turn to (tangent drive here.at) go) how check) refl
 
+spindle_like : (s : Settings) (v : ℤ) (turn : Turn) → AreLikeIfThere (spins s v turn) (spins s v turn)
+spindle_like s v turns.Cw = (refl, refl)
+spindle_like s v turns.Ccw = (refl, refl)
+spindle_like s v turns.Off = tt
+
 like : (c : Situation) (p : Option Position) (forward : Dir) (deed : Deed) → AreLikeIfThere (effect_of c deed) (effect_of (elsewhere c p forward) deed)
 unfolding motion_at
 like at stand forward (deeds.Partno text) = (refl, refl)
@@ -144,10 +151,10 @@ like at stand forward deeds.OptHalt = (refl, refl)
 like at stand forward deeds.EndWord = (refl, refl)
 like at stand forward deeds.Fini = (refl, refl)
 like at stand forward (deeds.Fedrat v) = (refl, refl)
-like at stand forward (deeds.Spindl n turn) = tt
-like at stand forward deeds.SpindlOff = tt
-like at stand forward (deeds.Coolnt c) = tt
-like at stand forward (deeds.Loadtl n) = tt
+like at stand forward (deeds.Spindl v turn) = spindle_like at.settings v turn
+like at stand forward deeds.SpindlOff = (refl, refl)
+like at stand forward (deeds.Coolnt c) = (refl, refl)
+like at stand forward (deeds.Loadtl v) = (refl, refl)
 like at stand forward deeds.Macro = (refl, refl)
 like at stand forward deeds.Termac = (refl, refl)
 like at stand forward deeds.Call = (refl, refl)

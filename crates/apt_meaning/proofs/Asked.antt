@@ -1,5 +1,5 @@
 -- A step that no case refuses has an effect in range, and a contour that it asks for is legal to its contact.
-use Rattle.std.proofs.Common.{◌≡◌, ℕ, unsigned_abs, not, Bool, true, false, List, [], ◌∷◌, Option, Some, None, is_none, IsSome, IfSome, Result, Ok, Err, IfOk, refl, cond, sym, ap, subst, ◌∙◌, pos, arith}
+use Rattle.std.proofs.Common.{◌≡◌, ℕ, ℤ, unsigned_abs, int_lt, not, Bool, true, false, List, [], ◌∷◌, Option, Some, None, is_none, IsSome, IfSome, Result, Ok, Err, IfOk, refl, cond, sym, ap, subst, ◌∙◌, pos, arith}
 use Rattle.std.proofs.lemmas.Bool.{true≢false}
 use Rattle.apt_num.specs.declared.Sign.{Sign}
 use Rattle.apt_words.specs.declared.Go.{Go}
@@ -7,12 +7,15 @@ use Rattle.apt_words.specs.declared.Side.{Side}
 use Rattle.apt_words.specs.declared.Stop.{Stop}
 use Rattle.apt_words.specs.declared.Case.{Case}
 use Rattle.apt_words.specs.declared.Case.TheVariants as cases
+use Rattle.apt_words.specs.declared.Turn.{Turn}
+use Rattle.apt_words.specs.declared.Turn.TheVariants as turns
 use Rattle.apt_words.specs.declared.deed.Deed.{Deed}
 use Rattle.apt_words.specs.declared.deed.Deed.TheVariants as deeds
+use Rattle.apt_words.specs.Built.{is_turning}
 use Rattle.apt_words.specs.Options.{◌>>=◌}
 use Rattle.apt_words.specs.Rows.{Row, first_of, NoneHolds}
 use Rattle.apt_words.specs.Sources.{DeedHasText}
-use Rattle.apt_scalar.specs.Scalars.{grid_units, tenths}
+use Rattle.apt_scalar.specs.Scalars.{IsScalar, grid_units, tenths, whole}
 use Rattle.apt_plane.specs.declared.figures.Pt.{Pt}
 use Rattle.apt_plane.specs.declared.figures.Surface.{Surface}
 use Rattle.apt_plane.specs.declared.figures.Surface.TheVariants as surfaces
@@ -43,7 +46,7 @@ use Rattle.apt_meaning.specs.OnLines.{built}
 use Rattle.apt_meaning.specs.Situations.{radius_of, lacks_feed, with_side, at_height}
 use Rattle.apt_meaning.specs.Motions.{as_surface, line_in, turn_at, if_turned, motion, motion_at}
 use Rattle.apt_meaning.specs.StartUps.{start_up_at, start_up_cases, start_point, start_position}
-use Rattle.apt_meaning.specs.Effects.{moves, cuts, as_position, names, defines as gives, defined, position_by, moved_by, start_position_at, effect_of}
+use Rattle.apt_meaning.specs.Effects.{moves, cuts, as_position, names, defines as gives, defined, position_by, moved_by, start_position_at, spins, effect_of}
 use Rattle.apt_meaning.specs.Refusals.{is_other_kind, is_left_out, is_no_place, refused, refused_if_any, refused_definition, position_cases, move_cases, motion_cases, turned_cases, surface_cases, contour_cases, start_cases, go_cases, start_up_or_not_built, cases_of, refusal_of}
 use Rattle.apt_meaning.specs.Records.{AreLegal, MayHave}
 use Rattle.apt_meaning.specs.Compiled.{ends_of}
@@ -53,7 +56,7 @@ use Rattle.apt_scalar.specs.StepScalars.{HasScalars}
 use Rattle.apt_meaning.specs.Vertices.{HasIn}
 use Rattle.apt_meaning.proofs.Refused.{first_none, none_first}
 use Rattle.apt_meaning.proofs.Legal.{motion_legal, motion_contact, motion_defined, start_up_point}
-use Rattle.apt_meaning.proofs.EffectRanges.{reach_in, up_to_in, tolerance_in, radius_in, feed_in, feed_note, with_units, with_radius, with_intol, with_outtol, with_feed, with_rapid, with_ended, on_side, on_side_or_as_it_was, motion_is}
+use Rattle.apt_meaning.proofs.EffectRanges.{reach_in, up_to_in, tolerance_in, radius_in, feed_in, feed_note, whole_note, with_units, with_radius, with_intol, with_outtol, with_feed, with_rapid, with_ended, on_side, on_side_or_as_it_was, motion_is}
 use Rattle.apt_meaning.proofs.Straight.{line_straight, straight_surface}
 
 -- an effect in range, whose contour is legal where it runs to its contact
@@ -202,6 +205,11 @@ contour_asks at side go drive how check is none =
     (line_straight at.table drive is.table) (line_straight at.table check is.table)
     none.0 (line_there (figure_named at.table drive) d.0 d.1.0 built.0) (line_there (figure_named at.table check) c.0 c.1.0 built.1.0) built.1.1
 
+spindle_asks : (s : Settings) (v : ℤ) (turn : Turn) → AreSettings s → IsScalar v → not (is_turning turn) ≡ false → int_lt (whole v) (pos 1) ≡ false → Asks (spins s v turn)
+spindle_asks s v turns.Cw is number turning least = says s (notes.Spindl turns.Cw (whole v)) is (whole_note v number least)
+spindle_asks s v turns.Ccw is number turning least = says s (notes.Spindl turns.Ccw (whole v)) is (whole_note v number least)
+spindle_asks s v turns.Off is number turning least = absurd (true≢false turning)
+
 -- ---- a line for each statement
 
 pub asks : (at : Situation) (deed : Deed) → IsSituation at → HasScalars deed → DeedHasText deed → NoneHolds (cases_of at deed) → Asks (effect_of at deed)
@@ -251,10 +259,10 @@ asks at deeds.Fini is numbers worded none = says at.settings notes.Fini is.setti
 asks at (deeds.Fedrat v) is numbers worded none =
     let good = feed_in v numbers none.0 in
     says (record at.settings { feed = tenths v }) (notes.Fedrat (tenths v)) (with_feed at.settings (tenths v) is.settings good) (feed_note v good none.0)
-asks at (deeds.Spindl n turn) is numbers worded none = absurd (true≢false none.0)
-asks at deeds.SpindlOff is numbers worded none = absurd (true≢false none.0)
-asks at (deeds.Coolnt c) is numbers worded none = absurd (true≢false none.0)
-asks at (deeds.Loadtl n) is numbers worded none = absurd (true≢false none.0)
+asks at (deeds.Spindl v turn) is numbers worded none = spindle_asks at.settings v turn is.settings numbers none.0 none.1.0
+asks at deeds.SpindlOff is numbers worded none = says at.settings (notes.Spindl turns.Off (pos 0)) is.settings refl
+asks at (deeds.Coolnt c) is numbers worded none = says at.settings (notes.Coolnt c) is.settings tt
+asks at (deeds.Loadtl v) is numbers worded none = says at.settings (notes.Loadtl (whole v)) is.settings (whole_note v numbers none.0)
 asks at deeds.Macro is numbers worded none = sets at.settings is.settings
 asks at deeds.Termac is numbers worded none = sets at.settings is.settings
 asks at deeds.Call is numbers worded none = sets at.settings is.settings

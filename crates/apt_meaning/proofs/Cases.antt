@@ -4,7 +4,9 @@ use Rattle.apt_num.specs.Root.{root}
 use Rattle.apt_words.specs.declared.Case.{Case}
 use Rattle.apt_words.specs.declared.Case.TheVariants as cases
 use Rattle.apt_words.specs.declared.Go.{Go}
+use Rattle.apt_words.specs.declared.Cool.TheVariants as cools
 use Rattle.apt_words.specs.declared.Go.TheVariants as turns
+use Rattle.apt_words.specs.declared.Turn.TheVariants as spins
 use Rattle.apt_words.specs.declared.Side.TheVariants as sides
 use Rattle.apt_words.specs.declared.Stop.{Stop}
 use Rattle.apt_words.specs.declared.Stop.TheVariants as stops
@@ -79,6 +81,25 @@ least_feed = refl
 
 no_feed_at_all : refusal_of (at here on_track) (deeds.Fedrat (pos 49999)) ≡ Some cases.OutOfRange
 no_feed_at_all = refl
+
+-- half of a turn is rounded up, and so is half of a tool
+least_speed : refusal_of (at here on_track) (deeds.Spindl (pos 500000) spins.Ccw) ≡ None
+least_speed = refl
+
+no_speed_at_all : refusal_of (at here on_track) (deeds.Spindl (pos 499999) spins.Cw) ≡ Some cases.OutOfRange
+no_speed_at_all = refl
+
+spindle_off : refusal_of (at here on_track) deeds.SpindlOff ≡ None
+spindle_off = refl
+
+coolant : refusal_of (at here on_track) (deeds.Coolnt cools.Mist) ≡ None
+coolant = refl
+
+first_tool : refusal_of (at here on_track) (deeds.Loadtl (pos 500000)) ≡ None
+first_tool = refl
+
+no_tool : refusal_of (at here on_track) (deeds.Loadtl (pos 499999)) ≡ Some cases.OutOfRange
+no_tool = refl
 
 -- ---- moves
 
@@ -246,5 +267,3 @@ fine = refl
 one_surface : refusal_of (at here on_track) (deeds.GoStart stops.To (codes "L1") None) ≡ Some cases.NotBuilt
 one_surface = refl
 
-spindle : refusal_of (at here on_track) deeds.SpindlOff ≡ Some cases.NotBuilt
-spindle = refl

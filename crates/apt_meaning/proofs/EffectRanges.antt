@@ -10,7 +10,7 @@ use Rattle.apt_words.specs.declared.Side.{Side}
 use Rattle.apt_words.specs.declared.Stop.{Stop}
 use Rattle.apt_words.specs.declared.Units.{Units}
 use Rattle.apt_words.specs.declared.Units.TheVariants as the_units
-use Rattle.apt_scalar.specs.Scalars.{IsScalar, grid_units, tenths}
+use Rattle.apt_scalar.specs.Scalars.{one, IsScalar, grid_units, tenths, whole}
 use Rattle.apt_plane.specs.declared.figures.Surface.{Surface}
 use Rattle.apt_plane.specs.Ranges.{IsSurface, IsSense}
 use Rattle.apt_offset.specs.Ranges.{IsRadius, IsTolerance}
@@ -60,6 +60,14 @@ feed_in v h e = record { least = grind (arith, ints); most = omega (arith, ints,
 
 pub feed_note : (v : ℤ) → IsFeed (tenths v) → int_lt (tenths v) (pos 1) ≡ false → IsFromTo (pos 1) (pos 2147483647) (tenths v)
 feed_note v is e = (grind (arith, ints), omega (arith, ints, is.most))
+
+-- ---- speeds and tools
+
+whole_small : (v : ℤ) → IsScalar v → unsigned_abs (whole v) ≤ 10 ^ 6
+whole_small v h = omega (arith, ints, (near-IsNear v (pos one) (omega (arith, ints))).nearest, h)
+
+pub whole_note : (v : ℤ) → IsScalar v → int_lt (whole v) (pos 1) ≡ false → IsFromTo (pos 1) (pos 2147483647) (whole v)
+whole_note v h e = (grind (arith, ints), omega (arith, ints, whole_small v h))
 
 -- ---- settings that change in one place
 

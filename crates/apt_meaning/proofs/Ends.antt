@@ -1,5 +1,6 @@
 -- Records that follow steps end as the steps do.
 use Rattle.std.proofs.Common.{◌≡◌, Bool, false, List, [], ◌∷◌, ◌++◌, Option, Some, None, subst}
+use Rattle.apt_words.specs.declared.Turn.TheVariants as turns
 use Rattle.apt_words.specs.declared.Units.{Units}
 use Rattle.apt_words.specs.declared.deed.Deed.{Deed}
 use Rattle.apt_words.specs.declared.deed.Deed.TheVariants as deeds
@@ -32,9 +33,11 @@ note_ends units deed (notes.Cutter d) rest said goes_on more = as_said deed (dee
 note_ends units deed (notes.Intol t) rest said goes_on more = as_said deed (deeds.Intol said.0) rest said.1 more
 note_ends units deed (notes.Outtol t) rest said goes_on more = as_said deed (deeds.Outtol said.0) rest said.1 more
 note_ends units deed (notes.Fedrat f) rest said goes_on more = as_said deed (deeds.Fedrat said.0) rest said.1 more
-note_ends units deed (notes.Spindl turn n) rest said goes_on more = absurd said
-note_ends units deed (notes.Coolnt c) rest said goes_on more = absurd said
-note_ends units deed (notes.Loadtl n) rest said goes_on more = absurd said
+note_ends units deed (notes.Spindl turns.Cw n) rest said goes_on more = as_said deed (deeds.Spindl said.0 turns.Cw) rest said.1 more
+note_ends units deed (notes.Spindl turns.Ccw n) rest said goes_on more = as_said deed (deeds.Spindl said.0 turns.Ccw) rest said.1 more
+note_ends units deed (notes.Spindl turns.Off n) rest said goes_on more = as_said deed deeds.SpindlOff rest said.0 more
+note_ends units deed (notes.Coolnt c) rest said goes_on more = as_said deed (deeds.Coolnt c) rest said more
+note_ends units deed (notes.Loadtl n) rest said goes_on more = as_said deed (deeds.Loadtl said.0) rest said.1 more
 note_ends units deed notes.Rapid rest said goes_on more = as_said deed deeds.Rapid rest said more
 note_ends units deed notes.Stop rest said goes_on more = as_said deed deeds.Halt rest said more
 note_ends units deed notes.OptStop rest said goes_on more = as_said deed deeds.OptHalt rest said more

@@ -24,7 +24,7 @@ use Rattle.apt_meaning.specs.Situations.{has_feed, lacks_feed, with_side}
 use Rattle.apt_meaning.specs.Motions.{line_in, turn_at, if_turned, motion_at}
 use Rattle.apt_meaning.specs.Effects.{moves, cuts, place_in, names, defines, defined, position_by, moved_from, start_position_at, effect_of}
 use Rattle.apt_meaning.specs.Refusals.{move_cases, surface_cases, start_up_or_not_built, cases_of}
-use Rattle.apt_meaning.proofs.Said.{of_some}
+use Rattle.apt_meaning.proofs.Said.{of_some, either_turn}
 
 abbrev pub IsFed : Settings → Effect → Type 0
 IsFed s (effects.Defines n f) = Unit {0}
@@ -130,7 +130,7 @@ all_fed at deeds.OptHalt none = tt
 all_fed at deeds.EndWord none = tt
 all_fed at deeds.Fini none = tt
 all_fed at (deeds.Fedrat v) none = tt
-all_fed at (deeds.Spindl n turn) none = tt
+all_fed at (deeds.Spindl v turn) none = either_turn (IsFed at.settings) at.settings v turn tt tt
 all_fed at deeds.SpindlOff none = tt
 all_fed at (deeds.Coolnt c) none = tt
 all_fed at (deeds.Loadtl n) none = tt

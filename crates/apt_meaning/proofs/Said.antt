@@ -1,15 +1,19 @@
 -- What the effect of a step tells of the step.
-use Rattle.std.proofs.Common.{◌≡◌, ℕ, Bool, true, false, List, Result, Ok, Err, Option, Some, None, IfSome, refl, subst, cond}
+use Rattle.std.proofs.Common.{◌≡◌, ℕ, ℤ, Bool, true, false, List, Result, Ok, Err, Option, Some, None, IfSome, refl, subst, cond}
 use Rattle.apt_num.specs.declared.Sign.{Sign}
 use Rattle.apt_words.specs.declared.Case.{Case}
 use Rattle.apt_words.specs.declared.Go.{Go}
 use Rattle.apt_words.specs.declared.Side.{Side}
 use Rattle.apt_words.specs.declared.Stop.{Stop}
+use Rattle.apt_words.specs.declared.Turn.{Turn}
+use Rattle.apt_words.specs.declared.Turn.TheVariants as turns
 use Rattle.apt_words.specs.declared.deed.Deed.{Deed}
 use Rattle.apt_words.specs.declared.deed.Deed.TheVariants as deeds
 use Rattle.apt_words.specs.Options.{◌>>=◌}
 use Rattle.apt_plane.specs.declared.figures.Surface.{Surface}
 use Rattle.apt_offset.specs.Turns.{is_zero}
+use Rattle.apt_scalar.specs.Scalars.{whole}
+use Rattle.apt_cldata.specs.declared.record.Note.TheVariants as notes
 use Rattle.apt_cldata.specs.declared.record.Position.{Position}
 use Rattle.apt_cldata.specs.declared.record.Reach.{Reach}
 use Rattle.apt_cldata.specs.declared.record.Reach.TheVariants as reaches
@@ -20,14 +24,22 @@ use Rattle.apt_meaning.specs.declared.situation.Settings.{Settings}
 use Rattle.apt_meaning.specs.declared.situation.Situation.{Situation}
 use Rattle.apt_meaning.specs.declared.motion.Motion.{Motion}
 use Rattle.apt_meaning.specs.declared.effect.Effect.{Effect}
+use Rattle.apt_meaning.specs.declared.effect.Effect.TheVariants as effects
 use Rattle.apt_meaning.specs.Situations.{with_side}
 use Rattle.apt_meaning.specs.Motions.{line_in, turn_at, if_turned, motion, motion_at}
-use Rattle.apt_meaning.specs.Effects.{moves, cuts, place_in, names, defines, defined, moved_from, start_position_at, effect_of}
+use Rattle.apt_meaning.specs.Effects.{moves, cuts, place_in, names, defines, defined, moved_from, start_position_at, spins, effect_of}
 use Rattle.apt_words.specs.ProgramEnds.{is_ended}
 use Rattle.apt_meaning.specs.Sayings.{IsSaidBy}
 
 pub of_some : {A : Type 0} (P : A → Type 0) (o : Option A) (x : A) → o ≡ Some x → IfSome o P → P x
 of_some P o x e held = subst (λ q. IfSome q P) e held
+
+-- SPINDL with a number asks for one of two notes, where it asks for any
+pub either_turn : (P : Effect → Type 0) (s : Settings) (v : ℤ) (turn : Turn)
+    → P (effects.Sets s (Some (notes.Spindl turns.Cw (whole v)))) → P (effects.Sets s (Some (notes.Spindl turns.Ccw (whole v)))) → IfSome (spins s v turn) P
+either_turn P s v turns.Cw cw ccw = cw
+either_turn P s v turns.Ccw cw ccw = ccw
+either_turn P s v turns.Off cw ccw = tt
 
 -- ---- definitions
 
@@ -67,6 +79,11 @@ contour_said at deed side go how (Some start) None c on here = tt
 contour_said at deed side go how (Some start) (Some drive) None on here = tt
 contour_said at deed side go how (Some start) (Some drive) (Some check) on here =
     turned_said at deed (with_side at.settings side) start drive (turn_at at start drive go) how check on here
+
+spindle_said : (at : Situation) (v : ℤ) (turn : Turn) → IfSome (spins at.settings v turn) (IsSaidBy at (deeds.Spindl v turn))
+spindle_said at v turns.Cw = record { said = (v, refl, refl); settings = refl }
+spindle_said at v turns.Ccw = record { said = (v, refl, refl); settings = refl }
+spindle_said at v turns.Off = tt
 
 -- ---- a line for each statement
 
@@ -113,10 +130,10 @@ told at deeds.OptHalt = record { said = refl; settings = refl }
 told at deeds.EndWord = record { said = refl; settings = refl }
 told at deeds.Fini = record { said = refl; settings = refl }
 told at (deeds.Fedrat v) = record { said = (v, refl, refl); settings = refl }
-told at (deeds.Spindl n turn) = tt
-told at deeds.SpindlOff = tt
-told at (deeds.Coolnt c) = tt
-told at (deeds.Loadtl n) = tt
+told at (deeds.Spindl v turn) = spindle_said at v turn
+told at deeds.SpindlOff = record { said = (refl, refl); settings = refl }
+told at (deeds.Coolnt c) = record { said = refl; settings = refl }
+told at (deeds.Loadtl v) = record { said = (v, refl, refl); settings = refl }
 told at deeds.Macro = record { goes_on = refl; settings = refl }
 told at deeds.Termac = record { goes_on = refl; settings = refl }
 told at deeds.Call = record { goes_on = refl; settings = refl }

@@ -1,7 +1,9 @@
 -- What each statement asks for that is no definition.
 use Rattle.std.specs.Prelude.{◌≡◌, refl, ℕ, ◌*◌, ℤ, pos, neg_ℤ, true, codes, [], ◌∷◌, Option, Some, None}
 use Rattle.apt_num.specs.Root.{root}
+use Rattle.apt_words.specs.declared.Cool.TheVariants as cools
 use Rattle.apt_words.specs.declared.Go.TheVariants as turns
+use Rattle.apt_words.specs.declared.Turn.TheVariants as spins
 use Rattle.apt_words.specs.declared.Side.{Side}
 use Rattle.apt_words.specs.declared.Side.TheVariants as sides
 use Rattle.apt_words.specs.declared.Stop.TheVariants as stops
@@ -161,6 +163,22 @@ fini = refl
 -- in tenths of an inch per minute
 fedrat : effect_of at (deeds.Fedrat (pos 12350000)) ≡ says (record here { feed = pos 124 }) (notes.Fedrat (pos 124))
 fedrat = refl
+
+-- in turns per minute, to the nearest
+spindl : effect_of at (deeds.Spindl (pos 1200500000) spins.Cw) ≡ says here (notes.Spindl spins.Cw (pos 1201))
+spindl = refl
+
+spindl_counterclockwise : effect_of at (deeds.Spindl (pos 700499999) spins.Ccw) ≡ says here (notes.Spindl spins.Ccw (pos 700))
+spindl_counterclockwise = refl
+
+spindl_off : effect_of at deeds.SpindlOff ≡ says here (notes.Spindl spins.Off (pos 0))
+spindl_off = refl
+
+coolnt : effect_of at (deeds.Coolnt cools.Mist) ≡ says here (notes.Coolnt cools.Mist)
+coolnt = refl
+
+loadtl : effect_of at (deeds.Loadtl (pos 7000000)) ≡ says here (notes.Loadtl (pos 7))
+loadtl = refl
 
 -- ---- macros, loops and jumps: they change nothing but where the run goes on
 

@@ -31,6 +31,7 @@ use Rattle.apt_meaning.specs.Motions.{as_surface, line_in, motion, if_turned, mo
 use Rattle.apt_meaning.specs.Effects.{moves, cuts, moved_from, place_in, start_position_at, names, defines, defined, effect_of}
 use Rattle.apt_meaning.specs.Ranges.{IsPositionOrNone, AreSettings, IsSituation}
 use Rattle.apt_meaning.specs.Straight.{IsStraightMotion, IsLined}
+use Rattle.apt_meaning.proofs.Said.{either_turn}
 use Rattle.apt_meaning.proofs.EffectRanges.{on_side_or_as_it_was, motion_is}
 
 -- ---- names of lines
@@ -133,10 +134,10 @@ made at deeds.OptHalt is = tt
 made at deeds.EndWord is = tt
 made at deeds.Fini is = tt
 made at (deeds.Fedrat v) is = tt
-made at (deeds.Spindl n turn) is = tt
+made at (deeds.Spindl v turn) is = either_turn IsLined at.settings v turn tt tt
 made at deeds.SpindlOff is = tt
 made at (deeds.Coolnt c) is = tt
-made at (deeds.Loadtl n) is = tt
+made at (deeds.Loadtl v) is = tt
 made at deeds.Macro is = tt
 made at deeds.Termac is = tt
 made at deeds.Call is = tt

@@ -2,11 +2,13 @@
 use Rattle.std.specs.Prelude.{ℕ, ℤ, pos, ◌+ℤ◌, unsigned_abs, true, List, Option, Some, None, Result, Ok, Err}
 use Rattle.apt_words.specs.declared.Case.{Case}
 use Rattle.apt_words.specs.declared.Stop.{Stop}
+use Rattle.apt_words.specs.declared.Turn.{Turn}
+use Rattle.apt_words.specs.declared.Turn.TheVariants as turns
 use Rattle.apt_words.specs.declared.Units.{Units}
 use Rattle.apt_words.specs.declared.deed.Deed.{Deed}
 use Rattle.apt_words.specs.declared.deed.Deed.TheVariants as deeds
 use Rattle.apt_words.specs.Options.{◌>>=◌}
-use Rattle.apt_scalar.specs.Scalars.{grid_units, tenths}
+use Rattle.apt_scalar.specs.Scalars.{grid_units, tenths, whole}
 use Rattle.apt_cldata.specs.declared.record.Note.{Note}
 use Rattle.apt_cldata.specs.declared.record.Note.TheVariants as notes
 use Rattle.apt_cldata.specs.declared.record.Position.{Position}
@@ -84,7 +86,14 @@ defines (Some d) = names d.name d.figure
 unfoldable pub defined : Situation → Deed → Option Effect
 defined at deed = defines (definition_of at.settings.units at.table deed)
 
--- ---- the table of statements; those that the compiler does not have yet ask for nothing that it knows
+-- ---- the spindle: SPINDL with a number turns it, and SPINDL/OFF alone stops it
+
+abbrev pub spins : Settings → ℤ → Turn → Option Effect
+spins s v turns.Cw = says s (notes.Spindl turns.Cw (whole v))
+spins s v turns.Ccw = says s (notes.Spindl turns.Ccw (whole v))
+spins s v turns.Off = None
+
+-- ---- the table of statements; a GO on one surface, which the compiler does not have yet, asks for nothing that it knows
 
 abbrev pub effect_of : Situation → Deed → Option Effect
 effect_of at (deeds.Partno text) = says at.settings (notes.Partno text)
@@ -129,10 +138,10 @@ effect_of at deeds.OptHalt = says at.settings notes.OptStop
 effect_of at deeds.EndWord = says (record at.settings { ended = true }) notes.End
 effect_of at deeds.Fini = says at.settings notes.Fini
 effect_of at (deeds.Fedrat v) = says (record at.settings { feed = tenths v }) (notes.Fedrat (tenths v))
-effect_of at (deeds.Spindl n turn) = None
-effect_of at deeds.SpindlOff = None
-effect_of at (deeds.Coolnt c) = None
-effect_of at (deeds.Loadtl n) = None
+effect_of at (deeds.Spindl v turn) = spins at.settings v turn
+effect_of at deeds.SpindlOff = says at.settings (notes.Spindl turns.Off (pos 0))
+effect_of at (deeds.Coolnt c) = says at.settings (notes.Coolnt c)
+effect_of at (deeds.Loadtl v) = says at.settings (notes.Loadtl (whole v))
 effect_of at deeds.Macro = sets at.settings
 effect_of at deeds.Termac = sets at.settings
 effect_of at deeds.Call = sets at.settings

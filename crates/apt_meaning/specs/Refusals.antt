@@ -9,9 +9,10 @@ use Rattle.apt_words.specs.declared.Stop.{Stop}
 use Rattle.apt_words.specs.declared.Stop.TheVariants as stops
 use Rattle.apt_words.specs.declared.deed.Deed.{Deed}
 use Rattle.apt_words.specs.declared.deed.Deed.TheVariants as deeds
+use Rattle.apt_words.specs.Built.{is_turning}
 use Rattle.apt_words.specs.Options.{◌>>=◌}
 use Rattle.apt_words.specs.Rows.{Row, first_of}
-use Rattle.apt_scalar.specs.Scalars.{grid_units, tenths}
+use Rattle.apt_scalar.specs.Scalars.{grid_units, tenths, whole}
 use Rattle.apt_plane.specs.declared.figures.Surface.{Surface}
 use Rattle.apt_defs.specs.declared.figure.Figure.{Figure}
 use Rattle.apt_defs.specs.declared.figure.Definition.{Definition}
@@ -44,6 +45,10 @@ length_cases most g = (not (is_up_to most g), cases.OutOfRange) ∷ []
 
 abbrev pub out_of_reach : ℤ → Row
 out_of_reach g = (not (is_in_reach g), cases.OutOfRange)
+
+-- a feed, a speed and a tool are at least 1
+abbrev pub under_one : ℤ → Row
+under_one n = (int_lt n (pos 1), cases.OutOfRange)
 
 -- a position is within the coordinate limit
 abbrev pub position_cases : Position → List Row → List Row
@@ -211,11 +216,11 @@ cases_of at deeds.Halt = []
 cases_of at deeds.OptHalt = []
 cases_of at deeds.EndWord = []
 cases_of at deeds.Fini = []
-cases_of at (deeds.Fedrat v) = (int_lt (tenths v) (pos 1), cases.OutOfRange) ∷ []
-cases_of at (deeds.Spindl n turn) = not_built
-cases_of at deeds.SpindlOff = not_built
-cases_of at (deeds.Coolnt c) = not_built
-cases_of at (deeds.Loadtl n) = not_built
+cases_of at (deeds.Fedrat v) = under_one (tenths v) ∷ []
+cases_of at (deeds.Spindl v turn) = (not (is_turning turn), cases.NotBuilt) ∷ under_one (whole v) ∷ []
+cases_of at deeds.SpindlOff = []
+cases_of at (deeds.Coolnt c) = []
+cases_of at (deeds.Loadtl v) = under_one (whole v) ∷ []
 cases_of at deeds.Macro = []
 cases_of at deeds.Termac = []
 cases_of at deeds.Call = []

@@ -1,10 +1,11 @@
 -- What the effect of a step tells of the step.
 use Rattle.std.specs.Prelude.{◌≡◌, ℤ, pos, unsigned_abs, true, false, Some, None}
+use Rattle.apt_words.specs.declared.Turn.TheVariants as turns
 use Rattle.apt_words.specs.declared.Units.{Units}
 use Rattle.apt_words.specs.declared.deed.Deed.{Deed}
 use Rattle.apt_words.specs.declared.deed.Deed.TheVariants as deeds
 use Rattle.apt_words.specs.ProgramEnds.{is_ended}
-use Rattle.apt_scalar.specs.Scalars.{grid_units, tenths}
+use Rattle.apt_scalar.specs.Scalars.{grid_units, tenths, whole}
 use Rattle.apt_cldata.specs.declared.record.Note.{Note}
 use Rattle.apt_cldata.specs.declared.record.Note.TheVariants as notes
 use Rattle.apt_meaning.specs.declared.situation.Settings.{Settings}
@@ -38,9 +39,11 @@ IsNoteOf units deed (notes.Cutter d) = (v : ℤ) × (deed ≡ deeds.Cutter v) ×
 IsNoteOf units deed (notes.Intol t) = (v : ℤ) × (deed ≡ deeds.Intol v) × (t ≡ grid_units units v)
 IsNoteOf units deed (notes.Outtol t) = (v : ℤ) × (deed ≡ deeds.Outtol v) × (t ≡ grid_units units v)
 IsNoteOf units deed (notes.Fedrat f) = (v : ℤ) × (deed ≡ deeds.Fedrat v) × (f ≡ tenths v)
-IsNoteOf units deed (notes.Spindl turn n) = ⊥
-IsNoteOf units deed (notes.Coolnt c) = ⊥
-IsNoteOf units deed (notes.Loadtl n) = ⊥
+IsNoteOf units deed (notes.Spindl turns.Cw n) = (v : ℤ) × (deed ≡ deeds.Spindl v turns.Cw) × (n ≡ whole v)
+IsNoteOf units deed (notes.Spindl turns.Ccw n) = (v : ℤ) × (deed ≡ deeds.Spindl v turns.Ccw) × (n ≡ whole v)
+IsNoteOf units deed (notes.Spindl turns.Off n) = (deed ≡ deeds.SpindlOff) × (n ≡ pos 0)
+IsNoteOf units deed (notes.Coolnt c) = deed ≡ deeds.Coolnt c
+IsNoteOf units deed (notes.Loadtl n) = (v : ℤ) × (deed ≡ deeds.Loadtl v) × (n ≡ whole v)
 IsNoteOf units deed notes.Rapid = deed ≡ deeds.Rapid
 IsNoteOf units deed notes.Stop = deed ≡ deeds.Halt
 IsNoteOf units deed notes.OptStop = deed ≡ deeds.OptHalt

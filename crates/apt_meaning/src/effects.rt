@@ -3,8 +3,10 @@
 ghost use Rattle.std.specs.Prelude.{◌≡◌, Some, IfOk, IfSome};
 ghost use Rattle.apt_words.specs.Built.{IsBuilt};
 ghost use Rattle.apt_words.specs.declared.deed.Deed.TheVariants as deeds;
+ghost use Rattle.apt_scalar.specs.Scalars as scalars;
 ghost use Rattle.apt_scalar.specs.Scalars.{IsScalar};
 ghost use Rattle.apt_scalar.specs.StepScalars.{HasScalars, IsScalarOrNone};
+ghost use Rattle.apt_cldata.specs.declared.record.Note.TheVariants as notes;
 ghost use Rattle.apt_meaning.specs.Effects as asking;
 ghost use Rattle.apt_meaning.specs.Ranges.{IsSituation};
 ghost use Rattle.apt_meaning.specs.Situations as situations;
@@ -18,8 +20,8 @@ use apt_cldata::{Note, Position, Reach};
 use apt_defs::definition;
 use apt_offset::signs::is_zero;
 use apt_plane::Pt;
-use apt_scalar::{grid_units, tenths};
-use apt_words::{Deed, Go, Side, Stop, Symbol};
+use apt_scalar::{grid_units, tenths, whole};
+use apt_words::{Deed, Go, Side, Stop, Symbol, Turn};
 use std::alloc::AllocError;
 
 /// What a step asks for at a situation, whether or not a case refuses it: the figure of a name; the settings
@@ -97,6 +99,11 @@ fn asked(at: &Situation, deed: &Deed) -> Result<Option<Effect>, AllocError>
         Deed::OptHalt => Ok(Some(Effect::says(s, Note::OptStop))),
         Deed::EndWord => Ok(Some(Effect::says(s.behind_end(), Note::End))),
         Deed::Fini => Ok(Some(Effect::says(s, Note::Fini))),
+        Deed::Spindl(v, Turn::Cw) => Ok(Some(spindl(at, *v, Turn::Cw))),
+        Deed::Spindl(v, Turn::Ccw) => Ok(Some(spindl(at, *v, Turn::Ccw))),
+        Deed::SpindlOff => Ok(Some(Effect::says(s, Note::Spindl(Turn::Off, 0)))),
+        Deed::Coolnt(cool) => Ok(Some(Effect::says(s, Note::Coolnt(*cool)))),
+        Deed::Loadtl(v) => Ok(Some(loadtl(at, *v))),
         _ => unreachable!(),
     }
 }
@@ -144,6 +151,21 @@ fn fedrat(at: &Situation, v: i64) -> Effect
 {
     let feed = tenths(v);
     Effect::says(at.settings.with_feed(feed), Note::Fedrat(feed))
+}
+
+/// A spindle that turns, in turns per minute.
+fn spindl(at: &Situation, v: i64, turn: Turn) -> Effect
+    requires { IsScalar v }
+    ensures { result ≡ Effect.Sets at.now.settings (Some (notes.Spindl turn (scalars.whole v))) }
+{
+    Effect::says(at.settings, Note::Spindl(turn, whole(v)))
+}
+
+fn loadtl(at: &Situation, v: i64) -> Effect
+    requires { IsScalar v }
+    ensures { Some result ≡ asking.effect_of at.now (deeds.Loadtl v) }
+{
+    Effect::says(at.settings, Note::Loadtl(whole(v)))
 }
 
 fn reached(at: &Situation, reach: Reach, x: i64, y: i64, z: Option<i64>) -> Effect

@@ -13,7 +13,7 @@ use Rattle.apt_meaning.specs.declared.situation.Situation.{Situation}
 use Rattle.apt_meaning.specs.declared.effect.Effect.{Effect}
 use Rattle.apt_meaning.specs.Effects.{moves, place_in, names, defines, defined, moved_from, start_position_at, effect_of}
 use Rattle.apt_meaning.specs.Compiled.{ends_of}
-use Rattle.apt_meaning.proofs.Said.{of_some}
+use Rattle.apt_meaning.proofs.Said.{of_some, either_turn}
 use Rattle.apt_motion.specs.Finding.{IsNoContour}
 
 abbrev HasNoEnd : Effect → Type 0
@@ -77,10 +77,10 @@ no_end at deeds.OptHalt plain = refl
 no_end at deeds.EndWord plain = refl
 no_end at deeds.Fini plain = refl
 no_end at (deeds.Fedrat v) plain = refl
-no_end at (deeds.Spindl n turn) plain = tt
-no_end at deeds.SpindlOff plain = tt
-no_end at (deeds.Coolnt c) plain = tt
-no_end at (deeds.Loadtl n) plain = tt
+no_end at (deeds.Spindl v turn) plain = either_turn HasNoEnd at.settings v turn refl refl
+no_end at deeds.SpindlOff plain = refl
+no_end at (deeds.Coolnt c) plain = refl
+no_end at (deeds.Loadtl v) plain = refl
 no_end at deeds.Macro plain = refl
 no_end at deeds.Termac plain = refl
 no_end at deeds.Call plain = refl

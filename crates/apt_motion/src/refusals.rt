@@ -1,6 +1,6 @@
 //! The cases that refuse steps which are no contours and no definitions.
 
-ghost use Rattle.std.specs.Prelude.{◌≡◌, [], Some};
+ghost use Rattle.std.specs.Prelude.{◌≡◌, [], ◌∷◌, Some};
 ghost use Rattle.apt_words.specs.Built.{IsBuilt};
 ghost use Rattle.apt_words.specs.Rows.{first_of};
 ghost use Rattle.apt_words.specs.declared.deed.Deed.TheVariants as deeds;
@@ -18,7 +18,7 @@ use apt_cldata::Position;
 use apt_defs::{Table, is_in_reach, point};
 use apt_meaning::{Settings, Situation, StartUp, built, moved_by, position_by, surface_of};
 use apt_plane::Surface;
-use apt_scalar::{grid_units, tenths};
+use apt_scalar::{grid_units, tenths, whole};
 use apt_words::{Case, Deed, Stop, Symbol};
 
 /// The greatest diameter of a cutter, in grid units.
@@ -50,6 +50,8 @@ pub(crate) fn refusal(at: &Situation, deed: &Deed) -> Option<Case>
         | Deed::OptHalt
         | Deed::EndWord
         | Deed::Fini
+        | Deed::SpindlOff
+        | Deed::Coolnt(_)
         | Deed::Macro
         | Deed::Termac
         | Deed::Call
@@ -59,7 +61,8 @@ pub(crate) fn refusal(at: &Situation, deed: &Deed) -> Option<Case>
         | Deed::If => None,
         Deed::Cutter(v) => length(MOST_DIAMETER, grid_units(units, *v)),
         Deed::Intol(v) | Deed::Outtol(v) => length(MOST_TOLERANCE, grid_units(units, *v)),
-        Deed::Fedrat(v) => fedrat(at, *v),
+        Deed::Fedrat(v) => under_one(tenths(*v)),
+        Deed::Spindl(v, _) | Deed::Loadtl(v) => under_one(whole(*v)),
         Deed::FromXy(x, y, z) => from(at, *x, *y, *z),
         Deed::FromPoint(p) => from_point(at, p),
         Deed::GotoXy(x, y, z) => move_to(&at.settings, position_by(units, *x, *y, *z)),
@@ -81,12 +84,11 @@ fn length(most: i64, g: i64) -> Option<Case>
     }
 }
 
-/// A feed is at least one tenth.
-fn fedrat(at: &Situation, v: i64) -> Option<Case>
-    requires { IsScalar v }
-    ensures { result ≡ refusal_of at.now (deeds.Fedrat v) }
+/// A feed in tenths, a speed and a tool are at least one.
+fn under_one(n: i64) -> Option<Case>
+    ensures { result ≡ first_of (refusals.under_one n ∷ []) }
 {
-    if tenths(v) < 1 {
+    if n < 1 {
         Some(Case::OutOfRange)
     } else {
         None

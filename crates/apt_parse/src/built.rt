@@ -3,7 +3,7 @@
 ghost use Rattle.std.specs.Prelude.{◌≡◌};
 ghost use Rattle.apt_words.specs.Built as built;
 
-use apt_words::{Body, Side, Stop, Symbol};
+use apt_words::{Body, Side, Stop, Symbol, Turn};
 
 /// Whether the compiler has the statement.
 pub(crate) fn is_built(body: &Body) -> bool
@@ -47,6 +47,9 @@ pub(crate) fn is_built(body: &Body) -> bool
         | Body::EndWord
         | Body::Fini
         | Body::Fedrat(_)
+        | Body::SpindlOff
+        | Body::Coolnt(_)
+        | Body::Loadtl(_)
         | Body::Macro(..)
         | Body::Termac
         | Body::Call(..)
@@ -57,7 +60,7 @@ pub(crate) fn is_built(body: &Body) -> bool
         Body::Tool(side) => is_side_built(*side),
         Body::GoStart(stop, _, other) => is_start_built(*stop, other),
         Body::Contour(side, _, _, stop, _) => is_side_or_none_built(*side) && is_stop_built(*stop),
-        Body::Spindl(..) | Body::SpindlOff | Body::Coolnt(_) | Body::Loadtl(_) => false,
+        Body::Spindl(_, turn) => is_turning(*turn),
     }
 }
 
@@ -85,6 +88,15 @@ fn is_side_or_none_built(side: Option<Side>) -> bool
     match side {
         Some(side) => is_side_built(side),
         None => true,
+    }
+}
+
+fn is_turning(turn: Turn) -> bool
+    ensures { result ≡ built.is_turning turn }
+{
+    match turn {
+        Turn::Cw | Turn::Ccw => true,
+        Turn::Off => false,
     }
 }
 

@@ -32,9 +32,6 @@ Suits body deed = HasScalars deed × (is_end deed ≡ is_fini body) × (HasText 
 plain : {A : Type 0} → A → Unit {0}
 plain _ = tt
 
-no : {A : Type 0} → IsTrue false → A
-no built = absurd (cc)
-
 -- such a deed, or a refusal
 abbrev Gives : Body → Result Deed Case → Type 0
 Gives body r = Tells (Suits body) r
@@ -180,10 +177,10 @@ execution-suits names ps bodies.OptHalt = (tt, refl, plain, λ _. tt)
 execution-suits names ps bodies.EndWord = (tt, refl, plain, λ _. tt)
 execution-suits names ps bodies.Fini = (tt, refl, plain, λ _. tt)
 execution-suits names ps (bodies.Fedrat e) = by_value (bodies.Fedrat e) names ps e _ (λ v h. (h, refl, plain, λ _. tt))
-execution-suits names ps (bodies.Spindl e turn) = by_value (bodies.Spindl e turn) names ps e _ (λ v h. (h, refl, plain, no))
-execution-suits names ps bodies.SpindlOff = (tt, refl, plain, no)
-execution-suits names ps (bodies.Coolnt c) = (tt, refl, plain, no)
-execution-suits names ps (bodies.Loadtl e) = by_value (bodies.Loadtl e) names ps e _ (λ v h. (h, refl, plain, no))
+execution-suits names ps (bodies.Spindl e turn) = by_value (bodies.Spindl e turn) names ps e _ (λ v h. (h, refl, plain, λ is. is))
+execution-suits names ps bodies.SpindlOff = (tt, refl, plain, λ _. tt)
+execution-suits names ps (bodies.Coolnt c) = (tt, refl, plain, λ _. tt)
+execution-suits names ps (bodies.Loadtl e) = by_value (bodies.Loadtl e) names ps e _ (λ v h. (h, refl, plain, λ _. tt))
 execution-suits names ps (bodies.Macro m parameters) = (tt, refl, plain, λ _. tt)
 execution-suits names ps bodies.Termac = (tt, refl, plain, λ _. tt)
 execution-suits names ps (bodies.Call m args) = (tt, refl, plain, λ _. tt)

@@ -4,6 +4,8 @@ use Rattle.apt_words.specs.declared.Side.{Side}
 use Rattle.apt_words.specs.declared.Side.TheVariants as sides
 use Rattle.apt_words.specs.declared.Stop.{Stop}
 use Rattle.apt_words.specs.declared.Stop.TheVariants as stops
+use Rattle.apt_words.specs.declared.Turn.{Turn}
+use Rattle.apt_words.specs.declared.Turn.TheVariants as turns
 use Rattle.apt_words.specs.declared.body.Body.{Body}
 use Rattle.apt_words.specs.declared.body.Body.TheVariants as bodies
 use Rattle.apt_words.specs.declared.body.Stmt.{Stmt}
@@ -35,6 +37,12 @@ is_start_built q (Some other) = is_stop_built q && is_stop_built other.0
 
 abbrev pub is_contour_built : Option Side → Stop → Bool
 is_contour_built side q = is_side_or_none_built side && is_stop_built q
+
+-- SPINDL with a number turns the spindle
+abbrev pub is_turning : Turn → Bool
+is_turning turns.Cw = true
+is_turning turns.Ccw = true
+is_turning turns.Off = false
 
 -- ---- statements as they are read
 
@@ -79,10 +87,10 @@ is_built bodies.OptHalt = true
 is_built bodies.EndWord = true
 is_built bodies.Fini = true
 is_built (bodies.Fedrat e) = true
-is_built (bodies.Spindl e turn) = false
-is_built bodies.SpindlOff = false
-is_built (bodies.Coolnt c) = false
-is_built (bodies.Loadtl e) = false
+is_built (bodies.Spindl e turn) = is_turning turn
+is_built bodies.SpindlOff = true
+is_built (bodies.Coolnt c) = true
+is_built (bodies.Loadtl e) = true
 is_built (bodies.Macro m ps) = true
 is_built bodies.Termac = true
 is_built (bodies.Call m args) = true
@@ -139,10 +147,10 @@ IsBuilt deeds.OptHalt = Unit {0}
 IsBuilt deeds.EndWord = Unit {0}
 IsBuilt deeds.Fini = Unit {0}
 IsBuilt (deeds.Fedrat v) = Unit {0}
-IsBuilt (deeds.Spindl n turn) = ⊥
-IsBuilt deeds.SpindlOff = ⊥
-IsBuilt (deeds.Coolnt c) = ⊥
-IsBuilt (deeds.Loadtl n) = ⊥
+IsBuilt (deeds.Spindl n turn) = IsTrue (is_turning turn)
+IsBuilt deeds.SpindlOff = Unit {0}
+IsBuilt (deeds.Coolnt c) = Unit {0}
+IsBuilt (deeds.Loadtl n) = Unit {0}
 IsBuilt deeds.Macro = Unit {0}
 IsBuilt deeds.Termac = Unit {0}
 IsBuilt deeds.Call = Unit {0}
