@@ -266,4 +266,3 @@ fine = refl
 
 one_surface : refusal_of (at here on_track) (deeds.GoStart stops.To (codes "L1") None) ≡ Some cases.NotBuilt
 one_surface = refl
-

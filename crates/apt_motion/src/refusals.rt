@@ -88,11 +88,7 @@ fn length(most: i64, g: i64) -> Option<Case>
 fn under_one(n: i64) -> Option<Case>
     ensures { result ≡ first_of (refusals.under_one n ∷ []) }
 {
-    if n < 1 {
-        Some(Case::OutOfRange)
-    } else {
-        None
-    }
+    if n < 1 { Some(Case::OutOfRange) } else { None }
 }
 
 /// A position is within the coordinate limit.

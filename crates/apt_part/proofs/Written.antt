@@ -5,12 +5,14 @@ use Rattle.std.proofs.lemmas.Bool.{true≢false}
 use Rattle.apt_words.specs.declared.Case.{Case}
 use Rattle.apt_words.specs.declared.Case.TheVariants as cases
 use Rattle.apt_words.specs.declared.Refusal.{Refusal}
+use Rattle.apt_words.specs.declared.Turn.{Turn}
+use Rattle.apt_words.specs.declared.Turn.TheVariants as spins
 use Rattle.apt_words.specs.declared.deed.Deed.{Deed}
 use Rattle.apt_words.specs.declared.deed.Deed.TheVariants as deeds
 use Rattle.apt_words.specs.declared.deed.Step.{Step}
 use Rattle.apt_words.specs.Rows.{first_of}
 use Rattle.apt_words.specs.Sources.{AreExecuted}
-use Rattle.apt_scalar.specs.Scalars.{tenths}
+use Rattle.apt_scalar.specs.Scalars.{tenths, whole}
 use Rattle.apt_plane.specs.declared.figures.Pt.{Pt}
 use Rattle.apt_cldata.specs.declared.record.Position.{Position}
 use Rattle.apt_cldata.specs.declared.record.Reach.{Reach}
@@ -19,7 +21,7 @@ use Rattle.apt_cldata.specs.declared.record.Note.{Note}
 use Rattle.apt_cldata.specs.declared.record.Note.TheVariants as notes
 use Rattle.apt_cldata.specs.declared.record.Record.{Record}
 use Rattle.apt_cldata.specs.declared.record.Record.TheVariants as records
-use Rattle.apt_cldata.specs.Ranges.{IsPosition, ArePositions, AreRecords}
+use Rattle.apt_cldata.specs.Ranges.{IsFromTo, greatest, IsNote, IsPosition, ArePositions, AreRecords}
 use Rattle.apt_meaning.specs.declared.situation.Settings.{Settings}
 use Rattle.apt_meaning.specs.declared.situation.Situation.{Situation}
 use Rattle.apt_meaning.specs.declared.effect.Effect.{Effect}
@@ -87,16 +89,16 @@ written_move p s to agrees room is on =
 
 -- ---- the records of an effect
 
--- the machine takes a feed that is not past its greatest
-not_past : (limit : ℕ) (v : ℤ) → limit ≤ 9999 → is_past limit v ≡ false → v ≤ℤ pos 9999
-not_past limit v small e = grind (arith, ints, small)
+-- a number that is not past the greatest of a machine
+not_past : (limit most : ℕ) (v : ℤ) → limit ≤ most → is_past limit v ≡ false → v ≤ℤ pos most
+not_past limit most v small e = grind (arith, ints, small)
 
 no_case : (b : Bool) (case : Case) → cond b (Some case) None ≡ None → b ≡ false
 no_case true case e = absurd cc
 no_case false case e = refl
 
 taken_feed : (machine : Machine) (v : ℤ) → IsMachine machine → first_of (machine_cases machine (deeds.Fedrat v)) ≡ None → tenths v ≤ℤ pos 9999
-taken_feed machine v is takes = not_past machine.feedmax (tenths v) is.feed (no_case (is_past machine.feedmax (tenths v)) cases.FeedTooLarge takes)
+taken_feed machine v is takes = not_past machine.feedmax 9999 (tenths v) is.feed (no_case (is_past machine.feedmax (tenths v)) cases.FeedTooLarge takes)
 
 -- records whose acts can be written, and what they leave pending
 pub record Leaves (p : Pending) (rs : List Record) (s : Settings) : Type 0 where
@@ -112,25 +114,50 @@ end_written false p = (tt, tt)
 with_feed : (p : Pending) (s : Settings) (f : ℤ) → Agrees p s → f ≤ℤ pos 9999 → Leaves p (records.Note (notes.Fedrat f) ∷ []) (record s { feed = f })
 with_feed p s f agrees most = record { can = (tt, tt); agrees = record { feed = refl; rapid = agrees.rapid }; room = record { most = most } }
 
+-- a number from 1 up that the machine takes
+at_least_one : (most : ℕ) (n : ℤ) → IsFromTo (pos 1) greatest n → n ≤ℤ pos most → IsUpTo most n
+at_least_one most (pos n) range h = (refl, omega (arith, ints, range.0), omega (arith, ints, h))
+at_least_one most (negsuc n) range h = absurd (omega (arith, ints, range.0))
+
+taken_speed : (machine : Machine) (deed : Deed) (v : ℤ) (turn : Turn) (n : ℤ) → IsMachine machine → first_of (machine_cases machine deed) ≡ None
+    → deed ≡ deeds.Spindl v turn → n ≡ whole v → n ≤ℤ pos 9999
+taken_speed machine deed v turn n is takes said e =
+    let fits = subst (λ (d : Deed). first_of (machine_cases machine d) ≡ None) said takes in
+    rw e (not_past machine.spinmax 9999 (whole v) is.spindle (no_case (is_past machine.spinmax (whole v)) cases.SpindleTooLarge fits))
+
+taken_tool : (machine : Machine) (deed : Deed) (v n : ℤ) → IsMachine machine → first_of (machine_cases machine deed) ≡ None
+    → deed ≡ deeds.Loadtl v → n ≡ whole v → n ≤ℤ pos 99
+taken_tool machine deed v n is takes said e =
+    let fits = subst (λ (d : Deed). first_of (machine_cases machine d) ≡ None) said takes in
+    rw e (not_past machine.toolmax 99 (whole v) is.tool (no_case (is_past machine.toolmax (whole v)) cases.ToolTooLarge fits))
+
+spun_written : (p : Pending) (s : Settings) (turn : Turn) (n : ℤ) → Agrees p s → HasRoom s → CanWrite (acts.Spindle turn n) → Leaves p (records.Note (notes.Spindl turn n) ∷ []) s
+spun_written p s turn n agrees room can = record { can = ((can, tt), tt); agrees = agrees; room = room }
+
 -- a note that is said by its statement, which the machine takes
 note_written : (machine : Machine) (p : Pending) (s : Settings) (deed : Deed) (note : Note) → IsMachine machine → Agrees p s → HasRoom s
-    → first_of (machine_cases machine deed) ≡ None → IsNoteOf s.units deed note → Leaves p (records.Note note ∷ []) (settings_with s note)
-note_written machine p s deed (notes.Partno text) is agrees room takes says = record { can = (tt, tt); agrees = agrees; room = room }
-note_written machine p s deed (notes.Units units) is agrees room takes says = record { can = (tt, tt); agrees = record { feed = agrees.feed; rapid = agrees.rapid }; room = record { most = room.most } }
-note_written machine p s deed (notes.Cutter d) is agrees room takes says = record { can = (tt, tt); agrees = record { feed = agrees.feed; rapid = agrees.rapid }; room = record { most = room.most } }
-note_written machine p s deed (notes.Intol t) is agrees room takes says = record { can = (tt, tt); agrees = record { feed = agrees.feed; rapid = agrees.rapid }; room = record { most = room.most } }
-note_written machine p s deed (notes.Outtol t) is agrees room takes says = record { can = (tt, tt); agrees = record { feed = agrees.feed; rapid = agrees.rapid }; room = record { most = room.most } }
-note_written machine p s deed (notes.Fedrat f) is agrees room takes says =
+    → first_of (machine_cases machine deed) ≡ None → IsNoteOf s.units deed note → IsNote note → Leaves p (records.Note note ∷ []) (settings_with s note)
+note_written machine p s deed (notes.Partno text) is agrees room takes says good = record { can = (tt, tt); agrees = agrees; room = room }
+note_written machine p s deed (notes.Units units) is agrees room takes says good = record { can = (tt, tt); agrees = record { feed = agrees.feed; rapid = agrees.rapid }; room = record { most = room.most } }
+note_written machine p s deed (notes.Cutter d) is agrees room takes says good = record { can = (tt, tt); agrees = record { feed = agrees.feed; rapid = agrees.rapid }; room = record { most = room.most } }
+note_written machine p s deed (notes.Intol t) is agrees room takes says good = record { can = (tt, tt); agrees = record { feed = agrees.feed; rapid = agrees.rapid }; room = record { most = room.most } }
+note_written machine p s deed (notes.Outtol t) is agrees room takes says good = record { can = (tt, tt); agrees = record { feed = agrees.feed; rapid = agrees.rapid }; room = record { most = room.most } }
+note_written machine p s deed (notes.Fedrat f) is agrees room takes says good =
     let v = says.0 in
     with_feed p s f agrees (subst (λ (g : ℤ). g ≤ℤ pos 9999) (sym says.2) (taken_feed machine v is (subst (λ (d : Deed). first_of (machine_cases machine d) ≡ None) says.1 takes)))
-note_written machine p s deed (notes.Spindl turn n) is agrees room takes says = absurd says
-note_written machine p s deed (notes.Coolnt c) is agrees room takes says = absurd says
-note_written machine p s deed (notes.Loadtl n) is agrees room takes says = absurd says
-note_written machine p s deed notes.Rapid is agrees room takes says = record { can = (tt, tt); agrees = record { feed = agrees.feed; rapid = refl }; room = record { most = room.most } }
-note_written machine p s deed notes.Stop is agrees room takes says = record { can = ((tt, tt), tt); agrees = agrees; room = room }
-note_written machine p s deed notes.OptStop is agrees room takes says = record { can = ((tt, tt), tt); agrees = agrees; room = room }
-note_written machine p s deed notes.End is agrees room takes says = record { can = (end_written p.ended p, tt); agrees = record { feed = agrees.feed; rapid = agrees.rapid }; room = record { most = room.most } }
-note_written machine p s deed notes.Fini is agrees room takes says = record { can = (end_written p.ended p, tt); agrees = record { feed = agrees.feed; rapid = agrees.rapid }; room = room }
+note_written machine p s deed (notes.Spindl spins.Cw n) is agrees room takes says good =
+    spun_written p s spins.Cw n agrees room (at_least_one 9999 n good (taken_speed machine deed says.0 spins.Cw n is takes says.1 says.2))
+note_written machine p s deed (notes.Spindl spins.Ccw n) is agrees room takes says good =
+    spun_written p s spins.Ccw n agrees room (at_least_one 9999 n good (taken_speed machine deed says.0 spins.Ccw n is takes says.1 says.2))
+note_written machine p s deed (notes.Spindl spins.Off n) is agrees room takes says good = spun_written p s spins.Off n agrees room says.1
+note_written machine p s deed (notes.Coolnt c) is agrees room takes says good = record { can = ((tt, tt), tt); agrees = agrees; room = room }
+note_written machine p s deed (notes.Loadtl n) is agrees room takes says good =
+    record { can = ((at_least_one 99 n good (taken_tool machine deed says.0 n is takes says.1 says.2), tt), tt); agrees = agrees; room = room }
+note_written machine p s deed notes.Rapid is agrees room takes says good = record { can = (tt, tt); agrees = record { feed = agrees.feed; rapid = refl }; room = record { most = room.most } }
+note_written machine p s deed notes.Stop is agrees room takes says good = record { can = ((tt, tt), tt); agrees = agrees; room = room }
+note_written machine p s deed notes.OptStop is agrees room takes says good = record { can = ((tt, tt), tt); agrees = agrees; room = room }
+note_written machine p s deed notes.End is agrees room takes says good = record { can = (end_written p.ended p, tt); agrees = record { feed = agrees.feed; rapid = agrees.rapid }; room = record { most = room.most } }
+note_written machine p s deed notes.Fini is agrees room takes says good = record { can = (end_written p.ended p, tt); agrees = record { feed = agrees.feed; rapid = agrees.rapid }; room = room }
 
 moved : (p : Pending) (s : Settings) (reach : Reach) (to : Position) → Agrees p s → HasRoom s → IsPosition to → IsFed s (effects.Moves reach to)
     → Leaves p (records.Point reach to ∷ []) (settings_behind reach s)
@@ -150,7 +177,7 @@ said_written machine p at deed (effects.Defines n f) vertices is agrees room tak
 said_written machine p at deed (effects.Sets s None) vertices is agrees room takes says on in_range =
     nothing_written p at.settings s agrees room (ap (λ (t : Settings). t.feed) says.settings) (ap (λ (t : Settings). t.rapid) says.settings)
 said_written machine p at deed (effects.Sets s (Some note)) vertices is agrees room takes says on in_range =
-    subst (Leaves p (records.Note note ∷ [])) (sym says.settings) (note_written machine p at.settings deed note is agrees room takes says.said)
+    subst (Leaves p (records.Note note ∷ [])) (sym says.settings) (note_written machine p at.settings deed note is agrees room takes says.said in_range.0)
 said_written machine p at deed (effects.Moves reach to) vertices is agrees room takes says on in_range = moved p at.settings reach to agrees room in_range.0 on
 said_written machine p at deed (effects.Cuts m) vertices is agrees room takes says on in_range =
     record { can = (tt, (tt, (written_cuts p at.settings _ agrees room in_range.1.1.0.1 on, tt))); agrees = record { feed = agrees.feed; rapid = agrees.rapid }; room = record { most = room.most } }
