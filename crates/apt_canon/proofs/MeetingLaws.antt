@@ -73,3 +73,9 @@ near_second a b ha hb is small apart =
 pub meeting_point-near : (a b : Line) (ha hb : ℤ) → IsLine a → IsLine b → unsigned_abs ha ≤ 10 ^ 8 → unsigned_abs hb ≤ 10 ^ 8 → cross a.dir b.dir ≢ pos 0
     → IsNearLine a ha (pos 1) (meeting_point a ha b hb) × IsNearLine b hb (pos 1) (meeting_point a ha b hb)
 meeting_point-near a b ha hb is_a is_b small_a small_b apart = (near_first a b ha hb is_a small_a apart, near_second a b ha hb is_b small_b apart)
+
+-- and so is a point of the same parts
+pub parts-near : (a b : Line) (ha hb x y : ℤ) → IsLine a → IsLine b → unsigned_abs ha ≤ 10 ^ 8 → unsigned_abs hb ≤ 10 ^ 8 → cross a.dir b.dir ≢ pos 0
+    → x ≡ (meeting_point a ha b hb).x → y ≡ (meeting_point a ha b hb).y
+    → IsNearLine a ha (pos 1) (record { x = x; y = y }) × IsNearLine b hb (pos 1) (record { x = x; y = y })
+parts-near a b ha hb x y is_a is_b small_a small_b apart ex ey = rw (ex, ey) (meeting_point-near a b ha hb is_a is_b small_a small_b apart)
