@@ -16,6 +16,7 @@ use Rattle.apt_canon.specs.declared.FormFault.TheVariants.{NoMeeting, Degenerate
 use Rattle.apt_canon.specs.Scale.{in_range, IsNearLine, IsNearCircle}
 use Rattle.apt_canon.specs.Circles.{DoMeet, reaches, line_circle, line_circle_point, are_concentric, overlap, chord_depth, circle_circle, circle_circle_point}
 use Rattle.apt_canon.proofs.Fits.{if_fits, in_range-IsPoint, no_other_fault}
+use Rattle.apt_canon.proofs.Ways.{one_point, no_way, way-IsDir}
 use Rattle.apt_canon.proofs.LineCircleLaws.{point_on_line, point_on_circle}
 use Rattle.apt_canon.proofs.CircleCircleLaws.{TwoCircles, chord_within, point_on_first, point_on_second}
 
@@ -101,32 +102,7 @@ answer_on_circle r l c sigma is round sense e =
 pub le-fails : (m n : ℕ) → n < m → nat_le m n ≡ false
 le-fails m n h = grind (arith, nat_tests)
 
-abbrev pt : ℤ → ℤ → Pt
-pt x y = record { x = x; y = y }
-
-pt_same : (x y u v : ℤ) → x ≡ u → y ≡ v → pt x y ≡ pt u v
-pt_same x y u v e f = rw (e, f) refl
-
-none : (m n : ℕ) → m * m + n * n ≡ 0 → (m ≡ 0) × (n ≡ 0)
-none zero zero e = (refl, refl)
-none zero (suc n) e = absurd (omega (arith, e))
-none (suc m) n e = absurd (omega (arith, e))
-
-no_difference : (p q : ℤ) → unsigned_abs (q -ℤ p) ≡ 0 → p ≡ q
-no_difference p q e = omega (arith, ints, e)
-
-same_centre : (p q : Pt) → length_squared (displacement p q) ≡ 0 → p ≡ q
-same_centre p q e =
-    let parts = none (unsigned_abs (q.x -ℤ p.x)) (unsigned_abs (q.y -ℤ p.y)) e in
-    pt_same p.x p.y q.x q.y (no_difference p.x q.x parts.0) (no_difference p.y q.y parts.1)
-
-to_itself : (z : ℤ) → z -ℤ z ≡ pos 0
-to_itself z = omega (arith, ints)
-
-no_way : (p : Pt) → length_squared (displacement p p) ≡ 0
-no_way p = rw (to_itself p.x, to_itself p.y) refl
-
-zero-true : (n : ℕ) → (n == 0) ≡ true → n ≡ 0
+zero-true : (n : ℕ) → (n == 0) ≡ true → n ≤ 0
 zero-true n e = grind (arith, nat_tests)
 
 zero-fails : (n : ℕ) → 0 < n → (n == 0) ≡ false
@@ -144,8 +120,8 @@ le-from m n h = grind (arith, nat_tests)
 concentric-tells : (a b : Circ) → Tells (are_concentric a b) (a.c ≡ b.c)
 concentric-tells a b =
     tells (are_concentric a b) (a.c ≡ b.c)
-    (λ e. same_centre a.c b.c (zero-true (length_squared (displacement a.c b.c)) e))
-    (λ e. zero-from (length_squared (displacement a.c b.c)) (subst (λ (p : Pt). length_squared (displacement a.c p) ≡ 0) e (no_way a.c)))
+    (λ e. one_point a.c b.c (zero-true (length_squared (displacement a.c b.c)) e))
+    (λ e. zero-from (length_squared (displacement a.c b.c)) (no_way a.c b.c e))
 
 overlap-true : (a b : Circ) → overlap a b ≡ true → DoMeet a b
 overlap-true a b e =
@@ -184,19 +160,6 @@ in_range-by : (same meets : Bool) (p : Pt) → IfOk (answer_by same meets p) (λ
 in_range-by true meets p = tt
 in_range-by false true p = in_range-IsPoint p
 in_range-by false false p = tt
-
--- the way between different points in range
-some_way : (m n : ℕ) → (m * m + n * n ≡ 0 → ⊥) → 1 ≤ m * m + n * n
-some_way zero zero d = absurd (d refl)
-some_way zero (suc n) d = omega arith
-some_way (suc m) n d = omega arith
-
-pub way-IsDir : (p q : Pt) → IsPoint p → IsPoint q → p ≢ q → IsDir (displacement p q)
-way-IsDir p q is at apart = record {
-  dx = omega (arith, ints, is.x, at.x);
-  dy = omega (arith, ints, is.y, at.y);
-  length = some_way (unsigned_abs (q.x -ℤ p.x)) (unsigned_abs (q.y -ℤ p.y)) (λ e. apart (same_centre p q e));
-}
 
 sum_inside : (r q : ℤ) (n : ℕ) → pos 0 ≤ℤ r → pos 0 ≤ℤ q → n ≤ square (r +ℤ q) → n ≤ (unsigned_abs r + unsigned_abs q) * (unsigned_abs r + unsigned_abs q)
 sum_inside (pos r) (pos q) n is_r is_q h = h

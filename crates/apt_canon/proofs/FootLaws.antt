@@ -19,11 +19,11 @@ use Rattle.apt_canon.specs.Circles.{depth}
 use Rattle.apt_canon.specs.Feet.{foot_point, parallel_point}
 use Rattle.apt_canon.proofs.Ways.{displacement_from, height_at_first}
 use Rattle.apt_canon.proofs.Depths.{length_facts, length_positive}
-use Rattle.apt_canon.proofs.Frames.{frame_way, framed_on_line}
+use Rattle.apt_canon.proofs.Frames.{frame_way, framed_on_line, in_range-lag}
 use Rattle.apt_canon.proofs.Sharp.{rest_alone}
 
 pub foot_near : (p : Pt) (l : Line) (h : ℤ) → IsPoint p → IsLine l → unsigned_abs h ≤ 10 ^ 8 → IsNearLine l h (pos 1) (foot_point p l h)
-foot_near p l h point is small = framed_on_line l h p (pos 0) is point small
+foot_near p l h point is small = framed_on_line l h p (pos 0) is small (in_range-lag l h p is point small)
 
 square_below : (d : Dir) (y : ℤ) → dot d (frame_way d (pos 0) y) ≡ pos 0
 square_below d y = dot_times d (in_frame d (pos 0) y) (pos 32) ∙ rw (dot_in_frame d (pos 0) y) (omega (arith, ints))

@@ -12,7 +12,6 @@ pub mod Meets
 pub mod NearLine
 pub mod MeetingLaws
 pub mod OnBoth
-pub mod FramedPoints
 pub mod LineCircleLaws
 pub mod CircleCircleLaws
 pub mod RoundsSizes

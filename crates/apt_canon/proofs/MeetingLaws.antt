@@ -11,6 +11,7 @@ use Rattle.apt_plane.proofs.Displacements.{cross_self, cross_swap, cross_minus, 
 use Rattle.apt_plane.proofs.Rounding.{near_displacement, moved}
 use Rattle.apt_canon.specs.Scale.{unit, length_of, IsNearLine}
 use Rattle.apt_canon.specs.Meeting.{meeting_displacement, meeting_point}
+use Rattle.apt_canon.proofs.Products.{units_not_zero}
 use Rattle.apt_canon.proofs.Ways.{height_at_first, height_at_second}
 use Rattle.apt_canon.proofs.NearLine.{near_line}
 
@@ -43,16 +44,13 @@ cancel_parts d u c e rest = rw (as_diff d, as_diff u, as_diff c, as_diff e, as_d
 split_height : (d u c k e rest : ℤ) → (d *ℤ u) *ℤ k ≡ (d *ℤ (e -ℤ (c *ℤ u))) +ℤ rest → (d *ℤ u) *ℤ (c +ℤ k) ≡ (d *ℤ e) +ℤ rest
 split_height d u c k e rest h = shift_parts d u c k e ∙ rw h (cancel_parts d u c e rest)
 
-units_apart : (d : ℤ) → d ≢ pos 0 → d *ℤ pos (2 ^ 35) ≢ pos 0
-units_apart d h = λ e. h (omega (arith, ints))
-
 near_first : (a b : Line) (ha hb : ℤ) → IsLine a → unsigned_abs ha ≤ 10 ^ 8 → cross a.dir b.dir ≢ pos 0
     → IsNearLine a ha (pos 1) (meeting_point a ha b hb)
 near_first a b ha hb is small apart =
     let turn = cross a.dir b.dir in
     let u = meeting_displacement a ha b hb in
     let m = turn *ℤ unit in
-    let rounded = moved a.dir u m (units_apart turn apart) in
+    let rounded = moved a.dir u m (units_not_zero turn apart) in
     let v = near_displacement u m in
     let height : m *ℤ cross a.dir v ≡ (turn *ℤ (ha *ℤ length_of a.dir)) +ℤ rounded.0 = rounded.1 ∙ ap (λ z. z +ℤ rounded.0) (displacement_above_first a b ha hb) in
     rw (height_at_first a.dir a.base v) (near_line a.dir turn (cross a.dir v) ha rounded.0 is.dir apart small height rounded.2)
@@ -64,7 +62,7 @@ near_second a b ha hb is small apart =
     let u = meeting_displacement a ha b hb in
     let m = turn *ℤ unit in
     let c = cross b.dir (displacement b.base a.base) in
-    let rounded = moved b.dir u m (units_apart turn apart) in
+    let rounded = moved b.dir u m (units_not_zero turn apart) in
     let v = near_displacement u m in
     let above : m *ℤ cross b.dir v ≡ (turn *ℤ ((hb *ℤ length_of b.dir) -ℤ (c *ℤ unit))) +ℤ rounded.0 = rounded.1 ∙ ap (λ z. z +ℤ rounded.0) (displacement_above_second a b ha hb) in
     let height = split_height turn unit c (cross b.dir v) (hb *ℤ length_of b.dir) rounded.0 above in

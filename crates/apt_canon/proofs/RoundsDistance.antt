@@ -21,7 +21,9 @@ use Rattle.apt_plane.specs.Distances.{IsLengthAtMost, IsRootAtMost}
 use Rattle.apt_canon.specs.Scale.{unit, length_of, IsNearCircle}
 use Rattle.apt_canon.specs.Rounds.{circle, length_near, distance_from_line}
 use Rattle.apt_canon.specs.RoundLaws.{Touches}
-use Rattle.apt_canon.proofs.RoundsSizes.{length_facts, length_not_zero}
+use Rattle.apt_canon.proofs.Depths.{length_facts, length_positive}
+use Rattle.apt_canon.proofs.NearCircle.{not_negative}
+use Rattle.apt_canon.proofs.RoundsSizes.{odd_before}
 
 pub root_near-nearest : (n : ℕ) → n < 2 ^ 128 → IsNearestRoot n (root_near n)
 root_near-nearest n h =
@@ -31,9 +33,6 @@ root_near-nearest n h =
       | inr far ↦ rw far.0 (nearest_above n (root n) at far.1)
     ]
 
-odd_before : (t : ℕ) → 2 * suc t - 1 ≡ 2 * t + 1
-odd_before t = omega arith
-
 -- the square of a length lies between those of one less than its nearest number and of one more
 pub nearest_most : (n q : ℕ) → IsNearestRoot n q → n ≤ (q + 1) * (q + 1)
 nearest_most n q at = omega (arith, at.above)
@@ -42,9 +41,6 @@ pub nearest_least : (n t : ℕ) → IsNearestRoot n (suc t) → t * t ≤ n
 nearest_least n t at =
     let below : (2 * t + 1) * (2 * t + 1) < 4 * n = rw (odd_before t) at (at.below (omega arith)) in
     omega (arith, below)
-
-not_negative : (t : ℕ) → int_lt (pos t) (pos 0) ≡ false
-not_negative t = grind (arith, ints)
 
 pub size_at_most : (h : ℤ) (t n : ℕ) → h ≡ pos t → t * t ≤ n → IsLengthAtMost h n
 size_at_most h t n e p = rw (e, not_negative t) p
@@ -80,5 +76,5 @@ touches c l at is small =
     let s = root (n * 2 ^ 70) in
     let k = pos (unsigned_abs (cross l.dir (displacement l.base c))) in
     let facts = length_facts l.dir is.dir in
-    let near = near_remainder (k *ℤ unit) (length_of l.dir) (length_not_zero l.dir is.dir) in
+    let near = near_remainder (k *ℤ unit) (length_of l.dir) (length_positive l.dir is.dir) in
     on_line k (distance_from_line c l) (neg_ℤ near.0) n s facts.root (to_line k (pos s) (distance_from_line c l) near.0 near.1) (half_small near.0 s near.2) (omega (arith, facts.large, small))

@@ -47,7 +47,7 @@ answer c r = elim (small_tells r) [
   ]
 ]
 
-small_or_large : (r : ℤ) → r <ℤ pos 100 → pos 100 ≤ℤ r → ⊥
+pub small_or_large : (r : ℤ) → r <ℤ pos 100 → pos 100 ≤ℤ r → ⊥
 small_or_large r p q = omega (arith, ints)
 
 pub ok_or_fault : (a : Result Circ FormFault) (k : Circ) (e : FormFault) → a ≡ Ok k → a ≡ Err e → ⊥

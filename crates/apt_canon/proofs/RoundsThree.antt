@@ -18,6 +18,7 @@ use Rattle.apt_plane.specs.Distances.{IsLengthAtMost, IsRootAtMost}
 use Rattle.apt_canon.specs.Scale.{from}
 use Rattle.apt_canon.specs.Rounds.{length_near, centre_way, centre_divisor, centre_from}
 use Rattle.apt_canon.specs.RoundLaws.{IsEquidistant, IsThrough, rounded_through}
+use Rattle.apt_canon.proofs.Ways.{there_and_back}
 use Rattle.apt_canon.proofs.RoundsSizes.{twice_not_zero, way_small}
 use Rattle.apt_canon.proofs.RoundsDistance.{root_near-nearest, nearest_most, nearest_least, size_at_most, root_at_size}
 
@@ -91,9 +92,6 @@ radius_least u v e m t x y short h = elim (cases_lt (length_squared u) ((t * uns
       absurd (omega (arith, both, same, length_of_times m v, long))
   | inr past ↦ past
 ]
-
-there_and_back : (p q : ℤ) → (p +ℤ q) -ℤ p ≡ q
-there_and_back p q = omega (arith, ints)
 
 close_from : (p : Pt) (u v : Dir) (m : ℤ) (n : ℕ) → length_squared (plus u (times (neg_ℤ m) v)) ≤ n → length_squared (plus u (times (neg_ℤ m) (displacement p (from p v)))) ≤ n
 close_from p u v m n h = rw (there_and_back p.x v.dx, there_and_back p.y v.dy) h

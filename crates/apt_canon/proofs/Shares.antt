@@ -39,6 +39,3 @@ reached x q n r h e p =
     let size : unsigned_abs n ≡ unsigned_abs r = rw (side_kept r (omega arith)) at e in
     let short : unsigned_abs q ≤ unsigned_abs n = rw (side_kept n (omega arith)) at p in
     rw (side_kept x (omega arith), side_kept q (omega arith)) (side_kept (x +ℤ q) (omega (arith, ints)))
-
-pub turned : (z : ℤ) → pos 0 -ℤ z ≡ neg_ℤ z
-turned z = omega (arith, ints)
