@@ -21,6 +21,7 @@ pub mod RoundsFar
 pub mod RoundsThree
 pub mod RoundsCorner
 pub mod RoundsLaws
+pub mod Figures
 pub mod FeetWorked
 pub mod RoundsWorked
 pub mod Shares
