@@ -1,16 +1,16 @@
 -- Feet on a line, and parallels, lie within one unit of the line moved.
-use Rattle.std.proofs.Common.{refl, ◌≡◌, ◌≢◌, ℕ, ◌+◌, ◌*◌, ◌^◌, ◌≤◌, ◌∙◌, ap, sym, subst, arith, ℤ, pos, neg_ℤ, ◌+ℤ◌, ◌-ℤ◌, ◌*ℤ◌, unsigned_abs}
+use Rattle.std.proofs.Common.{refl, ◌≡◌, ◌*◌, ◌^◌, ◌≤◌, ◌∙◌, ap, sym, subst, arith, ℤ, pos, neg_ℤ, ◌+ℤ◌, ◌-ℤ◌, ◌*ℤ◌, unsigned_abs}
 use Rattle.std.proofs.lemmas.Nat.{mul-le}
 use Rattle.std.proofs.lemmas.Int.{ints}
 use Rattle.apt_num.specs.Root.{root}
 use Rattle.apt_num.proofs.Ring.{as_diff, diff-pos, diff-same, differences}
-use Rattle.apt_num.proofs.Squares.{size_neg, size_mul}
+use Rattle.apt_num.proofs.Squares.{size_mul}
 use Rattle.apt_num.proofs.Footed.{footed}
 use Rattle.apt_plane.specs.declared.figures.Pt.{Pt}
 use Rattle.apt_plane.specs.declared.figures.Dir.{Dir}
 use Rattle.apt_plane.specs.declared.figures.Line.{Line}
 use Rattle.apt_plane.specs.Vectors.{displacement, cross, dot, length_squared, perp}
-use Rattle.apt_plane.specs.Ranges.{IsPoint, IsDir, IsLine}
+use Rattle.apt_plane.specs.Ranges.{IsPoint, IsLine}
 use Rattle.apt_plane.proofs.Displacements.{cross_times, square_length_squared, cross_turn, dot_times}
 use Rattle.apt_plane.proofs.Lengths.{times, in_frame, dot_in_frame}
 use Rattle.apt_plane.proofs.Rounding.{near_displacement, moved, moved_dot}

@@ -1,5 +1,5 @@
 -- What rounding leaves of a point in a frame: its distances from a line and from a circle.
-use Rattle.std.proofs.Common.{refl, ◌≡◌, ◌≢◌, ℕ, ◌+◌, ◌-◌, ◌*◌, ◌^◌, ◌≤◌, ◌<◌, ◌∙◌, ap, sym, subst, arith, ℤ, pos, neg_ℤ, ◌+ℤ◌, ◌-ℤ◌, ◌*ℤ◌, ◌≤ℤ◌, unsigned_abs}
+use Rattle.std.proofs.Common.{◌≡◌, ℕ, ◌+◌, ◌-◌, ◌*◌, ◌^◌, ◌≤◌, ◌∙◌, ap, sym, subst, arith, ℤ, pos, neg_ℤ, ◌+ℤ◌, ◌-ℤ◌, ◌*ℤ◌, unsigned_abs}
 use Rattle.std.proofs.lemmas.Int.{ints}
 use Rattle.apt_num.specs.Root.{root}
 use Rattle.apt_num.proofs.Ring.{as_diff, diff-pos, diff-same, differences, *ℤ-+ℤ}
@@ -10,7 +10,7 @@ use Rattle.apt_plane.specs.declared.figures.Dir.{Dir}
 use Rattle.apt_plane.specs.declared.figures.Line.{Line}
 use Rattle.apt_plane.specs.Vectors.{displacement, cross, length_squared}
 use Rattle.apt_plane.specs.Ranges.{IsPoint, IsDir, IsLine}
-use Rattle.apt_plane.proofs.Displacements.{to, cross_times}
+use Rattle.apt_plane.proofs.Displacements.{cross_times}
 use Rattle.apt_plane.proofs.Lengths.{times, in_frame, cross_in_frame, length_in_frame, length_of_times, height_square, IsInRing, on_circle}
 use Rattle.apt_plane.proofs.Rounding.{near_displacement, displacement_rest, moved}
 use Rattle.apt_canon.specs.Scale.{length_of, IsNearLine}

@@ -1,13 +1,10 @@
 -- The meeting point of two moved lines is at most one unit from each of them.
-use Rattle.std.proofs.Common.{refl, ◌≡◌, ◌≢◌, ◌^◌, ◌≤◌, ◌∙◌, ap, arith, ℤ, pos, neg_ℤ, ◌+ℤ◌, ◌-ℤ◌, ◌*ℤ◌, unsigned_abs}
-use Rattle.std.proofs.lemmas.Int.{ints}
+use Rattle.std.proofs.Common.{◌≡◌, ◌≢◌, ◌^◌, ◌≤◌, ◌∙◌, ap, arith, ℤ, pos, neg_ℤ, ◌+ℤ◌, ◌-ℤ◌, ◌*ℤ◌, unsigned_abs}
 use Rattle.apt_num.proofs.Ring.{as_diff, diff-pos, diff-same, differences}
-use Rattle.apt_plane.specs.declared.figures.Pt.{Pt}
-use Rattle.apt_plane.specs.declared.figures.Dir.{Dir}
 use Rattle.apt_plane.specs.declared.figures.Line.{Line}
 use Rattle.apt_plane.specs.Vectors.{displacement, cross}
 use Rattle.apt_plane.specs.Ranges.{IsLine}
-use Rattle.apt_plane.proofs.Displacements.{cross_self, cross_swap, cross_minus, cross_sum}
+use Rattle.apt_plane.proofs.Displacements.{cross_self, cross_swap, cross_minus}
 use Rattle.apt_plane.proofs.Rounding.{near_displacement, moved}
 use Rattle.apt_canon.specs.Scale.{unit, length_of, IsNearLine}
 use Rattle.apt_canon.specs.Meeting.{meeting_displacement, meeting_point}

@@ -1,5 +1,5 @@
 -- How the answer of the formula is made, and what it tells.
-use Rattle.std.proofs.Common.{refl, ◌≡◌, ◌≢◌, ◌↔◌, zero, suc, Bool, true, false, arith, inl, inr, ℤ, pos, negsuc, unsigned_abs, ◌==◌, Result, Ok, Err, IfOk, IsErrOf}
+use Rattle.std.proofs.Common.{refl, ◌≡◌, ◌≢◌, ◌↔◌, Bool, true, false, inl, inr, ℤ, pos, unsigned_abs, ◌==◌, Result, Err, IfOk, IsErrOf}
 use Rattle.std.specs.Prelude.{if◌then◌else◌}
 use Rattle.apt_plane.specs.declared.figures.Pt.{Pt}
 use Rattle.apt_plane.specs.declared.figures.Line.{Line}

@@ -1,5 +1,5 @@
 -- An answer of the formula is a point at most one unit from both lines.
-use Rattle.std.proofs.Common.{◌≡◌, ◌≢◌, zero, suc, ◌^◌, ◌≤◌, Bool, true, false, arith, ℤ, pos, negsuc, unsigned_abs, ◌==◌, inl, inr, Result, Ok, Err, IfOk}
+use Rattle.std.proofs.Common.{◌≡◌, ◌≢◌, ◌^◌, ◌≤◌, ℤ, pos, unsigned_abs, ◌==◌, inl, inr, Result, Err, IfOk}
 use Rattle.std.specs.Prelude.{if◌then◌else◌}
 use Rattle.apt_plane.specs.declared.figures.Pt.{Pt}
 use Rattle.apt_plane.specs.declared.figures.Line.{Line}

@@ -1,7 +1,6 @@
 -- What the answer of a parallel tells.
-use Rattle.std.proofs.Common.{refl, ◌≡◌, ◌^◌, ◌≤◌, Bool, true, false, inl, inr, arith, ℤ, pos, neg_ℤ, unsigned_abs, int_lt, Result, Ok, Err, IfOk}
+use Rattle.std.proofs.Common.{refl, ◌≡◌, ◌^◌, ◌≤◌, Bool, true, false, inl, inr, ℤ, pos, neg_ℤ, unsigned_abs, int_lt, Result, Ok, Err, IfOk}
 use Rattle.std.specs.Prelude.{if◌then◌else◌}
-use Rattle.std.proofs.lemmas.Int.{ints}
 use Rattle.apt_num.specs.declared.Sign.{Sign}
 use Rattle.apt_num.specs.declared.Sign.TheVariants.{Minus, Zero, Plus}
 use Rattle.apt_num.proofs.Squares.{size_neg}

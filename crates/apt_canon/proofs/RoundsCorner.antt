@@ -1,5 +1,5 @@
 -- The circle in a corner: why there is none, and how close to both lines its centre is.
-use Rattle.std.proofs.Common.{refl, ◌≡◌, ◌≢◌, ◌↔◌, ◌⊎◌, ◌^◌, ◌≤◌, ◌∙◌, subst, arith, inl, inr, zero, suc, ℤ, pos, negsuc, ◌≤ℤ◌, ◌<ℤ◌, unsigned_abs, Result, Ok, Err, IfOk, IsErrOf}
+use Rattle.std.proofs.Common.{refl, ◌≡◌, ◌≢◌, ◌↔◌, ◌⊎◌, ◌^◌, ◌≤◌, ◌∙◌, subst, arith, inl, inr, ℤ, pos, ◌≤ℤ◌, ◌<ℤ◌, unsigned_abs, Result, Ok, Err, IfOk, IsErrOf}
 use Rattle.std.proofs.lemmas.Int.{ints}
 use Rattle.apt_num.specs.declared.Sign.{Sign}
 use Rattle.apt_num.specs.declared.Sign.TheVariants as signs
@@ -16,7 +16,7 @@ use Rattle.apt_canon.specs.Scale.{in_range, IsNearLine}
 use Rattle.apt_canon.specs.Meeting.{line_line, meeting_point}
 use Rattle.apt_canon.specs.Feet.{side_picked, offset_picked}
 use Rattle.apt_canon.specs.Rounds.{circle, circle_of, corner}
-use Rattle.apt_canon.specs.RoundLaws.{IsTooLarge, IsBeside, HasSides, NoCorner, offset_to, corner_centre}
+use Rattle.apt_canon.specs.RoundLaws.{IsBeside, HasSides, NoCorner, offset_to, corner_centre}
 use Rattle.apt_canon.proofs.Fits.{not_zero-test, zero_tells, point_tells}
 use Rattle.apt_canon.proofs.MeetingLaws.{meeting_point-near}
 use Rattle.apt_canon.proofs.RoundsRange.{Answer, TooSmall, TooLarge, Fits, answer, small_tells, too_large, ok_or_fault}

@@ -1,22 +1,16 @@
 -- A rounded radius is within one unit of the distance of a point, or of a line.
-use Rattle.std.proofs.Common.{◌≡◌, ◌≢◌, ℕ, zero, suc, ◌+◌, ◌-◌, ◌*◌, ◌^◌, ◌≤◌, ◌<◌, ◌∙◌, sym, arith, inl, inr, ℤ, pos, negsuc, ◌+ℤ◌, ◌-ℤ◌, ◌*ℤ◌, ◌≤ℤ◌, neg_ℤ, unsigned_abs, int_lt, true, false}
+use Rattle.std.proofs.Common.{◌≡◌, ℕ, zero, suc, ◌+◌, ◌-◌, ◌*◌, ◌^◌, ◌≤◌, ◌<◌, arith, inl, inr, ℤ, pos, ◌+ℤ◌, ◌-ℤ◌, ◌*ℤ◌, neg_ℤ, unsigned_abs}
 use Rattle.std.proofs.Math.IntN.{*ℤ_comm}
 use Rattle.std.proofs.lemmas.Int.{ints}
-use Rattle.std.proofs.lemmas.Bool.{cases_lt}
 use Rattle.std.proofs.lemmas.Bool.Decides.{leb_tells}
-use Rattle.apt_num.specs.Near.{near}
-use Rattle.apt_num.specs.Root.{IsRoot, IsNearestRoot, root, root_near}
-use Rattle.apt_num.specs.Sign.{OnLine}
-use Rattle.apt_num.proofs.Squares.{square_le}
+use Rattle.apt_num.specs.Root.{IsNearestRoot, root, root_near}
 use Rattle.apt_num.proofs.RootLaws.{root-IsRoot, nearest_below, nearest_above}
 use Rattle.apt_num.proofs.Roots.{on_line}
 use Rattle.apt_num.proofs.Nearest.{near_remainder}
 use Rattle.apt_plane.specs.declared.figures.Pt.{Pt}
-use Rattle.apt_plane.specs.declared.figures.Dir.{Dir}
 use Rattle.apt_plane.specs.declared.figures.Line.{Line}
-use Rattle.apt_plane.specs.declared.figures.Circ.{Circ}
 use Rattle.apt_plane.specs.Vectors.{displacement, cross, length_squared}
-use Rattle.apt_plane.specs.Ranges.{IsPoint, IsLine, IsDir, IsCircle}
+use Rattle.apt_plane.specs.Ranges.{IsPoint, IsLine}
 use Rattle.apt_plane.specs.Distances.{IsLengthAtMost, IsRootAtMost}
 use Rattle.apt_canon.specs.Scale.{unit, length_of, IsNearCircle}
 use Rattle.apt_canon.specs.Rounds.{circle, length_near, distance_from_line}

@@ -1,9 +1,8 @@
 -- A centre far away makes its circle too large, whatever its radius.
-use Rattle.std.proofs.Common.{refl, ◌≡◌, ◌↔◌, ◌⊎◌, ℕ, zero, suc, ◌+◌, ◌-◌, ◌*◌, ◌^◌, ◌≤◌, ◌<◌, arith, inl, inr, ℤ, pos, ◌+ℤ◌, ◌≤ℤ◌, ◌<ℤ◌, unsigned_abs, true, false, Result, Ok, Err, IfOk, IsErrOf}
+use Rattle.std.proofs.Common.{refl, ◌≡◌, ◌↔◌, ◌⊎◌, ℕ, zero, suc, ◌+◌, ◌-◌, ◌*◌, ◌^◌, ◌≤◌, ◌<◌, arith, inl, inr, ℤ, pos, ◌+ℤ◌, ◌≤ℤ◌, ◌<ℤ◌, unsigned_abs, true, false, Err, IfOk, IsErrOf}
 use Rattle.std.proofs.lemmas.Int.{ints}
 use Rattle.std.proofs.lemmas.Bool.Decides.{leb_tells}
 use Rattle.std.proofs.Math.Nat.{two-pow-succ}
-use Rattle.std.proofs.lemmas.Nat.{mul-le}
 use Rattle.apt_num.specs.Root.{root_bits, root, root_near}
 use Rattle.apt_num.proofs.Squares.{root_lt, square_le}
 use Rattle.apt_plane.specs.declared.figures.Pt.{Pt}
@@ -11,7 +10,6 @@ use Rattle.apt_plane.specs.declared.figures.Dir.{Dir}
 use Rattle.apt_plane.specs.declared.figures.Circ.{Circ}
 use Rattle.apt_plane.specs.Vectors.{length_squared}
 use Rattle.apt_plane.specs.Ranges.{IsPoint, IsCircle}
-use Rattle.apt_canon.specs.declared.FormFault.{FormFault}
 use Rattle.apt_canon.specs.declared.FormFault.TheVariants as faults
 use Rattle.apt_canon.specs.Scale.{from}
 use Rattle.apt_canon.specs.Rounds.{circle, circle_about, is_far, length_near}

@@ -1,12 +1,11 @@
 -- What the answers of circles tell, as the functions say it.
-use Rattle.std.proofs.Common.{refl, ◌≡◌, ◌≢◌, ◌↔◌, ◌⊎◌, ◌^◌, ◌≤◌, arith, inl, inr, zero, suc, ℤ, pos, negsuc, ◌<ℤ◌, unsigned_abs, ◌==◌, Result, Err, IfOk, IsErrOf}
+use Rattle.std.proofs.Common.{refl, ◌≡◌, ◌≢◌, ◌↔◌, ◌⊎◌, ◌^◌, ◌≤◌, arith, inl, inr, ℤ, pos, ◌<ℤ◌, unsigned_abs, ◌==◌, Result, Err, IfOk, IsErrOf}
 use Rattle.std.specs.Prelude.{if◌then◌else◌}
-use Rattle.std.proofs.lemmas.Int.{ints}
 use Rattle.apt_words.specs.declared.Pick.{Pick}
 use Rattle.apt_plane.specs.declared.figures.Pt.{Pt}
 use Rattle.apt_plane.specs.declared.figures.Line.{Line}
 use Rattle.apt_plane.specs.declared.figures.Circ.{Circ}
-use Rattle.apt_plane.specs.Vectors.{displacement, cross, length_squared}
+use Rattle.apt_plane.specs.Vectors.{displacement, cross}
 use Rattle.apt_plane.specs.Ranges.{IsPoint, IsLine, IsCircle}
 use Rattle.apt_canon.specs.declared.FormFault.{FormFault}
 use Rattle.apt_canon.specs.declared.FormFault.TheVariants as faults
@@ -15,7 +14,7 @@ use Rattle.apt_canon.specs.Feet.{side_picked}
 use Rattle.apt_canon.specs.Rounds as rounds
 use Rattle.apt_canon.specs.RoundLaws.{IsTooLarge, Touches, AreOnLine, IsThrough, rounded_through, IsBeside, NoCorner}
 use Rattle.apt_canon.proofs.Fits.{zero_tells}
-use Rattle.apt_canon.proofs.RoundsSizes.{way_small, between_small}
+use Rattle.apt_canon.proofs.RoundsSizes.{between_small}
 use Rattle.apt_canon.proofs.RoundsRange.{degenerate, too_large, if_circle, faults_apart}
 use Rattle.apt_canon.proofs.RoundsDistance.{passes, touches}
 use Rattle.apt_canon.proofs.RoundsFar.{about_degenerate, about_too_large, if_about}

@@ -8,14 +8,13 @@ use Rattle.std.proofs.lemmas.Nat.{mul-le}
 use Rattle.apt_num.specs.Root.{IsNearestRoot, root}
 use Rattle.apt_num.proofs.Squares.{root_lt, square_le}
 use Rattle.apt_num.proofs.Nearest.{near_bound}
-use Rattle.apt_num.proofs.Roots.{ScaledRoot, root_facts}
 use Rattle.apt_plane.specs.declared.figures.Pt.{Pt}
 use Rattle.apt_plane.specs.declared.figures.Dir.{Dir}
 use Rattle.apt_plane.specs.declared.figures.Line.{Line}
 use Rattle.apt_plane.specs.Vectors.{displacement, cross, length_squared}
 use Rattle.apt_plane.specs.Ranges.{IsPoint, IsDir, IsLine}
 use Rattle.apt_plane.proofs.Displacements.{cross_square, cross_swap}
-use Rattle.apt_plane.proofs.Heights.{cross_small, displacement_height_small, length_squared_small}
+use Rattle.apt_plane.proofs.Heights.{cross_small, displacement_height_small}
 use Rattle.apt_canon.specs.Scale.{unit, length_of}
 use Rattle.apt_canon.specs.Rounds.{distance_from_line}
 use Rattle.apt_canon.proofs.Ways.{way_is_dir}

@@ -1,20 +1,17 @@
 -- The circle through three points: its exact centre, and how far the rounded one lies from it.
-use Rattle.std.proofs.Common.{refl, ◌≡◌, ◌≢◌, ℕ, zero, suc, ◌+◌, ◌-◌, ◌*◌, ◌^◌, ◌≤◌, ◌<◌, ◌∙◌, sym, arith, inl, inr, ℤ, pos, ◌+ℤ◌, ◌-ℤ◌, ◌*ℤ◌, ◌≤ℤ◌, neg_ℤ, unsigned_abs}
+use Rattle.std.proofs.Common.{refl, ◌≡◌, ◌≢◌, ℕ, suc, ◌+◌, ◌-◌, ◌*◌, ◌^◌, ◌≤◌, arith, inl, inr, ℤ, pos, ◌+ℤ◌, ◌-ℤ◌, ◌*ℤ◌, ◌≤ℤ◌, neg_ℤ, unsigned_abs}
 use Rattle.std.proofs.Math.Nat.{mul-le-mul_left}
 use Rattle.std.proofs.lemmas.Int.{ints}
-use Rattle.std.proofs.lemmas.Nat.{mul-le}
 use Rattle.std.proofs.lemmas.Bool.{cases_lt}
-use Rattle.apt_num.specs.Root.{IsNearestRoot}
 use Rattle.apt_num.proofs.Ring.{neg-*ℤ, as_diff, diff-pos, diff-same, differences}
-use Rattle.apt_num.proofs.Squares.{size_mul, size_neg, size_square}
+use Rattle.apt_num.proofs.Squares.{size_neg}
 use Rattle.apt_plane.specs.declared.figures.Dir.{Dir}
-use Rattle.apt_plane.specs.Vectors.{displacement, cross, dot, length_squared}
+use Rattle.apt_plane.specs.Vectors.{displacement, cross, length_squared}
 use Rattle.apt_plane.proofs.Displacements.{to, square_length_squared}
-use Rattle.apt_plane.proofs.Lengths.{IsRounded, plus, times, length_of_times, sum_of_lengths}
+use Rattle.apt_plane.proofs.Lengths.{plus, times, length_of_times, sum_of_lengths}
 use Rattle.apt_plane.proofs.Rounding.{displacement_rest}
 use Rattle.apt_plane.specs.declared.figures.Pt.{Pt}
 use Rattle.apt_plane.specs.Ranges.{IsPoint, IsCircle}
-use Rattle.apt_plane.specs.Distances.{IsLengthAtMost, IsRootAtMost}
 use Rattle.apt_canon.specs.Scale.{from}
 use Rattle.apt_canon.specs.Rounds.{length_near, centre_way, centre_divisor, centre_from}
 use Rattle.apt_canon.specs.RoundLaws.{IsEquidistant, IsThrough, rounded_through}

@@ -1,9 +1,7 @@
 -- Circles worked out by hand, which the definitions compute.
-use Rattle.std.proofs.Common.{refl, ◌≡◌, ℤ, pos, neg_ℤ, Ok, Err}
+use Rattle.std.proofs.Common.{refl, ◌≡◌, pos, neg_ℤ, Ok, Err}
 use Rattle.apt_num.specs.Root.{root}
 use Rattle.apt_words.specs.declared.Pick.TheVariants as picks
-use Rattle.apt_plane.specs.declared.figures.Pt.{Pt}
-use Rattle.apt_plane.specs.declared.figures.Line.{Line}
 use Rattle.apt_canon.specs.declared.FormFault.TheVariants.{OutOfRange, Degenerate, NoMeeting, TooLarge}
 use Rattle.apt_canon.specs.Rounds.{circle, circle_of, circle_through, circle_touching, circle_three, corner}
 use Rattle.apt_canon.proofs.Figures.{pt, line}

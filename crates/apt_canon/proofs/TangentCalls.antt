@@ -10,7 +10,7 @@ use Rattle.apt_plane.specs.declared.figures.Pt.{Pt}
 use Rattle.apt_plane.specs.declared.figures.Dir.{Dir}
 use Rattle.apt_plane.specs.declared.figures.Circ.{Circ}
 use Rattle.apt_plane.specs.Vectors.{displacement, length_squared}
-use Rattle.apt_plane.specs.Ranges.{IsPoint, IsDir, IsCircle}
+use Rattle.apt_plane.specs.Ranges.{IsCircle}
 use Rattle.apt_canon.specs.Tangents.{side_of_circle, falling_dir, tangent_from, drop, touch_point, tangent_two}
 use Rattle.apt_canon.specs.declared.FormFault.TheVariants.{NoMeeting, Degenerate}
 use Rattle.apt_canon.proofs.Products.{zero-minus}

@@ -1,9 +1,6 @@
 -- Tangents worked out by hand, which the definitions compute.
-use Rattle.std.proofs.Common.{refl, ◌≡◌, ℤ, pos, neg_ℤ, true, false, Ok, Err}
+use Rattle.std.proofs.Common.{refl, ◌≡◌, pos, neg_ℤ, true, false, Ok, Err}
 use Rattle.apt_num.specs.Root.{root}
-use Rattle.apt_plane.specs.declared.figures.Pt.{Pt}
-use Rattle.apt_plane.specs.declared.figures.Line.{Line}
-use Rattle.apt_plane.specs.declared.figures.Circ.{Circ}
 use Rattle.apt_canon.specs.declared.FormFault.TheVariants.{NoMeeting, Degenerate}
 use Rattle.apt_canon.specs.Tangents.{tangent_from, tangent_two}
 use Rattle.apt_canon.proofs.Figures.{pt, line, circ}

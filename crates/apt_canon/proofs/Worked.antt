@@ -1,8 +1,6 @@
 -- Figures worked out by hand, which the definition computes.
-use Rattle.std.proofs.Common.{refl, ◌≡◌, ℤ, pos, neg_ℤ, Ok, Err}
+use Rattle.std.proofs.Common.{refl, ◌≡◌, pos, neg_ℤ, Ok, Err}
 use Rattle.apt_num.specs.Root.{root}
-use Rattle.apt_plane.specs.declared.figures.Line.{Line}
-use Rattle.apt_plane.specs.declared.figures.Circ.{Circ}
 use Rattle.apt_canon.specs.declared.FormFault.TheVariants.{NoMeeting, OutOfRange, Degenerate}
 use Rattle.apt_canon.specs.Meeting.{line_line}
 use Rattle.apt_canon.specs.Circles.{line_circle, circle_circle}
