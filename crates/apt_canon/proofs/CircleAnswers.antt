@@ -1,8 +1,8 @@
 -- How the answers of line_circle and circle_circle are made, and what they tell.
-use Rattle.std.proofs.Common.{refl, ◌≡◌, ◌≢◌, ◌↔◌, ℕ, zero, suc, ◌+◌, ◌*◌, ◌^◌, ◌≤◌, ◌<◌, ◌&&◌, Bool, true, false, subst, sym, ◌∙◌, arith, inl, inr, ℤ, pos, negsuc, neg_ℤ, ◌+ℤ◌, ◌-ℤ◌, ◌≤ℤ◌, unsigned_abs, ◌==◌, nat_le, Result, Ok, Err, IfOk, IsErrOf}
+use Rattle.std.proofs.Common.{refl, ◌≡◌, ◌≢◌, ◌↔◌, ℕ, ◌+◌, ◌*◌, ◌^◌, ◌≤◌, ◌<◌, ◌&&◌, Bool, true, false, subst, sym, ◌∙◌, arith, ℤ, pos, negsuc, neg_ℤ, ◌+ℤ◌, ◌-ℤ◌, ◌≤ℤ◌, unsigned_abs, ◌==◌, nat_le, Result, Err, IfOk, IsErrOf}
 use Rattle.std.specs.Prelude.{if◌then◌else◌}
 use Rattle.std.proofs.lemmas.Int.{ints}
-use Rattle.std.proofs.lemmas.Bool.Decides.{nat_tests, leb_tells}
+use Rattle.std.proofs.lemmas.Bool.Decides.{nat_tests}
 use Rattle.apt_num.specs.Sign.{square, is_at_least}
 use Rattle.apt_num.proofs.Testing.{is_at_least-true, is_at_least-from}
 use Rattle.apt_plane.specs.declared.figures.Pt.{Pt}
@@ -12,29 +12,13 @@ use Rattle.apt_plane.specs.declared.figures.Circ.{Circ}
 use Rattle.apt_plane.specs.Vectors.{displacement, cross, length_squared}
 use Rattle.apt_plane.specs.Ranges.{IsPoint, IsDir, IsMoved, IsRound, IsSense}
 use Rattle.apt_canon.specs.declared.FormFault.{FormFault}
-use Rattle.apt_canon.specs.declared.FormFault.TheVariants.{NoMeeting, OutOfRange, Degenerate}
-use Rattle.apt_canon.specs.Scale.{in_range, is_in_range, IsNearLine, IsNearCircle}
+use Rattle.apt_canon.specs.declared.FormFault.TheVariants.{NoMeeting, Degenerate}
+use Rattle.apt_canon.specs.Scale.{in_range, IsNearLine, IsNearCircle}
 use Rattle.apt_canon.specs.Circles.{DoMeet, reaches, line_circle, line_circle_point, are_concentric, overlap, chord_depth, circle_circle, circle_circle_point}
+use Rattle.apt_canon.proofs.Fits.{if_fits, in_range-IsPoint, no_other_fault}
+use Rattle.apt_canon.proofs.Ways.{one_point, no_way, way-IsDir}
 use Rattle.apt_canon.proofs.LineCircleLaws.{point_on_line, point_on_circle}
 use Rattle.apt_canon.proofs.CircleCircleLaws.{TwoCircles, chord_within, point_on_first, point_on_second}
-
--- ---- a point is tested against the limit
-tested : (fits : Bool) (p : Pt) (fault : FormFault) → fault ≢ OutOfRange → ¬ IsErrOf (if fits then Ok p else Err OutOfRange) fault
-tested true p fault d = λ h. cc
-tested false p fault d = λ h. d (cc)
-
-if_fits : (P : Pt → Type 0) (fits : Bool) (p : Pt) → P p → IfOk {E = FormFault} (if fits then Ok p else Err OutOfRange) P
-if_fits P true p h = h
-if_fits P false p h = tt
-
-in_range-IsPoint : (p : Pt) → IfOk (in_range p) (λ q. IsPoint q)
-in_range-IsPoint p = elim (leb_tells (unsigned_abs p.x) 50000000) [
-  | inl x ↦ elim (leb_tells (unsigned_abs p.y) 50000000) [
-    | inl y ↦ rw (x.0, y.0) (record { x = x.1; y = y.1 })
-    | inr y ↦ rw (x.0, y.0) tt
-  ]
-  | inr x ↦ rw x.0 tt
-]
 
 -- ---- a line and a circle
 both_true : (p q : Bool) → (p && q) ≡ true → (p ≡ true) × (q ≡ true)
@@ -67,11 +51,11 @@ reaches-tells : (l : Line) (h : ℤ) (c : Circ) → Tells (reaches l h c) (IsNea
 reaches-tells l h c = tells (reaches l h c) (IsNearLine l h c.r c.c) (reaches-true l h c) (reaches-from l h c)
 
 not_met : (test : Bool) (P : Type 0) (p : Pt) → Tells test P → IsErrOf (if test then in_range p else Err NoMeeting) NoMeeting ↔ (P → ⊥)
-not_met test P p (Holds e is) = rw e (λ h. absurd (tested (is_in_range p) p NoMeeting (λ f. cc) h), λ d. absurd (d is))
+not_met test P p (Holds e is) = rw e (λ h. absurd (no_other_fault p NoMeeting (λ f. cc) h), λ d. absurd (d is))
 not_met test P p (Fails e d) = rw e (λ h. d, λ h. refl)
 
 met : (test : Bool) (P : Type 0) (Q : Pt → Type 0) (p : Pt) → Tells test P → (P → Q p) → IfOk (if test then in_range p else Err NoMeeting) Q
-met test P Q p (Holds e is) h = rw e (if_fits Q (is_in_range p) p (h is))
+met test P Q p (Holds e is) h = rw e (if_fits Q p (λ at. h is))
 met test P Q p (Fails e d) h = rw e tt
 
 ranged : (test : Bool) (p : Pt) → IfOk (if test then in_range p else Err NoMeeting) (λ q. IsPoint q)
@@ -118,32 +102,7 @@ answer_on_circle r l c sigma is round sense e =
 pub le-fails : (m n : ℕ) → n < m → nat_le m n ≡ false
 le-fails m n h = grind (arith, nat_tests)
 
-abbrev pt : ℤ → ℤ → Pt
-pt x y = record { x = x; y = y }
-
-pt_same : (x y u v : ℤ) → x ≡ u → y ≡ v → pt x y ≡ pt u v
-pt_same x y u v e f = rw (e, f) refl
-
-none : (m n : ℕ) → m * m + n * n ≡ 0 → (m ≡ 0) × (n ≡ 0)
-none zero zero e = (refl, refl)
-none zero (suc n) e = absurd (omega (arith, e))
-none (suc m) n e = absurd (omega (arith, e))
-
-no_difference : (p q : ℤ) → unsigned_abs (q -ℤ p) ≡ 0 → p ≡ q
-no_difference p q e = omega (arith, ints, e)
-
-same_centre : (p q : Pt) → length_squared (displacement p q) ≡ 0 → p ≡ q
-same_centre p q e =
-    let parts = none (unsigned_abs (q.x -ℤ p.x)) (unsigned_abs (q.y -ℤ p.y)) e in
-    pt_same p.x p.y q.x q.y (no_difference p.x q.x parts.0) (no_difference p.y q.y parts.1)
-
-to_itself : (z : ℤ) → z -ℤ z ≡ pos 0
-to_itself z = omega (arith, ints)
-
-no_way : (p : Pt) → length_squared (displacement p p) ≡ 0
-no_way p = rw (to_itself p.x, to_itself p.y) refl
-
-zero-true : (n : ℕ) → (n == 0) ≡ true → n ≡ 0
+zero-true : (n : ℕ) → (n == 0) ≡ true → n ≤ 0
 zero-true n e = grind (arith, nat_tests)
 
 zero-fails : (n : ℕ) → 0 < n → (n == 0) ≡ false
@@ -161,8 +120,8 @@ le-from m n h = grind (arith, nat_tests)
 concentric-tells : (a b : Circ) → Tells (are_concentric a b) (a.c ≡ b.c)
 concentric-tells a b =
     tells (are_concentric a b) (a.c ≡ b.c)
-    (λ e. same_centre a.c b.c (zero-true (length_squared (displacement a.c b.c)) e))
-    (λ e. zero-from (length_squared (displacement a.c b.c)) (subst (λ (p : Pt). length_squared (displacement a.c p) ≡ 0) e (no_way a.c)))
+    (λ e. one_point a.c b.c (zero-true (length_squared (displacement a.c b.c)) e))
+    (λ e. zero-from (length_squared (displacement a.c b.c)) (no_way a.c b.c e))
 
 overlap-true : (a b : Circ) → overlap a b ≡ true → DoMeet a b
 overlap-true a b e =
@@ -184,36 +143,23 @@ answer_by same meets p = if same then Err Degenerate else (if meets then in_rang
 
 by_same : (same meets : Bool) (P : Type 0) (p : Pt) → Tells same P → IsErrOf (answer_by same meets p) Degenerate ↔ P
 by_same same meets P p (Holds e is) = rw e (λ h. is, λ h. refl)
-by_same same true P p (Fails e d) = rw e (λ h. absurd (tested (is_in_range p) p Degenerate (λ f. cc) h), λ is. absurd (d is))
+by_same same true P p (Fails e d) = rw e (λ h. absurd (no_other_fault p Degenerate (λ f. cc) h), λ is. absurd (d is))
 by_same same false P p (Fails e d) = rw e (λ h. absurd (cc), λ is. absurd (d is))
 
 by_meeting : (same meets : Bool) (P Q : Type 0) (p : Pt) → Tells same P → Tells meets Q → IsErrOf (answer_by same meets p) NoMeeting ↔ ((P → ⊥) × (Q → ⊥))
 by_meeting same meets P Q p (Holds e is) second = rw e (λ h. absurd (cc), λ d. absurd (d.0 is))
-by_meeting same meets P Q p (Fails e d) (Holds f is) = rw (e, f) (λ h. absurd (tested (is_in_range p) p NoMeeting (λ g. cc) h), λ both. absurd (both.1 is))
+by_meeting same meets P Q p (Fails e d) (Holds f is) = rw (e, f) (λ h. absurd (no_other_fault p NoMeeting (λ g. cc) h), λ both. absurd (both.1 is))
 by_meeting same meets P Q p (Fails e d) (Fails f g) = rw (e, f) (λ h. (d, g), λ both. refl)
 
 by_point : (same meets : Bool) (P Q : Type 0) (R : Pt → Type 0) (p : Pt) → Tells same P → Tells meets Q → ((P → ⊥) → Q → R p) → IfOk (answer_by same meets p) R
 by_point same meets P Q R p (Holds e is) second h = rw e tt
-by_point same meets P Q R p (Fails e d) (Holds f is) h = rw (e, f) (if_fits R (is_in_range p) p (h d is))
+by_point same meets P Q R p (Fails e d) (Holds f is) h = rw (e, f) (if_fits R p (λ at. h d is))
 by_point same meets P Q R p (Fails e d) (Fails f g) h = rw (e, f) tt
 
 in_range-by : (same meets : Bool) (p : Pt) → IfOk (answer_by same meets p) (λ q. IsPoint q)
 in_range-by true meets p = tt
 in_range-by false true p = in_range-IsPoint p
 in_range-by false false p = tt
-
--- the way between different points in range
-some_way : (m n : ℕ) → (m * m + n * n ≡ 0 → ⊥) → 1 ≤ m * m + n * n
-some_way zero zero d = absurd (d refl)
-some_way zero (suc n) d = omega arith
-some_way (suc m) n d = omega arith
-
-pub way-IsDir : (p q : Pt) → IsPoint p → IsPoint q → p ≢ q → IsDir (displacement p q)
-way-IsDir p q is at apart = record {
-  dx = omega (arith, ints, is.x, at.x);
-  dy = omega (arith, ints, is.y, at.y);
-  length = some_way (unsigned_abs (q.x -ℤ p.x)) (unsigned_abs (q.y -ℤ p.y)) (λ e. apart (same_centre p q e));
-}
 
 sum_inside : (r q : ℤ) (n : ℕ) → pos 0 ≤ℤ r → pos 0 ≤ℤ q → n ≤ square (r +ℤ q) → n ≤ (unsigned_abs r + unsigned_abs q) * (unsigned_abs r + unsigned_abs q)
 sum_inside (pos r) (pos q) n is_r is_q h = h

@@ -18,8 +18,9 @@ use Rattle.apt_plane.proofs.Frames.{in_frame, norm_in_frame}
 use Rattle.apt_plane.proofs.Rounding.{near_displacement, displacement_rest}
 use Rattle.apt_canon.specs.Scale.{IsNearCircle}
 use Rattle.apt_canon.specs.Circles.{half_chord, chord_depth, circle_circle_point}
-use Rattle.apt_canon.proofs.Depths.{length_facts}
-use Rattle.apt_canon.proofs.FramedPoints.{size_apart, small_way, framed_on_circle, near_circle}
+use Rattle.apt_canon.proofs.Depths.{length_facts, length_positive}
+use Rattle.apt_canon.proofs.NearCircle.{near_circle}
+use Rattle.apt_canon.proofs.Frames.{frame_way, framed_on_circle}
 use Rattle.apt_canon.proofs.LineCircleLaws.{half_of, half_chord-is, half_of-IsRoot, sense_size, ends}
 
 -- ---- two circles that meet: their radii, and the way from the first centre to the second
@@ -59,7 +60,7 @@ pub chord_rest : (a b : Circ) (r q : ℕ) → TwoCircles a b r q → let n = len
 chord_rest a b r q is =
     let n = length_squared (displacement a.c b.c) in
     let s = root (n * 2 ^ 70) in
-    rw (is.first, is.second) (near_remainder (((pos n +ℤ (pos r *ℤ pos r)) -ℤ (pos q *ℤ pos q)) *ℤ pos (2 ^ 64)) (pos s) (size_apart s (length_facts (displacement a.c b.c) is.way).large))
+    rw (is.first, is.second) (near_remainder (((pos n +ℤ (pos r *ℤ pos r)) -ℤ (pos q *ℤ pos q)) *ℤ pos (2 ^ 64)) (pos s) (length_positive (displacement a.c b.c) is.way))
 
 -- the chord lies within the first circle
 pub chord_within : (a b : Circ) (r q : ℕ) → TwoCircles a b r q → unsigned_abs (chord_depth a b) ≤ r * 2 ^ 30
@@ -94,7 +95,7 @@ point_on_first a b sigma r q is sense =
     let whole = chord_root a b r q is in
     let eighth = ends r (half_of r x) (unsigned_abs x) x y refl (half_size a x sigma r is.first sense) (swapped r (unsigned_abs x) (half_of r x) (chord_end r (unsigned_abs x) (half_of r x) whole.0 whole.1)) in
     let same : unsigned_abs a.r ≡ r = ap unsigned_abs is.first in
-    near_circle a (circle_circle_point a b sigma) (rw is.first (omega (arith, ints))) (rw same (framed_on_circle a.c d x y r is.way is.first_most eighth))
+    near_circle a (circle_circle_point a b sigma) (rw is.first (omega (arith, ints))) (rw same (framed_on_circle a.c d x y r is.way (omega (arith, is.first_most)) eighth))
 
 -- ---- from the second centre
 second_ring : (s x y p q e : ℤ) → ((pos 32 *ℤ ((x *ℤ p) +ℤ (y *ℤ q))) +ℤ e) -ℤ (s *ℤ p) ≡ ((((pos 32 *ℤ x) -ℤ s) *ℤ p) +ℤ ((pos 32 *ℤ y) *ℤ q)) +ℤ e
@@ -137,8 +138,8 @@ point_on_second a b sigma r q is sense =
     let x = chord_depth a b in
     let y = sigma *ℤ half_chord a.r x in
     let t = half_of r x in
-    let v = near_displacement (small_way d x y) (pos s) in
-    let rest = displacement_rest (small_way d x y) (pos s) (size_apart s at.large) in
+    let v = near_displacement (frame_way d x y) (pos s) in
+    let rest = displacement_rest (frame_way d x y) (pos s) (length_positive d is.way) in
     let way = in_frame d ((pos 32 *ℤ x) -ℤ pos s) (pos 32 *ℤ y) in
     let back = to (v.dx -ℤ d.dx) (v.dy -ℤ d.dy) in
     let rounded : IsRounded way back rest.0 (pos s) = record {

@@ -1,16 +1,16 @@
 -- Feet on a line, and parallels, lie within one unit of the line moved.
-use Rattle.std.proofs.Common.{refl, ◌≡◌, ◌≢◌, ℕ, ◌+◌, ◌*◌, ◌^◌, ◌≤◌, ◌∙◌, ap, sym, subst, arith, ℤ, pos, neg_ℤ, ◌+ℤ◌, ◌-ℤ◌, ◌*ℤ◌, unsigned_abs}
+use Rattle.std.proofs.Common.{refl, ◌≡◌, ◌*◌, ◌^◌, ◌≤◌, ◌∙◌, ap, sym, subst, arith, ℤ, pos, neg_ℤ, ◌+ℤ◌, ◌-ℤ◌, ◌*ℤ◌, unsigned_abs}
 use Rattle.std.proofs.lemmas.Nat.{mul-le}
 use Rattle.std.proofs.lemmas.Int.{ints}
 use Rattle.apt_num.specs.Root.{root}
 use Rattle.apt_num.proofs.Ring.{as_diff, diff-pos, diff-same, differences}
-use Rattle.apt_num.proofs.Squares.{size_neg, size_mul}
+use Rattle.apt_num.proofs.Squares.{size_mul}
 use Rattle.apt_num.proofs.Footed.{footed}
 use Rattle.apt_plane.specs.declared.figures.Pt.{Pt}
 use Rattle.apt_plane.specs.declared.figures.Dir.{Dir}
 use Rattle.apt_plane.specs.declared.figures.Line.{Line}
 use Rattle.apt_plane.specs.Vectors.{displacement, cross, dot, length_squared, perp}
-use Rattle.apt_plane.specs.Ranges.{IsPoint, IsDir, IsLine}
+use Rattle.apt_plane.specs.Ranges.{IsPoint, IsLine}
 use Rattle.apt_plane.proofs.Displacements.{cross_times, square_length_squared, cross_turn, dot_times}
 use Rattle.apt_plane.proofs.Lengths.{times, in_frame, dot_in_frame}
 use Rattle.apt_plane.proofs.Rounding.{near_displacement, moved, moved_dot}
@@ -19,11 +19,11 @@ use Rattle.apt_canon.specs.Circles.{depth}
 use Rattle.apt_canon.specs.Feet.{foot_point, parallel_point}
 use Rattle.apt_canon.proofs.Ways.{displacement_from, height_at_first}
 use Rattle.apt_canon.proofs.Depths.{length_facts, length_positive}
-use Rattle.apt_canon.proofs.Frames.{frame_way, framed_on_line}
+use Rattle.apt_canon.proofs.Frames.{frame_way, framed_on_line, in_range-lag}
 use Rattle.apt_canon.proofs.Sharp.{rest_alone}
 
 pub foot_near : (p : Pt) (l : Line) (h : ℤ) → IsPoint p → IsLine l → unsigned_abs h ≤ 10 ^ 8 → IsNearLine l h (pos 1) (foot_point p l h)
-foot_near p l h point is small = framed_on_line l h p (pos 0) is point small
+foot_near p l h point is small = framed_on_line l h p (pos 0) is small (in_range-lag l h p is point small)
 
 square_below : (d : Dir) (y : ℤ) → dot d (frame_way d (pos 0) y) ≡ pos 0
 square_below d y = dot_times d (in_frame d (pos 0) y) (pos 32) ∙ rw (dot_in_frame d (pos 0) y) (omega (arith, ints))

@@ -1,16 +1,16 @@
 -- What rounding leaves of a point in a frame: its distances from a line and from a circle.
-use Rattle.std.proofs.Common.{refl, ◌≡◌, ◌≢◌, ℕ, ◌+◌, ◌-◌, ◌*◌, ◌^◌, ◌≤◌, ◌<◌, ◌∙◌, ap, sym, subst, arith, ℤ, pos, neg_ℤ, ◌+ℤ◌, ◌-ℤ◌, ◌*ℤ◌, ◌≤ℤ◌, unsigned_abs}
+use Rattle.std.proofs.Common.{◌≡◌, ℕ, ◌+◌, ◌-◌, ◌*◌, ◌^◌, ◌≤◌, ◌∙◌, ap, sym, subst, arith, ℤ, pos, neg_ℤ, ◌+ℤ◌, ◌-ℤ◌, ◌*ℤ◌, unsigned_abs}
 use Rattle.std.proofs.lemmas.Int.{ints}
 use Rattle.apt_num.specs.Root.{root}
 use Rattle.apt_num.proofs.Ring.{as_diff, diff-pos, diff-same, differences, *ℤ-+ℤ}
 use Rattle.apt_num.proofs.Framed.{IsFrame, IsEighth, framed_high, framed_low}
-use Rattle.apt_num.proofs.Footed.{lag_small, footed}
+use Rattle.apt_num.proofs.Footed.{lag, lag_small, footed}
 use Rattle.apt_plane.specs.declared.figures.Pt.{Pt}
 use Rattle.apt_plane.specs.declared.figures.Dir.{Dir}
 use Rattle.apt_plane.specs.declared.figures.Line.{Line}
 use Rattle.apt_plane.specs.Vectors.{displacement, cross, length_squared}
 use Rattle.apt_plane.specs.Ranges.{IsPoint, IsDir, IsLine}
-use Rattle.apt_plane.proofs.Displacements.{to, cross_times}
+use Rattle.apt_plane.proofs.Displacements.{cross_times}
 use Rattle.apt_plane.proofs.Lengths.{times, in_frame, cross_in_frame, length_in_frame, length_of_times, height_square, IsInRing, on_circle}
 use Rattle.apt_plane.proofs.Rounding.{near_displacement, displacement_rest, moved}
 use Rattle.apt_canon.specs.Scale.{length_of, IsNearLine}
@@ -54,10 +54,11 @@ framed_on_circle c d x y r is small eighth =
 height_parts : (s c w u rest : ℤ) → s *ℤ w ≡ neg_ℤ u +ℤ rest → s *ℤ (c +ℤ w) ≡ ((s *ℤ c) -ℤ u) +ℤ rest
 height_parts s c w u rest e = *ℤ-+ℤ s c w ∙ rw e (omega (arith, ints))
 
--- a point at its depth below another lies within one unit of the line, wherever along it
-pub framed_on_line : (l : Line) (h : ℤ) (p : Pt) (x : ℤ) → IsLine l → IsPoint p → unsigned_abs h ≤ 10 ^ 8
+-- a point at the depth of another, which is not too far from the line, lies within one unit of it, wherever along it
+pub framed_on_line : (l : Line) (h : ℤ) (p : Pt) (x : ℤ) → IsLine l → unsigned_abs h ≤ 10 ^ 8
+    → unsigned_abs (lag (root (length_squared l.dir * 2 ^ 70)) (cross l.dir (displacement l.base p)) h) ≤ 2 ^ 28 * root (length_squared l.dir * 2 ^ 70)
     → IsNearLine l h (pos 1) (framed p l.dir x (neg_ℤ (depth l.dir (cross l.dir (displacement l.base p)) h)))
-framed_on_line l h p x is point small =
+framed_on_line l h p x is small near =
     let d = l.dir in
     let n = length_squared d in
     let s = root (n * 2 ^ 70) in
@@ -75,5 +76,11 @@ framed_on_line l h p x is point small =
       depth_short = left.2;
       height = height_parts (pos s) c (cross d v) (pos 32 *ℤ (g *ℤ pos n)) rounded.0 height;
       height_short = rounded.2;
-      near = lag_small n s c h root (height_square d l.base p is.base point) small;
+      near = near;
     }) (omega (arith, root.large, small)))
+
+-- no point in range is too far from it
+pub in_range-lag : (l : Line) (h : ℤ) (p : Pt) → IsLine l → IsPoint p → unsigned_abs h ≤ 10 ^ 8
+    → unsigned_abs (lag (root (length_squared l.dir * 2 ^ 70)) (cross l.dir (displacement l.base p)) h) ≤ 2 ^ 28 * root (length_squared l.dir * 2 ^ 70)
+in_range-lag l h p is point small =
+    lag_small (length_squared l.dir) (root (length_squared l.dir * 2 ^ 70)) (cross l.dir (displacement l.base p)) h (length_facts l.dir is.dir) (height_square l.dir l.base p is.base point) small

@@ -1,3 +1,4 @@
+pub mod Fits
 pub mod Products
 pub mod Depths
 pub mod Ways
@@ -11,7 +12,6 @@ pub mod Meets
 pub mod NearLine
 pub mod MeetingLaws
 pub mod OnBoth
-pub mod FramedPoints
 pub mod LineCircleLaws
 pub mod CircleCircleLaws
 pub mod RoundsSizes
@@ -21,6 +21,7 @@ pub mod RoundsFar
 pub mod RoundsThree
 pub mod RoundsCorner
 pub mod RoundsLaws
+pub mod Figures
 pub mod FeetWorked
 pub mod RoundsWorked
 pub mod Shares

@@ -17,7 +17,8 @@ use Rattle.apt_plane.specs.Ranges.{IsLine, IsSense}
 use Rattle.apt_canon.specs.Scale.{positive_part, IsNearLine, IsNearCircle}
 use Rattle.apt_canon.specs.Circles.{depth, half_chord, line_circle_point}
 use Rattle.apt_canon.proofs.Depths.{length_facts, depth_rest}
-use Rattle.apt_canon.proofs.FramedPoints.{framed_on_line, framed_on_circle, near_circle}
+use Rattle.apt_canon.proofs.NearCircle.{near_circle}
+use Rattle.apt_canon.proofs.Frames.{framed_on_line, framed_on_circle}
 
 -- ---- half of a chord
 positive_difference : (m n : ℕ) → positive_part (pos m -ℤ pos n) ≡ m - n
@@ -96,4 +97,4 @@ point_on_circle l h c sigma r e small_r sense is small_h near =
     let along : unsigned_abs x ≡ t = sense_size sigma (half_chord c.r g) sense ∙ ap unsigned_abs chord in
     let eighth = ends r (unsigned_abs g) t x (neg_ℤ g) along (size_neg g) (half_chord_end r (unsigned_abs g) t (depth_near l h c.c r is small_h small_r near) (half_of-IsRoot r g small_r)) in
     let same : unsigned_abs c.r ≡ r = ap unsigned_abs e in
-    near_circle c (line_circle_point l h c sigma) (rw e (omega (arith, ints))) (rw same (framed_on_circle c.c l.dir x (neg_ℤ g) r is.dir small_r eighth))
+    near_circle c (line_circle_point l h c sigma) (rw e (omega (arith, ints))) (rw same (framed_on_circle c.c l.dir x (neg_ℤ g) r is.dir (omega (arith, small_r)) eighth))

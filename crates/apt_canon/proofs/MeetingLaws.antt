@@ -1,16 +1,14 @@
 -- The meeting point of two moved lines is at most one unit from each of them.
-use Rattle.std.proofs.Common.{refl, ◌≡◌, ◌≢◌, ◌^◌, ◌≤◌, ◌∙◌, ap, arith, ℤ, pos, neg_ℤ, ◌+ℤ◌, ◌-ℤ◌, ◌*ℤ◌, unsigned_abs}
-use Rattle.std.proofs.lemmas.Int.{ints}
+use Rattle.std.proofs.Common.{◌≡◌, ◌≢◌, ◌^◌, ◌≤◌, ◌∙◌, ap, arith, ℤ, pos, neg_ℤ, ◌+ℤ◌, ◌-ℤ◌, ◌*ℤ◌, unsigned_abs}
 use Rattle.apt_num.proofs.Ring.{as_diff, diff-pos, diff-same, differences}
-use Rattle.apt_plane.specs.declared.figures.Pt.{Pt}
-use Rattle.apt_plane.specs.declared.figures.Dir.{Dir}
 use Rattle.apt_plane.specs.declared.figures.Line.{Line}
 use Rattle.apt_plane.specs.Vectors.{displacement, cross}
 use Rattle.apt_plane.specs.Ranges.{IsLine}
-use Rattle.apt_plane.proofs.Displacements.{cross_self, cross_swap, cross_minus, cross_sum}
+use Rattle.apt_plane.proofs.Displacements.{cross_self, cross_swap, cross_minus}
 use Rattle.apt_plane.proofs.Rounding.{near_displacement, moved}
 use Rattle.apt_canon.specs.Scale.{unit, length_of, IsNearLine}
 use Rattle.apt_canon.specs.Meeting.{meeting_displacement, meeting_point}
+use Rattle.apt_canon.proofs.Products.{units_not_zero}
 use Rattle.apt_canon.proofs.Ways.{height_at_first, height_at_second}
 use Rattle.apt_canon.proofs.NearLine.{near_line}
 
@@ -43,16 +41,13 @@ cancel_parts d u c e rest = rw (as_diff d, as_diff u, as_diff c, as_diff e, as_d
 split_height : (d u c k e rest : ℤ) → (d *ℤ u) *ℤ k ≡ (d *ℤ (e -ℤ (c *ℤ u))) +ℤ rest → (d *ℤ u) *ℤ (c +ℤ k) ≡ (d *ℤ e) +ℤ rest
 split_height d u c k e rest h = shift_parts d u c k e ∙ rw h (cancel_parts d u c e rest)
 
-units_apart : (d : ℤ) → d ≢ pos 0 → d *ℤ pos (2 ^ 35) ≢ pos 0
-units_apart d h = λ e. h (omega (arith, ints))
-
 near_first : (a b : Line) (ha hb : ℤ) → IsLine a → unsigned_abs ha ≤ 10 ^ 8 → cross a.dir b.dir ≢ pos 0
     → IsNearLine a ha (pos 1) (meeting_point a ha b hb)
 near_first a b ha hb is small apart =
     let turn = cross a.dir b.dir in
     let u = meeting_displacement a ha b hb in
     let m = turn *ℤ unit in
-    let rounded = moved a.dir u m (units_apart turn apart) in
+    let rounded = moved a.dir u m (units_not_zero turn apart) in
     let v = near_displacement u m in
     let height : m *ℤ cross a.dir v ≡ (turn *ℤ (ha *ℤ length_of a.dir)) +ℤ rounded.0 = rounded.1 ∙ ap (λ z. z +ℤ rounded.0) (displacement_above_first a b ha hb) in
     rw (height_at_first a.dir a.base v) (near_line a.dir turn (cross a.dir v) ha rounded.0 is.dir apart small height rounded.2)
@@ -64,7 +59,7 @@ near_second a b ha hb is small apart =
     let u = meeting_displacement a ha b hb in
     let m = turn *ℤ unit in
     let c = cross b.dir (displacement b.base a.base) in
-    let rounded = moved b.dir u m (units_apart turn apart) in
+    let rounded = moved b.dir u m (units_not_zero turn apart) in
     let v = near_displacement u m in
     let above : m *ℤ cross b.dir v ≡ (turn *ℤ ((hb *ℤ length_of b.dir) -ℤ (c *ℤ unit))) +ℤ rounded.0 = rounded.1 ∙ ap (λ z. z +ℤ rounded.0) (displacement_above_second a b ha hb) in
     let height = split_height turn unit c (cross b.dir v) (hb *ℤ length_of b.dir) rounded.0 above in
@@ -73,3 +68,9 @@ near_second a b ha hb is small apart =
 pub meeting_point-near : (a b : Line) (ha hb : ℤ) → IsLine a → IsLine b → unsigned_abs ha ≤ 10 ^ 8 → unsigned_abs hb ≤ 10 ^ 8 → cross a.dir b.dir ≢ pos 0
     → IsNearLine a ha (pos 1) (meeting_point a ha b hb) × IsNearLine b hb (pos 1) (meeting_point a ha b hb)
 meeting_point-near a b ha hb is_a is_b small_a small_b apart = (near_first a b ha hb is_a small_a apart, near_second a b ha hb is_b small_b apart)
+
+-- and so is a point of the same parts
+pub parts-near : (a b : Line) (ha hb x y : ℤ) → IsLine a → IsLine b → unsigned_abs ha ≤ 10 ^ 8 → unsigned_abs hb ≤ 10 ^ 8 → cross a.dir b.dir ≢ pos 0
+    → x ≡ (meeting_point a ha b hb).x → y ≡ (meeting_point a ha b hb).y
+    → IsNearLine a ha (pos 1) (record { x = x; y = y }) × IsNearLine b hb (pos 1) (record { x = x; y = y })
+parts-near a b ha hb x y is_a is_b small_a small_b apart ex ey = rw (ex, ey) (meeting_point-near a b ha hb is_a is_b small_a small_b apart)

@@ -8,7 +8,7 @@ use Rattle.apt_plane.specs.Distances.{IsLengthAtMost, IsRootAtMost}
 use Rattle.apt_plane.proofs.Lengths.{IsInRing}
 use Rattle.apt_canon.specs.Scale.{IsNearCircle}
 
-not_negative : (n : ℕ) → int_lt (pos n) (pos 0) ≡ false
+pub not_negative : (n : ℕ) → int_lt (pos n) (pos 0) ≡ false
 not_negative n = grind (arith, ints)
 
 one_less : (t : ℕ) → pos (suc t) -ℤ pos 1 ≡ pos t

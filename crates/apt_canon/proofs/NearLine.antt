@@ -11,6 +11,7 @@ use Rattle.apt_plane.specs.declared.figures.Dir.{Dir}
 use Rattle.apt_plane.specs.Vectors.{length_squared}
 use Rattle.apt_plane.specs.Ranges.{IsDir}
 use Rattle.apt_canon.specs.Scale.{length_of}
+use Rattle.apt_canon.proofs.Products.{not_zero}
 
 taken_out : (d u k h s : ℤ) → ((d *ℤ u) *ℤ k) -ℤ (d *ℤ (h *ℤ s)) ≡ d *ℤ ((k *ℤ u) -ℤ (h *ℤ s))
 taken_out d u k h s = rw (as_diff d, as_diff u, as_diff k, as_diff h, as_diff s) (simp differences (diff-same _ _ _ _ (omega arith)))
@@ -30,9 +31,6 @@ rest_small n s w at p = three_quarters w s (five_sevenths w (s + 1) (omega (arit
 
 scaled_to : (x y : ℤ) → x ≡ y +ℤ (x -ℤ y)
 scaled_to x y = omega (arith, ints)
-
-not_zero : (d : ℤ) → d ≢ pos 0 → 0 < unsigned_abs d
-not_zero d h = omega (arith, ints)
 
 pub length_squared_bound : (d : Dir) → IsDir d → length_squared d ≤ 2 * 10 ^ 16
 length_squared_bound d is = omega (arith, square_le (unsigned_abs d.dx) (10 ^ 8) is.dx, square_le (unsigned_abs d.dy) (10 ^ 8) is.dy)

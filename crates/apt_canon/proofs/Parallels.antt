@@ -1,8 +1,6 @@
 -- What the answer of a parallel tells.
-use Rattle.std.proofs.Common.{refl, ◌≡◌, ◌^◌, ◌≤◌, Bool, true, false, inl, inr, arith, ℤ, pos, neg_ℤ, unsigned_abs, int_lt, Result, Ok, Err, IfOk}
+use Rattle.std.proofs.Common.{refl, ◌≡◌, ◌^◌, ◌≤◌, Bool, true, false, inl, inr, ℤ, pos, neg_ℤ, unsigned_abs, int_lt, Result, Ok, Err, IfOk}
 use Rattle.std.specs.Prelude.{if◌then◌else◌}
-use Rattle.std.proofs.lemmas.Int.{ints}
-use Rattle.std.proofs.lemmas.Bool.Decides.{leb_tells}
 use Rattle.apt_num.specs.declared.Sign.{Sign}
 use Rattle.apt_num.specs.declared.Sign.TheVariants.{Minus, Zero, Plus}
 use Rattle.apt_num.proofs.Squares.{size_neg}
@@ -16,13 +14,14 @@ use Rattle.apt_canon.specs.declared.FormFault.{FormFault}
 use Rattle.apt_canon.specs.declared.FormFault.TheVariants.{Degenerate}
 use Rattle.apt_canon.specs.Scale.{in_range, IsNearLine}
 use Rattle.apt_canon.specs.Feet.{side_picked, offset_picked, parallel_point, based_on, parallel_at}
+use Rattle.apt_canon.proofs.Fits.{point_tells}
 use Rattle.apt_canon.proofs.FootLaws.{parallel_near}
 
 -- what holds of a line through a point in range holds of one whose base was tested
 if_based : (P : Line → Type 0) (d : Dir) (p : Pt) → (IsPoint p → P (record { base = p; dir = d })) → IfOk (in_range p >>= based_on d) P
-if_based P d p f = elim (leb_tells (unsigned_abs p.x) 50000000) [
-  | inl x ↦ elim (leb_tells (unsigned_abs p.y) 50000000) [ inl y ↦ rw (x.0, y.0) (f (record { x = x.1; y = y.1 })) | inr y ↦ rw (x.0, y.0) tt ]
-  | inr x ↦ rw x.0 tt
+if_based P d p f = elim (point_tells p) [
+  | inl is ↦ rw is.1 (f is.0)
+  | inr out ↦ rw out.1 tt
 ]
 
 -- and what holds for each offset holds where there is one

@@ -41,7 +41,7 @@ sum_kept x y p q = rw (kept x (omega arith), kept y (omega arith)) (kept (x +ℤ
 pub sum_fits : (x y : ℤ) → unsigned_abs x < 2 ^ 126 → unsigned_abs y < 2 ^ 126 → FitsSigned w128 (to_z w128 (of_z w128 x) +ℤ to_z w128 (of_z w128 y))
 sum_fits x y p q = rw (kept x (omega arith), kept y (omega arith)) (omega (arith, ints))
 
-not_zero : (b : ℤ) → b ≢ pos 0 → 1 ≤ unsigned_abs b
+pub not_zero : (b : ℤ) → b ≢ pos 0 → 1 ≤ unsigned_abs b
 not_zero b d = omega (arith, ints)
 
 product_size : (p a : ℤ) (m : ℕ) → 2 * unsigned_abs (p -ℤ a) ≤ m → unsigned_abs p ≤ unsigned_abs a + m

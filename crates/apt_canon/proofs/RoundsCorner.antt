@@ -1,7 +1,6 @@
 -- The circle in a corner: why there is none, and how close to both lines its centre is.
-use Rattle.std.proofs.Common.{refl, ◌≡◌, ◌≢◌, ◌↔◌, ◌⊎◌, ◌^◌, ◌≤◌, ◌∙◌, subst, arith, inl, inr, zero, suc, ℤ, pos, negsuc, ◌≤ℤ◌, ◌<ℤ◌, unsigned_abs, Result, Ok, Err, IfOk, IsErrOf}
+use Rattle.std.proofs.Common.{refl, ◌≡◌, ◌≢◌, ◌↔◌, ◌⊎◌, ◌^◌, ◌≤◌, ◌∙◌, subst, arith, inl, inr, ℤ, pos, ◌≤ℤ◌, ◌<ℤ◌, unsigned_abs, Result, Ok, Err, IfOk, IsErrOf}
 use Rattle.std.proofs.lemmas.Int.{ints}
-use Rattle.std.proofs.lemmas.Bool.Decides.{leb_tells}
 use Rattle.apt_num.specs.declared.Sign.{Sign}
 use Rattle.apt_num.specs.declared.Sign.TheVariants as signs
 use Rattle.apt_words.specs.declared.Pick.{Pick}
@@ -13,30 +12,16 @@ use Rattle.apt_plane.specs.Vectors.{cross}
 use Rattle.apt_plane.specs.Ranges.{IsPoint, IsLine, IsCircle}
 use Rattle.apt_canon.specs.declared.FormFault.{FormFault}
 use Rattle.apt_canon.specs.declared.FormFault.TheVariants as faults
-use Rattle.apt_canon.specs.Scale.{in_range, is_in_range, IsNearLine}
+use Rattle.apt_canon.specs.Scale.{in_range, IsNearLine}
 use Rattle.apt_canon.specs.Meeting.{line_line, meeting_point}
 use Rattle.apt_canon.specs.Feet.{side_picked, offset_picked}
 use Rattle.apt_canon.specs.Rounds.{circle, circle_of, corner}
-use Rattle.apt_canon.specs.RoundLaws.{IsTooLarge, IsBeside, HasSides, NoCorner, offset_to, corner_centre}
-use Rattle.apt_canon.proofs.Meets.{not_zero-test}
+use Rattle.apt_canon.specs.RoundLaws.{IsBeside, HasSides, NoCorner, offset_to, corner_centre}
+use Rattle.apt_canon.proofs.Fits.{not_zero-test, zero_tells, point_tells}
 use Rattle.apt_canon.proofs.MeetingLaws.{meeting_point-near}
 use Rattle.apt_canon.proofs.RoundsRange.{Answer, TooSmall, TooLarge, Fits, answer, small_tells, too_large, ok_or_fault}
 
 -- ---- a centre
-
-point_tells : (p : Pt) → (IsPoint p × (in_range p ≡ Ok p)) ⊎ ((¬ IsPoint p) × (in_range p ≡ Err faults.OutOfRange))
-point_tells p = elim (leb_tells (unsigned_abs p.x) 50000000) [
-  | inl x ↦ elim (leb_tells (unsigned_abs p.y) 50000000) [
-    | inl y ↦ inl (record { x = x.1; y = y.1 }, rw (x.0, y.0) refl)
-    | inr y ↦ inr (λ is. omega (arith, y.1, is.y), rw (x.0, y.0) refl)
-  ]
-  | inr x ↦ inr (λ is. omega (arith, x.1, is.x), rw x.0 refl)
-]
-
-is_zero : (z : ℤ) → (z ≡ pos 0) ⊎ (z ≢ pos 0)
-is_zero (pos zero) = inl refl
-is_zero (pos (suc n)) = inr (λ e. omega (arith, ints))
-is_zero (negsuc n) = inr (λ e. omega (arith, ints))
 
 -- the circle about the point in which two moved lines meet
 met : Line → ℤ → Line → ℤ → ℤ → Result Circ FormFault
@@ -145,11 +130,11 @@ ranged a b pick_a pick_b r is d at (TooLarge h e) = None faults.TooLarge (is, d,
 ranged a b pick_a pick_b r is d at (Fits h e) = One is d h (to_circle a b pick_a pick_b r is d at ∙ e)
 
 meeting : (a b : Line) (pick_a pick_b : Pick) (r : ℤ) → HasSides a pick_a b pick_b r → Answers a pick_a b pick_b r
-meeting a b pick_a pick_b r is = elim (is_zero (cross a.dir b.dir)) [
-  | inl e ↦ None faults.NoMeeting (is, e)
-  | inr d ↦ elim (point_tells (corner_centre a pick_a b pick_b r)) [
-    | inl at ↦ ranged a b pick_a pick_b r is d at.0 (answer (corner_centre a pick_a b pick_b r) r)
-    | inr out ↦ None faults.OutOfRange (is, d, out.0)
+meeting a b pick_a pick_b r is = elim (zero_tells (cross a.dir b.dir)) [
+  | inl parallel ↦ None faults.NoMeeting (is, parallel.0)
+  | inr apart ↦ elim (point_tells (corner_centre a pick_a b pick_b r)) [
+    | inl at ↦ ranged a b pick_a pick_b r is apart.0 at.0 (answer (corner_centre a pick_a b pick_b r) r)
+    | inr out ↦ None faults.OutOfRange (is, apart.0, out.0)
   ]
 ]
 

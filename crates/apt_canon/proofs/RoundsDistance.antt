@@ -1,27 +1,23 @@
 -- A rounded radius is within one unit of the distance of a point, or of a line.
-use Rattle.std.proofs.Common.{◌≡◌, ◌≢◌, ℕ, zero, suc, ◌+◌, ◌-◌, ◌*◌, ◌^◌, ◌≤◌, ◌<◌, ◌∙◌, sym, arith, inl, inr, ℤ, pos, negsuc, ◌+ℤ◌, ◌-ℤ◌, ◌*ℤ◌, ◌≤ℤ◌, neg_ℤ, unsigned_abs, int_lt, true, false}
+use Rattle.std.proofs.Common.{◌≡◌, ℕ, zero, suc, ◌+◌, ◌-◌, ◌*◌, ◌^◌, ◌≤◌, ◌<◌, arith, inl, inr, ℤ, pos, ◌+ℤ◌, ◌-ℤ◌, ◌*ℤ◌, neg_ℤ, unsigned_abs}
 use Rattle.std.proofs.Math.IntN.{*ℤ_comm}
 use Rattle.std.proofs.lemmas.Int.{ints}
-use Rattle.std.proofs.lemmas.Bool.{cases_lt}
 use Rattle.std.proofs.lemmas.Bool.Decides.{leb_tells}
-use Rattle.apt_num.specs.Near.{near}
-use Rattle.apt_num.specs.Root.{IsRoot, IsNearestRoot, root, root_near}
-use Rattle.apt_num.specs.Sign.{OnLine}
-use Rattle.apt_num.proofs.Squares.{square_le}
+use Rattle.apt_num.specs.Root.{IsNearestRoot, root, root_near}
 use Rattle.apt_num.proofs.RootLaws.{root-IsRoot, nearest_below, nearest_above}
 use Rattle.apt_num.proofs.Roots.{on_line}
 use Rattle.apt_num.proofs.Nearest.{near_remainder}
 use Rattle.apt_plane.specs.declared.figures.Pt.{Pt}
-use Rattle.apt_plane.specs.declared.figures.Dir.{Dir}
 use Rattle.apt_plane.specs.declared.figures.Line.{Line}
-use Rattle.apt_plane.specs.declared.figures.Circ.{Circ}
 use Rattle.apt_plane.specs.Vectors.{displacement, cross, length_squared}
-use Rattle.apt_plane.specs.Ranges.{IsPoint, IsLine, IsDir, IsCircle}
+use Rattle.apt_plane.specs.Ranges.{IsPoint, IsLine}
 use Rattle.apt_plane.specs.Distances.{IsLengthAtMost, IsRootAtMost}
 use Rattle.apt_canon.specs.Scale.{unit, length_of, IsNearCircle}
 use Rattle.apt_canon.specs.Rounds.{circle, length_near, distance_from_line}
 use Rattle.apt_canon.specs.RoundLaws.{Touches}
-use Rattle.apt_canon.proofs.RoundsSizes.{length_facts, length_not_zero}
+use Rattle.apt_canon.proofs.Depths.{length_facts, length_positive}
+use Rattle.apt_canon.proofs.NearCircle.{not_negative}
+use Rattle.apt_canon.proofs.RoundsSizes.{odd_before}
 
 pub root_near-nearest : (n : ℕ) → n < 2 ^ 128 → IsNearestRoot n (root_near n)
 root_near-nearest n h =
@@ -31,9 +27,6 @@ root_near-nearest n h =
       | inr far ↦ rw far.0 (nearest_above n (root n) at far.1)
     ]
 
-odd_before : (t : ℕ) → 2 * suc t - 1 ≡ 2 * t + 1
-odd_before t = omega arith
-
 -- the square of a length lies between those of one less than its nearest number and of one more
 pub nearest_most : (n q : ℕ) → IsNearestRoot n q → n ≤ (q + 1) * (q + 1)
 nearest_most n q at = omega (arith, at.above)
@@ -42,9 +35,6 @@ pub nearest_least : (n t : ℕ) → IsNearestRoot n (suc t) → t * t ≤ n
 nearest_least n t at =
     let below : (2 * t + 1) * (2 * t + 1) < 4 * n = rw (odd_before t) at (at.below (omega arith)) in
     omega (arith, below)
-
-not_negative : (t : ℕ) → int_lt (pos t) (pos 0) ≡ false
-not_negative t = grind (arith, ints)
 
 pub size_at_most : (h : ℤ) (t n : ℕ) → h ≡ pos t → t * t ≤ n → IsLengthAtMost h n
 size_at_most h t n e p = rw (e, not_negative t) p
@@ -80,5 +70,5 @@ touches c l at is small =
     let s = root (n * 2 ^ 70) in
     let k = pos (unsigned_abs (cross l.dir (displacement l.base c))) in
     let facts = length_facts l.dir is.dir in
-    let near = near_remainder (k *ℤ unit) (length_of l.dir) (length_not_zero l.dir is.dir) in
+    let near = near_remainder (k *ℤ unit) (length_of l.dir) (length_positive l.dir is.dir) in
     on_line k (distance_from_line c l) (neg_ℤ near.0) n s facts.root (to_line k (pos s) (distance_from_line c l) near.0 near.1) (half_small near.0 s near.2) (omega (arith, facts.large, small))

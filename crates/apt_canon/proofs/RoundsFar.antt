@@ -1,9 +1,8 @@
 -- A centre far away makes its circle too large, whatever its radius.
-use Rattle.std.proofs.Common.{refl, ◌≡◌, ◌↔◌, ◌⊎◌, ℕ, zero, suc, ◌+◌, ◌-◌, ◌*◌, ◌^◌, ◌≤◌, ◌<◌, arith, inl, inr, ℤ, pos, ◌+ℤ◌, ◌≤ℤ◌, ◌<ℤ◌, unsigned_abs, true, false, Result, Ok, Err, IfOk, IsErrOf}
+use Rattle.std.proofs.Common.{refl, ◌≡◌, ◌↔◌, ◌⊎◌, ℕ, zero, suc, ◌+◌, ◌-◌, ◌*◌, ◌^◌, ◌≤◌, ◌<◌, arith, inl, inr, ℤ, pos, ◌+ℤ◌, ◌≤ℤ◌, ◌<ℤ◌, unsigned_abs, true, false, Err, IfOk, IsErrOf}
 use Rattle.std.proofs.lemmas.Int.{ints}
 use Rattle.std.proofs.lemmas.Bool.Decides.{leb_tells}
 use Rattle.std.proofs.Math.Nat.{two-pow-succ}
-use Rattle.std.proofs.lemmas.Nat.{mul-le}
 use Rattle.apt_num.specs.Root.{root_bits, root, root_near}
 use Rattle.apt_num.proofs.Squares.{root_lt, square_le}
 use Rattle.apt_plane.specs.declared.figures.Pt.{Pt}
@@ -11,12 +10,11 @@ use Rattle.apt_plane.specs.declared.figures.Dir.{Dir}
 use Rattle.apt_plane.specs.declared.figures.Circ.{Circ}
 use Rattle.apt_plane.specs.Vectors.{length_squared}
 use Rattle.apt_plane.specs.Ranges.{IsPoint, IsCircle}
-use Rattle.apt_canon.specs.declared.FormFault.{FormFault}
 use Rattle.apt_canon.specs.declared.FormFault.TheVariants as faults
 use Rattle.apt_canon.specs.Scale.{from}
 use Rattle.apt_canon.specs.Rounds.{circle, circle_about, is_far, length_near}
 use Rattle.apt_canon.specs.RoundLaws.{IsTooLarge}
-use Rattle.apt_canon.proofs.RoundsRange.{degenerate, too_large, if_circle, faults_apart}
+use Rattle.apt_canon.proofs.RoundsRange.{degenerate, too_large, if_circle, small_or_large, faults_apart}
 
 -- the bits of a root pass each number whose square fits
 bits_least : (k n q m : ℕ) → m * m ≤ n → m < q + 2 ^ k → m ≤ root_bits k n q
@@ -72,13 +70,9 @@ far_centre p v at (inr y) is = far_part p.y v.dy at.y y is.y
 far_too_large : (p : Pt) (v : Dir) → IsPoint p → IsFar v → IsTooLarge (circle (from p v) (pos (length_near v)))
 far_too_large p v at far = (far_radius v far, λ is. far_centre p v at far is.centre)
 
-small_or_large : (n : ℕ) → pos n <ℤ pos 100 → pos 100 ≤ℤ pos n → ⊥
-small_or_large n p q = omega (arith, ints)
-
--- so the test tells nothing else than the ranges do
 pub about_degenerate : (p : Pt) (v : Dir) → IsErrOf (circle_about p v) faults.Degenerate ↔ (pos (length_near v) <ℤ pos 100)
 about_degenerate p v = elim (far_tells v) [
-  | inl far ↦ rw far.0 (λ h. absurd (faults_apart (Err faults.TooLarge) refl h), λ h. absurd (small_or_large (length_near v) h (far_radius v far.1)))
+  | inl far ↦ rw far.0 (λ h. absurd (faults_apart (Err faults.TooLarge) refl h), λ h. absurd (small_or_large (pos (length_near v)) h (far_radius v far.1)))
   | inr near ↦ rw near (degenerate (from p v) (pos (length_near v)))
 ]
 

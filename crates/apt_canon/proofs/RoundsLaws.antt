@@ -1,12 +1,11 @@
 -- What the answers of circles tell, as the functions say it.
-use Rattle.std.proofs.Common.{refl, ◌≡◌, ◌≢◌, ◌↔◌, ◌⊎◌, ◌^◌, ◌≤◌, arith, inl, inr, zero, suc, ℤ, pos, negsuc, ◌<ℤ◌, unsigned_abs, ◌==◌, Result, Err, IfOk, IsErrOf}
+use Rattle.std.proofs.Common.{refl, ◌≡◌, ◌≢◌, ◌↔◌, ◌⊎◌, ◌^◌, ◌≤◌, arith, inl, inr, ℤ, pos, ◌<ℤ◌, unsigned_abs, ◌==◌, Result, Err, IfOk, IsErrOf}
 use Rattle.std.specs.Prelude.{if◌then◌else◌}
-use Rattle.std.proofs.lemmas.Int.{ints}
 use Rattle.apt_words.specs.declared.Pick.{Pick}
 use Rattle.apt_plane.specs.declared.figures.Pt.{Pt}
 use Rattle.apt_plane.specs.declared.figures.Line.{Line}
 use Rattle.apt_plane.specs.declared.figures.Circ.{Circ}
-use Rattle.apt_plane.specs.Vectors.{displacement, cross, length_squared}
+use Rattle.apt_plane.specs.Vectors.{displacement, cross}
 use Rattle.apt_plane.specs.Ranges.{IsPoint, IsLine, IsCircle}
 use Rattle.apt_canon.specs.declared.FormFault.{FormFault}
 use Rattle.apt_canon.specs.declared.FormFault.TheVariants as faults
@@ -14,8 +13,8 @@ use Rattle.apt_canon.specs.Scale.{IsNearCircle}
 use Rattle.apt_canon.specs.Feet.{side_picked}
 use Rattle.apt_canon.specs.Rounds as rounds
 use Rattle.apt_canon.specs.RoundLaws.{IsTooLarge, Touches, AreOnLine, IsThrough, rounded_through, IsBeside, NoCorner}
-use Rattle.apt_canon.proofs.Meets.{not_zero-test}
-use Rattle.apt_canon.proofs.RoundsSizes.{way_small, between_small}
+use Rattle.apt_canon.proofs.Fits.{zero_tells}
+use Rattle.apt_canon.proofs.RoundsSizes.{between_small}
 use Rattle.apt_canon.proofs.RoundsRange.{degenerate, too_large, if_circle, faults_apart}
 use Rattle.apt_canon.proofs.RoundsDistance.{passes, touches}
 use Rattle.apt_canon.proofs.RoundsFar.{about_degenerate, about_too_large, if_about}
@@ -51,28 +50,23 @@ of_touching x c l at is e =
 
 unless_zero-degenerate : (z : ℤ) (y : Result Circ FormFault) (Q : Type 0) → IsErrOf y faults.Degenerate ↔ Q
     → IsErrOf (if unsigned_abs z == 0 then Err faults.Degenerate else y) faults.Degenerate ↔ ((z ≡ pos 0) ⊎ Q)
-unless_zero-degenerate (pos zero) y Q h = (λ p. inl refl, λ p. refl)
-unless_zero-degenerate (pos (suc n)) y Q h = rw (not_zero-test (pos (suc n)) (λ e. omega (arith, ints))) (λ p. inr (h.0 p), λ p. elim p [ inl e ↦ absurd (omega (arith, ints)) | inr q ↦ h.1 q ])
-unless_zero-degenerate (negsuc n) y Q h = rw (not_zero-test (negsuc n) (λ e. omega (arith, ints))) (λ p. inr (h.0 p), λ p. elim p [ inl e ↦ absurd (omega (arith, ints)) | inr q ↦ h.1 q ])
+unless_zero-degenerate z y Q h = elim (zero_tells z) [
+  | inl none ↦ rw none.1 (λ p. inl none.0, λ p. refl)
+  | inr some ↦ rw some.1 (λ p. inr (h.0 p), λ p. elim p [ inl e ↦ absurd (some.0 e) | inr q ↦ h.1 q ])
+]
 
 unless_zero-too_large : (z : ℤ) (y : Result Circ FormFault) (Q : Type 0) → IsErrOf y faults.TooLarge ↔ Q
     → IsErrOf (if unsigned_abs z == 0 then Err faults.Degenerate else y) faults.TooLarge ↔ ((z ≢ pos 0) × Q)
-unless_zero-too_large (pos zero) y Q h = (λ p. absurd (faults_apart (Err faults.Degenerate) p refl), λ p. absurd (p.0 refl))
-unless_zero-too_large (pos (suc n)) y Q h =
-    let apart : pos (suc n) ≢ pos 0 = λ e. omega (arith, ints) in
-    rw (not_zero-test (pos (suc n)) apart) (λ p. (apart, h.0 p), λ p. h.1 p.1)
-unless_zero-too_large (negsuc n) y Q h =
-    let apart : negsuc n ≢ pos 0 = λ e. omega (arith, ints) in
-    rw (not_zero-test (negsuc n) apart) (λ p. (apart, h.0 p), λ p. h.1 p.1)
+unless_zero-too_large z y Q h = elim (zero_tells z) [
+  | inl none ↦ rw none.1 (λ p. absurd (faults_apart (Err faults.Degenerate) p refl), λ p. absurd (p.0 none.0))
+  | inr some ↦ rw some.1 (λ p. (some.0, h.0 p), λ p. h.1 p.1)
+]
 
 unless_zero-ok : (P : Circ → Type 0) (z : ℤ) (y : Result Circ FormFault) → (z ≢ pos 0 → IfOk y P) → IfOk (if unsigned_abs z == 0 then Err faults.Degenerate else y) P
-unless_zero-ok P (pos zero) y h = tt
-unless_zero-ok P (pos (suc n)) y h =
-    let apart : pos (suc n) ≢ pos 0 = λ e. omega (arith, ints) in
-    rw (not_zero-test (pos (suc n)) apart) (h apart)
-unless_zero-ok P (negsuc n) y h =
-    let apart : negsuc n ≢ pos 0 = λ e. omega (arith, ints) in
-    rw (not_zero-test (negsuc n) apart) (h apart)
+unless_zero-ok P z y h = elim (zero_tells z) [
+  | inl none ↦ rw none.1 tt
+  | inr some ↦ rw some.1 (h some.0)
+]
 
 pub three_degenerate : (x : Result Circ FormFault) (p q r : Pt) → x ≡ rounds.circle_three p q r → IsErrOf x faults.Degenerate ↔ (AreOnLine p q r ⊎ ((rounded_through p q r).r <ℤ pos 100))
 three_degenerate x p q r e =

@@ -1,5 +1,5 @@
 -- The circle about a centre: when it is one, and why else not.
-use Rattle.std.proofs.Common.{refl, suc, ◌⊎◌, ◌≡◌, ◌↔◌, ℕ, ◌+◌, ◌<◌, ◌≤◌, arith, inl, inr, ℤ, pos, negsuc, ◌≤ℤ◌, ◌<ℤ◌, unsigned_abs, int_lt, true, false, Result, Ok, Err, IfOk, IsErrOf}
+use Rattle.std.proofs.Common.{refl, suc, ◌⊎◌, ◌≡◌, ◌↔◌, ◌+◌, ◌≤◌, arith, inl, inr, ℤ, pos, negsuc, ◌≤ℤ◌, ◌<ℤ◌, unsigned_abs, true, false, Result, Ok, Err, IfOk, IsErrOf}
 use Rattle.std.proofs.lemmas.Int.{ints}
 use Rattle.std.proofs.lemmas.Bool.{cases_lt}
 use Rattle.std.proofs.lemmas.Bool.Decides.{leb_tells}
@@ -47,7 +47,7 @@ answer c r = elim (small_tells r) [
   ]
 ]
 
-small_or_large : (r : ℤ) → r <ℤ pos 100 → pos 100 ≤ℤ r → ⊥
+pub small_or_large : (r : ℤ) → r <ℤ pos 100 → pos 100 ≤ℤ r → ⊥
 small_or_large r p q = omega (arith, ints)
 
 pub ok_or_fault : (a : Result Circ FormFault) (k : Circ) (e : FormFault) → a ≡ Ok k → a ≡ Err e → ⊥

@@ -8,19 +8,20 @@ use Rattle.std.proofs.lemmas.Nat.{mul-le}
 use Rattle.apt_num.specs.Root.{IsNearestRoot, root}
 use Rattle.apt_num.proofs.Squares.{root_lt, square_le}
 use Rattle.apt_num.proofs.Nearest.{near_bound}
-use Rattle.apt_num.proofs.Roots.{ScaledRoot, root_facts}
 use Rattle.apt_plane.specs.declared.figures.Pt.{Pt}
 use Rattle.apt_plane.specs.declared.figures.Dir.{Dir}
 use Rattle.apt_plane.specs.declared.figures.Line.{Line}
 use Rattle.apt_plane.specs.Vectors.{displacement, cross, length_squared}
 use Rattle.apt_plane.specs.Ranges.{IsPoint, IsDir, IsLine}
 use Rattle.apt_plane.proofs.Displacements.{cross_square, cross_swap}
-use Rattle.apt_plane.proofs.Heights.{cross_small, displacement_height_small, length_squared_small}
+use Rattle.apt_plane.proofs.Heights.{cross_small, displacement_height_small}
 use Rattle.apt_canon.specs.Scale.{unit, length_of}
 use Rattle.apt_canon.specs.Rounds.{distance_from_line}
+use Rattle.apt_canon.proofs.Ways.{way_is_dir}
+use Rattle.apt_canon.proofs.Depths.{length_facts, length_positive}
 use Rattle.apt_canon.proofs.Products.{kept, size_in_units}
 
-odd_before : (t : ℕ) → 2 * suc t - 1 ≡ 2 * t + 1
+pub odd_before : (t : ℕ) → 2 * suc t - 1 ≡ 2 * t + 1
 odd_before t = omega arith
 
 -- the nearest root of the square of a length between points
@@ -68,24 +69,13 @@ long_second : (b c : Dir) → cross b c ≢ pos 0 → 1 ≤ length_squared c
 long_second b c d = long_first c b (λ e. d (size_zero (cross b c) (omega (arith, ints, cross_swap b c, e))))
 
 -- the ways between points that are not on one line
-between_points : (p q : Pt) → IsPoint p → IsPoint q → 1 ≤ length_squared (displacement p q) → IsDir (displacement p q)
-between_points p q at_p at_q long = record { dx = omega (arith, ints, at_p.x, at_q.x); dy = omega (arith, ints, at_p.y, at_q.y); length = long }
-
 pub first_way : (p q r : Pt) → IsPoint p → IsPoint q → cross (displacement p q) (displacement p r) ≢ pos 0 → IsDir (displacement p q)
-first_way p q r at_p at_q d = between_points p q at_p at_q (long_first (displacement p q) (displacement p r) d)
+first_way p q r at_p at_q d = way_is_dir p q at_p at_q (long_first (displacement p q) (displacement p r) d)
 
 pub second_way : (p q r : Pt) → IsPoint p → IsPoint r → cross (displacement p q) (displacement p r) ≢ pos 0 → IsDir (displacement p r)
-second_way p q r at_p at_r d = between_points p r at_p at_r (long_second (displacement p q) (displacement p r) d)
+second_way p q r at_p at_r d = way_is_dir p r at_p at_r (long_second (displacement p q) (displacement p r) d)
 
 -- a distance from a line
-pub length_facts : (d : Dir) → IsDir d → ScaledRoot (length_squared d) (root (length_squared d * 2 ^ 70))
-length_facts d is = root_facts (length_squared d) is.length (length_squared_small d is)
-
-pub length_not_zero : (d : Dir) → IsDir d → length_of d ≢ pos 0
-length_not_zero d is =
-    let facts = length_facts d is in
-    λ e. omega (arith, ints, facts.large, e)
-
 in_units : (x s : ℕ) → x ≤ 2 * 10 ^ 16 → 2 ^ 35 ≤ s → x * 2 ^ 35 ≤ (2 * 10 ^ 16) * s
 in_units x s p q = mul-le x (2 ^ 35) (2 * 10 ^ 16) s p q
 
@@ -93,7 +83,7 @@ pub distance_small : (p : Pt) (l : Line) → IsPoint p → IsLine l → unsigned
 distance_small p l at is =
     let k = cross l.dir (displacement l.base p) in
     let facts = length_facts l.dir is.dir in
-    near_bound (pos (unsigned_abs k) *ℤ unit) (length_of l.dir) (2 * 10 ^ 16) (length_not_zero l.dir is.dir)
+    near_bound (pos (unsigned_abs k) *ℤ unit) (length_of l.dir) (2 * 10 ^ 16) (length_positive l.dir is.dir)
     (rw unsigned_abs-mul (in_units (unsigned_abs k) (root (length_squared l.dir * 2 ^ 70)) (displacement_height_small l.base l.dir p is.base is.dir at) facts.large))
 
 pub distance_plain : (p : Pt) (l : Line) → IsPoint p → IsLine l → FitsSigned w64 (distance_from_line p l)

@@ -1,23 +1,21 @@
 -- The circle through three points: its exact centre, and how far the rounded one lies from it.
-use Rattle.std.proofs.Common.{refl, ◌≡◌, ◌≢◌, ℕ, zero, suc, ◌+◌, ◌-◌, ◌*◌, ◌^◌, ◌≤◌, ◌<◌, ◌∙◌, sym, arith, inl, inr, ℤ, pos, ◌+ℤ◌, ◌-ℤ◌, ◌*ℤ◌, ◌≤ℤ◌, neg_ℤ, unsigned_abs}
+use Rattle.std.proofs.Common.{refl, ◌≡◌, ◌≢◌, ℕ, suc, ◌+◌, ◌-◌, ◌*◌, ◌^◌, ◌≤◌, arith, inl, inr, ℤ, pos, ◌+ℤ◌, ◌-ℤ◌, ◌*ℤ◌, ◌≤ℤ◌, neg_ℤ, unsigned_abs}
 use Rattle.std.proofs.Math.Nat.{mul-le-mul_left}
 use Rattle.std.proofs.lemmas.Int.{ints}
-use Rattle.std.proofs.lemmas.Nat.{mul-le}
 use Rattle.std.proofs.lemmas.Bool.{cases_lt}
-use Rattle.apt_num.specs.Root.{IsNearestRoot}
 use Rattle.apt_num.proofs.Ring.{neg-*ℤ, as_diff, diff-pos, diff-same, differences}
-use Rattle.apt_num.proofs.Squares.{size_mul, size_neg, size_square}
+use Rattle.apt_num.proofs.Squares.{size_neg}
 use Rattle.apt_plane.specs.declared.figures.Dir.{Dir}
-use Rattle.apt_plane.specs.Vectors.{displacement, cross, dot, length_squared}
+use Rattle.apt_plane.specs.Vectors.{displacement, cross, length_squared}
 use Rattle.apt_plane.proofs.Displacements.{to, square_length_squared}
-use Rattle.apt_plane.proofs.Lengths.{IsRounded, plus, times, length_of_times, sum_of_lengths}
+use Rattle.apt_plane.proofs.Lengths.{plus, times, length_of_times, sum_of_lengths}
 use Rattle.apt_plane.proofs.Rounding.{displacement_rest}
 use Rattle.apt_plane.specs.declared.figures.Pt.{Pt}
 use Rattle.apt_plane.specs.Ranges.{IsPoint, IsCircle}
-use Rattle.apt_plane.specs.Distances.{IsLengthAtMost, IsRootAtMost}
 use Rattle.apt_canon.specs.Scale.{from}
 use Rattle.apt_canon.specs.Rounds.{length_near, centre_way, centre_divisor, centre_from}
 use Rattle.apt_canon.specs.RoundLaws.{IsEquidistant, IsThrough, rounded_through}
+use Rattle.apt_canon.proofs.Ways.{there_and_back}
 use Rattle.apt_canon.proofs.RoundsSizes.{twice_not_zero, way_small}
 use Rattle.apt_canon.proofs.RoundsDistance.{root_near-nearest, nearest_most, nearest_least, size_at_most, root_at_size}
 
@@ -91,9 +89,6 @@ radius_least u v e m t x y short h = elim (cases_lt (length_squared u) ((t * uns
       absurd (omega (arith, both, same, length_of_times m v, long))
   | inr past ↦ past
 ]
-
-there_and_back : (p q : ℤ) → (p +ℤ q) -ℤ p ≡ q
-there_and_back p q = omega (arith, ints)
 
 close_from : (p : Pt) (u v : Dir) (m : ℤ) (n : ℕ) → length_squared (plus u (times (neg_ℤ m) v)) ≤ n → length_squared (plus u (times (neg_ℤ m) (displacement p (from p v)))) ≤ n
 close_from p u v m n h = rw (there_and_back p.x v.dx, there_and_back p.y v.dy) h

@@ -1,5 +1,5 @@
 -- A number times the part of a whole, over that whole; and the size of a tangent.
-use Rattle.std.proofs.Common.{◌≡◌, ◌≢◌, ℕ, ◌+◌, ◌-◌, ◌*◌, ◌^◌, ◌≤◌, ap, arith, ℤ, pos, neg_ℤ, ◌+ℤ◌, ◌-ℤ◌, ◌*ℤ◌, unsigned_abs, to_z, of_z, FitsSigned, w64}
+use Rattle.std.proofs.Common.{◌≡◌, ◌≢◌, ℕ, ◌+◌, ◌-◌, ◌*◌, ◌^◌, ◌≤◌, ap, arith, ℤ, pos, ◌+ℤ◌, ◌-ℤ◌, ◌*ℤ◌, unsigned_abs, to_z, of_z, FitsSigned, w64}
 use Rattle.std.specs.Int.{w128}
 use Rattle.std.proofs.Math.Nat.{mul-le-mul_left}
 use Rattle.std.proofs.lemmas.Int.{ints, to_z-of_z, unsigned_abs-mul}
@@ -39,6 +39,3 @@ reached x q n r h e p =
     let size : unsigned_abs n ≡ unsigned_abs r = rw (side_kept r (omega arith)) at e in
     let short : unsigned_abs q ≤ unsigned_abs n = rw (side_kept n (omega arith)) at p in
     rw (side_kept x (omega arith), side_kept q (omega arith)) (side_kept (x +ℤ q) (omega (arith, ints)))
-
-pub turned : (z : ℤ) → pos 0 -ℤ z ≡ neg_ℤ z
-turned z = omega (arith, ints)

@@ -1,24 +1,21 @@
 -- The point of a circle in a direction: how far it lies off the direction, and off the circle, sharply; and the points a quarter turn on.
-use Rattle.std.proofs.Common.{refl, ◌≡◌, ◌≢◌, ℕ, zero, suc, ◌+◌, ◌-◌, ◌*◌, ◌^◌, ◌≤◌, ◌<◌, ◌∙◌, ap, sym, subst, inl, inr, arith, ℤ, pos, negsuc, neg_ℤ, ◌+ℤ◌, ◌-ℤ◌, ◌*ℤ◌, ◌≤ℤ◌, ◌<ℤ◌, unsigned_abs}
+use Rattle.std.proofs.Common.{refl, ◌≡◌, ℕ, zero, suc, ◌+◌, ◌-◌, ◌*◌, ◌^◌, ◌≤◌, ◌<◌, ◌∙◌, ap, sym, subst, inl, inr, arith, ℤ, pos, negsuc, ◌+ℤ◌, ◌-ℤ◌, ◌*ℤ◌, ◌≤ℤ◌, ◌<ℤ◌, unsigned_abs}
 use Rattle.std.proofs.Math.Nat.{mul-le-mul_left}
 use Rattle.std.proofs.lemmas.Nat.{mul-le}
 use Rattle.std.proofs.lemmas.Bool.{cases_lt}
 use Rattle.std.proofs.lemmas.Int.{ints}
-use Rattle.apt_num.specs.Near.{near}
 use Rattle.apt_num.specs.Root.{root}
-use Rattle.apt_num.proofs.Ring.{as_diff, diff-pos, diff-same, differences, *ℤ-neg, *ℤ-minus, pos-*ℤ}
+use Rattle.apt_num.proofs.Ring.{as_diff, diff-same, differences, *ℤ-neg, *ℤ-minus, pos-*ℤ}
 use Rattle.apt_num.proofs.Squares.{size_mul, size_neg, root_le, cancel_le}
 use Rattle.apt_num.proofs.Nearest.{near-neg}
-use Rattle.apt_num.proofs.Roots.{ScaledRoot}
-use Rattle.apt_plane.specs.declared.figures.Pt.{Pt}
 use Rattle.apt_plane.specs.declared.figures.Dir.{Dir}
 use Rattle.apt_plane.specs.declared.figures.Circ.{Circ}
 use Rattle.apt_plane.specs.Vectors.{displacement, cross, dot, length_squared, perp}
-use Rattle.apt_plane.specs.Ranges.{IsDir, IsRound}
+use Rattle.apt_plane.specs.Ranges.{IsDir}
 use Rattle.apt_plane.proofs.Displacements.{square_length_squared, cross_times, cross_self, dot_times, dot_square}
 use Rattle.apt_plane.proofs.Lengths.{times, plus, IsRounded, length_of_sum, length_of_times}
 use Rattle.apt_plane.proofs.Rounding.{near_displacement, moved, moved_dot, displacement_rest}
-use Rattle.apt_canon.specs.Scale.{unit, length_of, from}
+use Rattle.apt_canon.specs.Scale.{unit, length_of}
 use Rattle.apt_canon.specs.Feet.{ray_point}
 use Rattle.apt_canon.proofs.Ways.{displacement_from}
 use Rattle.apt_canon.proofs.Depths.{length_facts, length_positive}

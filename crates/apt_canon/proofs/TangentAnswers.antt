@@ -1,5 +1,5 @@
 -- What the answers of the tangents tell: which faults they are, and that a line touches its circles.
-use Rattle.std.proofs.Common.{refl, ◌≡◌, ◌↔◌, ℕ, zero, suc, ◌+◌, ◌-◌, ◌*◌, ◌^◌, ◌≤◌, ◌<◌, ◌∙◌, ap, Bool, arith, inl, inr, ℤ, pos, neg_ℤ, ◌+ℤ◌, ◌-ℤ◌, ◌*ℤ◌, ◌≤ℤ◌, unsigned_abs, ◌==◌, nat_lt, Result, Ok, Err, IfOk, IsErrOf}
+use Rattle.std.proofs.Common.{refl, ◌≡◌, ◌↔◌, ℕ, ◌+◌, ◌-◌, ◌*◌, ◌^◌, ◌≤◌, ◌<◌, ◌∙◌, Bool, arith, inl, inr, ℤ, pos, neg_ℤ, ◌+ℤ◌, ◌-ℤ◌, ◌*ℤ◌, ◌≤ℤ◌, unsigned_abs, ◌==◌, nat_lt, Result, Ok, Err, IfOk, IsErrOf}
 use Rattle.std.specs.Prelude.{◌&&◌, if◌then◌else◌}
 use Rattle.std.proofs.lemmas.Int.{ints}
 use Rattle.std.proofs.lemmas.Bool.{cases_lt, lt-ltb}
@@ -17,11 +17,12 @@ use Rattle.apt_canon.specs.declared.FormFault.{FormFault}
 use Rattle.apt_canon.specs.declared.FormFault.TheVariants.{NoMeeting, Degenerate}
 use Rattle.apt_canon.specs.Scale.{IsNearLine, IsNearCircle}
 use Rattle.apt_canon.specs.Tangents.{side_of_circle, falling, falling_dir, fall_divisor, tangent_line, tangent_from, drop, touch_point, common_tangent, tangent_two}
+use Rattle.apt_canon.proofs.Ways.{there_and_back, no_square, one_point, no_way, way_is_dir}
 use Rattle.apt_canon.proofs.NearLine.{length_squared_bound}
-use Rattle.apt_canon.proofs.FramedPoints.{near_circle}
+use Rattle.apt_canon.proofs.NearCircle.{near_circle}
 use Rattle.apt_canon.proofs.Shares.{share_small}
 use Rattle.apt_canon.proofs.TangentFrame.{falling_small}
-use Rattle.apt_canon.proofs.TangentCalls.{not_below, apart_test, same_test, way_is_dir, side_size, radius_large, outside_apart}
+use Rattle.apt_canon.proofs.TangentCalls.{not_below, apart_test, same_test, side_size, radius_large, outside_apart}
 use Rattle.apt_canon.proofs.TangentLaws.{divisor_apart, stretched, falling_dir_long, lag, lag_small, touching_back}
 use Rattle.apt_canon.proofs.TangentTwoLaws.{touch_way, touches_first, touches_second}
 
@@ -142,29 +143,6 @@ if_found_two P n m t h = elim (cases_lt 0 (n + m)) [
   | inr same ↦ rw (same_test n m same) tt
 ]
 
--- the square of a length is 0 where both points are one
-no_square : (x : ℕ) → x * x ≤ 0 → x ≡ 0
-no_square zero h = refl
-no_square (suc x) h = absurd (omega arith)
-
-same_number : (x y : ℤ) → unsigned_abs (y -ℤ x) ≡ 0 → x ≡ y
-same_number x y e = omega (arith, ints, e)
-
-same_point : (p q : Pt) → p.x ≡ q.x → p.y ≡ q.y → p ≡ q
-same_point p q e f = ap (λ (z : ℤ). record { x = z; y = p.y }) e ∙ ap (λ (z : ℤ). record { x = q.x; y = z }) f
-
-one_point : (p q : Pt) → length_squared (displacement p q) ≤ 0 → p ≡ q
-one_point p q h =
-    let x = no_square (unsigned_abs (q.x -ℤ p.x)) (omega (arith, h)) in
-    let y = no_square (unsigned_abs (q.y -ℤ p.y)) (omega (arith, h)) in
-    same_point p q (same_number p.x q.x x) (same_number p.y q.y y)
-
-no_way : (x : ℤ) → x -ℤ x ≡ pos 0
-no_way x = omega (arith, ints)
-
-same_length : (p q : Pt) → p ≡ q → length_squared (displacement p q) ≤ 0
-same_length p q e = rw (e, no_way q.x, no_way q.y) (omega arith)
-
 no_drop : (z : ℤ) → square z ≤ 0 → z ≡ pos 0
 no_drop z h =
     let none = no_square (unsigned_abs z) h in
@@ -181,7 +159,7 @@ two_degenerate r a left_a b left_b e =
     let is = degenerate_is n (square z) (common_tangent a left_a b left_b) in
     rw e (
       λ h. let none = is.0 h in (one_point a.c b.c (omega (arith, none)), no_drop z (omega (arith, none))),
-      λ h. is.1 (omega (arith, same_length a.c b.c h.0, drop_none z h.1)),
+      λ h. is.1 (omega (arith, no_way a.c b.c h.0, drop_none z h.1)),
     )
 
 pub two_no_meeting : (r : Result Line FormFault) (a : Circ) (left_a : Bool) (b : Circ) (left_b : Bool) → r ≡ tangent_two a left_a b left_b
@@ -236,9 +214,6 @@ two_touches_second r a left_a b left_b is_a is_b e =
 
 turned_long : (w : Dir) → length_squared (perp w) ≡ length_squared w
 turned_long w = rw (size_neg w.dy) (omega arith)
-
-there_and_back : (p q : ℤ) → (p +ℤ q) -ℤ p ≡ q
-there_and_back p q = omega (arith, ints)
 
 positive_radius : (c : Circ) → IsCircle c → pos 0 ≤ℤ c.r
 positive_radius c is = omega (arith, ints, is.least)

@@ -10,16 +10,14 @@ use Rattle.apt_plane.specs.declared.figures.Pt.{Pt}
 use Rattle.apt_plane.specs.declared.figures.Dir.{Dir}
 use Rattle.apt_plane.specs.declared.figures.Circ.{Circ}
 use Rattle.apt_plane.specs.Vectors.{displacement, length_squared}
-use Rattle.apt_plane.specs.Ranges.{IsPoint, IsDir, IsCircle}
+use Rattle.apt_plane.specs.Ranges.{IsCircle}
 use Rattle.apt_canon.specs.Tangents.{side_of_circle, falling_dir, tangent_from, drop, touch_point, tangent_two}
 use Rattle.apt_canon.specs.declared.FormFault.TheVariants.{NoMeeting, Degenerate}
-use Rattle.apt_canon.proofs.Shares.{side_kept, turned}
+use Rattle.apt_canon.proofs.Products.{zero-minus}
+use Rattle.apt_canon.proofs.Shares.{side_kept}
 
 pub not_below : (n m : ℕ) → m ≤ n → nat_lt n m ≡ false
 not_below n m h = grind (arith, nat_tests)
-
-pub way_is_dir : (p q : Pt) → IsPoint p → IsPoint q → 1 ≤ length_squared (displacement p q) → IsDir (displacement p q)
-way_is_dir p q is_p is_q apart = record { dx = omega (arith, ints, is_p.x, is_q.x); dy = omega (arith, ints, is_p.y, is_q.y); length = apart }
 
 pub side_size : (left : Bool) (r : ℤ) → unsigned_abs (side_of_circle left *ℤ r) ≡ unsigned_abs r
 side_size true r = omega (arith, ints)
@@ -37,7 +35,7 @@ outside_apart p c is h = omega (arith, radius_square c is, h)
 
 -- the radius to the other side
 pub back_kept : (s : ℤ) → unsigned_abs s ≤ 10 ^ 8 → to_z w64 (of_z w64 (pos 0 -ℤ to_z w64 (of_z w64 s))) ≡ neg_ℤ s
-back_kept s h = rw (side_kept s h, turned s) (side_kept (neg_ℤ s) (rw (size_neg s) h))
+back_kept s h = rw (side_kept s h, zero-minus s) (side_kept (neg_ℤ s) (rw (size_neg s) h))
 
 pub same_dir : (a b : Dir) (p q : ℤ) (d : Dir) → d ≡ falling_dir a p → a ≡ b → p ≡ q → d ≡ falling_dir b q
 same_dir a b p q d h e f = h ∙ ap (λ v. falling_dir v p) e ∙ ap (λ z. falling_dir b z) f

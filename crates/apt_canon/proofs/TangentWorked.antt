@@ -1,54 +1,43 @@
 -- Tangents worked out by hand, which the definitions compute.
-use Rattle.std.proofs.Common.{refl, ◌≡◌, ℤ, pos, neg_ℤ, true, false, Ok, Err}
+use Rattle.std.proofs.Common.{refl, ◌≡◌, pos, neg_ℤ, true, false, Ok, Err}
 use Rattle.apt_num.specs.Root.{root}
-use Rattle.apt_plane.specs.declared.figures.Pt.{Pt}
-use Rattle.apt_plane.specs.declared.figures.Line.{Line}
-use Rattle.apt_plane.specs.declared.figures.Circ.{Circ}
 use Rattle.apt_canon.specs.declared.FormFault.TheVariants.{NoMeeting, Degenerate}
 use Rattle.apt_canon.specs.Tangents.{tangent_from, tangent_two}
-
-point : ℤ → ℤ → Pt
-point x y = record { x = x; y = y }
-
-line : ℤ → ℤ → ℤ → ℤ → Line
-line x y dx dy = record { base = record { x = x; y = y }; dir = record { dx = dx; dy = dy } }
-
-circle : ℤ → ℤ → ℤ → Circ
-circle x y r = record { c = record { x = x; y = y }; r = r }
+use Rattle.apt_canon.proofs.Figures.{pt, line, circ}
 
 -- the sides of the triangle are 3, 4 and 5: the circle lies to the right of the tangent on its left
-left_of_circle : tangent_from (point (pos 0) (pos 0)) true (circle (pos 500000) (pos 0) (pos 300000)) ≡ Ok (line (pos 0) (pos 0) (pos 79999200) (pos 59999400))
-unfolding root point line circle
+left_of_circle : tangent_from (pt (pos 0) (pos 0)) true (circ (pos 500000) (pos 0) (pos 300000)) ≡ Ok (line (pos 0) (pos 0) (pos 79999200) (pos 59999400))
+unfolding root
 left_of_circle = refl
 
-right_of_circle : tangent_from (point (pos 0) (pos 0)) false (circle (pos 500000) (pos 0) (pos 300000)) ≡ Ok (line (pos 0) (pos 0) (pos 79999200) (neg_ℤ (pos 59999400)))
-unfolding root point line circle
+right_of_circle : tangent_from (pt (pos 0) (pos 0)) false (circ (pos 500000) (pos 0) (pos 300000)) ≡ Ok (line (pos 0) (pos 0) (pos 79999200) (neg_ℤ (pos 59999400)))
+unfolding root
 right_of_circle = refl
 
 -- a point on the circle, and one inside
-on_circle : tangent_from (point (pos 0) (pos 0)) true (circle (pos 500000) (pos 0) (pos 500000)) ≡ Ok (line (pos 0) (pos 0) (pos 0) (pos 99999000))
-unfolding root point line circle
+on_circle : tangent_from (pt (pos 0) (pos 0)) true (circ (pos 500000) (pos 0) (pos 500000)) ≡ Ok (line (pos 0) (pos 0) (pos 0) (pos 99999000))
+unfolding root
 on_circle = refl
 
-in_circle : tangent_from (point (pos 0) (pos 0)) true (circle (pos 500000) (pos 0) (pos 500001)) ≡ Err NoMeeting
-unfolding root point line circle
+in_circle : tangent_from (pt (pos 0) (pos 0)) true (circ (pos 500000) (pos 0) (pos 500001)) ≡ Err NoMeeting
+unfolding root
 in_circle = refl
 
 -- past two circles of one radius
-parallel : tangent_two (circle (pos 0) (pos 0) (pos 5000)) true (circle (pos 30000) (pos 40000) (pos 5000)) true ≡ Ok (line (neg_ℤ (pos 4000)) (pos 3000) (pos 59999400) (pos 79999200))
-unfolding root point line circle
+parallel : tangent_two (circ (pos 0) (pos 0) (pos 5000)) true (circ (pos 30000) (pos 40000) (pos 5000)) true ≡ Ok (line (neg_ℤ (pos 4000)) (pos 3000) (pos 59999400) (pos 79999200))
+unfolding root
 parallel = refl
 
 -- between two circles
-crossing : tangent_two (circle (pos 0) (pos 0) (pos 200000)) true (circle (pos 500000) (pos 0) (pos 100000)) false ≡ Ok (line (pos 120000) (pos 160000) (pos 79999200) (neg_ℤ (pos 59999400)))
-unfolding root point line circle
+crossing : tangent_two (circ (pos 0) (pos 0) (pos 200000)) true (circ (pos 500000) (pos 0) (pos 100000)) false ≡ Ok (line (pos 120000) (pos 160000) (pos 79999200) (neg_ℤ (pos 59999400)))
+unfolding root
 crossing = refl
 
 -- past one circle that holds the other, and that is the other
-in_other : tangent_two (circle (pos 0) (pos 0) (pos 300000)) true (circle (pos 99999) (pos 0) (pos 200000)) true ≡ Err NoMeeting
-unfolding root point line circle
+in_other : tangent_two (circ (pos 0) (pos 0) (pos 300000)) true (circ (pos 99999) (pos 0) (pos 200000)) true ≡ Err NoMeeting
+unfolding root
 in_other = refl
 
-one_circle : tangent_two (circle (pos 0) (pos 0) (pos 300000)) true (circle (pos 0) (pos 0) (pos 300000)) true ≡ Err Degenerate
-unfolding root point line circle
+one_circle : tangent_two (circ (pos 0) (pos 0) (pos 300000)) true (circ (pos 0) (pos 0) (pos 300000)) true ≡ Err Degenerate
+unfolding root
 one_circle = refl

@@ -1,73 +1,66 @@
 -- Figures worked out by hand, which the definition computes.
-use Rattle.std.proofs.Common.{refl, ◌≡◌, ℤ, pos, neg_ℤ, Ok, Err}
+use Rattle.std.proofs.Common.{refl, ◌≡◌, pos, neg_ℤ, Ok, Err}
 use Rattle.apt_num.specs.Root.{root}
-use Rattle.apt_plane.specs.declared.figures.Line.{Line}
-use Rattle.apt_plane.specs.declared.figures.Circ.{Circ}
 use Rattle.apt_canon.specs.declared.FormFault.TheVariants.{NoMeeting, OutOfRange, Degenerate}
 use Rattle.apt_canon.specs.Meeting.{line_line}
 use Rattle.apt_canon.specs.Circles.{line_circle, circle_circle}
-
-line : ℤ → ℤ → ℤ → ℤ → Line
-line x y dx dy = record { base = record { x = x; y = y }; dir = record { dx = dx; dy = dy } }
+use Rattle.apt_canon.proofs.Figures.{line, circ}
 
 -- directions of the lengths 5 and 13, moved to the left by 25 and to the right by 26: they meet at (7.25, 58)
 slanted : line_line (line (pos 10) (pos 20) (pos 3) (pos 4)) (pos 25) (line (pos 7) (neg_ℤ (pos 9)) (neg_ℤ (pos 5)) (pos 12)) (neg_ℤ (pos 26)) ≡ Ok (record { x = pos 7; y = pos 58 })
-unfolding root line
+unfolding root
 slanted = refl
 
 -- a line that falls by half an inch over 250 inches meets y = 0 at the coordinate limit
 at_limit : line_line (line (pos 0) (pos 0) (pos 1) (pos 0)) (pos 0) (line (pos 0) (pos 100000) (pos 25000000) (neg_ℤ (pos 50000))) (pos 0) ≡ Ok (record { x = pos 50000000; y = pos 0 })
-unfolding root line
+unfolding root
 at_limit = refl
 
 -- and one unit past it from a base one unit on
 past_limit : line_line (line (pos 0) (pos 0) (pos 1) (pos 0)) (pos 0) (line (pos 1) (pos 100000) (pos 25000000) (neg_ℤ (pos 50000))) (pos 0) ≡ Err OutOfRange
-unfolding root line
+unfolding root
 past_limit = refl
 
 -- directions that are opposite
 opposite : line_line (line (pos 0) (pos 0) (pos 3) (neg_ℤ (pos 4))) (pos 5) (line (pos 10) (pos 10) (neg_ℤ (pos 6)) (pos 8)) (pos 5) ≡ Err NoMeeting
-unfolding root line
+unfolding root
 opposite = refl
 
 -- ---- a line and a circle
-circ : ℤ → ℤ → ℤ → Circ
-circ x y r = record { c = record { x = x; y = y }; r = r }
-
 -- the far point of a circle about the origin along the x axis
 onwards : line_circle (line (pos 0) (pos 0) (pos 1) (pos 0)) (pos 0) (circ (pos 0) (pos 0) (pos 200000)) (pos 1) ≡ Ok (record { x = pos 200000; y = pos 0 })
-unfolding root line circ
+unfolding root
 onwards = refl
 
 -- a line moved by the radius touches the circle, and one moved by a unit more passes it by
 touch : line_circle (line (pos 0) (pos 0) (pos 1) (pos 0)) (pos 50) (circ (pos 0) (pos 0) (pos 50)) (neg_ℤ (pos 1)) ≡ Ok (record { x = pos 0; y = pos 50 })
-unfolding root line circ
+unfolding root
 touch = refl
 
 past_touch : line_circle (line (pos 0) (pos 0) (pos 1) (pos 0)) (pos 51) (circ (pos 0) (pos 0) (pos 50)) (pos 1) ≡ Err NoMeeting
-unfolding root line circ
+unfolding root
 past_touch = refl
 
 -- a line that meets the circle by less than the rounding: no chord is left of it
 grazing : line_circle (line (pos 27304196) (neg_ℤ (pos 27304197)) (pos 1) (pos 1)) (pos 0) (circ (pos 0) (pos 0) (pos 38613965)) (pos 1) ≡ Ok (record { x = pos 27304197; y = neg_ℤ (pos 27304197) })
-unfolding root line circ
+unfolding root
 grazing = refl
 
 -- ---- two circles
 -- with sides of 3, 4 and 5
 to_the_left : circle_circle (circ (pos 0) (pos 0) (pos 300)) (circ (pos 500) (pos 0) (pos 400)) (pos 1) ≡ Ok (record { x = pos 180; y = pos 240 })
-unfolding root circ
+unfolding root
 to_the_left = refl
 
 -- one that touches the other from inside
 inside : circle_circle (circ (pos 0) (pos 0) (pos 300)) (circ (pos 100) (pos 0) (pos 400)) (pos 1) ≡ Ok (record { x = neg_ℤ (pos 300); y = pos 0 })
-unfolding root circ
+unfolding root
 inside = refl
 
 nested : circle_circle (circ (pos 0) (pos 0) (pos 300)) (circ (pos 99) (pos 0) (pos 400)) (pos 1) ≡ Err NoMeeting
-unfolding root circ
+unfolding root
 nested = refl
 
 concentric : circle_circle (circ (pos 7) (neg_ℤ (pos 9)) (pos 300)) (circ (pos 7) (neg_ℤ (pos 9)) (pos 400)) (pos 1) ≡ Err Degenerate
-unfolding root circ
+unfolding root
 concentric = refl

@@ -11,8 +11,9 @@ mod tangents;
 
 pub use circles::{circle_circle, circle_circle_point, line_circle, line_circle_point};
 pub use feet::{foot, foot_point, parallel_at, ray, ray_point};
-pub use lines::line_line;
+pub use lines::{line_line, line_line_point};
 pub use rounds::{circle_of, circle_three, circle_through, circle_touching, corner};
+pub use scale::Wide;
 pub use tangents::{tangent_from, tangent_two};
 
 /// Why a formula gives no figure.

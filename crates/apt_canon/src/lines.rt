@@ -29,6 +29,20 @@ pub fn line_line(a: &Moved, b: &Moved) -> Result<Pt, FormFault>
     meet(&a.line, a.off, &b.line, b.off)
 }
 
+/// The same point of two lines that meet, in range or not.
+pub fn line_line_point(a: &Moved, b: &Moved) -> Wide
+    requires a { IsMoved a.now }
+    requires b { IsMoved b.now }
+    requires apart { vectors.cross a.now.line.dir b.now.line.dir ≢ pos 0 }
+    ensures x { result.x ≡ (meeting.meeting_point a.now.line a.now.off b.now.line b.now.off).x }
+    ensures y { result.y ≡ (meeting.meeting_point a.now.line a.now.off b.now.line b.now.off).y }
+    ensures on_a { IsNearLine a.now.line a.now.off (pos 1) (record { x = result.x; y = result.y }) }
+    ensures on_b { IsNearLine b.now.line b.now.off (pos 1) (record { x = result.x; y = result.y }) }
+{
+    let turn = cross_of(a.line.dir, b.line.dir);
+    meeting_point(&a.line, a.off, &b.line, b.off, turn)
+}
+
 fn meet(a: &Line, ha: i64, b: &Line, hb: i64) -> Result<Pt, FormFault>
     requires a { IsLine a.now }
     requires b { IsLine b.now }

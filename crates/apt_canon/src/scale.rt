@@ -18,11 +18,11 @@ const LIMIT: u128 = 50_000_000;
 /// One unit of length in the formulas.
 pub(crate) const UNIT: i128 = 1 << 35;
 
-/// A point or a way that may leave the coordinate limit.
-#[derive(Clone, Copy)]
-pub(crate) struct Wide {
-    pub(crate) x: i128,
-    pub(crate) y: i128,
+/// A point that may leave the coordinate limit, in grid units.
+#[derive(Clone, Copy, Debug, PartialEq, Eq)]
+pub struct Wide {
+    pub x: i128,
+    pub y: i128,
 }
 
 /// The length of a direction, in units, rounded down.

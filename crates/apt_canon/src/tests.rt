@@ -1,7 +1,7 @@
 ghost use Rattle.std.specs.Prelude.{◌+◌, ◌*◌, ◌^◌, ◌≤◌, unsigned_abs};
 ghost use Rattle.apt_plane.specs.Ranges.{IsLine, IsMoved};
 
-use crate::{FormFault, line_line};
+use crate::{FormFault, Wide, line_line, line_line_point};
 use apt_plane::{Dir, Line, Moved, Pt};
 
 mod circles;
@@ -120,5 +120,20 @@ fn finds_no_meeting_of_parallel_lines(rt: HostRuntime) {
     assert_eq!(rt;
         line_line(&moved(there, 0), &moved(there, 0)),
         Err(FormFault::NoMeeting)
+    );
+}
+
+/// A line that falls by 3 over 10^8 needs 10^8 / 3 times its height, 50,000,000, to meet y = 0.
+#[test]
+fn meets_far_out_of_range(rt: HostRuntime) {
+    let axis = moved(line(0, 0, 1, 0), 0);
+    let falling = moved(line(7, 50_000_000, 100_000_000, -3), 0);
+    assert_eq!(rt; line_line(&axis, &falling), Err(FormFault::OutOfRange));
+    assert_eq!(rt;
+        line_line_point(&axis, &falling),
+        Wide {
+            x: 1_666_666_666_666_674,
+            y: 0
+        }
     );
 }

@@ -4,18 +4,15 @@ use Rattle.apt_canon.specs.Circles.{circle_circle_point}
 use Rattle.apt_canon.proofs.CircleAnswers.{on_first, on_second}
 use Rattle.apt_canon.proofs.circles.circle_circle_point.Goals as goal
 
+value : (c : goal.After-on_common_chord) → c.on_common_chord.result ≡ circle_circle_point c.args.a.now c.args.b.now c.args.sigma
+value c = rw (to_z-of_z w8 c.args.sigma c.ranges.sigma) at c.on_common_chord.ensures
+
 pub returns-clause-on_a : goal.returns-clause-on_a
 returns-clause-on_a c =
-    let a = c.args.a.now in
-    let b = c.args.b.now in
-    let sigma = c.args.sigma in
-    let value : c.on_common_chord.result ≡ circle_circle_point a b sigma = rw (to_z-of_z w8 sigma c.ranges.sigma) at c.on_common_chord.ensures in
-    rw value (on_first a b sigma c.requires.a c.requires.b c.requires.a_least c.requires.b_least c.requires.sense c.requires.apart c.requires.meeting)
+    let is = c.requires in
+    rw (value c) (on_first c.args.a.now c.args.b.now c.args.sigma is.a is.b is.a_least is.b_least is.sense is.apart is.meeting)
 
 pub returns-clause-on_b : goal.returns-clause-on_b
 returns-clause-on_b c =
-    let a = c.args.a.now in
-    let b = c.args.b.now in
-    let sigma = c.args.sigma in
-    let value : c.on_common_chord.result ≡ circle_circle_point a b sigma = rw (to_z-of_z w8 sigma c.ranges.sigma) at c.on_common_chord.ensures in
-    rw value (on_second a b sigma c.requires.a c.requires.b c.requires.a_least c.requires.b_least c.requires.sense c.requires.apart c.requires.meeting)
+    let is = c.requires in
+    rw (value c) (on_second c.args.a.now c.args.b.now c.args.sigma is.a is.b is.a_least is.b_least is.sense is.apart is.meeting)

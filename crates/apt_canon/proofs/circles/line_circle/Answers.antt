@@ -4,34 +4,17 @@ use Rattle.apt_canon.specs.Circles.{line_circle}
 use Rattle.apt_canon.proofs.CircleAnswers.{answer_no_meeting, answer_in_range, answer_on_line, answer_on_circle}
 use Rattle.apt_canon.proofs.circles.line_circle.Goals as goal
 
+value : (c : goal.After-meet_line) → c.meet_line.result ≡ line_circle c.args.l.now.line c.args.l.now.off c.args.c.now c.args.sigma
+value c = rw (to_z-of_z w8 c.args.sigma c.ranges.sigma) at c.meet_line.ensures
+
 pub returns-clause-no_meeting : goal.returns-clause-no_meeting
-returns-clause-no_meeting c =
-    let l = c.args.l.now in
-    let circle = c.args.c.now in
-    let sigma = c.args.sigma in
-    let value : c.meet_line.result ≡ line_circle l.line l.off circle sigma = rw (to_z-of_z w8 sigma c.ranges.sigma) at c.meet_line.ensures in
-    answer_no_meeting c.meet_line.result l circle sigma value
+returns-clause-no_meeting c = answer_no_meeting c.meet_line.result c.args.l.now c.args.c.now c.args.sigma (value c)
 
 pub returns-clause-in_range : goal.returns-clause-in_range
-returns-clause-in_range c =
-    let l = c.args.l.now in
-    let circle = c.args.c.now in
-    let sigma = c.args.sigma in
-    let value : c.meet_line.result ≡ line_circle l.line l.off circle sigma = rw (to_z-of_z w8 sigma c.ranges.sigma) at c.meet_line.ensures in
-    answer_in_range c.meet_line.result l circle sigma value
+returns-clause-in_range c = answer_in_range c.meet_line.result c.args.l.now c.args.c.now c.args.sigma (value c)
 
 pub returns-clause-on_line : goal.returns-clause-on_line
-returns-clause-on_line c =
-    let l = c.args.l.now in
-    let circle = c.args.c.now in
-    let sigma = c.args.sigma in
-    let value : c.meet_line.result ≡ line_circle l.line l.off circle sigma = rw (to_z-of_z w8 sigma c.ranges.sigma) at c.meet_line.ensures in
-    answer_on_line c.meet_line.result l circle sigma c.requires.line c.requires.circle value
+returns-clause-on_line c = answer_on_line c.meet_line.result c.args.l.now c.args.c.now c.args.sigma c.requires.line c.requires.circle (value c)
 
 pub returns-clause-on_circle : goal.returns-clause-on_circle
-returns-clause-on_circle c =
-    let l = c.args.l.now in
-    let circle = c.args.c.now in
-    let sigma = c.args.sigma in
-    let value : c.meet_line.result ≡ line_circle l.line l.off circle sigma = rw (to_z-of_z w8 sigma c.ranges.sigma) at c.meet_line.ensures in
-    answer_on_circle c.meet_line.result l circle sigma c.requires.line c.requires.circle c.requires.sense value
+returns-clause-on_circle c = answer_on_circle c.meet_line.result c.args.l.now c.args.c.now c.args.sigma c.requires.line c.requires.circle c.requires.sense (value c)

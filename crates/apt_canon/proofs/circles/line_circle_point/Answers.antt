@@ -4,16 +4,11 @@ use Rattle.apt_canon.specs.Circles.{line_circle_point}
 use Rattle.apt_canon.proofs.CircleAnswers.{on_line, on_circle}
 use Rattle.apt_canon.proofs.circles.line_circle_point.Goals as goal
 
+value : (c : goal.After-on_chord) → c.on_chord.result ≡ line_circle_point c.args.l.now.line c.args.l.now.off c.args.c.now c.args.sigma
+value c = rw (to_z-of_z w8 c.args.sigma c.ranges.sigma) at c.on_chord.ensures
+
 pub returns-clause-on_line : goal.returns-clause-on_line
-returns-clause-on_line c =
-    let l = c.args.l.now in
-    let sigma = c.args.sigma in
-    let value : c.on_chord.result ≡ line_circle_point l.line l.off c.args.c.now sigma = rw (to_z-of_z w8 sigma c.ranges.sigma) at c.on_chord.ensures in
-    rw value (on_line l c.args.c.now sigma c.requires.line c.requires.circle c.requires.meeting)
+returns-clause-on_line c = rw (value c) (on_line c.args.l.now c.args.c.now c.args.sigma c.requires.line c.requires.circle c.requires.meeting)
 
 pub returns-clause-on_circle : goal.returns-clause-on_circle
-returns-clause-on_circle c =
-    let l = c.args.l.now in
-    let sigma = c.args.sigma in
-    let value : c.on_chord.result ≡ line_circle_point l.line l.off c.args.c.now sigma = rw (to_z-of_z w8 sigma c.ranges.sigma) at c.on_chord.ensures in
-    rw value (on_circle l c.args.c.now sigma c.requires.line c.requires.circle c.requires.sense c.requires.meeting)
+returns-clause-on_circle c = rw (value c) (on_circle c.args.l.now c.args.c.now c.args.sigma c.requires.line c.requires.circle c.requires.sense c.requires.meeting)

@@ -1,4 +1,4 @@
-use Rattle.apt_canon.proofs.CircleAnswers.{way-IsDir}
+use Rattle.apt_canon.proofs.Ways.{way-IsDir}
 use Rattle.apt_canon.proofs.circles.way_between.Goals as goal
 
 pub returns-clause-dir : goal.returns-clause-dir

@@ -4,17 +4,14 @@ use Rattle.apt_canon.specs.Feet.{parallel_at}
 use Rattle.apt_canon.proofs.Parallels.{answer_in_range, answer_same_dir, answer_on_line}
 use Rattle.apt_canon.proofs.feet.parallel_at.Goals as goal
 
+value : (c : goal.After-parallel) → c.parallel.result ≡ parallel_at c.args.l.now c.args.pick c.args.d
+value c = rw (to_z-of_z w64 c.args.d c.ranges.d) at c.parallel.ensures
+
 pub returns-clause-in_range : goal.returns-clause-in_range
-returns-clause-in_range c =
-    let value : c.parallel.result ≡ parallel_at c.args.l.now c.args.pick c.args.d = rw (to_z-of_z w64 c.args.d c.ranges.d) at c.parallel.ensures in
-    answer_in_range c.parallel.result c.args.l.now c.args.pick c.args.d c.requires.line value
+returns-clause-in_range c = answer_in_range c.parallel.result c.args.l.now c.args.pick c.args.d c.requires.line (value c)
 
 pub returns-clause-same_dir : goal.returns-clause-same_dir
-returns-clause-same_dir c =
-    let value : c.parallel.result ≡ parallel_at c.args.l.now c.args.pick c.args.d = rw (to_z-of_z w64 c.args.d c.ranges.d) at c.parallel.ensures in
-    answer_same_dir c.parallel.result c.args.l.now c.args.pick c.args.d value
+returns-clause-same_dir c = answer_same_dir c.parallel.result c.args.l.now c.args.pick c.args.d (value c)
 
 pub returns-clause-on_line : goal.returns-clause-on_line
-returns-clause-on_line c =
-    let value : c.parallel.result ≡ parallel_at c.args.l.now c.args.pick c.args.d = rw (to_z-of_z w64 c.args.d c.ranges.d) at c.parallel.ensures in
-    answer_on_line c.parallel.result c.args.l.now c.args.pick c.args.d c.requires.line c.requires.distance value
+returns-clause-on_line c = answer_on_line c.parallel.result c.args.l.now c.args.pick c.args.d c.requires.line c.requires.distance (value c)

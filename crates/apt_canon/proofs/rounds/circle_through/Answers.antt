@@ -4,37 +4,23 @@ use Rattle.apt_canon.specs.Rounds as rounds
 use Rattle.apt_canon.proofs.RoundsLaws.{of_degenerate, of_too_large, of_range, of_centre, of_through}
 use Rattle.apt_canon.proofs.rounds.circle_through.Goals as goal
 
-pub returns-clause-degenerate : goal.returns-clause-degenerate
-returns-clause-degenerate c =
+value : (c : goal.After-about) → c.about.result ≡ rounds.circle_through c.args.c c.args.p
+value c =
     let fits : FitsSigned w64 c.length_near.result = search rules in
     let made : c.about.result ≡ rounds.circle_of c.args.c c.length_near.result = rw (to_z-of_z w64 c.length_near.result fits) at c.about.ensures in
-    let value : c.about.result ≡ rounds.circle_through c.args.c c.args.p = made ∙ rw (c.length_near.ensures, c.displacement.ensures.value) refl in
-    of_degenerate c.about.result c.args.c (rounds.about_through c.args.c c.args.p).r value
+    made ∙ rw (c.length_near.ensures, c.displacement.ensures.value) refl
+
+pub returns-clause-degenerate : goal.returns-clause-degenerate
+returns-clause-degenerate c = of_degenerate c.about.result c.args.c (rounds.about_through c.args.c c.args.p).r (value c)
 
 pub returns-clause-too_large : goal.returns-clause-too_large
-returns-clause-too_large c =
-    let fits : FitsSigned w64 c.length_near.result = search rules in
-    let made : c.about.result ≡ rounds.circle_of c.args.c c.length_near.result = rw (to_z-of_z w64 c.length_near.result fits) at c.about.ensures in
-    let value : c.about.result ≡ rounds.circle_through c.args.c c.args.p = made ∙ rw (c.length_near.ensures, c.displacement.ensures.value) refl in
-    of_too_large c.about.result c.args.c (rounds.about_through c.args.c c.args.p).r value
+returns-clause-too_large c = of_too_large c.about.result c.args.c (rounds.about_through c.args.c c.args.p).r (value c)
 
 pub returns-clause-range : goal.returns-clause-range
-returns-clause-range c =
-    let fits : FitsSigned w64 c.length_near.result = search rules in
-    let made : c.about.result ≡ rounds.circle_of c.args.c c.length_near.result = rw (to_z-of_z w64 c.length_near.result fits) at c.about.ensures in
-    let value : c.about.result ≡ rounds.circle_through c.args.c c.args.p = made ∙ rw (c.length_near.ensures, c.displacement.ensures.value) refl in
-    of_range c.about.result c.args.c (rounds.about_through c.args.c c.args.p).r value
+returns-clause-range c = of_range c.about.result c.args.c (rounds.about_through c.args.c c.args.p).r (value c)
 
 pub returns-clause-centre : goal.returns-clause-centre
-returns-clause-centre c =
-    let fits : FitsSigned w64 c.length_near.result = search rules in
-    let made : c.about.result ≡ rounds.circle_of c.args.c c.length_near.result = rw (to_z-of_z w64 c.length_near.result fits) at c.about.ensures in
-    let value : c.about.result ≡ rounds.circle_through c.args.c c.args.p = made ∙ rw (c.length_near.ensures, c.displacement.ensures.value) refl in
-    of_centre c.about.result c.args.c (rounds.about_through c.args.c c.args.p).r value
+returns-clause-centre c = of_centre c.about.result c.args.c (rounds.about_through c.args.c c.args.p).r (value c)
 
 pub returns-clause-through : goal.returns-clause-through
-returns-clause-through c =
-    let fits : FitsSigned w64 c.length_near.result = search rules in
-    let made : c.about.result ≡ rounds.circle_of c.args.c c.length_near.result = rw (to_z-of_z w64 c.length_near.result fits) at c.about.ensures in
-    let value : c.about.result ≡ rounds.circle_through c.args.c c.args.p = made ∙ rw (c.length_near.ensures, c.displacement.ensures.value) refl in
-    of_through c.about.result c.args.c c.args.p c.requires.c c.requires.p value
+returns-clause-through c = of_through c.about.result c.args.c c.args.p c.requires.c c.requires.p (value c)

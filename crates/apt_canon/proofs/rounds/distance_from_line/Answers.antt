@@ -4,13 +4,14 @@ use Rattle.std.proofs.lemmas.Int.{ints, to_z-of_z}
 use Rattle.apt_num.specs.Near.{near}
 use Rattle.apt_canon.specs.Scale.{unit}
 use Rattle.apt_canon.specs.Rounds.{distance_from_line}
-use Rattle.apt_canon.proofs.RoundsSizes.{length_not_zero, distance_plain, size_units_kept}
+use Rattle.apt_canon.proofs.Depths.{length_positive}
+use Rattle.apt_canon.proofs.RoundsSizes.{distance_plain, size_units_kept}
 use Rattle.apt_canon.proofs.rounds.distance_from_line.Goals as goal
 
 pub div_near-requires-clause-not_zero : goal.div_near-requires-clause-not_zero
 div_near-requires-clause-not_zero c =
     let fits : FitsSigned w128 c.length_of.result = search rules in
-    rw (to_z-of_z w128 c.length_of.result fits, c.length_of.ensures.value) (length_not_zero c.args.l.now.dir c.requires.l.dir)
+    rw (to_z-of_z w128 c.length_of.result fits, c.length_of.ensures.value) (length_positive c.args.l.now.dir c.requires.l.dir)
 
 pub overflow_cast-result : goal.overflow_cast-result
 overflow_cast-result c =

@@ -4,7 +4,8 @@ use Rattle.apt_num.specs.Near.{near}
 use Rattle.apt_plane.specs.Vectors.{length_squared}
 use Rattle.apt_canon.specs.Tangents.{falling, side_of_circle, touch_point}
 use Rattle.apt_canon.proofs.Products.{kept}
-use Rattle.apt_canon.proofs.Shares.{turned_part_small, side_kept, reached_fits, reached, turned}
+use Rattle.apt_canon.proofs.Shares.{turned_part_small, side_kept, reached_fits, reached}
+use Rattle.apt_canon.proofs.Products.{zero-minus}
 use Rattle.apt_canon.proofs.tangents.touch_point.Goals as goal
 
 pub quotient-requires-clause-part : goal.quotient-requires-clause-part
@@ -50,7 +51,7 @@ returns c =
       reached a.c.y c.quotient-2.result radius a.r c.requires.circle.y c.on_side-radius.ensures.size c.quotient-2.ensures.small,
       first,
       second,
-      turned y,
+      zero-minus y,
       is_radius,
       is_x,
       is_y,
