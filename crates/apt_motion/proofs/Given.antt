@@ -1,19 +1,30 @@
--- What is found of a definition.
-use Rattle.std.proofs.Common.{◌≡◌, ◌∙◌, ℕ, List, Option, Some, IsSome, Result, Ok, Err, refl, sym, ap, subst}
+-- What a definition asks for, and what is behind it.
+use Rattle.std.proofs.Common.{◌≡◌, ◌∙◌, ℕ, List, Option, Some, IsSome, Result, Ok, Err, refl, sym, ap, subst, append-nil}
 use Rattle.apt_words.specs.declared.Case.{Case}
 use Rattle.apt_words.specs.declared.deed.Deed.{Deed}
+use Rattle.apt_words.specs.declared.deed.Step.{Step}
 use Rattle.apt_words.specs.Rows.{Row, first_of}
+use Rattle.apt_cldata.specs.declared.record.Record.{Record}
 use Rattle.apt_defs.specs.declared.figure.Definition.{Definition}
 use Rattle.apt_defs.specs.declared.figure.Figure.{Figure}
-use Rattle.apt_defs.specs.Definitions.{definition_of}
+use Rattle.apt_defs.specs.Figures.{Table}
+use Rattle.apt_defs.specs.Definitions.{definition_of, HasDefined, IsRefusedBy}
 use Rattle.apt_meaning.specs.declared.situation.Situation.{Situation}
 use Rattle.apt_meaning.specs.declared.effect.Effect.{Effect}
+use Rattle.apt_meaning.specs.declared.effect.Effect.TheVariants as effects
 use Rattle.apt_meaning.specs.Effects.{names, defines, defined, effect_of}
 use Rattle.apt_meaning.specs.Refusals.{refused, refused_if_any, refused_definition, refusal_of}
-use Rattle.apt_meaning.specs.Compiled.{asked}
+use Rattle.apt_meaning.specs.Compiled.{asked, refused_at}
 use Rattle.apt_meaning.proofs.Defined.{its_own}
-use Rattle.apt_motion.specs.declared.found.Found.{Found}
-use Rattle.apt_motion.specs.Finding.{IsFound, named, given}
+use Rattle.apt_motion.specs.declared.runs.RunError.TheVariants as errors
+use Rattle.apt_motion.specs.Ends.{HasAdvanced}
+
+abbrev named : List ℕ → Result Figure Case → Result Effect Case
+named name (Ok f) = Ok (effects.Defines name f)
+named name (Err case) = Err case
+
+abbrev given : Definition → Result Effect Case
+given d = named d.name d.figure
 
 named_found : (name : List ℕ) (r : Result Figure Case) → asked (first_of (refused r)) (names name r) ≡ named name r
 named_found name (Ok f) = refl
@@ -30,10 +41,27 @@ own_given at deed d is = given_by (definition_of at.settings.units at.table deed
 there : (o : Option Definition) (d : Definition) → o ≡ Some d → IsSome o
 there o d is = subst (λ (o : Option Definition). IsSome o) (sym is) refl
 
-pub definition_found : (at : Situation) (deed : Deed) (d : Definition) (found : Result Found Case) → definition_of at.settings.units at.table deed ≡ Some d
-    → IsFound (given d) found → IsFound (asked (refusal_of at deed) (effect_of at deed)) found
-definition_found at deed d found is gives =
+-- what a definition asks for, or the case that refuses it
+definition_asked : (at : Situation) (deed : Deed) (d : Definition) → definition_of at.settings.units at.table deed ≡ Some d
+    → asked (refusal_of at deed) (effect_of at deed) ≡ given d
+definition_asked at deed d is =
     let own = its_own at deed (there (definition_of at.settings.units at.table deed) d is) in
-    let same : asked (refusal_of at deed) (effect_of at deed) ≡ given d =
-    ap (λ (cs : List Row). asked (first_of cs) (effect_of at deed)) own.cases ∙ ap (λ (o : Option Effect). asked (first_of (refused_definition at deed)) o) own.effect ∙ own_given at deed d is in
-    subst (λ (due : Result Effect Case). IsFound due found) (sym same) gives
+    ap (λ (cs : List Row). asked (first_of cs) (effect_of at deed)) own.cases ∙ ap (λ (o : Option Effect). asked (first_of (refused_definition at deed)) o) own.effect ∙ own_given at deed d is
+
+pub has_defined : (at : Situation) (step : Step) (records : List Record) (table : Table) → HasDefined at.settings.units at.table step.deed table
+    → HasAdvanced at step records records (Ok (record at { table = table }))
+has_defined at step records table defined =
+    let name = defined.0 in
+    let f = defined.1 in
+    let is = defined.2 in (
+      effects.Defines name f,
+      record {
+        asks = definition_asked at step.deed (record { name = name; figure = Ok f }) is.defines;
+        after = ap (λ (t : Table). record at { table = t }) is.table;
+        records = sym (append-nil records);
+      },
+    )
+
+pub is_refused : (at : Situation) (step : Step) (records : List Record) (case : Case) → IsRefusedBy at.settings.units at.table step.deed case
+    → HasAdvanced at step records records (Err (errors.Refused (refused_at step case)))
+is_refused at step records case is = (case, record { asks = definition_asked at step.deed (record { name = is.0; figure = Err case }) is.1; told = refl })

@@ -26,7 +26,9 @@ use Rattle.apt_meaning.proofs.Kept.{kept, first_situation-IsSituation}
 use Rattle.apt_meaning.proofs.Walk.{same_some, compiled_follows}
 use Rattle.apt_motion.specs.declared.runs.RunError.{RunError}
 use Rattle.apt_motion.specs.Ends.{Ends}
-use Rattle.apt_motion.specs.Finding.{ends_at}
+use Rattle.apt_motion.specs.declared.found.Found.{Found}
+use Rattle.apt_motion.specs.Finding.{IsNoDefinition, DefinesNothing, IsFound, ends_at}
+use Rattle.apt_motion.proofs.Plain.{defines_nothing}
 
 regroup : (front more : List Record) (r : Result (List Record) Refusal) → with_front front (with_front more r) ≡ with_front (front ++ more) r
 regroup front more (Ok rest) = ap (λ (x : List Record). Ok x) (sym (append_assoc front more rest))
@@ -40,13 +42,6 @@ step_on front at step steps e total does so_far =
     let one : compilation at (step ∷ steps) ≡ with_front (records_of step e (ends_of e)) (compilation (after at e (ends_of e)) steps) =
     ap (λ (a : Result Effect Case). or_refused step a (λ e. with_front (records_of step e (ends_of e)) (compilation (after at e (ends_of e)) steps))) does in
     sym (regroup front (records_of step e (ends_of e)) (compilation (after at e (ends_of e)) steps)) ∙ sym (ap (with_front front) one) ∙ so_far
-
--- a step that is refused
-pub step_refused : (front : List Record) (at : Situation) (step : Step) (steps : List Step) (case : Case) (total : Result (List Record) Refusal)
-    → asked (refusal_of at step.deed) (effect_of at step.deed) ≡ Err case → with_front front (compilation at (step ∷ steps)) ≡ total
-    → total ≡ or_refused step (Err case) (λ e. Ok [])
-step_refused front at step steps case total refuses so_far =
-    sym so_far ∙ ap (λ (a : Result Effect Case). with_front front (or_refused step a (λ e. with_front (records_of step e (ends_of e)) (compilation (after at e (ends_of e)) steps)))) refuses
 
 -- ---- what a step asks for is in range, and so is what holds behind it
 
@@ -86,12 +81,28 @@ same_end : (p q : Pt) → ◌≡◌ {A = List Pt} (p ∷ []) (q ∷ []) → p �
 same_end p q h = cc
 
 -- the end of a contour is a point
-pub end_in : (e : Effect) (end : Option Pt) → HasIn e (ends_of e) → ends_of e ≡ ends_at end → IfSome end IsPoint
+end_in : (e : Effect) (end : Option Pt) → HasIn e (ends_of e) → ends_of e ≡ ends_at end → IfSome end IsPoint
 end_in e None is same = tt
 end_in (effects.Defines n f) (Some p) is same = absurd (no_ends p same)
 end_in (effects.Sets s said) (Some p) is same = absurd (no_ends p same)
 end_in (effects.Moves reach to) (Some p) is same = absurd (no_ends p same)
 end_in (effects.Cuts m) (Some p) is same = subst IsPoint (same_end (contact m) p same) is.1.0
+
+-- what is found of a step that defines nothing
+pub record IsFitFound (f : Found) : Type 0 where
+  pub good : IsEffect f.effect
+  pub end : IfSome f.end IsPoint
+  pub nothing : DefinesNothing f.effect
+
+pub found_fit : (at : Situation) (deed : Deed) (f : Found) → IsSituation at → HasScalars deed → DeedHasText deed → IsNoDefinition at deed
+    → IsFound (asked (refusal_of at deed) (effect_of at deed)) (Ok f) → IsFitFound f
+found_fit at deed f is scalars worded none found =
+    let fits = fit at deed f.effect is scalars worded found.0 in
+    record {
+      good = fits.good;
+      end = end_in f.effect f.end fits.ends found.1;
+      nothing = defines_nothing at deed f.effect none (asked_fine (refusal_of at deed) (effect_of at deed) f.effect found.0).1;
+    }
 
 -- ---- runs
 

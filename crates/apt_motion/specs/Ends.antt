@@ -1,12 +1,36 @@
--- How runs end.
-use Rattle.std.specs.Prelude.{◌≡◌, List, Result, Ok, Err}
+-- How steps are taken, and how runs end.
+use Rattle.std.specs.Prelude.{◌≡◌, ◌++◌, List, Result, Ok, Err}
 use Rattle.std.proofs.Common.{Vec}
+use Rattle.apt_words.specs.declared.Case.{Case}
 use Rattle.apt_words.specs.declared.Refusal.{Refusal}
+use Rattle.apt_words.specs.declared.deed.Step.{Step}
 use Rattle.apt_cldata.specs.declared.record.Record.{Record}
+use Rattle.apt_meaning.specs.declared.situation.Situation.{Situation}
+use Rattle.apt_meaning.specs.declared.effect.Effect.{Effect}
+use Rattle.apt_meaning.specs.Effects.{effect_of}
+use Rattle.apt_meaning.specs.Refusals.{refusal_of}
+use Rattle.apt_meaning.specs.Records.{records_of, after}
+use Rattle.apt_meaning.specs.Compiled.{ends_of, asked, refused_at}
 use Rattle.apt_motion.specs.declared.runs.RunError.{RunError}
 use Rattle.apt_motion.specs.declared.runs.RunError.TheVariants as errors
 
--- with the due records, or the due refusal, or memory was short
+-- a step that asks for an effect: what holds behind it, and its records behind those before
+pub record IsTaken (at : Situation) (step : Step) (before now : List Record) (behind : Situation) (e : Effect) : Type 0 where
+  pub asks : asked (refusal_of at step.deed) (effect_of at step.deed) ≡ Ok e
+  pub after : behind ≡ after at e (ends_of e)
+  pub records : now ≡ before ++ records_of step e (ends_of e)
+
+pub record IsRefused (at : Situation) (step : Step) (refusal : Refusal) (case : Case) : Type 0 where
+  pub asks : asked (refusal_of at step.deed) (effect_of at step.deed) ≡ Err case
+  pub told : refusal ≡ refused_at step case
+
+-- a step is taken or refused, or memory was short
+abbrev pub HasAdvanced : Situation → Step → List Record → List Record → Result Situation RunError → Type 0
+HasAdvanced at step before now (Ok behind) = (e : Effect) × IsTaken at step before now behind e
+HasAdvanced at step before now (Err (errors.Refused refusal)) = (case : Case) × IsRefused at step refusal case
+HasAdvanced at step before now (Err errors.NoMemory) = Unit {0}
+
+-- a run ends with the due records, or the due refusal, or memory was short
 abbrev pub Ends : {A : Type 0} → Result (List Record) Refusal → Result (Vec Record A) RunError → Type 0
 Ends due (Ok records) = due ≡ Ok records.items
 Ends due (Err (errors.Refused refusal)) = due ≡ Err refusal

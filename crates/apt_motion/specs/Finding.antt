@@ -1,4 +1,4 @@
--- What the compiling pass finds of a step: its effect with the end of its contour, or the case that refuses it.
+-- What the compiling pass finds of a step that defines nothing: its effect with the end of its contour, or the case that refuses it.
 use Rattle.std.specs.Prelude.{◌≡◌, ◌≢◌, ℕ, List, [], ◌∷◌, Option, Some, None, Result, Ok, Err}
 use Rattle.apt_words.specs.Options.{◌>>=◌}
 use Rattle.apt_words.specs.Rows.{Row}
@@ -12,8 +12,6 @@ use Rattle.apt_words.specs.declared.deed.Deed.TheVariants as deeds
 use Rattle.apt_plane.specs.declared.figures.Pt.{Pt}
 use Rattle.apt_plane.specs.declared.figures.Surface.{Surface}
 use Rattle.apt_cldata.specs.declared.record.Position.{Position}
-use Rattle.apt_defs.specs.declared.figure.Definition.{Definition}
-use Rattle.apt_defs.specs.declared.figure.Figure.{Figure}
 use Rattle.apt_defs.specs.Definitions.{definition_of}
 use Rattle.apt_meaning.specs.declared.situation.Situation.{Situation}
 use Rattle.apt_meaning.specs.declared.motion.Motion.{Motion}
@@ -34,13 +32,12 @@ IsNoContour deed = (side : Option Side) (go : Go) (drive : List ℕ) (how : Stop
 abbrev pub IsNoDefinition : Situation → Deed → Type 0
 IsNoDefinition at deed = definition_of at.settings.units at.table deed ≡ None
 
--- what a definition asks for, or the case that refuses it
-abbrev pub named : List ℕ → Result Figure Case → Result Effect Case
-named name (Ok f) = Ok (effects.Defines name f)
-named name (Err case) = Err case
-
-abbrev pub given : Definition → Result Effect Case
-given d = named d.name d.figure
+-- an effect that defines nothing
+abbrev pub DefinesNothing : Effect → Type 0
+DefinesNothing (effects.Defines n f) = ⊥
+DefinesNothing (effects.Sets s said) = Unit {0}
+DefinesNothing (effects.Moves reach to) = Unit {0}
+DefinesNothing (effects.Cuts m) = Unit {0}
 
 -- ---- GO and contours whose names stand for surfaces
 

@@ -1,4 +1,4 @@
-//! What is found of a step.
+//! What is found of a step that defines nothing.
 
 ghost use Rattle.std.specs.Prelude.{IfOk};
 ghost use Rattle.apt_words.specs.Built.{IsBuilt};
@@ -7,11 +7,10 @@ ghost use Rattle.apt_meaning.specs.Compiled.{asked};
 ghost use Rattle.apt_meaning.specs.Effects as asking;
 ghost use Rattle.apt_meaning.specs.Ranges.{IsSituation};
 ghost use Rattle.apt_meaning.specs.Refusals.{refusal_of};
-ghost use Rattle.apt_motion.specs.Finding.{IsFound, IsNoContour, IsNoDefinition, given};
+ghost use Rattle.apt_motion.specs.Finding.{IsFound, IsNoContour, IsNoDefinition};
 
 use crate::contours::contour;
 use crate::refusals::refusal;
-use apt_defs::{Definition, definition};
 use apt_meaning::{Effect, Situation, effect_of};
 use apt_plane::Pt;
 use apt_words::{Case, Deed};
@@ -24,46 +23,19 @@ pub(crate) struct Found {
     pub end: Option<Pt>,
 }
 
-/// What a step asks for, or the first case that refuses it.
+/// What a step that defines nothing asks for, or the first case that refuses it.
 pub(crate) fn find(at: &Situation, deed: &Deed) -> Result<Result<Found, Case>, AllocError>
     requires situation { IsSituation at.now }
     requires scalars { HasScalars deed.now }
     requires built { IsBuilt deed.now }
+    requires defines_nothing { IsNoDefinition at.now deed.now }
     ensures { IfOk result (IsFound (asked (refusal_of at.now deed.now) (asking.effect_of at.now deed.now))) }
 {
     match deed {
         Deed::Contour(side, go, drive, how, check) => {
             Ok(contour(at, *side, *go, drive, *how, check))
         }
-        _ => other(at, deed),
-    }
-}
-
-/// What a step asks for that is no contour.
-#[tactic(auto, using(crate::proofs::Given::definition_found))]
-fn other(at: &Situation, deed: &Deed) -> Result<Result<Found, Case>, AllocError>
-    requires situation { IsSituation at.now }
-    requires scalars { HasScalars deed.now }
-    requires built { IsBuilt deed.now }
-    requires plain { IsNoContour deed.now }
-    ensures { IfOk result (IsFound (asked (refusal_of at.now deed.now) (asking.effect_of at.now deed.now))) }
-{
-    match definition(deed, at.settings.units, &at.table) {
-        Some(definition) => Ok(defined(definition)),
-        None => plain(at, deed),
-    }
-}
-
-/// What a definition asks for: a figure for its name, or the case that refuses it.
-fn defined(definition: Definition) -> Result<Found, Case>
-    ensures { IsFound (given definition) result }
-{
-    match definition.figure {
-        Ok(figure) => Ok(Found {
-            effect: Effect::Defines(definition.name, figure),
-            end: None,
-        }),
-        Err(case) => Err(case),
+        _ => plain(at, deed),
     }
 }
 

@@ -1,4 +1,4 @@
-//! The records of effects, and what holds behind them.
+//! The records of effects that define nothing, and what holds behind them.
 
 ghost use Rattle.std.specs.Prelude.{◌≡◌, ◌++◌, [], ◌∷◌, IfOk, IfSome, OnOk};
 ghost use Rattle.apt_plane.specs.Ranges.{IsPoint};
@@ -7,7 +7,7 @@ ghost use Rattle.apt_meaning.specs.Compiled.{ends_of};
 ghost use Rattle.apt_meaning.specs.Ranges.{IsSituation, IsEffect};
 ghost use Rattle.apt_meaning.specs.Records as written;
 ghost use Rattle.apt_meaning.specs.declared.effect.Effect.TheVariants as effects;
-ghost use Rattle.apt_motion.specs.Finding.{ends_at};
+ghost use Rattle.apt_motion.specs.Finding.{DefinesNothing, ends_at};
 
 use crate::found::Found;
 use apt_cldata::{Position, Record, Vertices};
@@ -57,7 +57,7 @@ fn write_cut(
     Ok(())
 }
 
-/// The records of what a step asks for, and what holds behind it.
+/// The records of what a step asks for that defines nothing, and what holds behind it.
 pub(crate) fn take(
     alloc: Global,
     records: &mut Vec<Record>,
@@ -67,13 +67,14 @@ pub(crate) fn take(
 ) -> Result<Situation, AllocError>
     requires situation { IsSituation at }
     requires effect { IsEffect found.effect }
+    requires defines_nothing { DefinesNothing found.effect }
     requires ends { ends_of found.effect ≡ ends_at found.end }
     requires end { IfSome found.end IsPoint }
     ensures after { IfOk result (λ behind. behind ≡ written.after at found.effect (ends_of found.effect)) }
     ensures records { OnOk result (records.new.items ≡ records.old.items ++ written.records_of step.now found.effect (ends_of found.effect)) }
 {
     match found.effect {
-        Effect::Defines(name, figure) => at.table.set(name, figure)?,
+        Effect::Defines(..) => unreachable!(),
         Effect::Sets(settings, note) => {
             if let Some(note) = note {
                 write(records, step, Record::Note(note))?;

@@ -1,19 +1,22 @@
 //! The records of a part program.
 
 ghost use Rattle.std.specs.Prelude.{◌≡◌, IfOk};
-ghost use Rattle.apt_words.specs.Built.{AreBuiltSteps};
-ghost use Rattle.apt_words.specs.Sources.{AreExecuted};
-ghost use Rattle.apt_scalar.specs.StepScalars.{AreScalars};
+ghost use Rattle.apt_words.specs.Built.{AreBuiltSteps, IsBuilt};
+ghost use Rattle.apt_words.specs.Sources.{AreExecuted, DeedHasText};
+ghost use Rattle.apt_scalar.specs.StepScalars.{AreScalars, HasScalars};
 ghost use Rattle.apt_cldata.specs.Ranges.{AreRecords};
 ghost use Rattle.apt_meaning.specs.Compiled.{compilation, refused_at};
+ghost use Rattle.apt_meaning.specs.Ranges.{IsSituation};
 ghost use Rattle.apt_meaning.specs.Records.{FollowsLegally};
 ghost use Rattle.apt_meaning.specs.Situations.{first_situation};
 ghost use Rattle.apt_meaning.specs.declared.situation.Situation.{Situation};
-ghost use Rattle.apt_motion.specs.Ends.{Ends};
+ghost use Rattle.apt_motion.specs.Ends.{Ends, HasAdvanced};
+ghost use Rattle.apt_motion.specs.Finding.{IsNoDefinition};
 
 use crate::found::find;
 use crate::records::take;
 use apt_cldata::Record;
+use apt_defs::{DefError, define};
 use apt_meaning::Situation;
 use apt_words::{Case, Refusal, Step};
 use std::alloc::{AllocError, Global};
@@ -48,6 +51,48 @@ fn refused(step: &Step, case: Case) -> RunError
     })
 }
 
+/// What holds behind a step, with its records behind those before.
+#[tactic(auto, using(crate::proofs::Given::has_defined, crate::proofs::Given::is_refused))]
+fn advance(
+    alloc: Global,
+    records: &mut Vec<Record>,
+    mut at: Situation,
+    step: &Step,
+) -> Result<Situation, RunError>
+    requires situation { IsSituation at }
+    requires scalars { HasScalars step.now.deed }
+    requires built { IsBuilt step.now.deed }
+    requires text { DeedHasText step.now.deed }
+    ensures { HasAdvanced at step.now records.old.items records.new.items result }
+{
+    match define(step, at.settings.units, &mut at.table) {
+        Ok(true) => Ok(at),
+        Ok(false) => act(alloc, records, at, step),
+        Err(DefError::Case(case)) => Err(refused(step, case)),
+        Err(DefError::NoMemory) => Err(RunError::NoMemory),
+    }
+}
+
+/// What holds behind a step that defines nothing, with its records behind those before.
+fn act(
+    alloc: Global,
+    records: &mut Vec<Record>,
+    at: Situation,
+    step: &Step,
+) -> Result<Situation, RunError>
+    requires situation { IsSituation at }
+    requires scalars { HasScalars step.now.deed }
+    requires built { IsBuilt step.now.deed }
+    requires text { DeedHasText step.now.deed }
+    requires defines_nothing { IsNoDefinition at step.now.deed }
+    ensures { HasAdvanced at step.now records.old.items records.new.items result }
+{
+    match find(&at, &step.deed)? {
+        Ok(found) => Ok(take(alloc, records, at, step, found)?),
+        Err(case) => Err(refused(step, case)),
+    }
+}
+
 fn run_all(alloc: Global, steps: &[Step]) -> Result<Vec<Record>, RunError>
     requires scalars { AreScalars steps.now }
     requires built { AreBuiltSteps steps.now }
@@ -57,11 +102,7 @@ fn run_all(alloc: Global, steps: &[Step]) -> Result<Vec<Record>, RunError>
     let mut at = Situation::first(alloc);
     let mut records = Vec::new(alloc);
     'steps: for st in steps {
-        let found = match find(&at, &st.deed)? {
-            Ok(found) => found,
-            Err(case) => return Err(refused(st, case)),
-        };
-        at = take(alloc, &mut records, at, st, found)?;
+        at = advance(alloc, &mut records, at, st)?;
     }
     Ok(records)
 }
