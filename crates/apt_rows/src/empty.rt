@@ -143,13 +143,32 @@ fn nothing_stands_behind_fini(rt: HostRuntime) -> Result<(), Fail> {
 }
 
 /// A text, the CL file, characters for the tape, and the line that tells which of the three comes first.
-const ORDER: [(&str, &[u8], &str, &str); 8] = [
+const ORDER: [(&str, &[u8], &str, &str); 11] = [
     ("FINI\n", b"", "", "BAD PART LINE 1 NoPartno\n"),
     (
         "PARTNO\nA=B\nFINI\n",
         b"",
         "",
         "REFUSED LINE 2 STEP 2 Unknown\n",
+    ),
+    // a machine's limit too
+    (
+        "PARTNO\nSPINDL/10000\nFINI\n",
+        b"",
+        "",
+        "REFUSED LINE 2 STEP 2 SpindleTooLarge\n",
+    ),
+    (
+        "PARTNO\nLOADTL/100\nA=B\nFINI\n",
+        b"",
+        "",
+        "REFUSED LINE 2 STEP 2 ToolTooLarge\n",
+    ),
+    (
+        "PARTNO\nSPINDL/0\nFEDRAT/1000\nFINI\n",
+        b"",
+        "",
+        "REFUSED LINE 2 STEP 2 OutOfRange\n",
     ),
     (EMPTY, b"", "", "BAD CL AT 0 Truncated\n"),
     (EMPTY, &EMPTY_CL, "", "BAD TAPE AT 0 NoStart\n"),

@@ -1,10 +1,13 @@
 //! Calls that fail: what is answered and shown, and what the outputs hold then.
-use crate::cl::{HEAD, push_record};
+use crate::cl::{HEAD, cl_file, push_record};
+use crate::parts::{MILLED, MILLED_CL, MILLED_LINE, MILLED_TAPE};
 use crate::run::{
     Asked, COMPILE, Files, Kind, OLD_CL, OLD_TAPE, Shown, assert_shows, rs358, with_part,
 };
-use std::alloc::Global;
+use std::alloc::{AllocGlobal, Global};
+use std::process::Abort;
 use std::test::Fail;
+use std::thread::Threads;
 
 /// A part, its CL file and its tape.
 #[derive(Drop)]
@@ -47,7 +50,9 @@ const LONG_LINE: &str = "DONE 208 RECORDS 102 ACTS 0 SEGMENTS\n";
 
 /// The call that fails, the status number, what is shown, and how many bytes of the CL file and of the tape are
 /// written, none where the old one stands.
-const FAILS: [(Kind, u64, u8, &str, usize, usize); 17] = [
+type Failing = (Kind, u64, u8, &'static str, usize, usize);
+
+const FAILS: [Failing; 17] = [
     (Kind::ReadStart, 1, 3, "", 0, 0),
     (Kind::ReadStart, 2, 3, "", 0, 0),
     (Kind::Read, 1, 3, "", 0, 0),
@@ -70,6 +75,16 @@ const FAILS: [(Kind, u64, u8, &str, usize, usize); 17] = [
     (Kind::Put, 2, 0, LONG_LINE, 9960, 4426),
 ];
 
+/// The plate's CL file and its tape take one call each.
+const PLATE_FAILS: [Failing; 6] = [
+    (Kind::Append, 1, 11, "", 868, 0),
+    (Kind::WriteStart, 2, 11, "", 1736, 0),
+    (Kind::Append, 2, 11, "", 1736, 130),
+    (Kind::Append, 3, 0, MILLED_LINE, 1736, 260),
+    (Kind::Read, 1, 3, "", 0, 0),
+    (Kind::Put, 1, 11, "DONE 32 RECORDS 8", 1736, 260),
+];
+
 /// So many bytes of an output; the old one where none is written.
 fn front<'a>(new: &'a [u8], kept: usize, old: &'a [u8]) -> Result<&'a [u8], Fail> {
     if kept == 0 {
@@ -78,27 +93,54 @@ fn front<'a>(new: &'a [u8], kept: usize, old: &'a [u8]) -> Result<&'a [u8], Fail
     Ok(new.get(..kept).ok_or("short")?)
 }
 
+/// The part is compiled to its CL file and its tape, but where a call fails.
+fn assert_fails<R: Threads + Sync + Abort + AllocGlobal>(
+    rt: &R,
+    whole: Files<'_>,
+    rows: &[Failing],
+) -> Result<(), Fail> {
+    for (kind, call, number, line, cl_kept, tape_kept) in rows {
+        let asked = Asked {
+            words: COMPILE,
+            files: with_part(whole.part),
+            kind: *kind,
+            call: *call,
+        };
+        let want = Shown {
+            number: *number,
+            line,
+            files: Files {
+                part: whole.part,
+                cl: front(whole.cl, *cl_kept, OLD_CL)?,
+                tape: front(whole.tape, *tape_kept, OLD_TAPE)?,
+            },
+        };
+        assert_shows(rt, asked, want)?;
+    }
+    Ok(())
+}
+
 #[test]
 fn a_failing_call_is_told(rt: HostRuntime) -> Result<(), Fail> {
     let long = long_part(rt.alloc())?;
     assert_eq!(rt; (long.cl.len(), long.tape.len()), (9960, 4426));
-    for (kind, call, number, line, cl_kept, tape_kept) in FAILS {
-        let asked = Asked {
-            words: COMPILE,
-            files: with_part(&long.part),
-            kind,
-            call,
-        };
-        let want = Shown {
-            number,
-            line,
-            files: Files {
-                part: &long.part,
-                cl: front(&long.cl, cl_kept, OLD_CL)?,
-                tape: front(&long.tape, tape_kept, OLD_TAPE)?,
-            },
-        };
-        assert_shows(&rt, asked, want)?;
-    }
-    Ok(())
+    let files = Files {
+        part: &long.part,
+        cl: &long.cl,
+        tape: &long.tape,
+    };
+    assert_fails(&rt, files, &FAILS)
+}
+
+#[test]
+fn half_of_the_tape_is_written_where_its_append_fails(rt: HostRuntime) -> Result<(), Fail> {
+    let alloc = rt.alloc();
+    let cl = cl_file(alloc, &MILLED_CL)?;
+    let tape = rs358(alloc, MILLED_TAPE.as_bytes())?;
+    let files = Files {
+        part: MILLED.as_bytes(),
+        cl: &cl,
+        tape: &tape,
+    };
+    assert_fails(&rt, files, &PLATE_FAILS)
 }

@@ -1,6 +1,9 @@
 //! Parts whose moves are GOTO statements.
-use crate::cl::cl_file;
-use crate::parts::{EMPTY_TAPE, FIRST, FIRST_CL, FIRST_LINES, FIRST_TAPE, PLATE_TAPE};
+use crate::cl::{Words, cl_file};
+use crate::parts::{
+    EMPTY_TAPE, FIRST, FIRST_CL, FIRST_LINES, FIRST_TAPE, MILLED, MILLED_CL, MILLED_TAPE,
+    PLATE_TAPE,
+};
 use crate::run::{COMPILE, Row, answer, assert_rows, named, rs358, with_part};
 use apt_shelf::{MemSink, SureShelf};
 use std::test::Fail;
@@ -30,17 +33,28 @@ fn moves_follow_the_goto_lines(rt: HostRuntime) -> Result<(), Fail> {
     assert_rows(&rt, &MOVES)
 }
 
+/// A part, the records of its CL file, the characters of its tape, and the lengths of the file and the tape.
+type Sure = (&'static str, &'static [Words], &'static str, (usize, usize));
+
+const SURE: [Sure; 2] = [
+    (FIRST, &FIRST_CL, FIRST_TAPE, (464, 70)),
+    (MILLED, &MILLED_CL, MILLED_TAPE, (1736, 260)),
+];
+
 #[test]
 fn a_shelf_that_never_fails_gets_both_outputs(rt: HostRuntime) -> Result<(), Fail> {
     let alloc = rt.alloc();
-    let mut sure = SureShelf::new(alloc, named(alloc, with_part(FIRST.as_bytes()))?)?;
-    let mut out = MemSink::new(alloc, Vec::new(alloc));
-    let status = answer(&rt, &mut sure, &mut out, COMPILE)?;
-    let cl = cl_file(alloc, &FIRST_CL)?;
-    let tape = rs358(alloc, FIRST_TAPE.as_bytes())?;
-    assert_eq!(rt; status.number(), 0);
-    assert_eq!(rt; sure.file("cl"), Some(cl.as_slice()));
-    assert_eq!(rt; sure.file("tape"), Some(tape.as_slice()));
-    assert_eq!(rt; (cl.len(), tape.len(), PLATE_TAPE.len()), (464, 70, 246));
+    for (part, records, text, lengths) in SURE {
+        let mut sure = SureShelf::new(alloc, named(alloc, with_part(part.as_bytes()))?)?;
+        let mut out = MemSink::new(alloc, Vec::new(alloc));
+        let status = answer(&rt, &mut sure, &mut out, COMPILE)?;
+        let cl = cl_file(alloc, records)?;
+        let tape = rs358(alloc, text.as_bytes())?;
+        assert_eq!(rt; status.number(), 0);
+        assert_eq!(rt; sure.file("cl"), Some(cl.as_slice()));
+        assert_eq!(rt; sure.file("tape"), Some(tape.as_slice()));
+        assert_eq!(rt; (cl.len(), tape.len()), lengths);
+    }
+    assert_eq!(rt; PLATE_TAPE.len(), 246);
     Ok(())
 }

@@ -4,6 +4,8 @@
 #[cfg(test)]
 mod cl;
 #[cfg(test)]
+mod codes;
+#[cfg(test)]
 mod contours;
 #[cfg(test)]
 mod empty;
@@ -18,6 +20,8 @@ mod flow;
 #[cfg(test)]
 mod machines;
 #[cfg(test)]
+mod notes;
+#[cfg(test)]
 mod parts;
 #[cfg(test)]
 mod plate;
@@ -27,6 +31,8 @@ mod reading;
 mod run;
 #[cfg(test)]
 mod steps;
+#[cfg(test)]
+mod tapes;
 #[cfg(test)]
 mod tolerance;
 #[cfg(test)]

@@ -1,4 +1,5 @@
 //! Machine tables: their faults, their codes, numbers and limits; and tapes that are decoded.
+use crate::codes::RS244;
 use crate::empty::{EMPTY, EMPTY_CL};
 use crate::parts::{FIRST, FIRST_LINE, FIRST_TAPE};
 use crate::run::{
@@ -9,8 +10,6 @@ use std::alloc::{AllocGlobal, Global};
 use std::process::Abort;
 use std::test::Fail;
 use std::thread::Threads;
-
-const RS244: &str = "MACHINE 1\nCODE RS244\nSEQ 1\nFEEDMAX 9999\nSPINMAX 9999\nTOOLMAX 99\n";
 
 /// The tape of the empty part in RS-358, and in RS-244.
 const TAPE_358: [u8; 26] = [
@@ -148,7 +147,7 @@ fn the_empty_part_has_a_tape_in_each_code(rt: HostRuntime) -> Result<(), Fail> {
 
 /// Lines of a machine table behind its code, a part, the printed line, and the characters of the tape, none where no
 /// tape is written.
-const LIMITS: [(&str, &str, &str, &str); 7] = [
+const LIMITS: [(&str, &str, &str, &str); 17] = [
     (
         "SEQ 0\nFEEDMAX 9999\nSPINMAX 9999\nTOOLMAX 99\n",
         EMPTY,
@@ -190,6 +189,69 @@ const LIMITS: [(&str, &str, &str, &str); 7] = [
         "SEQ 1\nFEEDMAX 5000\nSPINMAX 9999\nTOOLMAX 99\n",
         "PARTNO\nFEDRAT/500.1\nFROM/0,0,0\nGOTO/1,2,3\nFINI\n",
         "REFUSED LINE 2 STEP 2 FeedTooLarge\n",
+        "",
+    ),
+    // the numbers begin again past 9999, at 1 or further on
+    (
+        "SEQ 999\nFEEDMAX 9999\nSPINMAX 9999\nTOOLMAX 99\n",
+        "PARTNO\nSTOP\nSTOP\nSTOP\nSTOP\nSTOP\nSTOP\nSTOP\nSTOP\nSTOP\nSTOP\nSTOP\nFINI\n",
+        "DONE 26 RECORDS 13 ACTS 0 SEGMENTS\n",
+        "%\nN0001G70G90G94\nN1000M00\nN1999M00\nN2998M00\nN3997M00\nN4996M00\nN5995M00\nN6994M00\nN7993M00\nN8992M00\nN9991M00\nN0991M00\nN1990M02\n",
+    ),
+    (
+        "SEQ 909\nFEEDMAX 9999\nSPINMAX 9999\nTOOLMAX 99\n",
+        "PARTNO\nSTOP\nSTOP\nSTOP\nSTOP\nSTOP\nSTOP\nSTOP\nSTOP\nSTOP\nSTOP\nSTOP\nFINI\n",
+        "DONE 26 RECORDS 13 ACTS 0 SEGMENTS\n",
+        "%\nN0001G70G90G94\nN0910M00\nN1819M00\nN2728M00\nN3637M00\nN4546M00\nN5455M00\nN6364M00\nN7273M00\nN8182M00\nN9091M00\nN0001M00\nN0910M02\n",
+    ),
+    // the greatest speed and tool, and one more
+    (
+        "SEQ 1\nFEEDMAX 9999\nSPINMAX 1200\nTOOLMAX 7\n",
+        "PARTNO\nSPINDL/1200\nSPINDL/1200.4,CCLW\nLOADTL/7\nFINI\n",
+        "DONE 10 RECORDS 5 ACTS 0 SEGMENTS\n",
+        "%\nN0001G70G90G94\nN0002S1200M03\nN0003S1200M04\nN0004T07M06\nN0005M02\n",
+    ),
+    (
+        "SEQ 1\nFEEDMAX 9999\nSPINMAX 1200\nTOOLMAX 7\n",
+        "PARTNO\nSPINDL/1201\nFINI\n",
+        "REFUSED LINE 2 STEP 2 SpindleTooLarge\n",
+        "",
+    ),
+    (
+        "SEQ 1\nFEEDMAX 9999\nSPINMAX 1200\nTOOLMAX 7\n",
+        "PARTNO\nSPINDL/1200.5,CCLW\nFINI\n",
+        "REFUSED LINE 2 STEP 2 SpindleTooLarge\n",
+        "",
+    ),
+    (
+        "SEQ 1\nFEEDMAX 9999\nSPINMAX 1200\nTOOLMAX 7\n",
+        "PARTNO\nSPINDL/OFF\nLOADTL/8\nFINI\n",
+        "REFUSED LINE 3 STEP 3 ToolTooLarge\n",
+        "",
+    ),
+    (
+        "SEQ 1\nFEEDMAX 9999\nSPINMAX 1\nTOOLMAX 1\n",
+        "PARTNO\nSPINDL/1\nLOADTL/1\nSPINDL/OFF\nFINI\n",
+        "DONE 10 RECORDS 5 ACTS 0 SEGMENTS\n",
+        "%\nN0001G70G90G94\nN0002S0001M03\nN0003T01M06\nN0004M05\nN0005M02\n",
+    ),
+    (
+        "SEQ 1\nFEEDMAX 9999\nSPINMAX 1\nTOOLMAX 1\n",
+        "PARTNO\nSPINDL/2\nFINI\n",
+        "REFUSED LINE 2 STEP 2 SpindleTooLarge\n",
+        "",
+    ),
+    // the first refused step
+    (
+        "SEQ 1\nFEEDMAX 9999\nSPINMAX 1200\nTOOLMAX 7\n",
+        "PARTNO\nLOADTL/8\nSPINDL/1201\nFINI\n",
+        "REFUSED LINE 2 STEP 2 ToolTooLarge\n",
+        "",
+    ),
+    (
+        "SEQ 1\nFEEDMAX 9999\nSPINMAX 1200\nTOOLMAX 7\n",
+        "PARTNO\nSPINDL/0\nLOADTL/8\nFINI\n",
+        "REFUSED LINE 2 STEP 2 OutOfRange\n",
         "",
     ),
 ];

@@ -1,38 +1,87 @@
 //! The square plate: its CL file and its tape, and what is judged of changed ones.
 use crate::cl::{Words, cl_file};
-use crate::parts::{PLATE, PLATE_CL, PLATE_LINE, PLATE_TAPE};
+use crate::parts::{
+    MILLED, MILLED_CL, MILLED_LINE, MILLED_TAPE, PLATE, PLATE_CL, PLATE_LINE, PLATE_TAPE,
+};
 use crate::run::{
-    Asked, COMPILE, Files, Kind, Shown, assert_judged, assert_shows, rs358, spliced, with_part,
+    Asked, COMPILE, DECODE, Files, Kind, Shown, assert_judged, assert_shows, rs358, spliced,
+    with_part,
 };
 use std::alloc::{AllocGlobal, Global};
 use std::process::Abort;
 use std::test::Fail;
 use std::thread::Threads;
 
+/// A part, the records of its CL file, the characters of its tape, the line that tells it is compiled, and the tape's
+/// acts.
+type Plate = (
+    &'static str,
+    &'static [Words],
+    &'static str,
+    &'static str,
+    &'static str,
+);
+
+const PLATES: [Plate; 2] = [
+    (
+        PLATE,
+        &PLATE_CL,
+        PLATE_TAPE,
+        PLATE_LINE,
+        "UNITS INCH\nCUT -25000 -25000 50000 FEED 100\nCUT 525000 -25000 50000 FEED 100\nCUT 525000 525000 50000 FEED 100\nCUT -25000 525000 50000 FEED 100\nCUT -25000 -25000 50000 FEED 100\nEND\n",
+    ),
+    (
+        MILLED,
+        &MILLED_CL,
+        MILLED_TAPE,
+        MILLED_LINE,
+        "UNITS INCH\nSPINDLE CW 1200\nCUT -25000 -25000 50000 FEED 100\nCUT 525000 -25000 50000 FEED 100\nCUT 525000 525000 50000 FEED 100\nCUT -25000 525000 50000 FEED 100\nCUT -25000 -25000 50000 FEED 100\nEND\n",
+    ),
+];
+
 #[test]
 fn the_plate_has_its_file_and_its_tape(rt: HostRuntime) -> Result<(), Fail> {
     let alloc = rt.alloc();
-    let cl = cl_file(alloc, &PLATE_CL)?;
-    let tape = rs358(alloc, PLATE_TAPE.as_bytes())?;
-    assert_eq!(rt; cl.len(), 1576);
-    let files = Files {
-        part: PLATE.as_bytes(),
-        cl: &cl,
-        tape: &tape,
-    };
+    for (part, records, text, line, acts) in PLATES {
+        let cl = cl_file(alloc, records)?;
+        let tape = rs358(alloc, text.as_bytes())?;
+        let files = Files {
+            part: part.as_bytes(),
+            cl: &cl,
+            tape: &tape,
+        };
+        assert_plain(&rt, COMPILE, with_part(part.as_bytes()), line, files)?;
+        assert_judged(&rt, files, "YES 4 SEGMENTS IN 0 OUT 0\n")?;
+        assert_plain(&rt, DECODE, files, acts, files)?;
+    }
+    assert_eq!(rt; cl_file(alloc, &PLATE_CL)?.len(), 1576);
+    assert_eq!(rt;
+        (cl_file(alloc, &MILLED_CL)?.len(), MILLED_TAPE.len()),
+        (1736, 260)
+    );
+    Ok(())
+}
+
+/// The words are done with a line, and leave these files.
+fn assert_plain<R: Threads + Sync + Abort + AllocGlobal>(
+    rt: &R,
+    words: &str,
+    files: Files<'_>,
+    line: &str,
+    behind: Files<'_>,
+) -> Result<(), Fail> {
     let asked = Asked {
-        words: COMPILE,
-        files: with_part(PLATE.as_bytes()),
+        words,
+        files,
         kind: Kind::Put,
         call: 0,
     };
     let want = Shown {
         number: 0,
-        line: PLATE_LINE,
-        files,
+        line,
+        files: behind,
     };
-    assert_shows(&rt, asked, want)?;
-    assert_judged(&rt, files, "YES 4 SEGMENTS IN 0 OUT 0\n")
+    assert_shows(rt, asked, want)
 }
 
 /// Bytes from a place of the CL file on, and characters from a place of the tape on, in place of as many; and the line.

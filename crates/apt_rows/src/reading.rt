@@ -4,7 +4,7 @@ use crate::run::{Long, Row, assert_long, assert_rows};
 use std::test::Fail;
 
 /// Texts, and the line that tells the first fault.
-const FAULTS: [Row; 31] = [
+const FAULTS: [Row; 43] = [
     ("FINI\n", "BAD PART LINE 1 NoPartno\n", ""),
     (
         "PARTNO\nGOTO/1,2,3,4\nFINI\n",
@@ -76,7 +76,40 @@ const FAULTS: [Row; 31] = [
     // shapes that are not built yet
     ("PARTNO\nTLON\nFINI\n", "BAD PART LINE 2 NotBuilt\n", ""),
     ("PARTNO\nGO/L\nFINI\n", "BAD PART LINE 2 NotBuilt\n", ""),
-    ("SPINDL/OFF\nFINI\n", "BAD PART LINE 1 NotBuilt\n", ""),
+    ("TLON\nFINI\n", "BAD PART LINE 1 NotBuilt\n", ""),
+    // and such that are
+    ("SPINDL/OFF\nFINI\n", "BAD PART LINE 1 NoPartno\n", ""),
+    ("COOLNT/MIST\nFINI\n", "BAD PART LINE 1 NoPartno\n", ""),
+    ("LOADTL/1\nFINI\n", "BAD PART LINE 1 NoPartno\n", ""),
+    ("PARTNO\nSPINDL\nFINI\n", "BAD PART LINE 2 BadShape\n", ""),
+    (
+        "PARTNO\nSPINDL/OFF,CLW\nFINI\n",
+        "BAD PART LINE 2 BadShape\n",
+        "",
+    ),
+    (
+        "PARTNO\nSPINDL/1,OFF\nFINI\n",
+        "BAD PART LINE 2 BadShape\n",
+        "",
+    ),
+    (
+        "PARTNO\nSPINDL/CLW,1\nFINI\n",
+        "BAD PART LINE 2 BadShape\n",
+        "",
+    ),
+    ("PARTNO\nCOOLNT\nFINI\n", "BAD PART LINE 2 BadShape\n", ""),
+    (
+        "PARTNO\nCOOLNT/ON\nFINI\n",
+        "BAD PART LINE 2 BadShape\n",
+        "",
+    ),
+    ("PARTNO\nCOOLNT/1\nFINI\n", "BAD PART LINE 2 BadShape\n", ""),
+    ("PARTNO\nLOADTL\nFINI\n", "BAD PART LINE 2 BadShape\n", ""),
+    (
+        "PARTNO\nLOADTL/1,2\nFINI\n",
+        "BAD PART LINE 2 BadShape\n",
+        "",
+    ),
     // labels: the shape comes first, then the first statement, then a label that stands already
     (
         "PARTNO\nA)STOP\nB)STOP\nA)END\nFINI\n",

@@ -256,7 +256,7 @@ pub fn number_of(line: &str) -> u8 {
 }
 
 /// The CL file has as many records as the lines say; the old one stands where they tell no compilation.
-fn assert_cl<R: Abort + AllocGlobal>(rt: &R, cl: &[u8], lines: &str) -> Result<(), Fail> {
+pub fn assert_cl<R: Abort + AllocGlobal>(rt: &R, cl: &[u8], lines: &str) -> Result<(), Fail> {
     if number_of(lines) != 0 {
         assert_eq!(rt; cl, OLD_CL, "at {lines}");
         return Ok(());

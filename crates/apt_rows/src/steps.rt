@@ -1,10 +1,10 @@
 //! Steps of part programs: their refusals, by the printed line, and their tapes.
-use crate::parts::{PLATE, PLATE_BY_DEFAULT, PLATE_TAPE};
+use crate::parts::{MILLED_TAPE, PLATE, PLATE_BY_DEFAULT, PLATE_TAPE};
 use crate::run::{Row, assert_rows};
 use std::test::Fail;
 
 /// Parts, and the line that tells the first refused step.
-const REFUSALS: [Row; 41] = [
+const REFUSALS: [Row; 61] = [
     // the order of the program, and values
     (
         "PARTNO\nEND\nSTOP\nFINI\n",
@@ -118,6 +118,109 @@ const REFUSALS: [Row; 41] = [
     (
         "PARTNO\nA=LINE/0,0,.000004,0\nFINI\n",
         "REFUSED LINE 2 STEP 2 Degenerate\n",
+        "",
+    ),
+    // spindle and tool: a number that is none, and one over the machine's
+    (
+        "PARTNO\nSPINDL/0\nFINI\n",
+        "REFUSED LINE 2 STEP 2 OutOfRange\n",
+        "",
+    ),
+    (
+        "PARTNO\nSPINDL/.4\nFINI\n",
+        "REFUSED LINE 2 STEP 2 OutOfRange\n",
+        "",
+    ),
+    (
+        "PARTNO\nSPINDL/-1,CCLW\nFINI\n",
+        "REFUSED LINE 2 STEP 2 OutOfRange\n",
+        "",
+    ),
+    (
+        "PARTNO\nSPINDL/.499999\nFINI\n",
+        "REFUSED LINE 2 STEP 2 OutOfRange\n",
+        "",
+    ),
+    (
+        "PARTNO\nLOADTL/0\nFINI\n",
+        "REFUSED LINE 2 STEP 2 OutOfRange\n",
+        "",
+    ),
+    (
+        "PARTNO\nLOADTL/-.5\nFINI\n",
+        "REFUSED LINE 2 STEP 2 OutOfRange\n",
+        "",
+    ),
+    (
+        "PARTNO\nSPINDL/10000\nFINI\n",
+        "REFUSED LINE 2 STEP 2 SpindleTooLarge\n",
+        "",
+    ),
+    (
+        "PARTNO\nSPINDL/9999.5,CCLW\nFINI\n",
+        "REFUSED LINE 2 STEP 2 SpindleTooLarge\n",
+        "",
+    ),
+    (
+        "PARTNO\nLOADTL/100\nFINI\n",
+        "REFUSED LINE 2 STEP 2 ToolTooLarge\n",
+        "",
+    ),
+    (
+        "PARTNO\nLOADTL/99.5\nFINI\n",
+        "REFUSED LINE 2 STEP 2 ToolTooLarge\n",
+        "",
+    ),
+    // the step's own case comes before the machine's, and an earlier step before a later one
+    (
+        "PARTNO\nSPINDL/-10000\nFINI\n",
+        "REFUSED LINE 2 STEP 2 OutOfRange\n",
+        "",
+    ),
+    (
+        "PARTNO\nLOADTL/A\nFINI\n",
+        "REFUSED LINE 2 STEP 2 Unknown\n",
+        "",
+    ),
+    (
+        "PARTNO\nEND\nSPINDL/10000\nFINI\n",
+        "REFUSED LINE 3 STEP 3 AfterEnd\n",
+        "",
+    ),
+    (
+        "PARTNO\nEND\nLOADTL/0\nFINI\n",
+        "REFUSED LINE 3 STEP 3 AfterEnd\n",
+        "",
+    ),
+    (
+        "PARTNO\nSPINDL/10000\nLOADTL/0\nFINI\n",
+        "REFUSED LINE 2 STEP 2 SpindleTooLarge\n",
+        "",
+    ),
+    (
+        "PARTNO\nLOADTL/0\nSPINDL/10000\nFINI\n",
+        "REFUSED LINE 2 STEP 2 OutOfRange\n",
+        "",
+    ),
+    (
+        "PARTNO\nLOADTL/100\nSPINDL/10000\nFEDRAT/1000\nFINI\n",
+        "REFUSED LINE 2 STEP 2 ToolTooLarge\n",
+        "",
+    ),
+    (
+        "PARTNO\nFEDRAT/1000\nLOADTL/100\nA=1/0\nFINI\n",
+        "REFUSED LINE 2 STEP 2 FeedTooLarge\n",
+        "",
+    ),
+    (
+        "PARTNO\nA=1/0\nLOADTL/100\nFINI\n",
+        "REFUSED LINE 2 STEP 2 DivideByZero\n",
+        "",
+    ),
+    // the plate with its spindle, by its feed
+    (
+        "PARTNO SQUARE\nCUTTER/.5\nL1=LINE/0,0,5,0\nL2=LINE/5,0,5,5\nL3=LINE/5,5,0,5\nL4=LINE/0,5,0,0\nFEDRAT/1000\nSPINDL/1200,CLW\nFROM/-1,-1,.5\nGO/TO,L1,TO,L4\nTLRGT\nGORGT/L1,PAST,L2\nGOLFT/L2,PAST,L3\nGOLFT/L3,PAST,L4\nGOLFT/L4,PAST,L1\nEND\nFINI\n",
+        "REFUSED LINE 7 STEP 7 FeedTooLarge\n",
         "",
     ),
     // positions and feeds
@@ -282,8 +385,11 @@ fn steps_give_their_blocks(rt: HostRuntime) -> Result<(), Fail> {
 const PLATE_WITH_TOLERANCE_LINES: &str =
     "DONE 30 RECORDS 7 ACTS 4 SEGMENTS\nYES 4 SEGMENTS IN 0 OUT 0\n";
 
+const MILLED_WITH_TOLERANCE_LINES: &str =
+    "DONE 34 RECORDS 8 ACTS 4 SEGMENTS\nYES 4 SEGMENTS IN 0 OUT 0\n";
+
 /// The square plate with a tolerance: one grid step is enough.
-const TOLERANCES: [Row; 5] = [
+const TOLERANCES: [Row; 8] = [
     (
         "PARTNO SQUARE\nCUTTER/.5\nOUTTOL/.00008\nL1=LINE/0,0,5,0\nL2=LINE/5,0,5,5\nL3=LINE/5,5,0,5\nL4=LINE/0,5,0,0\nFEDRAT/10\nFROM/-1,-1,.5\nGO/TO,L1,TO,L4\nTLRGT\nGORGT/L1,PAST,L2\nGOLFT/L2,PAST,L3\nGOLFT/L3,PAST,L4\nGOLFT/L4,PAST,L1\nFINI\n",
         PLATE_WITH_TOLERANCE_LINES,
@@ -308,6 +414,22 @@ const TOLERANCES: [Row; 5] = [
         "PARTNO SQUARE\nCUTTER/.5\nL1=LINE/0,0,5,0\nL2=LINE/5,0,5,5\nL3=LINE/5,5,0,5\nL4=LINE/0,5,0,0\nFEDRAT/10\nFROM/-1,-1,.5\nGO/TO,L1,TO,L4\nTLRGT\nGORGT/L1,PAST,L2\nGOLFT/L2,PAST,L3\nOUTTOL/.00007\nGOLFT/L3,PAST,L4\nGOLFT/L4,PAST,L1\nFINI\n",
         "REFUSED LINE 14 STEP 14 TooFine\n",
         "",
+    ),
+    // with the spindle on
+    (
+        "PARTNO SQUARE\nCUTTER/.5\nOUTTOL/.00008\nL1=LINE/0,0,5,0\nL2=LINE/5,0,5,5\nL3=LINE/5,5,0,5\nL4=LINE/0,5,0,0\nFEDRAT/10\nSPINDL/1200,CLW\nFROM/-1,-1,.5\nGO/TO,L1,TO,L4\nTLRGT\nGORGT/L1,PAST,L2\nGOLFT/L2,PAST,L3\nGOLFT/L3,PAST,L4\nGOLFT/L4,PAST,L1\nEND\nFINI\n",
+        MILLED_WITH_TOLERANCE_LINES,
+        MILLED_TAPE,
+    ),
+    (
+        "PARTNO SQUARE\nCUTTER/.5\nOUTTOL/.00007\nL1=LINE/0,0,5,0\nL2=LINE/5,0,5,5\nL3=LINE/5,5,0,5\nL4=LINE/0,5,0,0\nFEDRAT/10\nSPINDL/1200,CLW\nFROM/-1,-1,.5\nGO/TO,L1,TO,L4\nTLRGT\nGORGT/L1,PAST,L2\nGOLFT/L2,PAST,L3\nGOLFT/L3,PAST,L4\nGOLFT/L4,PAST,L1\nEND\nFINI\n",
+        "REFUSED LINE 13 STEP 13 TooFine\n",
+        "",
+    ),
+    (
+        "PARTNO SQUARE\nCUTTER/.5\nL1=LINE/0,0,5,0\nL2=LINE/5,0,5,5\nL3=LINE/5,5,0,5\nL4=LINE/0,5,0,0\nFEDRAT/10\nSPINDL/1200,CLW\nFROM/-1,-1,.5\nGO/TO,L1,TO,L4\nTLRGT\nGORGT/L1,PAST,L2\nGOLFT/L2,PAST,L3\nOUTTOL/.001\nGOLFT/L3,PAST,L4\nGOLFT/L4,PAST,L1\nEND\nFINI\n",
+        MILLED_WITH_TOLERANCE_LINES,
+        MILLED_TAPE,
     ),
 ];
 

@@ -237,6 +237,76 @@ mod tests {
         }
     }
 
+    /// What all bytes are read as, in rows of sixteen: a character, of which LF stands as `/`, or `.` for a byte
+    /// that is skipped, `p` for one of bad parity and `c` for one of no character.
+    const ALL_244: [&[u8]; 16] = [
+        b".12p4pp78pp%pccp",
+        b".pp3p56pp9cpcppc",
+        b"0ppTpccppZcpcppc",
+        b"pcSpcppXYppcpc.p",
+        b"-ppcpNcppccpcppc",
+        b"pccpMppccppcpccp",
+        b"pccpcppGcppcpccp",
+        b"+ppcpcFppccpcpp.",
+        b"/ppcpccppccpcppc",
+        b"pccpcppccppcpccp",
+        b"pccpcppccppcpccp",
+        b"cppcpccppccpcppc",
+        b"pccpcppccppcpccp",
+        b"cppcpccppccpcppc",
+        b"cppcpccppccpcppc",
+        b"pccpcppccppcpccp",
+    ];
+
+    const ALL_358: [&[u8]; 16] = [
+        b".ppcpccpp./pcppc",
+        b"pccpcppccppcpccp",
+        b"pccpcppccpp+p-cp",
+        b"0pp3p56pp9cpcppc",
+        b"pccpcppGcppcpMNp",
+        b"cppSpccppYZpcppc",
+        b"cppcpccppccpcppc",
+        b"pccpcppccppcpccp",
+        b"pccpcppccppcp.cp",
+        b"cppcpccppccpcppc",
+        b".ppcp%cppccpcppc",
+        b"p12p4pp78ppcpccp",
+        b"cppcpcFppccpcppc",
+        b"pccpTppcXppcpccp",
+        b"pccpcppccppcpccp",
+        b"cppcpccppccpcpp.",
+    ];
+
+    fn read_of(letter: u8) -> Read {
+        match letter {
+            b'.' => Read::Skip,
+            b'p' => Read::BadParity,
+            b'c' => Read::BadCode,
+            b'/' => Read::Char(b'\n'),
+            ch => Read::Char(ch),
+        }
+    }
+
+    fn wanted(rows: &[&[u8]], byte: u8) -> Option<Read> {
+        let row = rows.get((byte / 16) as usize)?;
+        let letter = row.get((byte % 16) as usize)?;
+        Some(read_of(*letter))
+    }
+
+    #[test]
+    fn reads_every_byte(rt: HostRuntime) {
+        for byte in 0..=255u8 {
+            assert!(rt;
+                wanted(&ALL_244, byte) == Some(sense(Code::Rs244, byte)),
+                "at {byte}"
+            );
+            assert!(rt;
+                wanted(&ALL_358, byte) == Some(sense(Code::Rs358, byte)),
+                "at {byte}"
+            );
+        }
+    }
+
     #[test]
     fn punches_no_other_characters(rt: HostRuntime) {
         for ch in [b' ', b'A', b'.', b'g', 0x00, 0xff] {
