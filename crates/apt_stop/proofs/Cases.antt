@@ -14,7 +14,7 @@ use Rattle.apt_canon.specs.declared.FormFault.{FormFault}
 use Rattle.apt_canon.specs.declared.FormFault.TheVariants as faults
 use Rattle.apt_canon.specs.Scale.{is_in_range}
 use Rattle.apt_canon.specs.Meeting.{are_parallel, meeting_point, line_line}
-use Rattle.apt_canon.proofs.Meets.{not_zero-test}
+use Rattle.apt_canon.proofs.Fits.{not_zero-test}
 use Rattle.apt_stop.specs.Nearness.{heading}
 use Rattle.apt_stop.specs.Lines.{line_behind, line_stop, contact_of}
 
