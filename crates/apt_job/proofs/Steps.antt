@@ -4,6 +4,8 @@ use Rattle.std.proofs.Common.{length-append, ◌==◌, true, false}
 use Rattle.std.proofs.lemmas.Bool.{true≢false, eqb-true}
 use Rattle.apt_words.specs.Built.{AreBuiltSteps}
 use Rattle.apt_words.specs.Sources.{AreExecuted}
+use Rattle.apt_words.specs.declared.Case.{Case}
+use Rattle.apt_words.specs.declared.deed.Deed.{Deed}
 use Rattle.apt_words.specs.declared.deed.Step.{Step}
 use Rattle.apt_scalar.specs.StepScalars.{AreScalars}
 use Rattle.apt_plane.specs.declared.figures.Pt.{Pt}
@@ -11,18 +13,25 @@ use Rattle.apt_certify.specs.declared.leg.Job.{Job}
 use Rattle.apt_certify.specs.Jobs.{AreJobs, point_count}
 use Rattle.apt_cldata.specs.declared.record.Record.{Record}
 use Rattle.apt_cldata.specs.Ranges.{vertex_count, AreRecords}
+use Rattle.apt_defs.specs.Figures.{Table}
+use Rattle.apt_defs.specs.Definitions.{definition_of, IsRefusedBy}
+use Rattle.apt_meaning.specs.declared.situation.Settings.{Settings}
 use Rattle.apt_meaning.specs.declared.situation.Situation.{Situation}
 use Rattle.apt_meaning.specs.declared.effect.Effect.{Effect}
 use Rattle.apt_meaning.specs.declared.effect.Effect.TheVariants as effects
 use Rattle.apt_meaning.specs.Situations.{first_situation, at_height}
 use Rattle.apt_meaning.specs.Effects.{effect_of}
-use Rattle.apt_meaning.specs.Compiled.{compilation}
+use Rattle.apt_meaning.specs.Refusals.{refusal_of}
+use Rattle.apt_meaning.specs.Compiled.{ends_of, with_front, compilation}
 use Rattle.apt_meaning.specs.Records.{Begins, records_of, after}
 use Rattle.apt_meaning.specs.Expectations.{expected_of, behind_statement, Departs, FailsAt}
 use Rattle.apt_meaning.proofs.Follower.{KeepsUp, keeps_up_first, StepsOn, steps_on}
-use Rattle.apt_meaning.proofs.Walk.{same_some}
+use Rattle.apt_meaning.proofs.Agree.{Agrees}
+use Rattle.apt_meaning.proofs.Walk.{same_some, done}
 use Rattle.apt_job.specs.Fronts.{StandsFirst}
 use Rattle.apt_job.specs.Jobs.{jobs_by, MakesJobs}
+use Rattle.apt_job.specs.Naming.{HasNamed}
+use Rattle.apt_job.proofs.Named.{refused_name}
 use Rattle.apt_job.proofs.Ranges.{jobs_in, points-append}
 
 -- ---- lengths
@@ -114,6 +123,39 @@ walk_on all written at rest jobs step steps e vertices later walk asked stands =
       range = jobs_in jobs e vertices walk.range on.lined on.within;
       points = omega (arith, points-append jobs (jobs_by e vertices), light step e vertices, load, walk.points);
     }
+
+-- a step that defines a name has no records, and no case refuses it
+pub walk_named : (all : List Step) (written : List Record) (at : Situation) (rest : List Record) (jobs : List Job) (step : Step) (steps : List Step) (now : Situation)
+    → IsWalk all written at rest jobs (step ∷ steps) → HasNamed at step.deed now true → IsWalk all written now rest jobs steps
+walk_named all written at rest jobs step steps now walk named =
+    let e = effects.Defines named.0 named.1 in
+    let on = walk_on all written at rest jobs step steps e [] rest walk named.2.asks (record { split = refl; may = refl }) in
+    subst (λ (s : Situation). IsWalk all written s rest jobs steps) (sym named.2.behind)
+    (subst (λ (js : List Job). IsWalk all written (after at e []) rest js steps) (append-nil jobs) on)
+
+-- one that defines none leaves the walk where it is
+pub walk_waits : (all : List Step) (written : List Record) (at : Situation) (rest : List Record) (jobs : List Job) (deed : Deed) (steps : List Step) (now : Situation)
+    → IsWalk all written at rest jobs steps → HasNamed at deed now false → IsWalk all written now rest jobs steps
+walk_waits all written at rest jobs deed steps now walk named = subst (λ (s : Situation). IsWalk all written s rest jobs steps) (sym named.1) walk
+
+-- the situations agree on definitions
+refused_beside : (c at : Situation) (deed : Deed) (case : Case) → Agrees c at → IsRefusedBy at.settings.units at.table deed case → refusal_of c deed ≡ Some case
+refused_beside c at deed case agrees is =
+    let units = ap (λ (s : Settings). definition_of s.units at.table deed) (sym agrees.settings) in
+    let table = ap (λ (t : Table). definition_of c.settings.units t deed) (sym agrees.table) in
+    refused_name c deed case (is.0, table ∙ units ∙ is.1)
+
+no_case : (o : Option Case) (case : Case) → o ≡ None → o ≡ Some case → ⊥
+no_case o case none some = cc
+
+pub walk_unrefused : (all : List Step) (written : List Record) (at : Situation) (rest : List Record) (jobs : List Job) (step : Step) (steps : List Step) (case : Case)
+    → IsWalk all written at rest jobs (step ∷ steps) → IsRefusedBy at.settings.units at.table step.deed case → ⊥
+walk_unrefused all written at rest jobs step steps case walk is =
+    let beside = walk.keeps.beside in
+    let c = beside.c in
+    let does = done step (refusal_of c step.deed) (effect_of c step.deed)
+    (λ e. with_front (records_of step e (ends_of e)) (compilation (after c e (ends_of e)) steps)) beside.records beside.passes in
+    no_case (refusal_of c step.deed) case does.fine (refused_beside c at step.deed case beside.agrees is)
 
 -- ---- where it ends
 

@@ -3,10 +3,12 @@
 ghost use Rattle.std.specs.Prelude.{◌≡◌, ◌+◌, ◌-◌, ◌<◌, ◌≤◌, ◌^◌, ◌++◌, List, length, Ok, IfOk, IfErr, OnOk};
 ghost use Rattle.apt_words.specs.Built.{AreBuiltSteps};
 ghost use Rattle.apt_words.specs.Sources.{AreExecuted};
-ghost use Rattle.apt_scalar.specs.StepScalars.{AreScalars};
+ghost use Rattle.apt_words.specs.declared.Case.{Case};
+ghost use Rattle.apt_scalar.specs.StepScalars.{AreScalars, HasScalars};
 ghost use Rattle.apt_certify.specs.Jobs.{AreJobs, point_count};
 ghost use Rattle.apt_cldata.specs.Ranges.{AreRecords, vertex_count};
 ghost use Rattle.apt_cldata.specs.declared.record.Record.{Record};
+ghost use Rattle.apt_defs.specs.Definitions.{IsRefusedBy};
 ghost use Rattle.apt_meaning.specs.Compiled.{compilation};
 ghost use Rattle.apt_meaning.specs.Ranges.{IsSituation, IsEffect};
 ghost use Rattle.apt_meaning.specs.Records as written;
@@ -17,12 +19,14 @@ ghost use Rattle.apt_meaning.specs.declared.effect.Effect.TheVariants as effects
 ghost use Rattle.apt_job.specs.Answering.{IsEntry};
 ghost use Rattle.apt_job.specs.Fronts.{points_at};
 ghost use Rattle.apt_job.specs.Jobs.{jobs_by, MakesJobs};
+ghost use Rattle.apt_job.specs.Naming.{DefinesNothing, HasNamed};
 
 use crate::JobError;
 use crate::fronts::taken;
 use crate::legs::job_of;
 use apt_certify::Job;
 use apt_cldata::{Position, Record};
+use apt_defs::{DefError, define};
 use apt_meaning::{Effect, Motion, Situation, effect_of};
 use apt_words::Step;
 use std::alloc::{AllocError, Global};
@@ -57,7 +61,22 @@ fn cut(
     Ok(behind)
 }
 
-/// The job of an effect that is a contour, and what holds behind it.
+/// Gives the name that a step defines its figure. False where the step defines no name: what holds stays as it was.
+#[tactic(auto, using(crate::proofs::Named::has_named))]
+fn gives_name(step: &Step, at: &mut Situation) -> Result<bool, JobError>
+    requires scalars { HasScalars step.now.deed }
+    requires passes { (case : Case) → IsRefusedBy at.old.settings.units at.old.table step.now.deed case → ⊥ }
+    ensures ok { IfOk result (HasNamed at.old step.now.deed at.new) }
+    ensures err { IfErr result (λ e. e ≡ JobError.NoMemory) }
+{
+    match define(step, at.settings.units, &mut at.table) {
+        Ok(gives) => Ok(gives),
+        Err(DefError::Case(_)) => unreachable!(),
+        Err(DefError::NoMemory) => Err(JobError::NoMemory),
+    }
+}
+
+/// The job of an effect that is a contour, and what holds behind it. No effect here defines a name.
 fn take(
     alloc: Global,
     jobs: &mut Vec<Job>,
@@ -67,13 +86,14 @@ fn take(
 ) -> Result<Situation, AllocError>
     requires situation { IsSituation at }
     requires effect { IsEffect effect.now }
+    requires defines_nothing { DefinesNothing effect.now }
     requires lined { IsLined effect.now }
     requires vertices { HasIn effect.now (points_at vertices.now) }
     ensures after { IfOk result (λ s. s ≡ written.after at effect.now (points_at vertices.now)) }
     ensures jobs { OnOk result (jobs.new.items ≡ jobs.old.items ++ jobs_by effect.now (points_at vertices.now)) }
 {
     match effect {
-        Effect::Defines(name, figure) => at.table.set(name.copied(), *figure)?,
+        Effect::Defines(..) => unreachable!(),
         Effect::Sets(settings, _) => at.settings = *settings,
         Effect::Moves(reach, to) => at = at.behind_move(*reach, *to),
         Effect::Cuts(motion) => at = cut(alloc, jobs, at, motion, vertices)?,
@@ -102,6 +122,9 @@ pub fn jobs(alloc: Global, steps: &[Step], records: &[Record]) -> Result<Vec<Job
     let mut rest = records;
     let mut jobs = Vec::new(alloc);
     'steps: for st in steps {
+        if gives_name(st, &mut at)? {
+            continue;
+        }
         let found = effect_of(&at, &st.deed)?;
         let front = match taken(st, &found, rest) {
             Ok(front) => front,

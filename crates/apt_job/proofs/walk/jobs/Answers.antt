@@ -3,59 +3,88 @@ use Rattle.std.proofs.Math.ListN.{drop_of_length-le}
 use Rattle.std.proofs.lemmas.List.{drop_more}
 use Rattle.apt_job.specs.Answering.{IsEntry}
 use Rattle.apt_job.specs.Fronts.{points_at}
-use Rattle.apt_job.proofs.Steps.{IsWalk, steps_in, walk_on, walk_departs, walk_ends, walk_left, stands_first}
+use Rattle.apt_job.specs.Naming.{HasNamed}
+use Rattle.apt_job.proofs.Steps.{IsWalk, steps_in, walk_on, walk_named, walk_waits, walk_unrefused, walk_departs, walk_ends, walk_left, stands_first}
 use Rattle.apt_job.proofs.walk.jobs.Goals as goal
+
+pub gives_name-requires-clause-passes : goal.gives_name-requires-clause-passes
+gives_name-requires-clause-passes c =
+    let xs = c.args.steps.now in
+    let i = c.steps.st-index in
+    let st = c.st-item.result in
+    let split : drop i xs ≡ st ∷ drop (i + 1) xs = drop_more xs i st c.steps-test.true ∙ ap (λ x. x ∷ drop (i + 1) xs) (sym c.st-item.is) in
+    let walk = subst (IsWalk xs c.args.records.now c.steps.at c.steps.rest.now c.steps.jobs.items) split c.steps.invariant in
+    λ case. walk_unrefused xs c.args.records.now c.steps.at c.steps.rest.now c.steps.jobs.items st (drop (i + 1) xs) case walk
+
+pub steps-preserved-then-branch : goal.steps-preserved-then-branch
+steps-preserved-then-branch c =
+    let xs = c.args.steps.now in
+    let i = c.steps.st-index in
+    let st = c.st-item.result in
+    let at = c.gives_name.new.at in
+    let split : drop i xs ≡ st ∷ drop (i + 1) xs = drop_more xs i st c.steps-test.true ∙ ap (λ x. x ∷ drop (i + 1) xs) (sym c.st-item.is) in
+    let named = subst (HasNamed c.steps.at st.deed at) c.if-branch.true c.in_ok-gives_name.ensures.ok in
+    let walk = subst (IsWalk xs c.args.records.now c.steps.at c.steps.rest.now c.steps.jobs.items) split c.steps.invariant in
+    walk_named xs c.args.records.now c.steps.at c.steps.rest.now c.steps.jobs.items st (drop (i + 1) xs) at walk named
 
 pub returns-in-Err-clause-entry : goal.returns-in-Err-clause-entry
 returns-in-Err-clause-entry c =
     let xs = c.args.steps.now in
     let i = c.steps.st-index in
     let st = c.st-item.result in
+    let at = c.gives_name.new.at in
     let written = c.args.records.now in
     let split : drop i xs ≡ st ∷ drop (i + 1) xs = drop_more xs i st c.steps-test.true ∙ ap (λ x. x ∷ drop (i + 1) xs) (sym c.st-item.is) in
-    let walk = subst (IsWalk xs written c.steps.at c.steps.rest.now c.steps.jobs.items) split c.steps.invariant in
+    let named = subst (HasNamed c.steps.at st.deed at) c.if-branch.false c.in_ok-gives_name.ensures.ok in
+    let walk = walk_waits xs written c.steps.at c.steps.rest.now c.steps.jobs.items st.deed (st ∷ drop (i + 1) xs) at (subst (IsWalk xs written c.steps.at c.steps.rest.now c.steps.jobs.items) split c.steps.invariant) named in
     subst (IsEntry xs written) (sym c.entry.ensures)
-    (walk_departs xs written c.steps.at c.steps.rest.now c.steps.jobs.items st (drop (i + 1) xs) c.in_ok-found.found c.in-Err.fitting walk c.in_ok-found.ensures.value c.in-Err.ensures.taken)
+    (walk_departs xs written at c.steps.rest.now c.steps.jobs.items st (drop (i + 1) xs) c.in_ok-found.found c.in-Err.fitting walk c.in_ok-found.ensures.value c.in-Err.ensures.taken)
 
 pub take-requires-clause-effect : goal.take-requires-clause-effect
 take-requires-clause-effect c =
     let xs = c.args.steps.now in
     let i = c.steps.st-index in
     let st = c.st-item.result in
+    let at = c.gives_name.new.at in
     let e = c.in-Some.found in
     let vertices = points_at c.in-Ok.front.vertices.now in
     let later = c.in-Ok.front.rest.now in
     let split : drop i xs ≡ st ∷ drop (i + 1) xs = drop_more xs i st c.steps-test.true ∙ ap (λ x. x ∷ drop (i + 1) xs) (sym c.st-item.is) in
-    let walk = subst (IsWalk xs c.args.records.now c.steps.at c.steps.rest.now c.steps.jobs.items) split c.steps.invariant in
+    let named = subst (HasNamed c.steps.at st.deed at) c.if-branch.false c.in_ok-gives_name.ensures.ok in
+    let walk = walk_waits xs c.args.records.now c.steps.at c.steps.rest.now c.steps.jobs.items st.deed (st ∷ drop (i + 1) xs) at (subst (IsWalk xs c.args.records.now c.steps.at c.steps.rest.now c.steps.jobs.items) split c.steps.invariant) named in
     let stands = stands_first st c.in_ok-found.found e c.steps.rest.now vertices later c.in-Ok.ensures.taken c.in-Some.is in
-    (steps_in xs c.args.records.now c.steps.at c.steps.rest.now c.steps.jobs.items st (drop (i + 1) xs) e vertices later walk (sym c.in_ok-found.ensures.value ∙ c.in-Some.is) stands).good
+    (steps_in xs c.args.records.now at c.steps.rest.now c.steps.jobs.items st (drop (i + 1) xs) e vertices later walk (sym c.in_ok-found.ensures.value ∙ c.in-Some.is) stands).good
 
 pub take-requires-clause-vertices : goal.take-requires-clause-vertices
 take-requires-clause-vertices c =
     let xs = c.args.steps.now in
     let i = c.steps.st-index in
     let st = c.st-item.result in
+    let at = c.gives_name.new.at in
     let e = c.in-Some.found in
     let vertices = points_at c.in-Ok.front.vertices.now in
     let later = c.in-Ok.front.rest.now in
     let split : drop i xs ≡ st ∷ drop (i + 1) xs = drop_more xs i st c.steps-test.true ∙ ap (λ x. x ∷ drop (i + 1) xs) (sym c.st-item.is) in
-    let walk = subst (IsWalk xs c.args.records.now c.steps.at c.steps.rest.now c.steps.jobs.items) split c.steps.invariant in
+    let named = subst (HasNamed c.steps.at st.deed at) c.if-branch.false c.in_ok-gives_name.ensures.ok in
+    let walk = walk_waits xs c.args.records.now c.steps.at c.steps.rest.now c.steps.jobs.items st.deed (st ∷ drop (i + 1) xs) at (subst (IsWalk xs c.args.records.now c.steps.at c.steps.rest.now c.steps.jobs.items) split c.steps.invariant) named in
     let stands = stands_first st c.in_ok-found.found e c.steps.rest.now vertices later c.in-Ok.ensures.taken c.in-Some.is in
-    (steps_in xs c.args.records.now c.steps.at c.steps.rest.now c.steps.jobs.items st (drop (i + 1) xs) e vertices later walk (sym c.in_ok-found.ensures.value ∙ c.in-Some.is) stands).within
+    (steps_in xs c.args.records.now at c.steps.rest.now c.steps.jobs.items st (drop (i + 1) xs) e vertices later walk (sym c.in_ok-found.ensures.value ∙ c.in-Some.is) stands).within
 
 pub steps-preserved : goal.steps-preserved
 steps-preserved c =
     let xs = c.args.steps.now in
     let i = c.steps.st-index in
     let st = c.st-item.result in
+    let at = c.gives_name.new.at in
     let written = c.args.records.now in
     let e = c.in-Some.found in
     let vertices = points_at c.in-Ok.front.vertices.now in
     let later = c.in-Ok.front.rest.now in
     let split : drop i xs ≡ st ∷ drop (i + 1) xs = drop_more xs i st c.steps-test.true ∙ ap (λ x. x ∷ drop (i + 1) xs) (sym c.st-item.is) in
-    let walk = subst (IsWalk xs written c.steps.at c.steps.rest.now c.steps.jobs.items) split c.steps.invariant in
+    let named = subst (HasNamed c.steps.at st.deed at) c.if-branch.false c.in_ok-gives_name.ensures.ok in
+    let walk = walk_waits xs written c.steps.at c.steps.rest.now c.steps.jobs.items st.deed (st ∷ drop (i + 1) xs) at (subst (IsWalk xs written c.steps.at c.steps.rest.now c.steps.jobs.items) split c.steps.invariant) named in
     let stands = stands_first st c.in_ok-found.found e c.steps.rest.now vertices later c.in-Ok.ensures.taken c.in-Some.is in
-    let on = walk_on xs written c.steps.at c.steps.rest.now c.steps.jobs.items st (drop (i + 1) xs) e vertices later walk (sym c.in_ok-found.ensures.value ∙ c.in-Some.is) stands in
+    let on = walk_on xs written at c.steps.rest.now c.steps.jobs.items st (drop (i + 1) xs) e vertices later walk (sym c.in_ok-found.ensures.value ∙ c.in-Some.is) stands in
     rw (c.in_ok-at.ensures.after, c.in_ok-at.ensures.jobs) on
 
 pub returns-then-is_empty-clause-jobs : goal.returns-then-is_empty-clause-jobs
