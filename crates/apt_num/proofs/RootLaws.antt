@@ -1,7 +1,8 @@
 -- root n is the one root of n, and root_near n is nearest to it.
-use Rattle.std.proofs.Common.{◌≡◌, ℕ, zero, suc, ◌+◌, ◌-◌, ◌*◌, ◌^◌, ◌≤◌, ◌<◌, arith, inl, inr}
-use Rattle.std.proofs.Math.Nat.{two-pow-succ}
-use Rattle.std.proofs.lemmas.Nat.{mul-le}
+use Rattle.std.proofs.Common.{◌≡◌, ℕ, zero, suc, ◌+◌, ◌-◌, ◌*◌, ◌/◌, ◌^◌, ◌≤◌, ◌<◌, arith, inl, inr}
+use Rattle.std.specs.Int.Count.{count_leading_zeros}
+use Rattle.std.proofs.Math.Nat.{two-pow-succ, lt-mul-div-succ, div-lt_iff_lt-mul, pow-le-pow_right}
+use Rattle.std.proofs.lemmas.Nat.{mul-le, pow_pos, leading_length}
 use Rattle.std.proofs.lemmas.Bool.{cases_lt}
 use Rattle.std.proofs.lemmas.Bool.Decides.{leb_tells}
 use Rattle.apt_num.specs.Root.{IsRoot, IsNearestRoot, root_bit, root_bits, root}
@@ -55,5 +56,42 @@ nearest_below n (suc t) at close = record { above = omega (arith, at.low, at.hig
 -- and else the next number is
 pub nearest_above : (n q : ℕ) → IsRoot n q → q < n - q * q → IsNearestRoot n (q + 1)
 nearest_above n q at far = record { above = omega (arith, at.low, at.high); below = λ h. rw (odd_below q) (omega (arith, at.low)) }
+
+-- four times a product is at most the square of the sum
+four_past : (s d : ℕ) → 4 * ((s + d) * s) ≤ ((s + d) + s) * ((s + d) + s)
+four_past s d = omega arith
+
+four_before : (r d : ℕ) → 4 * (r * (r + d)) ≤ (r + (r + d)) * (r + (r + d))
+four_before r d = omega arith
+
+four_products : (r s : ℕ) → 4 * (r * s) ≤ (r + s) * (r + s)
+four_products r s = elim (cases_lt r s) [
+  | inl below ↦
+      let at : s ≡ r + (s - r) = omega arith in
+      rw at (four_before r (s - r))
+  | inr past ↦
+      let at : r ≡ s + (r - s) = omega arith in
+      rw at (four_past s (r - s))
+]
+
+-- Newton's step from r, with q for n / r, goes no further down than the root
+newton_by : (n r q s : ℕ) → n < r * (q + 1) → r + q + 1 ≤ 2 * (s + 1) → n < (s + 1) * (s + 1)
+newton_by n r q s h up = omega (arith, h, four_products r (q + 1), mul-le (r + q + 1) (r + q + 1) (2 * (s + 1)) (2 * (s + 1)) up up)
+
+pub newton_high : (n r : ℕ) → 0 < r → n < ((r + n / r) / 2 + 1) * ((r + n / r) / 2 + 1)
+newton_high n r h = newton_by n r (n / r) ((r + n / r) / 2) (lt-mul-div-succ n h) (omega arith)
+
+below_shifted : (n k m : ℕ) → k ≤ m → n < 2 ^ k * 2 ^ 64 → n / 2 ^ m < 2 ^ 64
+below_shifted n k m le h =
+    (div-lt_iff_lt-mul (pow_pos m)).1 (omega (arith, h, mul-le (2 ^ k) (2 ^ 64) (2 ^ m) (2 ^ 64) (pow-le-pow_right (omega arith) le) (omega arith)))
+
+upper_below : (n : ℕ) → n < 2 ^ 128 → n / 2 ^ 64 < 2 ^ 64
+upper_below n h = (div-lt_iff_lt-mul (pow_pos 64)).1 (omega (arith, h))
+
+-- without so many bits as its upper half has, a number has at most 64
+pub upper_fits : (n m : ℕ) → n < 2 ^ 128 → 64 - count_leading_zeros 64 (n / 2 ^ 64) ≤ m → n / 2 ^ m < 2 ^ 64
+upper_fits n m h le =
+    let top = leading_length 64 (n / 2 ^ 64) (upper_below n h) in
+    below_shifted n top.0 m (omega (arith, le, top.1)) ((div-lt_iff_lt-mul (pow_pos 64)).0 top.2)
 
 pub ruleset root_laws = (root-unique)

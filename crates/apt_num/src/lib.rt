@@ -1,7 +1,7 @@
 //! Exact whole numbers: roots, nearest quotients, and the sign of a number against a root.
 #![tactic(auto)]
 
-ghost use Rattle.std.specs.Prelude.{◌≡◌, ◌≢◌, ◌↔◌, ◌*◌, ◌^◌, ◌<◌, ◌≤◌, pos, neg_ℤ, unsigned_abs, ◌-ℤ◌};
+ghost use Rattle.std.specs.Prelude.{◌≡◌, ◌≢◌, ◌↔◌, ◌+◌, ◌*◌, ◌^◌, ◌<◌, ◌≤◌, pos, neg_ℤ, unsigned_abs, ◌-ℤ◌};
 ghost use Rattle.apt_num.specs.Near.{near, IsNear};
 ghost use Rattle.apt_num.specs.Root.{IsRoot, IsNearestRoot};
 ghost use Rattle.apt_num.specs.Root as roots;
@@ -22,17 +22,48 @@ pub fn isqrt(n: u128) -> u128
     ensures root { IsRoot n result }
     ensures value { result ≡ roots.root n }
 {
-    let mut low: u128 = 0;
-    let mut high: u128 = 1 << 64;
-    'halves: while high - low > 1 {
-        let mid = low + (high - low) / 2;
-        if mid * mid <= n {
-            low = mid;
-        } else {
-            high = mid;
-        }
+    down_to_root(n, above_root(n))
+}
+
+/// Newton's steps from a number that is not below the root, each of which is smaller and not below it either.
+#[tactic(auto, using(crate::proofs::RootLaws::newton_high))]
+fn down_to_root(n: u128, above: u64) -> u128
+    requires { n < (above + 1) * (above + 1) }
+    ensures { IsRoot n result }
+{
+    let mut root = u128::from(above);
+    'steps: while n < root * root {
+        root = (root + n / root) / 2;
     }
-    low
+    root
+}
+
+/// A number that is not below the root, and near it: for a large number by the root of its upper bits.
+fn above_root(n: u128) -> u64
+    ensures { n < (result + 1) * (result + 1) }
+{
+    let upper = 64 - ((n >> 64) as u64).leading_zeros();
+    let half = upper.div_ceil(2);
+    let guess = (root_of_bits((n >> (2 * half)) as u64) + 1) << half;
+    if n < u128::from(guess) * u128::from(guess) {
+        guess
+    } else {
+        u64::MAX
+    }
+}
+
+/// The root of a number, rounded down, by Newton's steps from a power of two past it.
+fn root_of_bits(n: u64) -> u64
+    ensures { result ≤ 2 ^ 32 }
+{
+    if n == 0 {
+        return 0;
+    }
+    let mut root = 1 << (64 - n.leading_zeros()).div_ceil(2);
+    'steps: while n / root < root {
+        root = (root + n / root) / 2;
+    }
+    root
 }
 
 /// The whole number nearest to the root of `n`, for `n` below `2^126`. There is no tie: no odd square

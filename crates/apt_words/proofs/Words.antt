@@ -1,11 +1,12 @@
 -- Each word of the vocabulary is spelled in one way, and no two are spelled alike.
-use Rattle.std.specs.Prelude.{◌≡◌, ◌↔◌, ℕ, List, [], ◌∷◌, Option, Some, Bool, true, false, cond}
+use Rattle.std.specs.Prelude.{◌≡◌, ◌↔◌, ℕ, List, [], ◌∷◌, Option, Some, None, Bool, true, false, cond}
 use Rattle.std.specs.List.{find}
 use Rattle.std.proofs.Common.{bytes_eq, refl, sym, ap, ◌∙◌}
 use Rattle.std.proofs.lemmas.Slice.Eq.{bytes_eq-Decides}
 use Rattle.apt_words.specs.declared.word.Word.{Word}
 use Rattle.apt_words.specs.declared.word.Word.TheVariants as words
 use Rattle.apt_words.specs.Vocabulary.{spelling, vocabulary, word_of}
+use Rattle.apt_words.specs.Alike.{alike}
 
 -- the spelling of a word spells it
 word_of-spelling : (w : Word) → word_of (spelling w) ≡ Some w
@@ -92,3 +93,88 @@ spelling-find text (v ∷ vs) w e =
 pub spelled : (text : List ℕ) (w : Word) → (word_of text ≡ Some w) ↔ (text ≡ spelling w)
 unfolding word_of
 spelled text w = (spelling-find text vocabulary w, λ e. ap word_of e ∙ word_of-spelling w)
+
+-- the word that a text spells among the words that are like it
+abbrev found : List ℕ → Option Word
+found text = find (λ w. bytes_eq (spelling w) text) (alike text)
+
+-- each word is among those that are like its spelling
+alike-spelling : (w : Word) → found (spelling w) ≡ Some w
+alike-spelling words.Partno = refl
+alike-spelling words.Remark = refl
+alike-spelling words.Units = refl
+alike-spelling words.Inches = refl
+alike-spelling words.Mm = refl
+alike-spelling words.Clprnt = refl
+alike-spelling words.Nopost = refl
+alike-spelling words.Machin = refl
+alike-spelling words.Point = refl
+alike-spelling words.Intof = refl
+alike-spelling words.Xlarge = refl
+alike-spelling words.Xsmall = refl
+alike-spelling words.Ylarge = refl
+alike-spelling words.Ysmall = refl
+alike-spelling words.Center = refl
+alike-spelling words.Line = refl
+alike-spelling words.Parlel = refl
+alike-spelling words.Perpto = refl
+alike-spelling words.Left = refl
+alike-spelling words.Right = refl
+alike-spelling words.Tanto = refl
+alike-spelling words.Circle = refl
+alike-spelling words.Radius = refl
+alike-spelling words.Cutter = refl
+alike-spelling words.Intol = refl
+alike-spelling words.Outtol = refl
+alike-spelling words.Tllft = refl
+alike-spelling words.Tlrgt = refl
+alike-spelling words.Tlon = refl
+alike-spelling words.From = refl
+alike-spelling words.Goto = refl
+alike-spelling words.Godlta = refl
+alike-spelling words.Go = refl
+alike-spelling words.To = refl
+alike-spelling words.On = refl
+alike-spelling words.Past = refl
+alike-spelling words.Golft = refl
+alike-spelling words.Gorgt = refl
+alike-spelling words.Gofwd = refl
+alike-spelling words.Goback = refl
+alike-spelling words.Rapid = refl
+alike-spelling words.Stop = refl
+alike-spelling words.Opstop = refl
+alike-spelling words.End = refl
+alike-spelling words.Fini = refl
+alike-spelling words.Fedrat = refl
+alike-spelling words.Spindl = refl
+alike-spelling words.Clw = refl
+alike-spelling words.Cclw = refl
+alike-spelling words.Off = refl
+alike-spelling words.Coolnt = refl
+alike-spelling words.Flood = refl
+alike-spelling words.Mist = refl
+alike-spelling words.Loadtl = refl
+alike-spelling words.Macro = refl
+alike-spelling words.Termac = refl
+alike-spelling words.Call = refl
+alike-spelling words.Loopst = refl
+alike-spelling words.Loopnd = refl
+alike-spelling words.Jumpto = refl
+alike-spelling words.If = refl
+alike-spelling words.Sqrtf = refl
+alike-spelling words.Absf = refl
+
+both_none : (a b : Option Word) → ((w : Word) → a ≡ Some w → b ≡ Some w) → ((w : Word) → b ≡ Some w → a ≡ Some w) → a ≡ b
+both_none None None f g = refl
+both_none None (Some w) f g = g w refl
+both_none (Some w) b f g = sym (f w refl)
+
+found_is : (text : List ℕ) (w : Word) → found text ≡ Some w → word_of text ≡ Some w
+found_is text w e = (spelled text w).1 (spelling-find text (alike text) w e)
+
+is_found : (text : List ℕ) (w : Word) → word_of text ≡ Some w → found text ≡ Some w
+is_found text w e = ap found ((spelled text w).0 e) ∙ alike-spelling w
+
+-- the words that are like a text are enough
+pub found_alike : (text : List ℕ) → find (λ w. bytes_eq (spelling w) text) (alike text) ≡ word_of text
+found_alike text = both_none (found text) (word_of text) (found_is text) (is_found text)

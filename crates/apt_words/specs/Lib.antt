@@ -2,6 +2,7 @@ pub mod Chains
 pub mod Rows
 pub mod Options
 pub mod Vocabulary
+pub mod Alike
 pub mod Symbols
 pub mod Names
 pub mod Trees

@@ -11,26 +11,29 @@ ghost use Rattle.std.proofs.Common.{rules};
 ghost use Rattle.apt_words.specs.Symbols as symbols;
 
 use crate::word::word_of;
-use arrayvec::ArrayString;
 use std::cmp::Ordering;
 use std::hash::{Hash, Hasher};
 use std::marker::Model;
 
+/// The greatest number of characters of a symbol.
+const MOST: usize = 6;
+
 /// A word of a capital letter and at most five capitals or digits. Clauses see its bytes.
 #[derive(Debug, Drop)]
 pub struct Symbol {
-    text: ArrayString<6>,
+    bytes: [u8; MOST],
+    len: u8,
 }
 
 impl Model for Symbol {
-    ghost use Rattle.std.specs.Prelude.{◌≡◌, ℕ, List, true};
+    ghost use Rattle.std.specs.Prelude.{◌≡◌, ◌≤◌, ℕ, List, true, take};
     ghost use Rattle.apt_words.specs.Symbols.{is_symbol};
 
     ghost Value = { List ℕ };
 
-    ghost view = { λ s. s.text.bytes };
+    ghost view = { λ s. take s.len s.bytes };
 
-    ghost invariant = { λ s. is_symbol s.text.bytes ≡ true };
+    ghost invariant = { λ s. (s.len ≤ 6) × (is_symbol (take s.len s.bytes) ≡ true) };
 }
 
 impl Symbol {
@@ -39,13 +42,7 @@ impl Symbol {
         ensures some { IfSome result (λ s. s ≡ text.now) }
         ensures when { IsSome result ↔ (symbols.is_symbol text.now ≡ true) }
     {
-        if !is_symbol(text.as_bytes()) {
-            return None;
-        }
-        match ArrayString::from(text) {
-            Ok(text) => Some(Symbol { text }),
-            Err(_) => None,
-        }
+        Symbol::from_bytes(text.as_bytes())
     }
 
     /// The symbol of some bytes, None where they are none.
@@ -53,10 +50,15 @@ impl Symbol {
         ensures some { IfSome result (λ s. s ≡ text.now) }
         ensures when { IsSome result ↔ (symbols.is_symbol text.now ≡ true) }
     {
-        match std::str::from_utf8(text) {
-            Ok(text) => Symbol::new(text),
-            Err(_) => None,
+        if !is_symbol(text) {
+            return None;
         }
+        let mut bytes = [0; MOST];
+        bytes[..text.len()].copy_from_slice(text);
+        Some(Symbol {
+            bytes,
+            len: text.len() as u8,
+        })
     }
 
     /// The name of some bytes, None where they are no symbol or a word of the vocabulary.
@@ -76,13 +78,26 @@ impl Symbol {
     pub fn copied(&self) -> Symbol
         ensures { result ≡ self.now }
     {
-        Symbol { text: self.text }
+        Symbol {
+            bytes: self.bytes,
+            len: self.len,
+        }
+    }
+
+    pub fn as_bytes(&self) -> &[u8]
+        ensures value { result.now ≡ self.now }
+        ensures symbol { symbols.is_symbol result.now ≡ true }
+    {
+        &self.bytes[..self.len as usize]
     }
 
     pub fn as_str(&self) -> &str
         ensures { result.now ≡ self.now }
     {
-        self.text.as_str()
+        match std::str::from_utf8(self.as_bytes()) {
+            Ok(text) => text,
+            Err(_) => "",
+        }
     }
 }
 
@@ -117,7 +132,7 @@ impl PartialEq for Symbol {
     ghost laws = { partial_equiv_from_equiv nat_list_eq_equiv };
 
     fn eq(&self, other: &Self) -> bool {
-        self.text == other.text
+        self.as_bytes() == other.as_bytes()
     }
 }
 
@@ -145,7 +160,7 @@ impl Ord for Symbol {
     ghost matches_eq = { texts_ties };
 
     fn cmp(&self, other: &Self) -> Ordering {
-        self.text.cmp(&other.text)
+        self.as_bytes().cmp(other.as_bytes())
     }
 }
 
@@ -155,6 +170,7 @@ impl Hash for Symbol {
     ghost respects_eq = { Prim.search (hashing, rules) };
 
     fn hash<H: Hasher>(&self, state: &mut H) {
-        self.text.hash(state);
+        state.write(self.as_bytes());
+        state.write_u8(0xff);
     }
 }

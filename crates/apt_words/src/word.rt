@@ -4,6 +4,7 @@ ghost use Rattle.std.specs.List.{find};
 ghost use Rattle.std.proofs.Common.{bytes_eq};
 ghost use Rattle.apt_words.specs.declared.word.Word.{Word};
 ghost use Rattle.apt_words.specs.Vocabulary as vocabulary;
+ghost use Rattle.apt_words.specs.Alike as likeness;
 
 use crate::Symbol;
 
@@ -74,73 +75,6 @@ pub enum Word {
     Sqrtf,
     Absf,
 }
-
-/// All words of the vocabulary.
-const WORDS: [Word; 63] = [
-    Word::Partno,
-    Word::Remark,
-    Word::Units,
-    Word::Inches,
-    Word::Mm,
-    Word::Clprnt,
-    Word::Nopost,
-    Word::Machin,
-    Word::Point,
-    Word::Intof,
-    Word::Xlarge,
-    Word::Xsmall,
-    Word::Ylarge,
-    Word::Ysmall,
-    Word::Center,
-    Word::Line,
-    Word::Parlel,
-    Word::Perpto,
-    Word::Left,
-    Word::Right,
-    Word::Tanto,
-    Word::Circle,
-    Word::Radius,
-    Word::Cutter,
-    Word::Intol,
-    Word::Outtol,
-    Word::Tllft,
-    Word::Tlrgt,
-    Word::Tlon,
-    Word::From,
-    Word::Goto,
-    Word::Godlta,
-    Word::Go,
-    Word::To,
-    Word::On,
-    Word::Past,
-    Word::Golft,
-    Word::Gorgt,
-    Word::Gofwd,
-    Word::Goback,
-    Word::Rapid,
-    Word::Stop,
-    Word::Opstop,
-    Word::End,
-    Word::Fini,
-    Word::Fedrat,
-    Word::Spindl,
-    Word::Clw,
-    Word::Cclw,
-    Word::Off,
-    Word::Coolnt,
-    Word::Flood,
-    Word::Mist,
-    Word::Loadtl,
-    Word::Macro,
-    Word::Termac,
-    Word::Call,
-    Word::Loopst,
-    Word::Loopnd,
-    Word::Jumpto,
-    Word::If,
-    Word::Sqrtf,
-    Word::Absf,
-];
 
 impl Word {
     /// Its spelling, in capitals.
@@ -221,18 +155,129 @@ pub fn word_of(symbol: &Symbol) -> Option<Word>
     ensures value { result ≡ vocabulary.word_of symbol.now }
     ensures spelled { (w : Word) → (result ≡ Some w) ↔ (symbol.now ≡ vocabulary.spelling w) }
 {
-    word_spelled(symbol.as_str())
+    word_spelled(symbol.as_bytes())
 }
 
-#[tactic(auto, unfolding(crate::specs::Vocabulary::word_of))]
-fn word_spelled(text: &str) -> Option<Word>
+fn word_spelled(text: &[u8]) -> Option<Word>
     ensures { result ≡ vocabulary.word_of text.now }
 {
-    word_in(&WORDS, text)
+    word_in(alike(text), text)
 }
 
-fn word_in(words: &[Word], text: &str) -> Option<Word>
+fn word_in(words: &[Word], text: &[u8]) -> Option<Word>
     ensures { result ≡ find (λ w. bytes_eq (vocabulary.spelling w) text.now) words.now }
 {
-    words.iter().copied().find(|word| word.spelling() == text)
+    words
+        .iter()
+        .copied()
+        .find(|word| word.spelling().as_bytes() == text)
+}
+
+/// The words of a text's first letter and length.
+fn alike(text: &[u8]) -> &'static [Word]
+    ensures { result.now ≡ likeness.alike text.now }
+{
+    let Some(first) = text.first() else {
+        return &[];
+    };
+    match text.len() {
+        2 => of_two(*first),
+        3 => of_three(*first),
+        4 => of_four(*first),
+        5 => of_five(*first),
+        6 => of_six(*first),
+        _ => &[],
+    }
+}
+
+/// The words of two letters that begin with a letter.
+fn of_two(first: u8) -> &'static [Word]
+    ensures { result.now ≡ likeness.of_two first }
+{
+    match first {
+        b'G' => &[Word::Go],
+        b'I' => &[Word::If],
+        b'M' => &[Word::Mm],
+        b'O' => &[Word::On],
+        b'T' => &[Word::To],
+        _ => &[],
+    }
+}
+
+/// The words of three letters that begin with a letter.
+fn of_three(first: u8) -> &'static [Word]
+    ensures { result.now ≡ likeness.of_three first }
+{
+    match first {
+        b'C' => &[Word::Clw],
+        b'E' => &[Word::End],
+        b'O' => &[Word::Off],
+        _ => &[],
+    }
+}
+
+/// The words of four letters that begin with a letter.
+fn of_four(first: u8) -> &'static [Word]
+    ensures { result.now ≡ likeness.of_four first }
+{
+    match first {
+        b'A' => &[Word::Absf],
+        b'C' => &[Word::Cclw, Word::Call],
+        b'F' => &[Word::From, Word::Fini],
+        b'G' => &[Word::Goto],
+        b'L' => &[Word::Line, Word::Left],
+        b'M' => &[Word::Mist],
+        b'P' => &[Word::Past],
+        b'S' => &[Word::Stop],
+        b'T' => &[Word::Tlon],
+        _ => &[],
+    }
+}
+
+/// The words of five letters that begin with a letter.
+fn of_five(first: u8) -> &'static [Word]
+    ensures { result.now ≡ likeness.of_five first }
+{
+    match first {
+        b'F' => &[Word::Flood],
+        b'G' => &[Word::Golft, Word::Gorgt, Word::Gofwd],
+        b'I' => &[Word::Intof, Word::Intol],
+        b'M' => &[Word::Macro],
+        b'P' => &[Word::Point],
+        b'R' => &[Word::Right, Word::Rapid],
+        b'S' => &[Word::Sqrtf],
+        b'T' => &[Word::Tanto, Word::Tllft, Word::Tlrgt],
+        b'U' => &[Word::Units],
+        _ => &[],
+    }
+}
+
+/// The words of six letters that begin with a letter.
+fn of_six(first: u8) -> &'static [Word]
+    ensures { result.now ≡ likeness.of_six first }
+{
+    match first {
+        b'C' => &[
+            Word::Clprnt,
+            Word::Center,
+            Word::Circle,
+            Word::Cutter,
+            Word::Coolnt,
+        ],
+        b'F' => &[Word::Fedrat],
+        b'G' => &[Word::Godlta, Word::Goback],
+        b'I' => &[Word::Inches],
+        b'J' => &[Word::Jumpto],
+        b'L' => &[Word::Loadtl, Word::Loopst, Word::Loopnd],
+        b'M' => &[Word::Machin],
+        b'N' => &[Word::Nopost],
+        b'O' => &[Word::Outtol, Word::Opstop],
+        b'P' => &[Word::Partno, Word::Parlel, Word::Perpto],
+        b'R' => &[Word::Remark, Word::Radius],
+        b'S' => &[Word::Spindl],
+        b'T' => &[Word::Termac],
+        b'X' => &[Word::Xlarge, Word::Xsmall],
+        b'Y' => &[Word::Ylarge, Word::Ysmall],
+        _ => &[],
+    }
 }
