@@ -5,7 +5,9 @@ use Rattle.apt_words.specs.Vocabulary.{word_of}
 use Rattle.apt_words.specs.declared.Case.{Case}
 use Rattle.apt_words.specs.declared.Case.TheVariants as cases
 use Rattle.apt_words.specs.declared.Refusal.{Refusal}
+use Rattle.apt_words.specs.declared.Cool.TheVariants as cools
 use Rattle.apt_words.specs.declared.Side.{Side}
+use Rattle.apt_words.specs.declared.Turn.TheVariants as spins
 use Rattle.apt_words.specs.declared.Side.TheVariants as sides
 use Rattle.apt_words.specs.declared.Stop.{Stop}
 use Rattle.apt_words.specs.declared.Stop.TheVariants as stops
@@ -167,6 +169,12 @@ moves : records_of (codes "PARTNO A\nFEDRAT/1\nFROM/1,2\nGOTO/3,4,5\nGODLTA/.5,.
     written (titled ++ note_at 2 (notes.Fedrat (pos 10)) ++ reached 3 reaches.From (at 100000 200000 0) ++ reached 4 reaches.Goto (at 300000 400000 500000) ++ reached 5 reaches.Godlta (at 350000 450000 600000) ++ note_at 6 notes.Fini)
 unfolding root word_of expression shape pair three four coordinates surfaces execution deed_of trace_from action motion_at start_up_at refused_definition defined
 moves = refl
+
+machine_words : records_of (codes "PARTNO A\nSPINDL/1200\nSPINDL/700,CLW\nSPINDL/70.5,CCLW\nSPINDL/OFF\nCOOLNT/MIST\nCOOLNT/FLOOD\nCOOLNT/OFF\nLOADTL/7\nFINI\n") ≡
+    written (titled ++ note_at 2 (notes.Spindl spins.Cw (pos 1200)) ++ note_at 3 (notes.Spindl spins.Cw (pos 700)) ++ note_at 4 (notes.Spindl spins.Ccw (pos 71)) ++ note_at 5 (notes.Spindl spins.Off (pos 0))
+    ++ note_at 6 (notes.Coolnt cools.Mist) ++ note_at 7 (notes.Coolnt cools.Flood) ++ note_at 8 (notes.Coolnt cools.Off) ++ note_at 9 (notes.Loadtl (pos 7)) ++ note_at 10 notes.Fini)
+unfolding root word_of expression shape pair three four coordinates surfaces execution deed_of trace_from action motion_at start_up_at refused_definition defined
+machine_words = refl
 
 commands : records_of (codes "PARTNO A\nSTOP\nOPSTOP\nRAPID\nGOTO/0,0\nEND\nFINI\n") ≡
     written (titled ++ note_at 2 notes.Stop ++ note_at 3 notes.OptStop ++ note_at 4 notes.Rapid ++ reached 5 reaches.Goto (at 0 0 0) ++ note_at 6 notes.End ++ note_at 7 notes.Fini)
