@@ -1,12 +1,14 @@
 -- Titles and the blanks round them.
-use Rattle.std.proofs.Common.{◌≡◌, ℕ, ◌-◌, ◌==◌, List, [], ◌∷◌, length, take, drop, Bool, true, false, Some, None, ap, ◌∙◌, sym, refl, subst, ◌⊎◌, inl, inr}
+use Rattle.std.proofs.Common.{◌≡◌, ◌≢◌, ℕ, ◌-◌, ◌==◌, List, [], ◌∷◌, length, map, take, drop, Bool, true, false, Some, None, ap, ◌∙◌, sym, refl, subst, ◌⊎◌, inl, inr}
 use Rattle.std.specs.Prelude.{◌||◌, codes, Option, option_map, option_and_then}
 use Rattle.std.proofs.Common.{bytes_eq}
 use native.Mathlib.Numerals.{unary_clauses}
+use Rattle.std.proofs.lemmas.List.{length-map}
 use Rattle.std.proofs.lemmas.Slice.Eq.{bytes_eq-Decides}
 use Rattle.apt_words.specs.Options.{◌>>=◌, only_if}
 use Rattle.apt_words.specs.Symbols.{is_symbol, is_name}
 use Rattle.apt_lexis.specs.declared.token.Token.TheVariants as tokens
+use Rattle.apt_lexis.specs.Tokens.{capital}
 use Rattle.apt_lexis.specs.Titles.{Title, without_blanks, unless_last, is_title_word, title_word, title, labelled, title_behind, behind_close, with_tokens}
 
 -- ---- blanks at the end
@@ -35,16 +37,29 @@ pub last_stays : (text : List ℕ) → bytes_eq (drop (length text - 1) text) (3
 last_stays [] e = refl
 last_stays (b ∷ bs) e = stays b bs (simp unary_clauses at e)
 
+either : (a b : Bool) → (a || b) ≡ true → (a ≡ true) ⊎ (b ≡ true)
+either true b e = inl refl
+either false b e = inr e
+
 -- the words of titles are symbols
 title_symbol : (word : List ℕ) → is_title_word word ≡ true → is_symbol word ≡ true
 title_symbol word e = elim (either (bytes_eq word (codes "PARTNO")) (bytes_eq word (codes "REMARK")) e) [
   | inl h ↦ subst (λ w. is_symbol w ≡ true) (sym ((bytes_eq-Decides word (codes "PARTNO")).0 h)) refl
   | inr h ↦ subst (λ w. is_symbol w ≡ true) (sym ((bytes_eq-Decides word (codes "REMARK")).0 h)) refl
 ]
-  where
-    either : (a b : Bool) → (a || b) ≡ true → (a ≡ true) ⊎ (b ≡ true)
-    either true b e = inl refl
-    either false b e = inr e
+
+title_length : (word : List ℕ) → is_title_word word ≡ true → length word ≡ 6
+title_length word e = elim (either (bytes_eq word (codes "PARTNO")) (bytes_eq word (codes "REMARK")) e) [
+  | inl h ↦ subst (λ w. length w ≡ 6) (sym ((bytes_eq-Decides word (codes "PARTNO")).0 h)) refl
+  | inr h ↦ subst (λ w. length w ≡ 6) (sym ((bytes_eq-Decides word (codes "REMARK")).0 h)) refl
+]
+
+-- the words of titles have six letters
+pub other_length : (text : List ℕ) → length text ≢ 6 → is_title_word (map capital text) ≡ false
+other_length text h = elim (is_title_word (map capital text)) as (λ t. is_title_word (map capital text) ≡ t → t ≡ false) [
+  | true ↦ λ e. absurd (h (sym (length-map text capital) ∙ title_length (map capital text) e))
+  | false ↦ λ e. refl
+] refl
 
 only_none : {A : Type 0} (b : Bool) (x : A) → only_if b x ≡ None → b ≡ false
 only_none true x e = cc
@@ -70,6 +85,23 @@ no_symbol word e = elim (is_title_word word) as (λ t. is_title_word word ≡ t 
 -- a word that is no symbol is no word of a title
 pub no_title_word : (word rest : List ℕ) → only_if (is_symbol word) word ≡ None → title_word word rest ≡ None
 no_title_word word rest e = only_false (is_title_word word) _ (no_symbol word (only_none (is_symbol word) word e))
+
+pub no_name : (word : List ℕ) → only_if (is_symbol word) word ≡ None → is_name word ≡ false
+no_name word e = rw (only_none (is_symbol word) word e) refl
+
+-- behind a label that is not closed
+pub not_closed : (name rest : List ℕ) → behind_close rest ≡ None → labelled name rest ≡ None
+not_closed name rest e = elim (is_name name) as (λ t. (only_if t rest >>= behind_close >>= title >>= λ t. Some (with_tokens (tokens.Word name ∷ tokens.Close ∷ []) t)) ≡ None) [
+  | true ↦ rw e refl
+  | false ↦ refl
+]
+
+-- no title behind a label
+pub untitled : (name rest line : List ℕ) → behind_close rest ≡ Some line → title line ≡ None → labelled name rest ≡ None
+untitled name rest line e f = elim (is_name name) as (λ t. (only_if t rest >>= behind_close >>= title >>= λ t. Some (with_tokens (tokens.Word name ∷ tokens.Close ∷ []) t)) ≡ None) [
+  | true ↦ rw (e, f) refl
+  | false ↦ refl
+]
 
 pub no_label : (name rest : List ℕ) → is_name name ≡ false → labelled name rest ≡ None
 no_label name rest e = rw e refl

@@ -1,6 +1,7 @@
 //! Titles: PARTNO and REMARK with the text behind them.
 
-ghost use Rattle.std.specs.Prelude.{◌≡◌, [], ◌∷◌, ◌++◌, true, OnOk, IfOk, option_map, option_and_then};
+ghost use Rattle.std.specs.Prelude.{◌≡◌, [], ◌∷◌, ◌++◌, map, OnOk, IfOk, option_map, option_and_then};
+ghost use Rattle.std.specs.List.{take_while};
 ghost use Rattle.std.specs.Option.{option_to_list};
 ghost use Rattle.apt_words.specs.Options.{only_if};
 ghost use Rattle.apt_words.specs.Symbols as symbols;
@@ -47,14 +48,13 @@ fn is_name(word: &Symbol) -> bool
     Symbol::name(word.as_str().as_bytes()).is_some()
 }
 
-/// The word at the front of a line, and what stands behind it.
+/// The letters and digits at the front of a line, and what stands behind them.
 #[tactic(auto, using(crate::proofs::Fronts::front_short))]
-fn front_word(line: &[u8]) -> (Option<Symbol>, &[u8])
-    ensures word { result.0 ≡ only_if (symbols.is_symbol (spec.front_word line.now)) (spec.front_word line.now) }
+fn front_word(line: &[u8]) -> (&[u8], &[u8])
+    ensures word { result.0.now ≡ take_while characters.is_letter_or_digit line.now }
     ensures rest { result.1.now ≡ spec.behind characters.is_letter_or_digit line.now }
 {
-    let (word, rest) = line.split_at(letters_or_digits(line));
-    (symbol(word), rest)
+    line.split_at(letters_or_digits(line))
 }
 
 fn without_blank(text: &[u8]) -> &[u8]
@@ -77,17 +77,34 @@ fn without_blanks(text: &[u8]) -> &[u8]
     rest
 }
 
+/// Letters and digits as PARTNO or REMARK.
+#[tactic(auto, using(crate::proofs::TitleLaws::other_length, crate::proofs::TitleLaws::no_title_word, crate::proofs::TitleLaws::symbol_is))]
+fn title_word(text: &[u8]) -> Option<Symbol>
+    ensures { result ≡ only_if (spec.is_title_word (map characters.capital text.now)) (map characters.capital text.now) }
+{
+    if text.len() != 6 {
+        return None;
+    }
+    match symbol(text) {
+        Some(word) if is_title_word(&word) => Some(word),
+        _ => None,
+    }
+}
+
+/// PARTNO or REMARK, and the text behind it.
+fn title_of<'a>(word: &[u8], rest: &'a [u8]) -> Option<(Symbol, &'a [u8])>
+    ensures { option_map (λ r. (tokens.Word r.0 ∷ [], r.1.now)) result ≡ spec.title_word (map characters.capital word.now) rest.now }
+{
+    let word = title_word(word)?;
+    Some((word, without_blanks(without_blank(rest))))
+}
+
 /// PARTNO or REMARK at the front of a line, and the text behind it.
-#[tactic(auto, using(crate::proofs::TitleLaws::no_title_word, crate::proofs::TitleLaws::symbol_is))]
 fn title(line: &[u8]) -> Option<(Symbol, &[u8])>
     ensures { option_map (λ r. (tokens.Word r.0 ∷ [], r.1.now)) result ≡ spec.title line.now }
 {
-    match front_word(behind_blanks(line)) {
-        (Some(word), rest) if is_title_word(&word) => {
-            Some((word, without_blanks(without_blank(rest))))
-        }
-        _ => None,
-    }
+    let (word, rest) = front_word(behind_blanks(line));
+    title_of(word, rest)
 }
 
 fn behind_close(line: &[u8]) -> Option<&[u8]>
@@ -124,22 +141,24 @@ fn closed_title(line: &[u8]) -> Option<Heading<'_>>
     })
 }
 
-/// A label, its parenthesis and a title.
-#[tactic(auto, using(crate::proofs::TitleLaws::no_label))]
-fn labelled_title(line: &[u8]) -> Option<Heading<'_>>
-    ensures { result ≡ spec.labelled_title line.now }
+/// The name of some letters and digits.
+#[tactic(auto, using(crate::proofs::TitleLaws::symbol_is, crate::proofs::TitleLaws::no_name))]
+fn label(text: &[u8]) -> Option<Symbol>
+    ensures { result ≡ only_if (symbols.is_name (map characters.capital text.now)) (map characters.capital text.now) }
 {
-    match front_word(behind_blanks(line)) {
-        (Some(name), rest) if is_name(&name) => behind_label(name, rest),
+    match symbol(text) {
+        Some(name) if is_name(&name) => Some(name),
         _ => None,
     }
 }
 
-fn behind_label(name: Symbol, rest: &[u8]) -> Option<Heading<'_>>
-    requires { symbols.is_name name ≡ true }
-    ensures { result ≡ spec.labelled name rest.now }
+/// A title behind a label and its parenthesis, which are looked at last.
+#[tactic(auto, using(crate::proofs::TitleLaws::not_closed, crate::proofs::TitleLaws::untitled, crate::proofs::TitleLaws::no_label))]
+fn labelled_title<'a>(name: &[u8], rest: &'a [u8]) -> Option<Heading<'a>>
+    ensures { result ≡ spec.labelled (map characters.capital name.now) rest.now }
 {
     let (word, text) = title(behind_close(rest)?)?;
+    let name = label(name)?;
     Some(Heading {
         label: Some(Token::Word(name)),
         close: Some(Token::Close),
@@ -151,7 +170,16 @@ fn behind_label(name: Symbol, rest: &[u8]) -> Option<Heading<'_>>
 fn first_title(line: &[u8]) -> Option<Heading<'_>>
     ensures { result ≡ spec.title_or_labelled line.now }
 {
-    plain_title(line).or_else(|| labelled_title(line))
+    let (front, rest) = front_word(behind_blanks(line));
+    match title_of(front, rest) {
+        Some((word, text)) => Some(Heading {
+            label: None,
+            close: None,
+            word: Token::Word(word),
+            text,
+        }),
+        None => labelled_title(front, rest),
+    }
 }
 
 /// The title on a line behind some tokens of its statement.
