@@ -1,6 +1,6 @@
 //! Statements as they are read.
 
-ghost use Rattle.std.specs.Prelude.{◌≡◌, ◌+◌, ◌<◌, ◌≤◌, length, None, Some, Ok, IfOk, IfSome, IsSome, IsNone};
+ghost use Rattle.std.specs.Prelude.{◌≡◌, ◌+◌, ◌<◌, ◌≤◌, [], length, None, Some, Ok, IfOk, IfSome, IsSome, IsNone};
 ghost use Rattle.std.specs.Result.{IsOkAnd};
 ghost use Rattle.apt_lexis.specs.Lines as lines;
 ghost use Rattle.apt_lexis.specs.Sentences as spec;
@@ -34,20 +34,44 @@ impl Model for Phrase {
     ghost view = { λ p. record { line = p.line; tokens = good p.fault p.tokens.items; text = p.text } };
 }
 
+/// Room for so many tokens is made at once.
+const FIRST_TOKENS: usize = 16;
+
+/// A list without tokens, in the room of a list that is done with where there is one.
+fn no_tokens(
+    alloc: Global,
+    spare: &mut Option<Vec<Token>>,
+) -> Result<Vec<Token>, AllocError>
+    ensures { IfOk result (λ v. v.items ≡ []) }
+{
+    match spare.take() {
+        Some(mut tokens) => {
+            tokens.clear();
+            Ok(tokens)
+        }
+        None => Vec::with_capacity(alloc, FIRST_TOKENS),
+    }
+}
+
 /// The statement that a line belongs to, as it is before that line.
-fn before_line(alloc: Global, begun: Option<Phrase>, number: u32) -> Phrase
-    ensures { result ≡ record { line = spec.first_line begun number; tokens = spec.tokens_before begun; text = None } }
+fn before_line(
+    alloc: Global,
+    spare: &mut Option<Vec<Token>>,
+    begun: Option<Phrase>,
+    number: u32,
+) -> Result<Phrase, AllocError>
+    ensures { IfOk result (λ p. p ≡ record { line = spec.first_line begun number; tokens = spec.tokens_before begun; text = None }) }
 {
     match begun {
-        None => Phrase {
+        None => Ok(Phrase {
             line: number,
-            tokens: Vec::new(alloc),
+            tokens: no_tokens(alloc, spare)?,
             fault: None,
             text: None,
-        },
+        }),
         Some(mut phrase) => {
             phrase.text = None;
-            phrase
+            Ok(phrase)
         }
     }
 }
@@ -55,13 +79,14 @@ fn before_line(alloc: Global, begun: Option<Phrase>, number: u32) -> Phrase
 /// The statement that a line belongs to, with the tokens of that line.
 fn with_tokens(
     alloc: Global,
+    spare: &mut Option<Vec<Token>>,
     begun: Option<Phrase>,
     number: u32,
     text: &[u8],
 ) -> Result<Phrase, AllocError>
     ensures { IfOk result (λ p. p ≡ record { line = spec.first_line begun number; tokens = spec.joined (spec.tokens_before begun) (tokens.tokens_of text.now); text = None }) }
 {
-    let mut phrase = before_line(alloc, begun, number);
+    let mut phrase = before_line(alloc, spare, begun, number)?;
     if phrase.fault.is_none() {
         phrase.fault = add_tokens(&mut phrase.tokens, text)?;
     }
@@ -71,13 +96,14 @@ fn with_tokens(
 /// The statement that a title's line belongs to, with the title.
 fn with_title(
     alloc: Global,
+    spare: &mut Option<Vec<Token>>,
     begun: Option<Phrase>,
     number: u32,
     title: Heading<'_>,
 ) -> Result<Phrase, AllocError>
     ensures { IfOk result (λ p. p ≡ record { line = spec.first_line begun number; tokens = spec.joined (spec.tokens_before begun) (Ok title.entry.0); text = Some title.entry.1 }) }
 {
-    let mut phrase = before_line(alloc, begun, number);
+    let mut phrase = before_line(alloc, spare, begun, number)?;
     phrase.text = Some(add_heading(alloc, &mut phrase.tokens, title)?);
     Ok(phrase)
 }
@@ -119,6 +145,7 @@ fn said_on(line: &[u8]) -> (&[u8], bool)
 #[tactic(auto, using(crate::proofs::SentenceLaws::silent, crate::proofs::SentenceLaws::goes_on_with, crate::proofs::SentenceLaws::ends_with))]
 fn take_tokens(
     alloc: Global,
+    spare: &mut Option<Vec<Token>>,
     begun: &mut Option<Phrase>,
     number: u32,
     line: &[u8],
@@ -130,7 +157,7 @@ fn take_tokens(
     if behind_blanks(front).is_empty() {
         return Ok(None);
     }
-    let phrase = with_tokens(alloc, begun.take(), number, front)?;
+    let phrase = with_tokens(alloc, spare, begun.take(), number, front)?;
     if on {
         *begun = Some(phrase);
         Ok(None)
@@ -143,6 +170,7 @@ fn take_tokens(
 #[tactic(auto, using(crate::proofs::SentenceLaws::by_tokens, crate::proofs::SentenceLaws::ends_with_title))]
 fn take_line(
     alloc: Global,
+    spare: &mut Option<Vec<Token>>,
     begun: &mut Option<Phrase>,
     number: u32,
     line: &[u8],
@@ -151,9 +179,9 @@ fn take_line(
     ensures ended { IfOk result (λ said. IsSome said → begun.new ≡ None) }
 {
     match title_in(begun, line) {
-        None => take_tokens(alloc, begun, number, line),
+        None => take_tokens(alloc, spare, begun, number, line),
         Some(title) => {
-            let phrase = with_title(alloc, begun.take(), number, title)?;
+            let phrase = with_title(alloc, spare, begun.take(), number, title)?;
             Ok(Some(phrase))
         }
     }
@@ -164,6 +192,7 @@ fn take_line(
 pub struct Phrases<'a> {
     rest: &'a [u8],
     line: u32,
+    spare: Option<Vec<Token>>,
 }
 
 impl<'a> Model for Phrases<'a> {
@@ -187,6 +216,7 @@ impl<'a> Phrases<'a> {
         Phrases {
             rest: text,
             line: 1,
+            spare: None,
         }
     }
 
@@ -212,12 +242,19 @@ impl<'a> Phrases<'a> {
             let number = self.line;
             self.rest = after;
             self.line += 1;
-            let said = take_line(alloc, &mut begun, number, line)?;
+            let said = take_line(alloc, &mut self.spare, &mut begun, number, line)?;
             if said.is_some() {
                 return Ok(said);
             }
         }
         Ok(begun)
+    }
+
+    /// Takes the list of a statement that is done with, for the tokens of another.
+    pub fn reuse(&mut self, tokens: Vec<Token>)
+        ensures { self.new ≡ self.old }
+    {
+        self.spare = Some(tokens);
     }
 
     /// The number of the first line that is left.
