@@ -1,20 +1,18 @@
 -- Powers of ten.
-use Rattle.std.proofs.Common.{◌≡◌, ℕ, ◌^◌, ◌≤◌, ◌<◌, List, length, Bool, true, false, refl, arith}
-use Rattle.std.specs.Prelude.{nat_le, ◌&&◌}
-use Rattle.std.proofs.lemmas.Bool.Decides.{nat_tests}
-use Rattle.apt_lexis.specs.Tokens.{are_digits}
-use Rattle.std.proofs.Math.Nat.{pow-le-pow_right}
+use Rattle.std.proofs.Common.{◌≡◌, ℕ, ◌+◌, ◌-◌, ◌*◌, ◌^◌, ◌≤◌, ◌<◌, ap, ◌∙◌, sym, arith}
+use Rattle.std.proofs.lemmas.Nat.{pow-add}
+use Rattle.std.proofs.Math.Nat.{one-le-pow, pow-le-pow_right, mul-lt-mul_of_pos_right}
 
 pub power_small : (n : ℕ) → n ≤ 12 → 10 ^ n ≤ 10 ^ 12
 power_small n h = pow-le-pow_right {n = 10} (omega arith) h
 
-first_of_both : (a b : Bool) → (a && b) ≡ true → a ≡ true
-first_of_both true b e = refl
-first_of_both false b e = e
-
-at_most : (n m : ℕ) → nat_le n m ≡ true → n ≤ m
-at_most n m e = grind (arith, nat_tests)
-
 -- a number of at most 12 digits
-pub digits_small : (n : ℕ) (text : List ℕ) → are_digits text ≡ true → n < 10 ^ length text → n < 10 ^ 12
-digits_small n text e h = omega (arith, power_small (length text) (at_most (length text) 12 (first_of_both (nat_le (length text) 12) _ e)))
+pub digits_small : (n i : ℕ) → i ≤ 12 → n < 10 ^ i → n < 10 ^ 12
+digits_small n i h k = omega (arith, power_small i h)
+
+power_split : (i : ℕ) → i ≤ 12 → 10 ^ i * 10 ^ (12 - i) ≡ 10 ^ 12
+power_split i h = let whole : i + (12 - i) ≡ 12 = omega arith in sym (pow-add 10 i (12 - i)) ∙ ap (λ k. 10 ^ k) whole
+
+-- in the twelfth place it is less than one
+pub places_small : (n i : ℕ) → i ≤ 12 → n < 10 ^ i → n * 10 ^ (12 - i) < 10 ^ 12
+places_small n i h k = rw (sym (power_split i h)) (mul-lt-mul_of_pos_right k (omega (arith, one-le-pow (12 - i) 10 (omega arith))))

@@ -1,8 +1,7 @@
 //! Numbers.
 
-ghost use Rattle.std.specs.Prelude.{◌≡◌, ◌^◌, ◌<◌, ◌≤◌, true};
-ghost use Rattle.std.specs.List.{list_all};
-ghost use Rattle.apt_words.specs.Symbols.{is_digit};
+ghost use Rattle.std.specs.Prelude.{◌≡◌, ◌+◌, ◌-◌, ◌*◌, ◌^◌, ◌<◌, ◌≤◌, IfSome, length, option_map};
+ghost use Rattle.apt_words.specs.Options.{only_if};
 ghost use Rattle.apt_lexis.specs.Lines as lines;
 ghost use Rattle.apt_lexis.specs.Tokens as spec;
 
@@ -12,71 +11,92 @@ use crate::lines::cut;
 const MOST_DIGITS: usize = 12;
 
 /// What a unit counts in the twelfth place.
-const UNIT: u128 = 1_000_000_000_000;
+const UNIT: u64 = 1_000_000_000_000;
 
-/// The greatest number, 1000000.
-const MOST: u128 = 1_000_000_000_000_000_000;
+/// No number is greater in front of its point.
+const MOST_FRONT: u64 = 1_000_000;
 
-fn are_digits(text: &[u8]) -> bool
-    ensures { result ≡ spec.are_digits text.now }
-{
-    text.len() <= MOST_DIGITS && all_digits(text)
-}
-
-fn all_digits(text: &[u8]) -> bool
-    ensures { result ≡ list_all is_digit text.now }
-{
-    text.iter().all(|b| b.is_ascii_digit())
-}
+/// The greatest number, 1000000, in the twelfth place.
+const MOST: u64 = 1_000_000_000_000_000_000;
 
 /// The number of at most 12 digits.
 #[tactic(auto, using(crate::proofs::Sizes::digits_small))]
-fn number_of(text: &[u8]) -> u128
-    requires { spec.are_digits text.now ≡ true }
-    ensures value { result ≡ spec.number_of 0 text.now }
-    ensures small { result < 10 ^ 12 }
+fn number_of(text: &[u8]) -> Option<u64>
+    ensures value { result ≡ only_if (spec.are_digits text.now) (spec.number_of 0 text.now) }
+    ensures small { IfSome result (λ n. n < 10 ^ length text.now) }
+    ensures few { IfSome result (λ _. length text.now ≤ 12) }
 {
+    if text.len() > MOST_DIGITS {
+        return None;
+    }
     let mut number = 0;
     'digits: for b in text {
-        number = 10 * number + u128::from(*b - b'0');
+        if !b.is_ascii_digit() {
+            return None;
+        }
+        number = 10 * number + u64::from(*b - b'0');
     }
-    number
+    Some(number)
 }
 
-#[tactic(auto, using(crate::proofs::Sizes::power_small))]
-fn power(places: usize) -> u128
+/// A power of ten, by cases since it is called for each number.
+fn power(places: usize) -> u64
     requires { places ≤ 12 }
-    ensures value { result ≡ 10 ^ places }
-    ensures small { result ≤ 10 ^ 12 }
+    ensures { result ≡ 10 ^ places }
 {
-    10u128.pow(places as u32)
+    match places {
+        0 => 1,
+        1 => 10,
+        2 => 100,
+        3 => 1_000,
+        4 => 10_000,
+        5 => 100_000,
+        6 => 1_000_000,
+        7 => 10_000_000,
+        8 => 100_000_000,
+        9 => 1_000_000_000,
+        10 => 10_000_000_000,
+        11 => 100_000_000_000,
+        _ => 1_000_000_000_000,
+    }
 }
 
-/// Digits with at most one point, in units of the twelfth place.
-#[tactic(auto, using(crate::proofs::Splitting::decimal_of_more))]
-fn decimal(text: &[u8]) -> Option<u128>
-    ensures { result ≡ spec.decimal (lines.split spec.point text.now) }
+/// What digits behind a point count in the twelfth place.
+#[tactic(auto, using(crate::proofs::Sizes::places_small))]
+fn units_of(back: &[u8]) -> Option<u64>
+    ensures value { result ≡ only_if (spec.are_digits back.now) (spec.number_of 0 back.now * 10 ^ (12 - length back.now)) }
+    ensures small { IfSome result (λ units. units < 10 ^ 12) }
+{
+    let number = number_of(back)?;
+    Some(number * power(MOST_DIGITS - back.len()))
+}
+
+/// Digits with at most one point: the number in front of it, and what stands behind it in the twelfth place.
+#[tactic(auto, using(crate::proofs::Decimals::no_front, crate::proofs::Decimals::no_back, crate::proofs::Decimals::nothing, crate::proofs::Decimals::no_digits, crate::proofs::Decimals::front_alone, crate::proofs::Decimals::both_sides))]
+fn decimal(text: &[u8]) -> Option<(u64, u64)>
+    ensures value { option_map (λ r. r.0 * 10 ^ 12 + r.1) result ≡ spec.decimal (lines.split spec.point text.now) }
+    ensures small { IfSome result (λ r. r.1 < 10 ^ 12) }
 {
     let (front, rest) = cut(text, b'.');
-    if !are_digits(front) {
-        return None;
-    }
-    let units = number_of(front) * UNIT;
-    let Some(rest) = rest else {
-        return if front.is_empty() { None } else { Some(units) };
+    let whole = number_of(front)?;
+    let Some(back) = rest else {
+        return if front.is_empty() {
+            None
+        } else {
+            Some((whole, 0))
+        };
     };
-    let (back, more) = cut(rest, b'.');
-    if more.is_some() {
-        return None;
+    let units = units_of(back)?;
+    if front.len() + back.len() == 0 {
+        None
+    } else {
+        Some((whole, units))
     }
-    if !are_digits(back) || front.len() + back.len() == 0 {
-        return None;
-    }
-    Some(units + number_of(back) * power(MOST_DIGITS - back.len()))
 }
 
 /// At most 1000000, rounded to millionths.
-fn millionths(size: u128) -> Option<i64>
+fn rounded(size: u64) -> Option<i64>
+    requires { size < 2 ^ 62 }
     ensures { result ≡ spec.millionths size }
 {
     if size > MOST {
@@ -86,9 +106,20 @@ fn millionths(size: u128) -> Option<i64>
     Some(rounded as i64)
 }
 
+fn millionths(whole: u64, units: u64) -> Option<i64>
+    requires { units < 10 ^ 12 }
+    ensures { result ≡ spec.millionths (whole * 10 ^ 12 + units) }
+{
+    if whole > MOST_FRONT {
+        return None;
+    }
+    rounded(whole * UNIT + units)
+}
+
 /// The number of a run of letters, digits and points.
 pub(crate) fn number_in(run: &[u8]) -> Option<i64>
     ensures { result ≡ spec.number_in run.now }
 {
-    millionths(decimal(run)?)
+    let (whole, units) = decimal(run)?;
+    millionths(whole, units)
 }
