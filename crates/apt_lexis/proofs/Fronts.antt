@@ -1,6 +1,8 @@
 -- How many bytes of a kind stand at the front of a text.
-use Rattle.std.proofs.Common.{◌≡◌, ◌≤◌, ℕ, List, length, take, Bool}
-use Rattle.std.specs.List.{prefix_len}
+use Rattle.std.proofs.Common.{◌≡◌, ◌+◌, ◌≤◌, ℕ, List, [], ◌∷◌, length, take, drop, Bool, true, false, refl, arith}
+use Rattle.std.specs.Prelude.{◌&&◌}
+use Rattle.std.specs.List.{prefix_len, list_all}
+use Rattle.std.proofs.lemmas.Grind.{common_steps}
 use Rattle.std.proofs.lemmas.List.Folds.{length-prefix_len}
 use Rattle.std.proofs.lemmas.List.Sums.{prefix_len-le-length}
 
@@ -9,3 +11,55 @@ front_length test text = length-prefix_len test text
 
 pub front_short : (test : ℕ → Bool) (text : List ℕ) → prefix_len test text ≤ length text
 front_short test text = prefix_len-le-length test text
+
+pub prefix_yes : (test : ℕ → Bool) (b : ℕ) (bs : List ℕ) → test b ≡ true → prefix_len test (b ∷ bs) ≡ 1 + prefix_len test bs
+prefix_yes test b bs e = rw e refl
+
+pub prefix_no : (test : ℕ → Bool) (b : ℕ) (bs : List ℕ) → test b ≡ false → prefix_len test (b ∷ bs) ≡ 0
+prefix_no test b bs e = rw e refl
+
+pub drop_one_more : (i b : ℕ) (bs : List ℕ) → drop (1 + i) (b ∷ bs) ≡ drop i bs
+drop_one_more i b bs = grind (arith, common_steps)
+
+pub take_one_more : (b i : ℕ) (bs : List ℕ) → take (1 + i) (b ∷ bs) ≡ b ∷ take i bs
+take_one_more b i bs = grind (arith, common_steps)
+
+pub take_front : (test : ℕ → Bool) (b : ℕ) (bs : List ℕ) → test b ≡ true → take (prefix_len test (b ∷ bs)) (b ∷ bs) ≡ b ∷ take (prefix_len test bs) bs
+take_front test b bs e = rw (prefix_yes test b bs e) (take_one_more b (prefix_len test bs) bs)
+
+-- what is behind the bytes of a kind at the front begins with none of the kind
+pub none_behind : (test : ℕ → Bool) (text : List ℕ) → prefix_len test (drop (prefix_len test text) text) ≡ 0
+none_behind test [] = refl
+none_behind test (b ∷ bs) = elim (test b) as (λ t. test b ≡ t → prefix_len test (drop (prefix_len test (b ∷ bs)) (b ∷ bs)) ≡ 0) [
+  | true ↦ λ e. rw (prefix_yes test b bs e, drop_one_more (prefix_len test bs) b bs) (none_behind test bs)
+  | false ↦ λ e. rw (prefix_no test b bs e) (prefix_no test b bs e)
+] refl
+
+pub none_first : (test : ℕ → Bool) (b : ℕ) (bs : List ℕ) → prefix_len test (b ∷ bs) ≡ 0 → test b ≡ false
+none_first test b bs h = elim (test b) as (λ t. test b ≡ t → t ≡ false) [
+  | true ↦ λ e. absurd (omega (arith, h, prefix_yes test b bs e))
+  | false ↦ λ e. refl
+] refl
+
+-- ---- texts that pass a test from end to end
+
+pub front_passes : (test : ℕ → Bool) (text : List ℕ) → list_all test (take (prefix_len test text) text) ≡ true
+front_passes test [] = refl
+front_passes test (b ∷ bs) = elim (test b) as (λ t. test b ≡ t → list_all test (take (prefix_len test (b ∷ bs)) (b ∷ bs)) ≡ true) [
+  | true ↦ λ e. rw (take_front test b bs e, e) (front_passes test bs)
+  | false ↦ λ e. rw (prefix_no test b bs e) refl
+] refl
+
+pub passes_other : (p q : ℕ → Bool) → ((b : ℕ) → p b ≡ true → q b ≡ true) → (text : List ℕ) → list_all p text ≡ true → list_all q text ≡ true
+passes_other p q h [] e = refl
+passes_other p q h (b ∷ bs) e = elim (p b) as (λ t. p b ≡ t → (t && list_all p bs) ≡ true → list_all q (b ∷ bs) ≡ true) [
+  | true ↦ λ f g. rw (h b f) (passes_other p q h bs g)
+  | false ↦ λ f g. cc
+] refl e
+
+pub whole_front : (test : ℕ → Bool) (text : List ℕ) → list_all test text ≡ true → prefix_len test text ≡ length text
+whole_front test [] e = refl
+whole_front test (b ∷ bs) e = elim (test b) as (λ t. test b ≡ t → (t && list_all test bs) ≡ true → prefix_len test (b ∷ bs) ≡ length (b ∷ bs)) [
+  | true ↦ λ f g. rw (prefix_yes test b bs f, whole_front test bs g) (omega arith)
+  | false ↦ λ f g. cc
+] refl e

@@ -2,14 +2,13 @@
 use Rattle.std.proofs.Common.{◌≡◌, ℕ, ◌+◌, ◌<◌, List, [], ◌∷◌, ◌++◌, length, take, drop, Bool, true, false, ap, ◌∙◌, sym, refl, arith, cond, subst, append_assoc, append-nil}
 use Rattle.std.specs.Prelude.{◌||◌, Ok, Err}
 use Rattle.std.specs.List.{prefix_len, take_while, flat_map}
-use Rattle.std.proofs.lemmas.Grind.{common_steps}
 use Rattle.std.proofs.lemmas.Bool.Decides.{nat_tests}
 use Rattle.apt_lexis.specs.declared.token.Token.{Token}
 use Rattle.apt_lexis.specs.Lines.{in_front}
 use Rattle.apt_lexis.specs.Tokens.{Read, Tokens, tokens_of, is_blank, is_letter, is_letter_or_digit, is_in_run, runs, tokens_of_run, word, number, number_behind, mark, all_good, in_front_of}
 use Rattle.apt_lexis.specs.Titles.{behind}
 use Rattle.apt_lexis.specs.Sentences.{joined}
-use Rattle.apt_lexis.proofs.Splitting.{take_one_more}
+use Rattle.apt_lexis.proofs.Fronts.{prefix_yes, prefix_no, take_one_more, drop_one_more, take_front, none_behind, none_first}
 
 abbrev reads_of : List ℕ → List Read
 reads_of text = flat_map tokens_of_run (runs text)
@@ -34,17 +33,6 @@ no_letter b e = neither (is_letter b) _ e
 
 no_run_of_blank : (b : ℕ) → is_blank b ≡ true → is_in_run b ≡ false
 no_run_of_blank b e = grind (arith, nat_tests)
-
--- ---- lengths
-
-prefix_yes : (test : ℕ → Bool) (b : ℕ) (bs : List ℕ) → test b ≡ true → prefix_len test (b ∷ bs) ≡ 1 + prefix_len test bs
-prefix_yes test b bs e = rw e refl
-
-prefix_no : (test : ℕ → Bool) (b : ℕ) (bs : List ℕ) → test b ≡ false → prefix_len test (b ∷ bs) ≡ 0
-prefix_no test b bs e = rw e refl
-
-drop_one_more : (i b : ℕ) (bs : List ℕ) → drop (1 + i) (b ∷ bs) ≡ drop i bs
-drop_one_more i b bs = grind (arith, common_steps)
 
 -- ---- blanks
 
@@ -112,9 +100,6 @@ reads_mark b bs e f =
 
 -- ---- a number
 
-take_front : (test : ℕ → Bool) (b : ℕ) (bs : List ℕ) → test b ≡ true → take (prefix_len test (b ∷ bs)) (b ∷ bs) ≡ b ∷ take (prefix_len test bs) bs
-take_front test b bs e = rw (prefix_yes test b bs e) (take_one_more b (prefix_len test bs) bs)
-
 number_alone : (b : ℕ) (bs : List ℕ) → is_letter b ≡ false → is_in_run b ≡ true → tokens_of_run (b ∷ bs) ≡ number (b ∷ bs) ∷ []
 number_alone b bs e f = choose_second (is_letter b) (is_in_run b) _ _ _ e f
 
@@ -159,20 +144,6 @@ outer_rest p q [] h = refl
 outer_rest p q (b ∷ bs) h = elim (p b) as (λ t. p b ≡ t → drop (prefix_len q (b ∷ bs)) (b ∷ bs) ≡ drop (prefix_len q (drop (prefix_len p (b ∷ bs)) (b ∷ bs))) (drop (prefix_len p (b ∷ bs)) (b ∷ bs))) [
   | true ↦ λ e. rw (prefix_yes p b bs e, prefix_yes q b bs (h b e), drop_one_more (prefix_len p bs) b bs, drop_one_more (prefix_len q bs) b bs) (outer_rest p q bs h)
   | false ↦ λ e. rw (prefix_no p b bs e) refl
-] refl
-
--- what is behind the bytes of a kind at the front begins with none of the kind
-none_behind : (test : ℕ → Bool) (text : List ℕ) → prefix_len test (drop (prefix_len test text) text) ≡ 0
-none_behind test [] = refl
-none_behind test (b ∷ bs) = elim (test b) as (λ t. test b ≡ t → prefix_len test (drop (prefix_len test (b ∷ bs)) (b ∷ bs)) ≡ 0) [
-  | true ↦ λ e. rw (prefix_yes test b bs e, drop_one_more (prefix_len test bs) b bs) (none_behind test bs)
-  | false ↦ λ e. rw (prefix_no test b bs e) (prefix_no test b bs e)
-] refl
-
-none_first : (test : ℕ → Bool) (b : ℕ) (bs : List ℕ) → prefix_len test (b ∷ bs) ≡ 0 → test b ≡ false
-none_first test b bs h = elim (test b) as (λ t. test b ≡ t → t ≡ false) [
-  | true ↦ λ e. absurd (omega (arith, h, prefix_yes test b bs e))
-  | false ↦ λ e. refl
 ] refl
 
 -- a number that stands directly behind a word is read as the next token

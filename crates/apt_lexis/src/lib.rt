@@ -4,6 +4,7 @@
 mod cause;
 mod character;
 mod error;
+mod line;
 mod lines;
 mod number;
 mod phrase;

@@ -4,14 +4,6 @@ ghost use Rattle.std.specs.Prelude.{◌≡◌, ◌<◌, ◌≤◌, ◌==◌, [],
 ghost use Rattle.std.specs.List.{list_all};
 ghost use Rattle.apt_lexis.specs.Lines as lines;
 
-use crate::PartCause;
-
-/// The greatest number of lines.
-const MOST_LINES: u32 = 50_000;
-
-/// The greatest number of bytes of a line.
-const MOST_BYTES: usize = 256;
-
 /// A text up to the first byte of a kind, and what stands behind that byte.
 #[tactic(auto, using(crate::proofs::Splitting::split_found, crate::proofs::Splitting::split_absent))]
 pub(crate) fn cut(text: &[u8], c: u8) -> (&[u8], Option<&[u8]>)
@@ -56,22 +48,6 @@ fn without_return(part: &[u8]) -> &[u8]
     match part.strip_suffix(b"\r") {
         Some(front) => front,
         None => part,
-    }
-}
-
-/// The first fault of a line.
-pub(crate) fn line_fault(number: u32, line: &[u8]) -> Option<PartCause>
-    ensures value { result ≡ lines.line_fault number line.now }
-    ensures few { IsNone result → number ≤ 50000 }
-{
-    if number > MOST_LINES {
-        Some(PartCause::TooManyLines)
-    } else if line.len() > MOST_BYTES {
-        Some(PartCause::LineTooLong)
-    } else if !are_characters(line) {
-        Some(PartCause::BadByte)
-    } else {
-        None
     }
 }
 

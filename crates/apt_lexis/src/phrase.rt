@@ -7,8 +7,7 @@ ghost use Rattle.apt_lexis.specs.Sentences as spec;
 ghost use Rattle.apt_lexis.specs.Titles as titles;
 ghost use Rattle.apt_lexis.specs.Tokens as tokens;
 
-use crate::character::no_dollars;
-use crate::lines::{line_fault, next_line};
+use crate::line::{Line, first_line, line_fault};
 use crate::title::{Heading, add_heading, heading_behind};
 use crate::token::{add_tokens, behind_blanks};
 use crate::{ParseError, PartCause, Token};
@@ -108,17 +107,6 @@ fn with_title(
     Ok(phrase)
 }
 
-/// Whether a `$` begins a text with no other behind it.
-fn is_single(text: &[u8]) -> bool
-    ensures { result ≡ spec.is_single text.now }
-{
-    match text {
-        [] => false,
-        [_] => true,
-        [_, next, ..] => *next != b'$',
-    }
-}
-
 /// The title of a line behind the statement that is begun, which has no bad token then.
 fn title_in<'a>(begun: &Option<Phrase>, line: &'a [u8]) -> Option<Heading<'a>>
     ensures none { IsNone result → spec.title_in (spec.tokens_before begun.now) line.now ≡ None }
@@ -131,16 +119,6 @@ fn title_in<'a>(begun: &Option<Phrase>, line: &'a [u8]) -> Option<Heading<'a>>
     }
 }
 
-/// A line up to its first `$`, and whether its statement goes on with the next line.
-#[tactic(auto, using(crate::proofs::Fronts::front_short))]
-fn said_on(line: &[u8]) -> (&[u8], bool)
-    ensures front { result.0.now ≡ spec.said_on line.now }
-    ensures on { result.1 ≡ spec.goes_on line.now }
-{
-    let (front, rest) = line.split_at(no_dollars(line));
-    (front, is_single(rest))
-}
-
 /// Takes a line that has no title into the statement that is begun, and gives the statement that the line completes.
 #[tactic(auto, using(crate::proofs::SentenceLaws::silent, crate::proofs::SentenceLaws::goes_on_with, crate::proofs::SentenceLaws::ends_with))]
 fn take_tokens(
@@ -148,17 +126,16 @@ fn take_tokens(
     spare: &mut Option<Vec<Token>>,
     begun: &mut Option<Phrase>,
     number: u32,
-    line: &[u8],
+    line: &Line<'_>,
 ) -> Result<Option<Phrase>, AllocError>
-    ensures behind { IfOk result (λ said. spec.by_title begun.old number line.now None ≡ record { begun = begun.new; said = said }) }
+    ensures behind { IfOk result (λ said. spec.by_title begun.old number line.now.text.now None ≡ record { begun = begun.new; said = said }) }
     ensures ended { IfOk result (λ said. IsSome said → begun.new ≡ None) }
 {
-    let (front, on) = said_on(line);
-    if behind_blanks(front).is_empty() {
+    if behind_blanks(line.front).is_empty() {
         return Ok(None);
     }
-    let phrase = with_tokens(alloc, spare, begun.take(), number, front)?;
-    if on {
+    let phrase = with_tokens(alloc, spare, begun.take(), number, line.front)?;
+    if line.goes_on {
         *begun = Some(phrase);
         Ok(None)
     } else {
@@ -173,12 +150,12 @@ fn take_line(
     spare: &mut Option<Vec<Token>>,
     begun: &mut Option<Phrase>,
     number: u32,
-    line: &[u8],
+    line: &Line<'_>,
 ) -> Result<Option<Phrase>, AllocError>
-    ensures behind { IfOk result (λ said. spec.behind_line begun.old number line.now ≡ record { begun = begun.new; said = said }) }
+    ensures behind { IfOk result (λ said. spec.behind_line begun.old number line.now.text.now ≡ record { begun = begun.new; said = said }) }
     ensures ended { IfOk result (λ said. IsSome said → begun.new ≡ None) }
 {
-    match title_in(begun, line) {
+    match title_in(begun, line.text) {
         None => take_tokens(alloc, spare, begun, number, line),
         Some(title) => {
             let phrase = with_title(alloc, spare, begun.take(), number, title)?;
@@ -232,8 +209,8 @@ impl<'a> Phrases<'a> {
         ensures shorter { IfOk result (λ p. IfSome p (λ _. length self.new.lines < length self.old.lines)) }
     {
         let mut begun = None;
-        'lines: while let Some((line, after)) = next_line(self.rest) {
-            if let Some(cause) = line_fault(self.line, line) {
+        'lines: while let Some((line, after)) = first_line(self.rest) {
+            if let Some(cause) = line_fault(self.line, &line) {
                 return Err(ParseError::Bad {
                     line: self.line,
                     cause,
@@ -242,7 +219,7 @@ impl<'a> Phrases<'a> {
             let number = self.line;
             self.rest = after;
             self.line += 1;
-            let said = take_line(alloc, &mut self.spare, &mut begun, number, line)?;
+            let said = take_line(alloc, &mut self.spare, &mut begun, number, &line)?;
             if said.is_some() {
                 return Ok(said);
             }
