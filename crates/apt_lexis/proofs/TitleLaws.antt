@@ -1,6 +1,7 @@
 -- Titles and the blanks round them.
 use Rattle.std.proofs.Common.{◌≡◌, ◌≢◌, ℕ, ◌-◌, ◌==◌, List, [], ◌∷◌, length, map, take, drop, Bool, true, false, Some, None, ap, ◌∙◌, sym, refl, subst, ◌⊎◌, inl, inr}
 use Rattle.std.specs.Prelude.{◌||◌, codes, Option, option_map, option_and_then}
+use Rattle.std.specs.List.{take_while}
 use Rattle.std.proofs.Common.{bytes_eq}
 use native.Mathlib.Numerals.{unary_clauses}
 use Rattle.std.proofs.lemmas.List.{length-map}
@@ -8,8 +9,8 @@ use Rattle.std.proofs.lemmas.Slice.Eq.{bytes_eq-Decides}
 use Rattle.apt_words.specs.Options.{◌>>=◌, only_if}
 use Rattle.apt_words.specs.Symbols.{is_symbol, is_name}
 use Rattle.apt_lexis.specs.declared.token.Token.TheVariants as tokens
-use Rattle.apt_lexis.specs.Tokens.{capital}
-use Rattle.apt_lexis.specs.Titles.{Title, without_blanks, unless_last, is_title_word, title_word, title, labelled, title_behind, behind_close, with_tokens}
+use Rattle.apt_lexis.specs.Tokens.{capital, is_blank, is_letter_or_digit}
+use Rattle.apt_lexis.specs.Titles.{Title, without_blanks, unless_last, is_title_word, title_word, title, labelled, title_or_labelled, title_behind, behind_close, with_tokens, behind, front_word}
 
 -- ---- blanks at the end
 
@@ -105,6 +106,14 @@ untitled name rest line e f = elim (is_name name) as (λ t. (only_if t rest >>= 
 
 pub no_label : (name rest : List ℕ) → is_name name ≡ false → labelled name rest ≡ None
 no_label name rest e = rw e refl
+
+no_title : (line : List ℕ) → length (take_while is_letter_or_digit (behind is_blank line)) ≢ 6 → title line ≡ None
+no_title line h = rw (other_length (take_while is_letter_or_digit (behind is_blank line)) h) refl
+
+-- neither a title nor a label at the front of a line
+pub no_heading : (line : List ℕ) → length (take_while is_letter_or_digit (behind is_blank line)) ≢ 6 → behind_close (behind is_letter_or_digit (behind is_blank line)) ≡ None
+    → title_or_labelled line ≡ None
+no_heading line h e = rw (no_title line h) (not_closed (front_word (behind is_blank line)) (behind is_letter_or_digit (behind is_blank line)) e)
 
 pub behind_nothing : (t : Option Title) → option_map (with_tokens []) t ≡ t
 behind_nothing None = refl

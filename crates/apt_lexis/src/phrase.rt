@@ -8,7 +8,7 @@ ghost use Rattle.apt_lexis.specs.Titles as titles;
 ghost use Rattle.apt_lexis.specs.Tokens as tokens;
 
 use crate::line::{Line, first_line, line_fault};
-use crate::title::{Heading, add_heading, heading_behind};
+use crate::title::{Heading, add_heading, heading_behind, may_be_titled};
 use crate::token::{add_tokens, behind_blanks};
 use crate::{ParseError, PartCause, Token};
 use apt_words::Text;
@@ -33,22 +33,16 @@ impl Model for Phrase {
     ghost view = { λ p. record { line = p.line; tokens = good p.fault p.tokens.items; text = p.text } };
 }
 
-/// Room for so many tokens is made at once.
-const FIRST_TOKENS: usize = 16;
-
-/// A list without tokens, in the room of a list that is done with where there is one.
-fn no_tokens(
-    alloc: Global,
-    spare: &mut Option<Vec<Token>>,
-) -> Result<Vec<Token>, AllocError>
-    ensures { IfOk result (λ v. v.items ≡ []) }
+/// A list without tokens, in the room of one that is done with where there is one.
+fn no_tokens(alloc: Global, spare: &mut Option<Vec<Token>>) -> Vec<Token>
+    ensures { result.items ≡ [] }
 {
     match spare.take() {
         Some(mut tokens) => {
             tokens.clear();
-            Ok(tokens)
+            tokens
         }
-        None => Vec::with_capacity(alloc, FIRST_TOKENS),
+        None => Vec::new(alloc),
     }
 }
 
@@ -58,19 +52,19 @@ fn before_line(
     spare: &mut Option<Vec<Token>>,
     begun: Option<Phrase>,
     number: u32,
-) -> Result<Phrase, AllocError>
-    ensures { IfOk result (λ p. p ≡ record { line = spec.first_line begun number; tokens = spec.tokens_before begun; text = None }) }
+) -> Phrase
+    ensures { result ≡ record { line = spec.first_line begun number; tokens = spec.tokens_before begun; text = None } }
 {
     match begun {
-        None => Ok(Phrase {
+        None => Phrase {
             line: number,
-            tokens: no_tokens(alloc, spare)?,
+            tokens: no_tokens(alloc, spare),
             fault: None,
             text: None,
-        }),
+        },
         Some(mut phrase) => {
             phrase.text = None;
-            Ok(phrase)
+            phrase
         }
     }
 }
@@ -85,7 +79,7 @@ fn with_tokens(
 ) -> Result<Phrase, AllocError>
     ensures { IfOk result (λ p. p ≡ record { line = spec.first_line begun number; tokens = spec.joined (spec.tokens_before begun) (tokens.tokens_of text.now); text = None }) }
 {
-    let mut phrase = before_line(alloc, spare, begun, number)?;
+    let mut phrase = before_line(alloc, spare, begun, number);
     if phrase.fault.is_none() {
         phrase.fault = add_tokens(&mut phrase.tokens, text)?;
     }
@@ -102,7 +96,7 @@ fn with_title(
 ) -> Result<Phrase, AllocError>
     ensures { IfOk result (λ p. p ≡ record { line = spec.first_line begun number; tokens = spec.joined (spec.tokens_before begun) (Ok title.entry.0); text = Some title.entry.1 }) }
 {
-    let mut phrase = before_line(alloc, spare, begun, number)?;
+    let mut phrase = before_line(alloc, spare, begun, number);
     phrase.text = Some(add_heading(alloc, &mut phrase.tokens, title)?);
     Ok(phrase)
 }
@@ -143,9 +137,9 @@ fn take_tokens(
     }
 }
 
-/// Takes a line into the statement that is begun, and gives the statement that the line completes.
+/// Takes a line that may have a title into the statement that is begun, and gives the statement that the line completes.
 #[tactic(auto, using(crate::proofs::SentenceLaws::by_tokens, crate::proofs::SentenceLaws::ends_with_title))]
-fn take_line(
+fn take_titled(
     alloc: Global,
     spare: &mut Option<Vec<Token>>,
     begun: &mut Option<Phrase>,
@@ -161,6 +155,25 @@ fn take_line(
             let phrase = with_title(alloc, spare, begun.take(), number, title)?;
             Ok(Some(phrase))
         }
+    }
+}
+
+/// Takes a line into the statement that is begun, and gives the statement that the line completes.
+#[tactic(auto, using(crate::proofs::SentenceLaws::by_tokens))]
+fn take_line(
+    alloc: Global,
+    spare: &mut Option<Vec<Token>>,
+    begun: &mut Option<Phrase>,
+    number: u32,
+    line: &Line<'_>,
+) -> Result<Option<Phrase>, AllocError>
+    ensures behind { IfOk result (λ said. spec.behind_line begun.old number line.now.text.now ≡ record { begun = begun.new; said = said }) }
+    ensures ended { IfOk result (λ said. IsSome said → begun.new ≡ None) }
+{
+    if begun.is_none() && !may_be_titled(line.text) {
+        take_tokens(alloc, spare, begun, number, line)
+    } else {
+        take_titled(alloc, spare, begun, number, line)
     }
 }
 

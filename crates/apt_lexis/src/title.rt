@@ -1,6 +1,6 @@
 //! Titles: PARTNO and REMARK with the text behind them.
 
-ghost use Rattle.std.specs.Prelude.{◌≡◌, [], ◌∷◌, ◌++◌, map, OnOk, IfOk, option_map, option_and_then};
+ghost use Rattle.std.specs.Prelude.{◌≡◌, [], ◌∷◌, ◌++◌, map, false, None, OnOk, IfOk, option_map, option_and_then};
 ghost use Rattle.std.specs.List.{take_while};
 ghost use Rattle.std.specs.Option.{option_to_list};
 ghost use Rattle.apt_words.specs.Options.{only_if};
@@ -15,6 +15,9 @@ use crate::token::{behind_blanks, symbol};
 use apt_words::{Symbol, Text};
 use std::alloc::{AllocError, Global};
 use std::marker::Model;
+
+/// PARTNO and REMARK have so many letters.
+const TITLE_LETTERS: usize = 6;
 
 /// A title's line: a label and its parenthesis where they stand on it, the word and the text. Clauses see its
 /// tokens and the text.
@@ -82,7 +85,7 @@ fn without_blanks(text: &[u8]) -> &[u8]
 fn title_word(text: &[u8]) -> Option<Symbol>
     ensures { result ≡ only_if (spec.is_title_word (map characters.capital text.now)) (map characters.capital text.now) }
 {
-    if text.len() != 6 {
+    if text.len() != TITLE_LETTERS {
         return None;
     }
     match symbol(text) {
@@ -180,6 +183,15 @@ fn first_title(line: &[u8]) -> Option<Heading<'_>>
         }),
         None => labelled_title(front, rest),
     }
+}
+
+/// Whether a line may begin with a title or a label: most lines do not, and are told from the others by a glance.
+#[tactic(auto, using(crate::proofs::TitleLaws::no_heading))]
+pub(crate) fn may_be_titled(line: &[u8]) -> bool
+    ensures { result ≡ false → spec.title_or_labelled line.now ≡ None }
+{
+    let (word, rest) = front_word(behind_blanks(line));
+    word.len() == TITLE_LETTERS || behind_close(rest).is_some()
 }
 
 /// The title on a line behind some tokens of its statement.

@@ -1,6 +1,6 @@
 //! Tokens.
 
-ghost use Rattle.std.specs.Prelude.{◌≡◌, ◌<◌, [], length, IfOk, Ok, IfSome, IsNone, map};
+ghost use Rattle.std.specs.Prelude.{◌≡◌, ◌<◌, [], ◌∷◌, ◌++◌, OnOk, length, IfOk, Ok, IfSome, IsNone, map};
 ghost use Rattle.apt_words.specs.Options.{only_if};
 ghost use Rattle.apt_words.specs.Symbols.{is_symbol};
 ghost use Rattle.apt_lexis.specs.Phrase.{good};
@@ -14,6 +14,9 @@ use crate::number::number_in;
 use apt_words::Symbol;
 use arrayvec::ArrayVec;
 use std::alloc::AllocError;
+
+/// Room is made for so many tokens at once.
+const MORE_TOKENS: usize = 16;
 
 /// A token: a word in capitals, a number in millionths, or a mark.
 #[derive(Debug, Drop)]
@@ -107,6 +110,17 @@ fn next_token(text: &[u8]) -> Option<(Result<Token, PartCause>, &[u8])>
     }
 }
 
+/// Adds a token, for which there is room as a rule.
+fn push_token(tokens: &mut Vec<Token>, token: Token) -> Result<(), AllocError>
+    ensures { OnOk result (tokens.new.items ≡ tokens.old.items ++ token ∷ []) }
+{
+    if tokens.len() == tokens.capacity() {
+        tokens.reserve(MORE_TOKENS)?;
+    }
+    tokens.push_reserved(token);
+    Ok(())
+}
+
 /// Adds the tokens of a text up to the first bad one, whose cause is given.
 #[tactic(auto, using(crate::proofs::OneByOne::joined_none, crate::proofs::OneByOne::joined_one_more))]
 pub(crate) fn add_tokens(
@@ -118,7 +132,7 @@ pub(crate) fn add_tokens(
     let mut rest = text;
     'tokens: while let Some((token, after)) = next_token(rest) {
         match token {
-            Ok(token) => tokens.push(token)?,
+            Ok(token) => push_token(tokens, token)?,
             Err(cause) => return Ok(Some(cause)),
         }
         rest = after;
