@@ -1,6 +1,6 @@
 //! Statements as they are read.
 
-ghost use Rattle.std.specs.Prelude.{◌≡◌, ◌+◌, ◌<◌, ◌≤◌, [], length, None, Some, Ok, IfOk, IfSome, IsSome, IsNone};
+ghost use Rattle.std.specs.Prelude.{◌≡◌, if◌then◌else◌, true, OnOk, ◌+◌, ◌<◌, ◌≤◌, [], length, None, Some, Ok, IfOk, IfSome, IsSome, IsNone};
 ghost use Rattle.std.specs.Result.{IsOkAnd};
 ghost use Rattle.apt_lexis.specs.Lines as lines;
 ghost use Rattle.apt_lexis.specs.Sentences as spec;
@@ -46,59 +46,62 @@ fn no_tokens(alloc: Global, spare: &mut Option<Vec<Token>>) -> Vec<Token>
     }
 }
 
-/// The statement that a line belongs to, as it is before that line.
-fn before_line(
+/// Begins a statement where none is begun, and makes one that is ready for another line.
+fn begin(
     alloc: Global,
     spare: &mut Option<Vec<Token>>,
-    begun: Option<Phrase>,
+    begun: &mut Option<Phrase>,
     number: u32,
-) -> Phrase
-    ensures { result ≡ record { line = spec.first_line begun number; tokens = spec.tokens_before begun; text = None } }
+)
+    ensures { begun.new ≡ Some (record { line = spec.first_line begun.old number; tokens = spec.tokens_before begun.old; text = None }) }
 {
     match begun {
-        None => Phrase {
-            line: number,
-            tokens: no_tokens(alloc, spare),
-            fault: None,
-            text: None,
-        },
-        Some(mut phrase) => {
-            phrase.text = None;
-            phrase
+        Some(phrase) => phrase.text = None,
+        None => {
+            *begun = Some(Phrase {
+                line: number,
+                tokens: no_tokens(alloc, spare),
+                fault: None,
+                text: None,
+            });
         }
     }
 }
 
-/// The statement that a line belongs to, with the tokens of that line.
-fn with_tokens(
+/// Adds the tokens of a line to the statement that it belongs to.
+fn add_line(
     alloc: Global,
     spare: &mut Option<Vec<Token>>,
-    begun: Option<Phrase>,
+    begun: &mut Option<Phrase>,
     number: u32,
     text: &[u8],
-) -> Result<Phrase, AllocError>
-    ensures { IfOk result (λ p. p ≡ record { line = spec.first_line begun number; tokens = spec.joined (spec.tokens_before begun) (tokens.tokens_of text.now); text = None }) }
+) -> Result<(), AllocError>
+    ensures { OnOk result (begun.new ≡ Some (record { line = spec.first_line begun.old number; tokens = spec.joined (spec.tokens_before begun.old) (tokens.tokens_of text.now); text = None })) }
 {
-    let mut phrase = before_line(alloc, spare, begun, number);
-    if phrase.fault.is_none() {
-        phrase.fault = add_tokens(&mut phrase.tokens, text)?;
+    begin(alloc, spare, begun, number);
+    if let Some(phrase) = begun {
+        if phrase.fault.is_none() {
+            phrase.fault = add_tokens(&mut phrase.tokens, text)?;
+        }
     }
-    Ok(phrase)
+    Ok(())
 }
 
-/// The statement that a title's line belongs to, with the title.
-fn with_title(
+/// Adds a title to the statement that its line belongs to.
+fn add_title(
     alloc: Global,
     spare: &mut Option<Vec<Token>>,
-    begun: Option<Phrase>,
+    begun: &mut Option<Phrase>,
     number: u32,
     title: Heading<'_>,
-) -> Result<Phrase, AllocError>
-    ensures { IfOk result (λ p. p ≡ record { line = spec.first_line begun number; tokens = spec.joined (spec.tokens_before begun) (Ok title.entry.0); text = Some title.entry.1 }) }
+) -> Result<(), AllocError>
+    ensures { OnOk result (begun.new ≡ Some (record { line = spec.first_line begun.old number; tokens = spec.joined (spec.tokens_before begun.old) (Ok title.entry.0); text = Some title.entry.1 })) }
 {
-    let mut phrase = before_line(alloc, spare, begun, number);
-    phrase.text = Some(add_heading(alloc, &mut phrase.tokens, title)?);
-    Ok(phrase)
+    begin(alloc, spare, begun, number);
+    if let Some(phrase) = begun {
+        phrase.text = Some(add_heading(alloc, &mut phrase.tokens, title)?);
+    }
+    Ok(())
 }
 
 /// The title of a line behind the statement that is begun, which has no bad token then.
@@ -113,7 +116,7 @@ fn title_in<'a>(begun: &Option<Phrase>, line: &'a [u8]) -> Option<Heading<'a>>
     }
 }
 
-/// Takes a line that has no title into the statement that is begun, and gives the statement that the line completes.
+/// Takes a line that has no title into the statement that is begun; whether the line completes it.
 #[tactic(auto, using(crate::proofs::SentenceLaws::silent, crate::proofs::SentenceLaws::goes_on_with, crate::proofs::SentenceLaws::ends_with))]
 fn take_tokens(
     alloc: Global,
@@ -121,23 +124,18 @@ fn take_tokens(
     begun: &mut Option<Phrase>,
     number: u32,
     line: &Line<'_>,
-) -> Result<Option<Phrase>, AllocError>
-    ensures behind { IfOk result (λ said. spec.by_title begun.old number line.now.text.now None ≡ record { begun = begun.new; said = said }) }
-    ensures ended { IfOk result (λ said. IsSome said → begun.new ≡ None) }
+) -> Result<bool, AllocError>
+    ensures behind { IfOk result (λ done. spec.by_title begun.old number line.now.text.now None ≡ (if done then record { begun = None; said = begun.new } else record { begun = begun.new; said = None })) }
+    ensures ended { IfOk result (λ done. done ≡ true → IsSome begun.new) }
 {
     if behind_blanks(line.front).is_empty() {
-        return Ok(None);
+        return Ok(false);
     }
-    let phrase = with_tokens(alloc, spare, begun.take(), number, line.front)?;
-    if line.goes_on {
-        *begun = Some(phrase);
-        Ok(None)
-    } else {
-        Ok(Some(phrase))
-    }
+    add_line(alloc, spare, begun, number, line.front)?;
+    Ok(!line.goes_on)
 }
 
-/// Takes a line that may have a title into the statement that is begun, and gives the statement that the line completes.
+/// Takes a line that may have a title into the statement that is begun; whether the line completes it.
 #[tactic(auto, using(crate::proofs::SentenceLaws::by_tokens, crate::proofs::SentenceLaws::ends_with_title))]
 fn take_titled(
     alloc: Global,
@@ -145,20 +143,20 @@ fn take_titled(
     begun: &mut Option<Phrase>,
     number: u32,
     line: &Line<'_>,
-) -> Result<Option<Phrase>, AllocError>
-    ensures behind { IfOk result (λ said. spec.behind_line begun.old number line.now.text.now ≡ record { begun = begun.new; said = said }) }
-    ensures ended { IfOk result (λ said. IsSome said → begun.new ≡ None) }
+) -> Result<bool, AllocError>
+    ensures behind { IfOk result (λ done. spec.behind_line begun.old number line.now.text.now ≡ (if done then record { begun = None; said = begun.new } else record { begun = begun.new; said = None })) }
+    ensures ended { IfOk result (λ done. done ≡ true → IsSome begun.new) }
 {
     match title_in(begun, line.text) {
         None => take_tokens(alloc, spare, begun, number, line),
         Some(title) => {
-            let phrase = with_title(alloc, spare, begun.take(), number, title)?;
-            Ok(Some(phrase))
+            add_title(alloc, spare, begun, number, title)?;
+            Ok(true)
         }
     }
 }
 
-/// Takes a line into the statement that is begun, and gives the statement that the line completes.
+/// Takes a line into the statement that is begun; whether the line completes it.
 #[tactic(auto, using(crate::proofs::SentenceLaws::by_tokens))]
 fn take_line(
     alloc: Global,
@@ -166,9 +164,9 @@ fn take_line(
     begun: &mut Option<Phrase>,
     number: u32,
     line: &Line<'_>,
-) -> Result<Option<Phrase>, AllocError>
-    ensures behind { IfOk result (λ said. spec.behind_line begun.old number line.now.text.now ≡ record { begun = begun.new; said = said }) }
-    ensures ended { IfOk result (λ said. IsSome said → begun.new ≡ None) }
+) -> Result<bool, AllocError>
+    ensures behind { IfOk result (λ done. spec.behind_line begun.old number line.now.text.now ≡ (if done then record { begun = None; said = begun.new } else record { begun = begun.new; said = None })) }
+    ensures ended { IfOk result (λ done. done ≡ true → IsSome begun.new) }
 {
     if begun.is_none() && !may_be_titled(line.text) {
         take_tokens(alloc, spare, begun, number, line)
@@ -232,9 +230,8 @@ impl<'a> Phrases<'a> {
             let number = self.line;
             self.rest = after;
             self.line += 1;
-            let said = take_line(alloc, &mut self.spare, &mut begun, number, &line)?;
-            if said.is_some() {
-                return Ok(said);
+            if take_line(alloc, &mut self.spare, &mut begun, number, &line)? {
+                return Ok(begun);
             }
         }
         Ok(begun)
