@@ -1,6 +1,7 @@
 //! Expressions as lists of tokens.
 #![tactic(auto)]
 
+mod counted;
 mod parts;
 mod reading;
 #[cfg(test)]

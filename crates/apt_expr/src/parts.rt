@@ -1,6 +1,6 @@
 //! Lists of tokens by their parts between operators.
 
-ghost use Rattle.std.specs.Prelude.{◌≡◌, ◌<◌, MatchOption, [], ◌∷◌};
+ghost use Rattle.std.specs.Prelude.{◌≡◌, ◌<◌, []};
 ghost use Rattle.apt_expr.specs.Operands as operands;
 
 use apt_lexis::Token;
@@ -14,7 +14,7 @@ pub(crate) enum Rank {
 }
 
 impl Rank {
-    fn operator(self, token: &Token) -> Option<Op>
+    pub(crate) fn operator(self, token: &Token) -> Option<Op>
         ensures { result ≡ operands.operator self token.now }
     {
         match (self, token) {
@@ -27,34 +27,23 @@ impl Rank {
     }
 }
 
-/// How many parentheses are open behind a token.
-fn open_behind(token: &Token, depth: usize) -> usize
-    requires { depth < usize.MAX }
-    ensures { result ≡ operands.open_behind token.now depth }
-{
-    match token {
-        Token::Open => depth + 1,
-        Token::Close => depth.saturating_sub(1),
-        _ => depth,
-    }
-}
-
-/// The first part, and the operator behind it with the tokens behind that; None where it is the only part.
-pub(crate) fn first_part<'a>(
-    rank: Rank,
-    tokens: &'a [Token],
-) -> (&'a [Token], Option<(Op, &'a [Token])>)
-    ensures first { result.0.now ≡ (operands.parts rank tokens.now).first }
-    ensures others { MatchOption result.1 ((operands.parts rank tokens.now).others ≡ []) (λ next. let p = operands.parts rank next.1.now in (operands.parts rank tokens.now).others ≡ (next.0, p.first) ∷ p.others) }
+/// The tokens before the first operator of either rank outside of parentheses, and those from it on.
+pub(crate) fn first_factor(tokens: &[Token]) -> (&[Token], &[Token])
+    ensures first { result.0.now ≡ (operands.parts Rank.Multiplicative (operands.parts Rank.Additive tokens.now).first).first }
+    ensures factors { (operands.parts Rank.Multiplicative (operands.parts Rank.Additive result.1.now).first).others ≡ (operands.parts Rank.Multiplicative (operands.parts Rank.Additive tokens.now).first).others }
+    ensures terms { (operands.parts Rank.Additive result.1.now).others ≡ (operands.parts Rank.Additive tokens.now).others }
+    ensures behind { (operands.parts Rank.Multiplicative (operands.parts Rank.Additive result.1.now).first).first ≡ [] }
 {
     let mut depth: usize = 0;
     'tokens: for (n, token) in tokens.iter().enumerate() {
-        if depth == 0
-            && let Some(op) = rank.operator(token)
-        {
-            return (&tokens[..n], Some((op, &tokens[n + 1..])));
+        match token {
+            Token::Open => depth += 1,
+            Token::Close => depth = depth.saturating_sub(1),
+            Token::Plus | Token::Minus | Token::Star | Token::Slash if depth == 0 => {
+                return tokens.split_at(n);
+            }
+            _ => {}
         }
-        depth = open_behind(token, depth);
     }
-    (tokens, None)
+    (tokens, &[])
 }

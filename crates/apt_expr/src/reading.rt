@@ -1,6 +1,6 @@
 //! The expression of a list of tokens.
 
-ghost use Rattle.std.specs.Prelude.{◌≡◌, ◌≤◌, ◌∷◌, if◌then◌else◌, option_map, IfOk, IfSome};
+ghost use Rattle.std.specs.Prelude.{◌≡◌, ◌≤◌, [], ◌∷◌, if◌then◌else◌, option_map, IfOk, IfSome};
 ghost use Rattle.apt_lexis.specs.declared.token.Token.TheVariants as tokens;
 ghost use Rattle.apt_words.specs.Options.{only_if};
 ghost use Rattle.apt_words.specs.Symbols.{is_name};
@@ -9,7 +9,8 @@ ghost use Rattle.apt_words.specs.Vocabulary as vocabulary;
 ghost use Rattle.apt_expr.specs.Expressions as expressions;
 ghost use Rattle.apt_expr.specs.Operands as operands;
 
-use crate::parts::{Rank, first_part};
+use crate::counted::{Counted, absolute, named, negative, number, root};
+use crate::parts::{Rank, first_factor};
 use apt_lexis::Token;
 use apt_words::{Expr, Node, Op, Symbol, Word, is_vocabulary, word_of};
 use std::alloc::{AllocError, Global};
@@ -24,14 +25,20 @@ pub fn expression(alloc: Global, tokens: &[Token]) -> Result<Option<Expr>, Alloc
     ensures value { IfOk result (λ e. e ≡ expressions.expression tokens.now) }
     ensures small { IfOk result (λ e. IfSome e (λ t. operators t ≤ 64)) }
 {
-    sum(alloc, MOST_PARENTHESES, tokens)
+    match tokens {
+        [Token::Number(v)] => Ok(Some(number(*v).tree)),
+        [Token::Minus, Token::Number(v)] => Ok(Some(negative(alloc, number(*v))?.tree)),
+        _ => match sum(alloc, MOST_PARENTHESES, tokens)? {
+            Some(sum) => Ok(Some(sum.tree)),
+            None => Ok(None),
+        },
+    }
 }
 
 /// Terms between plus and minus, with so many parentheses that may still be nested.
 #[cycle(reading)]
-fn sum(alloc: Global, nesting: u8, tokens: &[Token]) -> Result<Option<Expr>, AllocError>
-    ensures value { IfOk result (λ e. e ≡ expressions.sum_by (expressions.factor_of nesting) tokens.now) }
-    ensures small { IfOk result (λ e. IfSome e (λ t. operators t ≤ 64)) }
+fn sum(alloc: Global, nesting: u8, tokens: &[Token]) -> Result<Option<Counted>, AllocError>
+    ensures { IfOk result (λ e. option_map (λ s. s.tree) e ≡ expressions.sum_by (expressions.factor_of nesting) tokens.now) }
 {
     match tokens {
         [Token::Minus, behind @ ..] => terms(alloc, nesting, true, behind),
@@ -41,18 +48,16 @@ fn sum(alloc: Global, nesting: u8, tokens: &[Token]) -> Result<Option<Expr>, All
 
 /// Terms between plus and minus, where a minus may stand before the first.
 #[cycle(reading)]
-#[tactic(auto, using(crate::proofs::Joins::none_stays))]
+#[tactic(auto, using(crate::proofs::Joins::none_stays, crate::proofs::Terms::term_behind, crate::proofs::Terms::no_terms))]
 fn terms(
     alloc: Global,
     nesting: u8,
     minus: bool,
     tokens: &[Token],
-) -> Result<Option<Expr>, AllocError>
-    ensures value { IfOk result (λ e. let term = expressions.term_by (expressions.factor_of nesting) in let p = operands.parts Rank.Additive tokens.now in e ≡ expressions.from_left term (if minus then option_map Neg (term p.first) else term p.first) p.others) }
-    ensures small { IfOk result (λ e. IfSome e (λ t. operators t ≤ 64)) }
+) -> Result<Option<Counted>, AllocError>
+    ensures { IfOk result (λ e. let term = expressions.term_by (expressions.factor_of nesting) in let p = operands.parts Rank.Additive tokens.now in option_map (λ s. s.tree) e ≡ expressions.from_left term (if minus then option_map Neg (term p.first) else term p.first) p.others) }
 {
-    let (first, mut next) = first_part(Rank::Additive, tokens);
-    let Some(first) = term(alloc, nesting, first)? else {
+    let Some((first, mut rest)) = term(alloc, nesting, tokens)? else {
         return Ok(None);
     };
     let mut tree = if minus {
@@ -60,33 +65,41 @@ fn terms(
     } else {
         first
     };
-    'terms: while let Some((op, behind)) = next {
-        let (part, more) = first_part(Rank::Additive, behind);
-        let Some(right) = term(alloc, nesting, part)? else {
+    'terms: while let Some((token, behind)) = rest.split_first()
+        && let Some(op) = Rank::Additive.operator(token)
+    {
+        let Some((right, more)) = term(alloc, nesting, behind)? else {
             return Ok(None);
         };
         let Some(sum) = binary(alloc, op, tree, right)? else {
             return Ok(None);
         };
         tree = sum;
-        next = more;
+        rest = more;
     }
     Ok(Some(tree))
 }
 
-/// Factors between times and divided by.
+/// Factors between times and divided by, and the tokens from the next plus or minus on.
 #[cycle(reading)]
-#[tactic(auto, using(crate::proofs::Joins::none_stays))]
-fn term(alloc: Global, nesting: u8, tokens: &[Token]) -> Result<Option<Expr>, AllocError>
-    ensures value { IfOk result (λ e. e ≡ expressions.term_by (expressions.factor_of nesting) tokens.now) }
-    ensures small { IfOk result (λ e. IfSome e (λ t. operators t ≤ 64)) }
+#[tactic(auto, using(crate::proofs::Joins::none_stays, crate::proofs::Terms::factor_behind, crate::proofs::Terms::terms_kept, crate::proofs::Terms::no_factors, crate::proofs::Terms::term_ends))]
+fn term<'a>(
+    alloc: Global,
+    nesting: u8,
+    tokens: &'a [Token],
+) -> Result<Option<(Counted, &'a [Token])>, AllocError>
+    ensures value { IfOk result (λ e. option_map (λ r. r.0.tree) e ≡ expressions.term_by (expressions.factor_of nesting) (operands.parts Rank.Additive tokens.now).first) }
+    ensures terms { IfOk result (λ e. IfSome e (λ r. (operands.parts Rank.Additive r.1.now).others ≡ (operands.parts Rank.Additive tokens.now).others)) }
+    ensures whole { IfOk result (λ e. IfSome e (λ r. (operands.parts Rank.Additive r.1.now).first ≡ [])) }
 {
-    let (first, mut next) = first_part(Rank::Multiplicative, tokens);
+    let (first, mut rest) = first_factor(tokens);
     let Some(mut tree) = factor(alloc, nesting, first)? else {
         return Ok(None);
     };
-    'factors: while let Some((op, behind)) = next {
-        let (part, more) = first_part(Rank::Multiplicative, behind);
+    'factors: while let Some((token, behind)) = rest.split_first()
+        && let Some(op) = Rank::Multiplicative.operator(token)
+    {
+        let (part, more) = first_factor(behind);
         let Some(right) = factor(alloc, nesting, part)? else {
             return Ok(None);
         };
@@ -94,21 +107,18 @@ fn term(alloc: Global, nesting: u8, tokens: &[Token]) -> Result<Option<Expr>, Al
             return Ok(None);
         };
         tree = product;
-        next = more;
+        rest = more;
     }
-    Ok(Some(tree))
+    Ok(Some((tree, rest)))
 }
 
 /// A number, a name, an expression in parentheses, or a function of one.
 #[cycle(reading)]
-fn factor(alloc: Global, nesting: u8, tokens: &[Token]) -> Result<Option<Expr>, AllocError>
-    ensures value { IfOk result (λ e. e ≡ expressions.factor_of nesting tokens.now) }
-    ensures small { IfOk result (λ e. IfSome e (λ t. operators t ≤ 64)) }
+fn factor(alloc: Global, nesting: u8, tokens: &[Token]) -> Result<Option<Counted>, AllocError>
+    ensures { IfOk result (λ e. option_map (λ s. s.tree) e ≡ expressions.factor_of nesting tokens.now) }
 {
     match tokens {
-        [Token::Number(v)] => Ok(Some(Expr {
-            node: Node::Num(*v),
-        })),
+        [Token::Number(v)] => Ok(Some(number(*v))),
         [Token::Word(word)] => Ok(name(word)),
         [Token::Open, behind @ ..] => nested(alloc, nesting, behind),
         [Token::Word(word), Token::Open, behind @ ..] => {
@@ -124,9 +134,8 @@ fn factor(alloc: Global, nesting: u8, tokens: &[Token]) -> Result<Option<Expr>, 
 /// The expression between a parenthesis that stands before some tokens, and their last.
 #[cycle(reading)]
 #[tactic(auto, using(crate::proofs::Closing::factor_of_open))]
-fn nested(alloc: Global, nesting: u8, behind: &[Token]) -> Result<Option<Expr>, AllocError>
-    ensures value { IfOk result (λ e. e ≡ expressions.factor_of nesting (tokens.Open ∷ behind.now)) }
-    ensures small { IfOk result (λ e. IfSome e (λ t. operators t ≤ 64)) }
+fn nested(alloc: Global, nesting: u8, behind: &[Token]) -> Result<Option<Counted>, AllocError>
+    ensures { IfOk result (λ e. option_map (λ s. s.tree) e ≡ expressions.factor_of nesting (tokens.Open ∷ behind.now)) }
 {
     if nesting == 0 {
         return Ok(None);
@@ -149,73 +158,41 @@ fn inside(tokens: &[Token]) -> Option<&[Token]>
     }
 }
 
-fn negative(alloc: Global, tree: Expr) -> Result<Expr, AllocError>
-    ensures { IfOk result (λ e. e ≡ Neg tree) }
-{
-    let inner = Box::new(alloc, tree)?;
-    Ok(Expr {
-        node: Node::Neg(inner),
-    })
-}
-
 /// An operator with its operands, within the limit.
-fn binary(alloc: Global, op: Op, a: Expr, b: Expr) -> Result<Option<Expr>, AllocError>
-    requires left { operators a ≤ 64 }
-    requires right { operators b ≤ 64 }
-    ensures value { IfOk result (λ e. e ≡ expressions.binary op a b) }
-    ensures small { IfOk result (λ e. IfSome e (λ t. operators t ≤ 64)) }
+fn binary(alloc: Global, op: Op, a: Counted, b: Counted) -> Result<Option<Counted>, AllocError>
+    ensures { IfOk result (λ e. option_map (λ s. s.tree) e ≡ expressions.binary op a.tree b.tree) }
 {
-    if count_operators(&a) + count_operators(&b) + 1 > MOST_OPERATORS {
+    let count = a.count + b.count + 1;
+    if count > MOST_OPERATORS {
         return Ok(None);
     }
+    let Counted { tree: a, .. } = a;
+    let Counted { tree: b, .. } = b;
     let a = Box::new(alloc, a)?;
     let b = Box::new(alloc, b)?;
-    Ok(Some(Expr {
-        node: Node::Bin { op, a, b },
+    Ok(Some(Counted {
+        tree: Expr {
+            node: Node::Bin { op, a, b },
+        },
+        count,
     }))
 }
 
-/// How many operators stand between two operands.
-fn count_operators(e: &Expr) -> u32
-    requires { operators e.now ≤ 64 }
-    ensures { result ≡ operators e.now }
-{
-    match &e.node {
-        Node::Num(_) | Node::Name(_) => 0,
-        Node::Neg(inner) | Node::Root(inner) | Node::Abs(inner) => count_operators(inner),
-        Node::Bin { op: _, a, b } => count_operators(a) + count_operators(b) + 1,
-    }
-}
-
-fn name(word: &Symbol) -> Option<Expr>
-    ensures value { result ≡ only_if (is_name word.now) (Name word.now) }
-    ensures small { IfSome result (λ t. operators t ≤ 64) }
+fn name(word: &Symbol) -> Option<Counted>
+    ensures { option_map (λ s. s.tree) result ≡ only_if (is_name word.now) (Name word.now) }
 {
     if is_vocabulary(word) {
         return None;
     }
-    Some(Expr {
-        node: Node::Name(word.copied()),
-    })
+    Some(named(word))
 }
 
-fn function(alloc: Global, word: &Symbol, inner: Expr) -> Result<Option<Expr>, AllocError>
-    ensures value { IfOk result (λ e. e ≡ expressions.function (vocabulary.word_of word.now) inner) }
-    ensures small { IfOk result (λ e. IfSome e (λ t. operators t ≤ operators inner)) }
+fn function(alloc: Global, word: &Symbol, inner: Counted) -> Result<Option<Counted>, AllocError>
+    ensures { IfOk result (λ e. option_map (λ s. s.tree) e ≡ expressions.function (vocabulary.word_of word.now) inner.tree) }
 {
     match word_of(word) {
-        Some(Word::Sqrtf) => {
-            let inner = Box::new(alloc, inner)?;
-            Ok(Some(Expr {
-                node: Node::Root(inner),
-            }))
-        }
-        Some(Word::Absf) => {
-            let inner = Box::new(alloc, inner)?;
-            Ok(Some(Expr {
-                node: Node::Abs(inner),
-            }))
-        }
+        Some(Word::Sqrtf) => Ok(Some(root(alloc, inner)?)),
+        Some(Word::Absf) => Ok(Some(absolute(alloc, inner)?)),
         _ => Ok(None),
     }
 }

@@ -1,12 +1,9 @@
-use Rattle.std.proofs.Common.{◌≡◌, ◌+◌, ◌*◌, ◌≤◌, length, List, [], ◌∷◌, Option, Some, None, option_map, if◌then◌else◌}
-use Rattle.std.specs.Borrow.{Bor}
-use Rattle.apt_words.specs.declared.expr.Op.{Op}
-use Rattle.apt_words.specs.Trees.{operators, Neg}
-use Rattle.apt_lexis.specs.declared.token.Token.{Token}
-use Rattle.apt_expr.specs.declared.parts.Rank.{Rank}
+use Rattle.std.proofs.Common.{◌≡◌, ◌+◌, ◌*◌, length, [], Some, option_map, if◌then◌else◌}
+use Rattle.apt_words.specs.Trees.{Neg}
 use Rattle.apt_expr.specs.declared.parts.Rank.TheVariants as ranks
 use Rattle.apt_expr.specs.Operands.{parts}
 use Rattle.apt_expr.specs.Expressions.{term_by, factor_of, from_left}
+use Rattle.apt_expr.proofs.Terms.{factors}
 use Rattle.apt_expr.proofs.reading.+reading.Given as goal
 
 abbrev pub decreases-nested : goal.decreases-nested
@@ -24,21 +21,17 @@ decreases-terms l = 5 * l.nesting + 3
 abbrev pub decreases-sum : goal.decreases-sum
 decreases-sum l = 5 * l.nesting + 4
 
--- the parts from an operator on
-abbrev pub others : Rank → Option (Op × Bor (List Token)) → List (Op × List Token)
-others rank None = []
-others rank (Some (op, behind)) = (op, (parts rank behind.now).first) ∷ (parts rank behind.now).others
-
 abbrev pub invariant-term-factors : goal.invariant-term-factors
-invariant-term-factors l = record {
-  joined :
-      from_left (factor_of l.nesting) (Some l.tree) (others ranks.Multiplicative l.next)
-      ≡ term_by (factor_of l.nesting) l.tokens;
-  small : operators l.tree ≤ 64;
-}
+invariant-term-factors l =
+    let reader = factor_of l.nesting in
+    record {
+      joined : from_left reader (Some l.tree.tree) (factors l.rest).others ≡ term_by reader (parts ranks.Additive l.tokens).first;
+      terms : (parts ranks.Additive l.rest).others ≡ (parts ranks.Additive l.tokens).others;
+      behind : (factors l.rest).first ≡ [];
+    }
 
 abbrev pub decreases-term-factors : goal.decreases-term-factors
-decreases-term-factors l = length (others ranks.Multiplicative l.next)
+decreases-term-factors l = length (factors l.rest).others
 
 abbrev pub invariant-terms-terms : goal.invariant-terms-terms
 invariant-terms-terms l =
@@ -46,10 +39,10 @@ invariant-terms-terms l =
     let p = parts ranks.Additive l.tokens in
     record {
       joined :
-          from_left term (Some l.tree) (others ranks.Additive l.next)
+          from_left term (Some l.tree.tree) (parts ranks.Additive l.rest).others
           ≡ from_left term (if l.minus then option_map Neg (term p.first) else term p.first) p.others;
-      small : operators l.tree ≤ 64;
+      whole : (parts ranks.Additive l.rest).first ≡ [];
     }
 
 abbrev pub decreases-terms-terms : goal.decreases-terms-terms
-decreases-terms-terms l = length (others ranks.Additive l.next)
+decreases-terms-terms l = length (parts ranks.Additive l.rest).others
