@@ -2,3 +2,4 @@ pub mod Passing
 pub mod Tables
 pub mod Codes
 pub mod Unused
+pub mod Entries

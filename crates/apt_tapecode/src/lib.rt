@@ -1,8 +1,12 @@
 //! The two tape codes: the byte of a character, and what a byte is read as.
 #![tactic(auto)]
 
-ghost use Rattle.std.specs.Prelude.{◌≡◌, ◌↔◌, ℕ, Some, None, IfSome, IsNone, Contains, true, false};
+ghost use Rattle.std.specs.Prelude.{◌≡◌, ◌==◌, ◌↔◌, ℕ, Some, None, IfSome, IsNone, Contains, true, false, if◌then◌else◌};
 ghost use Rattle.apt_tapecode.specs.Tapecode.{punched, reading, skipped, has_parity, is_tape_character, IsUnused};
+
+mod rows;
+
+use rows::{BAD_CODE, BAD_PARITY, PUNCHED_244, PUNCHED_358, SENSED_244, SENSED_358, SKIP};
 
 /// A tape code: RS-244 has an odd number of holes in each row, RS-358 (ASCII) an even one.
 #[derive(Clone, Copy, PartialEq, Eq)]
@@ -36,74 +40,20 @@ fn sense_row(code: Code, byte: u8) -> Read
     ensures { result ≡ reading code byte }
 {
     match code {
-        Code::Rs244 => sense_rs244(byte),
-        Code::Rs358 => sense_rs358(byte),
+        Code::Rs244 => read_of(SENSED_244[byte as usize]),
+        Code::Rs358 => read_of(SENSED_358[byte as usize]),
     }
 }
 
-fn sense_rs244(byte: u8) -> Read
-    ensures { result ≡ reading Code.Rs244 byte }
+/// What an entry of the tables of rows says.
+fn read_of(entry: u8) -> Read
+    ensures { result ≡ (if entry == 0 then Read.Skip else if entry == 1 then Read.BadParity else if entry == 2 then Read.BadCode else Read.Char entry) }
 {
-    match byte {
-        0x20 => Read::Char(b'0'),
-        0x01 => Read::Char(b'1'),
-        0x02 => Read::Char(b'2'),
-        0x13 => Read::Char(b'3'),
-        0x04 => Read::Char(b'4'),
-        0x15 => Read::Char(b'5'),
-        0x16 => Read::Char(b'6'),
-        0x07 => Read::Char(b'7'),
-        0x08 => Read::Char(b'8'),
-        0x19 => Read::Char(b'9'),
-        0x76 => Read::Char(b'F'),
-        0x67 => Read::Char(b'G'),
-        0x54 => Read::Char(b'M'),
-        0x45 => Read::Char(b'N'),
-        0x32 => Read::Char(b'S'),
-        0x23 => Read::Char(b'T'),
-        0x37 => Read::Char(b'X'),
-        0x38 => Read::Char(b'Y'),
-        0x29 => Read::Char(b'Z'),
-        0x70 => Read::Char(b'+'),
-        0x40 => Read::Char(b'-'),
-        0x80 => Read::Char(b'\n'),
-        0x0b => Read::Char(b'%'),
-        0x00 | 0x10 | 0x3e | 0x7f => Read::Skip,
-        _ if byte.count_ones() % 2 == 0 => Read::BadParity,
-        _ => Read::BadCode,
-    }
-}
-
-fn sense_rs358(byte: u8) -> Read
-    ensures { result ≡ reading Code.Rs358 byte }
-{
-    match byte {
-        0x30 => Read::Char(b'0'),
-        0xb1 => Read::Char(b'1'),
-        0xb2 => Read::Char(b'2'),
-        0x33 => Read::Char(b'3'),
-        0xb4 => Read::Char(b'4'),
-        0x35 => Read::Char(b'5'),
-        0x36 => Read::Char(b'6'),
-        0xb7 => Read::Char(b'7'),
-        0xb8 => Read::Char(b'8'),
-        0x39 => Read::Char(b'9'),
-        0xc6 => Read::Char(b'F'),
-        0x47 => Read::Char(b'G'),
-        0x4d => Read::Char(b'M'),
-        0x4e => Read::Char(b'N'),
-        0x53 => Read::Char(b'S'),
-        0xd4 => Read::Char(b'T'),
-        0xd8 => Read::Char(b'X'),
-        0x59 => Read::Char(b'Y'),
-        0x5a => Read::Char(b'Z'),
-        0x2b => Read::Char(b'+'),
-        0x2d => Read::Char(b'-'),
-        0x0a => Read::Char(b'\n'),
-        0xa5 => Read::Char(b'%'),
-        0x00 | 0xa0 | 0x09 | 0x8d | 0xff => Read::Skip,
-        _ if byte.count_ones() % 2 == 1 => Read::BadParity,
-        _ => Read::BadCode,
+    match entry {
+        SKIP => Read::Skip,
+        BAD_PARITY => Read::BadParity,
+        BAD_CODE => Read::BadCode,
+        ch => Read::Char(ch),
     }
 }
 
@@ -114,71 +64,25 @@ pub fn punch(code: Code, ch: u8) -> Option<u8>
     ensures sensed { IfSome result (λ byte. reading code byte ≡ Read.Char ch) }
     ensures none { IsNone result ↔ (is_tape_character ch ≡ false) }
 {
+    punch_row(code, ch)
+}
+
+fn punch_row(code: Code, ch: u8) -> Option<u8>
+    ensures { result ≡ punched code ch }
+{
     match code {
-        Code::Rs244 => punch_rs244(ch),
-        Code::Rs358 => punch_rs358(ch),
+        Code::Rs244 => byte_of(PUNCHED_244[ch as usize]),
+        Code::Rs358 => byte_of(PUNCHED_358[ch as usize]),
     }
 }
 
-fn punch_rs244(ch: u8) -> Option<u8>
-    ensures { result ≡ punched Code.Rs244 ch }
+/// What an entry of the tables of characters says.
+fn byte_of(entry: u8) -> Option<u8>
+    ensures { result ≡ (if entry == 0 then None else Some entry) }
 {
-    match ch {
-        b'0' => Some(0x20),
-        b'1' => Some(0x01),
-        b'2' => Some(0x02),
-        b'3' => Some(0x13),
-        b'4' => Some(0x04),
-        b'5' => Some(0x15),
-        b'6' => Some(0x16),
-        b'7' => Some(0x07),
-        b'8' => Some(0x08),
-        b'9' => Some(0x19),
-        b'F' => Some(0x76),
-        b'G' => Some(0x67),
-        b'M' => Some(0x54),
-        b'N' => Some(0x45),
-        b'S' => Some(0x32),
-        b'T' => Some(0x23),
-        b'X' => Some(0x37),
-        b'Y' => Some(0x38),
-        b'Z' => Some(0x29),
-        b'+' => Some(0x70),
-        b'-' => Some(0x40),
-        b'\n' => Some(0x80),
-        b'%' => Some(0x0b),
-        _ => None,
-    }
-}
-
-fn punch_rs358(ch: u8) -> Option<u8>
-    ensures { result ≡ punched Code.Rs358 ch }
-{
-    match ch {
-        b'0' => Some(0x30),
-        b'1' => Some(0xb1),
-        b'2' => Some(0xb2),
-        b'3' => Some(0x33),
-        b'4' => Some(0xb4),
-        b'5' => Some(0x35),
-        b'6' => Some(0x36),
-        b'7' => Some(0xb7),
-        b'8' => Some(0xb8),
-        b'9' => Some(0x39),
-        b'F' => Some(0xc6),
-        b'G' => Some(0x47),
-        b'M' => Some(0x4d),
-        b'N' => Some(0x4e),
-        b'S' => Some(0x53),
-        b'T' => Some(0xd4),
-        b'X' => Some(0xd8),
-        b'Y' => Some(0x59),
-        b'Z' => Some(0x5a),
-        b'+' => Some(0x2b),
-        b'-' => Some(0x2d),
-        b'\n' => Some(0x0a),
-        b'%' => Some(0xa5),
-        _ => None,
+    match entry {
+        0 => None,
+        byte => Some(byte),
     }
 }
 
