@@ -1,6 +1,6 @@
 //! A block read character by character.
 
-ghost use Rattle.std.specs.Prelude.{◌≡◌, ◌≤◌, ◌<◌, ◌^◌, length, true};
+ghost use Rattle.std.specs.Prelude.{◌≡◌, ◌≤◌, ◌<◌, ◌^◌, length, true, false, IsTrue, Ok};
 ghost use Rattle.apt_block.specs.Block as spec;
 ghost use Rattle.apt_block.specs.Machine as machine;
 ghost use Rattle.apt_block.specs.Machine.{IsStep, HasDigits};
@@ -113,6 +113,19 @@ fn with_digit(word: OpenWord, c: Mark) -> OpenWord
     }
 }
 
+/// Adds a digit to a word.
+#[tactic(auto, using(crate::proofs::Rooms::size_fits, crate::proofs::Rooms::digit_size))]
+fn add_digit(word: &mut OpenWord, c: Mark)
+    requires room { HasDigits word.old }
+    requires digit { spec.is_digit c.ch ≡ true }
+    ensures { word.new ≡ machine.with_digit word.old c }
+{
+    word.later = word.later.saturating_sub(1);
+    word.must = word.must.saturating_sub(1);
+    word.size = 10 * word.size + (c.ch - b'0') as u64;
+    word.last = c.at;
+}
+
 impl BlockReader {
     pub fn new() -> BlockReader
         ensures { result ≡ machine.block_start }
@@ -146,15 +159,42 @@ impl BlockReader {
     }
 
     /// Takes one character more. After a fault the block can't be read on.
+    #[tactic(auto, using(crate::proofs::Rooms::digit_room))]
     pub fn step(&mut self, c: Mark) -> Result<(), Fault>
         ensures { IsStep (machine.step self.old c) self.new result }
     {
-        match self.want {
+        match &mut self.want {
             Want::Letter => self.letter_step(c),
-            Want::Sign(word) => self.sign_step(word, c),
-            Want::Digit(word) => self.digit_step(word, c),
+            Want::Sign(word) => {
+                let word = *word;
+                self.sign_step(word, c)
+            }
+            Want::Digit(word) => {
+                if word.later > 0 && is_digit(c.ch) {
+                    add_digit(word, c);
+                    return Ok(());
+                }
+                let word = *word;
+                self.digit_step(word, c)
+            }
             Want::Nothing => Err(bad_block(c.at)),
         }
+    }
+
+    /// Takes a character if it is a digit that more may follow, and answers whether it did.
+    #[tactic(auto, using(crate::proofs::Rooms::digit_room))]
+    pub fn take_digit(&mut self, c: Mark) -> bool
+        ensures taken { IsTrue result → machine.step self.old c ≡ Ok self.new }
+        ensures open { IsTrue result → machine.is_whole self.new ≡ false }
+        ensures left { result ≡ false → self.new ≡ self.old }
+    {
+        if let Want::Digit(word) = &mut self.want {
+            if word.later > 0 && is_digit(c.ch) {
+                add_digit(word, c);
+                return true;
+            }
+        }
+        false
     }
 
     #[tactic(auto, using(crate::proofs::Rooms::want_room))]

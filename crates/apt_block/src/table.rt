@@ -19,38 +19,113 @@ pub struct Form {
     pub most: u64,
 }
 
-const fn row(letter: u8, fewest: u8, digits: u8, signed: bool, least: u64, most: u64) -> Form
-    ensures { result ≡ spec.form letter fewest digits signed least most }
-{
+/// The table, in the order in which words stand.
+static FORMS: [Form; 13] = [
     Form {
-        letter,
-        fewest,
-        digits,
-        signed,
-        least,
-        most,
-    }
-}
-
-fn forms() -> [Form; 13]
-    ensures { result ≡ spec.forms }
-{
-    [
-        row(b'N', 4, 4, false, 0, 9_999),
-        row(b'G', 2, 2, false, 0, 99),
-        row(b'G', 2, 2, false, 0, 99),
-        row(b'G', 2, 2, false, 0, 99),
-        row(b'G', 2, 2, false, 0, 99),
-        row(b'G', 2, 2, false, 0, 99),
-        row(b'X', 8, 8, true, 0, 50_000_000),
-        row(b'Y', 8, 8, true, 0, 50_000_000),
-        row(b'Z', 8, 8, true, 0, 50_000_000),
-        row(b'F', 4, 4, false, 1, 9_999),
-        row(b'S', 4, 4, false, 1, 9_999),
-        row(b'T', 2, 2, false, 1, 99),
-        row(b'M', 2, 2, false, 0, 99),
-    ]
-}
+        letter: b'N',
+        fewest: 4,
+        digits: 4,
+        signed: false,
+        least: 0,
+        most: 9_999,
+    },
+    Form {
+        letter: b'G',
+        fewest: 2,
+        digits: 2,
+        signed: false,
+        least: 0,
+        most: 99,
+    },
+    Form {
+        letter: b'G',
+        fewest: 2,
+        digits: 2,
+        signed: false,
+        least: 0,
+        most: 99,
+    },
+    Form {
+        letter: b'G',
+        fewest: 2,
+        digits: 2,
+        signed: false,
+        least: 0,
+        most: 99,
+    },
+    Form {
+        letter: b'G',
+        fewest: 2,
+        digits: 2,
+        signed: false,
+        least: 0,
+        most: 99,
+    },
+    Form {
+        letter: b'G',
+        fewest: 2,
+        digits: 2,
+        signed: false,
+        least: 0,
+        most: 99,
+    },
+    Form {
+        letter: b'X',
+        fewest: 8,
+        digits: 8,
+        signed: true,
+        least: 0,
+        most: 50_000_000,
+    },
+    Form {
+        letter: b'Y',
+        fewest: 8,
+        digits: 8,
+        signed: true,
+        least: 0,
+        most: 50_000_000,
+    },
+    Form {
+        letter: b'Z',
+        fewest: 8,
+        digits: 8,
+        signed: true,
+        least: 0,
+        most: 50_000_000,
+    },
+    Form {
+        letter: b'F',
+        fewest: 4,
+        digits: 4,
+        signed: false,
+        least: 1,
+        most: 9_999,
+    },
+    Form {
+        letter: b'S',
+        fewest: 4,
+        digits: 4,
+        signed: false,
+        least: 1,
+        most: 9_999,
+    },
+    Form {
+        letter: b'T',
+        fewest: 2,
+        digits: 2,
+        signed: false,
+        least: 1,
+        most: 99,
+    },
+    Form {
+        letter: b'M',
+        fewest: 2,
+        digits: 2,
+        signed: false,
+        least: 0,
+        most: 99,
+    },
+];
 
 /// The form of a letter behind so many forms of the table, and how many forms are behind it.
 #[tactic(auto, using(crate::proofs::Rooms::form_is_small))]
@@ -59,8 +134,7 @@ pub fn form_for(used: u8, letter: u8) -> Option<(Form, u8)>
     ensures found { result ≡ machine.form_for used (drop used spec.forms) letter }
     ensures later { IfSome result (λ f. (f.0.digits ≤ 8) × (used < f.1) × (f.1 ≤ 13)) }
 {
-    let forms = forms();
-    find_form(&forms[used as usize..], used, letter)
+    find_form(&FORMS[used as usize..], used, letter)
 }
 
 /// The first of some forms that has a letter.

@@ -7,8 +7,8 @@ use crate::{Block, TapeWord};
 use arrayvec::ArrayVec;
 use std::alloc::{AllocError, Global};
 
-/// The characters of one word: a letter, a sign and eight digits are ten.
-type WordText = ArrayVec<u8, 16>;
+/// The characters of one block: at most ten for each word, and its end of block.
+type BlockText = ArrayVec<u8, 144>;
 
 /// Appends the characters of a block, with its end of block; they are read as the same block, and are no
 /// front part of another's. After a refusal `out` is as before.
@@ -20,80 +20,39 @@ pub fn write_block(_alloc: Global, b: &Block, out: &mut Vec<u8>) -> Result<(), A
     ensures alone { StandsAlone b.now }
     ensures err { OnErr result (out.new.items ≡ out.old.items) }
 {
-    let before = out.len();
-    match append_block(b, out) {
-        Ok(()) => Ok(()),
-        Err(error) => {
-            out.truncate(before);
-            Err(error)
-        }
-    }
-}
-
-/// After a refusal a part of the block may stand behind what was there.
-fn append_block(b: &Block, out: &mut Vec<u8>) -> Result<(), AllocError>
-    ensures ok { OnOk result (out.new.items ≡ out.old.items ++ spelling b.now) }
-    ensures kept { take (length out.old.items) out.new.items ≡ out.old.items }
-{
-    let words = b.words.as_slice();
-    'words: for word in words {
-        out.extend_from_slice(&text_of(*word))?;
-    }
-    out.push(b'\n')?;
+    let text = text_of(b);
+    out.extend_from_slice(&text)?;
     Ok(())
 }
 
-/// What is written behind a letter.
-#[derive(Clone, Copy)]
-struct Layout {
-    digits: u8,
-    signed: bool,
-}
-
-/// Behind a letter that is not in the table nothing is written.
-fn layout_of(letter: u8) -> Layout
-    ensures digits { result.digits ≡ (form_in forms letter).digits }
-    ensures signed { result.signed ≡ (form_in forms letter).signed }
-    ensures short { result.digits ≤ 8 }
+fn text_of(b: &Block) -> BlockText
+    ensures { result.items ≡ spelling b.now }
 {
-    match letter {
-        b'X' | b'Y' | b'Z' => Layout {
-            digits: 8,
-            signed: true,
-        },
-        b'N' | b'F' | b'S' => Layout {
-            digits: 4,
-            signed: false,
-        },
-        b'G' | b'T' | b'M' => Layout {
-            digits: 2,
-            signed: false,
-        },
-        _ => Layout {
-            digits: 0,
-            signed: false,
-        },
-    }
-}
-
-fn text_of(word: TapeWord) -> WordText
-    ensures { result.items ≡ word_text word }
-{
-    let layout = layout_of(word.letter);
     let mut text = ArrayVec::new();
-    text.push(word.letter);
-    push_sign(&mut text, layout.signed, word.value);
-    push_digits(&mut text, layout.digits, word.value.unsigned_abs());
+    let words = b.words.as_slice();
+    'words: for word in words {
+        push_word(&mut text, *word);
+    }
+    text.push(b'\n');
     text
 }
 
-fn push_sign(text: &mut WordText, signed: bool, value: i64)
-    requires { array_vec_len text.old ≤ 1 }
-    ensures items { text.new.items ≡ text.old.items ++ (if signed then spec.sign value ∷ [] else []) }
-    ensures len { array_vec_len text.new ≤ 2 }
+/// Behind a letter that is not in the table nothing is written.
+fn push_word(text: &mut BlockText, word: TapeWord)
+    requires room { array_vec_len text.old ≤ 120 }
+    ensures items { text.new.items ≡ text.old.items ++ word_text word }
+    ensures len { array_vec_len text.new ≤ array_vec_len text.old + 10 }
 {
-    if signed {
-        text.push(sign(value));
+    text.push(word.letter);
+    let size = word.value.unsigned_abs();
+    match word.letter {
+        b'X' | b'Y' | b'Z' => {
+            text.push(sign(word.value));
+            push_eight(text, size);
+        }
+        b'N' | b'F' | b'S' => push_four(text, size),
+        b'G' | b'T' | b'M' => push_two(text, size),
+        _ => {}
     }
 }
 
@@ -103,24 +62,33 @@ fn sign(value: i64) -> u8
     if value < 0 { b'-' } else { b'+' }
 }
 
-/// Appends the last `count` digits of a number.
-fn push_digits(text: &mut WordText, count: u8, size: u64)
-    requires room { array_vec_len text.old ≤ 2 }
-    requires short { count ≤ 8 }
-    ensures { text.new.items ≡ text.old.items ++ spec.digits count size }
+/// Appends the last eight digits of a number.
+fn push_eight(text: &mut BlockText, size: u64)
+    requires room { array_vec_len text.old ≤ 130 }
+    ensures items { text.new.items ≡ text.old.items ++ spec.digits 8 size }
+    ensures len { array_vec_len text.new ≡ array_vec_len text.old + 8 }
 {
-    let mut left = count;
-    'digits: while left > 0 {
-        left -= 1;
-        text.push(digit(size, left));
-    }
+    push_four(text, size / 10_000);
+    push_four(text, size);
 }
 
-/// The digit of a number that so many digits follow.
-#[tactic(auto, using(crate::proofs::Reading::some_ten))]
-fn digit(size: u64, later: u8) -> u8
-    requires { later ≤ 8 }
-    ensures { result ≡ 48 + size / 10 ^ later % 10 }
+/// Appends the last four digits of a number.
+fn push_four(text: &mut BlockText, size: u64)
+    requires room { array_vec_len text.old ≤ 138 }
+    ensures items { text.new.items ≡ text.old.items ++ spec.digits 4 size }
+    ensures len { array_vec_len text.new ≡ array_vec_len text.old + 4 }
 {
-    b'0' + (size / 10u64.pow(later as u32) % 10) as u8
+    push_two(text, size / 100);
+    push_two(text, size);
+}
+
+/// Appends the last two digits of a number.
+fn push_two(text: &mut BlockText, size: u64)
+    requires room { array_vec_len text.old ≤ 140 }
+    ensures items { text.new.items ≡ text.old.items ++ spec.digits 2 size }
+    ensures len { array_vec_len text.new ≡ array_vec_len text.old + 2 }
+{
+    let last = (size % 100) as u8;
+    text.push(b'0' + last / 10);
+    text.push(b'0' + last % 10);
 }

@@ -35,7 +35,7 @@ fn numbered(step: u16, k: usize) -> Block
 fn sequence_number(step: u16, k: usize) -> i64
     ensures { result ≡ pos (1 + (k * step) % 9999) }
 {
-    1 + (k as u128 * step as u128 % 9999) as i64
+    1 + (k as u64 % 9999 * step as u64 % 9999) as i64
 }
 
 fn word(letter: u8, value: i64) -> TapeWord
