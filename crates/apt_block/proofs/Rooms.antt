@@ -97,6 +97,9 @@ want_room b used at form want h room small is = subst (λ want. IsFrontPart (rec
     go true = (h, room_new form.digits small)
     go false = (h, room_new form.digits small)
 
+one_more : (n : ℕ) → n + 1 ≡ suc n
+one_more n = omega arith
+
 no_zero : (n : ℕ) → 0 < n → (n == 0) ≡ false
 no_zero n h = grind (arith, nat_tests)
 
@@ -106,3 +109,7 @@ pub digit_room : (words : List TapeWord) (used : ℕ) (want : Want) (w now : Ope
 digit_room words used want w now c is digits later digit e =
     let room : HasRoom (record { words = words; used = used; want = want }) (wants.Digit w) = subst (λ v. HasRoom (record { words = words; used = used; want = want }) v) digits is.room in
     subst (λ now. IsFrontPart (record { words = words; used = used; want = wants.Digit now })) (sym e) (record { used = is.used; room = (room.0, room_step w c room.1 digit (no_zero w.later later)) })
+
+-- the last digit leaves a size that fits
+pub last_room : (w : OpenWord) (c : Mark) → HasDigits w → is_digit c.ch ≡ true → (with_digit w c).size < 10 ^ 8
+last_room w c room digit = omega (arith, room_more w.size (c.ch - 48) w.later (omega (arith, digit_size c.ch digit)) (subst (λ m. (w.size + 1) * 10 ^ m ≤ 10 ^ 8) (one_more w.later) room), size_fits (10 * w.size + (c.ch - 48)) w.later (room_more w.size (c.ch - 48) w.later (omega (arith, digit_size c.ch digit)) (subst (λ m. (w.size + 1) * 10 ^ m ≤ 10 ^ 8) (one_more w.later) room)))

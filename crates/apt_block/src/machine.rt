@@ -159,42 +159,104 @@ impl BlockReader {
     }
 
     /// Takes one character more. After a fault the block can't be read on.
-    #[tactic(auto, using(crate::proofs::Rooms::digit_room))]
     pub fn step(&mut self, c: Mark) -> Result<(), Fault>
         ensures { IsStep (machine.step self.old c) self.new result }
     {
-        match &mut self.want {
+        match self.want {
             Want::Letter => self.letter_step(c),
-            Want::Sign(word) => {
-                let word = *word;
-                self.sign_step(word, c)
-            }
-            Want::Digit(word) => {
-                if word.later > 0 && is_digit(c.ch) {
-                    add_digit(word, c);
-                    return Ok(());
-                }
-                let word = *word;
-                self.digit_step(word, c)
-            }
+            Want::Sign(word) => self.sign_step(word, c),
+            Want::Digit(word) => self.digit_step(word, c),
             Want::Nothing => Err(bad_block(c.at)),
         }
     }
 
-    /// Takes a character if it is a digit that more may follow, and answers whether it did.
-    #[tactic(auto, using(crate::proofs::Rooms::digit_room))]
-    pub fn take_digit(&mut self, c: Mark) -> bool
+    /// Takes a character that can stand and ends no block, and answers whether it did.
+    #[tactic(auto, using(crate::proofs::Rooms::digit_room, crate::proofs::Rooms::last_room))]
+    pub fn take(&mut self, c: Mark) -> bool
         ensures taken { IsTrue result → machine.step self.old c ≡ Ok self.new }
         ensures open { IsTrue result → machine.is_whole self.new ≡ false }
         ensures left { result ≡ false → self.new ≡ self.old }
     {
-        if let Want::Digit(word) = &mut self.want {
-            if word.later > 0 && is_digit(c.ch) {
-                add_digit(word, c);
-                return true;
+        match &mut self.want {
+            Want::Letter => self.take_letter(c),
+            Want::Sign(word) => {
+                let word = *word;
+                self.take_sign(word, c)
             }
+            Want::Digit(word) => {
+                if !is_digit(c.ch) {
+                    return false;
+                }
+                if word.later > 0 {
+                    add_digit(word, c);
+                    return true;
+                }
+                let word = with_digit(*word, c);
+                self.take_word(word)
+            }
+            Want::Nothing => false,
         }
-        false
+    }
+
+    #[tactic(auto, using(crate::proofs::Rooms::want_room))]
+    fn take_letter(&mut self, c: Mark) -> bool
+        requires used { length self.old.words ≤ self.old.used }
+        ensures taken { IsTrue result → machine.letter_step self.old c ≡ Ok self.new }
+        ensures open { IsTrue result → machine.is_whole self.new ≡ false }
+        ensures left { result ≡ false → self.new ≡ self.old }
+    {
+        match form_for(self.used, c.ch) {
+            Some((form, used)) => {
+                self.want = first_want(form, c.at);
+                self.used = used;
+                true
+            }
+            None => false,
+        }
+    }
+
+    fn take_sign(&mut self, word: OpenWord, c: Mark) -> bool
+        requires used { length self.old.words < self.old.used }
+        requires room { HasDigits word }
+        ensures taken { IsTrue result → machine.sign_step self.old word c ≡ Ok self.new }
+        ensures open { IsTrue result → machine.is_whole self.new ≡ false }
+        ensures left { result ≡ false → self.new ≡ self.old }
+    {
+        if c.ch == b'+' {
+            self.want = Want::Digit(word);
+            true
+        } else if c.ch == b'-' {
+            self.want = Want::Digit(OpenWord {
+                minus: true,
+                ..word
+            });
+            true
+        } else {
+            false
+        }
+    }
+
+    fn take_word(&mut self, word: OpenWord) -> bool
+        requires used { length self.old.words < self.old.used }
+        requires small { word.size < 10 ^ 8 }
+        ensures taken { IsTrue result → machine.word_end self.old word ≡ Ok self.new }
+        ensures open { IsTrue result → machine.is_whole self.new ≡ false }
+        ensures left { result ≡ false → self.new ≡ self.old }
+    {
+        if word.form.least <= word.size && word.size <= word.form.most {
+            let value = value_of(&word);
+            if code_fault(self.words(), word.form.letter, value.unsigned_abs()).is_some() {
+                return false;
+            }
+            self.block.push(TapeWord {
+                letter: word.form.letter,
+                value,
+            });
+            self.want = Want::Letter;
+            true
+        } else {
+            false
+        }
     }
 
     #[tactic(auto, using(crate::proofs::Rooms::want_room))]

@@ -1,6 +1,6 @@
 //! The run of a control byte by byte, with any meaning of blocks.
 
-ghost use Rattle.std.specs.Prelude.{◌≡◌, ◌+◌, ◌-◌, ◌<◌, ◌^◌, length, IfOk};
+ghost use Rattle.std.specs.Prelude.{◌≡◌, ◌+◌, ◌-◌, ◌<◌, ◌≤◌, ◌^◌, length, IfOk, IsTrue, Ok, false};
 ghost use Rattle.apt_control.specs.Answers.{IsAnswer, IsMeaning, IsStep};
 ghost use Rattle.apt_control.specs.Control.{MeaningOf};
 ghost use Rattle.apt_control.specs.Control as spec;
@@ -81,10 +81,51 @@ impl<H: Control> TapeReader<H> {
         ensures { IsAnswer (λ r. r) result (walk.byte_steps H.means self piece.now) }
     {
         let mut reader = self;
-        'bytes: for byte in piece {
+        let mut rest = piece;
+        'bytes: while let [byte, more @ ..] = rest {
             reader.byte(*byte)?;
+            rest = reader.front(more);
         }
         Ok(reader)
+    }
+
+    /// Takes the front of some bytes, as far as they are characters that can stand and end no block, and answers
+    /// what is behind it.
+    fn front<'a>(&mut self, piece: &'a [u8]) -> &'a [u8]
+        requires { self.old.count + length piece.now < 2 ^ 64 }
+        ensures same { walk.byte_steps H.means self.new result.now ≡ walk.byte_steps H.means self.old piece.now }
+        ensures count { self.new.count + length result.now ≡ self.old.count + length piece.now }
+        ensures short { length result.now ≤ length piece.now }
+    {
+        let mut rest = piece;
+        'front: while let [byte, more @ ..] = rest {
+            if !self.take(*byte) {
+                return rest;
+            }
+            rest = more;
+        }
+        rest
+    }
+
+    /// Takes a byte if it is a character of a block that can stand and ends no block, and answers whether it did.
+    fn take(&mut self, byte: u8) -> bool
+        requires { self.old.count < 2 ^ 64 - 1 }
+        ensures taken { IsTrue result → walk.byte_step H.means self.old byte ≡ Ok self.new }
+        ensures count { IsTrue result → self.new.count ≡ self.old.count + 1 }
+        ensures left { result ≡ false → self.new ≡ self.old }
+    {
+        let Phase::InBlock = self.phase else {
+            return false;
+        };
+        let Read::Char(ch) = sense(self.code, byte) else {
+            return false;
+        };
+        let at = self.count;
+        if !self.block.take(Mark { at, ch }) {
+            return false;
+        }
+        self.count += 1;
+        true
     }
 
     /// The acts of all bytes.
