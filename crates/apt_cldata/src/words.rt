@@ -1,24 +1,15 @@
 //! The words of a record.
-ghost use Rattle.std.specs.Prelude.{◌≡◌, pos, map, ◌∷◌, ◌++◌, OnOk, IfOk};
+ghost use Rattle.std.specs.Prelude.{◌≡◌, pos, map, ◌++◌, OnOk};
 ghost use Rattle.std.specs.List.{flat_map};
 ghost use Rattle.apt_cldata.specs.Words as spec;
 
 use crate::{Note, Position, Reach, Record};
 use apt_plane::Surface;
 use apt_words::{Cool, Side, Stop, Turn, Units};
-use std::alloc::{AllocError, Global};
+use std::alloc::AllocError;
 
-/// The number of a record, and its words.
-pub(crate) fn numbered(alloc: Global, seq: i64, said: &Record) -> Result<Vec<i64>, AllocError>
-    ensures { IfOk result (λ v. v.items ≡ seq ∷ spec.words_of said.now) }
-{
-    let mut words = Vec::new(alloc);
-    words.push(seq)?;
-    push_words(&mut words, said)?;
-    Ok(words)
-}
-
-fn push_words(words: &mut Vec<i64>, said: &Record) -> Result<(), AllocError>
+/// Appends the words of a record.
+pub(crate) fn push_words(words: &mut Vec<i64>, said: &Record) -> Result<(), AllocError>
     ensures { OnOk result (words.new.items ≡ words.old.items ++ spec.words_of said.now) }
 {
     match said {

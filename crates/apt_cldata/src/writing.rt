@@ -7,7 +7,7 @@ ghost use Rattle.apt_cldata.specs.Reading.{read_of};
 use crate::Record;
 use crate::bytes::{push_length, push_word};
 use crate::reading::HEAD;
-use crate::words::numbered;
+use crate::words::push_words;
 use std::alloc::{AllocError, Global};
 
 /// The bytes of a CL file of these records, which are read as them again; where a record begins, no other
@@ -27,19 +27,20 @@ fn write_exactly(alloc: Global, records: &[Record]) -> Result<Vec<u8>, AllocErro
     ensures { IfOk result (λ v. v.items ≡ file_of records.now) }
 {
     let mut bytes = Vec::new(alloc);
+    let mut words = Vec::new(alloc);
     bytes.extend_from_slice(HEAD)?;
     let mut seq = 1;
     'records: for record in records {
-        push_record(alloc, &mut bytes, seq, record)?;
+        push_record(&mut bytes, &mut words, seq, record)?;
         seq += 1;
     }
     Ok(bytes)
 }
 
-/// Appends a record with its number; after a refusal a part of it may stand there.
+/// Appends a record with its number; after a refusal a part of it may stand there. The words only lend their room.
 fn push_record(
-    alloc: Global,
     bytes: &mut Vec<u8>,
+    words: &mut Vec<i64>,
     seq: u64,
     said: &Record,
 ) -> Result<(), AllocError>
@@ -47,8 +48,10 @@ fn push_record(
     requires number { seq < 2 ^ 63 }
     ensures { OnOk result (bytes.new.items ≡ bytes.old.items ++ spec.record_bytes seq said.now) }
 {
-    let words = numbered(alloc, seq as i64, said)?;
-    push_framed(bytes, &words)
+    words.clear();
+    words.push(seq as i64)?;
+    push_words(words, said)?;
+    push_framed(bytes, words)
 }
 
 /// Appends words behind their length.
@@ -56,6 +59,7 @@ fn push_framed(bytes: &mut Vec<u8>, words: &[i64]) -> Result<(), AllocError>
     requires { 8 * length words.now < 2 ^ 32 }
     ensures { OnOk result (bytes.new.items ≡ bytes.old.items ++ spec.framed words.now) }
 {
+    bytes.reserve(4 + 8 * words.len())?;
     push_length(bytes, 8 * words.len() as u32)?;
     'words: for word in words {
         push_word(bytes, *word)?;
