@@ -4,6 +4,7 @@ pub mod Surfaces
 pub mod WordByWord
 pub mod Stands
 pub mod Heads
+pub mod Pieces
 pub mod Laws
 pub mod Conditions
 pub mod FieldLaws

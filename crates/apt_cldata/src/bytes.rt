@@ -1,5 +1,5 @@
 //! Lengths and words by their bytes, the highest first.
-ghost use Rattle.std.specs.Prelude.{◌≡◌, ◌*◌, ◌^◌, ◌<◌, ◌≤◌, ◌++◌, length, vec_len, OnOk, IfOk};
+ghost use Rattle.std.specs.Prelude.{◌≡◌, ◌*◌, ◌^◌, ◌<◌, ◌≤◌, ◌+◌, ◌++◌, length, vec_len, vec_capacity, IfOk};
 ghost use Rattle.apt_cldata.specs.Files as files;
 ghost use Rattle.apt_cldata.specs.Reading as spec;
 
@@ -41,18 +41,36 @@ pub(crate) fn length_in(bytes: &[u8]) -> usize
     u32::from_be_bytes(*bytes.first_chunk().unwrap()) as usize
 }
 
-/// Appends a length.
-#[tactic(auto, unfolding(crate::specs::Files::length_bytes))]
-pub(crate) fn push_length(bytes: &mut Vec<u8>, length: u32) -> Result<(), AllocError>
-    ensures { OnOk result (bytes.new.items ≡ bytes.old.items ++ files.length_bytes length) }
+/// Appends a length, for which there is room.
+#[tactic(auto, unfolding(crate::specs::Files::length_bytes), using(crate::proofs::Pieces::four_more))]
+pub(crate) fn push_length(bytes: &mut Vec<u8>, length: u32)
+    requires { vec_len bytes.old + 4 ≤ vec_capacity bytes.old }
+    ensures value { bytes.new.items ≡ bytes.old.items ++ files.length_bytes length }
+    ensures len { vec_len bytes.new ≡ vec_len bytes.old + 4 }
+    ensures capacity { vec_capacity bytes.new ≡ vec_capacity bytes.old }
 {
-    bytes.extend_from_slice(&length.to_be_bytes())
+    let [a, b, c, d] = length.to_be_bytes();
+    bytes.push_reserved(a);
+    bytes.push_reserved(b);
+    bytes.push_reserved(c);
+    bytes.push_reserved(d);
 }
 
-/// Appends a word.
-#[tactic(auto, unfolding(crate::specs::Files::word_bytes))]
-pub(crate) fn push_word(bytes: &mut Vec<u8>, word: i64) -> Result<(), AllocError>
-    ensures { OnOk result (bytes.new.items ≡ bytes.old.items ++ files.word_bytes word) }
+/// Appends a word, for which there is room.
+#[tactic(auto, unfolding(crate::specs::Files::word_bytes), using(crate::proofs::Pieces::eight_more))]
+pub(crate) fn push_word(bytes: &mut Vec<u8>, word: i64)
+    requires { vec_len bytes.old + 8 ≤ vec_capacity bytes.old }
+    ensures value { bytes.new.items ≡ bytes.old.items ++ files.word_bytes word }
+    ensures len { vec_len bytes.new ≡ vec_len bytes.old + 8 }
+    ensures capacity { vec_capacity bytes.new ≡ vec_capacity bytes.old }
 {
-    bytes.extend_from_slice(&word.to_be_bytes())
+    let [a, b, c, d, e, f, g, h] = word.to_be_bytes();
+    bytes.push_reserved(a);
+    bytes.push_reserved(b);
+    bytes.push_reserved(c);
+    bytes.push_reserved(d);
+    bytes.push_reserved(e);
+    bytes.push_reserved(f);
+    bytes.push_reserved(g);
+    bytes.push_reserved(h);
 }

@@ -60,9 +60,9 @@ fn push_framed(bytes: &mut Vec<u8>, words: &[i64]) -> Result<(), AllocError>
     ensures { OnOk result (bytes.new.items ≡ bytes.old.items ++ spec.framed words.now) }
 {
     bytes.reserve(4 + 8 * words.len())?;
-    push_length(bytes, 8 * words.len() as u32)?;
+    push_length(bytes, 8 * words.len() as u32);
     'words: for word in words {
-        push_word(bytes, *word)?;
+        push_word(bytes, *word);
     }
     Ok(())
 }
