@@ -20,7 +20,7 @@ pub(crate) fn words_in(alloc: Global, count: usize, bytes: &[u8]) -> Result<Vec<
     ensures value { IfOk result (λ v. v.items ≡ spec.words_in count bytes.now) }
     ensures count { IfOk result (λ v. vec_len v ≡ count) }
 {
-    let mut words = Vec::new(alloc);
+    let mut words = Vec::with_capacity(alloc, count)?;
     let mut rest = bytes;
     let mut left = count;
     'words: while left > 0 {

@@ -305,7 +305,7 @@ fn positions_by(alloc: Global, words: &[i64]) -> Result<Result<Vertices, Misfit>
     requires { length words.now < 2 ^ 32 }
     ensures { IfOk result (λ r. r ≡ spec.positions_by 0 words.now) }
 {
-    let mut at = Vec::new(alloc);
+    let mut at = Vec::with_capacity(alloc, words.len() / 3)?;
     let mut i = 0;
     let mut rest = words;
     'triples: while let [x, y, z, after @ ..] = rest {
