@@ -1,9 +1,9 @@
 //! Lengths and words by their bytes, the highest first.
-ghost use Rattle.std.specs.Prelude.{◌≡◌, ◌*◌, ◌^◌, ◌<◌, ◌≤◌, ◌+◌, ◌++◌, length, vec_len, vec_capacity, IfOk};
+ghost use Rattle.std.specs.Prelude.{◌≡◌, ◌*◌, ◌^◌, ◌<◌, ◌≤◌, ◌+◌, ◌++◌, length, vec_len, vec_capacity, OnOk};
 ghost use Rattle.apt_cldata.specs.Files as files;
 ghost use Rattle.apt_cldata.specs.Reading as spec;
 
-use std::alloc::{AllocError, Global};
+use std::alloc::AllocError;
 
 /// The word in the first eight bytes.
 #[tactic(auto, unfolding(crate::specs::Reading::word_in))]
@@ -14,13 +14,14 @@ pub(crate) fn word_in(bytes: &[u8]) -> i64
     i64::from_be_bytes(*bytes.first_chunk().unwrap())
 }
 
-/// So many words from the front.
-pub(crate) fn words_in(alloc: Global, count: usize, bytes: &[u8]) -> Result<Vec<i64>, AllocError>
+/// Takes so many words from the front, in the place of those before.
+pub(crate) fn read_words(words: &mut Vec<i64>, count: usize, bytes: &[u8]) -> Result<(), AllocError>
     requires { 8 * count ≤ length bytes.now }
-    ensures value { IfOk result (λ v. v.items ≡ spec.words_in count bytes.now) }
-    ensures count { IfOk result (λ v. vec_len v ≡ count) }
+    ensures value { OnOk result (words.new.items ≡ spec.words_in count bytes.now) }
+    ensures count { OnOk result (vec_len words.new ≡ count) }
 {
-    let mut words = Vec::with_capacity(alloc, count)?;
+    words.clear();
+    words.reserve(count)?;
     let mut rest = bytes;
     let mut left = count;
     'words: while left > 0 {
@@ -28,7 +29,7 @@ pub(crate) fn words_in(alloc: Global, count: usize, bytes: &[u8]) -> Result<Vec<
         rest = &rest[8..];
         left -= 1;
     }
-    Ok(words)
+    Ok(())
 }
 
 /// The length in the first four bytes.

@@ -6,7 +6,7 @@ ghost use Rattle.apt_cldata.specs.Files as files;
 ghost use Rattle.apt_cldata.specs.Reading.{IsFault, read_of};
 ghost use Rattle.apt_cldata.specs.Reading as spec;
 
-use crate::bytes::{length_in, word_in, words_in};
+use crate::bytes::{length_in, read_words, word_in};
 use crate::entries::record_of;
 use crate::error::Fault;
 use crate::fields::Misfit;
@@ -79,8 +79,13 @@ fn located(at: u64, said: Result<Record, Misfit>) -> Result<Record, Fault>
     }
 }
 
-/// The record of so many bytes behind their length.
-fn record_in(alloc: Global, n: usize, bytes: &[u8]) -> Result<Result<Record, Misfit>, AllocError>
+/// The record of so many bytes behind their length. The words only lend their room.
+fn record_in(
+    alloc: Global,
+    words: &mut Vec<i64>,
+    n: usize,
+    bytes: &[u8],
+) -> Result<Result<Record, Misfit>, AllocError>
     requires least { 24 ≤ n }
     requires most { n < 2 ^ 32 }
     requires there { 4 + n ≤ length bytes.now }
@@ -88,14 +93,15 @@ fn record_in(alloc: Global, n: usize, bytes: &[u8]) -> Result<Result<Record, Mis
 {
     let class = word_in(&bytes[12..]);
     let sub = word_in(&bytes[20..]);
-    let words = words_in(alloc, n / 8 - 3, &bytes[28..])?;
-    record_of(alloc, class, sub, &words)
+    read_words(words, n / 8 - 3, &bytes[28..])?;
+    record_of(alloc, class, sub, words)
 }
 
 /// That record, if it has the number that is due.
 #[tactic(auto, unfolding(crate::specs::Reading::said_by))]
 fn said_by(
     alloc: Global,
+    words: &mut Vec<i64>,
     seq: i64,
     at: u64,
     n: usize,
@@ -108,7 +114,7 @@ fn said_by(
     ensures { IfOk result (λ r. r ≡ spec.said_by seq at n bytes.now) }
 {
     if word_in(&bytes[4..]) == seq {
-        Ok(located(at, record_in(alloc, n, bytes)?))
+        Ok(located(at, record_in(alloc, words, n, bytes)?))
     } else {
         Ok(Err(Fault::new(at + 4, ClCause::Seq)))
     }
@@ -122,7 +128,13 @@ fn is_fini(record: &Record) -> bool
 
 /// The first record, which has the number that is due, and how many bytes it has.
 #[tactic(auto, unfolding(crate::specs::Reading::first_of))]
-fn first_of(alloc: Global, seq: u64, at: u64, bytes: &[u8]) -> Result<(Record, usize), ClError>
+fn first_of(
+    alloc: Global,
+    words: &mut Vec<i64>,
+    seq: u64,
+    at: u64,
+    bytes: &[u8],
+) -> Result<(Record, usize), ClError>
     requires number { seq < 2 ^ 63 }
     requires place { at + length bytes.now < 2 ^ 63 }
     ensures value { MatchResult result (λ p. spec.first_of seq at bytes.now ≡ Ok (spec.piece p.0 (at + p.1) (drop p.1 bytes.now))) (IsFault (spec.first_of seq at bytes.now)) }
@@ -130,7 +142,7 @@ fn first_of(alloc: Global, seq: u64, at: u64, bytes: &[u8]) -> Result<(Record, u
     ensures some { IfOk result (λ p. 28 ≤ p.1) }
 {
     let n = length_of(at, bytes)?;
-    let record = said_by(alloc, seq as i64, at, n, bytes)??;
+    let record = said_by(alloc, words, seq as i64, at, n, bytes)??;
     Ok((record, 4 + n))
 }
 
@@ -141,11 +153,12 @@ fn records_from(alloc: Global, start: u64, bytes: &[u8]) -> Result<Vec<Record>, 
     ensures { MatchResult result (λ v. spec.records_from (start + length bytes.now) 1 start bytes.now ≡ Ok v.items) (IsFault (spec.records_from (start + length bytes.now) 1 start bytes.now)) }
 {
     let mut records = Vec::new(alloc);
+    let mut words = Vec::new(alloc);
     let mut seq = 1;
     let mut at = start;
     let mut rest = bytes;
     'records: loop {
-        let (record, size) = first_of(alloc, seq, at, rest)?;
+        let (record, size) = first_of(alloc, &mut words, seq, at, rest)?;
         let is_last = is_fini(&record);
         records.push(record)?;
         at += size as u64;

@@ -14,5 +14,5 @@ returns c =
     let g : FitsSigned w64 c.word_in-sub.result = search rules in
     let class = to_z-of_z w64 c.word_in-class.result f ∙ c.word_in-class.ensures ∙ ap word_in (take_rest c.args.bytes.now 12) in
     let sub = to_z-of_z w64 c.word_in-sub.result g ∙ c.word_in-sub.ensures ∙ ap word_in (take_rest c.args.bytes.now 20) in
-    let words = c.deref.ensures.value ∙ c.in_ok-words.ensures.value ∙ ap (words_in (c.args.n / 8 - 3)) (take_rest c.args.bytes.now 28) in
+    let words = c.deref.ensures.value ∙ c.in_ok-read_words.ensures.value ∙ ap (words_in (c.args.n / 8 - 3)) (take_rest c.args.bytes.now 28) in
     subst (λ r. IfOk c.record_of.result (λ said. said ≡ r)) (λ i. record_of (class i) (sub i) (words i)) c.record_of.ensures

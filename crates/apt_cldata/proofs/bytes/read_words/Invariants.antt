@@ -1,6 +1,6 @@
 use Rattle.std.proofs.Common.{◌≡◌, ◌+◌, ◌*◌, ◌≤◌, ◌++◌, length, vec_len}
 use Rattle.apt_cldata.specs.Reading.{words_in}
-use Rattle.apt_cldata.proofs.bytes.words_in.Given as goal
+use Rattle.apt_cldata.proofs.bytes.read_words.Given as goal
 
 abbrev pub invariant-words : goal.invariant-words
 invariant-words l = record {

@@ -3,7 +3,7 @@ use Rattle.std.specs.Prelude.{FitsSigned}
 use Rattle.std.specs.Int.{w64}
 use Rattle.std.proofs.lemmas.Int.{to_z-of_z}
 use Rattle.apt_cldata.proofs.WordByWord.{words_more, bytes_left}
-use Rattle.apt_cldata.proofs.bytes.words_in.Goals as goal
+use Rattle.apt_cldata.proofs.bytes.read_words.Goals as goal
 
 pub words-preserved : goal.words-preserved
 words-preserved c =
