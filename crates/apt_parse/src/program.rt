@@ -38,7 +38,7 @@ fn parse_all(alloc: Global, text: &[u8]) -> Result<Program, ParseError>
     let mut phrases = Phrases::new(text);
     let mut read = Read::new(alloc);
     'phrases: while let Some(phrase) = phrases.next(alloc)? {
-        let st = statement(alloc, &read, phrase)?;
+        let st = statement(alloc, &read, &mut phrases, phrase)?;
         let is_last = st.body.is_fini();
         read.add(st)?;
         if is_last {
@@ -51,9 +51,15 @@ fn parse_all(alloc: Global, text: &[u8]) -> Result<Program, ParseError>
     })
 }
 
-/// The statement of a phrase behind those that were read.
-fn statement(alloc: Global, read: &Read, phrase: Phrase) -> Result<Stmt, ParseError>
+/// The statement of a phrase behind those that were read. The reader takes back the list of its tokens.
+fn statement(
+    alloc: Global,
+    read: &Read,
+    phrases: &mut Phrases<'_>,
+    phrase: Phrase,
+) -> Result<Stmt, ParseError>
     requires { IsRead read.now }
+    ensures as_before { phrases.new ≡ phrases.old }
     ensures stated { reading.IsStated phrase.line (statements.statement read.now.stmts.items phrase) result }
     ensures good { IfOk result (λ st. statements.first_fault read.now.stmts.items st.label st.body ≡ None) }
 {
@@ -72,6 +78,7 @@ fn statement(alloc: Global, read: &Read, phrase: Phrase) -> Result<Stmt, ParseEr
             cause: PartCause::BadShape,
         });
     };
+    phrases.reuse(tokens);
     match read.first_fault(&said) {
         Some(cause) => Err(ParseError::Bad { line, cause }),
         None => Ok(Stmt {
