@@ -12,7 +12,7 @@ ghost use Rattle.apt_expr.specs.Operands as operands;
 use crate::counted::{Counted, absolute, named, negative, number, root};
 use crate::parts::{Rank, first_factor};
 use apt_lexis::Token;
-use apt_words::{Expr, Node, Op, Symbol, Word, is_vocabulary, word_of};
+use apt_words::{Expr, Node, Op, Operands, Symbol, Word, is_vocabulary, word_of};
 use std::alloc::{AllocError, Global};
 
 const MOST_OPERATORS: u32 = 64;
@@ -168,11 +168,10 @@ fn binary(alloc: Global, op: Op, a: Counted, b: Counted) -> Result<Option<Counte
     }
     let Counted { tree: a, .. } = a;
     let Counted { tree: b, .. } = b;
-    let a = Box::new(alloc, a)?;
-    let b = Box::new(alloc, b)?;
+    let operands = Box::new(alloc, Operands { a, b })?;
     Ok(Some(Counted {
         tree: Expr {
-            node: Node::Bin { op, a, b },
+            node: Node::Bin { op, operands },
         },
         count,
     }))

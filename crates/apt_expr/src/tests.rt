@@ -138,11 +138,11 @@ fn show(alloc: Global, e: &Expr, text: &mut String) -> Result<(), AllocError> {
             show(alloc, inner, text)?;
             text.push_str(")")
         }
-        Node::Bin { op, a, b } => {
+        Node::Bin { op, operands } => {
             text.push_str("(")?;
-            show(alloc, a, text)?;
+            show(alloc, &operands.a, text)?;
             text.push_str(mark(*op))?;
-            show(alloc, b, text)?;
+            show(alloc, &operands.b, text)?;
             text.push_str(")")
         }
     }

@@ -1,5 +1,5 @@
 use crate::{Bound, Env, Frame, Kind, Value, bind, eval, grid_units, tenths, whole};
-use apt_words::{Case, Expr, Node, Op, Symbol, Units};
+use apt_words::{Case, Expr, Node, Op, Operands, Symbol, Units};
 use std::alloc::{AllocError, Global};
 use std::process::Abort;
 use std::test::Fail;
@@ -20,8 +20,7 @@ fn both(alloc: Global, a: Expr, op: Op, b: Expr) -> Result<Expr, AllocError> {
     Ok(Expr {
         node: Node::Bin {
             op,
-            a: Box::new(alloc, a)?,
-            b: Box::new(alloc, b)?,
+            operands: Box::new(alloc, Operands { a, b })?,
         },
     })
 }

@@ -20,9 +20,9 @@ pub fn eval(e: &Expr, env: &Env, frame: &Frame) -> Result<i64, Case>
             let v = eval(operand, env, frame)?;
             Ok(-v)
         }
-        Node::Bin { op, a, b } => {
-            let left = eval(a, env, frame)?;
-            let right = eval(b, env, frame)?;
+        Node::Bin { op, operands } => {
+            let left = eval(&operands.a, env, frame)?;
+            let right = eval(&operands.b, env, frame)?;
             apply(*op, left, right)
         }
         Node::Root(operand) => {

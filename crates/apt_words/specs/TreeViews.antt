@@ -7,6 +7,6 @@ abbrev pub tree_of : Node → Tree
 tree_of (nodes.Num v) = Num v
 tree_of (nodes.Name name) = Name name
 tree_of (nodes.Neg e) = Neg e.value
-tree_of (nodes.Bin op a b) = Bin op a.value b.value
+tree_of (nodes.Bin op operands) = Bin op operands.value.a operands.value.b
 tree_of (nodes.Root e) = Root e.value
 tree_of (nodes.Abs e) = Abs e.value

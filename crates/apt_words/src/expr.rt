@@ -25,9 +25,17 @@ pub enum Node {
     Num(i64),
     Name(Symbol),
     Neg(Box<Expr>),
-    Bin { op: Op, a: Box<Expr>, b: Box<Expr> },
+    Bin { op: Op, operands: Box<Operands> },
     Root(Box<Expr>),
     Abs(Box<Expr>),
+}
+
+/// What stands to the left of an operator and to its right.
+#[derive(Drop)]
+#[cycle(expr)]
+pub struct Operands {
+    pub a: Expr,
+    pub b: Expr,
 }
 
 impl Model for Expr {

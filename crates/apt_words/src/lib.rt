@@ -12,7 +12,7 @@ mod word;
 
 pub use body::{Args, Body, Exprs, Params, Program, Stmt, Text};
 pub use deed::{Deed, Step};
-pub use expr::{Expr, Node, Op};
+pub use expr::{Expr, Node, Op, Operands};
 pub use symbol::{Symbol, is_vocabulary};
 pub use word::{Word, word_of};
 
