@@ -1,18 +1,32 @@
 //! The arguments of a statement.
 
-ghost use Rattle.std.specs.Prelude.{◌≡◌, map, IfOk};
+ghost use Rattle.std.specs.Prelude.{◌≡◌, ◌<◌, [], ◌∷◌, length, map, IfOk, IfSome, MatchOption};
 ghost use Rattle.apt_words.specs.Options.{only_if};
 ghost use Rattle.apt_words.specs.Symbols.{is_name};
 ghost use Rattle.apt_shapes.specs.Arguments as arguments;
 
 use apt_lexis::Token;
 use apt_words::{Pick, Stop, Symbol, Word, is_vocabulary, word_of};
+use arrayvec::ArrayVec;
 use std::alloc::{AllocError, Global};
 
 fn is_comma(token: &Token) -> bool
     ensures { result ≡ arguments.is_comma token.now }
 {
     matches!(token, Token::Comma)
+}
+
+/// The tokens before the first comma and those behind it, None where there is no comma.
+fn at_comma(tokens: &[Token]) -> Option<(&[Token], &[Token])>
+    ensures parts { MatchOption result (arguments.arguments tokens.now ≡ tokens.now ∷ []) (λ r. arguments.arguments tokens.now ≡ r.0.now ∷ arguments.arguments r.1.now) }
+    ensures shorter { IfSome result (λ r. length r.1.now < length tokens.now) }
+{
+    'tokens: for (n, token) in tokens.iter().enumerate() {
+        if is_comma(token) {
+            return Some((&tokens[..n], &tokens[n + 1..]));
+        }
+    }
+    None
 }
 
 /// The parts of some tokens between their commas.
@@ -22,7 +36,34 @@ pub(crate) fn arguments<'a>(
 ) -> Result<Vec<&'a [Token]>, AllocError>
     ensures { IfOk result (λ v. map (λ a. a.now) v.items ≡ arguments.arguments tokens.now) }
 {
-    tokens.split(|token| is_comma(token)).collect(alloc)
+    let mut args = Vec::new(alloc);
+    let mut rest = tokens;
+    'arguments: while let Some((part, behind)) = at_comma(rest) {
+        args.push(part)?;
+        rest = behind;
+    }
+    args.push(rest)?;
+    Ok(args)
+}
+
+/// The parts of some tokens between their commas where there are at most six, which need no allocation.
+pub(crate) fn few_arguments<'a>(tokens: &'a [Token]) -> Option<ArrayVec<&'a [Token], 6>>
+    ensures { IfSome result (λ v. map (λ a. a.now) v.items ≡ arguments.arguments tokens.now) }
+{
+    let mut args = ArrayVec::new();
+    let mut rest = tokens;
+    'arguments: while let Some((part, behind)) = at_comma(rest) {
+        if args.is_full() {
+            return None;
+        }
+        args.push(part);
+        rest = behind;
+    }
+    if args.is_full() {
+        return None;
+    }
+    args.push(rest);
+    Some(args)
 }
 
 /// A word that is no word of the language.

@@ -1,6 +1,6 @@
 //! The shapes of motions: FROM, GOTO, GODLTA, GO and contours.
 
-ghost use Rattle.std.specs.Prelude.{◌≡◌, map, IfOk};
+ghost use Rattle.std.specs.Prelude.{◌≡◌, [], ◌∷◌, map, IfOk};
 ghost use Rattle.apt_shapes.specs.Motions as motions;
 
 use crate::arguments::{arguments, is_word, name, stop};
@@ -9,25 +9,79 @@ use apt_lexis::Token;
 use apt_words::{Body, Go, Side, Stop, Symbol, Word, word_of};
 use std::alloc::{AllocError, Global};
 
+fn from_xy(alloc: Global, x: &[Token], y: &[Token]) -> Result<Option<Body>, AllocError>
+    ensures { IfOk result (λ b. b ≡ motions.from (x.now ∷ y.now ∷ [])) }
+{
+    let Some(x) = expression(alloc, x)? else {
+        return Ok(None);
+    };
+    let Some(y) = expression(alloc, y)? else {
+        return Ok(None);
+    };
+    Ok(Some(Body::FromXy(x, y, None)))
+}
+
+fn from_xyz(
+    alloc: Global,
+    x: &[Token],
+    y: &[Token],
+    z: &[Token],
+) -> Result<Option<Body>, AllocError>
+    ensures { IfOk result (λ b. b ≡ motions.from (x.now ∷ y.now ∷ z.now ∷ [])) }
+{
+    let Some(x) = expression(alloc, x)? else {
+        return Ok(None);
+    };
+    let Some(y) = expression(alloc, y)? else {
+        return Ok(None);
+    };
+    let Some(z) = expression(alloc, z)? else {
+        return Ok(None);
+    };
+    Ok(Some(Body::FromXy(x, y, Some(z))))
+}
+
 pub(crate) fn from(alloc: Global, args: &[&[Token]]) -> Result<Option<Body>, AllocError>
     ensures { IfOk result (λ b. b ≡ motions.from (map (λ a. a.now) args.now)) }
 {
     match args {
         [p] => Ok(name(p).map(Body::FromPoint)),
-        [x, y] => {
-            let (Some(x), Some(y)) = (expression(alloc, x)?, expression(alloc, y)?) else {
-                return Ok(None);
-            };
-            Ok(Some(Body::FromXy(x, y, None)))
-        }
-        [x, y, z] => {
-            let (Some(x), Some(y)) = (expression(alloc, x)?, expression(alloc, y)?) else {
-                return Ok(None);
-            };
-            Ok(expression(alloc, z)?.map(|z| Body::FromXy(x, y, Some(z))))
-        }
+        [x, y] => from_xy(alloc, x, y),
+        [x, y, z] => from_xyz(alloc, x, y, z),
         _ => Ok(None),
     }
+}
+
+fn goto_xy(alloc: Global, x: &[Token], y: &[Token]) -> Result<Option<Body>, AllocError>
+    ensures { IfOk result (λ b. b ≡ motions.goto (x.now ∷ y.now ∷ [])) }
+{
+    let Some(x) = expression(alloc, x)? else {
+        return Ok(None);
+    };
+    let Some(y) = expression(alloc, y)? else {
+        return Ok(None);
+    };
+    Ok(Some(Body::GotoXy(x, y, None)))
+}
+
+fn goto_xyz(
+    alloc: Global,
+    x: &[Token],
+    y: &[Token],
+    z: &[Token],
+) -> Result<Option<Body>, AllocError>
+    ensures { IfOk result (λ b. b ≡ motions.goto (x.now ∷ y.now ∷ z.now ∷ [])) }
+{
+    let Some(x) = expression(alloc, x)? else {
+        return Ok(None);
+    };
+    let Some(y) = expression(alloc, y)? else {
+        return Ok(None);
+    };
+    let Some(z) = expression(alloc, z)? else {
+        return Ok(None);
+    };
+    Ok(Some(Body::GotoXy(x, y, Some(z))))
 }
 
 pub(crate) fn goto(alloc: Global, args: &[&[Token]]) -> Result<Option<Body>, AllocError>
@@ -35,18 +89,8 @@ pub(crate) fn goto(alloc: Global, args: &[&[Token]]) -> Result<Option<Body>, All
 {
     match args {
         [p] => Ok(name(p).map(Body::GotoPoint)),
-        [x, y] => {
-            let (Some(x), Some(y)) = (expression(alloc, x)?, expression(alloc, y)?) else {
-                return Ok(None);
-            };
-            Ok(Some(Body::GotoXy(x, y, None)))
-        }
-        [x, y, z] => {
-            let (Some(x), Some(y)) = (expression(alloc, x)?, expression(alloc, y)?) else {
-                return Ok(None);
-            };
-            Ok(expression(alloc, z)?.map(|z| Body::GotoXy(x, y, Some(z))))
-        }
+        [x, y] => goto_xy(alloc, x, y),
+        [x, y, z] => goto_xyz(alloc, x, y, z),
         _ => Ok(None),
     }
 }
@@ -57,10 +101,16 @@ pub(crate) fn godlta(alloc: Global, args: &[&[Token]]) -> Result<Option<Body>, A
     let [x, y, z] = args else {
         return Ok(None);
     };
-    let (Some(x), Some(y)) = (expression(alloc, x)?, expression(alloc, y)?) else {
+    let Some(x) = expression(alloc, x)? else {
         return Ok(None);
     };
-    Ok(expression(alloc, z)?.map(|z| Body::Godlta(x, y, z)))
+    let Some(y) = expression(alloc, y)? else {
+        return Ok(None);
+    };
+    let Some(z) = expression(alloc, z)? else {
+        return Ok(None);
+    };
+    Ok(Some(Body::Godlta(x, y, z)))
 }
 
 /// A surface with its modifier, TO where it is left out.
@@ -135,7 +185,7 @@ fn check_stop(tokens: &[Token]) -> Option<Stop>
 }
 
 /// A contour: the drive surface, and the check surface with its modifier, TO where it is left out.
-pub(crate) fn contour(side: Option<Side>, turn: Go, args: &[&[Token]]) -> Option<Body>
+fn contour(side: Option<Side>, turn: Go, args: &[&[Token]]) -> Option<Body>
     ensures { result ≡ motions.contour side turn (map (λ a. a.now) args.now) }
 {
     match args {
@@ -149,6 +199,13 @@ pub(crate) fn contour(side: Option<Side>, turn: Go, args: &[&[Token]]) -> Option
         )),
         _ => None,
     }
+}
+
+/// A contour with no tool word before it.
+pub(crate) fn onward(turn: Go, args: &[&[Token]]) -> Result<Option<Body>, AllocError>
+    ensures { result ≡ Ok (motions.contour None turn (map (λ a. a.now) args.now)) }
+{
+    Ok(contour(None, turn, args))
 }
 
 /// A contour behind a tool word and a comma.

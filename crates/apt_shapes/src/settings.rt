@@ -2,6 +2,7 @@
 
 ghost use Rattle.std.specs.Prelude.{◌≡◌, map, IfOk};
 ghost use Rattle.apt_shapes.specs.Settings as settings;
+ghost use Rattle.apt_shapes.specs.Shapes.{with_arguments};
 
 use crate::arguments::{is_word, vocabulary};
 use apt_expr::expression;
@@ -21,13 +22,43 @@ pub(crate) fn titled(word: Option<Word>, text: Text) -> Option<Body>
 }
 
 /// The one argument of a statement.
-pub(crate) fn one(alloc: Global, args: &[&[Token]]) -> Result<Option<Expr>, AllocError>
+fn one(alloc: Global, args: &[&[Token]]) -> Result<Option<Expr>, AllocError>
     ensures { IfOk result (λ e. e ≡ settings.one (map (λ a. a.now) args.now)) }
 {
     match args {
         [e] => expression(alloc, e),
         _ => Ok(None),
     }
+}
+
+pub(crate) fn cutter(alloc: Global, args: &[&[Token]]) -> Result<Option<Body>, AllocError>
+    ensures { IfOk result (λ b. b ≡ with_arguments (Some Word.Cutter) (map (λ a. a.now) args.now)) }
+{
+    Ok(one(alloc, args)?.map(Body::Cutter))
+}
+
+pub(crate) fn intol(alloc: Global, args: &[&[Token]]) -> Result<Option<Body>, AllocError>
+    ensures { IfOk result (λ b. b ≡ with_arguments (Some Word.Intol) (map (λ a. a.now) args.now)) }
+{
+    Ok(one(alloc, args)?.map(Body::Intol))
+}
+
+pub(crate) fn outtol(alloc: Global, args: &[&[Token]]) -> Result<Option<Body>, AllocError>
+    ensures { IfOk result (λ b. b ≡ with_arguments (Some Word.Outtol) (map (λ a. a.now) args.now)) }
+{
+    Ok(one(alloc, args)?.map(Body::Outtol))
+}
+
+pub(crate) fn fedrat(alloc: Global, args: &[&[Token]]) -> Result<Option<Body>, AllocError>
+    ensures { IfOk result (λ b. b ≡ with_arguments (Some Word.Fedrat) (map (λ a. a.now) args.now)) }
+{
+    Ok(one(alloc, args)?.map(Body::Fedrat))
+}
+
+pub(crate) fn loadtl(alloc: Global, args: &[&[Token]]) -> Result<Option<Body>, AllocError>
+    ensures { IfOk result (λ b. b ≡ with_arguments (Some Word.Loadtl) (map (λ a. a.now) args.now)) }
+{
+    Ok(one(alloc, args)?.map(Body::Loadtl))
 }
 
 fn expressions(alloc: Global, args: &[&[Token]]) -> Result<Option<Exprs>, AllocError>

@@ -1,13 +1,16 @@
 //! The shapes of statements.
 
 ghost use Rattle.std.specs.Prelude.{◌≡◌, map, IfOk};
+ghost use Rattle.apt_shapes.specs.Arguments as arguments;
 ghost use Rattle.apt_shapes.specs.Shapes as shapes;
 
-use crate::arguments::{arguments, name_of};
+use crate::arguments::{arguments, few_arguments, name_of};
 use crate::figures::{assign, circle, line, point};
 use crate::flow::{call, if_in, jumpto, macro_of};
-use crate::motions::{contour, from, godlta, goto, side_of, start, turned};
-use crate::settings::{coolnt, machin, one, spindl, titled, units_in};
+use crate::motions::{from, godlta, goto, onward, side_of, start, turned};
+use crate::settings::{
+    coolnt, cutter, fedrat, intol, loadtl, machin, outtol, spindl, titled, units_in,
+};
 use apt_lexis::Token;
 use apt_words::{Body, Go, Params, Symbol, Text, Word, word_of};
 use std::alloc::{AllocError, Global};
@@ -58,19 +61,19 @@ fn with_arguments(
     match word {
         Some(Word::Units) => Ok(units_in(args)),
         Some(Word::Machin) => machin(alloc, args),
-        Some(Word::Cutter) => Ok(one(alloc, args)?.map(Body::Cutter)),
-        Some(Word::Intol) => Ok(one(alloc, args)?.map(Body::Intol)),
-        Some(Word::Outtol) => Ok(one(alloc, args)?.map(Body::Outtol)),
-        Some(Word::Fedrat) => Ok(one(alloc, args)?.map(Body::Fedrat)),
-        Some(Word::Loadtl) => Ok(one(alloc, args)?.map(Body::Loadtl)),
+        Some(Word::Cutter) => cutter(alloc, args),
+        Some(Word::Intol) => intol(alloc, args),
+        Some(Word::Outtol) => outtol(alloc, args),
+        Some(Word::Fedrat) => fedrat(alloc, args),
+        Some(Word::Loadtl) => loadtl(alloc, args),
         Some(Word::From) => from(alloc, args),
         Some(Word::Goto) => goto(alloc, args),
         Some(Word::Godlta) => godlta(alloc, args),
         Some(Word::Go) => Ok(start(args)),
-        Some(Word::Golft) => Ok(contour(None, Go::Left, args)),
-        Some(Word::Gorgt) => Ok(contour(None, Go::Right, args)),
-        Some(Word::Gofwd) => Ok(contour(None, Go::Forward, args)),
-        Some(Word::Goback) => Ok(contour(None, Go::Back, args)),
+        Some(Word::Golft) => onward(Go::Left, args),
+        Some(Word::Gorgt) => onward(Go::Right, args),
+        Some(Word::Gofwd) => onward(Go::Forward, args),
+        Some(Word::Goback) => onward(Go::Back, args),
         Some(Word::Spindl) => spindl(alloc, args),
         Some(Word::Coolnt) => Ok(coolnt(args)),
         Some(Word::Call) => call(alloc, args),
@@ -158,15 +161,27 @@ fn if_word(alloc: Global, word: Option<Word>, tokens: &[Token]) -> Result<Option
     }
 }
 
+/// A statement of a word, a slash and these tokens.
+fn behind_slash(
+    alloc: Global,
+    word: Option<Word>,
+    tokens: &[Token],
+) -> Result<Option<Body>, AllocError>
+    ensures { IfOk result (λ b. b ≡ shapes.with_arguments word (arguments.arguments tokens.now)) }
+{
+    match few_arguments(tokens) {
+        Some(args) => with_arguments(alloc, word, &args),
+        None => with_arguments(alloc, word, &arguments(alloc, tokens)?),
+    }
+}
+
 /// A statement without a text.
 fn untitled(alloc: Global, tokens: &[Token]) -> Result<Option<Body>, AllocError>
     ensures { IfOk result (λ b. b ≡ shapes.untitled tokens.now) }
 {
     match tokens {
         [Token::Word(word)] => Ok(alone(word_of(word))),
-        [Token::Word(word), Token::Slash, rest @ ..] => {
-            with_arguments(alloc, word_of(word), &arguments(alloc, rest)?)
-        }
+        [Token::Word(word), Token::Slash, rest @ ..] => { behind_slash(alloc, word_of(word), rest) }
         [Token::Word(word), Token::Equals, rest @ ..] => named(alloc, word, rest),
         [Token::Word(word), Token::Comma, rest @ ..] => with_side(alloc, word_of(word), rest),
         [Token::Word(word), Token::Open, rest @ ..] => if_word(alloc, word_of(word), rest),
@@ -174,13 +189,22 @@ fn untitled(alloc: Global, tokens: &[Token]) -> Result<Option<Body>, AllocError>
     }
 }
 
+/// A word with its text.
+fn with_text(tokens: &[Token], text: Text) -> Option<Body>
+    ensures { result ≡ shapes.with_text tokens.now text }
+{
+    match tokens {
+        [Token::Word(word)] => titled(word_of(word), text),
+        _ => None,
+    }
+}
+
 fn body(alloc: Global, tokens: &[Token], text: Option<Text>) -> Result<Option<Body>, AllocError>
     ensures { IfOk result (λ b. b ≡ shapes.body tokens.now text) }
 {
-    match (tokens, text) {
-        (_, None) => untitled(alloc, tokens),
-        ([Token::Word(word)], Some(text)) => Ok(titled(word_of(word), text)),
-        _ => Ok(None),
+    match text {
+        None => untitled(alloc, tokens),
+        Some(text) => Ok(with_text(tokens, text)),
     }
 }
 
@@ -193,14 +217,17 @@ pub fn shape(
 ) -> Result<Option<Labelled>, AllocError>
     ensures { IfOk result (λ s. s ≡ shapes.shape tokens.now text) }
 {
+    let mut label = None;
+    let mut said = tokens;
     if let [Token::Word(word), Token::Close, rest @ ..] = tokens {
-        let Some(label) = name_of(word) else {
+        let Some(name) = name_of(word) else {
             return Ok(None);
         };
-        return Ok(body(alloc, rest, text)?.map(|body| Labelled {
-            label: Some(label),
-            body,
-        }));
+        label = Some(name);
+        said = rest;
     }
-    Ok(body(alloc, tokens, text)?.map(|body| Labelled { label: None, body }))
+    match body(alloc, said, text)? {
+        Some(body) => Ok(Some(Labelled { label, body })),
+        None => Ok(None),
+    }
 }
