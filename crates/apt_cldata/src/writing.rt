@@ -26,7 +26,8 @@ fn write_exactly(alloc: Global, records: &[Record]) -> Result<Vec<u8>, AllocErro
     requires { IsFile records.now }
     ensures { IfOk result (λ v. v.items ≡ file_of records.now) }
 {
-    let mut bytes = Vec::new(alloc);
+    // The records of a contour segment take 64 bytes each on average, those of a move fewer.
+    let mut bytes = Vec::with_capacity(alloc, records.len().saturating_mul(64))?;
     let mut words = Vec::new(alloc);
     bytes.extend_from_slice(HEAD)?;
     let mut seq = 1;

@@ -96,7 +96,7 @@ impl Open {
 fn regions_of(alloc: Global, stmts: &[Stmt]) -> Result<Vec<Region>, AllocError>
     ensures { IfOk result (λ v. v.items ≡ spec.regions_of stmts.now) }
 {
-    let mut regions = Vec::new(alloc);
+    let mut regions = Vec::with_capacity(alloc, stmts.len())?;
     let mut open = Open::none();
     let mut i = 0;
     'statements: for st in stmts {
@@ -111,8 +111,8 @@ fn regions_of(alloc: Global, stmts: &[Stmt]) -> Result<Vec<Region>, AllocError>
 fn executed_in(alloc: Global, stmts: &[Stmt]) -> Result<Vec<usize>, AllocError>
     ensures { IfOk result (λ v. v.items ≡ tables.executed_in 0 stmts.now) }
 {
-    let mut table = Vec::new(alloc);
     let mut i = stmts.len();
+    let mut table = Vec::with_capacity(alloc, i + 1)?;
     let mut outside = i;
     let mut within = i;
     table.push(outside)?;

@@ -76,7 +76,7 @@ fn unroll_all(alloc: Global, p: &Program) -> Result<Unrolled, AllocError>
 {
     let places = Places::new(alloc, p)?;
     let mut run = Run::new(alloc);
-    let mut steps = Vec::new(alloc);
+    let mut steps = Vec::with_capacity(alloc, p.stmts.len().min(MOST_STEPS as usize))?;
     let mut step = 1;
     let mut left = MOST_STEPS + 1;
     'steps: while left > 0 {
