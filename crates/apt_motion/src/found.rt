@@ -2,7 +2,9 @@
 
 ghost use Rattle.std.specs.Prelude.{IfOk};
 ghost use Rattle.apt_words.specs.Built.{IsBuilt};
-ghost use Rattle.apt_scalar.specs.StepScalars.{HasScalars};
+ghost use Rattle.apt_words.specs.declared.deed.Deed.TheVariants as deeds;
+ghost use Rattle.apt_scalar.specs.Scalars.{IsScalar};
+ghost use Rattle.apt_scalar.specs.StepScalars.{HasScalars, IsScalarOrNone};
 ghost use Rattle.apt_meaning.specs.Compiled.{asked};
 ghost use Rattle.apt_meaning.specs.Effects as asking;
 ghost use Rattle.apt_meaning.specs.Ranges.{IsSituation};
@@ -10,8 +12,9 @@ ghost use Rattle.apt_meaning.specs.Refusals.{refusal_of};
 ghost use Rattle.apt_motion.specs.Finding.{IsFound, IsNoContour, IsNoDefinition};
 
 use crate::contours::contour;
-use crate::refusals::refusal;
-use apt_meaning::{Effect, Situation, effect_of};
+use crate::refusals::{move_to, refusal};
+use apt_cldata::Reach;
+use apt_meaning::{Effect, Situation, effect_of, position_by};
 use apt_plane::Pt;
 use apt_words::{Case, Deed};
 use std::alloc::AllocError;
@@ -35,7 +38,25 @@ pub(crate) fn find(at: &Situation, deed: &Deed) -> Result<Result<Found, Case>, A
         Deed::Contour(side, go, drive, how, check) => {
             Ok(contour(at, *side, *go, drive, *how, check))
         }
+        Deed::GotoXy(x, y, z) => Ok(goto(at, *x, *y, *z)),
         _ => plain(at, deed),
+    }
+}
+
+/// What a GOTO by scalars asks for: its position is found once, for its cases and for the move.
+fn goto(at: &Situation, x: i64, y: i64, z: Option<i64>) -> Result<Found, Case>
+    requires x { IsScalar x }
+    requires y { IsScalar y }
+    requires z { IsScalarOrNone z }
+    ensures { IsFound (asked (refusal_of at.now (deeds.GotoXy x y z)) (asking.effect_of at.now (deeds.GotoXy x y z))) result }
+{
+    let to = position_by(at.settings.units, x, y, z);
+    match move_to(&at.settings, to) {
+        Some(case) => Err(case),
+        None => Ok(Found {
+            effect: Effect::Moves(Reach::Goto, to),
+            end: None,
+        }),
     }
 }
 

@@ -38,7 +38,7 @@ fn write_cut(
 ) -> Result<(), AllocError>
     ensures { OnOk result (records.new.items ≡ records.old.items ++ written.records_of step.now (effects.Cuts motion.now) (end ∷ [])) }
 {
-    let mut at = Vec::new(alloc);
+    let mut at = Vec::with_capacity(alloc, 1)?;
     at.push(Position {
         at: end,
         z: motion.start.z,

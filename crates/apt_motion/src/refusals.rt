@@ -151,7 +151,7 @@ fn goto_point(at: &Situation, p: &Symbol) -> Option<Case>
 
 /// A move leads to a position within the limit, and needs a feed.
 #[tactic(auto, using(crate::proofs::Cases::position_refused, crate::proofs::Cases::position_passed))]
-fn move_to(settings: &Settings, to: Position) -> Option<Case>
+pub(crate) fn move_to(settings: &Settings, to: Position) -> Option<Case>
     ensures { result ≡ first_of (refusals.move_cases settings.now (Some to)) }
 {
     if let Some(case) = position(to) {

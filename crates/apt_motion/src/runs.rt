@@ -104,6 +104,7 @@ fn run_all(alloc: Global, steps: &[Step]) -> Result<Vec<Record>, RunError>
     'steps: for st in steps {
         at = advance(alloc, &mut records, at, st)?;
     }
+    records.shrink_to_fit();
     Ok(records)
 }
 
