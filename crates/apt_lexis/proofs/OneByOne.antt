@@ -1,6 +1,6 @@
 -- The tokens of a text, one after another.
 use Rattle.std.proofs.Common.{◌≡◌, ℕ, ◌+◌, ◌<◌, List, [], ◌∷◌, ◌++◌, length, take, drop, Bool, true, false, ap, ◌∙◌, sym, refl, arith, cond, subst, append_assoc, append-nil}
-use Rattle.std.specs.Prelude.{◌||◌, Ok, Err}
+use Rattle.std.specs.Prelude.{◌||◌, Ok, Err, IfOk}
 use Rattle.std.specs.List.{prefix_len, take_while, flat_map}
 use Rattle.std.proofs.lemmas.Bool.Decides.{nat_tests}
 use Rattle.apt_lexis.specs.declared.token.Token.{Token}
@@ -138,7 +138,7 @@ inner_rest p q (b ∷ bs) h = elim (p b) as (λ t. p b ≡ t → drop (prefix_le
   | false ↦ λ e. rw (prefix_no p b bs e) refl
 ] refl
 
-outer_rest : (p q : ℕ → Bool) (text : List ℕ) → ((b : ℕ) → p b ≡ true → q b ≡ true)
+pub outer_rest : (p q : ℕ → Bool) (text : List ℕ) → ((b : ℕ) → p b ≡ true → q b ≡ true)
     → drop (prefix_len q text) text ≡ drop (prefix_len q (drop (prefix_len p text) text)) (drop (prefix_len p text) text)
 outer_rest p q [] h = refl
 outer_rest p q (b ∷ bs) h = elim (p b) as (λ t. p b ≡ t → drop (prefix_len q (b ∷ bs)) (b ∷ bs) ≡ drop (prefix_len q (drop (prefix_len p (b ∷ bs)) (b ∷ bs))) (drop (prefix_len p (b ∷ bs)) (b ∷ bs))) [
@@ -203,9 +203,18 @@ pub first_word : (text : List ℕ) (b : ℕ) (bs : List ℕ) → behind is_blank
     → tokens_of text ≡ in_front_of (word (take_while is_letter_or_digit (b ∷ bs))) (tokens_of (behind is_letter_or_digit (b ∷ bs)))
 first_word text b bs e f = tokens_behind_blanks text ∙ ap tokens_of e ∙ ap all_good (reads_word b bs f)
 
-pub first_number : (text : List ℕ) (b : ℕ) (bs : List ℕ) → behind is_blank text ≡ b ∷ bs → is_letter b ≡ false → is_in_run b ≡ true
+first_number : (text : List ℕ) (b : ℕ) (bs : List ℕ) → behind is_blank text ≡ b ∷ bs → is_letter b ≡ false → is_in_run b ≡ true
     → tokens_of text ≡ in_front_of (number (take_while is_in_run (b ∷ bs))) (tokens_of (behind is_in_run (b ∷ bs)))
 first_number text b bs e f g = tokens_behind_blanks text ∙ ap tokens_of e ∙ ap all_good (reads_number b bs f g)
+
+-- what stands behind a bad number is not read
+pub number_read : (text : List ℕ) (b : ℕ) (bs : List ℕ) (first : Read) (rest : List ℕ) → behind is_blank text ≡ b ∷ bs → is_letter b ≡ false → is_in_run b ≡ true → first ≡ number (take_while is_in_run (b ∷ bs))
+    → IfOk first (λ _. rest ≡ behind is_in_run (b ∷ bs)) → tokens_of text ≡ in_front_of first (tokens_of rest)
+number_read text b bs first rest e f g h k = first_number text b bs e f g ∙ ap (λ r. in_front_of r (tokens_of (behind is_in_run (b ∷ bs)))) (sym h) ∙ same first (behind is_in_run (b ∷ bs)) rest k
+  where
+    same : (first : Read) (left rest : List ℕ) → IfOk first (λ _. rest ≡ left) → in_front_of first (tokens_of left) ≡ in_front_of first (tokens_of rest)
+    same (Ok t) left rest k = rw k refl
+    same (Err cause) left rest k = refl
 
 pub first_mark : (text : List ℕ) (b : ℕ) (bs : List ℕ) → behind is_blank text ≡ b ∷ bs → is_in_run b ≡ false
     → tokens_of text ≡ in_front_of (mark b) (tokens_of bs)

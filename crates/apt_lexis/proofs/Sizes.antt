@@ -16,3 +16,7 @@ power_split i h = let whole : i + (12 - i) ≡ 12 = omega arith in sym (pow-add 
 -- in the twelfth place it is less than one
 pub places_small : (n i : ℕ) → i ≤ 12 → n < 10 ^ i → n * 10 ^ (12 - i) < 10 ^ 12
 places_small n i h k = rw (sym (power_split i h)) (mul-lt-mul_of_pos_right k (omega (arith, one-le-pow (12 - i) 10 (omega arith))))
+
+-- one more digit
+pub next_small : (n i d : ℕ) → n < 10 ^ i → d ≤ 9 → 10 * n + d < 10 ^ (i + 1)
+next_small n i d h k = omega (arith, h, pow-add 10 i 1)

@@ -5,7 +5,6 @@ use Rattle.std.specs.Prelude.{position, nat_lt}
 use Rattle.std.specs.List.{prefix_len}
 use Rattle.std.proofs.lemmas.Grind.{common_steps}
 use Rattle.apt_lexis.specs.Lines.{split, in_front}
-use Rattle.apt_lexis.specs.Tokens.{decimal}
 use Rattle.apt_lexis.proofs.Fronts.{take_one_more, take_front, prefix_yes, prefix_no}
 use Rattle.apt_lexis.proofs.Fronts as fronts
 
@@ -79,8 +78,3 @@ split_filled c (b ∷ bs) = elim (b == c) as (λ t. Filled (cond t ([] ∷ split
   | true ↦ ([], split c bs, refl)
   | false ↦ filled b (split c bs)
 ]
-
--- a number has one point at most
-pub decimal_of_more : (front back : List ℕ) (c : ℕ) (text : List ℕ) → decimal (front ∷ back ∷ split c text) ≡ None
-decimal_of_more front back c text =
-    let f = split_filled c text in ap (λ parts. decimal (front ∷ back ∷ parts)) f.2

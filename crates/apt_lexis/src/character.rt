@@ -50,13 +50,6 @@ pub(crate) fn letters_or_digits(text: &[u8]) -> usize
 }
 
 #[tactic(auto, using(crate::proofs::Fronts::front_length))]
-pub(crate) fn in_run(text: &[u8]) -> usize
-    ensures { result ≡ prefix_len spec.is_in_run text.now }
-{
-    text.iter().take_while(|b| is_in_run(**b)).count()
-}
-
-#[tactic(auto, using(crate::proofs::Fronts::front_length))]
 pub(crate) fn no_dollars(text: &[u8]) -> usize
     ensures { result ≡ prefix_len sentences.is_no_dollar text.now }
 {

@@ -1,11 +1,13 @@
 //! Numbers.
 
-ghost use Rattle.std.specs.Prelude.{◌≡◌, ◌+◌, ◌-◌, ◌*◌, ◌^◌, ◌<◌, ◌≤◌, IfSome, length, option_map};
-ghost use Rattle.apt_words.specs.Options.{only_if};
+ghost use Rattle.std.specs.Prelude.{◌≡◌, ◌≢◌, ℕ, List, ◌∷◌, ◌+◌, ◌-◌, ◌*◌, ◌^◌, ◌<◌, ◌≤◌, Some, None, IfSome, IsNone};
+ghost use Rattle.std.specs.List.{take_while, prefix_len};
+ghost use Rattle.apt_words.specs.Symbols.{is_digit};
 ghost use Rattle.apt_lexis.specs.Lines as lines;
+ghost use Rattle.apt_lexis.specs.Titles.{behind};
 ghost use Rattle.apt_lexis.specs.Tokens as spec;
 
-use crate::lines::cut;
+use crate::character::is_in_run;
 
 /// The greatest number of digits on a side of the point.
 const MOST_DIGITS: usize = 12;
@@ -19,24 +21,30 @@ const MOST_FRONT: u64 = 1_000_000;
 /// The greatest number, 1000000, in the twelfth place.
 const MOST: u64 = 1_000_000_000_000_000_000;
 
-/// The number of at most 12 digits.
-#[tactic(auto, using(crate::proofs::Sizes::digits_small))]
-fn number_of(text: &[u8]) -> Option<u64>
-    ensures value { result ≡ only_if (spec.are_digits text.now) (spec.number_of 0 text.now) }
-    ensures small { IfSome result (λ n. n < 10 ^ length text.now) }
-    ensures few { IfSome result (λ _. length text.now ≤ 12) }
+/// The digits at the front of a text: their number, how many they are, and what stands behind them; none where they are more than 12.
+fn split_digits(text: &[u8]) -> Option<(u64, usize, &[u8])>
+    ensures none { IsNone result → 12 < prefix_len is_digit text.now }
+    ensures count { IfSome result (λ r. r.1 ≡ prefix_len is_digit text.now) }
+    ensures number { IfSome result (λ r. r.0 ≡ spec.number_of 0 (take_while is_digit text.now)) }
+    ensures few { IfSome result (λ r. r.1 ≤ 12) }
+    ensures small { IfSome result (λ r. r.0 < 10 ^ r.1) }
+    ensures rest { IfSome result (λ r. r.2.now ≡ behind is_digit text.now) }
 {
-    if text.len() > MOST_DIGITS {
-        return None;
-    }
     let mut number = 0;
-    'digits: for b in text {
+    let mut count = 0;
+    let mut rest = text;
+    'digits: while let Some((b, after)) = rest.split_first() {
         if !b.is_ascii_digit() {
+            return Some((number, count, rest));
+        }
+        if count == MOST_DIGITS {
             return None;
         }
         number = 10 * number + u64::from(*b - b'0');
+        count += 1;
+        rest = after;
     }
-    Some(number)
+    Some((number, count, rest))
 }
 
 /// A power of ten, by cases since it is called for each number.
@@ -61,36 +69,68 @@ fn power(places: usize) -> u64
     }
 }
 
-/// What digits behind a point count in the twelfth place.
-#[tactic(auto, using(crate::proofs::Sizes::places_small))]
-fn units_of(back: &[u8]) -> Option<u64>
-    ensures value { result ≡ only_if (spec.are_digits back.now) (spec.number_of 0 back.now * 10 ^ (12 - length back.now)) }
-    ensures small { IfSome result (λ units. units < 10 ^ 12) }
+fn begins_in_run(text: &[u8]) -> bool
+    ensures { result ≡ spec.begins_in_run text.now }
 {
-    let number = number_of(back)?;
-    Some(number * power(MOST_DIGITS - back.len()))
+    match text.split_first() {
+        Some((b, _)) => is_in_run(*b),
+        None => false,
+    }
 }
 
-/// Digits with at most one point: the number in front of it, and what stands behind it in the twelfth place.
-#[tactic(auto, using(crate::proofs::Decimals::no_front, crate::proofs::Decimals::no_back, crate::proofs::Decimals::nothing, crate::proofs::Decimals::no_digits, crate::proofs::Decimals::front_alone, crate::proofs::Decimals::both_sides))]
-fn decimal(text: &[u8]) -> Option<(u64, u64)>
-    ensures value { option_map (λ r. r.0 * 10 ^ 12 + r.1) result ≡ spec.decimal (lines.split spec.point text.now) }
-    ensures small { IfSome result (λ r. r.1 < 10 ^ 12) }
+/// What stands behind a point at the front of a text.
+fn after_point(text: &[u8]) -> Option<&[u8]>
+    ensures some { IfSome result (λ back. text.now ≡ spec.point ∷ back.now) }
+    ensures none { IsNone result → (back : List ℕ) → text.now ≢ spec.point ∷ back }
 {
-    let (front, rest) = cut(text, b'.');
-    let whole = number_of(front)?;
-    let Some(back) = rest else {
-        return if front.is_empty() {
+    match text.split_first() {
+        Some((b'.', back)) => Some(back),
+        _ => None,
+    }
+}
+
+/// The digits behind a point in the twelfth place, how many they are, and what stands behind them.
+#[tactic(auto, using(crate::proofs::Sizes::places_small))]
+fn behind_point(back: &[u8]) -> Option<(u64, usize, &[u8])>
+    ensures none { IsNone result → 12 < prefix_len is_digit back.now }
+    ensures count { IfSome result (λ r. r.1 ≡ prefix_len is_digit back.now) }
+    ensures units { IfSome result (λ r. r.0 ≡ spec.number_of 0 (take_while is_digit back.now) * 10 ^ (12 - prefix_len is_digit back.now)) }
+    ensures few { IfSome result (λ r. r.1 ≤ 12) }
+    ensures small { IfSome result (λ r. r.0 < 10 ^ 12) }
+    ensures rest { IfSome result (λ r. r.2.now ≡ behind is_digit back.now) }
+{
+    let (number, places, rest) = split_digits(back)?;
+    Some((number * power(MOST_DIGITS - places), places, rest))
+}
+
+/// Digits with at most one point at the front of a text: the number in front of the point, what stands behind the
+/// point in the twelfth place, and the rest of the text; none where the run that they begin is no such number.
+#[tactic(auto, using(crate::proofs::Fronts::front_short, crate::proofs::Runs::too_long, crate::proofs::Runs::other_in_run, crate::proofs::Runs::alone, crate::proofs::Runs::no_digits_alone, crate::proofs::Runs::alone_behind, crate::proofs::Runs::too_long_back, crate::proofs::Runs::more_in_run, crate::proofs::Runs::with_point, crate::proofs::Runs::no_digits, crate::proofs::Runs::with_point_behind))]
+fn decimal(text: &[u8]) -> Option<(u64, u64, &[u8])>
+    ensures none { IsNone result → spec.decimal (lines.split spec.point (take_while spec.is_in_run text.now)) ≡ None }
+    ensures value { IfSome result (λ r. spec.decimal (lines.split spec.point (take_while spec.is_in_run text.now)) ≡ Some (r.0 * 10 ^ 12 + r.1)) }
+    ensures small { IfSome result (λ r. r.1 < 10 ^ 12) }
+    ensures rest { IfSome result (λ r. r.2.now ≡ behind spec.is_in_run text.now) }
+{
+    let (whole, digits, rest) = split_digits(text)?;
+    let Some(back) = after_point(rest) else {
+        if begins_in_run(rest) {
+            return None;
+        }
+        return if digits == 0 {
             None
         } else {
-            Some((whole, 0))
+            Some((whole, 0, rest))
         };
     };
-    let units = units_of(back)?;
-    if front.len() + back.len() == 0 {
+    let (units, places, rest) = behind_point(back)?;
+    if begins_in_run(rest) {
+        return None;
+    }
+    if digits + places == 0 {
         None
     } else {
-        Some((whole, units))
+        Some((whole, units, rest))
     }
 }
 
@@ -116,10 +156,13 @@ fn millionths(whole: u64, units: u64) -> Option<i64>
     rounded(whole * UNIT + units)
 }
 
-/// The number of a run of letters, digits and points.
-pub(crate) fn number_in(run: &[u8]) -> Option<i64>
-    ensures { result ≡ spec.number_in run.now }
+/// The number at the front of a text, and what stands behind it; none where the run at the front is no number.
+pub(crate) fn number_first(text: &[u8]) -> Option<(i64, &[u8])>
+    ensures none { IsNone result → spec.number_in (take_while spec.is_in_run text.now) ≡ None }
+    ensures value { IfSome result (λ r. spec.number_in (take_while spec.is_in_run text.now) ≡ Some r.0) }
+    ensures rest { IfSome result (λ r. r.1.now ≡ behind spec.is_in_run text.now) }
 {
-    let (whole, units) = decimal(run)?;
-    millionths(whole, units)
+    let (whole, units, rest) = decimal(text)?;
+    let size = millionths(whole, units)?;
+    Some((size, rest))
 }

@@ -1,6 +1,7 @@
 //! Tokens.
 
-ghost use Rattle.std.specs.Prelude.{◌≡◌, ◌<◌, [], ◌∷◌, ◌++◌, OnOk, length, IfOk, Ok, IfSome, IsNone, map};
+ghost use Rattle.std.specs.Prelude.{◌≡◌, ◌<◌, [], ◌∷◌, ◌++◌, OnOk, length, IfOk, IfErr, Ok, IfSome, IsNone, map};
+ghost use Rattle.std.specs.List.{take_while};
 ghost use Rattle.apt_words.specs.Options.{only_if};
 ghost use Rattle.apt_words.specs.Symbols.{is_symbol};
 ghost use Rattle.apt_lexis.specs.Phrase.{good};
@@ -9,8 +10,8 @@ ghost use Rattle.apt_lexis.specs.Titles.{behind};
 ghost use Rattle.apt_lexis.specs.Tokens as spec;
 
 use crate::PartCause;
-use crate::character::{blanks, capital, in_run, is_in_run, is_letter, letters_or_digits};
-use crate::number::number_in;
+use crate::character::{blanks, capital, is_in_run, is_letter, letters_or_digits};
+use crate::number::number_first;
 use apt_words::Symbol;
 use arrayvec::ArrayVec;
 use std::alloc::AllocError;
@@ -57,12 +58,15 @@ fn word(text: &[u8]) -> Result<Token, PartCause>
     }
 }
 
-fn number(run: &[u8]) -> Result<Token, PartCause>
-    ensures { result ≡ spec.number run.now }
+/// The number at the front of a text and what stands behind it; the rest of a text with a bad one is let go.
+fn number(text: &[u8]) -> (Result<Token, PartCause>, &[u8])
+    ensures value { result.0 ≡ spec.number (take_while spec.is_in_run text.now) }
+    ensures rest { IfOk result.0 (λ _. result.1.now ≡ behind spec.is_in_run text.now) }
+    ensures shorter { IfErr result.0 (λ _. result.1.now ≡ []) }
 {
-    match number_in(run) {
-        Some(size) => Ok(Token::Number(size)),
-        None => Err(PartCause::BadNumber),
+    match number_first(text) {
+        Some((size, rest)) => (Ok(Token::Number(size)), rest),
+        None => (Err(PartCause::BadNumber), &[]),
     }
 }
 
@@ -91,7 +95,7 @@ pub(crate) fn behind_blanks(text: &[u8]) -> &[u8]
 }
 
 /// The first token of a text, or why it is none, and what stands behind it; none where there are blanks alone.
-#[tactic(auto, using(crate::proofs::Fronts::front_short, crate::proofs::OneByOne::no_tokens, crate::proofs::OneByOne::first_word, crate::proofs::OneByOne::first_number, crate::proofs::OneByOne::first_mark))]
+#[tactic(auto, using(crate::proofs::Fronts::front_short, crate::proofs::OneByOne::no_tokens, crate::proofs::OneByOne::first_word, crate::proofs::OneByOne::number_read, crate::proofs::OneByOne::first_mark))]
 fn next_token(text: &[u8]) -> Option<(Result<Token, PartCause>, &[u8])>
     ensures none { IsNone result → spec.tokens_of text.now ≡ Ok [] }
     ensures some { IfSome result (λ r. spec.tokens_of text.now ≡ spec.in_front_of r.0 (spec.tokens_of r.1.now)) }
@@ -103,8 +107,7 @@ fn next_token(text: &[u8]) -> Option<(Result<Token, PartCause>, &[u8])>
         let (front, rest) = text.split_at(letters_or_digits(text));
         Some((word(front), rest))
     } else if is_in_run(*b) {
-        let (front, rest) = text.split_at(in_run(text));
-        Some((number(front), rest))
+        Some(number(text))
     } else {
         Some((mark(*b), after))
     }
