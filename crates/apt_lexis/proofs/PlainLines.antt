@@ -1,21 +1,20 @@
 -- Lines without a `$` that a line feed alone ends.
-use Rattle.std.proofs.Common.{◌≡◌, ℕ, ◌==◌, List, [], ◌∷◌, length, take, drop, Bool, true, false, ap, ◌∙◌, refl, arith}
+use Rattle.std.proofs.Common.{◌≡◌, ◌≤◌, ◌<◌, ℕ, ◌==◌, List, [], ◌∷◌, ◌++◌, length, take, drop, get_or, Bool, true, false, ap, ◌∙◌, sym, subst, refl, arith}
 use Rattle.std.specs.Prelude.{◌&&◌}
 use Rattle.std.specs.List.{list_all, prefix_len}
+use Rattle.std.proofs.lemmas.List.{get_or-take, length-take-le, take-append-drop}
+use Rattle.std.proofs.lemmas.List.Elements.{All-from_get_or}
+use Rattle.std.proofs.lemmas.List.Sums.{list_all-from_AllPass}
 use Rattle.std.proofs.Math.Seq.{take-length, drop-length}
 use Rattle.std.proofs.lemmas.Bool.Decides.{nat_tests}
-use Rattle.apt_lexis.specs.Lines.{line_feed, carriage_return, is_character, lines_of, without_return}
+use Rattle.apt_lexis.specs.Lines.{split, in_front, line_feed, carriage_return, is_character, lines_of, without_return}
 use Rattle.apt_lexis.specs.Sentences.{is_no_dollar, said_on, goes_on}
 use Rattle.apt_lexis.proofs.LineLaws.{line_first}
-use Rattle.apt_lexis.proofs.Splitting.{split_front}
-use Rattle.apt_lexis.proofs.Fronts.{front_passes, passes_other, whole_front}
+use Rattle.apt_lexis.proofs.Fronts.{passes_other, whole_front}
 
 -- a character that is no `$`
 abbrev pub is_plain : ℕ → Bool
 is_plain b = is_character b && is_no_dollar b
-
-abbrev plain_part : List ℕ → List ℕ
-plain_part text = take (prefix_len is_plain text) text
 
 no_line_feed : (b : ℕ) → is_plain b ≡ true → (b == line_feed) ≡ false
 no_line_feed b e = grind (arith, nat_tests)
@@ -29,20 +28,21 @@ character_of_plain b e = grind (arith, nat_tests)
 no_dollar_of_plain : (b : ℕ) → is_plain b ≡ true → is_no_dollar b ≡ true
 no_dollar_of_plain b e = grind (arith, nat_tests)
 
-plain_passes : (test : ℕ → Bool) → ((b : ℕ) → is_plain b ≡ true → test b ≡ true) → (text : List ℕ) → list_all test (plain_part text) ≡ true
-plain_passes test h text = passes_other is_plain test h (plain_part text) (front_passes is_plain text)
+pub all_plain : (text : List ℕ) (n : ℕ) → n ≤ length text → ((k : ℕ) → k < n → is_plain (get_or text k 0) ≡ true) → list_all is_plain (take n text) ≡ true
+all_plain text n h each =
+    list_all-from_AllPass is_plain (take n text) (All-from_get_or (λ b. is_plain b ≡ true) (take n text) 0 (λ k inside. subst (λ b. is_plain b ≡ true) (sym (get_or-take n text k 0 (omega (arith, length-take-le n text h)))) (each k (omega (arith, length-take-le n text h)))))
 
-pub plain_characters : (text : List ℕ) → list_all is_character (plain_part text) ≡ true
-plain_characters text = plain_passes is_character character_of_plain text
+pub plain_characters : (text : List ℕ) → list_all is_plain text ≡ true → list_all is_character text ≡ true
+plain_characters text e = passes_other is_plain is_character character_of_plain text e
 
-no_dollars : (text : List ℕ) → prefix_len is_no_dollar (plain_part text) ≡ length (plain_part text)
-no_dollars text = whole_front is_no_dollar (plain_part text) (plain_passes is_no_dollar no_dollar_of_plain text)
+no_dollars : (text : List ℕ) → list_all is_plain text ≡ true → prefix_len is_no_dollar text ≡ length text
+no_dollars text e = whole_front is_no_dollar text (passes_other is_plain is_no_dollar no_dollar_of_plain text e)
 
-pub plain_said : (text : List ℕ) → said_on (plain_part text) ≡ plain_part text
-plain_said text = rw (no_dollars text) (take-length (plain_part text))
+pub plain_said : (text : List ℕ) → list_all is_plain text ≡ true → said_on text ≡ text
+plain_said text e = rw (no_dollars text e) (take-length text)
 
-pub plain_ends : (text : List ℕ) → goes_on (plain_part text) ≡ false
-plain_ends text = rw (no_dollars text, drop-length (plain_part text)) refl
+pub plain_ends : (text : List ℕ) → list_all is_plain text ≡ true → goes_on text ≡ false
+plain_ends text e = rw (no_dollars text e, drop-length text) refl
 
 first_of : (b : ℕ) (bs : List ℕ) → list_all is_plain (b ∷ bs) ≡ true → is_plain b ≡ true
 first_of b bs e = both (is_plain b) (list_all is_plain bs) e
@@ -63,8 +63,12 @@ kept [] e = refl
 kept (b ∷ []) e = rw (no_return b (first_of b [] e)) refl
 kept (b ∷ c ∷ bs) e = ap (λ line. b ∷ line) (kept (c ∷ bs) (rest_of b (c ∷ bs) e))
 
--- the first line where its plain front ends at a line feed
-pub first_plain : (text after : List ℕ) → drop (prefix_len is_plain text) text ≡ line_feed ∷ after → lines_of text ≡ plain_part text ∷ lines_of after
-first_plain text after e =
-    line_first text (plain_part text) after (split_front line_feed is_plain no_line_feed text after e)
-    ∙ ap (λ line. line ∷ lines_of after) (kept (plain_part text) (front_passes is_plain text))
+split_plain : (front after : List ℕ) → list_all is_plain front ≡ true → split line_feed (front ++ line_feed ∷ after) ≡ front ∷ split line_feed after
+split_plain [] after e = refl
+split_plain (b ∷ bs) after e = rw (no_line_feed b (first_of b bs e)) (ap (in_front b) (split_plain bs after (rest_of b bs e)))
+
+-- the first line where a line feed stands behind plain bytes
+pub first_plain : (text after : List ℕ) (n : ℕ) → list_all is_plain (take n text) ≡ true → drop n text ≡ line_feed ∷ after → lines_of text ≡ take n text ∷ lines_of after
+first_plain text after n e f =
+    let parts : split line_feed text ≡ take n text ∷ split line_feed after = subst (λ t. split line_feed t ≡ take n text ∷ split line_feed after) (ap (λ t. take n text ++ t) (sym f) ∙ take-append-drop n text) (split_plain (take n text) after e) in
+    line_first text (take n text) after parts ∙ ap (λ line. line ∷ lines_of after) (kept (take n text) e)

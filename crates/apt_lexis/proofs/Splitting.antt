@@ -1,12 +1,11 @@
 -- The parts of a text at the first place of a byte.
-use Rattle.std.proofs.Common.{◌≡◌, ℕ, ◌+◌, ◌<◌, ◌≤◌, ◌==◌, List, [], ◌∷◌, length, take, drop, Bool, true, false, not, Some, None, ap, ◌∙◌, sym, refl, arith, cond, subst, eq-eqb}
+use Rattle.std.proofs.Common.{◌≡◌, ℕ, ◌+◌, ◌<◌, ◌≤◌, ◌==◌, List, [], ◌∷◌, length, take, drop, true, false, not, Some, None, ap, ◌∙◌, refl, arith, cond, subst}
 use borrow.Author.Tests.{ltb-true, ltb-false}
 use Rattle.std.specs.Prelude.{position, nat_lt}
 use Rattle.std.specs.List.{prefix_len}
 use Rattle.std.proofs.lemmas.Grind.{common_steps}
 use Rattle.apt_lexis.specs.Lines.{split, in_front}
-use Rattle.apt_lexis.proofs.Fronts.{take_one_more, take_front, prefix_yes, prefix_no}
-use Rattle.apt_lexis.proofs.Fronts as fronts
+use Rattle.apt_lexis.proofs.Fronts.{take_one_more}
 
 -- how far the first such byte is
 abbrev far : ℕ → List ℕ → ℕ
@@ -43,26 +42,6 @@ split_absent c text e = elim (nat_lt (far c text) (length text)) as (λ t. nat_l
   | true ↦ λ h k. cc
   | false ↦ λ h k. split_far c text (ltb-false _ _ h)
 ] refl e
-
-same_first : (b c : ℕ) (bs cs : List ℕ) → b ∷ bs ≡ c ∷ cs → b ≡ c
-same_first b c bs cs e = cc
-
-same_rest : (b c : ℕ) (bs cs : List ℕ) → b ∷ bs ≡ c ∷ cs → bs ≡ cs
-same_rest b c bs cs e = cc
-
-split_here : (b c : ℕ) (bs after : List ℕ) → b ∷ bs ≡ c ∷ after → split c (b ∷ bs) ≡ [] ∷ split c after
-split_here b c bs after e = rw (eq-eqb b c (same_first b c bs after e), same_rest b c bs after e) refl
-
--- a text up to the first byte that fails a test, which the byte between parts fails
-pub split_front : (c : ℕ) (test : ℕ → Bool) → ((b : ℕ) → test b ≡ true → (b == c) ≡ false) → (text after : List ℕ) → drop (prefix_len test text) text ≡ c ∷ after
-    → split c text ≡ take (prefix_len test text) text ∷ split c after
-split_front c test none [] after h = cc
-split_front c test none (b ∷ bs) after h = elim (test b) as (λ t. test b ≡ t → split c (b ∷ bs) ≡ take (prefix_len test (b ∷ bs)) (b ∷ bs) ∷ split c after) [
-  | true ↦ λ e.
-      let behind : drop (prefix_len test bs) bs ≡ c ∷ after = sym (fronts.drop_one_more (prefix_len test bs) b bs) ∙ subst (λ n. drop n (b ∷ bs) ≡ c ∷ after) (prefix_yes test b bs e) h in
-      rw (none b e, take_front test b bs e) (ap (in_front b) (split_front c test none bs after behind))
-  | false ↦ λ e. rw (prefix_no test b bs e) (split_here b c bs after (subst (λ n. drop n (b ∷ bs) ≡ c ∷ after) (prefix_no test b bs e) h))
-] refl
 
 abbrev pub Filled : List (List ℕ) → Type 0
 Filled parts = (first : List ℕ) × (rest : List (List ℕ)) × (parts ≡ first ∷ rest)

@@ -1,13 +1,15 @@
 //! A line as its statement is read from it.
 
-ghost use Rattle.std.specs.Prelude.{◌≡◌, ◌&&◌, [], ◌∷◌, ◌<◌, ◌≤◌, length, IfSome, IsNone};
+ghost use Rattle.std.specs.Prelude.{◌≡◌, ◌+◌, ◌==◌, if◌then◌else◌, ◌&&◌, ℕ, true, take, slice_index, [], ◌∷◌, ◌<◌, ◌≤◌, length, IfSome, IsNone};
 ghost use Rattle.std.specs.List.{list_all, prefix_len};
+ghost use Rattle.std.specs.Int.{trailing_zeros, w64};
 ghost use Rattle.apt_lexis.specs.Lines as lines;
 ghost use Rattle.apt_lexis.specs.Sentences as spec;
 
 use crate::PartCause;
 use crate::character::no_dollars;
 use crate::lines::{are_characters, next_line};
+use std::simd::prelude::*;
 
 /// The greatest number of lines.
 const MOST_LINES: u32 = 50_000;
@@ -28,18 +30,47 @@ pub(crate) struct Line<'a> {
     ghost characters: { are_characters ≡ list_all lines.is_character text.now },
 }
 
-/// Whether a byte is a character and no `$`.
-fn is_plain(b: u8) -> bool
-    ensures { result ≡ (lines.is_character b && spec.is_no_dollar b) }
+/// So many bytes are looked at together.
+const LANES: usize = 16;
+
+/// The place of the lowest bit of 16 that is set, and 16 where none is.
+fn first_set(mask: u64) -> usize
+    ensures { result ≡ (if mask == 0 then 16 else trailing_zeros w64 mask) }
 {
-    (b'%' <= b && b <= b'~') || (b' ' <= b && b <= b'#') || b == b'\t'
+    if mask == 0 {
+        LANES
+    } else {
+        mask.trailing_zeros() as usize
+    }
 }
 
-#[tactic(auto, using(crate::proofs::Fronts::front_length))]
-fn plain_front(text: &[u8]) -> usize
-    ensures { result ≡ prefix_len (λ b. lines.is_character b && spec.is_no_dollar b) text.now }
+/// How many of the next 16 bytes, from the first, are characters and no `$`.
+fn plain_lanes(text: &[u8], at: usize) -> usize
+    requires { at + 16 ≤ length text.now }
+    ensures few { result ≤ 16 }
+    ensures plain { (k : ℕ) → at ≤ k → k < at + result → (lines.is_character (slice_index text.now k) && spec.is_no_dollar (slice_index text.now k)) ≡ true }
 {
-    text.iter().take_while(|b| is_plain(**b)).count()
+    let v = u8x16::from_slice(&text[at..]);
+    let is_control = v.simd_lt(u8x16::splat(b' ')) & v.simd_ne(u8x16::splat(b'\t'));
+    let stops = is_control | v.simd_gt(u8x16::splat(b'~')) | v.simd_eq(u8x16::splat(b'$'));
+    first_set(stops.to_bitmask())
+}
+
+/// How many bytes at the front of a text are seen to be characters and no `$`; near its end there may be more.
+#[tactic(auto, using(crate::proofs::PlainLines::all_plain))]
+fn plain_front(text: &[u8]) -> usize
+    ensures within { result ≤ length text.now }
+    ensures plain { list_all (λ b. lines.is_character b && spec.is_no_dollar b) (take result text.now) ≡ true }
+{
+    let mut at = 0;
+    'lanes: while text.len() - at >= LANES {
+        let run = plain_lanes(text, at);
+        at += run;
+        if run < LANES {
+            return at;
+        }
+    }
+    at
 }
 
 /// Whether a `$` begins a text with no other behind it.
