@@ -100,12 +100,12 @@ pub(crate) fn call(alloc: Global, args: &[&[Token]]) -> Result<Option<Body>, All
     Ok(arguments_in(alloc, rest)?.map(|list| Body::Call(called, list)))
 }
 
-pub(crate) fn jumpto(args: &[&[Token]]) -> Option<Body>
-    ensures { result ≡ flow.jumpto (map (λ a. a.now) args.now) }
+pub(crate) fn jumpto(args: &[&[Token]]) -> Result<Option<Body>, AllocError>
+    ensures { IfOk result (λ b. b ≡ flow.jumpto (map (λ a. a.now) args.now)) }
 {
     match args {
-        [l] => name(l).map(Body::Jumpto),
-        _ => None,
+        [l] => Ok(name(l).map(Body::Jumpto)),
+        _ => Ok(None),
     }
 }
 

@@ -138,15 +138,15 @@ fn start_two(first: &[&[Token]], second: &[&[Token]]) -> Option<Body>
     Some(Body::GoStart(stop, drive, Some(surface(second)?)))
 }
 
-pub(crate) fn start(args: &[&[Token]]) -> Option<Body>
-    ensures { result ≡ motions.start (map (λ a. a.now) args.now) }
+pub(crate) fn start(args: &[&[Token]]) -> Result<Option<Body>, AllocError>
+    ensures { IfOk result (λ b. b ≡ motions.start (map (λ a. a.now) args.now)) }
 {
     match args {
-        [a] => start_one(&[a]),
-        [a, b] => start_one(&[a, b]).or_else(|| start_two(&[a], &[b])),
-        [a, b, c] => start_two(&[a, b], &[c]).or_else(|| start_two(&[a], &[b, c])),
-        [a, b, c, d] => start_two(&[a, b], &[c, d]),
-        _ => None,
+        [a] => Ok(start_one(&[a])),
+        [a, b] => Ok(start_one(&[a, b]).or_else(|| start_two(&[a], &[b]))),
+        [a, b, c] => Ok(start_two(&[a, b], &[c]).or_else(|| start_two(&[a], &[b, c]))),
+        [a, b, c, d] => Ok(start_two(&[a, b], &[c, d])),
+        _ => Ok(None),
     }
 }
 
@@ -203,7 +203,7 @@ fn contour(side: Option<Side>, turn: Go, args: &[&[Token]]) -> Option<Body>
 
 /// A contour with no tool word before it.
 pub(crate) fn onward(turn: Go, args: &[&[Token]]) -> Result<Option<Body>, AllocError>
-    ensures { result ≡ Ok (motions.contour None turn (map (λ a. a.now) args.now)) }
+    ensures { IfOk result (λ b. b ≡ motions.contour None turn (map (λ a. a.now) args.now)) }
 {
     Ok(contour(None, turn, args))
 }

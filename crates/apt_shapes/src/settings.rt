@@ -90,12 +90,12 @@ fn units_of(word: Option<Word>) -> Option<Units>
     }
 }
 
-pub(crate) fn units_in(args: &[&[Token]]) -> Option<Body>
-    ensures { result ≡ settings.units_in (map (λ a. a.now) args.now) }
+pub(crate) fn units_in(args: &[&[Token]]) -> Result<Option<Body>, AllocError>
+    ensures { IfOk result (λ b. b ≡ settings.units_in (map (λ a. a.now) args.now)) }
 {
     match args {
-        [a] => units_of(vocabulary(a)).map(Body::Units),
-        _ => None,
+        [a] => Ok(units_of(vocabulary(a)).map(Body::Units)),
+        _ => Ok(None),
     }
 }
 
@@ -140,11 +140,11 @@ fn cool_of(word: Option<Word>) -> Option<Cool>
     }
 }
 
-pub(crate) fn coolnt(args: &[&[Token]]) -> Option<Body>
-    ensures { result ≡ settings.coolnt (map (λ a. a.now) args.now) }
+pub(crate) fn coolnt(args: &[&[Token]]) -> Result<Option<Body>, AllocError>
+    ensures { IfOk result (λ b. b ≡ settings.coolnt (map (λ a. a.now) args.now)) }
 {
     match args {
-        [a] => cool_of(vocabulary(a)).map(Body::Coolnt),
-        _ => None,
+        [a] => Ok(cool_of(vocabulary(a)).map(Body::Coolnt)),
+        _ => Ok(None),
     }
 }

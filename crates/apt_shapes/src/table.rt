@@ -59,7 +59,7 @@ fn with_arguments(
     ensures { IfOk result (λ b. b ≡ shapes.with_arguments word (map (λ a. a.now) args.now)) }
 {
     match word {
-        Some(Word::Units) => Ok(units_in(args)),
+        Some(Word::Units) => units_in(args),
         Some(Word::Machin) => machin(alloc, args),
         Some(Word::Cutter) => cutter(alloc, args),
         Some(Word::Intol) => intol(alloc, args),
@@ -69,15 +69,15 @@ fn with_arguments(
         Some(Word::From) => from(alloc, args),
         Some(Word::Goto) => goto(alloc, args),
         Some(Word::Godlta) => godlta(alloc, args),
-        Some(Word::Go) => Ok(start(args)),
+        Some(Word::Go) => start(args),
         Some(Word::Golft) => onward(Go::Left, args),
         Some(Word::Gorgt) => onward(Go::Right, args),
         Some(Word::Gofwd) => onward(Go::Forward, args),
         Some(Word::Goback) => onward(Go::Back, args),
         Some(Word::Spindl) => spindl(alloc, args),
-        Some(Word::Coolnt) => Ok(coolnt(args)),
+        Some(Word::Coolnt) => coolnt(args),
         Some(Word::Call) => call(alloc, args),
-        Some(Word::Jumpto) => Ok(jumpto(args)),
+        Some(Word::Jumpto) => jumpto(args),
         _ => Ok(None),
     }
 }
@@ -169,10 +169,10 @@ fn behind_slash(
 ) -> Result<Option<Body>, AllocError>
     ensures { IfOk result (λ b. b ≡ shapes.with_arguments word (arguments.arguments tokens.now)) }
 {
-    match few_arguments(tokens) {
-        Some(args) => with_arguments(alloc, word, &args),
-        None => with_arguments(alloc, word, &arguments(alloc, tokens)?),
-    }
+    let Some(args) = few_arguments(tokens) else {
+        return with_arguments(alloc, word, &arguments(alloc, tokens)?);
+    };
+    with_arguments(alloc, word, &args)
 }
 
 /// A statement without a text.
