@@ -10,7 +10,7 @@ mod tests;
 mod write;
 
 pub use block::{Block, Fault, Mark, TapeCause, TapeWord};
-pub use machine::BlockReader;
+pub use machine::{BlockReader, OpenWord};
 pub use read::{BlockError, read_block};
 pub use table::Form;
 pub use write::write_block;

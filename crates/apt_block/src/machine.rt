@@ -1,6 +1,6 @@
 //! A block read character by character.
 
-ghost use Rattle.std.specs.Prelude.{◌≡◌, ◌≤◌, ◌<◌, ◌^◌, length, true, false, IsTrue, Ok};
+ghost use Rattle.std.specs.Prelude.{◌≡◌, ◌≤◌, ◌<◌, ◌^◌, ◌==◌, length, true, false, IsTrue, IfSome, IsSome, Ok};
 ghost use Rattle.apt_block.specs.Block as spec;
 ghost use Rattle.apt_block.specs.Machine as machine;
 ghost use Rattle.apt_block.specs.Machine.{IsStep, HasDigits};
@@ -113,6 +113,25 @@ fn with_digit(word: OpenWord, c: Mark) -> OpenWord
     }
 }
 
+impl OpenWord {
+    /// Takes a character if it is a digit that more may follow, and answers whether it did.
+    #[tactic(auto, using(crate::proofs::Rooms::room_step))]
+    pub fn take(&mut self, c: Mark) -> bool
+        requires room { HasDigits self.old }
+        ensures digit { IsTrue result → spec.is_digit c.ch ≡ true }
+        ensures later { IsTrue result → (self.old.later == 0) ≡ false }
+        ensures taken { IsTrue result → self.new ≡ machine.with_digit self.old c }
+        ensures room { HasDigits self.new }
+        ensures left { result ≡ false → self.new ≡ self.old }
+    {
+        if self.later == 0 || !is_digit(c.ch) {
+            return false;
+        }
+        add_digit(self, c);
+        true
+    }
+}
+
 /// Adds a digit to a word.
 #[tactic(auto, using(crate::proofs::Rooms::size_fits, crate::proofs::Rooms::digit_size))]
 fn add_digit(word: &mut OpenWord, c: Mark)
@@ -168,6 +187,27 @@ impl BlockReader {
             Want::Digit(word) => self.digit_step(word, c),
             Want::Nothing => Err(bad_block(c.at)),
         }
+    }
+
+    /// The word whose digits come next.
+    pub fn number(&self) -> Option<OpenWord>
+        ensures open { IfSome result (λ w. self.now.want ≡ Want.Digit w) }
+        ensures room { IfSome result (λ w. HasDigits w) }
+        ensures used { IsSome result → length self.now.words < self.now.used }
+    {
+        match self.want {
+            Want::Digit(word) => Some(word),
+            _ => None,
+        }
+    }
+
+    /// Puts a word whose digits come next in the place of the one that was begun.
+    pub fn set_number(&mut self, word: OpenWord)
+        requires used { length self.old.words < self.old.used }
+        requires room { HasDigits word }
+        ensures { self.new ≡ record self.old { want = Want.Digit word } }
+    {
+        self.want = Want::Digit(word);
     }
 
     /// Takes a character that can stand and ends no block, and answers whether it did.

@@ -1,6 +1,6 @@
 //! The meaning of blocks: moves, spindle, coolant, tools and stops.
 
-ghost use Rattle.std.specs.Prelude.{◌≡◌, ◌++◌, ◌∷◌, [], OnOk};
+ghost use Rattle.std.specs.Prelude.{◌≡◌, ◌++◌, ◌∷◌, [], List, OnOk};
 ghost use Rattle.apt_control.specs.Answers.{acts_by};
 ghost use Rattle.apt_control.specs.Control as spec;
 
@@ -47,13 +47,19 @@ impl Control for Held {
         words: &[TapeWord],
         acts: &mut Vec<Act>,
     ) -> Result<bool, ControlError> {
-        let now = with_words(*self, words);
-        if let Some(cause) = end_fault(now, words) {
+        let code = m_code(words);
+        let units = block_units(words);
+        let moves = is_move(words);
+        let now = with_words(*self, units, words);
+        if let Some(cause) = end_fault(now, code, moves, words) {
             return Err(ControlError::Bad { at, cause });
         }
-        push_acts(acts, now, words)?;
+        push_act(acts, unit_act(units))?;
+        push_act(acts, act_before(code, words))?;
+        push_act(acts, move_act(now, moves))?;
+        push_act(acts, act_after(code))?;
         *self = now;
-        Ok(is_end(words))
+        Ok(is_end(code))
     }
 }
 
@@ -97,28 +103,31 @@ fn m_code(words: &[TapeWord]) -> Option<u64>
     }
 }
 
-fn has_m(words: &[TapeWord], code: u64) -> bool
-    ensures { result ≡ spec.has_m (code ∷ []) words.now }
+fn changes_tool(code: Option<u64>) -> bool
+    ensures { (words : List TapeWord) → code ≡ spec.m_code words → result ≡ spec.has_m (6 ∷ []) words }
 {
-    match m_code(words) {
-        Some(c) => c == code,
+    match code {
+        Some(c) => c == 6,
         None => false,
     }
 }
 
-fn turns_spindle(words: &[TapeWord]) -> bool
-    ensures { result ≡ spec.has_m (3 ∷ 4 ∷ []) words.now }
+fn turns_spindle(code: Option<u64>) -> bool
+    ensures { (words : List TapeWord) → code ≡ spec.m_code words → result ≡ spec.has_m (3 ∷ 4 ∷ []) words }
 {
-    match m_code(words) {
+    match code {
         Some(c) => c == 3 || c == 4,
         None => false,
     }
 }
 
-fn is_end(words: &[TapeWord]) -> bool
-    ensures { result ≡ spec.is_end words.now }
+fn is_end(code: Option<u64>) -> bool
+    ensures { (words : List TapeWord) → code ≡ spec.m_code words → result ≡ spec.is_end words }
 {
-    has_m(words, 2)
+    match code {
+        Some(c) => c == 2,
+        None => false,
+    }
 }
 
 fn units_of(code: u64) -> Units
@@ -136,13 +145,14 @@ fn block_units(words: &[TapeWord]) -> Option<Units>
     }
 }
 
-/// What holds with a block's words.
-fn with_words(held: Held, words: &[TapeWord]) -> Held
+/// What holds with a block's words, and the units among them.
+fn with_words(held: Held, units: Option<Units>, words: &[TapeWord]) -> Held
+    requires { units ≡ spec.block_units words.now }
     ensures { result ≡ spec.with_words held words.now }
 {
     Held {
         motion: g_code(words, 0, 1).or(held.motion),
-        units: block_units(words).or(held.units),
+        units: units.or(held.units),
         feed: value_of(words, b'F').or(held.feed),
         x: value_of(words, b'X').or(held.x),
         y: value_of(words, b'Y').or(held.y),
@@ -156,10 +166,11 @@ fn is_move(words: &[TapeWord]) -> bool
     has_letter(words, b'X') || has_letter(words, b'Y') || has_letter(words, b'Z')
 }
 
-fn is_mixed(words: &[TapeWord]) -> bool
+fn is_mixed(code: Option<u64>, words: &[TapeWord]) -> bool
+    requires { code ≡ spec.m_code words.now }
     ensures { result ≡ spec.is_mixed words.now }
 {
-    has_letter(words, b'S') != turns_spindle(words) || has_letter(words, b'T') != has_m(words, 6)
+    has_letter(words, b'S') != turns_spindle(code) || has_letter(words, b'T') != changes_tool(code)
 }
 
 fn is_cut(held: Held) -> bool
@@ -188,13 +199,15 @@ fn move_fault(held: Held) -> Option<TapeCause>
     }
 }
 
-/// The first fault at the end of a block.
-fn end_fault(held: Held, words: &[TapeWord]) -> Option<TapeCause>
+/// The first fault at the end of a block with an M code and a move, or without.
+fn end_fault(held: Held, code: Option<u64>, moves: bool, words: &[TapeWord]) -> Option<TapeCause>
+    requires code { code ≡ spec.m_code words.now }
+    requires moves { moves ≡ spec.is_move words.now }
     ensures { result ≡ spec.end_fault held words.now }
 {
-    if is_mixed(words) {
+    if is_mixed(code, words) {
         Some(TapeCause::BadMix)
-    } else if is_move(words) {
+    } else if moves {
         move_fault(held)
     } else {
         None
@@ -219,30 +232,27 @@ fn move_to(held: Held) -> Act
     }
 }
 
-fn move_act(held: Held, words: &[TapeWord]) -> Option<Act>
-    ensures { acts_by result ≡ spec.move_acts held words.now }
+fn move_act(held: Held, moves: bool) -> Option<Act>
+    ensures { (words : List TapeWord) → moves ≡ spec.is_move words → acts_by result ≡ spec.move_acts held words }
 {
-    if is_move(words) {
-        Some(move_to(held))
-    } else {
-        None
-    }
+    if moves { Some(move_to(held)) } else { None }
 }
 
-fn unit_act(words: &[TapeWord]) -> Option<Act>
-    ensures { acts_by result ≡ spec.unit_acts words.now }
+fn unit_act(units: Option<Units>) -> Option<Act>
+    ensures { (words : List TapeWord) → units ≡ spec.block_units words → acts_by result ≡ spec.unit_acts words }
 {
-    match block_units(words) {
+    match units {
         Some(units) => Some(Act::Units(units)),
         None => None,
     }
 }
 
 /// The act before the move: the spindle or the tool with its number, or the coolant.
-fn act_before(words: &[TapeWord]) -> Option<Act>
+fn act_before(code: Option<u64>, words: &[TapeWord]) -> Option<Act>
+    requires { code ≡ spec.m_code words.now }
     ensures { acts_by result ≡ spec.acts_before words.now }
 {
-    match m_code(words) {
+    match code {
         Some(3) => Some(Act::Spindle {
             turn: Turn::Cw,
             n: value_of(words, b'S').unwrap_or(0),
@@ -259,10 +269,10 @@ fn act_before(words: &[TapeWord]) -> Option<Act>
 }
 
 /// The act after the move.
-fn act_after(words: &[TapeWord]) -> Option<Act>
-    ensures { acts_by result ≡ spec.acts_after words.now }
+fn act_after(code: Option<u64>) -> Option<Act>
+    ensures { (words : List TapeWord) → code ≡ spec.m_code words → acts_by result ≡ spec.acts_after words }
 {
-    match m_code(words) {
+    match code {
         Some(5) => Some(Act::Spindle {
             turn: Turn::Off,
             n: 0,
@@ -275,6 +285,7 @@ fn act_after(words: &[TapeWord]) -> Option<Act>
     }
 }
 
+#[inline(always)]
 fn push_act(acts: &mut Vec<Act>, act: Option<Act>) -> Result<(), AllocError>
     ensures { OnOk result (acts.new.items ≡ acts.old.items ++ acts_by act) }
 {
@@ -282,14 +293,4 @@ fn push_act(acts: &mut Vec<Act>, act: Option<Act>) -> Result<(), AllocError>
         acts.push(act)?;
     }
     Ok(())
-}
-
-/// Appends the acts of a block, with what holds then.
-fn push_acts(acts: &mut Vec<Act>, held: Held, words: &[TapeWord]) -> Result<(), AllocError>
-    ensures { OnOk result (acts.new.items ≡ acts.old.items ++ spec.block_acts held words.now) }
-{
-    push_act(acts, unit_act(words))?;
-    push_act(acts, act_before(words))?;
-    push_act(acts, move_act(held, words))?;
-    push_act(acts, act_after(words))
 }

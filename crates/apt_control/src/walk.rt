@@ -97,27 +97,32 @@ impl<H: Control> TapeReader<H> {
         ensures count { self.new.count + length result.now ≡ self.old.count + length piece.now }
         ensures short { length result.now ≤ length piece.now }
     {
+        let Phase::InBlock = self.phase else {
+            return piece;
+        };
+        let code = self.code;
         let mut rest = piece;
         'front: while let [byte, more @ ..] = rest {
-            if !self.take(*byte) {
+            if !self.take(code, *byte) {
                 return rest;
             }
-            rest = more;
+            rest = self.digits(code, more);
         }
         rest
     }
 
-    /// Takes a byte if it is a character of a block that can stand and ends no block, and answers whether it did.
-    fn take(&mut self, byte: u8) -> bool
-        requires { self.old.count < 2 ^ 64 - 1 }
+    /// Takes a byte in a block if it is a character that can stand and ends no block, and answers whether it did.
+    fn take(&mut self, code: Code, byte: u8) -> bool
+        requires code { self.old.code ≡ code }
+        requires phase { self.old.phase ≡ Phase.InBlock }
+        requires count { self.old.count < 2 ^ 64 - 1 }
         ensures taken { IsTrue result → walk.byte_step H.means self.old byte ≡ Ok self.new }
         ensures count { IsTrue result → self.new.count ≡ self.old.count + 1 }
         ensures left { result ≡ false → self.new ≡ self.old }
+        ensures code { self.new.code ≡ code }
+        ensures phase { self.new.phase ≡ Phase.InBlock }
     {
-        let Phase::InBlock = self.phase else {
-            return false;
-        };
-        let Read::Char(ch) = sense(self.code, byte) else {
+        let Read::Char(ch) = sense(code, byte) else {
             return false;
         };
         let at = self.count;
@@ -126,6 +131,38 @@ impl<H: Control> TapeReader<H> {
         }
         self.count += 1;
         true
+    }
+
+    /// Takes the digits in front of some bytes, but no last one of a word, and answers what is behind them.
+    fn digits<'a>(&mut self, code: Code, piece: &'a [u8]) -> &'a [u8]
+        requires code { self.old.code ≡ code }
+        requires phase { self.old.phase ≡ Phase.InBlock }
+        requires count { self.old.count + length piece.now < 2 ^ 64 }
+        ensures same { walk.byte_steps H.means self.new result.now ≡ walk.byte_steps H.means self.old piece.now }
+        ensures count { self.new.count + length result.now ≡ self.old.count + length piece.now }
+        ensures short { length result.now ≤ length piece.now }
+        ensures code { self.new.code ≡ code }
+        ensures phase { self.new.phase ≡ Phase.InBlock }
+    {
+        let Some(first) = self.block.number() else {
+            return piece;
+        };
+        let mut word = first;
+        let mut at = self.count;
+        let mut rest = piece;
+        'digits: while let [byte, more @ ..] = rest {
+            let Read::Char(ch) = sense(code, *byte) else {
+                break;
+            };
+            if !word.take(Mark { at, ch }) {
+                break;
+            }
+            at += 1;
+            rest = more;
+        }
+        self.block.set_number(word);
+        self.count = at;
+        rest
     }
 
     /// The acts of all bytes.
