@@ -35,7 +35,15 @@ fn numbered(step: u16, k: usize) -> Block
 fn sequence_number(step: u16, k: usize) -> i64
     ensures { result ≡ pos (1 + (k * step) % 9999) }
 {
-    1 + (k as u64 % 9999 * step as u64 % 9999) as i64
+    1 + steps_round(step, k) as i64
+}
+
+/// `k` steps, where 9999 are none.
+#[tactic(auto, using(crate::proofs::Numbers::steps_again))]
+fn steps_round(step: u16, k: usize) -> u64
+    ensures { result ≡ (k * step) % 9999 }
+{
+    k as u64 % 9999 * step as u64 % 9999
 }
 
 fn word(letter: u8, value: i64) -> TapeWord
