@@ -97,10 +97,24 @@ impl<H: Control> TapeReader<H> {
         ensures count { self.new.count + length result.now ≡ self.old.count + length piece.now }
         ensures short { length result.now ≤ length piece.now }
     {
+        match self.code {
+            Code::Rs244 => self.front_in(Code::Rs244, piece),
+            Code::Rs358 => self.front_in(Code::Rs358, piece),
+        }
+    }
+
+    /// The same with its code at hand, so that each code has a loop of its own.
+    #[inline(always)]
+    fn front_in<'a>(&mut self, code: Code, piece: &'a [u8]) -> &'a [u8]
+        requires code { self.old.code ≡ code }
+        requires count { self.old.count + length piece.now < 2 ^ 64 }
+        ensures same { walk.byte_steps H.means self.new result.now ≡ walk.byte_steps H.means self.old piece.now }
+        ensures count { self.new.count + length result.now ≡ self.old.count + length piece.now }
+        ensures short { length result.now ≤ length piece.now }
+    {
         let Phase::InBlock = self.phase else {
             return piece;
         };
-        let code = self.code;
         let mut rest = piece;
         'front: while let [byte, more @ ..] = rest {
             if !self.take(code, *byte) {
@@ -112,6 +126,7 @@ impl<H: Control> TapeReader<H> {
     }
 
     /// Takes a byte in a block if it is a character that can stand and ends no block, and answers whether it did.
+    #[inline(always)]
     fn take(&mut self, code: Code, byte: u8) -> bool
         requires code { self.old.code ≡ code }
         requires phase { self.old.phase ≡ Phase.InBlock }
@@ -134,6 +149,7 @@ impl<H: Control> TapeReader<H> {
     }
 
     /// Takes the digits in front of some bytes, but no last one of a word, and answers what is behind them.
+    #[inline(always)]
     fn digits<'a>(&mut self, code: Code, piece: &'a [u8]) -> &'a [u8]
         requires code { self.old.code ≡ code }
         requires phase { self.old.phase ≡ Phase.InBlock }

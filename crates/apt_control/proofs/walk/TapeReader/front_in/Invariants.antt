@@ -1,7 +1,7 @@
 use Rattle.std.proofs.Common.{◌≡◌, ◌≤◌, ◌+◌, length}
 use Rattle.apt_control.specs.declared.walk.Phase.TheVariants as phases
 use Rattle.apt_control.specs.Walk.{byte_steps}
-use Rattle.apt_control.proofs.walk.TapeReader.front.Given as goal
+use Rattle.apt_control.proofs.walk.TapeReader.front_in.Given as goal
 
 abbrev pub invariant-front : goal.invariant-front
 invariant-front g l = record {
