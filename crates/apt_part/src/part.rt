@@ -71,7 +71,7 @@ fn whole_part(alloc: Global, text: &[u8], machine: &Machine) -> Result<Part, Par
         Err(ParseError::Bad { line, cause }) => return Err(PartError::Bad { line, cause }),
         Err(ParseError::NoMemory) => return Err(PartError::NoMemory),
     };
-    match part_by(alloc, &program, machine) {
+    match part_by(alloc, program, machine) {
         Ok(part) => Ok(part),
         Err(RunError::Refused(refusal)) => Err(PartError::Refused(refusal)),
         Err(RunError::NoMemory) => Err(PartError::NoMemory),
@@ -79,15 +79,17 @@ fn whole_part(alloc: Global, text: &[u8], machine: &Machine) -> Result<Part, Par
 }
 
 /// What statements come to, or the first refused step.
-fn part_by(alloc: Global, program: &Program, machine: &Machine) -> Result<Part, RunError>
-    requires built { AreBuilt program.now }
-    requires sources { AreStmts program.now }
-    requires nested { AreNested false program.now }
-    ensures { IsPartBy (parts.part_by machine.now program.now) result }
+fn part_by(alloc: Global, program: Program, machine: &Machine) -> Result<Part, RunError>
+    requires built { AreBuilt program }
+    requires sources { AreStmts program }
+    requires nested { AreNested false program }
+    ensures { IsPartBy (parts.part_by machine.now program) result }
 {
-    let Ok(unrolled) = unroll(alloc, program) else {
+    let Ok(unrolled) = unroll(alloc, &program) else {
         return Err(RunError::NoMemory);
     };
+    // The statements' memory is free for the records.
+    drop(program);
     let records = records_of(alloc, &unrolled.steps, machine)?;
     match unrolled.fault {
         None => Ok(Part {
