@@ -35,8 +35,7 @@ passes_in q d i r z f room fits found lanes all =
     let long : length v ≡ 16 = length-chunk i 16 d room in
     let mask = ap (λ l. mask_l l % 2 ^ 64) (ap (map (top 7)) lanes ∙ map-map (top 7) f v) ∙ mask_l-mod (map stops v) 64 (omega (arith, length-map v stops, long)) in
     let counted : r ≡ prefix_len (λ x. not (stops x)) v = found ∙ ap first_of_set mask ∙ run_is stops v long in
-    let bound = prefix_len-le-length (λ x. not (stops x)) v in
-    (
+    let bound = prefix_len-le-length (λ x. not (stops x)) v in (
       omega (arith, counted, long, bound),
       λ k from to.
           let back : i + (k - i) ≡ k = omega arith in

@@ -108,8 +108,7 @@ second_false false b e = refl
 lettered : (text : List ℕ) (b : ℕ) (bs : List ℕ) → after text ≡ b ∷ bs → is_in_run b ≡ true → (b == point) ≡ false → Refused (parts_of text)
 lettered text b bs e f g =
     let none : is_digit b ≡ false = none_first is_digit b bs (subst (λ (t : List ℕ). prefix_len is_digit t ≡ 0) e (none_behind is_digit text)) in
-    let parts = split_filled point (run_of bs) in
-    (
+    let parts = split_filled point (run_of bs) in (
       digits_of text ++ b ∷ parts.0,
       parts.1,
       parts_behind text ∙ rw (e, take_front is_in_run b bs f, g, parts.2) refl,

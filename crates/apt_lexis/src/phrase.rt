@@ -47,12 +47,7 @@ fn no_tokens(alloc: Global, spare: &mut Option<Vec<Token>>) -> Vec<Token>
 }
 
 /// Begins a statement where none is begun, and makes one that is ready for another line.
-fn begin(
-    alloc: Global,
-    spare: &mut Option<Vec<Token>>,
-    begun: &mut Option<Phrase>,
-    number: u32,
-)
+fn begin(alloc: Global, spare: &mut Option<Vec<Token>>, begun: &mut Option<Phrase>, number: u32)
     ensures { begun.new ≡ Some (record { line = spec.first_line begun.old number; tokens = spec.tokens_before begun.old; text = None }) }
 {
     match begun {
