@@ -169,10 +169,10 @@ fn behind_slash(
 ) -> Result<Option<Body>, AllocError>
     ensures { IfOk result (λ b. b ≡ shapes.with_arguments word (arguments.arguments tokens.now)) }
 {
-    let Some(args) = few_arguments(tokens) else {
-        return with_arguments(alloc, word, &arguments(alloc, tokens)?);
-    };
-    with_arguments(alloc, word, &args)
+    match few_arguments(tokens) {
+        Some(args) => with_arguments(alloc, word, &args),
+        None => with_arguments(alloc, word, &arguments(alloc, tokens)?),
+    }
 }
 
 /// A statement without a text.

@@ -6,7 +6,7 @@ use std::alloc::{AllocError, Global};
 use std::test::Fail;
 
 /// Statements and what they say.
-const STATEMENTS: [(&str, &str); 28] = [
+const STATEMENTS: [(&str, &str); 29] = [
     ("GOTO / P1", "GotoPoint P1"),
     ("FROM / P1", "FromPoint P1"),
     ("GO / L1", "GoStart To L1"),
@@ -44,6 +44,10 @@ const STATEMENTS: [(&str, &str); 28] = [
     ("M = MACRO", "Macro M 0"),
     ("M = MACRO / A , B", "Macro M 2"),
     ("CALL / M", "Call M 0"),
+    (
+        "CALL / M , A = P , B = P , C = P , D = P , E = P , F = P",
+        "Call M 6",
+    ),
 ];
 
 /// The token that is spelled so, a star where none is.

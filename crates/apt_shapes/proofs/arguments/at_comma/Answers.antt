@@ -1,4 +1,4 @@
-use Rattle.std.proofs.Common.{◌≡◌, true, false, sym, ◌∙◌, get_or, arith}
+use Rattle.std.proofs.Common.{◌≡◌, true, false, sym, ◌∙◌, get_or}
 use Rattle.apt_shapes.specs.Arguments.{is_comma}
 use Rattle.apt_shapes.proofs.Parts.{one_token_on, comma_at, no_more}
 use Rattle.apt_shapes.proofs.arguments.at_comma.Goals as goal
