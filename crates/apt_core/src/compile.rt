@@ -22,7 +22,7 @@ use crate::words::Names;
 use apt_cldata::write;
 use apt_machine::Machine;
 use apt_part::Part;
-use apt_post::{plan, tape};
+use apt_post::{Planning, plan, tape};
 use apt_report::{Status, Summary};
 use apt_shelf::{Shelf, ShelfFault, write_all};
 use std::alloc::{AllocError, Global};
@@ -57,17 +57,17 @@ pub(crate) fn compile<H: Shelf>(alloc: Global, shelf: &mut H, names: Names<'_>) 
         Ok(table) => table,
         Err(status) => return status,
     };
-    match output_by(alloc, &text, &table) {
+    match output_by(alloc, text, &table) {
         Ok(output) => deliver(shelf, &output, names.cl, names.tape),
         Err(status) => status,
     }
 }
 
 /// What a text is compiled to for the machine of a table, or the answer where it comes to none.
-fn output_by(alloc: Global, text: &[u8], table: &[u8]) -> Result<Output, Status>
+fn output_by(alloc: Global, text: Vec<u8>, table: &[u8]) -> Result<Output, Status>
     requires short { length table.now ≤ 65536 }
-    ensures output { IfOk result (λ o. IsOutputBy text.now table.now o) }
-    ensures none { IfErr result (λ s. HasNoOutput text.now table.now s) }
+    ensures output { IfOk result (λ o. IsOutputBy text.items table.now o) }
+    ensures none { IfErr result (λ s. HasNoOutput text.items table.now s) }
 {
     match machine_of(table) {
         Ok(machine) => output_on(alloc, text, &machine),
@@ -77,41 +77,42 @@ fn output_by(alloc: Global, text: &[u8], table: &[u8]) -> Result<Output, Status>
 
 /// What a text is compiled to, or the answer where it comes to no part.
 #[tactic(auto, using(crate::proofs::Outputs::output_is))]
-fn output_on(alloc: Global, text: &[u8], machine: &Machine) -> Result<Output, Status>
+fn output_on(alloc: Global, text: Vec<u8>, machine: &Machine) -> Result<Output, Status>
     requires { IsMachine machine.now }
-    ensures output { IfOk result (λ o. IsOutput machine.now text.now o) }
-    ensures none { IfErr result (λ s. HasNoPart machine.now text.now s) }
+    ensures output { IfOk result (λ o. IsOutput machine.now text.items o) }
+    ensures none { IfErr result (λ s. HasNoPart machine.now text.items s) }
 {
-    let part = match part_on(alloc, text, machine) {
+    let part = match part_on(alloc, &text, machine) {
         Ok(part) => part,
         Err(status) => return Err(status),
     };
-    match output_of(alloc, &part, machine) {
+    drop(text);
+    match output_of(alloc, part, machine) {
         Ok(output) => Ok(output),
         Err(_) => Err(Status::NoMemory),
     }
 }
 
-/// The files of the records of a part.
-fn output_of(alloc: Global, part: &Part, machine: &Machine) -> Result<Output, AllocError>
-    requires file { IsFile part.now.records }
-    requires program { IsProgram (plans.plan part.now.records) }
-    ensures value { IfOk result (λ o. o ≡ outputs.output_of machine.now part.now.records) }
-    ensures read { IfOk result (λ o. read_of o.cl ≡ Ok part.now.records) }
-    ensures run { IfOk result (λ o. control_run machine.now.code o.tape ≡ Ok (plans.plan part.now.records)) }
+/// The files of the records of a part. Each list goes as soon as it has been used, to keep the peak of memory low.
+fn output_of(alloc: Global, part: Part, machine: &Machine) -> Result<Output, AllocError>
+    requires file { IsFile part.records }
+    requires program { IsProgram (plans.plan part.records) }
+    ensures value { IfOk result (λ o. o ≡ outputs.output_of machine.now part.records) }
+    ensures read { IfOk result (λ o. read_of o.cl ≡ Ok part.records) }
+    ensures run { IfOk result (λ o. control_run machine.now.code o.tape ≡ Ok (plans.plan part.records)) }
 {
-    let planned = plan(alloc, &part.records)?;
-    let cl = write(alloc, &part.records)?;
-    let tape = tape(alloc, &planned.acts, machine)?;
-    Ok(Output {
-        cl,
-        tape,
-        summary: Summary::Compiled {
-            records: part.records.len() as u64,
-            acts: planned.acts.len() as u64,
-            segments: planned.segments,
-        },
-    })
+    let Part { steps, records } = part;
+    drop(steps);
+    let Planning { acts, segments } = plan(alloc, &records)?;
+    let tape = tape(alloc, &acts, machine)?;
+    let summary = Summary::Compiled {
+        records: records.len() as u64,
+        acts: acts.len() as u64,
+        segments,
+    };
+    drop(acts);
+    let cl = write(alloc, &records)?;
+    Ok(Output { cl, tape, summary })
 }
 
 /// Writes the CL file whole, and then the tape.

@@ -39,7 +39,7 @@ returns-in-Ok-output_by g c =
     let has : AreBothRead n before two text table =
     record { read = read_on before one two first second; part = d.text; machine = reads_on before one (machine_input n) table first e.text } in
     delivered_compiles n text table before two (files_on g.H.Shelf c.deliver.new.shelf) c.in-Ok-output_by.output c.deliver.result c.requires.apart has
-    (rw (c.deref.ensures.value, c.deref-2.ensures.value) at c.in-Ok-output_by.ensures.output) w.delivered
+    (rw c.deref.ensures.value at c.in-Ok-output_by.ensures.output) w.delivered
     (record { write_fault = w.write_fault; writes_later = w.later; reads_same = w.read_faults })
 
 pub returns : goal.returns
@@ -57,4 +57,4 @@ returns g c =
     let has : AreBothRead n before two text table =
     record { read = read_on before one two first second; part = d.text; machine = reads_on before one (machine_input n) table first e.text } in
     no_output_compiles n text table before two c.in-Err-output_by.status has
-    (rw (c.deref.ensures.value, c.deref-2.ensures.value) at c.in-Err-output_by.ensures.none)
+    (rw c.deref.ensures.value at c.in-Err-output_by.ensures.none)
