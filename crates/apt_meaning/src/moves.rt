@@ -76,38 +76,50 @@ fn coordinate_moved(units: Units, by: i64, from: i64) -> i64
 }
 
 impl Situation {
+    /// A position is reached.
+    pub fn go_to(&mut self, reach: Reach, to: Position)
+        requires situation { IsSituation self.old }
+        requires to { IsPosition to }
+        ensures { self.new ≡ written.after self.old (effects.Moves reach to) [] }
+    {
+        self.forward = forward_behind(self.position, to.at, self.forward);
+        self.settings = self.settings.behind_move(reach);
+        self.position = Some(to);
+    }
+
+    /// A contour with these vertices is cut.
+    pub fn cut_along(&mut self, motion: &Motion, vertices: &[Pt])
+        requires motion { IsMotion motion.now }
+        requires vertices { ArePoints vertices.now }
+        ensures { self.new ≡ written.after self.old (effects.Cuts motion.now) vertices.now }
+    {
+        let end = end_of(motion.start.at, vertices);
+        self.forward = heading(motion.sense, tangent(&motion.drive, end));
+        self.settings = self.settings.on_side(motion.side);
+        self.position = Some(Position {
+            at: end,
+            z: motion.start.z,
+        });
+    }
+
     /// What holds behind a position that is reached.
-    pub fn behind_move(self, reach: Reach, to: Position) -> Situation
+    pub fn behind_move(mut self, reach: Reach, to: Position) -> Situation
         requires situation { IsSituation self }
         requires to { IsPosition to }
         ensures { result ≡ written.after self (effects.Moves reach to) [] }
     {
-        let forward = forward_behind(self.position, to.at, self.forward);
-        Situation {
-            settings: self.settings.behind_move(reach),
-            position: Some(to),
-            forward,
-            table: self.table,
-        }
+        self.go_to(reach, to);
+        self
     }
 
     /// What holds behind a contour with these vertices.
-    pub fn behind_cut(self, motion: &Motion, vertices: &[Pt]) -> Situation
+    pub fn behind_cut(mut self, motion: &Motion, vertices: &[Pt]) -> Situation
         requires motion { IsMotion motion.now }
         requires vertices { ArePoints vertices.now }
         ensures { result ≡ written.after self (effects.Cuts motion.now) vertices.now }
     {
-        let end = end_of(motion.start.at, vertices);
-        let forward = heading(motion.sense, tangent(&motion.drive, end));
-        Situation {
-            settings: self.settings.on_side(motion.side),
-            position: Some(Position {
-                at: end,
-                z: motion.start.z,
-            }),
-            forward,
-            table: self.table,
-        }
+        self.cut_along(motion, vertices);
+        self
     }
 }
 

@@ -57,20 +57,20 @@ fn write_cut(
     Ok(())
 }
 
-/// The records of what a step asks for that defines nothing, and what holds behind it.
+/// The records of what a step asks for that defines nothing; then holds what holds behind it.
 pub(crate) fn take(
     alloc: Global,
     records: &mut Vec<Record>,
-    mut at: Situation,
+    at: &mut Situation,
     step: &Step,
     found: Found,
-) -> Result<Situation, AllocError>
-    requires situation { IsSituation at }
+) -> Result<(), AllocError>
+    requires situation { IsSituation at.old }
     requires effect { IsEffect found.effect }
     requires defines_nothing { DefinesNothing found.effect }
     requires ends { ends_of found.effect ≡ ends_at found.end }
     requires end { IfSome found.end IsPoint }
-    ensures after { IfOk result (λ behind. behind ≡ written.after at found.effect (ends_of found.effect)) }
+    ensures after { OnOk result (at.new ≡ written.after at.old found.effect (ends_of found.effect)) }
     ensures records { OnOk result (records.new.items ≡ records.old.items ++ written.records_of step.now found.effect (ends_of found.effect)) }
 {
     match found.effect {
@@ -83,13 +83,13 @@ pub(crate) fn take(
         }
         Effect::Moves(reach, to) => {
             write(records, step, Record::Point(reach, to))?;
-            at = at.behind_move(reach, to);
+            at.go_to(reach, to);
         }
         Effect::Cuts(motion) => {
             let Some(end) = found.end else { unreachable!() };
             write_cut(alloc, records, step, &motion, end)?;
-            at = at.behind_cut(&motion, &[end]);
+            at.cut_along(&motion, &[end]);
         }
     }
-    Ok(at)
+    Ok(())
 }

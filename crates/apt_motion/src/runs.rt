@@ -1,6 +1,7 @@
 //! The records of a part program.
 
 ghost use Rattle.std.specs.Prelude.{◌≡◌, IfOk};
+ghost use Rattle.std.specs.Result.{result_map_both};
 ghost use Rattle.apt_words.specs.Built.{AreBuiltSteps, IsBuilt};
 ghost use Rattle.apt_words.specs.Sources.{AreExecuted, DeedHasText};
 ghost use Rattle.apt_scalar.specs.StepScalars.{AreScalars, HasScalars};
@@ -51,43 +52,43 @@ fn refused(step: &Step, case: Case) -> RunError
     })
 }
 
-/// What holds behind a step, with its records behind those before.
+/// Takes a step: its records go behind those before.
 #[tactic(auto, using(crate::proofs::Given::has_defined, crate::proofs::Given::is_refused))]
 fn advance(
     alloc: Global,
     records: &mut Vec<Record>,
-    mut at: Situation,
+    at: &mut Situation,
     step: &Step,
-) -> Result<Situation, RunError>
-    requires situation { IsSituation at }
+) -> Result<(), RunError>
+    requires situation { IsSituation at.old }
     requires scalars { HasScalars step.now.deed }
     requires built { IsBuilt step.now.deed }
     requires text { DeedHasText step.now.deed }
-    ensures { HasAdvanced at step.now records.old.items records.new.items result }
+    ensures { HasAdvanced at.old step.now records.old.items records.new.items (result_map_both (λ _. at.new) (λ e. e) result) }
 {
     match define(step, at.settings.units, &mut at.table) {
-        Ok(true) => Ok(at),
+        Ok(true) => Ok(()),
         Ok(false) => act(alloc, records, at, step),
         Err(DefError::Case(case)) => Err(refused(step, case)),
         Err(DefError::NoMemory) => Err(RunError::NoMemory),
     }
 }
 
-/// What holds behind a step that defines nothing, with its records behind those before.
+/// Takes a step that defines nothing: its records go behind those before.
 fn act(
     alloc: Global,
     records: &mut Vec<Record>,
-    at: Situation,
+    at: &mut Situation,
     step: &Step,
-) -> Result<Situation, RunError>
-    requires situation { IsSituation at }
+) -> Result<(), RunError>
+    requires situation { IsSituation at.old }
     requires scalars { HasScalars step.now.deed }
     requires built { IsBuilt step.now.deed }
     requires text { DeedHasText step.now.deed }
-    requires defines_nothing { IsNoDefinition at step.now.deed }
-    ensures { HasAdvanced at step.now records.old.items records.new.items result }
+    requires defines_nothing { IsNoDefinition at.old step.now.deed }
+    ensures { HasAdvanced at.old step.now records.old.items records.new.items (result_map_both (λ _. at.new) (λ e. e) result) }
 {
-    match find(&at, &step.deed)? {
+    match find(at, &step.deed)? {
         Ok(found) => Ok(take(alloc, records, at, step, found)?),
         Err(case) => Err(refused(step, case)),
     }
@@ -102,7 +103,7 @@ fn run_all(alloc: Global, steps: &[Step]) -> Result<Vec<Record>, RunError>
     let mut at = Situation::first(alloc);
     let mut records = Vec::new(alloc);
     'steps: for st in steps {
-        at = advance(alloc, &mut records, at, st)?;
+        advance(alloc, &mut records, &mut at, st)?;
     }
     records.shrink_to_fit();
     Ok(records)

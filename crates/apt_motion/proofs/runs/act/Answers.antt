@@ -8,21 +8,21 @@ use Rattle.apt_motion.proofs.runs.act.Goals as goal
 
 pub take-requires-clause-effect : goal.take-requires-clause-effect
 take-requires-clause-effect c =
-    let at = c.args.at in
+    let at = c.args.at.now in
     let deed = c.args.step.now.deed in
     let found = subst (IsFound (asked (refusal_of at deed) (effect_of at deed))) c.in-Ok.is c.in_ok-found.ensures in
     (found_fit at deed c.in-Ok.found c.requires.situation c.requires.scalars c.requires.text c.requires.defines_nothing found).good
 
 pub take-requires-clause-defines_nothing : goal.take-requires-clause-defines_nothing
 take-requires-clause-defines_nothing c =
-    let at = c.args.at in
+    let at = c.args.at.now in
     let deed = c.args.step.now.deed in
     let found = subst (IsFound (asked (refusal_of at deed) (effect_of at deed))) c.in-Ok.is c.in_ok-found.ensures in
     (found_fit at deed c.in-Ok.found c.requires.situation c.requires.scalars c.requires.text c.requires.defines_nothing found).nothing
 
 pub take-requires-clause-end : goal.take-requires-clause-end
 take-requires-clause-end c =
-    let at = c.args.at in
+    let at = c.args.at.now in
     let deed = c.args.step.now.deed in
     let found = subst (IsFound (asked (refusal_of at deed) (effect_of at deed))) c.in-Ok.is c.in_ok-found.ensures in
     (found_fit at deed c.in-Ok.found c.requires.situation c.requires.scalars c.requires.text c.requires.defines_nothing found).end

@@ -1,4 +1,5 @@
 use Rattle.std.proofs.Common.{◌∙◌, Err, ap, sym, subst}
+use Rattle.std.specs.Result.{result_map_both}
 use Rattle.apt_defs.specs.declared.definitions.DefError.{DefError}
 use Rattle.apt_defs.specs.Figures.{Table}
 use Rattle.apt_defs.specs.Definitions.{HasOrNone}
@@ -11,12 +12,12 @@ use Rattle.apt_motion.proofs.runs.advance.Goals as goal
 
 pub returns-in-Ok-false : goal.returns-in-Ok-false
 returns-in-Ok-false c =
-    subst (λ (t : Table). HasAdvanced (record c.args.at { table = t }) c.args.step.now c.args.records.now.items c.act.new.records.items c.act.result)
-    (subst (HasOrNone c.args.at.settings.units c.args.at.table c.args.step.now.deed c.define.new.table) c.in-Ok-false.field-0-test c.in-Ok-false.ensures.ok).1 c.act.ensures
+    subst (λ (t : Table). HasAdvanced (record c.args.at.now { table = t }) c.args.step.now c.args.records.now.items c.act.new.records.items (result_map_both (λ _. c.act.new.at) (λ e. e) c.act.result))
+    (subst (HasOrNone c.args.at.now.settings.units c.args.at.now.table c.args.step.now.deed c.define.new.table) c.in-Ok-false.field-0-test c.in-Ok-false.ensures.ok).1 c.act.ensures
 
 pub returns-in-Err-Case : goal.returns-in-Err-Case
 returns-in-Err-Case c =
-    let at = c.args.at in
+    let at = c.args.at.now in
     let st = c.args.step.now in
     let records = c.args.records.now.items in
     let case = c.in-Err-Case.case in

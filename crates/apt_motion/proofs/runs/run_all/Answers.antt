@@ -19,8 +19,8 @@ steps-preserved c =
     let so_far = subst (λ ss. with_front c.steps.records.items (compilation at ss) ≡ compilation first_situation xs) rest c.steps.invariant.so_far in
     let scalars = subst AreScalars rest c.steps.invariant.scalars in
     let sources = subst AreExecuted rest c.steps.invariant.sources in
-    let e = c.in_ok-at.ensures.0 in
-    let taken = c.in_ok-at.ensures.1 in
+    let e = c.in_ok-advance.ensures.0 in
+    let taken = c.in_ok-advance.ensures.1 in
     let fits = fit at st.deed e c.steps.invariant.situation scalars.0 sources.0.text taken.asks in
     record {
       so_far = rw (taken.after, taken.records) (step_on c.steps.records.items at st (drop (i + 1) xs) e (compilation first_situation xs) taken.asks so_far);
