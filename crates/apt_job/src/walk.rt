@@ -42,23 +42,23 @@ fn entry(records: &[Record], rest: &[Record], fitting: u64) -> JobError
     JobError::Entry { seq: seq + fitting }
 }
 
-/// The job of a contour, and what holds behind it.
+/// Makes the job of a contour; then holds what holds behind it.
 fn cut(
     alloc: Global,
     jobs: &mut Vec<Job>,
-    at: Situation,
+    at: &mut Situation,
     motion: &Motion,
     vertices: &[Position],
-) -> Result<Situation, AllocError>
+) -> Result<(), AllocError>
     requires motion { IsLined (effects.Cuts motion.now) }
     requires vertices { HasIn (effects.Cuts motion.now) (points_at vertices.now) }
-    ensures after { IfOk result (λ s. s ≡ written.after at (effects.Cuts motion.now) (points_at vertices.now)) }
+    ensures after { OnOk result (at.new ≡ written.after at.old (effects.Cuts motion.now) (points_at vertices.now)) }
     ensures jobs { OnOk result (jobs.new.items ≡ jobs.old.items ++ jobs_by (effects.Cuts motion.now) (points_at vertices.now)) }
 {
     let job = job_of(alloc, motion, vertices)?;
-    let behind = at.behind_cut(motion, &job.points.at[1..]);
+    at.cut_along(motion, &job.points.at[1..]);
     jobs.push(job)?;
-    Ok(behind)
+    Ok(())
 }
 
 /// Gives the name that a step defines its figure. False where the step defines no name: what holds stays as it was.
@@ -76,29 +76,29 @@ fn gives_name(step: &Step, at: &mut Situation) -> Result<bool, JobError>
     }
 }
 
-/// The job of an effect that is a contour, and what holds behind it. No effect here defines a name.
+/// Makes the job of an effect that is a contour; then holds what holds behind it. No effect here defines a name.
 fn take(
     alloc: Global,
     jobs: &mut Vec<Job>,
-    mut at: Situation,
+    at: &mut Situation,
     effect: &Effect,
     vertices: &[Position],
-) -> Result<Situation, AllocError>
-    requires situation { IsSituation at }
+) -> Result<(), AllocError>
+    requires situation { IsSituation at.old }
     requires effect { IsEffect effect.now }
     requires defines_nothing { DefinesNothing effect.now }
     requires lined { IsLined effect.now }
     requires vertices { HasIn effect.now (points_at vertices.now) }
-    ensures after { IfOk result (λ s. s ≡ written.after at effect.now (points_at vertices.now)) }
+    ensures after { OnOk result (at.new ≡ written.after at.old effect.now (points_at vertices.now)) }
     ensures jobs { OnOk result (jobs.new.items ≡ jobs.old.items ++ jobs_by effect.now (points_at vertices.now)) }
 {
     match effect {
         Effect::Defines(..) => unreachable!(),
         Effect::Sets(settings, _) => at.settings = *settings,
-        Effect::Moves(reach, to) => at = at.behind_move(*reach, *to),
-        Effect::Cuts(motion) => at = cut(alloc, jobs, at, motion, vertices)?,
+        Effect::Moves(reach, to) => at.go_to(*reach, *to),
+        Effect::Cuts(motion) => cut(alloc, jobs, at, motion, vertices)?,
     }
-    Ok(at)
+    Ok(())
 }
 
 /// The jobs of records that answer steps, whether or not their contours are legal: one for each contour, in order.
@@ -131,7 +131,7 @@ pub fn jobs(alloc: Global, steps: &[Step], records: &[Record]) -> Result<Vec<Job
             Err(fitting) => return Err(entry(records, rest, fitting)),
         };
         let Some(found) = &found else { unreachable!() };
-        at = take(alloc, &mut jobs, at, found, front.vertices)?;
+        take(alloc, &mut jobs, &mut at, found, front.vertices)?;
         rest = front.rest;
     }
     if rest.is_empty() {

@@ -85,7 +85,7 @@ steps-preserved c =
     let walk = walk_waits xs written c.steps.at c.steps.rest.now c.steps.jobs.items st.deed (st ∷ drop (i + 1) xs) at (subst (IsWalk xs written c.steps.at c.steps.rest.now c.steps.jobs.items) split c.steps.invariant) named in
     let stands = stands_first st c.in_ok-found.found e c.steps.rest.now vertices later c.in-Ok.ensures.taken c.in-Some.is in
     let on = walk_on xs written at c.steps.rest.now c.steps.jobs.items st (drop (i + 1) xs) e vertices later walk (sym c.in_ok-found.ensures.value ∙ c.in-Some.is) stands in
-    rw (c.in_ok-at.ensures.after, c.in_ok-at.ensures.jobs) on
+    rw (c.in_ok-take.ensures.after, c.in_ok-take.ensures.jobs) on
 
 pub returns-then-is_empty-clause-jobs : goal.returns-then-is_empty-clause-jobs
 returns-then-is_empty-clause-jobs c =
