@@ -55,7 +55,7 @@ fn read_all(alloc: Global, text: &[u8]) -> Result<String, AllocError> {
 }
 
 /// Texts, and their statements by their lines; a line with a fault ends them.
-const TEXTS: [(&[u8], &str); 24] = [
+const TEXTS: [(&[u8], &str); 25] = [
     (b"", ""),
     (b"\n \t\n$$ only a comment\n", ""),
     // small letters, a last line without its line feed, a label
@@ -79,6 +79,11 @@ const TEXTS: [(&[u8], &str); 24] = [
         "3: A + B\n",
     ),
     (b"$ A\nB $ C $ D\nE", "2: B E\n"),
+    // longer lines: a tab, a comment, and a byte that is no character
+    (
+        b"A = 1 + 2 + 3 + 4 + 5\t+ 6 + 7\nB = 123456789.5 $$ and a comment\nGOTO/1,2,(3 + 4 + 5)\r\nA\nC = 1 + 2 + 3 + 4 + 5 \x7F + 6\nD = 1 + 2 + 3 + 4\n",
+        "1: A = 1000000 + 2000000 + 3000000 + 4000000 + 5000000 + 6000000 + 7000000\n2: BadNumber\n3: GOTO / 1000000 , 2000000 , ( 3000000 + 4000000 + 5000000 )\n4: A\n5! BadByte\n",
+    ),
     // texts
     (
         b"PARTNO  a $ B  \nREMARK\n",
