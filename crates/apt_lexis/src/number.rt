@@ -47,7 +47,7 @@ fn split_digits(text: &[u8]) -> Option<(u64, usize, &[u8])>
     Some((number, count, rest))
 }
 
-/// A power of ten, by cases since it is called for each number.
+/// A power of ten, at most the twelfth.
 fn power(places: usize) -> u64
     requires { places ≤ 12 }
     ensures { result ≡ 10 ^ places }

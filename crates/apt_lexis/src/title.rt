@@ -155,7 +155,7 @@ fn label(text: &[u8]) -> Option<Symbol>
     }
 }
 
-/// A title behind a label and its parenthesis, which are looked at last.
+/// A title behind a label and its parenthesis; the label itself is looked at last.
 #[tactic(auto, using(crate::proofs::TitleLaws::not_closed, crate::proofs::TitleLaws::untitled, crate::proofs::TitleLaws::no_label))]
 fn labelled_title<'a>(name: &[u8], rest: &'a [u8]) -> Option<Heading<'a>>
     ensures { result ≡ spec.labelled (map characters.capital name.now) rest.now }
