@@ -290,15 +290,7 @@ fn push_act(acts: &mut Vec<Act>, act: Option<Act>) -> Result<(), AllocError>
     ensures { OnOk result (acts.new.items ≡ acts.old.items ++ acts_by act) }
 {
     if let Some(act) = act {
-        push_one(acts, act)?;
+        acts.push(act)?;
     }
-    Ok(())
-}
-
-#[inline(never)]
-fn push_one(acts: &mut Vec<Act>, act: Act) -> Result<(), AllocError>
-    ensures { OnOk result (acts.new.items ≡ acts.old.items ++ act ∷ []) }
-{
-    acts.push(act)?;
     Ok(())
 }
