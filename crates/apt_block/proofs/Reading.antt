@@ -20,10 +20,6 @@ digit_character d h = rw (digit_test d h)
 both_true : (a b : Bool) → a ≡ true → b ≡ true → (a && b) ≡ true
 both_true a b p q = rw (p, q)
 
-pub some_ten : (k : ℕ) → 0 < 10 ^ k
-some_ten zero = lit< tt
-some_ten (suc k) = omega (arith, pow-suc 10 k, some_ten k)
-
 -- a number with one digit more
 one_more : (v n : ℕ) → 10 * (v / 10 ^ suc n) + (48 + v / 10 ^ n % 10 - 48) ≡ v / 10 ^ n
 one_more v n =
