@@ -49,6 +49,13 @@ impl Block {
         }
     }
 
+    /// Takes all words away.
+    pub fn clear(&mut self)
+        ensures { self.new ≡ [] }
+    {
+        self.words.clear();
+    }
+
     /// Adds a word at the end; there is room for one of each form in the table.
     pub fn push(&mut self, word: TapeWord)
         requires room { length self.old < 13 }

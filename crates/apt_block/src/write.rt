@@ -1,4 +1,4 @@
-ghost use Rattle.std.specs.Prelude.{◌≡◌, ◌≤◌, ◌+◌, ◌/◌, ◌%◌, ◌^◌, ◌++◌, ◌∷◌, [], length, take, if◌then◌else◌, OnOk, OnErr};
+ghost use Rattle.std.specs.Prelude.{◌≡◌, ◌≤◌, ◌<◌, ◌+◌, ◌/◌, ◌%◌, ◌^◌, ◌++◌, ◌∷◌, [], length, take, if◌then◌else◌, OnOk, OnErr};
 ghost use Rattle.arrayvec.specs.ArrayVec.{array_vec_len};
 ghost use Rattle.apt_block.specs.Block.{IsBlock, StandsAlone, block_text, forms, form_in, spelling, word_text};
 ghost use Rattle.apt_block.specs.Block as spec;
@@ -20,21 +20,21 @@ pub fn write_block(_alloc: Global, b: &Block, out: &mut Vec<u8>) -> Result<(), A
     ensures alone { StandsAlone b.now }
     ensures err { OnErr result (out.new.items ≡ out.old.items) }
 {
-    let text = text_of(b);
+    let mut text = BlockText::new();
+    spell(b, &mut text);
     out.extend_from_slice(&text)?;
     Ok(())
 }
 
-fn text_of(b: &Block) -> BlockText
-    ensures { result.items ≡ spelling b.now }
+fn spell(b: &Block, text: &mut BlockText)
+    requires none { text.old.items ≡ [] }
+    ensures { text.new.items ≡ spelling b.now }
 {
-    let mut text = ArrayVec::new();
     let words = b.words.as_slice();
     'words: for word in words {
-        push_word(&mut text, *word);
+        push_word(text, *word);
     }
     text.push(b'\n');
-    text
 }
 
 /// Behind a letter that is not in the table nothing is written.
@@ -48,10 +48,10 @@ fn push_word(text: &mut BlockText, word: TapeWord)
     match word.letter {
         b'X' | b'Y' | b'Z' => {
             text.push(sign(word.value));
-            push_eight(text, size);
+            push_last_eight(text, size);
         }
-        b'N' | b'F' | b'S' => push_four(text, size),
-        b'G' | b'T' | b'M' => push_two(text, size),
+        b'N' | b'F' | b'S' => push_four(text, (size % 10_000) as u32),
+        b'G' | b'T' | b'M' => push_two(text, (size % 100) as u32),
         _ => {}
     }
 }
@@ -63,32 +63,43 @@ fn sign(value: i64) -> u8
 }
 
 /// Appends the last eight digits of a number.
-fn push_eight(text: &mut BlockText, size: u64)
+fn push_last_eight(text: &mut BlockText, size: u64)
     requires room { array_vec_len text.old ≤ 130 }
     ensures items { text.new.items ≡ text.old.items ++ spec.digits 8 size }
     ensures len { array_vec_len text.new ≡ array_vec_len text.old + 8 }
 {
-    push_four(text, size / 10_000);
-    push_four(text, size);
+    push_eight(text, (size % 100_000_000) as u32);
 }
 
-/// Appends the last four digits of a number.
-fn push_four(text: &mut BlockText, size: u64)
+/// Appends the eight digits of a number.
+fn push_eight(text: &mut BlockText, size: u32)
+    requires room { array_vec_len text.old ≤ 130 }
+    requires small { size < 10 ^ 8 }
+    ensures items { text.new.items ≡ text.old.items ++ spec.digits 8 size }
+    ensures len { array_vec_len text.new ≡ array_vec_len text.old + 8 }
+{
+    push_four(text, size / 10_000);
+    push_four(text, size % 10_000);
+}
+
+/// Appends the four digits of a number.
+fn push_four(text: &mut BlockText, size: u32)
     requires room { array_vec_len text.old ≤ 138 }
+    requires small { size < 10 ^ 4 }
     ensures items { text.new.items ≡ text.old.items ++ spec.digits 4 size }
     ensures len { array_vec_len text.new ≡ array_vec_len text.old + 4 }
 {
     push_two(text, size / 100);
-    push_two(text, size);
+    push_two(text, size % 100);
 }
 
-/// Appends the last two digits of a number.
-fn push_two(text: &mut BlockText, size: u64)
+/// Appends the two digits of a number.
+fn push_two(text: &mut BlockText, size: u32)
     requires room { array_vec_len text.old ≤ 140 }
+    requires small { size < 10 ^ 2 }
     ensures items { text.new.items ≡ text.old.items ++ spec.digits 2 size }
     ensures len { array_vec_len text.new ≡ array_vec_len text.old + 2 }
 {
-    let last = (size % 100) as u8;
-    text.push(b'0' + last / 10);
-    text.push(b'0' + last % 10);
+    text.push(b'0' + (size / 10) as u8);
+    text.push(b'0' + (size % 10) as u8);
 }

@@ -1,6 +1,6 @@
 //! The block of each act.
 
-ghost use Rattle.std.specs.Prelude.{◌≡◌, ◌+◌, ◌*◌, ◌%◌, ◌≤◌, ◌++◌, length, pos};
+ghost use Rattle.std.specs.Prelude.{◌≡◌, ◌+◌, ◌*◌, ◌%◌, ◌≤◌, ◌++◌, [], length, pos};
 ghost use Rattle.apt_block.specs.Block.{IsBlock, tape_word, letter_g, letter_m};
 ghost use Rattle.apt_post.specs.Blocks as spec;
 
@@ -8,27 +8,25 @@ use apt_block::{Block, TapeWord};
 use apt_control::Act;
 use apt_words::{Cool, Turn, Units};
 
-/// The block of an act that `k` blocks precede. A step of 0 numbers no block.
-pub fn act_block(step: u16, k: usize, act: &Act) -> Block
+/// Makes a block that of an act which `k` blocks precede. A step of 0 numbers no block.
+pub fn fill_block(block: &mut Block, step: u16, k: usize, act: &Act)
     requires { spec.CanWrite act.now }
-    ensures words { result ≡ spec.act_block step k act.now }
-    ensures block { IsBlock result }
+    ensures words { block.new ≡ spec.act_block step k act.now }
+    ensures block { IsBlock block.new }
 {
-    let mut block = numbered(step, k);
-    push_act(&mut block, act);
-    block
+    block.clear();
+    push_number(block, step, k);
+    push_act(block, act);
 }
 
-fn numbered(step: u16, k: usize) -> Block
-    ensures words { result ≡ spec.numbered step k }
-    ensures short { length result ≤ 1 }
+fn push_number(block: &mut Block, step: u16, k: usize)
+    requires empty { block.old ≡ [] }
+    ensures words { block.new ≡ spec.numbered step k }
+    ensures short { length block.new ≤ 1 }
 {
-    let mut block = Block::new();
-    if step == 0 {
-        return block;
+    if step > 0 {
+        block.push(word(b'N', sequence_number(step, k)));
     }
-    block.push(word(b'N', sequence_number(step, k)));
-    block
 }
 
 /// The number of the block that `k` blocks precede: 1 and `k` steps, and 1 again behind 9999.

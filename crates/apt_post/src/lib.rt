@@ -13,11 +13,11 @@ mod planning;
 #[cfg(test)]
 mod tests;
 
-use apt_block::write_block;
+use apt_block::{Block, write_block};
 use apt_control::Act;
 use apt_machine::Machine;
 use apt_tapecode::{Code, punch};
-use blocks::act_block;
+use blocks::fill_block;
 pub use limiting::limits;
 pub use planning::{Pending, Planning, plan};
 use std::alloc::{AllocError, Global};
@@ -43,8 +43,9 @@ fn tape_text(alloc: Global, acts: &[Act], step: u16) -> Result<Vec<u8>, AllocErr
     let mut text = Vec::new(alloc);
     text.push(b'%')?;
     text.push(b'\n')?;
+    let mut block = Block::new();
     'acts: for (k, act) in acts.iter().enumerate() {
-        let block = act_block(step, k, act);
+        fill_block(&mut block, step, k, act);
         write_block(alloc, &block, &mut text)?;
     }
     Ok(text)

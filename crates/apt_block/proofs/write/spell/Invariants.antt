@@ -2,7 +2,7 @@ use Rattle.std.proofs.Common.{◌≡◌, ◌≤◌, ◌*◌, take}
 use Rattle.arrayvec.specs.ArrayVec.{array_vec_len}
 use Rattle.std.specs.List.{flat_map}
 use Rattle.apt_block.specs.Block.{word_text}
-use Rattle.apt_block.proofs.write.text_of.Given as goal
+use Rattle.apt_block.proofs.write.spell.Given as goal
 
 abbrev pub invariant-words : goal.invariant-words
 invariant-words l = record {
