@@ -1,6 +1,6 @@
 //! A block read character by character.
 
-ghost use Rattle.std.specs.Prelude.{◌≡◌, ◌≤◌, ◌<◌, ◌^◌, ◌==◌, length, true, false, IsTrue, IfSome, IsSome, Ok};
+ghost use Rattle.std.specs.Prelude.{◌≡◌, ◌≤◌, ◌<◌, ◌^◌, ◌==◌, length, true, false, IsTrue, IfSome, Ok};
 ghost use Rattle.apt_block.specs.Block as spec;
 ghost use Rattle.apt_block.specs.Machine as machine;
 ghost use Rattle.apt_block.specs.Machine.{IsStep, HasDigits};
@@ -189,25 +189,38 @@ impl BlockReader {
         }
     }
 
-    /// The word whose digits come next.
-    pub fn number(&self) -> Option<OpenWord>
-        ensures open { IfSome result (λ w. self.now.want ≡ Want.Digit w) }
-        ensures room { IfSome result (λ w. HasDigits w) }
-        ensures used { IsSome result → length self.now.words < self.now.used }
+    /// The word that a character begins where a letter comes next, and how many forms are behind it.
+    #[tactic(auto, using(crate::proofs::Rooms::room_new))]
+    pub fn letter(&self, c: Mark) -> Option<(OpenWord, u8)>
+        ensures begun { IfSome result (λ f. machine.step self.now c ≡ Ok (record self.now { used = f.1; want = machine.first_want f.0.form c.at })) }
+        ensures word { IfSome result (λ f. f.0 ≡ machine.new_word f.0.form c.at) }
+        ensures room { IfSome result (λ f. HasDigits f.0) }
+        ensures words { IfSome result (λ f. length self.now.words < f.1) }
+        ensures used { IfSome result (λ f. f.1 ≤ 13) }
     {
         match self.want {
-            Want::Digit(word) => Some(word),
+            Want::Letter => match form_for(self.used, c.ch) {
+                Some((form, used)) => Some((new_word(form, c.at), used)),
+                None => None,
+            },
             _ => None,
         }
     }
 
-    /// Puts a word whose digits come next in the place of the one that was begun.
-    pub fn set_number(&mut self, word: OpenWord)
-        requires used { length self.old.words < self.old.used }
+    /// Adds a word, of the last one of so many forms, with its last digit if it can stand, and answers whether it can.
+    #[tactic(auto, using(crate::proofs::Rooms::last_room))]
+    pub fn last_digit(&mut self, used: u8, word: OpenWord, c: Mark) -> bool
+        requires words { length self.old.words < used }
+        requires used { used ≤ 13 }
         requires room { HasDigits word }
-        ensures { self.new ≡ record self.old { want = Want.Digit word } }
+        ensures added { IsTrue result → machine.digit_step (record self.old { used = used }) word c ≡ Ok self.new }
+        ensures open { IsTrue result → machine.is_whole self.new ≡ false }
+        ensures left { result ≡ false → self.new ≡ self.old }
     {
-        self.want = Want::Digit(word);
+        if word.later > 0 || !is_digit(c.ch) {
+            return false;
+        }
+        self.add_word(used, with_digit(word, c))
     }
 
     /// Takes a character that can stand and ends no block, and answers whether it did.
@@ -232,7 +245,7 @@ impl BlockReader {
                     return true;
                 }
                 let word = with_digit(*word, c);
-                self.take_word(word)
+                self.add_word(self.used, word)
             }
             Want::Nothing => false,
         }
@@ -276,10 +289,11 @@ impl BlockReader {
         }
     }
 
-    fn take_word(&mut self, word: OpenWord) -> bool
-        requires used { length self.old.words < self.old.used }
+    fn add_word(&mut self, used: u8, word: OpenWord) -> bool
+        requires words { length self.old.words < used }
+        requires used { used ≤ 13 }
         requires small { word.size < 10 ^ 8 }
-        ensures taken { IsTrue result → machine.word_end self.old word ≡ Ok self.new }
+        ensures added { IsTrue result → machine.word_end (record self.old { used = used }) word ≡ Ok self.new }
         ensures open { IsTrue result → machine.is_whole self.new ≡ false }
         ensures left { result ≡ false → self.new ≡ self.old }
     {
@@ -292,6 +306,7 @@ impl BlockReader {
                 letter: word.form.letter,
                 value,
             });
+            self.used = used;
             self.want = Want::Letter;
             true
         } else {

@@ -1,13 +1,15 @@
 //! The run of a control byte by byte, with any meaning of blocks.
 
-ghost use Rattle.std.specs.Prelude.{◌≡◌, ◌+◌, ◌-◌, ◌<◌, ◌≤◌, ◌^◌, length, IfOk, IsTrue, Ok, false};
+ghost use Rattle.std.specs.Prelude.{◌≡◌, ◌+◌, ◌-◌, ◌<◌, ◌≤◌, ◌^◌, length, IfOk, IfSome, IsTrue, Ok, false};
+ghost use Rattle.apt_block.specs.Machine.{HasDigits};
+ghost use Rattle.apt_block.specs.declared.machine.Want.TheVariants as wants;
 ghost use Rattle.apt_control.specs.Answers.{IsAnswer, IsMeaning, IsStep};
 ghost use Rattle.apt_control.specs.Control.{MeaningOf};
 ghost use Rattle.apt_control.specs.Control as spec;
 ghost use Rattle.apt_control.specs.Walk as walk;
 
 use crate::ControlError;
-use apt_block::{BlockReader, Mark, TapeCause, TapeWord};
+use apt_block::{BlockReader, Mark, OpenWord, TapeCause, TapeWord};
 use apt_tapecode::{Code, Read, punch, sense};
 use std::alloc::Global;
 use std::marker::Model;
@@ -117,10 +119,14 @@ impl<H: Control> TapeReader<H> {
         };
         let mut rest = piece;
         'front: while let [byte, more @ ..] = rest {
-            if !self.take(code, *byte) {
+            let behind = self.word(code, rest);
+            if behind.len() < rest.len() {
+                rest = behind;
+            } else if self.take(code, *byte) {
+                rest = more;
+            } else {
                 return rest;
             }
-            rest = self.digits(code, more);
         }
         rest
     }
@@ -148,37 +154,145 @@ impl<H: Control> TapeReader<H> {
         true
     }
 
-    /// Takes the digits in front of some bytes, but no last one of a word, and answers what is behind them.
+    /// Takes a word at the front of some bytes if it can stand and is whole, and answers what is behind it.
     #[inline(always)]
-    fn digits<'a>(&mut self, code: Code, piece: &'a [u8]) -> &'a [u8]
+    fn word<'a>(&mut self, code: Code, piece: &'a [u8]) -> &'a [u8]
         requires code { self.old.code ≡ code }
         requires phase { self.old.phase ≡ Phase.InBlock }
         requires count { self.old.count + length piece.now < 2 ^ 64 }
         ensures same { walk.byte_steps H.means self.new result.now ≡ walk.byte_steps H.means self.old piece.now }
         ensures count { self.new.count + length result.now ≡ self.old.count + length piece.now }
         ensures short { length result.now ≤ length piece.now }
+        ensures left { length result.now ≡ length piece.now → (result.now ≡ piece.now) × (self.new ≡ self.old) }
         ensures code { self.new.code ≡ code }
         ensures phase { self.new.phase ≡ Phase.InBlock }
     {
-        let Some(first) = self.block.number() else {
+        let [byte, more @ ..] = piece else {
             return piece;
         };
-        let mut word = first;
-        let mut at = self.count;
-        let mut rest = piece;
+        let Read::Char(ch) = sense(code, *byte) else {
+            return piece;
+        };
+        let at = self.count;
+        let Some((word, used)) = self.block.letter(Mark { at, ch }) else {
+            return piece;
+        };
+        if word.form.signed {
+            self.signed(code, piece, used, word, at + 1, more)
+        } else {
+            self.number(code, piece, used, word, at + 1, more)
+        }
+    }
+
+    /// Takes the rest of a word whose sign comes next, as `number` does.
+    #[inline(always)]
+    fn signed<'a>(
+        &mut self,
+        code: Code,
+        piece: &'a [u8],
+        used: u8,
+        begun: OpenWord,
+        place: u64,
+        digits: &'a [u8],
+    ) -> &'a [u8]
+        requires code { self.old.code ≡ code }
+        requires phase { self.old.phase ≡ Phase.InBlock }
+        requires end { self.old.count + length piece.now < 2 ^ 64 }
+        requires words { length self.old.block.words < used }
+        requires used { used ≤ 13 }
+        requires room { HasDigits begun }
+        requires same { walk.byte_steps H.means (record self.old { block = record self.old.block { used = used; want = wants.Sign begun }; count = place }) digits.now ≡ walk.byte_steps H.means self.old piece.now }
+        requires count { place + length digits.now ≡ self.old.count + length piece.now }
+        requires short { length digits.now < length piece.now }
+        ensures same { walk.byte_steps H.means self.new result.now ≡ walk.byte_steps H.means self.old piece.now }
+        ensures count { self.new.count + length result.now ≡ self.old.count + length piece.now }
+        ensures short { length result.now ≤ length piece.now }
+        ensures left { length result.now ≡ length piece.now → (result.now ≡ piece.now) × (self.new ≡ self.old) }
+        ensures code { self.new.code ≡ code }
+        ensures phase { self.new.phase ≡ Phase.InBlock }
+    {
+        let [byte, more @ ..] = digits else {
+            return piece;
+        };
+        let Read::Char(ch) = sense(code, *byte) else {
+            return piece;
+        };
+        let word = match ch {
+            b'+' => begun,
+            b'-' => OpenWord {
+                minus: true,
+                ..begun
+            },
+            _ => return piece,
+        };
+        self.number(code, piece, used, word, place + 1, more)
+    }
+
+    /// Takes the rest of a word whose digits come next, and answers what is behind it. Where it isn't whole or
+    /// can't stand, nothing of the whole piece is taken.
+    #[inline(always)]
+    fn number<'a>(
+        &mut self,
+        code: Code,
+        piece: &'a [u8],
+        used: u8,
+        begun: OpenWord,
+        place: u64,
+        digits: &'a [u8],
+    ) -> &'a [u8]
+        requires code { self.old.code ≡ code }
+        requires phase { self.old.phase ≡ Phase.InBlock }
+        requires end { self.old.count + length piece.now < 2 ^ 64 }
+        requires words { length self.old.block.words < used }
+        requires used { used ≤ 13 }
+        requires room { HasDigits begun }
+        requires same { walk.byte_steps H.means (record self.old { block = record self.old.block { used = used; want = wants.Digit begun }; count = place }) digits.now ≡ walk.byte_steps H.means self.old piece.now }
+        requires count { place + length digits.now ≡ self.old.count + length piece.now }
+        requires short { length digits.now < length piece.now }
+        ensures same { walk.byte_steps H.means self.new result.now ≡ walk.byte_steps H.means self.old piece.now }
+        ensures count { self.new.count + length result.now ≡ self.old.count + length piece.now }
+        ensures short { length result.now ≤ length piece.now }
+        ensures left { length result.now ≡ length piece.now → (result.now ≡ piece.now) × (self.new ≡ self.old) }
+        ensures code { self.new.code ≡ code }
+        ensures phase { self.new.phase ≡ Phase.InBlock }
+    {
+        let mut word = begun;
+        let mut at = place;
+        let mut rest = digits;
         'digits: while let [byte, more @ ..] = rest {
             let Read::Char(ch) = sense(code, *byte) else {
-                break;
+                return piece;
             };
-            if !word.take(Mark { at, ch }) {
-                break;
+            if word.take(Mark { at, ch }) {
+                at += 1;
+                rest = more;
+            } else if self.last_digit(used, word, at, ch) {
+                return more;
+            } else {
+                return piece;
             }
-            at += 1;
-            rest = more;
         }
-        self.block.set_number(word);
-        self.count = at;
-        rest
+        piece
+    }
+
+    /// Takes the last digit of a word if the word can stand, and answers whether it did.
+    #[inline(always)]
+    fn last_digit(&mut self, used: u8, word: OpenWord, at: u64, ch: u8) -> bool
+        requires count { at < 2 ^ 64 - 1 }
+        requires words { length self.old.block.words < used }
+        requires used { used ≤ 13 }
+        requires room { HasDigits word }
+        ensures taken { IsTrue result → walk.character_step H.means (record self.old { block = record self.old.block { used = used; want = wants.Digit word }; count = at }) ch ≡ Ok self.new }
+        ensures count { IsTrue result → self.new.count ≡ at + 1 }
+        ensures code { self.new.code ≡ self.old.code }
+        ensures phase { self.new.phase ≡ self.old.phase }
+        ensures left { result ≡ false → self.new ≡ self.old }
+    {
+        if !self.block.last_digit(used, word, Mark { at, ch }) {
+            return false;
+        }
+        self.count = at + 1;
+        true
     }
 
     /// The acts of all bytes.
