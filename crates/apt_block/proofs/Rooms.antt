@@ -6,7 +6,6 @@ use Rattle.std.proofs.lemmas.Nat.{mul-le}
 use Rattle.std.proofs.lemmas.List.{length-drop}
 use Rattle.apt_block.specs.declared.table.Form.{Form}
 use Rattle.apt_block.specs.declared.block.Mark.{Mark}
-use Rattle.apt_block.specs.declared.block.TapeWord.{TapeWord}
 use Rattle.apt_block.specs.declared.machine.OpenWord.{OpenWord}
 use Rattle.apt_block.specs.declared.machine.Want.{Want}
 use Rattle.apt_block.specs.declared.machine.Want.TheVariants as wants
@@ -99,16 +98,6 @@ want_room b used at form want h room small is = subst (λ want. IsFrontPart (rec
 
 one_more : (n : ℕ) → n + 1 ≡ suc n
 one_more n = omega arith
-
-no_zero : (n : ℕ) → 0 < n → (n == 0) ≡ false
-no_zero n h = grind (arith, nat_tests)
-
--- a digit that more may follow leaves room
-pub digit_room : (words : List TapeWord) (used : ℕ) (want : Want) (w now : OpenWord) (c : Mark) → IsFrontPart (record { words = words; used = used; want = want }) → want ≡ wants.Digit w
-    → 0 < w.later → is_digit c.ch ≡ true → now ≡ with_digit w c → IsFrontPart (record { words = words; used = used; want = wants.Digit now })
-digit_room words used want w now c is digits later digit e =
-    let room : HasRoom (record { words = words; used = used; want = want }) (wants.Digit w) = subst (λ v. HasRoom (record { words = words; used = used; want = want }) v) digits is.room in
-    subst (λ now. IsFrontPart (record { words = words; used = used; want = wants.Digit now })) (sym e) (record { used = is.used; room = (room.0, room_step w c room.1 digit (no_zero w.later later)) })
 
 -- the last digit leaves a size that fits
 pub last_room : (w : OpenWord) (c : Mark) → HasDigits w → is_digit c.ch ≡ true → (with_digit w c).size < 10 ^ 8

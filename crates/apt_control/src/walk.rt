@@ -1,7 +1,7 @@
 //! The run of a control byte by byte, with any meaning of blocks.
 
 ghost use Rattle.std.specs.Prelude.{◌≡◌, ◌+◌, ◌-◌, ◌<◌, ◌≤◌, ◌^◌, length, IfOk, IfSome, IsTrue, Ok, false};
-ghost use Rattle.apt_block.specs.Machine.{HasDigits};
+ghost use Rattle.apt_block.specs.Machine.{HasDigits, first_want, new_word};
 ghost use Rattle.apt_block.specs.declared.machine.Want.TheVariants as wants;
 ghost use Rattle.apt_control.specs.Answers.{IsAnswer, IsMeaning, IsStep};
 ghost use Rattle.apt_control.specs.Control.{MeaningOf};
@@ -118,40 +118,14 @@ impl<H: Control> TapeReader<H> {
             return piece;
         };
         let mut rest = piece;
-        'front: while let [byte, more @ ..] = rest {
+        'front: while !rest.is_empty() {
             let behind = self.word(code, rest);
-            if behind.len() < rest.len() {
-                rest = behind;
-            } else if self.take(code, *byte) {
-                rest = more;
-            } else {
-                return rest;
+            if behind.len() == rest.len() {
+                return behind;
             }
+            rest = behind;
         }
         rest
-    }
-
-    /// Takes a byte in a block if it is a character that can stand and ends no block, and answers whether it did.
-    #[inline(always)]
-    fn take(&mut self, code: Code, byte: u8) -> bool
-        requires code { self.old.code ≡ code }
-        requires phase { self.old.phase ≡ Phase.InBlock }
-        requires count { self.old.count < 2 ^ 64 - 1 }
-        ensures taken { IsTrue result → walk.byte_step H.means self.old byte ≡ Ok self.new }
-        ensures count { IsTrue result → self.new.count ≡ self.old.count + 1 }
-        ensures left { result ≡ false → self.new ≡ self.old }
-        ensures code { self.new.code ≡ code }
-        ensures phase { self.new.phase ≡ Phase.InBlock }
-    {
-        let Read::Char(ch) = sense(code, byte) else {
-            return false;
-        };
-        let at = self.count;
-        if !self.block.take(Mark { at, ch }) {
-            return false;
-        }
-        self.count += 1;
-        true
     }
 
     /// Takes a word at the front of some bytes if it can stand and is whole, and answers what is behind it.
@@ -163,7 +137,6 @@ impl<H: Control> TapeReader<H> {
         ensures same { walk.byte_steps H.means self.new result.now ≡ walk.byte_steps H.means self.old piece.now }
         ensures count { self.new.count + length result.now ≡ self.old.count + length piece.now }
         ensures short { length result.now ≤ length piece.now }
-        ensures left { length result.now ≡ length piece.now → (result.now ≡ piece.now) × (self.new ≡ self.old) }
         ensures code { self.new.code ≡ code }
         ensures phase { self.new.phase ≡ Phase.InBlock }
     {
@@ -177,59 +150,11 @@ impl<H: Control> TapeReader<H> {
         let Some((word, used)) = self.block.letter(Mark { at, ch }) else {
             return piece;
         };
-        if word.form.signed {
-            self.signed(code, piece, used, word, at + 1, more)
-        } else {
-            self.number(code, piece, used, word, at + 1, more)
-        }
+        self.number(code, piece, used, word, more)
     }
 
-    /// Takes the rest of a word whose sign comes next, as `number` does.
-    #[inline(always)]
-    fn signed<'a>(
-        &mut self,
-        code: Code,
-        piece: &'a [u8],
-        used: u8,
-        begun: OpenWord,
-        place: u64,
-        digits: &'a [u8],
-    ) -> &'a [u8]
-        requires code { self.old.code ≡ code }
-        requires phase { self.old.phase ≡ Phase.InBlock }
-        requires end { self.old.count + length piece.now < 2 ^ 64 }
-        requires words { length self.old.block.words < used }
-        requires used { used ≤ 13 }
-        requires room { HasDigits begun }
-        requires same { walk.byte_steps H.means (record self.old { block = record self.old.block { used = used; want = wants.Sign begun }; count = place }) digits.now ≡ walk.byte_steps H.means self.old piece.now }
-        requires count { place + length digits.now ≡ self.old.count + length piece.now }
-        requires short { length digits.now < length piece.now }
-        ensures same { walk.byte_steps H.means self.new result.now ≡ walk.byte_steps H.means self.old piece.now }
-        ensures count { self.new.count + length result.now ≡ self.old.count + length piece.now }
-        ensures short { length result.now ≤ length piece.now }
-        ensures left { length result.now ≡ length piece.now → (result.now ≡ piece.now) × (self.new ≡ self.old) }
-        ensures code { self.new.code ≡ code }
-        ensures phase { self.new.phase ≡ Phase.InBlock }
-    {
-        let [byte, more @ ..] = digits else {
-            return piece;
-        };
-        let Read::Char(ch) = sense(code, *byte) else {
-            return piece;
-        };
-        let word = match ch {
-            b'+' => begun,
-            b'-' => OpenWord {
-                minus: true,
-                ..begun
-            },
-            _ => return piece,
-        };
-        self.number(code, piece, used, word, place + 1, more)
-    }
-
-    /// Takes the rest of a word whose digits come next, and answers what is behind it. Where it isn't whole or
-    /// can't stand, nothing of the whole piece is taken.
+    /// Takes a word whose letter is taken, with its sign and its digits, and answers what is behind it. Where it
+    /// isn't whole or can't stand, nothing of the piece is taken.
     #[inline(always)]
     fn number<'a>(
         &mut self,
@@ -237,8 +162,7 @@ impl<H: Control> TapeReader<H> {
         piece: &'a [u8],
         used: u8,
         begun: OpenWord,
-        place: u64,
-        digits: &'a [u8],
+        after: &'a [u8],
     ) -> &'a [u8]
         requires code { self.old.code ≡ code }
         requires phase { self.old.phase ≡ Phase.InBlock }
@@ -246,19 +170,33 @@ impl<H: Control> TapeReader<H> {
         requires words { length self.old.block.words < used }
         requires used { used ≤ 13 }
         requires room { HasDigits begun }
-        requires same { walk.byte_steps H.means (record self.old { block = record self.old.block { used = used; want = wants.Digit begun }; count = place }) digits.now ≡ walk.byte_steps H.means self.old piece.now }
-        requires count { place + length digits.now ≡ self.old.count + length piece.now }
-        requires short { length digits.now < length piece.now }
+        requires new { begun ≡ new_word begun.form begun.at }
+        requires same { walk.byte_steps H.means (record self.old { block = record self.old.block { used = used; want = first_want begun.form begun.at }; count = self.old.count + 1 }) after.now ≡ walk.byte_steps H.means self.old piece.now }
+        requires count { 1 + length after.now ≡ length piece.now }
         ensures same { walk.byte_steps H.means self.new result.now ≡ walk.byte_steps H.means self.old piece.now }
         ensures count { self.new.count + length result.now ≡ self.old.count + length piece.now }
         ensures short { length result.now ≤ length piece.now }
-        ensures left { length result.now ≡ length piece.now → (result.now ≡ piece.now) × (self.new ≡ self.old) }
         ensures code { self.new.code ≡ code }
         ensures phase { self.new.phase ≡ Phase.InBlock }
     {
         let mut word = begun;
-        let mut at = place;
-        let mut rest = digits;
+        let mut at = self.count + 1;
+        let mut rest = after;
+        if word.form.signed {
+            let [byte, more @ ..] = after else {
+                return piece;
+            };
+            let Read::Char(ch) = sense(code, *byte) else {
+                return piece;
+            };
+            if ch == b'-' {
+                word.minus = true;
+            } else if ch != b'+' {
+                return piece;
+            }
+            at += 1;
+            rest = more;
+        }
         'digits: while let [byte, more @ ..] = rest {
             let Read::Char(ch) = sense(code, *byte) else {
                 return piece;
