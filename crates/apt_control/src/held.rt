@@ -1,6 +1,8 @@
 //! The meaning of blocks: moves, spindle, coolant, tools and stops.
 
-ghost use Rattle.std.specs.Prelude.{◌≡◌, ◌++◌, ◌∷◌, [], List, OnOk};
+ghost use Rattle.std.specs.Prelude.{◌≡◌, ◌++◌, ◌∷◌, [], List, OnOk, Option, Some, ℕ, ℤ};
+ghost use Rattle.std.specs.Option.{option_or};
+ghost use Rattle.apt_block.specs.Block.{letter_f, letter_m, letter_s, letter_t, letter_x, letter_y, letter_z};
 ghost use Rattle.apt_control.specs.Answers.{acts_by};
 ghost use Rattle.apt_control.specs.Control as spec;
 
@@ -47,15 +49,16 @@ impl Control for Held {
         words: &[TapeWord],
         acts: &mut Vec<Act>,
     ) -> Result<bool, ControlError> {
-        let code = m_code(words);
-        let units = block_units(words);
-        let moves = is_move(words);
-        let now = with_words(*self, units, words);
-        if let Some(cause) = end_fault(now, code, moves, words) {
+        let said = said_by(words);
+        let code = m_code(&said);
+        let units = block_units(&said);
+        let moves = is_move(&said);
+        let now = with_words(*self, units, &said);
+        if let Some(cause) = end_fault(now, is_mixed(code, &said), moves) {
             return Err(ControlError::Bad { at, cause });
         }
         push_act(acts, unit_act(units))?;
-        push_act(acts, act_before(code, words))?;
+        push_act(acts, act_before(code, &said))?;
         push_act(acts, move_act(now, moves))?;
         push_act(acts, act_after(code))?;
         *self = now;
@@ -63,41 +66,103 @@ impl Control for Held {
     }
 }
 
-/// The value of the word with a letter.
-fn value_of(words: &[TapeWord], letter: u8) -> Option<i64>
-    ensures { result ≡ spec.value_of words.now letter }
+/// What the words of a block say: the first value of each letter, and the first G code of each kind.
+#[derive(Clone, Copy, Drop)]
+struct Said {
+    motion: Option<u64>,
+    units: Option<u64>,
+    x: Option<i64>,
+    y: Option<i64>,
+    z: Option<i64>,
+    feed: Option<i64>,
+    speed: Option<i64>,
+    tool: Option<i64>,
+    code: Option<i64>,
+}
+
+fn said_by(words: &[TapeWord]) -> Said
+    ensures motion { result.motion ≡ spec.g_code words.now (0 ∷ 1 ∷ []) }
+    ensures units { result.units ≡ spec.g_code words.now (70 ∷ 71 ∷ []) }
+    ensures x { result.x ≡ spec.value_of words.now letter_x }
+    ensures y { result.y ≡ spec.value_of words.now letter_y }
+    ensures z { result.z ≡ spec.value_of words.now letter_z }
+    ensures feed { result.feed ≡ spec.value_of words.now letter_f }
+    ensures speed { result.speed ≡ spec.value_of words.now letter_s }
+    ensures tool { result.tool ≡ spec.value_of words.now letter_t }
+    ensures code { result.code ≡ spec.value_of words.now letter_m }
 {
+    let mut said = Said {
+        motion: None,
+        units: None,
+        x: None,
+        y: None,
+        z: None,
+        feed: None,
+        speed: None,
+        tool: None,
+        code: None,
+    };
     'words: for word in words {
-        if word.letter == letter {
-            return Some(word.value);
-        }
+        add_word(&mut said, word);
     }
-    None
+    said
 }
 
-fn has_letter(words: &[TapeWord], letter: u8) -> bool
-    ensures { result ≡ spec.has_letter words.now letter }
+/// Adds what a word says where no word before it said it.
+fn add_word(said: &mut Said, word: &TapeWord)
+    ensures motion { (more : List TapeWord) → option_or said.new.motion (spec.g_code more (0 ∷ 1 ∷ [])) ≡ option_or said.old.motion (spec.g_code (word.now ∷ more) (0 ∷ 1 ∷ [])) }
+    ensures units { (more : List TapeWord) → option_or said.new.units (spec.g_code more (70 ∷ 71 ∷ [])) ≡ option_or said.old.units (spec.g_code (word.now ∷ more) (70 ∷ 71 ∷ [])) }
+    ensures x { (more : List TapeWord) → option_or said.new.x (spec.value_of more letter_x) ≡ option_or said.old.x (spec.value_of (word.now ∷ more) letter_x) }
+    ensures y { (more : List TapeWord) → option_or said.new.y (spec.value_of more letter_y) ≡ option_or said.old.y (spec.value_of (word.now ∷ more) letter_y) }
+    ensures z { (more : List TapeWord) → option_or said.new.z (spec.value_of more letter_z) ≡ option_or said.old.z (spec.value_of (word.now ∷ more) letter_z) }
+    ensures feed { (more : List TapeWord) → option_or said.new.feed (spec.value_of more letter_f) ≡ option_or said.old.feed (spec.value_of (word.now ∷ more) letter_f) }
+    ensures speed { (more : List TapeWord) → option_or said.new.speed (spec.value_of more letter_s) ≡ option_or said.old.speed (spec.value_of (word.now ∷ more) letter_s) }
+    ensures tool { (more : List TapeWord) → option_or said.new.tool (spec.value_of more letter_t) ≡ option_or said.old.tool (spec.value_of (word.now ∷ more) letter_t) }
+    ensures code { (more : List TapeWord) → option_or said.new.code (spec.value_of more letter_m) ≡ option_or said.old.code (spec.value_of (word.now ∷ more) letter_m) }
 {
-    value_of(words, letter).is_some()
-}
-
-/// The G code that is one of two.
-fn g_code(words: &[TapeWord], a: u64, b: u64) -> Option<u64>
-    ensures { result ≡ spec.g_code words.now (a ∷ b ∷ []) }
-{
-    'words: for word in words {
-        let code = word.value.unsigned_abs();
-        if word.letter == b'G' && (code == a || code == b) {
-            return Some(code);
+    let value = word.value;
+    match word.letter {
+        b'G' => {
+            let code = value.unsigned_abs();
+            if code == 0 || code == 1 {
+                said.motion = first_code(said.motion, code);
+            } else if code == 70 || code == 71 {
+                said.units = first_code(said.units, code);
+            }
         }
+        b'X' => said.x = first_value(said.x, value),
+        b'Y' => said.y = first_value(said.y, value),
+        b'Z' => said.z = first_value(said.z, value),
+        b'F' => said.feed = first_value(said.feed, value),
+        b'S' => said.speed = first_value(said.speed, value),
+        b'T' => said.tool = first_value(said.tool, value),
+        b'M' => said.code = first_value(said.code, value),
+        _ => {}
     }
-    None
 }
 
-fn m_code(words: &[TapeWord]) -> Option<u64>
-    ensures { result ≡ spec.m_code words.now }
+fn first_value(before: Option<i64>, value: i64) -> Option<i64>
+    ensures { (more : Option ℤ) → option_or result more ≡ option_or before (Some value) }
 {
-    match value_of(words, b'M') {
+    match before {
+        Some(first) => Some(first),
+        None => Some(value),
+    }
+}
+
+fn first_code(before: Option<u64>, code: u64) -> Option<u64>
+    ensures { (more : Option ℕ) → option_or result more ≡ option_or before (Some code) }
+{
+    match before {
+        Some(first) => Some(first),
+        None => Some(code),
+    }
+}
+
+fn m_code(said: &Said) -> Option<u64>
+    ensures { (words : List TapeWord) → said.now.code ≡ spec.value_of words letter_m → result ≡ spec.m_code words }
+{
+    match said.code {
         Some(value) => Some(value.unsigned_abs()),
         None => None,
     }
@@ -136,41 +201,39 @@ fn units_of(code: u64) -> Units
     if code == 70 { Units::Inch } else { Units::Mm }
 }
 
-fn block_units(words: &[TapeWord]) -> Option<Units>
-    ensures { result ≡ spec.block_units words.now }
+fn block_units(said: &Said) -> Option<Units>
+    ensures { (words : List TapeWord) → said.now.units ≡ spec.g_code words (70 ∷ 71 ∷ []) → result ≡ spec.block_units words }
 {
-    match g_code(words, 70, 71) {
+    match said.units {
         Some(code) => Some(units_of(code)),
         None => None,
     }
 }
 
-/// What holds with a block's words, and the units among them.
-fn with_words(held: Held, units: Option<Units>, words: &[TapeWord]) -> Held
-    requires { units ≡ spec.block_units words.now }
-    ensures { result ≡ spec.with_words held words.now }
+/// What holds with what a block's words say, and the units among them.
+fn with_words(held: Held, units: Option<Units>, said: &Said) -> Held
+    ensures { (words : List TapeWord) → said.now.motion ≡ spec.g_code words (0 ∷ 1 ∷ []) → units ≡ spec.block_units words → said.now.feed ≡ spec.value_of words letter_f → said.now.x ≡ spec.value_of words letter_x → said.now.y ≡ spec.value_of words letter_y → said.now.z ≡ spec.value_of words letter_z → result ≡ spec.with_words held words }
 {
     Held {
-        motion: g_code(words, 0, 1).or(held.motion),
+        motion: said.motion.or(held.motion),
         units: units.or(held.units),
-        feed: value_of(words, b'F').or(held.feed),
-        x: value_of(words, b'X').or(held.x),
-        y: value_of(words, b'Y').or(held.y),
-        z: value_of(words, b'Z').or(held.z),
+        feed: said.feed.or(held.feed),
+        x: said.x.or(held.x),
+        y: said.y.or(held.y),
+        z: said.z.or(held.z),
     }
 }
 
-fn is_move(words: &[TapeWord]) -> bool
-    ensures { result ≡ spec.is_move words.now }
+fn is_move(said: &Said) -> bool
+    ensures { (words : List TapeWord) → said.now.x ≡ spec.value_of words letter_x → said.now.y ≡ spec.value_of words letter_y → said.now.z ≡ spec.value_of words letter_z → result ≡ spec.is_move words }
 {
-    has_letter(words, b'X') || has_letter(words, b'Y') || has_letter(words, b'Z')
+    said.x.is_some() || said.y.is_some() || said.z.is_some()
 }
 
-fn is_mixed(code: Option<u64>, words: &[TapeWord]) -> bool
-    requires { code ≡ spec.m_code words.now }
-    ensures { result ≡ spec.is_mixed words.now }
+fn is_mixed(code: Option<u64>, said: &Said) -> bool
+    ensures { (words : List TapeWord) → code ≡ spec.m_code words → said.now.speed ≡ spec.value_of words letter_s → said.now.tool ≡ spec.value_of words letter_t → result ≡ spec.is_mixed words }
 {
-    has_letter(words, b'S') != turns_spindle(code) || has_letter(words, b'T') != changes_tool(code)
+    said.speed.is_some() != turns_spindle(code) || said.tool.is_some() != changes_tool(code)
 }
 
 fn is_cut(held: Held) -> bool
@@ -199,13 +262,11 @@ fn move_fault(held: Held) -> Option<TapeCause>
     }
 }
 
-/// The first fault at the end of a block with an M code and a move, or without.
-fn end_fault(held: Held, code: Option<u64>, moves: bool, words: &[TapeWord]) -> Option<TapeCause>
-    requires code { code ≡ spec.m_code words.now }
-    requires moves { moves ≡ spec.is_move words.now }
-    ensures { result ≡ spec.end_fault held words.now }
+/// The first fault at the end of a block that mixes words, or moves.
+fn end_fault(held: Held, mixed: bool, moves: bool) -> Option<TapeCause>
+    ensures { (words : List TapeWord) → mixed ≡ spec.is_mixed words → moves ≡ spec.is_move words → result ≡ spec.end_fault held words }
 {
-    if is_mixed(code, words) {
+    if mixed {
         Some(TapeCause::BadMix)
     } else if moves {
         move_fault(held)
@@ -248,20 +309,19 @@ fn unit_act(units: Option<Units>) -> Option<Act>
 }
 
 /// The act before the move: the spindle or the tool with its number, or the coolant.
-fn act_before(code: Option<u64>, words: &[TapeWord]) -> Option<Act>
-    requires { code ≡ spec.m_code words.now }
-    ensures { acts_by result ≡ spec.acts_before words.now }
+fn act_before(code: Option<u64>, said: &Said) -> Option<Act>
+    ensures { (words : List TapeWord) → code ≡ spec.m_code words → said.now.speed ≡ spec.value_of words letter_s → said.now.tool ≡ spec.value_of words letter_t → acts_by result ≡ spec.acts_before words }
 {
     match code {
         Some(3) => Some(Act::Spindle {
             turn: Turn::Cw,
-            n: value_of(words, b'S').unwrap_or(0),
+            n: said.speed.unwrap_or(0),
         }),
         Some(4) => Some(Act::Spindle {
             turn: Turn::Ccw,
-            n: value_of(words, b'S').unwrap_or(0),
+            n: said.speed.unwrap_or(0),
         }),
-        Some(6) => Some(Act::Tool(value_of(words, b'T').unwrap_or(0))),
+        Some(6) => Some(Act::Tool(said.tool.unwrap_or(0))),
         Some(7) => Some(Act::Coolant(Cool::Mist)),
         Some(8) => Some(Act::Coolant(Cool::Flood)),
         _ => None,
