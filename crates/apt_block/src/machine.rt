@@ -5,7 +5,7 @@ ghost use Rattle.apt_block.specs.Block as spec;
 ghost use Rattle.apt_block.specs.Machine as machine;
 ghost use Rattle.apt_block.specs.Machine.{IsStep, HasDigits};
 
-use crate::table::{code_fault, form_for};
+use crate::table::{code_fault, form_for, is_bad_code};
 use crate::{Block, Fault, Form, Mark, TapeCause, TapeWord};
 use std::marker::Model;
 
@@ -233,7 +233,7 @@ impl BlockReader {
     {
         if word.form.least <= word.size && word.size <= word.form.most {
             let value = value_of(&word);
-            if code_fault(self.words(), word.form.letter, value.unsigned_abs()).is_some() {
+            if is_bad_code(self.words(), word.form.letter, value.unsigned_abs()) {
                 return false;
             }
             self.block.push(TapeWord {

@@ -349,8 +349,16 @@ fn act_after(code: Option<u64>) -> Option<Act>
 fn push_act(acts: &mut Vec<Act>, act: Option<Act>) -> Result<(), AllocError>
     ensures { OnOk result (acts.new.items ≡ acts.old.items ++ acts_by act) }
 {
-    if let Some(act) = act {
-        acts.push(act)?;
+    match act {
+        Some(act) => push_one(acts, act),
+        None => Ok(()),
     }
+}
+
+#[inline(never)]
+fn push_one(acts: &mut Vec<Act>, act: Act) -> Result<(), AllocError>
+    ensures { OnOk result (acts.new.items ≡ acts.old.items ++ act ∷ []) }
+{
+    acts.push(act)?;
     Ok(())
 }

@@ -201,6 +201,9 @@ impl<H: Control> TapeReader<H> {
             let Read::Char(ch) = sense(code, *byte) else {
                 return piece;
             };
+            if !ch.is_ascii_digit() {
+                return piece;
+            }
             if word.take(Mark { at, ch }) {
                 at += 1;
                 rest = more;
