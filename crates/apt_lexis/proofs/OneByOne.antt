@@ -1,11 +1,15 @@
 -- The tokens of a text, one after another.
 use Rattle.std.proofs.Common.{◌≡◌, ℕ, ◌+◌, ◌<◌, List, [], ◌∷◌, ◌++◌, length, take, drop, Bool, true, false, ap, ◌∙◌, sym, refl, arith, cond, subst, append_assoc, append-nil}
-use Rattle.std.specs.Prelude.{◌||◌, Ok, Err, IfOk}
+use Rattle.std.specs.Prelude.{ℤ, ◌||◌, map, Some, None, Ok, Err}
 use Rattle.std.specs.List.{prefix_len, take_while, flat_map}
 use Rattle.std.proofs.lemmas.Bool.Decides.{nat_tests}
+use Rattle.apt_words.specs.Symbols.{is_symbol}
+use Rattle.apt_lexis.specs.declared.cause.PartCause.{PartCause}
+use Rattle.apt_lexis.specs.declared.cause.PartCause.TheVariants as causes
 use Rattle.apt_lexis.specs.declared.token.Token.{Token}
+use Rattle.apt_lexis.specs.declared.token.Token.TheVariants as tokens
 use Rattle.apt_lexis.specs.Lines.{in_front}
-use Rattle.apt_lexis.specs.Tokens.{Read, Tokens, tokens_of, is_blank, is_letter, is_letter_or_digit, is_in_run, runs, tokens_of_run, word, number, number_behind, mark, all_good, in_front_of}
+use Rattle.apt_lexis.specs.Tokens.{Read, Tokens, tokens_of, is_blank, is_letter, is_letter_or_digit, is_in_run, capital, runs, tokens_of_run, word, number, number_in, or_bad_number, number_behind, mark, all_good, in_front_of}
 use Rattle.apt_lexis.specs.Titles.{behind}
 use Rattle.apt_lexis.specs.Sentences.{joined}
 use Rattle.apt_lexis.proofs.Fronts.{prefix_yes, prefix_no, take_one_more, drop_one_more, take_front, none_behind, none_first}
@@ -199,7 +203,7 @@ no_tokens text h = tokens_behind_blanks text ∙ none (behind is_blank text) h
     none [] h = refl
     none (b ∷ bs) h = absurd (omega arith)
 
-pub first_word : (text : List ℕ) (b : ℕ) (bs : List ℕ) → behind is_blank text ≡ b ∷ bs → is_letter b ≡ true
+first_word : (text : List ℕ) (b : ℕ) (bs : List ℕ) → behind is_blank text ≡ b ∷ bs → is_letter b ≡ true
     → tokens_of text ≡ in_front_of (word (take_while is_letter_or_digit (b ∷ bs))) (tokens_of (behind is_letter_or_digit (b ∷ bs)))
 first_word text b bs e f = tokens_behind_blanks text ∙ ap tokens_of e ∙ ap all_good (reads_word b bs f)
 
@@ -207,16 +211,7 @@ first_number : (text : List ℕ) (b : ℕ) (bs : List ℕ) → behind is_blank t
     → tokens_of text ≡ in_front_of (number (take_while is_in_run (b ∷ bs))) (tokens_of (behind is_in_run (b ∷ bs)))
 first_number text b bs e f g = tokens_behind_blanks text ∙ ap tokens_of e ∙ ap all_good (reads_number b bs f g)
 
--- what stands behind a bad number is not read
-pub number_read : (text : List ℕ) (b : ℕ) (bs : List ℕ) (first : Read) (rest : List ℕ) → behind is_blank text ≡ b ∷ bs → is_letter b ≡ false → is_in_run b ≡ true → first ≡ number (take_while is_in_run (b ∷ bs))
-    → IfOk first (λ _. rest ≡ behind is_in_run (b ∷ bs)) → tokens_of text ≡ in_front_of first (tokens_of rest)
-number_read text b bs first rest e f g h k = first_number text b bs e f g ∙ ap (λ r. in_front_of r (tokens_of (behind is_in_run (b ∷ bs)))) (sym h) ∙ same first (behind is_in_run (b ∷ bs)) rest k
-  where
-    same : (first : Read) (left rest : List ℕ) → IfOk first (λ _. rest ≡ left) → in_front_of first (tokens_of left) ≡ in_front_of first (tokens_of rest)
-    same (Ok t) left rest k = rw k refl
-    same (Err cause) left rest k = refl
-
-pub first_mark : (text : List ℕ) (b : ℕ) (bs : List ℕ) → behind is_blank text ≡ b ∷ bs → is_in_run b ≡ false
+first_mark : (text : List ℕ) (b : ℕ) (bs : List ℕ) → behind is_blank text ≡ b ∷ bs → is_in_run b ≡ false
     → tokens_of text ≡ in_front_of (mark b) (tokens_of bs)
 first_mark text b bs e f =
     let clear : prefix_len is_blank (b ∷ bs) ≡ 0 = subst (λ (t : List ℕ). prefix_len is_blank t ≡ 0) e (none_behind is_blank text) in
@@ -244,6 +239,67 @@ some_token text h = of_first text (behind is_blank text) refl h
 pub joined_none : (ts : List Token) → joined (Ok ts) (Ok []) ≡ Ok ts
 joined_none ts = ap (λ (us : List Token). Ok us) (append-nil ts)
 
-pub joined_one_more : (ts : List Token) (t : Token) (more : Tokens) → joined (Ok ts) (in_front_of (Ok t) more) ≡ joined (Ok (ts ++ t ∷ [])) more
+joined_one_more : (ts : List Token) (t : Token) (more : Tokens) → joined (Ok ts) (in_front_of (Ok t) more) ≡ joined (Ok (ts ++ t ∷ [])) more
 joined_one_more ts t (Err cause) = refl
 joined_one_more ts t (Ok more) = ap (λ (us : List Token). Ok us) (sym (append_assoc ts (t ∷ []) more))
+
+-- ---- one token more
+
+-- a blank is skipped
+pub blank_skipped : (ts : List Token) (rest : List ℕ) (b : ℕ) (bs : List ℕ) (all : Tokens) → rest ≡ b ∷ bs → is_blank b ≡ true → joined (Ok ts) (tokens_of rest) ≡ all → joined (Ok ts) (tokens_of bs) ≡ all
+blank_skipped ts rest b bs all e f h = ap (λ reads. joined (Ok ts) (all_good reads)) (sym (reads_blank b bs f)) ∙ ap (λ text. joined (Ok ts) (tokens_of text)) (sym e) ∙ h
+
+one_more : (ts : List Token) (t : Token) (rest more : List ℕ) (all : Tokens) → tokens_of rest ≡ in_front_of (Ok t) (tokens_of more) → joined (Ok ts) (tokens_of rest) ≡ all → joined (Ok (ts ++ t ∷ [])) (tokens_of more) ≡ all
+one_more ts t rest more all e h = sym (joined_one_more ts t (tokens_of more)) ∙ ap (joined (Ok ts)) (sym e) ∙ h
+
+bad_one : (ts : List Token) (cause : PartCause) (rest : List ℕ) (more all : Tokens) → tokens_of rest ≡ in_front_of (Err cause) more → joined (Ok ts) (tokens_of rest) ≡ all → Err cause ≡ all
+bad_one ts cause rest more all e h = ap (joined (Ok ts)) (sym e) ∙ h
+
+word_at : (rest : List ℕ) (b : ℕ) (bs : List ℕ) → rest ≡ b ∷ bs → is_letter b ≡ true → tokens_of rest ≡ in_front_of (word (take_while is_letter_or_digit rest)) (tokens_of (behind is_letter_or_digit rest))
+word_at rest b bs e f = subst (λ text. tokens_of text ≡ in_front_of (word (take_while is_letter_or_digit text)) (tokens_of (behind is_letter_or_digit text))) (sym e) (ap all_good (reads_word b bs f))
+
+number_at : (rest : List ℕ) (b : ℕ) (bs : List ℕ) → rest ≡ b ∷ bs → is_letter b ≡ false → is_in_run b ≡ true → tokens_of rest ≡ in_front_of (number (take_while is_in_run rest)) (tokens_of (behind is_in_run rest))
+number_at rest b bs e f g = subst (λ text. tokens_of text ≡ in_front_of (number (take_while is_in_run text)) (tokens_of (behind is_in_run text))) (sym e) (ap all_good (reads_number b bs f g))
+
+mark_at : (rest : List ℕ) (b : ℕ) (bs : List ℕ) → rest ≡ b ∷ bs → is_in_run b ≡ false → is_blank b ≡ false → tokens_of rest ≡ in_front_of (mark b) (tokens_of bs)
+mark_at rest b bs e f g = ap tokens_of e ∙ ap all_good (reads_mark b bs f g)
+
+pub word_more : (ts : List Token) (rest : List ℕ) (b : ℕ) (bs w more : List ℕ) (all : Tokens) → rest ≡ b ∷ bs → is_letter b ≡ true
+    → is_symbol (map capital (take_while is_letter_or_digit rest)) ≡ true → w ≡ map capital (take_while is_letter_or_digit rest) → more ≡ behind is_letter_or_digit rest
+    → joined (Ok ts) (tokens_of rest) ≡ all → joined (Ok (ts ++ tokens.Word w ∷ [])) (tokens_of more) ≡ all
+word_more ts rest b bs w more all e f s same on h =
+    one_more ts (tokens.Word w) rest more all
+    (word_at rest b bs e f ∙ ap (λ r. in_front_of r (tokens_of (behind is_letter_or_digit rest))) (good_word (take_while is_letter_or_digit rest) w s same) ∙ ap (λ text. in_front_of (Ok (tokens.Word w)) (tokens_of text)) (sym on)) h
+  where
+    good_word : (text w : List ℕ) → is_symbol (map capital text) ≡ true → w ≡ map capital text → word text ≡ Ok (tokens.Word w)
+    good_word text w s same = rw s (ap (λ v. Ok (tokens.Word v)) (sym same))
+
+pub word_bad : (ts : List Token) (rest : List ℕ) (b : ℕ) (bs : List ℕ) (all : Tokens) → rest ≡ b ∷ bs → is_letter b ≡ true
+    → is_symbol (map capital (take_while is_letter_or_digit rest)) ≡ false → joined (Ok ts) (tokens_of rest) ≡ all → Err causes.BadWord ≡ all
+word_bad ts rest b bs all e f s h =
+    bad_one ts causes.BadWord rest (tokens_of (behind is_letter_or_digit rest)) all
+    (word_at rest b bs e f ∙ ap (λ r. in_front_of r (tokens_of (behind is_letter_or_digit rest))) (bad_word (take_while is_letter_or_digit rest) s)) h
+  where
+    bad_word : (text : List ℕ) → is_symbol (map capital text) ≡ false → word text ≡ Err causes.BadWord
+    bad_word text s = rw s refl
+
+pub number_more : (ts : List Token) (rest : List ℕ) (b : ℕ) (bs more : List ℕ) (v : ℤ) (all : Tokens) → rest ≡ b ∷ bs → is_letter b ≡ false → is_in_run b ≡ true
+    → number_in (take_while is_in_run rest) ≡ Some v → more ≡ behind is_in_run rest
+    → joined (Ok ts) (tokens_of rest) ≡ all → joined (Ok (ts ++ tokens.Number v ∷ [])) (tokens_of more) ≡ all
+number_more ts rest b bs more v all e f g s on h =
+    one_more ts (tokens.Number v) rest more all
+    (number_at rest b bs e f g ∙ ap (λ r. in_front_of (or_bad_number r) (tokens_of (behind is_in_run rest))) s ∙ ap (λ text. in_front_of (Ok (tokens.Number v)) (tokens_of text)) (sym on)) h
+
+pub number_bad : (ts : List Token) (rest : List ℕ) (b : ℕ) (bs : List ℕ) (all : Tokens) → rest ≡ b ∷ bs → is_letter b ≡ false → is_in_run b ≡ true
+    → number_in (take_while is_in_run rest) ≡ None → joined (Ok ts) (tokens_of rest) ≡ all → Err causes.BadNumber ≡ all
+number_bad ts rest b bs all e f g s h =
+    bad_one ts causes.BadNumber rest (tokens_of (behind is_in_run rest)) all
+    (number_at rest b bs e f g ∙ ap (λ r. in_front_of (or_bad_number r) (tokens_of (behind is_in_run rest))) s) h
+
+pub mark_more : (ts : List Token) (t : Token) (rest : List ℕ) (b : ℕ) (bs : List ℕ) (all : Tokens) → rest ≡ b ∷ bs → is_in_run b ≡ false → is_blank b ≡ false
+    → mark b ≡ Ok t → joined (Ok ts) (tokens_of rest) ≡ all → joined (Ok (ts ++ t ∷ [])) (tokens_of bs) ≡ all
+mark_more ts t rest b bs all e f g s h = one_more ts t rest bs all (mark_at rest b bs e f g ∙ ap (λ r. in_front_of r (tokens_of bs)) s) h
+
+pub mark_bad : (ts : List Token) (rest : List ℕ) (b : ℕ) (bs : List ℕ) (all : Tokens) → rest ≡ b ∷ bs → is_in_run b ≡ false → is_blank b ≡ false
+    → mark b ≡ Err causes.BadWord → joined (Ok ts) (tokens_of rest) ≡ all → Err causes.BadWord ≡ all
+mark_bad ts rest b bs all e f g s h = bad_one ts causes.BadWord rest (tokens_of bs) all (mark_at rest b bs e f g ∙ ap (λ r. in_front_of r (tokens_of bs)) s) h

@@ -27,6 +27,10 @@ is_letter b = is_capital b || is_small b
 abbrev pub is_letter_or_digit : ℕ → Bool
 is_letter_or_digit b = is_letter b || is_digit b
 
+abbrev pub begins_with_letter : List ℕ → Bool
+begins_with_letter [] = false
+begins_with_letter (b ∷ bs) = is_letter b
+
 -- small letters count as capitals
 abbrev pub capital : ℕ → ℕ
 capital b = if is_small b then b - 32 else b

@@ -1,7 +1,8 @@
 //! Characters, and how many of a kind stand at the front of a text.
 
-ghost use Rattle.std.specs.Prelude.{◌≡◌};
+ghost use Rattle.std.specs.Prelude.{◌≡◌, ◌<◌, ◌≤◌, get_or, IfSome, IsNone};
 ghost use Rattle.std.specs.List.{prefix_len};
+ghost use Rattle.apt_words.specs.Options.{only_if};
 ghost use Rattle.apt_lexis.specs.Tokens as spec;
 ghost use Rattle.apt_lexis.specs.Sentences as sentences;
 
@@ -33,6 +34,41 @@ pub(crate) fn capital(b: u8) -> u8
     ensures { result ≡ spec.capital b }
 {
     if b.is_ascii_lowercase() { b - 32 } else { b }
+}
+
+pub(crate) fn begins_with_letter(text: &[u8]) -> bool
+    ensures { result ≡ spec.begins_with_letter text.now }
+{
+    match text.split_first() {
+        Some((b, _)) => is_letter(*b),
+        None => false,
+    }
+}
+
+/// A letter as a capital, or a digit; none for another byte.
+fn in_capitals(b: u8) -> Option<u8>
+    ensures { result ≡ only_if (spec.is_letter_or_digit b) (spec.capital b) }
+{
+    if is_letter_or_digit(b) {
+        Some(capital(b))
+    } else {
+        None
+    }
+}
+
+/// The letter, as a capital, or the digit at a place behind letters and digits; none where they end.
+#[tactic(auto, using(crate::proofs::Capitals::front_more, crate::proofs::Capitals::front_ends))]
+pub(crate) fn capital_at(text: &[u8], at: usize) -> Option<u8>
+    requires { at ≤ prefix_len spec.is_letter_or_digit text.now }
+    ensures some { IfSome result (λ c. at < prefix_len spec.is_letter_or_digit text.now) }
+    ensures value { IfSome result (λ c. c ≡ spec.capital (get_or text.now at 0)) }
+    ensures none { IsNone result → prefix_len spec.is_letter_or_digit text.now ≡ at }
+{
+    if at < text.len() {
+        in_capitals(text[at])
+    } else {
+        None
+    }
 }
 
 #[tactic(auto, using(crate::proofs::Fronts::front_length))]

@@ -22,6 +22,7 @@ const MOST_FRONT: u64 = 1_000_000;
 const MOST: u64 = 1_000_000_000_000_000_000;
 
 /// The digits at the front of a text: their number, how many they are, and what stands behind them; none where they are more than 12.
+#[inline(always)]
 fn split_digits(text: &[u8]) -> Option<(u64, usize, &[u8])>
     ensures none { IsNone result → 12 < prefix_len is_digit text.now }
     ensures count { IfSome result (λ r. r.1 ≡ prefix_len is_digit text.now) }

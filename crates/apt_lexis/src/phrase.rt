@@ -73,10 +73,22 @@ fn add_line(
 ) -> Result<(), AllocError>
     ensures { OnOk result (begun.new ≡ Some (record { line = spec.first_line begun.old number; tokens = spec.joined (spec.tokens_before begun.old) (tokens.tokens_of text.now); text = None })) }
 {
-    begin(alloc, spare, begun, number);
-    if let Some(phrase) = begun {
-        if phrase.fault.is_none() {
-            phrase.fault = add_tokens(&mut phrase.tokens, text)?;
+    match begun {
+        None => {
+            let mut tokens = no_tokens(alloc, spare);
+            let fault = add_tokens(&mut tokens, text)?;
+            *begun = Some(Phrase {
+                line: number,
+                tokens,
+                fault,
+                text: None,
+            });
+        }
+        Some(phrase) => {
+            phrase.text = None;
+            if phrase.fault.is_none() {
+                phrase.fault = add_tokens(&mut phrase.tokens, text)?;
+            }
         }
     }
     Ok(())

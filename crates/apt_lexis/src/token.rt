@@ -1,6 +1,6 @@
 //! Tokens.
 
-ghost use Rattle.std.specs.Prelude.{◌≡◌, ◌<◌, [], ◌∷◌, ◌++◌, OnOk, length, IfOk, IfErr, Ok, IfSome, IsNone, map};
+ghost use Rattle.std.specs.Prelude.{◌≡◌, [], ◌∷◌, ◌++◌, true, false, OnOk, IfOk, Ok, Err, IfSome, IsNone, map};
 ghost use Rattle.std.specs.List.{take_while};
 ghost use Rattle.apt_words.specs.Options.{only_if};
 ghost use Rattle.apt_words.specs.Symbols.{is_symbol};
@@ -10,14 +10,16 @@ ghost use Rattle.apt_lexis.specs.Titles.{behind};
 ghost use Rattle.apt_lexis.specs.Tokens as spec;
 
 use crate::PartCause;
-use crate::character::{blanks, capital, is_in_run, is_letter, letters_or_digits};
+use crate::character::{begins_with_letter, blanks, capital_at};
 use crate::number::number_first;
 use apt_words::Symbol;
-use arrayvec::ArrayVec;
 use std::alloc::AllocError;
 
 /// Room is made for so many tokens at once.
 const MORE_TOKENS: usize = 16;
+
+/// A word has at most so many letters and digits.
+const MOST_LETTERS: usize = 6;
 
 /// A token: a word in capitals, a number in millionths, or a mark.
 #[derive(Debug, Drop)]
@@ -34,55 +36,54 @@ pub enum Token {
     Star,
 }
 
+/// The symbol of the letters and digits at the front of a text, which count as capitals, and what stands behind them;
+/// none where they are more than six or begin with a digit.
+#[inline(always)]
+#[tactic(auto, using(crate::proofs::Capitals::other_first, crate::proofs::Capitals::long_front, crate::proofs::Capitals::is_symbol_front))]
+fn symbol_first(text: &[u8]) -> Option<(Symbol, &[u8])>
+    ensures none { IsNone result → is_symbol (map spec.capital (take_while spec.is_letter_or_digit text.now)) ≡ false }
+    ensures symbol { IfSome result (λ r. is_symbol (map spec.capital (take_while spec.is_letter_or_digit text.now)) ≡ true) }
+    ensures capitals { IfSome result (λ r. r.0 ≡ map spec.capital (take_while spec.is_letter_or_digit text.now)) }
+    ensures rest { IfSome result (λ r. r.1.now ≡ behind spec.is_letter_or_digit text.now) }
+{
+    if !begins_with_letter(text) {
+        return None;
+    }
+    let mut capitals = [0; MOST_LETTERS];
+    let mut len = 0;
+    'capitals: while let Some(b) = capital_at(text, len) {
+        if len == MOST_LETTERS {
+            return None;
+        }
+        capitals[len] = b;
+        len += 1;
+    }
+    Some((Symbol::at_front(capitals, len as u8), &text[len..]))
+}
+
 /// The symbol of some letters and digits, which count as capitals; none where they are more than six or begin with a digit.
-#[tactic(auto, using(crate::proofs::Capitals::long_is_no_symbol))]
+#[tactic(auto, using(crate::proofs::Capitals::no_symbol, crate::proofs::Capitals::other_behind, crate::proofs::Capitals::whole_word))]
 pub(crate) fn symbol(text: &[u8]) -> Option<Symbol>
     ensures { result ≡ only_if (is_symbol (map spec.capital text.now)) (map spec.capital text.now) }
 {
-    if text.len() > 6 {
-        return None;
-    }
-    let mut capitals = ArrayVec::<u8, 6>::new();
-    'capitals: for b in text {
-        capitals.push(capital(*b));
-    }
-    Symbol::from_bytes(capitals.as_slice())
+    let (symbol, rest) = symbol_first(text)?;
+    if rest.is_empty() { Some(symbol) } else { None }
 }
 
-fn word(text: &[u8]) -> Result<Token, PartCause>
-    ensures { result ≡ spec.word text.now }
-{
-    match symbol(text) {
-        Some(symbol) => Ok(Token::Word(symbol)),
-        None => Err(PartCause::BadWord),
-    }
-}
-
-/// The number at the front of a text and what stands behind it; the rest of a text with a bad one is let go.
-fn number(text: &[u8]) -> (Result<Token, PartCause>, &[u8])
-    ensures value { result.0 ≡ spec.number (take_while spec.is_in_run text.now) }
-    ensures rest { IfOk result.0 (λ _. result.1.now ≡ behind spec.is_in_run text.now) }
-    ensures shorter { IfErr result.0 (λ _. result.1.now ≡ []) }
-{
-    match number_first(text) {
-        Some((size, rest)) => (Ok(Token::Number(size)), rest),
-        None => (Err(PartCause::BadNumber), &[]),
-    }
-}
-
-fn mark(b: u8) -> Result<Token, PartCause>
-    ensures { result ≡ spec.mark b }
+fn mark(b: u8) -> Option<Token>
+    ensures some { IfSome result (λ t. spec.mark b ≡ Ok t) }
+    ensures none { IsNone result → spec.mark b ≡ Err PartCause.BadWord }
 {
     match b {
-        b'=' => Ok(Token::Equals),
-        b'/' => Ok(Token::Slash),
-        b',' => Ok(Token::Comma),
-        b'(' => Ok(Token::Open),
-        b')' => Ok(Token::Close),
-        b'+' => Ok(Token::Plus),
-        b'-' => Ok(Token::Minus),
-        b'*' => Ok(Token::Star),
-        _ => Err(PartCause::BadWord),
+        b'=' => Some(Token::Equals),
+        b'/' => Some(Token::Slash),
+        b',' => Some(Token::Comma),
+        b'(' => Some(Token::Open),
+        b')' => Some(Token::Close),
+        b'+' => Some(Token::Plus),
+        b'-' => Some(Token::Minus),
+        b'*' => Some(Token::Star),
+        _ => None,
     }
 }
 
@@ -92,25 +93,6 @@ pub(crate) fn behind_blanks(text: &[u8]) -> &[u8]
     ensures { result.now ≡ behind spec.is_blank text.now }
 {
     &text[blanks(text)..]
-}
-
-/// The first token of a text, or why it is none, and what stands behind it; none where there are blanks alone.
-#[tactic(auto, using(crate::proofs::Fronts::front_short, crate::proofs::OneByOne::no_tokens, crate::proofs::OneByOne::first_word, crate::proofs::OneByOne::number_read, crate::proofs::OneByOne::first_mark))]
-fn next_token(text: &[u8]) -> Option<(Result<Token, PartCause>, &[u8])>
-    ensures none { IsNone result → spec.tokens_of text.now ≡ Ok [] }
-    ensures some { IfSome result (λ r. spec.tokens_of text.now ≡ spec.in_front_of r.0 (spec.tokens_of r.1.now)) }
-    ensures shorter { IfSome result (λ r. length r.1.now < length text.now) }
-{
-    let text = behind_blanks(text);
-    let (b, after) = text.split_first()?;
-    if is_letter(*b) {
-        let (front, rest) = text.split_at(letters_or_digits(text));
-        Some((word(front), rest))
-    } else if is_in_run(*b) {
-        Some(number(text))
-    } else {
-        Some((mark(*b), after))
-    }
 }
 
 /// Adds a token, for which there is room as a rule.
@@ -125,7 +107,6 @@ fn push_token(tokens: &mut Vec<Token>, token: Token) -> Result<(), AllocError>
 }
 
 /// Adds the tokens of a text up to the first bad one, whose cause is given.
-#[tactic(auto, using(crate::proofs::OneByOne::joined_none, crate::proofs::OneByOne::joined_one_more))]
 pub(crate) fn add_tokens(
     tokens: &mut Vec<Token>,
     text: &[u8],
@@ -133,12 +114,31 @@ pub(crate) fn add_tokens(
     ensures { IfOk result (λ fault. good fault tokens.new.items ≡ sentences.joined (Ok tokens.old.items) (spec.tokens_of text.now)) }
 {
     let mut rest = text;
-    'tokens: while let Some((token, after)) = next_token(rest) {
-        match token {
-            Ok(token) => push_token(tokens, token)?,
-            Err(cause) => return Ok(Some(cause)),
+    'tokens: while let Some((b, after)) = rest.split_first() {
+        match *b {
+            b' ' | b'\t' => rest = after,
+            b'0'..=b'9' | b'.' => match number_first(rest) {
+                Some((size, behind)) => {
+                    push_token(tokens, Token::Number(size))?;
+                    rest = behind;
+                }
+                None => return Ok(Some(PartCause::BadNumber)),
+            },
+            b'A'..=b'Z' | b'a'..=b'z' => match symbol_first(rest) {
+                Some((symbol, behind)) => {
+                    push_token(tokens, Token::Word(symbol))?;
+                    rest = behind;
+                }
+                None => return Ok(Some(PartCause::BadWord)),
+            },
+            b => match mark(b) {
+                Some(mark) => {
+                    push_token(tokens, mark)?;
+                    rest = after;
+                }
+                None => return Ok(Some(PartCause::BadWord)),
+            },
         }
-        rest = after;
     }
     Ok(None)
 }

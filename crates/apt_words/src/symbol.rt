@@ -1,5 +1,5 @@
 //! Names of part programs.
-ghost use Rattle.std.specs.Prelude.{◌≡◌, ◌↔◌, true, Some, IsSome, IfSome, nat_eq};
+ghost use Rattle.std.specs.Prelude.{◌≡◌, ◌≤◌, ◌↔◌, take, true, Some, IsSome, IfSome, nat_eq};
 ghost use Rattle.std.specs.Ordering.{nat_cmp};
 ghost use Rattle.std.specs.Cmp.{partial_equiv_from_equiv};
 ghost use Rattle.std.specs.Cmp.Lexicographic.{pointwise, slice_cmp, nat_list_eq_equiv, nat_list_cmp_total, texts_po, texts_ties};
@@ -59,6 +59,15 @@ impl Symbol {
             bytes,
             len: text.len() as u8,
         })
+    }
+
+    /// The symbol that stands at the front of six bytes.
+    pub fn at_front(bytes: [u8; 6], len: u8) -> Symbol
+        requires few { len ≤ 6 }
+        requires symbol { symbols.is_symbol (take len bytes) ≡ true }
+        ensures { result ≡ take len bytes }
+    {
+        Symbol { bytes, len }
     }
 
     /// The name of some bytes, None where they are no symbol or a word of the vocabulary.
