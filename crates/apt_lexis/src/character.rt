@@ -6,6 +6,19 @@ ghost use Rattle.apt_words.specs.Options.{only_if};
 ghost use Rattle.apt_lexis.specs.Tokens as spec;
 ghost use Rattle.apt_lexis.specs.Sentences as sentences;
 
+/// Each letter as a capital and each digit, one entry for each byte; 0 for the others.
+static CAPITALS: [u8; 256] = [
+    0, 0, 0, 0, 0, 0, 0, 0, 0, 0, 0, 0, 0, 0, 0, 0, 0, 0, 0, 0, 0, 0, 0, 0, 0, 0, 0, 0, 0, 0, 0, 0,
+    0, 0, 0, 0, 0, 0, 0, 0, 0, 0, 0, 0, 0, 0, 0, 0, 48, 49, 50, 51, 52, 53, 54, 55, 56, 57, 0, 0,
+    0, 0, 0, 0, 0, 65, 66, 67, 68, 69, 70, 71, 72, 73, 74, 75, 76, 77, 78, 79, 80, 81, 82, 83, 84,
+    85, 86, 87, 88, 89, 90, 0, 0, 0, 0, 0, 0, 65, 66, 67, 68, 69, 70, 71, 72, 73, 74, 75, 76, 77,
+    78, 79, 80, 81, 82, 83, 84, 85, 86, 87, 88, 89, 90, 0, 0, 0, 0, 0, 0, 0, 0, 0, 0, 0, 0, 0, 0,
+    0, 0, 0, 0, 0, 0, 0, 0, 0, 0, 0, 0, 0, 0, 0, 0, 0, 0, 0, 0, 0, 0, 0, 0, 0, 0, 0, 0, 0, 0, 0, 0,
+    0, 0, 0, 0, 0, 0, 0, 0, 0, 0, 0, 0, 0, 0, 0, 0, 0, 0, 0, 0, 0, 0, 0, 0, 0, 0, 0, 0, 0, 0, 0, 0,
+    0, 0, 0, 0, 0, 0, 0, 0, 0, 0, 0, 0, 0, 0, 0, 0, 0, 0, 0, 0, 0, 0, 0, 0, 0, 0, 0, 0, 0, 0, 0, 0,
+    0, 0, 0, 0, 0, 0, 0, 0, 0, 0, 0, 0, 0, 0, 0, 0, 0, 0, 0, 0, 0, 0, 0,
+];
+
 pub(crate) fn is_blank(b: u8) -> bool
     ensures { result ≡ spec.is_blank b }
 {
@@ -21,19 +34,13 @@ pub(crate) fn is_letter(b: u8) -> bool
 pub(crate) fn is_letter_or_digit(b: u8) -> bool
     ensures { result ≡ spec.is_letter_or_digit b }
 {
-    is_letter(b) || b.is_ascii_digit()
+    CAPITALS[b as usize] != 0
 }
 
 pub(crate) fn is_in_run(b: u8) -> bool
     ensures { result ≡ spec.is_in_run b }
 {
     is_letter_or_digit(b) || b == b'.'
-}
-
-pub(crate) fn capital(b: u8) -> u8
-    ensures { result ≡ spec.capital b }
-{
-    if b.is_ascii_lowercase() { b - 32 } else { b }
 }
 
 pub(crate) fn begins_with_letter(text: &[u8]) -> bool
@@ -46,13 +53,13 @@ pub(crate) fn begins_with_letter(text: &[u8]) -> bool
 }
 
 /// A letter as a capital, or a digit; none for another byte.
+#[tactic(auto, using(crate::proofs::Entries::no_capital, crate::proofs::Entries::capital_of))]
 fn in_capitals(b: u8) -> Option<u8>
     ensures { result ≡ only_if (spec.is_letter_or_digit b) (spec.capital b) }
 {
-    if is_letter_or_digit(b) {
-        Some(capital(b))
-    } else {
-        None
+    match CAPITALS[b as usize] {
+        0 => None,
+        c => Some(c),
     }
 }
 
