@@ -73,6 +73,8 @@ pub(crate) fn symbol(text: &[u8]) -> Option<Symbol>
 fn mark(b: u8) -> Option<Token>
     ensures some { IfSome result (λ t. spec.mark b ≡ Ok t) }
     ensures none { IsNone result → spec.mark b ≡ Err PartCause.BadWord }
+    ensures alone { IfSome result (λ _. spec.is_in_run b ≡ false) }
+    ensures seen { IfSome result (λ _. spec.is_blank b ≡ false) }
 {
     match b {
         b'=' => Some(Token::Equals),
@@ -115,6 +117,11 @@ pub(crate) fn add_tokens(
 {
     let mut rest = text;
     'tokens: while let Some((b, after)) = rest.split_first() {
+        if let Some(mark) = mark(*b) {
+            push_token(tokens, mark)?;
+            rest = after;
+            continue;
+        }
         match *b {
             b' ' | b'\t' => rest = after,
             b'0'..=b'9' | b'.' => match number_first(rest) {
@@ -131,13 +138,7 @@ pub(crate) fn add_tokens(
                 }
                 None => return Ok(Some(PartCause::BadWord)),
             },
-            b => match mark(b) {
-                Some(mark) => {
-                    push_token(tokens, mark)?;
-                    rest = after;
-                }
-                None => return Ok(Some(PartCause::BadWord)),
-            },
+            _ => return Ok(Some(PartCause::BadWord)),
         }
     }
     Ok(None)

@@ -2,7 +2,7 @@ use Rattle.std.proofs.Common.{rules, ◌≡◌, [], ◌∷◌, ◌++◌, true, f
 use Rattle.std.proofs.lemmas.Bool.Decides.{nat_tests}
 use Rattle.std.proofs.lemmas.Int.{to_z-of_z}
 use Rattle.apt_lexis.specs.declared.token.Token.TheVariants as tokens
-use Rattle.apt_lexis.specs.Tokens.{is_blank, is_letter, is_in_run}
+use Rattle.apt_lexis.specs.Tokens.{is_letter, is_in_run}
 use Rattle.apt_lexis.proofs.OneByOne.{word_more, word_bad, number_more, number_bad, mark_more}
 use Rattle.apt_lexis.proofs.token.add_tokens.Goals as goal
 
@@ -19,12 +19,11 @@ tokens-preserved-in_default-1 c =
     let word = c.in-Some-symbol_first.ensures in
     record { read = rw c.in_ok-push_token-in-Some-symbol_first.ensures (word_more c.tokens.tokens.items c.tokens.rest.now c.in-Some.b.now c.in-Some.after.now _ _ _ first letter word.symbol word.capitals word.rest c.tokens.invariant.read) }
 
-pub tokens-preserved-in_default-2 : goal.tokens-preserved-in_default-2
-tokens-preserved-in_default-2 c =
+pub tokens-preserved-in-Some-mark : goal.tokens-preserved-in-Some-mark
+tokens-preserved-in-Some-mark c =
     let first : c.tokens.rest.now ≡ c.in-Some.b.now ∷ c.in-Some.after.now = search rules in
-    let out : is_in_run c.in-Some.b.now ≡ false = grind (arith, nat_tests) in
-    let filled : is_blank c.in-Some.b.now ≡ false = grind (arith, nat_tests) in
-    record { read = rw c.in_ok-push_token-in-Some-mark.ensures (mark_more c.tokens.tokens.items c.in-Some-mark.mark c.tokens.rest.now c.in-Some.b.now c.in-Some.after.now _ first out filled c.in-Some-mark.ensures.some c.tokens.invariant.read) }
+    let is = c.in-Some-mark.ensures in
+    record { read = rw c.in_ok-push_token.ensures (mark_more c.tokens.tokens.items c.in-Some-mark.mark c.tokens.rest.now c.in-Some.b.now c.in-Some.after.now _ first is.alone is.seen is.some c.tokens.invariant.read) }
 
 pub tokens-preserved : goal.tokens-preserved
 tokens-preserved c =
