@@ -1,15 +1,15 @@
 -- The tokens of a text, one after another.
-use Rattle.std.proofs.Common.{◌≡◌, ℕ, ◌+◌, ◌<◌, List, [], ◌∷◌, ◌++◌, length, take, drop, Bool, true, false, ap, ◌∙◌, sym, refl, arith, cond, subst, append_assoc, append-nil}
+use Rattle.std.proofs.Common.{◌≡◌, ℕ, ◌+◌, ◌<◌, ◌==◌, List, [], ◌∷◌, ◌++◌, length, take, drop, Bool, true, false, ap, ◌∙◌, sym, refl, arith, cond, subst, append_assoc, append-nil}
 use Rattle.std.specs.Prelude.{ℤ, ◌||◌, map, Some, None, Ok, Err}
 use Rattle.std.specs.List.{prefix_len, take_while, flat_map}
 use Rattle.std.proofs.lemmas.Bool.Decides.{nat_tests}
-use Rattle.apt_words.specs.Symbols.{is_symbol}
+use Rattle.apt_words.specs.Symbols.{is_symbol, is_digit}
 use Rattle.apt_lexis.specs.declared.cause.PartCause.{PartCause}
 use Rattle.apt_lexis.specs.declared.cause.PartCause.TheVariants as causes
 use Rattle.apt_lexis.specs.declared.token.Token.{Token}
 use Rattle.apt_lexis.specs.declared.token.Token.TheVariants as tokens
 use Rattle.apt_lexis.specs.Lines.{in_front}
-use Rattle.apt_lexis.specs.Tokens.{Read, Tokens, tokens_of, is_blank, is_letter, is_letter_or_digit, is_in_run, capital, runs, tokens_of_run, word, number, number_in, or_bad_number, number_behind, mark, all_good, in_front_of}
+use Rattle.apt_lexis.specs.Tokens.{Read, Tokens, tokens_of, is_blank, is_letter, is_letter_or_digit, is_in_run, point, begins_with_letter, capital, runs, tokens_of_run, word, number, number_in, or_bad_number, number_behind, mark, all_good, in_front_of}
 use Rattle.apt_lexis.specs.Titles.{behind}
 use Rattle.apt_lexis.specs.Sentences.{joined}
 use Rattle.apt_lexis.proofs.Fronts.{prefix_yes, prefix_no, take_one_more, drop_one_more, take_front, none_behind, none_first}
@@ -274,7 +274,7 @@ word_more ts rest b bs w more all e f s same on h =
     good_word : (text w : List ℕ) → is_symbol (map capital text) ≡ true → w ≡ map capital text → word text ≡ Ok (tokens.Word w)
     good_word text w s same = rw s (ap (λ v. Ok (tokens.Word v)) (sym same))
 
-pub word_bad : (ts : List Token) (rest : List ℕ) (b : ℕ) (bs : List ℕ) (all : Tokens) → rest ≡ b ∷ bs → is_letter b ≡ true
+word_bad : (ts : List Token) (rest : List ℕ) (b : ℕ) (bs : List ℕ) (all : Tokens) → rest ≡ b ∷ bs → is_letter b ≡ true
     → is_symbol (map capital (take_while is_letter_or_digit rest)) ≡ false → joined (Ok ts) (tokens_of rest) ≡ all → Err causes.BadWord ≡ all
 word_bad ts rest b bs all e f s h =
     bad_one ts causes.BadWord rest (tokens_of (behind is_letter_or_digit rest)) all
@@ -300,6 +300,17 @@ pub mark_more : (ts : List Token) (t : Token) (rest : List ℕ) (b : ℕ) (bs : 
     → mark b ≡ Ok t → joined (Ok ts) (tokens_of rest) ≡ all → joined (Ok (ts ++ t ∷ [])) (tokens_of bs) ≡ all
 mark_more ts t rest b bs all e f g s h = one_more ts t rest bs all (mark_at rest b bs e f g ∙ ap (λ r. in_front_of r (tokens_of bs)) s) h
 
-pub mark_bad : (ts : List Token) (rest : List ℕ) (b : ℕ) (bs : List ℕ) (all : Tokens) → rest ≡ b ∷ bs → is_in_run b ≡ false → is_blank b ≡ false
+mark_bad : (ts : List Token) (rest : List ℕ) (b : ℕ) (bs : List ℕ) (all : Tokens) → rest ≡ b ∷ bs → is_in_run b ≡ false → is_blank b ≡ false
     → mark b ≡ Err causes.BadWord → joined (Ok ts) (tokens_of rest) ≡ all → Err causes.BadWord ≡ all
 mark_bad ts rest b bs all e f g s h = bad_one ts causes.BadWord rest (tokens_of bs) all (mark_at rest b bs e f g ∙ ap (λ r. in_front_of r (tokens_of bs)) s) h
+
+-- neither a mark nor a number, and no symbol stands there
+pub other_bad : (ts : List Token) (rest : List ℕ) (b : ℕ) (bs : List ℕ) (all : Tokens) → rest ≡ b ∷ bs → is_blank b ≡ false → (is_digit b || b == point) ≡ false → mark b ≡ Err causes.BadWord
+    → is_symbol (map capital (take_while is_letter_or_digit rest)) ≡ false → joined (Ok ts) (tokens_of rest) ≡ all → Err causes.BadWord ≡ all
+other_bad ts rest b bs all e f g m s h = elim (is_letter b) as (λ t. is_letter b ≡ t → Err causes.BadWord ≡ all) [
+  | true ↦ λ k. word_bad ts rest b bs all e k s h
+  | false ↦ λ k. mark_bad ts rest b bs all e (rw k g) f m h
+] refl
+
+pub letter_first : (rest : List ℕ) (b : ℕ) (bs : List ℕ) → rest ≡ b ∷ bs → begins_with_letter rest ≡ true → is_letter b ≡ true
+letter_first rest b bs e f = sym (ap begins_with_letter e) ∙ f

@@ -42,6 +42,7 @@ pub enum Token {
 #[tactic(auto, using(crate::proofs::Capitals::other_first, crate::proofs::Capitals::long_front, crate::proofs::Capitals::is_symbol_front))]
 fn symbol_first(text: &[u8]) -> Option<(Symbol, &[u8])>
     ensures none { IsNone result → is_symbol (map spec.capital (take_while spec.is_letter_or_digit text.now)) ≡ false }
+    ensures letter { IfSome result (λ _. spec.begins_with_letter text.now ≡ true) }
     ensures symbol { IfSome result (λ r. is_symbol (map spec.capital (take_while spec.is_letter_or_digit text.now)) ≡ true) }
     ensures capitals { IfSome result (λ r. r.0 ≡ map spec.capital (take_while spec.is_letter_or_digit text.now)) }
     ensures rest { IfSome result (λ r. r.1.now ≡ behind spec.is_letter_or_digit text.now) }
@@ -131,14 +132,13 @@ pub(crate) fn add_tokens(
                 }
                 None => return Ok(Some(PartCause::BadNumber)),
             },
-            b'A'..=b'Z' | b'a'..=b'z' => match symbol_first(rest) {
+            _ => match symbol_first(rest) {
                 Some((symbol, behind)) => {
                     push_token(tokens, Token::Word(symbol))?;
                     rest = behind;
                 }
                 None => return Ok(Some(PartCause::BadWord)),
             },
-            _ => return Ok(Some(PartCause::BadWord)),
         }
     }
     Ok(None)
