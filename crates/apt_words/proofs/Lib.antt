@@ -1,2 +1,3 @@
 pub mod Texts
 mod Words
+pub mod Bytes

@@ -6,6 +6,7 @@ pub mod Alike
 pub mod Symbols
 pub mod Names
 pub mod Trees
+pub mod TreeParts
 pub mod TreeCodes
 pub mod TreeViews
 pub mod ProgramEnds

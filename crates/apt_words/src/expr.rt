@@ -1,5 +1,8 @@
 //! Expressions over scalars.
-use crate::Symbol;
+ghost use Rattle.std.specs.Prelude.{◌≡◌, option_map};
+ghost use Rattle.apt_words.specs.TreeParts.{lone_name};
+
+use crate::{Parts, Symbol};
 use std::marker::Model;
 
 /// The operators between two operands.
@@ -13,33 +16,21 @@ pub enum Op {
 
 /// An expression. Clauses see its `Tree`.
 #[derive(Drop)]
-#[cycle(expr)]
 pub struct Expr {
     pub node: Node,
 }
 
-/// What stands at the top of an expression; a number is in millionths.
+/// A number in millionths, a minus before one, a name, or an expression of several parts.
 #[derive(Drop)]
-#[cycle(expr)]
 pub enum Node {
     Num(i64),
+    Minus(i64),
     Name(Symbol),
-    Neg(Box<Expr>),
-    Bin { op: Op, operands: Box<Operands> },
-    Root(Box<Expr>),
-    Abs(Box<Expr>),
-}
-
-/// What stands to the left of an operator and to its right.
-#[derive(Drop)]
-#[cycle(expr)]
-pub struct Operands {
-    pub a: Expr,
-    pub b: Expr,
+    Parts(Box<Parts>),
 }
 
 impl Model for Expr {
-    ghost use Rattle.apt_words.specs.Trees.{Tree, height};
+    ghost use Rattle.apt_words.specs.Trees.{Tree};
     ghost use Rattle.apt_words.specs.TreeCodes.{tree_code};
 
     ghost Value = { Tree };
@@ -49,10 +40,16 @@ impl Model for Expr {
     ghost use Rattle.apt_words.specs.TreeViews.{tree_of};
 
     ghost view = { λ e. tree_of e.node };
+}
 
-    ghost size = { height };
-
-    ghost use Rattle.std.proofs.Common.{arith};
-
-    ghost size_decreases = { λ a h. Prim.grind arith };
+impl Expr {
+    /// The name that the expression is, None where it is more or a number.
+    pub fn lone_name(&self) -> Option<&Symbol>
+        ensures { option_map (λ s. s.now) result ≡ lone_name self.now }
+    {
+        match &self.node {
+            Node::Name(name) => Some(name),
+            _ => None,
+        }
+    }
 }

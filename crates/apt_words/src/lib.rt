@@ -5,6 +5,7 @@ mod body;
 mod deed;
 mod expr;
 mod names;
+mod parts;
 mod symbol;
 #[cfg(test)]
 mod tests;
@@ -12,7 +13,8 @@ mod word;
 
 pub use body::{Args, Body, Exprs, Params, Program, Stmt, Text};
 pub use deed::{Deed, Step};
-pub use expr::{Expr, Node, Op, Operands};
+pub use expr::{Expr, Node, Op};
+pub use parts::{Millionths, Part, Parts};
 pub use symbol::{Symbol, is_vocabulary};
 pub use word::{Word, word_of};
 
