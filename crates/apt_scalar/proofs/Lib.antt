@@ -1,4 +1,5 @@
 pub mod Bindings
 pub mod Roots
 pub mod Ranges
+pub mod Stacked
 mod Worked

@@ -1,4 +1,5 @@
 pub mod Scalars
 pub mod Meanings
+pub mod Stacks
 pub mod Evaluation
 pub mod StepScalars

@@ -3,6 +3,7 @@
 
 mod names;
 mod scalars;
+mod stack;
 #[cfg(test)]
 mod tests;
 mod values;

@@ -1,5 +1,8 @@
+ghost use Rattle.std.specs.Prelude.{◌≡◌};
+ghost use Rattle.apt_words.specs.declared.parts.Part.TheVariants.{Num};
+
 use crate::{Bound, Env, Frame, Kind, Value, bind, eval, grid_units, tenths, whole};
-use apt_words::{Case, Expr, Node, Op, Operands, Symbol, Units};
+use apt_words::{Case, Expr, Millionths, Node, Op, Part, Parts, Symbol, Units};
 use std::alloc::{AllocError, Global};
 use std::process::Abort;
 use std::test::Fail;
@@ -12,16 +15,23 @@ fn symbol(rt: &impl Abort, text: &str) -> Symbol {
     Symbol::new(text).expect(rt, "a symbol")
 }
 
-fn number(v: i64) -> Expr {
-    Expr { node: Node::Num(v) }
+fn number(v: i64) -> Part
+    ensures { result ≡ Num v }
+{
+    Part::Num(Millionths::new(v))
 }
 
-fn both(alloc: Global, a: Expr, op: Op, b: Expr) -> Result<Expr, AllocError> {
+fn both(alloc: Global, a: i64, op: Op, b: i64) -> Result<Expr, AllocError> {
+    let items = vec![in alloc; number(a), number(b), Part::Bin(op)]?;
     Ok(Expr {
-        node: Node::Bin {
-            op,
-            operands: Box::new(alloc, Operands { a, b })?,
-        },
+        node: Node::Parts(Box::new(alloc, Parts { items })?),
+    })
+}
+
+fn root(alloc: Global, v: i64) -> Result<Expr, AllocError> {
+    let items = vec![in alloc; number(v), Part::Root]?;
+    Ok(Expr {
+        node: Node::Parts(Box::new(alloc, Parts { items })?),
     })
 }
 
@@ -47,7 +57,7 @@ fn operators_round_and_refuse(rt: HostRuntime) -> Result<(), Fail> {
         (GREATEST, Op::Mul, 2 * ONE, Err(Case::TooLarge)),
         (-GREATEST, Op::Sub, 1, Err(Case::TooLarge)),
     ] {
-        let e = both(alloc, number(a), op, number(b))?;
+        let e = both(alloc, a, op, b)?;
         assert_eq!(rt; eval(&e, &env, &frame), want, "at {a} and {b}");
     }
     Ok(())
@@ -64,9 +74,7 @@ fn roots_are_nearest(rt: HostRuntime) -> Result<(), Fail> {
         (0, Ok(0)),
         (-ONE, Err(Case::NegativeRoot)),
     ] {
-        let e = Expr {
-            node: Node::Root(Box::new(alloc, number(v))?),
-        };
+        let e = root(alloc, v)?;
         assert_eq!(rt; eval(&e, &env, &frame), want, "at {v}");
     }
     Ok(())

@@ -1,37 +1,60 @@
 //! The value of an expression.
-ghost use Rattle.std.specs.Prelude.{◌≡◌, IfOk};
+ghost use Rattle.std.specs.Prelude.{◌≡◌, IfOk, OnOk, IfErr, Ok, Err};
 ghost use Rattle.apt_scalar.specs.Scalars as scalars;
+ghost use Rattle.apt_scalar.specs.Stacks as stacks;
 ghost use Rattle.apt_scalar.specs.Evaluation as values;
 
 use crate::names::{Env, Frame, scalar_named};
 use crate::scalars::{apply, in_range, size, square_root};
-use apt_words::{Case, Expr, Node};
+use crate::stack::Stack;
+use apt_words::{Case, Expr, Node, Part};
 
 /// The value of an expression, or its first refusal: the left operand before the right, operands before
 /// their operator.
+#[tactic(auto, using(crate::proofs::Stacked::value_on_stack))]
 pub fn eval(e: &Expr, env: &Env, frame: &Frame) -> Result<i64, Case>
     ensures value { result ≡ values.value_of env.now frame.now e.now }
     ensures scalar { IfOk result (λ v. scalars.IsScalar v) }
 {
     match &e.node {
         Node::Num(v) => in_range(i128::from(*v)),
-        Node::Name(name) => scalar_named(name, env, frame),
-        Node::Neg(operand) => {
-            let v = eval(operand, env, frame)?;
+        Node::Minus(v) => {
+            let v = in_range(i128::from(*v))?;
             Ok(-v)
         }
-        Node::Bin { op, operands } => {
-            let left = eval(&operands.a, env, frame)?;
-            let right = eval(&operands.b, env, frame)?;
-            apply(*op, left, right)
-        }
-        Node::Root(operand) => {
-            let v = eval(operand, env, frame)?;
-            square_root(v)
-        }
-        Node::Abs(operand) => {
-            let v = eval(operand, env, frame)?;
-            Ok(size(v))
-        }
+        Node::Name(name) => scalar_named(name, env, frame),
+        Node::Parts(parts) => value_behind(&parts.items, env, frame),
     }
+}
+
+fn value_behind(parts: &[Part], env: &Env, frame: &Frame) -> Result<i64, Case>
+    ensures value { result ≡ stacks.value_behind env.now frame.now parts.now }
+    ensures scalar { IfOk result (λ v. scalars.IsScalar v) }
+{
+    let mut stack = Stack::new();
+    'parts: for part in parts {
+        put(&mut stack, part, env, frame)?;
+    }
+    Ok(stack.pop())
+}
+
+/// Takes the operands of a part from the stack, and puts its value there.
+fn put(stack: &mut Stack, part: &Part, env: &Env, frame: &Frame) -> Result<(), Case>
+    ensures ok { OnOk result (stacks.behind env.now frame.now part.now stack.old ≡ Ok stack.new) }
+    ensures err { IfErr result (λ case. stacks.behind env.now frame.now part.now stack.old ≡ Err case) }
+{
+    let v = match part {
+        Part::Num(v) => in_range(i128::from(v.value()))?,
+        Part::Name(name) => scalar_named(name, env, frame)?,
+        Part::Neg => -stack.pop(),
+        Part::Root => square_root(stack.pop())?,
+        Part::Abs => size(stack.pop()),
+        Part::Bin(op) => {
+            let right = stack.pop();
+            let left = stack.pop();
+            apply(*op, left, right)?
+        }
+    };
+    stack.push(v);
+    Ok(())
 }

@@ -1,0 +1,71 @@
+-- The value of a tree by a stack.
+use Rattle.std.proofs.Common.{◌≡◌, ◌+◌, ◌<◌, List, [], ◌∷◌, length, refl, ap, sym, ◌∙◌, arith}
+use Rattle.std.specs.Prelude.{ℤ, Result, Ok, Err, neg_ℤ}
+use Rattle.std.proofs.lemmas.Bool.Decides.{nat_tests}
+use Rattle.apt_words.specs.Chains.{◌>>=◌}
+use Rattle.apt_words.specs.declared.Case.{Case}
+use Rattle.apt_words.specs.declared.parts.Part.{Part}
+use Rattle.apt_words.specs.declared.parts.Parts.{Parts}
+use Rattle.apt_words.specs.Trees.{Tree, Num, Name, Neg, Bin, Root, Abs, operators}
+use Rattle.apt_words.specs.TreeParts.{parts, built}
+use Rattle.apt_scalar.specs.Scalars.{in_range, apply, square_root, size}
+use Rattle.apt_scalar.specs.Meanings.{Names, Parameters, scalar_named}
+use Rattle.apt_scalar.specs.Evaluation.{value_of}
+use Rattle.apt_scalar.specs.Stacks.{room, pushed, top, with_value, behind_all, value_behind}
+
+pushed_below : (v : ℤ) (vs : List ℤ) → length vs < room → pushed v vs ≡ v ∷ vs
+pushed_below v vs h = grind (arith, nat_tests)
+
+-- what follows a value that is put on the stack
+abbrev then_all : Names → Parameters → Result ℤ Case → List Part → List ℤ → Result (List ℤ) Case
+then_all names ps r more vs = r >>= λ v. behind_all names ps more (v ∷ vs)
+
+with_room : (names : Names) (ps : Parameters) (r : Result ℤ Case) (more : List Part) (vs : List ℤ) → length vs < room
+    → (with_value r vs >>= behind_all names ps more) ≡ then_all names ps r more vs
+with_room names ps (Ok v) more vs h = ap (behind_all names ps more) (pushed_below v vs h)
+with_room names ps (Err case) more vs h = refl
+
+chained : {A B : Type 0} (r : Result A Case) (f g : A → Result B Case) → ((a : A) → f a ≡ g a) → (r >>= f) ≡ (r >>= g)
+chained (Ok a) f g h = h a
+chained (Err case) f g h = refl
+
+joined : {A B C : Type 0} (r : Result A Case) (f : A → Result B Case) (g : B → Result C Case) → (r >>= f >>= g) ≡ (r >>= λ a. f a >>= g)
+joined (Ok a) f g = refl
+joined (Err case) f g = refl
+
+-- the parts of a tree put its value on the stack
+stacked : (names : Names) (ps : Parameters) (t : Tree) (more : List Part) (vs : List ℤ) → length vs + operators t < room
+    → behind_all names ps (parts t more) vs ≡ then_all names ps (value_of names ps t) more vs
+stacked names ps (Num v) more vs h = with_room names ps (in_range v) more vs (omega arith)
+stacked names ps (Name name) more vs h = with_room names ps (scalar_named names ps name) more vs (omega arith)
+stacked names ps (Neg t) more vs h =
+    stacked names ps t _ vs h
+    ∙ chained (value_of names ps t) _ _ (λ v. with_room names ps (Ok (neg_ℤ v)) more vs (omega arith))
+    ∙ sym (joined (value_of names ps t) _ _)
+stacked names ps (Root t) more vs h =
+    stacked names ps t _ vs h
+    ∙ chained (value_of names ps t) _ _ (λ v. with_room names ps (square_root v) more vs (omega arith))
+    ∙ sym (joined (value_of names ps t) _ _)
+stacked names ps (Abs t) more vs h =
+    stacked names ps t _ vs h
+    ∙ chained (value_of names ps t) _ _ (λ v. with_room names ps (Ok (size v)) more vs (omega arith))
+    ∙ sym (joined (value_of names ps t) _ _)
+stacked names ps (Bin op a b) more vs h =
+    stacked names ps a _ vs (omega arith)
+    ∙ chained (value_of names ps a) _ _ (λ x.
+    stacked names ps b _ (x ∷ vs) (omega arith)
+    ∙ chained (value_of names ps b) _ _ (λ y. with_room names ps (apply op x y) more vs (omega arith))
+    ∙ sym (joined (value_of names ps b) _ _))
+    ∙ sym (joined (value_of names ps a) _ _)
+
+latest : (r : Result ℤ Case) → (r >>= (λ v. Ok (v ∷ [])) >>= λ vs. Ok (top vs)) ≡ r
+latest (Ok v) = refl
+latest (Err case) = refl
+
+pub value_on_stack : (names : Names) (ps : Parameters) (e : Parts) → value_behind names ps e.items.items ≡ value_of names ps (built e.items.items [])
+value_on_stack names ps e =
+    let t = built e.items.items [] in
+    let small : 0 + operators t < room = omega (arith, e.small) in
+    ap (value_behind names ps) (sym e.whole)
+    ∙ ap (λ (r : Result (List ℤ) Case). r >>= λ vs. Ok (top vs)) (stacked names ps t [] [] small)
+    ∙ latest (value_of names ps t)
