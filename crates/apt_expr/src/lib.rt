@@ -1,7 +1,7 @@
 //! Expressions as lists of tokens.
 #![tactic(auto)]
 
-mod counted;
+mod forest;
 mod parts;
 mod reading;
 #[cfg(test)]

@@ -1,18 +1,20 @@
 //! The expression of a list of tokens.
 
-ghost use Rattle.std.specs.Prelude.{◌≡◌, ◌≤◌, [], ◌∷◌, if◌then◌else◌, option_map, IfOk, IfSome};
+ghost use Rattle.std.specs.Prelude.{◌≡◌, ◌≤◌, [], ◌∷◌, length, if◌then◌else◌, option_map, IfOk, IfSome};
 ghost use Rattle.apt_lexis.specs.declared.token.Token.TheVariants as tokens;
 ghost use Rattle.apt_words.specs.Options.{only_if};
 ghost use Rattle.apt_words.specs.Symbols.{is_name};
 ghost use Rattle.apt_words.specs.Trees.{operators, Name, Neg};
+ghost use Rattle.apt_words.specs.TreeParts.{latest};
 ghost use Rattle.apt_words.specs.Vocabulary as vocabulary;
 ghost use Rattle.apt_expr.specs.Expressions as expressions;
+ghost use Rattle.apt_expr.specs.Forests.{Grown, below};
 ghost use Rattle.apt_expr.specs.Operands as operands;
 
-use crate::counted::{Counted, absolute, named, negative, number, root};
+use crate::forest::Forest;
 use crate::parts::{Rank, first_factor};
 use apt_lexis::Token;
-use apt_words::{Expr, Node, Op, Operands, Symbol, Word, is_vocabulary, word_of};
+use apt_words::{Expr, Node, Op, Symbol, Word, is_vocabulary, word_of};
 use std::alloc::{AllocError, Global};
 
 const MOST_OPERATORS: u32 = 64;
@@ -25,117 +27,137 @@ pub fn expression(alloc: Global, tokens: &[Token]) -> Result<Option<Expr>, Alloc
     ensures value { IfOk result (λ e. e ≡ expressions.expression tokens.now) }
     ensures small { IfOk result (λ e. IfSome e (λ t. operators t ≤ 64)) }
 {
-    match tokens {
-        [Token::Number(v)] => Ok(Some(number(*v).tree)),
-        [Token::Minus, Token::Number(v)] => Ok(Some(negative(alloc, number(*v))?.tree)),
-        _ => match sum(alloc, MOST_PARENTHESES, tokens)? {
-            Some(sum) => Ok(Some(sum.tree)),
-            None => Ok(None),
+    let node = match tokens {
+        [Token::Number(v)] => Node::Num(*v),
+        [Token::Minus, Token::Number(v)] => Node::Minus(*v),
+        [Token::Word(word)] => match name(word) {
+            Some(name) => Node::Name(name),
+            None => return Ok(None),
         },
+        _ => return longer(alloc, tokens),
+    };
+    Ok(Some(Expr { node }))
+}
+
+#[tactic(auto, unfolding(crate::specs::Expressions::expression))]
+fn longer(alloc: Global, tokens: &[Token]) -> Result<Option<Expr>, AllocError>
+    ensures value { IfOk result (λ e. e ≡ expressions.expression tokens.now) }
+    ensures small { IfOk result (λ e. IfSome e (λ t. operators t ≤ 64)) }
+{
+    let mut forest = Forest::new(alloc, tokens.len())?;
+    match sum(MOST_PARENTHESES, tokens, &mut forest)? {
+        Some(_) => Ok(Some(forest.expression(alloc)?)),
+        None => Ok(None),
     }
 }
 
-/// Terms between plus and minus, with so many parentheses that may still be nested.
+/// Reads terms between plus and minus, with so many parentheses that may still be nested, and counts operators.
 #[cycle(reading)]
-fn sum(alloc: Global, nesting: u8, tokens: &[Token]) -> Result<Option<Counted>, AllocError>
-    ensures { IfOk result (λ e. option_map (λ s. s.tree) e ≡ expressions.sum_by (expressions.factor_of nesting) tokens.now) }
+fn sum(nesting: u8, tokens: &[Token], forest: &mut Forest) -> Result<Option<u32>, AllocError>
+    ensures tree { IfOk result (λ e. option_map (λ n. latest forest.new) e ≡ expressions.sum_by (expressions.factor_of nesting) tokens.now) }
+    ensures grown { IfOk result (λ e. IfSome e (λ n. Grown n forest.old forest.new)) }
 {
     match tokens {
-        [Token::Minus, behind @ ..] => terms(alloc, nesting, true, behind),
-        _ => terms(alloc, nesting, false, tokens),
+        [Token::Minus, behind @ ..] => terms(nesting, true, behind, forest),
+        _ => terms(nesting, false, tokens, forest),
     }
 }
 
-/// Terms between plus and minus, where a minus may stand before the first.
+/// Reads terms between plus and minus, where a minus may stand before the first.
 #[cycle(reading)]
 #[tactic(auto, using(crate::proofs::Joins::none_stays, crate::proofs::Terms::term_behind, crate::proofs::Terms::no_terms))]
 fn terms(
-    alloc: Global,
     nesting: u8,
     minus: bool,
     tokens: &[Token],
-) -> Result<Option<Counted>, AllocError>
-    ensures { IfOk result (λ e. let term = expressions.term_by (expressions.factor_of nesting) in let p = operands.parts Rank.Additive tokens.now in option_map (λ s. s.tree) e ≡ expressions.from_left term (if minus then option_map Neg (term p.first) else term p.first) p.others) }
+    forest: &mut Forest,
+) -> Result<Option<u32>, AllocError>
+    ensures tree { IfOk result (λ e. let term = expressions.term_by (expressions.factor_of nesting) in let p = operands.parts Rank.Additive tokens.now in option_map (λ n. latest forest.new) e ≡ expressions.from_left term (if minus then option_map Neg (term p.first) else term p.first) p.others) }
+    ensures grown { IfOk result (λ e. IfSome e (λ n. Grown n forest.old forest.new)) }
 {
-    let Some((first, mut rest)) = term(alloc, nesting, tokens)? else {
+    let Some((mut count, mut rest)) = term(nesting, tokens, forest)? else {
         return Ok(None);
     };
-    let mut tree = if minus {
-        negative(alloc, first)?
-    } else {
-        first
-    };
+    if minus {
+        forest.negative()?;
+    }
     'terms: while let Some((token, behind)) = rest.split_first()
         && let Some(op) = Rank::Additive.operator(token)
     {
-        let Some((right, more)) = term(alloc, nesting, behind)? else {
+        let Some((right, more)) = term(nesting, behind, forest)? else {
             return Ok(None);
         };
-        let Some(sum) = binary(alloc, op, tree, right)? else {
+        let Some(sum) = binary(op, count, right, forest)? else {
             return Ok(None);
         };
-        tree = sum;
+        count = sum;
         rest = more;
     }
-    Ok(Some(tree))
+    Ok(Some(count))
 }
 
-/// Factors between times and divided by, and the tokens from the next plus or minus on.
+/// Reads factors between times and divided by, and gives the tokens from the next plus or minus on.
 #[cycle(reading)]
 #[tactic(auto, using(crate::proofs::Joins::none_stays, crate::proofs::Terms::factor_behind, crate::proofs::Terms::terms_kept, crate::proofs::Terms::no_factors, crate::proofs::Terms::term_ends))]
 fn term<'a>(
-    alloc: Global,
     nesting: u8,
     tokens: &'a [Token],
-) -> Result<Option<(Counted, &'a [Token])>, AllocError>
-    ensures value { IfOk result (λ e. option_map (λ r. r.0.tree) e ≡ expressions.term_by (expressions.factor_of nesting) (operands.parts Rank.Additive tokens.now).first) }
+    forest: &mut Forest,
+) -> Result<Option<(u32, &'a [Token])>, AllocError>
+    ensures tree { IfOk result (λ e. option_map (λ r. latest forest.new) e ≡ expressions.term_by (expressions.factor_of nesting) (operands.parts Rank.Additive tokens.now).first) }
+    ensures grown { IfOk result (λ e. IfSome e (λ r. Grown r.0 forest.old forest.new)) }
     ensures terms { IfOk result (λ e. IfSome e (λ r. (operands.parts Rank.Additive r.1.now).others ≡ (operands.parts Rank.Additive tokens.now).others)) }
     ensures whole { IfOk result (λ e. IfSome e (λ r. (operands.parts Rank.Additive r.1.now).first ≡ [])) }
 {
     let (first, mut rest) = first_factor(tokens);
-    let Some(mut tree) = factor(alloc, nesting, first)? else {
+    let Some(mut count) = factor(nesting, first, forest)? else {
         return Ok(None);
     };
     'factors: while let Some((token, behind)) = rest.split_first()
         && let Some(op) = Rank::Multiplicative.operator(token)
     {
         let (part, more) = first_factor(behind);
-        let Some(right) = factor(alloc, nesting, part)? else {
+        let Some(right) = factor(nesting, part, forest)? else {
             return Ok(None);
         };
-        let Some(product) = binary(alloc, op, tree, right)? else {
+        let Some(product) = binary(op, count, right, forest)? else {
             return Ok(None);
         };
-        tree = product;
+        count = product;
         rest = more;
     }
-    Ok(Some((tree, rest)))
+    Ok(Some((count, rest)))
 }
 
-/// A number, a name, an expression in parentheses, or a function of one.
+/// Reads a number, a name, an expression in parentheses, or a function of one.
 #[cycle(reading)]
-fn factor(alloc: Global, nesting: u8, tokens: &[Token]) -> Result<Option<Counted>, AllocError>
-    ensures { IfOk result (λ e. option_map (λ s. s.tree) e ≡ expressions.factor_of nesting tokens.now) }
+fn factor(nesting: u8, tokens: &[Token], forest: &mut Forest) -> Result<Option<u32>, AllocError>
+    ensures tree { IfOk result (λ e. option_map (λ n. latest forest.new) e ≡ expressions.factor_of nesting tokens.now) }
+    ensures grown { IfOk result (λ e. IfSome e (λ n. Grown n forest.old forest.new)) }
 {
     match tokens {
-        [Token::Number(v)] => Ok(Some(number(*v))),
-        [Token::Word(word)] => Ok(name(word)),
-        [Token::Open, behind @ ..] => nested(alloc, nesting, behind),
+        [Token::Number(v)] => {
+            forest.number(*v)?;
+            Ok(Some(0))
+        }
+        [Token::Word(word)] => named(word, forest),
+        [Token::Open, behind @ ..] => nested(nesting, behind, forest),
         [Token::Word(word), Token::Open, behind @ ..] => {
-            let Some(inner) = nested(alloc, nesting, behind)? else {
+            let Some(count) = nested(nesting, behind, forest)? else {
                 return Ok(None);
             };
-            function(alloc, word, inner)
+            function(word, count, forest)
         }
         _ => Ok(None),
     }
 }
 
-/// The expression between a parenthesis that stands before some tokens, and their last.
+/// Reads the expression between a parenthesis that stands before some tokens, and their last.
 #[cycle(reading)]
 #[tactic(auto, using(crate::proofs::Closing::factor_of_open))]
-fn nested(alloc: Global, nesting: u8, behind: &[Token]) -> Result<Option<Counted>, AllocError>
-    ensures { IfOk result (λ e. option_map (λ s. s.tree) e ≡ expressions.factor_of nesting (tokens.Open ∷ behind.now)) }
+fn nested(nesting: u8, behind: &[Token], forest: &mut Forest) -> Result<Option<u32>, AllocError>
+    ensures tree { IfOk result (λ e. option_map (λ n. latest forest.new) e ≡ expressions.factor_of nesting (tokens.Open ∷ behind.now)) }
+    ensures grown { IfOk result (λ e. IfSome e (λ n. Grown n forest.old forest.new)) }
 {
     if nesting == 0 {
         return Ok(None);
@@ -143,7 +165,7 @@ fn nested(alloc: Global, nesting: u8, behind: &[Token]) -> Result<Option<Counted
     let Some(inner) = inside(behind) else {
         return Ok(None);
     };
-    sum(alloc, nesting - 1, inner)
+    sum(nesting - 1, inner, forest)
 }
 
 /// The tokens before the parenthesis that closes them.
@@ -158,40 +180,58 @@ fn inside(tokens: &[Token]) -> Option<&[Token]>
     }
 }
 
-/// An operator with its operands, within the limit.
-fn binary(alloc: Global, op: Op, a: Counted, b: Counted) -> Result<Option<Counted>, AllocError>
-    ensures { IfOk result (λ e. option_map (λ s. s.tree) e ≡ expressions.binary op a.tree b.tree) }
+/// Joins the latest two trees, within the limit. So many operators stand in each.
+fn binary(op: Op, a: u32, b: u32, forest: &mut Forest) -> Result<Option<u32>, AllocError>
+    requires two { 2 ≤ length forest.old }
+    requires left { a ≡ operators (latest (below forest.old)) }
+    requires right { b ≡ operators (latest forest.old) }
+    requires few_left { a ≤ 64 }
+    requires few_right { b ≤ 64 }
+    ensures tree { IfOk result (λ e. option_map (λ n. latest forest.new) e ≡ expressions.binary op (latest (below forest.old)) (latest forest.old)) }
+    ensures grown { IfOk result (λ e. IfSome e (λ n. Grown n (below (below forest.old)) forest.new)) }
 {
-    let count = a.count + b.count + 1;
+    let count = a + b + 1;
     if count > MOST_OPERATORS {
         return Ok(None);
     }
-    let Counted { tree: a, .. } = a;
-    let Counted { tree: b, .. } = b;
-    let operands = Box::new(alloc, Operands { a, b })?;
-    Ok(Some(Counted {
-        tree: Expr {
-            node: Node::Bin { op, operands },
-        },
-        count,
-    }))
+    forest.both(op)?;
+    Ok(Some(count))
 }
 
-fn name(word: &Symbol) -> Option<Counted>
-    ensures { option_map (λ s. s.tree) result ≡ only_if (is_name word.now) (Name word.now) }
+fn named(word: &Symbol, forest: &mut Forest) -> Result<Option<u32>, AllocError>
+    ensures tree { IfOk result (λ e. option_map (λ n. latest forest.new) e ≡ only_if (is_name word.now) (Name word.now)) }
+    ensures grown { IfOk result (λ e. IfSome e (λ n. Grown n forest.old forest.new)) }
 {
-    if is_vocabulary(word) {
+    let Some(name) = name(word) else {
+        return Ok(None);
+    };
+    forest.name(name)?;
+    Ok(Some(0))
+}
+
+/// A word that is a name.
+fn name(word: &Symbol) -> Option<Symbol>
+    ensures { result ≡ only_if (is_name word.now) word.now }
+{
+    let name = word.copied();
+    if is_vocabulary(&name) {
         return None;
     }
-    Some(named(word))
+    Some(name)
 }
 
-fn function(alloc: Global, word: &Symbol, inner: Counted) -> Result<Option<Counted>, AllocError>
-    ensures { IfOk result (λ e. option_map (λ s. s.tree) e ≡ expressions.function (vocabulary.word_of word.now) inner.tree) }
+/// Makes the latest tree the operand of a function. So many operators stand in it.
+fn function(word: &Symbol, count: u32, forest: &mut Forest) -> Result<Option<u32>, AllocError>
+    requires one { 1 ≤ length forest.old }
+    requires counted { count ≡ operators (latest forest.old) }
+    requires few { count ≤ 64 }
+    ensures tree { IfOk result (λ e. option_map (λ n. latest forest.new) e ≡ expressions.function (vocabulary.word_of word.now) (latest forest.old)) }
+    ensures grown { IfOk result (λ e. IfSome e (λ n. Grown n (below forest.old) forest.new)) }
 {
     match word_of(word) {
-        Some(Word::Sqrtf) => Ok(Some(root(alloc, inner)?)),
-        Some(Word::Absf) => Ok(Some(absolute(alloc, inner)?)),
-        _ => Ok(None),
+        Some(Word::Sqrtf) => forest.root()?,
+        Some(Word::Absf) => forest.absolute()?,
+        _ => return Ok(None),
     }
+    Ok(Some(count))
 }

@@ -1,6 +1,6 @@
 use crate::expression;
 use apt_lexis::Token;
-use apt_words::{Expr, Node, Op, Symbol};
+use apt_words::{Expr, Node, Op, Part, Symbol};
 use std::alloc::{AllocError, Global};
 
 #[test]
@@ -111,40 +111,57 @@ fn word_or_number(word: &str) -> Token {
 }
 
 fn shown(alloc: Global, found: &Option<Expr>) -> Result<String, AllocError> {
-    let mut text = String::new(alloc);
-    match found {
-        Some(e) => show(alloc, e, &mut text)?,
-        None => text.push_str("none")?,
+    let Some(e) = found else {
+        return format!(in alloc; "none");
+    };
+    match &e.node {
+        Node::Num(v) => format!(in alloc; "{v}"),
+        Node::Minus(v) => format!(in alloc; "-({v})"),
+        Node::Name(name) => spelled(alloc, name),
+        Node::Parts(parts) => shown_parts(alloc, &parts.items),
     }
-    Ok(text)
 }
 
-fn show(alloc: Global, e: &Expr, text: &mut String) -> Result<(), AllocError> {
-    match &e.node {
-        Node::Num(v) => text.push_str(format!(in alloc; "{v}")?.as_str()),
-        Node::Name(name) => text.push_str(name.as_str()),
-        Node::Neg(inner) => {
-            text.push_str("-(")?;
-            show(alloc, inner, text)?;
-            text.push_str(")")
+fn shown_parts(alloc: Global, parts: &[Part]) -> Result<String, AllocError> {
+    let mut texts = Vec::new(alloc);
+    for part in parts {
+        let text = shown_part(alloc, part, &mut texts)?;
+        texts.push(text)?;
+    }
+    Ok(taken(alloc, &mut texts))
+}
+
+/// A part with its operands, which are the latest of the texts.
+fn shown_part(alloc: Global, part: &Part, texts: &mut Vec<String>) -> Result<String, AllocError> {
+    if let Part::Num(v) = part {
+        let v = v.value();
+        return format!(in alloc; "{v}");
+    }
+    if let Part::Name(name) = part {
+        return spelled(alloc, name);
+    }
+    let b = taken(alloc, texts);
+    match part {
+        Part::Root => format!(in alloc; "SQRTF({b})"),
+        Part::Abs => format!(in alloc; "ABSF({b})"),
+        Part::Bin(op) => {
+            let a = taken(alloc, texts);
+            let mark = mark(*op);
+            format!(in alloc; "({a}{mark}{b})")
         }
-        Node::Root(inner) => {
-            text.push_str("SQRTF(")?;
-            show(alloc, inner, text)?;
-            text.push_str(")")
-        }
-        Node::Abs(inner) => {
-            text.push_str("ABSF(")?;
-            show(alloc, inner, text)?;
-            text.push_str(")")
-        }
-        Node::Bin { op, operands } => {
-            text.push_str("(")?;
-            show(alloc, &operands.a, text)?;
-            text.push_str(mark(*op))?;
-            show(alloc, &operands.b, text)?;
-            text.push_str(")")
-        }
+        _ => format!(in alloc; "-({b})"),
+    }
+}
+
+fn spelled(alloc: Global, name: &Symbol) -> Result<String, AllocError> {
+    let text = name.as_str();
+    format!(in alloc; "{text}")
+}
+
+fn taken(alloc: Global, texts: &mut Vec<String>) -> String {
+    match texts.pop() {
+        Some(text) => text,
+        None => String::new(alloc),
     }
 }
 

@@ -1,5 +1,7 @@
 use Rattle.std.proofs.Common.{◌≡◌, ◌+◌, ◌*◌, length, [], Some, option_map, if◌then◌else◌}
 use Rattle.apt_words.specs.Trees.{Neg}
+use Rattle.apt_words.specs.TreeParts.{latest}
+use Rattle.apt_expr.specs.Forests.{Grown}
 use Rattle.apt_expr.specs.declared.parts.Rank.TheVariants as ranks
 use Rattle.apt_expr.specs.Operands.{parts}
 use Rattle.apt_expr.specs.Expressions.{term_by, factor_of, from_left}
@@ -25,9 +27,10 @@ abbrev pub invariant-term-factors : goal.invariant-term-factors
 invariant-term-factors l =
     let reader = factor_of l.nesting in
     record {
-      joined : from_left reader (Some l.tree.tree) (factors l.rest).others ≡ term_by reader (parts ranks.Additive l.tokens).first;
+      joined : from_left reader (Some (latest l.forest)) (factors l.rest).others ≡ term_by reader (parts ranks.Additive l.tokens).first;
       terms : (parts ranks.Additive l.rest).others ≡ (parts ranks.Additive l.tokens).others;
       behind : (factors l.rest).first ≡ [];
+      grown : Grown l.count l.fn.forest l.forest;
     }
 
 abbrev pub decreases-term-factors : goal.decreases-term-factors
@@ -39,9 +42,10 @@ invariant-terms-terms l =
     let p = parts ranks.Additive l.tokens in
     record {
       joined :
-          from_left term (Some l.tree.tree) (parts ranks.Additive l.rest).others
+          from_left term (Some (latest l.forest)) (parts ranks.Additive l.rest).others
           ≡ from_left term (if l.minus then option_map Neg (term p.first) else term p.first) p.others;
       whole : (parts ranks.Additive l.rest).first ≡ [];
+      grown : Grown l.count l.fn.forest l.forest;
     }
 
 abbrev pub decreases-terms-terms : goal.decreases-terms-terms

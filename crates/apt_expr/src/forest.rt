@@ -1,0 +1,127 @@
+//! Trees one behind another, as lists of their parts.
+
+ghost use Rattle.std.specs.Prelude.{◌≡◌, ◌≤◌, [], ◌∷◌, length, IfOk, OnOk};
+ghost use Rattle.apt_words.specs.Trees.{operators, Num, Name, Neg, Root, Abs, Bin};
+ghost use Rattle.apt_words.specs.TreeParts.{after, built, latest};
+ghost use Rattle.apt_expr.specs.Forests.{arity, below};
+
+use apt_words::{Expr, Millionths, Node, Op, Part, Parts, Symbol};
+use std::alloc::{AllocError, Global};
+use std::marker::Model;
+
+/// Trees, each of which is an operand of what is still to be read. Clauses see them, the latest first.
+#[derive(Drop)]
+pub(crate) struct Forest {
+    parts: Vec<Part>,
+}
+
+impl Model for Forest {
+    ghost use Rattle.std.specs.Prelude.{◌≡◌, List, []};
+    ghost use Rattle.std.specs.Coded.{coded_list};
+    ghost use Rattle.apt_words.specs.Trees.{Tree};
+    ghost use Rattle.apt_words.specs.TreeCodes.{tree_code};
+    ghost use Rattle.apt_words.specs.TreeParts.{trees};
+    ghost use Rattle.apt_expr.specs.Forests.{all_parts};
+
+    ghost Value = { List Tree };
+
+    ghost coded = { coded_list tree_code };
+
+    ghost view = { λ f. trees f.parts.items [] };
+
+    ghost invariant = { λ f. all_parts (trees f.parts.items []) ≡ f.parts.items };
+}
+
+impl Forest {
+    /// No trees, with room for so many parts.
+    pub(crate) fn new(alloc: Global, room: usize) -> Result<Forest, AllocError>
+        ensures { IfOk result (λ f. f ≡ []) }
+    {
+        let parts = Vec::with_capacity(alloc, room)?;
+        Ok(Forest { parts })
+    }
+
+    #[tactic(auto, using(crate::proofs::Forests::parts_after, crate::proofs::Forests::trees_after))]
+    fn push(&mut self, part: Part) -> Result<(), AllocError>
+        requires { arity part ≤ length self.old }
+        ensures { OnOk result (self.new ≡ after part self.old) }
+    {
+        self.parts.push(part)?;
+        Ok(())
+    }
+
+    pub(crate) fn number(&mut self, v: i64) -> Result<(), AllocError>
+        ensures { OnOk result (self.new ≡ Num v ∷ self.old) }
+    {
+        self.push(Part::Num(Millionths::new(v)))
+    }
+
+    pub(crate) fn name(&mut self, name: Symbol) -> Result<(), AllocError>
+        ensures { OnOk result (self.new ≡ Name name ∷ self.old) }
+    {
+        self.push(Part::Name(name))
+    }
+
+    #[tactic(auto, using(crate::proofs::Forests::one_operand))]
+    pub(crate) fn negative(&mut self) -> Result<(), AllocError>
+        requires { 1 ≤ length self.old }
+        ensures { OnOk result (self.new ≡ Neg (latest self.old) ∷ below self.old) }
+    {
+        self.push(Part::Neg)
+    }
+
+    #[tactic(auto, using(crate::proofs::Forests::one_operand))]
+    pub(crate) fn root(&mut self) -> Result<(), AllocError>
+        requires { 1 ≤ length self.old }
+        ensures { OnOk result (self.new ≡ Root (latest self.old) ∷ below self.old) }
+    {
+        self.push(Part::Root)
+    }
+
+    #[tactic(auto, using(crate::proofs::Forests::one_operand))]
+    pub(crate) fn absolute(&mut self) -> Result<(), AllocError>
+        requires { 1 ≤ length self.old }
+        ensures { OnOk result (self.new ≡ Abs (latest self.old) ∷ below self.old) }
+    {
+        self.push(Part::Abs)
+    }
+
+    /// Joins the latest tree to the one before it.
+    #[tactic(auto, using(crate::proofs::Forests::two_operands))]
+    pub(crate) fn both(&mut self, op: Op) -> Result<(), AllocError>
+        requires { 2 ≤ length self.old }
+        ensures { OnOk result (self.new ≡ Bin op (latest (below self.old)) (latest self.old) ∷ below (below self.old)) }
+    {
+        self.push(Part::Bin(op))
+    }
+
+    /// The expression of the one tree.
+    pub(crate) fn expression(self, alloc: Global) -> Result<Expr, AllocError>
+        requires one { length self ≡ 1 }
+        requires few { operators (latest self) ≤ 64 }
+        ensures { IfOk result (λ e. e ≡ latest self) }
+    {
+        let Forest { parts: mut items } = self;
+        if items.len() <= 1 {
+            return Ok(operand(&items));
+        }
+        items.shrink_to_fit();
+        let parts = Box::new(alloc, Parts { items })?;
+        Ok(Expr {
+            node: Node::Parts(parts),
+        })
+    }
+}
+
+/// The expression of one part.
+fn operand(parts: &[Part]) -> Expr
+    requires { length parts.now ≤ 1 }
+    ensures { result ≡ built parts.now [] }
+{
+    let node = match parts {
+        [Part::Num(v)] => Node::Num(v.value()),
+        [Part::Name(name)] => Node::Name(name.copied()),
+        _ => Node::Num(0),
+    };
+    Expr { node }
+}
