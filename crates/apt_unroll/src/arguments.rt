@@ -4,7 +4,7 @@ ghost use Rattle.apt_scalar.specs.Meanings as meanings;
 ghost use Rattle.apt_unroll.specs.Deeds as deeds;
 
 use apt_scalar::{Bound, Env, Frame, Kind, Value, bound_in, eval};
-use apt_words::{Case, Deed, Expr, Node, Stop, Symbol};
+use apt_words::{Case, Deed, Expr, Stop, Symbol};
 
 /// The figure's name that a name stands for.
 pub(crate) fn name_for(frame: &Frame, name: &Symbol) -> Result<Symbol, Case>
@@ -152,9 +152,7 @@ pub(crate) fn surfaces(
 fn lone_point(env: &Env, frame: &Frame, e: &Expr) -> Option<Symbol>
     ensures { result ≡ deeds.lone_point env.now frame.now e.now }
 {
-    let Node::Name(name) = &e.node else {
-        return None;
-    };
+    let name = e.lone_name()?;
     match name_for(frame, name) {
         Ok(name) => point_named(env, name),
         Err(_) => None,

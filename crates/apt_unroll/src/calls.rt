@@ -5,7 +5,7 @@ ghost use Rattle.apt_scalar.specs.Meanings.{meaning};
 ghost use Rattle.apt_unroll.specs.Calls as spec;
 
 use apt_scalar::{Bound, Env, Frame, Value, bound_in, eval};
-use apt_words::{Args, Case, Expr, Node, Params, Symbol};
+use apt_words::{Args, Case, Expr, Params, Symbol};
 use std::alloc::{AllocError, Global};
 
 /// A name whose latest value is a figure.
@@ -32,10 +32,7 @@ fn passed_on<'a>(env: &Env, frame: &'a Frame, name: &'a Symbol) -> Option<&'a Sy
 fn lone_name<'a>(env: &Env, frame: &'a Frame, e: &'a Expr) -> Option<&'a Symbol>
     ensures { option_copied result ≡ spec.lone_name env.now frame.now e.now }
 {
-    match &e.node {
-        Node::Name(name) => passed_on(env, frame, name),
-        _ => None,
-    }
+    passed_on(env, frame, e.lone_name()?)
 }
 
 /// What an expression stands for in the caller's names.
