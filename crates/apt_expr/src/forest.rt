@@ -1,35 +1,38 @@
 //! Trees one behind another, as lists of their parts.
 
-ghost use Rattle.std.specs.Prelude.{◌≡◌, ◌≤◌, [], ◌∷◌, length, IfOk, OnOk};
+ghost use Rattle.std.specs.Prelude.{◌≡◌, ◌≤◌, true, [], ◌∷◌, length, IfOk, OnOk};
 ghost use Rattle.apt_words.specs.Trees.{operators, Num, Name, Neg, Root, Abs, Bin};
 ghost use Rattle.apt_words.specs.TreeParts.{after, built, latest};
-ghost use Rattle.apt_expr.specs.Forests.{arity, below};
+ghost use Rattle.apt_expr.specs.Forests.{arity, below, is_simple};
 
 use apt_words::{Expr, Millionths, Node, Op, Part, Parts, Symbol};
 use std::alloc::{AllocError, Global};
 use std::marker::Model;
 
 /// Trees, each of which is an operand of what is still to be read. Clauses see them, the latest first.
+///
+/// The latest stands apart where it is a number, since it may become one part with an operator before it.
 #[derive(Drop)]
 pub(crate) struct Forest {
     parts: Vec<Part>,
+    number: Option<i64>,
 }
 
 impl Model for Forest {
-    ghost use Rattle.std.specs.Prelude.{◌≡◌, List, []};
+    ghost use Rattle.std.specs.Prelude.{◌≡◌, List, [], true};
     ghost use Rattle.std.specs.Coded.{coded_list};
     ghost use Rattle.apt_words.specs.Trees.{Tree};
     ghost use Rattle.apt_words.specs.TreeCodes.{tree_code};
     ghost use Rattle.apt_words.specs.TreeParts.{trees};
-    ghost use Rattle.apt_expr.specs.Forests.{all_parts};
+    ghost use Rattle.apt_expr.specs.Forests.{all_parts, is_settled, with_latest};
 
     ghost Value = { List Tree };
 
     ghost coded = { coded_list tree_code };
 
-    ghost view = { λ f. trees f.parts.items [] };
+    ghost view = { λ f. with_latest f.number (trees f.parts.items []) };
 
-    ghost invariant = { λ f. all_parts (trees f.parts.items []) ≡ f.parts.items };
+    ghost invariant = { λ f. (all_parts (trees f.parts.items []) ≡ f.parts.items) × (is_settled f.number (trees f.parts.items []) ≡ true) };
 }
 
 impl Forest {
@@ -38,22 +41,36 @@ impl Forest {
         ensures { IfOk result (λ f. f ≡ []) }
     {
         let parts = Vec::with_capacity(alloc, room)?;
-        Ok(Forest { parts })
+        Ok(Forest {
+            parts,
+            number: None,
+        })
     }
 
-    #[tactic(auto, using(crate::proofs::Forests::parts_after, crate::proofs::Forests::trees_after))]
+    #[tactic(auto, using(crate::proofs::Forests::parts_after, crate::proofs::Forests::trees_after, crate::proofs::Forests::settled_after))]
     fn push(&mut self, part: Part) -> Result<(), AllocError>
-        requires { arity part ≤ length self.old }
+        requires operands { arity part ≤ length self.old }
+        requires simple { is_simple part ≡ true }
         ensures { OnOk result (self.new ≡ after part self.old) }
     {
-        self.parts.push(part)?;
+        self.parts.reserve(2)?;
+        if let Some(v) = self.number {
+            self.parts.push_reserved(Part::Num(Millionths::new(v)));
+            self.number = None;
+        }
+        self.parts.push_reserved(part);
         Ok(())
     }
 
+    #[tactic(auto, using(crate::proofs::Forests::trees_after))]
     pub(crate) fn number(&mut self, v: i64) -> Result<(), AllocError>
         ensures { OnOk result (self.new ≡ Num v ∷ self.old) }
     {
-        self.push(Part::Num(Millionths::new(v)))
+        if let Some(before) = self.number {
+            self.parts.push(Part::Num(Millionths::new(before)))?;
+        }
+        self.number = Some(v);
+        Ok(())
     }
 
     pub(crate) fn name(&mut self, name: Symbol) -> Result<(), AllocError>
@@ -87,12 +104,19 @@ impl Forest {
     }
 
     /// Joins the latest tree to the one before it.
-    #[tactic(auto, using(crate::proofs::Forests::two_operands))]
+    #[tactic(auto, using(crate::proofs::Forests::two_operands, crate::proofs::Forests::trees_after, crate::proofs::Forests::numbered, crate::proofs::Forests::parts_numbered, crate::proofs::Forests::parts_joined, crate::proofs::Forests::settled_joined))]
     pub(crate) fn both(&mut self, op: Op) -> Result<(), AllocError>
         requires { 2 ≤ length self.old }
         ensures { OnOk result (self.new ≡ Bin op (latest (below self.old)) (latest self.old) ∷ below (below self.old)) }
     {
-        self.push(Part::Bin(op))
+        match self.number {
+            Some(v) => {
+                self.parts.push(Part::with_number(op, v))?;
+                self.number = None;
+            }
+            None => self.parts.push(Part::Bin(op))?,
+        }
+        Ok(())
     }
 
     /// The expression of the one tree.
@@ -101,11 +125,15 @@ impl Forest {
         requires few { operators (latest self) ≤ 64 }
         ensures { IfOk result (λ e. e ≡ latest self) }
     {
-        let Forest { parts: mut items } = self;
-        if items.len() <= 1 {
-            return Ok(operand(&items));
+        let Forest { mut parts, number } = self;
+        if let Some(v) = number {
+            return Ok(Expr { node: Node::Num(v) });
         }
-        items.shrink_to_fit();
+        if parts.len() <= 1 {
+            return Ok(operand(&parts));
+        }
+        let mut items = Vec::with_capacity(alloc, parts.len())?;
+        items.append(&mut parts)?;
         let parts = Box::new(alloc, Parts { items })?;
         Ok(Expr {
             node: Node::Parts(parts),

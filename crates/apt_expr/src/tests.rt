@@ -1,6 +1,6 @@
 use crate::expression;
 use apt_lexis::Token;
-use apt_words::{Expr, Node, Op, Part, Symbol};
+use apt_words::{Expr, Millionths, Node, Op, Part, Symbol};
 use std::alloc::{AllocError, Global};
 
 #[test]
@@ -15,6 +15,11 @@ fn reads_expressions(rt: HostRuntime) -> Result<(), AllocError> {
         ("A * - B", "none"),
         ("A + - B", "none"),
         ("7", "7"),
+        ("( 7 )", "7"),
+        ("( A )", "A"),
+        ("- ( 7 )", "-(7)"),
+        ("2 / ( 3 - 4 * A )", "(2/(3-(4*A)))"),
+        ("( 2 ) * ( 3 )", "(2*3)"),
         ("- 7", "-(7)"),
         ("- 7 * 8", "-((7*8))"),
         ("POINT", "none"),
@@ -133,24 +138,41 @@ fn shown_parts(alloc: Global, parts: &[Part]) -> Result<String, AllocError> {
 
 /// A part with its operands, which are the latest of the texts.
 fn shown_part(alloc: Global, part: &Part, texts: &mut Vec<String>) -> Result<String, AllocError> {
-    if let Part::Num(v) = part {
-        let v = v.value();
-        return format!(in alloc; "{v}");
-    }
-    if let Part::Name(name) = part {
-        return spelled(alloc, name);
-    }
-    let b = taken(alloc, texts);
     match part {
-        Part::Root => format!(in alloc; "SQRTF({b})"),
-        Part::Abs => format!(in alloc; "ABSF({b})"),
+        Part::Num(v) => number(alloc, v),
+        Part::Name(name) => spelled(alloc, name),
+        Part::Neg => around(alloc, "-", texts),
+        Part::Root => around(alloc, "SQRTF", texts),
+        Part::Abs => around(alloc, "ABSF", texts),
         Part::Bin(op) => {
-            let a = taken(alloc, texts);
-            let mark = mark(*op);
-            format!(in alloc; "({a}{mark}{b})")
+            let b = taken(alloc, texts);
+            joined(alloc, mark(*op), &b, texts)
         }
-        _ => format!(in alloc; "-({b})"),
+        Part::AddNum(v) => joined(alloc, "+", &number(alloc, v)?, texts),
+        Part::SubNum(v) => joined(alloc, "-", &number(alloc, v)?, texts),
+        Part::MulNum(v) => joined(alloc, "*", &number(alloc, v)?, texts),
+        Part::DivNum(v) => joined(alloc, "/", &number(alloc, v)?, texts),
     }
+}
+
+fn number(alloc: Global, v: &Millionths) -> Result<String, AllocError> {
+    let v = v.value();
+    format!(in alloc; "{v}")
+}
+
+fn around(alloc: Global, before: &str, texts: &mut Vec<String>) -> Result<String, AllocError> {
+    let operand = taken(alloc, texts);
+    format!(in alloc; "{before}({operand})")
+}
+
+fn joined(
+    alloc: Global,
+    mark: &str,
+    b: &String,
+    texts: &mut Vec<String>,
+) -> Result<String, AllocError> {
+    let a = taken(alloc, texts);
+    format!(in alloc; "({a}{mark}{b})")
 }
 
 fn spelled(alloc: Global, name: &Symbol) -> Result<String, AllocError> {

@@ -4,14 +4,16 @@ use Rattle.std.specs.Prelude.{ℤ, Result, Ok, Err, neg_ℤ}
 use Rattle.std.proofs.lemmas.Bool.Decides.{nat_tests}
 use Rattle.apt_words.specs.Chains.{◌>>=◌}
 use Rattle.apt_words.specs.declared.Case.{Case}
+use Rattle.apt_words.specs.declared.expr.Op.{Op}
+use Rattle.apt_words.specs.declared.expr.Op.TheVariants as ops
 use Rattle.apt_words.specs.declared.parts.Part.{Part}
 use Rattle.apt_words.specs.declared.parts.Parts.{Parts}
 use Rattle.apt_words.specs.Trees.{Tree, Num, Name, Neg, Bin, Root, Abs, operators}
-use Rattle.apt_words.specs.TreeParts.{parts, built}
+use Rattle.apt_words.specs.TreeParts.{parts, built, right, with_number}
 use Rattle.apt_scalar.specs.Scalars.{in_range, apply, square_root, size}
 use Rattle.apt_scalar.specs.Meanings.{Names, Parameters, scalar_named}
 use Rattle.apt_scalar.specs.Evaluation.{value_of}
-use Rattle.apt_scalar.specs.Stacks.{room, pushed, top, with_value, behind_all, value_behind}
+use Rattle.apt_scalar.specs.Stacks.{room, pushed, top, below, with_value, beside, behind, behind_all, value_behind}
 
 pushed_below : (v : ℤ) (vs : List ℤ) → length vs < room → pushed v vs ≡ v ∷ vs
 pushed_below v vs h = grind (arith, nat_tests)
@@ -33,6 +35,25 @@ joined : {A B C : Type 0} (r : Result A Case) (f : A → Result B Case) (g : B �
 joined (Ok a) f g = refl
 joined (Err case) f g = refl
 
+behind_number : (names : Names) (ps : Parameters) (op : Op) (v : ℤ) (vs : List ℤ) → behind names ps (with_number op v) vs ≡ with_value (beside op v vs) (below vs)
+behind_number names ps ops.Add v vs = refl
+behind_number names ps ops.Sub v vs = refl
+behind_number names ps ops.Mul v vs = refl
+behind_number names ps ops.Div v vs = refl
+
+-- what the parts of a right operand and its operator do, where it is known of other trees than numbers
+right_stacked : (names : Names) (ps : Parameters) (op : Op) (b : Tree) (others more : List Part) (x : ℤ) (vs : List ℤ) → length vs < room
+    → behind_all names ps others (x ∷ vs) ≡ then_all names ps (value_of names ps b >>= apply op x) more vs
+    → behind_all names ps (right op b others more) (x ∷ vs) ≡ then_all names ps (value_of names ps b >>= apply op x) more vs
+right_stacked names ps op (Num v) others more x vs h e =
+    ap (λ (r : Result (List ℤ) Case). r >>= behind_all names ps more) (behind_number names ps op v (x ∷ vs))
+    ∙ with_room names ps (in_range v >>= apply op x) more vs h
+right_stacked names ps op (Name name) others more x vs h e = e
+right_stacked names ps op (Neg t) others more x vs h e = e
+right_stacked names ps op (Bin p t u) others more x vs h e = e
+right_stacked names ps op (Root t) others more x vs h e = e
+right_stacked names ps op (Abs t) others more x vs h e = e
+
 -- the parts of a tree put its value on the stack
 stacked : (names : Names) (ps : Parameters) (t : Tree) (more : List Part) (vs : List ℤ) → length vs + operators t < room
     → behind_all names ps (parts t more) vs ≡ then_all names ps (value_of names ps t) more vs
@@ -53,9 +74,10 @@ stacked names ps (Abs t) more vs h =
 stacked names ps (Bin op a b) more vs h =
     stacked names ps a _ vs (omega arith)
     ∙ chained (value_of names ps a) _ _ (λ x.
-    stacked names ps b _ (x ∷ vs) (omega arith)
+    right_stacked names ps op b _ more x vs (omega arith)
+    (stacked names ps b _ (x ∷ vs) (omega arith)
     ∙ chained (value_of names ps b) _ _ (λ y. with_room names ps (apply op x y) more vs (omega arith))
-    ∙ sym (joined (value_of names ps b) _ _))
+    ∙ sym (joined (value_of names ps b) _ _)))
     ∙ sym (joined (value_of names ps a) _ _)
 
 latest : (r : Result ℤ Case) → (r >>= (λ v. Ok (v ∷ [])) >>= λ vs. Ok (top vs)) ≡ r

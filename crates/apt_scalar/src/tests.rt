@@ -22,7 +22,7 @@ fn number(v: i64) -> Part
 }
 
 fn both(alloc: Global, a: i64, op: Op, b: i64) -> Result<Expr, AllocError> {
-    let items = vec![in alloc; number(a), number(b), Part::Bin(op)]?;
+    let items = vec![in alloc; number(a), Part::with_number(op, b)]?;
     Ok(Expr {
         node: Node::Parts(Box::new(alloc, Parts { items })?),
     })

@@ -7,7 +7,7 @@ ghost use Rattle.apt_scalar.specs.Evaluation as values;
 use crate::names::{Env, Frame, scalar_named};
 use crate::scalars::{apply, in_range, size, square_root};
 use crate::stack::Stack;
-use apt_words::{Case, Expr, Node, Part};
+use apt_words::{Case, Expr, Millionths, Node, Op, Part};
 
 /// The value of an expression, or its first refusal: the left operand before the right, operands before
 /// their operator.
@@ -54,7 +54,22 @@ fn put(stack: &mut Stack, part: &Part, env: &Env, frame: &Frame) -> Result<(), C
             let left = stack.pop();
             apply(*op, left, right)?
         }
+        Part::AddNum(v) => beside(Op::Add, stack, v)?,
+        Part::SubNum(v) => beside(Op::Sub, stack, v)?,
+        Part::MulNum(v) => beside(Op::Mul, stack, v)?,
+        Part::DivNum(v) => beside(Op::Div, stack, v)?,
     };
     stack.push(v);
     Ok(())
+}
+
+/// The latest value and a number to its right, with the operator between them.
+fn beside(op: Op, stack: &mut Stack, v: &Millionths) -> Result<i64, Case>
+    ensures value { result ≡ stacks.beside op v.now stack.old }
+    ensures rest { OnOk result (stack.new ≡ stacks.below stack.old) }
+    ensures scalar { IfOk result (λ v. scalars.IsScalar v) }
+{
+    let right = in_range(i128::from(v.value()))?;
+    let left = stack.pop();
+    apply(op, left, right)
 }

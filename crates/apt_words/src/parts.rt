@@ -1,7 +1,7 @@
 //! Expressions as lists of their parts.
 ghost use Rattle.std.specs.Prelude.{◌≡◌, ◌≤◌, [], None};
 ghost use Rattle.apt_words.specs.Trees.{operators};
-ghost use Rattle.apt_words.specs.TreeParts.{parts, built, lone_name};
+ghost use Rattle.apt_words.specs.TreeParts.{parts, built, lone_name, with_number};
 
 use crate::{Op, Symbol};
 use std::marker::Model;
@@ -38,7 +38,8 @@ impl Millionths {
     }
 }
 
-/// A part of an expression: an operand, or an operator, which stands behind its operands.
+/// A part of an expression: an operand, or an operator, which stands behind its operands. Where the right operand is a
+/// number, the two are one part.
 #[derive(Drop)]
 pub enum Part {
     Num(Millionths),
@@ -47,6 +48,25 @@ pub enum Part {
     Root,
     Abs,
     Bin(Op),
+    AddNum(Millionths),
+    SubNum(Millionths),
+    MulNum(Millionths),
+    DivNum(Millionths),
+}
+
+impl Part {
+    /// An operator with a number to its right.
+    pub fn with_number(op: Op, v: i64) -> Part
+        ensures { result ≡ with_number op v }
+    {
+        let v = Millionths::new(v);
+        match op {
+            Op::Add => Part::AddNum(v),
+            Op::Sub => Part::SubNum(v),
+            Op::Mul => Part::MulNum(v),
+            Op::Div => Part::DivNum(v),
+        }
+    }
 }
 
 /// The parts of an expression that is no lone name.
