@@ -53,12 +53,15 @@ impl Forest {
         requires simple { is_simple part ≡ true }
         ensures { OnOk result (self.new ≡ after part self.old) }
     {
-        self.parts.reserve(2)?;
-        if let Some(v) = self.number {
-            self.parts.push_reserved(Part::Num(Millionths::new(v)));
-            self.number = None;
+        match self.number {
+            Some(v) => {
+                self.parts.reserve(2)?;
+                self.parts.push_reserved(Part::Num(Millionths::new(v)));
+                self.parts.push_reserved(part);
+                self.number = None;
+            }
+            None => self.parts.push(part)?,
         }
-        self.parts.push_reserved(part);
         Ok(())
     }
 
