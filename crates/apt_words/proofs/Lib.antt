@@ -1,3 +1,4 @@
+pub mod Same
 pub mod Texts
 mod Words
 pub mod Bytes

@@ -170,7 +170,23 @@ fn word_in(words: &[Word], text: &[u8]) -> Option<Word>
     words
         .iter()
         .copied()
-        .find(|word| word.spelling().as_bytes() == text)
+        .find(|word| is_same(word.spelling().as_bytes(), text))
+}
+
+/// Whether two short texts have the same bytes.
+#[tactic(auto, using(crate::proofs::Same::goes_on, crate::proofs::Same::differs, crate::proofs::Same::ends, crate::proofs::Same::other_length))]
+fn is_same(a: &[u8], b: &[u8]) -> bool
+    ensures { result ≡ bytes_eq a.now b.now }
+{
+    if a.len() != b.len() {
+        return false;
+    }
+    'bytes: for i in 0..a.len() {
+        if a[i] != b[i] {
+            return false;
+        }
+    }
+    true
 }
 
 /// The words of a text's first letter and length.
