@@ -7,7 +7,6 @@ ghost use Rattle.apt_shapes.specs.Arguments as arguments;
 
 use apt_lexis::Token;
 use apt_words::{Pick, Stop, Symbol, Word, is_vocabulary, word_of};
-use arrayvec::ArrayVec;
 use std::alloc::{AllocError, Global};
 
 fn is_comma(token: &Token) -> bool
@@ -17,7 +16,7 @@ fn is_comma(token: &Token) -> bool
 }
 
 /// The tokens before the first comma and those behind it, None where there is no comma.
-fn at_comma(tokens: &[Token]) -> Option<(&[Token], &[Token])>
+pub(crate) fn at_comma(tokens: &[Token]) -> Option<(&[Token], &[Token])>
     ensures parts { MatchOption result (arguments.arguments tokens.now ≡ tokens.now ∷ []) (λ r. arguments.arguments tokens.now ≡ r.0.now ∷ arguments.arguments r.1.now) }
     ensures shorter { IfSome result (λ r. length r.1.now < length tokens.now) }
 {
@@ -44,26 +43,6 @@ pub(crate) fn arguments<'a>(
     }
     args.push(rest)?;
     Ok(args)
-}
-
-/// The parts of some tokens between their commas where there are at most six, which need no allocation.
-pub(crate) fn few_arguments<'a>(tokens: &'a [Token]) -> Option<ArrayVec<&'a [Token], 6>>
-    ensures { IfSome result (λ v. map (λ a. a.now) v.items ≡ arguments.arguments tokens.now) }
-{
-    let mut args = ArrayVec::new();
-    let mut rest = tokens;
-    'arguments: while let Some((part, behind)) = at_comma(rest) {
-        if args.is_full() {
-            return None;
-        }
-        args.push(part);
-        rest = behind;
-    }
-    if args.is_full() {
-        return None;
-    }
-    args.push(rest);
-    Some(args)
 }
 
 /// A word that is no word of the language.

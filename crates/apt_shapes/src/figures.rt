@@ -16,7 +16,10 @@ pub(crate) fn assign(
 ) -> Result<Option<Body>, AllocError>
     ensures { IfOk result (λ b. b ≡ figures.assign n.now tokens.now) }
 {
-    Ok(expression(alloc, tokens)?.map(|e| Body::Assign(n.copied(), e)))
+    match expression(alloc, tokens)? {
+        Some(e) => Ok(Some(Body::Assign(n.copied(), e))),
+        None => Ok(None),
+    }
 }
 
 fn point_xy(alloc: Global, n: &Symbol, x: &[Token], y: &[Token]) -> Result<Option<Body>, AllocError>

@@ -185,27 +185,25 @@ fn check_stop(tokens: &[Token]) -> Option<Stop>
 }
 
 /// A contour: the drive surface, and the check surface with its modifier, TO where it is left out.
-fn contour(side: Option<Side>, turn: Go, args: &[&[Token]]) -> Option<Body>
-    ensures { result ≡ motions.contour side turn (map (λ a. a.now) args.now) }
+fn contour(side: Option<Side>, turn: Go, args: &[&[Token]]) -> Result<Option<Body>, AllocError>
+    ensures { IfOk result (λ b. b ≡ motions.contour side turn (map (λ a. a.now) args.now)) }
 {
-    match args {
-        [drive, check] => Some(Body::Contour(side, turn, name(drive)?, Stop::To, name(check)?)),
-        [drive, q, check] => Some(Body::Contour(
-            side,
-            turn,
-            name(drive)?,
-            check_stop(q)?,
-            name(check)?,
-        )),
-        _ => None,
-    }
+    let (drive, stop, check) = match args {
+        [drive, check] => (drive, Some(Stop::To), check),
+        [drive, q, check] => (drive, check_stop(q), check),
+        _ => return Ok(None),
+    };
+    let (Some(drive), Some(stop), Some(check)) = (name(drive), stop, name(check)) else {
+        return Ok(None);
+    };
+    Ok(Some(Body::Contour(side, turn, drive, stop, check)))
 }
 
 /// A contour with no tool word before it.
 pub(crate) fn onward(turn: Go, args: &[&[Token]]) -> Result<Option<Body>, AllocError>
     ensures { IfOk result (λ b. b ≡ motions.contour None turn (map (λ a. a.now) args.now)) }
 {
-    Ok(contour(None, turn, args))
+    contour(None, turn, args)
 }
 
 /// A contour behind a tool word and a comma.
@@ -222,5 +220,5 @@ pub(crate) fn turned(
     let Some(turn) = turn_of(word_of(word)) else {
         return Ok(None);
     };
-    Ok(contour(side, turn, &arguments(alloc, rest)?))
+    contour(side, turn, &arguments(alloc, rest)?)
 }

@@ -2,9 +2,11 @@
 
 ghost use Rattle.std.specs.Prelude.{◌≡◌, map, IfOk};
 ghost use Rattle.apt_shapes.specs.Arguments as arguments;
+ghost use Rattle.apt_shapes.specs.Arguments.{or_else};
+ghost use Rattle.apt_shapes.specs.Figures.{assign};
 ghost use Rattle.apt_shapes.specs.Shapes as shapes;
 
-use crate::arguments::{arguments, few_arguments, name_of};
+use crate::arguments::{arguments, at_comma, name_of};
 use crate::figures::{assign, circle, line, point};
 use crate::flow::{call, if_in, jumpto, macro_of};
 use crate::motions::{from, godlta, goto, onward, side_of, start, turned};
@@ -126,15 +128,31 @@ fn defined(alloc: Global, n: &Symbol, tokens: &[Token]) -> Result<Option<Body>, 
     }
 }
 
+/// A name's figure, macro or expression, from behind the equals sign.
+fn defined_or_assigned(
+    alloc: Global,
+    n: &Symbol,
+    tokens: &[Token],
+) -> Result<Option<Body>, AllocError>
+    ensures { IfOk result (λ b. b ≡ or_else (shapes.defined n.now tokens.now) (assign n.now tokens.now)) }
+{
+    match defined(alloc, n, tokens)? {
+        Some(body) => Ok(Some(body)),
+        None => assign(alloc, n, tokens),
+    }
+}
+
 fn named(alloc: Global, word: &Symbol, tokens: &[Token]) -> Result<Option<Body>, AllocError>
     ensures { IfOk result (λ b. b ≡ shapes.named word.now tokens.now) }
 {
     let Some(n) = name_of(word) else {
         return Ok(None);
     };
-    match defined(alloc, &n, tokens)? {
-        Some(body) => Ok(Some(body)),
-        None => assign(alloc, &n, tokens),
+    match tokens {
+        [Token::Word(_), Token::Slash, ..] | [Token::Word(_)] => {
+            defined_or_assigned(alloc, &n, tokens)
+        }
+        _ => assign(alloc, &n, tokens),
     }
 }
 
@@ -161,7 +179,18 @@ fn if_word(alloc: Global, word: Option<Word>, tokens: &[Token]) -> Result<Option
     }
 }
 
-/// A statement of a word, a slash and these tokens.
+/// A statement of a word, a slash and any number of arguments.
+fn with_many(
+    alloc: Global,
+    word: Option<Word>,
+    tokens: &[Token],
+) -> Result<Option<Body>, AllocError>
+    ensures { IfOk result (λ b. b ≡ shapes.with_arguments word (arguments.arguments tokens.now)) }
+{
+    with_arguments(alloc, word, &arguments(alloc, tokens)?)
+}
+
+/// A statement of a word, a slash and these tokens. Up to three arguments need no list.
 fn behind_slash(
     alloc: Global,
     word: Option<Word>,
@@ -169,10 +198,16 @@ fn behind_slash(
 ) -> Result<Option<Body>, AllocError>
     ensures { IfOk result (λ b. b ≡ shapes.with_arguments word (arguments.arguments tokens.now)) }
 {
-    match few_arguments(tokens) {
-        Some(args) => with_arguments(alloc, word, &args),
-        None => with_arguments(alloc, word, &arguments(alloc, tokens)?),
+    let Some((first, rest)) = at_comma(tokens) else {
+        return with_arguments(alloc, word, &[tokens]);
+    };
+    let Some((second, rest)) = at_comma(rest) else {
+        return with_arguments(alloc, word, &[first, rest]);
+    };
+    if at_comma(rest).is_some() {
+        return with_many(alloc, word, tokens);
     }
+    with_arguments(alloc, word, &[first, second, rest])
 }
 
 /// A statement without a text.
