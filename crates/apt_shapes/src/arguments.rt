@@ -80,7 +80,7 @@ pub(crate) fn is_word(word: Word, tokens: &[Token]) -> bool
     ensures { result ≡ arguments.is_word word tokens.now }
 {
     match tokens {
-        [Token::Word(said)] => word.spelling() == said.as_str(),
+        [Token::Word(said)] => word.spelling().as_bytes() == said.as_bytes(),
         _ => false,
     }
 }

@@ -78,6 +78,7 @@ pub enum Word {
 
 impl Word {
     /// Its spelling, in capitals.
+    #[inline(always)]
     pub fn spelling(&self) -> &'static str
         ensures { result.now ≡ vocabulary.spelling self.now }
     {
