@@ -1,7 +1,7 @@
 //! The two tape codes: the byte of a character, and what a byte is read as.
 #![tactic(auto)]
 
-ghost use Rattle.std.specs.Prelude.{◌≡◌, ◌==◌, ◌↔◌, ℕ, Some, None, IfSome, IsNone, Contains, true, false, if◌then◌else◌};
+ghost use Rattle.std.specs.Prelude.{◌≡◌, ◌==◌, ◌≤◌, ◌↔◌, ℕ, Some, None, IfSome, IsNone, Contains, true, false, if◌then◌else◌};
 ghost use Rattle.apt_tapecode.specs.Tapecode.{punched, reading, skipped, has_parity, is_tape_character, IsUnused};
 
 mod rows;
@@ -39,9 +39,29 @@ pub fn sense(code: Code, byte: u8) -> Read
 fn sense_row(code: Code, byte: u8) -> Read
     ensures { result ≡ reading code byte }
 {
+    read_of(entry_of(code, byte))
+}
+
+/// The digit that a row is punched for, as its character.
+pub fn digit(code: Code, byte: u8) -> Option<u8>
+    ensures read { IfSome result (λ ch. reading code byte ≡ Read.Char ch) }
+    ensures digit { IfSome result (λ ch. (48 ≤ ch) × (ch ≤ 57)) }
+{
+    let entry = entry_of(code, byte);
+    if entry.is_ascii_digit() {
+        Some(entry)
+    } else {
+        None
+    }
+}
+
+/// The entry of a row in the table of its code.
+fn entry_of(code: Code, byte: u8) -> u8
+    ensures { (if result == 0 then Read.Skip else if result == 1 then Read.BadParity else if result == 2 then Read.BadCode else Read.Char result) ≡ reading code byte }
+{
     match code {
-        Code::Rs244 => read_of(SENSED_244[byte as usize]),
-        Code::Rs358 => read_of(SENSED_358[byte as usize]),
+        Code::Rs244 => SENSED_244[byte as usize],
+        Code::Rs358 => SENSED_358[byte as usize],
     }
 }
 
@@ -119,6 +139,17 @@ mod tests {
             assert!(rt; sense(Code::Rs244, rs244) == Read::Char(ch));
             assert!(rt; sense(Code::Rs358, rs358) == Read::Char(ch));
         }
+    }
+
+    #[test]
+    fn knows_digits(rt: HostRuntime) {
+        for (ch, rs244, rs358) in HEAD {
+            let wanted = if ch >= b'0' && ch <= b'9' { Some(ch) } else { None };
+            assert_eq!(rt; digit(Code::Rs244, rs244), wanted);
+            assert_eq!(rt; digit(Code::Rs358, rs358), wanted);
+        }
+        assert_eq!(rt; digit(Code::Rs244, 0x55), None);
+        assert_eq!(rt; digit(Code::Rs358, 0x31), None);
     }
 
     #[test]
