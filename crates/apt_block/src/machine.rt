@@ -1,9 +1,10 @@
 //! A block read character by character.
 
-ghost use Rattle.std.specs.Prelude.{◌≡◌, ◌≤◌, ◌<◌, ◌^◌, ◌==◌, length, true, false, IsTrue, IfSome, Ok};
+ghost use Rattle.std.specs.Prelude.{◌≡◌, ◌≤◌, ◌<◌, ◌^◌, ◌==◌, ℕ, length, true, false, IsTrue, IfSome, Ok};
 ghost use Rattle.apt_block.specs.Block as spec;
 ghost use Rattle.apt_block.specs.Machine as machine;
 ghost use Rattle.apt_block.specs.Machine.{IsStep, HasDigits};
+ghost use Rattle.apt_block.specs.declared.machine.Want.TheVariants as wants;
 
 use crate::table::{code_fault, form_for, is_bad_code};
 use crate::{Block, Fault, Form, Mark, TapeCause, TapeWord};
@@ -175,6 +176,23 @@ impl BlockReader {
         ensures { result ≡ machine.is_whole self.now }
     {
         matches!(self.want, Want::Nothing)
+    }
+
+    /// Whether an end of block may come next.
+    #[tactic(auto, using(crate::proofs::Ending::end_step))]
+    pub fn can_end(&self) -> bool
+        ensures { IsTrue result → (at : ℕ) → machine.step self.now (record { at = at; ch = spec.line_feed }) ≡ Ok (record self.now { want = wants.Nothing }) }
+    {
+        matches!(self.want, Want::Letter)
+    }
+
+    /// Takes all characters away.
+    pub fn clear(&mut self)
+        ensures { self.new ≡ machine.block_start }
+    {
+        self.block.clear();
+        self.used = 0;
+        self.want = Want::Letter;
     }
 
     /// Takes one character more. After a fault the block can't be read on.
