@@ -1,3 +1,4 @@
 pub mod Control
 pub mod Walk
 pub mod Answers
+pub mod Saying

@@ -5,6 +5,7 @@ use Rattle.apt_tapecode.specs.declared.Read.{Read}
 use Rattle.apt_tapecode.specs.declared.Read.TheVariants as reads
 use Rattle.apt_tapecode.specs.Tapecode.{reading, rewind_stop}
 use Rattle.apt_block.specs.declared.block.Fault.{Fault}
+use Rattle.apt_block.specs.declared.block.TapeWord.{TapeWord}
 use Rattle.apt_block.specs.declared.block.TapeCause.TheVariants as causes
 use Rattle.apt_block.specs.Block.{◌>>=◌, fault}
 use Rattle.apt_block.specs.Machine.{FrontPart, block_start, step, is_whole}
@@ -44,6 +45,10 @@ with_meaning s m = record {
   block = block_start;
   count = s.count + 1;
 }
+
+-- the words of a whole block get their meaning
+abbrev pub words_step : {H A : Type 0} → MeaningOf H A → Walk H A → List TapeWord → Result (Walk H A) Fault
+words_step means s words = means s.held s.count words >>= λ m. Ok (with_meaning s m)
 
 abbrev pub character_step : {H A : Type 0} → MeaningOf H A → Walk H A → ℕ → Result (Walk H A) Fault
 character_step means s ch =

@@ -1,10 +1,11 @@
 //! The meaning of blocks: moves, spindle, coolant, tools and stops.
 
-ghost use Rattle.std.specs.Prelude.{◌≡◌, ◌++◌, ◌∷◌, [], List, OnOk, Option, Some, ℕ, ℤ};
+ghost use Rattle.std.specs.Prelude.{◌≡◌, ◌++◌, ◌∷◌, [], List, OnOk, IsTrue, Option, ℕ, ℤ};
 ghost use Rattle.std.specs.Option.{option_or};
 ghost use Rattle.apt_block.specs.Block.{letter_f, letter_m, letter_s, letter_t, letter_x, letter_y, letter_z};
 ghost use Rattle.apt_control.specs.Answers.{acts_by};
 ghost use Rattle.apt_control.specs.Control as spec;
+ghost use Rattle.apt_control.specs.Saying.{IsSaid};
 
 use crate::walk::Control;
 use crate::{Act, ControlError};
@@ -49,122 +50,88 @@ impl Control for Held {
         words: &[TapeWord],
         acts: &mut Vec<Act>,
     ) -> Result<bool, ControlError> {
-        let said = said_by(words);
-        let code = m_code(&said);
-        let units = block_units(&said);
-        let moves = is_move(&said);
-        let now = with_words(*self, units, &said);
-        if let Some(cause) = end_fault(now, is_mixed(code, &said), moves) {
+        let said = take_words(self, words);
+        if let Some(cause) = end_fault(self, &said) {
             return Err(ControlError::Bad { at, cause });
         }
-        push_act(acts, unit_act(units))?;
-        push_act(acts, act_before(code, &said))?;
-        push_act(acts, move_act(now, moves))?;
-        push_act(acts, act_after(code))?;
-        *self = now;
-        Ok(is_end(code))
+        push_acts(acts, self, &said)?;
+        Ok(is_end(said.code))
     }
 }
 
-/// What the words of a block say: the first value of each letter, and the first G code of each kind.
+/// What the words of a block say that does not hold behind it: whether it is a move, and the units, the spindle
+/// speed, the tool and the M code in it.
 #[derive(Clone, Copy, Drop)]
 struct Said {
-    motion: Option<u64>,
-    units: Option<u64>,
-    x: Option<i64>,
-    y: Option<i64>,
-    z: Option<i64>,
-    feed: Option<i64>,
+    moves: bool,
+    units: Option<Units>,
     speed: Option<i64>,
     tool: Option<i64>,
-    code: Option<i64>,
+    code: Option<u64>,
 }
 
-fn said_by(words: &[TapeWord]) -> Said
-    ensures motion { result.motion ≡ spec.g_code words.now (0 ∷ 1 ∷ []) }
-    ensures units { result.units ≡ spec.g_code words.now (70 ∷ 71 ∷ []) }
-    ensures x { result.x ≡ spec.value_of words.now letter_x }
-    ensures y { result.y ≡ spec.value_of words.now letter_y }
-    ensures z { result.z ≡ spec.value_of words.now letter_z }
-    ensures feed { result.feed ≡ spec.value_of words.now letter_f }
-    ensures speed { result.speed ≡ spec.value_of words.now letter_s }
-    ensures tool { result.tool ≡ spec.value_of words.now letter_t }
-    ensures code { result.code ≡ spec.value_of words.now letter_m }
+/// Takes what a block's words say from the last one on, so that the first of two that say one thing counts.
+fn take_words(held: &mut Held, words: &[TapeWord]) -> Said
+    ensures held { held.new ≡ spec.with_words held.old words.now }
+    ensures said { IsSaid result words.now }
 {
     let mut said = Said {
-        motion: None,
+        moves: false,
         units: None,
-        x: None,
-        y: None,
-        z: None,
-        feed: None,
         speed: None,
         tool: None,
         code: None,
     };
-    'words: for word in words {
-        add_word(&mut said, word);
+    let mut left = words.len();
+    'words: while left > 0 {
+        left -= 1;
+        take_word(held, &mut said, &words[left]);
     }
     said
 }
 
-/// Adds what a word says where no word before it said it.
-fn add_word(said: &mut Said, word: &TapeWord)
-    ensures motion { (more : List TapeWord) → option_or said.new.motion (spec.g_code more (0 ∷ 1 ∷ [])) ≡ option_or said.old.motion (spec.g_code (word.now ∷ more) (0 ∷ 1 ∷ [])) }
-    ensures units { (more : List TapeWord) → option_or said.new.units (spec.g_code more (70 ∷ 71 ∷ [])) ≡ option_or said.old.units (spec.g_code (word.now ∷ more) (70 ∷ 71 ∷ [])) }
-    ensures x { (more : List TapeWord) → option_or said.new.x (spec.value_of more letter_x) ≡ option_or said.old.x (spec.value_of (word.now ∷ more) letter_x) }
-    ensures y { (more : List TapeWord) → option_or said.new.y (spec.value_of more letter_y) ≡ option_or said.old.y (spec.value_of (word.now ∷ more) letter_y) }
-    ensures z { (more : List TapeWord) → option_or said.new.z (spec.value_of more letter_z) ≡ option_or said.old.z (spec.value_of (word.now ∷ more) letter_z) }
-    ensures feed { (more : List TapeWord) → option_or said.new.feed (spec.value_of more letter_f) ≡ option_or said.old.feed (spec.value_of (word.now ∷ more) letter_f) }
-    ensures speed { (more : List TapeWord) → option_or said.new.speed (spec.value_of more letter_s) ≡ option_or said.old.speed (spec.value_of (word.now ∷ more) letter_s) }
-    ensures tool { (more : List TapeWord) → option_or said.new.tool (spec.value_of more letter_t) ≡ option_or said.old.tool (spec.value_of (word.now ∷ more) letter_t) }
-    ensures code { (more : List TapeWord) → option_or said.new.code (spec.value_of more letter_m) ≡ option_or said.old.code (spec.value_of (word.now ∷ more) letter_m) }
+/// Takes what a word in front of others says.
+fn take_word(held: &mut Held, said: &mut Said, word: &TapeWord)
+    ensures motion { (before : Option ℕ) (more : List TapeWord) → held.old.motion ≡ option_or (spec.g_code more (0 ∷ 1 ∷ [])) before → held.new.motion ≡ option_or (spec.g_code (word.now ∷ more) (0 ∷ 1 ∷ [])) before }
+    ensures units { (before : Option Units) (more : List TapeWord) → held.old.units ≡ option_or (spec.block_units more) before → held.new.units ≡ option_or (spec.block_units (word.now ∷ more)) before }
+    ensures feed { (before : Option ℤ) (more : List TapeWord) → held.old.feed ≡ option_or (spec.value_of more letter_f) before → held.new.feed ≡ option_or (spec.value_of (word.now ∷ more) letter_f) before }
+    ensures x { (before : Option ℤ) (more : List TapeWord) → held.old.x ≡ option_or (spec.value_of more letter_x) before → held.new.x ≡ option_or (spec.value_of (word.now ∷ more) letter_x) before }
+    ensures y { (before : Option ℤ) (more : List TapeWord) → held.old.y ≡ option_or (spec.value_of more letter_y) before → held.new.y ≡ option_or (spec.value_of (word.now ∷ more) letter_y) before }
+    ensures z { (before : Option ℤ) (more : List TapeWord) → held.old.z ≡ option_or (spec.value_of more letter_z) before → held.new.z ≡ option_or (spec.value_of (word.now ∷ more) letter_z) before }
+    ensures moves { (more : List TapeWord) → said.old.moves ≡ spec.is_move more → said.new.moves ≡ spec.is_move (word.now ∷ more) }
+    ensures given { (more : List TapeWord) → said.old.units ≡ spec.block_units more → said.new.units ≡ spec.block_units (word.now ∷ more) }
+    ensures speed { (more : List TapeWord) → said.old.speed ≡ spec.value_of more letter_s → said.new.speed ≡ spec.value_of (word.now ∷ more) letter_s }
+    ensures tool { (more : List TapeWord) → said.old.tool ≡ spec.value_of more letter_t → said.new.tool ≡ spec.value_of (word.now ∷ more) letter_t }
+    ensures code { (more : List TapeWord) → said.old.code ≡ spec.m_code more → said.new.code ≡ spec.m_code (word.now ∷ more) }
 {
     let value = word.value;
     match word.letter {
         b'G' => {
             let code = value.unsigned_abs();
             if code == 0 || code == 1 {
-                said.motion = first_code(said.motion, code);
+                held.motion = Some(code);
             } else if code == 70 || code == 71 {
-                said.units = first_code(said.units, code);
+                held.units = Some(units_of(code));
+                said.units = Some(units_of(code));
             }
         }
-        b'X' => said.x = first_value(said.x, value),
-        b'Y' => said.y = first_value(said.y, value),
-        b'Z' => said.z = first_value(said.z, value),
-        b'F' => said.feed = first_value(said.feed, value),
-        b'S' => said.speed = first_value(said.speed, value),
-        b'T' => said.tool = first_value(said.tool, value),
-        b'M' => said.code = first_value(said.code, value),
+        b'X' => {
+            held.x = Some(value);
+            said.moves = true;
+        }
+        b'Y' => {
+            held.y = Some(value);
+            said.moves = true;
+        }
+        b'Z' => {
+            held.z = Some(value);
+            said.moves = true;
+        }
+        b'F' => held.feed = Some(value),
+        b'S' => said.speed = Some(value),
+        b'T' => said.tool = Some(value),
+        b'M' => said.code = Some(value.unsigned_abs()),
         _ => {}
-    }
-}
-
-fn first_value(before: Option<i64>, value: i64) -> Option<i64>
-    ensures { (more : Option ℤ) → option_or result more ≡ option_or before (Some value) }
-{
-    match before {
-        Some(first) => Some(first),
-        None => Some(value),
-    }
-}
-
-fn first_code(before: Option<u64>, code: u64) -> Option<u64>
-    ensures { (more : Option ℕ) → option_or result more ≡ option_or before (Some code) }
-{
-    match before {
-        Some(first) => Some(first),
-        None => Some(code),
-    }
-}
-
-fn m_code(said: &Said) -> Option<u64>
-    ensures { (words : List TapeWord) → said.now.code ≡ spec.value_of words letter_m → result ≡ spec.m_code words }
-{
-    match said.code {
-        Some(value) => Some(value.unsigned_abs()),
-        None => None,
     }
 }
 
@@ -201,43 +168,15 @@ fn units_of(code: u64) -> Units
     if code == 70 { Units::Inch } else { Units::Mm }
 }
 
-fn block_units(said: &Said) -> Option<Units>
-    ensures { (words : List TapeWord) → said.now.units ≡ spec.g_code words (70 ∷ 71 ∷ []) → result ≡ spec.block_units words }
+fn is_mixed(said: &Said) -> bool
+    ensures { (words : List TapeWord) → IsSaid said.now words → result ≡ spec.is_mixed words }
 {
-    match said.units {
-        Some(code) => Some(units_of(code)),
-        None => None,
-    }
+    said.speed.is_some() != turns_spindle(said.code)
+        || said.tool.is_some() != changes_tool(said.code)
 }
 
-/// What holds with what a block's words say, and the units among them.
-fn with_words(held: Held, units: Option<Units>, said: &Said) -> Held
-    ensures { (words : List TapeWord) → said.now.motion ≡ spec.g_code words (0 ∷ 1 ∷ []) → units ≡ spec.block_units words → said.now.feed ≡ spec.value_of words letter_f → said.now.x ≡ spec.value_of words letter_x → said.now.y ≡ spec.value_of words letter_y → said.now.z ≡ spec.value_of words letter_z → result ≡ spec.with_words held words }
-{
-    Held {
-        motion: said.motion.or(held.motion),
-        units: units.or(held.units),
-        feed: said.feed.or(held.feed),
-        x: said.x.or(held.x),
-        y: said.y.or(held.y),
-        z: said.z.or(held.z),
-    }
-}
-
-fn is_move(said: &Said) -> bool
-    ensures { (words : List TapeWord) → said.now.x ≡ spec.value_of words letter_x → said.now.y ≡ spec.value_of words letter_y → said.now.z ≡ spec.value_of words letter_z → result ≡ spec.is_move words }
-{
-    said.x.is_some() || said.y.is_some() || said.z.is_some()
-}
-
-fn is_mixed(code: Option<u64>, said: &Said) -> bool
-    ensures { (words : List TapeWord) → code ≡ spec.m_code words → said.now.speed ≡ spec.value_of words letter_s → said.now.tool ≡ spec.value_of words letter_t → result ≡ spec.is_mixed words }
-{
-    said.speed.is_some() != turns_spindle(code) || said.tool.is_some() != changes_tool(code)
-}
-
-fn is_cut(held: Held) -> bool
-    ensures { result ≡ spec.is_cut held }
+fn is_cut(held: &Held) -> bool
+    ensures { result ≡ spec.is_cut held.now }
 {
     match held.motion {
         Some(code) => code == 1,
@@ -246,8 +185,8 @@ fn is_cut(held: Held) -> bool
 }
 
 /// What is missing for a move.
-fn move_fault(held: Held) -> Option<TapeCause>
-    ensures { result ≡ spec.move_fault held }
+fn move_fault(held: &Held) -> Option<TapeCause>
+    ensures { result ≡ spec.move_fault held.now }
 {
     if held.units.is_none() {
         Some(TapeCause::NoUnits)
@@ -263,20 +202,20 @@ fn move_fault(held: Held) -> Option<TapeCause>
 }
 
 /// The first fault at the end of a block that mixes words, or moves.
-fn end_fault(held: Held, mixed: bool, moves: bool) -> Option<TapeCause>
-    ensures { (words : List TapeWord) → mixed ≡ spec.is_mixed words → moves ≡ spec.is_move words → result ≡ spec.end_fault held words }
+fn end_fault(held: &Held, said: &Said) -> Option<TapeCause>
+    ensures { (words : List TapeWord) → IsSaid said.now words → result ≡ spec.end_fault held.now words }
 {
-    if mixed {
+    if is_mixed(said) {
         Some(TapeCause::BadMix)
-    } else if moves {
+    } else if said.moves {
         move_fault(held)
     } else {
         None
     }
 }
 
-fn move_to(held: Held) -> Act
-    ensures { result ≡ spec.move held }
+fn move_to(held: &Held) -> Act
+    ensures { result ≡ spec.move held.now }
 {
     let x = held.x.unwrap_or(0);
     let y = held.y.unwrap_or(0);
@@ -293,12 +232,6 @@ fn move_to(held: Held) -> Act
     }
 }
 
-fn move_act(held: Held, moves: bool) -> Option<Act>
-    ensures { (words : List TapeWord) → moves ≡ spec.is_move words → acts_by result ≡ spec.move_acts held words }
-{
-    if moves { Some(move_to(held)) } else { None }
-}
-
 fn unit_act(units: Option<Units>) -> Option<Act>
     ensures { (words : List TapeWord) → units ≡ spec.block_units words → acts_by result ≡ spec.unit_acts words }
 {
@@ -309,10 +242,10 @@ fn unit_act(units: Option<Units>) -> Option<Act>
 }
 
 /// The act before the move: the spindle or the tool with its number, or the coolant.
-fn act_before(code: Option<u64>, said: &Said) -> Option<Act>
-    ensures { (words : List TapeWord) → code ≡ spec.m_code words → said.now.speed ≡ spec.value_of words letter_s → said.now.tool ≡ spec.value_of words letter_t → acts_by result ≡ spec.acts_before words }
+fn act_before(said: &Said) -> Option<Act>
+    ensures { (words : List TapeWord) → IsSaid said.now words → acts_by result ≡ spec.acts_before words }
 {
-    match code {
+    match said.code {
         Some(3) => Some(Act::Spindle {
             turn: Turn::Cw,
             n: said.speed.unwrap_or(0),
@@ -345,20 +278,42 @@ fn act_after(code: Option<u64>) -> Option<Act>
     }
 }
 
-#[inline(always)]
+/// Appends the acts of a block behind which this holds.
+fn push_acts(acts: &mut Vec<Act>, held: &Held, said: &Said) -> Result<(), AllocError>
+    ensures { (words : List TapeWord) → IsSaid said.now words → OnOk result (acts.new.items ≡ acts.old.items ++ spec.block_acts held.now words) }
+{
+    if is_plain(said) {
+        return push_move(acts, held, said.moves);
+    }
+    push_act(acts, unit_act(said.units))?;
+    push_act(acts, act_before(said))?;
+    push_move(acts, held, said.moves)?;
+    push_act(acts, act_after(said.code))
+}
+
+/// Whether a block has no act but its move.
+#[tactic(auto, using(crate::proofs::Saying::plain_acts))]
+fn is_plain(said: &Said) -> bool
+    ensures { IsTrue result → (held : Held) (words : List TapeWord) → IsSaid said.now words → spec.block_acts held words ≡ spec.move_acts held words }
+{
+    said.units.is_none() && said.code.is_none()
+}
+
+fn push_move(acts: &mut Vec<Act>, held: &Held, moves: bool) -> Result<(), AllocError>
+    ensures { (words : List TapeWord) → moves ≡ spec.is_move words → OnOk result (acts.new.items ≡ acts.old.items ++ spec.move_acts held.now words) }
+{
+    if !moves {
+        return Ok(());
+    }
+    acts.push(move_to(held))?;
+    Ok(())
+}
+
 fn push_act(acts: &mut Vec<Act>, act: Option<Act>) -> Result<(), AllocError>
     ensures { OnOk result (acts.new.items ≡ acts.old.items ++ acts_by act) }
 {
-    match act {
-        Some(act) => push_one(acts, act),
-        None => Ok(()),
+    if let Some(act) = act {
+        acts.push(act)?;
     }
-}
-
-#[inline(never)]
-fn push_one(acts: &mut Vec<Act>, act: Act) -> Result<(), AllocError>
-    ensures { OnOk result (acts.new.items ≡ acts.old.items ++ act ∷ []) }
-{
-    acts.push(act)?;
     Ok(())
 }

@@ -10,7 +10,7 @@ ghost use Rattle.apt_control.specs.Walk as walk;
 
 use crate::ControlError;
 use apt_block::{BlockReader, Mark, OpenWord, TapeCause, TapeWord};
-use apt_tapecode::{Code, Read, punch, sense};
+use apt_tapecode::{Code, Read, digit, punch, sense};
 use std::alloc::Global;
 use std::marker::Model;
 
@@ -156,6 +156,7 @@ impl<H: Control> TapeReader<H> {
     /// Takes a word whose letter is taken, with its sign and its digits, and answers what is behind it. Where it
     /// isn't whole or can't stand, nothing of the piece is taken.
     #[inline(always)]
+    #[tactic(auto, using(crate::proofs::Bytes::first_byte))]
     fn number<'a>(
         &mut self,
         code: Code,
@@ -197,23 +198,27 @@ impl<H: Control> TapeReader<H> {
             at += 1;
             rest = more;
         }
-        'digits: while let [byte, more @ ..] = rest {
-            let Read::Char(ch) = sense(code, *byte) else {
+        if rest.len() <= word.later as usize {
+            return piece;
+        }
+        'digits: while word.later > 0 {
+            let Some(ch) = digit(code, rest[0]) else {
                 return piece;
             };
-            if !ch.is_ascii_digit() {
+            if !word.take(Mark { at, ch }) {
                 return piece;
             }
-            if word.take(Mark { at, ch }) {
-                at += 1;
-                rest = more;
-            } else if self.last_digit(used, word, at, ch) {
-                return more;
-            } else {
-                return piece;
-            }
+            at += 1;
+            rest = &rest[1..];
         }
-        piece
+        let Some(ch) = digit(code, rest[0]) else {
+            return piece;
+        };
+        if self.last_digit(used, word, at, ch) {
+            &rest[1..]
+        } else {
+            piece
+        }
     }
 
     /// Takes the last digit of a word if the word can stand, and answers whether it did.
@@ -292,23 +297,39 @@ impl<H: Control> TapeReader<H> {
         }
     }
 
+    #[tactic(auto, using(crate::proofs::Bytes::block_ends))]
     fn character(&mut self, ch: u8) -> Result<(), ControlError>
         requires { self.old.count < 2 ^ 64 - 1 }
         ensures step { IsStep (walk.character_step H.means self.old ch) self.new result }
         ensures count { IfOk result (λ _. self.new.count ≡ self.old.count + 1) }
     {
+        if ch == b'\n' && self.block.can_end() {
+            return self.block_end();
+        }
         let at = self.count;
         self.block.step(Mark { at, ch })?;
         if self.block.is_whole() {
-            let ends = self.held.meaning(at, self.block.words(), &mut self.acts)?;
-            self.phase = if ends {
-                Phase::BehindEnd
-            } else {
-                Phase::InBlock
-            };
-            self.block = BlockReader::new();
+            return self.block_end();
         }
         self.count += 1;
+        Ok(())
+    }
+
+    /// Takes the end of a block, whose words are all there.
+    fn block_end(&mut self) -> Result<(), ControlError>
+        requires { self.old.count < 2 ^ 64 - 1 }
+        ensures step { IsStep (walk.words_step H.means self.old self.old.block.words) self.new result }
+        ensures count { IfOk result (λ _. self.new.count ≡ self.old.count + 1) }
+    {
+        let at = self.count;
+        let ends = self.held.meaning(at, self.block.words(), &mut self.acts)?;
+        self.phase = if ends {
+            Phase::BehindEnd
+        } else {
+            Phase::InBlock
+        };
+        self.block.clear();
+        self.count = at + 1;
         Ok(())
     }
 }
