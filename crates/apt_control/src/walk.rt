@@ -83,7 +83,7 @@ impl<H: Control> TapeReader<H> {
         ensures { IsAnswer (λ r. r) result (walk.byte_steps H.means self piece.now) }
     {
         let mut reader = self;
-        let mut rest = piece;
+        let mut rest = reader.front(piece);
         'bytes: while let [byte, more @ ..] = rest {
             reader.byte(*byte)?;
             rest = reader.front(more);
