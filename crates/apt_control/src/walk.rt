@@ -10,7 +10,7 @@ ghost use Rattle.apt_control.specs.Walk as walk;
 
 use crate::ControlError;
 use apt_block::{BlockReader, Mark, OpenWord, TapeCause, TapeWord};
-use apt_tapecode::{Code, Read, digit, punch, sense};
+use apt_tapecode::{Code, Read, digit, letter, punch, sense};
 use std::alloc::Global;
 use std::marker::Model;
 
@@ -143,7 +143,7 @@ impl<H: Control> TapeReader<H> {
         let [byte, more @ ..] = piece else {
             return piece;
         };
-        let Read::Char(ch) = sense(code, *byte) else {
+        let Some(ch) = letter(code, *byte) else {
             return piece;
         };
         let at = self.count;

@@ -55,6 +55,19 @@ pub fn digit(code: Code, byte: u8) -> Option<u8>
     }
 }
 
+/// The letter that a row is punched for.
+pub fn letter(code: Code, byte: u8) -> Option<u8>
+    ensures read { IfSome result (λ ch. reading code byte ≡ Read.Char ch) }
+    ensures letter { IfSome result (λ ch. (65 ≤ ch) × (ch ≤ 90)) }
+{
+    let entry = entry_of(code, byte);
+    if entry.is_ascii_uppercase() {
+        Some(entry)
+    } else {
+        None
+    }
+}
+
 /// The entry of a row in the table of its code.
 fn entry_of(code: Code, byte: u8) -> u8
     ensures { (if result == 0 then Read.Skip else if result == 1 then Read.BadParity else if result == 2 then Read.BadCode else Read.Char result) ≡ reading code byte }
@@ -142,11 +155,22 @@ mod tests {
     }
 
     #[test]
-    fn knows_digits(rt: HostRuntime) {
+    fn knows_digits_and_letters(rt: HostRuntime) {
         for (ch, rs244, rs358) in HEAD {
-            let wanted = if ch >= b'0' && ch <= b'9' { Some(ch) } else { None };
-            assert_eq!(rt; digit(Code::Rs244, rs244), wanted);
-            assert_eq!(rt; digit(Code::Rs358, rs358), wanted);
+            let number = if ch >= b'0' && ch <= b'9' {
+                Some(ch)
+            } else {
+                None
+            };
+            assert_eq!(rt; digit(Code::Rs244, rs244), number);
+            assert_eq!(rt; digit(Code::Rs358, rs358), number);
+            let word = if ch >= b'A' && ch <= b'Z' {
+                Some(ch)
+            } else {
+                None
+            };
+            assert_eq!(rt; letter(Code::Rs244, rs244), word);
+            assert_eq!(rt; letter(Code::Rs358, rs358), word);
         }
         assert_eq!(rt; digit(Code::Rs244, 0x55), None);
         assert_eq!(rt; digit(Code::Rs358, 0x31), None);
