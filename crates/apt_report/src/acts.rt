@@ -1,18 +1,16 @@
 //! The lines of a tape's acts.
 
-ghost use Rattle.std.specs.Prelude.{◌≡◌, ◌≤◌, ◌+◌, ◌++◌, length, codes, IfOk};
+ghost use Rattle.std.specs.Prelude.{◌≡◌, ◌≤◌, ◌+◌, ◌++◌, length, drop, codes, IfOk};
 ghost use Rattle.std.specs.Fmt.{signed_decimal};
-ghost use Rattle.arrayvec.specs.ArrayVec.{array_vec_len};
 ghost use Rattle.apt_report.specs.Acts as lines;
 
 use apt_control::Act;
 use apt_words::{Cool, Turn, Units};
-use arrayvec::ArrayVec;
-use itoa::Buffer;
+use itoa::write_digits;
 use std::alloc::{AllocError, Global};
 
-/// The characters of one line: four numbers, of at most forty each, and some thirty others.
-type Line = ArrayVec<u8, 192>;
+/// The room of a line: four numbers, of at most twenty characters each, and some thirty others.
+const ROOM: usize = 192;
 
 /// A line for each act, with its line feed. Coordinates are in grid units, feeds in tenths of an inch or of
 /// a millimetre per minute, spindle speeds in turns per minute.
@@ -24,103 +22,118 @@ pub fn act_lines(alloc: Global, acts: &[Act]) -> Result<Vec<u8>, AllocError>
     ensures value { IfOk result (λ v. v.items ≡ lines.act_lines acts.now) }
 {
     let mut text = Vec::new(alloc);
+    let mut room = [0u8; ROOM];
     'acts: for act in acts {
-        text.extend_from_slice(&act_line(*act))?;
+        let start = act_line(&mut room, act);
+        text.extend_from_slice(&room[start..])?;
     }
     Ok(text)
 }
 
-fn act_line(act: Act) -> Line
-    ensures { result.items ≡ lines.act_line act }
+/// Writes the line of an act from its last character to its first, so that it ends where the room ends, and answers
+/// where it starts.
+fn act_line(room: &mut [u8], act: &Act) -> usize
+    requires { length room.old ≡ 192 }
+    ensures start { result ≤ 192 }
+    ensures line { drop result room.new ≡ lines.act_line act.now }
 {
-    let mut line = ArrayVec::new();
-    match act {
-        Act::Units(Units::Inch) => push_text(&mut line, "UNITS INCH\n"),
-        Act::Units(Units::Mm) => push_text(&mut line, "UNITS MM\n"),
+    match *act {
+        Act::Units(Units::Inch) => whole_line(room, "UNITS INCH\n"),
+        Act::Units(Units::Mm) => whole_line(room, "UNITS MM\n"),
         Act::Rapid { x, y, z } => {
-            push_text(&mut line, "RAPID ");
-            push_place(&mut line, x, y, z);
-            push_text(&mut line, "\n");
+            let end = whole_line(room, "\n");
+            let at = write_place(room, end, x, y, z);
+            write_text(room, at, "RAPID ")
         }
-        Act::Cut { x, y, z, feed } => push_cut(&mut line, x, y, z, feed),
-        Act::Spindle { turn, n } => push_spindle(&mut line, turn, n),
-        Act::Coolant(Cool::Mist) => push_text(&mut line, "COOLANT MIST\n"),
-        Act::Coolant(Cool::Flood) => push_text(&mut line, "COOLANT FLOOD\n"),
-        Act::Coolant(Cool::Off) => push_text(&mut line, "COOLANT OFF\n"),
-        Act::Tool(n) => {
-            push_text(&mut line, "TOOL ");
-            push_number(&mut line, n);
-            push_text(&mut line, "\n");
-        }
-        Act::Stop => push_text(&mut line, "STOP\n"),
-        Act::OptStop => push_text(&mut line, "OPSTOP\n"),
-        Act::End => push_text(&mut line, "END\n"),
-    }
-    line
-}
-
-fn push_spindle(line: &mut Line, turn: Turn, n: i64)
-    requires { array_vec_len line.old ≡ 0 }
-    ensures { line.new.items ≡ line.old.items ++ lines.act_line (Act.Spindle turn n) }
-{
-    match turn {
-        Turn::Cw => {
-            push_text(line, "SPINDLE CW ");
-            push_number(line, n);
-            push_text(line, "\n");
-        }
-        Turn::Ccw => {
-            push_text(line, "SPINDLE CCW ");
-            push_number(line, n);
-            push_text(line, "\n");
-        }
-        Turn::Off => push_text(line, "SPINDLE OFF\n"),
+        Act::Cut { x, y, z, feed } => cut_line(room, x, y, z, feed),
+        Act::Spindle { turn: Turn::Cw, n } => number_line(room, "SPINDLE CW ", n),
+        Act::Spindle { turn: Turn::Ccw, n } => number_line(room, "SPINDLE CCW ", n),
+        Act::Spindle {
+            turn: Turn::Off,
+            ..
+        } => whole_line(room, "SPINDLE OFF\n"),
+        Act::Coolant(Cool::Mist) => whole_line(room, "COOLANT MIST\n"),
+        Act::Coolant(Cool::Flood) => whole_line(room, "COOLANT FLOOD\n"),
+        Act::Coolant(Cool::Off) => whole_line(room, "COOLANT OFF\n"),
+        Act::Tool(n) => number_line(room, "TOOL ", n),
+        Act::Stop => whole_line(room, "STOP\n"),
+        Act::OptStop => whole_line(room, "OPSTOP\n"),
+        Act::End => whole_line(room, "END\n"),
     }
 }
 
-fn push_cut(line: &mut Line, x: i64, y: i64, z: i64, feed: i64)
-    requires { array_vec_len line.old ≡ 0 }
-    ensures { line.new.items ≡ line.old.items ++ lines.cut_line x y z feed }
+fn cut_line(room: &mut [u8], x: i64, y: i64, z: i64, feed: i64) -> usize
+    requires { length room.old ≡ 192 }
+    ensures start { result ≤ 192 }
+    ensures line { drop result room.new ≡ lines.cut_line x y z feed }
 {
-    push_text(line, "CUT ");
-    push_place(line, x, y, z);
-    push_feed(line, feed);
+    let end = whole_line(room, "\n");
+    let at = write_number(room, end, feed);
+    let at = write_text(room, at, " FEED ");
+    let at = write_place(room, at, x, y, z);
+    write_text(room, at, "CUT ")
 }
 
-fn push_place(line: &mut Line, x: i64, y: i64, z: i64)
-    requires { array_vec_len line.old ≤ 10 }
-    ensures items { line.new.items ≡ line.old.items ++ signed_decimal x ++ codes " " ++ signed_decimal y ++ codes " " ++ signed_decimal z }
-    ensures len { array_vec_len line.new ≤ 140 }
+/// Writes a line of a short text and a number.
+fn number_line(room: &mut [u8], text: &str, n: i64) -> usize
+    requires room { length room.old ≡ 192 }
+    requires short { length text.now ≤ 40 }
+    ensures start { result ≤ 192 }
+    ensures line { drop result room.new ≡ text.now ++ (signed_decimal n ++ codes "\n") }
 {
-    push_number(line, x);
-    push_text(line, " ");
-    push_number(line, y);
-    push_text(line, " ");
-    push_number(line, z);
+    let end = whole_line(room, "\n");
+    let at = write_number(room, end, n);
+    write_text(room, at, text)
 }
 
-fn push_feed(line: &mut Line, feed: i64)
-    requires { array_vec_len line.old ≤ 140 }
-    ensures { line.new.items ≡ line.old.items ++ codes " FEED " ++ signed_decimal feed ++ codes "\n" }
+/// Writes the numbers of a place in front of what starts at `end`.
+fn write_place(room: &mut [u8], end: usize, x: i64, y: i64, z: i64) -> usize
+    requires room { 140 ≤ end }
+    requires end { end ≤ length room.old }
+    ensures start { (result ≤ end) × (end ≤ result + 130) }
+    ensures written { drop result room.new ≡ signed_decimal x ++ (codes " " ++ (signed_decimal y ++ (codes " " ++ (signed_decimal z ++ drop end room.old)))) }
 {
-    push_text(line, " FEED ");
-    push_number(line, feed);
-    push_text(line, "\n");
+    let at = write_number(room, end, z);
+    let at = write_text(room, at, " ");
+    let at = write_number(room, at, y);
+    let at = write_text(room, at, " ");
+    write_number(room, at, x)
 }
 
-fn push_text(line: &mut Line, text: &str)
-    requires { array_vec_len line.old + length text.now ≤ 192 }
-    ensures items { line.new.items ≡ line.old.items ++ text.now }
-    ensures len { array_vec_len line.new ≡ array_vec_len line.old + length text.now }
+/// Writes a text that is a line, or the end of one.
+#[tactic(auto, using(crate::proofs::Backwards::none_behind))]
+fn whole_line(room: &mut [u8], text: &str) -> usize
+    requires room { length room.old ≡ 192 }
+    requires short { length text.now ≤ 192 }
+    ensures start { result + length text.now ≡ 192 }
+    ensures line { drop result room.new ≡ text.now }
 {
-    let _fits = line.try_extend_from_slice(text.as_bytes());
+    write_text(room, ROOM, text)
 }
 
-fn push_number(line: &mut Line, n: i64)
-    requires { array_vec_len line.old ≤ 150 }
-    ensures items { line.new.items ≡ line.old.items ++ signed_decimal n }
-    ensures len { array_vec_len line.new ≤ array_vec_len line.old + 40 }
+/// Writes a text in front of what starts at `end`, and answers where it starts.
+fn write_text(room: &mut [u8], end: usize, text: &str) -> usize
+    requires short { length text.now ≤ end }
+    requires end { end ≤ length room.old }
+    ensures start { result + length text.now ≡ end }
+    ensures written { drop result room.new ≡ text.now ++ drop end room.old }
 {
-    let mut buffer = Buffer::new();
-    push_text(line, buffer.format(n));
+    let start = end - text.len();
+    room[start..end].copy_from_slice(text.as_bytes());
+    start
+}
+
+/// Writes a number in front of what starts at `end`, and answers where it starts.
+fn write_number(room: &mut [u8], end: usize, n: i64) -> usize
+    requires room { 40 ≤ end }
+    requires end { end ≤ length room.old }
+    ensures start { (result ≤ end) × (end ≤ result + 40) }
+    ensures written { drop result room.new ≡ signed_decimal n ++ drop end room.old }
+{
+    let start = write_digits(n.unsigned_abs(), room, end);
+    if n >= 0 {
+        return start;
+    }
+    room[start - 1] = b'-';
+    start - 1
 }
