@@ -53,7 +53,7 @@ impl Block {
     pub fn clear(&mut self)
         ensures { self.new ≡ [] }
     {
-        self.words.clear();
+        self.words = ArrayVec::new();
     }
 
     /// Adds a word at the end; there is room for one of each form in the table.
