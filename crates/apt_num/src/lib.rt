@@ -126,10 +126,8 @@ fn sign_by_squares(k: i128, h: i128, n: u128) -> Sign
     if n == 0 {
         return sign_of(k);
     }
-    let size_k = k.unsigned_abs();
-    let size_h = h.unsigned_abs();
-    let left = size_k * size_k;
-    let right = size_h * size_h * n;
+    let left = square_of(k.unsigned_abs());
+    let right = square_times(h.unsigned_abs(), n);
     if k >= 0 {
         if h <= 0 {
             compare(left + right, 0)
@@ -140,6 +138,33 @@ fn sign_by_squares(k: i128, h: i128, n: u128) -> Sign
         compare(0, left + right)
     } else {
         compare(right, left)
+    }
+}
+
+/// `k * k`; most numbers fit in 64 bits, whose product is cheap.
+fn square_of(k: u128) -> u128
+    requires { k * k < 10 ^ 38 }
+    ensures { result ≡ k * k }
+{
+    if k < 1 << 64 {
+        let small = k as u64;
+        u128::from(small) * u128::from(small)
+    } else {
+        k * k
+    }
+}
+
+/// `h * h * n`, likewise.
+fn square_times(h: u128, n: u128) -> u128
+    requires positive { 1 ≤ n }
+    requires fits { h * h * n < 10 ^ 38 }
+    ensures { result ≡ h * h * n }
+{
+    if h < 1 << 32 && n < 1 << 64 {
+        let small = h as u32;
+        u128::from(u64::from(small) * u64::from(small)) * u128::from(n as u64)
+    } else {
+        h * h * n
     }
 }
 
