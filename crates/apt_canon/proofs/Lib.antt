@@ -1,4 +1,5 @@
 pub mod Fits
+pub mod Axes
 pub mod Products
 pub mod Depths
 pub mod Ways

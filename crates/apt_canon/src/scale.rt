@@ -25,8 +25,35 @@ pub struct Wide {
     pub y: i128,
 }
 
-/// The length of a direction, in units, rounded down.
+/// The length of a direction, in units, rounded down. Along an axis it is exact.
+#[tactic(auto, using(crate::proofs::Axes::upright, crate::proofs::Axes::level, crate::proofs::Axes::not_none))]
 pub(crate) fn length_of(dir: Dir) -> i128
+    requires { IsDir dir }
+    ensures value { result ≡ scale.length_of dir }
+    ensures small { unsigned_abs result < 2 ^ 63 }
+    ensures large { 2 ^ 35 ≤ unsigned_abs result }
+{
+    if dir.dx == 0 {
+        units(dir.dy)
+    } else if dir.dy == 0 {
+        units(dir.dx)
+    } else {
+        root_of(dir)
+    }
+}
+
+/// A size, in units.
+fn units(size: i64) -> i128
+    requires least { 1 ≤ unsigned_abs size }
+    requires most { unsigned_abs size ≤ 10 ^ 8 }
+    ensures value { result ≡ pos (unsigned_abs size * 2 ^ 35) }
+    ensures small { unsigned_abs result < 2 ^ 63 }
+    ensures large { 2 ^ 35 ≤ unsigned_abs result }
+{
+    i128::from(size.unsigned_abs()) * UNIT
+}
+
+fn root_of(dir: Dir) -> i128
     requires { IsDir dir }
     ensures value { result ≡ scale.length_of dir }
     ensures small { unsigned_abs result < 2 ^ 63 }

@@ -3,7 +3,7 @@ use Rattle.std.specs.Int.{w128}
 use Rattle.std.proofs.lemmas.Int.{ints}
 use Rattle.apt_num.specs.Root.{root}
 use Rattle.apt_num.proofs.Roots.{root_small}
-use Rattle.apt_canon.proofs.scale.length_of.Goals as goal
+use Rattle.apt_canon.proofs.scale.root_of.Goals as goal
 
 pub returns-clause-value : goal.returns-clause-value
 returns-clause-value c =
