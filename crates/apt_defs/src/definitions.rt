@@ -1,8 +1,9 @@
 //! Which statements define a name, and what they give it.
 
-ghost use Rattle.std.specs.Prelude.{◌≡◌, ◌↔◌, OnErr, IfOk, IfSome, IsErrOf};
+ghost use Rattle.std.specs.Prelude.{◌≡◌, ◌↔◌, None, false, OnErr, IfOk, IfSome, IsErrOf};
 ghost use Rattle.apt_scalar.specs.StepScalars.{HasScalars};
-ghost use Rattle.apt_defs.specs.Figures.{IsFigure};
+ghost use Rattle.apt_words.specs.declared.Units.{Units};
+ghost use Rattle.apt_defs.specs.Figures.{IsFigure, Table};
 ghost use Rattle.apt_defs.specs.Definitions as definitions;
 ghost use Rattle.apt_defs.specs.Definitions.{HasOrNone, IsRefusedBy};
 
@@ -90,8 +91,21 @@ fn defines(name: &Symbol, figure: Result<Figure, Case>) -> Option<Definition>
 /// # Errors
 ///
 /// The case that refuses the figure, before memory is asked for; the table stays as it was.
-#[tactic(auto, using(crate::proofs::Defined::has_defined, crate::proofs::Defined::refused_by, crate::proofs::Defined::not_refused))]
 pub fn define(step: &Step, units: Units, table: &mut Table) -> Result<bool, DefError>
+    requires { HasScalars step.now.deed }
+    ensures ok { IfOk result (HasOrNone units table.old step.now.deed table.new) }
+    ensures refused { (case : Case) → IsErrOf result (DefError.Case case) ↔ IsRefusedBy units table.old step.now.deed case }
+    ensures err { OnErr result (table.new ≡ table.old) }
+{
+    if may_define(&step.deed) {
+        define_by(step, units, table)
+    } else {
+        Ok(false)
+    }
+}
+
+#[tactic(auto, using(crate::proofs::Defined::has_defined, crate::proofs::Defined::refused_by, crate::proofs::Defined::not_refused))]
+fn define_by(step: &Step, units: Units, table: &mut Table) -> Result<bool, DefError>
     requires { HasScalars step.now.deed }
     ensures ok { IfOk result (HasOrNone units table.old step.now.deed table.new) }
     ensures refused { (case : Case) → IsErrOf result (DefError.Case case) ↔ IsRefusedBy units table.old step.now.deed case }
@@ -105,4 +119,20 @@ pub fn define(step: &Step, units: Units, table: &mut Table) -> Result<bool, DefE
         Err(case) => return Err(DefError::Case(case)),
     }
     Ok(true)
+}
+
+/// Whether a statement may define something: no move and no contour does.
+fn may_define(deed: &Deed) -> bool
+    ensures { (result ≡ false) → (units : Units) (t : Table) → definitions.definition_of units t deed.now ≡ None }
+{
+    !matches!(
+        deed,
+        Deed::FromXy(..)
+            | Deed::FromPoint(_)
+            | Deed::GotoXy(..)
+            | Deed::GotoPoint(_)
+            | Deed::Godlta(..)
+            | Deed::GoStart(..)
+            | Deed::Contour(..)
+    )
 }

@@ -1,7 +1,7 @@
 use Rattle.std.proofs.Common.{◌≡◌, sym, ap, ◌∙◌, Ok}
 use Rattle.apt_defs.specs.Definitions.{definition_of, defines}
 use Rattle.apt_defs.proofs.Defined.{has_defined}
-use Rattle.apt_defs.proofs.definitions.define.Goals as goal
+use Rattle.apt_defs.proofs.definitions.define_by.Goals as goal
 
 pub returns-clause-ok : goal.returns-clause-ok
 returns-clause-ok c =
