@@ -64,7 +64,7 @@ pub fn heading(sense: i8, d: Dir) -> Dir
 }
 
 /// Whether a point of this height over a line is near it, moved to its left.
-fn is_in_strip(height: i128, off: i64, g: i64, length_squared: u128) -> bool
+pub(crate) fn is_in_strip(height: i128, off: i64, g: i64, length_squared: u128) -> bool
     requires height { unsigned_abs height ≤ 2 * 10 ^ 16 }
     requires off { unsigned_abs off ≤ 10 ^ 8 }
     requires least { pos 0 ≤ℤ g }
@@ -99,8 +99,9 @@ fn is_at_least(k: i128, h: i64, n: u128) -> bool
     }
 }
 
+/// On which side of a line, moved to its left, a point of this height over it is.
 #[tactic(auto, using(crate::proofs::Sizes::product_fits))]
-fn side_by_height(height: i128, off: i64, length_squared: u128) -> Sign
+pub(crate) fn side_by_height(height: i128, off: i64, length_squared: u128) -> Sign
     requires height { unsigned_abs height ≤ 2 * 10 ^ 16 }
     requires off { unsigned_abs off ≤ 10 ^ 8 }
     requires length_squared { length_squared ≤ 2 * 10 ^ 16 }

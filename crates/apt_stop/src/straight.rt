@@ -8,11 +8,10 @@ ghost use Rattle.apt_canon.specs.Scale as scale;
 ghost use Rattle.apt_stop.specs.Nearness as near;
 ghost use Rattle.apt_stop.specs.Lines as stops;
 
-use crate::nearness::{heading, is_near, side_of};
+use crate::nearness::{heading, is_in_strip, side_by_height};
 use apt_canon::line_line;
 use apt_num::{Sign, sign_of};
-use apt_offset::Target;
-use apt_plane::vectors::cross;
+use apt_plane::vectors::{cross, height, length_squared_of};
 use apt_plane::{Dir, Line, Moved, Pt};
 use apt_words::Case;
 
@@ -111,15 +110,12 @@ pub fn line_side(start: Pt, heading: Dir, stop: &Line, off: i64) -> Sign
     requires off { unsigned_abs off ≤ 500000 }
     ensures { result ≡ stops.line_side start heading stop.now off }
 {
-    let target = Target::Line {
-        base: stop.base,
-        dir: stop.dir,
-        off,
-    };
-    if is_near(&target, NEAR_STOP, start) {
+    let height = height(stop.base, stop.dir, start);
+    let square = length_squared_of(stop.dir);
+    if is_in_strip(height, off, NEAR_STOP, square) {
         sign_of(cross(stop.dir, heading))
     } else {
-        side_of(&target, start)
+        side_by_height(height, off, square)
     }
 }
 
@@ -132,13 +128,13 @@ pub fn line_behind(start: Pt, heading: Dir, stop: &Line, off: i64) -> bool
     requires off { unsigned_abs off ≤ 500000 }
     ensures { result ≡ stops.line_behind start heading stop.now off }
 {
-    let target = Target::Line {
-        base: stop.base,
-        dir: stop.dir,
-        off,
-    };
-    is_near(&target, NEAR_STOP, start)
-        || is_same(side_of(&target, start), sign_of(cross(stop.dir, heading)))
+    let height = height(stop.base, stop.dir, start);
+    let square = length_squared_of(stop.dir);
+    if is_in_strip(height, off, NEAR_STOP, square) {
+        return true;
+    }
+    let side = side_by_height(height, off, square);
+    is_same(side, sign_of(cross(stop.dir, heading)))
 }
 
 fn is_same(first: Sign, second: Sign) -> bool
