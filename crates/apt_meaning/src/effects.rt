@@ -1,7 +1,10 @@
 //! What steps ask for, refusals aside.
 
-ghost use Rattle.std.specs.Prelude.{◌≡◌, Some, IfOk, IfSome};
+ghost use Rattle.std.specs.Prelude.{◌≡◌, ◌≢◌, ℕ, List, Option, Some, IfOk, IfSome};
 ghost use Rattle.apt_words.specs.Built.{IsBuilt};
+ghost use Rattle.apt_words.specs.declared.Go.{Go};
+ghost use Rattle.apt_words.specs.declared.Side.{Side};
+ghost use Rattle.apt_words.specs.declared.Stop.{Stop};
 ghost use Rattle.apt_words.specs.declared.deed.Deed.TheVariants as deeds;
 ghost use Rattle.apt_scalar.specs.Scalars as scalars;
 ghost use Rattle.apt_scalar.specs.Scalars.{IsScalar};
@@ -45,6 +48,22 @@ fn asked(at: &Situation, deed: &Deed) -> Result<Option<Effect>, AllocError>
     requires situation { IsSituation at.now }
     requires scalars { HasScalars deed.now }
     requires built { IsBuilt deed.now }
+    ensures { IfOk result (λ e. e ≡ asking.effect_of at.now deed.now) }
+{
+    match deed {
+        Deed::Contour(side, go, drive, how, check) => Ok(contour(
+            at, *side, *go, drive, *how, check,
+        )),
+        _ => asked_apart(at, deed),
+    }
+}
+
+/// What a step asks for that is no contour.
+fn asked_apart(at: &Situation, deed: &Deed) -> Result<Option<Effect>, AllocError>
+    requires situation { IsSituation at.now }
+    requires scalars { HasScalars deed.now }
+    requires built { IsBuilt deed.now }
+    requires apart { (side : Option Side) (go : Go) (drive : List ℕ) (how : Stop) (check : List ℕ) → deed.now ≢ deeds.Contour side go drive how check }
     ensures { IfOk result (λ e. e ≡ asking.effect_of at.now deed.now) }
 {
     let s = at.settings;
@@ -91,9 +110,6 @@ fn asked(at: &Situation, deed: &Deed) -> Result<Option<Effect>, AllocError>
         Deed::GotoPoint(p) => Ok(to_point(at, Reach::Goto, p)),
         Deed::Godlta(x, y, z) => Ok(godlta(at, *x, *y, *z)),
         Deed::GoStart(how_a, a, Some((how_b, b))) => Ok(go(at, *how_a, a, *how_b, b)),
-        Deed::Contour(side, go, drive, how, check) => Ok(contour(
-            at, *side, *go, drive, *how, check,
-        )),
         Deed::Rapid => Ok(Some(Effect::says(s.with_rapid(), Note::Rapid))),
         Deed::Halt => Ok(Some(Effect::says(s, Note::Stop))),
         Deed::OptHalt => Ok(Some(Effect::says(s, Note::OptStop))),

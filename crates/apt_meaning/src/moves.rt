@@ -101,26 +101,6 @@ impl Situation {
             z: motion.start.z,
         });
     }
-
-    /// What holds behind a position that is reached.
-    pub fn behind_move(mut self, reach: Reach, to: Position) -> Situation
-        requires situation { IsSituation self }
-        requires to { IsPosition to }
-        ensures { result ≡ written.after self (effects.Moves reach to) [] }
-    {
-        self.go_to(reach, to);
-        self
-    }
-
-    /// What holds behind a contour with these vertices.
-    pub fn behind_cut(mut self, motion: &Motion, vertices: &[Pt]) -> Situation
-        requires motion { IsMotion motion.now }
-        requires vertices { ArePoints vertices.now }
-        ensures { result ≡ written.after self (effects.Cuts motion.now) vertices.now }
-    {
-        self.cut_along(motion, vertices);
-        self
-    }
 }
 
 /// Forward after a move.
