@@ -23,8 +23,8 @@ use apt_cldata::Position;
 use apt_defs::Table;
 use apt_meaning::{Effect, Motion, Settings, Situation, built, is_too_fine, surface_of, turn_at};
 use apt_num::Sign;
-use apt_offset::lacks_room;
 use apt_offset::signs::is_zero;
+use apt_offset::{is_on_check, lacks_room, offset_surface, signed};
 use apt_plane::{Line, Pt, Surface};
 use apt_stop::{is_near, line_stop};
 use apt_words::{Case, Go, Side, Stop, Symbol};
@@ -153,11 +153,12 @@ fn end_of(m: &Motion) -> Result<Pt, Case>
     ensures { result ≡ unless (refusals.motion_cases m.now) (motions.contact m.now) }
 {
     let track = m.track();
-    let on = m.starts_on_check();
+    let side = m.check_side();
+    let on = is_on_check(m.how, side);
     if lacks_room(&track) {
         return Err(Case::NoRoom);
     }
-    if !on && lacks_room(&m.stop()) {
+    if !on && lacks_room(&offset_surface(&m.check, side, m.radius)) {
         return Err(Case::NoRoom);
     }
     if !is_near(&track, OFF_TRACK, m.start.at) {
@@ -166,29 +167,32 @@ fn end_of(m: &Motion) -> Result<Pt, Case>
     if on {
         return Err(Case::OnCheck);
     }
-    stopped(m)
+    stopped(m, signed(side, m.radius))
 }
 
-/// Where a motion on its track ends.
-fn stopped(m: &Motion) -> Result<Pt, Case>
-    requires { IsStraightMotion m.now }
+/// Where a motion on its track ends, with its check line moved so far to its left.
+fn stopped(m: &Motion, stop_off: i64) -> Result<Pt, Case>
+    requires motion { IsStraightMotion m.now }
+    requires stop_off { stop_off ≡ motions.stop_offset m.now }
+    requires small { unsigned_abs stop_off ≤ 500000 }
     ensures { result ≡ unless (refusals.stop_cases m.now m.now.drive m.now.check) (motions.contact m.now) }
 {
     match (&m.drive, &m.check) {
-        (Surface::Line(drive), Surface::Line(check)) => line_end(m, drive, check),
+        (Surface::Line(drive), Surface::Line(check)) => line_end(m, drive, check, stop_off),
         (Surface::Line(_), Surface::Circ(_)) | (Surface::Circ(_), _) => unreachable!(),
     }
 }
 
 /// Where a motion along a line stops at a line.
-fn line_end(m: &Motion, drive: &Line, check: &Line) -> Result<Pt, Case>
+fn line_end(m: &Motion, drive: &Line, check: &Line, stop_off: i64) -> Result<Pt, Case>
     requires motion { IsMotion m.now }
     requires drive { IsLine drive.now }
     requires check { IsLine check.now }
+    requires stop_off { stop_off ≡ motions.stop_offset m.now }
+    requires small { unsigned_abs stop_off ≤ 500000 }
     ensures { result ≡ unless (refusals.stop_cases m.now (Surface.Line drive.now) (Surface.Line check.now)) (motions.contact_between m.now (Surface.Line drive.now) (Surface.Line check.now)) }
 {
     let off = m.track_offset();
-    let stop_off = m.stop_offset();
     stop_at(m.start.at, drive, off, m.sense, m.how, check, stop_off)
 }
 

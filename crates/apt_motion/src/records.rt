@@ -1,6 +1,6 @@
 //! The records of effects that define nothing, and what holds behind them.
 
-ghost use Rattle.std.specs.Prelude.{◌≡◌, ◌++◌, [], ◌∷◌, IfOk, IfSome, OnOk};
+ghost use Rattle.std.specs.Prelude.{◌≡◌, ◌≤◌, ◌+◌, ◌++◌, [], ◌∷◌, vec_len, vec_capacity, IfOk, IfSome, OnOk};
 ghost use Rattle.apt_plane.specs.Ranges.{IsPoint};
 ghost use Rattle.apt_cldata.specs.declared.record.Record.TheVariants as lines;
 ghost use Rattle.apt_meaning.specs.Compiled.{ends_of};
@@ -16,16 +16,32 @@ use apt_plane::Pt;
 use apt_words::Step;
 use std::alloc::{AllocError, Global};
 
-/// The records of a step begin with its line and number.
-fn write(records: &mut Vec<Record>, step: &Step, line: Record) -> Result<(), AllocError>
-    ensures { OnOk result (records.new.items ≡ records.old.items ++ lines.Statement step.now.line step.now.step ∷ line ∷ []) }
+/// A contour has so many records, and no step has more.
+const MOST_RECORDS: usize = 4;
+
+/// Makes room for the records of a step.
+fn make_room(records: &mut Vec<Record>) -> Result<(), AllocError>
+    ensures items { records.new.items ≡ records.old.items }
+    ensures room { OnOk result (vec_len records.new + 4 ≤ vec_capacity records.new) }
 {
-    records.push(Record::Statement {
+    if records.capacity() - records.len() < MOST_RECORDS {
+        records.reserve(MOST_RECORDS)?;
+    }
+    Ok(())
+}
+
+/// The records of a step begin with its line and number.
+fn put(records: &mut Vec<Record>, step: &Step, line: Record)
+    requires { vec_len records.old + 2 ≤ vec_capacity records.old }
+    ensures items { records.new.items ≡ records.old.items ++ lines.Statement step.now.line step.now.step ∷ line ∷ [] }
+    ensures len { vec_len records.new ≡ vec_len records.old + 2 }
+    ensures capacity { vec_capacity records.new ≡ vec_capacity records.old }
+{
+    records.push_reserved(Record::Statement {
         line: step.line,
         step: step.step,
-    })?;
-    records.push(line)?;
-    Ok(())
+    });
+    records.push_reserved(line);
 }
 
 /// The records of a contour that ends at a point.
@@ -36,24 +52,25 @@ fn write_cut(
     motion: &Motion,
     end: Pt,
 ) -> Result<(), AllocError>
+    requires { vec_len records.old + 4 ≤ vec_capacity records.old }
     ensures { OnOk result (records.new.items ≡ records.old.items ++ written.records_of step.now (effects.Cuts motion.now) (end ∷ [])) }
 {
     let mut at = Vec::with_capacity(alloc, 1)?;
-    at.push(Position {
+    at.push_reserved(Position {
         at: end,
         z: motion.start.z,
-    })?;
+    });
     let drive = Record::Drive {
         surface: motion.drive,
         side: motion.side,
         sense: motion.sense,
     };
-    write(records, step, drive)?;
-    records.push(Record::Check {
+    put(records, step, drive);
+    records.push_reserved(Record::Check {
         surface: motion.check,
         how: motion.how,
-    })?;
-    records.push(Record::Contour(Vertices { at }))?;
+    });
+    records.push_reserved(Record::Contour(Vertices { at }));
     Ok(())
 }
 
@@ -73,16 +90,17 @@ pub(crate) fn take(
     ensures after { OnOk result (at.new ≡ written.after at.old found.effect (ends_of found.effect)) }
     ensures records { OnOk result (records.new.items ≡ records.old.items ++ written.records_of step.now found.effect (ends_of found.effect)) }
 {
+    make_room(records)?;
     match found.effect {
         Effect::Defines(..) => unreachable!(),
         Effect::Sets(settings, note) => {
             if let Some(note) = note {
-                write(records, step, Record::Note(note))?;
+                put(records, step, Record::Note(note));
             }
             at.settings = settings;
         }
         Effect::Moves(reach, to) => {
-            write(records, step, Record::Point(reach, to))?;
+            put(records, step, Record::Point(reach, to));
             at.go_to(reach, to);
         }
         Effect::Cuts(motion) => {
