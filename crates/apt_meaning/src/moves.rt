@@ -83,7 +83,7 @@ impl Situation {
         ensures { self.new ≡ written.after self.old (effects.Moves reach to) [] }
     {
         self.forward = forward_behind(self.position, to.at, self.forward);
-        self.settings = self.settings.behind_move(reach);
+        self.settings.reach(reach);
         self.position = Some(to);
     }
 
@@ -95,7 +95,7 @@ impl Situation {
     {
         let end = end_of(motion.start.at, vertices);
         self.forward = heading(motion.sense, tangent(&motion.drive, end));
-        self.settings = self.settings.on_side(motion.side);
+        self.settings.side = motion.side;
         self.position = Some(Position {
             at: end,
             z: motion.start.z,

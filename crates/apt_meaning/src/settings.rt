@@ -81,17 +81,12 @@ impl Settings {
         }
     }
 
-    /// Behind a position that is reached: a move spends a pending RAPID.
-    pub fn behind_move(self, reach: Reach) -> Settings
-        ensures { result ≡ situations.settings_behind reach self }
+    /// A position is reached: a move spends a pending RAPID.
+    pub fn reach(&mut self, reach: Reach)
+        ensures { self.new ≡ situations.settings_behind reach self.old }
     {
         if is_move(reach) {
-            Settings {
-                rapid: false,
-                ..self
-            }
-        } else {
-            self
+            self.rapid = false;
         }
     }
 
