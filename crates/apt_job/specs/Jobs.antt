@@ -12,8 +12,9 @@ use Rattle.apt_meaning.specs.declared.situation.Situation.{Situation}
 use Rattle.apt_meaning.specs.declared.motion.Motion.{Motion}
 use Rattle.apt_meaning.specs.declared.effect.Effect.{Effect}
 use Rattle.apt_meaning.specs.declared.effect.Effect.TheVariants as effects
-use Rattle.apt_meaning.specs.Motions.{drive_side, leg_of}
+use Rattle.apt_meaning.specs.Motions.{drive_side, check_side, stop_side, leg_of}
 use Rattle.apt_meaning.specs.Records.{Begins, after}
+use Rattle.apt_job.specs.declared.legs.Sides.{Sides}
 
 -- 1 where outside, by the place of the cutter at a surface, is further to a line's left or further from a circle's centre, else -1
 abbrev pub out_sign_at : Surface → Sign → ℤ
@@ -40,3 +41,15 @@ MakesJobs at [] written jobs = (written ≡ []) × (jobs ≡ [])
 MakesJobs at (step ∷ steps) written jobs =
     (e : Effect) × (vertices : List Pt) × (rest : List Record) × (more : List Job)
     × Begins at step written e vertices rest × (jobs ≡ jobs_by e vertices ++ more) × MakesJobs (after at e vertices) steps rest more
+
+-- the place of the cutter at the check surface of a motion, and the side of the stop on which the motion runs
+pub record AreSides (m : Motion) (sides : Sides) : Type 0 where
+  pub check : sides.check ≡ check_side m
+  pub stop : sides.stop ≡ stop_side m
+
+-- those of an effect that is a contour
+abbrev pub HasSides : Sides → Effect → Type 0
+HasSides sides (effects.Defines n f) = Unit {0}
+HasSides sides (effects.Sets s said) = Unit {0}
+HasSides sides (effects.Moves reach to) = Unit {0}
+HasSides sides (effects.Cuts m) = AreSides m sides

@@ -7,8 +7,9 @@ ghost use Rattle.apt_meaning.specs.Motions as motions;
 ghost use Rattle.apt_meaning.specs.Straight.{IsStraightMotion, IsLined};
 ghost use Rattle.apt_meaning.specs.declared.effect.Effect.TheVariants as effects;
 ghost use Rattle.apt_job.specs.Fronts.{points_at, is_silent, IsBehind, AreSaid, AreTaken};
+ghost use Rattle.apt_job.specs.Jobs.{AreSides, HasSides};
 
-use crate::legs::{has_stop, has_track};
+use crate::legs::{Sides, has_stop, has_track};
 use crate::matches::{are_at, is_check, is_drive, is_note, is_point, is_statement};
 use apt_cldata::{Note, Position, Reach, Record};
 use apt_meaning::{Effect, Motion};
@@ -86,14 +87,15 @@ fn drive<'a>(m: &Motion, records: &'a [Record]) -> Option<Front<'a>>
     }
 }
 
-fn check<'a>(m: &Motion, records: &'a [Record]) -> Option<Front<'a>>
-    requires { IsStraightMotion m.now }
+fn check<'a>(m: &Motion, sides: Sides, records: &'a [Record]) -> Option<Front<'a>>
+    requires motion { IsStraightMotion m.now }
+    requires sides { AreSides m.now sides }
     ensures { IsBehind (expectations.exactly_if (motions.has_stop m.now) (Record.Check m.now.check m.now.how)) records.now result }
 {
     let [first, rest @ ..] = records else {
         return None;
     };
-    if has_stop(m) && is_check(m, first) {
+    if has_stop(m, sides) && is_check(m, first) {
         Some(Front {
             vertices: &[],
             rest,
@@ -134,15 +136,16 @@ fn contour(start: Position, records: &[Record]) -> Option<Front<'_>>
 
 /// The records of a contour.
 #[tactic(auto, using(crate::proofs::InFront::cut_said, crate::proofs::InFront::cut_departs))]
-fn cut<'a>(m: &Motion, records: &'a [Record]) -> Result<Front<'a>, u64>
-    requires { IsStraightMotion m.now }
+fn cut<'a>(m: &Motion, sides: Sides, records: &'a [Record]) -> Result<Front<'a>, u64>
+    requires motion { IsStraightMotion m.now }
+    requires sides { AreSides m.now sides }
     ensures said { AreSaid (Some (effects.Cuts m.now)) records.now result }
     ensures few { IfErr result (λ k. k ≤ 2) }
 {
     let Some(behind_drive) = drive(m, records) else {
         return Err(0);
     };
-    let Some(behind_check) = check(m, behind_drive.rest) else {
+    let Some(behind_check) = check(m, sides, behind_drive.rest) else {
         return Err(1);
     };
     match contour(m.start, behind_check.rest) {
@@ -152,8 +155,9 @@ fn cut<'a>(m: &Motion, records: &'a [Record]) -> Result<Front<'a>, u64>
 }
 
 /// The records of an effect.
-fn said<'a>(effect: &Option<Effect>, records: &'a [Record]) -> Result<Front<'a>, u64>
-    requires { IfSome effect.now IsLined }
+fn said<'a>(effect: &Option<Effect>, sides: Sides, records: &'a [Record]) -> Result<Front<'a>, u64>
+    requires lined { IfSome effect.now IsLined }
+    requires sides { IfSome effect.now (HasSides sides) }
     ensures said { AreSaid effect.now records.now result }
     ensures few { IfErr result (λ k. k ≤ 2) }
 {
@@ -165,7 +169,7 @@ fn said<'a>(effect: &Option<Effect>, records: &'a [Record]) -> Result<Front<'a>,
         }),
         Some(Effect::Sets(_, Some(said))) => note(said, records).ok_or(0),
         Some(Effect::Moves(reach, to)) => point(*reach, *to, records).ok_or(0),
-        Some(Effect::Cuts(m)) => cut(m, records),
+        Some(Effect::Cuts(m)) => cut(m, sides, records),
     }
 }
 
@@ -181,9 +185,11 @@ fn is_silent(effect: &Option<Effect>) -> bool
 pub(crate) fn taken<'a>(
     step: &Step,
     effect: &Option<Effect>,
+    sides: Sides,
     records: &'a [Record],
 ) -> Result<Front<'a>, u64>
-    requires { IfSome effect.now IsLined }
+    requires lined { IfSome effect.now IsLined }
+    requires sides { IfSome effect.now (HasSides sides) }
     ensures taken { AreTaken step.now effect.now records.now result }
     ensures few { IfErr result (λ k. k ≤ 3) }
 {
@@ -196,7 +202,7 @@ pub(crate) fn taken<'a>(
     let Some(behind) = statement(step, records) else {
         return Err(0);
     };
-    match said(effect, behind.rest) {
+    match said(effect, sides, behind.rest) {
         Ok(front) => Ok(front),
         Err(fitting) => Err(fitting + 1),
     }

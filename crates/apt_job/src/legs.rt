@@ -1,15 +1,16 @@
 //! The jobs of motions.
 
-ghost use Rattle.std.specs.Prelude.{◌≡◌, ◌≤◌, ◌∷◌, unsigned_abs, IfOk};
+ghost use Rattle.std.specs.Prelude.{◌≡◌, ◌≤◌, ◌∷◌, unsigned_abs, IfOk, IfSome};
 ghost use Rattle.apt_certify.specs.Legs as legs;
 ghost use Rattle.apt_meaning.specs.Motions as motions;
-ghost use Rattle.apt_meaning.specs.Straight.{IsStraightMotion};
+ghost use Rattle.apt_meaning.specs.Straight.{IsStraightMotion, IsLined};
 ghost use Rattle.apt_job.specs.Jobs as spec;
 ghost use Rattle.apt_job.specs.Fronts.{points_at};
+ghost use Rattle.apt_job.specs.Jobs.{AreSides, HasSides};
 
 use apt_certify::{Job, Leg, Points};
 use apt_cldata::Position;
-use apt_meaning::Motion;
+use apt_meaning::{Effect, Motion};
 use apt_num::Sign;
 use apt_offset::signs::{is_zero, opposite};
 use apt_offset::{band_at, is_on_check, lacks_room, offset_surface, signed};
@@ -26,15 +27,47 @@ pub(crate) fn has_track(m: &Motion) -> bool
     !lacks_room(&m.track())
 }
 
-/// Whether its stop, and the side on which it runs, are there.
-pub(crate) fn has_stop(m: &Motion) -> bool
+/// The place of the cutter at the check surface, and the side of the stop on which a motion runs.
+#[derive(Clone, Copy)]
+pub(crate) struct Sides {
+    pub check: Sign,
+    pub stop: Sign,
+}
+
+fn sides_of(m: &Motion) -> Sides
     requires { IsStraightMotion m.now }
+    ensures { AreSides m.now result }
+{
+    let check = m.check_side();
+    Sides {
+        check,
+        stop: stop_side(m, check),
+    }
+}
+
+/// Those of the motion of an effect; an effect that is no contour has none.
+pub(crate) fn effect_sides(effect: &Option<Effect>) -> Sides
+    requires { IfSome effect.now IsLined }
+    ensures { IfSome effect.now (HasSides result) }
+{
+    match effect {
+        Some(Effect::Cuts(m)) => sides_of(m),
+        Some(Effect::Defines(..) | Effect::Sets(..) | Effect::Moves(..)) | None => Sides {
+            check: Sign::Zero,
+            stop: Sign::Zero,
+        },
+    }
+}
+
+/// Whether its stop, and the side on which it runs, are there.
+pub(crate) fn has_stop(m: &Motion, sides: Sides) -> bool
+    requires motion { IsStraightMotion m.now }
+    requires sides { AreSides m.now sides }
     ensures { result ≡ motions.has_stop m.now }
 {
-    let side = m.check_side();
-    !is_on_check(m.how, side)
-        && !lacks_room(&offset_surface(&m.check, side, m.radius))
-        && !is_zero(stop_side(m, side))
+    !is_on_check(m.how, sides.check)
+        && !lacks_room(&offset_surface(&m.check, sides.check, m.radius))
+        && !is_zero(sides.stop)
 }
 
 /// The side of the stop on which a motion runs, by the place of the cutter at the check surface.
@@ -63,30 +96,29 @@ fn side_between(m: &Motion, stop_off: i64) -> Sign
     }
 }
 
-/// The edge of the stop that a motion must not pass.
-fn beyond(m: &Motion, check_side: Sign) -> Sign
-    requires motion { IsStraightMotion m.now }
-    requires check_side { check_side ≡ motions.check_side m.now }
+/// The edge of the stop that a motion must not pass, by the side of the stop on which it runs.
+fn beyond(m: &Motion, side: Sign) -> Sign
+    requires { side ≡ motions.stop_side m.now }
     ensures { result ≡ legs.beyond_of m.now.check (motions.stop_side m.now) }
 {
     match m.check {
-        Surface::Line(_) => opposite(stop_side(m, check_side)),
-        Surface::Circ(_) => stop_side(m, check_side),
+        Surface::Line(_) => opposite(side),
+        Surface::Circ(_) => side,
     }
 }
 
-fn leg_of(m: &Motion) -> Leg
-    requires { IsStraightMotion m.now }
+fn leg_of(m: &Motion, sides: Sides) -> Leg
+    requires motion { IsStraightMotion m.now }
+    requires sides { AreSides m.now sides }
     ensures { result ≡ motions.leg_of m.now }
 {
-    let check_side = m.check_side();
     Leg {
         drive: m.drive,
         track: m.track(),
         band: band_at(&m.drive, m.drive_side(), m.radius, m.inner, m.outer),
         check: m.check,
-        stop_band: band_at(&m.check, check_side, m.radius, m.inner, m.outer),
-        beyond: beyond(m, check_side),
+        stop_band: band_at(&m.check, sides.check, m.radius, m.inner, m.outer),
+        beyond: beyond(m, sides.stop),
         sense: m.sense,
         axis: None,
     }
@@ -118,13 +150,19 @@ fn points(alloc: Global, start: Position, positions: &[Position]) -> Result<Poin
 }
 
 /// The job of a contour.
-pub(crate) fn job_of(alloc: Global, m: &Motion, positions: &[Position]) -> Result<Job, AllocError>
-    requires { IsStraightMotion m.now }
+pub(crate) fn job_of(
+    alloc: Global,
+    m: &Motion,
+    sides: Sides,
+    positions: &[Position],
+) -> Result<Job, AllocError>
+    requires motion { IsStraightMotion m.now }
+    requires sides { AreSides m.now sides }
     ensures { IfOk result (λ job. job ≡ spec.job_of m.now (points_at positions.now)) }
 {
     let points = points(alloc, m.start, positions)?;
     Ok(Job {
-        leg: leg_of(m),
+        leg: leg_of(m, sides),
         out_sign: out_sign_at(&m.drive, m.drive_side()),
         points,
     })

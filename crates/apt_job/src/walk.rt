@@ -18,12 +18,12 @@ ghost use Rattle.apt_meaning.specs.Vertices.{HasIn};
 ghost use Rattle.apt_meaning.specs.declared.effect.Effect.TheVariants as effects;
 ghost use Rattle.apt_job.specs.Answering.{IsEntry};
 ghost use Rattle.apt_job.specs.Fronts.{points_at};
-ghost use Rattle.apt_job.specs.Jobs.{jobs_by, MakesJobs};
+ghost use Rattle.apt_job.specs.Jobs.{AreSides, HasSides, jobs_by, MakesJobs};
 ghost use Rattle.apt_job.specs.Naming.{DefinesNothing, HasNamed};
 
 use crate::JobError;
 use crate::fronts::taken;
-use crate::legs::job_of;
+use crate::legs::{Sides, effect_sides, job_of};
 use apt_certify::Job;
 use apt_cldata::{Position, Record};
 use apt_defs::{DefError, define};
@@ -48,14 +48,16 @@ fn cut(
     jobs: &mut Vec<Job>,
     at: &mut Situation,
     motion: &Motion,
+    sides: Sides,
     vertices: &[Position],
 ) -> Result<(), AllocError>
     requires motion { IsLined (effects.Cuts motion.now) }
+    requires sides { AreSides motion.now sides }
     requires vertices { HasIn (effects.Cuts motion.now) (points_at vertices.now) }
     ensures after { OnOk result (at.new ≡ written.after at.old (effects.Cuts motion.now) (points_at vertices.now)) }
     ensures jobs { OnOk result (jobs.new.items ≡ jobs.old.items ++ jobs_by (effects.Cuts motion.now) (points_at vertices.now)) }
 {
-    let job = job_of(alloc, motion, vertices)?;
+    let job = job_of(alloc, motion, sides, vertices)?;
     at.cut_along(motion, &job.points.at[1..]);
     jobs.push(job)?;
     Ok(())
@@ -82,12 +84,14 @@ fn take(
     jobs: &mut Vec<Job>,
     at: &mut Situation,
     effect: &Effect,
+    sides: Sides,
     vertices: &[Position],
 ) -> Result<(), AllocError>
     requires situation { IsSituation at.old }
     requires effect { IsEffect effect.now }
     requires defines_nothing { DefinesNothing effect.now }
     requires lined { IsLined effect.now }
+    requires sides { HasSides sides effect.now }
     requires vertices { HasIn effect.now (points_at vertices.now) }
     ensures after { OnOk result (at.new ≡ written.after at.old effect.now (points_at vertices.now)) }
     ensures jobs { OnOk result (jobs.new.items ≡ jobs.old.items ++ jobs_by effect.now (points_at vertices.now)) }
@@ -96,7 +100,7 @@ fn take(
         Effect::Defines(..) => unreachable!(),
         Effect::Sets(settings, _) => at.settings = *settings,
         Effect::Moves(reach, to) => at.go_to(*reach, *to),
-        Effect::Cuts(motion) => cut(alloc, jobs, at, motion, vertices)?,
+        Effect::Cuts(motion) => cut(alloc, jobs, at, motion, sides, vertices)?,
     }
     Ok(())
 }
@@ -126,12 +130,13 @@ pub fn jobs(alloc: Global, steps: &[Step], records: &[Record]) -> Result<Vec<Job
             continue;
         }
         let found = effect_of(&at, &st.deed)?;
-        let front = match taken(st, &found, rest) {
+        let sides = effect_sides(&found);
+        let front = match taken(st, &found, sides, rest) {
             Ok(front) => front,
             Err(fitting) => return Err(entry(records, rest, fitting)),
         };
         let Some(found) = &found else { unreachable!() };
-        take(alloc, &mut jobs, &mut at, found, front.vertices)?;
+        take(alloc, &mut jobs, &mut at, found, sides, front.vertices)?;
         rest = front.rest;
     }
     if rest.is_empty() {
