@@ -24,7 +24,10 @@ pub(crate) fn has_track(m: &Motion) -> bool
     requires { IsStraightMotion m.now }
     ensures { result ≡ motions.has_track m.now }
 {
-    !lacks_room(&m.track())
+    match m.drive {
+        Surface::Line(_) => true,
+        Surface::Circ(_) => !lacks_room(&m.track()),
+    }
 }
 
 /// The place of the cutter at the check surface, and the side of the stop on which a motion runs.
