@@ -21,7 +21,6 @@ use Rattle.apt_unroll.specs.Places.{named, target}
 use Rattle.apt_unroll.specs.Calls.{Formal, Actual, lone_name, or_number, expression_for, bound_or_bad, bind_each, fit, bindings}
 use Rattle.apt_unroll.specs.Situations.{Call, Situation, parameters}
 use Rattle.apt_unroll.specs.Actions.{Action, go_on, jump_to, label_by, most_calls, enter, formal_of, call, return, action, most_steps, IsActed, step_of}
-use Rattle.apt_unroll.specs.Trace.{about_to_run, moment_of, moment}
 use Rattle.apt_unroll.proofs.Suits.{Any, Suits, deed_of-suits}
 
 -- ---- arguments are not refused as unbuilt
@@ -132,22 +131,12 @@ step_acts sts n s i st = by_tests (Acts s.ended st.body) sts n s i st (λ case o
 
 -- ---- an action that is done
 
-acted_last : (ended : Bool) (body : Body) (a : Action) (deed : Deed) (now : Situation) → Acts ended body a → is_fini body ≡ true → IsActed a (Ok deed) now → a ≡ Ok (deed, None)
+pub acted_last : (ended : Bool) (body : Body) (a : Action) (deed : Deed) (now : Situation) → Acts ended body a → is_fini body ≡ true → IsActed a (Ok deed) now → a ≡ Ok (deed, None)
 acted_last ended body (Ok (d, None)) deed now acts last is = ap (λ d. Ok (d, None)) (sym is)
 acted_last ended body (Ok (d, Some next)) deed now acts last is = absurd (cc)
 acted_last ended body (Err case) deed now acts last is = absurd is
 
-acted_on : (ended : Bool) (body : Body) (a : Action) (deed : Deed) (now : Situation) → Acts ended body a → is_fini body ≡ false → IsActed a (Ok deed) now → a ≡ Ok (deed, Some now)
+pub acted_on : (ended : Bool) (body : Body) (a : Action) (deed : Deed) (now : Situation) → Acts ended body a → is_fini body ≡ false → IsActed a (Ok deed) now → a ≡ Ok (deed, Some now)
 acted_on ended body (Ok (d, None)) deed now acts last is = absurd (cc)
 acted_on ended body (Ok (d, Some next)) deed now acts last is = cc
 acted_on ended body (Err case) deed now acts last is = absurd is
-
-pub moment_last : (sts : List Stmt) (n : ℕ) (s : Situation) (i : ℕ) (st : Stmt) (deed : Deed) (now : Situation) → Some (i, st) ≡ about_to_run sts s → is_fini st.body ≡ true
-    → IsActed (step_of sts n s i st) (Ok deed) now → moment sts n s ≡ Some (st.line, Ok (deed, None))
-moment_last sts n s i st deed now there last is =
-    ap (moment_of sts n s) (sym there) ∙ ap (λ a. Some (st.line, a)) (acted_last s.ended st.body (step_of sts n s i st) deed now (step_acts sts n s i st) last is)
-
-pub moment_on : (sts : List Stmt) (n : ℕ) (s : Situation) (i : ℕ) (st : Stmt) (deed : Deed) (now : Situation) → Some (i, st) ≡ about_to_run sts s → is_fini st.body ≡ false
-    → IsActed (step_of sts n s i st) (Ok deed) now → moment sts n s ≡ Some (st.line, Ok (deed, Some now))
-moment_on sts n s i st deed now there last is =
-    ap (moment_of sts n s) (sym there) ∙ ap (λ a. Some (st.line, a)) (acted_on s.ended st.body (step_of sts n s i st) deed now (step_acts sts n s i st) last is)

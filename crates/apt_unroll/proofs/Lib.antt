@@ -2,6 +2,7 @@ pub mod Suits
 pub mod Acts
 pub mod Binding
 pub mod Tables
+pub mod Moments
 pub mod Nesting
 pub mod Going
 pub mod Found

@@ -54,6 +54,28 @@ none_left sts t i are h = by (nat_le (length sts) i) refl
         let none : slice_get (executed_in 0 sts) i ≡ None = ap (λ xs. slice_get xs i) (sym are.executed) ∙ h in
         absurd (cc)
 
+-- where no macro is defined, what a run comes to is executed
+keeps_place : (from i : ℕ) (sts : List Stmt) (st : Stmt) → slice_get sts i ≡ Some st → begins_macro (flow_of st.body) ≡ false → behind_macros false from (drop i sts) ≡ from
+keeps_place from zero [] st h begins = refl
+keeps_place from (suc i) [] st h begins = refl
+keeps_place from zero (x ∷ sts) st h begins =
+    let is : x ≡ st = cc in
+    let none : begins_macro (flow_of x.body) ≡ false = ap (λ (st : Stmt). begins_macro (flow_of st.body)) is ∙ begins in
+    rw none refl
+keeps_place from (suc i) (x ∷ sts) st h begins = keeps_place from i sts st h begins
+
+pub stays : (sts : List Stmt) (i : ℕ) (st : Stmt) → slice_get sts i ≡ Some st → begins_macro (flow_of st.body) ≡ false → executed_from sts i ≡ i
+stays sts i st h begins = keeps_place i i sts st h begins
+
+nothing_behind : (from i : ℕ) (sts : List Stmt) → slice_get sts i ≡ None → behind_macros false from (drop i sts) ≡ from
+nothing_behind from zero [] h = refl
+nothing_behind from (suc i) [] h = refl
+nothing_behind from zero (st ∷ sts) h = absurd (cc)
+nothing_behind from (suc i) (st ∷ sts) h = nothing_behind from i sts h
+
+pub stays_past : (sts : List Stmt) (i : ℕ) → slice_get sts i ≡ None → executed_from sts i ≡ i
+stays_past sts i h = nothing_behind i i sts h
+
 later_by : (b : Bool) (i k : ℕ) → i + 1 ≤ k → i ≤ cond b k i
 later_by true i k h = omega (arith, h)
 later_by false i k h = omega arith

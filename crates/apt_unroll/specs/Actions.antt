@@ -27,6 +27,10 @@ Action = Result (Deed × Option Situation) Case
 abbrev pub go_on : ℕ → Situation → Deed → Action
 go_on i s deed = Ok (deed, Some (record { at = i + 1; ended = is_ended s.ended deed; names = names_behind s.names deed; calls = s.calls }))
 
+-- what a statement does behind which the following one is executed
+abbrev pub onward : Situation → ℕ → Body → Action
+onward s i body = deed_of s.names (parameters s.calls) body >>= go_on i s
+
 -- ---- a label
 
 abbrev pub jump_to : Situation → Deed → Option ℕ → Action

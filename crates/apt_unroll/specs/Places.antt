@@ -23,6 +23,18 @@ begins_macro (Jumps l) = false
 begins_macro (Branches e a b c) = false
 begins_macro ProgramEnds = false
 
+-- the following statement is executed
+abbrev pub goes_on : Flow → Bool
+goes_on Onward = true
+goes_on (MacroBegins m ps) = false
+goes_on MacroEnds = false
+goes_on (Calls m args) = false
+goes_on LoopBegins = false
+goes_on LoopEnds = false
+goes_on (Jumps l) = false
+goes_on (Branches e a b c) = false
+goes_on ProgramEnds = false
+
 abbrev pub ends_macro : Flow → Bool
 ends_macro Onward = false
 ends_macro (MacroBegins m ps) = false

@@ -27,6 +27,11 @@ pub record ArePlaces (sts : List Stmt) (t : Places) : Type 0 where
   pub labels : (name : List ℕ) → meaning t.labels name ≡ named namings.Labels sts name
   pub macros : (name : List ℕ) → meaning t.macros name ≡ named namings.Macros sts name
 
+-- the tables, where they are made
+abbrev pub AreMade : List Stmt → Option Places → Type 0
+AreMade sts None = Unit {0}
+AreMade sts (Some t) = ArePlaces sts t
+
 -- the statement with a label, where the tables have it in the region of the i-th
 abbrev pub target_in : Places → ℕ → List ℕ → Option ℕ
 target_in t i name = meaning t.labels name >>= λ j. only_if (are_one_region (slice_get t.regions.items i) (slice_get t.regions.items j)) j

@@ -84,9 +84,10 @@ trace_of sts = trace_from (most_steps + 1) 1 sts first_situation
 
 -- ---- one step as it is done
 
--- the step that is done, with the situation behind it; or its refusal; or that no statement is left
+-- the step that is done, with the situation behind it; or its refusal; or that no statement is left; or memory is lacking
 abbrev pub IsNext : Option (ℕ × Action) → ℕ → Next → Situation → Type 0
 IsNext due n nexts.Out now = due ≡ None
 IsNext due n (nexts.Refused refusal) now = (due ≡ Some (refusal.line, Err refusal.case)) × (refusal.step ≡ n)
 IsNext due n (nexts.Last step) now = (due ≡ Some (step.line, Ok (step.deed, None))) × (step.step ≡ n)
 IsNext due n (nexts.On step) now = (due ≡ Some (step.line, Ok (step.deed, Some now))) × (step.step ≡ n)
+IsNext due n nexts.NoMemory now = Unit {0}

@@ -129,10 +129,27 @@ fn executed_in(alloc: Global, stmts: &[Stmt]) -> Result<Vec<usize>, AllocError>
     Ok(table)
 }
 
-fn begins_macro(body: &Body) -> bool
+pub(crate) fn begins_macro(body: &Body) -> bool
     ensures { result ≡ spec.begins_macro (flow_of body.now) }
 {
     matches!(body, Body::Macro(..))
+}
+
+/// Whether the following statement is executed behind a statement.
+pub(crate) fn goes_on(body: &Body) -> bool
+    ensures { result ≡ spec.goes_on (flow_of body.now) }
+{
+    !matches!(
+        body,
+        Body::Fini
+            | Body::Macro(..)
+            | Body::Termac
+            | Body::Call(..)
+            | Body::Loopst
+            | Body::Loopnd
+            | Body::Jumpto(_)
+            | Body::If(..)
+    )
 }
 
 fn ends_macro(body: &Body) -> bool

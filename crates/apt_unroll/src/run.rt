@@ -1,5 +1,5 @@
 //! What holds between the steps of a run, and what a statement does there.
-ghost use Rattle.std.specs.Prelude.{◌≡◌, ℕ, ◌+◌, ◌<◌, ◌^◌, false, List, [], Option, Some, None, slice_get, reverse, OnOk, IfOk};
+ghost use Rattle.std.specs.Prelude.{◌≡◌, ℕ, ◌+◌, ◌<◌, ◌^◌, false, List, [], Option, Some, None, Ok, slice_get, reverse, OnOk, IfOk};
 ghost use Rattle.std.specs.Option.{option_copied};
 ghost use Rattle.apt_words.specs.Flow.{flow_of};
 ghost use Rattle.apt_words.specs.declared.body.Body.TheVariants as bodies;
@@ -9,7 +9,8 @@ ghost use Rattle.apt_scalar.specs.Meanings.{meaning};
 ghost use Rattle.apt_unroll.specs.Actions as actions;
 ghost use Rattle.apt_unroll.specs.Actions.{IsActed, action};
 ghost use Rattle.apt_unroll.specs.Places as spec;
-ghost use Rattle.apt_unroll.specs.Places.{begins_macro, named};
+ghost use Rattle.apt_unroll.specs.Deeds as defining;
+ghost use Rattle.apt_unroll.specs.Places.{begins_macro, goes_on, named};
 ghost use Rattle.apt_unroll.specs.declared.numbers.Naming.TheVariants as namings;
 ghost use Rattle.apt_unroll.specs.Situations as situations;
 ghost use Rattle.apt_unroll.specs.Tables.{ArePlaces, IsMacroAt};
@@ -116,7 +117,14 @@ impl Run {
         }
     }
 
-    /// What a statement does, and where the run goes on behind it.
+    /// What a statement does, or its first refusal.
+    pub(crate) fn deed(&self, body: &Body) -> Result<Result<Deed, Case>, AllocError>
+        ensures { IfOk result (λ deed. deed ≡ defining.deed_of self.now.names (situations.parameters self.now.calls) body.now) }
+    {
+        deed_of(&self.env, self.frame(), body)
+    }
+
+    /// What a statement that turns the flow or ends it does, and where the run goes on.
     #[tactic(auto, unfolding(crate::specs::Actions::action))]
     pub(crate) fn act(
         &mut self,
@@ -129,14 +137,14 @@ impl Run {
         requires places { ArePlaces program.now places.now }
         requires small { i < 2 ^ 63 }
         requires passed { begins_macro (flow_of body.now) ≡ false }
+        requires turned { goes_on (flow_of body.now) ≡ false }
         ensures { IfOk result (λ r. IsActed (action program.now self.old i body.now (flow_of body.now)) r self.new) }
     {
         match body {
-            Body::Macro(..) => unreachable!(),
             Body::Termac => Ok(self.go_back()),
             Body::Call(name, args) => self.call(alloc, program, places, i, name, args),
-            Body::Loopst => self.go_on(alloc, i, Deed::Loopst),
-            Body::Loopnd => self.go_on(alloc, i, Deed::Loopnd),
+            Body::Loopst => Ok(self.jump_to(Some(i + 1), Deed::Loopst)),
+            Body::Loopnd => Ok(self.jump_to(Some(i + 1), Deed::Loopnd)),
             Body::Jumpto(label) => {
                 Ok(self.jump_to(target(program, places, i, label), Deed::Jumpto))
             }
@@ -148,27 +156,18 @@ impl Run {
                 }
             },
             Body::Fini => Ok(Ok(Deed::Fini)),
-            _ => match deed_of(&self.env, self.frame(), body)? {
-                Err(case) => Ok(Err(case)),
-                Ok(deed) => self.go_on(alloc, i, deed),
-            },
+            _ => unreachable!(),
         }
     }
 
     /// Goes on with the following statement.
-    fn go_on(
-        &mut self,
-        alloc: Global,
-        i: usize,
-        deed: Deed,
-    ) -> Result<Result<Deed, Case>, AllocError>
+    pub(crate) fn go_on(&mut self, alloc: Global, i: usize, deed: &Deed) -> Result<(), AllocError>
         requires { i < 2 ^ 63 }
-        ensures { IfOk result (λ r. IsActed (actions.go_on i self.old deed) r self.new) }
+        ensures { OnOk result (actions.go_on i self.old deed.now ≡ Ok (deed.now, Some self.new)) }
     {
-        bind_behind(alloc, &mut self.env, &deed)?;
         self.at = i + 1;
-        self.ended = is_ended(self.ended, &deed);
-        Ok(Ok(deed))
+        self.ended = is_ended(self.ended, deed);
+        bind_behind(alloc, &mut self.env, deed)
     }
 
     /// Goes on with the statement of a label.

@@ -1,6 +1,6 @@
 //! The trace of a program.
 
-ghost use Rattle.std.specs.Prelude.{◌≡◌, ◌≢◌, ◌≤◌, ◌<◌, ◌^◌, false, None, slice_get, IfOk, IfSome, option_map};
+ghost use Rattle.std.specs.Prelude.{◌≡◌, ◌≢◌, ◌<◌, ◌^◌, ◌++◌, ◌∷◌, [], false, None, Some, slice_get, IfOk, OnOk, IfSome, IsSome, option_map};
 ghost use Rattle.std.specs.Option.{option_copied};
 ghost use Rattle.apt_words.specs.Built.{AreBuilt, AreBuiltSteps};
 ghost use Rattle.apt_words.specs.Flow.{AreNested, flow_of};
@@ -8,16 +8,16 @@ ghost use Rattle.apt_words.specs.ProgramEnds.{StepsEnd};
 ghost use Rattle.apt_words.specs.Sources.{AreStmts, AreExecuted};
 ghost use Rattle.apt_words.specs.declared.Case.TheVariants as cases;
 ghost use Rattle.apt_scalar.specs.StepScalars.{AreScalars};
-ghost use Rattle.apt_unroll.specs.Actions.{IsActed, most_steps, step_of};
-ghost use Rattle.apt_unroll.specs.Places.{begins_macro, executed_from};
+ghost use Rattle.apt_unroll.specs.Actions.{IsActed, action, onward, step_of};
+ghost use Rattle.apt_unroll.specs.Places.{begins_macro, executed_from, goes_on};
 ghost use Rattle.apt_unroll.specs.Straight.{AreStraight, in_order};
-ghost use Rattle.apt_unroll.specs.Tables.{ArePlaces};
+ghost use Rattle.apt_unroll.specs.Tables.{AreMade};
 ghost use Rattle.apt_unroll.specs.Trace as spec;
 ghost use Rattle.apt_unroll.specs.Trace.{IsTrace, Trace, trace_of};
 
-use crate::places::Places;
+use crate::places::{Places, begins_macro, goes_on};
 use crate::run::Run;
-use apt_words::{Case, Deed, Program, Refusal, Step, Stmt};
+use apt_words::{Body, Case, Deed, Program, Refusal, Step, Stmt};
 use std::alloc::{AllocError, Global};
 use std::marker::Model;
 
@@ -42,13 +42,14 @@ impl Model for Unrolled {
     ghost view = { λ u. record { steps = u.steps.items; fault = u.fault } };
 }
 
-/// A step that is done, the last one with FINI; or its refusal; or that no statement is left.
+/// A step that is done, the last one with FINI; or its refusal; or that no statement is left; or want of memory.
 #[derive(Drop)]
 pub(crate) enum Next {
     On(Step),
     Last(Step),
     Refused(Refusal),
     Out,
+    NoMemory,
 }
 
 /// The one trace of a program: the steps that are executed, up to FINI or to the first that is refused.
@@ -74,23 +75,24 @@ pub fn unroll(alloc: Global, p: &Program) -> Result<Unrolled, AllocError>
 fn unroll_all(alloc: Global, p: &Program) -> Result<Unrolled, AllocError>
     ensures { IfOk result (λ u. u ≡ trace_of p.now) }
 {
-    let places = Places::new(alloc, p)?;
+    let mut places = None;
     let mut run = Run::new(alloc);
     let mut steps = Vec::with_capacity(alloc, p.stmts.len().min(MOST_STEPS as usize))?;
     let mut step = 1;
     let mut left = MOST_STEPS + 1;
     'steps: while left > 0 {
-        match next_step(alloc, p, &places, &mut run, step)? {
-            Next::Out => return Ok(Unrolled { steps, fault: None }),
+        match next_step(alloc, p, &mut places, &mut run, step) {
+            Next::On(next) => push(&mut steps, next)?,
+            Next::Last(last) => {
+                push(&mut steps, last)?;
+                return Ok(Unrolled { steps, fault: None });
+            }
             Next::Refused(refusal) => {
                 let fault = Some(refusal);
                 return Ok(Unrolled { steps, fault });
             }
-            Next::Last(last) => {
-                steps.push(last)?;
-                return Ok(Unrolled { steps, fault: None });
-            }
-            Next::On(next) => steps.push(next)?,
+            Next::Out => return Ok(Unrolled { steps, fault: None }),
+            Next::NoMemory => return Err(AllocError),
         }
         step += 1;
         left -= 1;
@@ -98,26 +100,170 @@ fn unroll_all(alloc: Global, p: &Program) -> Result<Unrolled, AllocError>
     Ok(Unrolled { steps, fault: None })
 }
 
-/// The n-th step, done.
-#[tactic(auto, using(crate::proofs::Acts::moment_last, crate::proofs::Acts::moment_on))]
+/// Appends a step; mostly there is room for it.
+fn push(steps: &mut Vec<Step>, step: Step) -> Result<(), AllocError>
+    ensures { OnOk result (steps.new.items ≡ steps.old.items ++ step ∷ []) }
+{
+    if steps.len() < steps.capacity() {
+        steps.push_reserved(step);
+    } else {
+        steps.push(step)?;
+    }
+    Ok(())
+}
+
+/// The n-th step, done. The tables are made where a step first asks for them.
+#[tactic(auto, using(crate::proofs::Moments::ends_here, crate::proofs::Moments::next_here))]
 fn next_step(
     alloc: Global,
     p: &Program,
-    places: &Places,
+    places: &mut Option<Places>,
     run: &mut Run,
     step: u32,
-) -> Result<Next, AllocError>
-    requires { ArePlaces p.now places.now }
-    ensures { IfOk result (λ next. spec.IsNext (spec.moment p.now step run.old) step next run.new) }
+) -> Next
+    requires { AreMade p.now places.old }
+    ensures made { AreMade p.now places.new }
+    ensures next { spec.IsNext (spec.moment p.now step run.old) step result run.new }
 {
-    let Some((i, stmt)) = executed(p, places, run.at()) else {
-        return Ok(Next::Out);
-    };
+    let at = run.at();
+    match stmt_at(p, at) {
+        None => Next::Out,
+        Some(stmt) if begins_macro(&stmt.body) => step_behind_macros(alloc, p, places, run, step),
+        Some(stmt) => step_at(alloc, p, places, run, step, at, stmt),
+    }
+}
+
+/// The n-th step, where the run has come to the definition of a macro.
+#[tactic(auto, using(crate::proofs::Moments::ends_behind, crate::proofs::Moments::next_behind))]
+fn step_behind_macros(
+    alloc: Global,
+    p: &Program,
+    places: &mut Option<Places>,
+    run: &mut Run,
+    step: u32,
+) -> Next
+    requires { AreMade p.now places.old }
+    ensures made { AreMade p.now places.new }
+    ensures next { spec.IsNext (spec.moment p.now step run.old) step result run.new }
+{
+    if make(alloc, p, places).is_err() {
+        return Next::NoMemory;
+    }
+    match executed(p, places, run.at()) {
+        None => Next::Out,
+        Some((i, stmt)) => step_at(alloc, p, places, run, step, i, stmt),
+    }
+}
+
+/// The n-th step, of a statement that is executed.
+#[tactic(auto, using(crate::proofs::Moments::next_onward, crate::proofs::Moments::next_turned))]
+fn step_at(
+    alloc: Global,
+    p: &Program,
+    places: &mut Option<Places>,
+    run: &mut Run,
+    step: u32,
+    i: usize,
+    stmt: &Stmt,
+) -> Next
+    requires made { AreMade p.now places.old }
+    requires small { i < 2 ^ 63 }
+    requires passed { begins_macro (flow_of stmt.now.body) ≡ false }
+    ensures made { AreMade p.now places.new }
+    ensures next { spec.IsNext (Some (stmt.now.line, step_of p.now step run.old i stmt.now)) step result run.new }
+{
     let line = stmt.line;
-    match step_of(alloc, p, places, run, step, i, stmt)? {
-        Err(case) => Ok(Next::Refused(Refusal { line, step, case })),
-        Ok(deed) if stmt.body.is_fini() => Ok(Next::Last(Step { line, step, deed })),
-        Ok(deed) => Ok(Next::On(Step { line, step, deed })),
+    if step > MOST_STEPS {
+        let case = Case::Budget;
+        return Next::Refused(Refusal { line, step, case });
+    }
+    if run.has_ended() && !stmt.body.is_fini() {
+        let case = Case::AfterEnd;
+        return Next::Refused(Refusal { line, step, case });
+    }
+    if goes_on(&stmt.body) {
+        onward_step(alloc, run, step, i, stmt)
+    } else {
+        flow_step(alloc, p, places, run, step, i, stmt)
+    }
+}
+
+/// The n-th step, of a statement behind which the following one is executed.
+fn onward_step(alloc: Global, run: &mut Run, step: u32, i: usize, stmt: &Stmt) -> Next
+    requires { i < 2 ^ 63 }
+    ensures { spec.IsNext (Some (stmt.now.line, onward run.old i stmt.now.body)) step result run.new }
+{
+    let line = stmt.line;
+    match run.deed(&stmt.body) {
+        Ok(Ok(deed)) => match run.go_on(alloc, i, &deed) {
+            Ok(()) => Next::On(Step { line, step, deed }),
+            Err(_) => Next::NoMemory,
+        },
+        Ok(Err(case)) => Next::Refused(Refusal { line, step, case }),
+        Err(_) => Next::NoMemory,
+    }
+}
+
+/// The n-th step, of a statement that turns the flow or ends it.
+#[tactic(auto, using(crate::proofs::Moments::turned_on, crate::proofs::Moments::turned_last))]
+fn flow_step(
+    alloc: Global,
+    p: &Program,
+    places: &mut Option<Places>,
+    run: &mut Run,
+    step: u32,
+    i: usize,
+    stmt: &Stmt,
+) -> Next
+    requires made { AreMade p.now places.old }
+    requires small { i < 2 ^ 63 }
+    requires passed { begins_macro (flow_of stmt.now.body) ≡ false }
+    requires turned { goes_on (flow_of stmt.now.body) ≡ false }
+    ensures made { AreMade p.now places.new }
+    ensures next { spec.IsNext (Some (stmt.now.line, action p.now run.old i stmt.now.body (flow_of stmt.now.body))) step result run.new }
+{
+    if make(alloc, p, places).is_err() {
+        return Next::NoMemory;
+    }
+    let line = stmt.line;
+    match act(alloc, p, places, run, i, &stmt.body) {
+        Ok(Ok(deed)) if stmt.body.is_fini() => Next::Last(Step { line, step, deed }),
+        Ok(Ok(deed)) => Next::On(Step { line, step, deed }),
+        Ok(Err(case)) => Next::Refused(Refusal { line, step, case }),
+        Err(_) => Next::NoMemory,
+    }
+}
+
+/// Makes the tables of a program, where they are not made yet.
+fn make(alloc: Global, p: &Program, places: &mut Option<Places>) -> Result<(), AllocError>
+    requires { AreMade p.now places.old }
+    ensures made { AreMade p.now places.new }
+    ensures some { OnOk result (IsSome places.new) }
+{
+    if places.is_none() {
+        *places = Some(Places::new(alloc, p)?);
+    }
+    Ok(())
+}
+
+fn act(
+    alloc: Global,
+    p: &Program,
+    places: &Option<Places>,
+    run: &mut Run,
+    i: usize,
+    body: &Body,
+) -> Result<Result<Deed, Case>, AllocError>
+    requires made { AreMade p.now places.now }
+    requires some { IsSome places.now }
+    requires small { i < 2 ^ 63 }
+    requires passed { begins_macro (flow_of body.now) ≡ false }
+    requires turned { goes_on (flow_of body.now) ≡ false }
+    ensures { IfOk result (λ r. IsActed (action p.now run.old i body.now (flow_of body.now)) r run.new) }
+{
+    match places {
+        Some(places) => run.act(alloc, p, places, i, body),
+        None => unreachable!(),
     }
 }
 
@@ -130,12 +276,14 @@ fn stmt_at(p: &Program, i: usize) -> Option<&Stmt>
 
 /// The statement that is executed where a run comes to a number, with its own number.
 #[tactic(auto, using(crate::proofs::Tables::runs, crate::proofs::Tables::runs_out, crate::proofs::Tables::runs_past, crate::proofs::Tables::no_macro))]
-fn executed<'a>(p: &'a Program, places: &Places, at: usize) -> Option<(usize, &'a Stmt)>
-    requires { ArePlaces p.now places.now }
+fn executed<'a>(p: &'a Program, places: &Option<Places>, at: usize) -> Option<(usize, &'a Stmt)>
+    requires made { AreMade p.now places.now }
+    requires some { IsSome places.now }
     ensures value { option_map (λ r. (r.0, r.1.now)) result ≡ spec.with_number (executed_from p.now at) (slice_get p.now (executed_from p.now at)) }
     ensures small { IfSome result (λ r. r.0 < 2 ^ 63) }
     ensures passed { IfSome result (λ r. begins_macro (flow_of r.1.now.body) ≡ false) }
 {
+    let Some(places) = places else { unreachable!() };
     match places.executed_from(at) {
         None => None,
         Some(i) => match stmt_at(p, i) {
@@ -143,29 +291,4 @@ fn executed<'a>(p: &'a Program, places: &Places, at: usize) -> Option<(usize, &'
             Some(stmt) => Some((i, stmt)),
         },
     }
-}
-
-/// The n-th step, or its refusal.
-fn step_of(
-    alloc: Global,
-    p: &Program,
-    places: &Places,
-    run: &mut Run,
-    step: u32,
-    i: usize,
-    stmt: &Stmt,
-) -> Result<Result<Deed, Case>, AllocError>
-    requires places { ArePlaces p.now places.now }
-    requires small { i < 2 ^ 63 }
-    requires passed { begins_macro (flow_of stmt.now.body) ≡ false }
-    ensures deed { IfOk result (λ r. IsActed (step_of p.now step run.old i stmt.now) r run.new) }
-    ensures early { IfOk result (λ r. IfOk r (λ _. step ≤ most_steps)) }
-{
-    if step > MOST_STEPS {
-        return Ok(Err(Case::Budget));
-    }
-    if run.has_ended() && !stmt.body.is_fini() {
-        return Ok(Err(Case::AfterEnd));
-    }
-    run.act(alloc, p, places, i, &stmt.body)
 }
