@@ -131,11 +131,6 @@ step_acts sts n s i st = by_tests (Acts s.ended st.body) sts n s i st (λ case o
 
 -- ---- an action that is done
 
-pub acted_last : (ended : Bool) (body : Body) (a : Action) (deed : Deed) (now : Situation) → Acts ended body a → is_fini body ≡ true → IsActed a (Ok deed) now → a ≡ Ok (deed, None)
-acted_last ended body (Ok (d, None)) deed now acts last is = ap (λ d. Ok (d, None)) (sym is)
-acted_last ended body (Ok (d, Some next)) deed now acts last is = absurd (cc)
-acted_last ended body (Err case) deed now acts last is = absurd is
-
 pub acted_on : (ended : Bool) (body : Body) (a : Action) (deed : Deed) (now : Situation) → Acts ended body a → is_fini body ≡ false → IsActed a (Ok deed) now → a ≡ Ok (deed, Some now)
 acted_on ended body (Ok (d, None)) deed now acts last is = absurd (cc)
 acted_on ended body (Ok (d, Some next)) deed now acts last is = cc

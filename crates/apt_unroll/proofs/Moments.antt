@@ -1,15 +1,16 @@
 -- The next step of a run: where it is looked for, and what it does.
 use Rattle.std.proofs.Common.{◌≡◌, ℕ, ◌&&◌, nat_lt, not, true, false, List, slice_get, Some, None, Ok, refl, sym, ap, ◌∙◌, subst}
-use Rattle.apt_words.specs.Flow.{Flow, Onward, flow_of, is_fini}
+use Rattle.apt_words.specs.Flow.{Flow, Onward, ProgramEnds, flow_of, ends_program, is_fini}
 use Rattle.apt_words.specs.declared.body.Body.{Body}
 use Rattle.apt_words.specs.declared.body.Stmt.{Stmt}
 use Rattle.apt_words.specs.declared.deed.Deed.{Deed}
+use Rattle.apt_words.specs.declared.deed.Deed.TheVariants as deeds
 use Rattle.apt_unroll.specs.declared.trace.Next.{Next}
 use Rattle.apt_unroll.specs.Places.{begins_macro, goes_on}
 use Rattle.apt_unroll.specs.Situations.{Situation}
 use Rattle.apt_unroll.specs.Actions.{onward, action, most_steps, IsActed, step_of}
 use Rattle.apt_unroll.specs.Trace.{with_number, about_to_run, moment_of, moment, IsNext}
-use Rattle.apt_unroll.proofs.Acts.{acts, acted_last, acted_on}
+use Rattle.apt_unroll.proofs.Acts.{acts, acted_on}
 use Rattle.apt_unroll.proofs.Tables.{stays, stays_past}
 
 -- ---- where it is looked for
@@ -57,11 +58,17 @@ pub next_onward : (sts : List Stmt) (n : ℕ) (s : Situation) (i : ℕ) (st : St
 next_onward sts n s i st r now late ended on is =
     next_turned sts n s i st r now late ended (subst (λ a. IsNext (Some (st.line, a)) n r now) (sym (as_onward sts s i st.body on)) is)
 
--- an action that is done, behind which the run goes on, or has ended
+-- FINI
+last_by : (sts : List Stmt) (s : Situation) (i : ℕ) (body : Body) (flow : Flow) → ends_program flow ≡ true → action sts s i body flow ≡ Ok (deeds.Fini, None)
+unfolding action
+last_by sts s i body ProgramEnds h = refl
+last_by sts s i body _ h = absurd (cc)
+
+pub next_last : (sts : List Stmt) (n : ℕ) (s : Situation) (i : ℕ) (st : Stmt) → nat_lt most_steps n ≡ false → (s.ended && not (is_fini st.body)) ≡ false
+    → is_fini st.body ≡ true → step_of sts n s i st ≡ Ok (deeds.Fini, None)
+next_last sts n s i st late ended last = in_time sts n s i st late ended ∙ last_by sts s i st.body (flow_of st.body) last
+
+-- an action that is done, behind which the run goes on
 pub turned_on : (sts : List Stmt) (s : Situation) (i : ℕ) (body : Body) (deed : Deed) (now : Situation) → is_fini body ≡ false
     → IsActed (action sts s i body (flow_of body)) (Ok deed) now → action sts s i body (flow_of body) ≡ Ok (deed, Some now)
 turned_on sts s i body deed now last is = acted_on s.ended body (action sts s i body (flow_of body)) deed now (acts sts s i body (flow_of body) refl) last is
-
-pub turned_last : (sts : List Stmt) (s : Situation) (i : ℕ) (body : Body) (deed : Deed) (now : Situation) → is_fini body ≡ true
-    → IsActed (action sts s i body (flow_of body)) (Ok deed) now → action sts s i body (flow_of body) ≡ Ok (deed, None)
-turned_last sts s i body deed now last is = acted_last s.ended body (action sts s i body (flow_of body)) deed now (acts sts s i body (flow_of body) refl) last is

@@ -4,6 +4,7 @@
 mod arguments;
 mod calls;
 mod deeds;
+mod figures;
 mod numbers;
 mod places;
 mod run;

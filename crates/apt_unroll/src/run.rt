@@ -1,7 +1,7 @@
 //! What holds between the steps of a run, and what a statement does there.
 ghost use Rattle.std.specs.Prelude.{◌≡◌, ℕ, ◌+◌, ◌<◌, ◌^◌, false, List, [], Option, Some, None, Ok, slice_get, reverse, OnOk, IfOk};
 ghost use Rattle.std.specs.Option.{option_copied};
-ghost use Rattle.apt_words.specs.Flow.{flow_of};
+ghost use Rattle.apt_words.specs.Flow.{flow_of, is_fini};
 ghost use Rattle.apt_words.specs.declared.body.Body.TheVariants as bodies;
 ghost use Rattle.apt_words.specs.declared.deed.Deed.TheVariants as deeds;
 ghost use Rattle.apt_words.specs.ProgramEnds as endings;
@@ -124,7 +124,7 @@ impl Run {
         deed_of(&self.env, self.frame(), body)
     }
 
-    /// What a statement that turns the flow or ends it does, and where the run goes on.
+    /// What a statement that turns the flow does, and where the run goes on.
     #[tactic(auto, unfolding(crate::specs::Actions::action))]
     pub(crate) fn act(
         &mut self,
@@ -138,6 +138,7 @@ impl Run {
         requires small { i < 2 ^ 63 }
         requires passed { begins_macro (flow_of body.now) ≡ false }
         requires turned { goes_on (flow_of body.now) ≡ false }
+        requires lasting { is_fini body.now ≡ false }
         ensures { IfOk result (λ r. IsActed (action program.now self.old i body.now (flow_of body.now)) r self.new) }
     {
         match body {
@@ -155,7 +156,6 @@ impl Run {
                     Ok(self.jump_to(target(program, places, i, label), Deed::If))
                 }
             },
-            Body::Fini => Ok(Ok(Deed::Fini)),
             _ => unreachable!(),
         }
     }

@@ -1,9 +1,9 @@
 //! The trace of a program.
 
-ghost use Rattle.std.specs.Prelude.{◌≡◌, ◌≢◌, ◌<◌, ◌^◌, ◌++◌, ◌∷◌, [], false, None, Some, slice_get, IfOk, OnOk, IfSome, IsSome, option_map};
+ghost use Rattle.std.specs.Prelude.{◌≡◌, ◌≢◌, ◌<◌, ◌^◌, ◌++◌, ◌∷◌, [], false, None, Some, slice_get, IfOk, OnOk, IfSome, IsSome, option_map, vec_len, vec_capacity};
 ghost use Rattle.std.specs.Option.{option_copied};
 ghost use Rattle.apt_words.specs.Built.{AreBuilt, AreBuiltSteps};
-ghost use Rattle.apt_words.specs.Flow.{AreNested, flow_of};
+ghost use Rattle.apt_words.specs.Flow.{AreNested, flow_of, is_fini};
 ghost use Rattle.apt_words.specs.ProgramEnds.{StepsEnd};
 ghost use Rattle.apt_words.specs.Sources.{AreStmts, AreExecuted};
 ghost use Rattle.apt_words.specs.declared.Case.TheVariants as cases;
@@ -100,16 +100,23 @@ fn unroll_all(alloc: Global, p: &Program) -> Result<Unrolled, AllocError>
     Ok(Unrolled { steps, fault: None })
 }
 
-/// Appends a step; mostly there is room for it.
 fn push(steps: &mut Vec<Step>, step: Step) -> Result<(), AllocError>
     ensures { OnOk result (steps.new.items ≡ steps.old.items ++ step ∷ []) }
 {
-    if steps.len() < steps.capacity() {
-        steps.push_reserved(step);
-    } else {
-        steps.push(step)?;
-    }
+    make_room(steps)?;
+    steps.push_reserved(step);
     Ok(())
+}
+
+/// Makes room for a step; mostly there is some.
+fn make_room(steps: &mut Vec<Step>) -> Result<(), AllocError>
+    ensures same { steps.new.items ≡ steps.old.items }
+    ensures room { OnOk result (vec_len steps.new < vec_capacity steps.new) }
+{
+    if steps.len() < steps.capacity() {
+        return Ok(());
+    }
+    steps.reserve(1)
 }
 
 /// The n-th step, done. The tables are made where a step first asks for them.
@@ -156,7 +163,7 @@ fn step_behind_macros(
 }
 
 /// The n-th step, of a statement that is executed.
-#[tactic(auto, using(crate::proofs::Moments::next_onward, crate::proofs::Moments::next_turned))]
+#[tactic(auto, using(crate::proofs::Moments::next_onward, crate::proofs::Moments::next_turned, crate::proofs::Moments::next_last))]
 fn step_at(
     alloc: Global,
     p: &Program,
@@ -183,6 +190,9 @@ fn step_at(
     }
     if goes_on(&stmt.body) {
         onward_step(alloc, run, step, i, stmt)
+    } else if stmt.body.is_fini() {
+        let deed = Deed::Fini;
+        Next::Last(Step { line, step, deed })
     } else {
         flow_step(alloc, p, places, run, step, i, stmt)
     }
@@ -204,8 +214,8 @@ fn onward_step(alloc: Global, run: &mut Run, step: u32, i: usize, stmt: &Stmt) -
     }
 }
 
-/// The n-th step, of a statement that turns the flow or ends it.
-#[tactic(auto, using(crate::proofs::Moments::turned_on, crate::proofs::Moments::turned_last))]
+/// The n-th step, of a statement that turns the flow.
+#[tactic(auto, using(crate::proofs::Moments::turned_on))]
 fn flow_step(
     alloc: Global,
     p: &Program,
@@ -219,6 +229,7 @@ fn flow_step(
     requires small { i < 2 ^ 63 }
     requires passed { begins_macro (flow_of stmt.now.body) ≡ false }
     requires turned { goes_on (flow_of stmt.now.body) ≡ false }
+    requires lasting { is_fini stmt.now.body ≡ false }
     ensures made { AreMade p.now places.new }
     ensures next { spec.IsNext (Some (stmt.now.line, action p.now run.old i stmt.now.body (flow_of stmt.now.body))) step result run.new }
 {
@@ -227,7 +238,6 @@ fn flow_step(
     }
     let line = stmt.line;
     match act(alloc, p, places, run, i, &stmt.body) {
-        Ok(Ok(deed)) if stmt.body.is_fini() => Next::Last(Step { line, step, deed }),
         Ok(Ok(deed)) => Next::On(Step { line, step, deed }),
         Ok(Err(case)) => Next::Refused(Refusal { line, step, case }),
         Err(_) => Next::NoMemory,
@@ -259,6 +269,7 @@ fn act(
     requires small { i < 2 ^ 63 }
     requires passed { begins_macro (flow_of body.now) ≡ false }
     requires turned { goes_on (flow_of body.now) ≡ false }
+    requires lasting { is_fini body.now ≡ false }
     ensures { IfOk result (λ r. IsActed (action p.now run.old i body.now (flow_of body.now)) r run.new) }
 {
     match places {
