@@ -37,6 +37,8 @@ pub enum Bound {
 #[derive(Drop)]
 pub struct Env {
     map: IndexMap<Symbol, Value>,
+    /// Where the name stands that was bound last, which is asked for most.
+    latest: usize,
 }
 
 impl Model for Env {
@@ -70,6 +72,7 @@ impl Env {
     {
         Env {
             map: IndexMap::new(alloc),
+            latest: 0,
         }
     }
 
@@ -77,14 +80,18 @@ impl Env {
     pub fn get(&self, name: &Symbol) -> Option<Value>
         ensures { result ≡ meanings.meaning self.now name.now }
     {
-        self.map.get(name).copied()
+        match self.map.get_index(self.latest) {
+            Some((latest, v)) if latest == name => Some(*v),
+            _ => self.map.get(name).copied(),
+        }
     }
 
     fn insert(&mut self, name: Symbol, v: Value) -> Result<(), AllocError>
         ensures ok { OnOk result (self.new ≡ meanings.with_entry self.old name v) }
         ensures err { OnErr result (self.new ≡ self.old) }
     {
-        self.map.insert(name, v)?;
+        let (i, _) = self.map.insert_full(name, v)?;
+        self.latest = i;
         Ok(())
     }
 }
@@ -104,6 +111,15 @@ pub(crate) fn scalar_named(name: &Symbol, env: &Env, frame: &Frame) -> Result<i6
 
 /// What a parameter stands for, None where the running macro has none of this name.
 pub fn bound_in<'a>(frame: &'a Frame, name: &Symbol) -> Option<&'a Bound>
+    ensures { option_copied result ≡ meanings.meaning frame.now name.now }
+{
+    if frame.bound.is_empty() {
+        return None;
+    }
+    bound_among(frame, name)
+}
+
+fn bound_among<'a>(frame: &'a Frame, name: &Symbol) -> Option<&'a Bound>
     ensures { option_copied result ≡ meanings.meaning frame.now name.now }
 {
     'parameters: for (parameter, bound) in &frame.bound {
