@@ -1,4 +1,4 @@
-//! Where the statements of a program stand: tables that are made once, before its run.
+//! Where the statements of a program stand: tables that are made once, where a run first asks for them.
 ghost use Rattle.std.specs.Prelude.{◌≡◌, ◌<◌, ◌≤◌, length, slice_get, Some, IfOk};
 ghost use Rattle.std.specs.Option.{option_copied};
 ghost use Rattle.apt_words.specs.Flow.{flow_of};
