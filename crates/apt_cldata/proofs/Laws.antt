@@ -32,7 +32,7 @@ head_only at (h ∷ hs) (b ∷ bytes) rest e =
 
 -- ---- records
 
-some_bytes : (seq : ℕ) (r : Record) (rest : List ℕ) → length rest < length (record_bytes seq r ++ rest)
+pub some_bytes : (seq : ℕ) (r : Record) (rest : List ℕ) → length rest < length (record_bytes seq r ++ rest)
 some_bytes seq r rest = omega (arith, length-append (record_bytes seq r) rest, framed_length (pos seq ∷ words_of r))
 
 -- behind the first record, which ends the file or doesn't

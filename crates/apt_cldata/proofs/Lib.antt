@@ -5,7 +5,9 @@ pub mod WordByWord
 pub mod Stands
 pub mod Heads
 pub mod Pieces
+pub mod VertexBytes
 pub mod Laws
+pub mod Left
 pub mod Conditions
 pub mod FieldLaws
 pub mod RecordLaws

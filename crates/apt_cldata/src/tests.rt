@@ -88,6 +88,14 @@ fn file(alloc: Global, records: &[&[i64]]) -> Result<Vec<u8>, AllocError> {
     Ok(bytes)
 }
 
+/// A small file, which is taken in one piece.
+fn taken(alloc: Global, file: ClBytes) -> Result<Vec<u8>, AllocError> {
+    let mut file = file;
+    let mut piece = Vec::new(alloc);
+    file.take_piece(&mut piece)?;
+    Ok(piece)
+}
+
 #[test]
 fn the_sample_is_read_and_written_again(rt: HostRuntime) -> Result<(), Fail> {
     let alloc = rt.alloc();
@@ -96,7 +104,7 @@ fn the_sample_is_read_and_written_again(rt: HostRuntime) -> Result<(), Fail> {
         return Ok(());
     };
     assert!(rt; is_sample(&records));
-    assert_eq!(rt; write(alloc, &records)?.as_slice(), SAMPLE.as_slice());
+    assert_eq!(rt; taken(alloc, ClBytes::of(records))?.as_slice(), SAMPLE.as_slice());
     Ok(())
 }
 
@@ -143,7 +151,7 @@ fn every_kind_is_read_and_written_again(rt: HostRuntime) -> Result<(), Fail> {
         return Ok(());
     };
     assert_eq!(rt; records.len(), 30);
-    assert_eq!(rt; write(alloc, &records)?.as_slice(), bytes.as_slice());
+    assert_eq!(rt; taken(alloc, ClBytes::of(records))?.as_slice(), bytes.as_slice());
     Ok(())
 }
 

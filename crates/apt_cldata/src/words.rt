@@ -1,106 +1,141 @@
-//! The words of a record.
-ghost use Rattle.std.specs.Prelude.{◌≡◌, pos, map, ◌++◌, OnOk};
+//! The bytes of a record: its words behind their length.
+ghost use Rattle.std.specs.Prelude.{◌≡◌, pos, [], ◌∷◌, ◌++◌, ◌+◌, ◌-◌, ◌*◌, ◌^◌, ◌<◌, ◌≤◌, length, map, vec_len, vec_capacity, OnOk};
 ghost use Rattle.std.specs.List.{flat_map};
+ghost use Rattle.apt_cldata.specs.Files.{IsShort};
+ghost use Rattle.apt_cldata.specs.Files as files;
 ghost use Rattle.apt_cldata.specs.Words as spec;
 
+use crate::bytes::{push_length, push_word};
 use crate::{Note, Position, Reach, Record};
 use apt_plane::Surface;
 use apt_words::{Cool, Side, Stop, Turn, Units};
 use std::alloc::AllocError;
 
-/// Appends the words of a record.
-pub(crate) fn push_words(words: &mut Vec<i64>, said: &Record) -> Result<(), AllocError>
-    ensures { OnOk result (words.new.items ≡ words.old.items ++ spec.words_of said.now) }
+/// Appends a record with its number; after a refusal a part of it may stand there.
+#[tactic(auto, using(crate::proofs::RecordLaws::triples_length))]
+pub(crate) fn push_record(bytes: &mut Vec<u8>, seq: u64, said: &Record) -> Result<(), AllocError>
+    requires short { IsShort said.now }
+    requires number { seq < 2 ^ 63 }
+    ensures { OnOk result (bytes.new.items ≡ bytes.old.items ++ files.record_bytes seq said.now) }
 {
+    let seq = seq as i64;
     match said {
         Record::Statement { line, step } => {
-            words.extend_from_slice(&[1000, 0, i64::from(*line), i64::from(*step)])
+            let words = [seq, 1000, 0, i64::from(*line), i64::from(*step)];
+            push_framed(bytes, &words)
         }
-        Record::Note(note) => push_note(words, note),
+        Record::Note(note) => push_note(bytes, seq, note),
         Record::Drive {
             surface,
             side,
             sense,
         } => {
-            words.extend_from_slice(&[3000, 1])?;
-            push_surface(words, surface)?;
-            words.extend_from_slice(&[side_word(*side), i64::from(*sense)])
+            let [kind, a, b, c, d] = surface_words(surface);
+            let (side, sense) = (side_word(*side), i64::from(*sense));
+            push_framed(bytes, &[seq, 3000, 1, kind, a, b, c, d, side, sense])
         }
         Record::Check { surface, how } => {
-            words.extend_from_slice(&[3000, 2])?;
-            push_surface(words, surface)?;
-            words.push(stop_word(*how))?;
-            Ok(())
+            let [kind, a, b, c, d] = surface_words(surface);
+            push_framed(bytes, &[seq, 3000, 2, kind, a, b, c, d, stop_word(*how)])
         }
         Record::Point(reach, to) => {
-            words.extend_from_slice(&[5000, reach_word(*reach)])?;
-            push_position(words, *to)
+            let words = [seq, 5000, reach_word(*reach), to.at.x, to.at.y, to.z];
+            push_framed(bytes, &words)
         }
-        Record::Contour(vertices) => {
-            words.extend_from_slice(&[5000, 5])?;
-            push_positions(words, &vertices.at)
-        }
+        Record::Contour(vertices) => push_contour(bytes, seq, &vertices.at),
     }
 }
 
-fn push_note(words: &mut Vec<i64>, note: &Note) -> Result<(), AllocError>
-    ensures { OnOk result (words.new.items ≡ words.old.items ++ spec.note_words note.now) }
+fn push_note(bytes: &mut Vec<u8>, seq: i64, note: &Note) -> Result<(), AllocError>
+    requires short { 8 * (1 + length (spec.note_words note.now)) ≤ files.most_bytes }
+    ensures { OnOk result (bytes.new.items ≡ bytes.old.items ++ files.framed (seq ∷ spec.note_words note.now)) }
 {
     match note {
-        Note::Partno(text) => {
-            words.extend_from_slice(&[2000, 1])?;
-            push_text(words, &text.bytes)
-        }
-        Note::Rapid => words.extend_from_slice(&[2000, 2]),
-        Note::Stop => words.extend_from_slice(&[2000, 3]),
-        Note::OptStop => words.extend_from_slice(&[2000, 4]),
-        Note::End => words.extend_from_slice(&[2000, 5]),
-        Note::Fedrat(tenths) => words.extend_from_slice(&[2000, 6, *tenths]),
-        Note::Spindl(turn, n) => words.extend_from_slice(&[2000, 7, *n, turn_word(*turn)]),
-        Note::Coolnt(cool) => words.extend_from_slice(&[2000, 8, cool_word(*cool)]),
-        Note::Loadtl(n) => words.extend_from_slice(&[2000, 9, *n]),
-        Note::Cutter(d) => words.extend_from_slice(&[6000, 1, *d]),
-        Note::Intol(t) => words.extend_from_slice(&[6000, 2, *t]),
-        Note::Outtol(t) => words.extend_from_slice(&[6000, 3, *t]),
-        Note::Units(units) => words.extend_from_slice(&[6000, 4, units_word(*units)]),
-        Note::Fini => words.extend_from_slice(&[14_000, 0]),
+        Note::Partno(text) => push_partno(bytes, seq, &text.bytes),
+        Note::Rapid => push_framed(bytes, &[seq, 2000, 2]),
+        Note::Stop => push_framed(bytes, &[seq, 2000, 3]),
+        Note::OptStop => push_framed(bytes, &[seq, 2000, 4]),
+        Note::End => push_framed(bytes, &[seq, 2000, 5]),
+        Note::Fedrat(tenths) => push_framed(bytes, &[seq, 2000, 6, *tenths]),
+        Note::Spindl(turn, n) => push_framed(bytes, &[seq, 2000, 7, *n, turn_word(*turn)]),
+        Note::Coolnt(cool) => push_framed(bytes, &[seq, 2000, 8, cool_word(*cool)]),
+        Note::Loadtl(n) => push_framed(bytes, &[seq, 2000, 9, *n]),
+        Note::Cutter(d) => push_framed(bytes, &[seq, 6000, 1, *d]),
+        Note::Intol(t) => push_framed(bytes, &[seq, 6000, 2, *t]),
+        Note::Outtol(t) => push_framed(bytes, &[seq, 6000, 3, *t]),
+        Note::Units(units) => push_framed(bytes, &[seq, 6000, 4, units_word(*units)]),
+        Note::Fini => push_framed(bytes, &[seq, 14_000, 0]),
     }
 }
 
-fn push_text(words: &mut Vec<i64>, text: &[u8]) -> Result<(), AllocError>
-    ensures { OnOk result (words.new.items ≡ words.old.items ++ map pos text.now) }
+/// Appends words behind their length.
+fn push_framed(bytes: &mut Vec<u8>, words: &[i64]) -> Result<(), AllocError>
+    requires { 8 * length words.now < 2 ^ 32 }
+    ensures { OnOk result (bytes.new.items ≡ bytes.old.items ++ files.framed words.now) }
 {
-    'bytes: for byte in text {
-        words.push(i64::from(*byte))?;
+    push_front(bytes, words.len(), words)
+}
+
+/// Appends the length of so many words and the first of them, and makes room for the others.
+fn push_front(bytes: &mut Vec<u8>, count: usize, words: &[i64]) -> Result<(), AllocError>
+    requires most { 8 * count < 2 ^ 32 }
+    requires least { length words.now ≤ count }
+    ensures value { OnOk result (bytes.new.items ≡ bytes.old.items ++ (files.length_bytes (8 * count) ++ flat_map files.word_bytes words.now)) }
+    ensures room { OnOk result (vec_len bytes.new + 8 * (count - length words.now) ≤ vec_capacity bytes.new) }
+{
+    bytes.reserve(4 + 8 * count)?;
+    push_length(bytes, 8 * count as u32);
+    'words: for word in words {
+        push_word(bytes, *word);
     }
     Ok(())
+}
+
+/// Appends PARTNO with its text, of which each byte is a word.
+fn push_partno(bytes: &mut Vec<u8>, seq: i64, text: &[u8]) -> Result<(), AllocError>
+    requires short { 8 * (3 + length text.now) < 2 ^ 32 }
+    ensures { OnOk result (bytes.new.items ≡ bytes.old.items ++ files.framed (seq ∷ pos 2000 ∷ pos 1 ∷ map pos text.now)) }
+{
+    push_front(bytes, 3 + text.len(), &[seq, 2000, 1])?;
+    'bytes: for byte in text {
+        push_word(bytes, i64::from(*byte));
+    }
+    Ok(())
+}
+
+/// Appends a contour with its vertices, each of three words.
+#[tactic(auto, using(crate::proofs::RecordLaws::triples_length, crate::proofs::VertexBytes::contour_bytes))]
+fn push_contour(bytes: &mut Vec<u8>, seq: i64, vertices: &[Position]) -> Result<(), AllocError>
+    requires short { 8 * (3 + 3 * length vertices.now) < 2 ^ 32 }
+    ensures { OnOk result (bytes.new.items ≡ bytes.old.items ++ files.framed (seq ∷ pos 5000 ∷ pos 5 ∷ flat_map spec.position_words vertices.now)) }
+{
+    push_front(bytes, 3 + 3 * vertices.len(), &[seq, 5000, 5])?;
+    'vertices: for vertex in vertices {
+        push_position(bytes, *vertex);
+    }
+    Ok(())
+}
+
+/// Appends the three words of a position, for which there is room.
+fn push_position(bytes: &mut Vec<u8>, p: Position)
+    requires { vec_len bytes.old + 24 ≤ vec_capacity bytes.old }
+    ensures value { bytes.new.items ≡ bytes.old.items ++ flat_map files.word_bytes (spec.position_words p) }
+    ensures len { vec_len bytes.new ≡ vec_len bytes.old + 24 }
+    ensures capacity { vec_capacity bytes.new ≡ vec_capacity bytes.old }
+{
+    push_word(bytes, p.at.x);
+    push_word(bytes, p.at.y);
+    push_word(bytes, p.z);
 }
 
 /// A surface's kind and its four numbers.
-fn push_surface(words: &mut Vec<i64>, surface: &Surface) -> Result<(), AllocError>
-    ensures { OnOk result (words.new.items ≡ words.old.items ++ spec.surface_words surface.now) }
+fn surface_words(surface: &Surface) -> [i64; 5]
+    ensures { result ≡ spec.surface_words surface.now }
 {
     match surface {
-        Surface::Line(l) => {
-            words.extend_from_slice(&[1, l.base.x, l.base.y, l.dir.dx, l.dir.dy])
-        }
-        Surface::Circ(c) => words.extend_from_slice(&[2, c.c.x, c.c.y, c.r, 0]),
+        Surface::Line(l) => [1, l.base.x, l.base.y, l.dir.dx, l.dir.dy],
+        Surface::Circ(c) => [2, c.c.x, c.c.y, c.r, 0],
     }
-}
-
-fn push_position(words: &mut Vec<i64>, p: Position) -> Result<(), AllocError>
-    ensures { OnOk result (words.new.items ≡ words.old.items ++ spec.position_words p) }
-{
-    words.extend_from_slice(&[p.at.x, p.at.y, p.z])
-}
-
-fn push_positions(words: &mut Vec<i64>, positions: &[Position]) -> Result<(), AllocError>
-    ensures { OnOk result (words.new.items ≡ words.old.items ++ flat_map spec.position_words positions.now) }
-{
-    'positions: for position in positions {
-        push_position(words, *position)?;
-    }
-    Ok(())
 }
 
 fn units_word(units: Units) -> i64

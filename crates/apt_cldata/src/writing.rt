@@ -1,69 +1,100 @@
 //! Writing a CL file.
-ghost use Rattle.std.specs.Prelude.{◌≡◌, ◌*◌, ◌^◌, ◌<◌, ◌++◌, Ok, length, drop, OnOk, IfOk};
-ghost use Rattle.apt_cldata.specs.Files.{IsFile, IsShort, StandApart, file_of, head};
+ghost use Rattle.std.specs.Prelude.{◌≡◌, ◌≢◌, ◌^◌, ◌<◌, ◌≤◌, ◌++◌, [], Ok, ◌+◌, MatchBool, length, drop, IfOk, OnOk, OnErr};
+ghost use Rattle.apt_cldata.specs.Files.{AreShort, IsFile, StandApart, file_of, head};
 ghost use Rattle.apt_cldata.specs.Files as spec;
 ghost use Rattle.apt_cldata.specs.Reading.{read_of};
+ghost use Rattle.apt_cldata.specs.Shortness.{short_prop};
 
 use crate::Record;
-use crate::bytes::{push_length, push_word};
 use crate::reading::HEAD;
-use crate::words::push_words;
-use std::alloc::{AllocError, Global};
+use crate::words::push_record;
+use std::alloc::AllocError;
+use std::marker::Model;
 
-/// The bytes of a CL file of these records, which are read as them again; where a record begins, no other
-/// record's bytes begin.
-#[tactic(auto, using(crate::proofs::Laws::file_again, crate::proofs::Laws::file_apart))]
-pub fn write(alloc: Global, records: &[Record]) -> Result<Vec<u8>, AllocError>
-    requires { IsFile records.now }
-    ensures bytes { IfOk result (λ v. v.items ≡ file_of records.now) }
-    ensures again { IfOk result (λ v. read_of v.items ≡ Ok records.now) }
-    ensures apart { IfOk result (λ v. StandApart 1 records.now (drop (length head) v.items)) }
-{
-    write_exactly(alloc, records)
+/// A piece ends with the record with which it has so many bytes.
+const PIECE: usize = 4096;
+
+/// A CL file whose bytes are taken piece by piece, from the first. Clauses see those that are left.
+#[derive(Drop)]
+pub struct ClBytes {
+    records: Vec<Record>,
+    begun: bool,
+    taken: usize,
+    ghost short: { AreShort (drop taken records.items) } by { short_prop (drop taken records.items) },
+    ghost within: { taken ≤ length records.items },
+    ghost numbers: { length records.items < 2 ^ 63 },
 }
 
-fn write_exactly(alloc: Global, records: &[Record]) -> Result<Vec<u8>, AllocError>
-    requires { IsFile records.now }
-    ensures { IfOk result (λ v. v.items ≡ file_of records.now) }
+impl Model for ClBytes {
+    ghost use Rattle.std.specs.Prelude.{ℕ, List, [], ◌+◌, ◌++◌, drop, if◌then◌else◌};
+    ghost use Rattle.apt_cldata.specs.Files.{head, records_bytes};
+
+    ghost Value = { List ℕ };
+
+    ghost view = { λ b. (if b.begun then [] else head) ++ records_bytes (b.taken + 1) (drop b.taken b.records.items) };
+}
+
+impl ClBytes {
+    /// The bytes of a CL file of these records, which are read as them again; where a record begins, no other
+    /// record's bytes begin.
+    #[tactic(auto, using(crate::proofs::Laws::file_again, crate::proofs::Laws::file_apart))]
+    pub fn of(records: Vec<Record>) -> ClBytes
+        requires { IsFile records.items }
+        ensures bytes { result ≡ file_of records.items }
+        ensures again { read_of result ≡ Ok records.items }
+        ensures apart { StandApart 1 records.items (drop (length head) result) }
+    {
+        ClBytes {
+            records,
+            begun: false,
+            taken: 0,
+        }
+    }
+
+    /// Whether none are left.
+    #[tactic(auto, using(crate::proofs::Left::none_or_some))]
+    pub fn is_empty(&self) -> bool
+        ensures { MatchBool result (self.now ≡ []) (self.now ≢ []) }
+    {
+        self.begun && self.records.split_at(self.taken).1.is_empty()
+    }
+
+    /// Takes the next bytes in the place of a piece before: whole records, and the head before the first. After a
+    /// refusal all that were left still are.
+    #[tactic(auto, using(crate::proofs::Left::short_behind))]
+    pub fn take_piece(&mut self, piece: &mut Vec<u8>) -> Result<(), AllocError>
+        ensures taken { OnOk result (self.old ≡ piece.new.items ++ self.new) }
+        ensures shorter { OnOk result (self.old ≢ [] → length self.new < length self.old) }
+        ensures kept { OnErr result (self.new ≡ self.old) }
+    {
+        piece.clear();
+        if !self.begun {
+            piece.extend_from_slice(HEAD)?;
+        }
+        let (_, rest) = self.records.split_at(self.taken);
+        let count = push_records(piece, self.taken as u64 + 1, rest)?;
+        self.begun = true;
+        self.taken += count;
+        Ok(())
+    }
+}
+
+/// Appends records, numbered from one on, until a piece is long enough, and says how many.
+fn push_records(piece: &mut Vec<u8>, first: u64, records: &[Record]) -> Result<usize, AllocError>
+    requires short { AreShort records.now }
+    requires numbers { first + length records.now ≤ 2 ^ 63 }
+    ensures bytes { IfOk result (λ n. piece.new.items ++ spec.records_bytes (first + n) (drop n records.now) ≡ piece.old.items ++ spec.records_bytes first records.now) }
+    ensures short { IfOk result (λ n. AreShort (drop n records.now)) }
+    ensures within { IfOk result (λ n. n ≤ length records.now) }
+    ensures some { IfOk result (λ n. piece.new.items ≡ [] → n ≡ length records.now) }
 {
-    // The records of a contour segment take 64 bytes each on average, those of a move fewer.
-    let mut bytes = Vec::with_capacity(alloc, records.len().saturating_mul(64))?;
-    let mut words = Vec::new(alloc);
-    bytes.extend_from_slice(HEAD)?;
-    let mut seq = 1;
+    let mut count = 0;
     'records: for record in records {
-        push_record(&mut bytes, &mut words, seq, record)?;
-        seq += 1;
+        if piece.len() >= PIECE {
+            return Ok(count);
+        }
+        push_record(piece, first + count as u64, record)?;
+        count += 1;
     }
-    Ok(bytes)
-}
-
-/// Appends a record with its number; after a refusal a part of it may stand there. The words only lend their room.
-fn push_record(
-    bytes: &mut Vec<u8>,
-    words: &mut Vec<i64>,
-    seq: u64,
-    said: &Record,
-) -> Result<(), AllocError>
-    requires short { IsShort said.now }
-    requires number { seq < 2 ^ 63 }
-    ensures { OnOk result (bytes.new.items ≡ bytes.old.items ++ spec.record_bytes seq said.now) }
-{
-    words.clear();
-    words.push(seq as i64)?;
-    push_words(words, said)?;
-    push_framed(bytes, words)
-}
-
-/// Appends words behind their length.
-fn push_framed(bytes: &mut Vec<u8>, words: &[i64]) -> Result<(), AllocError>
-    requires { 8 * length words.now < 2 ^ 32 }
-    ensures { OnOk result (bytes.new.items ≡ bytes.old.items ++ spec.framed words.now) }
-{
-    bytes.reserve(4 + 8 * words.len())?;
-    push_length(bytes, 8 * words.len() as u32);
-    'words: for word in words {
-        push_word(bytes, *word);
-    }
-    Ok(())
+    Ok(count)
 }

@@ -1,10 +1,10 @@
 use Rattle.std.proofs.Common.{◌≡◌, ◌≤◌, ◌+◌, ◌-◌, ◌*◌, ◌++◌, length, take, vec_len, vec_capacity}
 use Rattle.std.specs.List.{flat_map}
 use Rattle.apt_cldata.specs.Files.{length_bytes, word_bytes}
-use Rattle.apt_cldata.proofs.writing.push_framed.Given as goal
+use Rattle.apt_cldata.proofs.words.push_front.Given as goal
 
 abbrev pub invariant-words : goal.invariant-words
 invariant-words l = record {
-  written : l.bytes.items ≡ l.fn.bytes.items ++ (length_bytes (8 * length l.words) ++ flat_map word_bytes (take l.word-index l.words));
-  room : vec_len l.bytes + 8 * (length l.words - l.word-index) ≤ vec_capacity l.bytes;
+  written : l.bytes.items ≡ l.fn.bytes.items ++ (length_bytes (8 * l.count) ++ flat_map word_bytes (take l.word-index l.words));
+  room : vec_len l.bytes + 8 * (l.count - l.word-index) ≤ vec_capacity l.bytes;
 }
