@@ -104,7 +104,10 @@ fn the_sample_is_read_and_written_again(rt: HostRuntime) -> Result<(), Fail> {
         return Ok(());
     };
     assert!(rt; is_sample(&records));
-    assert_eq!(rt; taken(alloc, ClBytes::of(records))?.as_slice(), SAMPLE.as_slice());
+    assert_eq!(rt;
+        taken(alloc, ClBytes::of(records))?.as_slice(),
+        SAMPLE.as_slice()
+    );
     Ok(())
 }
 
@@ -151,7 +154,10 @@ fn every_kind_is_read_and_written_again(rt: HostRuntime) -> Result<(), Fail> {
         return Ok(());
     };
     assert_eq!(rt; records.len(), 30);
-    assert_eq!(rt; taken(alloc, ClBytes::of(records))?.as_slice(), bytes.as_slice());
+    assert_eq!(rt;
+        taken(alloc, ClBytes::of(records))?.as_slice(),
+        bytes.as_slice()
+    );
     Ok(())
 }
 
