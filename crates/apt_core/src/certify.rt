@@ -47,15 +47,15 @@ pub(crate) fn certify<H: Shelf>(alloc: Global, shelf: &mut H, names: Names<'_>) 
         Ok(tape) => tape,
         Err(status) => return status,
     };
-    judged_by(alloc, &text, &table, &cl, &tape)
+    judged_by(alloc, text, &table, &cl, &tape)
 }
 
 /// The answer to a part, a machine table, a CL file and a tape.
 #[tactic(auto, using(crate::proofs::Judging::table_judged, crate::proofs::Judging::judged_by))]
-fn judged_by(alloc: Global, text: &[u8], table: &[u8], cl: &[u8], tape: &[u8]) -> Status
+fn judged_by(alloc: Global, text: Vec<u8>, table: &[u8], cl: &[u8], tape: &[u8]) -> Status
     requires table { length table.now ≤ 65536 }
     requires short { length cl.now ≤ 67108864 }
-    ensures { IsJudged text.now table.now cl.now tape.now result }
+    ensures { IsJudged text.items table.now cl.now tape.now result }
 {
     match machine_of(table) {
         Ok(machine) => judged(alloc, &machine, text, cl, tape),
@@ -64,10 +64,10 @@ fn judged_by(alloc: Global, text: &[u8], table: &[u8], cl: &[u8], tape: &[u8]) -
 }
 
 /// The answer on a machine to a part, a CL file and a tape.
-fn judged(alloc: Global, machine: &Machine, text: &[u8], cl: &[u8], tape: &[u8]) -> Status
+fn judged(alloc: Global, machine: &Machine, text: Vec<u8>, cl: &[u8], tape: &[u8]) -> Status
     requires machine { IsMachine machine.now }
     requires short { length cl.now ≤ 67108864 }
-    ensures { IsJudgedOn machine.now text.now cl.now tape.now result }
+    ensures { IsJudgedOn machine.now text.items cl.now tape.now result }
 {
     let part = match part_on(alloc, text, machine) {
         Ok(part) => part,

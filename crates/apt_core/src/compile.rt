@@ -83,11 +83,10 @@ fn output_on(alloc: Global, text: Vec<u8>, machine: &Machine) -> Result<Output, 
     ensures output { IfOk result (λ o. IsOutput machine.now text.items o) }
     ensures none { IfErr result (λ s. HasNoPart machine.now text.items s) }
 {
-    let part = match part_on(alloc, &text, machine) {
+    let part = match part_on(alloc, text, machine) {
         Ok(part) => part,
         Err(status) => return Err(status),
     };
-    drop(text);
     match output_of(alloc, part, machine) {
         Ok(output) => Ok(output),
         Err(_) => Err(Status::NoMemory),

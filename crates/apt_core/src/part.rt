@@ -12,12 +12,12 @@ use apt_report::Status;
 use std::alloc::Global;
 
 /// The part of a text on a machine, or the answer where it comes to none.
-pub(crate) fn part_on(alloc: Global, text: &[u8], machine: &Machine) -> Result<Part, Status>
+pub(crate) fn part_on(alloc: Global, text: Vec<u8>, machine: &Machine) -> Result<Part, Status>
     requires { IsMachine machine.now }
-    ensures part { IfOk result (λ p. parts.part_of machine.now text.now ≡ Ok (Ok p)) }
-    ensures promise { IfOk result (λ p. Promise machine.now text.now p) }
+    ensures part { IfOk result (λ p. parts.part_of machine.now text.items ≡ Ok (Ok p)) }
+    ensures promise { IfOk result (λ p. Promise machine.now text.items p) }
     ensures steps { IfOk result (λ p. AreSteps p.steps) }
-    ensures none { IfErr result (λ s. HasNoPart machine.now text.now s) }
+    ensures none { IfErr result (λ s. HasNoPart machine.now text.items s) }
 {
     match part_of(alloc, text, machine) {
         Ok(part) => Ok(part),

@@ -48,29 +48,30 @@ pub enum PartError {
     NoMemory,
 }
 
-/// The part of a text on a machine: its steps, and their records.
+/// The part of a text on a machine: its steps, and their records. The text goes as soon as it has been read.
 ///
 /// # Errors
 ///
 /// `Bad` is the first fault of the text, and else `Refused` the first step that is refused.
 #[tactic(auto, using(crate::proofs::Promised::promised, crate::proofs::Promised::are_steps))]
-pub fn part_of(alloc: Global, text: &[u8], machine: &Machine) -> Result<Part, PartError>
+pub fn part_of(alloc: Global, text: Vec<u8>, machine: &Machine) -> Result<Part, PartError>
     requires { IsMachine machine.now }
-    ensures value { IsPart (parts.part_of machine.now text.now) result }
-    ensures promise { IfOk result (λ p. Promise machine.now text.now p) }
+    ensures value { IsPart (parts.part_of machine.now text.items) result }
+    ensures promise { IfOk result (λ p. Promise machine.now text.items p) }
     ensures steps { IfOk result (λ p. AreSteps p.steps) }
 {
     whole_part(alloc, text, machine)
 }
 
-fn whole_part(alloc: Global, text: &[u8], machine: &Machine) -> Result<Part, PartError>
-    ensures { IsPart (parts.part_of machine.now text.now) result }
+fn whole_part(alloc: Global, text: Vec<u8>, machine: &Machine) -> Result<Part, PartError>
+    ensures { IsPart (parts.part_of machine.now text.items) result }
 {
-    let program = match parse(alloc, text) {
+    let program = match parse(alloc, &text) {
         Ok(program) => program,
         Err(ParseError::Bad { line, cause }) => return Err(PartError::Bad { line, cause }),
         Err(ParseError::NoMemory) => return Err(PartError::NoMemory),
     };
+    drop(text);
     match part_by(alloc, program, machine) {
         Ok(part) => Ok(part),
         Err(RunError::Refused(refusal)) => Err(PartError::Refused(refusal)),

@@ -8,7 +8,8 @@ use std::test::Fail;
 
 #[test]
 fn a_part_has_its_records(rt: HostRuntime) -> Result<(), Fail> {
-    let text = b"PARTNO A\nFEDRAT/10\nFROM/0,0,0\nGOTO/1,2,3\nFINI\n";
+    let mut text = Vec::new(rt.alloc());
+    text.extend_from_slice(b"PARTNO A\nFEDRAT/10\nFROM/0,0,0\nGOTO/1,2,3\nFINI\n")?;
     match part_of(rt.alloc(), text, &Machine::largest()) {
         Ok(part) => {
             assert_eq!(rt; part.steps.len(), 5);
