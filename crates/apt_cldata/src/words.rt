@@ -21,8 +21,8 @@ pub(crate) fn push_record(bytes: &mut Vec<u8>, seq: u64, said: &Record) -> Resul
     let seq = seq as i64;
     match said {
         Record::Statement { line, step } => {
-            let words = [seq, 1000, 0, i64::from(*line), i64::from(*step)];
-            push_framed(bytes, &words)
+            let (line, step) = (row(i64::from(*line)), row(i64::from(*step)));
+            push_rows(bytes, &[row(seq), row(1000), row(0), line, step])
         }
         Record::Note(note) => push_note(bytes, seq, note),
         Record::Drive {
@@ -30,20 +30,47 @@ pub(crate) fn push_record(bytes: &mut Vec<u8>, seq: u64, said: &Record) -> Resul
             side,
             sense,
         } => {
-            let [kind, a, b, c, d] = surface_words(surface);
-            let (side, sense) = (side_word(*side), i64::from(*sense));
-            push_framed(bytes, &[seq, 3000, 1, kind, a, b, c, d, side, sense])
+            let [kind, a, b, c, d] = surface_rows(surface);
+            let (side, sense) = (row(side_word(*side)), row(i64::from(*sense)));
+            let rows = [row(seq), row(3000), row(1), kind, a, b, c, d, side, sense];
+            push_rows(bytes, &rows)
         }
         Record::Check { surface, how } => {
-            let [kind, a, b, c, d] = surface_words(surface);
-            push_framed(bytes, &[seq, 3000, 2, kind, a, b, c, d, stop_word(*how)])
+            let [kind, a, b, c, d] = surface_rows(surface);
+            let how = row(stop_word(*how));
+            push_rows(bytes, &[row(seq), row(3000), row(2), kind, a, b, c, d, how])
         }
         Record::Point(reach, to) => {
-            let words = [seq, 5000, reach_word(*reach), to.at.x, to.at.y, to.z];
-            push_framed(bytes, &words)
+            let [x, y, z] = position_rows(*to);
+            let reach = row(reach_word(*reach));
+            push_rows(bytes, &[row(seq), row(5000), reach, x, y, z])
         }
-        Record::Contour(vertices) => push_contour(bytes, seq, &vertices.at),
+        Record::Contour(vertices) => match vertices.at.as_slice() {
+            [vertex] => {
+                let [x, y, z] = position_rows(*vertex);
+                push_rows(bytes, &[row(seq), row(5000), row(5), x, y, z])
+            }
+            more => push_contour(bytes, seq, more),
+        },
     }
+}
+
+/// A word's bytes.
+#[tactic(auto, unfolding(crate::specs::Files::word_bytes))]
+fn row(word: i64) -> [u8; 8]
+    ensures { result ≡ files.word_bytes word }
+{
+    word.to_be_bytes()
+}
+
+/// Appends words, each by its bytes, behind their length.
+fn push_rows(bytes: &mut Vec<u8>, rows: &[[u8; 8]]) -> Result<(), AllocError>
+    requires { 8 * length rows.now < 2 ^ 32 }
+    ensures { OnOk result (bytes.new.items ≡ bytes.old.items ++ (files.length_bytes (8 * length rows.now) ++ flat_map (λ row. row) rows.now)) }
+{
+    bytes.reserve(4 + 8 * rows.len())?;
+    push_length(bytes, 8 * rows.len() as u32);
+    bytes.extend_from_slice(rows.as_flattened())
 }
 
 fn push_note(bytes: &mut Vec<u8>, seq: i64, note: &Note) -> Result<(), AllocError>
@@ -128,14 +155,24 @@ fn push_position(bytes: &mut Vec<u8>, p: Position)
     push_word(bytes, p.z);
 }
 
-/// A surface's kind and its four numbers.
-fn surface_words(surface: &Surface) -> [i64; 5]
-    ensures { result ≡ spec.surface_words surface.now }
+/// A surface's kind and its four numbers, each by its bytes.
+fn surface_rows(surface: &Surface) -> [[u8; 8]; 5]
+    ensures { result ≡ map files.word_bytes (spec.surface_words surface.now) }
 {
     match surface {
-        Surface::Line(l) => [1, l.base.x, l.base.y, l.dir.dx, l.dir.dy],
-        Surface::Circ(c) => [2, c.c.x, c.c.y, c.r, 0],
+        Surface::Line(l) => {
+            let (base, dir) = (l.base, l.dir);
+            [row(1), row(base.x), row(base.y), row(dir.dx), row(dir.dy)]
+        }
+        Surface::Circ(c) => [row(2), row(c.c.x), row(c.c.y), row(c.r), row(0)],
     }
+}
+
+/// A position's three words, each by its bytes.
+fn position_rows(p: Position) -> [[u8; 8]; 3]
+    ensures { result ≡ map files.word_bytes (spec.position_words p) }
+{
+    [row(p.at.x), row(p.at.y), row(p.z)]
 }
 
 fn units_word(units: Units) -> i64
