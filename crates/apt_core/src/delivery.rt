@@ -13,7 +13,7 @@ use apt_shelf::{Shelf, ShelfFault, write_all};
 use std::alloc::Global;
 
 /// Writes the CL file whole, and then the tape.
-#[tactic(auto, using(crate::proofs::Deliveries::cl_cut, crate::proofs::Deliveries::tape_cut, crate::proofs::Deliveries::both_whole))]
+#[tactic(auto, using(crate::proofs::Deliveries::cl_cut, crate::proofs::Deliveries::both_whole))]
 pub(crate) fn deliver<H: Shelf>(
     alloc: Global,
     shelf: &mut H,
