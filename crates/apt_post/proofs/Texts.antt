@@ -1,19 +1,23 @@
--- The text of acts, an act at a time.
-use Rattle.std.specs.Prelude.{◌≡◌, ℕ, zero, suc, ◌+◌, ◌<◌, List, [], ◌∷◌, ◌++◌, length}
-use Rattle.std.proofs.Common.{ap, subst, sym, ◌∙◌, arith, inl, inr, append_assoc, get_or, drop, add-one, drop-cons}
+-- The bytes of acts, an act at a time.
+use Rattle.std.specs.Prelude.{◌≡◌, ℕ, zero, suc, ◌+◌, ◌<◌, List, [], ◌∷◌, ◌++◌, length, map}
+use Rattle.std.proofs.Common.{ap, subst, sym, ◌∙◌, arith, inl, inr, get_or, drop, add-one, drop-cons}
+use Rattle.apt_tapecode.specs.declared.Code.{Code}
+use Rattle.apt_tapecode.specs.Tapecode.{byte_of}
 use Rattle.apt_block.specs.Block.{spelling}
 use Rattle.apt_control.specs.declared.Act.{Act}
 use Rattle.apt_control.specs.declared.Act.TheVariants as acts
 use Rattle.apt_post.specs.Blocks.{act_block, acts_text, CanWrite, ToTheEnd, IsProgram}
+use Rattle.apt_post.proofs.Pieces.{punched-append}
 use Rattle.apt_post.proofs.Running.{first_act}
 
 -- one act more
-pub acts_text-next : (done : List ℕ) (step k : ℕ) (all : List Act) (d : Act) → k < length all
-    → (done ++ spelling (act_block step k (get_or all k d))) ++ acts_text step (k + 1) (drop (k + 1) all) ≡ done ++ acts_text step k (drop k all)
-acts_text-next done step k all d h =
-    append_assoc done (spelling (act_block step k (get_or all k d))) (acts_text step (k + 1) (drop (k + 1) all))
-    ∙ ap (λ m. done ++ (spelling (act_block step k (get_or all k d)) ++ acts_text step (k + 1) (drop m all))) (add-one k)
-    ∙ ap (λ some. done ++ acts_text step k some) (sym (drop-cons all k d h))
+pub punched-next : (code : Code) (done : List ℕ) (step k : ℕ) (all : List Act) (d : Act) → k < length all
+    → (done ++ map (byte_of code) (spelling (act_block step k (get_or all k d)))) ++ map (byte_of code) (acts_text step (k + 1) (drop (k + 1) all))
+    ≡ done ++ map (byte_of code) (acts_text step k (drop k all))
+punched-next code done step k all d h =
+    punched-append code done (spelling (act_block step k (get_or all k d))) (acts_text step (k + 1) (drop (k + 1) all))
+    ∙ ap (λ m. done ++ map (byte_of code) (spelling (act_block step k (get_or all k d)) ++ acts_text step (k + 1) (drop m all))) (add-one k)
+    ∙ ap (λ some. done ++ map (byte_of code) (acts_text step k some)) (sym (drop-cons all k d h))
 
 member-CanWrite : (all : List Act) → ToTheEnd all → (i : ℕ) (d : Act) → i < length all → CanWrite (get_or all i d)
 member-CanWrite [] is i d h = absurd is

@@ -1,39 +1,76 @@
 //! The block of each act.
 
-ghost use Rattle.std.specs.Prelude.{◌≡◌, ◌+◌, ◌*◌, ◌%◌, ◌≤◌, ◌++◌, [], length, pos};
-ghost use Rattle.apt_block.specs.Block.{IsBlock, tape_word, letter_g, letter_m};
+ghost use Rattle.std.specs.Prelude.{◌≡◌, ◌+◌, ◌*◌, ◌%◌, ◌≤◌, ◌++◌, [], length, map, pos, OnOk};
+ghost use Rattle.std.specs.List.{flat_map};
+ghost use Rattle.apt_block.specs.Block.{IsBlock, spelling, tape_word, word_text, letter_g, letter_m};
 ghost use Rattle.apt_post.specs.Blocks as spec;
+ghost use Rattle.apt_tapecode.specs.Tapecode.{byte_of};
 
-use apt_block::{Block, TapeWord};
+use crate::lines::{Line, cut_line, push_number, rapid_line};
+use crate::punch_all;
+use apt_block::{Block, TapeWord, write_block};
 use apt_control::Act;
+use apt_tapecode::Code;
 use apt_words::{Cool, Turn, Units};
+use std::alloc::{AllocError, Global};
 
-/// Makes a block that of an act which `k` blocks precede. A step of 0 numbers no block.
-pub fn fill_block(block: &mut Block, step: u16, k: usize, act: &Act)
+/// Appends the bytes of an act which `k` blocks precede. A step of 0 numbers no block.
+#[tactic(auto, using(crate::proofs::Pieces::punched_block))]
+pub fn push_block(
+    alloc: Global,
+    code: Code,
+    step: u16,
+    k: usize,
+    act: &Act,
+    bytes: &mut Vec<u8>,
+) -> Result<(), AllocError>
     requires { spec.CanWrite act.now }
-    ensures words { block.new ≡ spec.act_block step k act.now }
-    ensures block { IsBlock block.new }
+    ensures { OnOk result (bytes.new.items ≡ bytes.old.items ++ map (byte_of code) (spelling (spec.act_block step k act.now))) }
 {
-    block.clear();
-    push_number(block, step, k);
-    push_act(block, act);
+    push_sequence(code, step, k, bytes)?;
+    push_act(alloc, code, act, bytes)
 }
 
-fn push_number(block: &mut Block, step: u16, k: usize)
-    requires empty { block.old ≡ [] }
-    ensures words { block.new ≡ spec.numbered step k }
-    ensures short { length block.new ≤ 1 }
+fn push_sequence(code: Code, step: u16, k: usize, bytes: &mut Vec<u8>) -> Result<(), AllocError>
+    ensures { OnOk result (bytes.new.items ≡ bytes.old.items ++ map (byte_of code) (flat_map word_text (spec.numbered step k))) }
 {
     if step > 0 {
-        block.push(word(b'N', sequence_number(step, k)));
+        let mut word = Line::new();
+        push_number(&mut word, code, b'N', sequence_number(step, k));
+        bytes.extend_from_slice(&word)?;
+    }
+    Ok(())
+}
+
+fn push_act(alloc: Global, code: Code, act: &Act, bytes: &mut Vec<u8>) -> Result<(), AllocError>
+    requires { spec.CanWrite act.now }
+    ensures { OnOk result (bytes.new.items ≡ bytes.old.items ++ map (byte_of code) (spelling (spec.act_words act.now))) }
+{
+    match *act {
+        Act::Rapid { x, y, z } => bytes.extend_from_slice(&rapid_line(code, x, y, z)),
+        Act::Cut { x, y, z, feed } => bytes.extend_from_slice(&cut_line(code, x, y, z, feed)),
+        _ => push_other(alloc, code, act, bytes),
     }
 }
 
-/// The number of the block that `k` blocks precede: 1 and `k` steps, and 1 again behind 9999.
-fn sequence_number(step: u16, k: usize) -> i64
-    ensures { result ≡ pos (1 + (k * step) % 9999) }
+/// Appends the bytes of an act by the list of its words.
+fn push_other(alloc: Global, code: Code, act: &Act, bytes: &mut Vec<u8>) -> Result<(), AllocError>
+    requires { spec.CanWrite act.now }
+    ensures { OnOk result (bytes.new.items ≡ bytes.old.items ++ map (byte_of code) (spelling (spec.act_words act.now))) }
 {
-    1 + steps_round(step, k) as i64
+    let mut block = Block::new();
+    push_words(&mut block, act);
+    let mut text = Vec::new(alloc);
+    write_block(alloc, &block, &mut text)?;
+    punch_all(code, &mut text);
+    bytes.extend_from_slice(&text)
+}
+
+/// The number of the block that `k` blocks precede: 1 and `k` steps, and 1 again behind 9999.
+fn sequence_number(step: u16, k: usize) -> u32
+    ensures { result ≡ 1 + (k * step) % 9999 }
+{
+    1 + steps_round(step, k) as u32
 }
 
 /// `k` steps, where 9999 are none.
@@ -71,9 +108,11 @@ fn push_all(block: &mut Block, words: &[TapeWord])
     }
 }
 
-fn push_act(block: &mut Block, act: &Act)
-    requires room { length block.old ≤ 1 }
-    ensures { block.new ≡ block.old ++ spec.act_words act.now }
+fn push_words(block: &mut Block, act: &Act)
+    requires none { block.old ≡ [] }
+    requires can { spec.CanWrite act.now }
+    ensures words { block.new ≡ spec.act_words act.now }
+    ensures block { IsBlock block.new }
 {
     match *act {
         Act::Units(Units::Inch) => push_all(block, &[g(70), g(90), g(94)]),

@@ -9,15 +9,15 @@ ghost use Rattle.apt_tapecode.specs.Tapecode as tapecode;
 
 mod blocks;
 mod limiting;
+mod lines;
 mod planning;
 #[cfg(test)]
 mod tests;
 
-use apt_block::{Block, write_block};
 use apt_control::Act;
 use apt_machine::Machine;
 use apt_tapecode::{Code, punch};
-use blocks::fill_block;
+use blocks::push_block;
 pub use limiting::limits;
 pub use planning::{Pending, Planning, plan};
 use std::alloc::{AllocError, Global};
@@ -30,25 +30,20 @@ pub fn tape(alloc: Global, acts: &[Act], machine: &Machine) -> Result<Vec<u8>, A
     ensures bytes { IfOk result (λ v. v.items ≡ spec.tape_bytes machine.now acts.now) }
     ensures run { IfOk result (λ v. control_run machine.now.code v.items ≡ Ok acts.now) }
 {
-    let mut bytes = tape_text(alloc, acts, machine.seq)?;
-    punch_all(machine.code, &mut bytes);
-    Ok(bytes)
+    tape_bytes(alloc, acts, machine.code, machine.seq)
 }
 
-/// The characters of the tape.
-fn tape_text(alloc: Global, acts: &[Act], step: u16) -> Result<Vec<u8>, AllocError>
+fn tape_bytes(alloc: Global, acts: &[Act], code: Code, step: u16) -> Result<Vec<u8>, AllocError>
     requires { spec.IsProgram acts.now }
-    ensures { IfOk result (λ v. v.items ≡ spec.tape_text step acts.now) }
+    ensures { IfOk result (λ v. v.items ≡ map (tapecode.byte_of code) (spec.tape_text step acts.now)) }
 {
-    let mut text = Vec::new(alloc);
-    text.push(b'%')?;
-    text.push(b'\n')?;
-    let mut block = Block::new();
+    let mut bytes = Vec::new(alloc);
+    bytes.push(byte_of(code, b'%'))?;
+    bytes.push(byte_of(code, b'\n'))?;
     'acts: for (k, act) in acts.iter().enumerate() {
-        fill_block(&mut block, step, k, act);
-        write_block(alloc, &block, &mut text)?;
+        push_block(alloc, code, step, k, act, &mut bytes)?;
     }
-    Ok(text)
+    Ok(bytes)
 }
 
 /// Puts the byte of each character in its place.
