@@ -11,6 +11,7 @@ mod blocks;
 mod limiting;
 mod lines;
 mod planning;
+mod tables;
 #[cfg(test)]
 mod tests;
 

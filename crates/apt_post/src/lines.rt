@@ -1,6 +1,6 @@
 //! The bytes of the lines that move, which most of a tape is.
 
-ghost use Rattle.std.specs.Prelude.{◌≡◌, ◌≤◌, ◌<◌, ◌+◌, ◌^◌, ◌++◌, ◌∷◌, [], map, unsigned_abs};
+ghost use Rattle.std.specs.Prelude.{◌≡◌, ◌≤◌, ◌<◌, ◌+◌, ◌/◌, ◌%◌, ◌^◌, ◌++◌, ◌∷◌, [], map, unsigned_abs};
 ghost use Rattle.std.specs.List.{flat_map};
 ghost use Rattle.arrayvec.specs.ArrayVec.{array_vec_len};
 ghost use Rattle.apt_block.specs.Block.{spelling, word_text};
@@ -10,6 +10,7 @@ ghost use Rattle.apt_post.specs.Blocks as spec;
 ghost use Rattle.apt_tapecode.specs.Tapecode.{byte_of};
 
 use crate::byte_of;
+use crate::tables::{PAIRS_244, PAIRS_358};
 use apt_tapecode::Code;
 use arrayvec::ArrayVec;
 
@@ -130,6 +131,28 @@ fn push_two(line: &mut Line, code: Code, n: u32)
     ensures items { line.new.items ≡ line.old.items ++ map (byte_of code) (block.digits 2 n) }
     ensures len { array_vec_len line.new ≡ array_vec_len line.old + 2 }
 {
-    line.push(byte_of(code, b'0' + (n / 10) as u8));
-    line.push(byte_of(code, b'0' + (n % 10) as u8));
+    let tens = tens_byte(code, n);
+    let units = units_byte(code, n);
+    line.push(tens);
+    line.push(units);
+}
+
+fn tens_byte(code: Code, n: u32) -> u8
+    requires { n < 10 ^ 2 }
+    ensures { result ≡ byte_of code (48 + n / 10) }
+{
+    match code {
+        Code::Rs244 => PAIRS_244[2 * n as usize],
+        Code::Rs358 => PAIRS_358[2 * n as usize],
+    }
+}
+
+fn units_byte(code: Code, n: u32) -> u8
+    requires { n < 10 ^ 2 }
+    ensures { result ≡ byte_of code (48 + n % 10) }
+{
+    match code {
+        Code::Rs244 => PAIRS_244[2 * n as usize + 1],
+        Code::Rs358 => PAIRS_358[2 * n as usize + 1],
+    }
 }
