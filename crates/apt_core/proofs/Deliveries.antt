@@ -1,18 +1,11 @@
 -- What two writings leave, of which the second follows the first.
-use Rattle.std.proofs.Common.{◌≡◌, ◌∙◌, ◌++◌, inl, inr, ℕ, List, length, take, Option, Some, None, refl, sym, ap, subst, arith}
-use Rattle.std.proofs.Math.Seq.{take-append_seam, take-length}
-use Rattle.std.proofs.lemmas.List.{length-append}
+use Rattle.std.proofs.Common.{inl, inr, ℕ, List, length, Option, Some, None, refl, sym, ap, subst, arith}
+use Rattle.std.proofs.Math.Seq.{take-length}
 use Rattle.std.specs.FinMap.{insert}
 use Rattle.apt_shelf.specs.Told.{Contents, Steps}
 use Rattle.apt_shelf.specs.Files.{WritesPrefix}
 use Rattle.apt_core.specs.Outputs.{Output}
 use Rattle.apt_core.specs.Delivery.{with_output, WritesFront}
-
--- a front part of a file was written
-pub front_written : (t₀ t₁ : Option Contents) (name done left whole : List ℕ) → done ++ left ≡ whole → Steps (λ m. insert m name done) t₀ t₁ → WritesPrefix name whole t₀ t₁
-front_written None t₁ name done left whole e s = tt
-front_written (Some m) t₁ name done left whole e s =
-    inr (length done, omega (arith, length-append done left, ap length e), s ∙ ap (λ d. Some (insert m name d)) (sym (take-append_seam done left) ∙ ap (take (length done)) e))
 
 -- the CL file was cut short
 pub cl_cut : (cl tape : List ℕ) (o : Output) (before after : Option Contents) → WritesPrefix cl o.cl before after → WritesFront cl tape o before after
