@@ -2,7 +2,7 @@
 
 ghost use Rattle.std.specs.Prelude.{◌≡◌, ◌≢◌, ◌≤◌, length, IfOk, IfErr, Ok};
 ghost use Rattle.apt_shelf.specs.Told.{Rose};
-ghost use Rattle.apt_cldata.specs.Files.{IsFile, file_of};
+ghost use Rattle.apt_cldata.specs.Files.{IsFile};
 ghost use Rattle.apt_cldata.specs.Reading.{read_of};
 ghost use Rattle.apt_control.specs.Control.{control_run};
 ghost use Rattle.apt_machine.specs.Machines.{IsMachine};
@@ -11,27 +11,28 @@ ghost use Rattle.apt_post.specs.Blocks.{IsProgram};
 ghost use Rattle.apt_core.specs.Request.{four_names};
 ghost use Rattle.apt_core.specs.Outputs as outputs;
 ghost use Rattle.apt_core.specs.Unread.{HasNoPart, HasNoOutput};
-ghost use Rattle.apt_core.specs.Delivery.{IsDelivered};
 ghost use Rattle.apt_core.specs.OutputOf.{IsOutput, IsOutputBy};
 ghost use Rattle.apt_core.specs.Promise.{Compiles, files_on};
 
+use crate::delivery::deliver;
 use crate::machine::machine_of;
 use crate::part::part_on;
 use crate::reading::{MACHINE_LIMIT, PART_LIMIT, read_input};
 use crate::words::Names;
-use apt_cldata::{ClBytes, Record};
+use apt_cldata::ClBytes;
 use apt_machine::Machine;
 use apt_part::Part;
 use apt_post::{Planning, plan, tape};
 use apt_report::{Status, Summary};
-use apt_shelf::{Shelf, ShelfFault, write_all};
+use apt_shelf::Shelf;
 use std::alloc::{AllocError, Global};
 use std::marker::Model;
 
-/// The bytes of a CL file and of its tape, and what is told of them. Clauses see the two texts and the summary.
+/// A CL file that is still to be written, the bytes of its tape, and what is told of them. Clauses see the two texts and
+/// the summary.
 #[derive(Drop)]
 pub(crate) struct Output {
-    pub cl: Vec<u8>,
+    pub cl: ClBytes,
     pub tape: Vec<u8>,
     pub summary: Summary,
 }
@@ -41,7 +42,7 @@ impl Model for Output {
 
     ghost Value = { outputs.Output };
 
-    ghost view = { λ o. record { cl = o.cl.items; tape = o.tape.items; summary = o.summary } };
+    ghost view = { λ o. record { cl = o.cl; tape = o.tape.items; summary = o.summary } };
 }
 
 /// Reads the part and the machine table, and writes the part's CL file and then its tape.
@@ -58,7 +59,7 @@ pub(crate) fn compile<H: Shelf>(alloc: Global, shelf: &mut H, names: Names<'_>) 
         Err(status) => return status,
     };
     match output_by(alloc, text, &table) {
-        Ok(output) => deliver(shelf, &output, names.cl, names.tape),
+        Ok(output) => deliver(alloc, shelf, output, names.cl, names.tape),
         Err(status) => status,
     }
 }
@@ -110,49 +111,6 @@ fn output_of(alloc: Global, part: Part, machine: &Machine) -> Result<Output, All
         segments,
     };
     drop(acts);
-    let cl = file_bytes(alloc, records)?;
+    let cl = ClBytes::of(records);
     Ok(Output { cl, tape, summary })
-}
-
-/// The bytes of a CL file of these records, which are read as them again.
-fn file_bytes(alloc: Global, records: Vec<Record>) -> Result<Vec<u8>, AllocError>
-    requires { IsFile records.items }
-    ensures bytes { IfOk result (λ v. v.items ≡ file_of records.items) }
-    ensures again { IfOk result (λ v. read_of v.items ≡ Ok records.items) }
-{
-    whole_file(alloc, ClBytes::of(records))
-}
-
-/// All bytes of a file.
-fn whole_file(alloc: Global, file: ClBytes) -> Result<Vec<u8>, AllocError>
-    ensures { IfOk result (λ v. v.items ≡ file) }
-{
-    let mut left = file;
-    let mut bytes = Vec::new(alloc);
-    let mut piece = Vec::new(alloc);
-    'pieces: while !left.is_empty() {
-        left.take_piece(&mut piece)?;
-        bytes.extend_from_slice(&piece)?;
-    }
-    Ok(bytes)
-}
-
-/// Writes the CL file whole, and then the tape.
-#[tactic(auto, using(crate::proofs::Deliveries::cl_cut, crate::proofs::Deliveries::tape_cut, crate::proofs::Deliveries::both_whole))]
-fn deliver<H: Shelf>(shelf: &mut H, output: &Output, cl: &str, tape: &str) -> Status
-    ensures delivered { IsDelivered cl.now tape.now output.now (H.told shelf.old) (H.told shelf.new) result }
-    ensures write_fault { result ≡ Status.WriteFault → Rose (H.write_faults shelf.old) (H.write_faults shelf.new) }
-    ensures later { H.write_faults shelf.old ≤ H.write_faults shelf.new }
-    ensures read_faults { H.read_faults shelf.new ≡ H.read_faults shelf.old }
-{
-    match write_all(shelf, cl, &output.cl) {
-        Ok(()) => {}
-        Err(ShelfFault::Fault) => return Status::WriteFault,
-        Err(ShelfFault::NoMemory) => return Status::NoMemory,
-    }
-    match write_all(shelf, tape, &output.tape) {
-        Ok(()) => Status::Done(output.summary),
-        Err(ShelfFault::Fault) => Status::WriteFault,
-        Err(ShelfFault::NoMemory) => Status::NoMemory,
-    }
 }

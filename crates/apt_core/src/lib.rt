@@ -9,6 +9,7 @@ ghost use Rattle.apt_core.specs.Promise.{IsRun, Completes, Works, files_on, outs
 mod certify;
 mod compile;
 mod decode;
+mod delivery;
 mod machine;
 mod part;
 mod put;

@@ -1,14 +1,14 @@
 -- Laws of the told map.
-use Rattle.std.specs.Prelude.{◌≡◌, ℕ, List, [], ◌++◌, ◌+◌, ◌≤◌, length, take, unwrap_or, cond, Bool, true, false, Option, Some, None, Result, Ok, Err, OnErr}
-use Rattle.std.proofs.Common.{ap, sym, ◌∙◌, refl, arith, inl, inr}
-use Rattle.std.proofs.lemmas.List.{length-append, take-append-le}
+use Rattle.std.specs.Prelude.{◌≡◌, ℕ, List, [], ◌∷◌, ◌++◌, ◌+◌, ◌≤◌, length, take, unwrap_or, cond, Bool, true, false, Option, Some, None, Result, Ok, Err, OnErr}
+use Rattle.std.proofs.Common.{ap, sym, subst, ◌∙◌, ◌<◌, refl, arith, inl, inr, append_assoc}
+use Rattle.std.proofs.lemmas.List.{append-nil, length-append, take-append-le}
 use Rattle.std.proofs.Math.Seq.{take-append-add, take-append_seam}
 use Rattle.std.specs.Ordering.{nat_cmp, eq_by_cmp}
 use Rattle.std.specs.Cmp.{eq_by_cmp_equiv}
 use Rattle.std.specs.Cmp.Lexicographic.{slice_cmp, nat_list_cmp_total, texts_ties, same_text}
 use Rattle.std.specs.FinMap.{get, insert, get-insert, same_map, slice_cmp-IsAntisymmetric, nat_cmp-IsAntisymmetric}
 use Rattle.apt_shelf.specs.Told.{Contents, appended, Steps, Adds, KeepsPrefix}
-use Rattle.apt_shelf.specs.Files.{WritesPrefix}
+use Rattle.apt_shelf.specs.Files.{AddsAny, WritesPrefix}
 
 -- two names are one, as the map tests it
 abbrev pub same_name : List ℕ → List ℕ → Bool
@@ -41,6 +41,29 @@ adds_more None t₁ t₂ w k v piece e s a = tt
 adds_more (Some m) t₁ t₂ w k v piece e s a =
     let b : Adds (Some k) piece (Some (insert m k v)) t₂ = rw (e, s) at a in
     b ∙ ap Some (append_more m k v piece)
+
+appended_again : (m : Contents) (k p q : List ℕ) → appended (appended m k p) k q ≡ appended m k (p ++ q)
+appended_again m k p q = let held = unwrap_or (get m k) [] in append_more m k (held ++ p) q ∙ ap (insert m k) (append_assoc held p q)
+
+adds_again : (t₀ t₁ t₂ : Option Contents) (w : Option (List ℕ)) (p q : List ℕ) → Adds w p t₀ t₁ → Adds w q t₁ t₂ → Adds w (p ++ q) t₀ t₂
+adds_again None t₁ t₂ w p q a b = tt
+adds_again (Some m) t₁ t₂ None p q a b = tt
+adds_again (Some m) t₁ t₂ (Some k) p q a b =
+    let c : Adds (Some k) q (Some (appended m k p)) t₂ = rw a at b in
+    c ∙ ap Some (appended_again m k p q)
+
+-- one more piece, behind any
+pub adds_behind : (t₀ t₁ t₂ : Option Contents) (w : Option (List ℕ)) (part piece : List ℕ) → 0 < length piece
+    → AddsAny w part t₀ t₁ → Adds w piece t₁ t₂ → AddsAny w (part ++ piece) t₀ t₂
+adds_behind t₀ t₁ t₂ w [] [] h a b = absurd (omega (arith, h))
+adds_behind t₀ t₁ t₂ w [] (c ∷ piece) h a b = subst (λ t. Adds w (c ∷ piece) t t₂) a b
+adds_behind t₀ t₁ t₂ w (c ∷ part) piece h a b = adds_again t₀ t₁ t₂ w (c ∷ part) piece a b
+
+-- what is added to a name behind what was written to it
+pub adds_written : (t₀ t₁ t₂ : Option Contents) (w : Option (List ℕ)) (k v part : List ℕ) → w ≡ Some k
+    → Steps (λ m. insert m k v) t₀ t₁ → AddsAny w part t₁ t₂ → Steps (λ m. insert m k (v ++ part)) t₀ t₂
+adds_written t₀ t₁ t₂ w k v [] e s a = rw (append-nil, a) s
+adds_written t₀ t₁ t₂ w k v (b ∷ part) e s a = adds_more t₀ t₁ t₂ w k v (b ∷ part) e s a
 
 pub insert_held : (m : Contents) (k v : List ℕ) → get m k ≡ Some v → insert m k v ≡ m
 insert_held m k v h = same_map nat_list_cmp_total (slice_cmp-IsAntisymmetric nat_cmp-IsAntisymmetric) _ _ (λ q.
@@ -83,6 +106,40 @@ keeps_prefix None t₁ t₂ w name done piece after whole e f s a = tt
 keeps_prefix (Some m) t₁ t₂ w name done piece after whole e f s a =
     let b : KeepsPrefix (Some name) piece (Some (insert m name done)) t₂ = rw (e, s) at a in
     prefix_of m name done piece after whole t₂ f b
+
+behind_some : (m : Contents) (name part piece after whole : List ℕ) (t : Option Contents) → part ++ (piece ++ after) ≡ whole
+    → KeepsPrefix (Some name) piece (Some (appended m name part)) t → KeepsPrefix (Some name) whole (Some m) t
+behind_some m name part piece after whole t e k =
+    let bound = within part piece after whole e in
+    elim k [
+      | inl same ↦ inr (length part, omega (arith, bound), same ∙ ap (λ d. Some (appended m name d)) (take_done part piece after whole e))
+      | inr more ↦ inr (
+        length part + more.0,
+        omega (arith, bound, more.1),
+        more.2 ∙ ap Some (appended_again m name part (take more.0 piece)) ∙ ap (λ d. Some (appended m name d)) (take_more part piece after whole more.0 e more.1),
+      )
+    ]
+
+longer : (t₀ t₁ : Option Contents) (w : Option (List ℕ)) (piece after : List ℕ) → KeepsPrefix w piece t₀ t₁ → KeepsPrefix w (piece ++ after) t₀ t₁
+longer None t₁ w piece after a = tt
+longer (Some m) t₁ None piece after a = tt
+longer (Some m) t₁ (Some name) piece after (inl same) = inl same
+longer (Some m) t₁ (Some name) piece after (inr part) =
+    inr (part.0, omega (arith, part.1, length-append piece after), part.2 ∙ ap (λ d. Some (appended m name d)) (sym (take-append-le part.0 piece after part.1)))
+
+behind : (t₀ t₁ t₂ : Option Contents) (w : Option (List ℕ)) (part piece after whole : List ℕ) → part ++ (piece ++ after) ≡ whole
+    → Adds w part t₀ t₁ → KeepsPrefix w piece t₁ t₂ → KeepsPrefix w whole t₀ t₂
+behind None t₁ t₂ w part piece after whole e a b = tt
+behind (Some m) t₁ t₂ None part piece after whole e a b = tt
+behind (Some m) t₁ t₂ (Some name) part piece after whole e a b =
+    let c : KeepsPrefix (Some name) piece (Some (appended m name part)) t₂ = rw a at b in
+    behind_some m name part piece after whole t₂ e c
+
+-- a refused piece, behind any that were added
+pub keeps_behind : (t₀ t₁ t₂ : Option Contents) (w : Option (List ℕ)) (part piece after whole : List ℕ) → part ++ (piece ++ after) ≡ whole
+    → AddsAny w part t₀ t₁ → KeepsPrefix w piece t₁ t₂ → KeepsPrefix w whole t₀ t₂
+keeps_behind t₀ t₁ t₂ w [] piece after whole e a b = rw (sym e) (longer t₀ t₂ w piece after (subst (λ t. KeepsPrefix w piece t t₂) a b))
+keeps_behind t₀ t₁ t₂ w (c ∷ part) piece after whole e a b = behind t₀ t₁ t₂ w (c ∷ part) piece after whole e a b
 
 pub on_err : {T E : Type 0} (r : Result T E) (P : Type 0) → P → OnErr r P
 on_err (Ok x) P h = tt

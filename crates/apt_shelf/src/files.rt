@@ -1,8 +1,8 @@
 //! Whole files, read and written over any shelf.
-ghost use Rattle.std.specs.Prelude.{◌≡◌, ◌≤◌, length, IfOk, OnOk, OnErr, IsErrOf};
+ghost use Rattle.std.specs.Prelude.{◌≡◌, ◌<◌, ◌≤◌, length, IsSome, IfOk, OnOk, OnErr, IsErrOf};
 ghost use Rattle.std.specs.FinMap.{insert};
-ghost use Rattle.apt_shelf.specs.Told.{Steps, Lacks, Rose};
-ghost use Rattle.apt_shelf.specs.Files.{HoldsAt, IsLongerAt, WritesPrefix};
+ghost use Rattle.apt_shelf.specs.Told.{Steps, Lacks, Rose, KeepsPrefix, FaultCause};
+ghost use Rattle.apt_shelf.specs.Files.{HoldsAt, IsLongerAt, AddsAny, AddsFront, WritesPrefix};
 
 use crate::shelf::{ReadStart, Shelf, ShelfFault};
 use std::alloc::{AllocError, Global};
@@ -90,6 +90,45 @@ pub fn read_all<H: Shelf>(
     Err(ReadError::TooLong)
 }
 
+/// Appends the pieces of 4,096 bytes that stand at the front, and answers what is behind them, which is shorter than a
+/// piece. After a refusal a front part of the bytes may have been added.
+pub fn append_full<'a, H: Shelf>(shelf: &mut H, bytes: &'a [u8]) -> Result<&'a [u8], ShelfFault>
+    requires started { IsSome (H.writing shelf.old) }
+    ensures ok { IfOk result (λ rest. (H.writing shelf.new ≡ H.writing shelf.old) × AddsFront (H.writing shelf.old) bytes.now rest.now (H.told shelf.old) (H.told shelf.new)) }
+    ensures short { IfOk result (λ rest. length rest.now < 4096) }
+    ensures err { OnErr result (KeepsPrefix (H.writing shelf.old) bytes.now (H.told shelf.old) (H.told shelf.new)) }
+    ensures cause { FaultCause (H.write_faults shelf.old) (H.write_faults shelf.new) result }
+    ensures reading { H.reading shelf.new ≡ H.reading shelf.old }
+    ensures left { H.left shelf.new ≡ H.left shelf.old }
+    ensures read_faults { H.read_faults shelf.new ≡ H.read_faults shelf.old }
+{
+    let mut rest = bytes;
+    'pieces: while rest.len() >= PIECE {
+        let (piece, after) = rest.split_at(PIECE);
+        shelf.append(piece)?;
+        rest = after;
+    }
+    Ok(rest)
+}
+
+/// Appends bytes in pieces of 4,096, the last of them as long as what is left. After a refusal a front part of them may
+/// have been added.
+pub fn append_all<H: Shelf>(shelf: &mut H, bytes: &[u8]) -> Result<(), ShelfFault>
+    requires started { IsSome (H.writing shelf.old) }
+    ensures ok { OnOk result ((H.writing shelf.new ≡ H.writing shelf.old) × AddsAny (H.writing shelf.old) bytes.now (H.told shelf.old) (H.told shelf.new)) }
+    ensures err { OnErr result (KeepsPrefix (H.writing shelf.old) bytes.now (H.told shelf.old) (H.told shelf.new)) }
+    ensures cause { FaultCause (H.write_faults shelf.old) (H.write_faults shelf.new) result }
+    ensures reading { H.reading shelf.new ≡ H.reading shelf.old }
+    ensures left { H.left shelf.new ≡ H.left shelf.old }
+    ensures read_faults { H.read_faults shelf.new ≡ H.read_faults shelf.old }
+{
+    let rest = append_full(shelf, bytes)?;
+    if !rest.is_empty() {
+        shelf.append(rest)?;
+    }
+    Ok(())
+}
+
 /// Writes a whole file, piece by piece. After a refusal the name is as before, or holds a front part
 /// of the bytes.
 pub fn write_all<H: Shelf>(shelf: &mut H, name: &str, bytes: &[u8]) -> Result<(), ShelfFault>
@@ -102,11 +141,6 @@ pub fn write_all<H: Shelf>(shelf: &mut H, name: &str, bytes: &[u8]) -> Result<()
     ensures read_faults { H.read_faults shelf.new ≡ H.read_faults shelf.old }
 {
     shelf.start_write(name)?;
-    let mut rest = bytes;
-    'pieces: while !rest.is_empty() {
-        let (piece, after) = rest.split_at(rest.len().min(PIECE));
-        shelf.append(piece)?;
-        rest = after;
-    }
+    append_all(shelf, bytes)?;
     Ok(())
 }

@@ -11,7 +11,7 @@ mod store;
 pub mod sure;
 pub mod tally;
 
-pub use files::{ReadError, read_all, write_all};
+pub use files::{ReadError, append_all, append_full, read_all, write_all};
 pub use folder::FolderShelf;
 pub use memory::{FailList, MemShelf, ShelfCalls};
 pub use shelf::{ReadStart, Shelf, ShelfFault, Sink};

@@ -91,6 +91,23 @@ fn listed_calls_fail_once(rt: HostRuntime) -> Result<(), Fail> {
 }
 
 #[test]
+fn bytes_are_appended_in_pieces(rt: HostRuntime) -> Result<(), Fail> {
+    let alloc = rt.alloc();
+    let mut fail = FailList::none(alloc);
+    fail.appends.push(3)?;
+    let mut shelf = MemShelf::new(alloc, Vec::new(alloc), fail)?;
+    shelf.start_write("a")?;
+    // two pieces are full, nothing is no call, and the third call keeps half of what was left
+    let long = [7u8; 10_000];
+    let rest = append_full(&mut shelf, &long)?;
+    assert_eq!(rt; rest.len(), 1808);
+    append_all(&mut shelf, b"")?;
+    assert_eq!(rt; append_all(&mut shelf, rest), Err(ShelfFault::Fault));
+    assert_eq!(rt; shelf.file("a"), Some(&long[..8192 + 904]));
+    Ok(())
+}
+
+#[test]
 fn sure_shelf_keeps_files(rt: HostRuntime) -> Result<(), Fail> {
     let alloc = rt.alloc();
     let mut shelf = SureShelf::new(alloc, one_file(alloc, "a", b"hello")?)?;

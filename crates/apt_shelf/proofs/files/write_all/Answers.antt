@@ -1,27 +1,14 @@
-use Rattle.std.proofs.Common.{rules, ◌≡◌, ◌++◌, ◌∙◌, append_assoc}
-use Rattle.std.proofs.lemmas.List.{take-append-drop}
-use Rattle.apt_shelf.proofs.ToldLaws.{adds_more, keeps_prefix, on_err}
+use Rattle.std.proofs.Common.{◌≡◌, ◌++◌, []}
+use Rattle.std.proofs.lemmas.List.{append-nil}
+use Rattle.apt_shelf.proofs.ToldLaws.{adds_written, keeps_prefix, on_err}
 use Rattle.apt_shelf.proofs.files.write_all.Goals as goal
 
-pub pieces-preserved : goal.pieces-preserved
-pieces-preserved g c =
-    let inv = c.pieces.invariant in
-    record {
-      written = (
-        inv.written.0 ++ c.split_at.result.0.now,
-        rw (c.split_at.ensures.front, c.split_at.ensures.back, append_assoc, take-append-drop) inv.written.1,
-        adds_more _ _ _ _ _ _ _ inv.writing inv.written.2 c.in_ok-append.ensures.ok.1,
-      );
-      writing = c.in_ok-append.ensures.ok.0 ∙ inv.writing;
-      reading = search rules;
-      left = search rules;
-      read_faults = search rules;
-      later = search rules;
-    }
+pub returns-in_err-append_all-clause-err : goal.returns-in_err-append_all-clause-err
+returns-in_err-append_all-clause-err g c =
+    let begun = c.in_ok-start_write.ensures.ok in
+    on_err _ _ (keeps_prefix _ _ _ _ _ [] _ [] _ begun.0 (append-nil _) begun.1 c.in_err-append_all.ensures.err)
 
-pub returns-in_err-append-clause-err : goal.returns-in_err-append-clause-err
-returns-in_err-append-clause-err g c =
-    let inv = c.pieces.invariant in
-    let joined : inv.written.0 ++ (c.split_at.result.0.now ++ c.split_at.result.1.now) ≡ c.args.bytes.now =
-    rw (c.split_at.ensures.front, c.split_at.ensures.back, take-append-drop) inv.written.1 in
-    on_err _ _ (keeps_prefix _ _ _ _ _ _ _ _ _ inv.writing joined inv.written.2 c.in_err-append.ensures.err)
+pub returns-clause-ok : goal.returns-clause-ok
+returns-clause-ok g c =
+    let begun = c.in_ok-start_write.ensures.ok in
+    adds_written _ _ _ _ _ [] _ begun.0 begun.1 c.in_ok-append_all.ensures.ok.1

@@ -1,14 +1,13 @@
-use Rattle.std.proofs.Common.{◌≡◌, ◌≤◌, ◌++◌, List, ℕ, Some, length}
-use Rattle.std.specs.FinMap.{insert}
-use Rattle.apt_shelf.specs.Told.{Steps}
-use Rattle.apt_shelf.proofs.files.write_all.Given as goal
+use Rattle.std.proofs.Common.{◌≡◌, ◌≤◌, length}
+use Rattle.apt_shelf.specs.Files.{AddsFront}
+use Rattle.apt_shelf.proofs.files.append_full.Given as goal
 
 abbrev pub invariant-pieces : goal.invariant-pieces
 invariant-pieces g l =
     let H = g.H.Shelf in
     record {
-      written : (done : List ℕ) × (done ++ l.rest ≡ l.fn.bytes) × Steps (λ m. insert m l.fn.name done) (H.told l.fn.shelf) (H.told l.shelf);
-      writing : H.writing l.shelf ≡ Some l.fn.name;
+      added : AddsFront (H.writing l.fn.shelf) l.fn.bytes l.rest (H.told l.fn.shelf) (H.told l.shelf);
+      writing : H.writing l.shelf ≡ H.writing l.fn.shelf;
       reading : H.reading l.shelf ≡ H.reading l.fn.shelf;
       left : H.left l.shelf ≡ H.left l.fn.shelf;
       read_faults : H.read_faults l.shelf ≡ H.read_faults l.fn.shelf;
