@@ -1,7 +1,7 @@
 -- What is left of a file.
-use Rattle.std.proofs.Common.{◌≡◌, ◌≢◌, ◌<◌, ◌+◌, ◌==◌, ℕ, List, [], ◌∷◌, ◌++◌, MatchBool, length, Bool, true, false, drop, refl, ap, subst, arith}
+use Rattle.std.proofs.Common.{◌≡◌, ◌≢◌, ◌+◌, ◌==◌, ℕ, List, [], ◌∷◌, MatchBool, length, Bool, true, false, drop, refl, ap, subst, arith}
 use Rattle.std.proofs.lemmas.Bool.Decides.{nat_tests}
-use Rattle.std.proofs.lemmas.List.{length-append, drop-drop}
+use Rattle.std.proofs.lemmas.List.{drop-drop}
 use Rattle.apt_cldata.specs.declared.record.Record.{Record}
 use Rattle.apt_cldata.specs.Files.{AreShort, records_bytes}
 use Rattle.apt_cldata.proofs.Laws.{some_bytes}

@@ -15,4 +15,4 @@ mod writing;
 pub use error::{ClCause, ClError};
 pub use reading::read;
 pub use record::{Note, Position, Reach, Record, Vertices};
-pub use writing::ClBytes;
+pub use writing::{ClBytes, write};

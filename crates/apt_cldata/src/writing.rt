@@ -1,5 +1,5 @@
 //! Writing a CL file.
-ghost use Rattle.std.specs.Prelude.{◌≡◌, ◌≢◌, ◌^◌, ◌<◌, ◌≤◌, ◌++◌, [], Ok, ◌+◌, MatchBool, length, drop, IfOk, OnOk, OnErr};
+ghost use Rattle.std.specs.Prelude.{◌≡◌, ◌≢◌, ◌^◌, ◌<◌, ◌≤◌, ◌++◌, [], Ok, ◌+◌, MatchBool, length, vec_len, drop, IfOk, OnOk, OnErr};
 ghost use Rattle.apt_cldata.specs.Files.{AreShort, IsFile, StandApart, file_of, head};
 ghost use Rattle.apt_cldata.specs.Files as spec;
 ghost use Rattle.apt_cldata.specs.Reading.{read_of};
@@ -8,11 +8,32 @@ ghost use Rattle.apt_cldata.specs.Shortness.{short_prop};
 use crate::Record;
 use crate::reading::HEAD;
 use crate::words::push_record;
-use std::alloc::AllocError;
+use std::alloc::{AllocError, Global};
 use std::marker::Model;
 
 /// A piece ends with the record with which it has so many bytes.
 const PIECE: usize = 4096;
+
+/// The bytes of a CL file of these records, which are read as them again; where a record begins, no other
+/// record's bytes begin.
+#[tactic(auto, using(crate::proofs::Laws::file_again, crate::proofs::Laws::file_apart))]
+pub fn write(alloc: Global, records: &[Record]) -> Result<Vec<u8>, AllocError>
+    requires { IsFile records.now }
+    ensures bytes { IfOk result (λ v. v.items ≡ file_of records.now) }
+    ensures again { IfOk result (λ v. read_of v.items ≡ Ok records.now) }
+    ensures apart { IfOk result (λ v. StandApart 1 records.now (drop (length head) v.items)) }
+{
+    write_exactly(alloc, records)
+}
+
+fn write_exactly(alloc: Global, records: &[Record]) -> Result<Vec<u8>, AllocError>
+    requires { IsFile records.now }
+    ensures { IfOk result (λ v. v.items ≡ file_of records.now) }
+{
+    let mut bytes = Vec::from_slice(alloc, HEAD)?;
+    push_records(&mut bytes, usize::MAX, 1, records)?;
+    Ok(bytes)
+}
 
 /// A CL file whose bytes are taken piece by piece, from the first. Clauses see those that are left.
 #[derive(Drop)]
@@ -72,28 +93,33 @@ impl ClBytes {
             piece.extend_from_slice(HEAD)?;
         }
         let (_, rest) = self.records.split_at(self.taken);
-        let count = push_records(piece, self.taken as u64 + 1, rest)?;
+        let count = push_records(piece, PIECE, self.taken as u64 + 1, rest)?;
         self.begun = true;
         self.taken += count;
         Ok(())
     }
 }
 
-/// Appends records, numbered from one on, until a piece is long enough, and says how many.
-fn push_records(piece: &mut Vec<u8>, first: u64, records: &[Record]) -> Result<usize, AllocError>
+/// Appends records, numbered from `first` on, until there are so many bytes, and says how many records.
+fn push_records(
+    bytes: &mut Vec<u8>,
+    limit: usize,
+    first: u64,
+    records: &[Record],
+) -> Result<usize, AllocError>
     requires short { AreShort records.now }
     requires numbers { first + length records.now ≤ 2 ^ 63 }
-    ensures bytes { IfOk result (λ n. piece.new.items ++ spec.records_bytes (first + n) (drop n records.now) ≡ piece.old.items ++ spec.records_bytes first records.now) }
+    ensures bytes { IfOk result (λ n. bytes.new.items ++ spec.records_bytes (first + n) (drop n records.now) ≡ bytes.old.items ++ spec.records_bytes first records.now) }
     ensures short { IfOk result (λ n. AreShort (drop n records.now)) }
     ensures within { IfOk result (λ n. n ≤ length records.now) }
-    ensures some { IfOk result (λ n. piece.new.items ≡ [] → n ≡ length records.now) }
+    ensures all { IfOk result (λ n. vec_len bytes.new < limit → n ≡ length records.now) }
 {
     let mut count = 0;
     'records: for record in records {
-        if piece.len() >= PIECE {
+        if bytes.len() >= limit {
             return Ok(count);
         }
-        push_record(piece, first + count as u64, record)?;
+        push_record(bytes, first + count as u64, record)?;
         count += 1;
     }
     Ok(count)

@@ -12,9 +12,7 @@ ghost use Rattle.apt_meaning.specs.Ranges.{AreSettings, IsForward, IsAllowance, 
 use crate::Settings;
 use apt_cldata::Position;
 use apt_num::Sign;
-use apt_offset::{
-    Target, is_on_check, offset_surface, side_at_check, side_at_drive, signed, tangent, turn,
-};
+use apt_offset::{Target, offset_surface, side_at_check, side_at_drive, signed, tangent, turn};
 use apt_plane::{Dir, Surface};
 use apt_words::{Go, Side, Stop};
 
@@ -110,23 +108,6 @@ impl Motion {
         offset_surface(&self.drive, self.drive_side(), self.radius)
     }
 
-    /// The curve at which it stops.
-    pub fn stop(&self) -> Target
-        requires { IsMotion self.now }
-        ensures value { result ≡ motions.stop_of self.now }
-        ensures range { targets.lacks_room result ≡ false → IsTarget result }
-    {
-        offset_surface(&self.check, self.check_side(), self.radius)
-    }
-
-    /// Whether the start is on the check surface, under `To` or `Past`.
-    pub fn starts_on_check(&self) -> bool
-        requires { IsMotion self.now }
-        ensures { result ≡ motions.starts_on_check self.now }
-    {
-        is_on_check(self.how, self.check_side())
-    }
-
     /// How far a drive line is moved to its left, in grid units.
     pub fn track_offset(&self) -> i64
         requires { IsMotion self.now }
@@ -134,15 +115,6 @@ impl Motion {
         ensures small { unsigned_abs result ≤ 500000 }
     {
         signed(self.drive_side(), self.radius)
-    }
-
-    /// How far a check line is moved to its left, in grid units.
-    pub fn stop_offset(&self) -> i64
-        requires { IsMotion self.now }
-        ensures value { result ≡ motions.stop_offset self.now }
-        ensures small { unsigned_abs result ≤ 500000 }
-    {
-        signed(self.check_side(), self.radius)
     }
 }
 

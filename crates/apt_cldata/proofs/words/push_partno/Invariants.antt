@@ -1,4 +1,4 @@
-use Rattle.std.proofs.Common.{◌≡◌, ◌≤◌, ◌+◌, ◌-◌, ◌*◌, ◌++◌, [], ◌∷◌, pos, map, length, take, vec_len, vec_capacity}
+use Rattle.std.proofs.Common.{◌≡◌, ◌≤◌, ◌+◌, ◌-◌, ◌*◌, ◌++◌, ◌∷◌, pos, map, length, take, vec_len, vec_capacity}
 use Rattle.std.specs.List.{flat_map}
 use Rattle.apt_cldata.specs.Files.{length_bytes, word_bytes}
 use Rattle.apt_cldata.proofs.words.push_partno.Given as goal

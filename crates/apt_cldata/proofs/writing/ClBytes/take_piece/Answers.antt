@@ -1,4 +1,4 @@
-use Rattle.std.proofs.Common.{◌≤◌, ◌+◌, drop, length, arith}
+use Rattle.std.proofs.Common.{◌≤◌, drop, length, arith}
 use Rattle.std.proofs.lemmas.List.{length-drop}
 use Rattle.apt_cldata.specs.Files.{AreShort}
 use Rattle.apt_cldata.proofs.Left.{short_behind}
