@@ -7,11 +7,13 @@ use Rattle.apt_words.specs.declared.Stop.{Stop}
 use Rattle.apt_words.specs.declared.Stop.TheVariants as stops
 use Rattle.apt_words.specs.declared.word.Word.{Word}
 use Rattle.apt_words.specs.declared.word.Word.TheVariants as words
-use Rattle.apt_words.specs.Options.{only_if}
+use Rattle.apt_words.specs.Options.{◌>>=◌, only_if}
 use Rattle.apt_words.specs.Symbols.{is_name}
+use Rattle.apt_words.specs.Trees.{Tree}
 use Rattle.apt_words.specs.Vocabulary.{word_of, spelling}
 use Rattle.apt_lexis.specs.declared.token.Token.{Token}
 use Rattle.apt_lexis.specs.declared.token.Token.TheVariants as tokens
+use Rattle.apt_expr.specs.Expressions.{expression}
 
 -- ---- lists of arguments
 
@@ -81,3 +83,13 @@ stop a = stop_of (word a)
 abbrev pub or_else : {A : Type 0} → Option A → Option A → Option A
 or_else None other = other
 or_else (Some x) other = Some x
+
+-- ---- several arguments
+
+-- two numbers
+abbrev pub pair : List Token → List Token → Option (Tree × Tree)
+pair x y = expression x >>= λ x. expression y >>= λ y. Some (x, y)
+
+-- three numbers
+abbrev pub triple : List Token → List Token → List Token → Option (Tree × Tree × Tree)
+triple x y z = expression x >>= λ x. expression y >>= λ y. expression z >>= λ z. Some (x, y, z)

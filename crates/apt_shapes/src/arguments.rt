@@ -5,8 +5,9 @@ ghost use Rattle.apt_words.specs.Options.{only_if};
 ghost use Rattle.apt_words.specs.Symbols.{is_name};
 ghost use Rattle.apt_shapes.specs.Arguments as arguments;
 
+use apt_expr::expression;
 use apt_lexis::Token;
-use apt_words::{Pick, Stop, Symbol, Word, is_vocabulary, word_of};
+use apt_words::{Expr, Pick, Stop, Symbol, Word, is_vocabulary, word_of};
 use std::alloc::{AllocError, Global};
 
 fn is_comma(token: &Token) -> bool
@@ -117,4 +118,33 @@ pub(crate) fn stop(tokens: &[Token]) -> Option<Stop>
         Some(Word::Past) => Some(Stop::Past),
         _ => None,
     }
+}
+
+/// Two numbers; None where one of them is no expression.
+pub(crate) fn pair(
+    alloc: Global,
+    x: &[Token],
+    y: &[Token],
+) -> Result<Option<(Expr, Expr)>, AllocError>
+    ensures { IfOk result (λ r. r ≡ arguments.pair x.now y.now) }
+{
+    let (Some(x), Some(y)) = (expression(alloc, x)?, expression(alloc, y)?) else {
+        return Ok(None);
+    };
+    Ok(Some((x, y)))
+}
+
+/// Three numbers; None where one of them is no expression.
+pub(crate) fn triple(
+    alloc: Global,
+    x: &[Token],
+    y: &[Token],
+    z: &[Token],
+) -> Result<Option<(Expr, Expr, Expr)>, AllocError>
+    ensures { IfOk result (λ r. r ≡ arguments.triple x.now y.now z.now) }
+{
+    let Some((x, y)) = pair(alloc, x, y)? else {
+        return Ok(None);
+    };
+    Ok(expression(alloc, z)?.map(|z| (x, y, z)))
 }

@@ -3,7 +3,7 @@
 ghost use Rattle.std.specs.Prelude.{◌≡◌, map, IfOk};
 ghost use Rattle.apt_shapes.specs.Figures as figures;
 
-use crate::arguments::{is_left, is_word, name, pick};
+use crate::arguments::{is_left, is_word, name, pair, pick, triple};
 use apt_expr::expression;
 use apt_lexis::Token;
 use apt_words::{Body, Symbol, Word};
@@ -25,10 +25,7 @@ pub(crate) fn assign(
 fn point_xy(alloc: Global, n: &Symbol, x: &[Token], y: &[Token]) -> Result<Option<Body>, AllocError>
     ensures { IfOk result (λ b. b ≡ figures.point_xy n.now x.now y.now) }
 {
-    let (Some(x), Some(y)) = (expression(alloc, x)?, expression(alloc, y)?) else {
-        return Ok(None);
-    };
-    Ok(Some(Body::PointXy(n.copied(), x, y, None)))
+    Ok(pair(alloc, x, y)?.map(|(x, y)| Body::PointXy(n.copied(), x, y, None)))
 }
 
 fn point_xyz(
@@ -40,13 +37,7 @@ fn point_xyz(
 ) -> Result<Option<Body>, AllocError>
     ensures { IfOk result (λ b. b ≡ figures.point_xyz n.now x.now y.now z.now) }
 {
-    let (Some(x), Some(y)) = (expression(alloc, x)?, expression(alloc, y)?) else {
-        return Ok(None);
-    };
-    let Some(z) = expression(alloc, z)? else {
-        return Ok(None);
-    };
-    Ok(Some(Body::PointXy(n.copied(), x, y, Some(z))))
+    Ok(triple(alloc, x, y, z)?.map(|(x, y, z)| Body::PointXy(n.copied(), x, y, Some(z))))
 }
 
 fn point_center(n: &Symbol, center: &[Token], c: &[Token]) -> Option<Body>
@@ -131,10 +122,7 @@ fn line_xy(
 ) -> Result<Option<Body>, AllocError>
     ensures { IfOk result (λ b. b ≡ figures.line_xy n.now x.now y.now u.now v.now) }
 {
-    let (Some(x), Some(y)) = (expression(alloc, x)?, expression(alloc, y)?) else {
-        return Ok(None);
-    };
-    let (Some(u), Some(v)) = (expression(alloc, u)?, expression(alloc, v)?) else {
+    let (Some((x, y)), Some((u, v))) = (pair(alloc, x, y)?, pair(alloc, u, v)?) else {
         return Ok(None);
     };
     Ok(Some(Body::LineXy(n.copied(), x, y, u, v)))
@@ -226,10 +214,7 @@ fn circle_three(
 ) -> Result<Option<Body>, AllocError>
     ensures { IfOk result (λ b. b ≡ figures.circle_three n.now x.now y.now r.now) }
 {
-    let (Some(x), Some(y)) = (expression(alloc, x)?, expression(alloc, y)?) else {
-        return Ok(None);
-    };
-    Ok(expression(alloc, r)?.map(|r| Body::CircleThree(n.copied(), x, y, r)))
+    Ok(triple(alloc, x, y, r)?.map(|(x, y, r)| Body::CircleThree(n.copied(), x, y, r)))
 }
 
 fn circle_through(n: &Symbol, center: &[Token], p: &[Token], q: &[Token]) -> Option<Body>

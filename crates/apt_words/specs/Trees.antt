@@ -11,15 +11,6 @@ pub data Tree : Type 0 where
   Root : Tree → Tree
   Abs : Tree → Tree
 
--- more than that of each operand
-abbrev pub height : Tree → ℕ
-height (Num v) = 1
-height (Name name) = 1
-height (Neg t) = height t + 2
-height (Bin op a b) = height a + height b + 2
-height (Root t) = height t + 2
-height (Abs t) = height t + 2
-
 -- how many operators stand between two operands
 abbrev pub operators : Tree → ℕ
 operators (Num v) = 0
