@@ -4,6 +4,7 @@ ghost use Rattle.std.specs.Prelude.{◌≡◌, [], ◌∷◌, map, IfOk};
 ghost use Rattle.apt_shapes.specs.Motions as motions;
 
 use crate::arguments::{arguments, is_word, name, pair, stop, triple};
+use apt_expr::expression;
 use apt_lexis::Token;
 use apt_words::{Body, Go, Side, Stop, Symbol, Word, word_of};
 use std::alloc::{AllocError, Global};
@@ -19,13 +20,46 @@ pub(crate) fn from(alloc: Global, args: &[&[Token]]) -> Result<Option<Body>, All
     }
 }
 
+// GOTO is the commonest statement: what is read goes straight into its body.
+fn goto_xy(alloc: Global, x: &[Token], y: &[Token]) -> Result<Option<Body>, AllocError>
+    ensures { IfOk result (λ b. b ≡ motions.goto (x.now ∷ y.now ∷ [])) }
+{
+    let Some(x) = expression(alloc, x)? else {
+        return Ok(None);
+    };
+    let Some(y) = expression(alloc, y)? else {
+        return Ok(None);
+    };
+    Ok(Some(Body::GotoXy(x, y, None)))
+}
+
+fn goto_xyz(
+    alloc: Global,
+    x: &[Token],
+    y: &[Token],
+    z: &[Token],
+) -> Result<Option<Body>, AllocError>
+    ensures { IfOk result (λ b. b ≡ motions.goto (x.now ∷ y.now ∷ z.now ∷ [])) }
+{
+    let Some(x) = expression(alloc, x)? else {
+        return Ok(None);
+    };
+    let Some(y) = expression(alloc, y)? else {
+        return Ok(None);
+    };
+    let Some(z) = expression(alloc, z)? else {
+        return Ok(None);
+    };
+    Ok(Some(Body::GotoXy(x, y, Some(z))))
+}
+
 pub(crate) fn goto(alloc: Global, args: &[&[Token]]) -> Result<Option<Body>, AllocError>
     ensures { IfOk result (λ b. b ≡ motions.goto (map (λ a. a.now) args.now)) }
 {
     match args {
         [p] => Ok(name(p).map(Body::GotoPoint)),
-        [x, y] => Ok(pair(alloc, x, y)?.map(|(x, y)| Body::GotoXy(x, y, None))),
-        [x, y, z] => Ok(triple(alloc, x, y, z)?.map(|(x, y, z)| Body::GotoXy(x, y, Some(z)))),
+        [x, y] => goto_xy(alloc, x, y),
+        [x, y, z] => goto_xyz(alloc, x, y, z),
         _ => Ok(None),
     }
 }
