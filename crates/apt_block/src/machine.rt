@@ -1,6 +1,6 @@
 //! A block read character by character.
 
-ghost use Rattle.std.specs.Prelude.{◌≡◌, ◌≤◌, ◌<◌, ◌^◌, ◌==◌, ℕ, length, true, false, IsTrue, IfSome, Ok};
+ghost use Rattle.std.specs.Prelude.{◌≡◌, ◌≢◌, ◌≤◌, ◌<◌, ◌^◌, ◌==◌, ℕ, length, drop, true, false, IsTrue, IfSome, IsNone, IsErr, None, Ok};
 ghost use Rattle.apt_block.specs.Block as spec;
 ghost use Rattle.apt_block.specs.Machine as machine;
 ghost use Rattle.apt_block.specs.Machine.{IsStep, HasDigits};
@@ -123,6 +123,7 @@ impl OpenWord {
         ensures later { IsTrue result → (self.old.later == 0) ≡ false }
         ensures taken { IsTrue result → self.new ≡ machine.with_digit self.old c }
         ensures room { HasDigits self.new }
+        ensures refused { result ≡ false → spec.is_digit c.ch ≡ true → self.old.later ≡ 0 }
         ensures left { result ≡ false → self.new ≡ self.old }
     {
         if self.later == 0 || !is_digit(c.ch) {
@@ -178,10 +179,11 @@ impl BlockReader {
         matches!(self.want, Want::Nothing)
     }
 
-    /// Whether an end of block may come next.
+    /// Whether a letter comes next, and so an end of block may come too.
     #[tactic(auto, using(crate::proofs::Ending::end_step))]
     pub fn can_end(&self) -> bool
-        ensures { IsTrue result → (at : ℕ) → machine.step self.now (record { at = at; ch = spec.line_feed }) ≡ Ok (record self.now { want = wants.Nothing }) }
+        ensures end { IsTrue result → (at : ℕ) → machine.step self.now (record { at = at; ch = spec.line_feed }) ≡ Ok (record self.now { want = wants.Nothing }) }
+        ensures none { result ≡ false → self.now.want ≢ wants.Letter }
     {
         matches!(self.want, Want::Letter)
     }
@@ -215,6 +217,7 @@ impl BlockReader {
         ensures room { IfSome result (λ f. HasDigits f.0) }
         ensures words { IfSome result (λ f. length self.now.words < f.1) }
         ensures used { IfSome result (λ f. f.1 ≤ 13) }
+        ensures none { IsNone result → self.now.want ≡ wants.Letter → machine.form_for self.now.used (drop self.now.used spec.forms) c.ch ≡ None }
     {
         match self.want {
             Want::Letter => match form_for(self.used, c.ch) {
@@ -233,6 +236,7 @@ impl BlockReader {
         requires room { HasDigits word }
         ensures added { IsTrue result → machine.digit_step (record self.old { used = used }) word c ≡ Ok self.new }
         ensures open { IsTrue result → machine.is_whole self.new ≡ false }
+        ensures refused { result ≡ false → spec.is_digit c.ch ≡ true → word.later ≡ 0 → IsErr (machine.digit_step (record self.old { used = used }) word c) }
         ensures left { result ≡ false → self.new ≡ self.old }
     {
         if word.later > 0 || !is_digit(c.ch) {
@@ -247,6 +251,7 @@ impl BlockReader {
         requires small { word.size < 10 ^ 8 }
         ensures added { IsTrue result → machine.word_end (record self.old { used = used }) word ≡ Ok self.new }
         ensures open { IsTrue result → machine.is_whole self.new ≡ false }
+        ensures refused { result ≡ false → IsErr (machine.word_end (record self.old { used = used }) word) }
         ensures left { result ≡ false → self.new ≡ self.old }
     {
         if word.form.least <= word.size && word.size <= word.form.most {

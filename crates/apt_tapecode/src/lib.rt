@@ -46,6 +46,7 @@ fn sense_row(code: Code, byte: u8) -> Read
 pub fn digit(code: Code, byte: u8) -> Option<u8>
     ensures read { IfSome result (λ ch. reading code byte ≡ Read.Char ch) }
     ensures digit { IfSome result (λ ch. (48 ≤ ch) × (ch ≤ 57)) }
+    ensures none { IsNone result → (ch : ℕ) → reading code byte ≡ Read.Char ch → (48 ≤ ch) × (ch ≤ 57) → ⊥ }
 {
     let entry = entry_of(code, byte);
     if entry.is_ascii_digit() {
@@ -59,6 +60,7 @@ pub fn digit(code: Code, byte: u8) -> Option<u8>
 pub fn letter(code: Code, byte: u8) -> Option<u8>
     ensures read { IfSome result (λ ch. reading code byte ≡ Read.Char ch) }
     ensures letter { IfSome result (λ ch. (65 ≤ ch) × (ch ≤ 90)) }
+    ensures none { IsNone result → (ch : ℕ) → reading code byte ≡ Read.Char ch → (65 ≤ ch) × (ch ≤ 90) → ⊥ }
 {
     let entry = entry_of(code, byte);
     if entry.is_ascii_uppercase() {
