@@ -38,7 +38,7 @@ pub(crate) fn deliver<H: Shelf>(
     }
 }
 
-/// Writes a CL file piece by piece, so that its bytes never stand in memory together. After a refusal the name is as
+/// Writes a CL file piece by piece, so that a long one is never in memory as a whole. After a refusal the name is as
 /// before, or holds a front part of the file.
 fn write_cl<H: Shelf>(
     alloc: Global,
