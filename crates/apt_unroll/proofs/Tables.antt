@@ -11,9 +11,9 @@ use Rattle.apt_words.specs.Flow.{Flow, Onward, MacroBegins, MacroEnds, Calls, Lo
 use Rattle.apt_unroll.specs.Places.{begins_macro, ends_macro, behind_macros, executed_from, is_named, name_in, first_named, named, target}
 use Rattle.apt_unroll.specs.declared.numbers.Naming.{Naming}
 use Rattle.apt_unroll.specs.declared.numbers.Naming.TheVariants as namings
-use Rattle.apt_unroll.specs.declared.places.Places.{Places}
+use Rattle.apt_unroll.specs.declared.places.Tables.{Tables}
 use Rattle.apt_unroll.specs.Trace.{with_number}
-use Rattle.apt_unroll.specs.Tables.{executed_in, ArePlaces, IsMacroAt, or_else, number_if, target_in}
+use Rattle.apt_unroll.specs.Tables.{executed_in, AreTables, IsMacroAt, or_else, number_if, target_in}
 
 -- ---- the statement that a run comes to
 
@@ -34,7 +34,7 @@ table_length from (st ∷ sts) = omega (arith, table_length (from + 1) sts)
 same_some : (a b : ℕ) → Some a ≡ Some b → a ≡ b
 same_some a b h = cc
 
-comes_to : (sts : List Stmt) (t : Places) (i k : ℕ) → ArePlaces sts t → slice_get t.executed.items i ≡ Some k → k ≡ executed_from sts i
+comes_to : (sts : List Stmt) (t : Tables) (i k : ℕ) → AreTables sts t → slice_get t.executed.items i ≡ Some k → k ≡ executed_from sts i
 comes_to sts t i k are h =
     let e : slice_get (executed_in 0 sts) i ≡ Some k = ap (λ xs. slice_get xs i) (sym are.executed) ∙ h in
     let there : i < length (executed_in 0 sts) = slice_get_within (executed_in 0 sts) i k e in
@@ -43,7 +43,7 @@ comes_to sts t i k are h =
 past_the_end : (sts : List Stmt) (i : ℕ) → length sts ≤ i → drop i sts ≡ []
 past_the_end sts i h = nil_from_length (drop i sts) (omega (arith, length-drop i sts))
 
-none_left : (sts : List Stmt) (t : Places) (i : ℕ) → ArePlaces sts t → slice_get t.executed.items i ≡ None → slice_get sts (executed_from sts i) ≡ None
+none_left : (sts : List Stmt) (t : Tables) (i : ℕ) → AreTables sts t → slice_get t.executed.items i ≡ None → slice_get sts (executed_from sts i) ≡ None
 none_left sts t i are h = by (nat_le (length sts) i) refl
   where
     by : (b : Bool) → nat_le (length sts) i ≡ b → slice_get sts (executed_from sts i) ≡ None
@@ -116,19 +116,19 @@ passed : (sts : List Stmt) (i : ℕ) (st : Stmt) → slice_get sts (executed_fro
 passed sts i st h = lands false i (drop i sts) st (get_behind sts i (executed_from sts i) (later false i (drop i sts)) ∙ h)
 
 -- the statement about to run, by the table
-pub runs : (sts : List Stmt) (t : Places) (i k : ℕ) (st : Stmt) → ArePlaces sts t → slice_get t.executed.items i ≡ Some k → slice_get sts k ≡ Some st
+pub runs : (sts : List Stmt) (t : Tables) (i k : ℕ) (st : Stmt) → AreTables sts t → slice_get t.executed.items i ≡ Some k → slice_get sts k ≡ Some st
     → Some (k, st) ≡ with_number (executed_from sts i) (slice_get sts (executed_from sts i))
 runs sts t i k st are h there = ap (with_number k) (sym there) ∙ ap (λ k. with_number k (slice_get sts k)) (comes_to sts t i k are h)
 
-pub runs_out : (sts : List Stmt) (t : Places) (i k : ℕ) → ArePlaces sts t → slice_get t.executed.items i ≡ Some k → slice_get sts k ≡ None
+pub runs_out : (sts : List Stmt) (t : Tables) (i k : ℕ) → AreTables sts t → slice_get t.executed.items i ≡ Some k → slice_get sts k ≡ None
     → None ≡ with_number (executed_from sts i) (slice_get sts (executed_from sts i))
 runs_out sts t i k are h there = ap (with_number k) (sym there) ∙ ap (λ k. with_number k (slice_get sts k)) (comes_to sts t i k are h)
 
-pub runs_past : (sts : List Stmt) (t : Places) (i : ℕ) → ArePlaces sts t → slice_get t.executed.items i ≡ None
+pub runs_past : (sts : List Stmt) (t : Tables) (i : ℕ) → AreTables sts t → slice_get t.executed.items i ≡ None
     → None ≡ with_number (executed_from sts i) (slice_get sts (executed_from sts i))
 runs_past sts t i are h = ap (with_number (executed_from sts i)) (sym (none_left sts t i are h))
 
-pub no_macro : (sts : List Stmt) (t : Places) (i k : ℕ) (st : Stmt) → ArePlaces sts t → slice_get t.executed.items i ≡ Some k → slice_get sts k ≡ Some st
+pub no_macro : (sts : List Stmt) (t : Tables) (i k : ℕ) (st : Stmt) → AreTables sts t → slice_get t.executed.items i ≡ Some k → slice_get sts k ≡ Some st
     → begins_macro (flow_of st.body) ≡ false
 no_macro sts t i k st are h there = passed sts i st (ap (slice_get sts) (sym (comes_to sts t i k are h)) ∙ there)
 
@@ -170,7 +170,7 @@ is_macro sts name k h = let m = macro_from 0 sts name k h in subst (λ j. IsMacr
 
 -- ---- labels and regions
 
-pub target_is : (sts : List Stmt) (t : Places) (i : ℕ) (name : List ℕ) → ArePlaces sts t → target_in t i name ≡ target sts i name
+pub target_is : (sts : List Stmt) (t : Tables) (i : ℕ) (name : List ℕ) → AreTables sts t → target_in t i name ≡ target sts i name
 target_is sts t i name are = rw (are.labels name, are.regions) refl
 
 -- ---- how the tables are made

@@ -1,15 +1,19 @@
 //! Where the statements of a program stand: tables that are made once, where a run first asks for them.
-ghost use Rattle.std.specs.Prelude.{◌≡◌, ◌<◌, ◌≤◌, length, slice_get, Some, IfOk};
+ghost use Rattle.std.specs.Prelude.{◌≡◌, ◌<◌, ◌≤◌, ◌^◌, true, false, length, slice_get, Some, OnOk, IfOk, IfSome, option_map};
 ghost use Rattle.std.specs.Option.{option_copied};
 ghost use Rattle.apt_words.specs.Flow.{flow_of};
 ghost use Rattle.apt_scalar.specs.Meanings.{meaning};
+ghost use Rattle.apt_unroll.specs.Actions as actions;
 ghost use Rattle.apt_unroll.specs.Places as spec;
+ghost use Rattle.apt_unroll.specs.Trace as trace;
 ghost use Rattle.apt_unroll.specs.Tables as tables;
-ghost use Rattle.apt_unroll.specs.Tables.{ArePlaces};
+ghost use Rattle.apt_unroll.specs.Tables.{AreTables, IsMacroAt};
+ghost use Rattle.apt_unroll.specs.declared.numbers.Naming.TheVariants as namings;
 
 use crate::numbers::{Naming, Numbers};
-use apt_words::{Body, Program, Stmt, Symbol};
+use apt_words::{Body, Params, Program, Stmt, Symbol};
 use std::alloc::{AllocError, Global};
+use std::marker::Model;
 
 /// The region of a statement: a loop or a macro, by the number of the statement that begins it.
 #[derive(Clone, Copy, PartialEq, Eq)]
@@ -29,11 +33,33 @@ pub(crate) struct Open {
 /// The tables of a program: for each statement and for the end what is executed where a run comes to it, the
 /// regions of the statements, and the statements with labels and of macros.
 #[derive(Drop)]
-pub(crate) struct Places {
+struct Tables {
     executed: Vec<usize>,
     regions: Vec<Region>,
     labels: Numbers,
     macros: Numbers,
+}
+
+/// A program, whose tables are made where a step first asks for them. Clauses see its statements, and whether the
+/// tables are made.
+#[derive(Drop)]
+pub(crate) struct Listing<'a> {
+    program: &'a Program,
+    tables: Option<Tables>,
+}
+
+impl<'a> Model for Listing<'a> {
+    ghost use Rattle.std.specs.Prelude.{is_some};
+    ghost use Rattle.apt_unroll.specs.Codes.{listed_code};
+    ghost use Rattle.apt_unroll.specs.Tables.{AreMade, Listed};
+
+    ghost Value = { Listed };
+
+    ghost coded = { listed_code };
+
+    ghost view = { λ l. record { stmts = l.program.now; made = is_some l.tables } };
+
+    ghost invariant = { λ l. AreMade l.program.now l.tables };
 }
 
 impl Open {
@@ -158,13 +184,12 @@ fn ends_macro(body: &Body) -> bool
     matches!(body, Body::Termac)
 }
 
-impl Places {
-    /// The tables of a program.
-    pub(crate) fn new(alloc: Global, program: &Program) -> Result<Places, AllocError>
-        ensures { IfOk result (λ t. ArePlaces program.now t) }
+impl Tables {
+    fn new(alloc: Global, program: &Program) -> Result<Tables, AllocError>
+        ensures { IfOk result (λ t. AreTables program.now t) }
     {
         let stmts = &program.stmts;
-        Ok(Places {
+        Ok(Tables {
             executed: executed_in(alloc, stmts)?,
             regions: regions_of(alloc, stmts)?,
             labels: Numbers::of_names(alloc, stmts, Naming::Labels)?,
@@ -173,21 +198,14 @@ impl Places {
     }
 
     /// The number of the statement that is executed where a run comes to a number, none past the end.
-    pub(crate) fn executed_from(&self, i: usize) -> Option<usize>
+    fn executed_from(&self, i: usize) -> Option<usize>
         ensures { result ≡ slice_get self.now.executed.items i }
     {
         self.executed.get(i).copied()
     }
 
-    /// The MACRO of a name.
-    pub(crate) fn macro_named(&self, name: &Symbol) -> Option<usize>
-        ensures { result ≡ meaning self.now.macros name.now }
-    {
-        self.macros.get(name)
-    }
-
     /// The statement with a label, where it stands in the region of a statement.
-    pub(crate) fn target(&self, i: usize, label: &Symbol) -> Option<usize>
+    fn target(&self, i: usize, label: &Symbol) -> Option<usize>
         ensures { result ≡ tables.target_in self.now i label.now }
     {
         let j = self.labels.get(label)?;
@@ -205,6 +223,100 @@ impl Places {
             (Some(Region::Loop(a)), Some(Region::Loop(b)))
             | (Some(Region::Macro(a)), Some(Region::Macro(b))) => a == b,
             _ => false,
+        }
+    }
+}
+
+impl<'a> Listing<'a> {
+    pub(crate) fn new(program: &'a Program) -> Listing<'a>
+        ensures { result ≡ tables.listed program.now }
+    {
+        Listing {
+            program,
+            tables: None,
+        }
+    }
+
+    /// Makes the tables where they are not made yet.
+    pub(crate) fn make(&mut self, alloc: Global) -> Result<(), AllocError>
+        ensures same { self.new.stmts ≡ self.old.stmts }
+        ensures made { OnOk result (self.new.made ≡ true) }
+    {
+        if self.tables.is_none() {
+            self.tables = Some(Tables::new(alloc, self.program)?);
+        }
+        Ok(())
+    }
+
+    fn tables(&self) -> &Tables
+        requires { self.now.made ≡ true }
+        ensures { AreTables self.now.stmts result.now }
+    {
+        match &self.tables {
+            Some(tables) => tables,
+            None => unreachable!(),
+        }
+    }
+
+    /// The statement of a number, none past the end.
+    pub(crate) fn stmt(&self, i: usize) -> Option<&'a Stmt>
+        ensures value { option_copied result ≡ slice_get self.now.stmts i }
+        ensures small { IfSome result (λ _. i < 2 ^ 63) }
+    {
+        let program = self.program;
+        program.stmts.get(i)
+    }
+
+    /// The statement that is executed where a run comes to a number, with its own number.
+    #[tactic(auto, using(crate::proofs::Tables::runs, crate::proofs::Tables::runs_out, crate::proofs::Tables::runs_past, crate::proofs::Tables::no_macro))]
+    pub(crate) fn executed(&self, at: usize) -> Option<(usize, &'a Stmt)>
+        requires { self.now.made ≡ true }
+        ensures value { option_map (λ r. (r.0, r.1.now)) result ≡ trace.with_number (spec.executed_from self.now.stmts at) (slice_get self.now.stmts (spec.executed_from self.now.stmts at)) }
+        ensures small { IfSome result (λ r. r.0 < 2 ^ 63) }
+        ensures passed { IfSome result (λ r. spec.begins_macro (flow_of r.1.now.body) ≡ false) }
+    {
+        match self.tables().executed_from(at) {
+            None => None,
+            Some(i) => match self.stmt(i) {
+                None => None,
+                Some(stmt) => Some((i, stmt)),
+            },
+        }
+    }
+
+    /// The statement with a label, where it stands in the region of a statement.
+    #[tactic(auto, using(crate::proofs::Tables::target_is))]
+    pub(crate) fn target(&self, i: usize, label: &Symbol) -> Option<usize>
+        requires { self.now.made ≡ true }
+        ensures { result ≡ spec.target self.now.stmts i label.now }
+    {
+        self.tables().target(i, label)
+    }
+
+    /// The MACRO of a name.
+    #[tactic(auto, using(crate::proofs::Tables::is_macro))]
+    pub(crate) fn macro_named(&self, name: &Symbol) -> Option<usize>
+        requires { self.now.made ≡ true }
+        ensures value { result ≡ spec.named namings.Macros self.now.stmts name.now }
+        ensures begins { IfSome result (λ begin. IsMacroAt (slice_get self.now.stmts begin)) }
+    {
+        self.tables().macros.get(name)
+    }
+
+    /// The parameters of the macro that a statement begins.
+    pub(crate) fn parameters_at(&self, begin: usize) -> &'a Params
+        requires { IsMacroAt (slice_get self.now.stmts begin) }
+        ensures value { result.now ≡ actions.formal_of (slice_get self.now.stmts begin) }
+        ensures small { begin < 2 ^ 63 }
+    {
+        match self.stmt(begin) {
+            Some(
+                Stmt {
+                    body: Body::Macro(_, params),
+                    ..
+                },
+            ) => params,
+            _ => unreachable!(),
         }
     }
 }

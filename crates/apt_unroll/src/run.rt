@@ -1,5 +1,5 @@
 //! What holds between the steps of a run, and what a statement does there.
-ghost use Rattle.std.specs.Prelude.{◌≡◌, ℕ, ◌+◌, ◌<◌, ◌^◌, false, List, [], Option, Some, None, Ok, slice_get, reverse, OnOk, IfOk};
+ghost use Rattle.std.specs.Prelude.{◌≡◌, ℕ, ◌+◌, ◌<◌, ◌^◌, true, false, List, [], Option, Some, None, Ok, slice_get, reverse, OnOk, IfOk};
 ghost use Rattle.std.specs.Option.{option_copied};
 ghost use Rattle.apt_words.specs.Flow.{flow_of, is_fini};
 ghost use Rattle.apt_words.specs.declared.body.Body.TheVariants as bodies;
@@ -8,18 +8,16 @@ ghost use Rattle.apt_words.specs.ProgramEnds as endings;
 ghost use Rattle.apt_scalar.specs.Meanings.{meaning};
 ghost use Rattle.apt_unroll.specs.Actions as actions;
 ghost use Rattle.apt_unroll.specs.Actions.{IsActed, action};
-ghost use Rattle.apt_unroll.specs.Places as spec;
 ghost use Rattle.apt_unroll.specs.Deeds as defining;
 ghost use Rattle.apt_unroll.specs.Places.{begins_macro, goes_on, named};
 ghost use Rattle.apt_unroll.specs.declared.numbers.Naming.TheVariants as namings;
 ghost use Rattle.apt_unroll.specs.Situations as situations;
-ghost use Rattle.apt_unroll.specs.Tables.{ArePlaces, IsMacroAt};
 
 use crate::calls::bindings;
 use crate::deeds::{bind_behind, deed_of};
-use crate::places::Places;
+use crate::places::Listing;
 use apt_scalar::{Env, Frame, eval};
-use apt_words::{Args, Body, Case, Deed, Params, Program, Stmt, Symbol};
+use apt_words::{Args, Body, Case, Deed, Symbol};
 use arrayvec::ArrayVec;
 use std::alloc::{AllocError, Global};
 use std::default::MadeWith;
@@ -129,31 +127,28 @@ impl Run {
     pub(crate) fn act(
         &mut self,
         alloc: Global,
-        program: &Program,
-        places: &Places,
+        listing: &Listing,
         i: usize,
         body: &Body,
     ) -> Result<Result<Deed, Case>, AllocError>
-        requires places { ArePlaces program.now places.now }
+        requires made { listing.now.made ≡ true }
         requires small { i < 2 ^ 63 }
         requires passed { begins_macro (flow_of body.now) ≡ false }
         requires turned { goes_on (flow_of body.now) ≡ false }
         requires lasting { is_fini body.now ≡ false }
-        ensures { IfOk result (λ r. IsActed (action program.now self.old i body.now (flow_of body.now)) r self.new) }
+        ensures { IfOk result (λ r. IsActed (action listing.now.stmts self.old i body.now (flow_of body.now)) r self.new) }
     {
         match body {
             Body::Termac => Ok(self.go_back()),
-            Body::Call(name, args) => self.call(alloc, program, places, i, name, args),
+            Body::Call(name, args) => self.call(alloc, listing, i, name, args),
             Body::Loopst => Ok(self.jump_to(Some(i + 1), Deed::Loopst)),
             Body::Loopnd => Ok(self.jump_to(Some(i + 1), Deed::Loopnd)),
-            Body::Jumpto(label) => {
-                Ok(self.jump_to(target(program, places, i, label), Deed::Jumpto))
-            }
+            Body::Jumpto(label) => Ok(self.jump_to(listing.target(i, label), Deed::Jumpto)),
             Body::If(e, below, zero, above) => match eval(e, &self.env, self.frame()) {
                 Err(case) => Ok(Err(case)),
                 Ok(v) => {
                     let label = label_by(v, below, zero, above);
-                    Ok(self.jump_to(target(program, places, i, label), Deed::If))
+                    Ok(self.jump_to(listing.target(i, label), Deed::If))
                 }
             },
             _ => unreachable!(),
@@ -193,27 +188,25 @@ impl Run {
     }
 
     /// Calls a macro.
-    #[tactic(auto, using(crate::proofs::Tables::is_macro))]
     fn call(
         &mut self,
         alloc: Global,
-        program: &Program,
-        places: &Places,
+        listing: &Listing,
         i: usize,
         name: &Symbol,
         args: &Args,
     ) -> Result<Result<Deed, Case>, AllocError>
-        requires places { ArePlaces program.now places.now }
+        requires made { listing.now.made ≡ true }
         requires small { i < 2 ^ 63 }
-        ensures { IfOk result (λ r. IsActed (actions.call program.now self.old i args.now (named namings.Macros program.now name.now)) r self.new) }
+        ensures { IfOk result (λ r. IsActed (actions.call listing.now.stmts self.old i args.now (named namings.Macros listing.now.stmts name.now)) r self.new) }
     {
-        let Some(begin) = places.macro_named(name) else {
+        let Some(begin) = listing.macro_named(name) else {
             return Ok(Err(Case::NoSuchMacro));
         };
         if self.calls.is_full() {
             return Ok(Err(Case::Depth));
         }
-        let params = parameters_at(program, begin);
+        let params = listing.parameters_at(begin);
         match bindings(alloc, &self.env, self.frame(), params, args)? {
             Err(case) => Ok(Err(case)),
             Ok(frame) => {
@@ -222,32 +215,6 @@ impl Run {
                 Ok(Ok(Deed::Call))
             }
         }
-    }
-}
-
-/// The statement with a label, where it stands in the region of a statement.
-#[tactic(auto, using(crate::proofs::Tables::target_is))]
-fn target(program: &Program, places: &Places, i: usize, label: &Symbol) -> Option<usize>
-    requires { ArePlaces program.now places.now }
-    ensures { result ≡ spec.target program.now i label.now }
-{
-    places.target(i, label)
-}
-
-/// The parameters of the macro that a statement begins.
-fn parameters_at(program: &Program, begin: usize) -> &Params
-    requires { IsMacroAt (slice_get program.now begin) }
-    ensures value { result.now ≡ actions.formal_of (slice_get program.now begin) }
-    ensures small { begin < 2 ^ 63 }
-{
-    match program.stmts.get(begin) {
-        Some(
-            Stmt {
-                body: Body::Macro(_, params),
-                ..
-            },
-        ) => params,
-        _ => unreachable!(),
     }
 }
 

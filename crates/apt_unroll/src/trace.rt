@@ -1,7 +1,6 @@
 //! The trace of a program.
 
 ghost use Rattle.std.specs.Prelude.{◌≡◌, ◌≢◌, ◌<◌, ◌^◌, ◌++◌, ◌∷◌, [], false, None, Some, slice_get, IfOk, OnOk, IfSome, IsSome, option_map, vec_len, vec_capacity};
-ghost use Rattle.std.specs.Option.{option_copied};
 ghost use Rattle.apt_words.specs.Built.{AreBuilt, AreBuiltSteps};
 ghost use Rattle.apt_words.specs.Flow.{AreNested, flow_of, is_fini};
 ghost use Rattle.apt_words.specs.ProgramEnds.{StepsEnd};
@@ -11,13 +10,12 @@ ghost use Rattle.apt_scalar.specs.StepScalars.{AreScalars};
 ghost use Rattle.apt_unroll.specs.Actions.{IsActed, action, onward, step_of};
 ghost use Rattle.apt_unroll.specs.Places.{begins_macro, executed_from, goes_on};
 ghost use Rattle.apt_unroll.specs.Straight.{AreStraight, in_order};
-ghost use Rattle.apt_unroll.specs.Tables.{AreMade};
 ghost use Rattle.apt_unroll.specs.Trace as spec;
 ghost use Rattle.apt_unroll.specs.Trace.{IsTrace, Trace, trace_of};
 
-use crate::places::{Places, begins_macro, goes_on};
+use crate::places::{Listing, begins_macro, goes_on};
 use crate::run::Run;
-use apt_words::{Body, Case, Deed, Program, Refusal, Step, Stmt};
+use apt_words::{Case, Deed, Program, Refusal, Step, Stmt};
 use std::alloc::{AllocError, Global};
 use std::marker::Model;
 
@@ -75,13 +73,13 @@ pub fn unroll(alloc: Global, p: &Program) -> Result<Unrolled, AllocError>
 fn unroll_all(alloc: Global, p: &Program) -> Result<Unrolled, AllocError>
     ensures { IfOk result (λ u. u ≡ trace_of p.now) }
 {
-    let mut places = None;
+    let mut listing = Listing::new(p);
     let mut run = Run::new(alloc);
     let mut steps = Vec::with_capacity(alloc, p.stmts.len().min(MOST_STEPS as usize))?;
     let mut step = 1;
     let mut left = MOST_STEPS + 1;
     'steps: while left > 0 {
-        match next_step(alloc, p, &mut places, &mut run, step) {
+        match next_step(alloc, &mut listing, &mut run, step) {
             Next::On(next) => push(&mut steps, next)?,
             Next::Last(last) => {
                 push(&mut steps, last)?;
@@ -119,46 +117,32 @@ fn make_room(steps: &mut Vec<Step>) -> Result<(), AllocError>
     steps.reserve(1)
 }
 
-/// The n-th step, done. The tables are made where a step first asks for them.
+/// The n-th step, done.
 #[tactic(auto, using(crate::proofs::Moments::ends_here, crate::proofs::Moments::next_here))]
-fn next_step(
-    alloc: Global,
-    p: &Program,
-    places: &mut Option<Places>,
-    run: &mut Run,
-    step: u32,
-) -> Next
-    requires { AreMade p.now places.old }
-    ensures made { AreMade p.now places.new }
-    ensures next { spec.IsNext (spec.moment p.now step run.old) step result run.new }
+fn next_step(alloc: Global, listing: &mut Listing, run: &mut Run, step: u32) -> Next
+    ensures same { listing.new.stmts ≡ listing.old.stmts }
+    ensures next { spec.IsNext (spec.moment listing.old.stmts step run.old) step result run.new }
 {
     let at = run.at();
-    match stmt_at(p, at) {
+    match listing.stmt(at) {
         None => Next::Out,
-        Some(stmt) if begins_macro(&stmt.body) => step_behind_macros(alloc, p, places, run, step),
-        Some(stmt) => step_at(alloc, p, places, run, step, at, stmt),
+        Some(stmt) if begins_macro(&stmt.body) => step_behind_macros(alloc, listing, run, step),
+        Some(stmt) => step_at(alloc, listing, run, step, at, stmt),
     }
 }
 
 /// The n-th step, where the run has come to the definition of a macro.
 #[tactic(auto, using(crate::proofs::Moments::ends_behind, crate::proofs::Moments::next_behind))]
-fn step_behind_macros(
-    alloc: Global,
-    p: &Program,
-    places: &mut Option<Places>,
-    run: &mut Run,
-    step: u32,
-) -> Next
-    requires { AreMade p.now places.old }
-    ensures made { AreMade p.now places.new }
-    ensures next { spec.IsNext (spec.moment p.now step run.old) step result run.new }
+fn step_behind_macros(alloc: Global, listing: &mut Listing, run: &mut Run, step: u32) -> Next
+    ensures same { listing.new.stmts ≡ listing.old.stmts }
+    ensures next { spec.IsNext (spec.moment listing.old.stmts step run.old) step result run.new }
 {
-    if make(alloc, p, places).is_err() {
+    if listing.make(alloc).is_err() {
         return Next::NoMemory;
     }
-    match executed(p, places, run.at()) {
+    match listing.executed(run.at()) {
         None => Next::Out,
-        Some((i, stmt)) => step_at(alloc, p, places, run, step, i, stmt),
+        Some((i, stmt)) => step_at(alloc, listing, run, step, i, stmt),
     }
 }
 
@@ -166,18 +150,16 @@ fn step_behind_macros(
 #[tactic(auto, using(crate::proofs::Moments::next_onward, crate::proofs::Moments::next_turned, crate::proofs::Moments::next_last))]
 fn step_at(
     alloc: Global,
-    p: &Program,
-    places: &mut Option<Places>,
+    listing: &mut Listing,
     run: &mut Run,
     step: u32,
     i: usize,
     stmt: &Stmt,
 ) -> Next
-    requires made { AreMade p.now places.old }
     requires small { i < 2 ^ 63 }
     requires passed { begins_macro (flow_of stmt.now.body) ≡ false }
-    ensures made { AreMade p.now places.new }
-    ensures next { spec.IsNext (Some (stmt.now.line, step_of p.now step run.old i stmt.now)) step result run.new }
+    ensures same { listing.new.stmts ≡ listing.old.stmts }
+    ensures next { spec.IsNext (Some (stmt.now.line, step_of listing.old.stmts step run.old i stmt.now)) step result run.new }
 {
     let line = stmt.line;
     if step > MOST_STEPS {
@@ -194,7 +176,7 @@ fn step_at(
         let deed = Deed::Fini;
         Next::Last(Step { line, step, deed })
     } else {
-        flow_step(alloc, p, places, run, step, i, stmt)
+        flow_step(alloc, listing, run, step, i, stmt)
     }
 }
 
@@ -218,88 +200,26 @@ fn onward_step(alloc: Global, run: &mut Run, step: u32, i: usize, stmt: &Stmt) -
 #[tactic(auto, using(crate::proofs::Moments::turned_on))]
 fn flow_step(
     alloc: Global,
-    p: &Program,
-    places: &mut Option<Places>,
+    listing: &mut Listing,
     run: &mut Run,
     step: u32,
     i: usize,
     stmt: &Stmt,
 ) -> Next
-    requires made { AreMade p.now places.old }
     requires small { i < 2 ^ 63 }
     requires passed { begins_macro (flow_of stmt.now.body) ≡ false }
     requires turned { goes_on (flow_of stmt.now.body) ≡ false }
     requires lasting { is_fini stmt.now.body ≡ false }
-    ensures made { AreMade p.now places.new }
-    ensures next { spec.IsNext (Some (stmt.now.line, action p.now run.old i stmt.now.body (flow_of stmt.now.body))) step result run.new }
+    ensures same { listing.new.stmts ≡ listing.old.stmts }
+    ensures next { spec.IsNext (Some (stmt.now.line, action listing.old.stmts run.old i stmt.now.body (flow_of stmt.now.body))) step result run.new }
 {
-    if make(alloc, p, places).is_err() {
+    if listing.make(alloc).is_err() {
         return Next::NoMemory;
     }
     let line = stmt.line;
-    match act(alloc, p, places, run, i, &stmt.body) {
+    match run.act(alloc, listing, i, &stmt.body) {
         Ok(Ok(deed)) => Next::On(Step { line, step, deed }),
         Ok(Err(case)) => Next::Refused(Refusal { line, step, case }),
         Err(_) => Next::NoMemory,
-    }
-}
-
-/// Makes the tables of a program, where they are not made yet.
-fn make(alloc: Global, p: &Program, places: &mut Option<Places>) -> Result<(), AllocError>
-    requires { AreMade p.now places.old }
-    ensures made { AreMade p.now places.new }
-    ensures some { OnOk result (IsSome places.new) }
-{
-    if places.is_none() {
-        *places = Some(Places::new(alloc, p)?);
-    }
-    Ok(())
-}
-
-fn act(
-    alloc: Global,
-    p: &Program,
-    places: &Option<Places>,
-    run: &mut Run,
-    i: usize,
-    body: &Body,
-) -> Result<Result<Deed, Case>, AllocError>
-    requires made { AreMade p.now places.now }
-    requires some { IsSome places.now }
-    requires small { i < 2 ^ 63 }
-    requires passed { begins_macro (flow_of body.now) ≡ false }
-    requires turned { goes_on (flow_of body.now) ≡ false }
-    requires lasting { is_fini body.now ≡ false }
-    ensures { IfOk result (λ r. IsActed (action p.now run.old i body.now (flow_of body.now)) r run.new) }
-{
-    match places {
-        Some(places) => run.act(alloc, p, places, i, body),
-        None => unreachable!(),
-    }
-}
-
-fn stmt_at(p: &Program, i: usize) -> Option<&Stmt>
-    ensures value { option_copied result ≡ slice_get p.now i }
-    ensures small { IfSome result (λ _. i < 2 ^ 63) }
-{
-    p.stmts.get(i)
-}
-
-/// The statement that is executed where a run comes to a number, with its own number.
-#[tactic(auto, using(crate::proofs::Tables::runs, crate::proofs::Tables::runs_out, crate::proofs::Tables::runs_past, crate::proofs::Tables::no_macro))]
-fn executed<'a>(p: &'a Program, places: &Option<Places>, at: usize) -> Option<(usize, &'a Stmt)>
-    requires made { AreMade p.now places.now }
-    requires some { IsSome places.now }
-    ensures value { option_map (λ r. (r.0, r.1.now)) result ≡ spec.with_number (executed_from p.now at) (slice_get p.now (executed_from p.now at)) }
-    ensures small { IfSome result (λ r. r.0 < 2 ^ 63) }
-    ensures passed { IfSome result (λ r. begins_macro (flow_of r.1.now.body) ≡ false) }
-{
-    let Some(places) = places else { unreachable!() };
-    match places.executed_from(at) {
-        None => None,
-        Some(i) => match stmt_at(p, i) {
-            None => None,
-            Some(stmt) => Some((i, stmt)),
-        },
     }
 }
