@@ -28,6 +28,7 @@ pub mod RoundsWorked
 pub mod Shares
 pub mod TangentFrame
 pub mod TangentCalls
+pub mod Across
 pub mod CircleAnswers
 pub mod TangentLaws
 pub mod TangentTwoLaws
