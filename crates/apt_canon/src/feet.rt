@@ -5,8 +5,9 @@ ghost use Rattle.apt_num.specs.declared.Sign.TheVariants as signs;
 ghost use Rattle.apt_num.specs.Sign.{square};
 ghost use Rattle.apt_plane.specs.Vectors as vectors;
 ghost use Rattle.apt_plane.specs.Ranges.{IsPoint, IsDir, IsLine, IsMoved, IsRound};
-ghost use Rattle.apt_canon.specs.Scale.{IsNearLine, IsNearCircle};
+ghost use Rattle.apt_canon.specs.Scale.{IsNearLine, IsNearCircle, IsAway};
 ghost use Rattle.apt_canon.specs.Scale as scale;
+ghost use Rattle.apt_canon.specs.Feet.{IsPicked};
 ghost use Rattle.apt_canon.specs.Feet as feet;
 
 use crate::FormFault;
@@ -87,6 +88,8 @@ pub fn parallel_at(l: &Line, pick: Pick, d: i64) -> Result<Line, FormFault>
     ensures in_range { IfOk result (λ m. IsLine m) }
     ensures same_dir { IfOk result (λ m. m.dir ≡ l.now.dir) }
     ensures on_line { IfOk result (λ m. IfOk (feet.offset_picked (feet.side_picked l.now pick) d) (λ h. IsNearLine l.now h (pos 1) m.base)) }
+    ensures beside { IfOk result (λ m. (pos 0 <ℤ d) → IsPicked l.now pick m.base) }
+    ensures away { IfOk result (λ m. (pos 0 <ℤ d) → IsAway l.now d m.base) }
 {
     parallel(l, pick, d)
 }
