@@ -29,6 +29,8 @@ pub fn ray(c: &Circ, u: Dir) -> Result<Pt, FormFault>
     ensures out_of_range { IsErrOf result FormFault.OutOfRange ↔ (scale.is_in_range (feet.ray_point c.now u) ≡ false) }
     ensures in_range { IfOk result (λ p. IsPoint p) }
     ensures on_circle { IfOk result (λ p. IsNearCircle c.now (pos 1) p) }
+    ensures across { IfOk result (λ p. 2 * square (vectors.cross u (vectors.displacement c.now.c p)) ≤ vectors.length_squared u) }
+    ensures onwards { IfOk result (λ p. (pos 0 <ℤ c.now.r) → pos 0 <ℤ vectors.dot u (vectors.displacement c.now.c p)) }
 {
     within(ray_point(c, u))
 }
@@ -59,6 +61,7 @@ pub fn foot(p: Pt, l: &Moved) -> Result<Pt, FormFault>
     ensures out_of_range { IsErrOf result FormFault.OutOfRange ↔ (scale.is_in_range (feet.foot_point p l.now.line l.now.off) ≡ false) }
     ensures in_range { IfOk result (λ q. IsPoint q) }
     ensures on_line { IfOk result (λ q. IsNearLine l.now.line l.now.off (pos 1) q) }
+    ensures across { IfOk result (λ q. 2 * square (vectors.dot l.now.line.dir (vectors.displacement p q)) ≤ vectors.length_squared l.now.line.dir) }
 {
     within(foot_point(p, l))
 }
