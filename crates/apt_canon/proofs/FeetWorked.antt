@@ -8,6 +8,7 @@ use Rattle.apt_plane.specs.declared.figures.Dir.{Dir}
 use Rattle.apt_plane.specs.declared.figures.Line.{Line}
 use Rattle.apt_plane.specs.declared.figures.Circ.{Circ}
 use Rattle.apt_canon.specs.declared.FormFault.TheVariants.{OutOfRange, Degenerate}
+use Rattle.apt_canon.specs.Scale.{IsAway}
 use Rattle.apt_canon.specs.Feet.{ray, foot, parallel_at, IsPicked}
 use Rattle.apt_plane.specs.Vectors.{Scaled}
 use Rattle.apt_canon.proofs.Figures.{pt}
@@ -55,6 +56,11 @@ beside = refl
 greater_x : IsPicked (line (pt (pos 0) (pos 0)) (dir (pos 3) (pos 4))) picks.XLarge (pt (pos 400) (neg_ℤ (pos 300)))
 unfolding dir line
 greater_x = picked (line (pt (pos 0) (pos 0)) (dir (pos 3) (pos 4))) picks.XLarge (pt (pos 400) (neg_ℤ (pos 300))) (λ e. cc) refl
+
+-- and 500 away from it, on whichever side
+away : IsAway (line (pt (pos 0) (pos 0)) (dir (pos 3) (pos 4))) (pos 500) (pt (pos 400) (neg_ℤ (pos 300)))
+unfolding dir line
+away = record { right = omega arith; left = omega arith }
 
 level_point : Scaled
 level_point = record { x = neg_ℤ (pos 225); y = neg_ℤ (pos 300); m = 1 }
