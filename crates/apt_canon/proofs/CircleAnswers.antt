@@ -10,13 +10,14 @@ use Rattle.apt_plane.specs.declared.figures.Line.{Line}
 use Rattle.apt_plane.specs.declared.figures.Moved.{Moved}
 use Rattle.apt_plane.specs.declared.figures.Circ.{Circ}
 use Rattle.apt_plane.specs.Vectors.{displacement, cross, length_squared}
-use Rattle.apt_plane.specs.Ranges.{IsPoint, IsDir, IsMoved, IsRound, IsSense}
+use Rattle.apt_plane.specs.Ranges.{IsPoint, IsDir, IsLine, IsMoved, IsRound, IsSense}
 use Rattle.apt_canon.specs.declared.FormFault.{FormFault}
 use Rattle.apt_canon.specs.declared.FormFault.TheVariants.{NoMeeting, Degenerate}
 use Rattle.apt_canon.specs.Scale.{in_range, IsNearLine, IsNearCircle}
-use Rattle.apt_canon.specs.Circles.{DoMeet, reaches, line_circle, line_circle_point, are_concentric, overlap, chord_depth, circle_circle, circle_circle_point}
+use Rattle.apt_canon.specs.Circles.{DoMeet, IsFurther, IsBeyond, reaches, line_circle, line_circle_point, are_concentric, overlap, chord_depth, circle_circle, circle_circle_point}
 use Rattle.apt_canon.proofs.Fits.{if_fits, in_range-IsPoint, no_other_fault}
 use Rattle.apt_canon.proofs.Ways.{one_point, no_way, way-IsDir}
+use Rattle.apt_canon.proofs.Across.{point_further, point_beyond}
 use Rattle.apt_canon.proofs.LineCircleLaws.{point_on_line, point_on_circle}
 use Rattle.apt_canon.proofs.CircleCircleLaws.{TwoCircles, chord_within, point_on_first, point_on_second}
 
@@ -97,6 +98,11 @@ pub answer_on_circle : (r : Result Pt FormFault) (l : Moved) (c : Circ) (sigma :
     → IfOk r (λ p. IsNearCircle c (pos 1) p)
 answer_on_circle r l c sigma is round sense e =
     rw e (met (reaches l.line l.off c) (IsNearLine l.line l.off c.r c.c) (IsNearCircle c (pos 1)) (line_circle_point l.line l.off c sigma) (reaches-tells l.line l.off c) (on_circle l c sigma is round sense))
+
+pub answer_further : (r : Result Pt FormFault) (l : Line) (h : ℤ) (c : Circ) (sigma : ℤ) → IsLine l → IsSense sigma → r ≡ line_circle l h c sigma
+    → IfOk r (λ p. IsFurther l c sigma p)
+answer_further r l h c sigma is sense e =
+    rw e (met (reaches l h c) (IsNearLine l h c.r c.c) (IsFurther l c sigma) (line_circle_point l h c sigma) (reaches-tells l h c) (λ near. point_further l h c sigma is sense))
 
 -- ---- two circles
 pub le-fails : (m n : ℕ) → n < m → nat_le m n ≡ false
@@ -199,6 +205,9 @@ on_second a b sigma is_a is_b large_a large_b sense apart meet =
     point_on_second a b sigma (unsigned_abs a.r) (unsigned_abs b.r)
     (two_circles a b is_a is_b large_a large_b (way-IsDir a.c b.c is_a.centre is_b.centre apart) meet) sense
 
+pub beyond : (a b : Circ) (sigma : ℤ) → IsPoint a.c → IsPoint b.c → IsSense sigma → a.c ≢ b.c → IsBeyond a b sigma (circle_circle_point a b sigma)
+beyond a b sigma is_a is_b sense apart = point_beyond a b sigma (way-IsDir a.c b.c is_a is_b apart) sense
+
 -- as circle_circle says it
 pub answer_concentric : (r : Result Pt FormFault) (a b : Circ) (sigma : ℤ) → r ≡ circle_circle a b sigma → IsErrOf r Degenerate ↔ (a.c ≡ b.c)
 answer_concentric r a b sigma e =
@@ -220,6 +229,11 @@ pub answer_on_second : (r : Result Pt FormFault) (a b : Circ) (sigma : ℤ) → 
     → IfOk r (λ p. IsNearCircle b (pos 1) p)
 answer_on_second r a b sigma is_a is_b large_a large_b sense e =
     rw e (by_point (are_concentric a b) (overlap a b) (a.c ≡ b.c) (DoMeet a b) (IsNearCircle b (pos 1)) (circle_circle_point a b sigma) (concentric-tells a b) (overlap-tells a b) (on_second a b sigma is_a is_b large_a large_b sense))
+
+pub answer_beyond : (r : Result Pt FormFault) (a b : Circ) (sigma : ℤ) → IsPoint a.c → IsPoint b.c → IsSense sigma → r ≡ circle_circle a b sigma
+    → IfOk r (λ p. IsBeyond a b sigma p)
+answer_beyond r a b sigma is_a is_b sense e =
+    rw e (by_point (are_concentric a b) (overlap a b) (a.c ≡ b.c) (DoMeet a b) (IsBeyond a b sigma) (circle_circle_point a b sigma) (concentric-tells a b) (overlap-tells a b) (λ apart meet. beyond a b sigma is_a is_b sense apart))
 
 -- as its tests say it
 pub tested_meeting : (a b : Circ) (n : ℕ) (test : Bool) → n ≡ length_squared (displacement a.c b.c) → test ≡ (nat_le (square (a.r -ℤ b.r)) n && nat_le n (square (a.r +ℤ b.r)))

@@ -28,9 +28,12 @@ pub mod RoundsWorked
 pub mod Shares
 pub mod TangentFrame
 pub mod TangentCalls
+pub mod Sides
+pub mod Across
 pub mod CircleAnswers
 pub mod TangentLaws
 pub mod TangentTwoLaws
+pub mod TangentWays
 pub mod TangentAnswers
 pub mod TangentWorked
 pub mod Worked

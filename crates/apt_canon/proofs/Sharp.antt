@@ -66,24 +66,24 @@ ray_across c u is =
 along_times : (u : Dir) (m : ℤ) → dot u (times m u) ≡ m *ℤ pos (length_squared u)
 along_times u m = dot_times u u m ∙ rw (square_length_squared u) refl
 
-rest_core : (s n rest : ℕ) → 0 < n → s * s ≤ n * 2 ^ 70 → 2 * rest * rest ≤ n * (s * s) → rest < n * 2 ^ 35
+pub rest_core : (s n rest : ℕ) → 0 < n → s * s ≤ n * 2 ^ 70 → 2 * rest * rest ≤ n * (s * s) → rest < n * 2 ^ 35
 rest_core s n rest positive low h = elim (cases_lt rest (n * 2 ^ 35)) [
   | inl below ↦ below
   | inr past ↦ absurd (omega (arith, mul-le (n * 2 ^ 35) (n * 2 ^ 35) rest rest past past, h, mul-le-mul_left n low, mul-le 1 1 n n positive positive))
 ]
 
 -- a product with a natural from 1 is above 0: so is the number
-positive_of : (s : ℕ) (d : ℤ) → pos 0 <ℤ (pos s *ℤ d) → pos 0 <ℤ d
+pub positive_of : (s : ℕ) (d : ℤ) → pos 0 <ℤ (pos s *ℤ d) → pos 0 <ℤ d
 positive_of s (pos zero) h = absurd (omega (arith, ints, h))
 positive_of s (pos (suc d)) h = omega (arith, ints)
 positive_of s (negsuc d) h = absurd (omega (arith, ints, h))
 
-forward_core : (s r n : ℕ) (d rest : ℤ) → 0 < r → pos s *ℤ d ≡ pos (r * 2 ^ 35 * n) +ℤ rest → unsigned_abs rest < n * 2 ^ 35 → pos 0 <ℤ d
+pub forward_core : (s r n : ℕ) (d rest : ℤ) → 0 < r → pos s *ℤ d ≡ pos (r * 2 ^ 35 * n) +ℤ rest → unsigned_abs rest < n * 2 ^ 35 → pos 0 <ℤ d
 forward_core s r n d rest least e h =
     let up : n * 2 ^ 35 ≤ r * 2 ^ 35 * n = omega (arith, mul-le-mul_left (n * 2 ^ 35) least) in
     positive_of s d (rw e (omega (arith, ints, up, h)))
 
-as_natural : (r : ℤ) (n : ℕ) → pos 0 ≤ℤ r → (r *ℤ pos (2 ^ 35)) *ℤ pos n ≡ pos (unsigned_abs r * 2 ^ 35 * n)
+pub as_natural : (r : ℤ) (n : ℕ) → pos 0 ≤ℤ r → (r *ℤ pos (2 ^ 35)) *ℤ pos n ≡ pos (unsigned_abs r * 2 ^ 35 * n)
 as_natural (pos r) n h = omega (arith, ints)
 as_natural (negsuc r) n h = absurd (omega (arith, ints))
 

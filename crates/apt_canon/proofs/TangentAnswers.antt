@@ -1,5 +1,5 @@
 -- What the answers of the tangents tell: which faults they are, and that a line touches its circles.
-use Rattle.std.proofs.Common.{refl, ◌≡◌, ◌↔◌, ℕ, ◌+◌, ◌-◌, ◌*◌, ◌^◌, ◌≤◌, ◌<◌, ◌∙◌, Bool, arith, inl, inr, ℤ, pos, neg_ℤ, ◌+ℤ◌, ◌-ℤ◌, ◌*ℤ◌, ◌≤ℤ◌, unsigned_abs, ◌==◌, nat_lt, Result, Ok, Err, IfOk, IsErrOf}
+use Rattle.std.proofs.Common.{refl, ◌≡◌, ◌≢◌, ◌↔◌, ℕ, ◌+◌, ◌-◌, ◌*◌, ◌^◌, ◌≤◌, ◌<◌, ◌∙◌, Bool, arith, inl, inr, ℤ, pos, neg_ℤ, ◌+ℤ◌, ◌-ℤ◌, ◌*ℤ◌, ◌≤ℤ◌, unsigned_abs, ◌==◌, nat_lt, Result, Ok, Err, IfOk, IsErrOf}
 use Rattle.std.specs.Prelude.{◌&&◌, if◌then◌else◌}
 use Rattle.std.proofs.lemmas.Int.{ints}
 use Rattle.std.proofs.lemmas.Bool.{cases_lt, lt-ltb}
@@ -16,7 +16,7 @@ use Rattle.apt_plane.proofs.Lengths.{IsInRing}
 use Rattle.apt_canon.specs.declared.FormFault.{FormFault}
 use Rattle.apt_canon.specs.declared.FormFault.TheVariants.{NoMeeting, Degenerate}
 use Rattle.apt_canon.specs.Scale.{IsNearLine, IsNearCircle}
-use Rattle.apt_canon.specs.Tangents.{side_of_circle, falling, falling_dir, fall_divisor, tangent_line, tangent_from, drop, touch_point, common_tangent, tangent_two}
+use Rattle.apt_canon.specs.Tangents.{Passes, RunsAlong, side_of_circle, falling, falling_dir, fall_divisor, tangent_line, tangent_from, drop, touch_point, common_tangent, tangent_two}
 use Rattle.apt_canon.proofs.Ways.{there_and_back, no_square, one_point, no_way, way_is_dir}
 use Rattle.apt_canon.proofs.NearLine.{length_squared_bound}
 use Rattle.apt_canon.proofs.NearCircle.{near_circle}
@@ -24,6 +24,7 @@ use Rattle.apt_canon.proofs.Shares.{share_small}
 use Rattle.apt_canon.proofs.TangentFrame.{falling_small}
 use Rattle.apt_canon.proofs.TangentCalls.{not_below, apart_test, same_test, side_size, radius_large, outside_apart}
 use Rattle.apt_canon.proofs.TangentLaws.{divisor_apart, stretched, falling_dir_long, lag, lag_small, touching_back}
+use Rattle.apt_canon.proofs.TangentWays.{if_passes, falling_onwards, point_to_centre, centre_to_centre, less_than}
 use Rattle.apt_canon.proofs.TangentTwoLaws.{touch_way, touches_first, touches_second}
 
 -- ---- the tests
@@ -110,6 +111,18 @@ from_range r p left c is_p is e = if_from (λ t. IsLine t) r p left c e (λ outs
   base = is_p;
   dir = falling_dir_is (displacement p c.c) (neg_ℤ (side_of_circle left *ℤ c.r)) (way_is_dir p c.c is_p is.centre (outside_apart p c is outside)) (from_fits left c.r (length_squared (displacement p c.c)) outside);
 })
+
+-- the circle lies on the other side of the tangent than the tangent of the circle
+pub from_side : (r : Result Line FormFault) (p : Pt) (left : Bool) (c : Circ) → IsPoint p → IsCircle c → r ≡ tangent_from p left c → IfOk r (λ t. Passes left t c)
+from_side r p left c is_p is e = if_passes left c r is (from_range r p left c is_p is e) (from_touches r p left c is_p is e)
+
+-- from a point that is not on the circle it runs towards the circle
+pub from_onwards : (r : Result Line FormFault) (p : Pt) (left : Bool) (c : Circ) → IsPoint p → IsCircle c → r ≡ tangent_from p left c
+    → IfOk r (λ t. length_squared (displacement p c.c) ≢ square c.r → RunsAlong (displacement p c.c) t)
+from_onwards r p left c is_p is e =
+    if_from (λ t. length_squared (displacement p c.c) ≢ square c.r → RunsAlong (displacement p c.c) t) r p left c e (λ outside apart.
+    falling_onwards (displacement p c.c) (neg_ℤ (side_of_circle left *ℤ c.r)) (way_is_dir p c.c is_p is.centre (outside_apart p c is outside)) (point_to_centre p c is_p is)
+    (rw (back_size left c.r) (less_than (length_squared (displacement p c.c)) (square c.r) outside apart)))
 
 -- ---- of two circles
 
@@ -260,3 +273,24 @@ two_range r a left_a b left_b is_a is_b e =
     if_two (λ t. IsLine t) r a left_a b left_b e (λ apart fits.
     let is = way_is_dir a.c b.c is_a.centre is_b.centre apart in
     common_tangent_is a left_a b left_b is_a is fits)
+
+-- ---- which of the tangents of two circles
+
+pub two_side_first : (r : Result Line FormFault) (a : Circ) (left_a : Bool) (b : Circ) (left_b : Bool) → IsCircle a → IsCircle b → r ≡ tangent_two a left_a b left_b
+    → IfOk r (λ t. Passes left_a t a)
+two_side_first r a left_a b left_b is_a is_b e =
+    if_passes left_a a r is_a (two_range r a left_a b left_b is_a is_b e) (two_touches_first r a left_a b left_b is_a is_b e)
+
+pub two_side_second : (r : Result Line FormFault) (a : Circ) (left_a : Bool) (b : Circ) (left_b : Bool) → IsCircle a → IsCircle b → r ≡ tangent_two a left_a b left_b
+    → IfOk r (λ t. Passes left_b t b)
+two_side_second r a left_a b left_b is_a is_b e =
+    if_passes left_b b r is_b (two_range r a left_a b left_b is_a is_b e) (two_touches_second r a left_a b left_b is_a is_b e)
+
+-- of circles that do not touch it runs from the first to the second
+pub two_onwards : (r : Result Line FormFault) (a : Circ) (left_a : Bool) (b : Circ) (left_b : Bool) → IsCircle a → IsCircle b → r ≡ tangent_two a left_a b left_b
+    → IfOk r (λ t. length_squared (displacement a.c b.c) ≢ square (drop a left_a b left_b) → RunsAlong (displacement a.c b.c) t)
+two_onwards r a left_a b left_b is_a is_b e =
+    let v = displacement a.c b.c in
+    let m = drop a left_a b left_b in
+    if_two (λ t. length_squared v ≢ square m → RunsAlong v t) r a left_a b left_b e (λ some fits apart.
+    falling_onwards v m (way_is_dir a.c b.c is_a.centre is_b.centre some) (centre_to_centre a b is_a is_b) (less_than (length_squared v) (square m) fits apart))

@@ -1,5 +1,5 @@
 -- Where a moved line, or a circle, meets a circle.
-use Rattle.std.specs.Prelude.{◌^◌, ◌≤◌, nat_le, ℤ, pos, neg_ℤ, ◌+ℤ◌, ◌-ℤ◌, ◌*ℤ◌, ◌==◌, ◌&&◌, Bool, Result, Err, if◌then◌else◌}
+use Rattle.std.specs.Prelude.{◌⊎◌, ℕ, ◌*◌, ◌^◌, ◌≤◌, nat_le, ℤ, pos, neg_ℤ, ◌+ℤ◌, ◌-ℤ◌, ◌*ℤ◌, ◌≤ℤ◌, ◌==◌, ◌&&◌, Bool, Result, Err, if◌then◌else◌}
 use Rattle.apt_num.specs.Root.{root}
 use Rattle.apt_num.specs.Near.{near}
 use Rattle.apt_num.specs.Sign.{square, is_at_least}
@@ -7,7 +7,7 @@ use Rattle.apt_plane.specs.declared.figures.Pt.{Pt}
 use Rattle.apt_plane.specs.declared.figures.Dir.{Dir}
 use Rattle.apt_plane.specs.declared.figures.Line.{Line}
 use Rattle.apt_plane.specs.declared.figures.Circ.{Circ}
-use Rattle.apt_plane.specs.Vectors.{displacement, cross, length_squared, perp}
+use Rattle.apt_plane.specs.Vectors.{displacement, cross, dot, length_squared, perp}
 use Rattle.apt_canon.specs.declared.FormFault.{FormFault}
 use Rattle.apt_canon.specs.declared.FormFault.TheVariants as faults
 use Rattle.apt_canon.specs.Scale.{length_of, times, sum, nearest, from, positive_part, in_range}
@@ -73,3 +73,19 @@ abbrev pub circle_circle : Circ → Circ → ℤ → Result Pt FormFault
 circle_circle a b sigma =
     if are_concentric a b then Err faults.Degenerate
     else (if overlap a b then in_range (circle_circle_point a b sigma) else Err faults.NoMeeting)
+
+-- ---- which of the two points
+
+-- k over the root of n has the sign of sigma, or is less than a unit
+abbrev pub RunsAs : ℤ → ℤ → ℕ → Type 0
+RunsAs sigma k n = (pos 0 ≤ℤ (sigma *ℤ k)) ⊎ (2 * square k ≤ n)
+
+-- a point lies further along a line than the centre of a circle for 1, and back for -1, or less than a unit off
+abbrev pub IsFurther : Line → Circ → ℤ → Pt → Type 0
+IsFurther l c sigma p = RunsAs sigma (dot l.dir (displacement c.c p)) (length_squared l.dir)
+
+-- a point lies to the left of the way from one centre to another for 1, and to the right for -1, or less than a unit off
+abbrev pub IsBeyond : Circ → Circ → ℤ → Pt → Type 0
+IsBeyond a b sigma p =
+    let v = displacement a.c b.c in
+    RunsAs sigma (cross v (displacement a.c p)) (length_squared v)

@@ -1,5 +1,5 @@
 -- The point of a circle in a direction, the foot of a point on a line, and parallels at a distance.
-use Rattle.std.specs.Prelude.{ℤ, pos, neg_ℤ, ◌*ℤ◌, int_lt, Result, Ok, Err, if◌then◌else◌}
+use Rattle.std.specs.Prelude.{◌≡◌, ◌<◌, ℤ, pos, neg_ℤ, ◌*ℤ◌, ◌<ℤ◌, int_lt, Result, Ok, Err, if◌then◌else◌}
 use Rattle.apt_num.specs.declared.Sign.{Sign}
 use Rattle.apt_num.specs.declared.Sign.TheVariants as signs
 use Rattle.apt_num.specs.Sign.{sign_of}
@@ -10,7 +10,7 @@ use Rattle.apt_plane.specs.declared.figures.Pt.{Pt}
 use Rattle.apt_plane.specs.declared.figures.Dir.{Dir}
 use Rattle.apt_plane.specs.declared.figures.Line.{Line}
 use Rattle.apt_plane.specs.declared.figures.Circ.{Circ}
-use Rattle.apt_plane.specs.Vectors.{displacement, cross, perp}
+use Rattle.apt_plane.specs.Vectors.{Scaled, displacement, cross, perp, height}
 use Rattle.apt_canon.specs.declared.FormFault.{FormFault}
 use Rattle.apt_canon.specs.declared.FormFault.TheVariants as faults
 use Rattle.apt_canon.specs.Scale.{unit, length_of, times, nearest, from, in_range}
@@ -60,3 +60,16 @@ abbrev pub parallel_at : Line → Pick → ℤ → Result Line FormFault
 parallel_at l pick d =
     if int_lt d (pos 0) then Err faults.Degenerate
     else (offset_picked (side_picked l pick) d >>= λ h. in_range (parallel_point l h) >>= based_on l.dir)
+
+-- ---- the side that a modifier names, by coordinates
+
+-- where a fraction shares a coordinate with a point, the other one of the point is greater, or smaller, as the modifier names it
+abbrev pub IsPast : Pick → Scaled → Pt → Type 0
+IsPast picks.XLarge s p = (s.y ≡ pos s.m *ℤ p.y) → s.x <ℤ (pos s.m *ℤ p.x)
+IsPast picks.XSmall s p = (s.y ≡ pos s.m *ℤ p.y) → (pos s.m *ℤ p.x) <ℤ s.x
+IsPast picks.YLarge s p = (s.x ≡ pos s.m *ℤ p.x) → s.y <ℤ (pos s.m *ℤ p.y)
+IsPast picks.YSmall s p = (s.x ≡ pos s.m *ℤ p.x) → (pos s.m *ℤ p.y) <ℤ s.y
+
+-- a point lies on the side of a line that a modifier names: past the point of the line that is level with it, or upright
+abbrev pub IsPicked : Line → Pick → Pt → Type 0
+IsPicked l pick p = (s : Scaled) → 0 < s.m → height l s ≡ pos 0 → IsPast pick s p

@@ -2,7 +2,6 @@
 use Rattle.std.specs.Prelude.{◌≡◌, ◌≢◌, ◌⊎◌, ◌*◌, ◌≤◌, ℤ, pos, neg_ℤ, ◌+ℤ◌, ◌-ℤ◌, ◌*ℤ◌, ◌≤ℤ◌, ◌<ℤ◌, unsigned_abs}
 use Rattle.apt_num.specs.declared.Sign.{Sign}
 use Rattle.apt_num.specs.declared.Sign.TheVariants as signs
-use Rattle.apt_num.specs.Sign.{OnLine}
 use Rattle.apt_words.specs.declared.Pick.{Pick}
 use Rattle.apt_plane.specs.declared.figures.Pt.{Pt}
 use Rattle.apt_plane.specs.declared.figures.Dir.{Dir}
@@ -13,7 +12,7 @@ use Rattle.apt_plane.specs.Ranges.{IsPoint, IsCircle}
 use Rattle.apt_plane.specs.Distances.{IsLengthAtMost, IsRootAtMost}
 use Rattle.apt_canon.specs.declared.FormFault.{FormFault}
 use Rattle.apt_canon.specs.declared.FormFault.TheVariants as faults
-use Rattle.apt_canon.specs.Scale.{times, sum, from, IsNearLine}
+use Rattle.apt_canon.specs.Scale.{times, sum, from, IsNearLine, IsAway}
 use Rattle.apt_canon.specs.Meeting.{meeting_point}
 use Rattle.apt_canon.specs.Feet.{side_picked}
 use Rattle.apt_canon.specs.Rounds.{circle, length_near, centre_from}
@@ -24,7 +23,7 @@ IsTooLarge k = (pos 100 ≤ℤ k.r) × ¬ IsCircle k
 
 -- a circle touches a line: its radius is the distance of its centre from the line, up to one unit
 abbrev pub Touches : Circ → Line → Type 0
-Touches k l = OnLine (pos (unsigned_abs (cross l.dir (displacement l.base k.c)))) k.r (length_squared l.dir) (pos 1)
+Touches k l = IsAway l k.r k.c
 
 -- ---- through three points
 

@@ -2,7 +2,8 @@
 use Rattle.std.specs.Prelude.{ℕ, ◌*◌, ◌^◌, nat_le, ℤ, pos, negsuc, ◌+ℤ◌, ◌*ℤ◌, ◌-ℤ◌, unsigned_abs, ◌&&◌, Bool, Result, Ok, Err, if◌then◌else◌}
 use Rattle.apt_num.specs.Root.{root}
 use Rattle.apt_num.specs.Near.{near}
-use Rattle.apt_num.specs.Sign.{OnLine}
+use Rattle.apt_num.specs.declared.Sign.{Sign}
+use Rattle.apt_num.specs.Sign.{sign_of, OnLine}
 use Rattle.apt_plane.specs.declared.figures.Pt.{Pt}
 use Rattle.apt_plane.specs.declared.figures.Dir.{Dir}
 use Rattle.apt_plane.specs.declared.figures.Line.{Line}
@@ -54,6 +55,14 @@ in_range p = if is_in_range p then Ok p else Err faults.OutOfRange
 -- a point is at most so far from a line moved to its left
 abbrev pub IsNearLine : Line → ℤ → ℤ → Pt → Type 0
 IsNearLine l h g p = OnLine (cross l.dir (displacement l.base p)) h (length_squared l.dir) g
+
+-- a point is a distance away from a line, on whichever side, up to one unit
+abbrev pub IsAway : Line → ℤ → Pt → Type 0
+IsAway l d p = OnLine (pos (unsigned_abs (cross l.dir (displacement l.base p)))) d (length_squared l.dir) (pos 1)
+
+-- the side of a line on which a point lies: Plus is its left
+abbrev pub side_of_line : Line → Pt → Sign
+side_of_line l p = sign_of (cross l.dir (displacement l.base p))
 
 -- a point is at most so far from a circle
 pub record IsNearCircle (c : Circ) (g : ℤ) (p : Pt) : Type 0 where

@@ -1,15 +1,17 @@
 -- Lines that touch circles.
-use Rattle.std.specs.Prelude.{◌-◌, ◌*◌, ◌^◌, nat_lt, ℤ, pos, neg_ℤ, ◌-ℤ◌, ◌*ℤ◌, ◌==◌, ◌&&◌, Bool, true, false, Result, Ok, Err, if◌then◌else◌}
+use Rattle.std.specs.Prelude.{◌≡◌, ◌-◌, ◌*◌, ◌^◌, nat_lt, ℤ, pos, neg_ℤ, ◌-ℤ◌, ◌*ℤ◌, ◌<ℤ◌, ◌==◌, ◌&&◌, Bool, true, false, Result, Ok, Err, if◌then◌else◌}
 use Rattle.apt_num.specs.Root.{root}
+use Rattle.apt_num.specs.declared.Sign.{Sign}
+use Rattle.apt_num.specs.declared.Sign.TheVariants as signs
 use Rattle.apt_num.specs.Sign.{square}
 use Rattle.apt_plane.specs.declared.figures.Pt.{Pt}
 use Rattle.apt_plane.specs.declared.figures.Dir.{Dir}
 use Rattle.apt_plane.specs.declared.figures.Line.{Line}
 use Rattle.apt_plane.specs.declared.figures.Circ.{Circ}
-use Rattle.apt_plane.specs.Vectors.{displacement, length_squared, perp}
+use Rattle.apt_plane.specs.Vectors.{displacement, dot, length_squared, perp}
 use Rattle.apt_canon.specs.declared.FormFault.{FormFault}
 use Rattle.apt_canon.specs.declared.FormFault.TheVariants as faults
-use Rattle.apt_canon.specs.Scale.{times, sum, nearest, from}
+use Rattle.apt_canon.specs.Scale.{times, sum, nearest, from, side_of_line}
 
 -- the length of a tangent's direction
 abbrev pub tangent_length : ℤ
@@ -63,3 +65,18 @@ tangent_two a left_a b left_b =
     let m = square (drop a left_a b left_b) in
     if n == 0 && m == 0 then Err faults.Degenerate
     else (if nat_lt n m then Err faults.NoMeeting else Ok (common_tangent a left_a b left_b))
+
+-- ---- which of the tangents
+
+-- the side of a tangent on which its circle lies: the right of one on the left of the circle, and the left of one on its right
+abbrev pub circle_side : Bool → Sign
+circle_side true = signs.Minus
+circle_side false = signs.Plus
+
+-- a tangent passes a circle on its left for true, and on its right for false
+abbrev pub Passes : Bool → Line → Circ → Type 0
+Passes left t c = side_of_line t c.c ≡ circle_side left
+
+-- a line runs on along a way, and not back
+abbrev pub RunsAlong : Dir → Line → Type 0
+RunsAlong v t = pos 0 <ℤ dot v t.dir

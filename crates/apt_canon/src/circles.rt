@@ -7,7 +7,7 @@ ghost use Rattle.apt_plane.specs.Ranges.{IsPoint, IsDir, IsMoved, IsRound, IsSen
 ghost use Rattle.apt_canon.specs.Scale.{IsNearLine, IsNearCircle};
 ghost use Rattle.apt_canon.specs.Scale as scale;
 ghost use Rattle.apt_canon.specs.Circles as circles;
-ghost use Rattle.apt_canon.specs.Circles.{DoMeet};
+ghost use Rattle.apt_canon.specs.Circles.{DoMeet, IsFurther, IsBeyond};
 
 use crate::FormFault;
 use crate::scale::{depth, framed, length_of, times, within};
@@ -30,6 +30,7 @@ pub fn line_circle(l: &Moved, c: &Circ, sigma: i8) -> Result<Pt, FormFault>
     ensures in_range { IfOk result (λ p. IsPoint p) }
     ensures on_line { IfOk result (λ p. IsNearLine l.now.line l.now.off (pos 1) p) }
     ensures on_circle { IfOk result (λ p. IsNearCircle c.now (pos 1) p) }
+    ensures along { IfOk result (λ p. IsFurther l.now.line c.now sigma p) }
 {
     meet_line(l, c, sigma)
 }
@@ -56,6 +57,7 @@ pub fn line_circle_point(l: &Moved, c: &Circ, sigma: i8) -> Pt
     ensures value { result ≡ circles.line_circle_point l.now.line l.now.off c.now sigma }
     ensures on_line { IsNearLine l.now.line l.now.off (pos 1) result }
     ensures on_circle { IsNearCircle c.now (pos 1) result }
+    ensures along { IsFurther l.now.line c.now sigma result }
 {
     on_chord(l, c, sigma)
 }
@@ -126,6 +128,7 @@ pub fn circle_circle(a: &Circ, b: &Circ, sigma: i8) -> Result<Pt, FormFault>
     ensures in_range { IfOk result (λ p. IsPoint p) }
     ensures on_a { IfOk result (λ p. IsNearCircle a.now (pos 1) p) }
     ensures on_b { IfOk result (λ p. IsNearCircle b.now (pos 1) p) }
+    ensures across { IfOk result (λ p. IsBeyond a.now b.now sigma p) }
 {
     meet_circle(a, b, sigma)
 }
@@ -160,6 +163,7 @@ pub fn circle_circle_point(a: &Circ, b: &Circ, sigma: i8) -> Pt
     ensures value { result ≡ circles.circle_circle_point a.now b.now sigma }
     ensures on_a { IsNearCircle a.now (pos 1) result }
     ensures on_b { IsNearCircle b.now (pos 1) result }
+    ensures across { IsBeyond a.now b.now sigma result }
 {
     on_common_chord(a, b, sigma)
 }

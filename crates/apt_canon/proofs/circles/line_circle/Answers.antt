@@ -1,7 +1,7 @@
 use Rattle.std.proofs.Common.{◌≡◌, w8}
 use Rattle.std.proofs.lemmas.Int.{to_z-of_z}
 use Rattle.apt_canon.specs.Circles.{line_circle}
-use Rattle.apt_canon.proofs.CircleAnswers.{answer_no_meeting, answer_in_range, answer_on_line, answer_on_circle}
+use Rattle.apt_canon.proofs.CircleAnswers.{answer_no_meeting, answer_in_range, answer_on_line, answer_on_circle, answer_further}
 use Rattle.apt_canon.proofs.circles.line_circle.Goals as goal
 
 value : (c : goal.After-meet_line) → c.meet_line.result ≡ line_circle c.args.l.now.line c.args.l.now.off c.args.c.now c.args.sigma
@@ -18,3 +18,6 @@ returns-clause-on_line c = answer_on_line c.meet_line.result c.args.l.now c.args
 
 pub returns-clause-on_circle : goal.returns-clause-on_circle
 returns-clause-on_circle c = answer_on_circle c.meet_line.result c.args.l.now c.args.c.now c.args.sigma c.requires.line c.requires.circle c.requires.sense (value c)
+
+pub returns-clause-along : goal.returns-clause-along
+returns-clause-along c = answer_further c.meet_line.result c.args.l.now.line c.args.l.now.off c.args.c.now c.args.sigma c.requires.line.line c.requires.sense (value c)

@@ -1,6 +1,7 @@
 use Rattle.std.proofs.Common.{◌≡◌, w8}
 use Rattle.std.proofs.lemmas.Int.{to_z-of_z}
 use Rattle.apt_canon.specs.Circles.{line_circle_point}
+use Rattle.apt_canon.proofs.Across.{point_further}
 use Rattle.apt_canon.proofs.CircleAnswers.{on_line, on_circle}
 use Rattle.apt_canon.proofs.circles.line_circle_point.Goals as goal
 
@@ -12,3 +13,6 @@ returns-clause-on_line c = rw (value c) (on_line c.args.l.now c.args.c.now c.arg
 
 pub returns-clause-on_circle : goal.returns-clause-on_circle
 returns-clause-on_circle c = rw (value c) (on_circle c.args.l.now c.args.c.now c.args.sigma c.requires.line c.requires.circle c.requires.sense c.requires.meeting)
+
+pub returns-clause-along : goal.returns-clause-along
+returns-clause-along c = rw (value c) (point_further c.args.l.now.line c.args.l.now.off c.args.c.now c.args.sigma c.requires.line.line c.requires.sense)

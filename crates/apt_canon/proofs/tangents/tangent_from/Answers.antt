@@ -1,4 +1,4 @@
-use Rattle.apt_canon.proofs.TangentAnswers.{from_no_meeting, from_range, from_base, from_touches}
+use Rattle.apt_canon.proofs.TangentAnswers.{from_no_meeting, from_range, from_base, from_touches, from_side, from_onwards}
 use Rattle.apt_canon.proofs.tangents.tangent_from.Goals as goal
 
 pub returns-clause-no_meeting : goal.returns-clause-no_meeting
@@ -12,3 +12,9 @@ returns-clause-base c = from_base c.from_point.result c.args.p c.args.left c.arg
 
 pub returns-clause-touches : goal.returns-clause-touches
 returns-clause-touches c = from_touches c.from_point.result c.args.p c.args.left c.args.c.now c.requires.point c.requires.circle c.from_point.ensures
+
+pub returns-clause-side : goal.returns-clause-side
+returns-clause-side c = from_side c.from_point.result c.args.p c.args.left c.args.c.now c.requires.point c.requires.circle c.from_point.ensures
+
+pub returns-clause-onwards : goal.returns-clause-onwards
+returns-clause-onwards c = from_onwards c.from_point.result c.args.p c.args.left c.args.c.now c.requires.point c.requires.circle c.from_point.ensures

@@ -1,4 +1,4 @@
-use Rattle.apt_canon.proofs.TangentAnswers.{two_degenerate, two_no_meeting, two_range, two_base, two_touches_first, two_touches_second}
+use Rattle.apt_canon.proofs.TangentAnswers.{two_degenerate, two_no_meeting, two_range, two_base, two_touches_first, two_touches_second, two_side_first, two_side_second, two_onwards}
 use Rattle.apt_canon.proofs.tangents.tangent_two.Goals as goal
 
 pub returns-clause-degenerate : goal.returns-clause-degenerate
@@ -18,3 +18,12 @@ returns-clause-touches_a c = two_touches_first c.of_two.result c.args.a.now c.ar
 
 pub returns-clause-touches_b : goal.returns-clause-touches_b
 returns-clause-touches_b c = two_touches_second c.of_two.result c.args.a.now c.args.left_a c.args.b.now c.args.left_b c.requires.a c.requires.b c.of_two.ensures
+
+pub returns-clause-side_a : goal.returns-clause-side_a
+returns-clause-side_a c = two_side_first c.of_two.result c.args.a.now c.args.left_a c.args.b.now c.args.left_b c.requires.a c.requires.b c.of_two.ensures
+
+pub returns-clause-side_b : goal.returns-clause-side_b
+returns-clause-side_b c = two_side_second c.of_two.result c.args.a.now c.args.left_a c.args.b.now c.args.left_b c.requires.a c.requires.b c.of_two.ensures
+
+pub returns-clause-onwards : goal.returns-clause-onwards
+returns-clause-onwards c = two_onwards c.of_two.result c.args.a.now c.args.left_a c.args.b.now c.args.left_b c.requires.a c.requires.b c.of_two.ensures
