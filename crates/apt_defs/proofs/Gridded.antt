@@ -1,5 +1,5 @@
 -- What a statement defines depends on its lengths in grid units alone.
-use Rattle.std.proofs.Common.{◌≡◌, sym, ap, ◌∙◌, refl, ℤ, pos, Option, Some, None, Result, Ok}
+use Rattle.std.proofs.Common.{◌≡◌, sym, ap, ◌∙◌, refl, ℤ, pos, Bool, true, false, Option, Some, None, Result, Ok}
 use Rattle.apt_words.specs.Chains.{◌>>=◌}
 use Rattle.apt_words.specs.declared.Case.{Case}
 use Rattle.apt_words.specs.declared.Units.{Units}
@@ -13,7 +13,7 @@ use Rattle.apt_defs.specs.declared.figure.Definition.{Definition}
 use Rattle.apt_defs.specs.declared.figure.Figure.TheVariants as figures
 use Rattle.apt_defs.specs.Figures.{Table, point_named, line_named}
 use Rattle.apt_defs.specs.Forms.{within, point_at, line_through, line_formed, circle_formed}
-use Rattle.apt_defs.specs.Definitions.{definition_of, defines}
+use Rattle.apt_defs.specs.Definitions.{definition_of, defines, HasOrNone}
 use Rattle.apt_defs.specs.Alike.{in_grid, AreAlike}
 
 abbrev point_in_grid : ℤ → ℤ → Result Pt Case
@@ -91,3 +91,10 @@ gridded units t deeds.If = refl
 
 pub alike : (units v : Units) (t : Table) (deed e : Deed) (o : Option Definition) → o ≡ definition_of units t deed → AreAlike units deed v e → o ≡ definition_of v t e
 alike units v t deed e o made same = made ∙ gridded units t deed ∙ ap (by_grid t) same ∙ sym (gridded v t e)
+
+pub alike_step : (units v : Units) (t : Table) (deed e : Deed) (now : Table) (defined : Bool) → HasOrNone units t deed now defined → AreAlike units deed v e → HasOrNone v t e now defined
+alike_step units v t deed e now true is same =
+    let made = is.2 in
+    let same_way = sym (alike units v t deed e (definition_of units t deed) refl same) in
+    (is.0, is.1, record { defines = same_way ∙ made.defines; table = made.table; set = made.set; others = made.others })
+alike_step units v t deed e now false is same = (sym (alike units v t deed e (definition_of units t deed) refl same) ∙ is.0, is.1)

@@ -1,5 +1,5 @@
 -- What a definition draws: what the figure has to do with the names and numbers of its statement, apart from the formulas that find it.
-use Rattle.std.specs.Prelude.{◌≡◌, ◌≢◌, ◌⊎◌, ℕ, ℤ, pos, negsuc, neg_ℤ, ◌≤ℤ◌, ◌<ℤ◌, Bool, true, false, List, Option, Some, None, IsOkAnd}
+use Rattle.std.specs.Prelude.{◌≡◌, ◌≢◌, ◌⊎◌, ℕ, ℤ, pos, negsuc, neg_ℤ, ◌≤ℤ◌, ◌<ℤ◌, Bool, true, false, List, Option, Some, None, Ok, IsOkAnd}
 use Rattle.apt_num.specs.Sign.{square}
 use Rattle.apt_words.specs.declared.Pick.{Pick}
 use Rattle.apt_words.specs.declared.Pick.TheVariants as picks
@@ -20,7 +20,8 @@ use Rattle.apt_canon.specs.Tangents.{Passes, RunsAlong, drop}
 use Rattle.apt_canon.specs.RoundLaws.{Touches, IsThrough, IsBeside}
 use Rattle.apt_defs.specs.declared.figure.Figure.{Figure}
 use Rattle.apt_defs.specs.declared.figure.Figure.TheVariants as figures
-use Rattle.apt_defs.specs.Figures.{Table, point_named, surface_named, line_named, circle_named}
+use Rattle.apt_defs.specs.Figures.{Table, figure_named, point_named, surface_named, line_named, circle_named}
+use Rattle.apt_defs.specs.Definitions.{definition_of, defines as defines_as}
 
 -- ---- a figure of its kind, of which a fact holds
 
@@ -237,3 +238,18 @@ IsDrawn units t (deeds.CircleTan n a b) f = OfPointAndLine t a b (λ p l. IsCirc
 IsDrawn units t (deeds.CircleThrough n a b) f = OfPoints t a b (λ p q. IsCircleOf (IsAboutThrough p q) f)
 IsDrawn units t (deeds.CircleCorner n j a k b r) f = OfLines t a b (λ l m. IsCircleOf (IsInCorner l j m k (grid_units units r)) f)
 IsDrawn units t _ f = ⊥
+
+-- ---- behind a step
+
+-- a name has now a figure that is drawn as the statement says
+pub record IsDrawnIn (units : Units) (before : Table) (deed : Deed) (now : Table) : Type 0 where
+  pub name : List ℕ
+  pub figure : Figure
+  pub defines : definition_of units before deed ≡ defines_as name (Ok figure)
+  pub set : figure_named now name ≡ Some figure
+  pub drawn : IsDrawn units before deed figure
+
+-- where the step defines one
+abbrev pub HasDrawn : Units → Table → Deed → Table → Bool → Type 0
+HasDrawn units before deed now true = IsDrawnIn units before deed now
+HasDrawn units before deed now false = Unit {0}
