@@ -15,7 +15,7 @@ use Rattle.apt_plane.proofs.Displacements.{cross_times, dot_times}
 use Rattle.apt_plane.proofs.Lengths.{in_frame, cross_in_frame, dot_in_frame}
 use Rattle.apt_plane.proofs.Rounding.{near_displacement, moved, moved_dot}
 use Rattle.apt_canon.specs.Scale.{length_of}
-use Rattle.apt_canon.specs.Circles.{depth, half_chord, line_circle_point, chord_depth, circle_circle_point, RunsAs, IsFurther, IsBeyond}
+use Rattle.apt_canon.specs.Circles.{depth, half_chord, line_circle_point, chord_depth, circle_circle_point, HasSense, IsFurther, IsBeyond}
 use Rattle.apt_canon.proofs.Ways.{displacement_from}
 use Rattle.apt_canon.proofs.Depths.{length_facts, length_positive}
 use Rattle.apt_canon.proofs.Frames.{frame_way}
@@ -25,24 +25,24 @@ small_core s c n r positive h short =
     cancel_le (s * s) (2 * (c * c)) n (mul-lt 0 0 s s positive positive) (omega (arith, square_le (s * c) r h, short))
 
 -- s times k is a length, turned by sigma, and a rest
-turned_on : (s t n : ℕ) (k rest : ℤ) → 0 < s → pos s *ℤ k ≡ (pos 1 *ℤ pos t) +ℤ rest → 2 * unsigned_abs rest * unsigned_abs rest ≤ n * (s * s) → RunsAs (pos 1) k n
+turned_on : (s t n : ℕ) (k rest : ℤ) → 0 < s → pos s *ℤ k ≡ (pos 1 *ℤ pos t) +ℤ rest → 2 * unsigned_abs rest * unsigned_abs rest ≤ n * (s * s) → HasSense (pos 1) k n
 turned_on s t n (pos c) rest positive e short = inl (omega (arith, ints))
 turned_on s t n (negsuc c) rest positive e short =
     let below : s * suc c ≤ unsigned_abs rest = omega (arith, ints, e) in
     inr (small_core s (suc c) n (unsigned_abs rest) positive below short)
 
-turned_back : (s t n : ℕ) (k rest : ℤ) → 0 < s → pos s *ℤ k ≡ (negsuc 0 *ℤ pos t) +ℤ rest → 2 * unsigned_abs rest * unsigned_abs rest ≤ n * (s * s) → RunsAs (negsuc 0) k n
+turned_back : (s t n : ℕ) (k rest : ℤ) → 0 < s → pos s *ℤ k ≡ (negsuc 0 *ℤ pos t) +ℤ rest → 2 * unsigned_abs rest * unsigned_abs rest ≤ n * (s * s) → HasSense (negsuc 0) k n
 turned_back s t n (pos c) rest positive e short =
     let below : s * c ≤ unsigned_abs rest = omega (arith, ints, e) in
     inr (small_core s c n (unsigned_abs rest) positive below short)
 turned_back s t n (negsuc c) rest positive e short = inl (omega (arith, ints))
 
 turned_or_small : (s t n : ℕ) (sigma k rest : ℤ) → IsSense sigma → 0 < s → pos s *ℤ k ≡ (sigma *ℤ pos t) +ℤ rest
-    → 2 * unsigned_abs rest * unsigned_abs rest ≤ n * (s * s) → RunsAs sigma k n
+    → 2 * unsigned_abs rest * unsigned_abs rest ≤ n * (s * s) → HasSense sigma k n
 turned_or_small s t n sigma k rest (inl one) positive e short =
-    subst (λ (z : ℤ). RunsAs z k n) (sym one) (turned_on s t n k rest positive (e ∙ ap (λ z. (z *ℤ pos t) +ℤ rest) one) short)
+    subst (λ (z : ℤ). HasSense z k n) (sym one) (turned_on s t n k rest positive (e ∙ ap (λ z. (z *ℤ pos t) +ℤ rest) one) short)
 turned_or_small s t n sigma k rest (inr one) positive e short =
-    subst (λ (z : ℤ). RunsAs z k n) (sym one) (turned_back s t n k rest positive (e ∙ ap (λ z. (z *ℤ pos t) +ℤ rest) one) short)
+    subst (λ (z : ℤ). HasSense z k n) (sym one) (turned_back s t n k rest positive (e ∙ ap (λ z. (z *ℤ pos t) +ℤ rest) one) short)
 
 regroup : (m a b c : ℤ) → m *ℤ ((a *ℤ b) *ℤ c) ≡ a *ℤ (m *ℤ (b *ℤ c))
 regroup m a b c = rw (as_diff m, as_diff a, as_diff b, as_diff c) (simp differences (diff-same _ _ _ _ (omega arith)))
@@ -52,7 +52,7 @@ stretched sigma t n = regroup (pos 32) sigma (pos t) (pos n) ∙ ap (λ z. sigma
 
 -- the part along, and the part across, of a point in a frame
 along_frame : (c : Pt) (d : Dir) (sigma y : ℤ) (t : ℕ) → IsSense sigma → IsDir d
-    → RunsAs sigma (dot d (near_displacement (frame_way d (sigma *ℤ pos t) y) (length_of d))) (length_squared d)
+    → HasSense sigma (dot d (near_displacement (frame_way d (sigma *ℤ pos t) y) (length_of d))) (length_squared d)
 along_frame c d sigma y t sense is =
     let n = length_squared d in
     let u = frame_way d (sigma *ℤ pos t) y in
@@ -63,7 +63,7 @@ along_frame c d sigma y t sense is =
     turned_or_small (root (n * 2 ^ 70)) (32 * (t * n)) n sigma (dot d v) rounded.0 sense (omega (arith, (length_facts d is).large)) whole rounded.2
 
 across_frame : (c : Pt) (d : Dir) (sigma x : ℤ) (t : ℕ) → IsSense sigma → IsDir d
-    → RunsAs sigma (cross d (near_displacement (frame_way d x (sigma *ℤ pos t)) (length_of d))) (length_squared d)
+    → HasSense sigma (cross d (near_displacement (frame_way d x (sigma *ℤ pos t)) (length_of d))) (length_squared d)
 across_frame c d sigma x t sense is =
     let n = length_squared d in
     let u = frame_way d x (sigma *ℤ pos t) in
@@ -79,7 +79,7 @@ point_further l h c sigma is sense =
     let d = l.dir in
     let g = depth d (cross d (displacement l.base c.c)) h in
     let x = sigma *ℤ half_chord c.r g in
-    subst (λ (w : Dir). RunsAs sigma (dot d w) (length_squared d)) (sym (displacement_from c.c (near_displacement (frame_way d x (neg_ℤ g)) (length_of d))))
+    subst (λ (w : Dir). HasSense sigma (dot d w) (length_squared d)) (sym (displacement_from c.c (near_displacement (frame_way d x (neg_ℤ g)) (length_of d))))
     (along_frame c.c d sigma (neg_ℤ g) (unsigned_abs (half_chord c.r g)) sense is.dir)
 
 -- of two circles: across the way between the centres
@@ -87,5 +87,5 @@ pub point_beyond : (a b : Circ) (sigma : ℤ) → IsDir (displacement a.c b.c) �
 point_beyond a b sigma is sense =
     let g = displacement a.c b.c in
     let x = chord_depth a b in
-    subst (λ (w : Dir). RunsAs sigma (cross g w) (length_squared g)) (sym (displacement_from a.c (near_displacement (frame_way g x (sigma *ℤ half_chord a.r x)) (length_of g))))
+    subst (λ (w : Dir). HasSense sigma (cross g w) (length_squared g)) (sym (displacement_from a.c (near_displacement (frame_way g x (sigma *ℤ half_chord a.r x)) (length_of g))))
     (across_frame a.c g sigma x (unsigned_abs (half_chord a.r x)) sense is)

@@ -1,5 +1,6 @@
 -- Points of circles in a direction, feet and parallels worked out by hand, which the definitions compute.
-use Rattle.std.proofs.Common.{refl, ◌≡◌, ℤ, pos, neg_ℤ, Ok, Err}
+use Rattle.std.proofs.Common.{refl, ◌≡◌, arith, ℤ, pos, neg_ℤ, ◌<ℤ◌, Ok, Err}
+use Rattle.std.proofs.lemmas.Int.{ints}
 use Rattle.apt_num.specs.Root.{root}
 use Rattle.apt_words.specs.declared.Pick.TheVariants as picks
 use Rattle.apt_plane.specs.declared.figures.Pt.{Pt}
@@ -7,8 +8,11 @@ use Rattle.apt_plane.specs.declared.figures.Dir.{Dir}
 use Rattle.apt_plane.specs.declared.figures.Line.{Line}
 use Rattle.apt_plane.specs.declared.figures.Circ.{Circ}
 use Rattle.apt_canon.specs.declared.FormFault.TheVariants.{OutOfRange, Degenerate}
-use Rattle.apt_canon.specs.Feet.{ray, foot, parallel_at}
+use Rattle.apt_canon.specs.Scale.{IsAway}
+use Rattle.apt_canon.specs.Feet.{ray, foot, parallel_at, IsPicked}
+use Rattle.apt_plane.specs.Vectors.{Scaled}
 use Rattle.apt_canon.proofs.Figures.{pt}
+use Rattle.apt_canon.proofs.Sides.{picked}
 
 dir : ℤ → ℤ → Dir
 dir x y = record { dx = x; dy = y }
@@ -47,6 +51,25 @@ halves = refl
 beside : parallel_at (line (pt (pos 0) (pos 0)) (dir (pos 3) (pos 4))) picks.XLarge (pos 500) ≡ Ok (line (pt (pos 400) (neg_ℤ (pos 300))) (dir (pos 3) (pos 4)))
 unfolding root dir line
 beside = refl
+
+-- the line's point that is level with it is (-225, -300)
+greater_x : IsPicked (line (pt (pos 0) (pos 0)) (dir (pos 3) (pos 4))) picks.XLarge (pt (pos 400) (neg_ℤ (pos 300)))
+unfolding dir line
+greater_x = picked (line (pt (pos 0) (pos 0)) (dir (pos 3) (pos 4))) picks.XLarge (pt (pos 400) (neg_ℤ (pos 300))) (λ e. cc) refl
+
+-- and 500 away from it, on whichever side
+away : IsAway (line (pt (pos 0) (pos 0)) (dir (pos 3) (pos 4))) (pos 500) (pt (pos 400) (neg_ℤ (pos 300)))
+unfolding dir line
+away = record { right = omega arith; left = omega arith }
+
+level_point : Scaled
+level_point = record { x = neg_ℤ (pos 225); y = neg_ℤ (pos 300); m = 1 }
+
+not_smaller_x : ¬ IsPicked (line (pt (pos 0) (pos 0)) (dir (pos 3) (pos 4))) picks.XSmall (pt (pos 400) (neg_ℤ (pos 300)))
+unfolding dir line level_point
+not_smaller_x is =
+    let past : pos 400 <ℤ neg_ℤ (pos 225) = is level_point (omega arith) refl refl in
+    omega (arith, ints, past)
 
 -- a line to the right has no side of the greater x
 no_side : parallel_at (line (pt (pos 0) (pos 0)) (dir (pos 5) (pos 0))) picks.XLarge (pos 500) ≡ Err Degenerate

@@ -8,17 +8,18 @@ use Rattle.apt_words.specs.Chains.{◌>>=◌}
 use Rattle.apt_plane.specs.declared.figures.Pt.{Pt}
 use Rattle.apt_plane.specs.declared.figures.Line.{Line}
 use Rattle.apt_plane.specs.declared.figures.Circ.{Circ}
-use Rattle.apt_plane.specs.Vectors.{cross}
+use Rattle.apt_plane.specs.Vectors.{cross, length_squared}
 use Rattle.apt_plane.specs.Ranges.{IsPoint, IsLine, IsCircle}
 use Rattle.apt_canon.specs.declared.FormFault.{FormFault}
 use Rattle.apt_canon.specs.declared.FormFault.TheVariants as faults
-use Rattle.apt_canon.specs.Scale.{in_range, IsNearLine}
+use Rattle.apt_canon.specs.Scale.{in_range, IsNearLine, IsAway, side_of_line}
 use Rattle.apt_canon.specs.Meeting.{line_line, meeting_point}
-use Rattle.apt_canon.specs.Feet.{side_picked, offset_picked}
+use Rattle.apt_canon.specs.Feet.{side_picked, offset_picked, IsPicked}
 use Rattle.apt_canon.specs.Rounds.{circle, circle_of, corner}
-use Rattle.apt_canon.specs.RoundLaws.{IsBeside, HasSides, NoCorner, offset_to, corner_centre}
+use Rattle.apt_canon.specs.RoundLaws.{Touches, IsBeside, HasSides, NoCorner, offset_to, corner_centre}
 use Rattle.apt_canon.proofs.Fits.{not_zero-test, zero_tells, point_tells}
 use Rattle.apt_canon.proofs.MeetingLaws.{meeting_point-near}
+use Rattle.apt_canon.proofs.Sides.{left_at, right_at, away_left, away_right, picked}
 use Rattle.apt_canon.proofs.RoundsRange.{Answer, TooSmall, TooLarge, Fits, answer, small_tells, too_large, ok_or_fault}
 
 -- ---- a centre
@@ -184,18 +185,55 @@ corner_range a b pick_a pick_b r = if_corner (λ k. IsCircle k) a b pick_a pick_
 pub corner_radius : (a b : Line) (pick_a pick_b : Pick) (r : ℤ) → IfOk (corner a pick_a b pick_b r) (λ k. k.r ≡ r)
 corner_radius a b pick_a pick_b r = if_corner (λ k. k.r ≡ r) a b pick_a pick_b r (answers a b pick_a pick_b r) (λ is d h. refl)
 
+-- where the distance is more than the rounding, it lies on that side, and the distance is the same without the side
+beside_side : (s : Sign) (l : Line) (r : ℤ) (p : Pt) → IsLine l → pos 1 <ℤ r → IsBeside s l r p → side_of_line l p ≡ s
+beside_side signs.Plus l r p is long h = left_at _ r (pos 1) (length_squared l.dir) h long is.dir.length
+beside_side signs.Zero l r p is long h = absurd h
+beside_side signs.Minus l r p is long h = right_at _ r (pos 1) (length_squared l.dir) h long is.dir.length
+
+beside_away : (s : Sign) (l : Line) (r : ℤ) (p : Pt) → IsLine l → pos 1 <ℤ r → IsBeside s l r p → IsAway l r p
+beside_away signs.Plus l r p is long h = away_left _ r (pos 1) _ (beside_side signs.Plus l r p is long h) h
+beside_away signs.Zero l r p is long h = absurd h
+beside_away signs.Minus l r p is long h = away_right _ r (pos 1) _ (beside_side signs.Minus l r p is long h) h
+
+-- the centre is beside both lines
+beside_both : (a b : Line) (pick_a pick_b : Pick) (r : ℤ) → IsLine a → IsLine b → unsigned_abs r ≤ 10 ^ 8 → HasSides a pick_a b pick_b r → cross a.dir b.dir ≢ pos 0
+    → IsBeside (side_picked a pick_a) a r (corner_centre a pick_a b pick_b r) × IsBeside (side_picked b pick_b) b r (corner_centre a pick_a b pick_b r)
+beside_both a b pick_a pick_b r is_a is_b small is d =
+    let s = side_picked a pick_a in
+    let t = side_picked b pick_b in
+    let c = corner_centre a pick_a b pick_b r in
+    let near = meeting_point-near a b (offset_to s r) (offset_to t r) is_a is_b (offset_small s r small) (offset_small t r small) d in
+    (beside s a r c is.side_a near.0, beside t b r c is.side_b near.1)
+
 pub corner_on_a : (a b : Line) (pick_a pick_b : Pick) (r : ℤ) → IsLine a → IsLine b → unsigned_abs r ≤ 10 ^ 8
     → IfOk (corner a pick_a b pick_b r) (λ k. IsBeside (side_picked a pick_a) a r k.c)
 corner_on_a a b pick_a pick_b r is_a is_b small =
-    let s = side_picked a pick_a in
-    let t = side_picked b pick_b in
-    if_corner (λ k. IsBeside (side_picked a pick_a) a r k.c) a b pick_a pick_b r (answers a b pick_a pick_b r)
-    (λ is d h. beside s a r (corner_centre a pick_a b pick_b r) is.side_a (meeting_point-near a b (offset_to s r) (offset_to t r) is_a is_b (offset_small s r small) (offset_small t r small) d).0)
+    if_corner (λ k. IsBeside (side_picked a pick_a) a r k.c) a b pick_a pick_b r (answers a b pick_a pick_b r) (λ is d h. (beside_both a b pick_a pick_b r is_a is_b small is d).0)
 
 pub corner_on_b : (a b : Line) (pick_a pick_b : Pick) (r : ℤ) → IsLine a → IsLine b → unsigned_abs r ≤ 10 ^ 8
     → IfOk (corner a pick_a b pick_b r) (λ k. IsBeside (side_picked b pick_b) b r k.c)
 corner_on_b a b pick_a pick_b r is_a is_b small =
-    let s = side_picked a pick_a in
-    let t = side_picked b pick_b in
-    if_corner (λ k. IsBeside (side_picked b pick_b) b r k.c) a b pick_a pick_b r (answers a b pick_a pick_b r)
-    (λ is d h. beside t b r (corner_centre a pick_a b pick_b r) is.side_b (meeting_point-near a b (offset_to s r) (offset_to t r) is_a is_b (offset_small s r small) (offset_small t r small) d).1)
+    if_corner (λ k. IsBeside (side_picked b pick_b) b r k.c) a b pick_a pick_b r (answers a b pick_a pick_b r) (λ is d h. (beside_both a b pick_a pick_b r is_a is_b small is d).1)
+
+-- and on the sides that the modifiers name
+pub corner_sides : (a b : Line) (pick_a pick_b : Pick) (r : ℤ) → IsLine a → IsLine b → unsigned_abs r ≤ 10 ^ 8
+    → IfOk (corner a pick_a b pick_b r) (λ k. IsPicked a pick_a k.c × IsPicked b pick_b k.c)
+corner_sides a b pick_a pick_b r is_a is_b small =
+    if_corner (λ k. IsPicked a pick_a k.c × IsPicked b pick_b k.c) a b pick_a pick_b r (answers a b pick_a pick_b r) (λ is d h.
+    let c = corner_centre a pick_a b pick_b r in
+    let both = beside_both a b pick_a pick_b r is_a is_b small is d in
+    let long : pos 1 <ℤ r = omega (arith, ints, is.radius) in (
+      picked a pick_a c is.side_a (beside_side (side_picked a pick_a) a r c is_a long both.0),
+      picked b pick_b c is.side_b (beside_side (side_picked b pick_b) b r c is_b long both.1),
+    ))
+
+-- it touches both lines, on whichever side
+pub corner_touches : (a b : Line) (pick_a pick_b : Pick) (r : ℤ) → IsLine a → IsLine b → unsigned_abs r ≤ 10 ^ 8
+    → IfOk (corner a pick_a b pick_b r) (λ k. Touches k a × Touches k b)
+corner_touches a b pick_a pick_b r is_a is_b small =
+    if_corner (λ k. Touches k a × Touches k b) a b pick_a pick_b r (answers a b pick_a pick_b r) (λ is d h.
+    let c = corner_centre a pick_a b pick_b r in
+    let both = beside_both a b pick_a pick_b r is_a is_b small is d in
+    let long : pos 1 <ℤ r = omega (arith, ints, is.radius) in
+    (beside_away (side_picked a pick_a) a r c is_a long both.0, beside_away (side_picked b pick_b) b r c is_b long both.1))

@@ -10,7 +10,7 @@ use Rattle.apt_plane.specs.Ranges.{IsPoint, IsLine, IsCircle}
 use Rattle.apt_canon.specs.declared.FormFault.{FormFault}
 use Rattle.apt_canon.specs.declared.FormFault.TheVariants as faults
 use Rattle.apt_canon.specs.Scale.{IsNearCircle}
-use Rattle.apt_canon.specs.Feet.{side_picked}
+use Rattle.apt_canon.specs.Feet.{side_picked, IsPicked}
 use Rattle.apt_canon.specs.Rounds as rounds
 use Rattle.apt_canon.specs.RoundLaws.{IsTooLarge, Touches, AreOnLine, IsThrough, rounded_through, IsBeside, NoCorner}
 use Rattle.apt_canon.proofs.Fits.{zero_tells}
@@ -19,7 +19,7 @@ use Rattle.apt_canon.proofs.RoundsRange.{degenerate, too_large, if_circle, fault
 use Rattle.apt_canon.proofs.RoundsDistance.{passes, touches}
 use Rattle.apt_canon.proofs.RoundsFar.{about_degenerate, about_too_large, if_about}
 use Rattle.apt_canon.proofs.RoundsThree.{passes_through}
-use Rattle.apt_canon.proofs.RoundsCorner.{corner_refused, corner_range, corner_radius, corner_on_a, corner_on_b}
+use Rattle.apt_canon.proofs.RoundsCorner.{corner_refused, corner_range, corner_radius, corner_on_a, corner_on_b, corner_sides, corner_touches}
 
 -- ---- about a centre
 
@@ -111,3 +111,11 @@ in_on_a x a b pick_a pick_b r is_a is_b small h = rw h (corner_on_a a b pick_a p
 pub in_on_b : (x : Result Circ FormFault) (a b : Line) (pick_a pick_b : Pick) (r : ℤ) → IsLine a → IsLine b → unsigned_abs r ≤ 10 ^ 8
     → x ≡ rounds.corner a pick_a b pick_b r → IfOk x (λ k. IsBeside (side_picked b pick_b) b r k.c)
 in_on_b x a b pick_a pick_b r is_a is_b small h = rw h (corner_on_b a b pick_a pick_b r is_a is_b small)
+
+pub in_sides : (x : Result Circ FormFault) (a b : Line) (pick_a pick_b : Pick) (r : ℤ) → IsLine a → IsLine b → unsigned_abs r ≤ 10 ^ 8
+    → x ≡ rounds.corner a pick_a b pick_b r → IfOk x (λ k. IsPicked a pick_a k.c × IsPicked b pick_b k.c)
+in_sides x a b pick_a pick_b r is_a is_b small h = rw h (corner_sides a b pick_a pick_b r is_a is_b small)
+
+pub in_touches : (x : Result Circ FormFault) (a b : Line) (pick_a pick_b : Pick) (r : ℤ) → IsLine a → IsLine b → unsigned_abs r ≤ 10 ^ 8
+    → x ≡ rounds.corner a pick_a b pick_b r → IfOk x (λ k. Touches k a × Touches k b)
+in_touches x a b pick_a pick_b r is_a is_b small h = rw h (corner_touches a b pick_a pick_b r is_a is_b small)

@@ -76,16 +76,16 @@ circle_circle a b sigma =
 
 -- ---- which of the two points
 
--- k over the root of n has the sign of sigma, or is less than a unit
-abbrev pub RunsAs : ℤ → ℤ → ℕ → Type 0
-RunsAs sigma k n = (pos 0 ≤ℤ (sigma *ℤ k)) ⊎ (2 * square k ≤ n)
+-- k over the root of n is a length in a sense, or less than a unit
+abbrev pub HasSense : ℤ → ℤ → ℕ → Type 0
+HasSense sense k n = (pos 0 ≤ℤ (sense *ℤ k)) ⊎ (2 * square k ≤ n)
 
 -- a point lies further along a line than the centre of a circle for 1, and back for -1, or less than a unit off
 abbrev pub IsFurther : Line → Circ → ℤ → Pt → Type 0
-IsFurther l c sigma p = RunsAs sigma (dot l.dir (displacement c.c p)) (length_squared l.dir)
+IsFurther l c sigma p = HasSense sigma (dot l.dir (displacement c.c p)) (length_squared l.dir)
 
 -- a point lies to the left of the way from one centre to another for 1, and to the right for -1, or less than a unit off
 abbrev pub IsBeyond : Circ → Circ → ℤ → Pt → Type 0
 IsBeyond a b sigma p =
     let v = displacement a.c b.c in
-    RunsAs sigma (cross v (displacement a.c p)) (length_squared v)
+    HasSense sigma (cross v (displacement a.c p)) (length_squared v)

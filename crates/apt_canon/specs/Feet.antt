@@ -63,13 +63,13 @@ parallel_at l pick d =
 
 -- ---- the side that a modifier names, by coordinates
 
--- where a fraction shares a coordinate with a point, the other one of the point is greater, or smaller, as the modifier names it
+-- a point has a greater, or a smaller, coordinate than a fraction, as a modifier names it, where they share the other one
 abbrev pub IsPast : Pick → Scaled → Pt → Type 0
 IsPast picks.XLarge s p = (s.y ≡ pos s.m *ℤ p.y) → s.x <ℤ (pos s.m *ℤ p.x)
 IsPast picks.XSmall s p = (s.y ≡ pos s.m *ℤ p.y) → (pos s.m *ℤ p.x) <ℤ s.x
 IsPast picks.YLarge s p = (s.x ≡ pos s.m *ℤ p.x) → s.y <ℤ (pos s.m *ℤ p.y)
 IsPast picks.YSmall s p = (s.x ≡ pos s.m *ℤ p.x) → (pos s.m *ℤ p.y) <ℤ s.y
 
--- a point lies on the side of a line that a modifier names: past the point of the line that is level with it, or upright
+-- a point lies on the side of a line that a modifier names: it is past each point of the line that shares the other coordinate
 abbrev pub IsPicked : Line → Pick → Pt → Type 0
 IsPicked l pick p = (s : Scaled) → 0 < s.m → height l s ≡ pos 0 → IsPast pick s p

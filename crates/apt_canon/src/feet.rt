@@ -5,8 +5,9 @@ ghost use Rattle.apt_num.specs.declared.Sign.TheVariants as signs;
 ghost use Rattle.apt_num.specs.Sign.{square};
 ghost use Rattle.apt_plane.specs.Vectors as vectors;
 ghost use Rattle.apt_plane.specs.Ranges.{IsPoint, IsDir, IsLine, IsMoved, IsRound};
-ghost use Rattle.apt_canon.specs.Scale.{IsNearLine, IsNearCircle};
+ghost use Rattle.apt_canon.specs.Scale.{IsNearLine, IsNearCircle, IsAway};
 ghost use Rattle.apt_canon.specs.Scale as scale;
+ghost use Rattle.apt_canon.specs.Feet.{IsPicked};
 ghost use Rattle.apt_canon.specs.Feet as feet;
 
 use crate::FormFault;
@@ -28,6 +29,8 @@ pub fn ray(c: &Circ, u: Dir) -> Result<Pt, FormFault>
     ensures out_of_range { IsErrOf result FormFault.OutOfRange ↔ (scale.is_in_range (feet.ray_point c.now u) ≡ false) }
     ensures in_range { IfOk result (λ p. IsPoint p) }
     ensures on_circle { IfOk result (λ p. IsNearCircle c.now (pos 1) p) }
+    ensures across { IfOk result (λ p. 2 * square (vectors.cross u (vectors.displacement c.now.c p)) ≤ vectors.length_squared u) }
+    ensures onwards { IfOk result (λ p. (pos 0 <ℤ c.now.r) → pos 0 <ℤ vectors.dot u (vectors.displacement c.now.c p)) }
 {
     within(ray_point(c, u))
 }
@@ -58,6 +61,7 @@ pub fn foot(p: Pt, l: &Moved) -> Result<Pt, FormFault>
     ensures out_of_range { IsErrOf result FormFault.OutOfRange ↔ (scale.is_in_range (feet.foot_point p l.now.line l.now.off) ≡ false) }
     ensures in_range { IfOk result (λ q. IsPoint q) }
     ensures on_line { IfOk result (λ q. IsNearLine l.now.line l.now.off (pos 1) q) }
+    ensures across { IfOk result (λ q. 2 * square (vectors.dot l.now.line.dir (vectors.displacement p q)) ≤ vectors.length_squared l.now.line.dir) }
 {
     within(foot_point(p, l))
 }
@@ -87,6 +91,8 @@ pub fn parallel_at(l: &Line, pick: Pick, d: i64) -> Result<Line, FormFault>
     ensures in_range { IfOk result (λ m. IsLine m) }
     ensures same_dir { IfOk result (λ m. m.dir ≡ l.now.dir) }
     ensures on_line { IfOk result (λ m. IfOk (feet.offset_picked (feet.side_picked l.now pick) d) (λ h. IsNearLine l.now h (pos 1) m.base)) }
+    ensures beside { IfOk result (λ m. (pos 0 <ℤ d) → IsPicked l.now pick m.base) }
+    ensures away { IfOk result (λ m. (pos 0 <ℤ d) → IsAway l.now d m.base) }
 {
     parallel(l, pick, d)
 }

@@ -7,6 +7,7 @@ ghost use Rattle.apt_plane.specs.Vectors as vectors;
 ghost use Rattle.apt_plane.specs.Ranges.{IsPoint, IsDir, IsLine, IsCircle};
 ghost use Rattle.apt_canon.specs.Scale.{IsNearCircle};
 ghost use Rattle.apt_canon.specs.Scale as scale;
+ghost use Rattle.apt_canon.specs.Feet.{IsPicked};
 ghost use Rattle.apt_canon.specs.Feet as feet;
 ghost use Rattle.apt_canon.specs.Rounds as rounds;
 ghost use Rattle.apt_canon.specs.RoundLaws.{IsTooLarge, Touches, AreOnLine, IsThrough, rounded_through, IsBeside, NoCorner};
@@ -223,6 +224,8 @@ pub fn corner(a: &Line, pick_a: Pick, b: &Line, pick_b: Pick, r: i64) -> Result<
     ensures radius { IfOk result (λ k. k.r ≡ r) }
     ensures on_a { IfOk result (λ k. IsBeside (feet.side_picked a.now pick_a) a.now r k.c) }
     ensures on_b { IfOk result (λ k. IsBeside (feet.side_picked b.now pick_b) b.now r k.c) }
+    ensures sides { IfOk result (λ k. IsPicked a.now pick_a k.c × IsPicked b.now pick_b k.c) }
+    ensures touches { IfOk result (λ k. Touches k a.now × Touches k b.now) }
 {
     in_corner(a, pick_a, b, pick_b, r)
 }

@@ -1,7 +1,7 @@
 use Rattle.std.proofs.Common.{◌≡◌, w64}
 use Rattle.std.proofs.lemmas.Int.{to_z-of_z}
 use Rattle.apt_canon.specs.Feet.{parallel_at}
-use Rattle.apt_canon.proofs.Parallels.{answer_in_range, answer_same_dir, answer_on_line}
+use Rattle.apt_canon.proofs.Parallels.{answer_in_range, answer_same_dir, answer_on_line, answer_beside, answer_away}
 use Rattle.apt_canon.proofs.feet.parallel_at.Goals as goal
 
 value : (c : goal.After-parallel) → c.parallel.result ≡ parallel_at c.args.l.now c.args.pick c.args.d
@@ -15,3 +15,9 @@ returns-clause-same_dir c = answer_same_dir c.parallel.result c.args.l.now c.arg
 
 pub returns-clause-on_line : goal.returns-clause-on_line
 returns-clause-on_line c = answer_on_line c.parallel.result c.args.l.now c.args.pick c.args.d c.requires.line c.requires.distance (value c)
+
+pub returns-clause-beside : goal.returns-clause-beside
+returns-clause-beside c = answer_beside c.parallel.result c.args.l.now c.args.pick c.args.d c.requires.line c.requires.distance (value c)
+
+pub returns-clause-away : goal.returns-clause-away
+returns-clause-away c = answer_away c.parallel.result c.args.l.now c.args.pick c.args.d c.requires.line c.requires.distance (value c)

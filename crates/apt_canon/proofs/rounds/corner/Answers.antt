@@ -1,7 +1,7 @@
 use Rattle.std.proofs.Common.{◌≡◌, w64}
 use Rattle.std.proofs.lemmas.Int.{to_z-of_z}
 use Rattle.apt_canon.specs.Rounds as rounds
-use Rattle.apt_canon.proofs.RoundsLaws.{in_refused, in_range, in_radius, in_on_a, in_on_b}
+use Rattle.apt_canon.proofs.RoundsLaws.{in_refused, in_range, in_radius, in_on_a, in_on_b, in_sides, in_touches}
 use Rattle.apt_canon.proofs.rounds.corner.Goals as goal
 
 value : (c : goal.After-in_corner) → c.in_corner.result ≡ rounds.corner c.args.a.now c.args.pick_a c.args.b.now c.args.pick_b c.args.r
@@ -21,3 +21,9 @@ returns-clause-on_a c = in_on_a c.in_corner.result c.args.a.now c.args.b.now c.a
 
 pub returns-clause-on_b : goal.returns-clause-on_b
 returns-clause-on_b c = in_on_b c.in_corner.result c.args.a.now c.args.b.now c.args.pick_a c.args.pick_b c.args.r c.requires.a c.requires.b c.requires.r (value c)
+
+pub returns-clause-sides : goal.returns-clause-sides
+returns-clause-sides c = in_sides c.in_corner.result c.args.a.now c.args.b.now c.args.pick_a c.args.pick_b c.args.r c.requires.a c.requires.b c.requires.r (value c)
+
+pub returns-clause-touches : goal.returns-clause-touches
+returns-clause-touches c = in_touches c.in_corner.result c.args.a.now c.args.b.now c.args.pick_a c.args.pick_b c.args.r c.requires.a c.requires.b c.requires.r (value c)
