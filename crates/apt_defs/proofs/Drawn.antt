@@ -34,9 +34,9 @@ use Rattle.apt_canon.specs.RoundLaws.{IsThrough, IsBeside}
 use Rattle.apt_canon.specs.Rounds.{is_too_small, is_too_large, circle, circle_of, about_through, distance_from_line, circle_through, circle_touching, circle_three, corner}
 use Rattle.apt_canon.proofs.OnBoth.{answer_on_a, answer_on_b}
 use Rattle.apt_canon.proofs.CircleAnswers.{answer_on_line, answer_on_circle, answer_further, answer_on_first, answer_on_second, answer_beyond}
-use Rattle.apt_canon.proofs.Parallels.{answer_same_dir, answer_on_line as parallel_on_line}
+use Rattle.apt_canon.proofs.Parallels.{answer_same_dir, answer_on_line as parallel_on_line, answer_beside, answer_away}
 use Rattle.apt_canon.proofs.TangentAnswers.{from_base, from_touches, from_side, from_onwards, two_base, two_touches_first, two_touches_second, two_side_first, two_side_second, two_onwards}
-use Rattle.apt_canon.proofs.RoundsLaws.{of_centre, of_through, of_touching, three_through, in_radius, in_on_a, in_on_b}
+use Rattle.apt_canon.proofs.RoundsLaws.{of_centre, of_through, of_touching, three_through, in_radius, in_sides, in_touches}
 use Rattle.apt_defs.specs.declared.figure.Figure.{Figure}
 use Rattle.apt_defs.specs.declared.figure.Figure.TheVariants as figures
 use Rattle.apt_defs.specs.Figures.{Table, AreFigures, point_named, surface_named, line_named, circle_named}
@@ -306,6 +306,8 @@ parallel_is : (m : Line) (pick : Pick) (d : ℤ) (l : Line) → IsLine m → uns
 parallel_is m pick d l is small e = record {
   dir = answer_same_dir (Ok l) m pick d e;
   beside = beside (side_picked m pick) m l d (int_lt d (pos 0)) (λ h. in_range (parallel_point m h) >>= based_on m.dir) (parallel_on_line (Ok l) m pick d is small e) e;
+  away = answer_away (Ok l) m pick d is small e;
+  side = answer_beside (Ok l) m pick d is small e;
 }
 
 pub line_at_drawn : (units : Units) (t : Table) (a : List ℕ) (pick : Pick) (v : ℤ) → AreFigures t
@@ -398,14 +400,17 @@ circle_by_point_drawn t a b are =
       through = of_through (Ok k) p q is_p is_q e;
     }))
 
+in_corner : (l : Line) (pick_l : Pick) (m : Line) (pick_m : Pick) (r : ℤ) (k : Circ) → IsLine l → IsLine m → unsigned_abs r ≤ 10 ^ 8 → Ok k ≡ corner l pick_l m pick_m r
+    → IsInCorner l pick_l m pick_m r k
+in_corner l pick_l m pick_m r k is_l is_m small e =
+    let touch = in_touches (Ok k) l m pick_l pick_m r is_l is_m small e in
+    let sides = in_sides (Ok k) l m pick_l pick_m r is_l is_m small e in
+    record { radius = in_radius (Ok k) l m pick_l pick_m r e; first = touch.0; second = touch.1; side_first = sides.0; side_second = sides.1 }
+
 pub circle_corner_drawn : (units : Units) (t : Table) (pick_a : Pick) (a : List ℕ) (pick_b : Pick) (b : List ℕ) (r : ℤ) → AreFigures t
     → IfOk (circle_corner units t pick_a a pick_b b r) (λ f. OfLines t a b (λ l m. IsCircleOf (IsInCorner l pick_a m pick_b (grid_units units r)) f))
 circle_corner_drawn units t pick_a a pick_b b r are =
     two_drawn IsLine IsLine (λ l m. IsCircleOf (IsInCorner l pick_a m pick_b (grid_units units r))) (line_named t a) (line_named t b)
     (λ l m. length_by units r >>= λ g. formed (corner l pick_a m pick_b g) >>= a_circle) (line_in t a are) (line_in t b are)
     (λ l m is_l is_m. then_in (IsNumber units r (10 ^ 8)) (IsCircleOf (IsInCorner l pick_a m pick_b (grid_units units r))) (length_by units r) (λ g. formed (corner l pick_a m pick_b g) >>= a_circle) (length_is units r)
-    (λ g n. circle_drawn (IsInCorner l pick_a m pick_b (grid_units units r)) (corner l pick_a m pick_b g) (λ k e. rw (← n.is) (record {
-      radius = in_radius (Ok k) l m pick_a pick_b g e;
-      first = in_on_a (Ok k) l m pick_a pick_b g is_l is_m n.small e;
-      second = in_on_b (Ok k) l m pick_a pick_b g is_l is_m n.small e;
-    }))))
+    (λ g n. circle_drawn (IsInCorner l pick_a m pick_b (grid_units units r)) (corner l pick_a m pick_b g) (λ k e. rw (← n.is) (in_corner l pick_a m pick_b g k is_l is_m n.small e))))

@@ -7,3 +7,4 @@ pub mod Refused
 pub mod Drawn
 pub mod Told
 pub mod Gridded
+pub mod Worked

@@ -13,9 +13,9 @@ use Rattle.apt_plane.specs.declared.figures.Circ.{Circ}
 use Rattle.apt_plane.specs.declared.figures.Surface.{Surface}
 use Rattle.apt_plane.specs.declared.figures.Surface.TheVariants as surfaces
 use Rattle.apt_plane.specs.Vectors.{displacement, cross, dot, length_squared}
-use Rattle.apt_canon.specs.Scale.{from, IsNearLine, IsNearCircle}
+use Rattle.apt_canon.specs.Scale.{from, IsNearLine, IsNearCircle, IsAway}
 use Rattle.apt_canon.specs.Circles.{IsFurther, IsBeyond}
-use Rattle.apt_canon.specs.Feet.{side_picked}
+use Rattle.apt_canon.specs.Feet.{side_picked, IsPicked}
 use Rattle.apt_canon.specs.Tangents.{Passes, RunsAlong, drop}
 use Rattle.apt_canon.specs.RoundLaws.{Touches, IsThrough, IsBeside}
 use Rattle.apt_defs.specs.declared.figure.Figure.{Figure}
@@ -144,6 +144,8 @@ pub record IsSquare (p : Pt) (m l : Line) : Type 0 where
 pub record IsParallelAt (m : Line) (pick : Pick) (distance : ℤ) (l : Line) : Type 0 where
   pub dir : l.dir ≡ m.dir
   pub beside : IsBeside (side_picked m pick) m distance l.base
+  pub away : pos 0 <ℤ distance → IsAway m distance l.base
+  pub side : pos 0 <ℤ distance → IsPicked m pick l.base
 
 -- a line touches a circle, up to two units: one on the left of the circle has it on its right
 abbrev pub RunsBy : Bool → Circ → Line → Type 0
@@ -193,8 +195,10 @@ pub record IsAboutThrough (c p : Pt) (k : Circ) : Type 0 where
 -- along two lines, on the sides that modifiers name
 pub record IsInCorner (l : Line) (pick_l : Pick) (m : Line) (pick_m : Pick) (r : ℤ) (k : Circ) : Type 0 where
   pub radius : k.r ≡ r
-  pub first : IsBeside (side_picked l pick_l) l r k.c
-  pub second : IsBeside (side_picked m pick_m) m r k.c
+  pub first : Touches k l
+  pub second : Touches k m
+  pub side_first : IsPicked l pick_l k.c
+  pub side_second : IsPicked m pick_m k.c
 
 -- ---- a fact of the figures that names stand for
 
