@@ -1,5 +1,5 @@
 -- The figures of definitions are drawn as their statements say.
-use Rattle.std.proofs.Common.{◌≡◌, ◌≢◌, ◌⊎◌, inl, inr, ◌∙◌, sym, refl, ap, ℕ, ◌*◌, ◌^◌, ◌≤◌, ℤ, pos, negsuc, neg_ℤ, ◌+ℤ◌, ◌-ℤ◌, ◌*ℤ◌, ◌≤ℤ◌, ◌<ℤ◌, unsigned_abs, int_lt, Bool, true, false, List, Option, Some, None, Result, Ok, Err, IfOk, IsOkAnd, arith}
+use Rattle.std.proofs.Common.{◌≡◌, inl, inr, ◌∙◌, refl, ℕ, ◌^◌, ◌≤◌, ℤ, pos, negsuc, neg_ℤ, ◌+ℤ◌, ◌-ℤ◌, ◌*ℤ◌, ◌≤ℤ◌, ◌<ℤ◌, unsigned_abs, int_lt, Bool, true, false, List, Option, Some, None, Result, Ok, Err, IfOk, IsOkAnd, arith}
 use Rattle.std.specs.Prelude.{◌==◌, ◌&&◌, ◌||◌, not, if◌then◌else◌}
 use Rattle.std.proofs.lemmas.Int.{ints}
 use Rattle.std.proofs.lemmas.Bool.Decides.{nat_tests}
@@ -14,9 +14,7 @@ use Rattle.apt_scalar.specs.Scalars.{grid_units}
 use Rattle.apt_num.proofs.Ring.{as_diff, diff-pos, diff-same, differences}
 use Rattle.apt_num.proofs.Squares.{size_neg}
 use Rattle.apt_plane.specs.declared.figures.Pt.{Pt}
-use Rattle.apt_plane.specs.declared.figures.Dir.{Dir}
 use Rattle.apt_plane.specs.declared.figures.Line.{Line}
-use Rattle.apt_plane.specs.declared.figures.Moved.{Moved}
 use Rattle.apt_plane.specs.declared.figures.Circ.{Circ}
 use Rattle.apt_plane.specs.declared.figures.Surface.{Surface}
 use Rattle.apt_plane.specs.declared.figures.Surface.TheVariants as surfaces
@@ -41,7 +39,7 @@ use Rattle.apt_defs.specs.declared.figure.Figure.{Figure}
 use Rattle.apt_defs.specs.declared.figure.Figure.TheVariants as figures
 use Rattle.apt_defs.specs.Figures.{Table, AreFigures, point_named, surface_named, line_named, circle_named}
 use Rattle.apt_defs.specs.Forms.{is_within, within, point_at, coordinate, length_by, height_by, point_by, formed, a_point, a_line, a_circle, both_meetings, meetings, is_further, is_preferred, picked, line_between, line_through, point_xy, point_lines, point_pick, point_center, line_xy, line_points, line_parallel, line_perpendicular, line_at, line_tangent, line_two, circle_xyr, circle_points, circle_radius, circle_tangent, circle_by_point, circle_corner}
-use Rattle.apt_defs.specs.Drawn.{IsTangent, IsPointOf, IsLineOf, IsCircleOf, IsAt, IsHeight, IsWritten, IsOnBoth, IsOfLine, IsOfCircles, IsMeeting, ComesFirst, LiesPast, IsChosen, RunsTo, RunsToAt, IsParallel, IsSquare, IsParallelAt, RunsBy, IsTangentFrom, IsTangentOf, IsAbout, IsAboutAt, IsAlong, IsAboutThrough, IsInCorner, OfPoints, OfLines, OfCircles, OfSurfaces, OfPointAndLine, OfPointAndCircle}
+use Rattle.apt_defs.specs.Drawn.{IsPointOf, IsLineOf, IsCircleOf, IsAt, IsHeight, IsWritten, IsOnBoth, IsOfLine, IsOfCircles, IsMeeting, ComesFirst, LiesPast, IsChosen, RunsTo, RunsToAt, IsParallel, IsSquare, IsParallelAt, RunsBy, IsTangentFrom, IsTangentOf, IsAbout, IsAboutAt, IsAlong, IsAboutThrough, IsInCorner, OfPoints, OfLines, OfCircles, OfSurfaces, OfPointAndLine, OfPointAndCircle}
 use Rattle.apt_defs.proofs.InRange.{then_in, either_in, point_in, surface_in, line_in, circle_in}
 
 -- ---- one step after another

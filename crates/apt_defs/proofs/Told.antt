@@ -1,5 +1,5 @@
 -- What a statement's definition tells: its figure is drawn as the statement says, and its first name or a number that has a case refuses it.
-use Rattle.std.proofs.Common.{◌≡◌, ap, refl, ℕ, Bool, true, false, List, [], Option, Some, None, Result, Ok, Err, IfOk, IfSome}
+use Rattle.std.proofs.Common.{◌≡◌, ap, refl, ℕ, Bool, true, false, List, [], Option, Some, None, Err, IfOk, IfSome}
 use Rattle.std.specs.Prelude.{IsSomeAnd}
 use Rattle.apt_words.specs.declared.Case.{Case}
 use Rattle.apt_words.specs.declared.Case.TheVariants as cases

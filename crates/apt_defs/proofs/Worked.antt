@@ -1,5 +1,5 @@
 -- Definitions worked out by hand, in both units, and those that a word turns the other way.
-use Rattle.std.proofs.Common.{refl, ◌≡◌, ℕ, ◌*◌, ◌^◌, List, [], ◌∷◌, Some, None, pos, neg_ℤ, true, false, Ok, Err}
+use Rattle.std.proofs.Common.{refl, ◌≡◌, ℕ, ◌^◌, List, [], ◌∷◌, Some, pos, neg_ℤ, true, false, Ok, Err}
 use Rattle.std.specs.Prelude.{codes}
 use Rattle.apt_num.specs.Root.{root}
 use Rattle.apt_words.specs.declared.Case.TheVariants as cases

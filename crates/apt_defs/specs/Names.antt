@@ -1,5 +1,5 @@
 -- The names in definitions, and which of them refuses one: names are looked up in the order in which they stand, before all numbers.
-use Rattle.std.specs.Prelude.{◌≡◌, ℕ, ℤ, nat_lt, unsigned_abs, Bool, true, false, ◌||◌, List, [], ◌∷◌, Option, Some, None, if◌then◌else◌}
+use Rattle.std.specs.Prelude.{ℕ, ℤ, nat_lt, unsigned_abs, Bool, true, false, ◌||◌, List, [], ◌∷◌, Option, Some, None, if◌then◌else◌}
 use Rattle.std.specs.Option.{option_or}
 use Rattle.apt_words.specs.declared.Case.{Case}
 use Rattle.apt_words.specs.declared.Case.TheVariants as cases
