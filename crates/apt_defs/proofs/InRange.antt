@@ -40,11 +40,11 @@ use Rattle.apt_defs.proofs.Tables.{looked_up}
 
 -- ---- one step after another
 
-then_in : {A B E : Type 0} (P : A → Type 0) (Q : B → Type 0) (r : Result A E) (f : A → Result B E) → IfOk r P → ((a : A) → P a → IfOk (f a) Q) → IfOk (r >>= f) Q
+pub then_in : {A B E : Type 0} (P : A → Type 0) (Q : B → Type 0) (r : Result A E) (f : A → Result B E) → IfOk r P → ((a : A) → P a → IfOk (f a) Q) → IfOk (r >>= f) Q
 then_in P Q (Ok a) f is more = more a is
 then_in P Q (Err e) f is more = tt
 
-either_in : {A E : Type 0} (P : A → Type 0) (b : Bool) (r q : Result A E) → (b ≡ true → IfOk r P) → (b ≡ false → IfOk q P) → IfOk (if b then r else q) P
+pub either_in : {A E : Type 0} (P : A → Type 0) (b : Bool) (r q : Result A E) → (b ≡ true → IfOk r P) → (b ≡ false → IfOk q P) → IfOk (if b then r else q) P
 either_in P true r q is other = is refl
 either_in P false r q is other = other refl
 
@@ -86,16 +86,16 @@ figure_in t n are = defined_in (figure_named t n) (looked_up t n are)
 place_in : (t : Table) (n : List ℕ) → AreFigures t → IfOk (place_named t n) (λ p. IsPointAtHeight p.0 p.1)
 place_in t n are = then_in IsFigure (λ p. IsPointAtHeight p.0 p.1) (defined (figure_named t n)) as_place (figure_in t n are) as_place_in
 
-point_in : (t : Table) (n : List ℕ) → AreFigures t → IfOk (point_named t n) IsPoint
+pub point_in : (t : Table) (n : List ℕ) → AreFigures t → IfOk (point_named t n) IsPoint
 point_in t n are = then_in (λ p. IsPointAtHeight p.0 p.1) IsPoint (place_named t n) (λ p. Ok p.0) (place_in t n are) (λ p is. is.at)
 
-surface_in : (t : Table) (n : List ℕ) → AreFigures t → IfOk (surface_named t n) IsSurface
+pub surface_in : (t : Table) (n : List ℕ) → AreFigures t → IfOk (surface_named t n) IsSurface
 surface_in t n are = then_in IsFigure IsSurface (defined (figure_named t n)) as_surface (figure_in t n are) as_surface_in
 
-line_in : (t : Table) (n : List ℕ) → AreFigures t → IfOk (line_named t n) IsLine
+pub line_in : (t : Table) (n : List ℕ) → AreFigures t → IfOk (line_named t n) IsLine
 line_in t n are = then_in IsSurface IsLine (surface_named t n) as_line (surface_in t n are) as_line_in
 
-circle_in : (t : Table) (n : List ℕ) → AreFigures t → IfOk (circle_named t n) IsCircle
+pub circle_in : (t : Table) (n : List ℕ) → AreFigures t → IfOk (circle_named t n) IsCircle
 circle_in t n are = then_in IsSurface IsCircle (surface_named t n) as_circle (surface_in t n are) as_circle_in
 
 -- ---- numbers

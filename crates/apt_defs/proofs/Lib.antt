@@ -3,3 +3,8 @@ pub mod Ends
 pub mod Named
 pub mod Defined
 pub mod InRange
+pub mod Refused
+pub mod Drawn
+pub mod Told
+pub mod Gridded
+pub mod Worked

@@ -1,11 +1,14 @@
 //! Which statements define a name, and what they give it.
 
-ghost use Rattle.std.specs.Prelude.{◌≡◌, ◌↔◌, None, false, OnErr, IfOk, IfSome, IsErrOf};
+ghost use Rattle.std.specs.Prelude.{◌≡◌, ◌↔◌, None, Some, Err, true, false, OnErr, IfOk, IfSome, IsSomeAnd, IsErrOf};
 ghost use Rattle.apt_scalar.specs.StepScalars.{HasScalars};
 ghost use Rattle.apt_words.specs.declared.Units.{Units};
 ghost use Rattle.apt_defs.specs.Figures.{IsFigure, Table};
 ghost use Rattle.apt_defs.specs.Definitions as definitions;
 ghost use Rattle.apt_defs.specs.Definitions.{HasOrNone, IsRefusedBy};
+ghost use Rattle.apt_defs.specs.Names.{names_of, first_case, has_far_number};
+ghost use Rattle.apt_defs.specs.Alike.{AreAlike};
+ghost use Rattle.apt_defs.specs.Drawn.{IsDrawn, HasDrawn};
 
 use crate::circles::{
     circle_by_point, circle_corner, circle_points, circle_radius, circle_tangent, circle_xyr,
@@ -38,7 +41,24 @@ impl From<AllocError> for DefError {
 }
 
 /// What a statement defines, None where it defines nothing.
+///
+/// Its names are looked up first, in their order, and its numbers then: the first that has a case refuses it.
+#[tactic(auto, using(crate::proofs::Told::name_refuses, crate::proofs::Told::number_refuses))]
 pub fn definition(deed: &Deed, units: Units, table: &Table) -> Option<Definition>
+    requires { HasScalars deed.now }
+    ensures value { result ≡ definitions.definition_of units table.now deed.now }
+    ensures range { IfSome result (λ d. IfOk d.figure IsFigure) }
+    ensures drawn { IfSome result (λ d. IfOk d.figure (IsDrawn units table.now deed.now)) }
+    ensures names { (case : Case) → first_case table.now (names_of deed.now) ≡ Some case → IsSomeAnd result (λ d. d.figure ≡ Err case) }
+    ensures numbers { first_case table.now (names_of deed.now) ≡ None → has_far_number units deed.now ≡ true → IsSomeAnd result (λ d. d.figure ≡ Err Case.OutOfRange) }
+    ensures alike { (other : Units) (alike : Deed) → AreAlike units deed.now other alike → result ≡ definitions.definition_of other table.now alike }
+{
+    table.figures_in_range();
+    by_form(deed, units, table)
+}
+
+/// The definition by the form of the statement.
+fn by_form(deed: &Deed, units: Units, table: &Table) -> Option<Definition>
     requires { HasScalars deed.now }
     ensures value { result ≡ definitions.definition_of units table.now deed.now }
     ensures range { IfSome result (λ d. IfOk d.figure IsFigure) }
@@ -91,7 +111,22 @@ fn defines(name: &Symbol, figure: Result<Figure, Case>) -> Option<Definition>
 /// # Errors
 ///
 /// The case that refuses the figure, before memory is asked for; the table stays as it was.
+#[tactic(auto, using(crate::proofs::Told::has_drawn, crate::proofs::Gridded::alike_step))]
 pub fn define(step: &Step, units: Units, table: &mut Table) -> Result<bool, DefError>
+    requires { HasScalars step.now.deed }
+    ensures ok { IfOk result (HasOrNone units table.old step.now.deed table.new) }
+    ensures refused { (case : Case) → IsErrOf result (DefError.Case case) ↔ IsRefusedBy units table.old step.now.deed case }
+    ensures err { OnErr result (table.new ≡ table.old) }
+    ensures drawn { IfOk result (HasDrawn units table.old step.now.deed table.new) }
+    ensures names { (case : Case) → first_case table.old (names_of step.now.deed) ≡ Some case → IsErrOf result (DefError.Case case) }
+    ensures numbers { first_case table.old (names_of step.now.deed) ≡ None → has_far_number units step.now.deed ≡ true → IsErrOf result (DefError.Case Case.OutOfRange) }
+    ensures alike { (other : Units) (alike : Deed) → AreAlike units step.now.deed other alike → IfOk result (HasOrNone other table.old alike table.new) }
+{
+    table.figures_in_range();
+    define_if_any(step, units, table)
+}
+
+fn define_if_any(step: &Step, units: Units, table: &mut Table) -> Result<bool, DefError>
     requires { HasScalars step.now.deed }
     ensures ok { IfOk result (HasOrNone units table.old step.now.deed table.new) }
     ensures refused { (case : Case) → IsErrOf result (DefError.Case case) ↔ IsRefusedBy units table.old step.now.deed case }
@@ -111,7 +146,7 @@ fn define_by(step: &Step, units: Units, table: &mut Table) -> Result<bool, DefEr
     ensures refused { (case : Case) → IsErrOf result (DefError.Case case) ↔ IsRefusedBy units table.old step.now.deed case }
     ensures err { OnErr result (table.new ≡ table.old) }
 {
-    let Some(Definition { name, figure }) = definition(&step.deed, units, table) else {
+    let Some(Definition { name, figure }) = by_form(&step.deed, units, table) else {
         return Ok(false);
     };
     match figure {

@@ -1,9 +1,10 @@
 //! Names with their figures.
 
-ghost use Rattle.std.specs.Prelude.{◌≡◌, [], OnOk, OnErr, IfOk, IfSome};
+ghost use Rattle.std.specs.Prelude.{◌≡◌, ◌↔◌, ◌⊎◌, [], None, false, OnOk, OnErr, IfOk, IfErr, IfSome, IsSomeAnd, IsErrOf};
 ghost use Rattle.apt_plane.specs.Ranges.{IsPoint, IsLine, IsCircle, IsSurface};
 ghost use Rattle.apt_defs.specs.Figures as figures;
-ghost use Rattle.apt_defs.specs.Figures.{IsFigure, IsPointAtHeight, table_with};
+ghost use Rattle.apt_defs.specs.Figures.{IsFigure, AreFigures, IsPointAtHeight, table_with};
+ghost use Rattle.apt_defs.specs.Names as names;
 
 use crate::Figure;
 use apt_plane::{Circ, Line, Pt, Surface};
@@ -50,6 +51,13 @@ impl Table {
         self.map.get(name).copied()
     }
 
+    /// Each figure is in its range: it does nothing but say so.
+    pub(crate) fn figures_in_range(&self)
+        ensures { AreFigures self.now }
+    {
+        let _ = &self.map;
+    }
+
     /// Gives a name a figure: a new name goes last, a known one keeps its place.
     #[tactic(auto, using(crate::proofs::Tables::still_figures))]
     pub fn set(&mut self, name: Symbol, figure: Figure) -> Result<(), AllocError>
@@ -66,6 +74,9 @@ impl Table {
 pub fn point(table: &Table, name: &Symbol) -> Result<(Pt, i64), Case>
     ensures value { result ≡ figures.place_named table.now name.now }
     ensures range { IfOk result (λ p. IsPointAtHeight p.0 p.1) }
+    ensures undefined { IsErrOf result Case.Undefined ↔ (figures.figure_named table.now name.now ≡ None) }
+    ensures wrong_kind { IsErrOf result Case.WrongKind ↔ IsSomeAnd (figures.figure_named table.now name.now) (λ f. names.is_kind names.APoint f ≡ false) }
+    ensures no_other { IfErr result (λ case. (case ≡ Case.Undefined) ⊎ (case ≡ Case.WrongKind)) }
 {
     match table.get(name) {
         None => Err(Case::Undefined),
@@ -86,6 +97,9 @@ pub(crate) fn point_named(table: &Table, name: &Symbol) -> Result<Pt, Case>
 pub fn surface(table: &Table, name: &Symbol) -> Result<Surface, Case>
     ensures value { result ≡ figures.surface_named table.now name.now }
     ensures range { IfOk result IsSurface }
+    ensures undefined { IsErrOf result Case.Undefined ↔ (figures.figure_named table.now name.now ≡ None) }
+    ensures wrong_kind { IsErrOf result Case.WrongKind ↔ IsSomeAnd (figures.figure_named table.now name.now) (λ f. names.is_kind names.ASurface f ≡ false) }
+    ensures no_other { IfErr result (λ case. (case ≡ Case.Undefined) ⊎ (case ≡ Case.WrongKind)) }
 {
     match table.get(name) {
         None => Err(Case::Undefined),

@@ -78,11 +78,30 @@ left_refusal_first = refl
 unknown_first : value_of [] [] (Bin Add (Name (codes "D")) no_quotient) ≡ Err cases.Unknown
 unknown_first = refl
 
+-- one unit of length, and half a grid unit, which goes away from zero
 inch : grid_units Inch (pos one) ≡ pos 100000
 inch = refl
 
-half_a_grid_unit : grid_units Mm (neg_ℤ (pos 150)) ≡ neg_ℤ (pos 2)
-half_a_grid_unit = refl
+inch_back : grid_units Inch (neg_ℤ (pos one)) ≡ neg_ℤ (pos 100000)
+inch_back = refl
+
+inch_rounded : grid_units Inch (pos 15) ≡ pos 2
+inch_rounded = refl
+
+inch_rounded_down : grid_units Inch (neg_ℤ (pos 14)) ≡ neg_ℤ (pos 1)
+inch_rounded_down = refl
+
+millimetre : grid_units Mm (pos one) ≡ pos 10000
+millimetre = refl
+
+millimetre_back : grid_units Mm (neg_ℤ (pos one)) ≡ neg_ℤ (pos 10000)
+millimetre_back = refl
+
+millimetre_rounded : grid_units Mm (neg_ℤ (pos 150)) ≡ neg_ℤ (pos 2)
+millimetre_rounded = refl
+
+millimetre_rounded_down : grid_units Mm (pos 149) ≡ pos 1
+millimetre_rounded_down = refl
 
 tenths_of_feed : tenths (pos 12350000) ≡ pos 124
 tenths_of_feed = refl

@@ -7,5 +7,5 @@ pub returns-clause-ok : goal.returns-clause-ok
 returns-clause-ok c =
     let name = c.in-Some.field-0.name in
     let made : definition_of c.args.units c.args.table.now c.args.step.now.deed ≡ defines name (Ok c.in-Ok.figure) =
-    sym c.definition.ensures.value ∙ c.in-Some.is ∙ ap (λ x. defines name x) c.in-Ok.is in
+    sym c.by_form.ensures.value ∙ c.in-Some.is ∙ ap (λ x. defines name x) c.in-Ok.is in
     has_defined c.args.units c.args.table.now c.args.step.now.deed c.set.new.self name c.in-Ok.figure made c.in_ok-set-in-Ok.ensures.ok
