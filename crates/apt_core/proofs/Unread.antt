@@ -1,5 +1,5 @@
 -- How what the crate of parts refuses is told.
-use Rattle.std.proofs.Common.{◌≡◌, ◌∙◌, ℕ, List, Result, Ok, Err, refl}
+use Rattle.std.proofs.Common.{Result, Err}
 use Rattle.apt_words.specs.declared.Refusal.{Refusal}
 use Rattle.apt_parse.specs.Programs.{Fault}
 use Rattle.apt_part.specs.Answering.{IsPart}

@@ -5,7 +5,6 @@ ghost use Rattle.apt_cldata.specs.Ranges.{AreRecords, vertex_count};
 ghost use Rattle.apt_meaning.specs.Situations.{first_situation};
 ghost use Rattle.apt_meaning.specs.Compiled.{first_refused};
 ghost use Rattle.apt_part.specs.Promise.{AreSteps};
-ghost use Rattle.apt_machine.specs.Machines.{IsMachine};
 ghost use Rattle.apt_core.specs.Request.{four_names};
 ghost use Rattle.apt_control.specs.declared.Act.{Act};
 ghost use Rattle.apt_core.specs.Certificates.{DifferAt, HeadsDiffer};

@@ -1,5 +1,5 @@
 -- The steps of the tests: along the lower edge of a plate.
-use Rattle.std.proofs.Common.{◌≡◌, ◌+◌, ◌≤◌, ◌<◌, ◌^◌, ℕ, zero, suc, ℤ, pos, neg_ℤ, List, [], ◌∷◌, length, take, Some, Ok, ap, arith}
+use Rattle.std.proofs.Common.{◌≡◌, ◌+◌, ◌≤◌, ◌<◌, ◌^◌, ℕ, zero, suc, ℤ, pos, neg_ℤ, List, [], ◌∷◌, length, take, Some, None, ap, arith}
 use Rattle.std.specs.Prelude.{codes}
 use Rattle.apt_num.specs.Root.{root}
 use Rattle.apt_words.specs.declared.Go.TheVariants as turns

@@ -27,7 +27,7 @@ use Rattle.apt_meaning.proofs.Walk.{same_some, compiled_follows}
 use Rattle.apt_motion.specs.declared.runs.RunError.{RunError}
 use Rattle.apt_motion.specs.Ends.{Ends, IsToDo}
 use Rattle.apt_motion.specs.declared.found.Found.{Found}
-use Rattle.apt_motion.specs.Finding.{IsNoDefinition, DefinesNothing, IsFound, ends_at}
+use Rattle.apt_motion.specs.Finding.{IsNoDefinition, IsFound, ends_at}
 use Rattle.apt_motion.proofs.Plain.{defines_nothing}
 
 regroup : (front more : List Record) (r : Result (List Record) Refusal) → with_front front (with_front more r) ≡ with_front (front ++ more) r

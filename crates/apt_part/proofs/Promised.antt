@@ -1,13 +1,13 @@
 -- What a text comes to keeps the promise.
 use Rattle.std.proofs.Common.{◌≡◌, ◌∙◌, ℕ, false, arith, List, Option, Some, None, Result, Ok, Err, refl, sym, ap, subst}
-use Rattle.std.specs.Prelude.{IfOk, option_or}
+use Rattle.std.specs.Prelude.{IfOk}
+use Rattle.std.specs.Option.{option_or}
 use Rattle.std.proofs.lemmas.Int.{ints}
 use Rattle.apt_words.specs.declared.Refusal.{Refusal}
 use Rattle.apt_words.specs.declared.body.Stmt.{Stmt}
 use Rattle.apt_words.specs.declared.deed.Step.{Step}
-use Rattle.apt_words.specs.Built.{AreBuilt, AreBuiltSteps}
-use Rattle.apt_words.specs.Sources.{AreStmts, AreExecuted}
-use Rattle.apt_scalar.specs.StepScalars.{AreScalars}
+use Rattle.apt_words.specs.Built.{AreBuilt}
+use Rattle.apt_words.specs.Sources.{AreStmts}
 use Rattle.apt_parse.proofs.AllBuilt.{program_of-built}
 use Rattle.apt_parse.proofs.AllSources.{program_of-stmts}
 use Rattle.apt_words.specs.Flow.{AreNested}
