@@ -8,7 +8,6 @@ use Rattle.apt_certify.specs.declared.verdict.Verdict.{Verdict}
 use Rattle.apt_certify.specs.Jobs.{AreLegal}
 use Rattle.apt_certify.specs.Verdicts.{IsVerdict, IsFirstBadOrNone}
 use Rattle.apt_meaning.specs.Situations.{first_situation}
-use Rattle.apt_meaning.specs.Compiled.{compilation}
 use Rattle.apt_meaning.specs.Records.{AreLegal as IsLegalEffect}
 use Rattle.apt_meaning.proofs.Stands.{stands}
 use Rattle.apt_job.proofs.Walks.{legal_follows}
@@ -17,54 +16,54 @@ use Rattle.apt_machine.specs.Tables.{table_of}
 use Rattle.apt_control.specs.declared.Act.{Act}
 use Rattle.apt_control.specs.Control.{control_run}
 use Rattle.apt_post.proofs.Reaching.{plan_reaches}
-use Rattle.apt_part.specs.Compilation.{Compiled, part_of}
-use Rattle.apt_part.specs.Promise.{Promise}
+use Rattle.apt_part.specs.Compilation.{steps_of}
+use Rattle.apt_part.specs.Promise.{Passes}
 use Rattle.apt_report.specs.declared.status.Status.{Status}
 use Rattle.apt_report.specs.declared.status.Status.TheVariants as answers
 use Rattle.apt_report.specs.declared.status.Summary.TheVariants as summaries
 use Rattle.apt_core.specs.Certificates.{IsCertified, IsBadTable}
 use Rattle.apt_core.specs.Judging.{IsJudgedOn, IsJudged, IsGood, IsVerdictOn}
-use Rattle.apt_core.specs.Unread.{HasNoPart}
+use Rattle.apt_core.specs.Unread.{HasNoSteps}
 use Rattle.apt_core.proofs.Counting.{makes_segments}
 
 -- a verdict without a bad motion finds all legal
 all_legal : (jobs : List Job) (v : Verdict) → IsVerdict jobs v → v.first_bad ≡ None → AreLegal jobs
 all_legal jobs v is none = subst (IsFirstBadOrNone jobs) none is.first_bad
 
-pub good_is_right : (machine : Machine) (text cl tape : List ℕ) (p : Compiled) (written : List Record) (acts : List Act) (v : Verdict) → Promise machine text p
-    → read_of cl ≡ Ok written → control_run machine.code tape ≡ Ok acts → IsGood p.steps written acts v → IsCertified machine text cl tape v
-good_is_right machine text cl tape p written acts v promise read run good =
-    let follow = legal_follows first_situation p.steps written good.jobs good.makes (all_legal good.jobs v good.verdict good.legal) in record {
+pub good_is_right : (machine : Machine) (text cl tape : List ℕ) (steps : List Step) (written : List Record) (acts : List Act) (v : Verdict) → Passes machine text steps
+    → read_of cl ≡ Ok written → control_run machine.code tape ≡ Ok acts → IsGood steps written acts v → IsCertified machine text cl tape v
+good_is_right machine text cl tape steps written acts v passes read run good =
+    let follow = legal_follows first_situation steps written good.jobs good.makes (all_legal good.jobs v good.verdict good.legal) in record {
       right = record {
-        part = p;
-        passes = promise.passes;
+        steps = steps;
+        passes = passes;
         records = written;
         read = read;
         behind = follow.0;
         follow = follow.1;
-        stands = stands IsLegalEffect first_situation p.steps written follow.0 follow.1;
+        stands = stands IsLegalEffect first_situation steps written follow.0 follow.1;
         acts = run ∙ ap Ok good.planned;
         reached = plan_reaches written;
       };
       jobs = good.jobs;
       makes = good.makes;
       verdict = good.verdict;
-      counted = good.verdict.segments ∙ makes_segments first_situation p.steps written good.jobs good.makes;
+      counted = good.verdict.segments ∙ makes_segments first_situation steps written good.jobs good.makes;
     }
 
-pub on_verdict : (machine : Machine) (text cl tape : List ℕ) (p : Compiled) (written : List Record) (acts : List Act) (answer : Status) → part_of machine text ≡ Ok (Ok p) → Promise machine text p
-    → read_of cl ≡ Ok written → control_run machine.code tape ≡ Ok acts → IsVerdictOn p.steps written acts answer → IsJudgedOn machine text cl tape answer
-on_verdict machine text cl tape p written acts (answers.NotCertified miss) comes promise read run is = inl (p, written, acts, comes, read, run, is)
-on_verdict machine text cl tape p written acts (answers.Done (summaries.Certified v)) comes promise read run is = inl (good_is_right machine text cl tape p written acts v promise read run is)
-on_verdict machine text cl tape p written acts (answers.Done (summaries.Compiled r a s)) comes promise read run is = absurd is
-on_verdict machine text cl tape p written acts answers.NoMemory comes promise read run is = inr refl
-on_verdict machine text cl tape p written acts _ comes promise read run is = absurd is
+pub on_verdict : (machine : Machine) (text cl tape : List ℕ) (steps : List Step) (written : List Record) (acts : List Act) (answer : Status) → steps_of machine text ≡ Ok (Ok steps) → Passes machine text steps
+    → read_of cl ≡ Ok written → control_run machine.code tape ≡ Ok acts → IsVerdictOn steps written acts answer → IsJudgedOn machine text cl tape answer
+on_verdict machine text cl tape steps written acts (answers.NotCertified miss) comes passes read run is = inl (steps, written, acts, comes, read, run, is)
+on_verdict machine text cl tape steps written acts (answers.Done (summaries.Certified v)) comes passes read run is = inl (good_is_right machine text cl tape steps written acts v passes read run is)
+on_verdict machine text cl tape steps written acts (answers.Done (summaries.Compiled r a s)) comes passes read run is = absurd is
+on_verdict machine text cl tape steps written acts answers.NoMemory comes passes read run is = inr refl
+on_verdict machine text cl tape steps written acts _ comes passes read run is = absurd is
 
-pub no_part_judged : (machine : Machine) (text cl tape : List ℕ) (answer : Status) → HasNoPart machine text answer → IsJudgedOn machine text cl tape answer
-no_part_judged machine text cl tape (answers.BadPart line cause) is = inl is
-no_part_judged machine text cl tape (answers.Refused line step case) is = inl is
-no_part_judged machine text cl tape answers.NoMemory is = inr refl
-no_part_judged machine text cl tape _ is = absurd is
+pub none_judged : (machine : Machine) (text cl tape : List ℕ) (answer : Status) → HasNoSteps machine text answer → IsJudgedOn machine text cl tape answer
+none_judged machine text cl tape (answers.BadPart line cause) is = inl is
+none_judged machine text cl tape (answers.Refused line step case) is = inl is
+none_judged machine text cl tape answers.NoMemory is = inr refl
+none_judged machine text cl tape _ is = absurd is
 
 -- ---- with the text of a table
 
@@ -74,7 +73,3 @@ table_judged text table cl tape answer bad = inl (inl bad)
 pub judged_by : (text table cl tape : List ℕ) (machine : Machine) (answer : Status) → table_of table ≡ Ok machine → IsJudgedOn machine text cl tape answer → IsJudged text table cl tape answer
 judged_by text table cl tape machine answer tabled (inl judgement) = inl (inr (record { machine = machine; comes = tabled; judgement = judgement }))
 judged_by text table cl tape machine answer tabled (inr e) = inr e
-
--- steps whose records are known pass
-pub passes_by : (steps : List Step) (written : List Record) → compilation first_situation steps ≡ Ok written → (rs : List Record) × (compilation first_situation steps ≡ Ok rs)
-passes_by steps written e = (written, e)

@@ -12,3 +12,4 @@ pub mod Right
 pub mod Differences
 pub mod Putting
 pub mod Running
+pub mod Unread

@@ -15,7 +15,8 @@ use Rattle.apt_machine.specs.Tables.{table_of}
 use Rattle.apt_control.specs.declared.Act.{Act}
 use Rattle.apt_control.specs.Control.{control_run}
 use Rattle.apt_post.specs.Plan.{plan}
-use Rattle.apt_part.specs.Compilation.{Compiled, part_of}
+use Rattle.apt_words.specs.declared.deed.Step.{Step}
+use Rattle.apt_part.specs.Compilation.{steps_of}
 use Rattle.apt_part.proofs.Promised.{passes_comes}
 use Rattle.apt_report.specs.declared.status.Status.{Status}
 use Rattle.apt_report.specs.declared.status.Status.TheVariants as answers
@@ -48,8 +49,8 @@ one_text o a b e f = let same : Some a ≡ Some b = sym e ∙ f in cc
 
 -- ---- the answer
 
-same_part : {E F : Type 0} (r : Result (Result Compiled E) F) (a b : Compiled) → r ≡ Ok (Ok a) → r ≡ Ok (Ok b) → a ≡ b
-same_part r a b e f = let same = sym e ∙ f in cc
+same_steps : {E F : Type 0} (r : Result (Result (List Step) E) F) (a b : List Step) → r ≡ Ok (Ok a) → r ≡ Ok (Ok b) → a ≡ b
+same_steps r a b e f = let same = sym e ∙ f in cc
 
 same_records : {E : Type 0} (r : Result (List Record) E) (a b : List Record) → r ≡ Ok a → r ≡ Ok b → a ≡ b
 same_records r a b e f = let same = sym e ∙ f in cc
@@ -67,29 +68,29 @@ no_difference xs ys at e d =
     not_differ d.right (subst (λ (l : List Act). HeadsDiffer l d.right) same d.differ)
 
 no_miss : (machine : Machine) (text cl tape : List ℕ) (right : IsRight machine text cl tape) (acts : List Act) (miss : Miss) → acts ≡ plan right.records
-    → IsMiss right.part.steps right.records acts miss → ⊥
+    → IsMiss right.steps right.records acts miss → ⊥
 no_miss machine text cl tape right acts (misses.Entry seq) same is =
-    let jobs = follows_makes first_situation right.part.steps right.records right.behind right.follow in
-    makes_no_fails first_situation right.part.steps right.records jobs.0 1 seq jobs.1 is
+    let jobs = follows_makes first_situation right.steps right.records right.behind right.follow in
+    makes_no_fails first_situation right.steps right.records jobs.0 1 seq jobs.1 is
 no_miss machine text cl tape right acts (misses.Motion bad) same is =
-    bad_not_legal is.0 bad is.2 (follows_legal first_situation right.part.steps right.records is.0 right.behind is.1 right.follow)
+    bad_not_legal is.0 bad is.2 (follows_legal first_situation right.steps right.records is.0 right.behind is.1 right.follow)
 no_miss machine text cl tape right acts (misses.Act at) same is = no_difference acts (plan right.records) at same is.3
 
 judged_right : (machine : Machine) (text cl tape : List ℕ) (told : Status) → IsRight machine text cl tape → IsAnswerOn machine text cl tape told
     → (verdict : Verdict) × (told ≡ answers.Done (summaries.Certified verdict))
 judged_right machine text cl tape (answers.Done (summaries.Certified verdict)) right is = (verdict, refl)
 judged_right machine text cl tape (answers.BadPart line cause) right is =
-    absurd (let f = sym is ∙ passes_comes machine text right.part right.passes in let g : ⊥ = cc in g)
+    absurd (let f = sym is ∙ passes_comes machine text right.steps right.passes in let g : ⊥ = cc in g)
 judged_right machine text cl tape (answers.Refused line step case) right is =
-    absurd (let f = sym is ∙ passes_comes machine text right.part right.passes in let g : ⊥ = cc in g)
+    absurd (let f = sym is ∙ passes_comes machine text right.steps right.passes in let g : ⊥ = cc in g)
 judged_right machine text cl tape (answers.BadCl at cause) right is = absurd (let f = sym is.2 ∙ right.read in let g : ⊥ = cc in g)
 judged_right machine text cl tape (answers.BadTape at cause) right is = absurd (let f = sym is.4 ∙ right.acts in let g : ⊥ = cc in g)
 judged_right machine text cl tape (answers.NotCertified miss) right is =
-    let p : is.0 ≡ right.part = same_part (part_of machine text) is.0 right.part is.3 (passes_comes machine text right.part right.passes) in
+    let same : is.0 ≡ right.steps = same_steps (steps_of machine text) is.0 right.steps is.3 (passes_comes machine text right.steps right.passes) in
     let rs : is.1 ≡ right.records = same_records (read_of cl) is.1 right.records is.4 right.read in
     let acts : is.2 ≡ plan right.records = same_acts (control_run machine.code tape) is.2 (plan right.records) is.5 right.acts in
     absurd (no_miss machine text cl tape right is.2 miss acts
-    (subst (λ (q : Compiled). IsMiss q.steps right.records is.2 miss) p (subst (λ (rs : List Record). IsMiss is.0.steps rs is.2 miss) rs is.6)))
+    (subst (λ (ss : List Step). IsMiss ss right.records is.2 miss) same (subst (λ (rs : List Record). IsMiss is.0 rs is.2 miss) rs is.6)))
 judged_right machine text cl tape _ right is = absurd is
 
 same_machine : {E : Type 0} (r : Result Machine E) (a b : Machine) → r ≡ Ok a → r ≡ Ok b → a ≡ b

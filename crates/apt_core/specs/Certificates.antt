@@ -18,7 +18,7 @@ use Rattle.apt_machine.specs.Tables.{table_of}
 use Rattle.apt_control.specs.declared.Act.{Act}
 use Rattle.apt_control.specs.Control.{control_run}
 use Rattle.apt_post.specs.Plan.{plan, segments, positions, points}
-use Rattle.apt_part.specs.Compilation.{Compiled, part_of}
+use Rattle.apt_part.specs.Compilation.{steps_of}
 use Rattle.apt_part.specs.Promise.{Passes}
 use Rattle.apt_report.specs.declared.status.Status.{Status}
 use Rattle.apt_report.specs.declared.status.Status.TheVariants as answers
@@ -30,12 +30,12 @@ use Rattle.apt_report.specs.declared.status.Miss.TheVariants as misses
 -- is legal: all points of its segments are in the drive band, none is past its stop, and it ends in the stop band. The acts lead where the records
 -- lead, and the records leave the tool where the steps have it
 pub record IsRight (machine : Machine) (text cl tape : List ℕ) : Type 0 where
-  pub part : Compiled
-  pub passes : Passes machine text part
+  pub steps : List Step
+  pub passes : Passes machine text steps
   pub records : List Record
   pub read : read_of cl ≡ Ok records
   pub behind : Situation
-  pub follow : FollowsLegally first_situation part.steps records behind
+  pub follow : FollowsLegally first_situation steps records behind
   pub stands : stand_of None records ≡ behind.position
   pub acts : control_run machine.code tape ≡ Ok (plan records)
   pub reached : positions (plan records) ≡ points records
@@ -69,20 +69,20 @@ IsMiss steps written acts (misses.Act at) =
 pub record IsCertified (machine : Machine) (text cl tape : List ℕ) (v : Verdict) : Type 0 where
   pub right : IsRight machine text cl tape
   pub jobs : List Job
-  pub makes : MakesJobs first_situation right.part.steps right.records jobs
+  pub makes : MakesJobs first_situation right.steps right.records jobs
   pub verdict : IsVerdict jobs v
   pub counted : v.segments ≡ segments right.records
 
 -- the answer on a machine to the three texts, in the order in which they are judged
 abbrev pub IsAnswerOn : Machine → List ℕ → List ℕ → List ℕ → Status → Type 0
-IsAnswerOn machine text cl tape (answers.BadPart line cause) = part_of machine text ≡ Err (line, cause)
-IsAnswerOn machine text cl tape (answers.Refused line step case) = part_of machine text ≡ Ok (Err (record { line = line; step = step; case = case }))
-IsAnswerOn machine text cl tape (answers.BadCl at cause) = (p : Compiled) × (part_of machine text ≡ Ok (Ok p)) × (read_of cl ≡ Err (record { at = at; cause = cause }))
+IsAnswerOn machine text cl tape (answers.BadPart line cause) = steps_of machine text ≡ Err (line, cause)
+IsAnswerOn machine text cl tape (answers.Refused line step case) = steps_of machine text ≡ Ok (Err (record { line = line; step = step; case = case }))
+IsAnswerOn machine text cl tape (answers.BadCl at cause) = (steps : List Step) × (steps_of machine text ≡ Ok (Ok steps)) × (read_of cl ≡ Err (record { at = at; cause = cause }))
 IsAnswerOn machine text cl tape (answers.BadTape at cause) =
-    (p : Compiled) × (written : List Record) × (part_of machine text ≡ Ok (Ok p)) × (read_of cl ≡ Ok written) × (control_run machine.code tape ≡ Err (record { at = at; cause = cause }))
+    (steps : List Step) × (written : List Record) × (steps_of machine text ≡ Ok (Ok steps)) × (read_of cl ≡ Ok written) × (control_run machine.code tape ≡ Err (record { at = at; cause = cause }))
 IsAnswerOn machine text cl tape (answers.NotCertified miss) =
-    (p : Compiled) × (written : List Record) × (acts : List Act)
-    × (part_of machine text ≡ Ok (Ok p)) × (read_of cl ≡ Ok written) × (control_run machine.code tape ≡ Ok acts) × IsMiss p.steps written acts miss
+    (steps : List Step) × (written : List Record) × (acts : List Act)
+    × (steps_of machine text ≡ Ok (Ok steps)) × (read_of cl ≡ Ok written) × (control_run machine.code tape ≡ Ok acts) × IsMiss steps written acts miss
 IsAnswerOn machine text cl tape (answers.Done (summaries.Certified verdict)) = IsCertified machine text cl tape verdict
 IsAnswerOn machine text cl tape (answers.Done (summaries.Compiled records acts segments)) = ⊥
 IsAnswerOn machine text cl tape (answers.Done (summaries.Decoded count)) = ⊥

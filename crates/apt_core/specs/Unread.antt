@@ -1,5 +1,5 @@
 -- The answers where a file was not read, or where its text comes to no machine or to no part.
-use Rattle.std.specs.Prelude.{◌≡◌, ◌⊎◌, ℕ, List, Option, Ok, Err}
+use Rattle.std.specs.Prelude.{◌≡◌, ◌⊎◌, ℕ, List, Option, Result, Ok, Err}
 use Rattle.apt_shelf.specs.Told.{Contents, Rose}
 use Rattle.apt_shelf.specs.declared.files.ReadError.{ReadError}
 use Rattle.apt_shelf.specs.declared.files.ReadError.TheVariants as errors
@@ -7,7 +7,11 @@ use Rattle.apt_report.specs.declared.status.Status.{Status}
 use Rattle.apt_report.specs.declared.status.Status.TheVariants as answers
 use Rattle.apt_machine.specs.declared.machine.Machine.{Machine}
 use Rattle.apt_machine.specs.Tables.{table_of}
-use Rattle.apt_part.specs.Compilation.{part_of}
+use Rattle.apt_words.specs.declared.Refusal.{Refusal}
+use Rattle.apt_parse.specs.Programs.{Fault}
+use Rattle.apt_part.specs.Compilation.{steps_of, part_of}
+use Rattle.apt_part.specs.declared.part.PartError.{PartError}
+use Rattle.apt_part.specs.declared.part.PartError.TheVariants as part_errors
 use Rattle.apt_core.specs.Inputs.{Input, IsUnread}
 use Rattle.apt_core.specs.Certificates.{IsBadTable}
 
@@ -23,21 +27,34 @@ abbrev pub IsNotRead : Option Contents → Input → ℕ → ℕ → Status → 
 IsNotRead told x before now answer =
     IsUnread told x before now answer ⊎ (((answer ≡ answers.ReadFault) × Rose before now) ⊎ (answer ≡ answers.NoMemory))
 
--- the answer where a text comes to no part
+-- how a part that has a fault, or a refused step, is told
+abbrev pub told_as : PartError → Status
+told_as (part_errors.Bad line cause) = answers.BadPart line cause
+told_as (part_errors.Refused r) = answers.Refused r.line r.step r.case
+told_as part_errors.NoMemory = answers.NoMemory
+
+-- the answer where a text comes to nothing
+abbrev pub ComesToNone : {A : Type 0} → Result (Result A Refusal) Fault → Status → Type 0
+ComesToNone due (answers.BadPart line cause) = due ≡ Err (line, cause)
+ComesToNone due (answers.Refused line step case) = due ≡ Ok (Err (record { line = line; step = step; case = case }))
+ComesToNone due answers.NoMemory = Unit {0}
+ComesToNone due (answers.Done summary) = ⊥
+ComesToNone due answers.Usage = ⊥
+ComesToNone due (answers.Missing name) = ⊥
+ComesToNone due answers.ReadFault = ⊥
+ComesToNone due (answers.TooLong name) = ⊥
+ComesToNone due (answers.BadMachine line cause) = ⊥
+ComesToNone due (answers.BadCl at cause) = ⊥
+ComesToNone due (answers.BadTape at cause) = ⊥
+ComesToNone due (answers.NotCertified miss) = ⊥
+ComesToNone due answers.WriteFault = ⊥
+
+-- where it comes to no part, or to no steps
 abbrev pub HasNoPart : Machine → List ℕ → Status → Type 0
-HasNoPart machine text (answers.BadPart line cause) = part_of machine text ≡ Err (line, cause)
-HasNoPart machine text (answers.Refused line step case) = part_of machine text ≡ Ok (Err (record { line = line; step = step; case = case }))
-HasNoPart machine text answers.NoMemory = Unit {0}
-HasNoPart machine text (answers.Done summary) = ⊥
-HasNoPart machine text answers.Usage = ⊥
-HasNoPart machine text (answers.Missing name) = ⊥
-HasNoPart machine text answers.ReadFault = ⊥
-HasNoPart machine text (answers.TooLong name) = ⊥
-HasNoPart machine text (answers.BadMachine line cause) = ⊥
-HasNoPart machine text (answers.BadCl at cause) = ⊥
-HasNoPart machine text (answers.BadTape at cause) = ⊥
-HasNoPart machine text (answers.NotCertified miss) = ⊥
-HasNoPart machine text answers.WriteFault = ⊥
+HasNoPart machine text answer = ComesToNone (part_of machine text) answer
+
+abbrev pub HasNoSteps : Machine → List ℕ → Status → Type 0
+HasNoSteps machine text answer = ComesToNone (steps_of machine text) answer
 
 -- the table has a fault, or the text comes to no part on its machine
 abbrev pub HasNoOutput : List ℕ → List ℕ → Status → Type 0

@@ -1,11 +1,10 @@
 //! The command `certify`.
 
-ghost use Rattle.std.specs.Prelude.{◌≡◌, ◌↔◌, ◌+◌, ◌<◌, ◌≤◌, ◌^◌, IsTrue, List, ◌∷◌, length, None, Ok, IfSome};
+ghost use Rattle.std.specs.Prelude.{◌≡◌, ◌↔◌, ◌+◌, ◌<◌, ◌≤◌, ◌^◌, IsTrue, List, ◌∷◌, length, None, IfSome};
 ghost use Rattle.apt_cldata.specs.Ranges.{AreRecords, vertex_count};
 ghost use Rattle.apt_meaning.specs.Situations.{first_situation};
-ghost use Rattle.apt_meaning.specs.Compiled.{compilation};
+ghost use Rattle.apt_meaning.specs.Compiled.{first_refused};
 ghost use Rattle.apt_part.specs.Promise.{AreSteps};
-ghost use Rattle.apt_machine.specs.Machines.{IsMachine};
 ghost use Rattle.apt_core.specs.Request.{four_names};
 ghost use Rattle.apt_control.specs.declared.Act.{Act};
 ghost use Rattle.apt_core.specs.Certificates.{DifferAt, HeadsDiffer};
@@ -13,7 +12,7 @@ ghost use Rattle.apt_core.specs.Judging.{IsJudged, IsJudgedOn, IsVerdictOn};
 ghost use Rattle.apt_core.specs.Promise.{Certifies, files_on};
 
 use crate::machine::machine_of;
-use crate::part::part_on;
+use crate::part::steps_on;
 use crate::reading::{FILE_LIMIT, MACHINE_LIMIT, PART_LIMIT, read_input};
 use crate::words::Names;
 use apt_certify::check_jobs;
@@ -21,10 +20,10 @@ use apt_cldata::{ClError, Record, read};
 use apt_control::{Act, ControlError, read_tape};
 use apt_job::{JobError, jobs};
 use apt_machine::Machine;
-use apt_part::Part;
 use apt_post::plan;
 use apt_report::{Miss, Status, Summary};
 use apt_shelf::Shelf;
+use apt_words::Step;
 use std::alloc::Global;
 
 /// Reads the part, the machine table, the CL file and the tape, and judges the last two against the part.
@@ -65,12 +64,11 @@ fn judged_by(alloc: Global, text: Vec<u8>, table: &[u8], cl: &[u8], tape: &[u8])
 
 /// The answer on a machine to a part, a CL file and a tape.
 fn judged(alloc: Global, machine: &Machine, text: Vec<u8>, cl: &[u8], tape: &[u8]) -> Status
-    requires machine { IsMachine machine.now }
     requires short { length cl.now ≤ 67108864 }
     ensures { IsJudgedOn machine.now text.items cl.now tape.now result }
 {
-    let part = match part_on(alloc, text, machine) {
-        Ok(part) => part,
+    let steps = match steps_on(alloc, text, machine) {
+        Ok(steps) => steps,
         Err(status) => return status,
     };
     let records = match read(alloc, cl) {
@@ -83,19 +81,18 @@ fn judged(alloc: Global, machine: &Machine, text: Vec<u8>, cl: &[u8], tape: &[u8
         Err(ControlError::Bad { at, cause }) => return Status::BadTape { at, cause },
         Err(ControlError::NoMemory) => return Status::NoMemory,
     };
-    verdict_on(alloc, &part, &records, &acts)
+    verdict_on(alloc, &steps, &records, &acts)
 }
 
 /// The answer to records and acts that were read.
-#[tactic(auto, using(crate::proofs::Judging::passes_by))]
-fn verdict_on(alloc: Global, part: &Part, records: &[Record], acts: &[Act]) -> Status
-    requires steps { AreSteps part.now.steps }
-    requires passes { compilation first_situation part.now.steps ≡ Ok part.now.records }
+fn verdict_on(alloc: Global, steps: &[Step], records: &[Record], acts: &[Act]) -> Status
+    requires steps { AreSteps steps.now }
+    requires passes { first_refused first_situation steps.now ≡ None }
     requires records { AreRecords records.now }
     requires few { vertex_count records.now + length records.now < 2 ^ 62 }
-    ensures { IsVerdictOn part.now.steps records.now acts.now result }
+    ensures { IsVerdictOn steps.now records.now acts.now result }
 {
-    let jobs = match jobs(alloc, &part.steps, records) {
+    let jobs = match jobs(alloc, steps, records) {
         Ok(jobs) => jobs,
         Err(JobError::Entry { seq }) => return Status::NotCertified {
             miss: Miss::Entry { seq },

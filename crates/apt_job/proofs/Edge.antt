@@ -1,5 +1,5 @@
 -- The steps of the tests: along the lower edge of a plate.
-use Rattle.std.proofs.Common.{◌≡◌, ◌+◌, ◌≤◌, ◌<◌, ◌^◌, ℕ, zero, suc, ℤ, pos, neg_ℤ, List, [], ◌∷◌, length, take, Some, Ok, ap, arith}
+use Rattle.std.proofs.Common.{◌≡◌, ◌+◌, ◌≤◌, ◌<◌, ◌^◌, ℕ, zero, suc, ℤ, pos, neg_ℤ, List, [], ◌∷◌, length, take, Some, None, ap, arith}
 use Rattle.std.specs.Prelude.{codes}
 use Rattle.apt_num.specs.Root.{root}
 use Rattle.apt_words.specs.declared.Go.TheVariants as turns
@@ -20,7 +20,7 @@ use Rattle.apt_meaning.specs.Situations.{first_situation, position_at}
 use Rattle.apt_meaning.specs.Motions.{motion_at}
 use Rattle.apt_meaning.specs.Effects.{defined}
 use Rattle.apt_meaning.specs.Refusals.{refused_definition}
-use Rattle.apt_meaning.specs.Compiled.{compilation}
+use Rattle.apt_meaning.specs.Compiled.{first_refused}
 
 abbrev step : ℕ → Deed → Step
 step n deed = record { line = n; step = n; deed = deed }
@@ -49,9 +49,9 @@ own =
     ∷ records.Statement 7 7 ∷ records.Drive (line (pos 0) (pos 500000) (pos 0)) sides.Right (pos 1)
     ∷ records.Check (line (pos 500000) (pos 0) (pos 500000)) stops.Past ∷ records.Contour (position (pos 525000) ∷ []) ∷ []
 
-pub edge_passes : (steps : List Step) → steps ≡ edge → (rs : List Record) × (compilation first_situation steps ≡ Ok rs)
+pub edge_passes : (steps : List Step) → steps ≡ edge → first_refused first_situation steps ≡ None
 unfolding root motion_at refused_definition defined
-edge_passes steps e = (own, ap (compilation first_situation) e)
+edge_passes steps e = ap (first_refused first_situation) e
 
 -- ---- parts of records
 

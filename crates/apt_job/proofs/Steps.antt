@@ -22,12 +22,12 @@ use Rattle.apt_meaning.specs.declared.effect.Effect.TheVariants as effects
 use Rattle.apt_meaning.specs.Situations.{first_situation, at_height}
 use Rattle.apt_meaning.specs.Effects.{effect_of}
 use Rattle.apt_meaning.specs.Refusals.{refusal_of}
-use Rattle.apt_meaning.specs.Compiled.{ends_of, with_front, compilation}
+use Rattle.apt_meaning.specs.Compiled.{ends_of, first_refused}
 use Rattle.apt_meaning.specs.Records.{Begins, records_of, after}
 use Rattle.apt_meaning.specs.Expectations.{expected_of, behind_statement, Departs, FailsAt}
 use Rattle.apt_meaning.proofs.Follower.{KeepsUp, keeps_up_first, StepsOn, steps_on}
 use Rattle.apt_meaning.proofs.Agree.{Agrees}
-use Rattle.apt_meaning.proofs.Walk.{same_some, done}
+use Rattle.apt_meaning.proofs.Walk.{same_some, passed}
 use Rattle.apt_job.specs.Fronts.{StandsFirst}
 use Rattle.apt_job.specs.Jobs.{jobs_by, MakesJobs}
 use Rattle.apt_job.specs.Naming.{HasNamed}
@@ -77,9 +77,9 @@ pub record IsWalk (all : List Step) (written : List Record) (at : Situation) (re
   pub points : point_count jobs + weight rest ≤ weight written
 
 pub walk_first : (all : List Step) (written : List Record) → AreScalars all → AreBuiltSteps all → AreExecuted all
-    → (rs : List Record) × (compilation first_situation all ≡ Ok rs) → AreRecords written → IsWalk all written first_situation written [] all
+    → first_refused first_situation all ≡ None → AreRecords written → IsWalk all written first_situation written [] all
 walk_first all written scalars built sources passes are = record {
-  keeps = keeps_up_first all passes.0 passes.1;
+  keeps = keeps_up_first all passes;
   scalars = scalars;
   sources = sources;
   built = built;
@@ -153,8 +153,7 @@ pub walk_unrefused : (all : List Step) (written : List Record) (at : Situation) 
 walk_unrefused all written at rest jobs step steps case walk is =
     let beside = walk.keeps.beside in
     let c = beside.c in
-    let does = done step (refusal_of c step.deed) (effect_of c step.deed)
-    (λ e. with_front (records_of step e (ends_of e)) (compilation (after c e (ends_of e)) steps)) beside.records beside.passes in
+    let does = passed step (refusal_of c step.deed) (effect_of c step.deed) (λ e. first_refused (after c e (ends_of e)) steps) beside.passes in
     no_case (refusal_of c step.deed) case does.fine (refused_beside c at step.deed case beside.agrees is)
 
 -- ---- where it ends

@@ -5,7 +5,7 @@ ghost use Rattle.apt_scalar.specs.StepScalars.{AreScalars};
 ghost use Rattle.apt_plane.specs.Ranges.{IsSurface};
 ghost use Rattle.apt_cldata.specs.Ranges.{IsPosition, ArePositions, AreRecords, vertex_count};
 ghost use Rattle.apt_cldata.specs.declared.record.Record.{Record};
-ghost use Rattle.apt_meaning.specs.Compiled.{compilation};
+ghost use Rattle.apt_meaning.specs.Compiled.{first_refused};
 ghost use Rattle.apt_meaning.specs.Situations.{first_situation};
 
 use crate::{JobError, jobs};
@@ -31,7 +31,7 @@ fn edge_steps() -> Option<[Step; 7]>
     ensures scalars { IfSome result AreScalars }
     ensures built { IfSome result AreBuiltSteps }
     ensures sources { IfSome result AreExecuted }
-    ensures passes { IfSome result (λ steps. (rs : List Record) × (compilation first_situation steps ≡ Ok rs)) }
+    ensures passes { IfSome result (λ steps. first_refused first_situation steps ≡ None) }
 {
     let l1 = Symbol::new("L1")?;
     let l2 = Symbol::new("L2")?;

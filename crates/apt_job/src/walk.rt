@@ -9,7 +9,7 @@ ghost use Rattle.apt_certify.specs.Jobs.{AreJobs, point_count};
 ghost use Rattle.apt_cldata.specs.Ranges.{AreRecords, vertex_count};
 ghost use Rattle.apt_cldata.specs.declared.record.Record.{Record};
 ghost use Rattle.apt_defs.specs.Definitions.{IsRefusedBy};
-ghost use Rattle.apt_meaning.specs.Compiled.{compilation};
+ghost use Rattle.apt_meaning.specs.Compiled.{first_refused};
 ghost use Rattle.apt_meaning.specs.Ranges.{IsSituation, IsEffect};
 ghost use Rattle.apt_meaning.specs.Records as written;
 ghost use Rattle.apt_meaning.specs.Situations.{first_situation};
@@ -114,7 +114,7 @@ pub fn jobs(alloc: Global, steps: &[Step], records: &[Record]) -> Result<Vec<Job
     requires scalars { AreScalars steps.now }
     requires built { AreBuiltSteps steps.now }
     requires sources { AreExecuted steps.now }
-    requires passes { (rs : List Record) × (compilation first_situation steps.now ≡ Ok rs) }
+    requires passes { first_refused first_situation steps.now ≡ None }
     requires records { AreRecords records.now }
     requires few { vertex_count records.now + length records.now < 2 ^ 62 }
     ensures jobs { IfOk result (λ js. MakesJobs first_situation steps.now records.now js.items) }

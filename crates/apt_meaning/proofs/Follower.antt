@@ -1,5 +1,5 @@
 -- A situation that agrees with the compiler's at the same step, and is left in range by records in range.
-use Rattle.std.proofs.Common.{◌≡◌, ◌≤◌, ℤ, arith, List, [], ◌∷◌, ◌++◌, length, map, Some, None, Ok, subst}
+use Rattle.std.proofs.Common.{◌≡◌, ◌≤◌, ℤ, arith, List, [], ◌∷◌, ◌++◌, length, map, Some, None, subst}
 use Rattle.apt_words.specs.Sources.{DeedHasText}
 use Rattle.apt_words.specs.declared.deed.Step.{Step}
 use Rattle.apt_scalar.specs.StepScalars.{HasScalars}
@@ -15,7 +15,7 @@ use Rattle.apt_meaning.specs.Situations.{first_situation, at_height}
 use Rattle.apt_meaning.specs.Effects.{effect_of}
 use Rattle.apt_meaning.specs.Refusals.{refusal_of}
 use Rattle.apt_meaning.specs.Records.{records_of, after}
-use Rattle.apt_meaning.specs.Compiled.{ends_of, with_front, compilation}
+use Rattle.apt_meaning.specs.Compiled.{ends_of, first_refused}
 use Rattle.apt_meaning.specs.Ranges.{AreSettings, IsNoteOrNone, IsSituation, IsEffect}
 use Rattle.apt_meaning.specs.Straight.{IsLined}
 use Rattle.apt_meaning.specs.Vertices.{HasIn}
@@ -24,7 +24,7 @@ use Rattle.apt_meaning.proofs.Asked.{answered}
 use Rattle.apt_meaning.proofs.Kept.{kept, first_situation-IsSituation}
 use Rattle.apt_meaning.proofs.Said.{of_some}
 use Rattle.apt_meaning.proofs.Straight.{made}
-use Rattle.apt_meaning.proofs.Walk.{fit, done, front_ok}
+use Rattle.apt_meaning.proofs.Walk.{fit, passed}
 
 -- ---- what records in range say of their effect
 
@@ -81,8 +81,7 @@ effect_in (effects.Cuts m) (effects.Cuts o) same good lined leads = lined.motion
 -- the compiler's situation at the same step, from which no step is refused
 pub record IsBeside (at : Situation) (steps : List Step) : Type 0 where
   pub c : Situation
-  pub records : List Record
-  pub passes : compilation c steps ≡ Ok records
+  pub passes : first_refused c steps ≡ None
   pub situation : IsSituation c
   pub agrees : Agrees c at
 
@@ -91,10 +90,10 @@ pub record KeepsUp (at : Situation) (steps : List Step) : Type 0 where
   pub situation : IsSituation at
   pub beside : IsBeside at steps
 
-pub keeps_up_first : (steps : List Step) (records : List Record) → compilation first_situation steps ≡ Ok records → KeepsUp first_situation steps
-keeps_up_first steps records passes = record {
+pub keeps_up_first : (steps : List Step) → first_refused first_situation steps ≡ None → KeepsUp first_situation steps
+keeps_up_first steps passes = record {
   situation = first_situation-IsSituation;
-  beside = record { c = first_situation; records = records; passes = passes; situation = first_situation-IsSituation; agrees = agrees_first first_situation };
+  beside = record { c = first_situation; passes = passes; situation = first_situation-IsSituation; agrees = agrees_first first_situation };
 }
 
 -- a step whose effect, with these vertices, is in range, and what holds behind it
@@ -111,11 +110,9 @@ pub steps_on : (at : Situation) (step : Step) (steps : List Step) (written : Lis
 steps_on at step steps written d us rest keeps numbers worded are asked front =
     let beside = keeps.beside in
     let c = beside.c in
-    let does = done step (refusal_of c step.deed) (effect_of c step.deed)
-    (λ e. with_front (records_of step e (ends_of e)) (compilation (after c e (ends_of e)) steps)) beside.records beside.passes in
+    let does = passed step (refusal_of c step.deed) (effect_of c step.deed) (λ e. first_refused (after c e (ends_of e)) steps) beside.passes in
     let e = does.e in
     let fits = fit (effect_of c step.deed) e does.asked (answered c step.deed beside.situation numbers worded does.fine) in
-    let later = front_ok (records_of step e (ends_of e)) (compilation (after c e (ends_of e)) steps) beside.records does.rest in
     let lined = of_some IsLined (effect_of at step.deed) d asked (made at step.deed keeps.situation) in
     let says = says_in step d us rest (subst AreRecords front are) in
     let good = effect_in e d (alike c at step.deed e d beside.agrees does.asked asked) fits.good lined says.leads in
@@ -127,8 +124,7 @@ steps_on at step steps written d us rest keeps numbers worded are asked front =
         situation = kept at d us keeps.situation good says.within;
         beside = record {
           c = after c e (ends_of e);
-          records = later.0;
-          passes = later.1;
+          passes = does.rest;
           situation = kept c e (ends_of e) beside.situation fits.good fits.ends;
           agrees = agrees_behind c at step.deed e d (ends_of e) us beside.agrees does.asked asked;
         };

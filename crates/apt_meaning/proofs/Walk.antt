@@ -10,7 +10,7 @@ use Rattle.apt_meaning.specs.declared.effect.Effect.{Effect}
 use Rattle.apt_meaning.specs.Effects.{effect_of}
 use Rattle.apt_meaning.specs.Refusals.{refusal_of}
 use Rattle.apt_meaning.specs.Records.{MayHave, AreLegal, FollowsLegally, records_of, after}
-use Rattle.apt_meaning.specs.Compiled.{ends_of, with_front, asked, or_refused, compilation}
+use Rattle.apt_meaning.specs.Compiled.{ends_of, with_front, asked, or_first, first_refused, or_refused, compilation}
 use Rattle.apt_meaning.specs.Ranges.{IsSituation, IsEffect}
 use Rattle.apt_words.specs.Sources.{AreExecuted}
 use Rattle.apt_scalar.specs.StepScalars.{AreScalars}
@@ -34,6 +34,22 @@ pub done : (step : Step) (refusal : Option Case) (effect : Option Effect) (more 
 done step (Some case) effect more written h = absurd (no_ok _ written h)
 done step None None more written h = absurd (no_ok _ written h)
 done step None (Some e) more written h = record { e = e; fine = refl; asked = refl; rest = h }
+
+-- a step that is done, where only the first refusal is asked for
+pub record Passed (refusal : Option Case) (effect : Option Effect) (more : Effect → Option Refusal) : Type 0 where
+  pub e : Effect
+  pub fine : refusal ≡ None
+  pub asked : effect ≡ Some e
+  pub rest : more e ≡ None
+
+no_refusal : (refusal : Refusal) → ◌≡◌ {A = Option Refusal} (Some refusal) None → ⊥
+no_refusal refusal e = cc
+
+pub passed : (step : Step) (refusal : Option Case) (effect : Option Effect) (more : Effect → Option Refusal) → or_first step (asked refusal effect) more ≡ None
+    → Passed refusal effect more
+passed step (Some case) effect more h = absurd (no_refusal _ h)
+passed step None None more h = absurd (no_refusal _ h)
+passed step None (Some e) more h = record { e = e; fine = refl; asked = refl; rest = h }
 
 pub front_ok : (front : List Record) (r : Result (List Record) Refusal) (written : List Record) → with_front front r ≡ Ok written
     → (rest : List Record) × (r ≡ Ok rest) × (written ≡ front ++ rest)
@@ -64,6 +80,15 @@ pub record Arrives (at : Situation) (steps : List Step) (written : List Record) 
   pub follows : FollowsLegally at steps written behind
   pub situation : IsSituation behind
   pub records : AreRecords written
+
+-- steps that have records pass
+pub compiled_passes : (at : Situation) (steps : List Step) (written : List Record) → compilation at steps ≡ Ok written → first_refused at steps ≡ None
+compiled_passes at [] written h = refl
+compiled_passes at (step ∷ steps) written h =
+    let d = done step (refusal_of at step.deed) (effect_of at step.deed)
+    (λ e. with_front (records_of step e (ends_of e)) (compilation (after at e (ends_of e)) steps)) written h in
+    let f = front_ok (records_of step d.e (ends_of d.e)) (compilation (after at d.e (ends_of d.e)) steps) written d.rest in
+    rw (d.fine, d.asked) (compiled_passes (after at d.e (ends_of d.e)) steps f.0 f.1)
 
 pub compiled_follows : (at : Situation) (steps : List Step) (written : List Record) → IsSituation at → AreScalars steps → AreExecuted steps → compilation at steps ≡ Ok written
     → Arrives at steps written

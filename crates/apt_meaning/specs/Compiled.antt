@@ -1,4 +1,4 @@
--- The compiler's records: every contour runs to its contact.
+-- The compiler's walk over steps, on which every contour runs to its contact: the first step that is refused, and the records.
 use Rattle.std.specs.Prelude.{List, [], ◌∷◌, ◌++◌, Option, Some, None, Result, Ok, Err}
 use Rattle.apt_plane.specs.declared.figures.Pt.{Pt}
 use Rattle.apt_words.specs.declared.Case.{Case}
@@ -23,19 +23,33 @@ ends_of (effects.Cuts m) = contact m ∷ []
 abbrev pub refused_at : Step → Case → Refusal
 refused_at step case = record { line = step.line; step = step.step; case = case }
 
-abbrev pub with_front : List Record → Result (List Record) Refusal → Result (List Record) Refusal
-with_front front (Ok rest) = Ok (front ++ rest)
-with_front front (Err refusal) = Err refusal
-
 -- what a step asks for, or the first case that refuses it
 abbrev pub asked : Option Case → Option Effect → Result Effect Case
 asked (Some case) e = Err case
 asked None None = Err cases.NotBuilt
 asked None (Some e) = Ok e
 
+-- ---- the steps alone
+
+abbrev pub or_first : Step → Result Effect Case → (Effect → Option Refusal) → Option Refusal
+or_first step (Err case) more = Some (refused_at step case)
+or_first step (Ok e) more = more e
+
+-- the first step that a case refuses
+abbrev pub first_refused : Situation → List Step → Option Refusal
+first_refused at [] = None
+first_refused at (step ∷ steps) =
+    or_first step (asked (refusal_of at step.deed) (effect_of at step.deed)) (λ e. first_refused (after at e (ends_of e)) steps)
+
+-- ---- their records
+
 abbrev pub or_refused : Step → Result Effect Case → (Effect → Result (List Record) Refusal) → Result (List Record) Refusal
 or_refused step (Err case) more = Err (refused_at step case)
 or_refused step (Ok e) more = more e
+
+abbrev pub with_front : List Record → Result (List Record) Refusal → Result (List Record) Refusal
+with_front front (Ok rest) = Ok (front ++ rest)
+with_front front (Err refusal) = Err refusal
 
 -- the records of all steps, or the first step that a case refuses
 abbrev pub compilation : Situation → List Step → Result (List Record) Refusal

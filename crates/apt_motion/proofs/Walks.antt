@@ -18,16 +18,16 @@ use Rattle.apt_meaning.specs.Effects.{effect_of}
 use Rattle.apt_meaning.specs.Refusals.{refusal_of}
 use Rattle.apt_meaning.specs.Situations.{first_situation}
 use Rattle.apt_meaning.specs.Records.{FollowsLegally, records_of, after}
-use Rattle.apt_meaning.specs.Compiled.{ends_of, with_front, asked, or_refused, compilation}
+use Rattle.apt_meaning.specs.Compiled.{ends_of, with_front, asked, or_first, first_refused, or_refused, compilation}
 use Rattle.apt_meaning.specs.Ranges.{IsSituation, IsEffect}
 use Rattle.apt_meaning.specs.Vertices.{HasIn}
 use Rattle.apt_meaning.proofs.Asked.{answered}
 use Rattle.apt_meaning.proofs.Kept.{kept, first_situation-IsSituation}
 use Rattle.apt_meaning.proofs.Walk.{same_some, compiled_follows}
 use Rattle.apt_motion.specs.declared.runs.RunError.{RunError}
-use Rattle.apt_motion.specs.Ends.{Ends}
+use Rattle.apt_motion.specs.Ends.{Ends, IsToDo}
 use Rattle.apt_motion.specs.declared.found.Found.{Found}
-use Rattle.apt_motion.specs.Finding.{IsNoDefinition, DefinesNothing, IsFound, ends_at}
+use Rattle.apt_motion.specs.Finding.{IsNoDefinition, IsFound, ends_at}
 use Rattle.apt_motion.proofs.Plain.{defines_nothing}
 
 regroup : (front more : List Record) (r : Result (List Record) Refusal) → with_front front (with_front more r) ≡ with_front (front ++ more) r
@@ -42,6 +42,12 @@ step_on front at step steps e total does so_far =
     let one : compilation at (step ∷ steps) ≡ with_front (records_of step e (ends_of e)) (compilation (after at e (ends_of e)) steps) =
     ap (λ (a : Result Effect Case). or_refused step a (λ e. with_front (records_of step e (ends_of e)) (compilation (after at e (ends_of e)) steps))) does in
     sym (regroup front (records_of step e (ends_of e)) (compilation (after at e (ends_of e)) steps)) ∙ sym (ap (with_front front) one) ∙ so_far
+
+-- one more step that passes
+pub passes_on : (at : Situation) (step : Step) (steps : List Step) (e : Effect) (total : Option Refusal) → asked (refusal_of at step.deed) (effect_of at step.deed) ≡ Ok e
+    → first_refused at (step ∷ steps) ≡ total → first_refused (after at e (ends_of e)) steps ≡ total
+passes_on at step steps e total does so_far =
+    sym (ap (λ (a : Result Effect Case). or_first step a (λ e. first_refused (after at e (ends_of e)) steps)) does) ∙ so_far
 
 -- ---- what a step asks for is in range, and so is what holds behind it
 
@@ -89,19 +95,16 @@ end_in (effects.Moves reach to) (Some p) is same = absurd (no_ends p same)
 end_in (effects.Cuts m) (Some p) is same = subst IsPoint (same_end (contact m) p same) is.1.0
 
 -- what is found of a step that defines nothing
-pub record IsFitFound (f : Found) : Type 0 where
-  pub good : IsEffect f.effect
-  pub end : IfSome f.end IsPoint
-  pub nothing : DefinesNothing f.effect
-
-pub found_fit : (at : Situation) (deed : Deed) (f : Found) → IsSituation at → HasScalars deed → DeedHasText deed → IsNoDefinition at deed
-    → IsFound (asked (refusal_of at deed) (effect_of at deed)) (Ok f) → IsFitFound f
-found_fit at deed f is scalars worded none found =
-    let fits = fit at deed f.effect is scalars worded found.0 in
+pub to_do : (at : Situation) (step : Step) (f : Found) → IsSituation at → HasScalars step.deed → DeedHasText step.deed → IsNoDefinition at step.deed
+    → IsFound (asked (refusal_of at step.deed) (effect_of at step.deed)) (Ok f) → IsToDo at step f
+to_do at step f is scalars worded none found =
+    let fits = fit at step.deed f.effect is scalars worded found.0 in
     record {
-      good = fits.good;
+      asks = found.0;
+      ends = found.1;
+      effect = fits.good;
       end = end_in f.effect f.end fits.ends found.1;
-      nothing = defines_nothing at deed f.effect none (asked_fine (refusal_of at deed) (effect_of at deed) f.effect found.0).1;
+      nothing = defines_nothing at step.deed f.effect none (asked_fine (refusal_of at step.deed) (effect_of at step.deed) f.effect found.0).1;
     }
 
 -- ---- runs

@@ -1,9 +1,10 @@
--- How steps are taken, and how runs end.
-use Rattle.std.specs.Prelude.{◌≡◌, ◌++◌, List, Result, Ok, Err}
+-- How steps are passed and taken, and how runs end.
+use Rattle.std.specs.Prelude.{◌≡◌, [], ◌++◌, List, Option, Some, None, IfSome, Result, Ok, Err}
 use Rattle.std.proofs.Common.{Vec}
 use Rattle.apt_words.specs.declared.Case.{Case}
 use Rattle.apt_words.specs.declared.Refusal.{Refusal}
 use Rattle.apt_words.specs.declared.deed.Step.{Step}
+use Rattle.apt_plane.specs.Ranges.{IsPoint}
 use Rattle.apt_cldata.specs.declared.record.Record.{Record}
 use Rattle.apt_meaning.specs.declared.situation.Situation.{Situation}
 use Rattle.apt_meaning.specs.declared.effect.Effect.{Effect}
@@ -11,10 +12,18 @@ use Rattle.apt_meaning.specs.Effects.{effect_of}
 use Rattle.apt_meaning.specs.Refusals.{refusal_of}
 use Rattle.apt_meaning.specs.Records.{records_of, after}
 use Rattle.apt_meaning.specs.Compiled.{ends_of, asked, refused_at}
+use Rattle.apt_meaning.specs.Ranges.{IsEffect}
+use Rattle.apt_motion.specs.declared.found.Found.{Found}
+use Rattle.apt_motion.specs.Finding.{DefinesNothing, ends_at}
 use Rattle.apt_motion.specs.declared.runs.RunError.{RunError}
 use Rattle.apt_motion.specs.declared.runs.RunError.TheVariants as errors
 
--- a step that asks for an effect: what holds behind it, and its records behind those before
+-- a step that asks for an effect, and what holds behind it
+pub record IsPassed (at : Situation) (step : Step) (behind : Situation) (e : Effect) : Type 0 where
+  pub asks : asked (refusal_of at step.deed) (effect_of at step.deed) ≡ Ok e
+  pub after : behind ≡ after at e (ends_of e)
+
+-- the same, with its records behind those before
 pub record IsTaken (at : Situation) (step : Step) (before now : List Record) (behind : Situation) (e : Effect) : Type 0 where
   pub asks : asked (refusal_of at step.deed) (effect_of at step.deed) ≡ Ok e
   pub after : behind ≡ after at e (ends_of e)
@@ -23,6 +32,32 @@ pub record IsTaken (at : Situation) (step : Step) (before now : List Record) (be
 pub record IsRefused (at : Situation) (step : Step) (refusal : Refusal) (case : Case) : Type 0 where
   pub asks : asked (refusal_of at step.deed) (effect_of at step.deed) ≡ Err case
   pub told : refusal ≡ refused_at step case
+
+-- a step is passed or refused, or memory was short
+abbrev pub HasPassed : Situation → Step → Result Situation RunError → Type 0
+HasPassed at step (Ok behind) = (e : Effect) × IsPassed at step behind e
+HasPassed at step (Err (errors.Refused refusal)) = (case : Case) × IsRefused at step refusal case
+HasPassed at step (Err errors.NoMemory) = Unit {0}
+
+-- what a step asks for that defines nothing, with the end of its contour
+pub record IsToDo (at : Situation) (step : Step) (f : Found) : Type 0 where
+  pub asks : asked (refusal_of at step.deed) (effect_of at step.deed) ≡ Ok f.effect
+  pub ends : ends_of f.effect ≡ ends_at f.end
+  pub effect : IsEffect f.effect
+  pub end : IfSome f.end IsPoint
+  pub nothing : DefinesNothing f.effect
+
+-- a step is passed, and has no records: it defines a name
+pub record IsGiven (at : Situation) (step : Step) (behind : Situation) (e : Effect) : Type 0 where
+  pub passed : IsPassed at step behind e
+  pub silent : records_of step e (ends_of e) ≡ []
+
+-- a name is given its figure, or nothing is changed yet, or the step is refused, or memory was short
+abbrev pub HasFound : Situation → Step → Situation → Result (Option Found) RunError → Type 0
+HasFound at step now (Ok None) = (e : Effect) × IsGiven at step now e
+HasFound at step now (Ok (Some f)) = (now ≡ at) × IsToDo at step f
+HasFound at step now (Err (errors.Refused refusal)) = (case : Case) × IsRefused at step refusal case
+HasFound at step now (Err errors.NoMemory) = Unit {0}
 
 -- a step is taken or refused, or memory was short
 abbrev pub HasAdvanced : Situation → Step → List Record → List Record → Result Situation RunError → Type 0
@@ -35,3 +70,9 @@ abbrev pub Ends : {A : Type 0} → Result (List Record) Refusal → Result (Vec 
 Ends due (Ok records) = due ≡ Ok records.items
 Ends due (Err (errors.Refused refusal)) = due ≡ Err refusal
 Ends due (Err errors.NoMemory) = Unit {0}
+
+-- a pass over all steps ends, where no step is refused, or at the first that is, or memory was short
+abbrev pub ArePassed : {A : Type 0} → Option Refusal → Result A RunError → Type 0
+ArePassed due (Ok a) = due ≡ None
+ArePassed due (Err (errors.Refused refusal)) = due ≡ Some refusal
+ArePassed due (Err errors.NoMemory) = Unit {0}

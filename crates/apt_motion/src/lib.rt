@@ -1,4 +1,4 @@
-//! The compiling pass: the records of the steps of a part program.
+//! The compiling pass: the records of the steps of a part program, or the first step that is refused.
 #![tactic(auto)]
 
 mod contours;
@@ -9,4 +9,4 @@ mod runs;
 #[cfg(test)]
 mod tests;
 
-pub use runs::{RunError, run};
+pub use runs::{RunError, ends, run};

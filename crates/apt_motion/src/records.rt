@@ -74,6 +74,26 @@ fn write_cut(
     Ok(())
 }
 
+/// Then holds what holds behind what a step asks for that defines nothing.
+pub(crate) fn pass_by(at: &mut Situation, found: Found)
+    requires situation { IsSituation at.old }
+    requires effect { IsEffect found.effect }
+    requires defines_nothing { DefinesNothing found.effect }
+    requires ends { ends_of found.effect ≡ ends_at found.end }
+    requires end { IfSome found.end IsPoint }
+    ensures { at.new ≡ written.after at.old found.effect (ends_of found.effect) }
+{
+    match found.effect {
+        Effect::Defines(..) => unreachable!(),
+        Effect::Sets(settings, _) => at.settings = settings,
+        Effect::Moves(reach, to) => at.go_to(reach, to),
+        Effect::Cuts(motion) => {
+            let Some(end) = found.end else { unreachable!() };
+            at.cut_along(&motion, &[end]);
+        }
+    }
+}
+
 /// The records of what a step asks for that defines nothing; then holds what holds behind it.
 pub(crate) fn take(
     alloc: Global,

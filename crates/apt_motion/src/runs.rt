@@ -1,4 +1,4 @@
-//! The records of a part program.
+//! The records of a part program, and the first step of it that is refused.
 
 ghost use Rattle.std.specs.Prelude.{◌≡◌, IfOk};
 ghost use Rattle.std.specs.Result.{result_map_both};
@@ -6,16 +6,16 @@ ghost use Rattle.apt_words.specs.Built.{AreBuiltSteps, IsBuilt};
 ghost use Rattle.apt_words.specs.Sources.{AreExecuted, DeedHasText};
 ghost use Rattle.apt_scalar.specs.StepScalars.{AreScalars, HasScalars};
 ghost use Rattle.apt_cldata.specs.Ranges.{AreRecords};
-ghost use Rattle.apt_meaning.specs.Compiled.{compilation, refused_at};
+ghost use Rattle.apt_meaning.specs.Compiled.{compilation, first_refused, refused_at};
 ghost use Rattle.apt_meaning.specs.Ranges.{IsSituation};
 ghost use Rattle.apt_meaning.specs.Records.{FollowsLegally};
 ghost use Rattle.apt_meaning.specs.Situations.{first_situation};
 ghost use Rattle.apt_meaning.specs.declared.situation.Situation.{Situation};
-ghost use Rattle.apt_motion.specs.Ends.{Ends, HasAdvanced};
+ghost use Rattle.apt_motion.specs.Ends.{Ends, HasAdvanced, HasFound, HasPassed, ArePassed};
 ghost use Rattle.apt_motion.specs.Finding.{IsNoDefinition};
 
-use crate::found::find;
-use crate::records::take;
+use crate::found::{Found, find};
+use crate::records::{pass_by, take};
 use apt_cldata::Record;
 use apt_defs::{DefError, define};
 use apt_meaning::Situation;
@@ -52,8 +52,54 @@ fn refused(step: &Step, case: Case) -> RunError
     })
 }
 
+/// Gives the name that a step defines its figure, or finds what the step asks for.
+#[tactic(auto, using(crate::proofs::Given::has_given, crate::proofs::Given::is_refused))]
+fn given_or_found(at: &mut Situation, step: &Step) -> Result<Option<Found>, RunError>
+    requires situation { IsSituation at.old }
+    requires scalars { HasScalars step.now.deed }
+    requires built { IsBuilt step.now.deed }
+    requires text { DeedHasText step.now.deed }
+    ensures { HasFound at.old step.now at.new result }
+{
+    match define(step, at.settings.units, &mut at.table) {
+        Ok(true) => Ok(None),
+        Ok(false) => found(at, step),
+        Err(DefError::Case(case)) => Err(refused(step, case)),
+        Err(DefError::NoMemory) => Err(RunError::NoMemory),
+    }
+}
+
+/// What a step asks for that defines nothing.
+#[tactic(auto, using(crate::proofs::Walks::to_do))]
+fn found(at: &Situation, step: &Step) -> Result<Option<Found>, RunError>
+    requires situation { IsSituation at.now }
+    requires scalars { HasScalars step.now.deed }
+    requires built { IsBuilt step.now.deed }
+    requires text { DeedHasText step.now.deed }
+    requires defines_nothing { IsNoDefinition at.now step.now.deed }
+    ensures { HasFound at.now step.now at.now result }
+{
+    match find(at, &step.deed)? {
+        Ok(found) => Ok(Some(found)),
+        Err(case) => Err(refused(step, case)),
+    }
+}
+
+/// Passes a step: then holds what holds behind it, its contour run to its contact.
+fn pass(at: &mut Situation, step: &Step) -> Result<(), RunError>
+    requires situation { IsSituation at.old }
+    requires scalars { HasScalars step.now.deed }
+    requires built { IsBuilt step.now.deed }
+    requires text { DeedHasText step.now.deed }
+    ensures { HasPassed at.old step.now (result_map_both (λ _. at.new) (λ e. e) result) }
+{
+    if let Some(found) = given_or_found(at, step)? {
+        pass_by(at, found);
+    }
+    Ok(())
+}
+
 /// Takes a step: its records go behind those before.
-#[tactic(auto, using(crate::proofs::Given::has_defined, crate::proofs::Given::is_refused))]
 fn advance(
     alloc: Global,
     records: &mut Vec<Record>,
@@ -66,32 +112,10 @@ fn advance(
     requires text { DeedHasText step.now.deed }
     ensures { HasAdvanced at.old step.now records.old.items records.new.items (result_map_both (λ _. at.new) (λ e. e) result) }
 {
-    match define(step, at.settings.units, &mut at.table) {
-        Ok(true) => Ok(()),
-        Ok(false) => act(alloc, records, at, step),
-        Err(DefError::Case(case)) => Err(refused(step, case)),
-        Err(DefError::NoMemory) => Err(RunError::NoMemory),
+    if let Some(found) = given_or_found(at, step)? {
+        take(alloc, records, at, step, found)?;
     }
-}
-
-/// Takes a step that defines nothing: its records go behind those before.
-fn act(
-    alloc: Global,
-    records: &mut Vec<Record>,
-    at: &mut Situation,
-    step: &Step,
-) -> Result<(), RunError>
-    requires situation { IsSituation at.old }
-    requires scalars { HasScalars step.now.deed }
-    requires built { IsBuilt step.now.deed }
-    requires text { DeedHasText step.now.deed }
-    requires defines_nothing { IsNoDefinition at.old step.now.deed }
-    ensures { HasAdvanced at.old step.now records.old.items records.new.items (result_map_both (λ _. at.new) (λ e. e) result) }
-{
-    match find(at, &step.deed)? {
-        Ok(found) => Ok(take(alloc, records, at, step, found)?),
-        Err(case) => Err(refused(step, case)),
-    }
+    Ok(())
 }
 
 fn run_all(alloc: Global, steps: &[Step]) -> Result<Vec<Record>, RunError>
@@ -107,6 +131,34 @@ fn run_all(alloc: Global, steps: &[Step]) -> Result<Vec<Record>, RunError>
     }
     records.shrink_to_fit();
     Ok(records)
+}
+
+fn pass_all(alloc: Global, steps: &[Step]) -> Result<(), RunError>
+    requires scalars { AreScalars steps.now }
+    requires built { AreBuiltSteps steps.now }
+    requires sources { AreExecuted steps.now }
+    ensures { ArePassed (first_refused first_situation steps.now) result }
+{
+    let mut at = Situation::first(alloc);
+    'steps: for st in steps {
+        pass(&mut at, st)?;
+    }
+    Ok(())
+}
+
+/// The first step that a case refuses, None where all of them pass. Each contour is run to its contact, and no record
+/// is made.
+pub fn ends(alloc: Global, steps: &[Step]) -> Result<Option<Refusal>, AllocError>
+    requires scalars { AreScalars steps.now }
+    requires built { AreBuiltSteps steps.now }
+    requires sources { AreExecuted steps.now }
+    ensures { IfOk result (λ refusal. refusal ≡ first_refused first_situation steps.now) }
+{
+    match pass_all(alloc, steps) {
+        Ok(()) => Ok(None),
+        Err(RunError::Refused(refusal)) => Ok(Some(refusal)),
+        Err(RunError::NoMemory) => Err(AllocError),
+    }
 }
 
 /// The records of steps, each contour with the point at which it stops. `Refused` has the first step that a case

@@ -1,13 +1,13 @@
 -- What a text comes to keeps the promise.
 use Rattle.std.proofs.Common.{◌≡◌, ◌∙◌, ℕ, false, arith, List, Option, Some, None, Result, Ok, Err, refl, sym, ap, subst}
 use Rattle.std.specs.Prelude.{IfOk}
+use Rattle.std.specs.Option.{option_or}
 use Rattle.std.proofs.lemmas.Int.{ints}
 use Rattle.apt_words.specs.declared.Refusal.{Refusal}
 use Rattle.apt_words.specs.declared.body.Stmt.{Stmt}
 use Rattle.apt_words.specs.declared.deed.Step.{Step}
-use Rattle.apt_words.specs.Built.{AreBuilt, AreBuiltSteps}
-use Rattle.apt_words.specs.Sources.{AreStmts, AreExecuted}
-use Rattle.apt_scalar.specs.StepScalars.{AreScalars}
+use Rattle.apt_words.specs.Built.{AreBuilt}
+use Rattle.apt_words.specs.Sources.{AreStmts}
 use Rattle.apt_parse.proofs.AllBuilt.{program_of-built}
 use Rattle.apt_parse.proofs.AllSources.{program_of-stmts}
 use Rattle.apt_words.specs.Flow.{AreNested}
@@ -21,9 +21,9 @@ use Rattle.apt_unroll.proofs.Steps.{are_scalars, are_built, are_executed, end_on
 use Rattle.apt_cldata.specs.declared.record.Record.{Record}
 use Rattle.apt_meaning.specs.Situations.{first_situation}
 use Rattle.apt_meaning.specs.Records.{AreLegal}
-use Rattle.apt_meaning.specs.Compiled.{compilation}
+use Rattle.apt_meaning.specs.Compiled.{first_refused, compilation}
 use Rattle.apt_meaning.proofs.Kept.{first_situation-IsSituation}
-use Rattle.apt_meaning.proofs.Walk.{compiled_follows}
+use Rattle.apt_meaning.proofs.Walk.{compiled_follows, compiled_passes}
 use Rattle.apt_meaning.proofs.Ends.{ends_once}
 use Rattle.apt_meaning.proofs.Stands.{stands}
 use Rattle.apt_machine.specs.declared.machine.Machine.{Machine}
@@ -32,7 +32,7 @@ use Rattle.apt_post.specs.Limits.{limits}
 use Rattle.apt_post.specs.Plan.{nothing_pending}
 use Rattle.apt_post.proofs.Reaching.{plan_reaches}
 use Rattle.apt_post.proofs.Programs.{planned_program}
-use Rattle.apt_part.specs.Compilation.{Compiled, earlier, unless_fault, records_by, with_steps, or_fault, part_of}
+use Rattle.apt_part.specs.Compilation.{earliest_of, refusal_by, unless_refused, steps_or_fault, steps_of, Compiled, earlier, unless_fault, records_by, with_steps, or_fault, part_of}
 use Rattle.apt_part.specs.Promise.{Passes, Promise, AreSteps}
 use Rattle.apt_part.proofs.Filed.{compiled_file}
 use Rattle.apt_part.proofs.Written.{compiled_written}
@@ -41,7 +41,72 @@ use Rattle.apt_part.proofs.Written.{compiled_written}
 of_text : (P : List Stmt → Type 0) (text : List ℕ) (statements : List Stmt) → program_of text ≡ Ok statements → IfOk (program_of text) P → P statements
 of_text P text statements read all = subst (λ (q : Result (List Stmt) Fault). IfOk q P) read all
 
--- ---- what passes was not refused
+-- ---- steps that pass
+
+-- no step of a trace was refused
+pub record WerePassed (machine : Machine) (u : Trace) : Type 0 where
+  pub fault : u.fault ≡ None
+  pub within : limits machine u.steps ≡ None
+  pub fine : first_refused first_situation u.steps ≡ None
+
+were_passed : (machine : Machine) (u : Trace) (fault past own : Option Refusal) → u.fault ≡ fault → limits machine u.steps ≡ past → first_refused first_situation u.steps ≡ own
+    → option_or (earliest_of past own) fault ≡ None → WerePassed machine u
+were_passed machine u None None None f p o h = record { fault = f; within = p; fine = o }
+were_passed machine u (Some fault) None None f p o h = absurd cc
+were_passed machine u fault (Some past) None f p o h = absurd cc
+were_passed machine u fault past (Some own) f p o h = absurd cc
+
+trace_is : (u : Trace) (steps : List Step) → steps ≡ u.steps → u.fault ≡ None → u ≡ record { steps = steps; fault = None }
+trace_is u steps same none =
+    let by_fault : u ≡ record { steps = u.steps; fault = None } = ap (λ (o : Option Refusal). record { steps = u.steps; fault = o }) none in
+    by_fault ∙ ap (λ (ss : List Step). record { steps = ss; fault = None }) (sym same)
+
+-- the trace of a text of which no step was refused
+passing : (machine : Machine) (text : List ℕ) (statements : List Stmt) (steps : List Step) → program_of text ≡ Ok statements → steps ≡ (trace_of statements).steps
+    → WerePassed machine (trace_of statements) → Passes machine text steps
+passing machine text statements steps read same w =
+    let u = trace_of statements in record {
+      statements = statements;
+      read = read;
+      unrolled = subst (IsTrace statements) (trace_is u steps same w.fault) (has_trace statements u (of_text (AreNested false) text statements read (program_of-nested text)) refl);
+      within = subst (λ (ss : List Step). limits machine ss ≡ None) (sym same) w.within;
+      fine = subst (λ (ss : List Step). first_refused first_situation ss ≡ None) (sym same) w.fine;
+    }
+
+kept_steps : (steps now : List Step) (r : Option Refusal) → unless_refused steps r ≡ Ok now → (now ≡ steps) × (r ≡ None)
+kept_steps steps now None h = (cc, refl)
+kept_steps steps now (Some refusal) h = absurd cc
+
+steps_read : (machine : Machine) (text : List ℕ) (r : Result (List Stmt) Fault) (steps : List Step) → program_of text ≡ r → steps_or_fault machine r ≡ Ok (Ok steps) → Passes machine text steps
+steps_read machine text (Ok statements) steps read h =
+    let u = trace_of statements in
+    let kept = kept_steps u.steps steps (refusal_by machine u) cc in
+    passing machine text statements steps read kept.0 (were_passed machine u u.fault (limits machine u.steps) (first_refused first_situation u.steps) refl refl refl kept.1)
+steps_read machine text (Err fault) steps read h = absurd cc
+
+pub steps_pass : (machine : Machine) (text : List ℕ) (steps : List Step) → steps_of machine text ≡ Ok (Ok steps) → Passes machine text steps
+steps_pass machine text steps h = steps_read machine text (program_of text) steps refl h
+
+-- and a text whose steps pass comes to them
+pub passes_comes : (machine : Machine) (text : List ℕ) (steps : List Step) → Passes machine text steps → steps_of machine text ≡ Ok (Ok steps)
+passes_comes machine text steps q =
+    let trace = trace_found q.statements (record { steps = steps; fault = None }) q.unrolled in
+    rw (q.read, sym trace, q.within, q.fine) refl
+
+are_steps : (machine : Machine) (text : List ℕ) (steps : List Step) → Passes machine text steps → AreSteps steps
+are_steps machine text steps q =
+    let built = of_text (λ sts. AreBuilt sts) text q.statements q.read (program_of-built text) in
+    let stmts = of_text AreStmts text q.statements q.read (program_of-stmts text) in
+    let trace : Trace = record { steps = steps; fault = None } in record {
+      scalars = are_scalars q.statements trace built stmts q.unrolled;
+      built = are_built q.statements trace built stmts q.unrolled;
+      sources = are_executed q.statements trace built stmts q.unrolled;
+    }
+
+pub passing_steps : (machine : Machine) (text : List ℕ) (steps : List Step) → steps_of machine text ≡ Ok (Ok steps) → AreSteps steps
+passing_steps machine text steps h = are_steps machine text steps (steps_pass machine text steps h)
+
+-- ---- a part was not refused
 
 pub record WereRead (machine : Machine) (text : List ℕ) (p : Compiled) : Type 0 where
   pub statements : List Stmt
@@ -71,55 +136,39 @@ were_written machine u (Some fault) None (Ok records) written f p o h = absurd c
 were_written machine u fault (Some past) (Ok records) written f p o h = absurd cc
 were_written machine u fault past (Err own) written f p o h = absurd cc
 
-trace_is : (u : Trace) (steps : List Step) → steps ≡ u.steps → u.fault ≡ None → u ≡ record { steps = steps; fault = None }
-trace_is u steps same none =
-    let by_fault : u ≡ record { steps = u.steps; fault = None } = ap (λ (o : Option Refusal). record { steps = u.steps; fault = o }) none in
-    by_fault ∙ ap (λ (ss : List Step). record { steps = ss; fault = None }) (sym same)
+-- a text that comes to a part passes, and these are its records
+record IsDone (machine : Machine) (text : List ℕ) (p : Compiled) : Type 0 where
+  passes : Passes machine text p.steps
+  compiled : compilation first_situation p.steps ≡ Ok p.records
 
--- a text whose steps were not refused
-passes : (machine : Machine) (text : List ℕ) (p : Compiled) → part_of machine text ≡ Ok (Ok p) → Passes machine text p
-passes machine text p h =
+is_done : (machine : Machine) (text : List ℕ) (p : Compiled) → part_of machine text ≡ Ok (Ok p) → IsDone machine text p
+is_done machine text p h =
     let r = were_read machine text (program_of text) p refl h in
     let u = trace_of r.statements in
     let w = were_written machine u u.fault (limits machine u.steps) (compilation first_situation u.steps) p.records refl refl refl r.recorded in record {
-      statements = r.statements;
-      read = r.read;
-      unrolled = subst (IsTrace r.statements) (trace_is u p.steps r.steps w.fault) (has_trace r.statements u (of_text (AreNested false) text r.statements r.read (program_of-nested text)) refl);
-      within = subst (λ (ss : List Step). limits machine ss ≡ None) (sym r.steps) w.within;
+      passes = passing machine text r.statements p.steps r.read r.steps
+        (record { fault = w.fault; within = w.within; fine = compiled_passes first_situation u.steps p.records w.compiled });
       compiled = subst (λ (ss : List Step). compilation first_situation ss ≡ Ok p.records) (sym r.steps) w.compiled;
     }
 
 -- ---- the promise
 
-pub are_steps : (machine : Machine) (text : List ℕ) (p : Compiled) → part_of machine text ≡ Ok (Ok p) → AreSteps p.steps
-are_steps machine text p h =
-    let q = passes machine text p h in
-    let built = of_text (λ sts. AreBuilt sts) text q.statements q.read (program_of-built text) in
-    let stmts = of_text AreStmts text q.statements q.read (program_of-stmts text) in
-    let trace : Trace = record { steps = p.steps; fault = None } in record {
-      scalars = are_scalars q.statements trace built stmts q.unrolled;
-      built = are_built q.statements trace built stmts q.unrolled;
-      sources = are_executed q.statements trace built stmts q.unrolled;
-    }
+pub part_steps : (machine : Machine) (text : List ℕ) (p : Compiled) → part_of machine text ≡ Ok (Ok p) → AreSteps p.steps
+part_steps machine text p h = are_steps machine text p.steps (is_done machine text p h).passes
 
 pub promised : (machine : Machine) (text : List ℕ) (p : Compiled) → IsMachine machine → part_of machine text ≡ Ok (Ok p) → Promise machine text p
 promised machine text p is h =
-    let q = passes machine text p h in
-    let are = are_steps machine text p h in
+    let q = is_done machine text p h in
+    let are = are_steps machine text p.steps q.passes in
     let follow = compiled_follows first_situation p.steps p.records first_situation-IsSituation are.scalars are.sources q.compiled in
-    let ends : StepsEnd false p.steps = end_once q.statements (record { steps = p.steps; fault = None }) q.unrolled refl in
-    let can = compiled_written machine nothing_pending first_situation p.steps p.records is (record { feed = refl; rapid = refl }) (record { most = omega (arith, ints) }) first_situation-IsSituation are.scalars are.sources q.within q.compiled in record {
-      passes = q;
+    let ends : StepsEnd false p.steps = end_once q.passes.statements (record { steps = p.steps; fault = None }) q.passes.unrolled refl in
+    let can = compiled_written machine nothing_pending first_situation p.steps p.records is (record { feed = refl; rapid = refl }) (record { most = omega (arith, ints) }) first_situation-IsSituation are.scalars are.sources q.passes.within q.compiled in record {
+      passes = q.passes;
+      compiled = q.compiled;
       behind = follow.behind;
       follow = follow.follows;
       stands = stands AreLegal first_situation p.steps p.records follow.behind follow.follows;
-      file = compiled_file q.statements p.steps p.records q.unrolled are.scalars are.sources ends q.compiled;
+      file = compiled_file q.passes.statements p.steps p.records q.passes.unrolled are.scalars are.sources ends q.compiled;
       reached = plan_reaches p.records;
       program = planned_program p.records (ends_once AreLegal false first_situation p.steps p.records follow.behind follow.follows ends) can;
     }
-
--- and a text that passes comes to its part
-pub passes_comes : (machine : Machine) (text : List ℕ) (p : Compiled) → Passes machine text p → part_of machine text ≡ Ok (Ok p)
-passes_comes machine text p q =
-    let trace = trace_found q.statements (record { steps = p.steps; fault = None }) q.unrolled in
-    rw (q.read, sym trace, q.within, q.compiled) refl

@@ -1,5 +1,6 @@
--- What the text of a part comes to on a machine: its steps and their records.
+-- What the text of a part comes to on a machine: its steps, and their records.
 use Rattle.std.specs.Prelude.{ℕ, nat_lt, List, Option, Some, None, Result, Ok, Err, if◌then◌else◌}
+use Rattle.std.specs.Option.{option_or}
 use Rattle.apt_words.specs.declared.Refusal.{Refusal}
 use Rattle.apt_words.specs.declared.body.Stmt.{Stmt}
 use Rattle.apt_words.specs.declared.deed.Step.{Step}
@@ -7,16 +8,43 @@ use Rattle.apt_parse.specs.Programs.{Fault, program_of}
 use Rattle.apt_unroll.specs.Trace.{Trace, trace_of}
 use Rattle.apt_cldata.specs.declared.record.Record.{Record}
 use Rattle.apt_meaning.specs.Situations.{first_situation}
-use Rattle.apt_meaning.specs.Compiled.{compilation}
+use Rattle.apt_meaning.specs.Compiled.{first_refused, compilation}
 use Rattle.apt_machine.specs.declared.machine.Machine.{Machine}
 use Rattle.apt_post.specs.Limits.{limits}
 
--- ---- records
+-- ---- steps
 
 -- the earlier of two refused steps, the second where both are one step
 abbrev pub earliest : Option Refusal → Refusal → Refusal
 earliest None own = own
 earliest (Some past) own = if nat_lt past.step own.step then past else own
+
+-- the same, where the second may be none
+abbrev pub earliest_of : Option Refusal → Option Refusal → Option Refusal
+earliest_of past None = past
+earliest_of past (Some own) = Some (earliest past own)
+
+-- the first step of a trace that the machine or its own cases refuse, of one step its own case first; else the one at which unrolling stops
+abbrev pub refusal_by : Machine → Trace → Option Refusal
+refusal_by m trace = option_or (earliest_of (limits m trace.steps) (first_refused first_situation trace.steps)) trace.fault
+
+abbrev pub unless_refused : List Step → Option Refusal → Result (List Step) Refusal
+unless_refused steps None = Ok steps
+unless_refused steps (Some refusal) = Err refusal
+
+-- the steps of statements, or the first that is refused
+abbrev pub steps_by : Machine → List Stmt → Result (List Step) Refusal
+steps_by m statements = unless_refused (trace_of statements).steps (refusal_by m (trace_of statements))
+
+abbrev pub steps_or_fault : Machine → Result (List Stmt) Fault → Result (Result (List Step) Refusal) Fault
+steps_or_fault m (Ok statements) = Ok (steps_by m statements)
+steps_or_fault m (Err fault) = Err fault
+
+-- the first fault of a text, else the first refused step of its statements, else its steps
+abbrev pub steps_of : Machine → List ℕ → Result (Result (List Step) Refusal) Fault
+steps_of m text = steps_or_fault m (program_of text)
+
+-- ---- records
 
 -- the records of steps, where neither the machine nor their own cases refuse one; of one step its own case comes first
 abbrev pub earlier : Option Refusal → Result (List Record) Refusal → Result (List Record) Refusal

@@ -10,7 +10,7 @@ use Rattle.apt_unroll.specs.Trace.{IsTrace}
 use Rattle.apt_cldata.specs.Files.{IsFile}
 use Rattle.apt_meaning.specs.declared.situation.Situation.{Situation}
 use Rattle.apt_meaning.specs.Situations.{first_situation}
-use Rattle.apt_meaning.specs.Compiled.{compilation}
+use Rattle.apt_meaning.specs.Compiled.{first_refused, compilation}
 use Rattle.apt_meaning.specs.Records.{FollowsLegally, stand_of}
 use Rattle.apt_machine.specs.declared.machine.Machine.{Machine}
 use Rattle.apt_post.specs.Limits.{limits}
@@ -19,17 +19,18 @@ use Rattle.apt_post.specs.Blocks.{IsProgram}
 use Rattle.apt_part.specs.Compilation.{Compiled}
 
 -- these are the steps of the one trace of a text, all of them, and no case and no limit of the machine refuses one
-pub record Passes (machine : Machine) (text : List ℕ) (p : Compiled) : Type 0 where
+pub record Passes (machine : Machine) (text : List ℕ) (steps : List Step) : Type 0 where
   pub statements : List Stmt
   pub read : program_of text ≡ Ok statements
-  pub unrolled : IsTrace statements (record { steps = p.steps; fault = None })
-  pub within : limits machine p.steps ≡ None
-  pub compiled : compilation first_situation p.steps ≡ Ok p.records
+  pub unrolled : IsTrace statements (record { steps = steps; fault = None })
+  pub within : limits machine steps ≡ None
+  pub fine : first_refused first_situation steps ≡ None
 
 -- the records follow the steps, every contour legal; they leave the tool where the steps have it, and are those of a CL file; the acts that
 -- they ask for lead where they lead, and are a program of a control
 pub record Promise (machine : Machine) (text : List ℕ) (p : Compiled) : Type 0 where
-  pub passes : Passes machine text p
+  pub passes : Passes machine text p.steps
+  pub compiled : compilation first_situation p.steps ≡ Ok p.records
   pub behind : Situation
   pub follow : FollowsLegally first_situation p.steps p.records behind
   pub stands : stand_of None p.records ≡ behind.position

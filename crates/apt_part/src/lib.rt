@@ -1,8 +1,8 @@
-//! What the text of a part comes to: its steps and their records, or why it has none.
+//! What the text of a part comes to: its steps, and their records, or why it has none.
 #![tactic(auto)]
 
 mod part;
 #[cfg(test)]
 mod tests;
 
-pub use part::{Part, PartError, part_of};
+pub use part::{Part, PartError, part_of, steps_of};

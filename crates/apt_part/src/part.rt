@@ -1,28 +1,30 @@
 //! Parts.
 
 ghost use Rattle.std.specs.Prelude.{◌≡◌, false, IfOk};
+ghost use Rattle.std.specs.Result.{result_map_both};
 ghost use Rattle.apt_words.specs.Built.{AreBuilt, AreBuiltSteps};
 ghost use Rattle.apt_words.specs.Flow.{AreNested};
 ghost use Rattle.apt_words.specs.Sources.{AreStmts, AreExecuted};
 ghost use Rattle.apt_scalar.specs.StepScalars.{AreScalars};
 ghost use Rattle.apt_meaning.specs.Situations.{first_situation};
-ghost use Rattle.apt_meaning.specs.Compiled.{compilation};
+ghost use Rattle.apt_meaning.specs.Compiled.{compilation, first_refused};
 ghost use Rattle.apt_motion.specs.Ends.{Ends};
 ghost use Rattle.apt_machine.specs.Machines.{IsMachine};
+ghost use Rattle.apt_parse.specs.Programs.{program_of};
 ghost use Rattle.apt_post.specs.Limits as limiting;
 ghost use Rattle.apt_part.specs.Compilation as parts;
-ghost use Rattle.apt_part.specs.Answering.{IsPart, IsPartBy};
-ghost use Rattle.apt_part.specs.Promise.{Promise, AreSteps};
+ghost use Rattle.apt_part.specs.Answering.{IsPart, IsPartBy, IsProgramOf};
+ghost use Rattle.apt_part.specs.Promise.{Passes, Promise, AreSteps};
 
 use apt_cldata::Record;
 use apt_lexis::{ParseError, PartCause};
 use apt_machine::Machine;
-use apt_motion::{RunError, run};
+use apt_motion::{RunError, ends, run};
 use apt_parse::parse;
 use apt_post::limits;
 use apt_unroll::unroll;
 use apt_words::{Program, Refusal, Step};
-use std::alloc::Global;
+use std::alloc::{AllocError, Global};
 use std::marker::Model;
 
 /// The steps of a part program, and the records that they ask for. Clauses see the two lists.
@@ -48,12 +50,87 @@ pub enum PartError {
     NoMemory,
 }
 
+/// The steps of a text on a machine, where none of them is refused; no record is made. The text goes as soon as it has
+/// been read.
+///
+/// # Errors
+///
+/// `Bad` is the first fault of the text, and else `Refused` the first step that is refused.
+#[tactic(auto, using(crate::proofs::Promised::steps_pass, crate::proofs::Promised::passing_steps))]
+pub fn steps_of(alloc: Global, text: Vec<u8>, machine: &Machine) -> Result<Vec<Step>, PartError>
+    ensures value { IsPart (parts.steps_of machine.now text.items) (result_map_both (λ steps. steps.items) (λ e. e) result) }
+    ensures passes { IfOk result (λ steps. Passes machine.now text.items steps.items) }
+    ensures steps { IfOk result (λ steps. AreSteps steps.items) }
+{
+    whole_steps(alloc, text, machine)
+}
+
+fn whole_steps(alloc: Global, text: Vec<u8>, machine: &Machine) -> Result<Vec<Step>, PartError>
+    ensures { IsPart (parts.steps_of machine.now text.items) (result_map_both (λ steps. steps.items) (λ e. e) result) }
+{
+    let program = program_in(alloc, text)?;
+    match steps_by(alloc, program, machine) {
+        Ok(steps) => Ok(steps),
+        Err(RunError::Refused(refusal)) => Err(PartError::Refused(refusal)),
+        Err(RunError::NoMemory) => Err(PartError::NoMemory),
+    }
+}
+
+/// The program of a text, or its first fault.
+fn program_in(alloc: Global, text: Vec<u8>) -> Result<Program, PartError>
+    ensures program { IsProgramOf (program_of text.items) result }
+    ensures built { IfOk result (λ p. AreBuilt p) }
+    ensures sources { IfOk result (λ p. AreStmts p) }
+    ensures nested { IfOk result (λ p. AreNested false p) }
+{
+    match parse(alloc, &text) {
+        Ok(program) => Ok(program),
+        Err(ParseError::Bad { line, cause }) => Err(PartError::Bad { line, cause }),
+        Err(ParseError::NoMemory) => Err(PartError::NoMemory),
+    }
+}
+
+/// The steps of statements, or the first that is refused.
+fn steps_by(alloc: Global, program: Program, machine: &Machine) -> Result<Vec<Step>, RunError>
+    requires built { AreBuilt program }
+    requires sources { AreStmts program }
+    requires nested { AreNested false program }
+    ensures { IsPartBy (parts.steps_by machine.now program) (result_map_both (λ steps. steps.items) (λ e. e) result) }
+{
+    let Ok(unrolled) = unroll(alloc, &program) else {
+        return Err(RunError::NoMemory);
+    };
+    let refused = refused_in(alloc, &unrolled.steps, machine)?;
+    match refused.or(unrolled.fault) {
+        None => Ok(unrolled.steps),
+        Some(refusal) => Err(RunError::Refused(refusal)),
+    }
+}
+
+/// The first of steps that its own cases or the machine refuse.
+fn refused_in(
+    alloc: Global,
+    steps: &[Step],
+    machine: &Machine,
+) -> Result<Option<Refusal>, AllocError>
+    requires scalars { AreScalars steps.now }
+    requires built { AreBuiltSteps steps.now }
+    requires sources { AreExecuted steps.now }
+    ensures { IfOk result (λ r. r ≡ parts.earliest_of (limiting.limits machine.now steps.now) (first_refused first_situation steps.now)) }
+{
+    let past = limits(steps, machine);
+    match ends(alloc, steps)? {
+        None => Ok(past),
+        Some(own) => Ok(Some(earliest(past, own))),
+    }
+}
+
 /// The part of a text on a machine: its steps, and their records. The text goes as soon as it has been read.
 ///
 /// # Errors
 ///
 /// `Bad` is the first fault of the text, and else `Refused` the first step that is refused.
-#[tactic(auto, using(crate::proofs::Promised::promised, crate::proofs::Promised::are_steps))]
+#[tactic(auto, using(crate::proofs::Promised::promised, crate::proofs::Promised::part_steps))]
 pub fn part_of(alloc: Global, text: Vec<u8>, machine: &Machine) -> Result<Part, PartError>
     requires { IsMachine machine.now }
     ensures value { IsPart (parts.part_of machine.now text.items) result }
@@ -66,12 +143,7 @@ pub fn part_of(alloc: Global, text: Vec<u8>, machine: &Machine) -> Result<Part, 
 fn whole_part(alloc: Global, text: Vec<u8>, machine: &Machine) -> Result<Part, PartError>
     ensures { IsPart (parts.part_of machine.now text.items) result }
 {
-    let program = match parse(alloc, &text) {
-        Ok(program) => program,
-        Err(ParseError::Bad { line, cause }) => return Err(PartError::Bad { line, cause }),
-        Err(ParseError::NoMemory) => return Err(PartError::NoMemory),
-    };
-    drop(text);
+    let program = program_in(alloc, text)?;
     match part_by(alloc, program, machine) {
         Ok(part) => Ok(part),
         Err(RunError::Refused(refusal)) => Err(PartError::Refused(refusal)),

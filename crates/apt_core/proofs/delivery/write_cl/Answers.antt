@@ -1,4 +1,4 @@
-use Rattle.std.proofs.Common.{rules, ◌≡◌, ◌++◌, ◌∙◌}
+use Rattle.std.proofs.Common.{rules, ◌++◌, ◌∙◌}
 use Rattle.apt_shelf.proofs.ToldLaws.{adds_written, keeps_prefix, on_err}
 use Rattle.apt_core.proofs.Deliveries.{front_written, held_more, held_less, all_written}
 use Rattle.apt_core.proofs.delivery.write_cl.Goals as goal
