@@ -166,8 +166,3 @@ fn long_texts_are_refused(rt: HostRuntime) -> Result<(), Fail> {
     }
     Ok(())
 }
-
-#[test]
-fn causes_have_names(rt: HostRuntime) {
-    assert_eq!(rt; PartCause::NoFini.name(), "NoFini");
-}

@@ -310,17 +310,3 @@ fn deviations_are_rounded_up(rt: HostRuntime) -> Result<(), Fail> {
     }
     Ok(())
 }
-
-#[test]
-fn names(rt: HostRuntime) {
-    let table: [(Reason, &str); 5] = [
-        (Reason::Order, "Order"),
-        (Reason::Band, "Band"),
-        (Reason::Overrun, "Overrun"),
-        (Reason::Stop, "Stop"),
-        (Reason::Axis, "Axis"),
-    ];
-    for (reason, name) in table {
-        assert_eq!(rt; reason.name(), name);
-    }
-}

@@ -247,8 +247,3 @@ fn first_faults_of_records(rt: HostRuntime) -> Result<(), Fail> {
     }
     Ok(())
 }
-
-#[test]
-fn causes_have_names(rt: HostRuntime) {
-    assert_eq!(rt; ClCause::AfterFini.name(), "AfterFini");
-}

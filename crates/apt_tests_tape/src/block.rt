@@ -145,8 +145,3 @@ fn refuses_blocks(rt: HostRuntime) {
         assert!(rt; refusal(text) == Some(BlockError { at, cause }));
     }
 }
-
-#[test]
-fn causes_have_names(rt: HostRuntime) {
-    assert_eq!(rt; TapeCause::NoStart.name(), "NoStart");
-}
