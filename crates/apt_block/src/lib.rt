@@ -5,8 +5,6 @@ mod block;
 mod machine;
 mod read;
 mod table;
-#[cfg(test)]
-mod tests;
 mod write;
 
 pub use block::{Block, Fault, Mark, TapeCause, TapeWord};

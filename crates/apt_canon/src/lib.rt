@@ -28,6 +28,3 @@ pub enum FormFault {
     /// The circle is too large.
     TooLarge,
 }
-
-#[cfg(test)]
-mod tests;

@@ -11,6 +11,3 @@ mod verdict;
 pub use judge::{check_jobs, merged};
 pub use leg::{Job, Leg, Points};
 pub use verdict::{Bad, Reason, Verdict};
-
-#[cfg(test)]
-mod tests;

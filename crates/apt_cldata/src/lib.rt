@@ -7,8 +7,6 @@ mod error;
 mod fields;
 mod reading;
 mod record;
-#[cfg(test)]
-mod tests;
 mod words;
 mod writing;
 

@@ -3,8 +3,6 @@
 
 mod contacts;
 mod meetings;
-#[cfg(test)]
-mod tests;
 
 pub use contacts::contact;
 pub use meetings::meet;

@@ -6,8 +6,6 @@ ghost use Rattle.apt_control.specs.Control.{control_run};
 
 mod error;
 mod held;
-#[cfg(test)]
-mod tests;
 mod walk;
 
 use apt_tapecode::Code;

@@ -13,6 +13,3 @@ pub use definitions::{DefError, define, definition};
 pub use figure::{Definition, Figure};
 pub use numbers::is_in_reach;
 pub use table::{Table, point, surface};
-
-#[cfg(test)]
-mod tests;

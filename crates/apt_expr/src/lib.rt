@@ -4,7 +4,5 @@
 mod forest;
 mod parts;
 mod reading;
-#[cfg(test)]
-mod tests;
 
 pub use reading::expression;

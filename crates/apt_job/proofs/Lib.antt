@@ -4,4 +4,3 @@ pub mod Ranges
 pub mod Named
 pub mod Steps
 mod Worked
-pub mod Edge

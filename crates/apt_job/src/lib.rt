@@ -6,8 +6,6 @@ mod error;
 mod fronts;
 mod legs;
 mod matches;
-#[cfg(test)]
-mod tests;
 mod walk;
 
 pub use error::JobError;

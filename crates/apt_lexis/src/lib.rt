@@ -8,8 +8,6 @@ mod line;
 mod lines;
 mod number;
 mod phrase;
-#[cfg(test)]
-mod tests;
 mod title;
 mod token;
 

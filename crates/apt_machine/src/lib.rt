@@ -8,8 +8,6 @@ mod line;
 mod machine;
 mod number;
 mod reader;
-#[cfg(test)]
-mod tests;
 
 pub use cause::{MachineCause, MachineError};
 pub use machine::Machine;

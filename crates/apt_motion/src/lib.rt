@@ -6,7 +6,5 @@ mod found;
 mod records;
 mod refusals;
 mod runs;
-#[cfg(test)]
-mod tests;
 
 pub use runs::{RunError, ends, run};

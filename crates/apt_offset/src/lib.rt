@@ -5,8 +5,6 @@ mod edges;
 mod sides;
 pub mod signs;
 mod targets;
-#[cfg(test)]
-mod tests;
 mod turns;
 
 use apt_plane::{Dir, Pt};

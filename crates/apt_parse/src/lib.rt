@@ -5,8 +5,6 @@ mod built;
 mod names;
 mod program;
 mod read;
-#[cfg(test)]
-mod tests;
 
 pub use apt_lexis::{ParseError, PartCause};
 pub use program::parse;

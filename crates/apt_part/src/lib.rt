@@ -2,7 +2,5 @@
 #![tactic(auto)]
 
 mod part;
-#[cfg(test)]
-mod tests;
 
 pub use part::{Part, PartError, part_of, steps_of};

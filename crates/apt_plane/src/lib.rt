@@ -11,6 +11,3 @@ pub use figures::{Axis, Band, Circ, Dir, Line, Moved, Pt, Spot, Surface};
 pub use order::before;
 pub use rings::segment_in_ring;
 pub use segments::{segment_in_line_band, segment_over, segment_under};
-
-#[cfg(test)]
-mod tests;

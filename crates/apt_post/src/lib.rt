@@ -12,8 +12,6 @@ mod limiting;
 mod lines;
 mod planning;
 mod tables;
-#[cfg(test)]
-mod tests;
 
 use apt_control::Act;
 use apt_machine::Machine;

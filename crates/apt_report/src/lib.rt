@@ -4,8 +4,6 @@
 mod acts;
 mod line;
 mod status;
-#[cfg(test)]
-mod tests;
 
 pub use acts::act_lines;
 pub use apt_block::TapeCause;

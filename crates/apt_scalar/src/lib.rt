@@ -4,8 +4,6 @@
 mod names;
 mod scalars;
 mod stack;
-#[cfg(test)]
-mod tests;
 mod values;
 
 pub use names::{Bound, Env, Frame, Kind, Value, bind, bound_in};

@@ -7,7 +7,5 @@ mod flow;
 mod motions;
 mod settings;
 mod table;
-#[cfg(test)]
-mod tests;
 
 pub use table::{Labelled, shape};

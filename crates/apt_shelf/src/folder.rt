@@ -22,7 +22,7 @@ pub struct FolderShelf<'a, R: Files> {
     alloc: Global,
     folder: String,
     read_faults: u64,
-    pub(crate) write_faults: u64,
+    write_faults: u64,
     opened: Vec<FileId>,
     input: Option<R::File>,
     output: Option<R::File>,
@@ -65,6 +65,20 @@ impl<'a, R: Files> FolderShelf<'a, R> {
             output: None,
             writing: None,
         })
+    }
+
+    /// How often reading has failed.
+    pub fn read_faults(&self) -> u64
+        ensures { result ≡ ⟦<FolderShelf<'a, R> as Shelf>⟧.read_faults self.now }
+    {
+        self.read_faults
+    }
+
+    /// How often writing has failed.
+    pub fn write_faults(&self) -> u64
+        ensures { result ≡ ⟦<FolderShelf<'a, R> as Shelf>⟧.write_faults self.now }
+    {
+        self.write_faults
     }
 }
 

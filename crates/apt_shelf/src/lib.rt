@@ -18,6 +18,3 @@ pub use shelf::{ReadStart, Shelf, ShelfFault, Sink};
 pub use sink::{MemSink, StdSink};
 pub use sure::SureShelf;
 pub use tally::Tally;
-
-#[cfg(test)]
-mod tests;

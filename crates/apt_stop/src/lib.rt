@@ -3,8 +3,6 @@
 
 mod nearness;
 mod straight;
-#[cfg(test)]
-mod tests;
 
 pub use nearness::{heading, is_near, side_of};
 pub use straight::{are_parallel, line_behind, line_side, line_stop};

@@ -9,8 +9,6 @@ mod numbers;
 mod places;
 mod run;
 mod statements;
-#[cfg(test)]
-mod tests;
 mod trace;
 
 pub use trace::{Unrolled, unroll};

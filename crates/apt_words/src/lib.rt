@@ -7,8 +7,6 @@ mod expr;
 mod names;
 mod parts;
 mod symbol;
-#[cfg(test)]
-mod tests;
 mod word;
 
 pub use body::{Args, Body, Exprs, Params, Program, Stmt, Text};

@@ -1,0 +1,13 @@
+//! Tests of figures, of where they meet and of where motions stop.
+#![tactic(auto)]
+
+#[cfg(test)]
+mod canon;
+#[cfg(test)]
+mod contact;
+#[cfg(test)]
+mod defs;
+#[cfg(test)]
+mod offset;
+#[cfg(test)]
+mod stop;

@@ -1,0 +1,197 @@
+use apt_expr::expression;
+use apt_lexis::Token;
+use apt_words::{Expr, Millionths, Node, Op, Part, Symbol};
+use std::alloc::{AllocError, Global};
+
+#[test]
+fn reads_expressions(rt: HostRuntime) -> Result<(), AllocError> {
+    let alloc = rt.alloc();
+    'texts: for (text, wanted) in [
+        ("1 - 2 + 3", "((1-2)+3)"),
+        ("1 + 2 * 3", "(1+(2*3))"),
+        ("- A * B - C", "(-((A*B))-C)"),
+        ("- ( A + B ) / 2", "-(((A+B)/2))"),
+        ("SQRTF ( A ) / ABSF ( ( - 1 ) )", "(SQRTF(A)/ABSF(-(1)))"),
+        ("A * - B", "none"),
+        ("A + - B", "none"),
+        ("7", "7"),
+        ("( 7 )", "7"),
+        ("( A )", "A"),
+        ("- ( 7 )", "-(7)"),
+        ("2 / ( 3 - 4 * A )", "(2/(3-(4*A)))"),
+        ("( 2 ) * ( 3 )", "(2*3)"),
+        ("- 7", "-(7)"),
+        ("- 7 * 8", "-((7*8))"),
+        ("POINT", "none"),
+        ("+", "none"),
+        ("+ A", "none"),
+        ("A +", "none"),
+        ("-", "none"),
+        ("( A", "none"),
+        ("A )", "none"),
+        ("( A ) ( B )", "none"),
+        ("( )", "none"),
+        ("A B", "none"),
+        ("A ( B )", "none"),
+        ("POINT + 1", "none"),
+        ("SQRTF", "none"),
+        ("A , B", "none"),
+        ("", "none"),
+    ] {
+        let found = read(alloc, text)?;
+        assert_eq!(rt; shown(alloc, &found)?.as_str(), wanted, "at {text}");
+    }
+    Ok(())
+}
+
+#[test]
+fn keeps_the_limits(rt: HostRuntime) -> Result<(), AllocError> {
+    let alloc = rt.alloc();
+    'counts: for (operators, parentheses, is_expression) in [
+        (64, 32, true),
+        (65, 32, false),
+        (64, 33, false),
+        (0, 32, true),
+        (0, 33, false),
+        (64, 0, true),
+        (65, 0, false),
+    ] {
+        let text = sum_in_parentheses(alloc, operators, parentheses)?;
+        assert_eq!(rt;
+            read(alloc, text.as_str())?.is_some(),
+            is_expression,
+            "at {operators} and {parentheses}"
+        );
+    }
+    Ok(())
+}
+
+fn sum_in_parentheses(
+    alloc: Global,
+    operators: u32,
+    parentheses: u32,
+) -> Result<String, AllocError> {
+    let mut text = String::new(alloc);
+    for _ in 0..parentheses {
+        text.push_str("( ")?;
+    }
+    text.push_str("A")?;
+    for _ in 0..operators {
+        text.push_str(" + A")?;
+    }
+    for _ in 0..parentheses {
+        text.push_str(" )")?;
+    }
+    Ok(text)
+}
+
+/// The expression of tokens that blanks part.
+fn read(alloc: Global, text: &str) -> Result<Option<Expr>, AllocError> {
+    let mut tokens = Vec::new(alloc);
+    for word in text.split_whitespace() {
+        tokens.push(token(word))?;
+    }
+    expression(alloc, &tokens)
+}
+
+fn token(word: &str) -> Token {
+    match word.as_bytes() {
+        [b'='] => Token::Equals,
+        [b'/'] => Token::Slash,
+        [b','] => Token::Comma,
+        [b'('] => Token::Open,
+        [b')'] => Token::Close,
+        [b'+'] => Token::Plus,
+        [b'-'] => Token::Minus,
+        [b'*'] => Token::Star,
+        _ => word_or_number(word),
+    }
+}
+
+fn word_or_number(word: &str) -> Token {
+    match Symbol::new(word) {
+        Some(symbol) => Token::Word(symbol),
+        None => Token::Number(word.parse::<i64>().unwrap_or(0)),
+    }
+}
+
+fn shown(alloc: Global, found: &Option<Expr>) -> Result<String, AllocError> {
+    let Some(e) = found else {
+        return format!(in alloc; "none");
+    };
+    match &e.node {
+        Node::Num(v) => format!(in alloc; "{v}"),
+        Node::Minus(v) => format!(in alloc; "-({v})"),
+        Node::Name(name) => spelled(alloc, name),
+        Node::Parts(parts) => shown_parts(alloc, &parts.items),
+    }
+}
+
+fn shown_parts(alloc: Global, parts: &[Part]) -> Result<String, AllocError> {
+    let mut texts = Vec::new(alloc);
+    for part in parts {
+        let text = shown_part(alloc, part, &mut texts)?;
+        texts.push(text)?;
+    }
+    Ok(taken(alloc, &mut texts))
+}
+
+/// A part with its operands, which are the latest of the texts.
+fn shown_part(alloc: Global, part: &Part, texts: &mut Vec<String>) -> Result<String, AllocError> {
+    match part {
+        Part::Num(v) => number(alloc, v),
+        Part::Name(name) => spelled(alloc, name),
+        Part::Neg => around(alloc, "-", texts),
+        Part::Root => around(alloc, "SQRTF", texts),
+        Part::Abs => around(alloc, "ABSF", texts),
+        Part::Bin(op) => {
+            let b = taken(alloc, texts);
+            joined(alloc, mark(*op), &b, texts)
+        }
+        Part::AddNum(v) => joined(alloc, "+", &number(alloc, v)?, texts),
+        Part::SubNum(v) => joined(alloc, "-", &number(alloc, v)?, texts),
+        Part::MulNum(v) => joined(alloc, "*", &number(alloc, v)?, texts),
+        Part::DivNum(v) => joined(alloc, "/", &number(alloc, v)?, texts),
+    }
+}
+
+fn number(alloc: Global, v: &Millionths) -> Result<String, AllocError> {
+    let v = v.value();
+    format!(in alloc; "{v}")
+}
+
+fn around(alloc: Global, before: &str, texts: &mut Vec<String>) -> Result<String, AllocError> {
+    let operand = taken(alloc, texts);
+    format!(in alloc; "{before}({operand})")
+}
+
+fn joined(
+    alloc: Global,
+    mark: &str,
+    b: &String,
+    texts: &mut Vec<String>,
+) -> Result<String, AllocError> {
+    let a = taken(alloc, texts);
+    format!(in alloc; "({a}{mark}{b})")
+}
+
+fn spelled(alloc: Global, name: &Symbol) -> Result<String, AllocError> {
+    let text = name.as_str();
+    format!(in alloc; "{text}")
+}
+
+fn taken(alloc: Global, texts: &mut Vec<String>) -> String {
+    match texts.pop() {
+        Some(text) => text,
+        None => String::new(alloc),
+    }
+}
+
+fn mark(op: Op) -> &'static str {
+    match op {
+        Op::Add => "+",
+        Op::Sub => "-",
+        Op::Mul => "*",
+        Op::Div => "/",
+    }
+}

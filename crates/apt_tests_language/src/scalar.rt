@@ -1,0 +1,127 @@
+ghost use Rattle.std.specs.Prelude.{◌≡◌};
+ghost use Rattle.apt_words.specs.declared.parts.Part.TheVariants.{Num};
+
+use apt_scalar::{Bound, Env, Frame, Kind, Value, bind, eval, grid_units, tenths, whole};
+use apt_words::{Case, Expr, Millionths, Node, Op, Part, Parts, Symbol, Units};
+use std::alloc::{AllocError, Global};
+use std::process::Abort;
+use std::test::Fail;
+
+const ONE: i64 = 1_000_000;
+
+const GREATEST: i64 = 1_000_000_000_000;
+
+fn symbol(rt: &impl Abort, text: &str) -> Symbol {
+    Symbol::new(text).expect(rt, "a symbol")
+}
+
+fn number(v: i64) -> Part
+    ensures { result ≡ Num v }
+{
+    Part::Num(Millionths::new(v))
+}
+
+fn both(alloc: Global, a: i64, op: Op, b: i64) -> Result<Expr, AllocError> {
+    let items = vec![in alloc; number(a), Part::with_number(op, b)]?;
+    Ok(Expr {
+        node: Node::Parts(Box::new(alloc, Parts { items })?),
+    })
+}
+
+fn root(alloc: Global, v: i64) -> Result<Expr, AllocError> {
+    let items = vec![in alloc; number(v), Part::Root]?;
+    Ok(Expr {
+        node: Node::Parts(Box::new(alloc, Parts { items })?),
+    })
+}
+
+fn no_parameters(alloc: Global) -> Frame {
+    Frame {
+        bound: Vec::new(alloc),
+    }
+}
+
+#[test]
+fn operators_round_and_refuse(rt: HostRuntime) -> Result<(), Fail> {
+    let alloc = rt.alloc();
+    let env = Env::new(alloc);
+    let frame = no_parameters(alloc);
+    for (a, op, b, want) in [
+        (2 * ONE, Op::Div, 3 * ONE, Ok(666_667)),
+        (-ONE, Op::Div, 3 * ONE, Ok(-333_333)),
+        (-1, Op::Mul, 500_000, Ok(-1)),
+        (1, Op::Mul, 499_999, Ok(0)),
+        (GREATEST - 1, Op::Add, 1, Ok(GREATEST)),
+        (1, Op::Sub, 3, Ok(-2)),
+        (ONE, Op::Div, 0, Err(Case::DivideByZero)),
+        (GREATEST, Op::Mul, 2 * ONE, Err(Case::TooLarge)),
+        (-GREATEST, Op::Sub, 1, Err(Case::TooLarge)),
+    ] {
+        let e = both(alloc, a, op, b)?;
+        assert_eq!(rt; eval(&e, &env, &frame), want, "at {a} and {b}");
+    }
+    Ok(())
+}
+
+#[test]
+fn roots_are_nearest(rt: HostRuntime) -> Result<(), Fail> {
+    let alloc = rt.alloc();
+    let env = Env::new(alloc);
+    let frame = no_parameters(alloc);
+    for (v, want) in [
+        (2 * ONE, Ok(1_414_214)),
+        (GREATEST, Ok(1_000 * ONE)),
+        (0, Ok(0)),
+        (-ONE, Err(Case::NegativeRoot)),
+    ] {
+        let e = root(alloc, v)?;
+        assert_eq!(rt; eval(&e, &env, &frame), want, "at {v}");
+    }
+    Ok(())
+}
+
+#[test]
+fn names_stand_for_scalars(rt: HostRuntime) -> Result<(), Fail> {
+    let alloc = rt.alloc();
+    let mut env = Env::new(alloc);
+    bind(alloc, &mut env, symbol(&rt, "A"), Value::Scalar(5))?;
+    bind(alloc, &mut env, symbol(&rt, "P"), Value::Shape(Kind::Point))?;
+    let mut frame = no_parameters(alloc);
+    frame
+        .bound
+        .push((symbol(&rt, "B"), Bound::Alias(symbol(&rt, "A"))))?;
+    frame.bound.push((symbol(&rt, "A"), Bound::Scalar(7)))?;
+    for (text, want, inside) in [
+        ("A", Ok(5), Ok(7)),
+        ("B", Err(Case::Unknown), Ok(5)),
+        ("P", Err(Case::Unknown), Err(Case::Unknown)),
+    ] {
+        let e = Expr {
+            node: Node::Name(symbol(&rt, text)),
+        };
+        assert_eq!(rt; eval(&e, &env, &no_parameters(alloc)), want, "at {text}");
+        assert_eq!(rt; eval(&e, &env, &frame), inside, "at {text} in a macro");
+    }
+    Ok(())
+}
+
+#[test]
+fn names_take_their_latest_value(rt: HostRuntime) -> Result<(), Fail> {
+    let alloc = rt.alloc();
+    let mut env = Env::new(alloc);
+    bind(alloc, &mut env, symbol(&rt, "A"), Value::Scalar(1))?;
+    bind(alloc, &mut env, symbol(&rt, "B"), Value::Scalar(2))?;
+    bind(alloc, &mut env, symbol(&rt, "A"), Value::Scalar(3))?;
+    assert!(rt; env.get(&symbol(&rt, "A")) == Some(Value::Scalar(3)));
+    assert!(rt; env.get(&symbol(&rt, "B")) == Some(Value::Scalar(2)));
+    assert!(rt; env.get(&symbol(&rt, "C")).is_none());
+    Ok(())
+}
+
+#[test]
+fn scalars_in_other_units(rt: HostRuntime) {
+    assert_eq!(rt; grid_units(Units::Inch, ONE), 100_000);
+    assert_eq!(rt; grid_units(Units::Mm, -150), -2);
+    assert_eq!(rt; tenths(12_350_000), 124);
+    assert_eq!(rt; whole(2_500_000), 3);
+}

@@ -1,0 +1,7 @@
+//! Tests of whole numbers and of the plane.
+#![tactic(auto)]
+
+#[cfg(test)]
+mod num;
+#[cfg(test)]
+mod plane;

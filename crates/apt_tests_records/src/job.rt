@@ -1,0 +1,208 @@
+ghost use Rattle.std.specs.Prelude.{◌≡◌, ◌+◌, ◌<◌, ◌≤◌, ◌^◌, List, length, unsigned_abs, Ok, IfOk, IfSome};
+ghost use Rattle.apt_words.specs.Built.{AreBuiltSteps};
+ghost use Rattle.apt_words.specs.Sources.{AreExecuted};
+ghost use Rattle.apt_scalar.specs.StepScalars.{AreScalars};
+ghost use Rattle.apt_plane.specs.Ranges.{IsSurface};
+ghost use Rattle.apt_cldata.specs.Ranges.{IsPosition, ArePositions, AreRecords, vertex_count};
+ghost use Rattle.apt_cldata.specs.declared.record.Record.{Record};
+ghost use Rattle.apt_meaning.specs.Compiled.{first_refused};
+ghost use Rattle.apt_meaning.specs.Situations.{first_situation};
+
+use apt_certify::Job;
+use apt_cldata::{Note, Position, Reach, Record, Vertices};
+use apt_job::{JobError, jobs};
+use apt_plane::{Dir, Line, Pt, Surface};
+use apt_words::{Deed, Go, Side, Step, Stop, Symbol};
+use std::alloc::{AllocError, Global};
+use std::test::Fail;
+
+fn step(line: u32, deed: Deed) -> Step
+    ensures { result ≡ record { line = line; step = line; deed = deed } }
+{
+    Step {
+        line,
+        step: line,
+        deed,
+    }
+}
+
+/// Along the lower edge of a plate of 5 by 5 inches, with the cutter on its right.
+fn edge_steps() -> Option<[Step; 7]>
+    ensures scalars { IfSome result AreScalars }
+    ensures built { IfSome result AreBuiltSteps }
+    ensures sources { IfSome result AreExecuted }
+    ensures passes { IfSome result (λ steps. first_refused first_situation steps ≡ None) }
+{
+    let l1 = Symbol::new("L1")?;
+    let l2 = Symbol::new("L2")?;
+    let lower = Deed::LineXy(l1.copied(), 0, 0, 5_000_000, 0);
+    let right = Deed::LineXy(l2.copied(), 5_000_000, 0, 5_000_000, 5_000_000);
+    Some([
+        step(1, Deed::Cutter(500_000)),
+        step(2, Deed::Fedrat(10_000_000)),
+        step(3, lower),
+        step(4, right),
+        step(5, Deed::FromXy(-2_000_000, -250_000, Some(1_000_000))),
+        step(6, Deed::Godlta(1_000_000, 0, 0)),
+        step(
+            7,
+            Deed::Contour(Some(Side::Right), Go::Forward, l1, Stop::Past, l2),
+        ),
+    ])
+}
+
+fn position(x: i64, z: i64) -> Position
+    requires x { unsigned_abs x ≤ 50000000 }
+    requires z { unsigned_abs z ≤ 50000000 }
+    ensures { IsPosition result }
+{
+    Position {
+        at: Pt { x, y: -25_000 },
+        z,
+    }
+}
+
+fn lower_edge() -> Surface
+    ensures { IsSurface result }
+{
+    Surface::Line(Line {
+        base: Pt { x: 0, y: 0 },
+        dir: Dir { dx: 500_000, dy: 0 },
+    })
+}
+
+fn right_edge() -> Surface
+    ensures { IsSurface result }
+{
+    Surface::Line(Line {
+        base: Pt { x: 500_000, y: 0 },
+        dir: Dir { dx: 0, dy: 500_000 },
+    })
+}
+
+/// What a CL file says in place of the compiler's records: by how much the line of the first statement is later
+/// and the last vertex higher, the side, and how many records it has.
+#[derive(Clone, Copy)]
+struct Change {
+    later: u8,
+    higher: i8,
+    side: Side,
+    count: usize,
+}
+
+fn changed(later: u8, higher: i8, side: Side, count: usize) -> Change {
+    Change {
+        later,
+        higher,
+        side,
+        count,
+    }
+}
+
+/// The vertices of a contour in two segments.
+fn vertices(alloc: Global, higher: i8) -> Result<Vertices, AllocError>
+    ensures { IfOk result (λ ps. (1 ≤ length ps) × ArePositions ps) }
+{
+    let mut at = Vec::new(alloc);
+    at.push(position(0, 100_000))?;
+    at.push(position(525_000, 100_000 + i64::from(higher)))?;
+    Ok(Vertices { at })
+}
+
+fn records(alloc: Global, change: Change) -> Result<[Record; 13], AllocError>
+    ensures range { IfOk result AreRecords }
+    ensures few { IfOk result (λ rs. vertex_count rs + length rs < 2 ^ 62) }
+{
+    let vertices = vertices(alloc, change.higher)?;
+    Ok([
+        Record::Statement {
+            line: 1 + u32::from(change.later),
+            step: 1,
+        },
+        Record::Note(Note::Cutter(50_000)),
+        Record::Statement { line: 2, step: 2 },
+        Record::Note(Note::Fedrat(100)),
+        Record::Statement { line: 5, step: 5 },
+        Record::Point(Reach::From, position(-200_000, 100_000)),
+        Record::Statement { line: 6, step: 6 },
+        Record::Point(Reach::Godlta, position(-100_000, 100_000)),
+        Record::Statement { line: 7, step: 7 },
+        Record::Drive {
+            surface: lower_edge(),
+            side: change.side,
+            sense: 1,
+        },
+        Record::Check {
+            surface: right_edge(),
+            how: Stop::Past,
+        },
+        Record::Contour(vertices),
+        Record::Note(Note::Stop),
+    ])
+}
+
+/// So many records, or all where there are fewer.
+#[tactic(auto, using(crate::proofs::Edge::part_in, crate::proofs::Edge::part_few))]
+fn part(records: &[Record], count: usize) -> &[Record]
+    requires range { AreRecords records.now }
+    requires few { vertex_count records.now + length records.now < 2 ^ 62 }
+    ensures range { AreRecords result.now }
+    ensures few { vertex_count result.now + length result.now < 2 ^ 62 }
+{
+    match records.get(..count) {
+        Some(part) => part,
+        None => records,
+    }
+}
+
+/// The number of the first record that does not answer, 0 where all do.
+fn entry_of(found: Result<Vec<Job>, JobError>) -> u64 {
+    match found {
+        Ok(_) => 0,
+        Err(JobError::Entry { seq }) => seq,
+        Err(JobError::NoMemory) => 99,
+    }
+}
+
+#[test]
+fn the_first_record_that_does_not_answer_is_told(rt: HostRuntime) -> Result<(), Fail> {
+    let Some(steps) = edge_steps() else {
+        return Ok(());
+    };
+    let table = [
+        (changed(0, 0, Side::Right, 12), 0),
+        (changed(1, 0, Side::Right, 12), 1),
+        (changed(0, 0, Side::Right, 0), 1),
+        (changed(0, 0, Side::Right, 5), 6),
+        (changed(0, 0, Side::Left, 12), 10),
+        (changed(0, 1, Side::Right, 12), 12),
+        (changed(0, 0, Side::Right, 11), 12),
+        (changed(0, 0, Side::Right, 13), 13),
+    ];
+    for (change, want) in table {
+        let records = records(rt.alloc(), change)?;
+        let found = jobs(rt.alloc(), &steps, part(&records, change.count));
+        assert_eq!(rt; entry_of(found), want, "of {} records", change.count);
+    }
+    Ok(())
+}
+
+#[test]
+fn a_contour_is_a_job(rt: HostRuntime) -> Result<(), Fail> {
+    let Some(steps) = edge_steps() else {
+        return Ok(());
+    };
+    let records = records(rt.alloc(), changed(0, 0, Side::Right, 12))?;
+    let Ok(jobs) = jobs(rt.alloc(), &steps, part(&records, 12)) else {
+        assert!(rt; false, "a record does not answer");
+        return Ok(());
+    };
+    let [job] = jobs.as_slice() else {
+        assert!(rt; false, "not one job");
+        return Ok(());
+    };
+    assert_eq!(rt; job.out_sign, -1);
+    assert_eq!(rt; (job.leg.band.lo, job.leg.band.hi), (-25_050, -24_992));
+    assert_eq!(rt; job.points.at.len(), 3);
+    Ok(())
+}

@@ -1,0 +1,147 @@
+ghost use Rattle.std.specs.Prelude.{◌≡◌, ◌≤◌, length};
+ghost use Rattle.apt_block.specs.Block.{IsBlock, tape_word};
+
+use apt_block::{Block, BlockError, TapeCause, TapeWord, read_block, write_block};
+use std::alloc::{AllocError, Global};
+use std::test::Fail;
+
+fn word(letter: u8, value: i64) -> TapeWord
+    ensures { result ≡ tape_word letter value }
+{
+    TapeWord { letter, value }
+}
+
+fn block_of(words: &[TapeWord]) -> Block
+    requires { length words.now ≤ 12 }
+    ensures { result ≡ words.now }
+{
+    let mut block = Block::new();
+    'words: for word in words {
+        block.push(*word);
+    }
+    block
+}
+
+fn start() -> Block
+    ensures { IsBlock result }
+{
+    block_of(&[
+        word(b'N', 1),
+        word(b'G', 70),
+        word(b'G', 90),
+        word(b'G', 94),
+    ])
+}
+
+fn cut() -> Block
+    ensures { IsBlock result }
+{
+    block_of(&[
+        word(b'N', 2),
+        word(b'G', 1),
+        word(b'X', 100_000),
+        word(b'Y', 200_000),
+        word(b'Z', 300_000),
+        word(b'F', 100),
+    ])
+}
+
+fn below_zero() -> Block
+    ensures { IsBlock result }
+{
+    block_of(&[
+        word(b'X', -50_000_000),
+        word(b'Y', 0),
+        word(b'Z', -1),
+        word(b'S', 1_250),
+        word(b'T', 7),
+    ])
+}
+
+fn end() -> Block
+    ensures { IsBlock result }
+{
+    block_of(&[word(b'M', 2)])
+}
+
+fn spelled(alloc: Global, block: &Block) -> Result<Vec<u8>, AllocError>
+    requires { IsBlock block.now }
+{
+    let mut text = Vec::new(alloc);
+    write_block(alloc, block, &mut text)?;
+    Ok(text)
+}
+
+#[test]
+fn spells_blocks(rt: HostRuntime) -> Result<(), Fail> {
+    let alloc = rt.alloc();
+    let cases = [
+        (spelled(alloc, &start())?, "N0001G70G90G94\n"),
+        (
+            spelled(alloc, &cut())?,
+            "N0002G01X+00100000Y+00200000Z+00300000F0100\n",
+        ),
+        (
+            spelled(alloc, &below_zero())?,
+            "X-50000000Y+00000000Z-00000001S1250T07\n",
+        ),
+        (spelled(alloc, &end())?, "M02\n"),
+        (spelled(alloc, &Block::new())?, "\n"),
+    ];
+    for (text, want) in &cases {
+        assert_eq!(rt; text.as_slice(), want.as_bytes());
+    }
+    Ok(())
+}
+
+#[test]
+fn appends_blocks(rt: HostRuntime) -> Result<(), Fail> {
+    let alloc = rt.alloc();
+    let mut text = Vec::new(alloc);
+    write_block(alloc, &start(), &mut text)?;
+    write_block(alloc, &end(), &mut text)?;
+    assert_eq!(rt; text.as_slice(), "N0001G70G90G94\nM02\n".as_bytes());
+    Ok(())
+}
+
+fn is_read(text: &str, want: &Block) -> bool {
+    match read_block(text.as_bytes()) {
+        Ok(block) => block.words.as_slice() == want.words.as_slice(),
+        Err(_) => false,
+    }
+}
+
+#[test]
+fn reads_blocks(rt: HostRuntime) {
+    assert!(rt; is_read("N0001G70G90G94\n", &start()));
+    assert!(rt; is_read("N0002G01X+00100000Y+00200000Z+00300000F0100\n", &cut()));
+    assert!(rt; is_read("X-50000000Y-00000000Z-00000001S1250T07\n", &below_zero()));
+    assert!(rt; is_read("M02\n", &end()));
+    assert!(rt; is_read("\n", &Block::new()));
+}
+
+fn refusal(text: &str) -> Option<BlockError> {
+    read_block(text.as_bytes()).err()
+}
+
+#[test]
+fn refuses_blocks(rt: HostRuntime) {
+    let cases = [
+        ("", 0, TapeCause::Truncated),
+        ("N0001G7", 7, TapeCause::Truncated),
+        ("M02", 3, TapeCause::Truncated),
+        ("N0001Q\n", 5, TapeCause::BadBlock),
+        ("N001G70\n", 4, TapeCause::BadBlock),
+        ("X+50000001\n", 9, TapeCause::BadBlock),
+        ("F0000\n", 4, TapeCause::BadBlock),
+        ("G90N0001\n", 3, TapeCause::BadBlock),
+        ("M00\nM01\n", 4, TapeCause::BadBlock),
+        ("G00G90G01\n", 6, TapeCause::BadG),
+        ("G02X+00000000\n", 0, TapeCause::BadG),
+        ("G00G70G90G94G00\n", 12, TapeCause::BadG),
+        ("M10\n", 0, TapeCause::BadM),
+    ];
+    for (text, at, cause) in cases {
+        assert!(rt; refusal(text) == Some(BlockError { at, cause }));
+    }
+}

@@ -1,0 +1,151 @@
+use apt_block::TapeCause;
+use apt_control::{Act, ControlError, read_tape};
+use apt_tapecode::{Code, punch};
+use apt_words::{Cool, Turn, Units};
+use std::alloc::{AllocError, Global};
+use std::test::Fail;
+
+fn punched(alloc: Global, code: Code, text: &str) -> Result<Vec<u8>, AllocError> {
+    let mut bytes = Vec::new(alloc);
+    for ch in text.as_bytes() {
+        bytes.push(punch(code, *ch).unwrap_or(0))?;
+    }
+    Ok(bytes)
+}
+
+fn is_run(alloc: Global, code: Code, tape: &[u8], want: &[Act]) -> bool {
+    match read_tape(alloc, code, tape) {
+        Ok(acts) => acts.as_slice() == want,
+        Err(_) => false,
+    }
+}
+
+fn is_refused(alloc: Global, code: Code, tape: &[u8], at: u64, cause: TapeCause) -> bool {
+    match read_tape(alloc, code, tape) {
+        Ok(_) => false,
+        Err(error) => error == ControlError::Bad { at, cause },
+    }
+}
+
+#[test]
+fn reads_moves(rt: HostRuntime) -> Result<(), Fail> {
+    let text =
+        "0%\nN0001G70G90G94\nG01X+00100000Y-00200000Z+00300000F0100\nX+00000007\nG00Z+00000000\nM02\n%";
+    let (x, y, z, feed) = (100_000, -200_000, 300_000, 100);
+    let want = [
+        Act::Units(Units::Inch),
+        Act::Cut { x, y, z, feed },
+        Act::Cut { x: 7, y, z, feed },
+        Act::Rapid { x: 7, y, z: 0 },
+        Act::End,
+    ];
+    for code in [Code::Rs244, Code::Rs358] {
+        let tape = punched(rt.alloc(), code, text)?;
+        assert!(rt; is_run(rt.alloc(), code, &tape, &want));
+    }
+    Ok(())
+}
+
+#[test]
+fn reads_every_act(rt: HostRuntime) -> Result<(), Fail> {
+    let text = "%G71\nS0700M03\nS0008M04\nM05\nT09M06\nM07\nM08\nM09\nM00\nM01\nM02\n";
+    let want = [
+        Act::Units(Units::Mm),
+        Act::Spindle {
+            turn: Turn::Cw,
+            n: 700,
+        },
+        Act::Spindle {
+            turn: Turn::Ccw,
+            n: 8,
+        },
+        Act::Spindle {
+            turn: Turn::Off,
+            n: 0,
+        },
+        Act::Tool(9),
+        Act::Coolant(Cool::Mist),
+        Act::Coolant(Cool::Flood),
+        Act::Coolant(Cool::Off),
+        Act::Stop,
+        Act::OptStop,
+        Act::End,
+    ];
+    let tape = punched(rt.alloc(), Code::Rs358, text)?;
+    assert!(rt; is_run(rt.alloc(), Code::Rs358, &tape, &want));
+    Ok(())
+}
+
+#[test]
+fn refuses_tapes(rt: HostRuntime) -> Result<(), Fail> {
+    let cases = [
+        ("", 0, TapeCause::NoStart),
+        ("M02\n", 4, TapeCause::NoStart),
+        ("%\nN1\n", 4, TapeCause::BadBlock),
+        ("%\nM0%", 4, TapeCause::BadBlock),
+        ("%\nG02\n", 2, TapeCause::BadG),
+        ("%\nM10\n", 2, TapeCause::BadM),
+        ("%\nS0100\n", 7, TapeCause::BadMix),
+        ("%\nM06\n", 5, TapeCause::BadMix),
+        (
+            "%\nG00X+00000000Y+00000000Z+00000000\n",
+            35,
+            TapeCause::NoUnits,
+        ),
+        (
+            "%\nG70X+00000000Y+00000000Z+00000000\n",
+            35,
+            TapeCause::NoMode,
+        ),
+        ("%\nG01G70X+00000000\n", 18, TapeCause::NoPosition),
+        (
+            "%\nG01G70X+00000000Y+00000000Z+00000000\n",
+            38,
+            TapeCause::NoFeed,
+        ),
+        ("%", 1, TapeCause::Truncated),
+        ("%\nM0", 4, TapeCause::Truncated),
+        ("%\nM02", 5, TapeCause::Truncated),
+        ("%\nM02\n%M", 7, TapeCause::AfterEnd),
+    ];
+    for (text, at, cause) in cases {
+        for code in [Code::Rs244, Code::Rs358] {
+            let tape = punched(rt.alloc(), code, text)?;
+            assert!(rt; is_refused(rt.alloc(), code, &tape, at, cause));
+        }
+    }
+    Ok(())
+}
+
+#[test]
+fn refuses_bytes(rt: HostRuntime) -> Result<(), Fail> {
+    let alloc = rt.alloc();
+    for text in ["%\nM0", "%\nM02\n"] {
+        let cases = [
+            (Code::Rs244, 0x21u8, TapeCause::BadParity),
+            (Code::Rs244, 0x61, TapeCause::BadCode),
+            (Code::Rs358, 0xb0, TapeCause::BadParity),
+            (Code::Rs358, 0x41, TapeCause::BadCode),
+        ];
+        for (code, byte, cause) in cases {
+            let mut tape = punched(alloc, code, text)?;
+            tape.push(byte)?;
+            assert!(rt; is_refused(alloc, code, &tape, text.len() as u64, cause));
+        }
+    }
+    Ok(())
+}
+
+#[test]
+fn skips_bytes(rt: HostRuntime) -> Result<(), Fail> {
+    let alloc = rt.alloc();
+    for (code, skip) in [(Code::Rs244, 0x7fu8), (Code::Rs358, 0xff)] {
+        let mut tape = Vec::new(alloc);
+        for byte in &punched(alloc, code, "%\nM02\n")? {
+            tape.push(skip)?;
+            tape.push(*byte)?;
+        }
+        assert!(rt; is_run(alloc, code, &tape, &[Act::End]));
+    }
+    Ok(())
+}

@@ -1,0 +1,13 @@
+//! Tests of tape codes, blocks, controls, machines and tapes.
+#![tactic(auto)]
+
+#[cfg(test)]
+mod block;
+#[cfg(test)]
+mod control;
+#[cfg(test)]
+mod machine;
+#[cfg(test)]
+mod post;
+#[cfg(test)]
+mod tapecode;

@@ -1,0 +1,94 @@
+use apt_machine::{Machine, MachineCause, MachineError, table};
+use apt_tapecode::Code;
+use std::alloc::{AllocError, Global};
+use std::test::Fail;
+
+/// Texts, and the line and the cause of each.
+const BAD: [(&[u8], u32, MachineCause); 29] = [
+    (b"", 1, MachineCause::Header),
+    (b"\n", 1, MachineCause::Header),
+    (b"  \n", 1, MachineCause::Header),
+    (b"MACHINE 2\n", 1, MachineCause::Header),
+    (b"MACHINE 1 \n", 1, MachineCause::Header),
+    (b"MACHINE 2\xff\n", 1, MachineCause::Byte),
+    (b"MACHINE 1", 2, MachineCause::Missing),
+    (b"MACHINE 1\r", 1, MachineCause::Byte),
+    (b"MACHINE 1\nCODE RS358\x7f\n", 2, MachineCause::Byte),
+    (b"MACHINE 1\nCODES RS358\n", 2, MachineCause::Key),
+    (b"MACHINE 1\ncode RS358\n", 2, MachineCause::Key),
+    (b"MACHINE 1\n CODE RS358\n", 2, MachineCause::Key),
+    (b"MACHINE 1\n \n", 2, MachineCause::Key),
+    (b"MACHINE 1\nCODE\tRS358\n", 2, MachineCause::Key),
+    (b"MACHINE 1\nCODE RS358\t\n", 2, MachineCause::Key),
+    (b"MACHINE 1\nSEQ 1\n\nSEQ no\n", 4, MachineCause::Twice),
+    (b"MACHINE 1\nWORDS ALL\nWORDS ALL\n", 3, MachineCause::Twice),
+    (b"MACHINE 1\nCODE RS999\n", 2, MachineCause::Value),
+    (b"MACHINE 1\nCODE\n", 2, MachineCause::Value),
+    (b"MACHINE 1\nCODE \n", 2, MachineCause::Value),
+    (b"MACHINE 1\nCODE  RS358\n", 2, MachineCause::Value),
+    (b"MACHINE 1\nSEQ 00\n", 2, MachineCause::Value),
+    (b"MACHINE 1\nSEQ 1000\n", 2, MachineCause::Value),
+    (b"MACHINE 1\nSEQ -1\n", 2, MachineCause::Value),
+    (b"MACHINE 1\nFEEDMAX 0\n", 2, MachineCause::Value),
+    (b"MACHINE 1\nFEEDMAX 10000\n", 2, MachineCause::Value),
+    (b"MACHINE 1\nTOOLMAX 100\n", 2, MachineCause::Value),
+    (b"MACHINE 1\nWORDS CHANGED\n", 2, MachineCause::Value),
+    (
+        b"MACHINE 1\nTOOLMAX 9\nCODE RS244\n\nSEQ 5\nFEEDMAX 1\n",
+        7,
+        MachineCause::Missing,
+    ),
+];
+
+/// Whether a text is refused at this line for this cause.
+fn refuses(text: &[u8], line: u32, cause: MachineCause) -> bool {
+    text.len() <= 65_536 && table(text) == Err(MachineError { line, cause })
+}
+
+#[test]
+fn refuses_at_the_first_line_with_a_cause(rt: HostRuntime) {
+    for (text, line, cause) in BAD {
+        assert!(rt; refuses(text, line, cause), "{}", cause.name());
+    }
+}
+
+/// Texts, all of the machine of RS-244 with step 0, feeds up to 1, speeds up to 9999 and tools up to 10.
+const GOOD: [&[u8]; 4] = [
+    b"MACHINE 1\nCODE RS244\nSEQ 0\nFEEDMAX 1\nSPINMAX 9999\nTOOLMAX 10\n",
+    b"MACHINE 1\nTOOLMAX 10\nSPINMAX 9999\nFEEDMAX 1\nSEQ 0\nCODE RS244",
+    b"MACHINE 1\r\n\r\nWORDS ALL\r\nCODE RS244\r\nSEQ 0\r\nFEEDMAX 1\r\nSPINMAX 9999\r\n\r\nTOOLMAX 10\r\n\r\n",
+    b"MACHINE 1\nCODE RS244\n\n\nSEQ 0\nSPINMAX 9999\nTOOLMAX 10\nFEEDMAX 1\nWORDS ALL\n",
+];
+
+#[test]
+fn reads_keys_in_any_order(rt: HostRuntime) {
+    for text in GOOD {
+        let machine = Machine {
+            code: Code::Rs244,
+            seq: 0,
+            feedmax: 1,
+            spinmax: 9999,
+            toolmax: 10,
+        };
+        assert!(rt; table(text) == Ok(machine));
+    }
+}
+
+/// A table whose second line has so many bytes and no key.
+fn with_line_of(alloc: Global, many: usize) -> Result<Vec<u8>, AllocError> {
+    let mut text = Vec::from_slice(alloc, b"MACHINE 1\n")?;
+    for _ in 0..many {
+        text.push(b'A')?;
+    }
+    Ok(text)
+}
+
+#[test]
+fn takes_lines_of_256_bytes(rt: HostRuntime) -> Result<(), Fail> {
+    let alloc = rt.alloc();
+    for (many, cause) in [(256, MachineCause::Key), (257, MachineCause::Byte)] {
+        let text = with_line_of(alloc, many)?;
+        assert!(rt; refuses(&text, 2, cause));
+    }
+    Ok(())
+}
