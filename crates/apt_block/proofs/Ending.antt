@@ -8,7 +8,7 @@ use Rattle.apt_block.specs.declared.block.TapeCause.{TapeCause}
 use Rattle.apt_block.specs.declared.machine.OpenWord.{OpenWord}
 use Rattle.apt_block.specs.declared.machine.Want.{Want}
 use Rattle.apt_block.specs.declared.machine.Want.TheVariants as wants
-use Rattle.apt_block.specs.Block.{◌>>=◌, bad_block, forms, plus_sign, minus_sign, line_feed, code_fault, is_digit, unless}
+use Rattle.apt_block.specs.Block.{bad_block, forms, plus_sign, minus_sign, line_feed, code_fault, is_digit, unless}
 use Rattle.apt_block.specs.Machine.{FrontPart, form_for, new_word, with_form, letter_step, with_word, value_of, word_end, with_digit, digit_step, sign_step, step_as, step, is_nothing, is_whole}
 
 -- whether the block is words_of behind a character
@@ -64,18 +64,13 @@ close_open b w = go (nat_le w.form.least w.size && nat_le w.size w.form.most) (c
     go true (Some cause) = tt
     go false o = tt
 
-bind_ends : (r : Result FrontPart Fault) (f : FrontPart → Result FrontPart Fault) (t : Bool) → ((b : FrontPart) → Ends t (f b)) → Ends t (r >>= f)
-bind_ends (Ok b) f t all = all b
-bind_ends (Err e) f t all = tt
-
 digit_ends : (b : FrontPart) (w : OpenWord) (c : Mark) → Ends (c.ch == line_feed) (digit_step b w c)
-digit_ends b w c = go (is_digit c.ch) refl (w.must == 0) (w.later == 0)
+digit_ends b w c = go (is_digit c.ch) refl (w.later == 0)
   where
-    go : (d : Bool) → is_digit c.ch ≡ d → (t u : Bool) → Ends (c.ch == line_feed) (cond d (cond u (word_end b (with_digit w c)) (Ok (record b { want = wants.Digit (with_digit w c) }))) (cond t (word_end b w >>= λ b. letter_step b c) (Err (bad_block c.at))))
-    go true e t true = subst (λ t. Ends t (word_end b (with_digit w c))) (no_digit c.ch e) (close_open b (with_digit w c))
-    go true e t false = no_digit c.ch e
-    go false e true u = bind_ends (word_end b w) (λ b. letter_step b c) (c.ch == line_feed) (λ b. letter_ends b c)
-    go false e false u = tt
+    go : (d : Bool) → is_digit c.ch ≡ d → (u : Bool) → Ends (c.ch == line_feed) (cond d (cond u (word_end b (with_digit w c)) (Ok (record b { want = wants.Digit (with_digit w c) }))) (Err (bad_block c.at)))
+    go true e true = subst (λ t. Ends t (word_end b (with_digit w c))) (no_digit c.ch e) (close_open b (with_digit w c))
+    go true e false = no_digit c.ch e
+    go false e u = tt
 
 sign_ends : (b : FrontPart) (w : OpenWord) (c : Mark) → Ends (c.ch == line_feed) (sign_step b w c)
 sign_ends b w c = go (c.ch == plus_sign) refl (c.ch == minus_sign) refl

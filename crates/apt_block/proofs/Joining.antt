@@ -21,7 +21,7 @@ number_with minus n = record { value = cond minus (neg_ℤ (pos n.size)) (pos n.
 
 -- the number of a word, some of whose digits are read
 abbrev number_from : OpenWord → Bool → ℕ → Fault → List Mark → Result Number Fault
-number_from w minus may end text = digits_at may w.must w.size w.last end text >>= in_range w.form >>= λ n. Ok (number_with minus n)
+number_from w minus may end text = digits_at may w.size w.last end text >>= in_range w.form >>= λ n. Ok (number_with minus n)
 
 -- the words behind a word's number
 abbrev behind : List TapeWord → ℕ → Form → ℕ → Fault → Result Number Fault → Result (List TapeWord) Fault
@@ -79,7 +79,7 @@ drop_have (suc n) (f ∷ fs) have = drop_have n fs have.1
 -- the number behind a letter is the new word's
 size_from : (f : Form) (at : ℕ) (end : Fault) (text : List Mark) (minus : Bool) → f.digits ≡ suc (f.digits - 1)
     → (size_at f end text >>= λ n. Ok (number_with minus n)) ≡ number_from (new_word f at) minus (suc (f.digits - 1)) end text
-size_from f at end text minus have = ap (λ m. digits_at m f.fewest 0 0 end text >>= in_range f >>= λ n. Ok (number_with minus n)) have
+size_from f at end text minus have = ap (λ m. digits_at m 0 0 end text >>= in_range f >>= λ n. Ok (number_with minus n)) have
 
 first_signed : (f : Form) (at : ℕ) (end : Fault) (text : List Mark) → f.digits ≡ suc (f.digits - 1) → signed_at f end text ≡ signed_from (new_word f at) end text
 first_signed f at end [] have = refl
@@ -144,11 +144,7 @@ word_end_law b w end rest K same = go (nat_le w.form.least w.size && nat_le w.si
 -- ---- a digit
 
 abbrev longer : OpenWord → Mark → ℕ → OpenWord
-longer w c n = record { form = w.form; at = w.at; minus = w.minus; later = n - 1; must = w.must - 1; size = 10 * w.size + (c.ch - 48); last = c.at }
-
-then_all : (r : Result FrontPart Fault) (f : FrontPart → Result FrontPart Fault) (k : FrontPart → Result (List TapeWord) Fault) → (r >>= f >>= k) ≡ (r >>= λ b. f b >>= k)
-then_all (Ok b) f k = refl
-then_all (Err e) f k = refl
+longer w c n = record { form = w.form; at = w.at; minus = w.minus; later = n - 1; size = 10 * w.size + (c.ch - 48); last = c.at }
 
 abbrev number : FrontPart → OpenWord → Fault → Result Digits Fault → Result (List TapeWord) Fault
 number b w end r = behind b.words b.used w.form w.at end (r >>= in_range w.form >>= λ n. Ok (number_with w.minus n))
@@ -160,19 +156,16 @@ less : (n : ℕ) → n ≡ suc n - 1
 less n = omega arith
 
 digit_law : (b : FrontPart) (w : OpenWord) (end : Fault) (c : Mark) (text : List Mark) → from_digit b w end (c ∷ text) ≡ (digit_step b w c >>= goes_on end text)
-digit_law b w end c text = go w.later (is_digit c.ch) (w.must == 0)
+digit_law b w end c text = go w.later (is_digit c.ch)
   where
-    go : (n : ℕ) (d t : Bool)
-        → number b w end (cond d (digits_at n (w.must - 1) (10 * w.size + (c.ch - 48)) c.at end text) (cond t (Ok (record { size = w.size; last = w.last; rest = c ∷ text })) (Err (bad_block c.at))))
-        ≡ (cond d (cond (n == 0) (word_end b (longer w c n)) (Ok (record b { want = wants.Digit (longer w c n) }))) (cond t (word_end b w >>= λ b. letter_step b c) (Err (bad_block c.at))) >>= goes_on end text)
-    go zero true t = word_end_law b (longer w c zero) end text (goes_on end text) (λ words. refl)
-    go (suc n) true t =
-        ap (λ m. number b w end (digits_at (suc m) (w.must - 1) (10 * w.size + (c.ch - 48)) c.at end text)) (less n)
+    go : (n : ℕ) (d : Bool)
+        → number b w end (cond d (digits_at n (10 * w.size + (c.ch - 48)) c.at end text) (Err (bad_block c.at)))
+        ≡ (cond d (cond (n == 0) (word_end b (longer w c n)) (Ok (record b { want = wants.Digit (longer w c n) }))) (Err (bad_block c.at)) >>= goes_on end text)
+    go zero true = word_end_law b (longer w c zero) end text (goes_on end text) (λ words. refl)
+    go (suc n) true =
+        ap (λ m. number b w end (digits_at (suc m) (10 * w.size + (c.ch - 48)) c.at end text)) (less n)
         ∙ ap (λ t. cond t (word_end b (longer w c (suc n))) (Ok (record b { want = wants.Digit (longer w c (suc n)) })) >>= goes_on end text) (no_zero n)
-    go n false true =
-        word_end_law b w end (c ∷ text) (λ b. letter_step b c >>= goes_on end text) (λ words. sym (letter_law (record { words = words; used = b.used; want = wants.Letter }) end c text))
-        ∙ sym (then_all (word_end b w) (λ b. letter_step b c) (goes_on end text))
-    go n false false = refl
+    go n false = refl
 
 sign_law : (b : FrontPart) (w : OpenWord) (end : Fault) (c : Mark) (text : List Mark) → behind b.words b.used w.form w.at end (signed_from w end (c ∷ text)) ≡ (sign_step b w c >>= goes_on end text)
 sign_law b w end c text = go (c.ch == plus_sign) (c.ch == minus_sign)

@@ -33,13 +33,13 @@ ReadsSize r size rest = (last : ℕ) × (next : ℕ) × (r ≡ Ok (record { size
 step : (b : Bool) (m n : ℕ) (r : ℕ → Result Digits Fault) (e : Result Digits Fault) (size : ℕ) (rest : List ℕ) → b ≡ true → m ≡ n → ReadsSize (r n) size rest → ReadsSize (cond b (r m) e) size rest
 step b m n r e size rest is same read = rw (is, same) read
 
-digits_again : (n must v last at : ℕ) (end : Fault) (rest : List ℕ) → ReadsSize (digits_at n must (v / 10 ^ n) last end (marks at (digits n v ++ rest))) v rest
-digits_again zero must v last at end rest = (last, at, ap (λ (s : ℕ). Ok (record { size = s; last = last; rest = marks at rest })) (div-one v))
-digits_again (suc n) must v last at end rest =
-    step (is_digit (48 + v / 10 ^ n % 10)) _ (v / 10 ^ n) (λ s. digits_at n (must - 1) s at end (marks (at + 1) (digits n v ++ rest))) _ v rest
+digits_again : (n v last at : ℕ) (end : Fault) (rest : List ℕ) → ReadsSize (digits_at n (v / 10 ^ n) last end (marks at (digits n v ++ rest))) v rest
+digits_again zero v last at end rest = (last, at, ap (λ (s : ℕ). Ok (record { size = s; last = last; rest = marks at rest })) (div-one v))
+digits_again (suc n) v last at end rest =
+    step (is_digit (48 + v / 10 ^ n % 10)) _ (v / 10 ^ n) (λ s. digits_at n s at end (marks (at + 1) (digits n v ++ rest))) _ v rest
     (digit_test (v / 10 ^ n % 10) (omega arith))
     (one_more v n)
-    (digits_again n (must - 1) v at (at + 1) end rest)
+    (digits_again n v at (at + 1) end rest)
 
 -- ---- numbers
 is_in_range : (f : Form) (n : Digits) → f.least ≤ n.size → n.size ≤ f.most → in_range f n ≡ Ok n
@@ -48,13 +48,13 @@ is_in_range f n low high = grind (arith, nat_tests)
 size_again : (f : Form) (size at : ℕ) (end : Fault) (rest : List ℕ) → f.least ≤ size → size ≤ f.most → f.most < 10 ^ f.digits
     → ReadsSize (size_at f end (marks at (digits f.digits size ++ rest))) size rest
 size_again f size at end rest low high room =
-    let read = digits_again f.digits f.fewest size 0 at end rest in
+    let read = digits_again f.digits size 0 at end rest in
     let text = marks at (digits f.digits size ++ rest) in
     let none : size / 10 ^ f.digits ≡ 0 = div-eq_of_lt (omega arith) in
     let n : Digits = record { size = size; last = read.0; rest = marks read.1 rest } in (
       read.0,
       read.1,
-      ap (λ r. r >>= in_range f) (ap (λ m. digits_at f.digits f.fewest m 0 end text) (sym none) ∙ read.2)
+      ap (λ r. r >>= in_range f) (ap (λ m. digits_at f.digits m 0 end text) (sym none) ∙ read.2)
           ∙ is_in_range f n low high,
     )
 
@@ -100,15 +100,15 @@ stands f found room no_end is_character = record { found = found; room = room; n
 
 forms_stand : AllStand forms
 forms_stand =
-    let n = stands (form letter_n 4 4 false 0 9999) refl (lit< tt) refl refl in
+    let n = stands (form letter_n 4 false 0 9999) refl (lit< tt) refl refl in
     let g = stands g_word refl (lit< tt) refl refl in
-    let x = stands (form letter_x 8 8 true 0 50000000) refl (lit< tt) refl refl in
-    let y = stands (form letter_y 8 8 true 0 50000000) refl (lit< tt) refl refl in
-    let z = stands (form letter_z 8 8 true 0 50000000) refl (lit< tt) refl refl in
-    let f = stands (form letter_f 4 4 false 1 9999) refl (lit< tt) refl refl in
-    let s = stands (form letter_s 4 4 false 1 9999) refl (lit< tt) refl refl in
-    let t = stands (form letter_t 2 2 false 1 99) refl (lit< tt) refl refl in
-    let m = stands (form letter_m 2 2 false 0 99) refl (lit< tt) refl refl in
+    let x = stands (form letter_x 8 true 0 50000000) refl (lit< tt) refl refl in
+    let y = stands (form letter_y 8 true 0 50000000) refl (lit< tt) refl refl in
+    let z = stands (form letter_z 8 true 0 50000000) refl (lit< tt) refl refl in
+    let f = stands (form letter_f 4 false 1 9999) refl (lit< tt) refl refl in
+    let s = stands (form letter_s 4 false 1 9999) refl (lit< tt) refl refl in
+    let t = stands (form letter_t 2 false 1 99) refl (lit< tt) refl refl in
+    let m = stands (form letter_m 2 false 0 99) refl (lit< tt) refl refl in
     (n, (g, (g, (g, (g, (g, (x, (y, (z, (f, (s, (t, (m, tt)))))))))))))
 
 -- ---- words

@@ -59,26 +59,26 @@ minus_sign = 45
 abbrev pub line_feed : ℕ
 line_feed = 10
 
--- how the words of a letter are written: the fewest digits and the most, whether a sign may stand, and the least and the greatest size
-abbrev pub form : ℕ → ℕ → ℕ → Bool → ℕ → ℕ → Form
-form letter fewest digits signed least most =
-    record { letter = letter; fewest = fewest; digits = digits; signed = signed; least = least; most = most }
+-- how the words of a letter are written: their digits, whether a sign may stand, and the least and the greatest size
+abbrev pub form : ℕ → ℕ → Bool → ℕ → ℕ → Form
+form letter digits signed least most =
+    record { letter = letter; digits = digits; signed = signed; least = least; most = most }
 
 abbrev pub g_word : Form
-g_word = form letter_g 2 2 false 0 99
+g_word = form letter_g 2 false 0 99
 
 -- the words of a block, in order. Of the G words four can stand, one of each group; a fifth is read and refused
 abbrev pub forms : List Form
 forms =
-    form letter_n 4 4 false 0 9999
+    form letter_n 4 false 0 9999
     ∷ g_word ∷ g_word ∷ g_word ∷ g_word ∷ g_word
-    ∷ form letter_x 8 8 true 0 50000000
-    ∷ form letter_y 8 8 true 0 50000000
-    ∷ form letter_z 8 8 true 0 50000000
-    ∷ form letter_f 4 4 false 1 9999
-    ∷ form letter_s 4 4 false 1 9999
-    ∷ form letter_t 2 2 false 1 99
-    ∷ form letter_m 2 2 false 0 99
+    ∷ form letter_x 8 true 0 50000000
+    ∷ form letter_y 8 true 0 50000000
+    ∷ form letter_z 8 true 0 50000000
+    ∷ form letter_f 4 false 1 9999
+    ∷ form letter_s 4 false 1 9999
+    ∷ form letter_t 2 false 1 99
+    ∷ form letter_m 2 false 0 99
     ∷ []
 
 -- the groups of G codes: motion (rapid, straight cut), units (inch, millimetre), absolute positions, feed per minute
@@ -120,13 +120,12 @@ pub record Digits : Type 0 where
 abbrev pub is_digit : ℕ → Bool
 is_digit ch = nat_le 48 ch && nat_le ch 57
 
--- behind a number so many digits more may stand, of which so many must; what is met where the characters end
-abbrev pub digits_at : ℕ → ℕ → ℕ → ℕ → Fault → List Mark → Result Digits Fault
-digits_at zero must size last end text = Ok (record { size = size; last = last; rest = text })
-digits_at (suc n) must size last end [] = Err end
-digits_at (suc n) must size last end (c ∷ text) =
-    if is_digit c.ch then digits_at n (must - 1) (10 * size + (c.ch - 48)) c.at end text
-    else if must == 0 then Ok (record { size = size; last = last; rest = c ∷ text })
+-- behind a number so many digits more must stand; what is met where the characters end
+abbrev pub digits_at : ℕ → ℕ → ℕ → Fault → List Mark → Result Digits Fault
+digits_at zero size last end text = Ok (record { size = size; last = last; rest = text })
+digits_at (suc n) size last end [] = Err end
+digits_at (suc n) size last end (c ∷ text) =
+    if is_digit c.ch then digits_at n (10 * size + (c.ch - 48)) c.at end text
     else Err (bad_block c.at)
 
 -- a size out of range can't stand at its last digit
@@ -134,7 +133,7 @@ abbrev pub in_range : Form → Digits → Result Digits Fault
 in_range form n = if nat_le form.least n.size && nat_le n.size form.most then Ok n else Err (bad_block n.last)
 
 abbrev pub size_at : Form → Fault → List Mark → Result Digits Fault
-size_at form end text = digits_at form.digits form.fewest 0 0 end text >>= in_range form
+size_at form end text = digits_at form.digits 0 0 end text >>= in_range form
 
 -- a word, and the characters after it
 pub record Number : Type 0 where
@@ -209,7 +208,7 @@ digits zero v = []
 digits (suc n) v = (48 + v / 10 ^ n % 10) ∷ digits n v
 
 abbrev pub form_in : List Form → ℕ → Form
-form_in [] letter = form letter 0 0 false 0 0
+form_in [] letter = form letter 0 false 0 0
 form_in (f ∷ fs) letter = if f.letter == letter then f else form_in fs letter
 
 -- plus for 0

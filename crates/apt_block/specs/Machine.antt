@@ -28,7 +28,7 @@ form_for used (form ∷ later) ch = if ch == form.letter then Some (form, used +
 -- a word whose letter stands at a place
 abbrev pub new_word : Form → ℕ → OpenWord
 new_word form at =
-    record { form = form; at = at; minus = false; later = form.digits - 1; must = form.fewest; size = 0; last = 0 }
+    record { form = form; at = at; minus = false; later = form.digits - 1; size = 0; last = 0 }
 
 abbrev pub first_want : Form → ℕ → Want
 first_want form at = if form.signed then wants.Sign (new_word form at) else wants.Digit (new_word form at)
@@ -54,12 +54,11 @@ word_end b w =
     else Err (bad_block w.last)
 
 abbrev pub with_digit : OpenWord → Mark → OpenWord
-with_digit w c = record w { later = w.later - 1; must = w.must - 1; size = 10 * w.size + (c.ch - 48); last = c.at }
+with_digit w c = record w { later = w.later - 1; size = 10 * w.size + (c.ch - 48); last = c.at }
 
 abbrev pub digit_step : FrontPart → OpenWord → Mark → Result FrontPart Fault
 digit_step b w c =
     if is_digit c.ch then (if w.later == 0 then word_end b (with_digit w c) else Ok (record b { want = wants.Digit (with_digit w c) }))
-    else if w.must == 0 then (word_end b w >>= λ b. letter_step b c)
     else Err (bad_block c.at)
 
 abbrev pub sign_step : FrontPart → OpenWord → Mark → Result FrontPart Fault

@@ -10,15 +10,14 @@ use crate::table::{code_fault, form_for, is_bad_code};
 use crate::{Block, Fault, Form, Mark, TapeCause, TapeWord};
 use std::marker::Model;
 
-/// A word that has no end yet: the place of its letter, how many digits may come behind the next one and
-/// how many must come, and the size and the place of the last digit so far.
+/// A word that has no end yet: the place of its letter, how many digits must come behind the next one, and
+/// the size and the place of the last digit so far.
 #[derive(Clone, Copy)]
 pub struct OpenWord {
     pub form: Form,
     pub at: u64,
     pub minus: bool,
     pub later: u8,
-    pub must: u8,
     pub size: u64,
     pub last: u64,
 }
@@ -67,7 +66,6 @@ fn new_word(form: Form, at: u64) -> OpenWord
         at,
         minus: false,
         later: form.digits.saturating_sub(1),
-        must: form.fewest,
         size: 0,
         last: 0,
     }
@@ -107,7 +105,6 @@ fn with_digit(word: OpenWord, c: Mark) -> OpenWord
 {
     OpenWord {
         later: word.later.saturating_sub(1),
-        must: word.must.saturating_sub(1),
         size: 10 * word.size + (c.ch - b'0') as u64,
         last: c.at,
         ..word
@@ -142,7 +139,6 @@ fn add_digit(word: &mut OpenWord, c: Mark)
     ensures { word.new ≡ machine.with_digit word.old c }
 {
     word.later = word.later.saturating_sub(1);
-    word.must = word.must.saturating_sub(1);
     word.size = 10 * word.size + (c.ch - b'0') as u64;
     word.last = c.at;
 }
@@ -315,19 +311,15 @@ impl BlockReader {
         requires room { HasDigits word }
         ensures { IsStep (machine.digit_step self.old word c) self.new result }
     {
-        if is_digit(c.ch) {
-            let longer = with_digit(word, c);
-            if word.later == 0 {
-                self.word_end(longer)
-            } else {
-                self.want = Want::Digit(longer);
-                Ok(())
-            }
-        } else if word.must == 0 {
-            self.word_end(word)?;
-            self.letter_step(c)
+        if !is_digit(c.ch) {
+            return Err(bad_block(c.at));
+        }
+        let longer = with_digit(word, c);
+        if word.later == 0 {
+            self.word_end(longer)
         } else {
-            Err(bad_block(c.at))
+            self.want = Want::Digit(longer);
+            Ok(())
         }
     }
 

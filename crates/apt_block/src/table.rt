@@ -7,12 +7,11 @@ ghost use Rattle.apt_block.specs.Machine as machine;
 
 use crate::{TapeCause, TapeWord};
 
-/// How the words of a letter are written: the fewest digits and the most, whether a sign may stand,
-/// and the least and the greatest size.
+/// How the words of a letter are written: their digits, whether a sign may stand, and the least and the
+/// greatest size.
 #[derive(Clone, Copy)]
 pub struct Form {
     pub letter: u8,
-    pub fewest: u8,
     pub digits: u8,
     pub signed: bool,
     pub least: u64,
@@ -23,7 +22,6 @@ pub struct Form {
 static FORMS: [Form; 13] = [
     Form {
         letter: b'N',
-        fewest: 4,
         digits: 4,
         signed: false,
         least: 0,
@@ -31,7 +29,6 @@ static FORMS: [Form; 13] = [
     },
     Form {
         letter: b'G',
-        fewest: 2,
         digits: 2,
         signed: false,
         least: 0,
@@ -39,7 +36,6 @@ static FORMS: [Form; 13] = [
     },
     Form {
         letter: b'G',
-        fewest: 2,
         digits: 2,
         signed: false,
         least: 0,
@@ -47,7 +43,6 @@ static FORMS: [Form; 13] = [
     },
     Form {
         letter: b'G',
-        fewest: 2,
         digits: 2,
         signed: false,
         least: 0,
@@ -55,7 +50,6 @@ static FORMS: [Form; 13] = [
     },
     Form {
         letter: b'G',
-        fewest: 2,
         digits: 2,
         signed: false,
         least: 0,
@@ -63,7 +57,6 @@ static FORMS: [Form; 13] = [
     },
     Form {
         letter: b'G',
-        fewest: 2,
         digits: 2,
         signed: false,
         least: 0,
@@ -71,7 +64,6 @@ static FORMS: [Form; 13] = [
     },
     Form {
         letter: b'X',
-        fewest: 8,
         digits: 8,
         signed: true,
         least: 0,
@@ -79,7 +71,6 @@ static FORMS: [Form; 13] = [
     },
     Form {
         letter: b'Y',
-        fewest: 8,
         digits: 8,
         signed: true,
         least: 0,
@@ -87,7 +78,6 @@ static FORMS: [Form; 13] = [
     },
     Form {
         letter: b'Z',
-        fewest: 8,
         digits: 8,
         signed: true,
         least: 0,
@@ -95,7 +85,6 @@ static FORMS: [Form; 13] = [
     },
     Form {
         letter: b'F',
-        fewest: 4,
         digits: 4,
         signed: false,
         least: 1,
@@ -103,7 +92,6 @@ static FORMS: [Form; 13] = [
     },
     Form {
         letter: b'S',
-        fewest: 4,
         digits: 4,
         signed: false,
         least: 1,
@@ -111,7 +99,6 @@ static FORMS: [Form; 13] = [
     },
     Form {
         letter: b'T',
-        fewest: 2,
         digits: 2,
         signed: false,
         least: 1,
@@ -119,7 +106,6 @@ static FORMS: [Form; 13] = [
     },
     Form {
         letter: b'M',
-        fewest: 2,
         digits: 2,
         signed: false,
         least: 0,

@@ -1,3 +1,4 @@
 mod Worked
 pub mod Blanks
 pub mod Places
+pub mod Spelling

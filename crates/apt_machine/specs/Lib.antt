@@ -3,3 +3,4 @@ pub mod Causes
 pub mod Numbers
 pub mod Keys
 pub mod Tables
+pub mod Spelling

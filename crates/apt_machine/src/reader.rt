@@ -5,6 +5,7 @@ ghost use Rattle.std.specs.Result.{IfErr};
 ghost use Rattle.apt_lexis.specs.Lines.{lines_of};
 ghost use Rattle.apt_machine.specs.Keys.{blank_draft};
 ghost use Rattle.apt_machine.specs.Machines.{IsMachine};
+ghost use Rattle.apt_machine.specs.Spelling.{spelled};
 ghost use Rattle.apt_machine.specs.Tables as tables;
 
 use crate::draft::Draft;
@@ -28,6 +29,7 @@ fn fault(line: u32, cause: MachineCause) -> MachineError
 pub fn table(bytes: &[u8]) -> Result<Machine, MachineError>
     requires short { length bytes.now ≤ 65536 }
     ensures value { result ≡ tables.table_of bytes.now }
+    ensures spelled { (m : Machine) → IsMachine m → bytes.now ≡ spelled m → result ≡ Ok m }
     ensures range { IfOk result IsMachine }
     ensures place { IfErr result (λ e. tables.Stands (length (lines_of bytes.now)) e.line e.cause) }
 {

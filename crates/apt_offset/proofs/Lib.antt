@@ -1,3 +1,4 @@
 pub mod Circles
 pub mod Bands
+pub mod Refusals
 pub mod Spots

@@ -13,7 +13,7 @@ use Rattle.apt_plane.specs.declared.figures.Surface.TheVariants as surfaces
 use Rattle.apt_plane.specs.declared.figures.Band.{Band}
 use Rattle.apt_offset.specs.declared.Target.{Target}
 use Rattle.apt_offset.specs.declared.Target.TheVariants as targets
-use Rattle.apt_offset.specs.Sides.{side_at_drive, side_at_stop}
+use Rattle.apt_offset.specs.Sides.{side_at_drive, side_at_check, side_at_stop}
 
 abbrev pub signed : Sign → ℤ → ℤ
 signed signs.Plus r = r
@@ -70,10 +70,6 @@ abbrev pub stop_target : Surface → Stop → Pt → Surface → Side → ℤ �
 stop_target check how start drive side sense r =
     side_at_stop check how start drive (side_at_drive side sense) >>= λ v. target check v r
 
-abbrev pub band_or_on : Surface → Result Sign Case → ℤ → ℤ → ℤ → Band
-band_or_on check (Ok v) r i o = band_at check v r i o
-band_or_on check (Err case) r i o = band_at check signs.Zero r i o
-
 -- the band in which the motion ends
 abbrev pub stop_band : Surface → Stop → Pt → Surface → Side → ℤ → ℤ → ℤ → ℤ → Band
-stop_band check how start drive side sense r i o = band_or_on check (side_at_stop check how start drive (side_at_drive side sense)) r i o
+stop_band check how start drive side sense r i o = band_at check (side_at_check check how start drive (side_at_drive side sense)) r i o

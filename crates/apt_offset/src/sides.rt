@@ -1,8 +1,10 @@
 //! The place of the cutter at a surface: left of a line or inside a circle (Plus), right or outside
 //! (Minus), or on it (Zero).
 
-ghost use Rattle.std.specs.Prelude.{◌≡◌};
+ghost use Rattle.std.specs.Prelude.{◌≡◌, ◌↔◌, IsErrOf};
+ghost use Rattle.std.specs.Result.{IfErr};
 ghost use Rattle.apt_plane.specs.Ranges.{IsPoint, IsSurface, IsLine, IsCircle};
+ghost use Rattle.apt_offset.specs.Refusals.{StartsOn};
 ghost use Rattle.apt_offset.specs.Sides as spec;
 
 use crate::signs::{is_zero, opposite, times};
@@ -62,7 +64,9 @@ pub fn side_at_stop(
     requires check { IsSurface check.now }
     requires start { IsPoint start }
     requires drive { IsSurface drive.now }
-    ensures { result ≡ spec.side_at_stop check.now how start drive.now at_drive }
+    ensures value { result ≡ spec.side_at_stop check.now how start drive.now at_drive }
+    ensures on_check { IsErrOf result Case.OnCheck ↔ StartsOn check.now how start }
+    ensures only { IfErr result (λ case. case ≡ Case.OnCheck) }
 {
     let side = side_at_check(check, how, start, drive, at_drive);
     if is_on_check(how, side) {

@@ -1,12 +1,16 @@
 //! Targets and tolerance bands.
 
-ghost use Rattle.std.specs.Prelude.{◌≡◌, false, pos, ◌≤◌, ◌≤ℤ◌, IfOk, unsigned_abs};
+ghost use Rattle.std.specs.Prelude.{◌≡◌, ◌↔◌, ◌⊎◌, false, ℤ, pos, ◌≤◌, ◌≤ℤ◌, IfOk, IsErrOf, unsigned_abs};
+ghost use Rattle.std.specs.Result.{IfErr};
 ghost use Rattle.apt_plane.specs.Ranges.{IsPoint, IsSurface, IsBand};
 ghost use Rattle.apt_offset.specs.Targets as moving;
+ghost use Rattle.apt_offset.specs.Bands.{IsInBand, HasEdgeWithin};
+ghost use Rattle.apt_offset.specs.Refusals.{StartsOn, HasNoRoom};
+ghost use Rattle.apt_offset.specs.Sides.{side_at_drive, side_at_check};
 ghost use Rattle.apt_offset.specs.Ranges.{IsRadius, IsTolerance, IsTarget};
 
 use crate::Target;
-use crate::sides::{side_at_drive, side_at_stop};
+use crate::sides::{side_at_check, side_at_drive, side_at_stop};
 use apt_num::Sign;
 use apt_plane::{Band, Pt, Surface};
 use apt_words::{Case, Side, Stop};
@@ -23,6 +27,8 @@ pub fn drive_target(s: &Surface, side: Side, sense: i8, r: i64) -> Result<Target
     requires surface { IsSurface s.now }
     requires radius { IsRadius r }
     ensures value { result ≡ moving.drive_target s.now side sense r }
+    ensures no_room { IsErrOf result Case.NoRoom ↔ HasNoRoom s.now (side_at_drive side sense) r }
+    ensures only { IfErr result (λ case. case ≡ Case.NoRoom) }
     ensures fits { IfOk result IsTarget }
 {
     target(s, side_at_drive(side, sense), r)
@@ -48,6 +54,9 @@ pub fn stop_target(
     requires drive { IsSurface drive.now }
     requires radius { IsRadius r }
     ensures value { result ≡ moving.stop_target check.now how start drive.now side sense r }
+    ensures on_check { IsErrOf result Case.OnCheck ↔ StartsOn check.now how start }
+    ensures no_room { IsErrOf result Case.NoRoom ↔ ((¬ StartsOn check.now how start) × HasNoRoom check.now (side_at_check check.now how start drive.now (side_at_drive side sense)) r) }
+    ensures only { IfErr result (λ case. (case ≡ Case.OnCheck) ⊎ (case ≡ Case.NoRoom)) }
     ensures fits { IfOk result IsTarget }
 {
     let side = side_at_stop(check, how, start, drive, side_at_drive(side, sense))?;
@@ -63,6 +72,7 @@ pub fn drive_band(s: &Surface, side: Side, sense: i8, r: i64, i: i64, o: i64) ->
     requires inwards { IsTolerance i }
     requires outwards { IsTolerance o }
     ensures value { result ≡ moving.drive_band s.now side sense r i o }
+    ensures edge { (x : ℤ) → IsInBand result x ↔ HasEdgeWithin s.now (side_at_drive side sense) r i o x }
     ensures fits { IsBand result }
 {
     band_at(s, side_at_drive(side, sense), r, i, o)
@@ -88,12 +98,11 @@ pub fn stop_band(
     requires inwards { IsTolerance i }
     requires outwards { IsTolerance o }
     ensures value { result ≡ moving.stop_band check.now how start drive.now side sense r i o }
+    ensures edge { (x : ℤ) → IsInBand result x ↔ HasEdgeWithin check.now (side_at_check check.now how start drive.now (side_at_drive side sense)) r i o x }
     ensures fits { IsBand result }
 {
-    match side_at_stop(check, how, start, drive, side_at_drive(side, sense)) {
-        Ok(side) => band_at(check, side, r, i, o),
-        Err(_) => band_at(check, Sign::Zero, r, i, o),
-    }
+    let place = side_at_check(check, how, start, drive, side_at_drive(side, sense));
+    band_at(check, place, r, i, o)
 }
 
 /// A surface moved by the cutter's radius `r`, in grid units, to a place of the cutter.
@@ -172,6 +181,7 @@ pub fn band_at(s: &Surface, side: Sign, r: i64, i: i64, o: i64) -> Band
     requires inwards { IsTolerance i }
     requires outwards { IsTolerance o }
     ensures value { result ≡ moving.band_at s.now side r i o }
+    ensures edge { (x : ℤ) → IsInBand result x ↔ HasEdgeWithin s.now side r i o x }
     ensures fits { IsBand result }
 {
     match s {

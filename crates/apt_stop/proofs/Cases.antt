@@ -16,14 +16,15 @@ use Rattle.apt_canon.specs.Scale.{is_in_range}
 use Rattle.apt_canon.specs.Meeting.{are_parallel, meeting_point, line_line}
 use Rattle.apt_canon.proofs.Fits.{not_zero-test}
 use Rattle.apt_stop.specs.Nearness.{heading}
-use Rattle.apt_stop.specs.Lines.{line_behind, line_stop, contact_of}
+use Rattle.apt_stop.specs.Lines.{line_behind, line_stop, crossing}
 
 -- the answer by its three tests
 abbrev answer : Bool → Bool → Bool → Pt → Result Pt Case
 answer parallel behind inside p =
     if parallel then Err cases.Parallel
     else if behind then Err cases.Behind
-    else contact_of (if parallel then Err faults.NoMeeting else if inside then Ok p else Err faults.OutOfRange)
+    else if inside then Ok p
+    else Err cases.OutOfRange
 
 unless_answer : (a b c : Bool) (p : Pt) → unless ((a, cases.Parallel) ∷ (b, cases.Behind) ∷ (not c, cases.OutOfRange) ∷ []) p ≡ answer a b c p
 unless_answer true b c p = refl
@@ -62,22 +63,41 @@ is_outside false false true p = (λ e. absurd (cc), λ h. absurd (apart h.2))
 is_outside false false false p = (λ e. (refl, refl, refl), λ h. refl)
 
 -- the test for parallel lines
-crossing : (z : ℤ) → ((unsigned_abs z == 0) ≡ true) ↔ (z ≡ pos 0)
-crossing (pos zero) = (λ h. refl, λ h. refl)
-crossing (pos (suc n)) = rw (not_zero-test (pos (suc n)) (λ e. omega (arith, ints))) (λ h. absurd (apart_back h), λ e. absurd (omega (arith, ints)))
-crossing (negsuc n) = rw (not_zero-test (negsuc n) (λ e. omega (arith, ints))) (λ h. absurd (apart_back h), λ e. absurd (omega (arith, ints)))
+zero_test : (z : ℤ) → ((unsigned_abs z == 0) ≡ true) ↔ (z ≡ pos 0)
+zero_test (pos zero) = (λ h. refl, λ h. refl)
+zero_test (pos (suc n)) = rw (not_zero-test (pos (suc n)) (λ e. omega (arith, ints))) (λ h. absurd (apart_back h), λ e. absurd (omega (arith, ints)))
+zero_test (negsuc n) = rw (not_zero-test (negsuc n) (λ e. omega (arith, ints))) (λ h. absurd (apart_back h), λ e. absurd (omega (arith, ints)))
 
 not_crossing : (z : ℤ) → ((unsigned_abs z == 0) ≡ false) ↔ (z ≢ pos 0)
 not_crossing z = (λ e is. apart (rw is at e), λ d. not_zero-test z d)
 
-past_tests : (a b : Bool) (r : Result Pt FormFault) → a ≡ false → b ≡ false
-    → (if a then Err cases.Parallel else if b then Err cases.Behind else contact_of r) ≡ contact_of r
+past_tests : (a b : Bool) (r : Result Pt Case) → a ≡ false → b ≡ false → (if a then Err cases.Parallel else if b then Err cases.Behind else r) ≡ r
 past_tests a b r e f = rw (e, f) refl
 
--- past both tests the answer is that of the lines' meeting
-pub line_stop-met : (start : Pt) (d : Line) (off sense : ℤ) (c : Line) (stop : ℤ) → are_parallel d c ≡ false → line_behind start (heading sense d.dir) c stop ≡ false
-    → line_stop start d off sense c stop ≡ contact_of (line_line d off c stop)
-line_stop-met start d off sense c stop e f = line_stop-answer start d off sense c stop ∙ past_tests (are_parallel d c) (line_behind start (heading sense d.dir) c stop) (line_line d off c stop) e f
+-- past both tests the answer is where the lines cross
+pub line_stop-crossing : (start : Pt) (d : Line) (off sense : ℤ) (c : Line) (stop : ℤ) → are_parallel d c ≡ false → line_behind start (heading sense d.dir) c stop ≡ false
+    → line_stop start d off sense c stop ≡ crossing d off c stop
+line_stop-crossing start d off sense c stop e f = line_stop-answer start d off sense c stop ∙ past_tests (are_parallel d c) (line_behind start (heading sense d.dir) c stop) (crossing d off c stop) e f
+
+found : (parallel inside : Bool) (p q : Pt) → parallel ≡ false → (if parallel then Err faults.NoMeeting else if inside then Ok p else Err faults.OutOfRange) ≡ Ok q
+    → Ok q ≡ (if inside then Ok p else Err cases.OutOfRange)
+found true inside p q apart e = absurd (cc)
+found false true p q apart e = cc
+found false false p q apart e = absurd (cc)
+
+lost : (parallel inside : Bool) (p : Pt) (fault : FormFault) → parallel ≡ false → (if parallel then Err faults.NoMeeting else if inside then Ok p else Err faults.OutOfRange) ≡ Err fault
+    → Err cases.OutOfRange ≡ (if inside then Ok p else Err cases.OutOfRange)
+lost true inside p fault apart e = absurd (cc)
+lost false true p fault apart e = absurd (cc)
+lost false false p fault apart e = refl
+
+-- what the formula of two lines answers, where they are not parallel
+pub crossing_found : (d : Line) (off : ℤ) (c : Line) (stop : ℤ) (q : Pt) → are_parallel d c ≡ false → line_line d off c stop ≡ Ok q → Ok q ≡ crossing d off c stop
+crossing_found d off c stop q apart e = found (are_parallel d c) (is_in_range (meeting_point d off c stop)) (meeting_point d off c stop) q apart e
+
+pub crossing_lost : (d : Line) (off : ℤ) (c : Line) (stop : ℤ) (fault : FormFault) → are_parallel d c ≡ false → line_line d off c stop ≡ Err fault
+    → Err cases.OutOfRange ≡ crossing d off c stop
+crossing_lost d off c stop fault apart e = lost (are_parallel d c) (is_in_range (meeting_point d off c stop)) (meeting_point d off c stop) fault apart e
 
 pub inside_point : (p : Pt) → is_in_range p ≡ true → IsPoint p
 inside_point p e = record { x = grind (arith, nat_tests); y = grind (arith, nat_tests) }
@@ -93,7 +113,7 @@ pub answer_parallel : (r : Result Pt Case) (start : Pt) (d : Line) (off sense : 
     → IsErrOf r cases.Parallel ↔ (cross d.dir c.dir ≡ pos 0)
 answer_parallel r start d off sense c stop e =
     let is = is_parallel (are_parallel d c) (line_behind start (heading sense d.dir) c stop) (is_in_range (meeting_point d off c stop)) (meeting_point d off c stop) in
-    let test = crossing (cross d.dir c.dir) in
+    let test = zero_test (cross d.dir c.dir) in
     rw (e ∙ line_stop-answer start d off sense c stop) (λ h. test.0 (is.0 h), λ h. is.1 (test.1 h))
 
 pub answer_behind : (r : Result Pt Case) (start : Pt) (d : Line) (off sense : ℤ) (c : Line) (stop : ℤ) → r ≡ line_stop start d off sense c stop

@@ -10,8 +10,6 @@ use Rattle.apt_plane.specs.declared.figures.Dir.{Dir}
 use Rattle.apt_plane.specs.declared.figures.Line.{Line}
 use Rattle.apt_plane.specs.Vectors.{cross}
 use Rattle.apt_words.specs.Rows.{Row, unless}
-use Rattle.apt_canon.specs.declared.FormFault.{FormFault}
-use Rattle.apt_canon.specs.declared.FormFault.TheVariants as faults
 use Rattle.apt_canon.specs.Scale.{is_in_range}
 use Rattle.apt_canon.specs.Meeting.{meeting_point, are_parallel}
 use Rattle.apt_offset.specs.declared.Target.TheVariants as targets
@@ -47,13 +45,10 @@ line_cases start drive off sense check stop_off =
     ∷ (line_behind start (heading sense drive.dir) check stop_off, cases.Behind)
     ∷ (not (is_in_range (meeting_point drive off check stop_off)), cases.OutOfRange) ∷ []
 
--- a meeting that is not to be had is out of range: the lines are not parallel then
-abbrev pub contact_of : Result Pt FormFault → Result Pt Case
-contact_of (Ok p) = Ok p
-contact_of (Err faults.OutOfRange) = Err cases.OutOfRange
-contact_of (Err faults.Degenerate) = Err cases.OutOfRange
-contact_of (Err faults.NoMeeting) = Err cases.OutOfRange
-contact_of (Err faults.TooLarge) = Err cases.OutOfRange
+-- where two moved lines meet that are not parallel
+abbrev pub crossing : Line → ℤ → Line → ℤ → Result Pt Case
+crossing drive off check stop_off =
+    if is_in_range (meeting_point drive off check stop_off) then Ok (meeting_point drive off check stop_off) else Err cases.OutOfRange
 
 -- where it stops
 abbrev pub line_stop : Pt → Line → ℤ → ℤ → Line → ℤ → Result Pt Case

@@ -74,12 +74,14 @@ fn contact(
     }
 }
 
+/// Where two moved lines meet that are not parallel.
 fn crossing(drive: &Line, off: i64, check: &Line, stop_off: i64) -> Result<Pt, Case>
     requires drive { IsLine drive.now }
     requires off { unsigned_abs off ≤ 500000 }
     requires check { IsLine check.now }
     requires stop_off { unsigned_abs stop_off ≤ 500000 }
-    ensures { result ≡ stops.contact_of (meeting.line_line drive.now off check.now stop_off) }
+    requires apart { meeting.are_parallel drive.now check.now ≡ false }
+    ensures { result ≡ stops.crossing drive.now off check.now stop_off }
 {
     let track = Moved { line: *drive, off };
     let stop = Moved {

@@ -1,16 +1,32 @@
+ghost use Rattle.apt_machine.specs.Machines.{IsMachine};
+
 use apt_cldata::{Note, Reach, Record};
 use apt_machine::Machine;
 use apt_parse::parse;
 use apt_part::part_of;
+use apt_tapecode::Code;
 use apt_unroll::unroll;
 use apt_words::{Case, Refusal};
 use std::test::Fail;
+
+/// The machine of no limits but those of the tape.
+fn any_machine() -> Machine
+    ensures { IsMachine result }
+{
+    Machine {
+        code: Code::Rs358,
+        seq: 1,
+        feedmax: 9999,
+        spinmax: 9999,
+        toolmax: 99,
+    }
+}
 
 #[test]
 fn a_part_has_its_records(rt: HostRuntime) -> Result<(), Fail> {
     let mut text = Vec::new(rt.alloc());
     text.extend_from_slice(b"PARTNO A\nFEDRAT/10\nFROM/0,0,0\nGOTO/1,2,3\nFINI\n")?;
-    match part_of(rt.alloc(), text, &Machine::largest()) {
+    match part_of(rt.alloc(), text, &any_machine()) {
         Ok(part) => {
             assert_eq!(rt; part.steps.len(), 5);
             assert_eq!(rt; part.records.len(), 10);

@@ -17,7 +17,9 @@ fn machine(code: Code, seq: u16) -> Machine {
     Machine {
         code,
         seq,
-        ..Machine::largest()
+        feedmax: 9999,
+        spinmax: 9999,
+        toolmax: 99,
     }
 }
 
