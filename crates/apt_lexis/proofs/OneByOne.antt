@@ -89,7 +89,7 @@ choose_third false false a b c e f = refl
 
 -- ---- a mark
 
-mark_alone : (b : ℕ) (bs : List ℕ) → is_letter b ≡ false → is_in_run b ≡ false → tokens_of_run (b ∷ bs) ≡ mark b ∷ []
+pub mark_alone : (b : ℕ) (bs : List ℕ) → is_letter b ≡ false → is_in_run b ≡ false → tokens_of_run (b ∷ bs) ≡ mark b ∷ []
 mark_alone b bs e f = choose_third (is_letter b) (is_in_run b) _ _ _ e f
 
 mark_run : (b : ℕ) (bs : List ℕ) → is_in_run b ≡ false → is_blank b ≡ false → runs (b ∷ bs) ≡ (b ∷ []) ∷ runs bs
@@ -104,7 +104,7 @@ reads_mark b bs e f =
 
 -- ---- a number
 
-number_alone : (b : ℕ) (bs : List ℕ) → is_letter b ≡ false → is_in_run b ≡ true → tokens_of_run (b ∷ bs) ≡ number (b ∷ bs) ∷ []
+pub number_alone : (b : ℕ) (bs : List ℕ) → is_letter b ≡ false → is_in_run b ≡ true → tokens_of_run (b ∷ bs) ≡ number (b ∷ bs) ∷ []
 number_alone b bs e f = choose_second (is_letter b) (is_in_run b) _ _ _ e f
 
 number_run : (b : ℕ) (bs : List ℕ) → is_letter b ≡ false → is_in_run b ≡ true
@@ -164,7 +164,7 @@ number_then (b ∷ bs) h = elim (is_in_run b) as (λ t. is_in_run b ≡ t → nu
     behind_number : (b : ℕ) (bs : List ℕ) → is_in_run b ≡ true → number_behind (take (prefix_len is_in_run (b ∷ bs)) (b ∷ bs)) ≡ number (take (prefix_len is_in_run (b ∷ bs)) (b ∷ bs)) ∷ []
     behind_number b bs e = subst (λ run. number_behind run ≡ number run ∷ []) (sym (take_front is_in_run b bs e)) refl
 
-word_alone : (b : ℕ) (bs : List ℕ) → is_letter b ≡ true
+pub word_alone : (b : ℕ) (bs : List ℕ) → is_letter b ≡ true
     → tokens_of_run (b ∷ bs) ≡ word (take (prefix_len is_letter_or_digit (b ∷ bs)) (b ∷ bs)) ∷ number_behind (drop (prefix_len is_letter_or_digit (b ∷ bs)) (b ∷ bs))
 word_alone b bs e = choose_first (is_letter b) _ _ e
 
