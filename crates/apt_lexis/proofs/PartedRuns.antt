@@ -6,9 +6,10 @@ use Rattle.std.proofs.lemmas.Bool.{and_parts}
 use Rattle.std.proofs.lemmas.Grind.{flat_map-append}
 use Rattle.std.proofs.lemmas.Bool.Decides.{nat_tests}
 use Rattle.apt_lexis.specs.Lines.{in_front}
-use Rattle.apt_lexis.specs.Tokens.{Read, tokens_of_run, runs, is_blank, is_in_run, begins_in_run}
+use Rattle.apt_lexis.specs.Tokens.{tokens_of_run, runs, is_blank, is_in_run, begins_in_run}
 use Rattle.apt_lexis.specs.Spellings.{ends_in_run}
 use Rattle.apt_lexis.proofs.Splitting.{Filled, filled}
+use Rattle.apt_lexis.proofs.OneByOne.{reads_of}
 
 pub by_cases : {P : Type 0} (t : Bool) → (t ≡ true → P) → (t ≡ false → P) → P
 by_cases true h g = h refl
@@ -75,9 +76,6 @@ runs_parted (b ∷ c ∷ cs) back e =
     by_cases (is_in_run b)
     (λ f. parted_behind_run b c cs back f (runs_parted (c ∷ cs) back e))
     (λ f. parted_behind_other b (c ∷ cs) back f (runs_parted (c ∷ cs) back e))
-
-abbrev pub reads_of : List ℕ → List Read
-reads_of text = flat_map tokens_of_run (runs text)
 
 pub reads_parted : (front back : List ℕ) → (ends_in_run front && begins_in_run back) ≡ false → reads_of (front ++ back) ≡ reads_of front ++ reads_of back
 reads_parted front back e = ap (flat_map tokens_of_run) (runs_parted front back e) ∙ flat_map-append tokens_of_run (runs front) (runs back)

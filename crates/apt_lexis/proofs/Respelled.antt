@@ -9,17 +9,18 @@ use Rattle.apt_lexis.specs.Lines.{lines_of, line_fault}
 use Rattle.apt_lexis.specs.Tokens.{Tokens, capital, is_blank, is_letter, is_in_run, begins_in_run, number_in, or_bad_number, number, tokens_of_run, all_good, tokens_of}
 use Rattle.apt_lexis.specs.Phrase.{Phrase}
 use Rattle.apt_lexis.specs.Sentences.{dollar, is_no_dollar, is_single, said_on, goes_on, tokens_before, behind_tokens, title_in, behind_line, with_first, unless_fault, said_from, said_in}
-use Rattle.apt_lexis.specs.Spellings.{has_no_dollar, ends_in_run, IsRespelled, InCapitals, WithBlank, WithComment, WithZero, TakesNoText, AreRespelled}
+use Rattle.apt_lexis.specs.Spellings.{has_no_dollar, ends_in_run, IsRespelled, InCapitals, WithBlank, WithComment, WithWords, WithZero, TakesNoText, AreRespelled}
 use Rattle.apt_lexis.proofs.Fronts.{prefix_yes, prefix_no, drop_one_more, take_front, passes_other}
-use Rattle.apt_lexis.proofs.OneByOne.{number_alone}
+use Rattle.apt_lexis.proofs.OneByOne.{reads_of, number_alone}
 use Rattle.apt_lexis.proofs.SentenceLaws.{by_tokens}
-use Rattle.apt_lexis.proofs.PartedRuns.{by_cases, reads_of, reads_parted, run_alone, runs_with_blank}
+use Rattle.apt_lexis.proofs.PartedRuns.{by_cases, reads_parted, run_alone, runs_with_blank}
 use Rattle.apt_lexis.proofs.Zeros.{is_digit_or_point, number_characters, same_number}
-use Rattle.apt_lexis.proofs.SmallLetters.{tokens-capitals, said_on-capitals, goes_on-capitals}
+use Rattle.apt_lexis.proofs.Headings.{same_reads_no_text}
+use Rattle.apt_lexis.proofs.SmallLetters.{reads-capitals, said_on-capitals, goes_on-capitals}
 
--- the same tokens, and both go on or neither
+-- the same is read on both, and both go on or neither
 record SaysTheSame (line other : List ℕ) : Type 0 where
-  pub tokens : tokens_of (said_on line) ≡ tokens_of (said_on other)
+  pub reads : reads_of (said_on line) ≡ reads_of (said_on other)
   pub on : goes_on line ≡ goes_on other
 
 -- ---- up to the first `$`
@@ -53,7 +54,7 @@ begins_as_said (b ∷ bs) =
 
 capitals_say : (line : List ℕ) → SaysTheSame line (map capital line)
 capitals_say line = record {
-  tokens = sym (ap tokens_of (said_on-capitals line) ∙ tokens-capitals (said_on line));
+  reads = sym (ap reads_of (said_on-capitals line) ∙ reads-capitals (said_on line));
   on = sym (goes_on-capitals line);
 }
 
@@ -71,10 +72,10 @@ on_behind_blank b back e = on_behind (b ∷ []) back (and_from (is_no_dollar b) 
 blank_says : (front : List ℕ) (b : ℕ) (back : List ℕ) → is_blank b ≡ true → (ends_in_run front && begins_in_run back) ≡ false → has_no_dollar front ≡ true
     → SaysTheSame (front ++ back) (front ++ b ∷ back)
 blank_says front b back blank apart e = record {
-  tokens =
-      ap tokens_of (said_behind front back e)
-      ∙ ap (λ rs. all_good (flat_map tokens_of_run rs)) (sym (runs_with_blank front b (said_on back) blank (ap (λ t. ends_in_run front && t) (begins_as_said back) ∙ apart)))
-      ∙ ap tokens_of (sym (said_behind front (b ∷ back) e ∙ ap (λ text. front ++ text) (said_behind_blank b back blank)));
+  reads =
+      ap reads_of (said_behind front back e)
+      ∙ ap (flat_map tokens_of_run) (sym (runs_with_blank front b (said_on back) blank (ap (λ t. ends_in_run front && t) (begins_as_said back) ∙ apart)))
+      ∙ ap reads_of (sym (said_behind front (b ∷ back) e ∙ ap (λ text. front ++ text) (said_behind_blank b back blank)));
   on = on_behind front back e ∙ sym (on_behind front (b ∷ back) e ∙ on_behind_blank b back blank);
 }
 
@@ -82,8 +83,16 @@ blank_says front b back blank apart e = record {
 
 comment_says : (line comment : List ℕ) → has_no_dollar line ≡ true → SaysTheSame line (line ++ dollar ∷ dollar ∷ comment)
 comment_says line comment e = record {
-  tokens = ap tokens_of (ap said_on (sym (append-nil line)) ∙ said_behind line [] e ∙ sym (said_behind line (dollar ∷ dollar ∷ comment) e));
+  reads = ap reads_of (ap said_on (sym (append-nil line)) ∙ said_behind line [] e ∙ sym (said_behind line (dollar ∷ dollar ∷ comment) e));
   on = ap goes_on (sym (append-nil line)) ∙ on_behind line [] e ∙ sym (on_behind line (dollar ∷ dollar ∷ comment) e);
+}
+
+-- ---- words behind a `$`
+
+words_say : (front words : List ℕ) → is_single (dollar ∷ words) ≡ true → has_no_dollar front ≡ true → SaysTheSame (front ++ dollar ∷ []) (front ++ dollar ∷ words)
+words_say front words single e = record {
+  reads = ap reads_of (said_behind front (dollar ∷ []) e ∙ sym (said_behind front (dollar ∷ words) e));
+  on = on_behind front (dollar ∷ []) e ∙ sym single ∙ sym (on_behind front (dollar ∷ words) e);
 }
 
 -- ---- a zero more
@@ -130,20 +139,20 @@ on_around front run back h e =
     on_behind front (run ++ back) e
     ∙ on_behind run back (passes_other is_digit_or_point is_no_dollar no_dollar_of_digit_or_point run (number_characters run h))
 
-tokens_around : (front run back : List ℕ) → IsSome (number_in run) → ends_in_run front ≡ false → begins_in_run back ≡ false → has_no_dollar front ≡ true
-    → tokens_of (said_on (front ++ (run ++ back))) ≡ all_good (reads_of front ++ or_bad_number (number_in run) ∷ reads_of (said_on back))
-tokens_around front run back h begins ends e =
-    ap tokens_of (said_around front run back h e) ∙ ap all_good (reads_around front run (said_on back) h begins (begins_as_said back ∙ ends))
+reads_said_around : (front run back : List ℕ) → IsSome (number_in run) → ends_in_run front ≡ false → begins_in_run back ≡ false → has_no_dollar front ≡ true
+    → reads_of (said_on (front ++ (run ++ back))) ≡ reads_of front ++ or_bad_number (number_in run) ∷ reads_of (said_on back)
+reads_said_around front run back h begins ends e =
+    ap reads_of (said_around front run back h e) ∙ reads_around front run (said_on back) h begins (begins_as_said back ∙ ends)
 
 number_says : (front run longer back : List ℕ) → IsSome (number_in run) → number_in longer ≡ number_in run → ends_in_run front ≡ false → begins_in_run back ≡ false → has_no_dollar front ≡ true
     → SaysTheSame (front ++ (run ++ back)) (front ++ (longer ++ back))
 number_says front run longer back h same begins ends e =
     let h' : IsSome (number_in longer) = ap is_some same ∙ h in
     record {
-      tokens =
-          tokens_around front run back h begins ends e
-          ∙ ap (λ v. all_good (reads_of front ++ or_bad_number v ∷ reads_of (said_on back))) (sym same)
-          ∙ sym (tokens_around front longer back h' begins ends e);
+      reads =
+          reads_said_around front run back h begins ends e
+          ∙ ap (λ v. reads_of front ++ or_bad_number v ∷ reads_of (said_on back)) (sym same)
+          ∙ sym (reads_said_around front longer back h' begins ends e);
       on = on_around front run back h e ∙ sym (on_around front longer back h' e);
     }
 
@@ -151,7 +160,7 @@ number_says front run longer back h same begins ends e =
 
 says_of : {line other line' other' : List ℕ} → line ≡ line' → other ≡ other' → SaysTheSame line' other' → SaysTheSame line other
 says_of e f says = record {
-  tokens = ap (λ text. tokens_of (said_on text)) e ∙ says.tokens ∙ sym (ap (λ text. tokens_of (said_on text)) f);
+  reads = ap (λ text. reads_of (said_on text)) e ∙ says.reads ∙ sym (ap (λ text. reads_of (said_on text)) f);
   on = ap goes_on e ∙ says.on ∙ sym (ap goes_on f);
 }
 
@@ -159,17 +168,22 @@ says_the_same : (line other : List ℕ) → IsRespelled line other → SaysTheSa
 says_the_same line other (InCapitals e) = says_of refl e (capitals_say line)
 says_the_same line other (WithBlank m) = says_of m.before m.after (blank_says m.front m.more m.back m.blank m.apart m.read)
 says_the_same line other (WithComment m) = says_of refl m.after (comment_says line m.comment m.read)
+says_the_same line other (WithWords m) = says_of m.before m.after (words_say m.front m.words m.single m.read)
 says_the_same line other (WithZero m) =
     says_of (m.before ∙ append_assoc m.front m.run m.back) (m.after ∙ append_assoc m.front m.longer m.back)
     (number_says m.front m.run m.longer m.back m.number (same_number m.run m.longer m.number m.padded) m.begins m.ends m.read)
 
 -- another spelling of a line has the same tokens
 pub respelled_tokens : (line other : List ℕ) → IsRespelled line other → tokens_of (said_on line) ≡ tokens_of (said_on other)
-respelled_tokens line other is = (says_the_same line other is).tokens
+respelled_tokens line other is = ap all_good (says_the_same line other is).reads
 
 -- and goes on with the next line where the line does
 pub respelled_goes_on : (line other : List ℕ) → IsRespelled line other → goes_on line ≡ goes_on other
 respelled_goes_on line other is = (says_the_same line other is).on
+
+-- a line takes no text where another spelling of it takes none
+pub respelled_no_text : (line other : List ℕ) → IsRespelled line other → TakesNoText line → TakesNoText other
+respelled_no_text line other is none = same_reads_no_text line other (says_the_same line other is).reads none
 
 -- ---- texts
 
@@ -177,12 +191,12 @@ no_title : (before : Tokens) (line : List ℕ) → TakesNoText line → title_in
 no_title (Err cause) line none = refl
 no_title (Ok ts) line none = none ts
 
-same_behind : (begun : Option Phrase) (n : ℕ) (line other : List ℕ) → IsRespelled line other → TakesNoText line → TakesNoText other → behind_line begun n line ≡ behind_line begun n other
-same_behind begun n line other is none none' =
+same_behind : (begun : Option Phrase) (n : ℕ) (line other : List ℕ) → IsRespelled line other → TakesNoText line → behind_line begun n line ≡ behind_line begun n other
+same_behind begun n line other is none =
     by_tokens begun n line (no_title (tokens_before begun) line none)
     ∙ ap (λ ts. behind_tokens begun n ts (goes_on line)) (respelled_tokens line other is)
     ∙ ap (behind_tokens begun n (tokens_of (said_on other))) (respelled_goes_on line other is)
-    ∙ sym (by_tokens begun n other (no_title (tokens_before begun) other none'))
+    ∙ sym (by_tokens begun n other (no_title (tokens_before begun) other (respelled_no_text line other is none)))
 
 said_behind_lines : (begun : Option Phrase) (n : ℕ) (front : List (List ℕ)) (line other : List ℕ) (back : List (List ℕ))
     → ((begun : Option Phrase) (n : ℕ) → behind_line begun n line ≡ behind_line begun n other) → ((n : ℕ) → line_fault n line ≡ line_fault n other)
@@ -198,7 +212,7 @@ said_behind_lines begun n (first ∷ front) line other back same faults =
 pub respelled_said : (text other : List ℕ) → AreRespelled text other → said_in text ≡ said_in other
 respelled_said text other are =
     ap (said_from None 1) are.before
-    ∙ said_behind_lines None 1 are.front are.line are.spelling are.back (λ begun n. same_behind begun n are.line are.spelling are.respelled are.no_text.0 are.no_text.1) are.faults
+    ∙ said_behind_lines None 1 are.front are.line are.spelling are.back (λ begun n. same_behind begun n are.line are.spelling are.respelled are.no_text) are.faults
     ∙ sym (ap (said_from None 1) are.after)
 
 -- and has as many lines

@@ -8,9 +8,9 @@ use Rattle.apt_words.specs.Symbols.{is_symbol}
 use Rattle.apt_lexis.specs.declared.cause.PartCause.TheVariants as causes
 use Rattle.apt_lexis.specs.declared.token.Token.TheVariants as tokens
 use Rattle.apt_lexis.specs.Lines.{in_front}
-use Rattle.apt_lexis.specs.Tokens.{Read, capital, is_blank, is_small, is_letter, is_letter_or_digit, is_in_run, begins_in_run, runs, number_in, or_bad_number, number, word, mark, number_behind, tokens_of_run, all_good, tokens_of}
+use Rattle.apt_lexis.specs.Tokens.{Read, capital, is_blank, is_small, is_letter, is_letter_or_digit, is_in_run, begins_in_run, runs, number_in, or_bad_number, number, word, mark, number_behind, tokens_of_run}
 use Rattle.apt_lexis.specs.Sentences.{is_no_dollar, is_single, said_on, goes_on}
-use Rattle.apt_lexis.proofs.OneByOne.{word_alone, number_alone, mark_alone}
+use Rattle.apt_lexis.proofs.OneByOne.{reads_of, word_alone, number_alone, mark_alone}
 use Rattle.apt_lexis.proofs.PartedRuns.{by_cases, runs_longer, runs_ended, runs_blank, runs_mark}
 use Rattle.apt_lexis.proofs.Zeros.{is_digit_or_point, number_characters}
 
@@ -224,8 +224,8 @@ reads_of_runs [] = refl
 reads_of_runs (run ∷ rs) = ap (λ reads. reads ++ flat_map tokens_of_run (map (map capital) rs)) (run-capitals run) ∙ ap (λ reads. tokens_of_run run ++ reads) (reads_of_runs rs)
 
 -- capitals change no token
-pub tokens-capitals : (text : List ℕ) → tokens_of (map capital text) ≡ tokens_of text
-tokens-capitals text = ap all_good (ap (flat_map tokens_of_run) (runs-capitals text) ∙ reads_of_runs (runs text))
+pub reads-capitals : (text : List ℕ) → reads_of (map capital text) ≡ reads_of text
+reads-capitals text = ap (flat_map tokens_of_run) (runs-capitals text) ∙ reads_of_runs (runs text)
 
 -- ---- what is said on a line
 

@@ -5,7 +5,7 @@ use Rattle.apt_lexis.specs.declared.token.Token.{Token}
 use Rattle.apt_lexis.specs.Lines.{split, lines_of, line_fault}
 use Rattle.apt_lexis.specs.Tokens.{point, capital, is_blank, is_in_run, begins_in_run, number_in}
 use Rattle.apt_lexis.specs.Titles.{title_behind}
-use Rattle.apt_lexis.specs.Sentences.{dollar, is_no_dollar}
+use Rattle.apt_lexis.specs.Sentences.{dollar, is_no_dollar, is_single}
 
 -- ---- numbers
 
@@ -56,6 +56,15 @@ pub record HasCommentMore (line other : List ℕ) : Type 0 where
   pub after : other ≡ line ++ dollar ∷ dollar ∷ comment
   pub read : has_no_dollar line ≡ true
 
+-- words behind the `$` with which a line goes on
+pub record HasWordsMore (line other : List ℕ) : Type 0 where
+  pub front : List ℕ
+  pub words : List ℕ
+  pub before : line ≡ front ++ dollar ∷ []
+  pub after : other ≡ front ++ dollar ∷ words
+  pub single : is_single (dollar ∷ words) ≡ true
+  pub read : has_no_dollar front ≡ true
+
 -- a number that stands by itself has a zero more
 pub record HasLongerNumber (line other : List ℕ) : Type 0 where
   pub front : List ℕ
@@ -75,6 +84,7 @@ pub data IsRespelled (line other : List ℕ) : Type 0 where
   InCapitals : other ≡ map capital line → IsRespelled line other
   WithBlank : HasBlankMore line other → IsRespelled line other
   WithComment : HasCommentMore line other → IsRespelled line other
+  WithWords : HasWordsMore line other → IsRespelled line other
   WithZero : HasLongerNumber line other → IsRespelled line other
 
 -- ---- texts
@@ -93,7 +103,7 @@ pub record AreRespelled (text other : List ℕ) : Type 0 where
   pub after : lines_of other ≡ front ++ spelling ∷ back
   pub respelled : IsRespelled line spelling
   pub faults : (n : ℕ) → line_fault n line ≡ line_fault n spelling
-  pub no_text : TakesNoText line × TakesNoText spelling
+  pub no_text : TakesNoText line
 
 -- texts between which such changes lead, each onward or back
 pub data SayTheSame : List ℕ → List ℕ → Type 0 where
