@@ -14,7 +14,7 @@ use Rattle.apt_lexis.specs.Titles.{behind}
 use Rattle.apt_lexis.specs.Sentences.{joined}
 use Rattle.apt_lexis.proofs.Fronts.{prefix_yes, prefix_no, take_one_more, drop_one_more, take_front, none_behind, none_first}
 
-abbrev reads_of : List ℕ → List Read
+abbrev pub reads_of : List ℕ → List Read
 reads_of text = flat_map tokens_of_run (runs text)
 
 -- ---- characters
@@ -43,7 +43,7 @@ no_run_of_blank b e = grind (arith, nat_tests)
 reads_blank : (b : ℕ) (bs : List ℕ) → is_blank b ≡ true → reads_of (b ∷ bs) ≡ reads_of bs
 reads_blank b bs e = rw (no_run_of_blank b e, e) refl
 
-reads_behind_blanks : (text : List ℕ) → reads_of (behind is_blank text) ≡ reads_of text
+pub reads_behind_blanks : (text : List ℕ) → reads_of (behind is_blank text) ≡ reads_of text
 reads_behind_blanks [] = refl
 reads_behind_blanks (b ∷ bs) = elim (is_blank b) as (λ t. is_blank b ≡ t → reads_of (drop (cond t (1 + prefix_len is_blank bs) 0) (b ∷ bs)) ≡ reads_of (b ∷ bs)) [
   | true ↦ λ e. rw (drop_one_more (prefix_len is_blank bs) b bs) (reads_behind_blanks bs ∙ sym (reads_blank b bs e))
@@ -89,7 +89,7 @@ choose_third false false a b c e f = refl
 
 -- ---- a mark
 
-mark_alone : (b : ℕ) (bs : List ℕ) → is_letter b ≡ false → is_in_run b ≡ false → tokens_of_run (b ∷ bs) ≡ mark b ∷ []
+pub mark_alone : (b : ℕ) (bs : List ℕ) → is_letter b ≡ false → is_in_run b ≡ false → tokens_of_run (b ∷ bs) ≡ mark b ∷ []
 mark_alone b bs e f = choose_third (is_letter b) (is_in_run b) _ _ _ e f
 
 mark_run : (b : ℕ) (bs : List ℕ) → is_in_run b ≡ false → is_blank b ≡ false → runs (b ∷ bs) ≡ (b ∷ []) ∷ runs bs
@@ -98,26 +98,26 @@ mark_run b bs e f = choose_third (is_in_run b) (is_blank b) _ _ _ e f
 no_letter_out : (b : ℕ) → is_in_run b ≡ false → is_letter b ≡ false
 no_letter_out b e = no_letter b (neither (is_letter_or_digit b) _ e)
 
-reads_mark : (b : ℕ) (bs : List ℕ) → is_in_run b ≡ false → is_blank b ≡ false → reads_of (b ∷ bs) ≡ mark b ∷ reads_of bs
+pub reads_mark : (b : ℕ) (bs : List ℕ) → is_in_run b ≡ false → is_blank b ≡ false → reads_of (b ∷ bs) ≡ mark b ∷ reads_of bs
 reads_mark b bs e f =
     ap (flat_map tokens_of_run) (mark_run b bs e f) ∙ ap (λ rs. rs ++ reads_of bs) (mark_alone b [] (no_letter_out b e) e)
 
 -- ---- a number
 
-number_alone : (b : ℕ) (bs : List ℕ) → is_letter b ≡ false → is_in_run b ≡ true → tokens_of_run (b ∷ bs) ≡ number (b ∷ bs) ∷ []
+pub number_alone : (b : ℕ) (bs : List ℕ) → is_letter b ≡ false → is_in_run b ≡ true → tokens_of_run (b ∷ bs) ≡ number (b ∷ bs) ∷ []
 number_alone b bs e f = choose_second (is_letter b) (is_in_run b) _ _ _ e f
 
 number_run : (b : ℕ) (bs : List ℕ) → is_letter b ≡ false → is_in_run b ≡ true
     → tokens_of_run (take (prefix_len is_in_run (b ∷ bs)) (b ∷ bs)) ≡ number (take (prefix_len is_in_run (b ∷ bs)) (b ∷ bs)) ∷ []
 number_run b bs e f = subst (λ run. tokens_of_run run ≡ number run ∷ []) (sym (take_front is_in_run b bs f)) (number_alone b (take (prefix_len is_in_run bs) bs) e f)
 
-reads_number : (b : ℕ) (bs : List ℕ) → is_letter b ≡ false → is_in_run b ≡ true
+pub reads_number : (b : ℕ) (bs : List ℕ) → is_letter b ≡ false → is_in_run b ≡ true
     → reads_of (b ∷ bs) ≡ number (take (prefix_len is_in_run (b ∷ bs)) (b ∷ bs)) ∷ reads_of (drop (prefix_len is_in_run (b ∷ bs)) (b ∷ bs))
 reads_number b bs e f = reads_run b bs f ∙ ap (λ rs. rs ++ reads_of (drop (prefix_len is_in_run (b ∷ bs)) (b ∷ bs))) (number_run b bs e f)
 
 -- ---- a word
 
-inner_length : (p q : ℕ → Bool) (text : List ℕ) → ((b : ℕ) → p b ≡ true → q b ≡ true) → prefix_len p (take (prefix_len q text) text) ≡ prefix_len p text
+pub inner_length : (p q : ℕ → Bool) (text : List ℕ) → ((b : ℕ) → p b ≡ true → q b ≡ true) → prefix_len p (take (prefix_len q text) text) ≡ prefix_len p text
 inner_length p q [] h = refl
 inner_length p q (b ∷ bs) h = elim (p b) as (λ t. p b ≡ t → prefix_len p (take (prefix_len q (b ∷ bs)) (b ∷ bs)) ≡ prefix_len p (b ∷ bs)) [
   | true ↦ λ e. rw (take_front q b bs (h b e)) (prefix_yes p b (take (prefix_len q bs) bs) e ∙ ap (λ n. 1 + n) (inner_length p q bs h) ∙ sym (prefix_yes p b bs e))
@@ -127,14 +127,14 @@ inner_length p q (b ∷ bs) h = elim (p b) as (λ t. p b ≡ t → prefix_len p 
   ] refl
 ] refl
 
-inner_front : (p q : ℕ → Bool) (text : List ℕ) → ((b : ℕ) → p b ≡ true → q b ≡ true) → take (prefix_len p text) (take (prefix_len q text) text) ≡ take (prefix_len p text) text
+pub inner_front : (p q : ℕ → Bool) (text : List ℕ) → ((b : ℕ) → p b ≡ true → q b ≡ true) → take (prefix_len p text) (take (prefix_len q text) text) ≡ take (prefix_len p text) text
 inner_front p q [] h = refl
 inner_front p q (b ∷ bs) h = elim (p b) as (λ t. p b ≡ t → take (prefix_len p (b ∷ bs)) (take (prefix_len q (b ∷ bs)) (b ∷ bs)) ≡ take (prefix_len p (b ∷ bs)) (b ∷ bs)) [
   | true ↦ λ e. rw (take_front q b bs (h b e), prefix_yes p b bs e, take_one_more b (prefix_len p bs) (take (prefix_len q bs) bs), take_one_more b (prefix_len p bs) bs) (ap (λ cs. b ∷ cs) (inner_front p q bs h))
   | false ↦ λ e. rw (prefix_no p b bs e) refl
 ] refl
 
-inner_rest : (p q : ℕ → Bool) (text : List ℕ) → ((b : ℕ) → p b ≡ true → q b ≡ true)
+pub inner_rest : (p q : ℕ → Bool) (text : List ℕ) → ((b : ℕ) → p b ≡ true → q b ≡ true)
     → drop (prefix_len p text) (take (prefix_len q text) text) ≡ take (prefix_len q (drop (prefix_len p text) text)) (drop (prefix_len p text) text)
 inner_rest p q [] h = refl
 inner_rest p q (b ∷ bs) h = elim (p b) as (λ t. p b ≡ t → drop (prefix_len p (b ∷ bs)) (take (prefix_len q (b ∷ bs)) (b ∷ bs)) ≡ take (prefix_len q (drop (prefix_len p (b ∷ bs)) (b ∷ bs))) (drop (prefix_len p (b ∷ bs)) (b ∷ bs))) [
@@ -164,7 +164,7 @@ number_then (b ∷ bs) h = elim (is_in_run b) as (λ t. is_in_run b ≡ t → nu
     behind_number : (b : ℕ) (bs : List ℕ) → is_in_run b ≡ true → number_behind (take (prefix_len is_in_run (b ∷ bs)) (b ∷ bs)) ≡ number (take (prefix_len is_in_run (b ∷ bs)) (b ∷ bs)) ∷ []
     behind_number b bs e = subst (λ run. number_behind run ≡ number run ∷ []) (sym (take_front is_in_run b bs e)) refl
 
-word_alone : (b : ℕ) (bs : List ℕ) → is_letter b ≡ true
+pub word_alone : (b : ℕ) (bs : List ℕ) → is_letter b ≡ true
     → tokens_of_run (b ∷ bs) ≡ word (take (prefix_len is_letter_or_digit (b ∷ bs)) (b ∷ bs)) ∷ number_behind (drop (prefix_len is_letter_or_digit (b ∷ bs)) (b ∷ bs))
 word_alone b bs e = choose_first (is_letter b) _ _ e
 
@@ -184,7 +184,7 @@ word_then text =
     rw (inner_length is_letter_or_digit is_in_run text in_run_of_letter_or_digit, inner_front is_letter_or_digit is_in_run text in_run_of_letter_or_digit, inner_rest is_letter_or_digit is_in_run text in_run_of_letter_or_digit, outer_rest is_letter_or_digit is_in_run text in_run_of_letter_or_digit)
     (ap (λ rs. word (take (prefix_len is_letter_or_digit text) text) ∷ rs) (number_then (drop (prefix_len is_letter_or_digit text) text) (none_behind is_letter_or_digit text)))
 
-reads_word : (b : ℕ) (bs : List ℕ) → is_letter b ≡ true
+pub reads_word : (b : ℕ) (bs : List ℕ) → is_letter b ≡ true
     → reads_of (b ∷ bs) ≡ word (take (prefix_len is_letter_or_digit (b ∷ bs)) (b ∷ bs)) ∷ reads_of (drop (prefix_len is_letter_or_digit (b ∷ bs)) (b ∷ bs))
 reads_word b bs e =
     reads_run b bs (in_run_of_letter b e)

@@ -46,7 +46,7 @@ split_absent c text e = elim (nat_lt (far c text) (length text)) as (λ t. nat_l
 abbrev pub Filled : List (List ℕ) → Type 0
 Filled parts = (first : List ℕ) × (rest : List (List ℕ)) × (parts ≡ first ∷ rest)
 
-filled : (b : ℕ) (parts : List (List ℕ)) → Filled (in_front b parts)
+pub filled : (b : ℕ) (parts : List (List ℕ)) → Filled (in_front b parts)
 filled b [] = (b ∷ [], [], refl)
 filled b (part ∷ parts) = (b ∷ part, parts, refl)
 

@@ -77,7 +77,7 @@ only_false false x e = refl
 pub symbol_is : (word w : List ℕ) → only_if (is_symbol word) word ≡ Some w → w ≡ word
 symbol_is word w e = only_some (is_symbol word) word w e
 
-no_symbol : (word : List ℕ) → is_symbol word ≡ false → is_title_word word ≡ false
+pub no_symbol : (word : List ℕ) → is_symbol word ≡ false → is_title_word word ≡ false
 no_symbol word e = elim (is_title_word word) as (λ t. is_title_word word ≡ t → t ≡ false) [
   | true ↦ λ f. sym (title_symbol word f) ∙ e
   | false ↦ λ f. refl

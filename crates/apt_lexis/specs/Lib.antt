@@ -4,3 +4,4 @@ pub mod Tokens
 pub mod Titles
 pub mod Phrase
 pub mod Sentences
+pub mod Spellings

@@ -1,0 +1,71 @@
+-- Lines that are spelled in another way, and some that are not, which the checker reads.
+use Rattle.std.specs.Prelude.{◌≡◌, [], ◌∷◌, codes}
+use Rattle.std.proofs.Common.{refl, arith}
+use Rattle.apt_lexis.specs.Lines.{tab}
+use Rattle.apt_lexis.specs.Tokens.{number_in, tokens_of}
+use Rattle.apt_lexis.specs.Sentences.{said_on}
+use Rattle.apt_lexis.specs.Titles.{blank}
+use Rattle.apt_lexis.specs.Spellings.{IsRespelled, InCapitals, WithBlank, WithComment, WithWords, WithZero, InFront, Behind}
+use Rattle.apt_lexis.proofs.Respelled.{respelled_tokens}
+
+small_letters : IsRespelled (codes "Goto/1.5, x $ on") (codes "GOTO/1.5, X $ ON")
+small_letters = InCapitals refl
+
+a_blank : IsRespelled (codes "L1=LINE/1,2") (codes "L1 =LINE/1,2")
+a_blank = WithBlank (record { front = codes "L1"; more = blank; back = codes "=LINE/1,2"; before = refl; after = refl; blank = refl; apart = refl; read = refl })
+
+a_tab : IsRespelled (codes "STOP") (tab ∷ codes "STOP")
+a_tab = WithBlank (record { front = []; more = tab; back = codes "STOP"; before = refl; after = refl; blank = refl; apart = refl; read = refl })
+
+a_comment : IsRespelled (codes "STOP ") (codes "STOP $$ look")
+a_comment = WithComment (record { comment = codes " look"; after = refl; read = refl })
+
+words_behind : IsRespelled (codes "GOTO/1,$") (codes "GOTO/1,$ and 2")
+words_behind = WithWords (record { front = codes "GOTO/1,"; words = codes " and 2"; before = refl; after = refl; single = refl; read = refl })
+
+zero_at_the_front : IsRespelled (codes "GODLTA/0,-7.5") (codes "GODLTA/0,-07.5")
+zero_at_the_front = WithZero (record {
+  front = codes "GODLTA/0,-";
+  run = codes "7.5";
+  longer = codes "07.5";
+  back = [];
+  before = refl;
+  after = refl;
+  number = refl;
+  padded = InFront (omega arith) refl;
+  begins = refl;
+  ends = refl;
+  read = refl;
+})
+
+zero_at_the_end : IsRespelled (codes "X=(.5)") (codes "X=(.50)")
+zero_at_the_end = WithZero (record {
+  front = codes "X=(";
+  run = codes ".5";
+  longer = codes ".50";
+  back = codes ")";
+  before = refl;
+  after = refl;
+  number = refl;
+  padded = Behind (omega arith) refl;
+  begins = refl;
+  ends = refl;
+  read = refl;
+})
+
+zeros_all_round : number_in (codes "007.500") ≡ number_in (codes "7.5")
+zeros_all_round = refl
+
+-- a blank within a word makes two of it
+blank_within : IsRespelled (codes "STOP") (codes "ST OP") → ⊥
+blank_within is = words_differ (respelled_tokens (codes "STOP") (codes "ST OP") is)
+  where
+    words_differ : tokens_of (said_on (codes "STOP")) ≡ tokens_of (said_on (codes "ST OP")) → ⊥
+    words_differ e = cc
+
+-- a zero behind a word is part of it
+zero_behind_a_word : IsRespelled (codes "A.5") (codes "A0.5") → ⊥
+zero_behind_a_word is = names_differ (respelled_tokens (codes "A.5") (codes "A0.5") is)
+  where
+    names_differ : tokens_of (said_on (codes "A.5")) ≡ tokens_of (said_on (codes "A0.5")) → ⊥
+    names_differ e = cc
