@@ -61,15 +61,24 @@ fn changed(alloc: Global, kept: &Kept<'_>, change: &[&str], lines: &str) -> Resu
             let front = bytes.get(..length.parse::<usize>()?).context("too short")?;
             Ok(Vec::from_slice(alloc, front)?)
         }
-        ["at", at, "drop", count, "put", put] => {
+        ["at", at, "drop", count, put @ ..] => {
             let bytes = bytes_of(alloc, kept.writing, whole)?;
-            let put = bytes_of(alloc, Writing::Hex, put)?;
+            let put = put_bytes(alloc, put)?;
             spliced(alloc, &bytes, at.parse()?, count.parse()?, &put)
         }
         ["line", at, "drop", count] => {
             let text = spliced_lines(alloc, whole, at.parse()?, count.parse()?, lines)?;
             bytes_of(alloc, kept.writing, text.as_str())
         }
+        _ => bail!("no such change"),
+    }
+}
+
+/// The bytes that are put in place of others.
+fn put_bytes(alloc: Global, put: &[&str]) -> Result<Vec<u8>> {
+    match put {
+        [] => Ok(Vec::new(alloc)),
+        ["put", digits] => bytes_of(alloc, Writing::Hex, digits),
         _ => bail!("no such change"),
     }
 }
@@ -107,7 +116,7 @@ fn spliced_lines(
 }
 
 /// The bytes of lines that are written in this way.
-pub fn bytes_of(alloc: Global, writing: Writing, lines: &str) -> Result<Vec<u8>> {
+fn bytes_of(alloc: Global, writing: Writing, lines: &str) -> Result<Vec<u8>> {
     match writing {
         Writing::Characters(code) => coded(alloc, code, lines),
         Writing::Records => records(alloc, lines),

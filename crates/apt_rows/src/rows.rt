@@ -3,7 +3,7 @@
 use crate::blocks::{Block, blocks_of};
 use crate::codes::Code;
 use crate::contents::{Kept, Writing, content, writing_of};
-use anyhow::{Context, Result, bail};
+use anyhow::{Context, Result, bail, ensure};
 use std::alloc::Global;
 
 /// Files, and the runs over them in their order.
@@ -109,6 +109,7 @@ fn add_to_row<'a>(
 ) -> Result<()> {
     match block.mark {
         "file" => {
+            ensure!(row.runs.is_empty(), "a file behind a run");
             let words = words_of(alloc, block.rest)?;
             let (name, how) = words.split_first().context("no name")?;
             let bytes = content(alloc, kept, how, block.lines.as_str())?;
