@@ -1,75 +1,74 @@
-//! Tapes in both codes.
-use crate::run::MACHINE;
-use std::alloc::Global;
-use std::test::Fail;
+//! The bytes of a tape's characters, by their holes.
+ghost use Rattle.std.specs.Prelude.{◌<◌, IfSome};
 
-pub const RS244: &str = "MACHINE 1\nCODE RS244\nSEQ 1\nFEEDMAX 9999\nSPINMAX 9999\nTOOLMAX 99\n";
-
-/// Characters with their bytes in RS-244 and in RS-358. `_` stands for a byte that is skipped, `~` for one of bad
-/// parity, and `!` for one that is no character's.
-const CHARACTERS: [(u8, u8, u8); 26] = [
-    (b'0', 0x20, 0x30),
-    (b'1', 0x01, 0xb1),
-    (b'2', 0x02, 0xb2),
-    (b'3', 0x13, 0x33),
-    (b'4', 0x04, 0xb4),
-    (b'5', 0x15, 0x35),
-    (b'6', 0x16, 0x36),
-    (b'7', 0x07, 0xb7),
-    (b'8', 0x08, 0xb8),
-    (b'9', 0x19, 0x39),
-    (b'F', 0x76, 0xc6),
-    (b'G', 0x67, 0x47),
-    (b'M', 0x54, 0x4d),
-    (b'N', 0x45, 0x4e),
-    (b'S', 0x32, 0x53),
-    (b'T', 0x23, 0xd4),
-    (b'X', 0x37, 0xd8),
-    (b'Y', 0x38, 0x59),
-    (b'Z', 0x29, 0x5a),
-    (b'+', 0x70, 0x2b),
-    (b'-', 0x40, 0x2d),
-    (b'\n', 0x80, 0x0a),
-    (b'%', 0x0b, 0xa5),
-    (b'_', 0x7f, 0xff),
-    (b'~', 0x21, 0x31),
-    (b'!', 0x61, 0x41),
-];
-
-/// Bytes of a tape, and the machine table that names their code.
-#[derive(Drop)]
-pub struct Coded {
-    pub table: &'static str,
-    pub tape: Vec<u8>,
+/// How the characters of a text become bytes.
+#[derive(Clone, Copy)]
+pub enum Code {
+    /// As they are.
+    Plain,
+    /// RS-358: ASCII, with even parity in track 8.
+    Rs358,
+    /// RS-244.
+    Rs244,
 }
 
-/// The bytes of a character.
-fn bytes_of(ch: u8) -> Option<(u8, u8)> {
-    for (character, rs244, rs358) in CHARACTERS {
-        if character == ch {
-            return Some((rs244, rs358));
+/// The characters of RS-244 that a machine's tape has, each with its byte.
+const RS244: [(u8, u8); 23] = [
+    (b'0', 0x20),
+    (b'1', 0x01),
+    (b'2', 0x02),
+    (b'3', 0x13),
+    (b'4', 0x04),
+    (b'5', 0x15),
+    (b'6', 0x16),
+    (b'7', 0x07),
+    (b'8', 0x08),
+    (b'9', 0x19),
+    (b'F', 0x76),
+    (b'G', 0x67),
+    (b'M', 0x54),
+    (b'N', 0x45),
+    (b'S', 0x32),
+    (b'T', 0x23),
+    (b'X', 0x37),
+    (b'Y', 0x38),
+    (b'Z', 0x29),
+    (b'+', 0x70),
+    (b'-', 0x40),
+    (b'\n', 0x80),
+    (b'%', 0x0b),
+];
+
+/// The byte of a character.
+pub fn byte_of(code: Code, character: u8) -> Option<u8> {
+    match code {
+        Code::Plain => Some(character),
+        Code::Rs358 if character.count_ones() % 2 == 0 => Some(character),
+        Code::Rs358 => Some(character | 0x80),
+        Code::Rs244 => rs244(character),
+    }
+}
+
+fn rs244(character: u8) -> Option<u8> {
+    for (known, byte) in RS244 {
+        if known == character {
+            return Some(byte);
         }
     }
     None
 }
 
-/// The tape of these characters in each code.
-pub fn in_both(alloc: Global, text: &str) -> Result<[Coded; 2], Fail> {
-    let mut rs244 = Vec::new(alloc);
-    let mut rs358 = Vec::new(alloc);
-    for ch in text.as_bytes() {
-        let (a, b) = bytes_of(*ch).ok_or("no character")?;
-        rs244.push(a)?;
-        rs358.push(b)?;
+/// The byte of two hexadecimal digits.
+pub fn hex_byte(high: u8, low: u8) -> Option<u8> {
+    Some(hex_digit(high)? * 16 + hex_digit(low)?)
+}
+
+fn hex_digit(digit: u8) -> Option<u8>
+    ensures { IfSome result (λ value. value < 16) }
+{
+    match digit {
+        b'0'..=b'9' => Some(digit - b'0'),
+        b'a'..=b'f' => Some(digit - b'a' + 10),
+        _ => None,
     }
-    Ok([
-        Coded {
-            table: RS244,
-            tape: rs244,
-        },
-        Coded {
-            table: MACHINE,
-            tape: rs358,
-        },
-    ])
 }
