@@ -1,6 +1,6 @@
 -- The figures of definitions are drawn as their statements say.
 use Rattle.std.proofs.Common.{◌≡◌, inl, inr, ◌∙◌, refl, ℕ, ◌^◌, ◌≤◌, ℤ, pos, negsuc, neg_ℤ, ◌+ℤ◌, ◌-ℤ◌, ◌*ℤ◌, ◌≤ℤ◌, ◌<ℤ◌, unsigned_abs, int_lt, Bool, true, false, List, Option, Some, None, Result, Ok, Err, IfOk, IsOkAnd, arith}
-use Rattle.std.specs.Prelude.{◌==◌, ◌&&◌, ◌||◌, not, if◌then◌else◌}
+use Rattle.std.specs.Prelude.{IsSomeAnd, ◌==◌, ◌&&◌, ◌||◌, not, if◌then◌else◌}
 use Rattle.std.proofs.lemmas.Int.{ints}
 use Rattle.std.proofs.lemmas.Bool.Decides.{nat_tests}
 use Rattle.apt_num.specs.declared.Sign.{Sign}
@@ -37,9 +37,9 @@ use Rattle.apt_canon.proofs.TangentAnswers.{from_base, from_touches, from_side, 
 use Rattle.apt_canon.proofs.RoundsLaws.{of_centre, of_through, of_touching, three_through, in_radius, in_sides, in_touches}
 use Rattle.apt_defs.specs.declared.figure.Figure.{Figure}
 use Rattle.apt_defs.specs.declared.figure.Figure.TheVariants as figures
-use Rattle.apt_defs.specs.Figures.{Table, AreFigures, point_named, surface_named, line_named, circle_named}
+use Rattle.apt_defs.specs.Figures.{Table, AreFigures, figure_named, defined, as_place, as_surface, as_line, as_circle, point_named, surface_named, line_named, circle_named}
 use Rattle.apt_defs.specs.Forms.{is_within, within, point_at, coordinate, length_by, height_by, point_by, formed, a_point, a_line, a_circle, both_meetings, meetings, is_further, is_preferred, picked, line_between, line_through, point_xy, point_lines, point_pick, point_center, line_xy, line_points, line_parallel, line_perpendicular, line_at, line_tangent, line_two, circle_xyr, circle_points, circle_radius, circle_tangent, circle_by_point, circle_corner}
-use Rattle.apt_defs.specs.Drawn.{IsPointOf, IsLineOf, IsCircleOf, IsAt, IsHeight, IsWritten, IsOnBoth, IsOfLine, IsOfCircles, IsMeeting, ComesFirst, LiesPast, IsChosen, RunsTo, RunsToAt, IsParallel, IsSquare, IsParallelAt, RunsBy, IsTangentFrom, IsTangentOf, IsAbout, IsAboutAt, IsAlong, IsAboutThrough, IsInCorner, OfPoints, OfLines, OfCircles, OfSurfaces, OfPointAndLine, OfPointAndCircle}
+use Rattle.apt_defs.specs.Drawn.{IsPointOf, IsLineOf, IsCircleOf, IsAt, IsHeight, IsWritten, IsOnBoth, IsOfLine, IsOfCircles, IsMeeting, ComesFirst, LiesPast, IsChosen, RunsTo, RunsToAt, IsParallel, IsSquare, IsParallelAt, RunsBy, IsTangentFrom, IsTangentOf, IsAbout, IsAboutAt, IsAlong, IsAboutThrough, IsInCorner, OfPoint, OfSurface, OfLine, OfCircle, IsPlaceOf, IsSurfaceOf}
 use Rattle.apt_defs.proofs.InRange.{then_in, either_in, point_in, surface_in, line_in, circle_in}
 
 -- ---- one step after another
@@ -49,13 +49,6 @@ name_drawn : {A : Type 0} (P : A → Type 0) (Q : A → Figure → Type 0) (r : 
     → IfOk (r >>= f) (λ x. IsOkAnd r (λ a. Q a x))
 name_drawn P Q (Ok a) f is more = more a is
 name_drawn P Q (Err e) f is more = tt
-
--- and of two
-two_drawn : {A B : Type 0} (P : A → Type 0) (R : B → Type 0) (Q : A → B → Figure → Type 0) (r : Result A Case) (q : Result B Case) (f : A → B → Result Figure Case)
-    → IfOk r P → IfOk q R → ((a : A) (b : B) → P a → R b → IfOk (f a b) (Q a b)) → IfOk (r >>= λ a. q >>= λ b. f a b) (λ x. IsOkAnd r (λ a. IsOkAnd q (λ b. Q a b x)))
-two_drawn P R Q (Ok a) (Ok b) f is_a is_b more = more a b is_a is_b
-two_drawn P R Q (Ok a) (Err e) f is_a is_b more = tt
-two_drawn P R Q (Err e) q f is_a is_b more = tt
 
 -- one fact from another
 so : {A E : Type 0} (P Q : A → Type 0) (r : Result A E) → IfOk r P → ((a : A) → P a → Q a) → IfOk r Q
@@ -73,6 +66,58 @@ line_drawn P (Err e) more = tt
 circle_drawn : (P : Circ → Type 0) (r : Result Circ FormFault) → ((k : Circ) → Ok k ≡ r → P k) → IfOk (formed r >>= a_circle) (IsCircleOf P)
 circle_drawn P (Ok k) more = more k refl
 circle_drawn P (Err e) more = tt
+
+-- ---- names
+
+place_of : (P : Pt → Type 0) (o : Option Figure) → IsOkAnd ((defined o >>= as_place) >>= λ p. Ok p.0) P → IsSomeAnd o (IsPlaceOf P)
+place_of P None h = absurd h
+place_of P (Some (figures.Point at z)) h = h
+place_of P (Some (figures.Shape s)) h = absurd h
+place_of P (Some figures.Scalar) h = absurd h
+
+surface_of : (P : Surface → Type 0) (o : Option Figure) → IsOkAnd (defined o >>= as_surface) P → IsSomeAnd o (IsSurfaceOf P)
+surface_of P None h = absurd h
+surface_of P (Some (figures.Point at z)) h = absurd h
+surface_of P (Some (figures.Shape s)) h = h
+surface_of P (Some figures.Scalar) h = absurd h
+
+line_of : (P : Line → Type 0) (o : Option Figure) → IsOkAnd ((defined o >>= as_surface) >>= as_line) P → IsSomeAnd o (IsLineOf P)
+line_of P None h = absurd h
+line_of P (Some (figures.Point at z)) h = absurd h
+line_of P (Some (figures.Shape (surfaces.Line l))) h = h
+line_of P (Some (figures.Shape (surfaces.Circ k))) h = absurd h
+line_of P (Some figures.Scalar) h = absurd h
+
+circle_of_name : (P : Circ → Type 0) (o : Option Figure) → IsOkAnd ((defined o >>= as_surface) >>= as_circle) P → IsSomeAnd o (IsCircleOf P)
+circle_of_name P None h = absurd h
+circle_of_name P (Some (figures.Point at z)) h = absurd h
+circle_of_name P (Some (figures.Shape (surfaces.Line l))) h = absurd h
+circle_of_name P (Some (figures.Shape (surfaces.Circ k))) h = h
+circle_of_name P (Some figures.Scalar) h = absurd h
+
+from_point : (Q : Pt → Figure → Type 0) (t : Table) (n : List ℕ) (f : Pt → Result Figure Case) → AreFigures t → ((p : Pt) → IsPoint p → IfOk (f p) (Q p))
+    → IfOk (point_named t n >>= f) (λ x. OfPoint t n (λ p. Q p x))
+from_point Q t n f are more =
+    so (λ x. IsOkAnd (point_named t n) (λ p. Q p x)) (λ x. OfPoint t n (λ p. Q p x)) (point_named t n >>= f) (name_drawn IsPoint Q (point_named t n) f (point_in t n are) more)
+    (λ x h. place_of (λ p. Q p x) (figure_named t n) h)
+
+from_surface : (Q : Surface → Figure → Type 0) (t : Table) (n : List ℕ) (f : Surface → Result Figure Case) → AreFigures t → ((s : Surface) → IsSurface s → IfOk (f s) (Q s))
+    → IfOk (surface_named t n >>= f) (λ x. OfSurface t n (λ s. Q s x))
+from_surface Q t n f are more =
+    so (λ x. IsOkAnd (surface_named t n) (λ s. Q s x)) (λ x. OfSurface t n (λ s. Q s x)) (surface_named t n >>= f) (name_drawn IsSurface Q (surface_named t n) f (surface_in t n are) more)
+    (λ x h. surface_of (λ s. Q s x) (figure_named t n) h)
+
+from_line : (Q : Line → Figure → Type 0) (t : Table) (n : List ℕ) (f : Line → Result Figure Case) → AreFigures t → ((l : Line) → IsLine l → IfOk (f l) (Q l))
+    → IfOk (line_named t n >>= f) (λ x. OfLine t n (λ l. Q l x))
+from_line Q t n f are more =
+    so (λ x. IsOkAnd (line_named t n) (λ l. Q l x)) (λ x. OfLine t n (λ l. Q l x)) (line_named t n >>= f) (name_drawn IsLine Q (line_named t n) f (line_in t n are) more)
+    (λ x h. line_of (λ l. Q l x) (figure_named t n) h)
+
+from_circle : (Q : Circ → Figure → Type 0) (t : Table) (n : List ℕ) (f : Circ → Result Figure Case) → AreFigures t → ((k : Circ) → IsCircle k → IfOk (f k) (Q k))
+    → IfOk (circle_named t n >>= f) (λ x. OfCircle t n (λ k. Q k x))
+from_circle Q t n f are more =
+    so (λ x. IsOkAnd (circle_named t n) (λ k. Q k x)) (λ x. OfCircle t n (λ k. Q k x)) (circle_named t n >>= f) (name_drawn IsCircle Q (circle_named t n) f (circle_in t n are) more)
+    (λ x h. circle_of_name (λ k. Q k x) (figure_named t n) h)
 
 -- ---- numbers
 
@@ -111,13 +156,14 @@ point_xy_drawn units x y z =
 none_small : unsigned_abs (pos 0) ≤ 10 ^ 8
 none_small = omega (arith, ints)
 
-pub point_lines_drawn : (t : Table) (a b : List ℕ) → AreFigures t → IfOk (point_lines t a b) (λ f. OfLines t a b (λ l m. IsPointOf (IsOnBoth l m) f))
+pub point_lines_drawn : (t : Table) (a b : List ℕ) → AreFigures t → IfOk (point_lines t a b) (λ f. OfLine t a (λ l. OfLine t b (λ m. IsPointOf (IsOnBoth l m) f)))
 point_lines_drawn t a b are =
-    two_drawn IsLine IsLine (λ l m. IsPointOf (IsOnBoth l m)) (line_named t a) (line_named t b) (λ l m. formed (line_line l (pos 0) m (pos 0)) >>= a_point) (line_in t a are) (line_in t b are)
-    (λ l m is_l is_m. point_drawn (IsOnBoth l m) (line_line l (pos 0) m (pos 0)) (λ p e. record {
+    from_line (λ l f. OfLine t b (λ m. IsPointOf (IsOnBoth l m) f)) t a (λ l. line_named t b >>= λ m. formed (line_line l (pos 0) m (pos 0)) >>= a_point) are
+    (λ l is_l. from_line (λ m. IsPointOf (IsOnBoth l m)) t b (λ m. formed (line_line l (pos 0) m (pos 0)) >>= a_point) are
+    (λ m is_m. point_drawn (IsOnBoth l m) (line_line l (pos 0) m (pos 0)) (λ p e. record {
       first = answer_on_a (Ok p) l m (pos 0) (pos 0) is_l is_m none_small none_small e;
       second = answer_on_b (Ok p) l m (pos 0) (pos 0) is_l is_m none_small none_small e;
-    }))
+    })))
 
 -- both points in which curves meet
 formed_is : (P : Pt → Type 0) (r : Result Pt FormFault) → ((p : Pt) → Ok p ≡ r → P p) → IfOk (formed r) P
@@ -237,14 +283,16 @@ chosen_by s r pick p q false is_p is_q e = record {
   past_back = not_preferred pick p q e;
 }
 
-pub point_pick_drawn : (t : Table) (pick : Pick) (a b : List ℕ) → AreFigures t → IfOk (point_pick t pick a b) (λ f. OfSurfaces t a b (λ s r. IsPointOf (IsChosen s r pick) f))
+pub point_pick_drawn : (t : Table) (pick : Pick) (a b : List ℕ) → AreFigures t
+    → IfOk (point_pick t pick a b) (λ f. OfSurface t a (λ s. OfSurface t b (λ r. IsPointOf (IsChosen s r pick) f)))
 point_pick_drawn t pick a b are =
-    two_drawn IsSurface IsSurface (λ s r. IsPointOf (IsChosen s r pick)) (surface_named t a) (surface_named t b) (λ s r. meetings s r >>= λ m. a_point (picked pick m.0 m.1)) (surface_in t a are) (surface_in t b are)
-    (λ s r is_s is_r. then_in (AreMeetings s r) (IsPointOf (IsChosen s r pick)) (meetings s r) (λ m. a_point (picked pick m.0 m.1)) (meetings_are s r is_s is_r)
-    (λ m is. (refl, chosen_by s r pick m.0 m.1 (is_preferred pick m.1 m.0) is.0 is.1 refl)))
+    from_surface (λ s f. OfSurface t b (λ r. IsPointOf (IsChosen s r pick) f)) t a (λ s. surface_named t b >>= λ r. meetings s r >>= λ m. a_point (picked pick m.0 m.1)) are
+    (λ s is_s. from_surface (λ r. IsPointOf (IsChosen s r pick)) t b (λ r. meetings s r >>= λ m. a_point (picked pick m.0 m.1)) are
+    (λ r is_r. then_in (AreMeetings s r) (IsPointOf (IsChosen s r pick)) (meetings s r) (λ m. a_point (picked pick m.0 m.1)) (meetings_are s r is_s is_r)
+    (λ m is. (refl, chosen_by s r pick m.0 m.1 (is_preferred pick m.1 m.0) is.0 is.1 refl))))
 
-pub point_center_drawn : (t : Table) (c : List ℕ) → AreFigures t → IfOk (point_center t c) (λ f. IsOkAnd (circle_named t c) (λ k. IsPointOf (λ p. p ≡ k.c) f))
-point_center_drawn t c are = name_drawn IsCircle (λ k. IsPointOf (λ p. p ≡ k.c)) (circle_named t c) (λ k. a_point k.c) (circle_in t c are) (λ k is. (refl, refl))
+pub point_center_drawn : (t : Table) (c : List ℕ) → AreFigures t → IfOk (point_center t c) (λ f. OfCircle t c (λ k. IsPointOf (λ p. p ≡ k.c) f))
+point_center_drawn t c are = from_circle (λ k. IsPointOf (λ p. p ≡ k.c)) t c (λ k. a_point k.c) are (λ k is. (refl, refl))
 
 -- ---- LINE
 
@@ -266,15 +314,15 @@ line_xy_drawn units x y u v =
     (λ p at_p. then_in (IsAt units u v) (IsLineOf (RunsToAt units x y u v)) (point_by units u v) (λ q. line_through p q) (point_by_is units u v)
     (λ q at_q. through_drawn (RunsToAt units x y u v) p q (record { base = at_p; to = rw (leads p q) at_q })))
 
-pub line_points_drawn : (t : Table) (a b : List ℕ) → AreFigures t → IfOk (line_points t a b) (λ f. OfPoints t a b (λ p q. IsLineOf (RunsTo p q) f))
+pub line_points_drawn : (t : Table) (a b : List ℕ) → AreFigures t → IfOk (line_points t a b) (λ f. OfPoint t a (λ p. OfPoint t b (λ q. IsLineOf (RunsTo p q) f)))
 line_points_drawn t a b are =
-    two_drawn IsPoint IsPoint (λ p q. IsLineOf (RunsTo p q)) (point_named t a) (point_named t b) line_through (point_in t a are) (point_in t b are)
-    (λ p q is_p is_q. through_drawn (RunsTo p q) p q (runs_to p q))
+    from_point (λ p f. OfPoint t b (λ q. IsLineOf (RunsTo p q) f)) t a (λ p. point_named t b >>= λ q. line_through p q) are
+    (λ p is_p. from_point (λ q. IsLineOf (RunsTo p q)) t b (λ q. line_through p q) are (λ q is_q. through_drawn (RunsTo p q) p q (runs_to p q)))
 
-pub line_parallel_drawn : (t : Table) (a b : List ℕ) → AreFigures t → IfOk (line_parallel t a b) (λ f. OfPointAndLine t a b (λ p m. IsLineOf (IsParallel p m) f))
+pub line_parallel_drawn : (t : Table) (a b : List ℕ) → AreFigures t → IfOk (line_parallel t a b) (λ f. OfPoint t a (λ p. OfLine t b (λ m. IsLineOf (IsParallel p m) f)))
 line_parallel_drawn t a b are =
-    two_drawn IsPoint IsLine (λ p m. IsLineOf (IsParallel p m)) (point_named t a) (line_named t b) (λ p m. a_line (record { base = p; dir = m.dir })) (point_in t a are) (line_in t b are)
-    (λ p m is_p is_m. record { base = refl; dir = refl })
+    from_point (λ p f. OfLine t b (λ m. IsLineOf (IsParallel p m) f)) t a (λ p. line_named t b >>= λ m. a_line (record { base = p; dir = m.dir })) are
+    (λ p is_p. from_line (λ m. IsLineOf (IsParallel p m)) t b (λ m. a_line (record { base = p; dir = m.dir })) are (λ m is_m. record { base = refl; dir = refl }))
 
 square_parts : (x y : ℤ) → (x *ℤ neg_ℤ y) +ℤ (y *ℤ x) ≡ pos 0
 square_parts x y = rw (as_diff x, as_diff y, diff-pos 0) (simp differences (diff-same _ _ _ _ (omega arith)))
@@ -287,10 +335,10 @@ turned p m is = record {
   length = rw (size_neg m.dir.dy) (omega arith);
 }
 
-pub line_perpendicular_drawn : (t : Table) (a b : List ℕ) → AreFigures t → IfOk (line_perpendicular t a b) (λ f. OfPointAndLine t a b (λ p m. IsLineOf (IsSquare p m) f))
+pub line_perpendicular_drawn : (t : Table) (a b : List ℕ) → AreFigures t → IfOk (line_perpendicular t a b) (λ f. OfPoint t a (λ p. OfLine t b (λ m. IsLineOf (IsSquare p m) f)))
 line_perpendicular_drawn t a b are =
-    two_drawn IsPoint IsLine (λ p m. IsLineOf (IsSquare p m)) (point_named t a) (line_named t b) (λ p m. a_line (record { base = p; dir = perp m.dir })) (point_in t a are) (line_in t b are)
-    (λ p m is_p is_m. turned p m is_m.dir)
+    from_point (λ p f. OfLine t b (λ m. IsLineOf (IsSquare p m) f)) t a (λ p. line_named t b >>= λ m. a_line (record { base = p; dir = perp m.dir })) are
+    (λ p is_p. from_line (λ m. IsLineOf (IsSquare p m)) t b (λ m. a_line (record { base = p; dir = perp m.dir })) are (λ m is_m. turned p m is_m.dir))
 
 -- a parallel lies on the side that its modifier names
 beside : (s : Sign) (m l : Line) (d : ℤ) (below : Bool) (f : ℤ → Result Line FormFault) → IfOk (offset_picked s d) (λ h. IsNearLine m h (pos 1) l.base)
@@ -309,9 +357,9 @@ parallel_is m pick d l is small e = record {
 }
 
 pub line_at_drawn : (units : Units) (t : Table) (a : List ℕ) (pick : Pick) (v : ℤ) → AreFigures t
-    → IfOk (line_at units t a pick v) (λ f. IsOkAnd (line_named t a) (λ m. IsLineOf (IsParallelAt m pick (grid_units units v)) f))
+    → IfOk (line_at units t a pick v) (λ f. OfLine t a (λ m. IsLineOf (IsParallelAt m pick (grid_units units v)) f))
 line_at_drawn units t a pick v are =
-    name_drawn IsLine (λ m. IsLineOf (IsParallelAt m pick (grid_units units v))) (line_named t a) (λ m. length_by units v >>= λ d. formed (parallel_at m pick d) >>= a_line) (line_in t a are)
+    from_line (λ m. IsLineOf (IsParallelAt m pick (grid_units units v))) t a (λ m. length_by units v >>= λ d. formed (parallel_at m pick d) >>= a_line) are
     (λ m is. then_in (IsNumber units v (10 ^ 8)) (IsLineOf (IsParallelAt m pick (grid_units units v))) (length_by units v) (λ d. formed (parallel_at m pick d) >>= a_line) (length_is units v)
     (λ d n. line_drawn (IsParallelAt m pick (grid_units units v)) (parallel_at m pick d) (λ l e. rw (← n.is) (parallel_is m pick d l is n.small e))))
 
@@ -327,25 +375,27 @@ runs_by true c l near = rw (by_left c.r) at near
 runs_by false c l near = rw (by_right c.r) at near
 
 pub line_tangent_drawn : (t : Table) (a : List ℕ) (left : Bool) (b : List ℕ) → AreFigures t
-    → IfOk (line_tangent t a left b) (λ f. OfPointAndCircle t a b (λ p c. IsLineOf (IsTangentFrom p left c) f))
+    → IfOk (line_tangent t a left b) (λ f. OfPoint t a (λ p. OfCircle t b (λ c. IsLineOf (IsTangentFrom p left c) f)))
 line_tangent_drawn t a left b are =
-    two_drawn IsPoint IsCircle (λ p c. IsLineOf (IsTangentFrom p left c)) (point_named t a) (circle_named t b) (λ p c. formed (tangent_from p left c) >>= a_line) (point_in t a are) (circle_in t b are)
-    (λ p c is_p is_c. line_drawn (IsTangentFrom p left c) (tangent_from p left c) (λ l e. record {
+    from_point (λ p f. OfCircle t b (λ c. IsLineOf (IsTangentFrom p left c) f)) t a (λ p. circle_named t b >>= λ c. formed (tangent_from p left c) >>= a_line) are
+    (λ p is_p. from_circle (λ c. IsLineOf (IsTangentFrom p left c)) t b (λ c. formed (tangent_from p left c) >>= a_line) are
+    (λ c is_c. line_drawn (IsTangentFrom p left c) (tangent_from p left c) (λ l e. record {
       base = from_base (Ok l) p left c e;
       tangent = record { touches = runs_by left c l (from_touches (Ok l) p left c is_p is_c e); side = from_side (Ok l) p left c is_p is_c e };
       onwards = from_onwards (Ok l) p left c is_p is_c e;
-    }))
+    })))
 
 pub line_two_drawn : (t : Table) (left_c : Bool) (a : List ℕ) (left_d : Bool) (b : List ℕ) → AreFigures t
-    → IfOk (line_two t left_c a left_d b) (λ f. OfCircles t a b (λ c d. IsLineOf (IsTangentOf c left_c d left_d) f))
+    → IfOk (line_two t left_c a left_d b) (λ f. OfCircle t a (λ c. OfCircle t b (λ d. IsLineOf (IsTangentOf c left_c d left_d) f)))
 line_two_drawn t left_c a left_d b are =
-    two_drawn IsCircle IsCircle (λ c d. IsLineOf (IsTangentOf c left_c d left_d)) (circle_named t a) (circle_named t b) (λ c d. formed (tangent_two c left_c d left_d) >>= a_line) (circle_in t a are) (circle_in t b are)
-    (λ c d is_c is_d. line_drawn (IsTangentOf c left_c d left_d) (tangent_two c left_c d left_d) (λ l e. record {
+    from_circle (λ c f. OfCircle t b (λ d. IsLineOf (IsTangentOf c left_c d left_d) f)) t a (λ c. circle_named t b >>= λ d. formed (tangent_two c left_c d left_d) >>= a_line) are
+    (λ c is_c. from_circle (λ d. IsLineOf (IsTangentOf c left_c d left_d)) t b (λ d. formed (tangent_two c left_c d left_d) >>= a_line) are
+    (λ d is_d. line_drawn (IsTangentOf c left_c d left_d) (tangent_two c left_c d left_d) (λ l e. record {
       base = two_base (Ok l) c left_c d left_d is_c is_d e;
       first = record { touches = runs_by left_c c l (two_touches_first (Ok l) c left_c d left_d is_c is_d e); side = two_side_first (Ok l) c left_c d left_d is_c is_d e };
       second = record { touches = runs_by left_d d l (two_touches_second (Ok l) c left_c d left_d is_c is_d e); side = two_side_second (Ok l) c left_c d left_d is_c is_d e };
       onwards = two_onwards (Ok l) c left_c d left_d is_c is_d e;
-    }))
+    })))
 
 -- ---- CIRCLE
 
@@ -368,35 +418,39 @@ circle_xyr_drawn units x y r =
     record { centre = rw is.centre at; radius = is.radius ∙ n.is })))
 
 pub circle_radius_drawn : (units : Units) (t : Table) (a : List ℕ) (r : ℤ) → AreFigures t
-    → IfOk (circle_radius units t a r) (λ f. IsOkAnd (point_named t a) (λ p. IsCircleOf (IsAbout p (grid_units units r)) f))
+    → IfOk (circle_radius units t a r) (λ f. OfPoint t a (λ p. IsCircleOf (IsAbout p (grid_units units r)) f))
 circle_radius_drawn units t a r are =
-    name_drawn IsPoint (λ p. IsCircleOf (IsAbout p (grid_units units r))) (point_named t a) (λ p. length_by units r >>= λ g. formed (circle_of p g) >>= a_circle) (point_in t a are)
+    from_point (λ p. IsCircleOf (IsAbout p (grid_units units r))) t a (λ p. length_by units r >>= λ g. formed (circle_of p g) >>= a_circle) are
     (λ p is_p. then_in (IsNumber units r (10 ^ 8)) (IsCircleOf (IsAbout p (grid_units units r))) (length_by units r) (λ g. formed (circle_of p g) >>= a_circle) (length_is units r)
     (λ g n. circle_drawn (IsAbout p (grid_units units r)) (circle_of p g) (λ k e. rw (← n.is) (about_is p g k e))))
 
 pub circle_points_drawn : (t : Table) (a b c : List ℕ) → AreFigures t
-    → IfOk (circle_points t a b c) (λ f. OfPoints t a b (λ p q. IsOkAnd (point_named t c) (λ r. IsCircleOf (IsThrough p q r) f)))
+    → IfOk (circle_points t a b c) (λ f. OfPoint t a (λ p. OfPoint t b (λ q. OfPoint t c (λ r. IsCircleOf (IsThrough p q r) f))))
 circle_points_drawn t a b c are =
-    two_drawn IsPoint IsPoint (λ p q f. IsOkAnd (point_named t c) (λ r. IsCircleOf (IsThrough p q r) f)) (point_named t a) (point_named t b)
-    (λ p q. point_named t c >>= λ r. formed (circle_three p q r) >>= a_circle) (point_in t a are) (point_in t b are)
-    (λ p q is_p is_q. name_drawn IsPoint (λ r. IsCircleOf (IsThrough p q r)) (point_named t c) (λ r. formed (circle_three p q r) >>= a_circle) (point_in t c are)
-    (λ r is_r. circle_drawn (IsThrough p q r) (circle_three p q r) (λ k e. three_through (Ok k) p q r is_p e)))
+    from_point (λ p f. OfPoint t b (λ q. OfPoint t c (λ r. IsCircleOf (IsThrough p q r) f))) t a
+    (λ p. point_named t b >>= λ q. point_named t c >>= λ r. formed (circle_three p q r) >>= a_circle) are
+    (λ p is_p. from_point (λ q f. OfPoint t c (λ r. IsCircleOf (IsThrough p q r) f)) t b (λ q. point_named t c >>= λ r. formed (circle_three p q r) >>= a_circle) are
+    (λ q is_q. from_point (λ r. IsCircleOf (IsThrough p q r)) t c (λ r. formed (circle_three p q r) >>= a_circle) are
+    (λ r is_r. circle_drawn (IsThrough p q r) (circle_three p q r) (λ k e. three_through (Ok k) p q r is_p e))))
 
-pub circle_tangent_drawn : (t : Table) (a b : List ℕ) → AreFigures t → IfOk (circle_tangent t a b) (λ f. OfPointAndLine t a b (λ p l. IsCircleOf (IsAlong p l) f))
+pub circle_tangent_drawn : (t : Table) (a b : List ℕ) → AreFigures t → IfOk (circle_tangent t a b) (λ f. OfPoint t a (λ p. OfLine t b (λ l. IsCircleOf (IsAlong p l) f)))
 circle_tangent_drawn t a b are =
-    two_drawn IsPoint IsLine (λ p l. IsCircleOf (IsAlong p l)) (point_named t a) (line_named t b) (λ p l. formed (circle_touching p l) >>= a_circle) (point_in t a are) (line_in t b are)
-    (λ p l is_p is_l. circle_drawn (IsAlong p l) (circle_touching p l) (λ k e. record {
+    from_point (λ p f. OfLine t b (λ l. IsCircleOf (IsAlong p l) f)) t a (λ p. line_named t b >>= λ l. formed (circle_touching p l) >>= a_circle) are
+    (λ p is_p. from_line (λ l. IsCircleOf (IsAlong p l)) t b (λ l. formed (circle_touching p l) >>= a_circle) are
+    (λ l is_l. circle_drawn (IsAlong p l) (circle_touching p l) (λ k e. record {
       centre = of_centre (Ok k) p (distance_from_line p l) e;
       touches = of_touching (Ok k) p l is_p is_l e;
-    }))
+    })))
 
-pub circle_by_point_drawn : (t : Table) (a b : List ℕ) → AreFigures t → IfOk (circle_by_point t a b) (λ f. OfPoints t a b (λ p q. IsCircleOf (IsAboutThrough p q) f))
+pub circle_by_point_drawn : (t : Table) (a b : List ℕ) → AreFigures t
+    → IfOk (circle_by_point t a b) (λ f. OfPoint t a (λ p. OfPoint t b (λ q. IsCircleOf (IsAboutThrough p q) f)))
 circle_by_point_drawn t a b are =
-    two_drawn IsPoint IsPoint (λ p q. IsCircleOf (IsAboutThrough p q)) (point_named t a) (point_named t b) (λ p q. formed (circle_through p q) >>= a_circle) (point_in t a are) (point_in t b are)
-    (λ p q is_p is_q. circle_drawn (IsAboutThrough p q) (circle_through p q) (λ k e. record {
+    from_point (λ p f. OfPoint t b (λ q. IsCircleOf (IsAboutThrough p q) f)) t a (λ p. point_named t b >>= λ q. formed (circle_through p q) >>= a_circle) are
+    (λ p is_p. from_point (λ q. IsCircleOf (IsAboutThrough p q)) t b (λ q. formed (circle_through p q) >>= a_circle) are
+    (λ q is_q. circle_drawn (IsAboutThrough p q) (circle_through p q) (λ k e. record {
       centre = of_centre (Ok k) p (about_through p q).r e;
       through = of_through (Ok k) p q is_p is_q e;
-    }))
+    })))
 
 in_corner : (l : Line) (pick_l : Pick) (m : Line) (pick_m : Pick) (r : ℤ) (k : Circ) → IsLine l → IsLine m → unsigned_abs r ≤ 10 ^ 8 → Ok k ≡ corner l pick_l m pick_m r
     → IsInCorner l pick_l m pick_m r k
@@ -406,9 +460,10 @@ in_corner l pick_l m pick_m r k is_l is_m small e =
     record { radius = in_radius (Ok k) l m pick_l pick_m r e; first = touch.0; second = touch.1; side_first = sides.0; side_second = sides.1 }
 
 pub circle_corner_drawn : (units : Units) (t : Table) (pick_a : Pick) (a : List ℕ) (pick_b : Pick) (b : List ℕ) (r : ℤ) → AreFigures t
-    → IfOk (circle_corner units t pick_a a pick_b b r) (λ f. OfLines t a b (λ l m. IsCircleOf (IsInCorner l pick_a m pick_b (grid_units units r)) f))
+    → IfOk (circle_corner units t pick_a a pick_b b r) (λ f. OfLine t a (λ l. OfLine t b (λ m. IsCircleOf (IsInCorner l pick_a m pick_b (grid_units units r)) f)))
 circle_corner_drawn units t pick_a a pick_b b r are =
-    two_drawn IsLine IsLine (λ l m. IsCircleOf (IsInCorner l pick_a m pick_b (grid_units units r))) (line_named t a) (line_named t b)
-    (λ l m. length_by units r >>= λ g. formed (corner l pick_a m pick_b g) >>= a_circle) (line_in t a are) (line_in t b are)
-    (λ l m is_l is_m. then_in (IsNumber units r (10 ^ 8)) (IsCircleOf (IsInCorner l pick_a m pick_b (grid_units units r))) (length_by units r) (λ g. formed (corner l pick_a m pick_b g) >>= a_circle) (length_is units r)
-    (λ g n. circle_drawn (IsInCorner l pick_a m pick_b (grid_units units r)) (corner l pick_a m pick_b g) (λ k e. rw (← n.is) (in_corner l pick_a m pick_b g k is_l is_m n.small e))))
+    let d = grid_units units r in
+    from_line (λ l f. OfLine t b (λ m. IsCircleOf (IsInCorner l pick_a m pick_b d) f)) t a (λ l. line_named t b >>= λ m. length_by units r >>= λ g. formed (corner l pick_a m pick_b g) >>= a_circle) are
+    (λ l is_l. from_line (λ m. IsCircleOf (IsInCorner l pick_a m pick_b d)) t b (λ m. length_by units r >>= λ g. formed (corner l pick_a m pick_b g) >>= a_circle) are
+    (λ m is_m. then_in (IsNumber units r (10 ^ 8)) (IsCircleOf (IsInCorner l pick_a m pick_b d)) (length_by units r) (λ g. formed (corner l pick_a m pick_b g) >>= a_circle) (length_is units r)
+    (λ g n. circle_drawn (IsInCorner l pick_a m pick_b d) (corner l pick_a m pick_b g) (λ k e. rw (← n.is) (in_corner l pick_a m pick_b g k is_l is_m n.small e)))))

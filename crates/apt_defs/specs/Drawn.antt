@@ -1,5 +1,5 @@
 -- What a definition draws: what the figure has to do with the names and numbers of its statement, apart from the formulas that find it.
-use Rattle.std.specs.Prelude.{◌≡◌, ◌≢◌, ◌⊎◌, ℕ, ℤ, pos, negsuc, neg_ℤ, ◌≤ℤ◌, ◌<ℤ◌, Bool, true, false, List, Option, Some, None, Ok, IsOkAnd}
+use Rattle.std.specs.Prelude.{◌≡◌, ◌≢◌, ◌⊎◌, ℕ, ℤ, pos, negsuc, neg_ℤ, ◌≤ℤ◌, ◌<ℤ◌, Bool, true, false, List, Option, Some, None, IsSomeAnd}
 use Rattle.apt_num.specs.Sign.{square}
 use Rattle.apt_words.specs.declared.Pick.{Pick}
 use Rattle.apt_words.specs.declared.Pick.TheVariants as picks
@@ -20,16 +20,27 @@ use Rattle.apt_canon.specs.Tangents.{Passes, RunsAlong, drop}
 use Rattle.apt_canon.specs.RoundLaws.{Touches, IsThrough, IsBeside}
 use Rattle.apt_defs.specs.declared.figure.Figure.{Figure}
 use Rattle.apt_defs.specs.declared.figure.Figure.TheVariants as figures
-use Rattle.apt_defs.specs.Figures.{Table, figure_named, point_named, surface_named, line_named, circle_named}
-use Rattle.apt_defs.specs.Definitions.{definition_of, defines as defines_as}
+use Rattle.apt_defs.specs.Figures.{Table, figure_named}
+use Rattle.apt_defs.specs.Names.{defined_name}
 
 -- ---- a figure of its kind, of which a fact holds
+
+-- a point at any height
+abbrev pub IsPlaceOf : (Pt → Type 0) → Figure → Type 0
+IsPlaceOf P (figures.Point at z) = P at
+IsPlaceOf P (figures.Shape s) = ⊥
+IsPlaceOf P figures.Scalar = ⊥
 
 -- a point at height 0
 abbrev pub IsPointOf : (Pt → Type 0) → Figure → Type 0
 IsPointOf P (figures.Point at z) = (z ≡ pos 0) × P at
 IsPointOf P (figures.Shape s) = ⊥
 IsPointOf P figures.Scalar = ⊥
+
+abbrev pub IsSurfaceOf : (Surface → Type 0) → Figure → Type 0
+IsSurfaceOf P (figures.Point at z) = ⊥
+IsSurfaceOf P (figures.Shape s) = P s
+IsSurfaceOf P figures.Scalar = ⊥
 
 abbrev pub IsLineOf : (Line → Type 0) → Figure → Type 0
 IsLineOf P (figures.Point at z) = ⊥
@@ -42,6 +53,20 @@ IsCircleOf P (figures.Point at z) = ⊥
 IsCircleOf P (figures.Shape (surfaces.Line l)) = ⊥
 IsCircleOf P (figures.Shape (surfaces.Circ k)) = P k
 IsCircleOf P figures.Scalar = ⊥
+
+-- ---- a fact of the figure that a name stands for
+
+abbrev pub OfPoint : Table → List ℕ → (Pt → Type 0) → Type 0
+OfPoint t n P = IsSomeAnd (figure_named t n) (IsPlaceOf P)
+
+abbrev pub OfSurface : Table → List ℕ → (Surface → Type 0) → Type 0
+OfSurface t n P = IsSomeAnd (figure_named t n) (IsSurfaceOf P)
+
+abbrev pub OfLine : Table → List ℕ → (Line → Type 0) → Type 0
+OfLine t n P = IsSomeAnd (figure_named t n) (IsLineOf P)
+
+abbrev pub OfCircle : Table → List ℕ → (Circ → Type 0) → Type 0
+OfCircle t n P = IsSomeAnd (figure_named t n) (IsCircleOf P)
 
 -- ---- numbers
 
@@ -200,60 +225,40 @@ pub record IsInCorner (l : Line) (pick_l : Pick) (m : Line) (pick_m : Pick) (r :
   pub side_first : IsPicked l pick_l k.c
   pub side_second : IsPicked m pick_m k.c
 
--- ---- a fact of the figures that names stand for
-
-abbrev pub OfPoints : Table → List ℕ → List ℕ → (Pt → Pt → Type 0) → Type 0
-OfPoints t a b P = IsOkAnd (point_named t a) (λ p. IsOkAnd (point_named t b) (λ q. P p q))
-
-abbrev pub OfLines : Table → List ℕ → List ℕ → (Line → Line → Type 0) → Type 0
-OfLines t a b P = IsOkAnd (line_named t a) (λ l. IsOkAnd (line_named t b) (λ m. P l m))
-
-abbrev pub OfCircles : Table → List ℕ → List ℕ → (Circ → Circ → Type 0) → Type 0
-OfCircles t a b P = IsOkAnd (circle_named t a) (λ c. IsOkAnd (circle_named t b) (λ d. P c d))
-
-abbrev pub OfSurfaces : Table → List ℕ → List ℕ → (Surface → Surface → Type 0) → Type 0
-OfSurfaces t a b P = IsOkAnd (surface_named t a) (λ s. IsOkAnd (surface_named t b) (λ r. P s r))
-
-abbrev pub OfPointAndLine : Table → List ℕ → List ℕ → (Pt → Line → Type 0) → Type 0
-OfPointAndLine t a b P = IsOkAnd (point_named t a) (λ p. IsOkAnd (line_named t b) (λ l. P p l))
-
-abbrev pub OfPointAndCircle : Table → List ℕ → List ℕ → (Pt → Circ → Type 0) → Type 0
-OfPointAndCircle t a b P = IsOkAnd (point_named t a) (λ p. IsOkAnd (circle_named t b) (λ c. P p c))
-
 -- ---- what each statement draws; those that define nothing draw nothing
 
 abbrev pub IsDrawn : Units → Table → Deed → Figure → Type 0
 IsDrawn units t (deeds.Assign n v) f = f ≡ figures.Scalar
 IsDrawn units t (deeds.PointXy n x y z) f = IsWritten units x y z f
-IsDrawn units t (deeds.PointLines n a b) f = OfLines t a b (λ l m. IsPointOf (IsOnBoth l m) f)
-IsDrawn units t (deeds.PointPick n k a b) f = OfSurfaces t a b (λ s r. IsPointOf (IsChosen s r k) f)
-IsDrawn units t (deeds.PointCenter n c) f = IsOkAnd (circle_named t c) (λ k. IsPointOf (λ p. p ≡ k.c) f)
+IsDrawn units t (deeds.PointLines n a b) f = OfLine t a (λ l. OfLine t b (λ m. IsPointOf (IsOnBoth l m) f))
+IsDrawn units t (deeds.PointPick n k a b) f = OfSurface t a (λ s. OfSurface t b (λ r. IsPointOf (IsChosen s r k) f))
+IsDrawn units t (deeds.PointCenter n c) f = OfCircle t c (λ k. IsPointOf (λ p. p ≡ k.c) f)
 IsDrawn units t (deeds.LineXy n x y u v) f = IsLineOf (RunsToAt units x y u v) f
-IsDrawn units t (deeds.LinePoints n a b) f = OfPoints t a b (λ p q. IsLineOf (RunsTo p q) f)
-IsDrawn units t (deeds.LinePar n a b) f = OfPointAndLine t a b (λ p m. IsLineOf (IsParallel p m) f)
-IsDrawn units t (deeds.LinePerp n a b) f = OfPointAndLine t a b (λ p m. IsLineOf (IsSquare p m) f)
-IsDrawn units t (deeds.LineAt n a k v) f = IsOkAnd (line_named t a) (λ m. IsLineOf (IsParallelAt m k (grid_units units v)) f)
-IsDrawn units t (deeds.LineTan n a h b) f = OfPointAndCircle t a b (λ p c. IsLineOf (IsTangentFrom p h c) f)
-IsDrawn units t (deeds.LineTwo n h a k b) f = OfCircles t a b (λ c d. IsLineOf (IsTangentOf c h d k) f)
+IsDrawn units t (deeds.LinePoints n a b) f = OfPoint t a (λ p. OfPoint t b (λ q. IsLineOf (RunsTo p q) f))
+IsDrawn units t (deeds.LinePar n a b) f = OfPoint t a (λ p. OfLine t b (λ m. IsLineOf (IsParallel p m) f))
+IsDrawn units t (deeds.LinePerp n a b) f = OfPoint t a (λ p. OfLine t b (λ m. IsLineOf (IsSquare p m) f))
+IsDrawn units t (deeds.LineAt n a k v) f = OfLine t a (λ m. IsLineOf (IsParallelAt m k (grid_units units v)) f)
+IsDrawn units t (deeds.LineTan n a h b) f = OfPoint t a (λ p. OfCircle t b (λ c. IsLineOf (IsTangentFrom p h c) f))
+IsDrawn units t (deeds.LineTwo n h a k b) f = OfCircle t a (λ c. OfCircle t b (λ d. IsLineOf (IsTangentOf c h d k) f))
 IsDrawn units t (deeds.CircleXyr n x y r) f = IsCircleOf (IsAboutAt units x y r) f
-IsDrawn units t (deeds.CirclePoints n a b c) f = OfPoints t a b (λ p q. IsOkAnd (point_named t c) (λ r. IsCircleOf (IsThrough p q r) f))
-IsDrawn units t (deeds.CircleRadius n a r) f = IsOkAnd (point_named t a) (λ p. IsCircleOf (IsAbout p (grid_units units r)) f)
-IsDrawn units t (deeds.CircleTan n a b) f = OfPointAndLine t a b (λ p l. IsCircleOf (IsAlong p l) f)
-IsDrawn units t (deeds.CircleThrough n a b) f = OfPoints t a b (λ p q. IsCircleOf (IsAboutThrough p q) f)
-IsDrawn units t (deeds.CircleCorner n j a k b r) f = OfLines t a b (λ l m. IsCircleOf (IsInCorner l j m k (grid_units units r)) f)
+IsDrawn units t (deeds.CirclePoints n a b c) f = OfPoint t a (λ p. OfPoint t b (λ q. OfPoint t c (λ r. IsCircleOf (IsThrough p q r) f)))
+IsDrawn units t (deeds.CircleRadius n a r) f = OfPoint t a (λ p. IsCircleOf (IsAbout p (grid_units units r)) f)
+IsDrawn units t (deeds.CircleTan n a b) f = OfPoint t a (λ p. OfLine t b (λ l. IsCircleOf (IsAlong p l) f))
+IsDrawn units t (deeds.CircleThrough n a b) f = OfPoint t a (λ p. OfPoint t b (λ q. IsCircleOf (IsAboutThrough p q) f))
+IsDrawn units t (deeds.CircleCorner n j a k b r) f = OfLine t a (λ l. OfLine t b (λ m. IsCircleOf (IsInCorner l j m k (grid_units units r)) f))
 IsDrawn units t _ f = ⊥
 
 -- ---- behind a step
 
--- a name has now a figure that is drawn as the statement says
+-- the name that the statement defines has now a figure that is drawn as it says
 pub record IsDrawnIn (units : Units) (before : Table) (deed : Deed) (now : Table) : Type 0 where
   pub name : List ℕ
   pub figure : Figure
-  pub defines : definition_of units before deed ≡ defines_as name (Ok figure)
+  pub defines : defined_name deed ≡ Some name
   pub set : figure_named now name ≡ Some figure
   pub drawn : IsDrawn units before deed figure
 
--- where the step defines one
+-- or it defines none
 abbrev pub HasDrawn : Units → Table → Deed → Table → Bool → Type 0
 HasDrawn units before deed now true = IsDrawnIn units before deed now
-HasDrawn units before deed now false = Unit {0}
+HasDrawn units before deed now false = defined_name deed ≡ None

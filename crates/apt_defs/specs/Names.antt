@@ -53,6 +53,28 @@ a_circle n = record { kind = ACircle; name = n }
 abbrev pub a_surface : List ℕ → Named
 a_surface n = record { kind = ASurface; name = n }
 
+-- the name that a statement defines
+abbrev pub defined_name : Deed → Option (List ℕ)
+defined_name (deeds.Assign n v) = Some n
+defined_name (deeds.PointXy n x y z) = Some n
+defined_name (deeds.PointLines n a b) = Some n
+defined_name (deeds.PointPick n k a b) = Some n
+defined_name (deeds.PointCenter n c) = Some n
+defined_name (deeds.LineXy n x y u v) = Some n
+defined_name (deeds.LinePoints n p q) = Some n
+defined_name (deeds.LinePar n p l) = Some n
+defined_name (deeds.LinePerp n p l) = Some n
+defined_name (deeds.LineAt n l k v) = Some n
+defined_name (deeds.LineTan n p h c) = Some n
+defined_name (deeds.LineTwo n h c k d) = Some n
+defined_name (deeds.CircleXyr n x y r) = Some n
+defined_name (deeds.CirclePoints n a b c) = Some n
+defined_name (deeds.CircleRadius n p r) = Some n
+defined_name (deeds.CircleTan n p l) = Some n
+defined_name (deeds.CircleThrough n p q) = Some n
+defined_name (deeds.CircleCorner n j a k b r) = Some n
+defined_name _ = None
+
 -- the names from which a definition draws its figure, in the order in which they stand
 abbrev pub names_of : Deed → List Named
 names_of (deeds.PointLines n a b) = a_line a ∷ a_line b ∷ []

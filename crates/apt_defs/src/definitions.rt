@@ -1,12 +1,12 @@
 //! Which statements define a name, and what they give it.
 
-ghost use Rattle.std.specs.Prelude.{◌≡◌, ◌↔◌, None, Some, Err, true, false, OnErr, IfOk, IfSome, IsSomeAnd, IsErrOf};
+ghost use Rattle.std.specs.Prelude.{◌≡◌, ◌↔◌, None, Some, Err, true, false, OnErr, IfOk, IfSome, IsSomeAnd, IsErrOf, option_map};
 ghost use Rattle.apt_scalar.specs.StepScalars.{HasScalars};
 ghost use Rattle.apt_words.specs.declared.Units.{Units};
 ghost use Rattle.apt_defs.specs.Figures.{IsFigure, Table};
 ghost use Rattle.apt_defs.specs.Definitions as definitions;
 ghost use Rattle.apt_defs.specs.Definitions.{HasOrNone, IsRefusedBy};
-ghost use Rattle.apt_defs.specs.Names.{names_of, first_case, has_far_number};
+ghost use Rattle.apt_defs.specs.Names.{defined_name, names_of, first_case, has_far_number};
 ghost use Rattle.apt_defs.specs.Alike.{AreAlike};
 ghost use Rattle.apt_defs.specs.Drawn.{IsDrawn, HasDrawn};
 
@@ -43,11 +43,12 @@ impl From<AllocError> for DefError {
 /// What a statement defines, None where it defines nothing.
 ///
 /// Its names are looked up first, in their order, and its numbers then: the first that has a case refuses it.
-#[tactic(auto, using(crate::proofs::Told::name_refuses, crate::proofs::Told::number_refuses))]
+#[tactic(auto, using(crate::proofs::Told::is_named, crate::proofs::Told::name_refuses, crate::proofs::Told::number_refuses))]
 pub fn definition(deed: &Deed, units: Units, table: &Table) -> Option<Definition>
     requires { HasScalars deed.now }
     ensures value { result ≡ definitions.definition_of units table.now deed.now }
     ensures range { IfSome result (λ d. IfOk d.figure IsFigure) }
+    ensures name { option_map (λ d. d.name) result ≡ defined_name deed.now }
     ensures drawn { IfSome result (λ d. IfOk d.figure (IsDrawn units table.now deed.now)) }
     ensures names { (case : Case) → first_case table.now (names_of deed.now) ≡ Some case → IsSomeAnd result (λ d. d.figure ≡ Err case) }
     ensures numbers { first_case table.now (names_of deed.now) ≡ None → has_far_number units deed.now ≡ true → IsSomeAnd result (λ d. d.figure ≡ Err Case.OutOfRange) }

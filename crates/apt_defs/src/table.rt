@@ -1,6 +1,6 @@
 //! Names with their figures.
 
-ghost use Rattle.std.specs.Prelude.{◌≡◌, ◌↔◌, ◌⊎◌, [], None, false, OnOk, OnErr, IfOk, IfErr, IfSome, IsSomeAnd, IsErrOf};
+ghost use Rattle.std.specs.Prelude.{◌≡◌, ◌↔◌, ◌⊎◌, [], None, Some, false, OnOk, OnErr, IfOk, IfErr, IfSome, IsSomeAnd, IsErrOf};
 ghost use Rattle.apt_plane.specs.Ranges.{IsPoint, IsLine, IsCircle, IsSurface};
 ghost use Rattle.apt_defs.specs.Figures as figures;
 ghost use Rattle.apt_defs.specs.Figures.{IsFigure, AreFigures, IsPointAtHeight, table_with};
@@ -74,6 +74,7 @@ impl Table {
 pub fn point(table: &Table, name: &Symbol) -> Result<(Pt, i64), Case>
     ensures value { result ≡ figures.place_named table.now name.now }
     ensures range { IfOk result (λ p. IsPointAtHeight p.0 p.1) }
+    ensures found { IfOk result (λ p. figures.figure_named table.now name.now ≡ Some (Figure.Point p.0 p.1)) }
     ensures undefined { IsErrOf result Case.Undefined ↔ (figures.figure_named table.now name.now ≡ None) }
     ensures wrong_kind { IsErrOf result Case.WrongKind ↔ IsSomeAnd (figures.figure_named table.now name.now) (λ f. names.is_kind names.APoint f ≡ false) }
     ensures no_other { IfErr result (λ case. (case ≡ Case.Undefined) ⊎ (case ≡ Case.WrongKind)) }
@@ -97,6 +98,7 @@ pub(crate) fn point_named(table: &Table, name: &Symbol) -> Result<Pt, Case>
 pub fn surface(table: &Table, name: &Symbol) -> Result<Surface, Case>
     ensures value { result ≡ figures.surface_named table.now name.now }
     ensures range { IfOk result IsSurface }
+    ensures found { IfOk result (λ s. figures.figure_named table.now name.now ≡ Some (Figure.Shape s)) }
     ensures undefined { IsErrOf result Case.Undefined ↔ (figures.figure_named table.now name.now ≡ None) }
     ensures wrong_kind { IsErrOf result Case.WrongKind ↔ IsSomeAnd (figures.figure_named table.now name.now) (λ f. names.is_kind names.ASurface f ≡ false) }
     ensures no_other { IfErr result (λ case. (case ≡ Case.Undefined) ⊎ (case ≡ Case.WrongKind)) }
