@@ -303,7 +303,7 @@ untitled_reads line none =
       unlabelled = labelled_read (said_on line) ∙ labelled_said line ∙ is.unlabelled;
     }
 
-untitled_line : (line : List ℕ) → AreUntitled (reads_of (said_on line)) → TakesNoText line
+pub untitled_line : (line : List ℕ) → AreUntitled (reads_of (said_on line)) → TakesNoText line
 untitled_line line are = takes_no_text line (record {
   untitled = sym (titled_said line) ∙ sym (titled_read (said_on line)) ∙ are.untitled;
   unclosed = sym (closed_said line) ∙ sym (closed_read (said_on line)) ∙ are.unclosed;

@@ -9,7 +9,7 @@ use Rattle.apt_lexis.specs.Lines.{lines_of, line_fault}
 use Rattle.apt_lexis.specs.Tokens.{Tokens, capital, is_blank, is_letter, is_in_run, begins_in_run, number_in, or_bad_number, number, tokens_of_run, all_good, tokens_of}
 use Rattle.apt_lexis.specs.Phrase.{Phrase}
 use Rattle.apt_lexis.specs.Sentences.{dollar, is_no_dollar, is_single, said_on, goes_on, tokens_before, behind_tokens, title_in, behind_line, with_first, unless_fault, said_from, said_in}
-use Rattle.apt_lexis.specs.Spellings.{has_no_dollar, ends_in_run, IsRespelled, InCapitals, WithBlank, WithComment, WithWords, WithZero, TakesNoText, AreRespelled}
+use Rattle.apt_lexis.specs.Spellings.{has_no_dollar, ends_in_run, IsRespelled, InCapitals, WithBlank, WithComment, WithWords, WithNumber, TakesNoText, AreRespelled}
 use Rattle.apt_lexis.proofs.Fronts.{prefix_yes, prefix_no, drop_one_more, take_front, passes_other}
 use Rattle.apt_lexis.proofs.OneByOne.{reads_of, number_alone}
 use Rattle.apt_lexis.proofs.SentenceLaws.{by_tokens}
@@ -95,7 +95,7 @@ words_say front words single e = record {
   on = on_behind front (dollar ∷ []) e ∙ sym single ∙ sym (on_behind front (dollar ∷ words) e);
 }
 
--- ---- a zero more
+-- ---- a longer number
 
 letter_of_digit_or_point : (b : ℕ) → is_digit_or_point b ≡ true → is_letter b ≡ false
 letter_of_digit_or_point b e = grind (arith, nat_tests)
@@ -169,9 +169,9 @@ says_the_same line other (InCapitals e) = says_of refl e (capitals_say line)
 says_the_same line other (WithBlank m) = says_of m.before m.after (blank_says m.front m.more m.back m.blank m.apart m.read)
 says_the_same line other (WithComment m) = says_of refl m.after (comment_says line m.comment m.read)
 says_the_same line other (WithWords m) = says_of m.before m.after (words_say m.front m.words m.single m.read)
-says_the_same line other (WithZero m) =
+says_the_same line other (WithNumber m) =
     says_of (m.before ∙ append_assoc m.front m.run m.back) (m.after ∙ append_assoc m.front m.longer m.back)
-    (number_says m.front m.run m.longer m.back m.number (same_number m.run m.longer m.number m.padded) m.begins m.ends m.read)
+    (number_says m.front m.run m.longer m.back m.number (same_number m.run m.longer m.number m.same) m.begins m.ends m.read)
 
 -- another spelling of a line has the same tokens
 pub respelled_tokens : (line other : List ℕ) → IsRespelled line other → tokens_of (said_on line) ≡ tokens_of (said_on other)

@@ -1,11 +1,13 @@
 -- Lines that are spelled in another way, and some that are not, which the checker reads.
-use Rattle.std.specs.Prelude.{◌≡◌, [], ◌∷◌, codes}
+use Rattle.std.specs.Prelude.{◌≡◌, None, [], ◌∷◌, codes}
 use Rattle.std.proofs.Common.{refl, arith}
+use Rattle.apt_words.specs.Vocabulary.{word_of}
 use Rattle.apt_lexis.specs.Lines.{tab}
 use Rattle.apt_lexis.specs.Tokens.{number_in, tokens_of}
 use Rattle.apt_lexis.specs.Sentences.{said_on}
-use Rattle.apt_lexis.specs.Titles.{blank}
-use Rattle.apt_lexis.specs.Spellings.{IsRespelled, InCapitals, WithBlank, WithComment, WithWords, WithZero, InFront, Behind}
+use Rattle.apt_lexis.specs.Titles.{blank, title_behind}
+use Rattle.apt_lexis.specs.Spellings.{IsRespelled, AreRespelled, TakesNoText, InCapitals, WithBlank, WithComment, WithWords, WithNumber, ZeroInFront, ZeroBehind, PointBehind}
+use Rattle.apt_lexis.proofs.Headings.{untitled_line}
 use Rattle.apt_lexis.proofs.Respelled.{respelled_tokens}
 
 small_letters : IsRespelled (codes "Goto/1.5, x $ on") (codes "GOTO/1.5, X $ ON")
@@ -24,7 +26,7 @@ words_behind : IsRespelled (codes "GOTO/1,$") (codes "GOTO/1,$ and 2")
 words_behind = WithWords (record { front = codes "GOTO/1,"; words = codes " and 2"; before = refl; after = refl; single = refl; read = refl })
 
 zero_at_the_front : IsRespelled (codes "GODLTA/0,-7.5") (codes "GODLTA/0,-07.5")
-zero_at_the_front = WithZero (record {
+zero_at_the_front = WithNumber (record {
   front = codes "GODLTA/0,-";
   run = codes "7.5";
   longer = codes "07.5";
@@ -32,14 +34,14 @@ zero_at_the_front = WithZero (record {
   before = refl;
   after = refl;
   number = refl;
-  padded = InFront (omega arith) refl;
+  same = ZeroInFront (omega arith) refl;
   begins = refl;
   ends = refl;
   read = refl;
 })
 
 zero_at_the_end : IsRespelled (codes "X=(.5)") (codes "X=(.50)")
-zero_at_the_end = WithZero (record {
+zero_at_the_end = WithNumber (record {
   front = codes "X=(";
   run = codes ".5";
   longer = codes ".50";
@@ -47,7 +49,22 @@ zero_at_the_end = WithZero (record {
   before = refl;
   after = refl;
   number = refl;
-  padded = Behind (omega arith) refl;
+  same = ZeroBehind (omega arith) refl;
+  begins = refl;
+  ends = refl;
+  read = refl;
+})
+
+point_at_the_end : IsRespelled (codes "Y=12") (codes "Y=12.")
+point_at_the_end = WithNumber (record {
+  front = codes "Y=";
+  run = codes "12";
+  longer = codes "12.";
+  back = [];
+  before = refl;
+  after = refl;
+  number = refl;
+  same = PointBehind tt refl;
   begins = refl;
   ends = refl;
   read = refl;
@@ -69,3 +86,27 @@ zero_behind_a_word is = names_differ (respelled_tokens (codes "A.5") (codes "A0.
   where
     names_differ : tokens_of (said_on (codes "A.5")) ≡ tokens_of (said_on (codes "A0.5")) → ⊥
     names_differ e = cc
+
+-- ---- texts
+
+a_text : AreRespelled (codes "PARTNO a\nla) stop\nFINI") (codes "PARTNO a\nLA) STOP\nFINI")
+unfolding word_of
+a_text = record {
+  front = codes "PARTNO a" ∷ [];
+  line = codes "la) stop";
+  spelling = codes "LA) STOP";
+  back = codes "FINI" ∷ [];
+  before = refl;
+  after = refl;
+  respelled = InCapitals refl;
+  faults = λ n. refl;
+  no_text = untitled_line (codes "la) stop") (record { untitled = refl; unclosed = refl; unlabelled = refl });
+}
+
+-- the text of a title keeps its spelling
+a_title : TakesNoText (codes "la) partno a") → ⊥
+unfolding word_of
+a_title none = takes_one (none [])
+  where
+    takes_one : title_behind [] (codes "la) partno a") ≡ None → ⊥
+    takes_one e = cc

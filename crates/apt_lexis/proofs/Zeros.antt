@@ -1,4 +1,4 @@
--- A zero in front of a number or behind its point changes no value.
+-- A zero in front of a number or behind its point changes no value, nor does a point behind a whole number.
 use Rattle.std.proofs.Common.{◌≡◌, ℕ, suc, ◌+◌, ◌-◌, ◌*◌, ◌^◌, ◌<◌, ◌==◌, List, [], ◌∷◌, ◌++◌, length, Bool, true, false, Option, Some, None, ap, ◌∙◌, sym, refl, arith}
 use Rattle.std.specs.Prelude.{◌&&◌, ◌||◌, IsSome, nat_le, nat_lt}
 use Rattle.std.specs.List.{list_all}
@@ -10,7 +10,7 @@ use Rattle.apt_words.specs.Options.{◌>>=◌, only_if}
 use Rattle.apt_words.specs.Symbols.{is_digit}
 use Rattle.apt_lexis.specs.Lines.{split, in_front}
 use Rattle.apt_lexis.specs.Tokens.{point, are_digits, number_of, decimal, millionths, number_in}
-use Rattle.apt_lexis.specs.Spellings.{zero_digit, HasRoomInFront, HasRoomBehind, HasZeroMore, InFront, Behind}
+use Rattle.apt_lexis.specs.Spellings.{zero_digit, HasRoomInFront, HasRoomBehind, IsWhole, IsLonger, ZeroInFront, ZeroBehind, PointBehind}
 use Rattle.apt_lexis.proofs.Splitting.{Filled, split_filled}
 use Rattle.apt_lexis.proofs.PartedRuns.{by_cases}
 
@@ -31,17 +31,17 @@ is_decimal : (run : List ℕ) → IsSome (number_in run) → IsSome (decimal (sp
 is_decimal run h = first_some (decimal (split point run)) millionths h
 
 -- what a number without a point is
-record IsWhole (whole : List ℕ) : Type 0 where
+record HasDigits (whole : List ℕ) : Type 0 where
   digits : are_digits whole ≡ true
   some : nat_lt 0 (length whole) ≡ true
 
 -- what a number with a point is
-record IsPointed (whole places : List ℕ) : Type 0 where
+record HasDigitsRound (whole places : List ℕ) : Type 0 where
   digits : are_digits whole ≡ true
   behind : are_digits places ≡ true
   some : nat_lt 0 (length whole + length places) ≡ true
 
-whole_is : (whole : List ℕ) → IsSome (decimal (whole ∷ [])) → IsWhole whole
+whole_is : (whole : List ℕ) → IsSome (decimal (whole ∷ [])) → HasDigits whole
 whole_is whole h =
     let both = and_parts (are_digits whole) (nat_lt 0 (length whole)) (test_of (are_digits whole && nat_lt 0 (length whole)) (number_of 0 whole * 10 ^ 12) h) in
     record { digits = both.0; some = both.1 }
@@ -55,7 +55,7 @@ three_parts false b c e = cc
 three_from : (a b c : Bool) → a ≡ true → b ≡ true → c ≡ true → (a && b && c) ≡ true
 three_from a b c e f g = rw (e, f, g) refl
 
-pointed_is : (whole places : List ℕ) → IsSome (decimal (whole ∷ places ∷ [])) → IsPointed whole places
+pointed_is : (whole places : List ℕ) → IsSome (decimal (whole ∷ places ∷ [])) → HasDigitsRound whole places
 pointed_is whole places h =
     let all = three_parts (are_digits whole) (are_digits places) (nat_lt 0 (length whole + length places))
     (test_of (are_digits whole && are_digits places && nat_lt 0 (length whole + length places)) (number_of 0 whole * 10 ^ 12 + number_of 0 places * 10 ^ (12 - length places)) h) in
@@ -72,13 +72,13 @@ digits_in_front whole h e = and_from (nat_le (length (zero_digit ∷ whole)) 12)
 more_than_none : (n : ℕ) → 0 < n → nat_lt 0 n ≡ true
 more_than_none n h = grind (arith, nat_tests)
 
-whole_longer : (whole : List ℕ) → length whole < 12 → IsWhole whole → decimal ((zero_digit ∷ whole) ∷ []) ≡ decimal (whole ∷ [])
+whole_longer : (whole : List ℕ) → length whole < 12 → HasDigits whole → decimal ((zero_digit ∷ whole) ∷ []) ≡ decimal (whole ∷ [])
 whole_longer whole h is =
     same_if (are_digits (zero_digit ∷ whole) && nat_lt 0 (length (zero_digit ∷ whole))) (are_digits whole && nat_lt 0 (length whole)) (number_of 0 whole * 10 ^ 12) (number_of 0 whole * 10 ^ 12)
     (and_from (are_digits (zero_digit ∷ whole)) (nat_lt 0 (length (zero_digit ∷ whole))) (digits_in_front whole h is.digits) (more_than_none (length (zero_digit ∷ whole)) (omega arith)))
     (and_from (are_digits whole) (nat_lt 0 (length whole)) is.digits is.some) refl
 
-pointed_longer : (whole places : List ℕ) → length whole < 12 → IsPointed whole places → decimal ((zero_digit ∷ whole) ∷ places ∷ []) ≡ decimal (whole ∷ places ∷ [])
+pointed_longer : (whole places : List ℕ) → length whole < 12 → HasDigitsRound whole places → decimal ((zero_digit ∷ whole) ∷ places ∷ []) ≡ decimal (whole ∷ places ∷ [])
 pointed_longer whole places h is =
     same_if (are_digits (zero_digit ∷ whole) && are_digits places && nat_lt 0 (length (zero_digit ∷ whole) + length places)) (are_digits whole && are_digits places && nat_lt 0 (length whole + length places)) _ _
     (three_from _ _ _ (digits_in_front whole h is.digits) is.behind (more_than_none (length (zero_digit ∷ whole) + length places) (omega arith)))
@@ -174,10 +174,42 @@ decimal_behind (whole ∷ places ∷ next ∷ more) h room = absurd room
 pub zero_behind : (run : List ℕ) → IsSome (number_in run) → HasRoomBehind (split point run) → number_in (run ++ zero_digit ∷ []) ≡ number_in run
 zero_behind run h room = ap (λ parts. decimal parts >>= millionths) (split_with_last run) ∙ ap (λ d. d >>= millionths) (decimal_behind (split point run) (is_decimal run h) room)
 
--- the same number with a zero more
-pub same_number : (run longer : List ℕ) → IsSome (number_in run) → HasZeroMore run longer → number_in longer ≡ number_in run
-same_number run longer h (InFront room e) = ap number_in e ∙ zero_in_front run h room
-same_number run longer h (Behind room e) = ap number_in e ∙ zero_behind run h room
+-- ---- the point of a whole number
+
+split_with_point : (run : List ℕ) → split point (run ++ point ∷ []) ≡ split point run ++ [] ∷ []
+split_with_point [] = refl
+split_with_point (b ∷ bs) =
+    by_cases (b == point)
+    (λ e. split_at_point b (bs ++ point ∷ []) e ∙ ap (λ ps. [] ∷ ps) (split_with_point bs) ∙ ap (λ ps. ps ++ [] ∷ []) (sym (split_at_point b bs e)))
+    (λ e. split_other b (bs ++ point ∷ []) e ∙ ap (in_front b) (split_with_point bs) ∙ first b (split_filled point bs) ∙ ap (λ ps. ps ++ [] ∷ []) (sym (split_other b bs e)))
+  where
+    first : {parts : List (List ℕ)} (b : ℕ) → Filled parts → in_front b (parts ++ [] ∷ []) ≡ in_front b parts ++ [] ∷ []
+    first b f = rw f.2 refl
+
+whole_pointed : (whole : List ℕ) → HasDigits whole → decimal (whole ∷ [] ∷ []) ≡ decimal (whole ∷ [])
+whole_pointed whole is =
+    same_if (are_digits whole && are_digits [] && nat_lt 0 (length whole + 0)) (are_digits whole && nat_lt 0 (length whole)) _ _
+    (three_from _ _ _ is.digits refl (more_than_none (length whole + 0) (omega (arith, some_digits (length whole) is.some))))
+    (and_from (are_digits whole) (nat_lt 0 (length whole)) is.digits is.some)
+    (omega arith)
+  where
+    some_digits : (n : ℕ) → nat_lt 0 n ≡ true → 0 < n
+    some_digits n e = grind (arith, nat_tests)
+
+decimal_pointed : (parts : List (List ℕ)) → IsSome (decimal parts) → IsWhole parts → decimal (parts ++ [] ∷ []) ≡ decimal parts
+decimal_pointed [] h is = absurd is
+decimal_pointed (whole ∷ []) h is = whole_pointed whole (whole_is whole h)
+decimal_pointed (whole ∷ places ∷ more) h is = absurd is
+
+-- a point behind a whole number
+pub point_behind : (run : List ℕ) → IsSome (number_in run) → IsWhole (split point run) → number_in (run ++ point ∷ []) ≡ number_in run
+point_behind run h is = ap (λ parts. decimal parts >>= millionths) (split_with_point run) ∙ ap (λ d. d >>= millionths) (decimal_pointed (split point run) (is_decimal run h) is)
+
+-- the same number, written longer
+pub same_number : (run longer : List ℕ) → IsSome (number_in run) → IsLonger run longer → number_in longer ≡ number_in run
+same_number run longer h (ZeroInFront room e) = ap number_in e ∙ zero_in_front run h room
+same_number run longer h (ZeroBehind room e) = ap number_in e ∙ zero_behind run h room
+same_number run longer h (PointBehind is e) = ap number_in e ∙ point_behind run h is
 
 -- ---- the characters of a number
 

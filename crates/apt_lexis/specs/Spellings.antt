@@ -1,4 +1,4 @@
--- Texts that say the same: in capitals or small letters, with more blanks or fewer, with a comment or none, with zeros that change no number.
+-- Texts that say the same: in capitals or small letters, with more blanks or fewer, with a comment or none, with numbers that are written longer.
 use Rattle.std.specs.Prelude.{◌≡◌, ℕ, ◌<◌, ◌&&◌, Bool, true, false, List, [], ◌∷◌, ◌++◌, length, map, None, IsSome}
 use Rattle.std.specs.List.{list_all}
 use Rattle.apt_lexis.specs.declared.token.Token.{Token}
@@ -22,10 +22,16 @@ abbrev pub HasRoomBehind : List (List ℕ) → Type 0
 HasRoomBehind (whole ∷ places ∷ []) = length places < 12
 HasRoomBehind _ = ⊥
 
--- a number has one zero more, in front or behind its point
-pub data HasZeroMore (run longer : List ℕ) : Type 0 where
-  InFront : HasRoomInFront (split point run) → longer ≡ zero_digit ∷ run → HasZeroMore run longer
-  Behind : HasRoomBehind (split point run) → longer ≡ run ++ zero_digit ∷ [] → HasZeroMore run longer
+-- there is no point
+abbrev pub IsWhole : List (List ℕ) → Type 0
+IsWhole (whole ∷ []) = Unit {0}
+IsWhole _ = ⊥
+
+-- a number is written with a zero more in front, with a zero more behind its point, or with a point behind a whole number
+pub data IsLonger (run longer : List ℕ) : Type 0 where
+  ZeroInFront : HasRoomInFront (split point run) → longer ≡ zero_digit ∷ run → IsLonger run longer
+  ZeroBehind : HasRoomBehind (split point run) → longer ≡ run ++ zero_digit ∷ [] → IsLonger run longer
+  PointBehind : IsWhole (split point run) → longer ≡ run ++ point ∷ [] → IsLonger run longer
 
 -- ---- lines
 
@@ -65,7 +71,7 @@ pub record HasWordsMore (line other : List ℕ) : Type 0 where
   pub single : is_single (dollar ∷ words) ≡ true
   pub read : has_no_dollar front ≡ true
 
--- a number that stands by itself has a zero more
+-- a number that stands by itself is written longer
 pub record HasLongerNumber (line other : List ℕ) : Type 0 where
   pub front : List ℕ
   pub run : List ℕ
@@ -74,7 +80,7 @@ pub record HasLongerNumber (line other : List ℕ) : Type 0 where
   pub before : line ≡ front ++ run ++ back
   pub after : other ≡ front ++ longer ++ back
   pub number : IsSome (number_in run)
-  pub padded : HasZeroMore run longer
+  pub same : IsLonger run longer
   pub begins : ends_in_run front ≡ false
   pub ends : begins_in_run back ≡ false
   pub read : has_no_dollar front ≡ true
@@ -85,7 +91,7 @@ pub data IsRespelled (line other : List ℕ) : Type 0 where
   WithBlank : HasBlankMore line other → IsRespelled line other
   WithComment : HasCommentMore line other → IsRespelled line other
   WithWords : HasWordsMore line other → IsRespelled line other
-  WithZero : HasLongerNumber line other → IsRespelled line other
+  WithNumber : HasLongerNumber line other → IsRespelled line other
 
 -- ---- texts
 
@@ -93,7 +99,7 @@ pub data IsRespelled (line other : List ℕ) : Type 0 where
 abbrev pub TakesNoText : List ℕ → Type 0
 TakesNoText line = (ts : List Token) → title_behind ts line ≡ None
 
--- a text with another spelling of one of its lines
+-- a text with another spelling of one of its lines, which has the same fault or none
 pub record AreRespelled (text other : List ℕ) : Type 0 where
   pub front : List (List ℕ)
   pub line : List ℕ
