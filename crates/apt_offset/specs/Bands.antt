@@ -5,6 +5,8 @@ use Rattle.apt_num.specs.declared.Sign.TheVariants as signs
 use Rattle.apt_plane.specs.declared.figures.Surface.{Surface}
 use Rattle.apt_plane.specs.declared.figures.Surface.TheVariants as surfaces
 use Rattle.apt_plane.specs.declared.figures.Band.{Band}
+use Rattle.apt_offset.specs.declared.Target.{Target}
+use Rattle.apt_offset.specs.declared.Target.TheVariants as targets
 
 -- a distance is in a band
 abbrev pub IsInBand : Band → ℤ → Type 0
@@ -28,3 +30,8 @@ abbrev pub HasEdgeWithin : Surface → Sign → ℤ → ℤ → ℤ → ℤ → 
 HasEdgeWithin surface signs.Plus r i o x = IsEdgeWithin i o (off_surface surface signs.Plus x -ℤ r)
 HasEdgeWithin surface signs.Minus r i o x = IsEdgeWithin i o (off_surface surface signs.Minus x -ℤ r)
 HasEdgeWithin surface signs.Zero r i o x = (off_surface surface signs.Zero x ≤ℤ i) ⊎ (off_surface surface signs.Zero x ≤ℤ o)
+
+-- the distance at which a target runs
+abbrev pub reach : Target → ℤ
+reach (targets.Line base dir off) = off
+reach (targets.Circ c r) = r

@@ -4,7 +4,7 @@ ghost use Rattle.std.specs.Prelude.{◌≡◌, ◌↔◌, ◌⊎◌, false, ℤ,
 ghost use Rattle.std.specs.Result.{IfErr};
 ghost use Rattle.apt_plane.specs.Ranges.{IsPoint, IsSurface, IsBand};
 ghost use Rattle.apt_offset.specs.Targets as moving;
-ghost use Rattle.apt_offset.specs.Bands.{IsInBand, HasEdgeWithin};
+ghost use Rattle.apt_offset.specs.Bands.{IsInBand, HasEdgeWithin, reach};
 ghost use Rattle.apt_offset.specs.Refusals.{StartsOn, HasNoRoom};
 ghost use Rattle.apt_offset.specs.Sides.{side_at_drive, side_at_check};
 ghost use Rattle.apt_offset.specs.Ranges.{IsRadius, IsTolerance, IsTarget};
@@ -110,6 +110,7 @@ pub fn offset_surface(s: &Surface, side: Sign, r: i64) -> Target
     requires surface { IsSurface s.now }
     requires radius { IsRadius r }
     ensures value { result ≡ moving.offset_surface s.now side r }
+    ensures touches { HasEdgeWithin s.now side r (pos 0) (pos 0) (reach result) }
     ensures fits { moving.lacks_room result ≡ false → IsTarget result }
 {
     let off = signed(side, r);
