@@ -16,7 +16,7 @@ use Rattle.apt_plane.proofs.Lengths.{IsInRing}
 use Rattle.apt_canon.specs.declared.FormFault.{FormFault}
 use Rattle.apt_canon.specs.declared.FormFault.TheVariants.{NoMeeting, Degenerate}
 use Rattle.apt_canon.specs.Scale.{IsNearLine, IsNearCircle}
-use Rattle.apt_canon.specs.Tangents.{Passes, RunsAlong, side_of_circle, falling, falling_dir, fall_divisor, tangent_line, tangent_from, drop, touch_point, common_tangent, tangent_two}
+use Rattle.apt_canon.specs.Tangents.{PassesBy, RunsAlong, side_of_circle, falling, falling_dir, fall_divisor, tangent_line, tangent_from, drop, touch_point, common_tangent, tangent_two}
 use Rattle.apt_canon.proofs.Ways.{there_and_back, no_square, one_point, no_way, way_is_dir}
 use Rattle.apt_canon.proofs.NearLine.{length_squared_bound}
 use Rattle.apt_canon.proofs.NearCircle.{near_circle}
@@ -113,7 +113,7 @@ from_range r p left c is_p is e = if_from (λ t. IsLine t) r p left c e (λ outs
 })
 
 -- the circle lies on the other side of the tangent than the tangent of the circle
-pub from_side : (r : Result Line FormFault) (p : Pt) (left : Bool) (c : Circ) → IsPoint p → IsCircle c → r ≡ tangent_from p left c → IfOk r (λ t. Passes left t c)
+pub from_side : (r : Result Line FormFault) (p : Pt) (left : Bool) (c : Circ) → IsPoint p → IsCircle c → r ≡ tangent_from p left c → IfOk r (λ t. PassesBy left t c)
 from_side r p left c is_p is e = if_passes left c r is (from_range r p left c is_p is e) (from_touches r p left c is_p is e)
 
 -- from a point that is not on the circle it runs towards the circle
@@ -277,12 +277,12 @@ two_range r a left_a b left_b is_a is_b e =
 -- ---- which of the tangents of two circles
 
 pub two_side_first : (r : Result Line FormFault) (a : Circ) (left_a : Bool) (b : Circ) (left_b : Bool) → IsCircle a → IsCircle b → r ≡ tangent_two a left_a b left_b
-    → IfOk r (λ t. Passes left_a t a)
+    → IfOk r (λ t. PassesBy left_a t a)
 two_side_first r a left_a b left_b is_a is_b e =
     if_passes left_a a r is_a (two_range r a left_a b left_b is_a is_b e) (two_touches_first r a left_a b left_b is_a is_b e)
 
 pub two_side_second : (r : Result Line FormFault) (a : Circ) (left_a : Bool) (b : Circ) (left_b : Bool) → IsCircle a → IsCircle b → r ≡ tangent_two a left_a b left_b
-    → IfOk r (λ t. Passes left_b t b)
+    → IfOk r (λ t. PassesBy left_b t b)
 two_side_second r a left_a b left_b is_a is_b e =
     if_passes left_b b r is_b (two_range r a left_a b left_b is_a is_b e) (two_touches_second r a left_a b left_b is_a is_b e)
 

@@ -18,7 +18,7 @@ use Rattle.apt_plane.proofs.Lengths.{dot_in_frame}
 use Rattle.apt_plane.proofs.Rounding.{moved_dot}
 use Rattle.apt_canon.specs.declared.FormFault.{FormFault}
 use Rattle.apt_canon.specs.Scale.{times, IsNearLine}
-use Rattle.apt_canon.specs.Tangents.{side_of_circle, falling, falling_dir, Passes}
+use Rattle.apt_canon.specs.Tangents.{side_of_circle, falling, falling_dir, PassesBy}
 use Rattle.apt_canon.proofs.NearLine.{length_squared_bound}
 use Rattle.apt_canon.proofs.Sharp.{positive_of}
 use Rattle.apt_canon.proofs.Sides.{left_at, right_at}
@@ -34,14 +34,14 @@ to_left : (r : ℤ) → neg_ℤ (neg_ℤ (pos 1) *ℤ r) ≡ r
 to_left r = omega (arith, ints)
 
 -- a line that touches a circle within two units passes it on the side that is named
-pub passes : (left : Bool) (t : Line) (c : Circ) → IsCircle c → IsLine t → IsNearLine t (neg_ℤ (side_of_circle left *ℤ c.r)) (pos 2) c.c → Passes left t c
+pub passes : (left : Bool) (t : Line) (c : Circ) → IsCircle c → IsLine t → IsNearLine t (neg_ℤ (side_of_circle left *ℤ c.r)) (pos 2) c.c → PassesBy left t c
 passes true t c is line near =
     right_at _ c.r (pos 2) (length_squared t.dir) (rw (to_right c.r) at near) (omega (arith, ints, is.least)) line.dir.length
 passes false t c is line near =
     left_at _ c.r (pos 2) (length_squared t.dir) (rw (to_left c.r) at near) (omega (arith, ints, is.least)) line.dir.length
 
 pub if_passes : (left : Bool) (c : Circ) (r : Result Line FormFault) → IsCircle c → IfOk r (λ t. IsLine t) → IfOk r (λ t. IsNearLine t (neg_ℤ (side_of_circle left *ℤ c.r)) (pos 2) c.c)
-    → IfOk r (λ t. Passes left t c)
+    → IfOk r (λ t. PassesBy left t c)
 if_passes left c (Ok t) is line near = passes left t c is line near
 if_passes left c (Err e) is line near = tt
 

@@ -4,7 +4,7 @@ use Rattle.std.proofs.lemmas.Int.{ints}
 use Rattle.apt_num.specs.declared.Sign.TheVariants.{Minus, Plus}
 use Rattle.apt_num.specs.Root.{root}
 use Rattle.apt_canon.specs.declared.FormFault.TheVariants.{NoMeeting, Degenerate}
-use Rattle.apt_canon.specs.Tangents.{tangent_from, tangent_two, Passes, RunsAlong}
+use Rattle.apt_canon.specs.Tangents.{tangent_from, tangent_two, PassesBy, RunsAlong}
 use Rattle.apt_canon.proofs.Figures.{pt, line, circ}
 
 -- the sides of the triangle are 3, 4 and 5: the circle lies to the right of the tangent on its left
@@ -17,16 +17,16 @@ unfolding root
 right_of_circle = refl
 
 -- the one passes the circle on its left, and runs towards it; the other does not pass it on its left
-passes_left : Passes true (line (pos 0) (pos 0) (pos 79999200) (pos 59999400)) (circ (pos 500000) (pos 0) (pos 300000))
+passes_left : PassesBy true (line (pos 0) (pos 0) (pos 79999200) (pos 59999400)) (circ (pos 500000) (pos 0) (pos 300000))
 passes_left = refl
 
-passes_right : Passes false (line (pos 0) (pos 0) (pos 79999200) (neg_ℤ (pos 59999400))) (circ (pos 500000) (pos 0) (pos 300000))
+passes_right : PassesBy false (line (pos 0) (pos 0) (pos 79999200) (neg_ℤ (pos 59999400))) (circ (pos 500000) (pos 0) (pos 300000))
 passes_right = refl
 
 apart : Plus ≡ Minus → ⊥
 apart e = cc
 
-not_left : ¬ Passes true (line (pos 0) (pos 0) (pos 79999200) (neg_ℤ (pos 59999400))) (circ (pos 500000) (pos 0) (pos 300000))
+not_left : ¬ PassesBy true (line (pos 0) (pos 0) (pos 79999200) (neg_ℤ (pos 59999400))) (circ (pos 500000) (pos 0) (pos 300000))
 not_left = apart
 
 runs_on : RunsAlong (record { dx = pos 500000; dy = pos 0 }) (line (pos 0) (pos 0) (pos 79999200) (pos 59999400))

@@ -74,8 +74,8 @@ circle_side true = signs.Minus
 circle_side false = signs.Plus
 
 -- a tangent passes a circle on its left for true, and on its right for false
-abbrev pub Passes : Bool → Line → Circ → Type 0
-Passes left t c = side_of_line t c.c ≡ circle_side left
+abbrev pub PassesBy : Bool → Line → Circ → Type 0
+PassesBy left t c = side_of_line t c.c ≡ circle_side left
 
 -- a line runs on along a way, and not back
 abbrev pub RunsAlong : Dir → Line → Type 0

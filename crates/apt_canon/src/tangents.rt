@@ -7,7 +7,7 @@ ghost use Rattle.apt_num.specs.Sign as signs;
 ghost use Rattle.apt_plane.specs.Vectors as vectors;
 ghost use Rattle.apt_plane.specs.Ranges.{IsPoint, IsDir, IsLine, IsCircle};
 ghost use Rattle.apt_canon.specs.Scale.{IsNearLine, IsNearCircle};
-ghost use Rattle.apt_canon.specs.Tangents.{Passes, RunsAlong};
+ghost use Rattle.apt_canon.specs.Tangents.{PassesBy, RunsAlong};
 ghost use Rattle.apt_canon.specs.Tangents as tangents;
 
 use crate::FormFault;
@@ -34,7 +34,7 @@ pub fn tangent_from(p: Pt, left: bool, c: &Circ) -> Result<Line, FormFault>
     ensures range { IfOk result (λ t. IsLine t) }
     ensures base { IfOk result (λ t. t.base ≡ p) }
     ensures touches { IfOk result (λ t. IsNearLine t (neg_ℤ (tangents.side_of_circle left *ℤ c.now.r)) (pos 2) c.now.c) }
-    ensures side { IfOk result (λ t. Passes left t c.now) }
+    ensures side { IfOk result (λ t. PassesBy left t c.now) }
     ensures onwards { IfOk result (λ t. vectors.length_squared (vectors.displacement p c.now.c) ≢ signs.square c.now.r → RunsAlong (vectors.displacement p c.now.c) t) }
 {
     from_point(p, left, c)
@@ -57,8 +57,8 @@ pub fn tangent_two(a: &Circ, left_a: bool, b: &Circ, left_b: bool) -> Result<Lin
     ensures base { IfOk result (λ t. IsNearCircle a.now (pos 1) t.base) }
     ensures touches_a { IfOk result (λ t. IsNearLine t (neg_ℤ (tangents.side_of_circle left_a *ℤ a.now.r)) (pos 2) a.now.c) }
     ensures touches_b { IfOk result (λ t. IsNearLine t (neg_ℤ (tangents.side_of_circle left_b *ℤ b.now.r)) (pos 2) b.now.c) }
-    ensures side_a { IfOk result (λ t. Passes left_a t a.now) }
-    ensures side_b { IfOk result (λ t. Passes left_b t b.now) }
+    ensures side_a { IfOk result (λ t. PassesBy left_a t a.now) }
+    ensures side_b { IfOk result (λ t. PassesBy left_b t b.now) }
     ensures onwards { IfOk result (λ t. vectors.length_squared (vectors.displacement a.now.c b.now.c) ≢ signs.square (tangents.drop a.now left_a b.now left_b) → RunsAlong (vectors.displacement a.now.c b.now.c) t) }
 {
     of_two(a, left_a, b, left_b)

@@ -16,7 +16,7 @@ use Rattle.apt_plane.specs.Vectors.{displacement, cross, dot, length_squared}
 use Rattle.apt_canon.specs.Scale.{from, IsNearLine, IsNearCircle, IsAway}
 use Rattle.apt_canon.specs.Circles.{IsFurther, IsBeyond}
 use Rattle.apt_canon.specs.Feet.{side_picked, IsPicked}
-use Rattle.apt_canon.specs.Tangents.{Passes, RunsAlong, drop}
+use Rattle.apt_canon.specs.Tangents.{PassesBy, RunsAlong, drop}
 use Rattle.apt_canon.specs.RoundLaws.{Touches, IsThrough, IsBeside}
 use Rattle.apt_defs.specs.declared.figure.Figure.{Figure}
 use Rattle.apt_defs.specs.declared.figure.Figure.TheVariants as figures
@@ -180,7 +180,7 @@ RunsBy false c l = IsNearLine l c.r (pos 2) c.c
 -- a line touches a circle, which lies on the side that is asked for
 pub record IsTangent (left : Bool) (c : Circ) (l : Line) : Type 0 where
   pub touches : RunsBy left c l
-  pub side : Passes left l c
+  pub side : PassesBy left l c
 
 -- from a point past a circle, and towards it where the point is not on the circle
 pub record IsTangentFrom (p : Pt) (left : Bool) (c : Circ) (l : Line) : Type 0 where
