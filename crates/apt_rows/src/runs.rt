@@ -125,7 +125,7 @@ fn make_run(
     }
     let printed = sink.bytes().get(start..).context("the sink lost bytes")?;
     if run.prints.as_slice() != printed {
-        let text = shown(alloc, printed)?;
+        let text = shown(alloc, printed, 0)?;
         tell(rt, place, format_args!("printed \"{text}\""))?;
     }
     for one in &before {
@@ -202,8 +202,9 @@ fn compare_bytes(
     let Some(bytes) = came else {
         return tell(rt, place, format_args!("{name} holds nothing"));
     };
-    let (length, at) = (bytes.len(), first_other(bytes, want.unwrap_or(&[])));
-    let text = shown(rt.alloc(), bytes.get(at..).unwrap_or(&[]))?;
+    let wanted = want.unwrap_or(&[]);
+    let (length, at) = (bytes.len(), first_other(bytes, wanted));
+    let text = shown(rt.alloc(), bytes, at)?;
     tell(
         rt,
         place,
@@ -223,10 +224,10 @@ fn first_other(bytes: &[u8], wanted: &[u8]) -> usize {
 /// How many bytes are shown at most.
 const SHOWN: usize = 48;
 
-/// The first of some bytes, in characters and escapes.
-fn shown(alloc: Global, bytes: &[u8]) -> Result<String> {
+/// Some bytes from a place on, in characters and escapes.
+fn shown(alloc: Global, bytes: &[u8], at: usize) -> Result<String> {
     let mut text = String::new(alloc);
-    for byte in bytes.iter().take(SHOWN) {
+    for byte in bytes.iter().skip(at).take(SHOWN) {
         match byte {
             b' ' | b'!' | b'#'..=b'[' | b']'..=b'~' => text.push(char::from(*byte))?,
             _ => text.push_str(format!(in alloc; "\\x{byte:02x}")?.as_str())?,
