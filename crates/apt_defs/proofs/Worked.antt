@@ -98,11 +98,14 @@ smaller_y = refl
 
 -- ---- which name refuses
 
-first_name_refuses : first_case table (names_of (deeds.LineTan name (codes "LX") true (codes "Q"))) ≡ Some cases.WrongKind
+first_name_refuses : definition_of Inch table (deeds.LineTan name (codes "LX") true (codes "Q")) ≡ defines name (Err cases.WrongKind)
 first_name_refuses = refl
 
-second_name_refuses : first_case table (names_of (deeds.LineTan name (codes "P") true (codes "Q"))) ≡ Some cases.Undefined
+second_name_refuses : definition_of Inch table (deeds.LineTan name (codes "P") true (codes "Q")) ≡ defines name (Err cases.Undefined)
 second_name_refuses = refl
+
+first_case_of_names : first_case table (names_of (deeds.LineTan name (codes "LX") true (codes "Q"))) ≡ Some cases.WrongKind
+first_case_of_names = refl
 
 name_before_number : definition_of Inch table (deeds.CircleRadius name (codes "Q") (pos (10 ^ 12))) ≡ defines name (Err cases.Undefined)
 name_before_number = refl
