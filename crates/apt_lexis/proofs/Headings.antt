@@ -22,16 +22,16 @@ use Rattle.apt_lexis.proofs.PartedRuns.{by_cases}
 
 -- ---- what is read at the front of a title
 
-abbrev titled : List Read → Bool
+abbrev pub titled : List Read → Bool
 titled (Ok (tokens.Word w) ∷ reads) = is_title_word w
 titled _ = false
 
 -- behind the name of a label
-abbrev closed : List Read → Bool
+abbrev pub closed : List Read → Bool
 closed (Ok tokens.Close ∷ reads) = titled reads
 closed _ = false
 
-abbrev labelled_in : List Read → Bool
+abbrev pub labelled_in : List Read → Bool
 labelled_in (Ok (tokens.Word w) ∷ reads) = is_name w && closed reads
 labelled_in _ = false
 
