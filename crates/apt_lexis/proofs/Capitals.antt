@@ -13,7 +13,7 @@ use Rattle.apt_lexis.specs.Titles.{behind}
 use Rattle.apt_lexis.specs.Tokens.{capital, is_letter, is_letter_or_digit, begins_with_letter}
 use Rattle.apt_lexis.proofs.Fronts.{front_length, front_passes, front_short, take_front, prefix_yes, prefix_no, whole_front}
 
-no_both : (t : Bool) → t ≡ true → t ≡ false → ⊥
+pub no_both : (t : Bool) → t ≡ true → t ≡ false → ⊥
 no_both t e f = cc
 
 -- ---- how far letters and digits go

@@ -15,23 +15,23 @@ use Rattle.apt_lexis.specs.Titles.{Title, behind, front_word, is_title_word, tit
 use Rattle.apt_lexis.specs.Sentences.{is_no_dollar, said_on}
 use Rattle.apt_lexis.specs.Spellings.{TakesNoText}
 use Rattle.apt_lexis.proofs.Fronts.{prefix_no, take_front, none_behind, none_first}
-use Rattle.apt_lexis.proofs.Capitals.{other_first}
+use Rattle.apt_lexis.proofs.Capitals.{no_both, other_first}
 use Rattle.apt_lexis.proofs.TitleLaws.{no_symbol}
 use Rattle.apt_lexis.proofs.OneByOne.{inner_length, inner_front, inner_rest, reads_of, reads_behind_blanks, reads_word, reads_number, reads_mark}
 use Rattle.apt_lexis.proofs.PartedRuns.{by_cases}
 
 -- ---- what is read at the front of a title
 
-abbrev titled : List Read → Bool
+abbrev pub titled : List Read → Bool
 titled (Ok (tokens.Word w) ∷ reads) = is_title_word w
 titled _ = false
 
 -- behind the name of a label
-abbrev closed : List Read → Bool
+abbrev pub closed : List Read → Bool
 closed (Ok tokens.Close ∷ reads) = titled reads
 closed _ = false
 
-abbrev labelled_in : List Read → Bool
+abbrev pub labelled_in : List Read → Bool
 labelled_in (Ok (tokens.Word w) ∷ reads) = is_name w && closed reads
 labelled_in _ = false
 
@@ -155,9 +155,6 @@ of_mark P b equals slash comma opens close plus minus star bad =
 mark_other : (b : ℕ) → IsOther (mark b)
 mark_other b reads =
     of_mark (λ read. (titled (read ∷ reads) ≡ false) × (labelled_in (read ∷ reads) ≡ false)) b (refl, refl) (refl, refl) (refl, refl) (refl, refl) (λ _. (refl, refl)) (refl, refl) (refl, refl) (refl, refl) (refl, refl)
-
-no_both : (t : Bool) → t ≡ true → t ≡ false → ⊥
-no_both t e f = cc
 
 mark_open : (b : ℕ) (reads : List Read) → (b == 41) ≡ false → closed (mark b ∷ reads) ≡ false
 mark_open b reads e = of_mark (λ read. closed (read ∷ reads) ≡ false) b refl refl refl refl (λ f. absurd (no_both (b == 41) f e)) refl refl refl refl

@@ -8,8 +8,9 @@ use Rattle.apt_words.specs.Symbols.{is_symbol}
 use Rattle.apt_lexis.specs.declared.cause.PartCause.TheVariants as causes
 use Rattle.apt_lexis.specs.declared.token.Token.TheVariants as tokens
 use Rattle.apt_lexis.specs.Lines.{in_front}
-use Rattle.apt_lexis.specs.Tokens.{Read, capital, is_blank, is_small, is_letter, is_letter_or_digit, is_in_run, begins_in_run, runs, number_in, or_bad_number, number, word, mark, number_behind, tokens_of_run}
+use Rattle.apt_lexis.specs.Tokens.{Read, capital, is_blank, is_letter, is_letter_or_digit, is_in_run, begins_in_run, runs, number_in, or_bad_number, number, word, mark, number_behind, tokens_of_run}
 use Rattle.apt_lexis.specs.Sentences.{is_no_dollar, is_single, said_on, goes_on}
+use Rattle.apt_lexis.proofs.Capitals.{no_both}
 use Rattle.apt_lexis.proofs.OneByOne.{reads_of, word_alone, number_alone, mark_alone}
 use Rattle.apt_lexis.proofs.PartedRuns.{by_cases, runs_longer, runs_ended, runs_blank, runs_mark}
 use Rattle.apt_lexis.proofs.Zeros.{is_digit_or_point, number_characters}
@@ -79,9 +80,6 @@ no_dollar-alike b = same_bool (is_no_dollar (capital b)) (is_no_dollar b) (passe
 
 -- ---- bytes that stay
 
-stays : (b : ℕ) → is_small b ≡ false → capital b ≡ b
-stays b e = rw e refl
-
 digit_or_point-stays : (b : ℕ) → is_digit_or_point b ≡ true → capital b ≡ b
 digit_or_point-stays b e = grind (arith, nat_tests)
 
@@ -132,9 +130,6 @@ all-stay (b ∷ bs) e =
 none_of : {A : Type 0} (o : Option A) → (IsSome o → ⊥) → o ≡ None
 none_of None h = refl
 none_of (Some x) h = absurd (h refl)
-
-no_both : (t : Bool) → t ≡ true → t ≡ false → ⊥
-no_both t e f = cc
 
 no_number : (run : List ℕ) → list_all is_digit_or_point run ≡ false → number_in run ≡ None
 no_number run e = none_of (number_in run) (λ h. no_both (list_all is_digit_or_point run) (number_characters run h) e)

@@ -1,13 +1,14 @@
 -- Lines that are spelled in another way, and some that are not, which the checker reads.
-use Rattle.std.specs.Prelude.{◌≡◌, None, [], ◌∷◌, codes}
-use Rattle.std.proofs.Common.{refl, arith}
+use Rattle.std.specs.Prelude.{◌≡◌, ℕ, false, List, [], ◌∷◌, ◌++◌, None, IsSome, codes}
+use Rattle.std.proofs.Common.{refl, sym, ◌∙◌, arith}
 use Rattle.apt_words.specs.Vocabulary.{word_of}
-use Rattle.apt_lexis.specs.Lines.{tab}
-use Rattle.apt_lexis.specs.Tokens.{number_in, tokens_of}
+use Rattle.apt_lexis.specs.Lines.{tab, lines_of, line_fault}
+use Rattle.apt_lexis.specs.Tokens.{Read, number_in, tokens_of}
 use Rattle.apt_lexis.specs.Sentences.{said_on}
 use Rattle.apt_lexis.specs.Titles.{blank, title_behind}
-use Rattle.apt_lexis.specs.Spellings.{IsRespelled, AreRespelled, TakesNoText, InCapitals, WithBlank, WithComment, WithWords, WithNumber, ZeroInFront, ZeroBehind, PointBehind}
-use Rattle.apt_lexis.proofs.Headings.{untitled_line}
+use Rattle.apt_lexis.specs.Spellings.{IsRespelled, AreRespelled, TakesNoText, SayTheSame, Itself, Onward, IsLonger, InCapitals, WithBlank, WithComment, WithWords, WithNumber, ZeroInFront, ZeroBehind, PointBehind}
+use Rattle.apt_lexis.proofs.OneByOne.{reads_of}
+use Rattle.apt_lexis.proofs.Headings.{titled, closed, labelled_in, AreUntitled, untitled_line}
 use Rattle.apt_lexis.proofs.Respelled.{respelled_tokens}
 
 small_letters : IsRespelled (codes "Goto/1.5, x $ on") (codes "GOTO/1.5, X $ ON")
@@ -70,9 +71,6 @@ point_at_the_end = WithNumber (record {
   read = refl;
 })
 
-zeros_all_round : number_in (codes "007.500") ≡ number_in (codes "7.5")
-zeros_all_round = refl
-
 -- a blank within a word makes two of it
 blank_within : IsRespelled (codes "STOP") (codes "ST OP") → ⊥
 blank_within is = words_differ (respelled_tokens (codes "STOP") (codes "ST OP") is)
@@ -102,6 +100,58 @@ a_text = record {
   faults = λ n. refl;
   no_text = untitled_line (codes "la) stop") (record { untitled = refl; unclosed = refl; unlabelled = refl });
 }
+
+-- X is set to a number
+abbrev set_to : List ℕ → List ℕ
+set_to run = codes "X=" ++ run ++ []
+
+-- it is a text of one line, with no fault and no title
+record IsGoodLine (run : List ℕ) : Type 0 where
+  one : lines_of (set_to run) ≡ set_to run ∷ []
+  good : (n : ℕ) → line_fault n (set_to run) ≡ line_fault n []
+  untitled : AreUntitled (reads_of (said_on (set_to run)))
+
+longer_number : (run longer : List ℕ) → IsSome (number_in run) → IsLonger run longer → IsGoodLine run → IsGoodLine longer → AreRespelled (set_to run) (set_to longer)
+longer_number run longer number same is is' = record {
+  front = [];
+  line = set_to run;
+  spelling = set_to longer;
+  back = [];
+  before = is.one;
+  after = is'.one;
+  respelled = WithNumber (record {
+    front = codes "X=";
+    run = run;
+    longer = longer;
+    back = [];
+    before = refl;
+    after = refl;
+    number = number;
+    same = same;
+    begins = refl;
+    ends = refl;
+    read = refl;
+  });
+  faults = λ n. is.good n ∙ sym (is'.good n);
+  no_text = untitled_line (set_to run) is.untitled;
+}
+
+none_titled : {reads : List Read} → titled reads ≡ false → closed reads ≡ false → labelled_in reads ≡ false → AreUntitled reads
+none_titled e f g = record { untitled = e; unclosed = f; unlabelled = g }
+
+zeros_all_round : SayTheSame (codes "X=7.5") (codes "X=007.500")
+unfolding word_of
+zeros_all_round =
+    let a : IsGoodLine (codes "7.5") = record { one = refl; good = λ n. refl; untitled = none_titled refl refl refl } in
+    let b : IsGoodLine (codes "07.5") = record { one = refl; good = λ n. refl; untitled = none_titled refl refl refl } in
+    let c : IsGoodLine (codes "007.5") = record { one = refl; good = λ n. refl; untitled = none_titled refl refl refl } in
+    let d : IsGoodLine (codes "007.50") = record { one = refl; good = λ n. refl; untitled = none_titled refl refl refl } in
+    let e : IsGoodLine (codes "007.500") = record { one = refl; good = λ n. refl; untitled = none_titled refl refl refl } in
+    Onward (set_to (codes "7.5")) (set_to (codes "07.5")) _ (longer_number (codes "7.5") (codes "07.5") refl (ZeroInFront (omega arith) refl) a b)
+    (Onward (set_to (codes "07.5")) (set_to (codes "007.5")) _ (longer_number (codes "07.5") (codes "007.5") refl (ZeroInFront (omega arith) refl) b c)
+    (Onward (set_to (codes "007.5")) (set_to (codes "007.50")) _ (longer_number (codes "007.5") (codes "007.50") refl (ZeroBehind (omega arith) refl) c d)
+    (Onward (set_to (codes "007.50")) (set_to (codes "007.500")) _ (longer_number (codes "007.50") (codes "007.500") refl (ZeroBehind (omega arith) refl) d e)
+    (Itself (codes "X=007.500")))))
 
 -- the text of a title keeps its spelling
 a_title : TakesNoText (codes "la) partno a") → ⊥

@@ -30,12 +30,12 @@ same_if a b x y e f g = rw (e, f) (ap (λ z. Some z) g)
 is_decimal : (run : List ℕ) → IsSome (number_in run) → IsSome (decimal (split point run))
 is_decimal run h = first_some (decimal (split point run)) millionths h
 
--- what a number without a point is
+-- the digits of a number without a point
 record HasDigits (whole : List ℕ) : Type 0 where
   digits : are_digits whole ≡ true
   some : nat_lt 0 (length whole) ≡ true
 
--- what a number with a point is
+-- the digits of a number round its point
 record HasDigitsRound (whole places : List ℕ) : Type 0 where
   digits : are_digits whole ≡ true
   behind : are_digits places ≡ true
@@ -105,9 +105,6 @@ with_last b (part ∷ next ∷ parts) = part ∷ with_last b (next ∷ parts)
 in_front_with_last : (b c : ℕ) (first : List ℕ) (parts : List (List ℕ)) → in_front b (with_last c (first ∷ parts)) ≡ with_last c (in_front b (first ∷ parts))
 in_front_with_last b c first [] = refl
 in_front_with_last b c first (next ∷ parts) = refl
-
-split_between : (bs : List ℕ) → split point (point ∷ bs) ≡ [] ∷ split point bs
-split_between bs = refl
 
 split_other : (b : ℕ) (bs : List ℕ) → (b == point) ≡ false → split point (b ∷ bs) ≡ in_front b (split point bs)
 split_other b bs e = rw e refl

@@ -1,5 +1,5 @@
 -- A text that is spelled in another way has the same program.
-use Rattle.std.specs.Prelude.{◌≡◌, ℕ, List, [], length, Result, max}
+use Rattle.std.specs.Prelude.{◌≡◌, ℕ, List, [], Result, max}
 use Rattle.std.proofs.Common.{ap, sym, ◌∙◌, refl, subst}
 use Rattle.apt_words.specs.declared.body.Program.{Program}
 use Rattle.apt_lexis.specs.declared.error.ParseError.{ParseError}
