@@ -40,7 +40,7 @@ no_run_of_blank b e = grind (arith, nat_tests)
 
 -- ---- blanks
 
-reads_blank : (b : ℕ) (bs : List ℕ) → is_blank b ≡ true → reads_of (b ∷ bs) ≡ reads_of bs
+pub reads_blank : (b : ℕ) (bs : List ℕ) → is_blank b ≡ true → reads_of (b ∷ bs) ≡ reads_of bs
 reads_blank b bs e = rw (no_run_of_blank b e, e) refl
 
 pub reads_behind_blanks : (text : List ℕ) → reads_of (behind is_blank text) ≡ reads_of text

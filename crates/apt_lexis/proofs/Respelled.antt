@@ -1,17 +1,17 @@
 -- Lines and texts that are spelled in another way say the same.
-use Rattle.std.proofs.Common.{◌≡◌, ℕ, ◌+◌, List, [], ◌∷◌, ◌++◌, length, map, drop, Bool, true, false, Option, None, Ok, Err, ap, ◌∙◌, sym, refl, arith, append-nil, append_assoc}
+use Rattle.std.proofs.Common.{◌≡◌, ℕ, ◌+◌, List, [], ◌∷◌, ◌++◌, length, map, take, drop, Bool, true, false, Option, None, Ok, Err, ap, ◌∙◌, sym, refl, arith, append-nil, append_assoc}
 use Rattle.std.specs.Prelude.{◌&&◌, IsSome, is_some}
 use Rattle.std.specs.List.{list_all, prefix_len, flat_map}
 use Rattle.std.proofs.lemmas.Bool.{and_parts, and_from}
 use Rattle.std.proofs.lemmas.Bool.Decides.{nat_tests}
 use Rattle.std.proofs.lemmas.List.{length-append}
 use Rattle.apt_lexis.specs.Lines.{lines_of, line_fault}
-use Rattle.apt_lexis.specs.Tokens.{Tokens, capital, is_blank, is_letter, is_in_run, begins_in_run, number_in, or_bad_number, number, tokens_of_run, all_good, tokens_of}
+use Rattle.apt_lexis.specs.Tokens.{Tokens, point, capital, is_blank, is_letter, is_letter_or_digit, begins_with_letter, is_in_run, begins_in_run, number_in, or_bad_number, number, word, tokens_of_run, all_good, tokens_of}
 use Rattle.apt_lexis.specs.Phrase.{Phrase}
 use Rattle.apt_lexis.specs.Sentences.{dollar, is_no_dollar, is_single, said_on, goes_on, tokens_before, behind_tokens, title_in, behind_line, with_first, unless_fault, said_from, said_in}
-use Rattle.apt_lexis.specs.Spellings.{has_no_dollar, ends_in_run, IsRespelled, InCapitals, WithBlank, WithComment, WithWords, WithNumber, TakesNoText, AreRespelled}
+use Rattle.apt_lexis.specs.Spellings.{has_no_dollar, ends_in_run, IsRespelled, InCapitals, WithBlank, WithNumberApart, WithComment, WithWords, WithNumber, TakesNoText, AreRespelled}
 use Rattle.apt_lexis.proofs.Fronts.{prefix_yes, prefix_no, drop_one_more, take_front, passes_other}
-use Rattle.apt_lexis.proofs.OneByOne.{reads_of, number_alone}
+use Rattle.apt_lexis.proofs.OneByOne.{reads_of, reads_blank, reads_word, number_alone}
 use Rattle.apt_lexis.proofs.SentenceLaws.{by_tokens}
 use Rattle.apt_lexis.proofs.PartedRuns.{by_cases, reads_parted, run_alone, runs_with_blank}
 use Rattle.apt_lexis.proofs.Zeros.{is_digit_or_point, number_characters, same_number}
@@ -79,6 +79,72 @@ blank_says front b back blank apart e = record {
   on = on_behind front back e ∙ sym (on_behind front (b ∷ back) e ∙ on_behind_blank b back blank);
 }
 
+-- ---- a blank behind a word
+
+front_all : (test : ℕ → Bool) (text rest : List ℕ) → list_all test text ≡ true → prefix_len test rest ≡ 0 → take (prefix_len test (text ++ rest)) (text ++ rest) ≡ text
+front_all test [] rest e f = rw f refl
+front_all test (b ∷ bs) rest e f =
+    let both = and_parts (test b) (list_all test bs) e in
+    take_front test b (bs ++ rest) both.0 ∙ ap (λ t. b ∷ t) (front_all test bs rest both.1 f)
+
+behind_all : (test : ℕ → Bool) (text rest : List ℕ) → list_all test text ≡ true → prefix_len test rest ≡ 0 → drop (prefix_len test (text ++ rest)) (text ++ rest) ≡ rest
+behind_all test [] rest e f = rw f refl
+behind_all test (b ∷ bs) rest e f =
+    let both = and_parts (test b) (list_all test bs) e in
+    ap (λ n. drop n (b ∷ (bs ++ rest))) (prefix_yes test b (bs ++ rest) both.0) ∙ drop_one_more (prefix_len test (bs ++ rest)) b (bs ++ rest) ∙ behind_all test bs rest both.1 f
+
+-- what is read of a word and of what stands behind it
+reads_of_word : (text rest : List ℕ) → begins_with_letter text ≡ true → list_all is_letter_or_digit text ≡ true → prefix_len is_letter_or_digit rest ≡ 0 → reads_of (text ++ rest) ≡ word text ∷ reads_of rest
+reads_of_word [] rest e f g = cc
+reads_of_word (b ∷ bs) rest e f g =
+    reads_word b (bs ++ rest) e ∙ ap (λ t. word t ∷ reads_of (drop (prefix_len is_letter_or_digit (b ∷ (bs ++ rest))) (b ∷ (bs ++ rest)))) (front_all is_letter_or_digit (b ∷ bs) rest f g)
+    ∙ ap (λ t. word (b ∷ bs) ∷ reads_of t) (behind_all is_letter_or_digit (b ∷ bs) rest f g)
+
+-- a part of a line, a word, and the rest
+record IsWordAt (front text : List ℕ) : Type 0 where
+  begins : ends_in_run front ≡ false
+  letter : begins_with_letter text ≡ true
+  letters : list_all is_letter_or_digit text ≡ true
+  read : has_no_dollar front ≡ true
+
+no_dollar_of_letter_or_digit : (b : ℕ) → is_letter_or_digit b ≡ true → is_no_dollar b ≡ true
+no_dollar_of_letter_or_digit b e = grind (arith, nat_tests)
+
+no_dollar_in_word : (text : List ℕ) → list_all is_letter_or_digit text ≡ true → has_no_dollar text ≡ true
+no_dollar_in_word text e = passes_other is_letter_or_digit is_no_dollar no_dollar_of_letter_or_digit text e
+
+said_behind_word : (front text rest : List ℕ) → IsWordAt front text → said_on (front ++ (text ++ rest)) ≡ front ++ (text ++ said_on rest)
+said_behind_word front text rest is = said_behind front (text ++ rest) is.read ∙ ap (λ t. front ++ t) (said_behind text rest (no_dollar_in_word text is.letters))
+
+on_behind_word : (front text rest : List ℕ) → IsWordAt front text → goes_on (front ++ (text ++ rest)) ≡ goes_on rest
+on_behind_word front text rest is = on_behind front (text ++ rest) is.read ∙ on_behind text rest (no_dollar_in_word text is.letters)
+
+first_false : (s t : Bool) → s ≡ false → (s && t) ≡ false
+first_false true t e = cc
+first_false false t e = refl
+
+reads_behind_word : (front text rest : List ℕ) → IsWordAt front text → prefix_len is_letter_or_digit rest ≡ 0 → reads_of (front ++ (text ++ rest)) ≡ reads_of front ++ word text ∷ reads_of rest
+reads_behind_word front text rest is e =
+    reads_parted front (text ++ rest) (first_false (ends_in_run front) (begins_in_run (text ++ rest)) is.begins)
+    ∙ ap (λ reads. reads_of front ++ reads) (reads_of_word text rest is.letter is.letters e)
+
+no_letter_of_blank : (b : ℕ) → is_blank b ≡ true → is_letter_or_digit b ≡ false
+no_letter_of_blank b e = grind (arith, nat_tests)
+
+said_behind_point : (back : List ℕ) → said_on (point ∷ back) ≡ point ∷ said_on back
+said_behind_point back = said_behind (point ∷ []) back refl
+
+apart_says : (front text : List ℕ) (b : ℕ) (back : List ℕ) → is_blank b ≡ true → IsWordAt front text → SaysTheSame (front ++ (text ++ point ∷ back)) (front ++ (text ++ b ∷ point ∷ back))
+apart_says front text b back blank is = record {
+  reads =
+      ap reads_of (said_behind_word front text (point ∷ back) is ∙ ap (λ t. front ++ (text ++ t)) (said_behind_point back))
+      ∙ reads_behind_word front text (point ∷ said_on back) is refl
+      ∙ ap (λ reads. reads_of front ++ word text ∷ reads) (sym (reads_blank b (point ∷ said_on back) blank))
+      ∙ sym (reads_behind_word front text (b ∷ point ∷ said_on back) is (prefix_no is_letter_or_digit b (point ∷ said_on back) (no_letter_of_blank b blank)))
+      ∙ ap reads_of (sym (said_behind_word front text (b ∷ point ∷ back) is ∙ ap (λ t. front ++ (text ++ t)) (said_behind_blank b (point ∷ back) blank ∙ ap (λ t. b ∷ t) (said_behind_point back))));
+  on = on_behind_word front text (point ∷ back) is ∙ sym (on_behind_word front text (b ∷ point ∷ back) is ∙ on_behind_blank b (point ∷ back) blank);
+}
+
 -- ---- a comment more
 
 comment_says : (line comment : List ℕ) → has_no_dollar line ≡ true → SaysTheSame line (line ++ dollar ∷ dollar ∷ comment)
@@ -118,13 +184,9 @@ reads_number (b ∷ bs) h =
 reads_around : (front run back : List ℕ) → IsSome (number_in run) → ends_in_run front ≡ false → begins_in_run back ≡ false
     → reads_of (front ++ (run ++ back)) ≡ reads_of front ++ or_bad_number (number_in run) ∷ reads_of back
 reads_around front run back h begins ends =
-    reads_parted front (run ++ back) (either_false (ends_in_run front) (begins_in_run (run ++ back)) begins)
+    reads_parted front (run ++ back) (first_false (ends_in_run front) (begins_in_run (run ++ back)) begins)
     ∙ ap (λ reads. reads_of front ++ reads) (reads_parted run back (or_other_false (ends_in_run run) (begins_in_run back) ends) ∙ ap (λ reads. reads ++ reads_of back) (reads_number run h))
   where
-    either_false : (s t : Bool) → s ≡ false → (s && t) ≡ false
-    either_false true t e = cc
-    either_false false t e = refl
-
     or_other_false : (s t : Bool) → t ≡ false → (s && t) ≡ false
     or_other_false true t e = e
     or_other_false false t e = refl
@@ -167,6 +229,9 @@ says_of e f says = record {
 says_the_same : (line other : List ℕ) → IsRespelled line other → SaysTheSame line other
 says_the_same line other (InCapitals e) = says_of refl e (capitals_say line)
 says_the_same line other (WithBlank m) = says_of m.before m.after (blank_says m.front m.more m.back m.blank m.apart m.read)
+says_the_same line other (WithNumberApart m) =
+    says_of (m.before ∙ append_assoc m.front m.word (point ∷ m.back)) (m.after ∙ append_assoc m.front m.word (m.more ∷ point ∷ m.back))
+    (apart_says m.front m.word m.more m.back m.blank (record { begins = m.begins; letter = m.letter; letters = m.letters; read = m.read }))
 says_the_same line other (WithComment m) = says_of refl m.after (comment_says line m.comment m.read)
 says_the_same line other (WithWords m) = says_of m.before m.after (words_say m.front m.words m.single m.read)
 says_the_same line other (WithNumber m) =

@@ -6,7 +6,7 @@ use Rattle.apt_lexis.specs.Lines.{tab, lines_of, line_fault}
 use Rattle.apt_lexis.specs.Tokens.{Read, number_in, tokens_of}
 use Rattle.apt_lexis.specs.Sentences.{said_on}
 use Rattle.apt_lexis.specs.Titles.{blank, title_behind}
-use Rattle.apt_lexis.specs.Spellings.{IsRespelled, AreRespelled, TakesNoText, SayTheSame, Itself, Onward, IsLonger, InCapitals, WithBlank, WithComment, WithWords, WithNumber, ZeroInFront, ZeroBehind, PointBehind}
+use Rattle.apt_lexis.specs.Spellings.{IsRespelled, AreRespelled, TakesNoText, SayTheSame, Itself, Onward, IsLonger, InCapitals, WithBlank, WithNumberApart, WithComment, WithWords, WithNumber, ZeroInFront, ZeroBehind, PointBehind}
 use Rattle.apt_lexis.proofs.OneByOne.{reads_of}
 use Rattle.apt_lexis.proofs.Headings.{titled, closed, labelled_in, AreUntitled, untitled_line}
 use Rattle.apt_lexis.proofs.Respelled.{respelled_tokens}
@@ -19,6 +19,21 @@ a_blank = WithBlank (record { front = codes "L1"; more = blank; back = codes "=L
 
 a_tab : IsRespelled (codes "STOP") (tab ∷ codes "STOP")
 a_tab = WithBlank (record { front = []; more = tab; back = codes "STOP"; before = refl; after = refl; blank = refl; apart = refl; read = refl })
+
+a_blank_behind_a_word : IsRespelled (codes "X=A.5") (codes "X=A .5")
+a_blank_behind_a_word = WithNumberApart (record {
+  front = codes "X=";
+  word = codes "A";
+  more = blank;
+  back = codes "5";
+  before = refl;
+  after = refl;
+  blank = refl;
+  begins = refl;
+  letter = refl;
+  letters = refl;
+  read = refl;
+})
 
 a_comment : IsRespelled (codes "STOP ") (codes "STOP $$ look")
 a_comment = WithComment (record { comment = codes " look"; after = refl; read = refl })

@@ -3,7 +3,7 @@ use Rattle.std.specs.Prelude.{◌≡◌, ℕ, ◌<◌, ◌&&◌, Bool, true, fal
 use Rattle.std.specs.List.{list_all}
 use Rattle.apt_lexis.specs.declared.token.Token.{Token}
 use Rattle.apt_lexis.specs.Lines.{split, lines_of, line_fault}
-use Rattle.apt_lexis.specs.Tokens.{point, capital, is_blank, is_in_run, begins_in_run, number_in}
+use Rattle.apt_lexis.specs.Tokens.{point, capital, is_blank, is_letter_or_digit, begins_with_letter, is_in_run, begins_in_run, number_in}
 use Rattle.apt_lexis.specs.Titles.{title_behind}
 use Rattle.apt_lexis.specs.Sentences.{dollar, is_no_dollar, is_single}
 
@@ -56,6 +56,20 @@ pub record HasBlankMore (line other : List ℕ) : Type 0 where
   pub apart : (ends_in_run front && begins_in_run back) ≡ false
   pub read : has_no_dollar front ≡ true
 
+-- a blank more, between a word and the number that stands directly behind it
+pub record HasNumberApart (line other : List ℕ) : Type 0 where
+  pub front : List ℕ
+  pub word : List ℕ
+  pub more : ℕ
+  pub back : List ℕ
+  pub before : line ≡ front ++ word ++ point ∷ back
+  pub after : other ≡ front ++ word ++ more ∷ point ∷ back
+  pub blank : is_blank more ≡ true
+  pub begins : ends_in_run front ≡ false
+  pub letter : begins_with_letter word ≡ true
+  pub letters : list_all is_letter_or_digit word ≡ true
+  pub read : has_no_dollar front ≡ true
+
 -- a comment behind a line that has none, and does not go on
 pub record HasCommentMore (line other : List ℕ) : Type 0 where
   pub comment : List ℕ
@@ -89,6 +103,7 @@ pub record HasLongerNumber (line other : List ℕ) : Type 0 where
 pub data IsRespelled (line other : List ℕ) : Type 0 where
   InCapitals : other ≡ map capital line → IsRespelled line other
   WithBlank : HasBlankMore line other → IsRespelled line other
+  WithNumberApart : HasNumberApart line other → IsRespelled line other
   WithComment : HasCommentMore line other → IsRespelled line other
   WithWords : HasWordsMore line other → IsRespelled line other
   WithNumber : HasLongerNumber line other → IsRespelled line other
