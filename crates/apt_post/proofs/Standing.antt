@@ -20,13 +20,13 @@ tail_of (f ∷ fs) = fs
 abbrev later : List Form
 later = tail_of forms
 
-fits_code : (letter c : ℕ) → c ≤ 99 → Fits (form letter 2 2 false 0 99) (pos c)
+fits_code : (letter c : ℕ) → c ≤ 99 → Fits (form letter 2 false 0 99) (pos c)
 fits_code letter c small = record { sign = refl; least = omega arith; most = small }
 
-fits_coordinate : (letter : ℕ) (v : ℤ) → IsCoordinate v → Fits (form letter 8 8 true 0 50000000) v
+fits_coordinate : (letter : ℕ) (v : ℤ) → IsCoordinate v → Fits (form letter 8 true 0 50000000) v
 fits_coordinate letter v small = record { sign = tt; least = omega arith; most = small }
 
-fits_number : (letter digits most : ℕ) (v : ℤ) → IsUpTo most v → Fits (form letter digits digits false 1 most) v
+fits_number : (letter digits most : ℕ) (v : ℤ) → IsUpTo most v → Fits (form letter digits false 1 most) v
 fits_number letter digits most v is = record { sign = is.0; least = is.1; most = is.2 }
 
 -- a number in front changes nothing of the G codes that can stand
