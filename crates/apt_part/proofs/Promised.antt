@@ -147,7 +147,7 @@ is_done machine text p h =
     let u = trace_of r.statements in
     let w = were_written machine u u.fault (limits machine u.steps) (compilation first_situation u.steps) p.records refl refl refl r.recorded in record {
       passes = passing machine text r.statements p.steps r.read r.steps
-        (record { fault = w.fault; within = w.within; fine = compiled_passes first_situation u.steps p.records w.compiled });
+          (record { fault = w.fault; within = w.within; fine = compiled_passes first_situation u.steps p.records w.compiled });
       compiled = subst (λ (ss : List Step). compilation first_situation ss ≡ Ok p.records) (sym r.steps) w.compiled;
     }
 
