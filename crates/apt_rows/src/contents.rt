@@ -104,12 +104,12 @@ fn spliced_lines(
     let front = first.saturating_sub(1);
     let behind = front.saturating_add(count);
     let mut text = String::new(alloc);
-    let whole = lines.split_inclusive('\n');
-    for line in whole
+    let new = lines
+        .split_inclusive('\n')
         .take(front)
         .chain(put.split_inclusive('\n'))
-        .chain(lines.split_inclusive('\n').skip(behind))
-    {
+        .chain(lines.split_inclusive('\n').skip(behind));
+    for line in new {
         text.push_str(line)?;
     }
     Ok(text)
@@ -151,12 +151,9 @@ fn push_coded(bytes: &mut Vec<u8>, code: Code, characters: &[u8]) -> Result<()> 
 
 /// The bytes of pairs of digits, between which white space is passed over.
 fn pairs(alloc: Global, lines: &str) -> Result<Vec<u8>> {
-    let mut digits = Vec::new(alloc);
-    for word in lines.split_ascii_whitespace() {
-        digits.extend_from_slice(word.as_bytes())?;
-    }
+    let digits: String = lines.split_ascii_whitespace().collect(alloc)?;
     let mut bytes = Vec::new(alloc);
-    for pair in digits.chunks(2) {
+    for pair in digits.as_bytes().chunks(2) {
         let [high, low] = pair else {
             bail!("half a byte");
         };
@@ -181,7 +178,7 @@ fn records(alloc: Global, lines: &str) -> Result<Vec<u8>> {
     Ok(bytes)
 }
 
-/// A record behind its length.
+/// The bytes of a record: its number, and the words of its line.
 fn record(alloc: Global, number: i64, line: &str) -> Result<Vec<u8>> {
     let mut bytes = Vec::from_slice(alloc, &number.to_be_bytes())?;
     for word in line.split_ascii_whitespace() {

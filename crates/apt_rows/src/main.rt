@@ -10,10 +10,9 @@ mod runs;
 use anyhow::{Context, Result};
 use rows::rows_of;
 use runs::run_row;
-use std::process::ExitCode;
-use std::rt::{Env, Files};
+use std::rt::Files;
 use std::thread::Threads;
-use std::{env, fs, io};
+use std::{env, fs};
 
 fn main(rt: HostRuntime) -> Result<()> {
     for name in env::args(&rt)?.skip(1) {

@@ -140,6 +140,7 @@ fn add_to_run<'a>(
         "holds" => {
             let words = words_of(alloc, block.rest)?;
             let (name, how) = words.split_first().context("no name")?;
+            ensure!(run.words.contains(name), "no word of the run");
             let want = match how {
                 ["of", count, "records"] => Want::Records(count.parse::<u64>()?),
                 _ => Want::Bytes(content(alloc, kept, how, block.lines.as_str())?),

@@ -1,7 +1,7 @@
 //! The runs of a row, and what differs from it.
 
 use crate::contents::record_count;
-use crate::rows::{Call, Fail, Held, Row, Run, Want};
+use crate::rows::{Call, Fail, File, Row, Run, Want};
 use anyhow::{Context, Result};
 use apt_core::apt;
 use apt_shelf::{FailList, MemShelf, MemSink};
@@ -77,31 +77,29 @@ fn failing(alloc: Global, fails: &[Fail]) -> Result<(FailList, Vec<u64>)> {
     Ok((list, puts))
 }
 
-/// The names of a row's files, and the words and the held names of its runs, each once.
+/// The names of a row's files, and the words of its runs.
 fn names_of<'a>(alloc: Global, row: &Row<'a>) -> Result<Vec<&'a str>> {
-    let mut names = Vec::new(alloc);
-    for file in &row.files {
-        add_name(&mut names, file.name)?;
-    }
+    let mut names = file_names(alloc, &row.files)?;
     for run in &row.runs {
-        add_names(&mut names, run)?;
+        add_names(&mut names, &run.words)?;
     }
     Ok(names)
 }
 
-fn add_names<'a>(names: &mut Vec<&'a str>, run: &Run<'a>) -> Result<()> {
-    for word in &run.words {
-        add_name(names, word)?;
+fn file_names<'a>(alloc: Global, files: &[File<'a>]) -> Result<Vec<&'a str>> {
+    let mut names = Vec::new(alloc);
+    for file in files {
+        names.push(file.name)?;
     }
-    for held in &run.holds {
-        add_name(names, held.name)?;
-    }
-    Ok(())
+    Ok(names)
 }
 
-fn add_name<'a>(names: &mut Vec<&'a str>, name: &'a str) -> Result<()> {
-    if !names.contains(&name) {
-        names.push(name)?;
+/// Adds the words that are not among the names.
+fn add_names<'a>(names: &mut Vec<&'a str>, words: &[&'a str]) -> Result<()> {
+    for word in words {
+        if !names.contains(word) {
+            names.push(*word)?;
+        }
     }
     Ok(())
 }
