@@ -15,7 +15,7 @@ use crate::segments::{Fault, end_fault, segment_fault};
 use crate::verdict::{Bad, Verdict};
 use apt_plane::Pt;
 
-/// The verdict over jobs, of less than 2^63 points together. Their surfaces are lines so far.
+/// The verdict over jobs, of less than 2^63 points together.
 pub fn check_jobs(jobs: &[Job]) -> Verdict
     requires jobs { AreJobs jobs.now }
     requires few { point_count jobs.now < 2 ^ 63 }
@@ -71,6 +71,7 @@ fn job_verdict(job: &Job) -> Verdict
     path_verdict(&job.leg, job.out_sign, &job.points.at)
 }
 
+#[tactic(auto, using(crate::proofs::Edges::track_fits))]
 fn path_verdict(leg: &Leg, out_sign: i8, points: &[Pt]) -> Verdict
     requires leg { IsLeg leg.now }
     requires out_sign { IsSense out_sign }
@@ -108,7 +109,7 @@ fn leg_fault(leg: &Leg, start: Pt, vertices: &[Pt]) -> Option<Bad>
 {
     let mut at = start;
     'vertices: for (i, q) in vertices.iter().enumerate() {
-        if let Some(fault) = segment_fault(leg, at, *q) {
+        if let Some(fault) = segment_fault(leg, start, at, *q) {
             return Some(first_motion(i as u64 + 1, fault));
         }
         at = *q;

@@ -17,6 +17,7 @@ use Rattle.apt_meaning.specs.declared.effect.Effect.TheVariants as effects
 use Rattle.apt_meaning.specs.Motions.{drive_side, check_side, leg_of}
 use Rattle.apt_meaning.specs.Ranges.{IsAllowance}
 use Rattle.apt_meaning.specs.Straight.{IsStraightMotion, IsLined}
+use Rattle.apt_meaning.proofs.Straight.{straight_surface}
 use Rattle.apt_meaning.specs.Vertices.{HasIn}
 use Rattle.apt_job.specs.Jobs.{out_sign_at, job_of, jobs_by}
 
@@ -53,10 +54,10 @@ out_sign_is (surfaces.Circ c) signs.Minus = inl refl
 leg_in : (m : Motion) → IsStraightMotion m → IsLeg (leg_of m)
 leg_in m is =
     let good = is.motion in record {
-      drive = is.drive;
+      drive = straight_surface m.drive is.drive;
       track = track_is m.drive (drive_side m) m.radius is.drive good.radius;
       band = band_narrow m.drive (drive_side m) m.radius m.inner m.outer is.drive good.radius good.inner good.outer;
-      check = is.check;
+      check = straight_surface m.check is.check;
       stop_band = band_narrow m.check (check_side m) m.radius m.inner m.outer is.check good.radius good.inner good.outer;
       sense = good.sense;
       axis = tt;

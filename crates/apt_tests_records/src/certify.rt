@@ -1,13 +1,14 @@
-//! Answers worked out by hand, of motions along the x axis that stop before a line up through (1000, 0).
+//! Answers worked out by hand, of motions along the x axis that stop before a line up through (1000, 0), and of
+//! motions round the origin that stop on a line through it or at a circle.
 
-ghost use Rattle.std.specs.Prelude.{◌≡◌, ◌≤◌, length, IfOk, IsTrue};
-ghost use Rattle.apt_plane.specs.Ranges.{IsPoint};
-ghost use Rattle.apt_certify.specs.Jobs.{IsLeg, IsJob};
+ghost use Rattle.std.specs.Prelude.{◌≡◌, ◌≤◌, length, unsigned_abs, IfOk, IsTrue};
+ghost use Rattle.apt_plane.specs.Ranges.{IsPoint, IsSense};
+ghost use Rattle.apt_certify.specs.Jobs.{ArePoints, IsLeg, IsJob};
 
 use apt_certify::{Bad, Job, Leg, Points, Reason, Verdict, check_jobs};
 use apt_num::Sign;
 use apt_offset::Target;
-use apt_plane::{Axis, Band, Dir, Line, Pt, Spot, Surface};
+use apt_plane::{Axis, Band, Circ, Dir, Line, Pt, Spot, Surface};
 use std::alloc::{AllocError, Global};
 use std::test::Fail;
 
@@ -66,33 +67,90 @@ fn leg(half: Option<Sign>) -> Leg
     }
 }
 
-fn job(alloc: Global, half: Option<Sign>, a: Pt, b: Pt, c: Pt) -> Result<Job, AllocError>
-    requires start { IsPoint a }
-    requires middle { IsPoint b }
-    requires end { IsPoint c }
+/// Anticlockwise round the origin, from 17 units inside of 1000 to 10 outside, to at most 10 past the y axis.
+fn round_leg() -> Leg
+    ensures { IsLeg result }
+{
+    Leg {
+        drive: Surface::Circ(Circ { c: ORIGIN, r: 1000 }),
+        track: Target::Circ { c: ORIGIN, r: 1000 },
+        band: Band { lo: 983, hi: 1010 },
+        check: Surface::Line(Line {
+            base: ORIGIN,
+            dir: NORTH,
+        }),
+        stop_band: Band { lo: -10, hi: 10 },
+        beyond: Sign::Plus,
+        sense: 1,
+        axis: None,
+    }
+}
+
+/// The same from 50 units inside, to 100 from a point on its way, where a chord may sag to 46 from it.
+fn meeting_leg() -> Leg
+    ensures { IsLeg result }
+{
+    Leg {
+        band: Band { lo: 950, hi: 1010 },
+        check: Surface::Circ(Circ {
+            c: Pt { x: 0, y: 1000 },
+            r: 50,
+        }),
+        stop_band: Band { lo: 100, hi: 110 },
+        beyond: Sign::Minus,
+        ..round_leg()
+    }
+}
+
+/// Anticlockwise on a track of the least radius, inside of a circle: from 8 units towards it to so many away from
+/// it, down to the x axis.
+fn small_leg(outer: i64) -> Leg
+    requires { unsigned_abs outer ≤ 50 }
+    ensures { IsLeg result }
+{
+    Leg {
+        drive: Surface::Circ(Circ {
+            c: ORIGIN,
+            r: 50_100,
+        }),
+        track: Target::Circ { c: ORIGIN, r: 100 },
+        band: Band {
+            lo: 100 - outer,
+            hi: 108,
+        },
+        check: Surface::Line(Line {
+            base: ORIGIN,
+            dir: EAST,
+        }),
+        stop_band: Band { lo: -8, hi: 8 },
+        beyond: Sign::Minus,
+        sense: 1,
+        axis: None,
+    }
+}
+
+fn job(alloc: Global, leg: Leg, out_sign: i8, points: &[Pt]) -> Result<Job, AllocError>
+    requires leg { IsLeg leg }
+    requires out_sign { IsSense out_sign }
+    requires moves { 2 ≤ length points.now }
+    requires points { ArePoints points.now }
     ensures { IfOk result IsJob }
 {
     let mut at = Vec::new(alloc);
-    at.push(a)?;
-    at.push(b)?;
-    at.push(c)?;
+    at.extend_from_slice(points)?;
     Ok(Job {
-        leg: leg(half),
-        out_sign: 1,
+        leg,
+        out_sign,
         points: Points { at },
     })
 }
 
 /// The verdict over one motion through points in range.
-fn verdict(
-    alloc: Global,
-    half: Option<Sign>,
-    a: Pt,
-    b: Pt,
-    c: Pt,
-) -> Result<Option<Verdict>, AllocError> {
+fn verdict(alloc: Global, leg: Leg, a: Pt, b: Pt, c: Pt) -> Result<Option<Verdict>, AllocError>
+    requires { IsLeg leg }
+{
     if is_point(a) && is_point(b) && is_point(c) {
-        let jobs = [job(alloc, half, a, b, c)?];
+        let jobs = [job(alloc, leg, 1, &[a, b, c])?];
         Ok(Some(check_jobs(&jobs)))
     } else {
         Ok(None)
@@ -221,11 +279,161 @@ fn motions(rt: HostRuntime) -> Result<(), Fail> {
             first_bad: bad_of(fault),
         };
         assert_eq!(rt;
-            verdict(rt.alloc(), half, pt(a), pt(b), pt(c))?,
+            verdict(rt.alloc(), leg(half), pt(a), pt(b), pt(c))?,
             Some(want),
             "through {a:?}, {b:?} to {c:?}"
         );
     }
+    Ok(())
+}
+
+const FOOT: Spot = Spot {
+    j: 200_000,
+    m: 400_000,
+};
+
+const HALFWAY: Spot = Spot {
+    j: 156_800,
+    m: 313_600,
+};
+
+/// The same of motions round the origin.
+const ROUND: [(Xy, Xy, Xy, i64, i64, Fault); 6] = [
+    ((600, 800), (280, 960), (0, 1000), 17, 0, None),
+    (
+        (280, 960),
+        (600, 800),
+        (0, 1000),
+        52,
+        0,
+        Some((1, END, Reason::Order)),
+    ),
+    (
+        (1000, 0),
+        (0, 1000),
+        (-1, 1000),
+        293,
+        1,
+        Some((1, END, Reason::Order)),
+    ),
+    (
+        (600, 800),
+        (0, 1000),
+        (-10, 1000),
+        52,
+        1,
+        Some((1, FOOT, Reason::Band)),
+    ),
+    (
+        (600, 800),
+        (280, 960),
+        (-14, 1000),
+        17,
+        1,
+        Some((2, END, Reason::Stop)),
+    ),
+    (
+        (600, 800),
+        (280, 960),
+        (-15, 1000),
+        17,
+        1,
+        Some((2, END, Reason::Overrun)),
+    ),
+];
+
+#[test]
+fn round_motions(rt: HostRuntime) -> Result<(), Fail> {
+    for (a, b, c, worst_in, worst_out, fault) in ROUND {
+        let want = Verdict {
+            segments: 2,
+            worst_in,
+            worst_out,
+            first_bad: bad_of(fault),
+        };
+        assert_eq!(rt;
+            verdict(rt.alloc(), round_leg(), pt(a), pt(b), pt(c))?,
+            Some(want),
+            "through {a:?}, {b:?} to {c:?}"
+        );
+    }
+    Ok(())
+}
+
+/// Where motions from (600, 800) over (280, 960) to a circle end, with the same.
+const MEETINGS: [(Xy, i64, i64, Fault); 4] = [
+    ((104, 995), 17, 1, None),
+    ((46, 999), 17, 1, Some((2, END, Reason::Stop))),
+    ((45, 999), 17, 1, Some((2, END, Reason::Overrun))),
+    ((-280, 960), 40, 0, Some((2, HALFWAY, Reason::Overrun))),
+];
+
+#[test]
+fn motions_to_a_circle(rt: HostRuntime) -> Result<(), Fail> {
+    for (end, worst_in, worst_out, fault) in MEETINGS {
+        let want = Verdict {
+            segments: 2,
+            worst_in,
+            worst_out,
+            first_bad: bad_of(fault),
+        };
+        assert_eq!(rt;
+            verdict(
+                rt.alloc(),
+                meeting_leg(),
+                pt((600, 800)),
+                pt((280, 960)),
+                pt(end)
+            )?,
+            Some(want),
+            "to {end:?}"
+        );
+    }
+    Ok(())
+}
+
+/// Half of the smallest circle in three segments, whose middles are up to 14 units off: both ends of a segment
+/// may be in the band, and its middle not.
+#[test]
+fn chords_of_the_smallest_circle(rt: HostRuntime) -> Result<(), Fail> {
+    let points = [
+        Pt { x: 100, y: 0 },
+        Pt { x: 50, y: 87 },
+        Pt { x: -50, y: 87 },
+        Pt { x: -100, y: 0 },
+    ];
+    let off = Some((1, Spot { j: 5000, m: 10_069 }, Reason::Band));
+    for (outer, fault) in [(50, None), (14, None), (13, off), (10, off), (8, off)] {
+        let want = Verdict {
+            segments: 3,
+            worst_in: 1,
+            worst_out: 14,
+            first_bad: bad_of(fault),
+        };
+        let jobs = [job(rt.alloc(), small_leg(outer), -1, &points)?];
+        assert_eq!(rt; check_jobs(&jobs), want, "{outer} away");
+    }
+    Ok(())
+}
+
+/// Its second segment alone is too long.
+#[test]
+fn a_long_chord_of_the_smallest_circle(rt: HostRuntime) -> Result<(), Fail> {
+    let points = [
+        Pt { x: 100, y: 0 },
+        Pt { x: 87, y: 50 },
+        Pt { x: 0, y: 100 },
+        Pt { x: -71, y: 71 },
+        Pt { x: -100, y: 0 },
+    ];
+    let want = Verdict {
+        segments: 4,
+        worst_in: 1,
+        worst_out: 14,
+        first_bad: bad_of(Some((2, Spot { j: 5069, m: 10_069 }, Reason::Band))),
+    };
+    let jobs = [job(rt.alloc(), small_leg(10), -1, &points)?];
+    assert_eq!(rt; check_jobs(&jobs), want);
     Ok(())
 }
 
@@ -235,9 +443,24 @@ fn the_first_fault_is_named(rt: HostRuntime) -> Result<(), Fail> {
     let start = Pt { x: 0, y: 100 };
     let end = Pt { x: 900, y: 100 };
     let jobs = [
-        job(rt.alloc(), None, start, Pt { x: 500, y: 97 }, end)?,
-        job(rt.alloc(), None, start, Pt { x: 500, y: 109 }, end)?,
-        job(rt.alloc(), None, start, Pt { x: -500, y: 88 }, end)?,
+        job(
+            rt.alloc(),
+            leg(None),
+            1,
+            &[start, Pt { x: 500, y: 97 }, end],
+        )?,
+        job(
+            rt.alloc(),
+            leg(None),
+            1,
+            &[start, Pt { x: 500, y: 109 }, end],
+        )?,
+        job(
+            rt.alloc(),
+            leg(None),
+            1,
+            &[start, Pt { x: -500, y: 88 }, end],
+        )?,
     ];
     let bad = Bad {
         motion: 2,
@@ -271,22 +494,39 @@ fn slanted_leg() -> Leg
     }
 }
 
-/// How far two points in range lie outside and inside of that track.
-fn deviations(alloc: Global, p: Pt, q: Pt) -> Result<Option<(i64, i64)>, AllocError> {
+/// How far a segment between points in range lies outside and inside of a track.
+fn deviations(alloc: Global, leg: Leg, p: Pt, q: Pt) -> Result<Option<(i64, i64)>, AllocError>
+    requires { IsLeg leg }
+{
     if is_point(p) && is_point(q) {
-        let mut at = Vec::new(alloc);
-        at.push(p)?;
-        at.push(q)?;
-        let jobs = [Job {
-            leg: slanted_leg(),
-            out_sign: 1,
-            points: Points { at },
-        }];
+        let jobs = [job(alloc, leg, 1, &[p, q])?];
         let verdict = check_jobs(&jobs);
         Ok(Some((verdict.worst_out, verdict.worst_in)))
     } else {
         Ok(None)
     }
+}
+
+#[test]
+fn deviations_round_a_circle(rt: HostRuntime) -> Result<(), Fail> {
+    let table: [(Pt, Pt, i64, i64); 8] = [
+        (pt((1000, 0)), pt((0, 1000)), 0, 293),
+        (pt((0, 1001)), pt((0, 1001)), 1, 0),
+        (pt((600, 800)), pt((601, 800)), 1, 0),
+        (pt((0, 0)), pt((0, 0)), 0, 1000),
+        (pt((-300, 400)), pt((300, 400)), 0, 600),
+        (pt((-1000, 999)), pt((1000, 999)), 414, 1),
+        (pt((-1000, 1000)), pt((1000, 1000)), 415, 0),
+        (pt((-50_000_000, 999)), pt((50_000_000, 999)), 49_999_001, 1),
+    ];
+    for (p, q, outside, inside) in table {
+        assert_eq!(rt;
+            deviations(rt.alloc(), round_leg(), p, q)?,
+            Some((outside, inside)),
+            "at {p:?}, {q:?}"
+        );
+    }
+    Ok(())
 }
 
 #[test]
@@ -303,7 +543,7 @@ fn deviations_are_rounded_up(rt: HostRuntime) -> Result<(), Fail> {
     ];
     for (p, q, outside, inside) in table {
         assert_eq!(rt;
-            deviations(rt.alloc(), p, q)?,
+            deviations(rt.alloc(), slanted_leg(), p, q)?,
             Some((outside, inside)),
             "at {p:?}, {q:?}"
         );

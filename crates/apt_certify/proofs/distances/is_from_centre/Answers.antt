@@ -1,0 +1,9 @@
+use Rattle.std.proofs.Common.{FitsSigned, w64}
+use Rattle.std.proofs.lemmas.Int.{to_z-of_z}
+use Rattle.apt_plane.proofs.RingLaws.{tells_over}
+use Rattle.apt_certify.proofs.distances.is_from_centre.Goals as goal
+
+pub returns : goal.returns
+returns c =
+    let fits : FitsSigned w64 c.args.lo = c.ranges.lo in
+    tells_over _ c.args.c c.args.p c.args.lo _ _ c.displacement.ensures.value c.length_squared.ensures (simp to_z-of_z at c.is_length_at_most.ensures)

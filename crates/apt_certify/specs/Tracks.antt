@@ -1,0 +1,30 @@
+-- What the code tells of a segment and of a track.
+use Rattle.std.specs.Prelude.{ℕ, ◌+◌, ◌*◌, ◌≤◌, ◌<◌, ◌^◌, ◌↔◌, unsigned_abs, Option, Some, None}
+use Rattle.apt_plane.specs.declared.figures.Pt.{Pt}
+use Rattle.apt_plane.specs.declared.figures.Surface.{Surface}
+use Rattle.apt_plane.specs.declared.figures.Spot.{Spot}
+use Rattle.apt_plane.specs.Vectors.{Scaled}
+use Rattle.apt_plane.specs.Distances.{EveryPoint}
+use Rattle.apt_plane.specs.Segments.{IsFirstOff}
+use Rattle.apt_plane.specs.Ranges.{IsPoint, IsDir}
+use Rattle.apt_offset.specs.declared.Target.{Target}
+use Rattle.apt_offset.specs.declared.Target.TheVariants as targets
+
+-- a fact about a surface is true of every point of a segment, or not of one of its ends or of the foot of a circle's centre
+abbrev pub IsEveryOrOff : Surface → (Scaled → Type 0) → Pt → Pt → Option Spot → Type 0
+IsEveryOrOff surface P a b None = EveryPoint a b P
+IsEveryOrOff surface P a b (Some spot) = IsFirstOff surface P a b spot
+
+-- a track in range
+abbrev pub IsTrack : Target → Type 0
+IsTrack (targets.Line base dir off) = IsPoint base × IsDir dir × (unsigned_abs off ≤ 10 ^ 8)
+IsTrack (targets.Circ c r) = IsPoint c × (unsigned_abs r ≤ 10 ^ 8)
+
+-- q is the greatest number for which q times the root of n is at most k
+pub record IsRootCount (k n q : ℕ) : Type 0 where
+  pub low : q * q * n ≤ k * k
+  pub high : k * k < (q + 1) * (q + 1) * n
+
+-- c is the least number that is at least the root of n
+abbrev pub IsRootUp : ℕ → ℕ → Type 0
+IsRootUp n c = (h : ℕ) → (n ≤ h * h) ↔ (c ≤ h)
