@@ -1,5 +1,5 @@
 -- The room about the target of a circle: in its band, and within the coordinate limit.
-use Rattle.std.proofs.Common.{ℕ, ◌+◌, ◌≤◌, arith, ℤ, pos, ◌+ℤ◌, ◌-ℤ◌, ◌≤ℤ◌, unsigned_abs}
+use Rattle.std.proofs.Common.{◌+◌, ◌≤◌, arith, ℤ, pos, ◌+ℤ◌, ◌-ℤ◌, ◌≤ℤ◌, unsigned_abs}
 use Rattle.std.proofs.lemmas.Int.{ints}
 use Rattle.apt_num.specs.declared.Sign.{Sign}
 use Rattle.apt_num.specs.declared.Sign.TheVariants as signs

@@ -1,5 +1,5 @@
 -- The order of directions round a centre, as the code tells it.
-use Rattle.std.proofs.Common.{◌≡◌, ◌↔◌, ◌⊎◌, ℕ, ◌<◌, sym, ◌∙◌, IsTrue, arith, ℤ, pos, neg_ℤ, ◌*ℤ◌, ◌<ℤ◌, int_lt, inl, inr, Bool}
+use Rattle.std.proofs.Common.{◌≡◌, ◌↔◌, ◌⊎◌, ℕ, ◌<◌, IsTrue, arith, ℤ, pos, neg_ℤ, ◌*ℤ◌, ◌<ℤ◌, int_lt, inl, inr, Bool}
 use Rattle.std.specs.Prelude.{nat_lt}
 use Rattle.std.specs.Bool.{Decides}
 use Rattle.std.proofs.lemmas.Int.{ints}
