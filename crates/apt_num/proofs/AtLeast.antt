@@ -1,6 +1,6 @@
 -- k is at least h * sqrt(n): what holds at two ends holds between them, and the sign of k - h * sqrt(n) tells it.
 use Rattle.std.proofs.Common.{refl, ◌≡◌, ◌≢◌, ◌↔◌, ℕ, zero, suc, ◌+◌, ◌-◌, ◌*◌, ◌≤◌, subst, arith, inl, inr, ℤ, pos, negsuc, ◌+ℤ◌, ◌-ℤ◌, ◌*ℤ◌, ◌≤ℤ◌, neg_ℤ}
-use Rattle.apt_num.specs.Sign.{signed_square, sign_of, root_sign_of, AtLeast}
+use Rattle.apt_num.specs.Sign.{square, signed_square, sign_of, root_sign_of, AtLeast}
 use Rattle.apt_num.specs.declared.Sign.{Sign}
 use Rattle.apt_num.specs.declared.Sign.TheVariants.{Minus, Zero, Plus}
 use Rattle.apt_num.proofs.Ring.{as_diff, diff-pos, diff-same, differences}
@@ -69,6 +69,11 @@ is_at_least (negsuc k) (pos h) n p = absurd (omega (arith, ints))
 is_at_least (negsuc k) (negsuc h) n p =
     let q : pos 0 ≤ℤ (neg_ℤ (pos (suc k * suc k)) -ℤ neg_ℤ (pos (suc h * suc h * n))) = rw (neg_times (suc h * suc h) n) at p in
     omega (arith, ints)
+
+-- against a number from 0 up it is the squares that tell it
+pub at_least_squares : (k : ℤ) (h n : ℕ) → AtLeast k (pos h) n ↔ ((pos 0 ≤ℤ k) × (h * h * n ≤ square k))
+at_least_squares (pos k) h n = (λ is. (omega (arith, ints), is), λ both. both.1)
+at_least_squares (negsuc k) h n = (λ is. absurd is, λ both. absurd (omega (arith, ints, both.0)))
 
 apart_zero : Zero ≡ Minus → ⊥
 apart_zero e = cc

@@ -2,6 +2,8 @@ pub mod Ring
 pub mod Squares
 pub mod RootLaws
 pub mod Signs
+pub mod Products
+pub mod Turning
 pub mod AtLeast
 pub mod Testing
 pub mod Sums

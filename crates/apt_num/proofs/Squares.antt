@@ -1,5 +1,5 @@
 -- Inequalities of products of naturals, and the sizes of whole numbers.
-use Rattle.std.proofs.Common.{◌≡◌, ℕ, suc, ◌+◌, ◌*◌, ◌≤◌, ◌<◌, arith, inl, inr, ℤ, pos, negsuc, ◌+ℤ◌, ◌-ℤ◌, ◌*ℤ◌, ◌≤ℤ◌, neg_ℤ, unsigned_abs}
+use Rattle.std.proofs.Common.{◌≡◌, ℕ, suc, ◌+◌, ◌-◌, ◌*◌, ◌≤◌, ◌<◌, ap, arith, inl, inr, ℤ, pos, negsuc, ◌+ℤ◌, ◌-ℤ◌, ◌*ℤ◌, ◌≤ℤ◌, neg_ℤ, unsigned_abs}
 use Rattle.std.proofs.Math.Nat.{mul-le-mul_left}
 use Rattle.std.proofs.lemmas.Nat.{mul-le, mul-lt}
 use Rattle.std.proofs.lemmas.Int.{ints, unsigned_abs-mul}
@@ -49,6 +49,20 @@ between_at_least H a b j k p q =
 pub between_at_most : (H a b j k : ℕ) → a * a ≤ H → b * b ≤ H → (k * a + j * b) * (k * a + j * b) ≤ (j + k) * (j + k) * H
 between_at_most H a b j k p q =
     omega (arith, mul-le-mul_left (k * k) p, mul-le-mul_left (j * j) q, mul-le-mul_left (2 * j * k) (product_at_most H a b p q))
+
+-- the product of two differences of naturals is not negative
+slack_at : (a c m n b d : ℕ) → a + m ≡ b → c + n ≡ d → a * d + b * c ≤ a * c + b * d
+slack_at a c m n b d e f = omega (arith, ap (λ x. a * x) f, ap (λ x. x * c) e, ap (λ x. x * d) e, ap (λ x. m * x) f)
+
+pub slack : (a b c d : ℕ) → a ≤ b → c ≤ d → a * d + b * c ≤ a * c + b * d
+slack a b c d h k = slack_at a c (b - a) (d - c) b d (omega arith) (omega arith)
+
+-- the product is at most the square of the mean
+four_at : (j d k : ℕ) → j + d ≡ k → 4 * (j * k) ≤ (j + k) * (j + k)
+four_at j d k e = omega (arith, ap (λ n. j * n) e, ap (λ n. n * n) e)
+
+pub four_le : (j k : ℕ) → 4 * (j * k) ≤ (j + k) * (j + k)
+four_le j k = elim (cases_lt j k) [ inl less ↦ four_at j (k - j) k (omega arith) | inr past ↦ omega (arith, four_at k (j - k) j (omega arith)) ]
 
 -- ---- sizes
 pub size_mul : (a b : ℤ) → unsigned_abs (a *ℤ b) ≡ unsigned_abs a * unsigned_abs b

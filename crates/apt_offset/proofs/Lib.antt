@@ -1,4 +1,5 @@
 pub mod Circles
+pub mod Rooms
 pub mod Bands
 pub mod Refusals
 pub mod Spots

@@ -131,7 +131,8 @@ fn side_at_tangency(drive: &Surface, check: &Surface, at_drive: Sign) -> Sign
     }
 }
 
-fn side_or_left(side: Sign) -> Sign
+/// `Plus` in place of `Zero`.
+pub fn side_or_left(side: Sign) -> Sign
     ensures { result ≡ spec.side_or_left side }
 {
     match side {
@@ -149,8 +150,8 @@ fn inside_or_outside(side: Sign) -> Sign
     }
 }
 
-/// Whether the centres are at least the greater radius apart.
-fn touch_outside(first: &Circ, second: &Circ) -> bool
+/// Whether two circles that touch do so from outside: their centres are at least the greater radius apart.
+pub fn touch_outside(first: &Circ, second: &Circ) -> bool
     requires first { IsCircle first.now }
     requires second { IsCircle second.now }
     ensures { result ≡ spec.touch_outside first.now second.now }

@@ -94,7 +94,7 @@ cross_turn t w = turn_parts t.dx t.dy w.dx w.dy
 
 -- ---- ways from a point c to the ends P and Q of a segment, and to a point between them
 
-between_part : (c p q : ℤ) (j k : ℕ) → ((pos k *ℤ p) +ℤ (pos j *ℤ q)) -ℤ (pos (j + k) *ℤ c) ≡ (pos k *ℤ (p -ℤ c)) +ℤ (pos j *ℤ (q -ℤ c))
+pub between_part : (c p q : ℤ) (j k : ℕ) → ((pos k *ℤ p) +ℤ (pos j *ℤ q)) -ℤ (pos (j + k) *ℤ c) ≡ (pos k *ℤ (p -ℤ c)) +ℤ (pos j *ℤ (q -ℤ c))
 between_part c p q j k =
     rw (as_diff c, as_diff p, as_diff q, diff-pos k, diff-pos j, diff-pos (j + k)) (simp differences (diff-same _ _ _ _ (omega arith)))
 

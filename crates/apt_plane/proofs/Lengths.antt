@@ -8,9 +8,9 @@ use Rattle.apt_num.proofs.Ring.{as_diff, diff-pos, diff-same, differences}
 use Rattle.apt_num.proofs.Squares.{size_mul, size_square, root_le, cancel_le}
 use Rattle.apt_plane.specs.declared.figures.Dir.{Dir}
 use Rattle.apt_plane.specs.declared.figures.Pt.{Pt}
-use Rattle.apt_plane.specs.Vectors.{displacement, cross, dot, length_squared, perp}
+use Rattle.apt_plane.specs.Vectors.{displacement, cross, dot, length_squared, perp, between, displacement_to}
 use Rattle.apt_plane.specs.Ranges.{IsPoint}
-use Rattle.apt_plane.proofs.Displacements.{to, square_length_squared, cross_square, dot_square}
+use Rattle.apt_plane.proofs.Displacements.{to, between_part, square_length_squared, cross_square, dot_square}
 
 abbrev pub plus : Dir → Dir → Dir
 plus u v = to (u.dx +ℤ v.dx) (u.dy +ℤ v.dy)
@@ -70,6 +70,26 @@ dot_below u v A B p g h =
 pub sum_of_lengths : (u v : Dir) (A B p : ℕ) → length_squared u + p ≤ A * A → length_squared v ≤ B * B → length_squared (plus u v) + p ≤ (A + B) * (A + B)
 sum_of_lengths u v A B p g h =
     triangle (length_squared u) (length_squared v) (length_squared (plus u v)) A B p (dot u v) (length_of_sum u v) (dot_below u v A B p g h) g h
+
+abbrev pub minus : Dir → Dir → Dir
+minus u v = to (u.dx -ℤ v.dx) (u.dy -ℤ v.dy)
+
+back_part : (p q : ℤ) → (p -ℤ q) +ℤ q ≡ p
+back_part p q = omega (arith, ints)
+
+length_of_back : (u v : Dir) → length_squared (plus (minus u v) v) ≡ length_squared u
+length_of_back u v = rw (back_part u.dx v.dx, back_part u.dy v.dy) refl
+
+-- and a difference at least as long as one bound less the other
+pub difference_of_lengths : (u v : Dir) (p q : ℕ) → (p + q) * (p + q) ≤ length_squared u → length_squared v ≤ q * q → p * p ≤ length_squared (minus u v)
+difference_of_lengths u v p q long short = elim (cases_lt (length_squared (minus u v)) (p * p)) [
+  | inl below ↦ absurd (omega (arith, long, length_of_back u v, sum_of_lengths (minus u v) v p q 1 (omega (arith, below)) short))
+  | inr past ↦ past
+]
+
+-- the way to a point between two, in the ways to them
+pub displacement_between : (c p q : Pt) (j k : ℕ) → displacement_to c (between p q j k) ≡ plus (times (pos k) (displacement c p)) (times (pos j) (displacement c q))
+displacement_between c p q j k = rw (between_part c.x p.x q.x j k, between_part c.y p.y q.y j k) refl
 
 displacement_part : (p q : ℤ) → unsigned_abs p ≤ 50000000 → unsigned_abs q ≤ 50000000 → unsigned_abs (q -ℤ p) ≤ 10 ^ 8
 displacement_part p q a b = omega (arith, ints)

@@ -6,3 +6,5 @@ pub mod Frames
 pub mod Rounding
 pub mod RingLaws
 pub mod Turns
+pub mod Turned
+pub mod Around

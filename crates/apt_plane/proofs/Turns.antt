@@ -1,10 +1,13 @@
 -- The order of directions round a centre, as the code tells it.
-use Rattle.std.proofs.Common.{◌≡◌, ◌↔◌, ◌⊎◌, ℕ, sym, ◌∙◌, IsTrue, arith, ℤ, pos, neg_ℤ, ◌*ℤ◌, ◌<ℤ◌, int_lt, inl, inr}
+use Rattle.std.proofs.Common.{◌≡◌, ◌↔◌, ◌⊎◌, ℕ, ◌<◌, IsTrue, arith, ℤ, pos, neg_ℤ, ◌*ℤ◌, ◌<ℤ◌, int_lt, inl, inr, Bool}
+use Rattle.std.specs.Prelude.{nat_lt}
+use Rattle.std.specs.Bool.{Decides}
 use Rattle.std.proofs.lemmas.Int.{ints}
+use Rattle.std.proofs.lemmas.Bool.Decides.{Decides-eqb, Decides-ltb, Decides-and, Decides-or, Decides-like}
 use Rattle.apt_plane.specs.declared.figures.Dir.{Dir}
 use Rattle.apt_plane.specs.Vectors.{cross}
 use Rattle.apt_plane.specs.Ranges.{IsSense}
-use Rattle.apt_plane.specs.Order.{turn_class, ComesBefore}
+use Rattle.apt_plane.specs.Order.{turn_class, ComesBefore, is_earlier, is_before}
 
 -- a number by the sense of a turn
 pub kept : (sense z : ℤ) → IsSense sense → ¬ (sense <ℤ pos 0) → z ≡ sense *ℤ z
@@ -18,12 +21,16 @@ turned sense z (inr e) p = rw e (omega (arith, ints))
 is_positive : (z : ℤ) → IsTrue (int_lt (pos 0) z) ↔ (pos 0 <ℤ z)
 is_positive z = (λ t. grind (arith, ints), λ p. grind (arith, ints))
 
--- of one class, up to a half turn or beyond it
-pub tells_before : (s u v : Dir) (sense z : ℤ) (a b : ℕ) → a ≡ turn_class s sense u → b ≡ turn_class s sense v → a ≡ b → (a ≡ 1) ⊎ (a ≡ 3) → z ≡ sense *ℤ cross u v
-    → IsTrue (int_lt (pos 0) z) ↔ ComesBefore s sense u v
-tells_before s u v sense z a b e f same which g =
-    let first : (turn_class s sense u ≡ 1) ⊎ (turn_class s sense u ≡ 3) = elim which [ inl one ↦ inl (sym e ∙ one) | inr three ↦ inr (sym e ∙ three) ] in
-    let positive = is_positive z in (
-      λ t. inr (sym e ∙ same ∙ f, first, rw g at (positive.0 t)),
-      λ before. elim before [ inl less ↦ absurd (omega (arith, less, e, f, same)) | inr onwards ↦ positive.1 (rw g onwards.2) ],
-    )
+-- ---- the order as a test
+
+earlier_tells : (a b : ℕ) (z : ℤ) → Decides (is_earlier a b z) ((a < b) ⊎ ((a ≡ b) × ((a ≡ 1) ⊎ (a ≡ 3)) × (pos 0 <ℤ z)))
+earlier_tells a b z =
+    Decides-or (nat_lt a b) _ (Decides-ltb a b)
+    (Decides-like _ (λ p. (p.0.0, p.0.1, p.1)) (λ p. ((p.0, p.1), p.2))
+    (Decides-and _ _ (Decides-and _ _ (Decides-eqb a b) (Decides-or _ _ (Decides-eqb a 1) (Decides-eqb a 3))) (is_positive z)))
+
+pub before_tells : (s u v : Dir) (sense : ℤ) → IsTrue (is_before s sense u v) ↔ ComesBefore s sense u v
+before_tells s u v sense = earlier_tells (turn_class s sense u) (turn_class s sense v) (sense *ℤ cross u v)
+
+pub order_told : (r : Bool) (s u v : Dir) (sense : ℤ) → r ≡ is_before s sense u v → IsTrue r ↔ ComesBefore s sense u v
+order_told r s u v sense e = rw e (before_tells s u v sense)

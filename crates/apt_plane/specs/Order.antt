@@ -1,5 +1,5 @@
 -- The order of directions round a centre.
-use Rattle.std.specs.Prelude.{◌≡◌, ◌⊎◌, ℕ, ◌<◌, ℤ, pos, ◌*ℤ◌, ◌<ℤ◌}
+use Rattle.std.specs.Prelude.{◌≡◌, ◌⊎◌, ℕ, ◌<◌, nat_lt, nat_eq, ℤ, pos, ◌*ℤ◌, ◌<ℤ◌, int_lt, Bool, ◌&&◌, ◌||◌}
 use Rattle.apt_num.specs.declared.Sign.{Sign}
 use Rattle.apt_num.specs.declared.Sign.TheVariants as signs
 use Rattle.apt_num.specs.Sign.{sign_of}
@@ -22,3 +22,10 @@ abbrev pub ComesBefore : Dir → ℤ → Dir → Dir → Type 0
 ComesBefore s sense u v =
     (turn_class s sense u < turn_class s sense v)
     ⊎ ((turn_class s sense u ≡ turn_class s sense v) × ((turn_class s sense u ≡ 1) ⊎ (turn_class s sense u ≡ 3)) × (pos 0 <ℤ (sense *ℤ cross u v)))
+
+-- as a test: the lower class comes first, and within one class, up to a half turn or beyond it, what the other lies onwards from
+abbrev pub is_earlier : ℕ → ℕ → ℤ → Bool
+is_earlier a b onwards = nat_lt a b || (nat_eq a b && (nat_eq a 1 || nat_eq a 3) && int_lt (pos 0) onwards)
+
+abbrev pub is_before : Dir → ℤ → Dir → Dir → Bool
+is_before s sense u v = is_earlier (turn_class s sense u) (turn_class s sense v) (sense *ℤ cross u v)

@@ -16,15 +16,21 @@ pub fn before(s: Dir, u: Dir, v: Dir, sense: i8) -> bool
     requires first { IsVector u }
     requires second { IsVector v }
     requires sense { IsSense sense }
-    ensures { IsTrue result ↔ ComesBefore s sense u v }
+    ensures value { result ≡ spec.is_before s sense u v }
+    ensures order { IsTrue result ↔ ComesBefore s sense u v }
 {
-    let first = turn_class(s, u, sense);
-    let second = turn_class(s, v, sense);
-    if first == second {
-        (first == 1 || first == 3) && turned(sense, cross(u, v)) > 0
-    } else {
-        first < second
-    }
+    is_earlier(
+        turn_class(s, u, sense),
+        turn_class(s, v, sense),
+        turned(sense, cross(u, v)),
+    )
+}
+
+/// The lower class comes first, and within one class that from which the other lies onwards.
+fn is_earlier(first: u8, second: u8, onwards: i128) -> bool
+    ensures { result ≡ spec.is_earlier first second onwards }
+{
+    first < second || (first == second && (first == 1 || first == 3) && onwards > 0)
 }
 
 /// `s` itself 0, up to a half turn 1, the half turn 2, beyond it 3.
