@@ -1,7 +1,7 @@
 use apt_parse::{ParseError, PartCause, parse};
 
 /// Texts, each with the line and the cause of its first fault, none where it is a program.
-const TEXTS: [(&str, Option<(u32, PartCause)>); 71] = [
+const TEXTS: [(&str, Option<(u32, PartCause)>); 72] = [
     ("PARTNO A\nFINI\n", None),
     ("partno a\n\tL1 = line / 0,0,\t5 , 0\nfini", None),
     ("PARTNO A\r\nGOTO/1,2\r\nFINI\r\n", None),
