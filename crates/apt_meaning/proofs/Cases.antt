@@ -173,6 +173,11 @@ go_on_check : go (at here (Some (above (pos 0) (pos 0)))) (codes "L1") (codes "L
 unfolding start_up_at
 go_on_check = refl
 
+-- ON needs no side
+go_on_both : refusal_of (at here (Some (above (pos 0) (pos 0)))) (deeds.GoStart stops.On (codes "L1") (Some (stops.On, codes "L2"))) ≡ None
+unfolding root start_up_at
+go_on_both = refl
+
 go_parallel : go (at here on_track) (codes "L1") (codes "L3") ≡ Some cases.Parallel
 unfolding start_up_at
 go_parallel = refl
@@ -236,6 +241,24 @@ near_drive = refl
 on_check : contour (at here (Some (above (pos 100000) (pos 12500)))) turns.Forward (codes "L1") stops.To (codes "L2") ≡ Some cases.OnCheck
 unfolding root
 on_check = refl
+
+-- ON asks for no side of the check surface: where the start is on it, the stop lies behind
+on_itself : contour (at here (Some (above (pos 100000) (pos 12500)))) turns.Forward (codes "L1") stops.On (codes "L2") ≡ Some cases.Behind
+unfolding root
+on_itself = refl
+
+stops_on : contour (at here on_track) turns.Forward (codes "L1") stops.On (codes "L2") ≡ None
+unfolding root
+stops_on = refl
+
+-- under TLON the start is on the drive surface, not beside it
+beside_drive : contour (at (record here { side = sides.On }) on_track) turns.Forward (codes "L1") stops.On (codes "L2") ≡ Some cases.OffDrive
+unfolding root
+beside_drive = refl
+
+on_drive : contour (at (record here { side = sides.On }) (Some (above (pos 0) (pos 0)))) turns.Forward (codes "L1") stops.On (codes "L2") ≡ None
+unfolding root
+on_drive = refl
 
 -- no line touches a line
 touches : contour (at here on_track) turns.Forward (codes "L1") stops.Tanto (codes "L2") ≡ Some cases.Parallel

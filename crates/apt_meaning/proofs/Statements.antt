@@ -6,6 +6,7 @@ use Rattle.apt_words.specs.declared.Go.TheVariants as turns
 use Rattle.apt_words.specs.declared.Turn.TheVariants as spins
 use Rattle.apt_words.specs.declared.Side.{Side}
 use Rattle.apt_words.specs.declared.Side.TheVariants as sides
+use Rattle.apt_words.specs.declared.Stop.{Stop}
 use Rattle.apt_words.specs.declared.Stop.TheVariants as stops
 use Rattle.apt_words.specs.declared.Units.TheVariants as the_units
 use Rattle.apt_words.specs.declared.deed.Deed.TheVariants as deeds
@@ -23,7 +24,7 @@ use Rattle.apt_meaning.specs.declared.motion.Motion.{Motion}
 use Rattle.apt_meaning.specs.declared.effect.Effect.{Effect}
 use Rattle.apt_meaning.specs.declared.effect.Effect.TheVariants as effects
 use Rattle.apt_meaning.specs.Situations.{first_settings, position_at}
-use Rattle.apt_meaning.specs.Motions.{motion_at}
+use Rattle.apt_meaning.specs.Motions.{motion_at, contact}
 use Rattle.apt_meaning.specs.StartUps.{start_up_at}
 use Rattle.apt_meaning.specs.Effects.{effect_of}
 
@@ -95,6 +96,9 @@ outtol = refl
 tool : effect_of at (deeds.Tool sides.Right) ≡ sets (record here { side = sides.Right })
 tool = refl
 
+tool_on : effect_of at (deeds.Tool sides.On) ≡ sets (record here { side = sides.On })
+tool_on = refl
+
 -- ---- moves
 
 from_xy : effect_of at (deeds.FromXy (whole 1) (whole 2) (Some (whole 3))) ≡ moves reaches.From (position_at (pos 100000) (pos 200000) (pos 300000))
@@ -119,6 +123,15 @@ go_start : effect_of at (deeds.GoStart stops.To (codes "L1") (Some (stops.Past, 
 unfolding root start_up_at
 go_start = refl
 
+-- ON: to a line itself
+go_on_one : effect_of at (deeds.GoStart stops.On (codes "L1") (Some (stops.Past, codes "L2"))) ≡ moves reaches.Start (position_at (pos 112500) (pos 0) (pos 300))
+unfolding root start_up_at
+go_on_one = refl
+
+go_on_both : effect_of at (deeds.GoStart stops.On (codes "L1") (Some (stops.On, codes "L2"))) ≡ moves reaches.Start (position_at (pos 100000) (pos 0) (pos 300))
+unfolding root start_up_at
+go_on_both = refl
+
 -- ---- contours
 
 abbrev along : Side → Motion
@@ -142,6 +155,30 @@ contour = refl
 contour_right : effect_of at (deeds.Contour (Some sides.Right) turns.Forward (codes "L1") stops.To (codes "L2")) ≡ Some (effects.Cuts (along sides.Right))
 unfolding root motion_at
 contour_right = refl
+
+abbrev stopping : Stop → Side → Motion
+stopping how side = record (along side) { how = how }
+
+contour_on : effect_of at (deeds.Contour (Some sides.On) turns.Forward (codes "L1") stops.On (codes "L2")) ≡ Some (effects.Cuts (stopping stops.On sides.On))
+unfolding root motion_at
+contour_on = refl
+
+-- under TLON the centre runs on the line, else beside it; it stops beside the check line, on it, or past it
+to_line : contact (stopping stops.To sides.On) ≡ record { x = pos 87500; y = pos 0 }
+unfolding root
+to_line = refl
+
+on_line : contact (stopping stops.On sides.On) ≡ record { x = pos 100000; y = pos 0 }
+unfolding root
+on_line = refl
+
+past_line : contact (stopping stops.Past sides.On) ≡ record { x = pos 112500; y = pos 0 }
+unfolding root
+past_line = refl
+
+on_line_beside : contact (stopping stops.On sides.Left) ≡ record { x = pos 100000; y = pos 12500 }
+unfolding root
+on_line_beside = refl
 
 -- ---- commands
 

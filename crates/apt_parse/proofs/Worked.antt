@@ -64,11 +64,11 @@ units_behind_a_remark : fault (codes "PARTNO\nREMARK\nUNITS/MM\nFINI\n") ≡ Som
 unfolding shape expression word_of
 units_behind_a_remark = refl
 
-not_built : fault (codes "PARTNO\nTLON\nFINI\n") ≡ Some (2, causes.NotBuilt)
+not_built : fault (codes "PARTNO\nGO/L1\nFINI\n") ≡ Some (2, causes.NotBuilt)
 unfolding shape expression word_of
 not_built = refl
 
-not_built_before_partno : fault (codes "TLON\nPARTNO\nFINI\n") ≡ Some (1, causes.NotBuilt)
+not_built_before_partno : fault (codes "GO/L1\nPARTNO\nFINI\n") ≡ Some (1, causes.NotBuilt)
 unfolding shape expression word_of
 not_built_before_partno = refl
 

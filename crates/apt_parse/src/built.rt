@@ -3,7 +3,7 @@
 ghost use Rattle.std.specs.Prelude.{◌≡◌};
 ghost use Rattle.apt_words.specs.Built as built;
 
-use apt_words::{Body, Side, Stop, Symbol, Turn};
+use apt_words::{Body, Stop, Symbol, Turn};
 
 /// Whether the compiler has the statement.
 pub(crate) fn is_built(body: &Body) -> bool
@@ -36,11 +36,13 @@ pub(crate) fn is_built(body: &Body) -> bool
         | Body::Cutter(_)
         | Body::Intol(_)
         | Body::Outtol(_)
+        | Body::Tool(_)
         | Body::FromXy(..)
         | Body::FromPoint(_)
         | Body::GotoXy(..)
         | Body::GotoPoint(_)
         | Body::Godlta(..)
+        | Body::Contour(..)
         | Body::Rapid
         | Body::Halt
         | Body::OptHalt
@@ -57,38 +59,15 @@ pub(crate) fn is_built(body: &Body) -> bool
         | Body::Loopnd
         | Body::Jumpto(_)
         | Body::If(..) => true,
-        Body::Tool(side) => is_side_built(*side),
-        Body::GoStart(stop, _, other) => is_start_built(*stop, other),
-        Body::Contour(side, _, _, stop, _) => is_side_or_none_built(*side) && is_stop_built(*stop),
+        Body::GoStart(_, _, other) => is_start_built(other),
         Body::Spindl(_, turn) => is_turning(*turn),
     }
 }
 
-fn is_start_built(stop: Stop, other: &Option<(Stop, Symbol)>) -> bool
-    ensures { result ≡ built.is_start_built stop other.now }
+fn is_start_built(other: &Option<(Stop, Symbol)>) -> bool
+    ensures { result ≡ built.is_start_built other.now }
 {
-    match other {
-        Some((other, _)) => is_stop_built(stop) && is_stop_built(*other),
-        None => false,
-    }
-}
-
-fn is_side_built(side: Side) -> bool
-    ensures { result ≡ built.is_side_built side }
-{
-    match side {
-        Side::Left | Side::Right => true,
-        Side::On => false,
-    }
-}
-
-fn is_side_or_none_built(side: Option<Side>) -> bool
-    ensures { result ≡ built.is_side_or_none_built side }
-{
-    match side {
-        Some(side) => is_side_built(side),
-        None => true,
-    }
+    other.is_some()
 }
 
 fn is_turning(turn: Turn) -> bool
@@ -97,14 +76,5 @@ fn is_turning(turn: Turn) -> bool
     match turn {
         Turn::Cw | Turn::Ccw => true,
         Turn::Off => false,
-    }
-}
-
-fn is_stop_built(stop: Stop) -> bool
-    ensures { result ≡ built.is_stop_built stop }
-{
-    match stop {
-        Stop::To | Stop::Past => true,
-        Stop::On | Stop::Tanto => false,
     }
 }

@@ -1,7 +1,7 @@
 use apt_parse::{ParseError, PartCause, parse};
 
 /// Texts, each with the line and the cause of its first fault, none where it is a program.
-const TEXTS: [(&str, Option<(u32, PartCause)>); 70] = [
+const TEXTS: [(&str, Option<(u32, PartCause)>); 72] = [
     ("PARTNO A\nFINI\n", None),
     ("partno a\n\tL1 = line / 0,0,\t5 , 0\nfini", None),
     ("PARTNO A\r\nGOTO/1,2\r\nFINI\r\n", None),
@@ -9,15 +9,11 @@ const TEXTS: [(&str, Option<(u32, PartCause)>); 70] = [
         "PARTNO\nREMARK $ $$\n$$ a comment\nA = 1 $ more\n$$\n + 2 $$ end\nFINI\n#\n",
         None,
     ),
-    (
-        "PARTNO\nTLON,GOLFT/L1,L2\nFINI\n",
-        Some((2, PartCause::NotBuilt)),
-    ),
-    (
-        "PARTNO\nGOLFT/L1,ON,L2\nFINI\n",
-        Some((2, PartCause::NotBuilt)),
-    ),
+    ("PARTNO\nTLON,GOLFT/L1,TANTO,L2\nFINI\n", None),
+    ("PARTNO\nGOLFT/L1,ON,L2\nFINI\n", None),
     ("PARTNO\nGO/L1\nFINI\n", Some((2, PartCause::NotBuilt))),
+    ("PARTNO\nGO/ON,L1\nFINI\n", Some((2, PartCause::NotBuilt))),
+    ("PARTNO\nGO/ON,L1,ON,L2\nFINI\n", None),
     ("PARTNO\nGO/L1,PAST,L2\nFINI\n", None),
     ("FINI\n", Some((1, PartCause::NoPartno))),
     (

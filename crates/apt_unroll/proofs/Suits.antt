@@ -101,16 +101,16 @@ unfolding value_and_pair
 value_and_pair-scalar names ps e a b =
     of_value (λ r. IsScalar r.0) names ps e _ (λ v h. of_name (λ r. IsScalar r.0) ps a _ (λ a. of_name (λ r. IsScalar r.0) ps b _ (λ b. h)))
 
--- the stops of a start-up stay
-second_surface-start : (ps : Parameters) (q : Stop) (other : Option (Stop × List ℕ)) → Tells (λ r. is_start_built q r ≡ is_start_built q other) (second_surface ps other)
-second_surface-start ps q None = refl
-second_surface-start ps q (Some s) = of_name (λ r. is_start_built q r ≡ is_start_built q (Some s)) ps s.1 _ (λ n. refl)
+-- a start-up keeps its second surface
+second_surface-start : (ps : Parameters) (other : Option (Stop × List ℕ)) → Tells (λ r. is_start_built r ≡ is_start_built other) (second_surface ps other)
+second_surface-start ps None = refl
+second_surface-start ps (Some s) = of_name (λ r. is_start_built r ≡ is_start_built (Some s)) ps s.1 _ (λ n. refl)
 
-surfaces-start : (ps : Parameters) (q : Stop) (s : List ℕ) (other : Option (Stop × List ℕ)) → Tells (λ r. is_start_built q r.1 ≡ is_start_built q other) (surfaces ps s other)
+surfaces-start : (ps : Parameters) (s : List ℕ) (other : Option (Stop × List ℕ)) → Tells (λ r. is_start_built r.1 ≡ is_start_built other) (surfaces ps s other)
 unfolding surfaces
-surfaces-start ps q s other =
-    of_name (λ r. is_start_built q r.1 ≡ is_start_built q other) ps s _
-    (λ s. then_tells (λ r. is_start_built q r ≡ is_start_built q other) (λ r. is_start_built q r.1 ≡ is_start_built q other) (second_surface ps other) _ (second_surface-start ps q other) (λ other same. same))
+surfaces-start ps s other =
+    of_name (λ r. is_start_built r.1 ≡ is_start_built other) ps s _
+    (λ s. then_tells (λ r. is_start_built r ≡ is_start_built other) (λ r. is_start_built r.1 ≡ is_start_built other) (second_surface ps other) _ (second_surface-start ps other) (λ other same. same))
 
 -- ---- statements
 
@@ -163,14 +163,14 @@ execution-suits names ps (bodies.CircleCorner n j a k b e) = then_gives (λ r. I
 execution-suits names ps (bodies.Cutter e) = by_value (bodies.Cutter e) names ps e _ (λ v h. (h, refl, plain, λ _. tt))
 execution-suits names ps (bodies.Intol e) = by_value (bodies.Intol e) names ps e _ (λ v h. (h, refl, plain, λ _. tt))
 execution-suits names ps (bodies.Outtol e) = by_value (bodies.Outtol e) names ps e _ (λ v h. (h, refl, plain, λ _. tt))
-execution-suits names ps (bodies.Tool side) = (tt, refl, plain, λ h. h)
+execution-suits names ps (bodies.Tool side) = (tt, refl, plain, λ _. tt)
 execution-suits names ps (bodies.FromXy x y z) = then_gives AreCoordinates (bodies.FromXy x y z) (coordinates names ps x y z) _ (coordinates-scalars names ps x y z) (λ r h. (h, refl, plain, λ _. tt))
 execution-suits names ps (bodies.FromPoint p) = by_name (bodies.FromPoint p) ps p _ (λ p. (tt, refl, plain, λ _. tt))
 execution-suits names ps (bodies.GotoXy x y z) = then_gives AreCoordinates (bodies.GotoXy x y z) (coordinates names ps x y z) _ (coordinates-scalars names ps x y z) (λ r h. (h, refl, plain, λ _. tt))
 execution-suits names ps (bodies.GotoPoint p) = by_name (bodies.GotoPoint p) ps p _ (λ p. (tt, refl, plain, λ _. tt))
 execution-suits names ps (bodies.Godlta x y z) = then_gives AreThree (bodies.Godlta x y z) (three names ps x y z) _ (three-scalars names ps x y z) (λ r h. (h, refl, plain, λ _. tt))
-execution-suits names ps (bodies.GoStart q s other) = then_gives (λ r. is_start_built q r.1 ≡ is_start_built q other) (bodies.GoStart q s other) (surfaces ps s other) _ (surfaces-start ps q s other) (λ r same. (tt, refl, plain, λ h. same ∙ h))
-execution-suits names ps (bodies.Contour side go d q c) = by_pair (bodies.Contour side go d q c) ps d c _ (λ r. (tt, refl, plain, λ h. h))
+execution-suits names ps (bodies.GoStart q s other) = then_gives (λ r. is_start_built r.1 ≡ is_start_built other) (bodies.GoStart q s other) (surfaces ps s other) _ (surfaces-start ps s other) (λ r same. (tt, refl, plain, λ h. same ∙ h))
+execution-suits names ps (bodies.Contour side go d q c) = by_pair (bodies.Contour side go d q c) ps d c _ (λ r. (tt, refl, plain, λ _. tt))
 execution-suits names ps bodies.Rapid = (tt, refl, plain, λ _. tt)
 execution-suits names ps bodies.Halt = (tt, refl, plain, λ _. tt)
 execution-suits names ps bodies.OptHalt = (tt, refl, plain, λ _. tt)

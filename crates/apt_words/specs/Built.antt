@@ -1,9 +1,6 @@
 -- The statements that the compiler has so far; the other shapes of the language are refused as NotBuilt.
-use Rattle.std.specs.Prelude.{ℕ, ◌&&◌, Bool, true, false, IsTrue, List, [], ◌∷◌, Option, Some, None}
-use Rattle.apt_words.specs.declared.Side.{Side}
-use Rattle.apt_words.specs.declared.Side.TheVariants as sides
+use Rattle.std.specs.Prelude.{ℕ, Bool, true, false, is_some, IsTrue, List, [], ◌∷◌, Option}
 use Rattle.apt_words.specs.declared.Stop.{Stop}
-use Rattle.apt_words.specs.declared.Stop.TheVariants as stops
 use Rattle.apt_words.specs.declared.Turn.{Turn}
 use Rattle.apt_words.specs.declared.Turn.TheVariants as turns
 use Rattle.apt_words.specs.declared.body.Body.{Body}
@@ -13,30 +10,9 @@ use Rattle.apt_words.specs.declared.deed.Deed.{Deed}
 use Rattle.apt_words.specs.declared.deed.Deed.TheVariants as deeds
 use Rattle.apt_words.specs.declared.deed.Step.{Step}
 
--- no TLON yet
-abbrev pub is_side_built : Side → Bool
-is_side_built sides.Left = true
-is_side_built sides.Right = true
-is_side_built sides.On = false
-
-abbrev pub is_side_or_none_built : Option Side → Bool
-is_side_or_none_built None = true
-is_side_or_none_built (Some side) = is_side_built side
-
--- no ON and no TANTO yet
-abbrev pub is_stop_built : Stop → Bool
-is_stop_built stops.To = true
-is_stop_built stops.Past = true
-is_stop_built stops.On = false
-is_stop_built stops.Tanto = false
-
 -- GO takes two surfaces so far
-abbrev pub is_start_built : Stop → Option (Stop × List ℕ) → Bool
-is_start_built q None = false
-is_start_built q (Some other) = is_stop_built q && is_stop_built other.0
-
-abbrev pub is_contour_built : Option Side → Stop → Bool
-is_contour_built side q = is_side_or_none_built side && is_stop_built q
+abbrev pub is_start_built : Option (Stop × List ℕ) → Bool
+is_start_built other = is_some other
 
 -- SPINDL with a number turns the spindle
 abbrev pub is_turning : Turn → Bool
@@ -73,14 +49,14 @@ is_built (bodies.CircleCorner n j a k b e) = true
 is_built (bodies.Cutter e) = true
 is_built (bodies.Intol e) = true
 is_built (bodies.Outtol e) = true
-is_built (bodies.Tool side) = is_side_built side
+is_built (bodies.Tool side) = true
 is_built (bodies.FromXy x y z) = true
 is_built (bodies.FromPoint p) = true
 is_built (bodies.GotoXy x y z) = true
 is_built (bodies.GotoPoint p) = true
 is_built (bodies.Godlta x y z) = true
-is_built (bodies.GoStart q s other) = is_start_built q other
-is_built (bodies.Contour side go drive q check) = is_contour_built side q
+is_built (bodies.GoStart q s other) = is_start_built other
+is_built (bodies.Contour side go drive q check) = true
 is_built bodies.Rapid = true
 is_built bodies.Halt = true
 is_built bodies.OptHalt = true
@@ -133,14 +109,14 @@ IsBuilt (deeds.CircleCorner n j a k b r) = Unit {0}
 IsBuilt (deeds.Cutter v) = Unit {0}
 IsBuilt (deeds.Intol v) = Unit {0}
 IsBuilt (deeds.Outtol v) = Unit {0}
-IsBuilt (deeds.Tool side) = IsTrue (is_side_built side)
+IsBuilt (deeds.Tool side) = Unit {0}
 IsBuilt (deeds.FromXy x y z) = Unit {0}
 IsBuilt (deeds.FromPoint p) = Unit {0}
 IsBuilt (deeds.GotoXy x y z) = Unit {0}
 IsBuilt (deeds.GotoPoint p) = Unit {0}
 IsBuilt (deeds.Godlta x y z) = Unit {0}
-IsBuilt (deeds.GoStart q s other) = IsTrue (is_start_built q other)
-IsBuilt (deeds.Contour side go drive q check) = IsTrue (is_contour_built side q)
+IsBuilt (deeds.GoStart q s other) = IsTrue (is_start_built other)
+IsBuilt (deeds.Contour side go drive q check) = Unit {0}
 IsBuilt deeds.Rapid = Unit {0}
 IsBuilt deeds.Halt = Unit {0}
 IsBuilt deeds.OptHalt = Unit {0}
