@@ -3,3 +3,5 @@ pub mod Headings
 pub mod Cases
 pub mod Strips
 pub mod NearLaws
+pub mod Axes
+mod Worked

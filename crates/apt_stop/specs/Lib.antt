@@ -1,2 +1,4 @@
 pub mod Nearness
 pub mod Lines
+pub mod Gaps
+pub mod Tangencies

@@ -110,7 +110,7 @@ pub(crate) fn side_by_height(height: i128, off: i64, length_squared: u128) -> Si
     root_sign(height, i128::from(off), length_squared)
 }
 
-fn square(a: i64) -> u128
+pub(crate) fn square(a: i64) -> u128
     ensures { result ≡ signs.square a }
 {
     let size = u128::from(a.unsigned_abs());
