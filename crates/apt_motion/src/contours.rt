@@ -52,6 +52,7 @@ fn surface_named(table: &Table, name: &Symbol) -> Result<Surface, Case>
 /// # Errors
 ///
 /// The first case that refuses it.
+#[inline(always)]
 pub(crate) fn contour(
     at: &Situation,
     side: Option<Side>,

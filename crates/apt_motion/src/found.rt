@@ -27,6 +27,7 @@ pub(crate) struct Found {
 }
 
 /// What a step that defines nothing asks for, or the first case that refuses it.
+#[inline(always)]
 pub(crate) fn find(at: &Situation, deed: &Deed) -> Result<Result<Found, Case>, AllocError>
     requires situation { IsSituation at.now }
     requires scalars { HasScalars deed.now }
@@ -44,6 +45,7 @@ pub(crate) fn find(at: &Situation, deed: &Deed) -> Result<Result<Found, Case>, A
 }
 
 /// What a GOTO by scalars asks for: its position is found once, for its cases and for the move.
+#[inline(always)]
 fn goto(at: &Situation, x: i64, y: i64, z: Option<i64>) -> Result<Found, Case>
     requires x { IsScalar x }
     requires y { IsScalar y }

@@ -100,6 +100,7 @@ fn pass(at: &mut Situation, step: &Step) -> Result<(), RunError>
 }
 
 /// Takes a step: its records go behind those before.
+#[tactic(auto, using(crate::proofs::Given::has_defined, crate::proofs::Given::refused_again))]
 fn advance(
     alloc: Global,
     records: &mut Vec<Record>,
@@ -112,10 +113,32 @@ fn advance(
     requires text { DeedHasText step.now.deed }
     ensures { HasAdvanced at.old step.now records.old.items records.new.items (result_map_both (λ _. at.new) (λ e. e) result) }
 {
-    if let Some(found) = given_or_found(at, step)? {
-        take(alloc, records, at, step, found)?;
+    match define(step, at.settings.units, &mut at.table) {
+        Ok(true) => Ok(()),
+        Ok(false) => act(alloc, records, at, step),
+        Err(DefError::Case(case)) => Err(refused(step, case)),
+        Err(DefError::NoMemory) => Err(RunError::NoMemory),
     }
-    Ok(())
+}
+
+/// Takes a step that defines nothing: its records go behind those before.
+fn act(
+    alloc: Global,
+    records: &mut Vec<Record>,
+    at: &mut Situation,
+    step: &Step,
+) -> Result<(), RunError>
+    requires situation { IsSituation at.old }
+    requires scalars { HasScalars step.now.deed }
+    requires built { IsBuilt step.now.deed }
+    requires text { DeedHasText step.now.deed }
+    requires defines_nothing { IsNoDefinition at.old step.now.deed }
+    ensures { HasAdvanced at.old step.now records.old.items records.new.items (result_map_both (λ _. at.new) (λ e. e) result) }
+{
+    match find(at, &step.deed)? {
+        Ok(found) => Ok(take(alloc, records, at, step, found)?),
+        Err(case) => Err(refused(step, case)),
+    }
 }
 
 fn run_all(alloc: Global, steps: &[Step]) -> Result<Vec<Record>, RunError>
