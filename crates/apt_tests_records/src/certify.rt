@@ -94,7 +94,7 @@ fn meeting_leg() -> Leg
         band: Band { lo: 950, hi: 1010 },
         check: Surface::Circ(Circ {
             c: Pt { x: 0, y: 1000 },
-            r: 50,
+            r: 100,
         }),
         stop_band: Band { lo: 100, hi: 110 },
         beyond: Sign::Minus,
