@@ -1,10 +1,10 @@
 ghost use Rattle.std.specs.Prelude.{◌+◌, ◌*◌, ◌≤◌, ◌^◌, unsigned_abs};
-ghost use Rattle.apt_plane.specs.Ranges.{IsLine, IsPoint};
+ghost use Rattle.apt_plane.specs.Ranges.{IsLine, IsPoint, IsSurface};
 
 use apt_num::Sign;
 use apt_offset::Target;
-use apt_plane::{Dir, Line, Pt};
-use apt_stop::{heading, is_near, line_stop, side_of};
+use apt_plane::{Circ, Dir, Line, Pt, Surface};
+use apt_stop::{heading, is_near, is_touching, line_stop, side_of, tangent_axis};
 use apt_words::Case;
 
 const ORIGIN: Pt = Pt { x: 0, y: 0 };
@@ -203,4 +203,116 @@ fn stops_nowhere(rt: HostRuntime) {
     assert_eq!(rt; far, Err(Case::OutOfRange));
     let back = line_stop(at(0, 0), &track, 0, 1, &slope, 0);
     assert_eq!(rt; back, Err(Case::Behind));
+}
+
+/// Along (1, 0), so many grid units above 100,000.
+fn level(above: i16) -> Surface
+    ensures { IsSurface result }
+{
+    Surface::Line(Line {
+        base: Pt {
+            x: 0,
+            y: 100_000 + i64::from(above),
+        },
+        dir: Dir { dx: 1, dy: 0 },
+    })
+}
+
+/// About (x, 0), its radius so many grid units above 100.
+fn circle(x: u16, above: u16) -> Surface
+    ensures { IsSurface result }
+{
+    Surface::Circ(Circ {
+        c: Pt {
+            x: i64::from(x),
+            y: 0,
+        },
+        r: 100 + i64::from(above),
+    })
+}
+
+fn unit() -> Surface
+    ensures { IsSurface result }
+{
+    Surface::Circ(Circ {
+        c: ORIGIN,
+        r: 100_000,
+    })
+}
+
+fn half(drive: &Surface, check: &Surface) -> Option<Sign>
+    requires drive { IsSurface drive.now }
+    requires check { IsSurface check.now }
+{
+    match tangent_axis(drive, check) {
+        Some(axis) => Some(axis.half),
+        None => None,
+    }
+}
+
+fn along(drive: &Surface, check: &Surface) -> Option<Dir>
+    requires drive { IsSurface drive.now }
+    requires check { IsSurface check.now }
+{
+    match tangent_axis(drive, check) {
+        Some(axis) => Some(axis.along),
+        None => None,
+    }
+}
+
+/// A circle of the radius 1: 1.00002 from its centre a line touches it, and 1.00003 from it not.
+#[test]
+fn touches_a_line(rt: HostRuntime) {
+    let table: [(i16, bool); 5] = [(-3, false), (-2, true), (0, true), (2, true), (3, false)];
+    for (above, touching) in table {
+        assert_eq!(rt; is_touching(&unit(), &level(above)), touching, "at {above}");
+        assert_eq!(rt; is_touching(&level(above), &unit()), touching, "at {above}");
+    }
+    assert_eq!(rt; is_touching(&level(0), &level(0)), false);
+}
+
+/// Circles of the radii 100 and 100, and 100 and 300: from outside at the sum, one in the other at the difference.
+#[test]
+fn touches_a_circle(rt: HostRuntime) {
+    let table: [(u16, u16, bool); 15] = [
+        (0, 0, true),
+        (2, 0, true),
+        (3, 0, false),
+        (197, 0, false),
+        (198, 0, true),
+        (202, 0, true),
+        (203, 0, false),
+        (197, 200, false),
+        (198, 200, true),
+        (202, 200, true),
+        (203, 200, false),
+        (397, 200, false),
+        (398, 200, true),
+        (402, 200, true),
+        (403, 200, false),
+    ];
+    for (x, above, touching) in table {
+        let first = circle(0, 0);
+        let second = circle(x, above);
+        assert_eq!(rt; is_touching(&first, &second), touching, "at {x}, {above}");
+        assert_eq!(rt; is_touching(&second, &first), touching, "at {x}, {above}");
+    }
+}
+
+/// On the line's side of a circle, and of two circles on the side of the other centre, but for the smaller of two
+/// that touch one in the other.
+#[test]
+fn has_an_axis_of_tangency(rt: HostRuntime) {
+    let small = circle(0, 0);
+    let great = circle(200, 200);
+    assert_eq!(rt; half(&unit(), &level(0)), Some(Sign::Plus));
+    assert_eq!(rt; half(&level(0), &unit()), Some(Sign::Zero));
+    assert_eq!(rt; along(&unit(), &level(0)), Some(Dir { dx: 0, dy: 1 }));
+    assert_eq!(rt; half(&small, &circle(200, 0)), Some(Sign::Plus));
+    assert_eq!(rt; half(&small, &great), Some(Sign::Minus));
+    assert_eq!(rt; half(&great, &small), Some(Sign::Plus));
+    assert_eq!(rt; half(&small, &circle(1, 0)), Some(Sign::Plus));
+    assert_eq!(rt; along(&great, &small), Some(Dir { dx: -200, dy: 0 }));
+    assert_eq!(rt; half(&level(0), &level(1)), None);
+    assert_eq!(rt; half(&great, &circle(200, 0)), None);
 }
