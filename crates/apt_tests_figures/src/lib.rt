@@ -1,4 +1,4 @@
-//! Tests of figures, of where they meet and of where motions stop.
+//! Tests of figures, of where they meet, and of where start-ups end and motions stop.
 #![tactic(auto)]
 
 #[cfg(test)]
@@ -9,5 +9,7 @@ mod contact;
 mod defs;
 #[cfg(test)]
 mod offset;
+#[cfg(test)]
+mod startup;
 #[cfg(test)]
 mod stop;

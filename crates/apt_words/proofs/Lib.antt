@@ -2,3 +2,4 @@ pub mod Same
 pub mod Texts
 mod Words
 pub mod Bytes
+pub mod Rows

@@ -1,0 +1,4 @@
+pub mod Reach
+pub mod Nearer
+pub mod Refused
+mod Worked

@@ -1,0 +1,3 @@
+pub mod StartUps
+pub mod Nearest
+pub mod Ranges

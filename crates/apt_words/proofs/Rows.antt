@@ -1,0 +1,20 @@
+-- What an ordered list of conditions answers.
+use Rattle.std.specs.Prelude.{◌≡◌, ◌↔◌, List, Option, Some, None, IfOk, IsErrOf}
+use Rattle.apt_words.specs.declared.Case.{Case}
+use Rattle.apt_words.specs.Rows.{Row, first_of, unless, unless_case}
+
+refused_case : {A : Type 0} (refusal : Option Case) (x : A) (case : Case) → IsErrOf (unless_case refusal x) case ↔ (refusal ≡ Some case)
+refused_case None x case = (λ e. absurd cc, λ e. absurd cc)
+refused_case (Some other) x case = (λ e. cc, λ e. cc)
+
+-- it refuses by the case of the first condition that holds, and by no other
+pub refused_by : {A : Type 0} (rows : List Row) (x : A) (case : Case) → IsErrOf (unless rows x) case ↔ (first_of rows ≡ Some case)
+refused_by rows x case = refused_case (first_of rows) x case
+
+given_case : {A : Type 0} (refusal : Option Case) (x : A) (P : A → Type 0) → P x → IfOk (unless_case refusal x) P
+given_case None x P p = p
+given_case (Some other) x P p = tt
+
+-- what holds of the value holds of an answer
+pub given_by : {A : Type 0} (rows : List Row) (x : A) (P : A → Type 0) → P x → IfOk (unless rows x) P
+given_by rows x P p = given_case (first_of rows) x P p
