@@ -3,59 +3,63 @@ use apt_lexis::Token;
 use apt_words::{Expr, Millionths, Node, Op, Part, Symbol};
 use std::alloc::{AllocError, Global};
 
+const TEXTS: [(&str, &str); 30] = [
+    ("1 - 2 + 3", "((1-2)+3)"),
+    ("1 + 2 * 3", "(1+(2*3))"),
+    ("- A * B - C", "(-((A*B))-C)"),
+    ("- ( A + B ) / 2", "-(((A+B)/2))"),
+    ("SQRTF ( A ) / ABSF ( ( - 1 ) )", "(SQRTF(A)/ABSF(-(1)))"),
+    ("A * - B", "none"),
+    ("A + - B", "none"),
+    ("7", "7"),
+    ("( 7 )", "7"),
+    ("( A )", "A"),
+    ("- ( 7 )", "-(7)"),
+    ("2 / ( 3 - 4 * A )", "(2/(3-(4*A)))"),
+    ("( 2 ) * ( 3 )", "(2*3)"),
+    ("- 7", "-(7)"),
+    ("- 7 * 8", "-((7*8))"),
+    ("POINT", "none"),
+    ("+", "none"),
+    ("+ A", "none"),
+    ("A +", "none"),
+    ("-", "none"),
+    ("( A", "none"),
+    ("A )", "none"),
+    ("( A ) ( B )", "none"),
+    ("( )", "none"),
+    ("A B", "none"),
+    ("A ( B )", "none"),
+    ("POINT + 1", "none"),
+    ("SQRTF", "none"),
+    ("A , B", "none"),
+    ("", "none"),
+];
+
 #[test]
 fn reads_expressions(rt: HostRuntime) -> Result<(), AllocError> {
     let alloc = rt.alloc();
-    'texts: for (text, wanted) in [
-        ("1 - 2 + 3", "((1-2)+3)"),
-        ("1 + 2 * 3", "(1+(2*3))"),
-        ("- A * B - C", "(-((A*B))-C)"),
-        ("- ( A + B ) / 2", "-(((A+B)/2))"),
-        ("SQRTF ( A ) / ABSF ( ( - 1 ) )", "(SQRTF(A)/ABSF(-(1)))"),
-        ("A * - B", "none"),
-        ("A + - B", "none"),
-        ("7", "7"),
-        ("( 7 )", "7"),
-        ("( A )", "A"),
-        ("- ( 7 )", "-(7)"),
-        ("2 / ( 3 - 4 * A )", "(2/(3-(4*A)))"),
-        ("( 2 ) * ( 3 )", "(2*3)"),
-        ("- 7", "-(7)"),
-        ("- 7 * 8", "-((7*8))"),
-        ("POINT", "none"),
-        ("+", "none"),
-        ("+ A", "none"),
-        ("A +", "none"),
-        ("-", "none"),
-        ("( A", "none"),
-        ("A )", "none"),
-        ("( A ) ( B )", "none"),
-        ("( )", "none"),
-        ("A B", "none"),
-        ("A ( B )", "none"),
-        ("POINT + 1", "none"),
-        ("SQRTF", "none"),
-        ("A , B", "none"),
-        ("", "none"),
-    ] {
+    'texts: for (text, wanted) in &TEXTS {
         let found = read(alloc, text)?;
-        assert_eq!(rt; shown(alloc, &found)?.as_str(), wanted, "at {text}");
+        assert_eq!(rt; shown(alloc, &found)?.as_str(), *wanted, "at {text}");
     }
     Ok(())
 }
 
+const LIMITS: [(u32, u32, bool); 7] = [
+    (64, 32, true),
+    (65, 32, false),
+    (64, 33, false),
+    (0, 32, true),
+    (0, 33, false),
+    (64, 0, true),
+    (65, 0, false),
+];
+
 #[test]
 fn keeps_the_limits(rt: HostRuntime) -> Result<(), AllocError> {
     let alloc = rt.alloc();
-    'counts: for (operators, parentheses, is_expression) in [
-        (64, 32, true),
-        (65, 32, false),
-        (64, 33, false),
-        (0, 32, true),
-        (0, 33, false),
-        (64, 0, true),
-        (65, 0, false),
-    ] {
+    'counts: for &(operators, parentheses, is_expression) in &LIMITS {
         let text = sum_in_parentheses(alloc, operators, parentheses)?;
         assert_eq!(rt;
             read(alloc, text.as_str())?.is_some(),

@@ -152,15 +152,17 @@ fn repeated(alloc: Global, byte: u8, many: usize) -> Result<Vec<u8>, AllocError>
     Ok(text)
 }
 
+const LONG: [(u8, usize, &str); 4] = [
+    (b' ', 255, "1: A\n"),
+    (b' ', 256, "1! LineTooLong\n"),
+    (b'\n', 49_999, "50000: A\n"),
+    (b'\n', 50_000, "50001! TooManyLines\n"),
+];
+
 #[test]
 fn long_texts_are_refused(rt: HostRuntime) -> Result<(), Fail> {
     let alloc = rt.alloc();
-    for (byte, many, want) in [
-        (b' ', 255, "1: A\n"),
-        (b' ', 256, "1! LineTooLong\n"),
-        (b'\n', 49_999, "50000: A\n"),
-        (b'\n', 50_000, "50001! TooManyLines\n"),
-    ] {
+    for &(byte, many, want) in &LONG {
         let all = read_all(alloc, &repeated(alloc, byte, many)?)?;
         assert_eq!(rt; all.as_str(), want);
     }

@@ -41,44 +41,54 @@ fn no_parameters(alloc: Global) -> Frame {
     }
 }
 
+const OPERATIONS: [(i64, Op, i64, Result<i64, Case>); 9] = [
+    (2 * ONE, Op::Div, 3 * ONE, Ok(666_667)),
+    (-ONE, Op::Div, 3 * ONE, Ok(-333_333)),
+    (-1, Op::Mul, 500_000, Ok(-1)),
+    (1, Op::Mul, 499_999, Ok(0)),
+    (GREATEST - 1, Op::Add, 1, Ok(GREATEST)),
+    (1, Op::Sub, 3, Ok(-2)),
+    (ONE, Op::Div, 0, Err(Case::DivideByZero)),
+    (GREATEST, Op::Mul, 2 * ONE, Err(Case::TooLarge)),
+    (-GREATEST, Op::Sub, 1, Err(Case::TooLarge)),
+];
+
 #[test]
 fn operators_round_and_refuse(rt: HostRuntime) -> Result<(), Fail> {
     let alloc = rt.alloc();
     let env = Env::new(alloc);
     let frame = no_parameters(alloc);
-    for (a, op, b, want) in [
-        (2 * ONE, Op::Div, 3 * ONE, Ok(666_667)),
-        (-ONE, Op::Div, 3 * ONE, Ok(-333_333)),
-        (-1, Op::Mul, 500_000, Ok(-1)),
-        (1, Op::Mul, 499_999, Ok(0)),
-        (GREATEST - 1, Op::Add, 1, Ok(GREATEST)),
-        (1, Op::Sub, 3, Ok(-2)),
-        (ONE, Op::Div, 0, Err(Case::DivideByZero)),
-        (GREATEST, Op::Mul, 2 * ONE, Err(Case::TooLarge)),
-        (-GREATEST, Op::Sub, 1, Err(Case::TooLarge)),
-    ] {
+    for &(a, op, b, want) in &OPERATIONS {
         let e = both(alloc, a, op, b)?;
         assert_eq!(rt; eval(&e, &env, &frame), want, "at {a} and {b}");
     }
     Ok(())
 }
 
+const ROOTS: [(i64, Result<i64, Case>); 4] = [
+    (2 * ONE, Ok(1_414_214)),
+    (GREATEST, Ok(1_000 * ONE)),
+    (0, Ok(0)),
+    (-ONE, Err(Case::NegativeRoot)),
+];
+
 #[test]
 fn roots_are_nearest(rt: HostRuntime) -> Result<(), Fail> {
     let alloc = rt.alloc();
     let env = Env::new(alloc);
     let frame = no_parameters(alloc);
-    for (v, want) in [
-        (2 * ONE, Ok(1_414_214)),
-        (GREATEST, Ok(1_000 * ONE)),
-        (0, Ok(0)),
-        (-ONE, Err(Case::NegativeRoot)),
-    ] {
+    for &(v, want) in &ROOTS {
         let e = root(alloc, v)?;
         assert_eq!(rt; eval(&e, &env, &frame), want, "at {v}");
     }
     Ok(())
 }
+
+const NAMES: [(&str, Result<i64, Case>, Result<i64, Case>); 3] = [
+    ("A", Ok(5), Ok(7)),
+    ("B", Err(Case::Unknown), Ok(5)),
+    ("P", Err(Case::Unknown), Err(Case::Unknown)),
+];
 
 #[test]
 fn names_stand_for_scalars(rt: HostRuntime) -> Result<(), Fail> {
@@ -91,16 +101,15 @@ fn names_stand_for_scalars(rt: HostRuntime) -> Result<(), Fail> {
         .bound
         .push((symbol(&rt, "B"), Bound::Alias(symbol(&rt, "A"))))?;
     frame.bound.push((symbol(&rt, "A"), Bound::Scalar(7)))?;
-    for (text, want, inside) in [
-        ("A", Ok(5), Ok(7)),
-        ("B", Err(Case::Unknown), Ok(5)),
-        ("P", Err(Case::Unknown), Err(Case::Unknown)),
-    ] {
+    for &(text, outside, inside) in &NAMES {
         let e = Expr {
             node: Node::Name(symbol(&rt, text)),
         };
-        assert_eq!(rt; eval(&e, &env, &no_parameters(alloc)), want, "at {text}");
-        assert_eq!(rt; eval(&e, &env, &frame), inside, "at {text} in a macro");
+        let found = (
+            eval(&e, &env, &no_parameters(alloc)),
+            eval(&e, &env, &frame),
+        );
+        assert_eq!(rt; found, (outside, inside), "at {text}");
     }
     Ok(())
 }
@@ -120,8 +129,7 @@ fn names_take_their_latest_value(rt: HostRuntime) -> Result<(), Fail> {
 
 #[test]
 fn scalars_in_other_units(rt: HostRuntime) {
-    assert_eq!(rt; grid_units(Units::Inch, ONE), 100_000);
-    assert_eq!(rt; grid_units(Units::Mm, -150), -2);
-    assert_eq!(rt; tenths(12_350_000), 124);
-    assert_eq!(rt; whole(2_500_000), 3);
+    let grid = [grid_units(Units::Inch, ONE), grid_units(Units::Mm, -150)];
+    assert_eq!(rt; grid, [100_000, -2]);
+    assert_eq!(rt; [tenths(12_350_000), whole(2_500_000)], [124, 3]);
 }

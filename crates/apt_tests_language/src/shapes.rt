@@ -171,7 +171,7 @@ fn printed(alloc: Global, statement: &str, text: Option<Text>) -> Result<String,
 
 #[test]
 fn statements(rt: HostRuntime) -> Result<(), Fail> {
-    for (statement, body) in STATEMENTS {
+    for &(statement, body) in &STATEMENTS {
         let said = printed(rt.alloc(), statement, None)?;
         assert_eq!(rt; said.as_str(), body, "{statement}");
     }
@@ -190,23 +190,24 @@ fn labels_and_titles(rt: HostRuntime) -> Result<(), Fail> {
     Ok(())
 }
 
+const NO_SHAPES: [&str; 12] = [
+    "",
+    "GOTO / P1 , P2 , P3 , P4",
+    "GO / TANTO , C",
+    "GOFWD / L1 , LEFT , C1",
+    "TLLFT , GOFWD",
+    "UNITS / CLW",
+    "JUMPTO / GOTO",
+    "GOTO ) STOP",
+    "LINE = POINT / CENTER , C",
+    "CALL / A , B",
+    "IF ( LA , LB , LC",
+    "P1",
+];
+
 #[test]
 fn no_shapes(rt: HostRuntime) -> Result<(), Fail> {
-    let rows = [
-        "",
-        "GOTO / P1 , P2 , P3 , P4",
-        "GO / TANTO , C",
-        "GOFWD / L1 , LEFT , C1",
-        "TLLFT , GOFWD",
-        "UNITS / CLW",
-        "JUMPTO / GOTO",
-        "GOTO ) STOP",
-        "LINE = POINT / CENTER , C",
-        "CALL / A , B",
-        "IF ( LA , LB , LC",
-        "P1",
-    ];
-    for statement in rows {
+    for &statement in &NO_SHAPES {
         let said = printed(rt.alloc(), statement, None)?;
         assert_eq!(rt; said.as_str(), "None", "{statement}");
     }

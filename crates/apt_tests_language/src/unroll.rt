@@ -24,11 +24,11 @@ const REFUSED: [(&str, usize, u32, u32, Case); 2] = [
 #[test]
 fn steps_stop_at_the_first_refusal(rt: HostRuntime) -> Result<(), Fail> {
     let alloc = rt.alloc();
-    for (text, steps, line, step, case) in REFUSED {
+    for &(text, steps, line, step, case) in &REFUSED {
         let program = parse(alloc, text.as_bytes())?;
         let unrolled = unroll(alloc, &program)?;
-        assert_eq!(rt; unrolled.fault, Some(Refusal { line, step, case }));
-        assert_eq!(rt; unrolled.steps.len(), steps);
+        let want = Some(Refusal { line, step, case });
+        assert_eq!(rt; (unrolled.fault, unrolled.steps.len()), (want, steps));
     }
     Ok(())
 }

@@ -1,29 +1,30 @@
 use apt_words::Symbol;
 
+const TEXTS: [(&str, bool, bool); 15] = [
+    ("L1", true, true),
+    ("X", true, true),
+    ("ABCDEF", true, true),
+    ("A12345", true, true),
+    ("LINE", true, false),
+    ("PARTNO", true, false),
+    ("ABSF", true, false),
+    ("TO", true, false),
+    ("ABCDEFG", false, false),
+    ("1L", false, false),
+    ("l1", false, false),
+    ("A B", false, false),
+    ("A-1", false, false),
+    ("É", false, false),
+    ("", false, false),
+];
+
 #[test]
 fn tells_symbols_and_names(rt: HostRuntime) {
-    'texts: for (text, is_symbol, is_name) in [
-        ("L1", true, true),
-        ("X", true, true),
-        ("ABCDEF", true, true),
-        ("A12345", true, true),
-        ("LINE", true, false),
-        ("PARTNO", true, false),
-        ("ABSF", true, false),
-        ("TO", true, false),
-        ("ABCDEFG", false, false),
-        ("1L", false, false),
-        ("l1", false, false),
-        ("A B", false, false),
-        ("A-1", false, false),
-        ("É", false, false),
-        ("", false, false),
-    ] {
-        assert_eq!(rt; Symbol::new(text).is_some(), is_symbol, "at {text}");
-        assert_eq!(rt;
+    'texts: for &(text, is_symbol, is_name) in &TEXTS {
+        let found = [
+            Symbol::new(text).is_some(),
             Symbol::name(text.as_bytes()).is_some(),
-            is_name,
-            "at {text}"
-        );
+        ];
+        assert_eq!(rt; found, [is_symbol, is_name], "at {text}");
     }
 }

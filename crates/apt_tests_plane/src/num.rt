@@ -48,7 +48,7 @@ const ROOTS: [(u128, u128); 40] = [
 
 #[test]
 fn roots(rt: HostRuntime) {
-    for (n, want) in ROOTS {
+    for &(n, want) in &ROOTS {
         assert_eq!(rt; isqrt(n), want, "at {n}");
     }
 }
@@ -98,7 +98,7 @@ const NEAREST_ROOTS: [(u128, u128); 40] = [
 
 #[test]
 fn nearest_roots(rt: HostRuntime) {
-    for (n, want) in NEAREST_ROOTS {
+    for &(n, want) in &NEAREST_ROOTS {
         assert!(rt; n < 1 << 126);
         assert_eq!(rt; root_near(n), want, "at {n}");
     }
@@ -194,7 +194,7 @@ const NEAREST_QUOTIENTS: [(i128, i128, i128); 40] = [
 #[test]
 fn nearest_quotients(rt: HostRuntime) {
     let limit = 10_u128.pow(38);
-    for (a, b, want) in NEAREST_QUOTIENTS {
+    for &(a, b, want) in &NEAREST_QUOTIENTS {
         assert!(rt; b != 0);
         assert!(rt; a.unsigned_abs() <= limit);
         assert!(rt; b.unsigned_abs() <= limit);
@@ -248,7 +248,7 @@ const SIGNS: [(i64, i32, u64, Sign); 40] = [
 #[test]
 fn signs(rt: HostRuntime) {
     let limit = 10_u128.pow(38);
-    for (k, h, n, want) in SIGNS {
+    for &(k, h, n, want) in &SIGNS {
         let size = i128::from(h).unsigned_abs();
         assert!(rt; size * size * u128::from(n) < limit);
         let sign = root_sign(i128::from(k), i128::from(h), u128::from(n));
@@ -263,14 +263,28 @@ fn greatest_sizes(rt: HostRuntime) {
     let root = 9_999_999_999_999_999_999;
     let square = 99_999_999_999_999_999_999_999_999_999_999_999_999;
     assert_eq!(rt; root_near((1 << 126) - 1), 9_223_372_036_854_775_808);
-    assert_eq!(rt; div_near(-most, 1), -most);
-    assert_eq!(rt; div_near(half, most), 1);
-    assert_eq!(rt; div_near(half, -most), -1);
-    assert_eq!(rt; div_near(half - 1, most), 0);
-    assert_eq!(rt; root_sign(0, i128::MIN, 0), Sign::Zero);
-    assert_eq!(rt; root_sign(-1, i128::MIN, 0), Sign::Minus);
-    assert_eq!(rt; root_sign(root, root, 1), Sign::Zero);
-    assert_eq!(rt; root_sign(-root, root, 1), Sign::Minus);
-    assert_eq!(rt; root_sign(root, 1, square), Sign::Minus);
-    assert_eq!(rt; root_sign(-root, -1, square), Sign::Plus);
+    let quotients = [
+        div_near(-most, 1),
+        div_near(half, most),
+        div_near(half, -most),
+        div_near(half - 1, most),
+    ];
+    assert_eq!(rt; quotients, [-most, 1, -1, 0]);
+    let signs = [
+        root_sign(0, i128::MIN, 0),
+        root_sign(-1, i128::MIN, 0),
+        root_sign(root, root, 1),
+        root_sign(-root, root, 1),
+        root_sign(root, 1, square),
+        root_sign(-root, -1, square),
+    ];
+    let wanted = [
+        Sign::Zero,
+        Sign::Minus,
+        Sign::Zero,
+        Sign::Minus,
+        Sign::Minus,
+        Sign::Plus,
+    ];
+    assert_eq!(rt; signs, wanted);
 }

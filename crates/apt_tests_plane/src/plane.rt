@@ -30,11 +30,13 @@ const AT_START: Result<(), Spot> = Err(Spot { j: 0, m: 1 });
 
 const AT_END: Result<(), Spot> = Err(Spot { j: 1, m: 1 });
 
-fn pt(x: i64, y: i64) -> Pt {
+type Pair = (i64, i64);
+
+fn pt((x, y): Pair) -> Pt {
     Pt { x, y }
 }
 
-fn band(lo: i64, hi: i64) -> Band {
+fn band((lo, hi): Pair) -> Band {
     Band { lo, hi }
 }
 
@@ -68,46 +70,48 @@ fn answer(p: Pt, q: Pt, line: &Line, band: Band) -> Option<Result<(), Spot>> {
     }
 }
 
+/// Segments, each with its band along a line.
+const SEGMENTS: [(Line, Pair, Pair, Pair, Result<(), Spot>); 25] = [
+    (FLAT, (0, 0), (100, 0), (-8, 8), INSIDE),
+    (FLAT, (0, 8), (100, 8), (-8, 8), INSIDE),
+    (FLAT, (0, 9), (100, 9), (-8, 8), AT_START),
+    (FLAT, (0, -8), (100, -8), (-8, 8), INSIDE),
+    (FLAT, (0, -9), (100, -9), (-8, 8), AT_START),
+    (FLAT, (0, 9), (100, 0), (-8, 8), AT_START),
+    (FLAT, (0, 0), (100, 9), (-8, 8), AT_END),
+    (FLAT, (0, 0), (100, -9), (-8, 8), AT_END),
+    (FLAT, (0, 9), (100, -9), (-8, 8), AT_START),
+    (FLAT, (0, 8), (100, 16), (8, 16), INSIDE),
+    (FLAT, (0, 8), (100, 7), (8, 16), AT_END),
+    (FLAT, (0, -16), (100, -8), (-16, -8), INSIDE),
+    (FLAT, (0, 8), (100, 8), (-16, -8), AT_START),
+    (FLAT, (0, 0), (0, 0), (1, -1), AT_START),
+    (STEEP, (2, 26), (32, 66), (-10, 10), INSIDE),
+    (STEEP, (2, 26), (32, 66), (-10, 9), AT_START),
+    (STEEP, (18, 14), (18, 14), (-10, 10), INSIDE),
+    (STEEP, (2, 26), (18, 14), (-9, 10), AT_END),
+    (STEEP, (-6, 32), (2, 26), (10, 20), INSIDE),
+    (DIAGONAL, (0, 41), (41, 0), (-29, 29), INSIDE),
+    (DIAGONAL, (0, 99), (0, 0), (-70, 70), AT_START),
+    (DIAGONAL, (0, 0), (99, 0), (-70, 70), AT_END),
+    (DIAGONAL, (0, 41), (0, 99), (29, 71), AT_START),
+    (DIAGONAL, (0, 99), (0, 42), (29, 71), INSIDE),
+    (
+        DIAGONAL,
+        (-4_608_393, 50_000_000),
+        (22_619_537, 0),
+        (-15_994_428, 38_613_965),
+        AT_END,
+    ),
+];
+
 #[test]
 fn segments_in_bands(rt: HostRuntime) {
-    let table: [(Line, Pt, Pt, Band, Result<(), Spot>); 25] = [
-        (FLAT, pt(0, 0), pt(100, 0), band(-8, 8), INSIDE),
-        (FLAT, pt(0, 8), pt(100, 8), band(-8, 8), INSIDE),
-        (FLAT, pt(0, 9), pt(100, 9), band(-8, 8), AT_START),
-        (FLAT, pt(0, -8), pt(100, -8), band(-8, 8), INSIDE),
-        (FLAT, pt(0, -9), pt(100, -9), band(-8, 8), AT_START),
-        (FLAT, pt(0, 9), pt(100, 0), band(-8, 8), AT_START),
-        (FLAT, pt(0, 0), pt(100, 9), band(-8, 8), AT_END),
-        (FLAT, pt(0, 0), pt(100, -9), band(-8, 8), AT_END),
-        (FLAT, pt(0, 9), pt(100, -9), band(-8, 8), AT_START),
-        (FLAT, pt(0, 8), pt(100, 16), band(8, 16), INSIDE),
-        (FLAT, pt(0, 8), pt(100, 7), band(8, 16), AT_END),
-        (FLAT, pt(0, -16), pt(100, -8), band(-16, -8), INSIDE),
-        (FLAT, pt(0, 8), pt(100, 8), band(-16, -8), AT_START),
-        (FLAT, pt(0, 0), pt(0, 0), band(1, -1), AT_START),
-        (STEEP, pt(2, 26), pt(32, 66), band(-10, 10), INSIDE),
-        (STEEP, pt(2, 26), pt(32, 66), band(-10, 9), AT_START),
-        (STEEP, pt(18, 14), pt(18, 14), band(-10, 10), INSIDE),
-        (STEEP, pt(2, 26), pt(18, 14), band(-9, 10), AT_END),
-        (STEEP, pt(-6, 32), pt(2, 26), band(10, 20), INSIDE),
-        (DIAGONAL, pt(0, 41), pt(41, 0), band(-29, 29), INSIDE),
-        (DIAGONAL, pt(0, 99), pt(0, 0), band(-70, 70), AT_START),
-        (DIAGONAL, pt(0, 0), pt(99, 0), band(-70, 70), AT_END),
-        (DIAGONAL, pt(0, 41), pt(0, 99), band(29, 71), AT_START),
-        (DIAGONAL, pt(0, 99), pt(0, 42), band(29, 71), INSIDE),
-        (
-            DIAGONAL,
-            pt(-4_608_393, 50_000_000),
-            pt(22_619_537, 0),
-            band(-15_994_428, 38_613_965),
-            AT_END,
-        ),
-    ];
-    for (line, p, q, band, want) in table {
+    for (line, p, q, within, want) in &SEGMENTS {
         assert_eq!(rt;
-            answer(p, q, &line, band),
-            Some(want),
-            "from {p:?} to {q:?} in {band:?}"
+            answer(pt(*p), pt(*q), line, band(*within)),
+            Some(*want),
+            "from {p:?} to {q:?} in {within:?}"
         );
     }
 }
@@ -120,84 +124,77 @@ fn ring_answer(p: Pt, q: Pt, c: Pt, band: Band) -> Option<Result<(), Spot>> {
     }
 }
 
-fn at_foot(j: i128, m: i128) -> Result<(), Spot> {
-    Err(Spot { j, m })
-}
-
 /// (30, 40) is 50 away from the origin, and the foot of the segment from (-30, 40) to it is 40 away.
+const RING_SEGMENTS: [(Pair, Pair, Pair, Pair, Result<(), Spot>); 21] = [
+    ((-30, 40), (30, 40), (0, 0), (40, 50), INSIDE),
+    (
+        (-30, 40),
+        (30, 40),
+        (0, 0),
+        (41, 50),
+        Err(Spot { j: 1800, m: 3600 }),
+    ),
+    ((-30, 40), (30, 40), (0, 0), (40, 49), AT_START),
+    ((0, 40), (30, 40), (0, 0), (40, 49), AT_END),
+    ((-30, 40), (-10, 40), (0, 0), (41, 50), INSIDE),
+    ((10, 40), (30, 40), (0, 0), (41, 50), INSIDE),
+    ((-30, 40), (0, 40), (0, 0), (40, 50), INSIDE),
+    ((-30, 40), (0, 40), (0, 0), (41, 50), AT_END),
+    ((0, 40), (30, 40), (0, 0), (41, 50), AT_START),
+    ((-30, 0), (30, 0), (0, 0), (-5, 30), INSIDE),
+    ((-30, 0), (30, 0), (0, 0), (0, 30), INSIDE),
+    (
+        (-30, 0),
+        (30, 0),
+        (0, 0),
+        (1, 30),
+        Err(Spot { j: 1800, m: 3600 }),
+    ),
+    ((0, 0), (0, 0), (0, 0), (0, 0), INSIDE),
+    ((0, 0), (0, 0), (0, 0), (-5, -1), AT_START),
+    ((30, 40), (30, 40), (0, 0), (50, 50), INSIDE),
+    ((30, 40), (30, 40), (0, 0), (51, 60), AT_START),
+    ((100, 250), (150, 200), (100, 200), (35, 50), INSIDE),
+    (
+        (100, 250),
+        (150, 200),
+        (100, 200),
+        (36, 50),
+        Err(Spot { j: 2500, m: 5000 }),
+    ),
+    (
+        (100, 250),
+        (160, 190),
+        (100, 200),
+        (36, 61),
+        Err(Spot { j: 3000, m: 7200 }),
+    ),
+    (
+        (-50_000_000, 50_000_000),
+        (50_000_000, 50_000_000),
+        (0, -50_000_000),
+        (100_000_000, 111_803_399),
+        INSIDE,
+    ),
+    (
+        (-50_000_000, 50_000_000),
+        (50_000_000, 50_000_000),
+        (0, -50_000_000),
+        (100_000_001, 111_803_399),
+        Err(Spot {
+            j: 5_000_000_000_000_000,
+            m: 10_000_000_000_000_000,
+        }),
+    ),
+];
+
 #[test]
 fn segments_in_rings(rt: HostRuntime) {
-    let far = 50_000_000;
-    let table: [(Pt, Pt, Pt, Band, Result<(), Spot>); 21] = [
-        (pt(-30, 40), pt(30, 40), pt(0, 0), band(40, 50), INSIDE),
-        (
-            pt(-30, 40),
-            pt(30, 40),
-            pt(0, 0),
-            band(41, 50),
-            at_foot(1800, 3600),
-        ),
-        (pt(-30, 40), pt(30, 40), pt(0, 0), band(40, 49), AT_START),
-        (pt(0, 40), pt(30, 40), pt(0, 0), band(40, 49), AT_END),
-        (pt(-30, 40), pt(-10, 40), pt(0, 0), band(41, 50), INSIDE),
-        (pt(10, 40), pt(30, 40), pt(0, 0), band(41, 50), INSIDE),
-        (pt(-30, 40), pt(0, 40), pt(0, 0), band(40, 50), INSIDE),
-        (pt(-30, 40), pt(0, 40), pt(0, 0), band(41, 50), AT_END),
-        (pt(0, 40), pt(30, 40), pt(0, 0), band(41, 50), AT_START),
-        (pt(-30, 0), pt(30, 0), pt(0, 0), band(-5, 30), INSIDE),
-        (pt(-30, 0), pt(30, 0), pt(0, 0), band(0, 30), INSIDE),
-        (
-            pt(-30, 0),
-            pt(30, 0),
-            pt(0, 0),
-            band(1, 30),
-            at_foot(1800, 3600),
-        ),
-        (pt(0, 0), pt(0, 0), pt(0, 0), band(0, 0), INSIDE),
-        (pt(0, 0), pt(0, 0), pt(0, 0), band(-5, -1), AT_START),
-        (pt(30, 40), pt(30, 40), pt(0, 0), band(50, 50), INSIDE),
-        (pt(30, 40), pt(30, 40), pt(0, 0), band(51, 60), AT_START),
-        (
-            pt(100, 250),
-            pt(150, 200),
-            pt(100, 200),
-            band(35, 50),
-            INSIDE,
-        ),
-        (
-            pt(100, 250),
-            pt(150, 200),
-            pt(100, 200),
-            band(36, 50),
-            at_foot(2500, 5000),
-        ),
-        (
-            pt(100, 250),
-            pt(160, 190),
-            pt(100, 200),
-            band(36, 61),
-            at_foot(3000, 7200),
-        ),
-        (
-            pt(-far, far),
-            pt(far, far),
-            pt(0, -far),
-            band(100_000_000, 111_803_399),
-            INSIDE,
-        ),
-        (
-            pt(-far, far),
-            pt(far, far),
-            pt(0, -far),
-            band(100_000_001, 111_803_399),
-            at_foot(5_000_000_000_000_000, 10_000_000_000_000_000),
-        ),
-    ];
-    for (p, q, c, band, want) in table {
+    for (p, q, c, within, want) in &RING_SEGMENTS {
         assert_eq!(rt;
-            ring_answer(p, q, c, band),
-            Some(want),
-            "from {p:?} to {q:?} about {c:?} in {band:?}"
+            ring_answer(pt(*p), pt(*q), pt(*c), band(*within)),
+            Some(*want),
+            "from {p:?} to {q:?} about {c:?} in {within:?}"
         );
     }
 }
@@ -222,31 +219,27 @@ fn order_answer(s: Dir, u: Dir, v: Dir, sense: i8) -> Option<bool> {
     }
 }
 
-/// Eight directions from (3, 1) on, in each sense.
+/// Eight directions from (3, 1) on, each with its place in a turn to the left and to the right.
+const ROUND: [(Dir, usize, usize); 8] = [
+    (Dir { dx: 6, dy: 2 }, 0, 0),
+    (Dir { dx: 1, dy: 1 }, 1, 7),
+    (Dir { dx: -1, dy: 3 }, 2, 6),
+    (Dir { dx: -2, dy: 1 }, 3, 5),
+    (Dir { dx: -3, dy: -1 }, 4, 4),
+    (Dir { dx: -1, dy: -1 }, 5, 3),
+    (Dir { dx: 1, dy: -3 }, 6, 2),
+    (Dir { dx: 2, dy: -1 }, 7, 1),
+];
+
 #[test]
 fn directions_in_order(rt: HostRuntime) {
     let start = Dir { dx: 3, dy: 1 };
-    let round: [(Dir, usize, usize); 8] = [
-        (Dir { dx: 6, dy: 2 }, 0, 0),
-        (Dir { dx: 1, dy: 1 }, 1, 7),
-        (Dir { dx: -1, dy: 3 }, 2, 6),
-        (Dir { dx: -2, dy: 1 }, 3, 5),
-        (Dir { dx: -3, dy: -1 }, 4, 4),
-        (Dir { dx: -1, dy: -1 }, 5, 3),
-        (Dir { dx: 1, dy: -3 }, 6, 2),
-        (Dir { dx: 2, dy: -1 }, 7, 1),
-    ];
-    for (u, left, right) in round {
-        for (v, more_left, more_right) in round {
+    for &(u, left, right) in &ROUND {
+        for &(v, more_left, more_right) in &ROUND {
             assert_eq!(rt;
-                order_answer(start, u, v, 1),
-                Some(left < more_left),
-                "{u:?} and {v:?} to the left"
-            );
-            assert_eq!(rt;
-                order_answer(start, u, v, -1),
-                Some(right < more_right),
-                "{u:?} and {v:?} to the right"
+                (order_answer(start, u, v, 1), order_answer(start, u, v, -1)),
+                (Some(left < more_left), Some(right < more_right)),
+                "{u:?} and {v:?} to the left and to the right"
             );
         }
     }
@@ -255,12 +248,8 @@ fn directions_in_order(rt: HostRuntime) {
 #[test]
 fn products(rt: HostRuntime) {
     let u = displacement(Pt { x: 1, y: 2 }, Pt { x: 4, y: -2 });
-    assert_eq!(rt; u, Dir { dx: 3, dy: -4 });
+    assert_eq!(rt; (u, perp(u)), (Dir { dx: 3, dy: -4 }, Dir { dx: 4, dy: 3 }));
     let v = Dir { dx: 5, dy: 12 };
-    assert_eq!(rt; cross(u, v), 56);
-    assert_eq!(rt; cross(v, u), -56);
-    assert_eq!(rt; dot(u, v), -33);
-    assert_eq!(rt; length_squared(u), 25);
-    assert_eq!(rt; length_squared(v), 169);
-    assert_eq!(rt; perp(u), Dir { dx: 4, dy: 3 });
+    assert_eq!(rt; [cross(u, v), cross(v, u), dot(u, v)], [56, -56, -33]);
+    assert_eq!(rt; [length_squared(u), length_squared(v)], [25, 169]);
 }

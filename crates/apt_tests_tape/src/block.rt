@@ -124,24 +124,25 @@ fn refusal(text: &str) -> Option<BlockError> {
     read_block(text.as_bytes()).err()
 }
 
+const REFUSED: [(&str, usize, TapeCause); 13] = [
+    ("", 0, TapeCause::Truncated),
+    ("N0001G7", 7, TapeCause::Truncated),
+    ("M02", 3, TapeCause::Truncated),
+    ("N0001Q\n", 5, TapeCause::BadBlock),
+    ("N001G70\n", 4, TapeCause::BadBlock),
+    ("X+50000001\n", 9, TapeCause::BadBlock),
+    ("F0000\n", 4, TapeCause::BadBlock),
+    ("G90N0001\n", 3, TapeCause::BadBlock),
+    ("M00\nM01\n", 4, TapeCause::BadBlock),
+    ("G00G90G01\n", 6, TapeCause::BadG),
+    ("G02X+00000000\n", 0, TapeCause::BadG),
+    ("G00G70G90G94G00\n", 12, TapeCause::BadG),
+    ("M10\n", 0, TapeCause::BadM),
+];
+
 #[test]
 fn refuses_blocks(rt: HostRuntime) {
-    let cases = [
-        ("", 0, TapeCause::Truncated),
-        ("N0001G7", 7, TapeCause::Truncated),
-        ("M02", 3, TapeCause::Truncated),
-        ("N0001Q\n", 5, TapeCause::BadBlock),
-        ("N001G70\n", 4, TapeCause::BadBlock),
-        ("X+50000001\n", 9, TapeCause::BadBlock),
-        ("F0000\n", 4, TapeCause::BadBlock),
-        ("G90N0001\n", 3, TapeCause::BadBlock),
-        ("M00\nM01\n", 4, TapeCause::BadBlock),
-        ("G00G90G01\n", 6, TapeCause::BadG),
-        ("G02X+00000000\n", 0, TapeCause::BadG),
-        ("G00G70G90G94G00\n", 12, TapeCause::BadG),
-        ("M10\n", 0, TapeCause::BadM),
-    ];
-    for (text, at, cause) in cases {
+    for &(text, at, cause) in &REFUSED {
         assert!(rt; refusal(text) == Some(BlockError { at, cause }));
     }
 }

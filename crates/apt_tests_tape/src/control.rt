@@ -76,39 +76,40 @@ fn reads_every_act(rt: HostRuntime) -> Result<(), Fail> {
     Ok(())
 }
 
+const TAPES: [(&str, u64, TapeCause); 16] = [
+    ("", 0, TapeCause::NoStart),
+    ("M02\n", 4, TapeCause::NoStart),
+    ("%\nN1\n", 4, TapeCause::BadBlock),
+    ("%\nM0%", 4, TapeCause::BadBlock),
+    ("%\nG02\n", 2, TapeCause::BadG),
+    ("%\nM10\n", 2, TapeCause::BadM),
+    ("%\nS0100\n", 7, TapeCause::BadMix),
+    ("%\nM06\n", 5, TapeCause::BadMix),
+    (
+        "%\nG00X+00000000Y+00000000Z+00000000\n",
+        35,
+        TapeCause::NoUnits,
+    ),
+    (
+        "%\nG70X+00000000Y+00000000Z+00000000\n",
+        35,
+        TapeCause::NoMode,
+    ),
+    ("%\nG01G70X+00000000\n", 18, TapeCause::NoPosition),
+    (
+        "%\nG01G70X+00000000Y+00000000Z+00000000\n",
+        38,
+        TapeCause::NoFeed,
+    ),
+    ("%", 1, TapeCause::Truncated),
+    ("%\nM0", 4, TapeCause::Truncated),
+    ("%\nM02", 5, TapeCause::Truncated),
+    ("%\nM02\n%M", 7, TapeCause::AfterEnd),
+];
+
 #[test]
 fn refuses_tapes(rt: HostRuntime) -> Result<(), Fail> {
-    let cases = [
-        ("", 0, TapeCause::NoStart),
-        ("M02\n", 4, TapeCause::NoStart),
-        ("%\nN1\n", 4, TapeCause::BadBlock),
-        ("%\nM0%", 4, TapeCause::BadBlock),
-        ("%\nG02\n", 2, TapeCause::BadG),
-        ("%\nM10\n", 2, TapeCause::BadM),
-        ("%\nS0100\n", 7, TapeCause::BadMix),
-        ("%\nM06\n", 5, TapeCause::BadMix),
-        (
-            "%\nG00X+00000000Y+00000000Z+00000000\n",
-            35,
-            TapeCause::NoUnits,
-        ),
-        (
-            "%\nG70X+00000000Y+00000000Z+00000000\n",
-            35,
-            TapeCause::NoMode,
-        ),
-        ("%\nG01G70X+00000000\n", 18, TapeCause::NoPosition),
-        (
-            "%\nG01G70X+00000000Y+00000000Z+00000000\n",
-            38,
-            TapeCause::NoFeed,
-        ),
-        ("%", 1, TapeCause::Truncated),
-        ("%\nM0", 4, TapeCause::Truncated),
-        ("%\nM02", 5, TapeCause::Truncated),
-        ("%\nM02\n%M", 7, TapeCause::AfterEnd),
-    ];
-    for (text, at, cause) in cases {
+    for &(text, at, cause) in &TAPES {
         for code in [Code::Rs244, Code::Rs358] {
             let tape = punched(rt.alloc(), code, text)?;
             assert!(rt; is_refused(rt.alloc(), code, &tape, at, cause));
@@ -117,17 +118,18 @@ fn refuses_tapes(rt: HostRuntime) -> Result<(), Fail> {
     Ok(())
 }
 
+const BYTES: [(Code, u8, TapeCause); 4] = [
+    (Code::Rs244, 0x21u8, TapeCause::BadParity),
+    (Code::Rs244, 0x61, TapeCause::BadCode),
+    (Code::Rs358, 0xb0, TapeCause::BadParity),
+    (Code::Rs358, 0x41, TapeCause::BadCode),
+];
+
 #[test]
 fn refuses_bytes(rt: HostRuntime) -> Result<(), Fail> {
     let alloc = rt.alloc();
     for text in ["%\nM0", "%\nM02\n"] {
-        let cases = [
-            (Code::Rs244, 0x21u8, TapeCause::BadParity),
-            (Code::Rs244, 0x61, TapeCause::BadCode),
-            (Code::Rs358, 0xb0, TapeCause::BadParity),
-            (Code::Rs358, 0x41, TapeCause::BadCode),
-        ];
-        for (code, byte, cause) in cases {
+        for &(code, byte, cause) in &BYTES {
             let mut tape = punched(alloc, code, text)?;
             tape.push(byte)?;
             assert!(rt; is_refused(alloc, code, &tape, text.len() as u64, cause));

@@ -47,7 +47,7 @@ fn refuses(text: &[u8], line: u32, cause: MachineCause) -> bool {
 
 #[test]
 fn refuses_at_the_first_line_with_a_cause(rt: HostRuntime) {
-    for (text, line, cause) in BAD {
+    for &(text, line, cause) in &BAD {
         assert!(rt; refuses(text, line, cause), "{}", cause.name());
     }
 }
@@ -62,7 +62,7 @@ const GOOD: [&[u8]; 4] = [
 
 #[test]
 fn reads_keys_in_any_order(rt: HostRuntime) {
-    for text in GOOD {
+    for &text in &GOOD {
         let machine = Machine {
             code: Code::Rs244,
             seq: 0,
@@ -83,10 +83,12 @@ fn with_line_of(alloc: Global, many: usize) -> Result<Vec<u8>, AllocError> {
     Ok(text)
 }
 
+const LONG: [(usize, MachineCause); 2] = [(256, MachineCause::Key), (257, MachineCause::Byte)];
+
 #[test]
 fn takes_lines_of_256_bytes(rt: HostRuntime) -> Result<(), Fail> {
     let alloc = rt.alloc();
-    for (many, cause) in [(256, MachineCause::Key), (257, MachineCause::Byte)] {
+    for &(many, cause) in &LONG {
         let text = with_line_of(alloc, many)?;
         assert!(rt; refuses(&text, 2, cause));
     }

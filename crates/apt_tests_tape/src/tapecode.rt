@@ -23,9 +23,9 @@ const HEAD: [(u8, u8, u8); 17] = [
 
 #[test]
 fn punches_and_senses_a_head(rt: HostRuntime) {
-    for (ch, rs244, rs358) in HEAD {
-        assert_eq!(rt; punch(Code::Rs244, ch), Some(rs244));
-        assert_eq!(rt; punch(Code::Rs358, ch), Some(rs358));
+    for &(ch, rs244, rs358) in &HEAD {
+        let punched = [punch(Code::Rs244, ch), punch(Code::Rs358, ch)];
+        assert_eq!(rt; punched, [Some(rs244), Some(rs358)]);
         assert!(rt; sense(Code::Rs244, rs244) == Read::Char(ch));
         assert!(rt; sense(Code::Rs358, rs358) == Read::Char(ch));
     }
@@ -33,43 +33,45 @@ fn punches_and_senses_a_head(rt: HostRuntime) {
 
 #[test]
 fn knows_digits_and_letters(rt: HostRuntime) {
-    for (ch, rs244, rs358) in HEAD {
+    for &(ch, rs244, rs358) in &HEAD {
         let number = if ch >= b'0' && ch <= b'9' {
             Some(ch)
         } else {
             None
         };
-        assert_eq!(rt; digit(Code::Rs244, rs244), number);
-        assert_eq!(rt; digit(Code::Rs358, rs358), number);
+        let digits = [digit(Code::Rs244, rs244), digit(Code::Rs358, rs358)];
+        assert_eq!(rt; digits, [number, number]);
         let word = if ch >= b'A' && ch <= b'Z' {
             Some(ch)
         } else {
             None
         };
-        assert_eq!(rt; letter(Code::Rs244, rs244), word);
-        assert_eq!(rt; letter(Code::Rs358, rs358), word);
+        let letters = [letter(Code::Rs244, rs244), letter(Code::Rs358, rs358)];
+        assert_eq!(rt; letters, [word, word]);
     }
-    assert_eq!(rt; digit(Code::Rs244, 0x55), None);
-    assert_eq!(rt; digit(Code::Rs358, 0x31), None);
+    let even = [digit(Code::Rs244, 0x55), digit(Code::Rs358, 0x31)];
+    assert_eq!(rt; even, [None, None]);
 }
+
+const OTHERS: [(Code, u8, Read); 12] = [
+    (Code::Rs244, 0x00, Read::Skip),
+    (Code::Rs244, 0x10, Read::Skip),
+    (Code::Rs244, 0x3e, Read::Skip),
+    (Code::Rs244, 0x7f, Read::Skip),
+    (Code::Rs358, 0x00, Read::Skip),
+    (Code::Rs358, 0xa0, Read::Skip),
+    (Code::Rs358, 0x09, Read::Skip),
+    (Code::Rs358, 0x8d, Read::Skip),
+    (Code::Rs358, 0xff, Read::Skip),
+    (Code::Rs244, 0x55, Read::BadParity),
+    (Code::Rs358, 0x31, Read::BadParity),
+    (Code::Rs358, 0x41, Read::BadCode),
+];
 
 #[test]
 fn skips_and_refuses(rt: HostRuntime) {
-    for (code, byte, want) in [
-        (Code::Rs244, 0x00, Read::Skip),
-        (Code::Rs244, 0x10, Read::Skip),
-        (Code::Rs244, 0x3e, Read::Skip),
-        (Code::Rs244, 0x7f, Read::Skip),
-        (Code::Rs358, 0x00, Read::Skip),
-        (Code::Rs358, 0xa0, Read::Skip),
-        (Code::Rs358, 0x09, Read::Skip),
-        (Code::Rs358, 0x8d, Read::Skip),
-        (Code::Rs358, 0xff, Read::Skip),
-        (Code::Rs244, 0x55, Read::BadParity),
-        (Code::Rs358, 0x31, Read::BadParity),
-        (Code::Rs358, 0x41, Read::BadCode),
-    ] {
-        assert!(rt; sense(code, byte) == want, "at {byte}");
+    for (code, byte, want) in &OTHERS {
+        assert!(rt; sense(*code, *byte) == *want, "at {byte}");
     }
 }
 
@@ -143,10 +145,12 @@ fn reads_every_byte(rt: HostRuntime) {
     }
 }
 
+const NO_CHARACTERS: [u8; 6] = [b' ', b'A', b'.', b'g', 0x00, 0xff];
+
 #[test]
 fn punches_no_other_characters(rt: HostRuntime) {
-    for ch in [b' ', b'A', b'.', b'g', 0x00, 0xff] {
-        assert_eq!(rt; punch(Code::Rs244, ch), None);
-        assert_eq!(rt; punch(Code::Rs358, ch), None);
+    for &ch in &NO_CHARACTERS {
+        let punched = [punch(Code::Rs244, ch), punch(Code::Rs358, ch)];
+        assert_eq!(rt; punched, [None, None]);
     }
 }
