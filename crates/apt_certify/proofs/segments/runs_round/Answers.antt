@@ -14,4 +14,4 @@ returns c =
     round_tells _ _ _ _ a.circle.now.c a.start a.p a.q a.sense c.cross.result c.turned.result c.dot.result c.displacement.result c.displacement-from.result c.displacement-to.result
     c.displacement.ensures.value c.displacement-from.ensures.value c.displacement-to.ensures.value
     c.cross.ensures.value (simp to_z-of_z at c.turned.ensures) c.dot.ensures.value
-    c.all_of.ensures (simp to_z-of_z at c.is_positive.ensures) (simp to_z-of_z at c.is_positive-2.ensures) (simp to_z-of_z at c.before-2.ensures)
+    c.all_of.ensures (simp to_z-of_z at c.is_positive.ensures) (simp to_z-of_z at c.is_positive-2.ensures) (simp to_z-of_z at c.before-2.ensures.order)
