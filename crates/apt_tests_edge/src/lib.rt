@@ -1,5 +1,4 @@
-//! Tests of the store over real files and in memory, of the top call's calls on it, of printed lines and of whole
-//! parts.
+//! Tests of the store over real files and in memory, of how often it is called, and of printed lines.
 #![tactic(auto)]
 
 #[cfg(test)]
@@ -7,12 +6,8 @@ mod folder;
 #[cfg(test)]
 mod names;
 #[cfg(test)]
-mod part;
-#[cfg(test)]
 mod pieces;
 #[cfg(test)]
 mod report;
-#[cfg(test)]
-mod run;
 #[cfg(test)]
 mod shelf;

@@ -42,7 +42,7 @@ const PART_CAUSES: [(PartCause, &str); 14] = [
 
 #[test]
 fn causes_of_parts(rt: HostRuntime) -> Result<(), Fail> {
-    for (cause, name) in PART_CAUSES {
+    for &(cause, name) in &PART_CAUSES {
         assert_line(
             &rt,
             &Status::BadPart { line: 7, cause },
@@ -92,7 +92,7 @@ const CASES: [(Case, &str); 34] = [
 
 #[test]
 fn cases_of_steps(rt: HostRuntime) -> Result<(), Fail> {
-    for (case, name) in CASES {
+    for &(case, name) in &CASES {
         let answer = Status::Refused {
             line: 12,
             step: 13,
@@ -103,74 +103,78 @@ fn cases_of_steps(rt: HostRuntime) -> Result<(), Fail> {
     Ok(())
 }
 
+const MACHINE_CAUSES: [(MachineCause, &str); 6] = [
+    (MachineCause::Byte, "Byte"),
+    (MachineCause::Header, "Header"),
+    (MachineCause::Key, "Key"),
+    (MachineCause::Twice, "Twice"),
+    (MachineCause::Value, "Value"),
+    (MachineCause::Missing, "Missing"),
+];
+
 #[test]
 fn causes_of_machines(rt: HostRuntime) -> Result<(), Fail> {
-    let table: [(MachineCause, &str); 6] = [
-        (MachineCause::Byte, "Byte"),
-        (MachineCause::Header, "Header"),
-        (MachineCause::Key, "Key"),
-        (MachineCause::Twice, "Twice"),
-        (MachineCause::Value, "Value"),
-        (MachineCause::Missing, "Missing"),
-    ];
-    for (cause, name) in table {
+    for &(cause, name) in &MACHINE_CAUSES {
         let answer = Status::BadMachine { line: 6, cause };
         assert_line(&rt, &answer, "BAD MACHINE LINE 6", name)?;
     }
     Ok(())
 }
 
+const CL_CAUSES: [(ClCause, &str); 7] = [
+    (ClCause::Header, "Header"),
+    (ClCause::Truncated, "Truncated"),
+    (ClCause::Length, "Length"),
+    (ClCause::Seq, "Seq"),
+    (ClCause::Class, "Class"),
+    (ClCause::Range, "Range"),
+    (ClCause::AfterFini, "AfterFini"),
+];
+
 #[test]
 fn causes_of_cl_files(rt: HostRuntime) -> Result<(), Fail> {
-    let table: [(ClCause, &str); 7] = [
-        (ClCause::Header, "Header"),
-        (ClCause::Truncated, "Truncated"),
-        (ClCause::Length, "Length"),
-        (ClCause::Seq, "Seq"),
-        (ClCause::Class, "Class"),
-        (ClCause::Range, "Range"),
-        (ClCause::AfterFini, "AfterFini"),
-    ];
-    for (cause, name) in table {
+    for &(cause, name) in &CL_CAUSES {
         assert_line(&rt, &Status::BadCl { at: 56, cause }, "BAD CL AT 56", name)?;
     }
     Ok(())
 }
 
+const TAPE_CAUSES: [(TapeCause, &str); 13] = [
+    (TapeCause::NoStart, "NoStart"),
+    (TapeCause::BadParity, "BadParity"),
+    (TapeCause::BadCode, "BadCode"),
+    (TapeCause::BadBlock, "BadBlock"),
+    (TapeCause::BadG, "BadG"),
+    (TapeCause::BadM, "BadM"),
+    (TapeCause::BadMix, "BadMix"),
+    (TapeCause::NoUnits, "NoUnits"),
+    (TapeCause::NoMode, "NoMode"),
+    (TapeCause::NoFeed, "NoFeed"),
+    (TapeCause::NoPosition, "NoPosition"),
+    (TapeCause::Truncated, "Truncated"),
+    (TapeCause::AfterEnd, "AfterEnd"),
+];
+
 #[test]
 fn causes_of_tapes(rt: HostRuntime) -> Result<(), Fail> {
-    let table: [(TapeCause, &str); 13] = [
-        (TapeCause::NoStart, "NoStart"),
-        (TapeCause::BadParity, "BadParity"),
-        (TapeCause::BadCode, "BadCode"),
-        (TapeCause::BadBlock, "BadBlock"),
-        (TapeCause::BadG, "BadG"),
-        (TapeCause::BadM, "BadM"),
-        (TapeCause::BadMix, "BadMix"),
-        (TapeCause::NoUnits, "NoUnits"),
-        (TapeCause::NoMode, "NoMode"),
-        (TapeCause::NoFeed, "NoFeed"),
-        (TapeCause::NoPosition, "NoPosition"),
-        (TapeCause::Truncated, "Truncated"),
-        (TapeCause::AfterEnd, "AfterEnd"),
-    ];
-    for (cause, name) in table {
+    for &(cause, name) in &TAPE_CAUSES {
         let answer = Status::BadTape { at: 73, cause };
         assert_line(&rt, &answer, "BAD TAPE AT 73", name)?;
     }
     Ok(())
 }
 
+const REASONS: [(Reason, &str); 5] = [
+    (Reason::Order, "Order"),
+    (Reason::Band, "Band"),
+    (Reason::Overrun, "Overrun"),
+    (Reason::Stop, "Stop"),
+    (Reason::Axis, "Axis"),
+];
+
 #[test]
 fn reasons_of_contours(rt: HostRuntime) -> Result<(), Fail> {
-    let table: [(Reason, &str); 5] = [
-        (Reason::Order, "Order"),
-        (Reason::Band, "Band"),
-        (Reason::Overrun, "Overrun"),
-        (Reason::Stop, "Stop"),
-        (Reason::Axis, "Axis"),
-    ];
-    for (reason, name) in table {
+    for &(reason, name) in &REASONS {
         let bad = Bad {
             motion: 2,
             segment: 3,
@@ -187,6 +191,56 @@ fn reasons_of_contours(rt: HostRuntime) -> Result<(), Fail> {
     Ok(())
 }
 
+const NUMBERS: [(u8, Status); 11] = [
+    (0, Status::Done(Summary::Decoded { acts: 1 })),
+    (1, Status::Usage),
+    (3, Status::ReadFault),
+    (
+        5,
+        Status::BadMachine {
+            line: 1,
+            cause: MachineCause::Header,
+        },
+    ),
+    (
+        6,
+        Status::BadPart {
+            line: 1,
+            cause: PartCause::NoPartno,
+        },
+    ),
+    (
+        7,
+        Status::Refused {
+            line: 1,
+            step: 1,
+            case: Case::Unknown,
+        },
+    ),
+    (
+        8,
+        Status::BadCl {
+            at: 0,
+            cause: ClCause::Header,
+        },
+    ),
+    (
+        9,
+        Status::BadTape {
+            at: 0,
+            cause: TapeCause::BadParity,
+        },
+    ),
+    (
+        10,
+        Status::NotCertified {
+            miss: Miss::Act { at: 1 },
+        },
+    ),
+    (11, Status::WriteFault),
+    (12, Status::NoMemory),
+];
+
 /// Some name of a file.
 fn some_name(rt: &impl AllocGlobal) -> Result<FileName, Fail> {
     Ok(FileName {
@@ -196,45 +250,15 @@ fn some_name(rt: &impl AllocGlobal) -> Result<FileName, Fail> {
 
 #[test]
 fn numbers_of_answers(rt: HostRuntime) -> Result<(), Fail> {
-    let answers = [
-        Status::Done(Summary::Decoded { acts: 1 }),
-        Status::Usage,
-        Status::Missing {
-            name: some_name(&rt)?,
-        },
-        Status::ReadFault,
-        Status::TooLong {
-            name: some_name(&rt)?,
-        },
-        Status::BadMachine {
-            line: 1,
-            cause: MachineCause::Header,
-        },
-        Status::BadPart {
-            line: 1,
-            cause: PartCause::NoPartno,
-        },
-        Status::Refused {
-            line: 1,
-            step: 1,
-            case: Case::Unknown,
-        },
-        Status::BadCl {
-            at: 0,
-            cause: ClCause::Header,
-        },
-        Status::BadTape {
-            at: 0,
-            cause: TapeCause::BadParity,
-        },
-        Status::NotCertified {
-            miss: Miss::Act { at: 1 },
-        },
-        Status::WriteFault,
-        Status::NoMemory,
-    ];
-    for (number, answer) in (0u8..).zip(&answers) {
-        assert_eq!(rt; answer.number(), number);
+    for (number, answer) in &NUMBERS {
+        assert_eq!(rt; answer.number(), *number);
     }
+    let missing = Status::Missing {
+        name: some_name(&rt)?,
+    };
+    let too_long = Status::TooLong {
+        name: some_name(&rt)?,
+    };
+    assert_eq!(rt; [missing.number(), too_long.number()], [2, 4]);
     Ok(())
 }

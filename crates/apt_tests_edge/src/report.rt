@@ -162,7 +162,7 @@ const ACTS: [(Act, &str); 14] = [
 
 #[test]
 fn lines_of_acts(rt: HostRuntime) -> Result<(), Fail> {
-    for (act, want) in ACTS {
+    for &(act, want) in &ACTS {
         assert_eq!(rt; act_lines(rt.alloc(), &[act])?.as_slice(), want.as_bytes());
     }
     let both = act_lines(rt.alloc(), &[Act::Tool(12), Act::End])?;

@@ -3,7 +3,7 @@ ghost use Rattle.apt_words.specs.declared.parts.Part.TheVariants.{Num};
 
 use apt_scalar::{Bound, Env, Frame, Kind, Value, bind, eval, grid_units, tenths, whole};
 use apt_words::{Case, Expr, Millionths, Node, Op, Part, Parts, Symbol, Units};
-use std::alloc::{AllocError, Global};
+use std::alloc::{AllocError, AllocGlobal, Global};
 use std::process::Abort;
 use std::test::Fail;
 
@@ -33,6 +33,16 @@ fn root(alloc: Global, v: i64) -> Result<Expr, AllocError> {
     Ok(Expr {
         node: Node::Parts(Box::new(alloc, Parts { items })?),
     })
+}
+
+/// The values of names, each bound behind those before it.
+fn env_of(rt: &(impl Abort + AllocGlobal), values: &[(&str, Value)]) -> Result<Env, Fail> {
+    let alloc = rt.alloc();
+    let mut env = Env::new(alloc);
+    for &(name, value) in values {
+        bind(alloc, &mut env, symbol(rt, name), value)?;
+    }
+    Ok(env)
 }
 
 fn no_parameters(alloc: Global) -> Frame {
@@ -93,9 +103,10 @@ const NAMES: [(&str, Result<i64, Case>, Result<i64, Case>); 3] = [
 #[test]
 fn names_stand_for_scalars(rt: HostRuntime) -> Result<(), Fail> {
     let alloc = rt.alloc();
-    let mut env = Env::new(alloc);
-    bind(alloc, &mut env, symbol(&rt, "A"), Value::Scalar(5))?;
-    bind(alloc, &mut env, symbol(&rt, "P"), Value::Shape(Kind::Point))?;
+    let env = env_of(
+        &rt,
+        &[("A", Value::Scalar(5)), ("P", Value::Shape(Kind::Point))],
+    )?;
     let mut frame = no_parameters(alloc);
     frame
         .bound
@@ -114,16 +125,25 @@ fn names_stand_for_scalars(rt: HostRuntime) -> Result<(), Fail> {
     Ok(())
 }
 
+const LATEST: [(&str, Option<Value>); 3] = [
+    ("A", Some(Value::Scalar(3))),
+    ("B", Some(Value::Scalar(2))),
+    ("C", None),
+];
+
 #[test]
 fn names_take_their_latest_value(rt: HostRuntime) -> Result<(), Fail> {
-    let alloc = rt.alloc();
-    let mut env = Env::new(alloc);
-    bind(alloc, &mut env, symbol(&rt, "A"), Value::Scalar(1))?;
-    bind(alloc, &mut env, symbol(&rt, "B"), Value::Scalar(2))?;
-    bind(alloc, &mut env, symbol(&rt, "A"), Value::Scalar(3))?;
-    assert!(rt; env.get(&symbol(&rt, "A")) == Some(Value::Scalar(3)));
-    assert!(rt; env.get(&symbol(&rt, "B")) == Some(Value::Scalar(2)));
-    assert!(rt; env.get(&symbol(&rt, "C")).is_none());
+    let env = env_of(
+        &rt,
+        &[
+            ("A", Value::Scalar(1)),
+            ("B", Value::Scalar(2)),
+            ("A", Value::Scalar(3)),
+        ],
+    )?;
+    for &(name, want) in &LATEST {
+        assert!(rt; env.get(&symbol(&rt, name)) == want);
+    }
     Ok(())
 }
 

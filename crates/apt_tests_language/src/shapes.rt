@@ -153,7 +153,10 @@ fn said_by(
     shape(alloc, &tokens, text)
 }
 
-fn labelled_printed(alloc: Global, said: &Labelled) -> Result<String, AllocError> {
+fn labelled_printed(alloc: Global, said: &Option<Labelled>) -> Result<String, AllocError> {
+    let Some(said) = said else {
+        return format!(in alloc; "None");
+    };
     let whole = body_printed(alloc, &said.body)?;
     match &said.label {
         Some(label) => format!(in alloc; "{}) {}", label.as_str(), whole.as_str()),
@@ -163,10 +166,8 @@ fn labelled_printed(alloc: Global, said: &Labelled) -> Result<String, AllocError
 
 /// What a statement says, printed.
 fn printed(alloc: Global, statement: &str, text: Option<Text>) -> Result<String, AllocError> {
-    match said_by(alloc, statement, text)? {
-        Some(said) => labelled_printed(alloc, &said),
-        None => format!(in alloc; "None"),
-    }
+    let said = said_by(alloc, statement, text)?;
+    labelled_printed(alloc, &said)
 }
 
 #[test]

@@ -32,3 +32,78 @@ fn steps_stop_at_the_first_refusal(rt: HostRuntime) -> Result<(), Fail> {
     }
     Ok(())
 }
+
+/// Each fault of unrolling, with the line of its statement and the number of its step.
+const FAULTS: [(&str, u32, u32, Case); 16] = [
+    (
+        "PARTNO\nLOOPST\nK=0\nI=0\nLA)I=I+1\nIF (I-99998) LA,LB,LB\nLB)LOOPND\nFINI\n",
+        7,
+        200_001,
+        Case::Budget,
+    ),
+    ("PARTNO\nEND\nSTOP\nFINI\n", 3, 3, Case::AfterEnd),
+    ("PARTNO\nJUMPTO/A\nA)FINI\n", 2, 2, Case::JumpOutside),
+    (
+        "PARTNO\nLOOPST\nIF(1)A,A,B\nA)LOOPND\nB)FINI\n",
+        3,
+        3,
+        Case::JumpOutside,
+    ),
+    ("PARTNO\nCALL/M\nFINI\n", 2, 2, Case::NoSuchMacro),
+    (
+        "PARTNO\nM=MACRO\nCALL/M\nTERMAC\nCALL/M\nFINI\n",
+        3,
+        10,
+        Case::Depth,
+    ),
+    (
+        "PARTNO\nM=MACRO\nTERMAC\nCALL/M,A=1\nFINI\n",
+        4,
+        2,
+        Case::BadArgs,
+    ),
+    (
+        "PARTNO\nM=MACRO/A\nTERMAC\nCALL/M,A=1,A=1\nFINI\n",
+        4,
+        2,
+        Case::BadArgs,
+    ),
+    (
+        "PARTNO\nM=MACRO/A\nTERMAC\nCALL/M\nFINI\n",
+        4,
+        2,
+        Case::BadArgs,
+    ),
+    (
+        "PARTNO\nM=MACRO/A\nA=1\nTERMAC\nCALL/M,A=1\nFINI\n",
+        3,
+        3,
+        Case::BadArgs,
+    ),
+    ("PARTNO\nA=B\nFINI\n", 2, 2, Case::Unknown),
+    (
+        "PARTNO\nM=MACRO/A\nTERMAC\nCALL/M,A=B\nFINI\n",
+        4,
+        2,
+        Case::Unknown,
+    ),
+    ("PARTNO\nA=1/0\nFINI\n", 2, 2, Case::DivideByZero),
+    ("PARTNO\nA=SQRTF(-1)\nFINI\n", 2, 2, Case::NegativeRoot),
+    ("PARTNO\nA=1000000*2\nFINI\n", 2, 2, Case::TooLarge),
+    (
+        "PARTNO\nL=LINE/0,0,1,0\nM=MACRO/A\nGO/TO,L,TO,A\nTERMAC\nCALL/M,A=1\nFINI\n",
+        4,
+        4,
+        Case::WrongKind,
+    ),
+];
+
+#[test]
+fn each_fault_of_unrolling_is_told(rt: HostRuntime) -> Result<(), Fail> {
+    for &(text, line, step, case) in &FAULTS {
+        let program = parse(rt.alloc(), text.as_bytes())?;
+        let fault = unroll(rt.alloc(), &program)?.fault;
+        assert_eq!(rt; fault, Some(Refusal { line, step, case }), "at {text}");
+    }
+    Ok(())
+}
