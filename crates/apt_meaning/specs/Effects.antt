@@ -26,7 +26,7 @@ use Rattle.apt_meaning.specs.declared.effect.Effect.{Effect}
 use Rattle.apt_meaning.specs.declared.effect.Effect.TheVariants as effects
 use Rattle.apt_meaning.specs.Situations.{radius_of, position_at, at_height}
 use Rattle.apt_meaning.specs.Motions.{motion_at}
-use Rattle.apt_meaning.specs.StartUps.{start_up_at, start_position}
+use Rattle.apt_meaning.specs.StartUps.{start_position_at}
 
 abbrev pub sets : Settings → Option Effect
 sets s = Some (effects.Sets s None)
@@ -68,10 +68,6 @@ as_position figures.Scalar = None
 abbrev pub place_in : Table → List ℕ → Option Position
 place_in table name = figure_named table name >>= as_position
 
-abbrev pub start_position_at : Situation → Stop → List ℕ → Option (Stop × List ℕ) → Option Position
-start_position_at at how_a a None = None
-start_position_at at how_a a (Some b) = start_up_at at how_a a b.0 b.1 >>= start_position
-
 -- ---- definitions
 
 abbrev pub names : List ℕ → Result Figure Case → Option Effect
@@ -93,7 +89,7 @@ spins s v turns.Cw = says s (notes.Spindl turns.Cw (whole v))
 spins s v turns.Ccw = says s (notes.Spindl turns.Ccw (whole v))
 spins s v turns.Off = None
 
--- ---- the table of statements; a GO on one surface, which the compiler does not have yet, asks for nothing that it knows
+-- ---- the table of statements
 
 abbrev pub effect_of : Situation → Deed → Option Effect
 effect_of at (deeds.Partno text) = says at.settings (notes.Partno text)
@@ -130,7 +126,7 @@ effect_of at (deeds.FromPoint p) = moves reaches.From (place_in at.table p)
 effect_of at (deeds.GotoXy x y z) = Some (effects.Moves reaches.Goto (position_by at.settings.units x y z))
 effect_of at (deeds.GotoPoint p) = moves reaches.Goto (place_in at.table p)
 effect_of at (deeds.Godlta x y z) = moves reaches.Godlta (moved_from at x y z)
-effect_of at (deeds.GoStart how_a a b) = moves reaches.Start (start_position_at at how_a a b)
+effect_of at (deeds.GoStart how name other) = moves reaches.Start (start_position_at at how name other)
 effect_of at (deeds.Contour side go drive how check) = cuts (motion_at at side go drive how check)
 effect_of at deeds.Rapid = says (record at.settings { rapid = true }) notes.Rapid
 effect_of at deeds.Halt = says at.settings notes.Stop

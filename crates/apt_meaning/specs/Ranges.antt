@@ -10,7 +10,6 @@ use Rattle.apt_defs.specs.Figures.{IsFigure, AreFigures}
 use Rattle.apt_meaning.specs.declared.situation.Settings.{Settings}
 use Rattle.apt_meaning.specs.declared.situation.Situation.{Situation}
 use Rattle.apt_meaning.specs.declared.motion.Motion.{Motion}
-use Rattle.apt_meaning.specs.declared.motion.StartUp.{StartUp}
 use Rattle.apt_meaning.specs.declared.effect.Effect.{Effect}
 use Rattle.apt_meaning.specs.declared.effect.Effect.TheVariants as effects
 
@@ -52,12 +51,6 @@ pub record IsMotion (m : Motion) : Type 0 where
   pub radius : IsRadius m.radius
   pub inner : IsAllowance m.inner
   pub outer : IsAllowance m.outer
-
-pub record IsStartUp (u : StartUp) : Type 0 where
-  pub start : IsPosition u.start
-  pub a : IsSurface u.a
-  pub b : IsSurface u.b
-  pub radius : IsRadius u.radius
 
 abbrev pub IsNoteOrNone : Option Note → Type 0
 IsNoteOrNone None = Unit {0}

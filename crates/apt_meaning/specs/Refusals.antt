@@ -1,5 +1,5 @@
 -- The manual's table: for each statement the conditions that refuse it, in order, and their cases.
-use Rattle.std.specs.Prelude.{ℕ, ℤ, pos, int_lt, int_le, ◌&&◌, not, Bool, true, false, is_some, is_none, List, [], ◌∷◌, Option, Some, None, Result, Ok, Err}
+use Rattle.std.specs.Prelude.{ℕ, ℤ, pos, int_lt, int_le, ◌&&◌, not, Bool, true, false, is_some, is_none, List, [], ◌∷◌, ◌++◌, Option, Some, None, Result, Ok, Err}
 use Rattle.apt_num.specs.declared.Sign.{Sign}
 use Rattle.apt_words.specs.declared.Case.{Case}
 use Rattle.apt_words.specs.declared.Case.TheVariants as cases
@@ -23,15 +23,16 @@ use Rattle.apt_offset.specs.Turns.{is_zero}
 use Rattle.apt_offset.specs.Targets.{lacks_room}
 use Rattle.apt_stop.specs.Nearness.{is_near, off_track}
 use Rattle.apt_stop.specs.Lines.{line_cases}
+use Rattle.apt_startup.specs.declared.StartUp.{StartUp}
+use Rattle.apt_startup.specs.StartUps.{start_up_cases}
 use Rattle.apt_cldata.specs.declared.record.Position.{Position}
 use Rattle.apt_meaning.specs.declared.situation.Settings.{Settings}
 use Rattle.apt_meaning.specs.declared.situation.Situation.{Situation}
 use Rattle.apt_meaning.specs.declared.motion.Motion.{Motion}
-use Rattle.apt_meaning.specs.declared.motion.StartUp.{StartUp}
 use Rattle.apt_meaning.specs.OnLines.{built, on_lines}
 use Rattle.apt_meaning.specs.Situations.{has_feed, lacks_feed, with_side}
 use Rattle.apt_meaning.specs.Motions.{motion, is_too_fine, as_surface, surface_in, line_in, turn_at, track_of, stop_of, starts_on_check, line_offset, stop_offset}
-use Rattle.apt_meaning.specs.StartUps.{start_up_at, start_up_cases}
+use Rattle.apt_meaning.specs.StartUps.{start_up_at}
 use Rattle.apt_meaning.specs.Effects.{as_position, position_by, moved_by}
 
 -- ---- numbers and names
@@ -114,14 +115,23 @@ abbrev pub start_cases : Option StartUp → List Row
 start_cases None = []
 start_cases (Some u) = start_up_cases u
 
--- GO: both names are there before either's kind is tried, and both are surfaces before either is built
-abbrev pub go_cases : Situation → Stop → List ℕ → Stop → List ℕ → List Row
-go_cases at how_a a how_b b =
+-- the names of GO, one or two
+abbrev pub start_names : List ℕ → Option (Stop × List ℕ) → List (List ℕ)
+start_names name None = name ∷ []
+start_names name (Some other) = name ∷ other.1 ∷ []
+
+-- what refuses one of some names, with one case
+abbrev pub each_name : (List ℕ → Bool) → Case → List (List ℕ) → List Row
+each_name P case [] = []
+each_name P case (n ∷ ns) = (P n, case) ∷ each_name P case ns
+
+-- GO: each name is there before the kind of one is tried
+abbrev pub go_cases : Situation → Stop → List ℕ → Option (Stop × List ℕ) → List Row
+go_cases at how name other =
     (is_none at.position, cases.NoFrom)
-    ∷ (is_undefined at.table a, cases.Undefined) ∷ (is_undefined at.table b, cases.Undefined)
-    ∷ (is_no_surface at.table a, cases.WrongKind) ∷ (is_no_surface at.table b, cases.WrongKind)
-    ∷ (is_not_built at.table a, cases.NotBuilt) ∷ (is_not_built at.table b, cases.NotBuilt)
-    ∷ (lacks_feed at.settings, cases.NoFeed) ∷ start_cases (start_up_at at how_a a how_b b)
+    ∷ each_name (is_undefined at.table) cases.Undefined (start_names name other)
+    ++ each_name (is_no_surface at.table) cases.WrongKind (start_names name other)
+    ++ (lacks_feed at.settings, cases.NoFeed) ∷ start_cases (start_up_at at how name other)
 
 -- ---- contours
 
@@ -165,13 +175,6 @@ contour_cases at side go drive how check =
 
 -- ---- the table of statements
 
-abbrev pub not_built : List Row
-not_built = (true, cases.NotBuilt) ∷ []
-
-abbrev pub start_up_or_not_built : Situation → Stop → List ℕ → Option (Stop × List ℕ) → List Row
-start_up_or_not_built at how_a a None = not_built
-start_up_or_not_built at how_a a (Some b) = go_cases at how_a a b.0 b.1
-
 abbrev pub godlta_cases : Situation → ℤ → ℤ → ℤ → List Row
 godlta_cases at x y z = (is_none at.position, cases.NoFrom) ∷ move_cases at.settings (at.position >>= λ p. Some (moved_by at.settings.units x y z p))
 
@@ -209,7 +212,7 @@ cases_of at (deeds.FromPoint p) = (is_some at.position, cases.FromAgain) ∷ poi
 cases_of at (deeds.GotoXy x y z) = move_cases at.settings (Some (position_by at.settings.units x y z))
 cases_of at (deeds.GotoPoint p) = point_cases at.table p ((lacks_feed at.settings, cases.NoFeed) ∷ [])
 cases_of at (deeds.Godlta x y z) = godlta_cases at x y z
-cases_of at (deeds.GoStart how_a a b) = start_up_or_not_built at how_a a b
+cases_of at (deeds.GoStart how name other) = go_cases at how name other
 cases_of at (deeds.Contour side go drive how check) = contour_cases at side go drive how check
 cases_of at deeds.Rapid = []
 cases_of at deeds.Halt = []

@@ -1,22 +1,15 @@
--- Contours run along lines to lines so far, and start-ups are on lines.
+-- Contours run along lines to lines so far.
 use Rattle.apt_certify.specs.Jobs.{IsStraight}
 use Rattle.apt_meaning.specs.declared.motion.Motion.{Motion}
-use Rattle.apt_meaning.specs.declared.motion.StartUp.{StartUp}
 use Rattle.apt_meaning.specs.declared.effect.Effect.{Effect}
 use Rattle.apt_meaning.specs.declared.effect.Effect.TheVariants as effects
-use Rattle.apt_meaning.specs.Ranges.{IsMotion, IsStartUp}
+use Rattle.apt_meaning.specs.Ranges.{IsMotion}
 
 -- a motion in range along a line to a line
 pub record IsStraightMotion (m : Motion) : Type 0 where
   pub motion : IsMotion m
   pub drive : IsStraight m.drive
   pub check : IsStraight m.check
-
--- a start-up in range on two lines
-pub record IsStraightStartUp (u : StartUp) : Type 0 where
-  pub start_up : IsStartUp u
-  pub a : IsStraight u.a
-  pub b : IsStraight u.b
 
 -- contours are straight
 abbrev pub IsLined : Effect → Type 0

@@ -1,6 +1,5 @@
 -- The statements that the compiler has so far; the other shapes of the language are refused as NotBuilt.
-use Rattle.std.specs.Prelude.{ℕ, Bool, true, false, is_some, IsTrue, List, [], ◌∷◌, Option}
-use Rattle.apt_words.specs.declared.Stop.{Stop}
+use Rattle.std.specs.Prelude.{Bool, true, false, IsTrue, List, [], ◌∷◌}
 use Rattle.apt_words.specs.declared.Turn.{Turn}
 use Rattle.apt_words.specs.declared.Turn.TheVariants as turns
 use Rattle.apt_words.specs.declared.body.Body.{Body}
@@ -9,10 +8,6 @@ use Rattle.apt_words.specs.declared.body.Stmt.{Stmt}
 use Rattle.apt_words.specs.declared.deed.Deed.{Deed}
 use Rattle.apt_words.specs.declared.deed.Deed.TheVariants as deeds
 use Rattle.apt_words.specs.declared.deed.Step.{Step}
-
--- GO takes two surfaces so far
-abbrev pub is_start_built : Option (Stop × List ℕ) → Bool
-is_start_built other = is_some other
 
 -- SPINDL with a number turns the spindle
 abbrev pub is_turning : Turn → Bool
@@ -55,7 +50,7 @@ is_built (bodies.FromPoint p) = true
 is_built (bodies.GotoXy x y z) = true
 is_built (bodies.GotoPoint p) = true
 is_built (bodies.Godlta x y z) = true
-is_built (bodies.GoStart q s other) = is_start_built other
+is_built (bodies.GoStart q s other) = true
 is_built (bodies.Contour side go drive q check) = true
 is_built bodies.Rapid = true
 is_built bodies.Halt = true
@@ -115,7 +110,7 @@ IsBuilt (deeds.FromPoint p) = Unit {0}
 IsBuilt (deeds.GotoXy x y z) = Unit {0}
 IsBuilt (deeds.GotoPoint p) = Unit {0}
 IsBuilt (deeds.Godlta x y z) = Unit {0}
-IsBuilt (deeds.GoStart q s other) = IsTrue (is_start_built other)
+IsBuilt (deeds.GoStart q s other) = Unit {0}
 IsBuilt (deeds.Contour side go drive q check) = Unit {0}
 IsBuilt deeds.Rapid = Unit {0}
 IsBuilt deeds.Halt = Unit {0}
