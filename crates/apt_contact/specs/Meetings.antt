@@ -1,8 +1,11 @@
 -- In how many points two targets meet, exactly: by signs and squares, without a root.
-use Rattle.std.specs.Prelude.{ℕ, nat_lt, nat_eq, ℤ, ◌+ℤ◌, ◌-ℤ◌, ◌||◌, if◌then◌else◌}
+use Rattle.std.specs.Prelude.{ℕ, nat_lt, nat_eq, ℤ, ◌+ℤ◌, ◌-ℤ◌, ◌||◌, Bool, true, false, List, [], ◌∷◌, if◌then◌else◌}
 use Rattle.apt_num.specs.declared.Sign.{Sign}
 use Rattle.apt_num.specs.declared.Sign.TheVariants as signs
 use Rattle.apt_num.specs.Sign.{square, root_sign_of}
+use Rattle.apt_words.specs.declared.Case.{Case}
+use Rattle.apt_words.specs.declared.Case.TheVariants as cases
+use Rattle.apt_words.specs.Rows.{Row}
 use Rattle.apt_plane.specs.declared.figures.Pt.{Pt}
 use Rattle.apt_plane.specs.declared.figures.Dir.{Dir}
 use Rattle.apt_plane.specs.declared.figures.Line.{Line}
@@ -52,3 +55,20 @@ meeting_of (targets.Line b d h) (targets.Line e f k) = of_lines (line_on b d) (l
 meeting_of (targets.Line b d h) (targets.Circ c r) = of_line_and_circle (line_on b d) h (circle_about c r)
 meeting_of (targets.Circ c r) (targets.Line b d h) = of_line_and_circle (line_on b d) h (circle_about c r)
 meeting_of (targets.Circ c r) (targets.Circ d q) = of_circles (circle_about c r) (circle_about d q)
+
+-- ---- what refuses two targets that do not meet
+
+abbrev pub is_parallel : Meeting → Bool
+is_parallel meetings.Parallel = true
+is_parallel meetings.Apart = false
+is_parallel meetings.One = false
+is_parallel meetings.Two = false
+
+abbrev pub is_apart : Meeting → Bool
+is_apart meetings.Parallel = false
+is_apart meetings.Apart = true
+is_apart meetings.One = false
+is_apart meetings.Two = false
+
+abbrev pub meeting_cases : Target → Target → List Row
+meeting_cases a b = (is_parallel (meeting_of a b), cases.Parallel) ∷ (is_apart (meeting_of a b), cases.NoContact) ∷ []

@@ -14,9 +14,7 @@ use Rattle.apt_offset.specs.declared.Target.{Target}
 use Rattle.apt_offset.specs.declared.Target.TheVariants as targets
 use Rattle.apt_offset.specs.Sides.{side_at_check, is_on_check}
 use Rattle.apt_offset.specs.Targets.{offset_surface, lacks_room}
-use Rattle.apt_contact.specs.declared.Meeting.{Meeting}
-use Rattle.apt_contact.specs.declared.Meeting.TheVariants as meetings
-use Rattle.apt_contact.specs.Meetings.{line_on, circle_about, meeting_of}
+use Rattle.apt_contact.specs.Meetings.{line_on, circle_about, meeting_cases}
 use Rattle.apt_contact.specs.Contacts.{contact_point}
 use Rattle.apt_startup.specs.declared.Goal.{Goal}
 use Rattle.apt_startup.specs.declared.StartUp.{StartUp}
@@ -70,22 +68,6 @@ abbrev pub start_point : StartUp → Pt
 start_point u = point_by u u.second
 
 -- ---- what refuses it
-
-abbrev pub is_parallel : Meeting → Bool
-is_parallel meetings.Parallel = true
-is_parallel meetings.Apart = false
-is_parallel meetings.One = false
-is_parallel meetings.Two = false
-
-abbrev pub is_apart : Meeting → Bool
-is_apart meetings.Parallel = false
-is_apart meetings.Apart = true
-is_apart meetings.One = false
-is_apart meetings.Two = false
-
--- two targets that do not meet
-abbrev pub meeting_cases : Target → Target → List Row
-meeting_cases a b = (is_parallel (meeting_of a b), cases.Parallel) ∷ (is_apart (meeting_of a b), cases.NoContact) ∷ []
 
 abbrev pub range_cases : Pt → List Row
 range_cases p = (not (is_in_range p), cases.OutOfRange) ∷ []

@@ -6,6 +6,7 @@ ghost use Rattle.apt_plane.specs.Ranges.{IsPoint};
 ghost use Rattle.apt_offset.specs.Ranges.{IsTarget};
 ghost use Rattle.apt_offset.specs.Targets as moving;
 ghost use Rattle.apt_contact.specs.Contacts.{IsNearTarget};
+ghost use Rattle.apt_contact.specs.Meetings as meetings;
 ghost use Rattle.apt_startup.specs.Nearest.{IsNearBoth, IsNearest};
 ghost use Rattle.apt_startup.specs.Ranges.{IsStartUp, IsGoal};
 ghost use Rattle.apt_startup.specs.StartUps as spec;
@@ -76,7 +77,7 @@ fn meeting_near(p: Pt, a: &Target, b: &Target) -> Result<Pt, Case>
     requires point { IsPoint p }
     requires first { IsTarget a.now }
     requires second { IsTarget b.now }
-    ensures value { result ≡ unless (spec.meeting_cases a.now b.now ++ spec.range_cases (spec.meeting_near p a.now b.now)) (spec.meeting_near p a.now b.now) }
+    ensures value { result ≡ unless (meetings.meeting_cases a.now b.now ++ spec.range_cases (spec.meeting_near p a.now b.now)) (spec.meeting_near p a.now b.now) }
     ensures range { IfOk result IsPoint }
     ensures on_first { IfOk result (IsNearTarget a.now (pos 1)) }
     ensures on_second { IfOk result (IsNearTarget b.now (pos 1)) }

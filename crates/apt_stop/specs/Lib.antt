@@ -1,4 +1,6 @@
 pub mod Nearness
-pub mod Lines
 pub mod Gaps
 pub mod Tangencies
+pub mod Courses
+pub mod Ends
+pub mod Ranges
