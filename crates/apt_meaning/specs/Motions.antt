@@ -1,5 +1,5 @@
 -- Contour motions: the parts of one at a situation, its leg, and where it stops.
-use Rattle.std.specs.Prelude.{ℤ, pos, int_lt, ◌&&◌, not, Bool, List, ℕ, Option, Some, None, if◌then◌else◌}
+use Rattle.std.specs.Prelude.{ℤ, pos, int_lt, ◌&&◌, ◌||◌, not, Bool, is_some, List, ℕ, Option, Some, None, if◌then◌else◌}
 use Rattle.apt_num.specs.declared.Sign.{Sign}
 use Rattle.apt_num.specs.declared.Sign.TheVariants as signs
 use Rattle.apt_words.specs.declared.Go.{Go}
@@ -9,7 +9,6 @@ use Rattle.apt_words.specs.declared.Stop.TheVariants as stops
 use Rattle.apt_words.specs.Options.{◌>>=◌}
 use Rattle.apt_plane.specs.declared.figures.Pt.{Pt}
 use Rattle.apt_plane.specs.declared.figures.Surface.{Surface}
-use Rattle.apt_canon.specs.Meeting.{meeting_point}
 use Rattle.apt_defs.specs.declared.figure.Figure.{Figure}
 use Rattle.apt_defs.specs.declared.figure.Figure.TheVariants as figures
 use Rattle.apt_defs.specs.Figures.{Table, figure_named}
@@ -17,15 +16,15 @@ use Rattle.apt_offset.specs.declared.Target.{Target}
 use Rattle.apt_offset.specs.Turns.{tangent, turn, is_zero}
 use Rattle.apt_offset.specs.Sides.{side_at_drive, side_at_check, is_on_check}
 use Rattle.apt_offset.specs.Targets.{signed, greater, offset_surface, lacks_room, band_at}
-use Rattle.apt_stop.specs.Nearness.{heading}
-use Rattle.apt_stop.specs.Lines.{line_side}
+use Rattle.apt_stop.specs.declared.course.Course.{Course}
+use Rattle.apt_stop.specs.Courses.{kept_side, axis_of, end_of}
 use Rattle.apt_certify.specs.declared.leg.Leg.{Leg}
 use Rattle.apt_certify.specs.Legs.{beyond_of}
 use Rattle.apt_cldata.specs.declared.record.Position.{Position}
 use Rattle.apt_meaning.specs.declared.situation.Settings.{Settings}
 use Rattle.apt_meaning.specs.declared.situation.Situation.{Situation}
 use Rattle.apt_meaning.specs.declared.motion.Motion.{Motion}
-use Rattle.apt_meaning.specs.OnLines.{built, on_lines}
+use Rattle.apt_meaning.specs.OnLines.{built}
 use Rattle.apt_meaning.specs.Situations.{with_side}
 
 -- ---- the parts of a motion
@@ -46,7 +45,7 @@ as_surface figures.Scalar = None
 abbrev pub surface_in : Table → List ℕ → Option Surface
 surface_in table name = figure_named table name >>= as_surface
 
--- the same, where it is built
+-- the same, where it is a line
 abbrev pub line_in : Table → List ℕ → Option Surface
 line_in table name = surface_in table name >>= built
 
@@ -82,34 +81,18 @@ stop_of m = offset_surface m.check (check_side m) m.radius
 abbrev pub starts_on_check : Motion → Bool
 starts_on_check m = is_on_check m.how (check_side m)
 
--- ---- sides and contacts
+-- ---- its course
 
-abbrev pub line_offset : Motion → ℤ
-line_offset m = signed (drive_side m) m.radius
+abbrev pub course_of : Motion → Course
+course_of m = record { start = m.start.at; drive = m.drive; track = track_of m; sense = m.sense; check = m.check; how = m.how; stop = stop_of m }
 
-abbrev pub stop_offset : Motion → ℤ
-stop_offset m = signed (check_side m) m.radius
-
--- the side of the stop on which the motion runs
-abbrev pub side_between : Motion → Surface → Surface → Sign
-side_between m drive check = on_lines signs.Zero drive check (λ d e. line_side m.start.at (heading m.sense d.dir) e (stop_offset m))
-
--- a motion that touches its check surface has no side
-abbrev pub side_of : Motion → Stop → Sign
-side_of m stops.To = side_between m m.drive m.check
-side_of m stops.On = side_between m m.drive m.check
-side_of m stops.Past = side_between m m.drive m.check
-side_of m stops.Tanto = signs.Zero
-
+-- the side of the stop on which it runs; a motion that touches its check surface has none
 abbrev pub stop_side : Motion → Sign
-stop_side m = side_of m m.how
+stop_side m = kept_side (course_of m)
 
--- where the motion meets its stop
-abbrev pub contact_between : Motion → Surface → Surface → Pt
-contact_between m drive check = on_lines m.start.at drive check (λ d e. meeting_point d (line_offset m) e (stop_offset m))
-
+-- where it ends
 abbrev pub contact : Motion → Pt
-contact m = contact_between m m.drive m.check
+contact m = end_of (course_of m)
 
 -- ---- the leg
 
@@ -122,15 +105,20 @@ leg_of m = record {
   stop_band = band_at m.check (check_side m) m.radius m.inner m.outer;
   beyond = beyond_of m.check (stop_side m);
   sense = m.sense;
-  axis = None;
+  axis = axis_of (course_of m);
 }
 
--- its track is there; its stop and the side on which it runs are there
+-- its track is there
 abbrev pub has_track : Motion → Bool
 has_track m = not (lacks_room (track_of m))
 
+-- a side on which it runs, or an axis on which it ends
+abbrev pub has_bound : Motion → Bool
+has_bound m = not (is_zero (stop_side m)) || is_some (axis_of (course_of m))
+
+-- its stop is there, and what bounds it
 abbrev pub has_stop : Motion → Bool
-has_stop m = not (starts_on_check m) && not (lacks_room (stop_of m)) && not (is_zero (stop_side m))
+has_stop m = not (starts_on_check m) && not (lacks_room (stop_of m)) && has_bound m
 
 abbrev pub is_defined : Motion → Bool
 is_defined m = has_track m && has_stop m
@@ -142,10 +130,10 @@ if_turned s start drive turned how check = if is_zero turned then None else Some
 abbrev pub turn_at : Situation → Position → Surface → Go → Sign
 turn_at at start drive go = turn at.forward (tangent drive start.at) go
 
--- the motion that a contour statement asks for, where its names stand for lines and its sense is there
+-- the motion that a contour statement asks for, where its names stand for a line and a surface and its sense is there
 unfoldable pub motion_at : Situation → Option Side → Go → List ℕ → Stop → List ℕ → Option Motion
 motion_at at side go drive how check = do
   start ← at.position
   drive ← line_in at.table drive
-  check ← line_in at.table check
+  check ← surface_in at.table check
   if_turned (with_side at.settings side) start drive (turn_at at start drive go) how check

@@ -6,7 +6,6 @@ use Rattle.apt_words.specs.declared.Case.TheVariants as cases
 use Rattle.apt_words.specs.declared.Go.{Go}
 use Rattle.apt_words.specs.declared.Side.{Side}
 use Rattle.apt_words.specs.declared.Stop.{Stop}
-use Rattle.apt_words.specs.declared.Stop.TheVariants as stops
 use Rattle.apt_words.specs.declared.deed.Deed.{Deed}
 use Rattle.apt_words.specs.declared.deed.Deed.TheVariants as deeds
 use Rattle.apt_words.specs.Built.{is_turning}
@@ -22,16 +21,16 @@ use Rattle.apt_defs.specs.Figures.{Table, figure_named}
 use Rattle.apt_offset.specs.Turns.{is_zero}
 use Rattle.apt_offset.specs.Targets.{lacks_room}
 use Rattle.apt_stop.specs.Nearness.{is_near, off_track}
-use Rattle.apt_stop.specs.Lines.{line_cases}
+use Rattle.apt_stop.specs.Courses.{course_cases}
 use Rattle.apt_startup.specs.declared.StartUp.{StartUp}
 use Rattle.apt_startup.specs.StartUps.{start_up_cases}
 use Rattle.apt_cldata.specs.declared.record.Position.{Position}
 use Rattle.apt_meaning.specs.declared.situation.Settings.{Settings}
 use Rattle.apt_meaning.specs.declared.situation.Situation.{Situation}
 use Rattle.apt_meaning.specs.declared.motion.Motion.{Motion}
-use Rattle.apt_meaning.specs.OnLines.{built, on_lines}
+use Rattle.apt_meaning.specs.OnLines.{built}
 use Rattle.apt_meaning.specs.Situations.{has_feed, lacks_feed, with_side}
-use Rattle.apt_meaning.specs.Motions.{motion, is_too_fine, as_surface, surface_in, line_in, turn_at, track_of, stop_of, starts_on_check, line_offset, stop_offset}
+use Rattle.apt_meaning.specs.Motions.{motion, is_too_fine, as_surface, surface_in, line_in, turn_at, track_of, stop_of, starts_on_check, course_of}
 use Rattle.apt_meaning.specs.StartUps.{start_up_at}
 use Rattle.apt_meaning.specs.Effects.{as_position, position_by, moved_by}
 
@@ -135,25 +134,14 @@ go_cases at how name other =
 
 -- ---- contours
 
-abbrev pub is_tanto : Stop → Bool
-is_tanto stops.To = false
-is_tanto stops.On = false
-is_tanto stops.Past = false
-is_tanto stops.Tanto = true
-
--- the stop of a motion on its track; no line touches a line
-abbrev pub stop_cases : Motion → Surface → Surface → List Row
-stop_cases m drive check =
-    on_lines [] drive check (λ d e. (is_tanto m.how, cases.Parallel) ∷ line_cases m.start.at d (line_offset m) m.sense e (stop_offset m))
-
 abbrev pub motion_cases : Motion → List Row
 motion_cases m =
     (lacks_room (track_of m), cases.NoRoom)
     ∷ (not (starts_on_check m) && lacks_room (stop_of m), cases.NoRoom)
     ∷ (not (is_near (track_of m) off_track m.start.at), cases.OffDrive)
-    ∷ (starts_on_check m, cases.OnCheck) ∷ stop_cases m m.drive m.check
+    ∷ (starts_on_check m, cases.OnCheck) ∷ course_cases (course_of m)
 
--- a contour on lines, whose drive surface runs so against forward
+-- a contour whose drive surface runs so against forward
 abbrev pub turned_cases : Settings → Position → Surface → Sign → Stop → Surface → List Row
 turned_cases s start drive turned how check =
     (s.rapid, cases.RapidContour) ∷ (not (has_feed s), cases.NoFeed) ∷ (is_too_fine s, cases.TooFine)
@@ -170,8 +158,8 @@ abbrev pub contour_cases : Situation → Option Side → Go → List ℕ → Sto
 contour_cases at side go drive how check =
     (is_none at.position, cases.NoFrom)
     ∷ name_cases at.table drive (name_cases at.table check
-    ((is_not_built at.table drive, cases.NotBuilt) ∷ (is_not_built at.table check, cases.NotBuilt)
-    ∷ surface_cases at side go how at.position (line_in at.table drive) (line_in at.table check)))
+    ((is_not_built at.table drive, cases.NotBuilt)
+    ∷ surface_cases at side go how at.position (line_in at.table drive) (surface_in at.table check)))
 
 -- ---- the table of statements
 

@@ -5,6 +5,7 @@ pub mod Lengths
 pub mod Frames
 pub mod Rounding
 pub mod RingLaws
+pub mod Weaker
 pub mod Turns
 pub mod Turned
 pub mod Around
