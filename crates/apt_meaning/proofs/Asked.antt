@@ -19,7 +19,7 @@ use Rattle.apt_scalar.specs.Scalars.{IsScalar, grid_units, tenths, whole}
 use Rattle.apt_plane.specs.declared.figures.Pt.{Pt}
 use Rattle.apt_plane.specs.declared.figures.Surface.{Surface}
 use Rattle.apt_plane.specs.declared.figures.Surface.TheVariants as surfaces
-use Rattle.apt_plane.specs.Ranges.{IsPoint}
+use Rattle.apt_plane.specs.Ranges.{IsPoint, IsSurface}
 use Rattle.apt_offset.specs.Turns.{is_zero}
 use Rattle.apt_certify.specs.Jobs.{IsStraight}
 use Rattle.apt_cldata.specs.Ranges.{IsPosition, IsNote}
@@ -44,7 +44,7 @@ use Rattle.apt_meaning.specs.declared.effect.Effect.{Effect}
 use Rattle.apt_meaning.specs.declared.effect.Effect.TheVariants as effects
 use Rattle.apt_meaning.specs.OnLines.{built}
 use Rattle.apt_meaning.specs.Situations.{radius_of, lacks_feed, with_side, at_height}
-use Rattle.apt_meaning.specs.Motions.{as_surface, line_in, turn_at, if_turned, motion, motion_at}
+use Rattle.apt_meaning.specs.Motions.{as_surface, surface_in, line_in, turn_at, if_turned, motion, motion_at}
 use Rattle.apt_meaning.specs.StartUps.{start_up_at, start_up_cases, start_point, start_position}
 use Rattle.apt_meaning.specs.Effects.{moves, cuts, as_position, names, defines as gives, defined, position_by, moved_by, start_position_at, spins, effect_of}
 use Rattle.apt_meaning.specs.Refusals.{is_other_kind, is_left_out, is_no_place, refused, refused_if_any, refused_definition, position_cases, move_cases, motion_cases, turned_cases, surface_cases, contour_cases, start_cases, go_cases, start_up_or_not_built, cases_of, refusal_of}
@@ -57,7 +57,7 @@ use Rattle.apt_meaning.specs.Vertices.{HasIn}
 use Rattle.apt_meaning.proofs.Refused.{first_none, none_first}
 use Rattle.apt_meaning.proofs.Legal.{motion_legal, motion_contact, motion_defined, start_up_point}
 use Rattle.apt_meaning.proofs.EffectRanges.{reach_in, up_to_in, tolerance_in, radius_in, feed_in, feed_note, whole_note, with_units, with_radius, with_intol, with_outtol, with_feed, with_rapid, with_ended, on_side, on_side_or_as_it_was, motion_is}
-use Rattle.apt_meaning.proofs.Straight.{line_straight, straight_surface}
+use Rattle.apt_meaning.proofs.Straight.{line_straight, named_surface, straight_surface}
 
 -- an effect in range, whose contour is legal where it runs to its contact
 pub record Asks (o : Option Effect) : Type 0 where
@@ -129,6 +129,12 @@ line_there (Some (figures.Shape (surfaces.Line l))) there kind done = refl
 line_there (Some (figures.Shape (surfaces.Circ c))) there kind done = absurd (true≢false done)
 line_there (Some figures.Scalar) there kind done = absurd (true≢false kind)
 
+surface_there : (o : Option Figure) → is_none o ≡ false → is_other_kind o ≡ false → is_none (o >>= as_surface) ≡ false
+surface_there None there kind = absurd (true≢false there)
+surface_there (Some (figures.Point at z)) there kind = absurd (true≢false kind)
+surface_there (Some (figures.Shape s)) there kind = refl
+surface_there (Some figures.Scalar) there kind = absurd (true≢false kind)
+
 -- ---- start-up
 
 started_there : (b : Bool) (to : Position) → b ≡ true → IsPosition to → Asks (moves reaches.Start (cond b (Some to) None))
@@ -176,16 +182,16 @@ unless_asks true o e asks = absurd (true≢false e)
 unless_asks false o e asks = asks
 
 turned_asks : (s : Settings) (start : Position) (drive : Surface) (turned : Sign) (how : Stop) (check : Surface)
-    → AreSettings s → IsPosition start → IsStraight drive → IsStraight check
+    → AreSettings s → IsPosition start → IsStraight drive → IsSurface check
     → NoneHolds (turned_cases s start drive turned how check) → Asks (cuts (if_turned s start drive turned how check))
 turned_asks s start drive turned how check is from d c none =
     let turns = none.1.1.1 in
     let m = motion s start drive turned how check in
-    let good : IsStraightMotion m = record { motion = motion_is s start drive turned how check is from (straight_surface drive d) (straight_surface check c) turns.0; drive = d; check = c } in
+    let good : IsStraightMotion m = record { motion = motion_is s start drive turned how check is from (straight_surface drive d) c turns.0; drive = d } in
     unless_asks (is_zero turned) (Some m) turns.0 (cuts_on m good turns.1)
 
 surfaces_ask : (at : Situation) (side : Option Side) (go : Go) (how : Stop) (p : Option Position) (d c : Option Surface)
-    → AreSettings at.settings → IsPositionOrNone p → IfSome d IsStraight → IfSome c IsStraight
+    → AreSettings at.settings → IsPositionOrNone p → IfSome d IsStraight → IfSome c IsSurface
     → is_none p ≡ false → is_none d ≡ false → is_none c ≡ false → NoneHolds (surface_cases at side go how p d c)
     → Asks (cuts (p >>= λ start. d >>= λ drive. c >>= λ check. if_turned (with_side at.settings side) start drive (turn_at at start drive go) how check))
 surfaces_ask at side go how None d c is is_p is_d is_c e f g none = absurd (true≢false e)
@@ -201,9 +207,9 @@ contour_asks at side go drive how check is none =
     let d = none.1 in
     let c = d.1.1 in
     let built = c.1.1 in
-    surfaces_ask at side go how at.position (line_in at.table drive) (line_in at.table check) is.settings is.position
-    (line_straight at.table drive is.table) (line_straight at.table check is.table)
-    none.0 (line_there (figure_named at.table drive) d.0 d.1.0 built.0) (line_there (figure_named at.table check) c.0 c.1.0 built.1.0) built.1.1
+    surfaces_ask at side go how at.position (line_in at.table drive) (surface_in at.table check) is.settings is.position
+    (line_straight at.table drive is.table) (named_surface at.table check is.table)
+    none.0 (line_there (figure_named at.table drive) d.0 d.1.0 built.0) (surface_there (figure_named at.table check) c.0 c.1.0) built.1
 
 spindle_asks : (s : Settings) (v : ℤ) (turn : Turn) → AreSettings s → IsScalar v → not (is_turning turn) ≡ false → int_lt (whole v) (pos 1) ≡ false → Asks (spins s v turn)
 spindle_asks s v turns.Cw is number turning least = says s (notes.Spindl turns.Cw (whole v)) is (whole_note v number least)

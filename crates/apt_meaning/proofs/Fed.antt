@@ -21,7 +21,7 @@ use Rattle.apt_meaning.specs.declared.motion.Motion.{Motion}
 use Rattle.apt_meaning.specs.declared.effect.Effect.{Effect}
 use Rattle.apt_meaning.specs.declared.effect.Effect.TheVariants as effects
 use Rattle.apt_meaning.specs.Situations.{has_feed, lacks_feed, with_side}
-use Rattle.apt_meaning.specs.Motions.{line_in, turn_at, if_turned, motion_at}
+use Rattle.apt_meaning.specs.Motions.{surface_in, line_in, turn_at, if_turned, motion_at}
 use Rattle.apt_meaning.specs.Effects.{moves, cuts, place_in, names, defines, defined, position_by, moved_from, start_position_at, effect_of}
 use Rattle.apt_meaning.specs.Refusals.{move_cases, surface_cases, start_up_or_not_built, cases_of}
 use Rattle.apt_meaning.proofs.Said.{of_some, either_turn}
@@ -123,7 +123,7 @@ all_fed at (deeds.GotoXy x y z) none = moves_fed at.settings reaches.Goto (Some 
 all_fed at (deeds.GotoPoint p) none = point_fed at.settings reaches.Goto (place_in at.table p) none.1.1.0
 all_fed at (deeds.Godlta x y z) none = moves_fed at.settings reaches.Godlta (moved_from at x y z) none.1
 all_fed at (deeds.GoStart how_a a b) none = go_fed at how_a a b none
-all_fed at (deeds.Contour side go drive how check) none = surfaces_fed at side go how at.position (line_in at.table drive) (line_in at.table check) none.1.1.1.1.1.1.1
+all_fed at (deeds.Contour side go drive how check) none = surfaces_fed at side go how at.position (line_in at.table drive) (surface_in at.table check) none.1.1.1.1.1.1
 all_fed at deeds.Rapid none = tt
 all_fed at deeds.Halt none = tt
 all_fed at deeds.OptHalt none = tt

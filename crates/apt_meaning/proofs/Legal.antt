@@ -1,225 +1,204 @@
--- A contour that no case refuses is legal, its contact is a point, and all that it asks for is there.
-use Rattle.std.proofs.Common.{◌≡◌, ◌∙◌, ℕ, refl, ap, sym, ◌^◌, ◌≤◌, ℤ, pos, unsigned_abs, Bool, true, false, not, [], ◌∷◌, arith, subst, if◌then◌else◌}
-use Rattle.std.specs.Prelude.{◌&&◌}
+-- A contour along a line that no case refuses is legal, its contact is a point, and all that it asks for is there.
+use Rattle.std.proofs.Common.{◌≡◌, refl, sym, ap, ◌∙◌, ℤ, pos, ◌+ℤ◌, ◌*ℤ◌, Bool, true, false, not, [], ◌∷◌, Option, Some, None, is_some, arith}
+use Rattle.std.specs.Prelude.{◌&&◌, ◌||◌}
 use Rattle.std.proofs.lemmas.Int.{ints}
 use Rattle.std.proofs.lemmas.Bool.{true≢false, not-false}
 use Rattle.apt_num.specs.declared.Sign.{Sign}
 use Rattle.apt_num.specs.declared.Sign.TheVariants as signs
-use Rattle.apt_num.specs.Sign.{sign_of}
-use Rattle.apt_words.specs.declared.Stop.{Stop}
+use Rattle.apt_num.proofs.Ring.{as_diff, diff-same, differences}
 use Rattle.apt_words.specs.declared.Stop.TheVariants as stops
 use Rattle.apt_words.specs.Rows.{NoneHolds}
 use Rattle.apt_plane.specs.declared.figures.Pt.{Pt}
+use Rattle.apt_plane.specs.declared.figures.Dir.{Dir}
 use Rattle.apt_plane.specs.declared.figures.Line.{Line}
+use Rattle.apt_plane.specs.declared.figures.Band.{Band}
+use Rattle.apt_plane.specs.declared.figures.Axis.{Axis}
 use Rattle.apt_plane.specs.declared.figures.Surface.{Surface}
 use Rattle.apt_plane.specs.declared.figures.Surface.TheVariants as surfaces
 use Rattle.apt_plane.specs.Ranges.{IsPoint}
-use Rattle.apt_plane.specs.Vectors.{displacement, cross, length_squared}
-use Rattle.apt_plane.specs.Distances.{EveryPoint}
-use Rattle.apt_canon.proofs.MeetingLaws.{meeting_point-near}
-use Rattle.apt_offset.specs.Ranges.{IsRadius}
-use Rattle.apt_offset.specs.Turns.{opposite, is_zero}
-use Rattle.apt_offset.specs.Targets.{signed, lacks_room}
-use Rattle.apt_stop.specs.Nearness.{is_near, heading, off_track, near_stop, side_of as side_of_target}
+use Rattle.apt_plane.specs.Vectors.{scaled, displacement, dot}
+use Rattle.apt_plane.specs.Distances.{InBand, EveryPoint}
+use Rattle.apt_plane.proofs.SegmentLaws.{in_band-between}
+use Rattle.apt_offset.specs.Edges as edges
+use Rattle.apt_offset.specs.Edges.{widened}
+use Rattle.apt_offset.specs.Sides.{side_at_tangency}
+use Rattle.apt_offset.specs.Turns.{is_zero}
+use Rattle.apt_offset.specs.Targets.{signed, lacks_room, band_at}
+use Rattle.apt_stop.specs.declared.course.Course.{Course}
+use Rattle.apt_stop.specs.Nearness.{is_near, heading, off_track}
+use Rattle.apt_stop.specs.Courses.{is_tanto, kept_side, axis_of, end_of, course_cases}
+use Rattle.apt_stop.specs.Ends.{IsOnAxisOf, EndsOnLine}
+use Rattle.apt_stop.specs.Ranges.{IsCourse}
 use Rattle.apt_stop.proofs.NearLaws.{near-OnLine}
-use Rattle.apt_stop.proofs.Cases.{inside_point}
+use Rattle.apt_stop.proofs.Chosen.{bound_there, end_is_point}
+use Rattle.apt_stop.proofs.Ended.{course_ends}
 use Rattle.apt_certify.specs.declared.leg.Leg.{Leg}
 use Rattle.apt_certify.specs.Jobs.{IsStraight}
-use Rattle.apt_certify.specs.Legs.{beyond_of, IsBounded, IsWithinEdge, IsLegal}
+use Rattle.apt_certify.specs.Legs.{beyond_of, IsBounded, IsWithinEdge, IsOnAxisOrNone, IsLegal}
 use Rattle.apt_meaning.specs.declared.motion.Motion.{Motion}
-use Rattle.apt_meaning.specs.declared.motion.StartUp.{StartUp}
-use Rattle.apt_meaning.specs.Motions.{stop_of, drive_side, check_side, line_offset, stop_offset, starts_on_check, side_between, side_of, stop_side, contact, leg_of, has_track, is_defined}
-use Rattle.apt_meaning.specs.StartUps.{start_point, meeting_cases, start_up_cases}
-use Rattle.apt_meaning.specs.Refusals.{motion_cases, is_tanto}
+use Rattle.apt_meaning.specs.Motions.{track_of, stop_of, drive_side, check_side, starts_on_check, course_of, stop_side, contact, leg_of, has_track, has_bound, is_defined}
+use Rattle.apt_meaning.specs.Refusals.{motion_cases}
 use Rattle.apt_meaning.specs.Ranges.{IsMotion}
 use Rattle.apt_meaning.specs.Records.{IsLegalCut}
 use Rattle.apt_meaning.specs.Straight.{IsStraightMotion}
-use Rattle.apt_plane.proofs.SegmentLaws.{in_band-between}
-use Rattle.apt_meaning.proofs.Bands.{HasRoom, band_at-HasRoom, near_in_band}
-use Rattle.apt_meaning.proofs.Starts.{IsFar, far_on_side}
-use Rattle.apt_meaning.proofs.Leads.{Leads, runs_in_sense}
-use Rattle.apt_meaning.proofs.Edges.{stays_before}
-use Rattle.apt_meaning.proofs.LineLegs.{straight, IsUnrefused, unrefused}
+use Rattle.apt_meaning.proofs.Bands.{near_surface}
+use Rattle.apt_meaning.proofs.Edges.{kept_before}
 
--- ---- the side of the stop on which a motion runs
+-- ---- its course is in range
 
--- the side of the start against the stop
-abbrev from_side : Motion → Sign
-from_side m = side_of_target (stop_of m) m.start.at
+touching_at : (m : Motion) → m.how ≡ stops.Tanto → check_side m ≡ side_at_tangency m.drive m.check (drive_side m)
+touching_at m e = rw e refl
 
--- a start that is not near a stop is on its side
-else_side : (b : Bool) (near side : Sign) → b ≡ false → (if b then near else side) ≡ side
-else_side false near side e = refl
-else_side true near side e = absurd (true≢false e)
+second_false : (on lacks : Bool) → on ≡ false → (not on && lacks) ≡ false → lacks ≡ false
+second_false false lacks e f = f
+second_false true lacks e f = absurd (true≢false e)
 
--- a motion that does not touch its check surface has a side
-side_of-between : (m : Motion) (how : Stop) → is_tanto how ≡ false → side_of m how ≡ side_between m m.drive m.check
-side_of-between m stops.To e = refl
-side_of-between m stops.On e = refl
-side_of-between m stops.Past e = refl
-side_of-between m stops.Tanto e = absurd (true≢false e)
+stop_room : (m : Motion) → NoneHolds (motion_cases m) → lacks_room (stop_of m) ≡ false
+stop_room m none = second_false (starts_on_check m) (lacks_room (stop_of m)) none.1.1.1.0 none.1.0
 
-stop_side-from : (m : Motion) (d e : Line) → IsUnrefused (straight m d e) d e → stop_side (straight m d e) ≡ from_side (straight m d e)
-stop_side-from m d e fine =
-    side_of-between (straight m d e) m.how fine.crosses_at
-    ∙ else_side (is_near (stop_of (straight m d e)) near_stop m.start.at) (sign_of (cross e.dir (heading m.sense d.dir))) (from_side (straight m d e)) fine.far
+pub course_in_range : (m : Motion) → IsMotion m → lacks_room (track_of m) ≡ false → lacks_room (stop_of m) ≡ false → is_near (track_of m) off_track m.start.at ≡ true → IsCourse (course_of m)
+course_in_range m is track stop near = record {
+  start = is.start.at;
+  drive = is.drive;
+  sense = is.sense;
+  check = is.check;
+  moved = record {
+    at_drive = drive_side m;
+    at_check = check_side m;
+    radius = m.radius;
+    cutter = is.radius;
+    track = refl;
+    stop = refl;
+    touching = touching_at m;
+  };
+  track_room = track;
+  stop_room = stop;
+  near = near;
+}
 
-start_far : (m : Motion) (d e : Line) → IsUnrefused (straight m d e) d e
-    → IsFar (from_side (straight m d e)) (cross e.dir (displacement e.base m.start.at)) (stop_offset (straight m d e)) (length_squared e.dir)
-start_far m d e fine =
-    far_on_side (from_side (straight m d e)) (cross e.dir (displacement e.base m.start.at)) (stop_offset (straight m d e)) (length_squared e.dir) refl fine.far
+course_is : (m : Motion) → IsMotion m → NoneHolds (motion_cases m) → IsCourse (course_of m)
+course_is m is none = course_in_range m is none.0 (stop_room m none) (not-false _ none.1.1.0)
 
-far_not_zero : (side : Sign) (k h : ℤ) (n : ℕ) → IsFar side k h n → is_zero side ≡ false
-far_not_zero signs.Plus k h n far = refl
-far_not_zero signs.Minus k h n far = refl
-far_not_zero signs.Zero k h n far = absurd far
+-- ---- it is bounded
 
-opposite_not_zero : (side : Sign) → is_zero side ≡ false → is_zero (opposite side) ≡ false
-opposite_not_zero signs.Plus d = refl
-opposite_not_zero signs.Minus d = refl
-opposite_not_zero signs.Zero d = absurd (true≢false d)
+edge_bounded : (leg : Leg) (edge : Sign) (axis : Option Axis) → leg.beyond ≡ edge → leg.axis ≡ axis → (not (is_zero edge) || is_some axis) ≡ true → IsBounded leg
+edge_bounded leg signs.Plus axis e f h = rw e tt
+edge_bounded leg signs.Minus axis e f h = rw e tt
+edge_bounded leg signs.Zero (Some a) e f h = rw (e, f) tt
+edge_bounded leg signs.Zero None e f h = absurd (true≢false (sym h))
 
-edge_bounded : (leg : Leg) (edge : Sign) → leg.beyond ≡ edge → is_zero edge ≡ false → IsBounded leg
-edge_bounded leg signs.Plus e d = rw e tt
-edge_bounded leg signs.Minus e d = rw e tt
-edge_bounded leg signs.Zero e d = absurd (true≢false d)
+beyond_is_zero : (check : Surface) (side : Sign) → is_zero (beyond_of check side) ≡ is_zero side
+beyond_is_zero (surfaces.Line l) signs.Plus = refl
+beyond_is_zero (surfaces.Line l) signs.Zero = refl
+beyond_is_zero (surfaces.Line l) signs.Minus = refl
+beyond_is_zero (surfaces.Circ c) side = refl
 
-bounded_by : (leg : Leg) (side : Sign) → leg.beyond ≡ opposite side → is_zero side ≡ false → IsBounded leg
-bounded_by leg side e d = edge_bounded leg (opposite side) e (opposite_not_zero side d)
+leg_bounded : (m : Motion) → has_bound m ≡ true → IsBounded (leg_of m)
+leg_bounded m there =
+    edge_bounded (leg_of m) (beyond_of m.check (stop_side m)) (axis_of (course_of m)) refl refl
+    (ap (λ b. not b || is_some (axis_of (course_of m))) (beyond_is_zero m.check (stop_side m)) ∙ there)
 
--- ---- what leads to a stop is a legal leg
+-- ---- its tests hold
 
-signed_small : (v : Sign) (r : ℤ) → IsRadius r → unsigned_abs (signed v r) ≤ 10 ^ 8
-signed_small signs.Plus r h = omega (arith, ints, h.least, h.most)
-signed_small signs.Minus r h = omega (arith, ints, h.least, h.most)
-signed_small signs.Zero r h = omega (arith, ints)
+heading_dot : (sense : ℤ) (d u : Dir) → dot (heading sense d) u ≡ sense *ℤ dot d u
+heading_dot sense d u = ring sense d.dx d.dy u.dx u.dy
+  where
+    ring : (s dx dy ux uy : ℤ) → ((s *ℤ dx) *ℤ ux) +ℤ ((s *ℤ dy) *ℤ uy) ≡ s *ℤ ((dx *ℤ ux) +ℤ (dy *ℤ uy))
+    ring s dx dy ux uy = rw (as_diff s, as_diff dx, as_diff dy, as_diff ux, as_diff uy) (simp differences (diff-same _ _ _ _ (omega arith)))
 
--- a motion that nothing refuses leads to its stop
-unrefused_leads : (m : Motion) (d e : Line) → IsMotion (straight m d e) → IsUnrefused (straight m d e) d e
-    → Leads d e (line_offset (straight m d e)) (stop_offset (straight m d e)) m.sense (from_side (straight m d e)) m.start.at (contact (straight m d e))
-unrefused_leads m d e is fine =
-    let f = line_offset (straight m d e) in
-    let g = stop_offset (straight m d e) in
-    let on = meeting_point-near d e f g is.drive is.check (signed_small (drive_side (straight m d e)) m.radius is.radius) (signed_small (check_side (straight m d e)) m.radius is.radius) fine.crosses in record {
-      drive = is.drive.dir.length;
-      check = is.check.dir.length;
-      turn = is.sense;
-      start = near-OnLine d f off_track m.start.at fine.near;
-      track = on.0;
-      stop = on.1;
-      far = start_far m d e fine;
-      crosses = fine.crossed;
-      ahead = fine.ahead;
+-- where there is no side there is no edge
+no_edge : (check : Surface) (band : Band) (side : Sign) (p q : Pt) → side ≡ signs.Zero → EveryPoint p q (edges.IsWithinEdge check band (beyond_of check side))
+no_edge (surfaces.Line l) band side p q e = rw e (λ j k h. tt)
+no_edge (surfaces.Circ c) band side p q e = rw e (λ j k h. tt)
+
+no_side : (c : Course) → is_tanto c.how ≡ true → kept_side c ≡ signs.Zero
+no_side c e = rw e refl
+
+no_axis : (c : Course) → is_tanto c.how ≡ false → axis_of c ≡ None
+no_axis c e = rw e refl
+
+on_axis : (axis : Option Axis) (q : Pt) → IsOnAxisOf axis q → IsOnAxisOrNone axis q
+on_axis (Some axis) q on = on
+on_axis None q on = absurd on
+
+-- a motion along a line
+abbrev along : Motion → Line → Motion
+along m d = record m { drive = surfaces.Line d }
+
+-- how it ends, by whether it touches
+pub record EndsAtStop (m : Motion) (q : Pt) : Type 0 where
+  pub before : EveryPoint m.start.at q (edges.IsWithinEdge m.check (widened (leg_of m).stop_band (pos 0)) (leg_of m).beyond)
+  pub stop : InBand m.check (leg_of m).stop_band (scaled q)
+  pub axis : IsOnAxisOrNone (leg_of m).axis q
+
+meets : (m : Motion) (d : Line) (q : Pt) → IsMotion m → is_tanto m.how ≡ false → EndsOnLine (course_of m) d.dir q → EndsAtStop m q
+meets m d q is meeting ends =
+    let at_stop = ends.meets meeting in record {
+      before = kept_before m.check (check_side m) (stop_side m) m.radius m.inner m.outer m.start.at q is.inner.least is.outer.least at_stop.kept;
+      stop = near_surface m.check (check_side m) m.radius m.inner m.outer (pos 1) q is.inner.least is.outer.least (omega (arith, ints)) at_stop.stop;
+      axis = rw (no_axis (course_of m) meeting) tt;
     }
 
-drive_room : (m : Motion) (d e : Line) → IsMotion (straight m d e) → HasRoom (leg_of (straight m d e)).band (line_offset (straight m d e))
-drive_room m d e is = band_at-HasRoom d (drive_side (straight m d e)) m.radius m.inner m.outer is.inner.least is.outer.least
-
-stop_room : (m : Motion) (d e : Line) → IsMotion (straight m d e) → HasRoom (leg_of (straight m d e)).stop_band (stop_offset (straight m d e))
-stop_room m d e is = band_at-HasRoom e (check_side (straight m d e)) m.radius m.inner m.outer is.inner.least is.outer.least
-
-leads_legal : (m : Motion) (d e : Line) (x : Pt) → IsMotion (straight m d e)
-    → Leads d e (line_offset (straight m d e)) (stop_offset (straight m d e)) m.sense (from_side (straight m d e)) m.start.at x
-    → stop_side (straight m d e) ≡ from_side (straight m d e)
-    → IsLegal (leg_of (straight m d e)) m.start.at (x ∷ [])
-leads_legal m d e x is leads side =
-    let leg = leg_of (straight m d e) in
-    let start = m.start.at in
-    let onwards = runs_in_sense d e (line_offset (straight m d e)) (stop_offset (straight m d e)) m.sense (from_side (straight m d e)) start x leads in
-    let before = stays_before m d e x (from_side (straight m d e)) (stop_room m d e is) leads.far leads.stop in
-    let band = in_band-between d leg.band start x
-    (near_in_band d leg.band (line_offset (straight m d e)) (pos 3) start (drive_room m d e is) (omega (arith, ints)) leads.start)
-    (near_in_band d leg.band (line_offset (straight m d e)) (pos 1) x (drive_room m d e is) (omega (arith, ints)) leads.track) in
-    let stop = near_in_band e leg.stop_band (stop_offset (straight m d e)) (pos 1) x (stop_room m d e is) (omega (arith, ints)) leads.stop in record {
-      moves = tt;
-      hold = (onwards, (band, (subst (λ k. EveryPoint start x (IsWithinEdge leg (opposite k))) (sym side) before, (stop, (tt, tt)))));
+touches : (m : Motion) (d : Line) (q : Pt) → IsMotion m → is_tanto m.how ≡ true → EndsOnLine (course_of m) d.dir q → EndsAtStop m q
+touches m d q is touching ends =
+    let at_stop = ends.touches touching in record {
+      before = no_edge m.check (widened (leg_of m).stop_band (pos 0)) (stop_side m) m.start.at q (no_side (course_of m) touching);
+      stop = near_surface m.check (check_side m) m.radius m.inner m.outer (pos 4) q is.inner.least is.outer.least (omega (arith, ints)) at_stop.stop;
+      axis = on_axis (axis_of (course_of m)) q at_stop.axis;
     }
 
--- ---- of every motion along a line to a line
+ends_at_stop : (m : Motion) (d : Line) (q : Pt) (tanto : Bool) → is_tanto m.how ≡ tanto → IsMotion m → EndsOnLine (course_of m) d.dir q → EndsAtStop m q
+ends_at_stop m d q false e is ends = meets m d q is e ends
+ends_at_stop m d q true e is ends = touches m d q is e ends
 
-straight_legal : (m : Motion) (d e : Line) → IsMotion (straight m d e) → NoneHolds (motion_cases (straight m d e))
-    → IsLegalCut (straight m d e) (contact (straight m d e) ∷ [])
-straight_legal m d e is none =
-    let fine = unrefused m d e none in
-    let side = stop_side-from m d e fine in record {
-      bounded = bounded_by (leg_of (straight m d e)) (from_side (straight m d e)) (ap opposite side)
-          (far_not_zero (from_side (straight m d e)) (cross e.dir (displacement e.base m.start.at)) (stop_offset (straight m d e)) (length_squared e.dir) (start_far m d e fine));
-      legal = leads_legal m d e (contact (straight m d e)) is (unrefused_leads m d e is fine) side;
+line_legal : (m : Motion) (d : Line) → IsMotion (along m d) → NoneHolds (motion_cases (along m d)) → IsLegalCut (along m d) (contact (along m d) ∷ [])
+line_legal m d is none =
+    let course = course_is (along m d) is none in
+    let ends : EndsOnLine (course_of (along m d)) d.dir (contact (along m d)) = course_ends (course_of (along m d)) course none.1.1.1.1 in
+    let start = near-OnLine d (signed (drive_side (along m d)) m.radius) off_track m.start.at (not-false _ none.1.1.0) in
+    let band = (leg_of (along m d)).band in
+    let at_start = near_surface (surfaces.Line d) (drive_side (along m d)) m.radius m.inner m.outer (pos 3) m.start.at is.inner.least is.outer.least (omega (arith, ints)) start in
+    let at_end = near_surface (surfaces.Line d) (drive_side (along m d)) m.radius m.inner m.outer (pos 1) (contact (along m d)) is.inner.least is.outer.least (omega (arith, ints)) ends.track in
+    let stop = ends_at_stop (along m d) d (contact (along m d)) (is_tanto m.how) refl is ends in record {
+      bounded = leg_bounded (along m d) (bound_there (course_of (along m d)) course none.1.1.1.1);
+      legal = record {
+        moves = tt;
+        hold = (rw (← heading_dot m.sense d.dir (displacement m.start.at (contact (along m d)))) ends.ahead, (in_band-between d band m.start.at (contact (along m d)) at_start at_end, (stop.before, (stop.stop, (stop.axis, tt)))));
+      };
     }
 
-all_there : (on_check no_side : Bool) → on_check ≡ false → no_side ≡ false → (true && not on_check && true && not no_side) ≡ true
-all_there false false e f = refl
-all_there true no_side e f = absurd (true≢false e)
-all_there false true e f = absurd (true≢false f)
-
-straight_defined : (m : Motion) (d e : Line) → NoneHolds (motion_cases (straight m d e)) → is_defined (straight m d e) ≡ true
-straight_defined m d e none =
-    let fine = unrefused m d e none in
-    all_there (starts_on_check (straight m d e)) (is_zero (stop_side (straight m d e))) fine.off_check
-    (ap is_zero (stop_side-from m d e fine)
-    ∙ far_not_zero (from_side (straight m d e)) (cross e.dir (displacement e.base m.start.at)) (stop_offset (straight m d e)) (length_squared e.dir) (start_far m d e fine))
-
--- a motion on these surfaces
-abbrev on_surfaces : Motion → Surface → Surface → Motion
-on_surfaces m drive check = record m { drive = drive; check = check }
-
-legal_on : (m : Motion) (drive check : Surface) → IsStraight drive → IsStraight check → IsMotion (on_surfaces m drive check)
-    → NoneHolds (motion_cases (on_surfaces m drive check)) → IsLegalCut (on_surfaces m drive check) (contact (on_surfaces m drive check) ∷ [])
-legal_on m (surfaces.Line d) (surfaces.Line e) is_d is_e is none = straight_legal m d e is none
-legal_on m (surfaces.Line d) (surfaces.Circ e) is_d is_e is none = absurd is_e
-legal_on m (surfaces.Circ d) check is_d is_e is none = absurd is_d
-
-contact_on : (m : Motion) (drive check : Surface) → IsStraight drive → IsStraight check → NoneHolds (motion_cases (on_surfaces m drive check))
-    → IsPoint (contact (on_surfaces m drive check))
-contact_on m (surfaces.Line d) (surfaces.Line e) is_d is_e none = (unrefused m d e none).point
-contact_on m (surfaces.Line d) (surfaces.Circ e) is_d is_e none = absurd is_e
-contact_on m (surfaces.Circ d) check is_d is_e none = absurd is_d
-
-defined_on : (m : Motion) (drive check : Surface) → IsStraight drive → IsStraight check → NoneHolds (motion_cases (on_surfaces m drive check))
-    → is_defined (on_surfaces m drive check) ≡ true
-defined_on m (surfaces.Line d) (surfaces.Line e) is_d is_e none = straight_defined m d e none
-defined_on m (surfaces.Line d) (surfaces.Circ e) is_d is_e none = absurd is_e
-defined_on m (surfaces.Circ d) check is_d is_e none = absurd is_d
+legal_on : (m : Motion) (drive : Surface) → IsStraight drive → IsMotion (record m { drive = drive }) → NoneHolds (motion_cases (record m { drive = drive }))
+    → IsLegalCut (record m { drive = drive }) (contact (record m { drive = drive }) ∷ [])
+legal_on m (surfaces.Line d) straight is none = line_legal m d is none
+legal_on m (surfaces.Circ d) straight is none = absurd straight
 
 -- a motion that no case refuses is legal, and its contact is a point
 pub motion_legal : (m : Motion) → IsStraightMotion m → NoneHolds (motion_cases m) → IsLegalCut m (contact m ∷ [])
-motion_legal m is none = legal_on m m.drive m.check is.drive is.check is.motion none
+motion_legal m is none = legal_on m m.drive is.drive is.motion none
 
 pub motion_contact : (m : Motion) → IsStraightMotion m → NoneHolds (motion_cases m) → IsPoint (contact m)
-motion_contact m is none = contact_on m m.drive m.check is.drive is.check none
+motion_contact m is none = end_is_point (course_of m) none.1.1.1.1
 
--- and what it asks for is there
+-- ---- what it asks for is there
+
+all_there : (a b c d : Bool) → a ≡ false → b ≡ false → c ≡ false → d ≡ true → (not a && (not b && not c && d)) ≡ true
+all_there false false false true e f g h = refl
+all_there false false false false e f g h = absurd (true≢false (sym h))
+all_there false false true d e f g h = absurd (true≢false g)
+all_there false true c d e f g h = absurd (true≢false f)
+all_there true b c d e f g h = absurd (true≢false e)
+
 pub motion_defined : (m : Motion) → IsStraightMotion m → NoneHolds (motion_cases m) → is_defined m ≡ true
-motion_defined m is none = defined_on m m.drive m.check is.drive is.check none
+motion_defined m is none =
+    all_there (lacks_room (track_of m)) (starts_on_check m) (lacks_room (stop_of m)) (has_bound m)
+    none.0 none.1.1.1.0 (stop_room m none) (bound_there (course_of m) (course_is m is.motion none) none.1.1.1.1)
 
--- ---- a motion whose stop is there has an edge that it must not pass
-
-beyond_not_zero : (check : Surface) (side : Sign) → is_zero side ≡ false → is_zero (beyond_of check side) ≡ false
-beyond_not_zero (surfaces.Line l) side d = opposite_not_zero side d
-beyond_not_zero (surfaces.Circ c) side d = d
-
-last_of_three : (a b c : Bool) → (a && not b && not c) ≡ true → c ≡ false
-last_of_three true false false e = refl
-last_of_three true false true e = absurd (true≢false (sym e))
-last_of_three true true c e = absurd (true≢false (sym e))
-last_of_three false b c e = absurd (true≢false (sym e))
-
-side_there : (track on_check lacks_room no_side : Bool) → (track && (not on_check && not lacks_room && not no_side)) ≡ true → no_side ≡ false
-side_there false on_check lacks_room no_side e = absurd (true≢false (sym e))
-side_there true on_check lacks_room no_side e = last_of_three (not on_check) lacks_room no_side e
+-- a motion whose stop is there has an edge that it must not pass, or an axis
+fourth_there : (a b c d : Bool) → (a && (not b && not c && d)) ≡ true → d ≡ true
+fourth_there true false false d e = e
+fourth_there true false true d e = absurd (true≢false (sym e))
+fourth_there true true c d e = absurd (true≢false (sym e))
+fourth_there false b c d e = absurd (true≢false (sym e))
 
 pub defined_bounded : (m : Motion) → is_defined m ≡ true → IsBounded (leg_of m)
-defined_bounded m is =
-    let side = side_there (has_track m) (starts_on_check m) (lacks_room (stop_of m)) (is_zero (stop_side m)) is in
-    edge_bounded (leg_of m) (beyond_of m.check (stop_side m)) refl (beyond_not_zero m.check (stop_side m) side)
-
--- ---- start-up
-
-meeting_point-is : (u : StartUp) (a b : Surface) → IsStraight a → IsStraight b → NoneHolds (meeting_cases u a b) → IsPoint (start_point u)
-meeting_point-is u (surfaces.Line l) (surfaces.Line k) is_a is_b none = inside_point (start_point u) (not-false _ none.1.0)
-meeting_point-is u (surfaces.Line l) (surfaces.Circ k) is_a is_b none = absurd is_b
-meeting_point-is u (surfaces.Circ l) b is_a is_b none = absurd is_a
-
--- a start-up on lines that no case refuses ends at a point
-pub start_up_point : (u : StartUp) → IsStraight u.a → IsStraight u.b → NoneHolds (start_up_cases u) → IsPoint (start_point u)
-start_up_point u is_a is_b none = meeting_point-is u u.a u.b is_a is_b none.1.1.1.1
+defined_bounded m is = leg_bounded m (fourth_there (has_track m) (starts_on_check m) (lacks_room (stop_of m)) (has_bound m) is)

@@ -1,8 +1,4 @@
-pub mod Order
 pub mod Bands
-pub mod Starts
-pub mod Leads
-pub mod LineLegs
 pub mod Edges
 pub mod Legal
 pub mod Plates

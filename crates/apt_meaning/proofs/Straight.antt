@@ -1,4 +1,4 @@
--- Names stand for lines where contours need surfaces, and so contours run along lines to lines.
+-- Names stand for lines where contours need drive surfaces, and so contours run along lines.
 use Rattle.std.proofs.Common.{◌≡◌, ℕ, Bool, true, false, List, Option, Some, None, Result, Ok, Err, IfSome, refl, sym, subst, cond}
 use Rattle.apt_words.specs.declared.Case.{Case}
 use Rattle.apt_words.specs.declared.Go.{Go}
@@ -27,7 +27,7 @@ use Rattle.apt_meaning.specs.declared.motion.Motion.{Motion}
 use Rattle.apt_meaning.specs.declared.effect.Effect.{Effect}
 use Rattle.apt_meaning.specs.OnLines.{built}
 use Rattle.apt_meaning.specs.Situations.{with_side}
-use Rattle.apt_meaning.specs.Motions.{as_surface, line_in, motion, if_turned, motion_at}
+use Rattle.apt_meaning.specs.Motions.{as_surface, surface_in, line_in, motion, if_turned, motion_at}
 use Rattle.apt_meaning.specs.Effects.{moves, cuts, moved_from, place_in, start_position_at, names, defines, defined, effect_of}
 use Rattle.apt_meaning.specs.Ranges.{IsPositionOrNone, AreSettings, IsSituation}
 use Rattle.apt_meaning.specs.Straight.{IsStraightMotion, IsLined}
@@ -45,6 +45,15 @@ built_straight (Some figures.Scalar) is = tt
 
 pub line_straight : (table : Table) (name : List ℕ) → AreFigures table → IfSome (line_in table name) IsStraight
 line_straight table name are = built_straight (figure_named table name) (looked_up table name are)
+
+figure_surface : (o : Option Figure) → IfSome o IsFigure → IfSome (o >>= as_surface) IsSurface
+figure_surface None is = tt
+figure_surface (Some (figures.Point at z)) is = tt
+figure_surface (Some (figures.Shape s)) is = is
+figure_surface (Some figures.Scalar) is = tt
+
+pub named_surface : (table : Table) (name : List ℕ) → AreFigures table → IfSome (surface_in table name) IsSurface
+named_surface table name are = figure_surface (figure_named table name) (looked_up table name are)
 
 pub straight_surface : (s : Surface) → IsStraight s → IsSurface s
 straight_surface (surfaces.Line l) is = is
@@ -65,7 +74,7 @@ turned_made true m is = tt
 turned_made false m is = is refl
 
 contour_made : (s : Settings) (forward : Dir) (go : Go) (how : Stop) (p : Option Position) (d c : Option Surface)
-    → AreSettings s → IsPositionOrNone p → IfSome d IsStraight → IfSome c IsStraight
+    → AreSettings s → IsPositionOrNone p → IfSome d IsStraight → IfSome c IsSurface
     → IfSome (cuts (p >>= λ start. d >>= λ drive. c >>= λ check. if_turned s start drive (turn forward (tangent drive start.at) go) how check)) IsLined
 contour_made s forward go how None d c is is_p is_d is_c = tt
 contour_made s forward go how (Some start) None c is is_p is_d is_c = tt
@@ -73,9 +82,8 @@ contour_made s forward go how (Some start) (Some drive) None is is_p is_d is_c =
 contour_made s forward go how (Some start) (Some drive) (Some check) is is_p is_d is_c =
     let turned = turn forward (tangent drive start.at) go in
     turned_made (is_zero turned) (motion s start drive turned how check) (λ turns. record {
-      motion = motion_is s start drive turned how check is is_p (straight_surface drive is_d) (straight_surface check is_c) turns;
+      motion = motion_is s start drive turned how check is is_p (straight_surface drive is_d) is_c turns;
       drive = is_d;
-      check = is_c;
     })
 
 names_made : (name : List ℕ) (r : Result Figure Case) → IfSome (names name r) IsLined
@@ -126,8 +134,8 @@ made at (deeds.GotoXy x y z) is = tt
 made at (deeds.GotoPoint p) is = moves_made reaches.Goto (place_in at.table p)
 made at (deeds.Godlta x y z) is = moves_made reaches.Godlta (moved_from at x y z)
 made at (deeds.GoStart how_a a b) is = moves_made reaches.Start (start_position_at at how_a a b)
-made at (deeds.Contour side go drive how check) is = contour_made (with_side at.settings side) at.forward go how at.position (line_in at.table drive) (line_in at.table check)
-    (on_side_or_as_it_was at.settings side is.settings) is.position (line_straight at.table drive is.table) (line_straight at.table check is.table)
+made at (deeds.Contour side go drive how check) is = contour_made (with_side at.settings side) at.forward go how at.position (line_in at.table drive) (surface_in at.table check)
+    (on_side_or_as_it_was at.settings side is.settings) is.position (line_straight at.table drive is.table) (named_surface at.table check is.table)
 made at deeds.Rapid is = tt
 made at deeds.Halt is = tt
 made at deeds.OptHalt is = tt

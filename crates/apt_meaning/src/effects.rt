@@ -264,7 +264,7 @@ fn contour(
 {
     let start = at.position?;
     let drive = line_in(&at.table, drive)?;
-    let check = line_in(&at.table, check)?;
+    let check = surface_in(&at.table, check)?;
     let settings = at.settings.with_side(side);
     let turned = turn_at(at.forward, start, &drive, go);
     if is_zero(turned) {

@@ -1,6 +1,6 @@
 //! Motions.
 
-ghost use Rattle.std.specs.Prelude.{◌≡◌, ◌≤◌, false, pos, unsigned_abs};
+ghost use Rattle.std.specs.Prelude.{◌≡◌, false, pos};
 ghost use Rattle.apt_plane.specs.Ranges.{IsSurface, IsSense};
 ghost use Rattle.apt_offset.specs.Ranges.{IsTarget, IsTolerance};
 ghost use Rattle.apt_offset.specs.Targets as targets;
@@ -12,8 +12,9 @@ ghost use Rattle.apt_meaning.specs.Ranges.{AreSettings, IsForward, IsAllowance, 
 use crate::Settings;
 use apt_cldata::Position;
 use apt_num::Sign;
-use apt_offset::{Target, offset_surface, side_at_check, side_at_drive, signed, tangent, turn};
+use apt_offset::{Target, offset_surface, side_at_check, side_at_drive, tangent, turn};
 use apt_plane::{Dir, Surface};
+use apt_stop::Course;
 use apt_words::{Go, Side, Stop};
 
 /// A grid step, in grid units.
@@ -108,13 +109,29 @@ impl Motion {
         offset_surface(&self.drive, self.drive_side(), self.radius)
     }
 
-    /// How far a drive line is moved to its left, in grid units.
-    pub fn track_offset(&self) -> i64
+    /// The curve on which it stops.
+    pub fn stop(&self) -> Target
         requires { IsMotion self.now }
-        ensures value { result ≡ motions.line_offset self.now }
-        ensures small { unsigned_abs result ≤ 500000 }
+        ensures value { result ≡ motions.stop_of self.now }
+        ensures range { targets.lacks_room result ≡ false → IsTarget result }
     {
-        signed(self.drive_side(), self.radius)
+        offset_surface(&self.check, self.check_side(), self.radius)
+    }
+
+    /// Its course, before it is cut.
+    pub fn course(&self) -> Course
+        requires { IsMotion self.now }
+        ensures { result ≡ motions.course_of self.now }
+    {
+        Course {
+            start: self.start.at,
+            drive: self.drive,
+            track: self.track(),
+            sense: self.sense,
+            check: self.check,
+            how: self.how,
+            stop: self.stop(),
+        }
     }
 }
 

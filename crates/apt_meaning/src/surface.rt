@@ -26,7 +26,7 @@ pub fn surface_of(figure: Figure) -> Option<Surface>
     }
 }
 
-/// A surface that is built so far: a line.
+/// A drive surface that is built so far: a line.
 #[tactic(auto, using(crate::proofs::Straight::straight_surfaces))]
 pub fn built(surface: Surface) -> Option<Surface>
     requires { IsSurface surface }
@@ -41,7 +41,7 @@ pub fn built(surface: Surface) -> Option<Surface>
 }
 
 /// The surface that a name stands for.
-fn surface_in(table: &Table, name: &Symbol) -> Option<Surface>
+pub fn surface_in(table: &Table, name: &Symbol) -> Option<Surface>
     ensures value { result ≡ motions.surface_in table.now name.now }
     ensures range { IfSome result IsSurface }
 {
