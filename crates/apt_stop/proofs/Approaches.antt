@@ -40,7 +40,7 @@ positive_part n (pos w) s r e h above = omega (arith, ints, e, h)
 positive_part n (negsuc w) s r e h above = absurd (omega (arith, ints))
 
 -- at most 4 times the root to both sides
-at_most_four : (a : ℤ) (n : ℕ) → AtLeast a (negsuc 3) n → AtLeast (neg_ℤ a) (negsuc 3) n → unsigned_abs a * unsigned_abs a ≤ 16 * n
+pub at_most_four : (a : ℤ) (n : ℕ) → AtLeast a (negsuc 3) n → AtLeast (neg_ℤ a) (negsuc 3) n → unsigned_abs a * unsigned_abs a ≤ 16 * n
 at_most_four (pos zero) n p q = omega arith
 at_most_four (pos (suc a)) n p q = omega (arith, q)
 at_most_four (negsuc a) n p q = omega (arith, p)

@@ -30,7 +30,7 @@ pub record Leads (d e : Line) (f g sense : ℤ) (side : Sign) (p x : Pt) : Type 
   pub ahead : is_same side (sign_of (cross e.dir (heading sense d.dir))) ≡ false
 
 -- the height of the end is that of the start and that of the way
-cross_displacements : (d : Dir) (b p x : Pt) → cross d (displacement b x) ≡ cross d (displacement b p) +ℤ cross d (displacement p x)
+pub cross_displacements : (d : Dir) (b p x : Pt) → cross d (displacement b x) ≡ cross d (displacement b p) +ℤ cross d (displacement p x)
 cross_displacements d b p x = ring d.dx d.dy b.x b.y p.x p.y x.x x.y
   where
     ring : (dx dy bx by px py xx xy : ℤ) → (dx *ℤ (xy -ℤ by)) -ℤ (dy *ℤ (xx -ℤ bx))
@@ -39,12 +39,12 @@ cross_displacements d b p x = ring d.dx d.dy b.x b.y p.x p.y x.x x.y
         rw (as_diff dx, as_diff dy, as_diff bx, as_diff by, as_diff px, as_diff py, as_diff xx, as_diff xy) (simp differences (diff-same _ _ _ _ (omega arith)))
 
 -- a bound of one height and one of another bound their difference
-rise_at_least : (a b w h i k : ℤ) (n : ℕ) → a ≡ b +ℤ w → h +ℤ i ≡ k → AtLeast a h n → AtLeast (neg_ℤ b) i n → AtLeast w k n
+pub rise_at_least : (a b w h i k : ℤ) (n : ℕ) → a ≡ b +ℤ w → h +ℤ i ≡ k → AtLeast a h n → AtLeast (neg_ℤ b) i n → AtLeast w k n
 rise_at_least a b w h i k n e f p q =
     let rise : a +ℤ neg_ℤ b ≡ w = omega (arith, ints, e) in
     subst (λ (z : ℤ). AtLeast z k n) rise (subst (λ (z : ℤ). AtLeast (a +ℤ neg_ℤ b) z n) f (at_least-sum a (neg_ℤ b) h i n p q))
 
-fall_at_least : (a b w h i k : ℤ) (n : ℕ) → a ≡ b +ℤ w → h +ℤ i ≡ k → AtLeast (neg_ℤ a) h n → AtLeast b i n → AtLeast (neg_ℤ w) k n
+pub fall_at_least : (a b w h i k : ℤ) (n : ℕ) → a ≡ b +ℤ w → h +ℤ i ≡ k → AtLeast (neg_ℤ a) h n → AtLeast b i n → AtLeast (neg_ℤ w) k n
 fall_at_least a b w h i k n e f p q =
     let fall : neg_ℤ a +ℤ b ≡ neg_ℤ w = omega (arith, ints, e) in
     subst (λ (z : ℤ). AtLeast z k n) fall (subst (λ (z : ℤ). AtLeast (neg_ℤ a +ℤ b) z n) f (at_least-sum (neg_ℤ a) b h i n p q))
