@@ -13,4 +13,8 @@ pub mod Tracks
 pub mod Rings
 pub mod Lies
 pub mod Towards
+pub mod Contacts
+pub mod Moved
+pub mod ToLines
+pub mod Touching
 mod Worked

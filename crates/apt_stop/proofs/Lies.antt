@@ -17,7 +17,7 @@ pub data Lies (side : Sign) (k : ℤ) (n m r : ℕ) : Type 0 where
   Outside : side ≡ signs.Minus → pos 0 <ℤ k → (r + 8) * (r + 8) ≤ m → Lies side k n m r
   Inside : side ≡ signs.Plus → m ≤ (r - 8) * (r - 8) → Lies side k n m r
 
-ahead_of : (k : ℤ) (n : ℕ) → is_not_ahead k n ≡ false → AtLeast k (pos 8) n
+pub ahead_of : (k : ℤ) (n : ℕ) → is_not_ahead k n ≡ false → AtLeast k (pos 8) n
 ahead_of k n e = subst (λ (z : ℤ). AtLeast z (pos 8) n) (omega (arith, ints)) (is_at_least-false (neg_ℤ k) (neg_ℤ near_stop) n e)
 
 ahead_sign : (k : ℤ) (n : ℕ) → 0 < n → AtLeast k (pos 8) n → sign_of k ≡ signs.Plus
