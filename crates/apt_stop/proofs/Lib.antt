@@ -17,4 +17,7 @@ pub mod Contacts
 pub mod Moved
 pub mod ToLines
 pub mod Touching
+pub mod Parts
+pub mod OnLines
+pub mod Feet
 mod Worked
