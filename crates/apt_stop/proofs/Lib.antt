@@ -20,4 +20,6 @@ pub mod Touching
 pub mod Parts
 pub mod OnLines
 pub mod Feet
+pub mod OnRounds
+pub mod Ended
 mod Worked
