@@ -4,4 +4,22 @@ pub mod Cases
 pub mod Strips
 pub mod NearLaws
 pub mod Axes
+pub mod Reach
+pub mod Onwards
+pub mod Far
+pub mod Approaches
+pub mod Leads
+pub mod Tracks
+pub mod Rings
+pub mod Lies
+pub mod Towards
+pub mod Contacts
+pub mod Moved
+pub mod ToLines
+pub mod Touching
+pub mod Parts
+pub mod OnLines
+pub mod Feet
+pub mod OnRounds
+pub mod Ended
 mod Worked
