@@ -5,10 +5,26 @@ pub mod Cases
 pub mod Strips
 pub mod NearLaws
 pub mod Axes
+pub mod Reach
+pub mod Onwards
+pub mod Far
+pub mod Approaches
+pub mod Leads
+pub mod Tracks
+pub mod Rings
+pub mod Lies
+pub mod Towards
+pub mod Contacts
 pub mod Moved
+pub mod ToLines
+pub mod Touching
+pub mod Parts
+pub mod OnLines
+pub mod Feet
+pub mod OnRounds
+pub mod Ended
 pub mod Placed
 pub mod Sided
-pub mod Ended
 pub mod Decided
 pub mod Chosen
 mod Worked

@@ -1,0 +1,104 @@
+-- What the end of a course is, whatever refuses none.
+use Rattle.std.proofs.Common.{refl, ◌≡◌, ◌∙◌, sym, subst, Bool, true, false, true≢false, ℤ, ◌-ℤ◌}
+use Rattle.apt_num.specs.declared.Sign.{Sign}
+use Rattle.apt_words.specs.declared.Stop.{Stop}
+use Rattle.apt_words.specs.declared.Stop.TheVariants as stops
+use Rattle.apt_words.specs.Rows.{NoneHolds}
+use Rattle.apt_plane.specs.declared.figures.Pt.{Pt}
+use Rattle.apt_plane.specs.declared.figures.Dir.{Dir}
+use Rattle.apt_plane.specs.declared.figures.Line.{Line}
+use Rattle.apt_plane.specs.declared.figures.Circ.{Circ}
+use Rattle.apt_plane.specs.declared.figures.Surface.{Surface}
+use Rattle.apt_plane.specs.declared.figures.Surface.TheVariants as surfaces
+use Rattle.apt_offset.specs.declared.Target.{Target}
+use Rattle.apt_offset.specs.Sides.{side_at_tangency}
+use Rattle.apt_offset.specs.Targets.{signed, offset_surface}
+use Rattle.apt_stop.specs.declared.course.Course.{Course}
+use Rattle.apt_stop.specs.Courses.{is_tanto, stop_side, end_of, meets_at, course_cases}
+use Rattle.apt_stop.specs.Ranges.{IsCourse}
+use Rattle.apt_stop.specs.Ends.{MeetsStop, EndsOnLine, EndsOnCircle, IsEndOn}
+use Rattle.apt_stop.proofs.Parts.{course_at, Meets, Touches, meets, touches}
+use Rattle.apt_stop.proofs.OnLines.{Met, meets_on_line}
+use Rattle.apt_stop.proofs.Feet.{Touched, touches_on_line}
+use Rattle.apt_stop.proofs.OnRounds.{meets_on_round, touches_round}
+
+-- ---- along a line
+met_ends : (c : Course) (d : Dir) → is_tanto c.how ≡ false → Meets c → Met c d (meets_at c (stop_side c)) → EndsOnLine c d (end_of c)
+met_ends c d e free met =
+    let stops_there : MeetsStop c (meets_at c (stop_side c)) = record { stop = met.stop; kept = rw free.side met.kept } in
+    rw free.end (record {
+      ahead = met.ahead;
+      track = met.track;
+      meets = λ f. stops_there;
+      touches = λ f. absurd (true≢false (sym f ∙ e));
+    })
+
+touched_ends : (c : Course) (d : Dir) (q : Pt) → is_tanto c.how ≡ true → end_of c ≡ q → Touched c d q → EndsOnLine c d (end_of c)
+touched_ends c d q e end touched =
+    rw end (record {
+      ahead = touched.ahead;
+      track = touched.track;
+      meets = λ f. absurd (true≢false (sym e ∙ f));
+      touches = λ f. touched.stop;
+    })
+
+is_touch : (how : Stop) → is_tanto how ≡ true → how ≡ stops.Tanto
+is_touch stops.To e = absurd cc
+is_touch stops.On e = absurd cc
+is_touch stops.Past e = absurd cc
+is_touch stops.Tanto e = refl
+
+-- the course of two surfaces, moved to the places v and w by a cutter of the radius m
+abbrev moved : Pt → Surface → Sign → ℤ → Surface → Stop → Sign → ℤ → Course
+moved start drive v sense check how w m = course_at start drive (offset_surface drive v m) sense check how (offset_surface check w m)
+
+touch_line : (start : Pt) (l : Line) (v : Sign) (sense : ℤ) (check : Surface) (how : Stop) (w : Sign) (m : ℤ) → w ≡ side_at_tangency (surfaces.Line l) check v → is_tanto how ≡ true
+    → let c = moved start (surfaces.Line l) v sense check how w m in IsCourse c → Touches c → EndsOnLine c l.dir (end_of c)
+touch_line start l v sense (surfaces.Line k) how w m place e is free = absurd (true≢false free.axis)
+touch_line start l v sense (surfaces.Circ k) how w m place e is free =
+    subst (λ (w : Sign). let c = moved start (surfaces.Line l) v sense (surfaces.Circ k) how w m in IsCourse c → Touches c → EndsOnLine c l.dir (end_of c)) (sym place)
+    (λ is free. touched_ends _ l.dir _ e free.end (touches_on_line start l v m sense k how is free)) is free
+
+on_line : (start : Pt) (l : Line) (v : Sign) (sense : ℤ) (check : Surface) (how : Stop) (w : Sign) (m : ℤ) → (how ≡ stops.Tanto → w ≡ side_at_tangency (surfaces.Line l) check v)
+    → let c = moved start (surfaces.Line l) v sense check how w m in IsCourse c → NoneHolds (course_cases c) → (b : Bool) → is_tanto how ≡ b → EndsOnLine c l.dir (end_of c)
+on_line start l v sense check how w m place is none true e =
+    let c = moved start (surfaces.Line l) v sense check how w m in
+    touch_line start l v sense check how w m (place (is_touch how e)) e is (touches c e none)
+on_line start l v sense check how w m place is none false e =
+    let c = moved start (surfaces.Line l) v sense check how w m in
+    let free = meets c e none in
+    met_ends c l.dir e free (meets_on_line start (surfaces.Line l) l.base l.dir (signed v m) sense check how (offset_surface check w m) is free)
+
+-- ---- round a circle
+on_round : (start : Pt) (k : Circ) (v : Sign) (sense : ℤ) (check : Surface) (how : Stop) (w : Sign) (m : ℤ)
+    → let c = moved start (surfaces.Circ k) v sense check how w m in IsCourse c → NoneHolds (course_cases c) → (b : Bool) → is_tanto how ≡ b → EndsOnCircle c (end_of c)
+on_round start k v sense check how w m is none true e =
+    let c = moved start (surfaces.Circ k) v sense check how w m in
+    let free = touches c e none in
+    rw free.end (record {
+      track = touches_round start k k.c (k.r -ℤ signed v m) sense check how (offset_surface check w m) is free;
+      meets = λ f. absurd (true≢false (sym e ∙ f));
+    })
+on_round start k v sense check how w m is none false e =
+    let c = moved start (surfaces.Circ k) v sense check how w m in
+    let free = meets c e none in
+    let both = meets_on_round start (surfaces.Circ k) k.c (k.r -ℤ signed v m) sense check how (offset_surface check w m) is free in
+    rw free.end (record { track = both.0; meets = λ f. both.1 })
+
+moved_ends : (start : Pt) (drive : Surface) (v : Sign) (sense : ℤ) (check : Surface) (how : Stop) (w : Sign) (m : ℤ) → (how ≡ stops.Tanto → w ≡ side_at_tangency drive check v)
+    → let c = moved start drive v sense check how w m in IsCourse c → NoneHolds (course_cases c) → IsEndOn c.track c (end_of c)
+moved_ends start (surfaces.Line l) v sense check how w m place is none = on_line start l v sense check how w m place is none (is_tanto how) refl
+moved_ends start (surfaces.Circ k) v sense check how w m place is none = on_round start k v sense check how w m is none (is_tanto how) refl
+
+-- of a course that has such an end, by its targets
+abbrev HasEnd : Course → Target → Target → Type 0
+HasEnd c track stop =
+    let moved = course_at c.start c.drive track c.sense c.check c.how stop in
+    IsCourse moved → NoneHolds (course_cases moved) → IsEndOn track moved (end_of moved)
+
+pub course_ends : (c : Course) → IsCourse c → NoneHolds (course_cases c) → IsEndOn c.track c (end_of c)
+course_ends c is =
+    let at = is.moved in
+    subst (λ (t : Target). HasEnd c t c.stop) (sym at.track)
+    (subst (λ (t : Target). HasEnd c (offset_surface c.drive at.at_drive at.radius) t) (sym at.stop)
+    (moved_ends c.start c.drive at.at_drive c.sense c.check c.how at.at_check at.radius at.touching)) is
