@@ -11,16 +11,12 @@ use Rattle.apt_plane.specs.declared.figures.Circ.{Circ}
 use Rattle.apt_plane.specs.declared.figures.Surface.{Surface}
 use Rattle.apt_plane.specs.declared.figures.Surface.TheVariants as surfaces
 use Rattle.apt_offset.specs.declared.Target.{Target}
-use Rattle.apt_offset.specs.declared.Target.TheVariants as targets
 use Rattle.apt_offset.specs.Sides.{side_at_tangency}
 use Rattle.apt_offset.specs.Targets.{signed, offset_surface}
-use Rattle.apt_contact.specs.Contacts.{IsNearTarget}
 use Rattle.apt_stop.specs.declared.course.Course.{Course}
-use Rattle.apt_stop.specs.Nearness.{near_stop}
-use Rattle.apt_stop.specs.Tangencies.{tangent_axis}
-use Rattle.apt_stop.specs.Courses.{is_tanto, kept_side, stop_side, end_of, meets_at, course_cases}
+use Rattle.apt_stop.specs.Courses.{is_tanto, stop_side, end_of, meets_at, course_cases}
 use Rattle.apt_stop.specs.Ranges.{IsCourse}
-use Rattle.apt_stop.specs.Ends.{IsKept, MeetsStop, EndsOnLine, EndsOnCircle, IsEndOn}
+use Rattle.apt_stop.specs.Ends.{MeetsStop, EndsOnLine, EndsOnCircle, IsEndOn}
 use Rattle.apt_stop.proofs.Parts.{course_at, Meets, Touches, meets, touches}
 use Rattle.apt_stop.proofs.OnLines.{Met, meets_on_line}
 use Rattle.apt_stop.proofs.Feet.{Touched, touches_on_line}

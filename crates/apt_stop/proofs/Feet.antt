@@ -1,8 +1,6 @@
 -- The end of a course along a line that touches a circle.
-use Rattle.std.proofs.Common.{refl, ◌≡◌, inl, inr, ℕ, ◌*◌, ◌≤◌, ◌<◌, ◌∙◌, ap, sym, subst, arith, Bool, true, false, not, ℤ, pos, negsuc, neg_ℤ, ◌-ℤ◌, ◌*ℤ◌, ◌<ℤ◌, ◌≤ℤ◌}
-use Rattle.std.proofs.lemmas.Int.{ints}
+use Rattle.std.proofs.Common.{refl, ◌≡◌, inr, ℕ, ◌*◌, ◌≤◌, ◌<◌, subst, arith, Bool, true, false, not, ℤ, pos, ◌-ℤ◌, ◌*ℤ◌, ◌<ℤ◌}
 use Rattle.apt_num.specs.declared.Sign.{Sign}
-use Rattle.apt_num.specs.declared.Sign.TheVariants as signs
 use Rattle.apt_num.specs.Sign.{AtLeast, square}
 use Rattle.apt_words.specs.declared.Stop.{Stop}
 use Rattle.apt_plane.specs.declared.figures.Pt.{Pt}
@@ -10,26 +8,26 @@ use Rattle.apt_plane.specs.declared.figures.Dir.{Dir}
 use Rattle.apt_plane.specs.declared.figures.Line.{Line}
 use Rattle.apt_plane.specs.declared.figures.Circ.{Circ}
 use Rattle.apt_plane.specs.declared.figures.Surface.TheVariants as surfaces
-use Rattle.apt_plane.specs.Vectors.{displacement, dot, length_squared, perp}
+use Rattle.apt_plane.specs.Vectors.{displacement, dot, length_squared}
 use Rattle.apt_plane.specs.Ranges.{IsSense, IsLine, IsCircle}
 use Rattle.apt_canon.specs.Feet.{foot_point}
 use Rattle.apt_canon.proofs.LineCircleLaws.{sense_size}
 use Rattle.apt_canon.proofs.FootLaws.{foot_near, foot_across}
 use Rattle.apt_offset.specs.declared.Target.TheVariants as targets
 use Rattle.apt_offset.specs.Sides.{side_at_tangency}
-use Rattle.apt_offset.specs.Targets.{signed, offset_surface}
+use Rattle.apt_offset.specs.Targets.{signed}
 use Rattle.apt_offset.specs.Ranges.{IsLineTarget, IsCircleTarget}
 use Rattle.apt_contact.specs.Contacts.{IsNearTarget}
 use Rattle.apt_stop.specs.declared.course.Course.{Course}
 use Rattle.apt_stop.specs.Nearness.{heading}
-use Rattle.apt_stop.specs.Courses.{axis_of, way_on_to}
+use Rattle.apt_stop.specs.Courses.{way_on_to}
 use Rattle.apt_stop.specs.Ranges.{IsCourse}
-use Rattle.apt_stop.specs.Ends.{TouchesStop, IsOnAxisOf}
+use Rattle.apt_stop.specs.Ends.{TouchesStop}
 use Rattle.apt_stop.proofs.Moved.{track_target, stop_target}
 use Rattle.apt_stop.proofs.Onwards.{Onward, near_onwards}
 use Rattle.apt_stop.proofs.Tracks.{dot_swap, heading_dot, heading_length}
 use Rattle.apt_stop.proofs.Lies.{ahead_of}
-use Rattle.apt_stop.proofs.Touching.{Foots, touches_stop, foot_on_axis}
+use Rattle.apt_stop.proofs.Touching.{touches_stop, foot_on_axis}
 use Rattle.apt_stop.proofs.Parts.{course_at, Touches}
 
 not_true : (b : Bool) → not b ≡ false → b ≡ true

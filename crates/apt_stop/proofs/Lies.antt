@@ -1,11 +1,11 @@
 -- How the start of a motion along a line lies to a circle to which it leads, by the tests.
-use Rattle.std.proofs.Common.{refl, ◌≡◌, ◌⊎◌, inl, inr, ℕ, zero, suc, ◌+◌, ◌-◌, ◌*◌, ◌≤◌, ◌<◌, ◌∙◌, ap, sym, subst, arith, Bool, true, false, ◌&&◌, true≢false, ℤ, pos, negsuc, neg_ℤ, ◌-ℤ◌, ◌≤ℤ◌, ◌<ℤ◌, int_le, unsigned_abs}
+use Rattle.std.proofs.Common.{refl, ◌≡◌, ◌⊎◌, inl, inr, ℕ, zero, suc, ◌+◌, ◌-◌, ◌*◌, ◌≤◌, ◌<◌, sym, subst, arith, Bool, true, false, ◌&&◌, ℤ, pos, negsuc, neg_ℤ, ◌-ℤ◌, ◌<ℤ◌, int_le}
 use Rattle.std.specs.Prelude.{if◌then◌else◌}
 use Rattle.std.proofs.lemmas.Int.{ints}
 use Rattle.std.proofs.lemmas.Nat.{mul-le}
 use Rattle.apt_num.specs.declared.Sign.{Sign}
 use Rattle.apt_num.specs.declared.Sign.TheVariants as signs
-use Rattle.apt_num.specs.Sign.{AtLeast, square, sign_of, is_minus, is_at_least}
+use Rattle.apt_num.specs.Sign.{AtLeast, square, sign_of, is_minus}
 use Rattle.apt_num.proofs.Testing.{is_at_least-false}
 use Rattle.apt_stop.specs.Nearness.{near_stop}
 use Rattle.apt_stop.specs.Courses.{is_not_ahead}

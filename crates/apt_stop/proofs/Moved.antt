@@ -1,5 +1,5 @@
 -- The ranges of surfaces that are moved by a cutter's radius.
-use Rattle.std.proofs.Common.{◌≡◌, ℕ, ◌+◌, ◌^◌, ◌≤◌, sym, subst, arith, false, ℤ, pos, negsuc, ◌-ℤ◌, ◌≤ℤ◌, int_lt, unsigned_abs}
+use Rattle.std.proofs.Common.{◌≡◌, ◌≤◌, sym, subst, arith, false, ℤ, pos, ◌-ℤ◌, ◌≤ℤ◌, int_lt, unsigned_abs}
 use Rattle.std.proofs.lemmas.Int.{ints}
 use Rattle.apt_num.specs.declared.Sign.{Sign}
 use Rattle.apt_num.specs.declared.Sign.TheVariants as signs
@@ -7,7 +7,7 @@ use Rattle.apt_plane.specs.declared.figures.Surface.{Surface}
 use Rattle.apt_plane.specs.declared.figures.Surface.TheVariants as surfaces
 use Rattle.apt_plane.specs.Ranges.{IsSurface}
 use Rattle.apt_offset.specs.declared.Target.{Target}
-use Rattle.apt_offset.specs.Targets.{signed, least_radius, offset_surface, lacks_room}
+use Rattle.apt_offset.specs.Targets.{signed, offset_surface, lacks_room}
 use Rattle.apt_offset.specs.Ranges.{IsRadius, IsTarget}
 use Rattle.apt_stop.specs.declared.course.Course.{Course}
 use Rattle.apt_stop.specs.Ranges.{IsCourse}

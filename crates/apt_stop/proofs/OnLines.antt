@@ -1,9 +1,8 @@
 -- The end of a course along a line that meets its stop.
-use Rattle.std.proofs.Common.{refl, ◌≡◌, ◌≢◌, inl, inr, ℕ, ◌*◌, ◌≤◌, ◌<◌, ◌∙◌, ap, sym, subst, arith, true, false, ℤ, pos, negsuc, neg_ℤ, ◌<ℤ◌, ◌≤ℤ◌}
+use Rattle.std.proofs.Common.{refl, ◌≡◌, ◌≢◌, inl, inr, ℕ, ◌≤◌, ◌<◌, arith, true, ℤ, pos, negsuc, neg_ℤ, ◌<ℤ◌}
 use Rattle.std.proofs.lemmas.Int.{ints}
 use Rattle.std.proofs.lemmas.Bool.{or_parts}
 use Rattle.apt_num.specs.declared.Sign.{Sign}
-use Rattle.apt_num.specs.declared.Sign.TheVariants as signs
 use Rattle.apt_num.specs.Sign.{OnLine, sign_of}
 use Rattle.apt_words.specs.declared.Stop.{Stop}
 use Rattle.apt_plane.specs.declared.figures.Pt.{Pt}
@@ -19,10 +18,10 @@ use Rattle.apt_offset.specs.declared.Target.TheVariants as targets
 use Rattle.apt_offset.specs.Ranges.{IsLineTarget, IsCircleTarget}
 use Rattle.apt_offset.specs.Targets.{signed}
 use Rattle.apt_contact.specs.Meetings.{line_on, circle_about}
-use Rattle.apt_contact.specs.Contacts.{IsNearTarget, contact_point}
+use Rattle.apt_contact.specs.Contacts.{IsNearTarget}
 use Rattle.apt_stop.specs.declared.course.Course.{Course}
 use Rattle.apt_stop.specs.Nearness.{heading, is_near, side_of, near_stop, off_track}
-use Rattle.apt_stop.specs.Courses.{starts_near_stop, stop_side, meets_at, is_past, is_same, way_on_to}
+use Rattle.apt_stop.specs.Courses.{starts_near_stop, stop_side, meets_at, is_same, way_on_to}
 use Rattle.apt_stop.specs.Ranges.{IsCourse}
 use Rattle.apt_stop.specs.Ends.{IsKept}
 use Rattle.apt_stop.proofs.NearLaws.{near-OnLine}

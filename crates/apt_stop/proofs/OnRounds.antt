@@ -1,14 +1,14 @@
 -- The end of a course round a circle: on its track, and on the stop that it meets.
-use Rattle.std.proofs.Common.{refl, ◌≡◌, ◌≢◌, ◌⊎◌, inl, inr, ℕ, zero, suc, ◌+◌, ◌-◌, ◌*◌, ◌^◌, ◌≤◌, ◌<◌, ◌∙◌, ap, sym, subst, arith, Bool, true, false, ◌&&◌, true≢false, ◌==◌, ℤ, pos, negsuc, neg_ℤ, ◌-ℤ◌, ◌*ℤ◌, ◌<ℤ◌, ◌≤ℤ◌, unsigned_abs, Some, None}
-use Rattle.std.specs.Prelude.{if◌then◌else◌, is_none, Option}
+use Rattle.std.proofs.Common.{refl, ◌≡◌, ◌≢◌, inl, inr, ℕ, zero, suc, ◌-◌, ◌*◌, ◌≤◌, ◌∙◌, sym, arith, Bool, true, false, ◌&&◌, true≢false, ℤ, pos, negsuc, ◌-ℤ◌, ◌*ℤ◌}
+use Rattle.std.specs.Prelude.{if◌then◌else◌}
 use Rattle.std.proofs.lemmas.Int.{ints}
 use Rattle.std.proofs.lemmas.Nat.{mul-le}
 use Rattle.apt_num.proofs.Squares.{size_neg}
-use Rattle.std.proofs.lemmas.Bool.{and_cases, and_from}
+use Rattle.std.proofs.lemmas.Bool.{and_from}
 use Rattle.std.proofs.lemmas.Bool.Decides.{eqb_tells}
 use Rattle.apt_num.specs.declared.Sign.{Sign}
 use Rattle.apt_num.specs.declared.Sign.TheVariants as signs
-use Rattle.apt_num.specs.Sign.{AtLeast, sign_of, square, is_at_least}
+use Rattle.apt_num.specs.Sign.{sign_of, is_at_least}
 use Rattle.apt_num.proofs.Testing.{is_at_least-from}
 use Rattle.apt_words.specs.declared.Stop.{Stop}
 use Rattle.apt_plane.specs.declared.figures.Pt.{Pt}
@@ -19,10 +19,8 @@ use Rattle.apt_plane.specs.declared.figures.Circ.{Circ}
 use Rattle.apt_plane.specs.declared.figures.Surface.{Surface}
 use Rattle.apt_plane.specs.declared.figures.Surface.TheVariants as surfaces
 use Rattle.apt_plane.specs.Vectors.{displacement, cross, dot, length_squared, perp}
-use Rattle.apt_plane.specs.Ranges.{IsSense, IsDir, IsPoint, IsSurface}
-use Rattle.apt_canon.specs.Scale.{times, IsNearCircle}
-use Rattle.apt_canon.specs.Feet.{ray_point}
-use Rattle.apt_canon.specs.Circles.{are_concentric}
+use Rattle.apt_plane.specs.Ranges.{IsSense, IsDir, IsPoint}
+use Rattle.apt_canon.specs.Scale.{times}
 use Rattle.apt_canon.proofs.LineCircleLaws.{sense_size}
 use Rattle.apt_canon.proofs.Rays.{ray_near}
 use Rattle.apt_canon.proofs.Ways.{way_is_dir}
@@ -31,11 +29,10 @@ use Rattle.apt_offset.specs.declared.Target.TheVariants as targets
 use Rattle.apt_offset.specs.Turns.{opposite}
 use Rattle.apt_offset.specs.Sides.{side_or_left}
 use Rattle.apt_offset.specs.Targets.{signed}
-use Rattle.apt_offset.specs.Ranges.{IsTarget, IsCircleTarget}
+use Rattle.apt_offset.specs.Ranges.{IsCircleTarget}
 use Rattle.apt_contact.specs.Meetings.{circle_about}
 use Rattle.apt_contact.specs.Contacts.{IsNearTarget}
-use Rattle.apt_stop.specs.declared.course.Course.{Course}
-use Rattle.apt_stop.specs.Nearness.{is_near, side_of, near_stop}
+use Rattle.apt_stop.specs.Nearness.{side_of}
 use Rattle.apt_stop.specs.Tangencies.{axis, half_towards, touching_half, tangent_axis}
 use Rattle.apt_stop.specs.Courses.{starts_near_stop, stop_side, sigma_of, meets_at, touches_on, touches_at, is_by_axis}
 use Rattle.apt_stop.specs.Ranges.{IsCourse}

@@ -1,13 +1,12 @@
 -- What is left where nothing refuses a course.
-use Rattle.std.proofs.Common.{refl, ◌≡◌, Bool, true, false, ℤ, pos}
-use Rattle.std.specs.Prelude.{if◌then◌else◌, ◌++◌, not, is_none}
-use Rattle.apt_num.specs.declared.Sign.{Sign}
+use Rattle.std.proofs.Common.{refl, ◌≡◌, true, false, ℤ}
+use Rattle.std.specs.Prelude.{not, is_none}
 use Rattle.apt_words.specs.declared.Stop.{Stop}
 use Rattle.apt_words.specs.Rows.{NoneHolds}
 use Rattle.apt_plane.specs.declared.figures.Pt.{Pt}
 use Rattle.apt_plane.specs.declared.figures.Surface.{Surface}
 use Rattle.apt_offset.specs.declared.Target.{Target}
-use Rattle.apt_contact.specs.Meetings.{meeting_of, is_parallel, is_apart}
+use Rattle.apt_contact.specs.Meetings.{meeting_of}
 use Rattle.apt_contact.specs.Contacts.{HasMeeting}
 use Rattle.apt_stop.specs.declared.course.Course.{Course}
 use Rattle.apt_stop.specs.Gaps.{is_touching}

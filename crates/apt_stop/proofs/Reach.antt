@@ -1,7 +1,7 @@
 -- That a straight motion leads on to a circle: the numbers. M is the square of the heading's length, l and a are the parts of a way from the stop's centre along and across it.
 use Rattle.std.proofs.Common.{◌≡◌, ℕ, ◌+◌, ◌*◌, ◌≤◌, ◌<◌, inl, inr, arith, ap}
 use Rattle.std.proofs.Math.Nat.{mul-le-mul_left}
-use Rattle.std.proofs.lemmas.Nat.{mul-le, mul-lt}
+use Rattle.std.proofs.lemmas.Nat.{mul-le}
 use Rattle.std.proofs.lemmas.Bool.{cases_lt}
 use Rattle.apt_num.proofs.Squares.{root_le, cancel_le}
 

@@ -1,10 +1,9 @@
 -- A motion along a line to where it meets another: it leads onwards, and keeps to its side of it.
-use Rattle.std.proofs.Common.{refl, ◌≡◌, ◌≢◌, ℕ, ◌<◌, ◌∙◌, ap, sym, arith, Bool, false, ◌||◌, ℤ, pos, ◌+ℤ◌, ◌-ℤ◌, ◌*ℤ◌, ◌<ℤ◌, neg_ℤ}
+use Rattle.std.proofs.Common.{refl, ◌≡◌, arith, false, ℤ, pos, ◌+ℤ◌, ◌-ℤ◌, ◌<ℤ◌, neg_ℤ}
 use Rattle.std.proofs.lemmas.Int.{ints}
-use Rattle.std.proofs.lemmas.Bool.{or_parts}
 use Rattle.apt_num.specs.declared.Sign.{Sign}
 use Rattle.apt_num.specs.declared.Sign.TheVariants as signs
-use Rattle.apt_num.specs.Sign.{AtLeast, OnLine, sign_of, root_sign_of}
+use Rattle.apt_num.specs.Sign.{AtLeast, OnLine, root_sign_of}
 use Rattle.apt_num.proofs.Sums.{at_least-weaker}
 use Rattle.apt_plane.specs.declared.figures.Pt.{Pt}
 use Rattle.apt_plane.specs.declared.figures.Dir.{Dir}
@@ -16,7 +15,6 @@ use Rattle.apt_plane.proofs.SegmentLaws.{above-between, below-between}
 use Rattle.apt_offset.specs.declared.Target.TheVariants as targets
 use Rattle.apt_contact.specs.Meetings.{line_on}
 use Rattle.apt_stop.specs.Nearness.{heading, is_near, near_stop, side_of}
-use Rattle.apt_stop.specs.Courses.{is_same}
 use Rattle.apt_stop.specs.Ends.{IsKept}
 use Rattle.apt_stop.proofs.Far.{IsFar, far_on_side}
 use Rattle.apt_stop.proofs.Leads.{Leads, runs_in_sense}

@@ -1,9 +1,8 @@
 -- A motion along a track in a sense: the products with its heading, and how far it leads sideways.
-use Rattle.std.proofs.Common.{◌≡◌, inl, inr, ℕ, ◌+◌, ◌*◌, ◌≤◌, ◌<◌, ◌∙◌, ap, arith, ℤ, pos, negsuc, neg_ℤ, ◌+ℤ◌, ◌-ℤ◌, ◌*ℤ◌, unsigned_abs}
+use Rattle.std.proofs.Common.{◌≡◌, ◌+◌, ◌*◌, ◌≤◌, ◌<◌, ◌∙◌, ap, arith, ℤ, pos, negsuc, neg_ℤ, ◌+ℤ◌, ◌-ℤ◌, ◌*ℤ◌, unsigned_abs}
 use Rattle.std.proofs.lemmas.Int.{ints}
-use Rattle.apt_num.specs.Sign.{AtLeast, OnLine, square}
+use Rattle.apt_num.specs.Sign.{OnLine, square}
 use Rattle.apt_num.proofs.Ring.{as_diff, diff-same, differences}
-use Rattle.apt_num.proofs.Squares.{size_mul}
 use Rattle.apt_plane.specs.declared.figures.Pt.{Pt}
 use Rattle.apt_plane.specs.declared.figures.Dir.{Dir}
 use Rattle.apt_plane.specs.Ranges.{IsSense}
