@@ -2,7 +2,7 @@
 use Rattle.std.proofs.Common.{◌≡◌, ◌∙◌, ℕ, refl, ap, sym, ◌^◌, ◌≤◌, ℤ, pos, unsigned_abs, Bool, true, false, not, [], ◌∷◌, arith, subst, if◌then◌else◌}
 use Rattle.std.specs.Prelude.{◌&&◌}
 use Rattle.std.proofs.lemmas.Int.{ints}
-use Rattle.std.proofs.lemmas.Bool.{true≢false, not-false}
+use Rattle.std.proofs.lemmas.Bool.{true≢false}
 use Rattle.apt_num.specs.declared.Sign.{Sign}
 use Rattle.apt_num.specs.declared.Sign.TheVariants as signs
 use Rattle.apt_num.specs.Sign.{sign_of}
@@ -22,14 +22,11 @@ use Rattle.apt_offset.specs.Turns.{opposite, is_zero}
 use Rattle.apt_offset.specs.Targets.{signed, lacks_room}
 use Rattle.apt_stop.specs.Nearness.{is_near, heading, off_track, near_stop, side_of as side_of_target}
 use Rattle.apt_stop.proofs.NearLaws.{near-OnLine}
-use Rattle.apt_stop.proofs.Cases.{inside_point}
 use Rattle.apt_certify.specs.declared.leg.Leg.{Leg}
 use Rattle.apt_certify.specs.Jobs.{IsStraight}
 use Rattle.apt_certify.specs.Legs.{beyond_of, IsBounded, IsWithinEdge, IsLegal}
 use Rattle.apt_meaning.specs.declared.motion.Motion.{Motion}
-use Rattle.apt_meaning.specs.declared.motion.StartUp.{StartUp}
 use Rattle.apt_meaning.specs.Motions.{stop_of, drive_side, check_side, line_offset, stop_offset, starts_on_check, side_between, side_of, stop_side, contact, leg_of, has_track, is_defined}
-use Rattle.apt_meaning.specs.StartUps.{start_point, meeting_cases, start_up_cases}
 use Rattle.apt_meaning.specs.Refusals.{motion_cases, is_tanto}
 use Rattle.apt_meaning.specs.Ranges.{IsMotion}
 use Rattle.apt_meaning.specs.Records.{IsLegalCut}
@@ -212,14 +209,3 @@ pub defined_bounded : (m : Motion) → is_defined m ≡ true → IsBounded (leg_
 defined_bounded m is =
     let side = side_there (has_track m) (starts_on_check m) (lacks_room (stop_of m)) (is_zero (stop_side m)) is in
     edge_bounded (leg_of m) (beyond_of m.check (stop_side m)) refl (beyond_not_zero m.check (stop_side m) side)
-
--- ---- start-up
-
-meeting_point-is : (u : StartUp) (a b : Surface) → IsStraight a → IsStraight b → NoneHolds (meeting_cases u a b) → IsPoint (start_point u)
-meeting_point-is u (surfaces.Line l) (surfaces.Line k) is_a is_b none = inside_point (start_point u) (not-false _ none.1.0)
-meeting_point-is u (surfaces.Line l) (surfaces.Circ k) is_a is_b none = absurd is_b
-meeting_point-is u (surfaces.Circ l) b is_a is_b none = absurd is_a
-
--- a start-up on lines that no case refuses ends at a point
-pub start_up_point : (u : StartUp) → IsStraight u.a → IsStraight u.b → NoneHolds (start_up_cases u) → IsPoint (start_point u)
-start_up_point u is_a is_b none = meeting_point-is u u.a u.b is_a is_b none.1.1.1.1

@@ -16,7 +16,6 @@ pub mod Kept
 pub mod Stands
 pub mod Walk
 pub mod Begins
-pub mod Meetings
 pub mod Moving
 pub mod Straight
 pub mod Agree
@@ -25,5 +24,6 @@ pub mod Ends
 pub mod Files
 mod Worked
 mod Statements
+mod StartUps
 mod Definitions
 mod Cases

@@ -41,7 +41,7 @@ pub fn built(surface: Surface) -> Option<Surface>
 }
 
 /// The surface that a name stands for.
-fn surface_in(table: &Table, name: &Symbol) -> Option<Surface>
+pub(crate) fn surface_in(table: &Table, name: &Symbol) -> Option<Surface>
     ensures value { result ≡ motions.surface_in table.now name.now }
     ensures range { IfSome result IsSurface }
 {
