@@ -21,6 +21,10 @@ use Rattle.apt_plane.specs.declared.figures.Surface.{Surface}
 use Rattle.apt_plane.specs.declared.figures.Surface.TheVariants as surfaces
 use Rattle.apt_plane.specs.Ranges.{IsPoint, IsSurface}
 use Rattle.apt_offset.specs.Turns.{is_zero}
+use Rattle.apt_startup.specs.declared.Goal.{Goal}
+use Rattle.apt_startup.specs.declared.StartUp.{StartUp}
+use Rattle.apt_startup.specs.StartUps.{start_up_cases, start_point}
+use Rattle.apt_startup.proofs.Limits.{start_point-is}
 use Rattle.apt_certify.specs.Jobs.{IsStraight}
 use Rattle.apt_cldata.specs.Ranges.{IsPosition, IsNote}
 use Rattle.apt_cldata.specs.declared.record.Note.{Note}
@@ -39,15 +43,14 @@ use Rattle.apt_defs.proofs.Tables.{looked_up}
 use Rattle.apt_meaning.specs.declared.situation.Settings.{Settings}
 use Rattle.apt_meaning.specs.declared.situation.Situation.{Situation}
 use Rattle.apt_meaning.specs.declared.motion.Motion.{Motion}
-use Rattle.apt_meaning.specs.declared.motion.StartUp.{StartUp}
 use Rattle.apt_meaning.specs.declared.effect.Effect.{Effect}
 use Rattle.apt_meaning.specs.declared.effect.Effect.TheVariants as effects
 use Rattle.apt_meaning.specs.OnLines.{built}
 use Rattle.apt_meaning.specs.Situations.{radius_of, lacks_feed, with_side, at_height}
 use Rattle.apt_meaning.specs.Motions.{as_surface, surface_in, line_in, turn_at, if_turned, motion, motion_at}
-use Rattle.apt_meaning.specs.StartUps.{start_up_at, start_up_cases, start_point, start_position}
-use Rattle.apt_meaning.specs.Effects.{moves, cuts, as_position, names, defines as gives, defined, position_by, moved_by, start_position_at, spins, effect_of}
-use Rattle.apt_meaning.specs.Refusals.{is_other_kind, is_left_out, is_no_place, refused, refused_if_any, refused_definition, position_cases, move_cases, motion_cases, turned_cases, surface_cases, contour_cases, start_cases, go_cases, start_up_or_not_built, cases_of, refusal_of}
+use Rattle.apt_meaning.specs.StartUps.{goal_in, second_in, start_up_at, start_position, start_position_at}
+use Rattle.apt_meaning.specs.Effects.{moves, cuts, as_position, names, defines as gives, defined, position_by, moved_by, spins, effect_of}
+use Rattle.apt_meaning.specs.Refusals.{is_other_kind, is_left_out, is_no_place, refused, refused_if_any, refused_definition, position_cases, move_cases, motion_cases, turned_cases, surface_cases, contour_cases, start_cases, go_cases, cases_of, refusal_of}
 use Rattle.apt_meaning.specs.Records.{AreLegal, MayHave}
 use Rattle.apt_meaning.specs.Compiled.{ends_of}
 use Rattle.apt_meaning.specs.Ranges.{IsPositionOrNone, AreSettings, IsSituation, IsEffect}
@@ -55,7 +58,7 @@ use Rattle.apt_meaning.specs.Straight.{IsStraightMotion}
 use Rattle.apt_scalar.specs.StepScalars.{HasScalars}
 use Rattle.apt_meaning.specs.Vertices.{HasIn}
 use Rattle.apt_meaning.proofs.Refused.{first_none, none_first}
-use Rattle.apt_meaning.proofs.Legal.{motion_legal, motion_contact, motion_defined, start_up_point}
+use Rattle.apt_meaning.proofs.Legal.{motion_legal, motion_contact, motion_defined}
 use Rattle.apt_meaning.proofs.EffectRanges.{reach_in, up_to_in, tolerance_in, radius_in, feed_in, feed_note, whole_note, with_units, with_radius, with_intol, with_outtol, with_feed, with_rapid, with_ended, on_side, on_side_or_as_it_was, motion_is}
 use Rattle.apt_meaning.proofs.Straight.{line_straight, named_surface, straight_surface}
 
@@ -141,39 +144,44 @@ started_there : (b : Bool) (to : Position) → b ≡ true → IsPosition to → 
 started_there true to e is = moves_to reaches.Start to is
 started_there false to e is = absurd (true≢false (sym e))
 
-starts : (u : StartUp) → IsPosition u.start → IsStraight u.a → IsStraight u.b → NoneHolds (start_up_cases u) → Asks (moves reaches.Start (start_position u))
-starts u is is_a is_b none =
-    started_there (is_none (first_of (start_up_cases u))) (at_height u.start.z (start_point u)) (ap is_none (none_first (start_up_cases u) none))
-    (record { at = start_up_point u is_a is_b none; z = is.z })
+starts : (from : Position) (u : StartUp) → IsPosition from → NoneHolds (start_up_cases u) → Asks (moves reaches.Start (start_position from u))
+starts from u is none =
+    started_there (is_none (first_of (start_up_cases u))) (at_height from.z (start_point u)) (ap is_none (none_first (start_up_cases u) none))
+    (record { at = start_point-is u none; z = is.z })
 
-abbrev start_up : Situation → Stop → Stop → Position → Surface → Surface → StartUp
-start_up at how_a how_b start a b = record { start = start; how_a = how_a; a = a; how_b = how_b; b = b; radius = at.settings.radius }
+abbrev goal_at : Stop → Surface → Goal
+goal_at how s = record { how = how; surface = s }
 
-abbrev start_up_on : Situation → Stop → Stop → Option Position → Option Surface → Option Surface → Option StartUp
-start_up_on at how_a how_b p a b = p >>= λ start. a >>= λ x. b >>= λ y. Some (start_up at how_a how_b start x y)
+goal_there : (o : Option Figure) (how : Stop) → is_none o ≡ false → is_other_kind o ≡ false
+    → is_none ((o >>= as_surface) >>= λ s. Some (goal_at how s)) ≡ false
+goal_there None how there kind = absurd (true≢false there)
+goal_there (Some (figures.Point at z)) how there kind = absurd (true≢false kind)
+goal_there (Some (figures.Shape s)) how there kind = refl
+goal_there (Some figures.Scalar) how there kind = absurd (true≢false kind)
 
-start_asks : (at : Situation) (how_a how_b : Stop) (p : Option Position) (a b : Option Surface) → IsPositionOrNone p → IfSome a IsStraight → IfSome b IsStraight
-    → is_none p ≡ false → is_none a ≡ false → is_none b ≡ false
-    → NoneHolds (start_cases (start_up_on at how_a how_b p a b)) → Asks (moves reaches.Start (start_up_on at how_a how_b p a b >>= start_position))
-start_asks at how_a how_b None a b is is_a is_b e f g none = absurd (true≢false e)
-start_asks at how_a how_b (Some start) None b is is_a is_b e f g none = absurd (true≢false f)
-start_asks at how_a how_b (Some start) (Some a) None is is_a is_b e f g none = absurd (true≢false g)
-start_asks at how_a how_b (Some start) (Some a) (Some b) is is_a is_b e f g none = starts (start_up at how_a how_b start a b) is is_a is_b none
+abbrev start_up_on : Situation → Option Position → Option Goal → Option (Option Goal) → Option StartUp
+start_up_on at p first second =
+    p >>= λ start. first >>= λ a. second >>= λ b. Some (record { start = start.at; first = a; second = b; radius = at.settings.radius })
 
-go_asks : (at : Situation) (how_a : Stop) (a : List ℕ) (how_b : Stop) (b : List ℕ) → IsSituation at
-    → NoneHolds (go_cases at how_a a how_b b) → Asks (moves reaches.Start (start_up_at at how_a a how_b b >>= start_position))
+start_asks : (at : Situation) (p : Option Position) (first : Option Goal) (second : Option (Option Goal)) → IsPositionOrNone p
+    → is_none p ≡ false → is_none first ≡ false → is_none second ≡ false → NoneHolds (start_cases (start_up_on at p first second))
+    → Asks (moves reaches.Start (p >>= λ from. start_up_on at p first second >>= λ u. start_position from u))
+start_asks at None first second is e f g none = absurd (true≢false e)
+start_asks at (Some from) None second is e f g none = absurd (true≢false f)
+start_asks at (Some from) (Some first) None is e f g none = absurd (true≢false g)
+start_asks at (Some from) (Some first) (Some second) is e f g none =
+    starts from (record { start = from.at; first = first; second = second; radius = at.settings.radius }) is none
+
+go_asks : (at : Situation) (how : Stop) (name : List ℕ) (other : Option (Stop × List ℕ)) → IsSituation at
+    → NoneHolds (go_cases at how name other) → Asks (moves reaches.Start (start_position_at at how name other))
 unfolding start_up_at
-go_asks at how_a a how_b b is none =
-    let names = none.1 in
-    let kinds = names.1.1 in
-    let done = kinds.1.1 in
-    start_asks at how_a how_b at.position (line_in at.table a) (line_in at.table b) is.position (line_straight at.table a is.table) (line_straight at.table b is.table) none.0
-    (line_there (figure_named at.table a) names.0 kinds.0 done.0) (line_there (figure_named at.table b) names.1.0 kinds.1.0 done.1.0) done.1.1.1
-
-go_or_refused : (at : Situation) (how_a : Stop) (a : List ℕ) (b : Option (Stop × List ℕ)) → IsSituation at
-    → NoneHolds (start_up_or_not_built at how_a a b) → Asks (moves reaches.Start (start_position_at at how_a a b))
-go_or_refused at how_a a None is none = absurd (true≢false none.0)
-go_or_refused at how_a a (Some b) is none = go_asks at how_a a b.0 b.1 is none
+go_asks at how name None is none =
+    start_asks at at.position (goal_in at.table how name) (Some None) is.position none.0
+    (goal_there (figure_named at.table name) how none.1.0 none.1.1.0) refl none.1.1.1.1
+go_asks at how name (Some other) is none =
+    start_asks at at.position (goal_in at.table how name) (second_in at.table (Some other)) is.position none.0
+    (goal_there (figure_named at.table name) how none.1.0 none.1.1.1.0)
+    (still_there (goal_in at.table other.0 other.1) (λ g. Some g) (goal_there (figure_named at.table other.1) other.0 none.1.1.0 none.1.1.1.1.0)) none.1.1.1.1.1.1
 
 -- ---- contours
 
@@ -255,7 +263,7 @@ asks at (deeds.GotoXy x y z) is numbers worded none = move_asks reaches.Goto at.
 asks at (deeds.GotoPoint p) is numbers worded none = place_asks reaches.Goto (figure_named at.table p) (looked_up at.table p is.table) none.0 none.1.0
 asks at (deeds.Godlta x y z) is numbers worded none =
     move_asks reaches.Godlta at.settings (at.position >>= λ p. Some (moved_by at.settings.units x y z p)) (still_there at.position (moved_by at.settings.units x y z) none.0) none.1
-asks at (deeds.GoStart how_a a b) is numbers worded none = go_or_refused at how_a a b is none
+asks at (deeds.GoStart how name other) is numbers worded none = go_asks at how name other is none
 asks at (deeds.Contour side go drive how check) is numbers worded none = contour_asks at side go drive how check is none
 asks at deeds.Rapid is numbers worded none = says (record at.settings { rapid = true }) notes.Rapid (with_rapid at.settings true is.settings) tt
 asks at deeds.Halt is numbers worded none = says at.settings notes.Stop is.settings tt

@@ -159,14 +159,7 @@ go_undefined = refl
 go_wrong_kind : go (at (record here { feed = pos 0 }) on_track) (codes "C1") (codes "P1") ≡ Some cases.WrongKind
 go_wrong_kind = refl
 
--- a circle is not built yet, wherever it stands
-go_round : go (at (record here { feed = pos 0 }) on_track) (codes "C1") (codes "L1") ≡ Some cases.NotBuilt
-go_round = refl
-
-go_round_too : go (at (record here { feed = pos 0 }) on_track) (codes "L1") (codes "C1") ≡ Some cases.NotBuilt
-go_round_too = refl
-
-go_no_feed : go (at (record here { feed = pos 0 }) on_track) (codes "L1") (codes "L1") ≡ Some cases.NoFeed
+go_no_feed : go (at (record here { feed = pos 0 }) on_track) (codes "C1") (codes "L1") ≡ Some cases.NoFeed
 go_no_feed = refl
 
 go_on_check : go (at here (Some (above (pos 0) (pos 0)))) (codes "L1") (codes "L1") ≡ Some cases.OnCheck
@@ -284,8 +277,3 @@ far_contact = refl
 fine : contour (at here on_track) turns.Forward (codes "L1") stops.To (codes "L2") ≡ None
 unfolding root
 fine = refl
-
--- ---- what the compiler does not have yet
-
-one_surface : refusal_of (at here on_track) (deeds.GoStart stops.To (codes "L1") None) ≡ Some cases.NotBuilt
-one_surface = refl

@@ -22,8 +22,9 @@ use Rattle.apt_meaning.specs.declared.effect.Effect.{Effect}
 use Rattle.apt_meaning.specs.declared.effect.Effect.TheVariants as effects
 use Rattle.apt_meaning.specs.Situations.{has_feed, lacks_feed, with_side}
 use Rattle.apt_meaning.specs.Motions.{surface_in, line_in, turn_at, if_turned, motion_at}
-use Rattle.apt_meaning.specs.Effects.{moves, cuts, place_in, names, defines, defined, position_by, moved_from, start_position_at, effect_of}
-use Rattle.apt_meaning.specs.Refusals.{move_cases, surface_cases, start_up_or_not_built, cases_of}
+use Rattle.apt_meaning.specs.StartUps.{start_position_at}
+use Rattle.apt_meaning.specs.Effects.{moves, cuts, place_in, names, defines, defined, position_by, moved_from, effect_of}
+use Rattle.apt_meaning.specs.Refusals.{move_cases, surface_cases, go_cases, cases_of}
 use Rattle.apt_meaning.proofs.Said.{of_some, either_turn}
 
 abbrev pub IsFed : Settings → Effect → Type 0
@@ -65,10 +66,10 @@ from_fed : (s : Settings) (o : Option Position) → IfSome (moves reaches.From o
 from_fed s None = tt
 from_fed s (Some to) = tt
 
-go_fed : (at : Situation) (how_a : Stop) (a : List ℕ) (b : Option (Stop × List ℕ)) → NoneHolds (start_up_or_not_built at how_a a b)
-    → IfSome (moves reaches.Start (start_position_at at how_a a b)) (IsFed at.settings)
-go_fed at how_a a None none = tt
-go_fed at how_a a (Some b) none = point_fed at.settings reaches.Start (start_position_at at how_a a (Some b)) none.1.1.1.1.1.1.1.0
+go_fed : (at : Situation) (how : Stop) (name : List ℕ) (other : Option (Stop × List ℕ)) → NoneHolds (go_cases at how name other)
+    → IfSome (moves reaches.Start (start_position_at at how name other)) (IsFed at.settings)
+go_fed at how name None none = point_fed at.settings reaches.Start (start_position_at at how name None) none.1.1.1.0
+go_fed at how name (Some other) none = point_fed at.settings reaches.Start (start_position_at at how name (Some other)) none.1.1.1.1.1.0
 
 cuts_fed : (s : Settings) (o : Option Motion) → not (has_feed s) ≡ false → IfSome (cuts o) (IsFed s)
 cuts_fed s None fed = tt
@@ -122,7 +123,7 @@ all_fed at (deeds.FromPoint p) none = from_fed at.settings (place_in at.table p)
 all_fed at (deeds.GotoXy x y z) none = moves_fed at.settings reaches.Goto (Some (position_by at.settings.units x y z)) none
 all_fed at (deeds.GotoPoint p) none = point_fed at.settings reaches.Goto (place_in at.table p) none.1.1.0
 all_fed at (deeds.Godlta x y z) none = moves_fed at.settings reaches.Godlta (moved_from at x y z) none.1
-all_fed at (deeds.GoStart how_a a b) none = go_fed at how_a a b none
+all_fed at (deeds.GoStart how name other) none = go_fed at how name other none
 all_fed at (deeds.Contour side go drive how check) none = surfaces_fed at side go how at.position (line_in at.table drive) (surface_in at.table check) none.1.1.1.1.1.1
 all_fed at deeds.Rapid none = tt
 all_fed at deeds.Halt none = tt

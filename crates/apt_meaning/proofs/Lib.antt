@@ -12,7 +12,6 @@ pub mod Kept
 pub mod Stands
 pub mod Walk
 pub mod Begins
-pub mod Meetings
 pub mod Moving
 pub mod Straight
 pub mod Agree
@@ -21,5 +20,6 @@ pub mod Ends
 pub mod Files
 mod Worked
 mod Statements
+mod StartUps
 mod Definitions
 mod Cases

@@ -3,13 +3,15 @@ use Rattle.std.proofs.Common.{◌≡◌, ℤ, Option, Some, None, Result, Ok, Er
 use Rattle.apt_words.specs.declared.Case.{Case}
 use Rattle.apt_words.specs.Rows.{first_of, unless, unless_case}
 use Rattle.apt_plane.specs.declared.figures.Pt.{Pt}
+use Rattle.apt_startup.specs.declared.StartUp.{StartUp}
+use Rattle.apt_startup.specs.StartUps.{start_point, start_up_cases}
+use Rattle.apt_cldata.specs.declared.record.Position.{Position}
 use Rattle.apt_cldata.specs.declared.record.Reach.TheVariants as reaches
-use Rattle.apt_meaning.specs.declared.motion.StartUp.{StartUp}
 use Rattle.apt_meaning.specs.declared.effect.Effect.{Effect}
 use Rattle.apt_meaning.specs.declared.effect.Effect.TheVariants as effects
 use Rattle.apt_meaning.specs.Situations.{at_height}
 use Rattle.apt_meaning.specs.Effects.{moves}
-use Rattle.apt_meaning.specs.StartUps.{start_point, start_up_cases, start_position}
+use Rattle.apt_meaning.specs.StartUps.{start_position}
 
 -- the move to a point at a height, where there is one
 abbrev pub moved_to : ℤ → Result Pt Case → Option Effect
@@ -20,5 +22,6 @@ moved_unless : (f : Option Case) (z : ℤ) (p : Pt) → moved_to z (unless_case 
 moved_unless None z p = refl
 moved_unless (Some case) z p = refl
 
-pub start_moved : (u : StartUp) (r : Result Pt Case) → r ≡ unless (start_up_cases u) (start_point u) → moved_to u.start.z r ≡ moves reaches.Start (start_position u)
-start_moved u r e = rw e (moved_unless (first_of (start_up_cases u)) u.start.z (start_point u))
+pub start_moved : (from : Position) (u : StartUp) (r : Result Pt Case) → r ≡ unless (start_up_cases u) (start_point u)
+    → moved_to from.z r ≡ moves reaches.Start (start_position from u)
+start_moved from u r e = rw e (moved_unless (first_of (start_up_cases u)) from.z (start_point u))

@@ -13,14 +13,15 @@ use Rattle.apt_plane.specs.declared.figures.Surface.TheVariants as surfaces
 use Rattle.apt_defs.specs.declared.figure.Figure.TheVariants as figures
 use Rattle.apt_defs.specs.Figures.{Table}
 use Rattle.apt_offset.specs.declared.Target.TheVariants as targets
+use Rattle.apt_startup.specs.declared.StartUp.{StartUp}
+use Rattle.apt_startup.specs.StartUps.{start_point}
 use Rattle.apt_certify.specs.declared.leg.Leg.{Leg}
 use Rattle.apt_meaning.specs.declared.situation.Settings.{Settings}
 use Rattle.apt_meaning.specs.declared.situation.Situation.{Situation}
 use Rattle.apt_meaning.specs.declared.motion.Motion.{Motion}
-use Rattle.apt_meaning.specs.declared.motion.StartUp.{StartUp}
 use Rattle.apt_meaning.specs.Situations.{first_settings, position_at}
 use Rattle.apt_meaning.specs.Motions.{motion_at, contact, leg_of}
-use Rattle.apt_meaning.specs.StartUps.{start_up_at, start_point}
+use Rattle.apt_meaning.specs.StartUps.{start_up_at}
 use Rattle.apt_meaning.specs.Refusals.{refusal_of}
 
 abbrev pub point : ℤ → ℤ → Pt
@@ -58,15 +59,13 @@ outside = record {
 
 abbrev pub to_corner : StartUp
 to_corner = record {
-  start = position_at (neg_ℤ (pos 100000)) (neg_ℤ (pos 100000)) (pos 50000);
-  how_a = stops.To;
-  a = surfaces.Line lower;
-  how_b = stops.To;
-  b = surfaces.Line left;
+  start = point (neg_ℤ (pos 100000)) (neg_ℤ (pos 100000));
+  first = record { how = stops.To; surface = surfaces.Line lower };
+  second = Some (record { how = stops.To; surface = surfaces.Line left });
   radius = pos 25000;
 }
 
-starts_up : start_up_at outside stops.To (codes "L1") stops.To (codes "L4") ≡ Some to_corner
+starts_up : start_up_at outside stops.To (codes "L1") (Some (stops.To, codes "L4")) ≡ Some to_corner
 unfolding start_up_at
 starts_up = refl
 

@@ -28,7 +28,8 @@ use Rattle.apt_meaning.specs.declared.effect.Effect.{Effect}
 use Rattle.apt_meaning.specs.OnLines.{built}
 use Rattle.apt_meaning.specs.Situations.{with_side}
 use Rattle.apt_meaning.specs.Motions.{as_surface, surface_in, line_in, motion, if_turned, motion_at}
-use Rattle.apt_meaning.specs.Effects.{moves, cuts, moved_from, place_in, start_position_at, names, defines, defined, effect_of}
+use Rattle.apt_meaning.specs.StartUps.{start_position_at}
+use Rattle.apt_meaning.specs.Effects.{moves, cuts, moved_from, place_in, names, defines, defined, effect_of}
 use Rattle.apt_meaning.specs.Ranges.{IsPositionOrNone, AreSettings, IsSituation}
 use Rattle.apt_meaning.specs.Straight.{IsStraightMotion, IsLined}
 use Rattle.apt_meaning.proofs.Said.{either_turn}
@@ -133,7 +134,7 @@ made at (deeds.FromPoint p) is = moves_made reaches.From (place_in at.table p)
 made at (deeds.GotoXy x y z) is = tt
 made at (deeds.GotoPoint p) is = moves_made reaches.Goto (place_in at.table p)
 made at (deeds.Godlta x y z) is = moves_made reaches.Godlta (moved_from at x y z)
-made at (deeds.GoStart how_a a b) is = moves_made reaches.Start (start_position_at at how_a a b)
+made at (deeds.GoStart how name other) is = moves_made reaches.Start (start_position_at at how name other)
 made at (deeds.Contour side go drive how check) is = contour_made (with_side at.settings side) at.forward go how at.position (line_in at.table drive) (surface_in at.table check)
     (on_side_or_as_it_was at.settings side is.settings) is.position (line_straight at.table drive is.table) (named_surface at.table check is.table)
 made at deeds.Rapid is = tt

@@ -9,21 +9,22 @@ ghost use Rattle.apt_words.specs.declared.deed.Deed.TheVariants as deeds;
 ghost use Rattle.apt_scalar.specs.Scalars as scalars;
 ghost use Rattle.apt_scalar.specs.Scalars.{IsScalar};
 ghost use Rattle.apt_scalar.specs.StepScalars.{HasScalars, IsScalarOrNone};
+ghost use Rattle.apt_startup.specs.Ranges.{IsStartUp};
 ghost use Rattle.apt_cldata.specs.declared.record.Note.TheVariants as notes;
 ghost use Rattle.apt_meaning.specs.Effects as asking;
 ghost use Rattle.apt_meaning.specs.Ranges.{IsSituation};
 ghost use Rattle.apt_meaning.specs.Situations as situations;
 ghost use Rattle.apt_meaning.specs.StartUps as start_ups;
-ghost use Rattle.apt_meaning.specs.Straight.{IsLined, IsStraightStartUp};
+ghost use Rattle.apt_meaning.specs.Straight.{IsLined};
 
-use crate::{
-    Effect, Motion, Situation, StartUp, line_in, moved_by, place_in, position_by, turn_at,
-};
+use crate::start_up::start_up_at;
+use crate::{Effect, Motion, Situation, line_in, moved_by, place_in, position_by, turn_at};
 use apt_cldata::{Note, Position, Reach};
 use apt_defs::definition;
 use apt_offset::signs::is_zero;
 use apt_plane::Pt;
 use apt_scalar::{grid_units, tenths, whole};
+use apt_startup::{StartUp, start};
 use apt_words::{Deed, Go, Side, Stop, Symbol, Turn};
 use std::alloc::AllocError;
 
@@ -31,8 +32,8 @@ use std::alloc::AllocError;
 /// behind it, with the note that says so, where it has one; the position to which it leads, and how; or the
 /// motion of a contour, from the position on. Lengths and coordinates are in grid units by the units that hold,
 /// feeds in tenths. None where a definition is refused, a FROM or a GOTO names no point, a GODLTA, a GO or a contour
-/// has no position to start from, a name of GO or a contour stands for no line, a case refuses the point of GO, or a
-/// contour has no turn.
+/// has no position to start from, a name of GO stands for no surface or one of a contour for no line, a case refuses
+/// the point of GO, or a contour has no turn.
 #[tactic(auto, using(crate::proofs::Straight::lined))]
 pub fn effect_of(at: &Situation, deed: &Deed) -> Result<Option<Effect>, AllocError>
     requires situation { IsSituation at.now }
@@ -109,7 +110,7 @@ fn asked_apart(at: &Situation, deed: &Deed) -> Result<Option<Effect>, AllocError
         Deed::GotoXy(x, y, z) => Ok(Some(reached(at, Reach::Goto, *x, *y, *z))),
         Deed::GotoPoint(p) => Ok(to_point(at, Reach::Goto, p)),
         Deed::Godlta(x, y, z) => Ok(godlta(at, *x, *y, *z)),
-        Deed::GoStart(how_a, a, Some((how_b, b))) => Ok(go(at, *how_a, a, *how_b, b)),
+        Deed::GoStart(how, name, other) => Ok(go(at, *how, name, other)),
         Deed::Rapid => Ok(Some(Effect::says(s.with_rapid(), Note::Rapid))),
         Deed::Halt => Ok(Some(Effect::says(s, Note::Stop))),
         Deed::OptHalt => Ok(Some(Effect::says(s, Note::OptStop))),
@@ -213,41 +214,31 @@ fn godlta(at: &Situation, x: i64, y: i64, z: i64) -> Option<Effect>
     Some(Effect::Moves(Reach::Godlta, to))
 }
 
-/// The move to the start-up point on two surfaces.
-#[tactic(auto, unfolding(crate::specs::StartUps::start_up_at))]
-fn go(at: &Situation, how_a: Stop, a: &Symbol, how_b: Stop, b: &Symbol) -> Option<Effect>
+/// The move to the start-up point.
+fn go(at: &Situation, how: Stop, name: &Symbol, other: &Option<(Stop, Symbol)>) -> Option<Effect>
     requires { IsSituation at.now }
-    ensures { result ≡ asking.effect_of at.now (deeds.GoStart how_a a.now (Some (how_b, b.now))) }
+    ensures { result ≡ asking.effect_of at.now (deeds.GoStart how name.now other.now) }
 {
-    let start = at.position?;
-    let a = line_in(&at.table, a)?;
-    let b = line_in(&at.table, b)?;
-    let start_up = StartUp {
-        start,
-        how_a,
-        a,
-        how_b,
-        b,
-        radius: at.settings.radius,
-    };
-    start_move(&start_up)
+    let from = at.position?;
+    let start_up = start_up_at(at, how, name, other)?;
+    start_move(from, &start_up)
 }
 
 /// The move to where a start-up ends.
-fn start_move(u: &StartUp) -> Option<Effect>
-    requires { IsStraightStartUp u.now }
-    ensures { result ≡ asking.moves Reach.Start (start_ups.start_position u.now) }
+fn start_move(from: Position, u: &StartUp) -> Option<Effect>
+    requires { IsStartUp u.now }
+    ensures { result ≡ asking.moves Reach.Start (start_ups.start_position from u.now) }
 {
-    match u.point() {
-        Ok(at) => Some(start_to(u.start, at)),
+    match start(u) {
+        Ok(at) => Some(start_to(from, at)),
         Err(_) => None,
     }
 }
 
-fn start_to(start: Position, at: Pt) -> Effect
-    ensures { result ≡ Effect.Moves Reach.Start (situations.at_height start.z at) }
+fn start_to(from: Position, at: Pt) -> Effect
+    ensures { result ≡ Effect.Moves Reach.Start (situations.at_height from.z at) }
 {
-    Effect::Moves(Reach::Start, Position { at, z: start.z })
+    Effect::Moves(Reach::Start, Position { at, z: from.z })
 }
 
 #[tactic(auto, unfolding(crate::specs::Motions::motion_at))]

@@ -37,17 +37,6 @@ pub struct Motion {
     pub outer: i64,
 }
 
-/// A start-up on two surfaces: from where, how it stops at each, and the cutter's radius.
-#[derive(Clone, Copy)]
-pub struct StartUp {
-    pub start: Position,
-    pub how_a: Stop,
-    pub a: Surface,
-    pub how_b: Stop,
-    pub b: Surface,
-    pub radius: i64,
-}
-
 impl Motion {
     /// The motion along a drive surface that runs so against forward.
     pub fn along(

@@ -1,32 +1,32 @@
--- The first case of rows.
-use Rattle.std.proofs.Common.{◌≡◌, ◌∙◌, ℕ, Bool, true, false, List, [], ◌∷◌, ◌++◌, Option, Some, None, is_none, refl, ap, cond}
+-- The first case of rows, and what GO asks for.
+use Rattle.std.proofs.Common.{◌≡◌, ◌∙◌, ℕ, Bool, true, false, List, [], ◌∷◌, ◌++◌, ℤ, Option, Some, None, Result, Ok, Err, is_none, refl, ap, cond}
 use Rattle.std.specs.Option.{option_or}
-use Rattle.std.specs.Result.{result_err}
 use Rattle.apt_words.specs.declared.Case.{Case}
+use Rattle.apt_words.specs.declared.Case.TheVariants as cases
 use Rattle.apt_words.specs.declared.Stop.{Stop}
+use Rattle.apt_words.specs.declared.deed.Deed.TheVariants as deeds
 use Rattle.apt_words.specs.Options.{◌>>=◌}
 use Rattle.apt_words.specs.Rows.{Row, first_of, unless, unless_case}
+use Rattle.apt_plane.specs.declared.figures.Pt.{Pt}
 use Rattle.apt_plane.specs.declared.figures.Surface.{Surface}
+use Rattle.apt_startup.specs.declared.Goal.{Goal}
+use Rattle.apt_startup.specs.declared.StartUp.{StartUp}
+use Rattle.apt_startup.specs.StartUps.{start_up_cases, start_point}
 use Rattle.apt_cldata.specs.declared.record.Position.{Position}
+use Rattle.apt_cldata.specs.declared.record.Reach.TheVariants as reaches
 use Rattle.apt_defs.specs.declared.figure.Figure.{Figure}
 use Rattle.apt_defs.specs.declared.figure.Figure.TheVariants as figures
 use Rattle.apt_defs.specs.Figures.{Table, figure_named}
 use Rattle.apt_meaning.specs.declared.situation.Situation.{Situation}
-use Rattle.apt_meaning.specs.OnLines.{built}
-use Rattle.apt_meaning.specs.Situations.{lacks_feed}
+use Rattle.apt_meaning.specs.declared.effect.Effect.TheVariants as effects
+use Rattle.apt_meaning.specs.Situations.{lacks_feed, at_height}
 use Rattle.apt_meaning.specs.Motions.{as_surface, surface_in}
-use Rattle.apt_meaning.specs.StartUps.{start_up_at, start_up_cases}
-use Rattle.apt_meaning.specs.Refusals.{position_cases, is_undefined, is_other_kind, is_no_surface, point_cases, name_cases, go_cases}
-use Rattle.apt_motion.specs.Finding.{go_cases_on}
-
--- ---- what refuses a value
-
-unless_case_err : {A : Type 0} (f : Option Case) (x : A) → result_err (unless_case f x) ≡ f
-unless_case_err None x = refl
-unless_case_err (Some case) x = refl
-
-pub unless_err : {A : Type 0} (rows : List Row) (x : A) → result_err (unless rows x) ≡ first_of rows
-unless_err rows x = unless_case_err (first_of rows) x
+use Rattle.apt_meaning.specs.StartUps.{goal_in, second_in, start_up_at, start_position, start_position_at}
+use Rattle.apt_meaning.specs.Effects.{moves, effect_of}
+use Rattle.apt_meaning.specs.Refusals.{position_cases, is_undefined, is_other_kind, is_no_surface, point_cases, name_cases, each_name, start_names, start_cases, refusal_of}
+use Rattle.apt_meaning.specs.Compiled.{asked}
+use Rattle.apt_motion.specs.declared.found.Found.{Found}
+use Rattle.apt_motion.specs.Finding.{IsFound, names_cases, start_up_on, go_cases_on, start_of}
 
 -- ---- rows behind rows
 
@@ -66,15 +66,87 @@ known (Some figures.Scalar) s e = absurd cc
 pub known_surface : (table : Table) (name : List ℕ) (s : Surface) → surface_in table name ≡ Some s → (is_undefined table name ≡ false) × (is_no_surface table name ≡ false)
 known_surface table name s e = known (figure_named table name) s e
 
--- ---- a start-up on known surfaces, and one that no condition on names and feed refuses
+-- ---- the names of GO
 
-pub go_known : (at : Situation) (how_a : Stop) (a : List ℕ) (how_b : Stop) (b : List ℕ) (start : Position) (f g : Figure) (d e : Surface)
-    → at.position ≡ Some start → figure_named at.table a ≡ Some f → figure_named at.table b ≡ Some g → as_surface f ≡ Some d → as_surface g ≡ Some e
-    → first_of (go_cases at how_a a how_b b) ≡ first_of (go_cases_on at start how_a d how_b e)
+abbrev goal_at : Stop → Surface → Goal
+goal_at how s = record { how = how; surface = s }
+
+known_goal : (o : Option Figure) (how : Stop) (g : Goal) → (o >>= as_surface) >>= (λ s. Some (goal_at how s)) ≡ Some g → (is_none o ≡ false) × (is_other_kind o ≡ false)
+known_goal None how g e = absurd cc
+known_goal (Some (figures.Point at z)) how g e = absurd cc
+known_goal (Some (figures.Shape s)) how g e = (refl, refl)
+known_goal (Some figures.Scalar) how g e = absurd cc
+
+some_first : (o : Option Goal) (second : Option Goal) → o >>= (λ g. Some (Some g)) ≡ Some second → (g : Goal) × (o ≡ Some g)
+some_first None second e = absurd cc
+some_first (Some g) second e = (g, refl)
+
+names_pass : (table : Table) (how : Stop) (name : List ℕ) (other : Option (Stop × List ℕ)) (first : Goal) (second : Option Goal) (more : List Row)
+    → goal_in table how name ≡ Some first → second_in table other ≡ Some second
+    → first_of (each_name (is_undefined table) cases.Undefined (start_names name other) ++ each_name (is_no_surface table) cases.WrongKind (start_names name other) ++ more)
+    ≡ first_of more
+names_pass table how name None first second more e f =
+    let a = known_goal (figure_named table name) how first e in
+    rw (a.0, a.1) refl
+names_pass table how name (Some other) first second more e f =
+    let there = some_first (goal_in table other.0 other.1) second f in
+    let a = known_goal (figure_named table name) how first e in
+    let b = known_goal (figure_named table other.1) other.0 there.0 there.1 in
+    rw (a.0, b.0, a.1, b.1) refl
+
+names_stop : (table : Table) (name : List ℕ) (other : Option (Stop × List ℕ)) (more : List Row) (case : Case)
+    → first_of (names_cases table (start_names name other)) ≡ Some case
+    → first_of (each_name (is_undefined table) cases.Undefined (start_names name other) ++ each_name (is_no_surface table) cases.WrongKind (start_names name other) ++ more)
+    ≡ Some case
+names_stop table name None more case e = first_append (names_cases table (start_names name None)) more ∙ ap (λ (f : Option Case). option_or f (first_of more)) e
+names_stop table name (Some other) more case e = first_append (names_cases table (start_names name (Some other))) more ∙ ap (λ (f : Option Case). option_or f (first_of more)) e
+
+-- ---- GO on known surfaces
+
+start_up_known : (at : Situation) (how : Stop) (name : List ℕ) (other : Option (Stop × List ℕ)) (from : Position) (first : Goal) (second : Option Goal)
+    → at.position ≡ Some from → goal_in at.table how name ≡ Some first → second_in at.table other ≡ Some second
+    → start_up_at at how name other ≡ Some (start_up_on at from first second)
 unfolding start_up_at
-go_known at how_a a how_b b start f g d e here is_f is_g on_d on_e = rw (here, is_f, is_g, on_d, on_e) refl
+start_up_known at how name other from first second here on_first on_second = rw (here, on_first, on_second) refl
 
-pub go_passed : (at : Situation) (start : Position) (how_a : Stop) (d : Surface) (how_b : Stop) (e x y : Surface)
-    → built d ≡ Some x → built e ≡ Some y → lacks_feed at.settings ≡ false
-    → first_of (go_cases_on at start how_a d how_b e) ≡ first_of (start_up_cases (record { start = start; how_a = how_a; a = x; how_b = how_b; b = y; radius = at.settings.radius }))
-go_passed at start how_a d how_b e x y on_d on_e fed = rw (on_d, on_e, fed) refl
+-- the rows behind those of the names
+abbrev behind_names : Situation → Option StartUp → List Row
+behind_names at u = (lacks_feed at.settings, cases.NoFeed) ∷ start_cases u
+
+pub go_refused : (at : Situation) (how : Stop) (name : List ℕ) (other : Option (Stop × List ℕ)) (from : Position) (case : Case)
+    → at.position ≡ Some from → first_of (names_cases at.table (start_names name other)) ≡ Some case → refusal_of at (deeds.GoStart how name other) ≡ Some case
+go_refused at how name other from case here refused = rw here (names_stop at.table name other (behind_names at (start_up_at at how name other)) case refused)
+
+found_by : (lacks : Bool) (f : Option Case) (to : Position)
+    → IsFound (asked (cond lacks (Some cases.NoFeed) f) (moves reaches.Start (cond (is_none f) (Some to) None)))
+    (unless_case (cond lacks (Some cases.NoFeed) f) (record { effect = effects.Moves reaches.Start to; end = None }))
+found_by true f to = refl
+found_by false None to = (refl, refl)
+found_by false (Some case) to = refl
+
+pub go_found : (at : Situation) (how : Stop) (name : List ℕ) (other : Option (Stop × List ℕ)) (from : Position) (first : Goal) (second : Option Goal) (r : Result Found Case)
+    → at.position ≡ Some from → goal_in at.table how name ≡ Some first → second_in at.table other ≡ Some second
+    → r ≡ unless (go_cases_on at.settings (start_up_on at from first second)) (start_of from (start_up_on at from first second))
+    → IsFound (asked (refusal_of at (deeds.GoStart how name other)) (effect_of at (deeds.GoStart how name other))) r
+go_found at how name other from first second r here on_first on_second same =
+    let u = start_up_on at from first second in
+    let there = start_up_known at how name other from first second here on_first on_second in
+    let refusal : refusal_of at (deeds.GoStart how name other) ≡ first_of (go_cases_on at.settings u) =
+    rw here (names_pass at.table how name other first second (behind_names at (start_up_at at how name other)) on_first on_second ∙ ap (λ o. first_of (behind_names at o)) there) in
+    let position : start_position_at at how name other ≡ start_position from u = rw (here, there) refl in
+    let effect : effect_of at (deeds.GoStart how name other) ≡ moves reaches.Start (start_position from u) = ap (λ o. moves reaches.Start o) position in
+    rw (refusal, effect, same) (found_by (lacks_feed at.settings) (first_of (start_up_cases u)) (at_height from.z (start_point u)))
+
+-- ---- the move of a start-up, where it ends
+
+-- the move to a point at a height, where there is one
+abbrev pub moved_to : ℤ → Result Pt Case → Result Found Case
+moved_to z (Ok p) = Ok (record { effect = effects.Moves reaches.Start (at_height z p); end = None })
+moved_to z (Err case) = Err case
+
+moved_unless : (f : Option Case) (from : Position) (u : StartUp) → moved_to from.z (unless_case f (start_point u)) ≡ unless_case f (start_of from u)
+moved_unless None from u = refl
+moved_unless (Some case) from u = refl
+
+pub start_unless : (from : Position) (u : StartUp) (r : Result Pt Case) → r ≡ unless (start_up_cases u) (start_point u) → moved_to from.z r ≡ unless (start_up_cases u) (start_of from u)
+start_unless from u r e = rw e (moved_unless (first_of (start_up_cases u)) from u)

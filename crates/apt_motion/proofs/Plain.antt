@@ -17,7 +17,8 @@ use Rattle.apt_meaning.specs.declared.motion.Motion.{Motion}
 use Rattle.apt_meaning.specs.declared.effect.Effect.{Effect}
 use Rattle.apt_meaning.specs.declared.effect.Effect.TheVariants as effects
 use Rattle.apt_meaning.specs.Motions.{motion_at}
-use Rattle.apt_meaning.specs.Effects.{moves, cuts, place_in, names, defines, defined, moved_from, start_position_at, effect_of}
+use Rattle.apt_meaning.specs.StartUps.{start_position_at}
+use Rattle.apt_meaning.specs.Effects.{moves, cuts, place_in, names, defines, defined, moved_from, effect_of}
 use Rattle.apt_meaning.specs.Compiled.{ends_of}
 use Rattle.apt_meaning.proofs.Said.{of_some, either_turn}
 use Rattle.apt_motion.specs.Finding.{IsNoContour, IsNoDefinition, DefinesNothing}
@@ -88,7 +89,7 @@ suits at (deeds.FromPoint p) = moved_by at (deeds.FromPoint p) reaches.From (pla
 suits at (deeds.GotoXy x y z) = tt
 suits at (deeds.GotoPoint p) = moved_by at (deeds.GotoPoint p) reaches.Goto (place_in at.table p)
 suits at (deeds.Godlta x y z) = moved_by at (deeds.Godlta x y z) reaches.Godlta (moved_from at x y z)
-suits at (deeds.GoStart how_a a b) = moved_by at (deeds.GoStart how_a a b) reaches.Start (start_position_at at how_a a b)
+suits at (deeds.GoStart how name other) = moved_by at (deeds.GoStart how name other) reaches.Start (start_position_at at how name other)
 suits at (deeds.Contour side go drive how check) = cut_by at side go drive how check (motion_at at side go drive how check)
 suits at deeds.Rapid = tt
 suits at deeds.Halt = tt

@@ -1,5 +1,5 @@
 -- What the compiling pass finds of a step that defines nothing: its effect with the end of its contour, or the case that refuses it.
-use Rattle.std.specs.Prelude.{◌≡◌, ◌≢◌, ℕ, List, [], ◌∷◌, Option, Some, None, Result, Ok, Err}
+use Rattle.std.specs.Prelude.{◌≡◌, ◌≢◌, ℕ, List, [], ◌∷◌, ◌++◌, Option, Some, None, Result, Ok, Err}
 use Rattle.apt_words.specs.Options.{◌>>=◌}
 use Rattle.apt_words.specs.Rows.{Row}
 use Rattle.apt_words.specs.declared.Case.{Case}
@@ -11,22 +11,30 @@ use Rattle.apt_words.specs.declared.deed.Deed.{Deed}
 use Rattle.apt_words.specs.declared.deed.Deed.TheVariants as deeds
 use Rattle.apt_plane.specs.declared.figures.Pt.{Pt}
 use Rattle.apt_plane.specs.declared.figures.Surface.{Surface}
+use Rattle.apt_startup.specs.declared.Goal.{Goal}
+use Rattle.apt_startup.specs.declared.StartUp.{StartUp}
+use Rattle.apt_startup.specs.StartUps.{start_up_cases, start_point}
 use Rattle.apt_cldata.specs.declared.record.Position.{Position}
+use Rattle.apt_cldata.specs.declared.record.Reach.TheVariants as reaches
+use Rattle.apt_defs.specs.Figures.{Table}
 use Rattle.apt_defs.specs.Definitions.{definition_of}
+use Rattle.apt_meaning.specs.declared.situation.Settings.{Settings}
 use Rattle.apt_meaning.specs.declared.situation.Situation.{Situation}
 use Rattle.apt_meaning.specs.declared.motion.Motion.{Motion}
-use Rattle.apt_meaning.specs.declared.motion.StartUp.{StartUp}
 use Rattle.apt_meaning.specs.declared.effect.Effect.{Effect}
 use Rattle.apt_meaning.specs.declared.effect.Effect.TheVariants as effects
 use Rattle.apt_meaning.specs.OnLines.{built}
-use Rattle.apt_meaning.specs.Situations.{lacks_feed, with_side}
+use Rattle.apt_meaning.specs.Situations.{lacks_feed, with_side, at_height}
 use Rattle.apt_meaning.specs.Motions.{contact, turn_at, if_turned}
-use Rattle.apt_meaning.specs.Refusals.{is_left_out, start_cases, surface_cases}
+use Rattle.apt_meaning.specs.Refusals.{is_undefined, is_no_surface, is_left_out, each_name, surface_cases}
 use Rattle.apt_meaning.specs.Compiled.{ends_of}
 use Rattle.apt_motion.specs.declared.found.Found.{Found}
 
 abbrev pub IsNoContour : Deed → Type 0
 IsNoContour deed = (side : Option Side) (go : Go) (drive : List ℕ) (how : Stop) (check : List ℕ) → deed ≢ deeds.Contour side go drive how check
+
+abbrev pub IsNoStart : Deed → Type 0
+IsNoStart deed = (how : Stop) (name : List ℕ) (other : Option (Stop × List ℕ)) → deed ≢ deeds.GoStart how name other
 
 -- and that defines nothing
 abbrev pub IsNoDefinition : Situation → Deed → Type 0
@@ -41,14 +49,19 @@ DefinesNothing (effects.Cuts m) = Unit {0}
 
 -- ---- GO and contours whose names stand for surfaces
 
-abbrev pub start_up_on : Situation → Position → Stop → Surface → Stop → Surface → Option StartUp
-start_up_on at start how_a a how_b b =
-    built a >>= λ x. built b >>= λ y. Some (record { start = start; how_a = how_a; a = x; how_b = how_b; b = y; radius = at.settings.radius })
+-- each name is there, and then each stands for a surface
+abbrev pub names_cases : Table → List (List ℕ) → List Row
+names_cases table names = each_name (is_undefined table) cases.Undefined names ++ each_name (is_no_surface table) cases.WrongKind names
 
-abbrev pub go_cases_on : Situation → Position → Stop → Surface → Stop → Surface → List Row
-go_cases_on at start how_a a how_b b =
-    (is_left_out (Some a), cases.NotBuilt) ∷ (is_left_out (Some b), cases.NotBuilt)
-    ∷ (lacks_feed at.settings, cases.NoFeed) ∷ start_cases (start_up_on at start how_a a how_b b)
+abbrev pub start_up_on : Situation → Position → Goal → Option Goal → StartUp
+start_up_on at from first second = record { start = from.at; first = first; second = second; radius = at.settings.radius }
+
+abbrev pub go_cases_on : Settings → StartUp → List Row
+go_cases_on s u = (lacks_feed s, cases.NoFeed) ∷ start_up_cases u
+
+-- the move to where a start-up ends
+abbrev pub start_of : Position → StartUp → Found
+start_of from u = record { effect = effects.Moves reaches.Start (at_height from.z (start_point u)); end = None }
 
 abbrev pub motion_on : Situation → Option Side → Go → Position → Surface → Stop → Surface → Option Motion
 motion_on at side go start d how e =

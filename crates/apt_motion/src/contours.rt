@@ -37,7 +37,7 @@ const OFF_TRACK: i64 = 3;
 /// # Errors
 ///
 /// The first case that refuses it: `Undefined`, else `WrongKind`.
-fn surface_named(table: &Table, name: &Symbol) -> Result<Surface, Case>
+pub(crate) fn surface_named(table: &Table, name: &Symbol) -> Result<Surface, Case>
     ensures named { MatchResult result (λ s. motions.surface_in table.now name.now ≡ Some s) (λ case. first_of (refusals.name_cases table.now name.now []) ≡ Some case) }
     ensures range { IfOk result IsSurface }
 {

@@ -9,10 +9,11 @@ ghost use Rattle.apt_meaning.specs.Compiled.{asked};
 ghost use Rattle.apt_meaning.specs.Effects as asking;
 ghost use Rattle.apt_meaning.specs.Ranges.{IsSituation};
 ghost use Rattle.apt_meaning.specs.Refusals.{refusal_of};
-ghost use Rattle.apt_motion.specs.Finding.{IsFound, IsNoContour, IsNoDefinition};
+ghost use Rattle.apt_motion.specs.Finding.{IsFound, IsNoContour, IsNoDefinition, IsNoStart};
 
 use crate::contours::contour;
 use crate::refusals::{move_to, refusal};
+use crate::start_ups::go;
 use apt_cldata::Reach;
 use apt_meaning::{Effect, Situation, effect_of, position_by};
 use apt_plane::Pt;
@@ -39,6 +40,7 @@ pub(crate) fn find(at: &Situation, deed: &Deed) -> Result<Result<Found, Case>, A
         Deed::Contour(side, go, drive, how, check) => {
             Ok(contour(at, *side, *go, drive, *how, check))
         }
+        Deed::GoStart(how, name, other) => Ok(go(at, *how, name, other)),
         Deed::GotoXy(x, y, z) => Ok(goto(at, *x, *y, *z)),
         _ => plain(at, deed),
     }
@@ -62,13 +64,14 @@ fn goto(at: &Situation, x: i64, y: i64, z: Option<i64>) -> Result<Found, Case>
     }
 }
 
-/// What a step asks for that is no contour and no definition.
+/// What a step asks for that is no contour, no start-up and no definition.
 #[tactic(auto, using(crate::proofs::Plain::plain_no_end))]
 fn plain(at: &Situation, deed: &Deed) -> Result<Result<Found, Case>, AllocError>
     requires situation { IsSituation at.now }
     requires scalars { HasScalars deed.now }
     requires built { IsBuilt deed.now }
     requires plain { IsNoContour deed.now }
+    requires no_start { IsNoStart deed.now }
     requires defines_nothing { IsNoDefinition at.now deed.now }
     ensures { IfOk result (IsFound (asked (refusal_of at.now deed.now) (asking.effect_of at.now deed.now))) }
 {

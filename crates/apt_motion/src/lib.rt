@@ -6,5 +6,6 @@ mod found;
 mod records;
 mod refusals;
 mod runs;
+mod start_ups;
 
 pub use runs::{RunError, ends, run};

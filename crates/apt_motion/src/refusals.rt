@@ -1,4 +1,4 @@
-//! The cases that refuse steps which are no contours and no definitions.
+//! The cases that refuse steps which are no contours, no start-ups and no definitions.
 
 ghost use Rattle.std.specs.Prelude.{◌≡◌, [], ◌∷◌, Some};
 ghost use Rattle.apt_words.specs.Built.{IsBuilt};
@@ -6,20 +6,16 @@ ghost use Rattle.apt_words.specs.Rows.{first_of};
 ghost use Rattle.apt_words.specs.declared.deed.Deed.TheVariants as deeds;
 ghost use Rattle.apt_scalar.specs.Scalars.{IsScalar};
 ghost use Rattle.apt_scalar.specs.StepScalars.{HasScalars, IsScalarOrNone};
-ghost use Rattle.apt_plane.specs.Ranges.{IsSurface};
-ghost use Rattle.apt_cldata.specs.Ranges.{IsPosition};
 ghost use Rattle.apt_meaning.specs.Ranges.{IsSituation};
 ghost use Rattle.apt_meaning.specs.Refusals as refusals;
 ghost use Rattle.apt_meaning.specs.Refusals.{refusal_of};
-ghost use Rattle.apt_motion.specs.Finding as finding;
-ghost use Rattle.apt_motion.specs.Finding.{IsNoContour, IsNoDefinition};
+ghost use Rattle.apt_motion.specs.Finding.{IsNoContour, IsNoDefinition, IsNoStart};
 
 use apt_cldata::Position;
 use apt_defs::{Table, is_in_reach, point};
-use apt_meaning::{Settings, Situation, StartUp, built, moved_by, position_by, surface_of};
-use apt_plane::Surface;
+use apt_meaning::{Settings, Situation, moved_by, position_by};
 use apt_scalar::{grid_units, tenths, whole};
-use apt_words::{Case, Deed, Stop, Symbol};
+use apt_words::{Case, Deed, Symbol};
 
 /// The greatest diameter of a cutter, in grid units.
 const MOST_DIAMETER: i64 = 1_000_000;
@@ -27,12 +23,13 @@ const MOST_DIAMETER: i64 = 1_000_000;
 /// The greatest tolerance, in grid units.
 const MOST_TOLERANCE: i64 = 10_000;
 
-/// The first case that refuses a step which is no contour and no definition.
+/// The first case that refuses a step which is no contour, no start-up and no definition.
 pub(crate) fn refusal(at: &Situation, deed: &Deed) -> Option<Case>
     requires situation { IsSituation at.now }
     requires scalars { HasScalars deed.now }
     requires built { IsBuilt deed.now }
     requires plain { IsNoContour deed.now }
+    requires no_start { IsNoStart deed.now }
     requires defines_nothing { IsNoDefinition at.now deed.now }
     ensures { result ≡ refusal_of at.now deed.now }
 {
@@ -68,7 +65,6 @@ pub(crate) fn refusal(at: &Situation, deed: &Deed) -> Option<Case>
         Deed::GotoXy(x, y, z) => move_to(&at.settings, position_by(units, *x, *y, *z)),
         Deed::GotoPoint(p) => goto_point(at, p),
         Deed::Godlta(x, y, z) => godlta(at, *x, *y, *z),
-        Deed::GoStart(how_a, a, Some((how_b, b))) => go(at, *how_a, a, *how_b, b),
         _ => unreachable!(),
     }
 }
@@ -175,56 +171,4 @@ fn godlta(at: &Situation, x: i64, y: i64, z: i64) -> Option<Case>
         return Some(Case::NoFrom);
     };
     move_to(&at.settings, moved_by(at.settings.units, x, y, z, from))
-}
-
-/// GO: both names are there before either's kind is tried.
-fn go(at: &Situation, how_a: Stop, a: &Symbol, how_b: Stop, b: &Symbol) -> Option<Case>
-    requires { IsSituation at.now }
-    ensures { result ≡ first_of (refusals.go_cases at.now how_a a.now how_b b.now) }
-{
-    let Some(start) = at.position else {
-        return Some(Case::NoFrom);
-    };
-    let (Some(a), Some(b)) = (at.table.get(a), at.table.get(b)) else {
-        return Some(Case::Undefined);
-    };
-    let (Some(a), Some(b)) = (surface_of(a), surface_of(b)) else {
-        return Some(Case::WrongKind);
-    };
-    go_on(at, start, how_a, a, how_b, b)
-}
-
-/// GO on known surfaces: lines are built so far.
-fn go_on(
-    at: &Situation,
-    start: Position,
-    how_a: Stop,
-    a: Surface,
-    how_b: Stop,
-    b: Surface,
-) -> Option<Case>
-    requires situation { IsSituation at.now }
-    requires start { IsPosition start }
-    requires a { IsSurface a }
-    requires b { IsSurface b }
-    ensures { result ≡ first_of (finding.go_cases_on at.now start how_a a how_b b) }
-{
-    let Some(a) = built(a) else {
-        return Some(Case::NotBuilt);
-    };
-    let Some(b) = built(b) else {
-        return Some(Case::NotBuilt);
-    };
-    if at.settings.lacks_feed() {
-        return Some(Case::NoFeed);
-    }
-    let start_up = StartUp {
-        start,
-        how_a,
-        a,
-        how_b,
-        b,
-        radius: at.settings.radius,
-    };
-    start_up.point().err()
 }

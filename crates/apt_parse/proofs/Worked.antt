@@ -2,6 +2,7 @@
 use Rattle.std.specs.Prelude.{◌≡◌, ℕ, pos, List, [], ◌∷◌, ◌++◌, Option, Some, None, Result, Ok, Err, codes}
 use Rattle.std.proofs.Common.{refl}
 use Rattle.apt_words.specs.Vocabulary.{word_of}
+use Rattle.apt_words.specs.declared.Stop.TheVariants as stops
 use Rattle.apt_words.specs.declared.body.Body.TheVariants as bodies
 use Rattle.apt_words.specs.declared.body.Stmt.{Stmt}
 use Rattle.apt_words.specs.Trees.{Num}
@@ -64,13 +65,12 @@ units_behind_a_remark : fault (codes "PARTNO\nREMARK\nUNITS/MM\nFINI\n") ≡ Som
 unfolding shape expression word_of
 units_behind_a_remark = refl
 
-not_built : fault (codes "PARTNO\nGO/L1\nFINI\n") ≡ Some (2, causes.NotBuilt)
+one_surface : program_of (codes "PARTNO\nGO/L1\nFINI\n") ≡
+    Ok (record { line = 1; label = None; body = bodies.Partno [] }
+    ∷ record { line = 2; label = None; body = bodies.GoStart stops.To (codes "L1") None }
+    ∷ record { line = 3; label = None; body = bodies.Fini } ∷ [])
 unfolding shape expression word_of
-not_built = refl
-
-not_built_before_partno : fault (codes "GO/L1\nPARTNO\nFINI\n") ≡ Some (1, causes.NotBuilt)
-unfolding shape expression word_of
-not_built_before_partno = refl
+one_surface = refl
 
 label_twice : fault (codes "PARTNO\nA)STOP\nB)STOP\nA)END\nFINI\n") ≡ Some (4, causes.LabelTwice)
 unfolding shape expression word_of

@@ -3,7 +3,7 @@
 ghost use Rattle.std.specs.Prelude.{◌≡◌};
 ghost use Rattle.apt_words.specs.Built as built;
 
-use apt_words::{Body, Stop, Symbol, Turn};
+use apt_words::{Body, Turn};
 
 /// Whether the compiler has the statement.
 pub(crate) fn is_built(body: &Body) -> bool
@@ -42,6 +42,7 @@ pub(crate) fn is_built(body: &Body) -> bool
         | Body::GotoXy(..)
         | Body::GotoPoint(_)
         | Body::Godlta(..)
+        | Body::GoStart(..)
         | Body::Contour(..)
         | Body::Rapid
         | Body::Halt
@@ -59,15 +60,8 @@ pub(crate) fn is_built(body: &Body) -> bool
         | Body::Loopnd
         | Body::Jumpto(_)
         | Body::If(..) => true,
-        Body::GoStart(_, _, other) => is_start_built(other),
         Body::Spindl(_, turn) => is_turning(*turn),
     }
-}
-
-fn is_start_built(other: &Option<(Stop, Symbol)>) -> bool
-    ensures { result ≡ built.is_start_built other.now }
-{
-    other.is_some()
 }
 
 fn is_turning(turn: Turn) -> bool

@@ -1,4 +1,5 @@
 pub mod Reach
 pub mod Nearer
 pub mod Refused
+pub mod Limits
 mod Worked

@@ -1,15 +1,12 @@
 -- What a start-up is given, in grid units.
-use Rattle.std.specs.Prelude.{◌≢◌, ◌*◌, ◌^◌, ◌≤◌, unsigned_abs, IfSome}
-use Rattle.apt_words.specs.declared.Stop.TheVariants as stops
+use Rattle.std.specs.Prelude.{◌*◌, ◌^◌, ◌≤◌, unsigned_abs, IfSome}
 use Rattle.apt_plane.specs.declared.figures.Pt.{Pt}
 use Rattle.apt_plane.specs.Ranges.{IsPoint, IsSurface}
 use Rattle.apt_offset.specs.Ranges.{IsRadius}
 use Rattle.apt_startup.specs.declared.Goal.{Goal}
 use Rattle.apt_startup.specs.declared.StartUp.{StartUp}
 
--- nothing runs along a surface before a start-up, so none is touched
 pub record IsGoal (g : Goal) : Type 0 where
-  pub how : g.how ≢ stops.Tanto
   pub surface : IsSurface g.surface
 
 pub record IsStartUp (u : StartUp) : Type 0 where

@@ -58,7 +58,7 @@ fn is_surface(surface: &Surface) -> bool
 fn is_goal(goal: &Goal) -> bool
     ensures { IsTrue result → IsGoal goal.now }
 {
-    goal.how != Stop::Tanto && is_surface(&goal.surface)
+    is_surface(&goal.surface)
 }
 
 fn is_second(second: &Option<Goal>) -> bool

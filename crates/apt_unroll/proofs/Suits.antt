@@ -1,7 +1,7 @@
 -- What holds of each deed that a statement gives: its numbers are scalars, it is Fini where the statement is FINI, it has the statement's text, and it is built where the statement is. No statement is refused as unbuilt.
-use Rattle.std.proofs.Common.{◌≡◌, ℕ, refl, ◌∙◌, Bool, true, false, Option, Some, None, Result, Err, List}
+use Rattle.std.proofs.Common.{◌≡◌, ℕ, refl, Bool, true, false, Option, Some, None, Result, Err, List}
 use Rattle.std.specs.Prelude.{ℤ, IsTrue, if◌then◌else◌}
-use Rattle.apt_words.specs.Built.{is_start_built, is_built, IsBuilt}
+use Rattle.apt_words.specs.Built.{is_built, IsBuilt}
 use Rattle.apt_words.specs.Chains.{◌>>=◌}
 use Rattle.apt_words.specs.Flow.{is_fini}
 use Rattle.apt_words.specs.Sources.{HasText, DeedHasText}
@@ -101,16 +101,13 @@ unfolding value_and_pair
 value_and_pair-scalar names ps e a b =
     of_value (λ r. IsScalar r.0) names ps e _ (λ v h. of_name (λ r. IsScalar r.0) ps a _ (λ a. of_name (λ r. IsScalar r.0) ps b _ (λ b. h)))
 
--- a start-up keeps its second surface
-second_surface-start : (ps : Parameters) (other : Option (Stop × List ℕ)) → Tells (λ r. is_start_built r ≡ is_start_built other) (second_surface ps other)
-second_surface-start ps None = refl
-second_surface-start ps (Some s) = of_name (λ r. is_start_built r ≡ is_start_built (Some s)) ps s.1 _ (λ n. refl)
+second_surface-tells : (ps : Parameters) (other : Option (Stop × List ℕ)) → Tells Any (second_surface ps other)
+second_surface-tells ps None = tt
+second_surface-tells ps (Some s) = of_name Any ps s.1 _ (λ n. tt)
 
-surfaces-start : (ps : Parameters) (s : List ℕ) (other : Option (Stop × List ℕ)) → Tells (λ r. is_start_built r.1 ≡ is_start_built other) (surfaces ps s other)
+surfaces-tells : (ps : Parameters) (s : List ℕ) (other : Option (Stop × List ℕ)) → Tells Any (surfaces ps s other)
 unfolding surfaces
-surfaces-start ps s other =
-    of_name (λ r. is_start_built r.1 ≡ is_start_built other) ps s _
-    (λ s. then_tells (λ r. is_start_built r ≡ is_start_built other) (λ r. is_start_built r.1 ≡ is_start_built other) (second_surface ps other) _ (second_surface-start ps other) (λ other same. same))
+surfaces-tells ps s other = of_name Any ps s _ (λ s. then_tells Any Any (second_surface ps other) _ (second_surface-tells ps other) (λ other _. tt))
 
 -- ---- statements
 
@@ -169,7 +166,7 @@ execution-suits names ps (bodies.FromPoint p) = by_name (bodies.FromPoint p) ps 
 execution-suits names ps (bodies.GotoXy x y z) = then_gives AreCoordinates (bodies.GotoXy x y z) (coordinates names ps x y z) _ (coordinates-scalars names ps x y z) (λ r h. (h, refl, plain, λ _. tt))
 execution-suits names ps (bodies.GotoPoint p) = by_name (bodies.GotoPoint p) ps p _ (λ p. (tt, refl, plain, λ _. tt))
 execution-suits names ps (bodies.Godlta x y z) = then_gives AreThree (bodies.Godlta x y z) (three names ps x y z) _ (three-scalars names ps x y z) (λ r h. (h, refl, plain, λ _. tt))
-execution-suits names ps (bodies.GoStart q s other) = then_gives (λ r. is_start_built r.1 ≡ is_start_built other) (bodies.GoStart q s other) (surfaces ps s other) _ (surfaces-start ps s other) (λ r same. (tt, refl, plain, λ h. same ∙ h))
+execution-suits names ps (bodies.GoStart q s other) = then_gives Any (bodies.GoStart q s other) (surfaces ps s other) _ (surfaces-tells ps s other) (λ r _. (tt, refl, plain, λ _. tt))
 execution-suits names ps (bodies.Contour side go d q c) = by_pair (bodies.Contour side go d q c) ps d c _ (λ r. (tt, refl, plain, λ _. tt))
 execution-suits names ps bodies.Rapid = (tt, refl, plain, λ _. tt)
 execution-suits names ps bodies.Halt = (tt, refl, plain, λ _. tt)

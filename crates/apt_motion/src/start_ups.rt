@@ -1,0 +1,124 @@
+//! What GO asks for.
+
+ghost use Rattle.std.specs.Prelude.{◌≡◌, ◌×◌, ◌∷◌, [], Some, IfOk, IfSome};
+ghost use Rattle.std.specs.Result.{IfErr};
+ghost use Rattle.apt_words.specs.Rows.{first_of, unless};
+ghost use Rattle.apt_words.specs.declared.deed.Deed.TheVariants as deeds;
+ghost use Rattle.apt_plane.specs.Ranges.{IsSurface};
+ghost use Rattle.apt_startup.specs.Ranges.{IsGoal, IsStartUp};
+ghost use Rattle.apt_meaning.specs.Compiled.{asked};
+ghost use Rattle.apt_meaning.specs.Effects.{effect_of};
+ghost use Rattle.apt_meaning.specs.Motions as motions;
+ghost use Rattle.apt_meaning.specs.Ranges.{IsSituation};
+ghost use Rattle.apt_meaning.specs.Refusals.{refusal_of, start_names};
+ghost use Rattle.apt_meaning.specs.StartUps as start_ups;
+ghost use Rattle.apt_motion.specs.Finding as finding;
+ghost use Rattle.apt_motion.specs.Finding.{IsFound};
+
+use crate::contours::surface_named;
+use crate::found::Found;
+use apt_cldata::{Position, Reach};
+use apt_defs::Table;
+use apt_meaning::{Effect, Settings, Situation, surface_of};
+use apt_plane::Surface;
+use apt_startup::{Goal, StartUp, start};
+use apt_words::{Case, Stop, Symbol};
+
+/// What GO asks for: its point is found once, for its cases and for the move.
+///
+/// # Errors
+///
+/// The first case that refuses it.
+#[inline(always)]
+pub(crate) fn go(
+    at: &Situation,
+    how: Stop,
+    name: &Symbol,
+    other: &Option<(Stop, Symbol)>,
+) -> Result<Found, Case>
+    requires { IsSituation at.now }
+    ensures { IsFound (asked (refusal_of at.now (deeds.GoStart how name.now other.now)) (effect_of at.now (deeds.GoStart how name.now other.now))) result }
+{
+    let Some(from) = at.position else {
+        return Err(Case::NoFrom);
+    };
+    let (first, second) = goals(&at.table, how, name, other)?;
+    let start_up = StartUp {
+        start: from.at,
+        first,
+        second,
+        radius: at.settings.radius,
+    };
+    started(&at.settings, from, &start_up)
+}
+
+/// The surfaces for which the names of GO stand, and how the cutter stops there.
+///
+/// # Errors
+///
+/// The first case that refuses a name.
+fn goals(
+    table: &Table,
+    how: Stop,
+    name: &Symbol,
+    other: &Option<(Stop, Symbol)>,
+) -> Result<(Goal, Option<Goal>), Case>
+    ensures first { IfOk result (λ goals. start_ups.goal_in table.now how name.now ≡ Some goals.0) }
+    ensures second { IfOk result (λ goals. start_ups.second_in table.now other.now ≡ Some goals.1) }
+    ensures range { IfOk result (λ goals. IsGoal goals.0 × IfSome goals.1 IsGoal) }
+    ensures refused { IfErr result (λ case. first_of (finding.names_cases table.now (start_names name.now other.now)) ≡ Some case) }
+{
+    match other {
+        None => {
+            let surface = surface_named(table, name)?;
+            Ok((Goal { how, surface }, None))
+        }
+        Some((stop, second)) => {
+            let (a, b) = two_surfaces(table, name, second)?;
+            let first = Goal { how, surface: a };
+            let second = Goal {
+                how: *stop,
+                surface: b,
+            };
+            Ok((first, Some(second)))
+        }
+    }
+}
+
+/// The surfaces of two names: each name is there before the kind of one is tried.
+fn two_surfaces(table: &Table, a: &Symbol, b: &Symbol) -> Result<(Surface, Surface), Case>
+    ensures first { IfOk result (λ surfaces. motions.surface_in table.now a.now ≡ Some surfaces.0) }
+    ensures second { IfOk result (λ surfaces. motions.surface_in table.now b.now ≡ Some surfaces.1) }
+    ensures range { IfOk result (λ surfaces. IsSurface surfaces.0 × IsSurface surfaces.1) }
+    ensures refused { IfErr result (λ case. first_of (finding.names_cases table.now (a.now ∷ b.now ∷ [])) ≡ Some case) }
+{
+    let (Some(a), Some(b)) = (table.get(a), table.get(b)) else {
+        return Err(Case::Undefined);
+    };
+    let (Some(a), Some(b)) = (surface_of(a), surface_of(b)) else {
+        return Err(Case::WrongKind);
+    };
+    Ok((a, b))
+}
+
+/// The move to where a start-up ends, at the height of a position.
+///
+/// # Errors
+///
+/// `NoFeed`, else the first case that refuses the start-up.
+#[tactic(auto, using(crate::proofs::Cases::start_unless))]
+fn started(settings: &Settings, from: Position, u: &StartUp) -> Result<Found, Case>
+    requires { IsStartUp u.now }
+    ensures { result ≡ unless (finding.go_cases_on settings.now u.now) (finding.start_of from u.now) }
+{
+    if settings.lacks_feed() {
+        return Err(Case::NoFeed);
+    }
+    match start(u) {
+        Ok(at) => Ok(Found {
+            effect: Effect::Moves(Reach::Start, Position { at, z: from.z }),
+            end: None,
+        }),
+        Err(case) => Err(case),
+    }
+}
