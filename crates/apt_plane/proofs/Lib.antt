@@ -8,3 +8,4 @@ pub mod RingLaws
 pub mod Turns
 pub mod Turned
 pub mod Around
+pub mod Quarters
