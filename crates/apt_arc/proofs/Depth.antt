@@ -1,7 +1,6 @@
 -- No piece is halved deep, and it has few vertices.
-use Rattle.std.proofs.Common.{refl, ◌≡◌, inl, inr, ℕ, zero, suc, ◌+◌, ◌*◌, ◌^◌, ◌≤◌, ap, subst, arith, List, [], ◌∷◌, ◌++◌, length, ℤ, pos, ◌≤ℤ◌, unsigned_abs}
+use Rattle.std.proofs.Common.{refl, ◌≡◌, inl, inr, ℕ, zero, suc, ◌+◌, ◌*◌, ◌^◌, ◌≤◌, ap, subst, arith, List, [], ◌∷◌, ◌++◌, length, ℤ, unsigned_abs}
 use Rattle.std.proofs.Math.Nat.{mul-le-mul_left, pow-succ', two-pow-succ}
-use Rattle.std.proofs.lemmas.Int.{ints}
 use Rattle.std.proofs.lemmas.List.{length-append}
 use Rattle.std.proofs.lemmas.Bool.{cases_Bool, cases_lt}
 use Rattle.apt_plane.specs.declared.figures.Pt.{Pt}

@@ -11,7 +11,7 @@ use Rattle.apt_canon.specs.Feet.{ray_point}
 use Rattle.apt_arc.specs.declared.arc.Arc.{Arc}
 use Rattle.apt_arc.specs.Ranges.{IsPiece, ArePieces}
 use Rattle.apt_arc.specs.Cuts.{middle}
-use Rattle.apt_arc.specs.Made.{is_clear, pieces, chain, vertices, stations, onward}
+use Rattle.apt_arc.specs.Made.{is_clear, pieces, vertices, stations, onward}
 use Rattle.apt_arc.proofs.Lists.{pieces_halved, chain_more, chain_none}
 use Rattle.apt_arc.specs.Halves.{IsHalved, IsNext}
 
@@ -80,3 +80,10 @@ last_length left arc from u e = ap length (last_vertices left arc from u e)
 
 pub last_piece : (left : ℕ) (arc : Arc) (from : Pt) (u : Dir) → stations left arc u ≡ arc.end ∷ [] → ArePieces arc.track arc.sense from (stations left arc u) → IsPiece arc.track arc.sense from arc.end
 last_piece left arc from u e are = (first_piece arc.track arc.sense from arc.end (stations left arc u) [] e are).0
+
+-- ---- counted, and appended
+pub counted : (x y l k n : ℕ) → x ≡ l → y ≡ k → n ≡ l + k → x + y ≡ n
+counted x y l k n e f g = omega (arith, e, f, g)
+
+pub last_on : (old new ps qs : List Pt) → new ≡ old ++ ps → qs ≡ ps → new ≡ old ++ qs
+last_on old new ps qs e f = e ∙ ap (λ (xs : List Pt). old ++ xs) (sym f)

@@ -1,5 +1,5 @@
 -- The lists of cuts: a piece has one list alone, and the code's is it.
-use Rattle.std.proofs.Common.{refl, ◌≡◌, inl, inr, ℕ, zero, suc, ◌+◌, ◌-◌, ◌≤◌, ◌<◌, ◌∙◌, ap, sym, subst, arith, true, false, true≢false, List, [], ◌∷◌, ◌++◌, ℤ}
+use Rattle.std.proofs.Common.{refl, ◌≡◌, inl, inr, ℕ, zero, suc, ◌+◌, ◌-◌, ◌≤◌, ◌<◌, ◌∙◌, sym, subst, arith, true, false, true≢false, List, [], ◌∷◌, ◌++◌, ℤ}
 use Rattle.std.proofs.lemmas.Bool.{cases_Bool}
 use Rattle.apt_plane.specs.declared.figures.Pt.{Pt}
 use Rattle.apt_plane.specs.declared.figures.Circ.{Circ}
@@ -89,4 +89,3 @@ cuts_are n track sag a (q ∷ qs) list is =
 
 pub one_list : (n : ℕ) (track : Circ) (sag : ℤ) (a : Pt) (qs list other : List Pt) → AreCuts n track sag a qs list → AreCuts n track sag a qs other → list ≡ other
 one_list n track sag a qs list other is also = cuts_are n track sag a qs list is ∙ sym (cuts_are n track sag a qs other also)
-

@@ -1,13 +1,11 @@
 -- An arc has one division alone: its quarter points on the way are one list, and so are the cuts between them.
-use Rattle.std.proofs.Common.{refl, ◌≡◌, inl, inr, ℕ, ◌<◌, ◌∙◌, ap, sym, subst, List, [], ◌∷◌, ◌++◌, ℤ}
+use Rattle.std.proofs.Common.{refl, ◌≡◌, inl, inr, ◌<◌, ◌∙◌, sym, subst, List, [], ◌∷◌, ℤ}
 use Rattle.apt_plane.specs.declared.figures.Pt.{Pt}
-use Rattle.apt_plane.specs.declared.figures.Dir.{Dir}
 use Rattle.apt_plane.specs.declared.figures.Circ.{Circ}
 use Rattle.apt_plane.specs.Vectors.{displacement, length_squared}
 use Rattle.apt_plane.specs.Ranges.{IsSense}
-use Rattle.apt_plane.specs.Order.{ComesBefore}
 use Rattle.apt_plane.proofs.Around.{Cyc, before_cyc, before_from_start, cyc_after, cyc_once}
-use Rattle.apt_arc.specs.Quarters.{AreOrdered, IsIn, Each, AreInOrder, AreQuarters, IsQuarterPoint, IsOnTheWay}
+use Rattle.apt_arc.specs.Quarters.{AreOrdered, IsIn, Each, AreInOrder}
 
 -- a point that is not the centre, after the start
 abbrev pub IsAfter : Circ → ℤ → Pt → Pt → Type 0

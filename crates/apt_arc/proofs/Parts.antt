@@ -1,13 +1,11 @@
 -- The list of quarter points that the code makes, and the pieces between them.
-use Rattle.std.proofs.Common.{refl, ◌≡◌, ◌⊎◌, inl, inr, ℕ, suc, ◌≤◌, ◌<◌, ◌∙◌, ap, sym, subst, arith, true, false, true≢false, List, [], ◌∷◌, ◌++◌, ℤ, pos, ◌<ℤ◌, ◌≤ℤ◌}
-use Rattle.std.proofs.Math.Nat.{mul-le-mul_left}
-use Rattle.std.proofs.lemmas.Int.{ints}
+use Rattle.std.proofs.Common.{refl, ◌≡◌, ◌⊎◌, inl, inr, ℕ, suc, ◌∙◌, ap, sym, subst, arith, true, false, true≢false, List, [], ◌∷◌, ◌++◌, ℤ, pos, ◌<ℤ◌, ◌≤ℤ◌}
 use Rattle.std.proofs.lemmas.Bool.{cases_Bool, and_parts, and_from}
 use Rattle.apt_num.proofs.Squares.{size_neg}
 use Rattle.apt_plane.specs.declared.figures.Pt.{Pt}
 use Rattle.apt_plane.specs.declared.figures.Dir.{Dir}
 use Rattle.apt_plane.specs.declared.figures.Circ.{Circ}
-use Rattle.apt_plane.specs.Vectors.{displacement, dot, length_squared, perp}
+use Rattle.apt_plane.specs.Vectors.{displacement, dot, perp}
 use Rattle.apt_plane.specs.Ranges.{IsDir}
 use Rattle.apt_plane.specs.Order.{ComesBefore, is_before}
 use Rattle.apt_plane.proofs.Displacements.{dot_swap}

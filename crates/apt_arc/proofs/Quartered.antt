@@ -1,5 +1,5 @@
 -- What the code of quarter points wants of its definitions.
-use Rattle.std.proofs.Common.{refl, ◌≡◌, ◌↔◌, inl, inr, ℕ, zero, suc, ◌+◌, ◌-◌, ◌≤◌, ◌<◌, ◌∙◌, ap, sym, subst, arith, Bool, true, false, true≢false, List, [], ◌∷◌, ◌++◌, length, ℤ, pos, neg_ℤ, ◌<ℤ◌, ◌*ℤ◌, int_lt, FitsSigned, w8}
+use Rattle.std.proofs.Common.{refl, ◌≡◌, inl, inr, ℕ, zero, suc, ◌+◌, ◌-◌, ◌≤◌, ◌<◌, ◌∙◌, ap, sym, subst, arith, Bool, true, false, List, [], ◌∷◌, ◌++◌, length, ℤ, pos, neg_ℤ, ◌<ℤ◌, ◌*ℤ◌, int_lt, FitsSigned, w8}
 use Rattle.std.specs.Prelude.{◌&&◌, int_le}
 use Rattle.std.proofs.lemmas.Int.{ints}
 use Rattle.std.proofs.lemmas.List.{length-append}
@@ -10,7 +10,6 @@ use Rattle.apt_plane.specs.declared.figures.Dir.{Dir}
 use Rattle.apt_plane.specs.declared.figures.Circ.{Circ}
 use Rattle.apt_plane.specs.Vectors.{displacement, cross, dot}
 use Rattle.apt_plane.specs.Ranges.{IsPoint, IsDir, IsSense}
-use Rattle.apt_plane.specs.Order.{is_before}
 use Rattle.apt_canon.specs.Feet.{ray_point}
 use Rattle.apt_arc.specs.declared.arc.Arc.{Arc}
 use Rattle.apt_arc.specs.Ranges.{IsTrack, ArePieces, IsArc}
@@ -55,27 +54,7 @@ pub first_later : (n : ℕ) (t : Circ) (sense : ℤ) (s : Pt) (u : Dir) → 0 < 
 first_later zero t sense s u some e = absurd (omega (arith, some))
 first_later (suc n) t sense s u some e = rw (one_less n) (first_next n t sense s u e)
 
--- ---- on the way
-pub on_is : (t : Circ) (sense : ℤ) (s e q : Pt) (x y z : Dir) (first second : Bool) → x ≡ displacement t.c s → y ≡ displacement t.c e → z ≡ displacement t.c q
-    → first ≡ is_before x sense x z → second ≡ is_before x sense z y → (first && second) ≡ is_on_the_way t sense s e q
-on_is t sense s e q x y z first second f g h one two = rw (one, two, f, g, h) refl
-
-pub on_both : (t : Circ) (sense : ℤ) (s e q : Pt) (x y z : Dir) (first second : Bool) → x ≡ displacement t.c s → y ≡ displacement t.c e → z ≡ displacement t.c q
-    → first ≡ true → first ≡ is_before x sense x z → second ≡ is_before x sense z y → second ≡ is_on_the_way t sense s e q
-on_both t sense s e q x y z first second f g h holds one two = and_true first second holds ∙ on_is t sense s e q x y z first second f g h one two
-  where
-    and_true : (a b : Bool) → a ≡ true → b ≡ (a && b)
-    and_true a b e = rw e refl
-
-and_false : (a b : Bool) → a ≡ false → a ≡ (a && b)
-and_false a b e = rw e refl
-
-pub on_first : (t : Circ) (sense : ℤ) (s e q : Pt) (x z : Dir) (first : Bool) → x ≡ displacement t.c s → z ≡ displacement t.c q
-    → first ≡ false → first ≡ is_before x sense x z → first ≡ is_on_the_way t sense s e q
-on_first t sense s e q x z first f h fails one =
-    let ve = displacement t.c e in
-    and_false first (is_before x sense z ve) fails ∙ on_is t sense s e q x ve z first (is_before x sense z ve) f refl h one refl
-
+-- ---- up to a quarter turn behind the start
 pub sense_fits : (sense : ℤ) → IsSense sense → FitsSigned w8 sense
 sense_fits sense (inl e) = omega (arith, ints, e)
 sense_fits sense (inr e) = omega (arith, ints, e)

@@ -21,8 +21,8 @@ use Rattle.apt_arc.specs.Cuts.{IsClear, middle, IsCut, AreCuts}
 use Rattle.apt_arc.specs.Quarters.{IsQuarterPoint, IsOnTheWay, Each, AreInOrder}
 use Rattle.apt_arc.specs.Steps.{IsStep, IsInside, AreSteps}
 use Rattle.apt_arc.specs.Divisions.{IsDivision}
-use Rattle.apt_arc.specs.Made.{chain, quarters, divided}
-use Rattle.apt_arc.proofs.Spans.{IsNearby, some_length, chord_is}
+use Rattle.apt_arc.specs.Made.{quarters, divided}
+use Rattle.apt_arc.proofs.Spans.{some_length, chord_is}
 use Rattle.apt_arc.proofs.Lists.{is_false}
 use Rattle.apt_arc.proofs.Tracks.{within, within_large, radius_is, nearby, half_pieces, sag_parts, chord_length}
 use Rattle.apt_arc.proofs.Depth.{all_cuts}

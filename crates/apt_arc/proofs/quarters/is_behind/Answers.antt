@@ -1,8 +1,11 @@
 use Rattle.std.proofs.Common.{arith, rules, FitsSigned, w8}
 use Rattle.std.specs.Int.{w128}
 use Rattle.std.proofs.lemmas.Int.{ints, to_z-of_z}
-use Rattle.apt_arc.proofs.Quartered.{sense_fits, behind_is}
+use Rattle.apt_arc.proofs.Quartered.{sense_fits, behind_is, arc_start}
 use Rattle.apt_arc.proofs.quarters.is_behind.Goals as goal
+
+pub displacement-way-requires-clause-end : goal.displacement-way-requires-clause-end
+displacement-way-requires-clause-end c = arc_start c.args.arc.now c.requires.arc
 
 pub returns-then-dot-gt0 : goal.returns-then-dot-gt0
 returns-then-dot-gt0 c =
