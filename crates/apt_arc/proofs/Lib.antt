@@ -12,3 +12,4 @@ pub mod Only
 pub mod Quartered
 pub mod Divided
 pub mod Halved
+pub mod Worked
