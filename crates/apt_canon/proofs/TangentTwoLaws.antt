@@ -10,7 +10,7 @@ use Rattle.apt_plane.specs.declared.figures.Pt.{Pt}
 use Rattle.apt_plane.specs.declared.figures.Dir.{Dir}
 use Rattle.apt_plane.specs.Vectors.{displacement, cross, dot, length_squared, perp}
 use Rattle.apt_plane.specs.Ranges.{IsDir}
-use Rattle.apt_plane.proofs.Displacements.{square_length_squared, cross_swap, cross_times, cross_turn, dot_times}
+use Rattle.apt_plane.proofs.Displacements.{square_length_squared, cross_swap, cross_times, cross_turn, dot_times, dot_swap}
 use Rattle.apt_plane.proofs.Rounding.{near_displacement, moved, moved_dot}
 use Rattle.apt_canon.specs.Scale.{times, from}
 use Rattle.apt_canon.specs.Tangents.{falling, fall_divisor, falling_dir}
@@ -65,12 +65,6 @@ touch_way a p s = near_displacement (times s (perp (falling a p))) (fall_divisor
 
 abbrev pub drift : Dir → ℤ → ℤ → ℤ
 drift a p s = cross (falling_dir a p) (touch_way a p s) -ℤ (pos 99999000 *ℤ s)
-
-dot_parts : (a b p q : ℤ) → (a *ℤ p) +ℤ (b *ℤ q) ≡ (p *ℤ a) +ℤ (q *ℤ b)
-dot_parts a b p q = rw (as_diff a, as_diff b, as_diff p, as_diff q) (simp differences (diff-same _ _ _ _ (omega arith)))
-
-dot_swap : (u v : Dir) → dot u v ≡ dot v u
-dot_swap u v = dot_parts u.dx u.dy v.dx v.dy
 
 drift_out : (m : ℕ) (g s : ℤ) → pos m *ℤ (g -ℤ (pos 99999000 *ℤ s)) ≡ (pos m *ℤ g) -ℤ (s *ℤ pos (99999000 * m))
 drift_out m g s = rw (as_diff g, as_diff s, diff-pos m, diff-pos 99999000, diff-pos (99999000 * m)) (simp differences (diff-same _ _ _ _ (omega arith)))

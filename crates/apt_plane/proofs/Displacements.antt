@@ -82,6 +82,12 @@ dot_sum d v w = dot_parts d.dx d.dy v.dx v.dy w.dx w.dy
 pub dot_times : (d v : Dir) (m : ℤ) → dot d (to (m *ℤ v.dx) (m *ℤ v.dy)) ≡ m *ℤ dot d v
 dot_times d v m = dot_times_parts d.dx d.dy m v.dx v.dy
 
+swap_dot_parts : (a b p q : ℤ) → (a *ℤ p) +ℤ (b *ℤ q) ≡ (p *ℤ a) +ℤ (q *ℤ b)
+swap_dot_parts a b p q = omega (arith, ints)
+
+pub dot_swap : (u v : Dir) → dot u v ≡ dot v u
+dot_swap u v = swap_dot_parts u.dx u.dy v.dx v.dy
+
 pub cross_self : (d : Dir) → cross d d ≡ pos 0
 cross_self d = self_parts d.dx d.dy
 

@@ -9,3 +9,4 @@ pub mod Weaker
 pub mod Turns
 pub mod Turned
 pub mod Around
+pub mod Quarters

@@ -52,8 +52,11 @@ tells_over P c p lo d n e f is = rw (one-times c.x, one-times c.y, one-times lo)
 pub tells_under : (P : Type 0) (c p : Pt) (hi : ℤ) (d : Dir) (n : ℕ) → d ≡ displacement c p → n ≡ length_squared d → P ↔ IsRootAtMost n hi → P ↔ IsUnder (about c) hi (scaled p)
 tells_under P c p hi d n e f is = rw (one-times c.x, one-times c.y, one-times hi) (rw (f, e) at is)
 
-over_from : (c p : Pt) (h : ℕ) → IsOver (about c) (pos h) (scaled p) → h * h ≤ length_squared (displacement c p)
+pub over_from : (c p : Pt) (h : ℕ) → IsOver (about c) (pos h) (scaled p) → h * h ≤ length_squared (displacement c p)
 over_from c p h is = omega (arith, (length_at_most 1 h (length_squared (displacement c p))).0 (rw (one-times c.x, one-times c.y) at is))
+
+pub over_to : (c p : Pt) (h : ℕ) → h * h ≤ length_squared (displacement c p) → IsOver (about c) (pos h) (scaled p)
+over_to c p h le = rw (one-times c.x, one-times c.y) ((length_at_most 1 h (length_squared (displacement c p))).1 (omega (arith, le)))
 
 under_from : (c p : Pt) (h : ℕ) → IsUnder (about c) (pos h) (scaled p) → length_squared (displacement c p) ≤ h * h
 under_from c p h is = omega (arith, (root_at_most 1 h (length_squared (displacement c p))).0 (rw (one-times c.x, one-times c.y) at is))

@@ -1,0 +1,15 @@
+pub mod Halving
+pub mod Spans
+pub mod Thirds
+pub mod Clear
+pub mod Lists
+pub mod Tracks
+pub mod Depth
+pub mod Ways
+pub mod Parts
+pub mod Steps
+pub mod Only
+pub mod Quartered
+pub mod Divided
+pub mod Halved
+pub mod Worked

@@ -1,0 +1,110 @@
+//! A piece of an arc, halved until its chords are clear.
+
+ghost use Rattle.std.specs.Prelude.{◌≡◌, ◌≤◌, ◌+◌, ◌^◌, ◌++◌, ◌∷◌, [], ◌↔◌, IsTrue, IsFalse, false, length, vec_len, vec_capacity};
+ghost use Rattle.apt_plane.specs.Vectors.{displacement};
+ghost use Rattle.apt_plane.specs.Ranges.{IsPoint, IsDir};
+ghost use Rattle.apt_canon.specs.Scale.{sum};
+ghost use Rattle.apt_arc.specs.Ranges.{IsTrack, IsSag, IsPiece, IsArc};
+ghost use Rattle.apt_arc.specs.Cuts.{IsClear};
+ghost use Rattle.apt_arc.specs.Cuts as cuts;
+ghost use Rattle.apt_arc.specs.Made as spec;
+ghost use Rattle.apt_arc.specs.Halves.{IsHalved};
+
+use crate::arc::Arc;
+use apt_canon::ray_point;
+use apt_plane::vectors::displacement;
+use apt_plane::{Band, Circ, Dir, Pt, segment_in_ring};
+
+/// Further away than every point in range.
+const FAR: i64 = 200_000_000;
+
+/// Whether no point of a chord lies further inside of a track than the sag.
+fn is_clear(track: &Circ, sag: i64, a: Pt, b: Pt) -> bool
+    requires track { IsTrack track.now }
+    requires sag { IsSag track.now sag }
+    requires start { IsPoint a }
+    requires end { IsPoint b }
+    ensures value { result ≡ spec.is_clear track.now sag a b }
+    ensures clear { IsTrue result ↔ IsClear track.now sag a b }
+{
+    let band = Band {
+        lo: track.r - sag,
+        hi: FAR,
+    };
+    segment_in_ring(a, b, track.c, band).is_ok()
+}
+
+/// The point of a track half way between two.
+fn middle(track: &Circ, a: Pt, b: Pt) -> Pt
+    requires track { IsTrack track.now }
+    requires start { IsPoint a }
+    requires end { IsPoint b }
+    requires dir { IsDir (sum (displacement track.now.c a) (displacement track.now.c b)) }
+    ensures { result ≡ cuts.middle track.now a b }
+{
+    let first = displacement(track.c, a);
+    let second = displacement(track.c, b);
+    let between = Dir {
+        dx: first.dx + second.dx,
+        dy: first.dy + second.dy,
+    };
+    ray_point(track, between)
+}
+
+/// Whether a piece is one chord.
+#[tactic(auto, using(crate::proofs::Halved::is_halved, crate::proofs::Lists::pieces_none, crate::proofs::Lists::pieces_clear))]
+fn is_whole(arc: &Arc, a: Pt, b: Pt, depth: u8) -> bool
+    requires arc { IsArc arc.now }
+    requires piece { IsPiece arc.now.track arc.now.sense a b }
+    ensures whole { IsTrue result → spec.pieces depth arc.now.track arc.now.sag a b ≡ b ∷ [] }
+    ensures halved { IsFalse result → IsHalved depth arc.now.track arc.now.sag a b }
+{
+    depth == 0 || is_clear(&arc.track, arc.sag, a, b)
+}
+
+/// The point half way along a piece, between its halves.
+fn halve(arc: &Arc, a: Pt, b: Pt) -> Pt
+    requires arc { IsArc arc.now }
+    requires piece { IsPiece arc.now.track arc.now.sense a b }
+    requires not_clear { spec.is_clear arc.now.track arc.now.sag a b ≡ false }
+    ensures value { result ≡ cuts.middle arc.now.track a b }
+    ensures first { IsPiece arc.now.track arc.now.sense a result }
+    ensures second { IsPiece arc.now.track arc.now.sense result b }
+{
+    middle(&arc.track, a, b)
+}
+
+/// Appends the vertices of a piece behind its start, halved at most so deep: there is room for them.
+#[tactic(auto, using(crate::proofs::Halved::one_long, crate::proofs::Halved::both_on, crate::proofs::Halved::one_on))]
+pub(crate) fn append_piece(arc: &Arc, a: Pt, b: Pt, depth: u8, out: &mut Vec<Pt>)
+    requires arc { IsArc arc.now }
+    requires piece { IsPiece arc.now.track arc.now.sense a b }
+    requires room { vec_len out.old + length (spec.pieces depth arc.now.track arc.now.sag a b) ≤ vec_capacity out.old }
+    ensures items { out.new.items ≡ out.old.items ++ spec.pieces depth arc.now.track arc.now.sag a b }
+    ensures len { vec_len out.new ≡ vec_len out.old + length (spec.pieces depth arc.now.track arc.now.sag a b) }
+    ensures capacity { vec_capacity out.new ≡ vec_capacity out.old }
+{
+    if is_whole(arc, a, b, depth) {
+        out.push_reserved(b);
+        return;
+    }
+    let m = halve(arc, a, b);
+    append_piece(arc, a, m, depth - 1, out);
+    append_piece(arc, m, b, depth - 1, out);
+}
+
+/// How many vertices that are.
+#[tactic(auto, using(crate::proofs::Halved::one_long, crate::proofs::Halved::power_half))]
+pub(crate) fn count_piece(arc: &Arc, a: Pt, b: Pt, depth: u8) -> u64
+    requires arc { IsArc arc.now }
+    requires piece { IsPiece arc.now.track arc.now.sense a b }
+    requires depth { depth ≤ 24 }
+    ensures value { result ≡ length (spec.pieces depth arc.now.track arc.now.sag a b) }
+    ensures small { result ≤ 2 ^ depth }
+{
+    if is_whole(arc, a, b, depth) {
+        return 1;
+    }
+    let m = halve(arc, a, b);
+    count_piece(arc, a, m, depth - 1) + count_piece(arc, m, b, depth - 1)
+}

@@ -1,0 +1,102 @@
+//! The vertices of an arc.
+
+ghost use Rattle.std.specs.Prelude.{◌≡◌, ◌≤◌, ◌<◌, ◌+◌, ◌*◌, ◌^◌, ◌++◌, ◌↔◌, OnOk, OnErr, IsErrOf, ℕ, List, length, unsigned_abs, vec_len, vec_capacity};
+ghost use Rattle.apt_plane.specs.declared.figures.Pt.{Pt};
+ghost use Rattle.apt_plane.specs.Ranges.{IsDir};
+ghost use Rattle.apt_arc.specs.Ranges.{IsArc, ArePieces};
+ghost use Rattle.apt_arc.specs.Divisions.{IsDivision};
+ghost use Rattle.apt_arc.specs.Made.{divided};
+ghost use Rattle.apt_arc.specs.Made as spec;
+
+use crate::arc::Arc;
+use crate::cuts::{append_piece, count_piece};
+use crate::quarters::{first_past, next_point, onward};
+use apt_plane::{Dir, Pt};
+
+/// No piece is halved more often than so, one half in the other.
+const DEPTH: u8 = 24;
+
+/// Why an arc is not divided.
+#[derive(Clone, Copy, Debug, PartialEq, Eq)]
+pub enum ArcError {
+    NoMemory,
+    TooManyPoints,
+}
+
+/// Appends the vertices of an arc behind its start, the last of which is its end.
+///
+/// # Errors
+///
+/// `TooManyPoints` exactly where they are more than `room`; `NoMemory` where memory runs out. Then `out` is as
+/// before.
+#[tactic(auto, using(crate::proofs::Divided::divides, crate::proofs::Divided::only, crate::proofs::Divided::short))]
+pub fn chords(arc: &Arc, room: u64, out: &mut Vec<Pt>) -> Result<(), ArcError>
+    requires { IsArc arc.now }
+    ensures ok { OnOk result (out.new.items ≡ out.old.items ++ divided arc.now) }
+    ensures too_many { IsErrOf result ArcError.TooManyPoints ↔ (room < length (divided arc.now)) }
+    ensures err { OnErr result (out.new.items ≡ out.old.items) }
+    ensures division { IsDivision arc.now (divided arc.now) }
+    ensures only { (list : List Pt) → IsDivision arc.now list → list ≡ divided arc.now }
+    ensures short { (k : ℕ) → unsigned_abs arc.now.track.r ≤ 3 ^ k * unsigned_abs arc.now.sag → length (divided arc.now) ≤ 5 * 2 ^ k }
+{
+    append_all(arc, room, out)
+}
+
+/// How many vertices an arc has behind its start.
+pub fn count(arc: &Arc) -> u64
+    requires { IsArc arc.now }
+    ensures value { result ≡ length (divided arc.now) }
+    ensures small { result ≤ 5 * 2 ^ 24 }
+{
+    count_from(arc, arc.start, first_past(arc, arc.axis, 3), 4)
+}
+
+fn append_all(arc: &Arc, room: u64, out: &mut Vec<Pt>) -> Result<(), ArcError>
+    requires arc { IsArc arc.now }
+    ensures ok { OnOk result (out.new.items ≡ out.old.items ++ divided arc.now) }
+    ensures too_many { IsErrOf result ArcError.TooManyPoints ↔ (room < length (divided arc.now)) }
+    ensures err { OnErr result (out.new.items ≡ out.old.items) }
+{
+    let due = count(arc);
+    if due > room {
+        return Err(ArcError::TooManyPoints);
+    }
+    if out.reserve(due as usize).is_err() {
+        return Err(ArcError::NoMemory);
+    }
+    append_from(arc, arc.start, first_past(arc, arc.axis, 3), 4, out);
+    Ok(())
+}
+
+/// How many vertices there are from a point through the quarter points from a direction on.
+fn count_from(arc: &Arc, from: Pt, u: Dir, left: u8) -> u64
+    requires arc { IsArc arc.now }
+    requires dir { IsDir u }
+    requires pieces { ArePieces arc.now.track arc.now.sense from (spec.stations left arc.now u) }
+    requires few { left ≤ 4 }
+    ensures value { result ≡ length (spec.vertices left arc.now from u) }
+    ensures small { result ≤ (left + 1) * 2 ^ 24 }
+{
+    match next_point(arc, u, left) {
+        Some(point) => count_piece(arc, from, point, DEPTH)
+            + count_from(arc, point, onward(arc.sense, u), left - 1),
+        None => count_piece(arc, from, arc.end, DEPTH),
+    }
+}
+
+/// Appends them: there is room for them.
+fn append_from(arc: &Arc, from: Pt, u: Dir, left: u8, out: &mut Vec<Pt>)
+    requires arc { IsArc arc.now }
+    requires dir { IsDir u }
+    requires pieces { ArePieces arc.now.track arc.now.sense from (spec.stations left arc.now u) }
+    requires room { vec_len out.old + length (spec.vertices left arc.now from u) ≤ vec_capacity out.old }
+    ensures { out.new.items ≡ out.old.items ++ spec.vertices left arc.now from u }
+{
+    match next_point(arc, u, left) {
+        Some(point) => {
+            append_piece(arc, from, point, DEPTH, out);
+            append_from(arc, point, onward(arc.sense, u), left - 1, out);
+        }
+        None => append_piece(arc, from, arc.end, DEPTH, out),
+    }
+}
