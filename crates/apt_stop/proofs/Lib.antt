@@ -1,7 +1,6 @@
 pub mod Sizes
 pub mod Headings
 pub mod Inside
-pub mod Cases
 pub mod Strips
 pub mod NearLaws
 pub mod Axes

@@ -1,5 +1,4 @@
 pub mod Nearness
-pub mod Lines
 pub mod Gaps
 pub mod Tangencies
 pub mod Courses

@@ -6,7 +6,6 @@ mod decisions;
 mod gaps;
 mod nearness;
 mod sides;
-mod straight;
 mod tangencies;
 mod touches;
 
@@ -14,5 +13,4 @@ pub use course::{Choice, Course};
 pub use decisions::{axis, decide, kept_side, stop_side};
 pub use gaps::is_touching;
 pub use nearness::{heading, is_near, side_of};
-pub use straight::{are_parallel, line_behind, line_side, line_stop};
 pub use tangencies::tangent_axis;

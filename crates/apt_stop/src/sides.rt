@@ -13,7 +13,6 @@ use crate::course::Course;
 use crate::nearness::{
     NEAR_STOP, heading, is_at_least, is_in_ring, is_in_strip, side_by_height, square,
 };
-use crate::straight::is_same;
 use apt_num::{Sign, compare, sign_of};
 use apt_offset::Target;
 use apt_plane::vectors::{cross, displacement, dot, height, length_squared, length_squared_of};
@@ -110,6 +109,12 @@ pub(crate) fn is_past(c: &Course, far: Option<Sign>) -> bool
             ),
         },
     }
+}
+
+pub(crate) fn is_same(first: Sign, second: Sign) -> bool
+    ensures { result ≡ spec.is_same first second }
+{
+    first == second
 }
 
 /// How far a line runs on to a point, times its length.
