@@ -18,7 +18,9 @@ ghost use Rattle.apt_meaning.specs.StartUps as start_ups;
 ghost use Rattle.apt_meaning.specs.Straight.{IsLined};
 
 use crate::start_up::start_up_at;
-use crate::{Effect, Motion, Situation, line_in, moved_by, place_in, position_by, turn_at};
+use crate::{
+    Effect, Motion, Situation, line_in, moved_by, place_in, position_by, surface_in, turn_at,
+};
 use apt_cldata::{Note, Position, Reach};
 use apt_defs::definition;
 use apt_offset::signs::is_zero;
