@@ -10,8 +10,8 @@ use Rattle.apt_plane.specs.Vectors.{displacement, cross, dot, length_squared}
 use Rattle.apt_canon.proofs.LineCircleLaws.{sense_size}
 use Rattle.apt_stop.specs.Nearness.{heading}
 use Rattle.apt_stop.proofs.Approaches.{at_most_four}
-use Rattle.apt_stop.proofs.Leads.{cross_displacements, rise_at_least, fall_at_least}
-use Rattle.apt_stop.proofs.Onwards.{Runs}
+use Rattle.apt_stop.proofs.Leads.{rise_at_least, fall_at_least}
+use Rattle.apt_stop.proofs.Onwards.{Runs, cross_step}
 
 dot_parts : (s a b p q : ℤ) → ((s *ℤ a) *ℤ p) +ℤ ((s *ℤ b) *ℤ q) ≡ s *ℤ ((a *ℤ p) +ℤ (b *ℤ q))
 dot_parts s a b p q = rw (as_diff s, as_diff a, as_diff b, as_diff p, as_diff q) (simp differences (diff-same _ _ _ _ (omega arith)))
@@ -39,7 +39,7 @@ heading_length sense d is =
 pub track_sideways : (b : Pt) (d : Dir) (h : ℤ) (p q : Pt) → OnLine (cross d (displacement b p)) h (length_squared d) (pos 3) → OnLine (cross d (displacement b q)) h (length_squared d) (pos 1)
     → square (cross d (displacement p q)) ≤ 16 * length_squared d
 track_sideways b d h p q start end =
-    let rise = cross_displacements d b p q in
+    let rise = cross_step d b p q in
     at_most_four (cross d (displacement p q)) (length_squared d)
     (rise_at_least _ _ _ (h -ℤ pos 1) (neg_ℤ h -ℤ pos 3) (negsuc 3) (length_squared d) rise (omega (arith, ints)) end.right start.left)
     (fall_at_least _ _ _ (neg_ℤ h -ℤ pos 1) (h -ℤ pos 3) (negsuc 3) (length_squared d) rise (omega (arith, ints)) end.left start.right)
