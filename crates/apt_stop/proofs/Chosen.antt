@@ -1,5 +1,5 @@
 -- What a course has that nothing refuses: a side where it meets its stop, and else an axis.
-use Rattle.std.proofs.Common.{refl, ◌≡◌, ◌≢◌, ◌∙◌, sym, true, false, Some, None}
+use Rattle.std.proofs.Common.{refl, ◌≡◌, ◌≢◌, true, false}
 use Rattle.std.specs.Prelude.{is_none}
 use Rattle.apt_num.specs.declared.Sign.{Sign}
 use Rattle.apt_num.specs.declared.Sign.TheVariants as signs
