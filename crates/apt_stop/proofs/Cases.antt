@@ -2,7 +2,6 @@
 use Rattle.std.proofs.Common.{refl, ◌≡◌, ◌∙◌, ◌≢◌, ◌↔◌, zero, suc, arith, Bool, true, false, ℤ, pos, negsuc, unsigned_abs, ◌==◌, Result, Ok, Err, IfOk, IsErrOf}
 use Rattle.std.specs.Prelude.{if◌then◌else◌, not, [], ◌∷◌}
 use Rattle.std.proofs.lemmas.Int.{ints}
-use Rattle.std.proofs.lemmas.Bool.Decides.{nat_tests}
 use Rattle.apt_words.specs.declared.Case.{Case}
 use Rattle.apt_words.specs.declared.Case.TheVariants as cases
 use Rattle.apt_words.specs.Rows.{unless}
@@ -17,6 +16,7 @@ use Rattle.apt_canon.specs.Meeting.{are_parallel, meeting_point, line_line}
 use Rattle.apt_canon.proofs.Fits.{not_zero-test}
 use Rattle.apt_stop.specs.Nearness.{heading}
 use Rattle.apt_stop.specs.Lines.{line_behind, line_stop, crossing}
+use Rattle.apt_stop.proofs.Inside.{inside_point}
 
 -- the answer by its three tests
 abbrev answer : Bool → Bool → Bool → Pt → Result Pt Case
@@ -98,9 +98,6 @@ crossing_found d off c stop q apart e = found (are_parallel d c) (is_in_range (m
 pub crossing_lost : (d : Line) (off : ℤ) (c : Line) (stop : ℤ) (fault : FormFault) → are_parallel d c ≡ false → line_line d off c stop ≡ Err fault
     → Err cases.OutOfRange ≡ crossing d off c stop
 crossing_lost d off c stop fault apart e = lost (are_parallel d c) (is_in_range (meeting_point d off c stop)) (meeting_point d off c stop) fault apart e
-
-pub inside_point : (p : Pt) → is_in_range p ≡ true → IsPoint p
-inside_point p e = record { x = grind (arith, nat_tests); y = grind (arith, nat_tests) }
 
 is_inside : (a b c : Bool) (p : Pt) → (c ≡ true → IsPoint p) → IfOk (answer a b c p) (λ q. IsPoint q)
 is_inside true b c p h = tt

@@ -1,5 +1,6 @@
 pub mod Sizes
 pub mod Headings
+pub mod Inside
 pub mod Cases
 pub mod Strips
 pub mod NearLaws
@@ -22,4 +23,9 @@ pub mod OnLines
 pub mod Feet
 pub mod OnRounds
 pub mod Ended
+pub mod Placed
+pub mod Sided
+pub mod Decided
+pub mod Chosen
 mod Worked
+mod WorkedCourses

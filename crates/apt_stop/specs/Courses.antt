@@ -5,7 +5,6 @@ use Rattle.apt_num.specs.declared.Sign.TheVariants as signs
 use Rattle.apt_num.specs.Sign.{sign_of, is_at_least, is_minus}
 use Rattle.apt_words.specs.declared.Stop.{Stop}
 use Rattle.apt_words.specs.declared.Stop.TheVariants as stops
-use Rattle.apt_words.specs.declared.Case.{Case}
 use Rattle.apt_words.specs.declared.Case.TheVariants as cases
 use Rattle.apt_words.specs.Rows.{Row}
 use Rattle.apt_plane.specs.declared.figures.Pt.{Pt}

@@ -1,6 +1,8 @@
 pub mod Nearness
+pub mod Lines
 pub mod Gaps
 pub mod Tangencies
 pub mod Courses
+pub mod Steps
 pub mod Ends
 pub mod Ranges

@@ -1,7 +1,6 @@
 -- A straight motion against a straight stop.
-use Rattle.std.specs.Prelude.{ℤ, ◌||◌, not, Bool, true, false, List, [], ◌∷◌, Result, Ok, Err, if◌then◌else◌}
+use Rattle.std.specs.Prelude.{ℤ, ◌||◌, not, Bool, List, [], ◌∷◌, Result, Ok, Err, if◌then◌else◌}
 use Rattle.apt_num.specs.declared.Sign.{Sign}
-use Rattle.apt_num.specs.declared.Sign.TheVariants as signs
 use Rattle.apt_num.specs.Sign.{sign_of}
 use Rattle.apt_words.specs.declared.Case.{Case}
 use Rattle.apt_words.specs.declared.Case.TheVariants as cases
@@ -14,17 +13,7 @@ use Rattle.apt_canon.specs.Scale.{is_in_range}
 use Rattle.apt_canon.specs.Meeting.{meeting_point, are_parallel}
 use Rattle.apt_offset.specs.declared.Target.TheVariants as targets
 use Rattle.apt_stop.specs.Nearness.{is_near, side_of, heading, near_stop}
-
-abbrev pub is_same : Sign → Sign → Bool
-is_same signs.Plus signs.Plus = true
-is_same signs.Plus signs.Zero = false
-is_same signs.Plus signs.Minus = false
-is_same signs.Zero signs.Plus = false
-is_same signs.Zero signs.Zero = true
-is_same signs.Zero signs.Minus = false
-is_same signs.Minus signs.Plus = false
-is_same signs.Minus signs.Zero = false
-is_same signs.Minus signs.Minus = true
+use Rattle.apt_stop.specs.Courses.{is_same}
 
 -- the side of the stop on which a straight motion runs: that of the start, or where the start is near the stop the one into which the motion heads
 abbrev pub line_side : Pt → Dir → Line → ℤ → Sign

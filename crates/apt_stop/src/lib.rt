@@ -1,11 +1,17 @@
-//! The side of a start, whether a motion leads to its stop, and where surfaces touch.
+//! Where courses stop: on which side of their stop they run, whether they lead to it, and where surfaces touch.
 #![tactic(auto)]
 
+mod course;
+mod decisions;
 mod gaps;
 mod nearness;
+mod sides;
 mod straight;
 mod tangencies;
+mod touches;
 
+pub use course::{Choice, Course};
+pub use decisions::{axis, decide, kept_side, stop_side};
 pub use gaps::is_touching;
 pub use nearness::{heading, is_near, side_of};
 pub use straight::{are_parallel, line_behind, line_side, line_stop};

@@ -13,6 +13,9 @@ use apt_offset::Target;
 use apt_plane::vectors::{displacement, height, length_squared, length_squared_of};
 use apt_plane::{Dir, Pt};
 
+/// A stop is near within so many grid units.
+pub(crate) const NEAR_STOP: i64 = 8;
+
 /// Whether a point is at most `g` grid units from a target.
 pub fn is_near(target: &Target, g: i64, p: Pt) -> bool
     requires target { IsTarget target.now }
@@ -75,7 +78,7 @@ pub(crate) fn is_in_strip(height: i128, off: i64, g: i64, length_squared: u128) 
     is_at_least(height, off - g, length_squared) && is_at_least(-height, -off - g, length_squared)
 }
 
-fn is_in_ring(r: i64, g: i64, length_squared: u128) -> bool
+pub(crate) fn is_in_ring(r: i64, g: i64, length_squared: u128) -> bool
     requires radius { pos 100 ≤ℤ r }
     requires limit { r ≤ℤ pos (10 ^ 8) }
     requires least { pos 0 ≤ℤ g }
@@ -87,7 +90,7 @@ fn is_in_ring(r: i64, g: i64, length_squared: u128) -> bool
 
 /// Whether `k >= h * sqrt(n)`.
 #[tactic(auto, using(crate::proofs::Sizes::product_fits))]
-fn is_at_least(k: i128, h: i64, n: u128) -> bool
+pub(crate) fn is_at_least(k: i128, h: i64, n: u128) -> bool
     requires k { unsigned_abs k ≤ 2 * 10 ^ 16 }
     requires h { unsigned_abs h ≤ 2 * 10 ^ 8 }
     requires n { n ≤ 2 * 10 ^ 16 }

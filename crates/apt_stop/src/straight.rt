@@ -6,17 +6,15 @@ ghost use Rattle.apt_plane.specs.Vectors as vectors;
 ghost use Rattle.apt_canon.specs.Meeting as meeting;
 ghost use Rattle.apt_canon.specs.Scale as scale;
 ghost use Rattle.apt_stop.specs.Nearness as near;
+ghost use Rattle.apt_stop.specs.Courses as courses;
 ghost use Rattle.apt_stop.specs.Lines as stops;
 
-use crate::nearness::{heading, is_in_strip, side_by_height};
+use crate::nearness::{NEAR_STOP, heading, is_in_strip, side_by_height};
 use apt_canon::line_line;
 use apt_num::{Sign, sign_of};
 use apt_plane::vectors::{cross, height, length_squared_of};
 use apt_plane::{Dir, Line, Moved, Pt};
 use apt_words::Case;
-
-/// A stop is near within so many grid units.
-const NEAR_STOP: i64 = 8;
 
 /// The point, rounded to the grid, at which a motion along a line moved `off` grid units to its left
 /// stops at a line moved `stop_off`.
@@ -139,8 +137,8 @@ pub fn line_behind(start: Pt, heading: Dir, stop: &Line, off: i64) -> bool
     is_same(side, sign_of(cross(stop.dir, heading)))
 }
 
-fn is_same(first: Sign, second: Sign) -> bool
-    ensures { result ≡ stops.is_same first second }
+pub(crate) fn is_same(first: Sign, second: Sign) -> bool
+    ensures { result ≡ courses.is_same first second }
 {
     first == second
 }
