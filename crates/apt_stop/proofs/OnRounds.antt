@@ -32,15 +32,10 @@ use Rattle.apt_stop.proofs.Moved.{track_target, stop_target}
 use Rattle.apt_stop.proofs.Contacts.{contact-near}
 use Rattle.apt_stop.proofs.Placed.{placed, has_half}
 use Rattle.apt_stop.proofs.Sided.{sided}
+use Rattle.apt_stop.proofs.Tracks.{sense_to}
 use Rattle.apt_stop.proofs.Parts.{course_at, Meets, Touches}
 
 -- ---- a course that meets its stop has a side, which tells the point that is meant
-sense_of : (side : Sign) (sense : ℤ) → side ≢ signs.Zero → IsSense sense → IsSense (signed side sense)
-sense_of signs.Plus sense some is = is
-sense_of signs.Zero sense some is = absurd (some refl)
-sense_of signs.Minus sense some (inl e) = inr (rw e refl)
-sense_of signs.Minus sense some (inr e) = inl (rw e refl)
-
 other_side : (side : Sign) → side ≢ signs.Zero → opposite side ≢ signs.Zero
 other_side signs.Plus some = λ e. cc
 other_side signs.Zero some = absurd (some refl)
@@ -50,10 +45,10 @@ module _ (start : Pt) (drive : Surface) (o : Pt) (r sense : ℤ) (check : Surfac
   sigma_is : (stop : Target) → let c = course_at start drive (targets.Circ o r) sense check how stop in IsCourse c → Meets c → IsSense (sigma_of sense (stop_side c) c.track stop)
   sigma_is (targets.Line e f k) is free =
       let c = course_at start drive (targets.Circ o r) sense check how (targets.Line e f k) in
-      sense_of (opposite (stop_side c)) sense (other_side (stop_side c) (sided c (placed c is) free.past)) is.sense
+      sense_to (opposite (stop_side c)) sense (other_side (stop_side c) (sided c (placed c is) free.past)) is.sense
   sigma_is (targets.Circ p q) is free =
       let c = course_at start drive (targets.Circ o r) sense check how (targets.Circ p q) in
-      sense_of (stop_side c) sense (sided c (placed c is) free.past) is.sense
+      sense_to (stop_side c) sense (sided c (placed c is) free.past) is.sense
 
   pub meets_on_round : (stop : Target) → let c = course_at start drive (targets.Circ o r) sense check how stop in IsCourse c → Meets c
       → IsNearTarget c.track (pos 1) (meets_at c (stop_side c)) × IsNearTarget stop (pos 1) (meets_at c (stop_side c))
@@ -63,7 +58,7 @@ module _ (start : Pt) (drive : Surface) (o : Pt) (r sense : ℤ) (check : Surfac
 
 -- ---- one that touches ends on the axis
 half_sense : (half : Sign) → half ≢ signs.Zero → IsSense (signed half (pos 1))
-half_sense half some = sense_of half (pos 1) some (inl refl)
+half_sense half some = sense_to half (pos 1) some (inl refl)
 
 -- a direction kept or turned round, and turned by a quarter
 turned_dir : (s : ℤ) (u : Dir) → IsSense s → IsDir u → IsDir (times s u)

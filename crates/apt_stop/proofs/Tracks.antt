@@ -1,6 +1,8 @@
 -- A motion along a track in a sense: the products with its heading, and how far it leads sideways.
-use Rattle.std.proofs.Common.{◌≡◌, ◌+◌, ◌*◌, ◌≤◌, ◌<◌, ◌∙◌, ap, arith, ℤ, pos, negsuc, neg_ℤ, ◌+ℤ◌, ◌-ℤ◌, ◌*ℤ◌, unsigned_abs}
+use Rattle.std.proofs.Common.{refl, ◌≡◌, ◌≢◌, inl, inr, ◌+◌, ◌*◌, ◌≤◌, ◌<◌, ◌∙◌, ap, arith, ℤ, pos, negsuc, neg_ℤ, ◌+ℤ◌, ◌-ℤ◌, ◌*ℤ◌, unsigned_abs}
 use Rattle.std.proofs.lemmas.Int.{ints}
+use Rattle.apt_num.specs.declared.Sign.{Sign}
+use Rattle.apt_num.specs.declared.Sign.TheVariants as signs
 use Rattle.apt_num.specs.Sign.{OnLine, square}
 use Rattle.apt_num.proofs.Ring.{as_diff, diff-same, differences}
 use Rattle.apt_plane.specs.declared.figures.Pt.{Pt}
@@ -8,6 +10,7 @@ use Rattle.apt_plane.specs.declared.figures.Dir.{Dir}
 use Rattle.apt_plane.specs.Ranges.{IsSense}
 use Rattle.apt_plane.specs.Vectors.{displacement, cross, dot, length_squared}
 use Rattle.apt_canon.proofs.LineCircleLaws.{sense_size}
+use Rattle.apt_offset.specs.Targets.{signed}
 use Rattle.apt_stop.specs.Nearness.{heading}
 use Rattle.apt_stop.proofs.Approaches.{at_most_four}
 use Rattle.apt_stop.proofs.Leads.{rise_at_least, fall_at_least}
@@ -50,3 +53,10 @@ track_runs b d h sense p q is some start end = record {
   heading = rw (heading_length sense d is) some;
   across = rw (heading_length sense d is, heading_turn sense d (displacement p q), sense_size sense (cross d (displacement p q)) is) (track_sideways b d h p q start end);
 }
+
+-- a side turns a sense
+pub sense_to : (side : Sign) (sense : ℤ) → side ≢ signs.Zero → IsSense sense → IsSense (signed side sense)
+sense_to signs.Plus sense some is = is
+sense_to signs.Zero sense some is = absurd (some refl)
+sense_to signs.Minus sense some (inl e) = inr (rw e refl)
+sense_to signs.Minus sense some (inr e) = inl (rw e refl)
