@@ -13,3 +13,17 @@ pub mod Quartered
 pub mod Divided
 pub mod Halved
 pub mod Worked
+pub mod Farther
+pub mod LineSteps
+pub mod InsideSteps
+pub mod InsideGive
+pub mod Governed
+pub mod Kept
+pub mod AwayRows
+pub mod NearRows
+pub mod Apart
+pub mod Moves
+pub mod Carried
+pub mod OnAxis
+pub mod Rays
+pub mod Outside
