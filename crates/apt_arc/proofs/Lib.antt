@@ -27,3 +27,5 @@ pub mod Carried
 pub mod OnAxis
 pub mod Rays
 pub mod Outside
+pub mod Vertices
+pub mod Inner
