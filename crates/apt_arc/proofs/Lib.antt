@@ -29,3 +29,5 @@ pub mod Rays
 pub mod Outside
 pub mod Vertices
 pub mod Inner
+pub mod Arrivals
+pub mod LineStops
