@@ -31,3 +31,4 @@ pub mod Vertices
 pub mod Inner
 pub mod Arrivals
 pub mod LineStops
+pub mod InsideStops
