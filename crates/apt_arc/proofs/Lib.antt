@@ -32,3 +32,4 @@ pub mod Inner
 pub mod Arrivals
 pub mod LineStops
 pub mod InsideStops
+pub mod OutsideStops
