@@ -9,13 +9,14 @@ use Rattle.apt_plane.specs.declared.figures.Dir.{Dir}
 use Rattle.apt_plane.specs.Vectors.{cross, dot, length_squared}
 use Rattle.apt_plane.specs.Ranges.{IsSense}
 use Rattle.apt_plane.specs.Order.{turn_class}
-use Rattle.apt_plane.proofs.Displacements.{lagrange}
-use Rattle.apt_num.proofs.Products.{plus_of, both_plus}
+use Rattle.apt_plane.proofs.Displacements.{lagrange, dot_swap}
+use Rattle.apt_num.proofs.Products.{plus_of, both_plus, one_each}
 use Rattle.apt_plane.proofs.Turned.{turned_by, turned_back, about_start, dot_about}
-use Rattle.apt_arc.proofs.Spans.{natural, size_sense}
+use Rattle.apt_arc.proofs.Spans.{IsNearby, natural, size_sense, some_length}
 use Rattle.apt_plane.proofs.Around.{is_place}
 use Rattle.apt_arc.proofs.Farther.{as_far, farther_hardly}
-use Rattle.apt_arc.proofs.Governed.{IsFartherFrom, IsHardlyNearerTo}
+use Rattle.apt_arc.proofs.Governed.{IsFartherFrom, IsHardlyAcross, IsHardlyNearerTo}
+use Rattle.apt_arc.proofs.Kept.{IsOnCircle}
 use Rattle.apt_arc.proofs.NearRows.{IsNearRow}
 
 -- ---- in one direction
@@ -40,9 +41,6 @@ one_way : (sense : ℤ) (s e : Dir) → IsSense sense → 0 < length_squared s �
 one_way sense s e is p q same =
     let both = first_class (turned_by sense s e) (dot s e) (turn_class s sense e) same (is_place sense s e is p q) in
     (no_cross sense (cross s e) is both.0, both.1)
-
-dot_swap : (u v : Dir) → dot u v ≡ dot v u
-dot_swap u v = omega (arith, ints)
 
 along_both : (s e b : Dir) → cross s e ≡ pos 0 → pos (length_squared s) *ℤ dot b e ≡ dot s b *ℤ dot s e
 along_both s e b none = drop_sum (pos (length_squared s) *ℤ dot b e) (dot s b *ℤ dot s e) (cross s b) (cross s e) (dot_about s b e) none
@@ -83,15 +81,37 @@ above_below z B (inr short) h = short
 none_turned : (sense z : ℤ) → z ≡ pos 0 → sense *ℤ z ≡ pos 0
 none_turned sense z e = rw e (omega (arith, ints))
 
-pub near_apart : (p : ℕ) (sense : ℤ) (s e b : Dir) → IsNearRow p sense s e b → turn_class s sense e ≢ 0
-near_apart p sense s e b row = λ same.
+-- both across the axis, the start far and the end hardly
+far_and_hardly : (p : ℕ) (sense : ℤ) (s e b : Dir) → IsSense sense → 97 ≤ p → IsNearby p s → IsOnCircle p e → 64 * length_squared b < unsigned_abs (turned_by sense b s) * unsigned_abs (turned_by sense b s) → IsHardlyAcross sense b e
+    → cross s e ≡ pos 0 → ⊥
+far_and_hardly p sense s e b is least start end far hardly none =
     let n = length_squared s in
-    let some : 0 < n = omega (arith, row.start.low, mul-le 97 97 p p row.least row.least) in
-    let some_end : 0 < length_squared e = omega (arith, row.end.low) in
-    let both = one_way sense s e row.turn some some_end same in
     let d = unsigned_abs (dot s e) in
-    let along = across_both sense s e b (none_turned sense (cross s e) both.0) in
-    let onwards : pos 0 <ℤ turned_by sense b e = plus_of n (turned_by sense b e) (rw along (both_plus (turned_by sense b s) (dot s e) row.ahead both.1)) in
+    let along = across_both sense s e b (none_turned sense (cross s e) none) in
     let sizes : n * unsigned_abs (turned_by sense b e) ≡ unsigned_abs (turned_by sense b s) * d = sym (size_mul (pos n) (turned_by sense b e)) ∙ ap unsigned_abs along ∙ size_mul (turned_by sense b s) (dot s e) in
     far_across (length_squared b) n (length_squared e) (unsigned_abs (turned_by sense b s)) (unsigned_abs (turned_by sense b e)) d p sizes
-    (product_of n (length_squared e) (unsigned_abs (cross s e)) d (lagrange s e) (ap unsigned_abs both.0)) row.far (above_below (turned_by sense b e) (length_squared b) row.hardly onwards) row.start.high row.end.low row.least some
+    (product_of n (length_squared e) (unsigned_abs (cross s e)) d (lagrange s e) (ap unsigned_abs none)) far hardly start.high end.low least (some_length p s least start)
+
+end_long : (p n : ℕ) → (p + 2) * (p + 2) ≤ n → 0 < n
+end_long p n low = omega (arith, low)
+
+pub near_apart : (p : ℕ) (sense : ℤ) (s e b : Dir) → IsNearRow p sense s e b → turn_class s sense e ≢ 0
+near_apart p sense s e b row = λ same.
+    let both = one_way sense s e row.turn (some_length p s row.least row.start) (end_long p (length_squared e) row.end.low) same in
+    let along = across_both sense s e b (none_turned sense (cross s e) both.0) in
+    let onwards : pos 0 <ℤ turned_by sense b e = plus_of (length_squared s) (turned_by sense b e) (rw along (both_plus (turned_by sense b s) (dot s e) row.ahead both.1)) in
+    far_and_hardly p sense s e b row.turn row.least row.start row.end row.far (above_below (turned_by sense b e) (length_squared b) row.hardly onwards) both.0
+
+-- ---- an end on a ray, and a start that is far across its line or behind it
+behind_ray : (n : ℕ) (x y d : ℤ) → pos n *ℤ x ≡ y *ℤ d → y ≤ℤ pos 0 → pos 0 <ℤ d → pos 0 <ℤ x → 0 < n → ⊥
+behind_ray n x y d e behind ahead on some = omega (arith, ints, e, both_plus (pos n) x (omega (arith, ints, some)) on, one_each y d behind (omega (arith, ints, ahead)))
+
+pub ray_apart : (p : ℕ) (sense : ℤ) (s e b : Dir) → IsSense sense → 97 ≤ p → IsNearby p s → IsOnCircle p e → IsHardlyAcross sense b e → pos 0 <ℤ dot b e
+    → (64 * length_squared b < unsigned_abs (turned_by sense b s) * unsigned_abs (turned_by sense b s)) ⊎ (dot b s ≤ℤ pos 0) → turn_class s sense e ≢ 0
+ray_apart p sense s e b is least start end hardly on off = λ same.
+    let some = some_length p s least start in
+    let both = one_way sense s e is some (end_long p (length_squared e) end.low) same in
+    elim off [
+      | inl far ↦ far_and_hardly p sense s e b is least start end far hardly both.0
+      | inr behind ↦ behind_ray (length_squared s) (dot b e) (dot b s) (dot s e) (along_both s e b both.0 ∙ ap (λ z. z *ℤ dot s e) (dot_swap s b)) behind both.1 on some
+    ]

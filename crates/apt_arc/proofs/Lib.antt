@@ -33,3 +33,4 @@ pub mod Arrivals
 pub mod LineStops
 pub mod InsideStops
 pub mod OutsideStops
+pub mod TangentStops
