@@ -1,5 +1,5 @@
 -- The points inside the chords of an arc are met before its end, as its vertices are.
-use Rattle.std.proofs.Common.{refl, ◌≡◌, ◌⊎◌, inl, inr, ℕ, ◌+◌, ◌<◌, ◌∙◌, ap, sym, subst, arith, ℤ, pos, neg_ℤ, ◌+ℤ◌, ◌*ℤ◌, ◌<ℤ◌}
+use Rattle.std.proofs.Common.{refl, ◌≡◌, ℕ, ◌<◌, ◌∙◌, ap, arith, ℤ, pos, neg_ℤ, ◌+ℤ◌, ◌*ℤ◌, ◌<ℤ◌}
 use Rattle.std.proofs.lemmas.Int.{ints}
 use Rattle.apt_num.proofs.Ring.{as_diff, diff-same, differences}
 use Rattle.apt_num.proofs.Products.{both_plus}

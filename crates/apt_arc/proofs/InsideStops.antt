@@ -1,8 +1,7 @@
 -- No point of any chord of an arc that stays inside of a circle is more than 12 units outside. The axis leads from the circle's centre to that of the arc.
-use Rattle.std.proofs.Common.{refl, ◌≡◌, ◌⊎◌, inl, inr, ℕ, ◌+◌, ◌-◌, ◌*◌, ◌≤◌, ◌<◌, ◌∙◌, ap, sym, subst, arith, List, ℤ, pos, neg_ℤ, ◌+ℤ◌, ◌-ℤ◌, ◌*ℤ◌, ◌≤ℤ◌, ◌<ℤ◌, unsigned_abs}
+use Rattle.std.proofs.Common.{refl, ◌≡◌, ◌⊎◌, inl, inr, ℕ, ◌+◌, ◌-◌, ◌*◌, ◌≤◌, ◌<◌, ◌∙◌, ap, sym, subst, arith, List, ℤ, pos, neg_ℤ, ◌+ℤ◌, ◌-ℤ◌, ◌*ℤ◌, ◌≤ℤ◌, unsigned_abs}
 use Rattle.std.proofs.lemmas.Int.{ints}
 use Rattle.std.proofs.lemmas.Nat.{mul-le}
-use Rattle.apt_num.specs.Sign.{square}
 use Rattle.apt_num.proofs.Ring.{as_diff, diff-same, differences}
 use Rattle.apt_num.proofs.Squares.{size_neg}
 use Rattle.apt_plane.specs.declared.figures.Pt.{Pt}
@@ -10,7 +9,6 @@ use Rattle.apt_plane.specs.declared.figures.Dir.{Dir}
 use Rattle.apt_plane.specs.declared.figures.Circ.{Circ}
 use Rattle.apt_plane.specs.Vectors.{scaled, displacement, cross, length_squared}
 use Rattle.apt_plane.specs.Distances.{IsUnder, IsLengthAtMost, IsRootAtMost, about}
-use Rattle.apt_plane.proofs.Displacements.{cross_swap}
 use Rattle.apt_plane.proofs.Heights.{one-times}
 use Rattle.apt_plane.proofs.Lengths.{plus}
 use Rattle.apt_plane.proofs.RingLaws.{root_at_most, under-between}
@@ -25,7 +23,7 @@ use Rattle.apt_arc.specs.Stops.{EveryChord, IsRoute, to_start, to_end, IsAhead, 
 use Rattle.apt_arc.specs.Made.{divided}
 use Rattle.apt_arc.proofs.Spans.{size_sense}
 use Rattle.apt_arc.proofs.Tracks.{within, within_large, nearby, length_tells, root_tells}
-use Rattle.apt_arc.proofs.Governed.{IsHardlyAcross, IsOnRay}
+use Rattle.apt_arc.proofs.Governed.{IsOnRay}
 use Rattle.apt_arc.proofs.Kept.{inside_kept}
 use Rattle.apt_arc.proofs.AwayRows.{inside_away}
 use Rattle.apt_arc.proofs.Vertices.{IsVertex}
@@ -175,6 +173,8 @@ circle_inside a stop is least some beyond end start = elim start [
     told : Arrives a (displacement stop.c a.track.c) → length_squared (displacement stop.c a.start) ≤ (S + 8) * (S + 8)
         → IsArc a × ((list : List Pt) → IsDivision a list → EveryChord a.start list (IsUnder (about stop.c) (stop.r +ℤ pos 12)))
     told arrives from =
-        let arc = is_arc a is arrives.1 in
-        (arc, of_division a (IsUnder (about stop.c) (stop.r +ℤ pos 12)) arc
-        (subst (λ (z : ℤ). EveryChord a.start (divided a) (IsUnder (about stop.c) z)) (sym (radius_more 12 stop.r least)) (kept a stop.c S is past.some arrives (large_radius stop.r least).0 from (contact_under stop a.end least end))))
+        let arc = is_arc a is arrives.1 in (
+          arc,
+          of_division a (IsUnder (about stop.c) (stop.r +ℤ pos 12)) arc
+              (subst (λ (z : ℤ). EveryChord a.start (divided a) (IsUnder (about stop.c) z)) (sym (radius_more 12 stop.r least)) (kept a stop.c S is past.some arrives (large_radius stop.r least).0 from (contact_under stop a.end least end))),
+        )

@@ -1,5 +1,5 @@
 -- No point of any chord of an arc is more than 12 units past the line at its end.
-use Rattle.std.proofs.Common.{refl, ◌≡◌, ◌↔◌, ◌⊎◌, inl, inr, ℕ, ◌+◌, ◌*◌, ◌≤◌, ◌<◌, ◌∙◌, ap, sym, subst, arith, List, [], ◌∷◌, ℤ, pos, neg_ℤ, ◌+ℤ◌, ◌-ℤ◌, ◌*ℤ◌, ◌≤ℤ◌, ◌<ℤ◌, unsigned_abs}
+use Rattle.std.proofs.Common.{refl, ◌≡◌, ◌↔◌, ◌⊎◌, inl, inr, ℕ, ◌*◌, ◌≤◌, ◌<◌, ◌∙◌, ap, sym, subst, arith, List, [], ◌∷◌, ℤ, pos, neg_ℤ, ◌+ℤ◌, ◌-ℤ◌, ◌*ℤ◌, ◌≤ℤ◌, ◌<ℤ◌, unsigned_abs}
 use Rattle.std.proofs.lemmas.Int.{ints}
 use Rattle.apt_num.specs.Sign.{AtLeast, square}
 use Rattle.apt_num.proofs.Ring.{as_diff, diff-same, differences, neg-*ℤ, *ℤ-neg, neg-*ℤ-neg}
@@ -24,7 +24,7 @@ use Rattle.apt_arc.specs.Stops.{EveryChord, IsRoute, to_start, to_end, IsAhead, 
 use Rattle.apt_arc.specs.Made.{divided}
 use Rattle.apt_arc.proofs.Spans.{size_sense}
 use Rattle.apt_arc.proofs.Tracks.{within, within_large, nearby}
-use Rattle.apt_arc.proofs.Governed.{IsHardlyAcross, IsOnRay}
+use Rattle.apt_arc.proofs.Governed.{IsOnRay}
 use Rattle.apt_arc.proofs.Kept.{line_kept}
 use Rattle.apt_arc.proofs.AwayRows.{line_away, reverse, dot_reverse}
 use Rattle.apt_arc.proofs.Vertices.{IsVertex, arc_vertices}

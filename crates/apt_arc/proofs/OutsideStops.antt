@@ -3,7 +3,7 @@ use Rattle.std.proofs.Common.{refl, ◌≡◌, ◌⊎◌, inl, inr, ℕ, zero, s
 use Rattle.std.proofs.lemmas.Int.{ints}
 use Rattle.std.proofs.lemmas.Nat.{mul-le}
 use Rattle.std.proofs.lemmas.Bool.{cases_lt}
-use Rattle.apt_num.specs.Sign.{signed_square, square}
+use Rattle.apt_num.specs.Sign.{signed_square}
 use Rattle.apt_num.proofs.Ring.{as_diff, diff-pos, diff-same, differences, scaled_le, neg-*ℤ}
 use Rattle.apt_num.proofs.Squares.{size_mul, size_neg}
 use Rattle.apt_plane.specs.declared.figures.Pt.{Pt}
@@ -13,7 +13,6 @@ use Rattle.apt_plane.specs.Vectors.{scaled, between, displacement, displacement_
 use Rattle.apt_plane.specs.Distances.{IsOver, IsLengthAtMost, IsRootAtMost, EveryPoint, about}
 use Rattle.apt_plane.specs.Ranges.{IsSense}
 use Rattle.apt_plane.proofs.Displacements.{to, dot_times}
-use Rattle.apt_plane.proofs.Heights.{one-times}
 use Rattle.apt_plane.proofs.Lengths.{plus, times, length_of_times}
 use Rattle.apt_plane.proofs.RingLaws.{length_at_most, root_at_most, negative_over, over_from}
 use Rattle.apt_plane.proofs.Turned.{turned_by, turned_back}
@@ -29,8 +28,7 @@ use Rattle.apt_arc.specs.Stops.{EveryChord, IsRoute, to_start, to_end, IsAback, 
 use Rattle.apt_arc.proofs.Spans.{size_sense}
 use Rattle.apt_arc.proofs.Tracks.{within, within_large, nearby, length_tells, root_tells, chord_length}
 use Rattle.apt_arc.proofs.Farther.{farther_signed}
-use Rattle.apt_arc.proofs.Governed.{IsFartherFrom, IsHardlyAcross, IsOnRay, governed}
-use Rattle.apt_arc.proofs.Kept.{IsOnCircle}
+use Rattle.apt_arc.proofs.Governed.{IsHardlyAcross, IsOnRay, governed}
 use Rattle.apt_arc.proofs.AwayRows.{outside_away, reverse}
 use Rattle.apt_arc.proofs.Outside.{HasLessShare, less_times, AreMeeting, IsOnChord, IsOutside, IsContact, outside_from, outside_contact}
 use Rattle.apt_arc.proofs.Vertices.{IsUpToEnd, both_long, steps_up_to_end}
@@ -237,7 +235,7 @@ axis_over : (a : Arc) (q : ℕ) (stop p : Pt) (list : List Pt) → IsRoute a →
 axis_over a q stop p [] is meets at steps = tt
 axis_over a q stop p (x ∷ xs) is meets at steps = (
   λ j k some. over a q stop p x j k is meets
-  (outside_contact (radius a.track) q (unsigned_abs a.sag) (j + k) (displacement a.track.c stop) (to_end a) (way a.track p x j k) (meeting a q stop is meets) (on_chord a.track a.sag p x j k is.track is.sag steps.1 some) at),
+      (outside_contact (radius a.track) q (unsigned_abs a.sag) (j + k) (displacement a.track.c stop) (to_end a) (way a.track p x j k) (meeting a q stop is meets) (on_chord a.track a.sag p x j k is.track is.sag steps.1 some) at),
   axis_over a q stop x xs is meets at steps.2,
 )
 

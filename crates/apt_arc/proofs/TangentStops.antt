@@ -1,9 +1,7 @@
 -- The end of an arc that touches its stop is not in the direction of its start.
-use Rattle.std.proofs.Common.{◌≡◌, ◌⊎◌, inl, inr, ℕ, ◌+◌, ◌*◌, ◌^◌, ◌≤◌, ◌<◌, ◌∙◌, ap, sym, subst, arith, ℤ, pos, neg_ℤ, ◌+ℤ◌, ◌-ℤ◌, ◌*ℤ◌, ◌≤ℤ◌, ◌<ℤ◌, unsigned_abs}
-use Rattle.std.proofs.lemmas.Int.{ints}
+use Rattle.std.proofs.Common.{◌≡◌, ◌⊎◌, inl, inr, ℕ, ◌+◌, ◌*◌, ◌^◌, ◌≤◌, ◌<◌, ◌∙◌, ap, sym, subst, arith, ℤ, pos, ◌+ℤ◌, ◌-ℤ◌, ◌*ℤ◌, ◌≤ℤ◌, ◌<ℤ◌, unsigned_abs}
 use Rattle.apt_num.specs.Sign.{square}
 use Rattle.apt_num.proofs.Ring.{as_diff, diff-same, differences}
-use Rattle.apt_num.proofs.Squares.{size_mul}
 use Rattle.apt_plane.specs.declared.figures.Pt.{Pt}
 use Rattle.apt_plane.specs.declared.figures.Dir.{Dir}
 use Rattle.apt_plane.specs.declared.figures.Circ.{Circ}
@@ -17,7 +15,6 @@ use Rattle.apt_arc.specs.Ranges.{IsTrack, IsArc}
 use Rattle.apt_arc.specs.Stops.{IsRoute, to_start, to_end}
 use Rattle.apt_arc.proofs.Spans.{size_sense}
 use Rattle.apt_arc.proofs.Tracks.{within, within_large, nearby, aimed}
-use Rattle.apt_arc.proofs.Governed.{IsHardlyAcross}
 use Rattle.apt_arc.proofs.Apart.{ray_apart}
 use Rattle.apt_arc.proofs.Arrivals.{on_circle, is_arc}
 
