@@ -1,11 +1,11 @@
 -- Where nothing refuses, an arc meets its stop before the axis, or on its ray, and its end is not in the direction of its start. The axis leads from the centre towards the stop.
-use Rattle.std.proofs.Common.{◌≡◌, ◌≢◌, ◌⊎◌, ℕ, ◌+◌, ◌*◌, ◌≤◌, ◌<◌, subst, arith, List, ℤ, pos, ◌+ℤ◌, ◌-ℤ◌, ◌<ℤ◌, ◌≤ℤ◌, unsigned_abs, sym}
+use Rattle.std.proofs.Common.{◌≡◌, ◌≢◌, ◌⊎◌, ℕ, ◌+◌, ◌*◌, ◌≤◌, ◌<◌, subst, arith, ℤ, pos, ◌+ℤ◌, ◌-ℤ◌, ◌<ℤ◌, ◌≤ℤ◌, unsigned_abs}
 use Rattle.std.proofs.Math.Nat.{mul-le-mul_left}
 use Rattle.std.proofs.lemmas.Int.{ints}
 use Rattle.apt_plane.specs.declared.figures.Pt.{Pt}
 use Rattle.apt_plane.specs.declared.figures.Dir.{Dir}
 use Rattle.apt_plane.specs.declared.figures.Circ.{Circ}
-use Rattle.apt_plane.specs.Vectors.{Scaled, displacement, length_squared}
+use Rattle.apt_plane.specs.Vectors.{displacement, length_squared}
 use Rattle.apt_plane.specs.Distances.{IsLengthAtMost, IsRootAtMost}
 use Rattle.apt_plane.specs.Order.{turn_class}
 use Rattle.apt_plane.proofs.Turned.{turned_by}
@@ -13,12 +13,9 @@ use Rattle.apt_plane.proofs.Around.{Cyc}
 use Rattle.apt_canon.specs.Scale.{IsNearCircle}
 use Rattle.apt_arc.specs.declared.arc.Arc.{Arc}
 use Rattle.apt_arc.specs.Ranges.{IsTrack, IsArc}
-use Rattle.apt_arc.specs.Divisions.{IsDivision}
-use Rattle.apt_arc.specs.Stops.{EveryChord, IsRoute, to_start, to_end}
-use Rattle.apt_arc.specs.Made.{divided}
+use Rattle.apt_arc.specs.Stops.{IsRoute, to_start, to_end}
 use Rattle.apt_arc.proofs.Spans.{IsNearby}
 use Rattle.apt_arc.proofs.Tracks.{within, within_large, radius_is, nearby, near_track, length_tells, root_tells}
-use Rattle.apt_arc.proofs.Divided.{only}
 use Rattle.apt_arc.proofs.Governed.{IsHardlyAcross, IsHardlyNearerTo, IsOnRay, away_reached}
 use Rattle.apt_arc.proofs.Kept.{IsOnCircle, IsStopped}
 use Rattle.apt_arc.proofs.NearRows.{IsNearRow, near_reached}
@@ -106,7 +103,3 @@ stopped a b is some met = record {
   end = on_circle a.track a.end is.track is.end;
   met = met;
 }
-
--- what every chord of the made division keeps, every chord of any does
-pub of_division : (a : Arc) (P : Scaled → Type 0) → IsArc a → EveryChord a.start (divided a) P → (list : List Pt) → IsDivision a list → EveryChord a.start list P
-of_division a P arc every list division = subst (λ (xs : List Pt). EveryChord a.start xs P) (sym (only a arc list division)) every

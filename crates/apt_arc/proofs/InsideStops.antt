@@ -20,14 +20,13 @@ use Rattle.apt_arc.specs.declared.arc.Arc.{Arc}
 use Rattle.apt_arc.specs.Ranges.{IsArc}
 use Rattle.apt_arc.specs.Divisions.{IsDivision}
 use Rattle.apt_arc.specs.Stops.{EveryChord, IsRoute, to_start, to_end, IsAhead, StartsInside}
-use Rattle.apt_arc.specs.Made.{divided}
 use Rattle.apt_arc.proofs.Spans.{size_sense}
 use Rattle.apt_arc.proofs.Tracks.{within, within_large, nearby, length_tells, root_tells}
 use Rattle.apt_arc.proofs.Governed.{IsOnRay}
 use Rattle.apt_arc.proofs.Kept.{inside_kept}
 use Rattle.apt_arc.proofs.AwayRows.{inside_away}
 use Rattle.apt_arc.proofs.Vertices.{IsVertex}
-use Rattle.apt_arc.proofs.Arrivals.{EndsPast, Arrives, on_circle, away_arrives, near_arrives, is_arc, stopped, of_division}
+use Rattle.apt_arc.proofs.Arrivals.{EndsPast, Arrives, on_circle, away_arrives, near_arrives, is_arc, stopped}
 use Rattle.apt_arc.proofs.LineStops.{chords_of}
 
 -- ---- distances from the circle's centre q
@@ -69,7 +68,7 @@ inside_vertex a q S is some met large start end x (inr vertex) =
     (subst (λ n. n ≤ (S + 8) * (S + 8)) (sym (from_stop c q a.start)) start) (subst (λ n. n ≤ (S + 1) * (S + 1)) (sym (from_stop c q a.end)) end) large vertex.0 vertex.1))
 
 kept : (a : Arc) (q : Pt) (S : ℕ) → IsRoute a → 0 < length_squared (displacement q a.track.c) → Arrives a (displacement q a.track.c) → 58 ≤ S
-    → length_squared (displacement q a.start) ≤ (S + 8) * (S + 8) → length_squared (displacement q a.end) ≤ (S + 1) * (S + 1) → EveryChord a.start (divided a) (IsUnder (about q) (pos (S + 12)))
+    → length_squared (displacement q a.start) ≤ (S + 8) * (S + 8) → length_squared (displacement q a.end) ≤ (S + 1) * (S + 1) → (list : List Pt) → IsDivision a list → EveryChord a.start list (IsUnder (about q) (pos (S + 12)))
 kept a q S is some arrives large start end =
     chords_of a (IsUnder (about q) (pos (S + 12))) (is_arc a is arrives.1) (λ p r u v. under-between q p r (pos (S + 12)) u v)
     (under_to q (S + 12) a.start (wider S (length_squared (displacement q a.start)) 8 (omega arith) start)) (inside_vertex a q S is some arrives.0 large start end)
@@ -172,9 +171,9 @@ circle_inside a stop is least some beyond end start = elim start [
 
     told : Arrives a (displacement stop.c a.track.c) → length_squared (displacement stop.c a.start) ≤ (S + 8) * (S + 8)
         → IsArc a × ((list : List Pt) → IsDivision a list → EveryChord a.start list (IsUnder (about stop.c) (stop.r +ℤ pos 12)))
-    told arrives from =
-        let arc = is_arc a is arrives.1 in (
-          arc,
-          of_division a (IsUnder (about stop.c) (stop.r +ℤ pos 12)) arc
-              (subst (λ (z : ℤ). EveryChord a.start (divided a) (IsUnder (about stop.c) z)) (sym (radius_more 12 stop.r least)) (kept a stop.c S is past.some arrives (large_radius stop.r least).0 from (contact_under stop a.end least end))),
-        )
+    told arrives from = (
+      is_arc a is arrives.1,
+      λ list division.
+          subst (λ (z : ℤ). EveryChord a.start list (IsUnder (about stop.c) z)) (sym (radius_more 12 stop.r least))
+          (kept a stop.c S is past.some arrives (large_radius stop.r least).0 from (contact_under stop a.end least end) list division),
+    )

@@ -21,14 +21,13 @@ use Rattle.apt_arc.specs.Ranges.{IsArc}
 use Rattle.apt_arc.specs.Quarters.{Each}
 use Rattle.apt_arc.specs.Divisions.{IsDivision}
 use Rattle.apt_arc.specs.Stops.{EveryChord, IsRoute, to_start, to_end, IsAhead, StartsLeft, StartsRight}
-use Rattle.apt_arc.specs.Made.{divided}
 use Rattle.apt_arc.proofs.Spans.{size_sense}
 use Rattle.apt_arc.proofs.Tracks.{within, within_large, nearby}
 use Rattle.apt_arc.proofs.Governed.{IsOnRay}
 use Rattle.apt_arc.proofs.Kept.{line_kept}
 use Rattle.apt_arc.proofs.AwayRows.{line_away, reverse, dot_reverse}
-use Rattle.apt_arc.proofs.Vertices.{IsVertex, arc_vertices}
-use Rattle.apt_arc.proofs.Arrivals.{EndsPast, Arrives, on_circle, away_arrives, near_arrives, is_arc, stopped, of_division}
+use Rattle.apt_arc.proofs.Vertices.{IsVertex, division_vertices}
+use Rattle.apt_arc.proofs.Arrivals.{EndsPast, Arrives, on_circle, away_arrives, near_arrives, is_arc, stopped}
 
 chords_by : (P : Scaled → Type 0) → ((a b : Pt) → P (scaled a) → P (scaled b) → EveryPoint a b P) → (a : Pt) (list : List Pt) → P (scaled a) → Each list (λ x. P (scaled x)) → EveryChord a list P
 chords_by P all a [] first each = tt
@@ -38,11 +37,11 @@ each_by : (P Q : Pt → Type 0) → ((x : Pt) → P x → Q x) → (list : List 
 each_by P Q f [] each = tt
 each_by P Q f (x ∷ xs) each = (f x each.0, each_by P Q f xs each.1)
 
--- every chord, by what its vertices are
+-- every chord of a division, by what its vertices are
 pub chords_of : (a : Arc) (P : Scaled → Type 0) → IsArc a → ((p q : Pt) → P (scaled p) → P (scaled q) → EveryPoint p q P) → P (scaled a.start)
-    → ((x : Pt) → IsVertex a.track a.sense a.start a.end x → P (scaled x)) → EveryChord a.start (divided a) P
-chords_of a P arc all first vertex =
-    chords_by P all a.start (divided a) first (each_by (IsVertex a.track a.sense a.start a.end) (λ x. P (scaled x)) vertex (divided a) (arc_vertices a arc))
+    → ((x : Pt) → IsVertex a.track a.sense a.start a.end x → P (scaled x)) → (list : List Pt) → IsDivision a list → EveryChord a.start list P
+chords_of a P arc all first vertex list division =
+    chords_by P all a.start list first (each_by (IsVertex a.track a.sense a.start a.end) (λ x. P (scaled x)) vertex list (division_vertices a arc list division))
 
 -- ---- the axis of a line left of which an arc stays leads to the right
 abbrev pub line_axis : Line → Dir
@@ -89,7 +88,7 @@ left_vertex a l h is some met start end x (inr vertex) =
     (left_over l (h -ℤ pos 8) c a.start start) (left_over l (h -ℤ pos 1) c a.end end) vertex.0 vertex.1))
 
 left_kept : (a : Arc) (l : Line) (h : ℤ) → IsRoute a → 0 < length_squared (line_axis l) → Arrives a (line_axis l) → IsAbove l (h -ℤ pos 8) (scaled a.start) → IsAbove l (h -ℤ pos 1) (scaled a.end)
-    → EveryChord a.start (divided a) (IsAbove l (h -ℤ pos 12))
+    → (list : List Pt) → IsDivision a list → EveryChord a.start list (IsAbove l (h -ℤ pos 12))
 left_kept a l h is some arrives start end =
     let first = above_tells l (h -ℤ pos 8) a.start start in
     chords_of a (IsAbove l (h -ℤ pos 12)) (is_arc a is arrives.1) (λ p q r s. λ j k m. above-between l (h -ℤ pos 12) p q j k r s)
@@ -163,7 +162,7 @@ line_left a l h is some further above below start = elim start [
     told : Arrives a (line_axis l) → IsAbove l (h -ℤ pos 8) (scaled a.start) → IsArc a × ((list : List Pt) → IsDivision a list → EveryChord a.start list (IsAbove l (h -ℤ pos 12)))
     told arrives from =
         let arc = is_arc a is arrives.1 in
-        (arc, of_division a (IsAbove l (h -ℤ pos 12)) arc (left_kept a l h is past.some arrives from above))
+        (arc, left_kept a l h is past.some arrives from above)
 
 -- ---- the other side: the same line, run the other way
 abbrev back_line : Line → Line

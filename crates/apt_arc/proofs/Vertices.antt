@@ -1,5 +1,5 @@
 -- The vertices of an arc: each but the end is met before it, and is a point of the circle, rounded.
-use Rattle.std.proofs.Common.{refl, ◌≡◌, ◌≢◌, ◌⊎◌, inl, inr, ℕ, zero, suc, ◌*◌, ◌≤◌, ◌<◌, sym, subst, arith, List, [], ◌∷◌, ◌++◌, ℤ, pos, negsuc, ◌*ℤ◌, ◌<ℤ◌, unsigned_abs}
+use Rattle.std.proofs.Common.{refl, ◌≡◌, ◌≢◌, ◌⊎◌, inl, inr, ℕ, zero, suc, ◌+◌, ◌^◌, ◌*◌, ◌≤◌, ◌<◌, sym, subst, arith, List, [], ◌∷◌, ◌++◌, ℤ, pos, negsuc, ◌*ℤ◌, ◌<ℤ◌, unsigned_abs}
 use Rattle.std.proofs.lemmas.Int.{ints}
 use Rattle.apt_plane.specs.declared.figures.Pt.{Pt}
 use Rattle.apt_plane.specs.declared.figures.Dir.{Dir}
@@ -17,13 +17,14 @@ use Rattle.apt_arc.specs.Ranges.{IsTrack, IsSag, IsPiece, ArePieces, IsArc}
 use Rattle.apt_arc.specs.Cuts.{IsCut, AreCuts, middle}
 use Rattle.apt_arc.specs.Quarters.{IsQuarterPoint, IsOnTheWay, Each}
 use Rattle.apt_arc.specs.Steps.{AreSteps}
-use Rattle.apt_arc.specs.Made.{quarters, divided}
+use Rattle.apt_arc.specs.Divisions.{IsDivision}
+use Rattle.apt_arc.specs.Made.{quarters}
 use Rattle.apt_arc.proofs.Spans.{some_length}
 use Rattle.apt_arc.proofs.Lists.{is_false}
-use Rattle.apt_arc.proofs.Tracks.{within, within_large, nearby, middle_dir, half_pieces, aimed}
-use Rattle.apt_arc.proofs.Depth.{all_cuts}
+use Rattle.apt_arc.proofs.Tracks.{within, within_large, within_small, nearby, middle_dir, half_pieces, aimed, size_of_radius, sag_least}
+use Rattle.apt_arc.proofs.Depth.{deepest}
 use Rattle.apt_arc.proofs.Parts.{quarters_divide, quarter_of, dir_turned}
-use Rattle.apt_arc.proofs.Steps.{arc_steps}
+use Rattle.apt_arc.proofs.Divided.{one_quarters}
 use Rattle.apt_arc.proofs.Kept.{IsRoundedPoint}
 
 -- the end, or met before it
@@ -125,13 +126,18 @@ both_of : (t : Circ) (sense : ℤ) (s e : Pt) (list : List Pt) → Each list (Is
 both_of t sense s e [] met rounded = tt
 both_of t sense s e (x ∷ xs) met rounded = (one_vertex t sense s e x met.0 rounded.0, both_of t sense s e xs met.1 rounded.1)
 
-pub arc_vertices : (a : Arc) → IsArc a → Each (divided a) (IsVertex a.track a.sense a.start a.end)
-arc_vertices a arc =
+deep : (a : Arc) → IsArc a → unsigned_abs a.track.r ≤ 3 ^ 24 * unsigned_abs a.sag
+deep a arc =
+    subst (λ n. n ≤ 3 ^ 24 * unsigned_abs a.sag) (sym (size_of_radius a.track arc.track)) (deepest (within a.track + 3) (unsigned_abs a.sag) (within_small a.track arc.track) (sag_least a.sag arc.sag.least))
+
+pub division_vertices : (a : Arc) → IsArc a → (list : List Pt) → IsDivision a list → Each list (IsVertex a.track a.sense a.start a.end)
+division_vertices a arc list division =
     let t = a.track in
     let is = arc.track in
-    let qs = quarters t a.sense a.start a.end a.axis in
-    let both = quarters_divide a arc in
+    let qs = division.points in
+    let made = quarters_divide a arc in
+    let same = one_quarters a qs (quarters t a.sense a.start a.end a.axis) arc division.quarters made.0 in
+    let pieces = subst (λ (ps : List Pt). ArePieces t a.sense a.start (ps ++ a.end ∷ [])) (sym same) made.1 in
     let some = some_length (within t) (displacement t.c a.start) (within_large t is) (nearby t a.start is arc.start) in
-    both_of t a.sense a.start a.end (divided a) (steps_up_to_end t a.sag a.sense a.start a.start a.end (divided a) arc.sense some (arc_steps a arc))
-    (cuts_rounded 24 t a.sag a.sense a.start a.end (qs ++ a.end ∷ []) (divided a) is arc.sag arc.sense both.1 (quarters_rounded t a.sense a.axis a.start a.end qs is arc.axis both.0.each)
-    (all_cuts t a.sag a.sense a.start (qs ++ a.end ∷ []) is arc.sag arc.sense both.1))
+    both_of t a.sense a.start a.end list (steps_up_to_end t a.sag a.sense a.start a.start a.end list arc.sense some division.steps)
+    (cuts_rounded 24 t a.sag a.sense a.start a.end (qs ++ a.end ∷ []) list is arc.sag arc.sense pieces (quarters_rounded t a.sense a.axis a.start a.end qs is arc.axis division.quarters.each) (division.cuts 24 (deep a arc)))
