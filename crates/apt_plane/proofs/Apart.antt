@@ -3,20 +3,19 @@ use Rattle.std.proofs.Common.{refl, ◌≡◌, ◌≢◌, ◌⊎◌, inl, inr, �
 use Rattle.std.proofs.Math.Nat.{mul-le-mul_left}
 use Rattle.std.proofs.lemmas.Int.{ints}
 use Rattle.apt_num.proofs.Ring.{neg-*ℤ}
-use Rattle.apt_num.proofs.Squares.{size_mul, cancel_same}
+use Rattle.apt_num.proofs.Squares.{size_mul, cancel_same, natural}
 use Rattle.apt_plane.specs.declared.figures.Dir.{Dir}
 use Rattle.apt_plane.specs.Vectors.{cross, dot, length_squared}
 use Rattle.apt_plane.specs.Ranges.{IsSense}
 use Rattle.apt_plane.specs.Order.{turn_class}
 use Rattle.apt_plane.proofs.Displacements.{lagrange, dot_swap}
 use Rattle.apt_num.proofs.Products.{plus_of, both_plus, one_each}
-use Rattle.apt_plane.proofs.Turned.{turned_by, turned_back, about_start, dot_about}
-use Rattle.apt_arc.proofs.Spans.{IsNearby, natural, size_sense, some_length}
+use Rattle.apt_plane.proofs.Turned.{turned_by, turned_back, about_start, dot_about, size_sense}
+use Rattle.apt_plane.proofs.Nearby.{IsNearby, some_length, IsOnCircle}
 use Rattle.apt_plane.proofs.Around.{is_place}
-use Rattle.apt_arc.proofs.Farther.{as_far, farther_hardly}
-use Rattle.apt_arc.proofs.Governed.{IsFartherFrom, IsHardlyAcross, IsHardlyNearerTo}
-use Rattle.apt_arc.proofs.Kept.{IsOnCircle}
-use Rattle.apt_arc.proofs.NearRows.{IsNearRow}
+use Rattle.apt_num.proofs.Farther.{as_far, farther_hardly}
+use Rattle.apt_plane.proofs.Governed.{IsFartherFrom, IsHardlyAcross, IsHardlyNearerTo}
+use Rattle.apt_plane.proofs.NearRows.{IsNearRow}
 
 -- ---- in one direction
 first_class : (x d : ℤ) (k : ℕ) → k ≡ 0 → ((k ≡ 0) × (x ≡ pos 0) × (pos 0 <ℤ d)) ⊎ (((k ≡ 1) × (pos 0 <ℤ x)) ⊎ (((k ≡ 2) × (x ≡ pos 0) × (d <ℤ pos 0)) ⊎ ((k ≡ 3) × (x <ℤ pos 0))))
