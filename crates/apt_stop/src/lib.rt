@@ -14,5 +14,6 @@ pub use course::{Choice, Course};
 pub use decisions::{axis, decide, kept_side, stop_side};
 pub use gaps::is_touching;
 pub use nearness::{heading, is_near, side_of};
-pub use straight::{are_parallel, line_behind, line_side, line_stop};
+pub use sides::are_parallel;
+pub use straight::{line_behind, line_side, line_stop};
 pub use tangencies::tangent_axis;

@@ -6,10 +6,10 @@ ghost use Rattle.apt_plane.specs.Vectors as vectors;
 ghost use Rattle.apt_canon.specs.Meeting as meeting;
 ghost use Rattle.apt_canon.specs.Scale as scale;
 ghost use Rattle.apt_stop.specs.Nearness as near;
-ghost use Rattle.apt_stop.specs.Courses as courses;
 ghost use Rattle.apt_stop.specs.Lines as stops;
 
 use crate::nearness::{NEAR_STOP, heading, is_in_strip, side_by_height};
+use crate::sides::{are_parallel, is_same};
 use apt_canon::line_line;
 use apt_num::{Sign, sign_of};
 use apt_plane::vectors::{cross, height, length_squared_of};
@@ -92,15 +92,6 @@ fn crossing(drive: &Line, off: i64, check: &Line, stop_off: i64) -> Result<Pt, C
     }
 }
 
-/// Whether two lines are parallel.
-pub fn are_parallel(a: &Line, b: &Line) -> bool
-    requires first { IsLine a.now }
-    requires second { IsLine b.now }
-    ensures { result ≡ meeting.are_parallel a.now b.now }
-{
-    cross(a.dir, b.dir).unsigned_abs() == 0
-}
-
 /// The side of the stop, a line moved `off` grid units to its left, on which a motion runs: that of its start, or
 /// where the start is near the stop the one into which it heads.
 pub fn line_side(start: Pt, heading: Dir, stop: &Line, off: i64) -> Sign
@@ -135,10 +126,4 @@ pub fn line_behind(start: Pt, heading: Dir, stop: &Line, off: i64) -> bool
     }
     let side = side_by_height(height, off, square);
     is_same(side, sign_of(cross(stop.dir, heading)))
-}
-
-pub(crate) fn is_same(first: Sign, second: Sign) -> bool
-    ensures { result ≡ courses.is_same first second }
-{
-    first == second
 }

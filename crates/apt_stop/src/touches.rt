@@ -9,8 +9,7 @@ ghost use Rattle.apt_stop.specs.Courses as spec;
 ghost use Rattle.apt_stop.specs.Steps.{IsPlaced, IsAxis, HasHalf};
 
 use crate::course::Course;
-use crate::sides::{cross_short, dot_short, is_by_axis, is_not_ahead, way_on_to};
-use crate::straight::is_same;
+use crate::sides::{cross_short, dot_short, is_by_axis, is_not_ahead, is_same, way_on_to};
 use apt_canon::{foot, ray};
 use apt_num::{Sign, sign_of};
 use apt_offset::Target;
