@@ -29,7 +29,7 @@ pub enum ArcError {
 ///
 /// `TooManyPoints` exactly where they are more than `room`; `NoMemory` where memory runs out. Then `out` is as
 /// before.
-#[tactic(auto, using(crate::proofs::Divided::divides, crate::proofs::Divided::only, crate::proofs::Divided::short))]
+#[tactic(auto, using(crate::proofs::Divided::divides, crate::proofs::Divided::short))]
 pub fn chords(arc: &Arc, room: u64, out: &mut Vec<Pt>) -> Result<(), ArcError>
     requires { IsArc arc.now }
     ensures ok { OnOk result (out.new.items ≡ out.old.items ++ divided arc.now) }
