@@ -24,6 +24,7 @@ pub mod OnRounds
 pub mod Ended
 pub mod Placed
 pub mod Sided
+pub mod OnMovedLines
 pub mod Decided
 pub mod Chosen
 mod Worked
