@@ -57,18 +57,18 @@ module _ (start : Pt) (drive : Surface) (o : Pt) (r sense : ℤ) (check : Surfac
       contact-near (targets.Circ o r) stop (sigma_of sense (stop_side c) c.track stop) (track_target c is) (stop_target c is) (sigma_is stop is free) free.meeting
 
 -- ---- one that touches ends on the axis
-half_sense : (half : Sign) → half ≢ signs.Zero → IsSense (signed half (pos 1))
+pub half_sense : (half : Sign) → half ≢ signs.Zero → IsSense (signed half (pos 1))
 half_sense half some = sense_to half (pos 1) some (inl refl)
 
 -- a direction kept or turned round, and turned by a quarter
-turned_dir : (s : ℤ) (u : Dir) → IsSense s → IsDir u → IsDir (times s u)
+pub turned_dir : (s : ℤ) (u : Dir) → IsSense s → IsDir u → IsDir (times s u)
 turned_dir s u sense is = record {
   dx = rw (sense_size s u.dx sense) is.dx;
   dy = rw (sense_size s u.dy sense) is.dy;
   length = rw (sense_size s u.dx sense, sense_size s u.dy sense) is.length;
 }
 
-quarter_dir : (u : Dir) → IsDir u → IsDir (perp u)
+pub quarter_dir : (u : Dir) → IsDir u → IsDir (perp u)
 quarter_dir u is = record { dx = rw (size_neg u.dy) is.dy; dy = is.dx; length = rw (size_neg u.dy) (omega (arith, is.length)) }
 
 ray_at : (o : Pt) (r : ℤ) (a : Axis) → IsCircleTarget o r → IsDir a.along → a.half ≢ signs.Zero → IsNearTarget (targets.Circ o r) (pos 1) (touches_on (targets.Circ o r) a)
@@ -76,7 +76,7 @@ ray_at o r a is dir some =
     let u = times (signed a.half (pos 1)) a.along in
     ray_near (circle_about o r) u (record { centre = is.centre; least = omega (arith, ints, is.least); most = is.most }) (turned_dir (signed a.half (pos 1)) a.along (half_sense a.half some) dir)
 
-two_centres : (p q : Pt) → IsPoint p → IsPoint q → length_squared (displacement p q) ≢ 0 → IsDir (displacement p q)
+pub two_centres : (p q : Pt) → IsPoint p → IsPoint q → length_squared (displacement p q) ≢ 0 → IsDir (displacement p q)
 two_centres p q is_p is_q some = way_is_dir p q is_p is_q (positive (length_squared (displacement p q)) some)
   where
     positive : (n : ℕ) → n ≢ 0 → 1 ≤ n

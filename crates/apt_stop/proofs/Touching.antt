@@ -34,7 +34,7 @@ use Rattle.apt_stop.proofs.Onwards.{cross_step}
 abbrev IsAbout : ℤ → ℤ → ℕ → Type 0
 IsAbout x r n = AtLeast x (r -ℤ pos 3) n × AtLeast (neg_ℤ x) (neg_ℤ r -ℤ pos 3) n
 
-add_bounds : (a b x h i k : ℤ) (n : ℕ) → a +ℤ b ≡ x → h +ℤ i ≡ k → AtLeast a h n → AtLeast b i n → AtLeast x k n
+pub add_bounds : (a b x h i k : ℤ) (n : ℕ) → a +ℤ b ≡ x → h +ℤ i ≡ k → AtLeast a h n → AtLeast b i n → AtLeast x k n
 add_bounds a b x h i k n e f p q = subst (λ (z : ℤ). AtLeast z k n) e (subst (λ (z : ℤ). AtLeast (a +ℤ b) z n) f (at_least-sum a b h i n p q))
 
 -- s is how far the centre is from the line, w how far the end is, both to its left, and a the difference
@@ -62,7 +62,7 @@ most_size (negsuc x) r n some at = absurd (omega (arith, ints, some))
 bound_below : (r : ℕ) → neg_ℤ (pos r) -ℤ pos 3 ≡ negsuc (r + 2)
 bound_below r = omega (arith, ints)
 
-about_squares : (x : ℤ) (r n : ℕ) → 3 ≤ r → IsAbout x (pos r) n → ((r - 3) * (r - 3) * n ≤ square x) × (square x ≤ (r + 3) * (r + 3) * n)
+pub about_squares : (x : ℤ) (r n : ℕ) → 3 ≤ r → IsAbout x (pos r) n → ((r - 3) * (r - 3) * n ≤ square x) × (square x ≤ (r + 3) * (r + 3) * n)
 about_squares x r n least is =
     let up = (at_least_squares x (r - 3) n).0 (subst (λ (z : ℤ). AtLeast x z n) (three_less r least) is.0) in
     (up.1, most_size x r n up.0 (subst (λ (z : ℤ). AtLeast (neg_ℤ x) z n) (bound_below r) is.1))
@@ -70,7 +70,7 @@ about_squares x r n least is =
 four_less : (r : ℕ) → 4 ≤ r → pos r -ℤ pos 4 ≡ pos (r - 4)
 four_less r least = omega (arith, ints)
 
-four_off : (o : Pt) (r : ℕ) (q : Pt) → 4 ≤ r → (r - 4) * (r - 4) ≤ length_squared (displacement o q) → length_squared (displacement o q) ≤ (r + 4) * (r + 4) → IsNearCircle (circle_about o (pos r)) (pos 4) q
+pub four_off : (o : Pt) (r : ℕ) (q : Pt) → 4 ≤ r → (r - 4) * (r - 4) ≤ length_squared (displacement o q) → length_squared (displacement o q) ≤ (r + 4) * (r + 4) → IsNearCircle (circle_about o (pos r)) (pos 4) q
 four_off o r q least low high = record { outside = rw (four_less r least, not_negative (r - 4)) low; inside = rw (not_negative (r + 4)) high }
 
 pub record Foots (d : Dir) (o q : Pt) : Type 0 where
@@ -93,12 +93,12 @@ about_near d o q x (pos r) least is same at =
 about_near d o q x (negsuc r) least is same at = absurd (omega (arith, ints, least))
 
 -- ---- by the test of the gap
-touches_by : (k r : ℤ) (n : ℕ) → is_within k r gap n ≡ true → OnLine k r n (pos 2)
+pub touches_by : (k r : ℤ) (n : ℕ) → is_within k r gap n ≡ true → OnLine k r n (pos 2)
 touches_by k r n e =
     let both = and_parts (is_at_least k (r -ℤ gap) n) (is_at_least (neg_ℤ k) (neg_ℤ r -ℤ gap) n) e in
     record { right = is_at_least-true k (r -ℤ gap) n both.0; left = is_at_least-true (neg_ℤ k) (neg_ℤ r -ℤ gap) n both.1 }
 
-neg_square : (a : ℤ) → square (neg_ℤ a) ≡ square a
+pub neg_square : (a : ℤ) → square (neg_ℤ a) ≡ square a
 neg_square a = rw (size_neg a) refl
 
 -- ---- the place at the circle, by the side of the line on which its centre is
@@ -156,13 +156,13 @@ touches_stop l c v m q is least room e end =
 turned_parts : (a b p q : ℤ) → (neg_ℤ b *ℤ q) -ℤ (a *ℤ p) ≡ neg_ℤ ((a *ℤ p) +ℤ (b *ℤ q))
 turned_parts a b p q = rw (as_diff a, as_diff b, as_diff p, as_diff q) (simp differences (diff-same _ _ _ _ (omega arith)))
 
-turned_cross : (d v : Dir) → cross (perp d) v ≡ neg_ℤ (dot d v)
+pub turned_cross : (d v : Dir) → cross (perp d) v ≡ neg_ℤ (dot d v)
 turned_cross d v = turned_parts d.dx d.dy v.dx v.dy
 
-turned_length : (d : Dir) → length_squared (perp d) ≡ length_squared d
+pub turned_length : (d : Dir) → length_squared (perp d) ≡ length_squared d
 turned_length d = rw (size_neg d.dy) (omega arith)
 
-within_eight : (z : ℤ) (n : ℕ) → 2 * square z ≤ n → AtLeast z (negsuc 7) n
+pub within_eight : (z : ℤ) (n : ℕ) → 2 * square z ≤ n → AtLeast z (negsuc 7) n
 within_eight (pos z) n h = tt
 within_eight (negsuc z) n h = omega (arith, h)
 
