@@ -25,6 +25,7 @@ pub mod OneWay
 pub mod Apart
 pub mod Aside
 pub mod OnRays
+pub mod TouchesRound
 pub mod Ended
 pub mod Placed
 pub mod Sided
