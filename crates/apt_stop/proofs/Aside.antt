@@ -94,7 +94,7 @@ far_aside k n e = elim (and_cases (is_at_least k (pos 0 -ℤ near_stop) n) (is_a
   | inr higher ↦ rw (size_neg (neg_ℤ k), size_neg k) at (((at_least_squares (neg_ℤ (neg_ℤ k)) 8 n).0 (is_at_least-false (neg_ℤ k) (neg_ℤ (pos 0) -ℤ near_stop) n higher)).1)
 ]
 
-none_far : (b : ℕ) (x : ℤ) → 0 < b → 8 * 8 * b ≤ square x → x ≢ pos 0
+pub none_far : (b : ℕ) (x : ℤ) → 0 < b → 8 * 8 * b ≤ square x → x ≢ pos 0
 none_far b x some far e =
     let none : 8 * 8 * b ≤ 0 * 0 = rw e at far in
     omega (arith, none, some)

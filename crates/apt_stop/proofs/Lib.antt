@@ -26,6 +26,7 @@ pub mod Apart
 pub mod Aside
 pub mod OnRays
 pub mod TouchesRound
+pub mod RoundsApart
 pub mod Ended
 pub mod Placed
 pub mod Sided

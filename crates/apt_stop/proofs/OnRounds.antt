@@ -42,7 +42,7 @@ other_side signs.Zero some = absurd (some refl)
 other_side signs.Minus some = λ e. cc
 
 module _ (start : Pt) (drive : Surface) (o : Pt) (r sense : ℤ) (check : Surface) (how : Stop) where
-  sigma_is : (stop : Target) → let c = course_at start drive (targets.Circ o r) sense check how stop in IsCourse c → Meets c → IsSense (sigma_of sense (stop_side c) c.track stop)
+  pub sigma_is : (stop : Target) → let c = course_at start drive (targets.Circ o r) sense check how stop in IsCourse c → Meets c → IsSense (sigma_of sense (stop_side c) c.track stop)
   sigma_is (targets.Line e f k) is free =
       let c = course_at start drive (targets.Circ o r) sense check how (targets.Line e f k) in
       sense_to (opposite (stop_side c)) sense (other_side (stop_side c) (sided c (placed c is) free.past)) is.sense
