@@ -26,6 +26,7 @@ pub mod Apart
 pub mod Aside
 pub mod OnRays
 pub mod TouchesRound
+pub mod RoundStops
 pub mod RoundsApart
 pub mod Ended
 pub mod Placed

@@ -67,7 +67,7 @@ about_squares x r n least is =
     let up = (at_least_squares x (r - 3) n).0 (subst (λ (z : ℤ). AtLeast x z n) (three_less r least) is.0) in
     (up.1, most_size x r n up.0 (subst (λ (z : ℤ). AtLeast (neg_ℤ x) z n) (bound_below r) is.1))
 
-four_less : (r : ℕ) → 4 ≤ r → pos r -ℤ pos 4 ≡ pos (r - 4)
+pub four_less : (r : ℕ) → 4 ≤ r → pos r -ℤ pos 4 ≡ pos (r - 4)
 four_less r least = omega (arith, ints)
 
 pub four_off : (o : Pt) (r : ℕ) (q : Pt) → 4 ≤ r → (r - 4) * (r - 4) ≤ length_squared (displacement o q) → length_squared (displacement o q) ≤ (r + 4) * (r + 4) → IsNearCircle (circle_about o (pos r)) (pos 4) q
