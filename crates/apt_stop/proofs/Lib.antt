@@ -28,6 +28,7 @@ pub mod OnRays
 pub mod TouchesRound
 pub mod RoundStops
 pub mod RoundsApart
+pub mod RoundsTouched
 pub mod Ended
 pub mod Placed
 pub mod Sided

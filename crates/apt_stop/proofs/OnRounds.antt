@@ -71,7 +71,7 @@ turned_dir s u sense is = record {
 pub quarter_dir : (u : Dir) → IsDir u → IsDir (perp u)
 quarter_dir u is = record { dx = rw (size_neg u.dy) is.dy; dy = is.dx; length = rw (size_neg u.dy) (omega (arith, is.length)) }
 
-ray_at : (o : Pt) (r : ℤ) (a : Axis) → IsCircleTarget o r → IsDir a.along → a.half ≢ signs.Zero → IsNearTarget (targets.Circ o r) (pos 1) (touches_on (targets.Circ o r) a)
+pub ray_at : (o : Pt) (r : ℤ) (a : Axis) → IsCircleTarget o r → IsDir a.along → a.half ≢ signs.Zero → IsNearTarget (targets.Circ o r) (pos 1) (touches_on (targets.Circ o r) a)
 ray_at o r a is dir some =
     let u = times (signed a.half (pos 1)) a.along in
     ray_near (circle_about o r) u (record { centre = is.centre; least = omega (arith, ints, is.least); most = is.most }) (turned_dir (signed a.half (pos 1)) a.along (half_sense a.half some) dir)
