@@ -16,7 +16,7 @@ use Rattle.apt_plane.specs.Ranges.{IsSense}
 use Rattle.apt_plane.specs.Vectors.{displacement, cross, dot, length_squared}
 use Rattle.apt_plane.proofs.Displacements.{cross_swap}
 use Rattle.apt_plane.proofs.Heights.{one-times}
-use Rattle.apt_plane.proofs.Turned.{about_start, dot_about}
+use Rattle.apt_plane.proofs.Turned.{minus-times, about_start, dot_about}
 use Rattle.apt_canon.specs.Circles.{HasSense}
 use Rattle.apt_offset.specs.Targets.{signed}
 use Rattle.apt_offset.specs.Turns.{opposite}
@@ -87,7 +87,7 @@ not_on_axis o r p q sigma x y b is way some far e below (inr hardly) = not_hardl
 
 -- ---- by the tests
 
--- more than 8 off the axis
+-- at least 8 off the axis
 pub far_aside : (k : ℤ) (n : ℕ) → is_by_axis k n ≡ false → 8 * 8 * n ≤ square k
 far_aside k n e = elim (and_cases (is_at_least k (pos 0 -ℤ near_stop) n) (is_at_least (neg_ℤ k) (neg_ℤ (pos 0) -ℤ near_stop) n) e) [
   | inl lower ↦ rw (size_neg k) at (((at_least_squares (neg_ℤ k) 8 n).0 (is_at_least-false k (pos 0 -ℤ near_stop) n lower)).1)
@@ -98,9 +98,6 @@ pub none_far : (b : ℕ) (x : ℤ) → 0 < b → 8 * 8 * b ≤ square x → x �
 none_far b x some far e =
     let none : 8 * 8 * b ≤ 0 * 0 = rw e at far in
     omega (arith, none, some)
-
-minus-times : (z : ℤ) → negsuc 0 *ℤ z ≡ neg_ℤ z
-minus-times z = omega (arith, ints)
 
 -- a motion that heads to a side of a line meets it on the other side of the axis
 pub back_from_start : (sense x : ℤ) → IsSense sense → x ≢ pos 0 → (signed (opposite (sign_of (sense *ℤ x))) sense *ℤ x) <ℤ pos 0

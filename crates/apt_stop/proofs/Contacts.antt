@@ -44,7 +44,7 @@ of_two_lines b d h e f k sigma is_a is_b m =
 radius_small : (r : ℕ) → pos r ≤ℤ pos (10 ^ 8) → r ≤ 10 ^ 8
 radius_small r h = omega (arith, ints)
 
-pub radius_some : (r : ℕ) → pos 100 ≤ℤ pos r → 2 ≤ r
+radius_some : (r : ℕ) → pos 100 ≤ℤ pos r → 2 ≤ r
 radius_some r h = omega (arith, ints)
 
 of_line_and_round : (b : Pt) (d : Dir) (h : ℤ) (c : Pt) (r : ℕ) (sigma : ℤ) → IsLineTarget b d h → IsCircleTarget c (pos r) → IsSense sigma

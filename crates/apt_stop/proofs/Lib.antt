@@ -25,7 +25,7 @@ pub mod OneWay
 pub mod Apart
 pub mod Aside
 pub mod OnRays
-pub mod TouchesRound
+pub mod RoundGaps
 pub mod RoundStops
 pub mod RoundsApart
 pub mod RoundsTouched

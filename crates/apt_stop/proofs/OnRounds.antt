@@ -1,17 +1,14 @@
 -- The end of a course round a circle: on its track, and on the stop that it meets.
-use Rattle.std.proofs.Common.{refl, ◌≢◌, inl, inr, ℕ, zero, suc, ◌≤◌, arith, true≢false, ℤ, pos}
+use Rattle.std.proofs.Common.{refl, ◌≢◌, inl, ℕ, zero, suc, ◌≤◌, arith, ℤ, pos}
 use Rattle.std.proofs.lemmas.Int.{ints}
 use Rattle.apt_num.proofs.Squares.{size_neg}
-use Rattle.std.proofs.lemmas.Bool.Decides.{eqb_tells}
 use Rattle.apt_num.specs.declared.Sign.{Sign}
 use Rattle.apt_num.specs.declared.Sign.TheVariants as signs
 use Rattle.apt_words.specs.declared.Stop.{Stop}
 use Rattle.apt_plane.specs.declared.figures.Pt.{Pt}
 use Rattle.apt_plane.specs.declared.figures.Dir.{Dir}
 use Rattle.apt_plane.specs.declared.figures.Axis.{Axis}
-use Rattle.apt_plane.specs.declared.figures.Circ.{Circ}
 use Rattle.apt_plane.specs.declared.figures.Surface.{Surface}
-use Rattle.apt_plane.specs.declared.figures.Surface.TheVariants as surfaces
 use Rattle.apt_plane.specs.Vectors.{displacement, length_squared, perp}
 use Rattle.apt_plane.specs.Ranges.{IsSense, IsDir, IsPoint}
 use Rattle.apt_canon.specs.Scale.{times}
@@ -25,15 +22,14 @@ use Rattle.apt_offset.specs.Targets.{signed}
 use Rattle.apt_offset.specs.Ranges.{IsCircleTarget}
 use Rattle.apt_contact.specs.Meetings.{circle_about}
 use Rattle.apt_contact.specs.Contacts.{IsNearTarget}
-use Rattle.apt_stop.specs.Tangencies.{axis, half_towards, touching_half, tangent_axis}
-use Rattle.apt_stop.specs.Courses.{stop_side, sigma_of, meets_at, touches_on, touches_at}
+use Rattle.apt_stop.specs.Courses.{stop_side, sigma_of, meets_at, touches_on}
 use Rattle.apt_stop.specs.Ranges.{IsCourse}
 use Rattle.apt_stop.proofs.Moved.{track_target, stop_target}
 use Rattle.apt_stop.proofs.Contacts.{contact-near}
-use Rattle.apt_stop.proofs.Placed.{placed, has_half}
+use Rattle.apt_stop.proofs.Placed.{placed}
 use Rattle.apt_stop.proofs.Sided.{sided}
 use Rattle.apt_stop.proofs.Tracks.{sense_to}
-use Rattle.apt_stop.proofs.Parts.{course_at, Meets, Touches}
+use Rattle.apt_stop.proofs.Parts.{course_at, Meets}
 
 -- ---- a course that meets its stop has a side, which tells the point that is meant
 other_side : (side : Sign) → side ≢ signs.Zero → opposite side ≢ signs.Zero
@@ -82,17 +78,3 @@ two_centres p q is_p is_q some = way_is_dir p q is_p is_q (positive (length_squa
     positive : (n : ℕ) → n ≢ 0 → 1 ≤ n
     positive zero d = absurd (d refl)
     positive (suc n) d = omega arith
-
--- the end on the axis of the circle k and a check surface
-pub touches_round : (start : Pt) (k : Circ) (o : Pt) (r sense : ℤ) (check : Surface) (how : Stop) (stop : Target)
-    → let c = course_at start (surfaces.Circ k) (targets.Circ o r) sense check how stop in IsCourse c → Touches c
-    → IsNearTarget (targets.Circ o r) (pos 1) (touches_at c (tangent_axis (surfaces.Circ k) check))
-touches_round start k o r sense (surfaces.Line l) how stop is free =
-    let a = axis k.c (perp l.dir) (half_towards l k) in
-    ray_at o r a (track_target _ is) (quarter_dir l.dir is.check.dir) (has_half _ a is refl)
-touches_round start k o r sense (surfaces.Circ j) how stop is free = elim (eqb_tells (length_squared (displacement k.c j.c)) 0) [
-  | inl one ↦ absurd (true≢false (rw one.0 at free.axis))
-  | inr two ↦
-      let a = axis k.c (displacement k.c j.c) (touching_half k j) in
-      rw two.0 (ray_at o r a (track_target _ is) (two_centres k.c j.c is.drive.centre is.check.centre two.1) (has_half _ a is (rw two.0 refl)))
-]

@@ -1,11 +1,10 @@
 -- The end of a motion round a circle that touches a line or a circle lies within 4 units of its stop, by the test of the gap.
-use Rattle.std.proofs.Common.{refl, ◌≡◌, ◌≢◌, ◌∙◌, ap, sym, subst, inl, inr, ℕ, zero, suc, ◌+◌, ◌-◌, ◌*◌, ◌≤◌, ◌<◌, arith, Bool, true, false, ℤ, pos, negsuc, neg_ℤ, ◌+ℤ◌, ◌-ℤ◌, ◌*ℤ◌, ◌≤ℤ◌, unsigned_abs}
+use Rattle.std.proofs.Common.{refl, ◌≡◌, ◌≢◌, sym, subst, inl, inr, ℕ, ◌+◌, ◌-◌, ◌*◌, ◌≤◌, ◌<◌, arith, Bool, true, false, ℤ, pos, negsuc, neg_ℤ, ◌+ℤ◌, ◌-ℤ◌, ◌*ℤ◌, ◌≤ℤ◌, unsigned_abs}
 use Rattle.std.specs.Prelude.{int_le, if◌then◌else◌}
 use Rattle.std.proofs.lemmas.Int.{ints}
 use Rattle.apt_num.specs.declared.Sign.{Sign}
 use Rattle.apt_num.specs.declared.Sign.TheVariants as signs
-use Rattle.apt_num.specs.Sign.{AtLeast, OnLine, square, sign_of}
-use Rattle.apt_num.proofs.AtLeast.{at_least_squares}
+use Rattle.apt_num.specs.Sign.{OnLine, square, sign_of}
 use Rattle.apt_num.proofs.Ring.{as_diff, diff-same, differences}
 use Rattle.apt_plane.specs.declared.figures.Pt.{Pt}
 use Rattle.apt_plane.specs.declared.figures.Dir.{Dir}
@@ -23,29 +22,15 @@ use Rattle.apt_stop.specs.Gaps.{size, touching_distance, line_touches, circles_t
 use Rattle.apt_stop.specs.Tangencies.{half_towards, touching_half}
 use Rattle.apt_stop.proofs.Onwards.{dot_step, cross_step}
 use Rattle.apt_stop.proofs.Reach.{touch_far, touch_within}
-use Rattle.apt_stop.proofs.Touching.{four_less, four_off, turned_length, touches_by, neg_square}
+use Rattle.apt_stop.proofs.Touching.{within_squares, four_off, turned_length, touches_by, neg_square}
 use Rattle.apt_stop.proofs.OnRays.{IsOnRay}
-use Rattle.apt_stop.proofs.TouchesRound.{IsAboutSize, ray_length, about_length, touches_line_by, touches_circle_by}
+use Rattle.apt_stop.proofs.RoundGaps.{IsAboutSize, ray_length, about_length, touches_line_by, touches_circle_by}
 
 -- ---- by the products with an axis
 
--- so many lengths, up to four, as squares
-most_size : (x : ℤ) (r n : ℕ) → pos 0 ≤ℤ x → AtLeast (neg_ℤ x) (negsuc (r + 3)) n → square x ≤ (r + 4) * (r + 4) * n
-most_size (pos zero) r n some at = omega arith
-most_size (pos (suc x)) r n some at = omega (arith, at)
-most_size (negsuc x) r n some at = absurd (omega (arith, ints, some))
-
-bound_below : (r : ℕ) → neg_ℤ (pos r) -ℤ pos 4 ≡ negsuc (r + 3)
-bound_below r = omega (arith, ints)
-
-squares_of : (x : ℤ) (r n : ℕ) → 4 ≤ r → OnLine x (pos r) n (pos 4) → ((r - 4) * (r - 4) * n ≤ square x) × (square x ≤ (r + 4) * (r + 4) * n)
-squares_of x r n least is =
-    let up = (at_least_squares x (r - 4) n).0 (subst (λ (z : ℤ). AtLeast x z n) (four_less r least) is.right) in
-    (up.1, most_size x r n up.0 (subst (λ (z : ℤ). AtLeast (neg_ℤ x) z n) (bound_below r) is.left))
-
 sizes_of : (y : ℤ) (r n : ℕ) → 4 ≤ r → IsAboutSize y (pos r) n → ((r - 4) * (r - 4) * n ≤ square y) × (square y ≤ (r + 4) * (r + 4) * n)
-sizes_of y r n least (inl is) = squares_of y r n least is
-sizes_of y r n least (inr is) = rw (neg_square y) at (squares_of (neg_ℤ y) r n least is)
+sizes_of y r n least (inl is) = within_squares y r 4 n least is
+sizes_of y r n least (inr is) = rw (neg_square y) at (within_squares (neg_ℤ y) r 4 n least is)
 
 other_order : (k a b : ℕ) → k ≡ a + b → k ≡ b + a
 other_order k a b e = omega (arith, e)
@@ -99,9 +84,9 @@ near_line_stop k l v m q least there touching ray near =
 
 -- ---- a circle
 
-not_negative : (outside : Bool) (a b : ℤ) → pos 0 ≤ℤ a → pos 0 ≤ℤ b → pos 0 ≤ℤ (if outside then a +ℤ b else size (a -ℤ b))
-not_negative true a b p q = omega (arith, ints, p, q)
-not_negative false a b p q = omega (arith, ints)
+some_distance : (outside : Bool) (a b : ℤ) → pos 0 ≤ℤ a → pos 0 ≤ℤ b → pos 0 ≤ℤ (if outside then a +ℤ b else size (a -ℤ b))
+some_distance true a b p q = omega (arith, ints, p, q)
+some_distance false a b p q = omega (arith, ints)
 
 none_opposite : (outside : Bool) → (if outside then opposite signs.Zero else signs.Zero) ≡ signs.Zero
 none_opposite true = refl
@@ -127,7 +112,7 @@ near_circle_stop k j v m q some_k some_j apart least room there touching ray nea
     let e = displacement k.c q in
     let x = displacement j.c q in
     let n = length_squared g in
-    let centre = about_length (touching_distance k j) n (not_negative (touch_outside k j) k.r j.r some_k some_j) apart touching in
+    let centre = about_length (touching_distance k j) n (some_distance (touch_outside k j) k.r j.r some_k some_j) apart touching in
     let end = ray_length k.c (k.r -ℤ signed v m) g (touching_half k j) q least there ray near in
     let whole = step_by (dot g e) (dot g g) (dot g x) (pos n) (dot_step g j.c k.c q) (square_length_squared g) in
     let same = step_by_none (cross g e) (cross g g) (cross g x) (cross_step g k.c j.c q) (cross_self g) in

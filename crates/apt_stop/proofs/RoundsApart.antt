@@ -1,5 +1,5 @@
 -- A course round a circle does not end in the direction of its start, as seen from the centre.
-use Rattle.std.proofs.Common.{refl, ◌≡◌, ◌≢◌, sym, inl, inr, ℕ, ◌-◌, ◌*◌, ◌≤◌, ◌<◌, subst, arith, Bool, true, false, ◌&&◌, ℤ, pos, negsuc, ◌*ℤ◌, ◌≤ℤ◌}
+use Rattle.std.proofs.Common.{refl, ◌≡◌, ◌≢◌, inl, inr, ℕ, ◌*◌, ◌≤◌, ◌<◌, arith, Bool, true, false, ◌&&◌, ℤ, pos, negsuc, ◌*ℤ◌}
 use Rattle.std.specs.Prelude.{if◌then◌else◌}
 use Rattle.std.proofs.lemmas.Int.{ints}
 use Rattle.apt_num.specs.declared.Sign.{Sign}
@@ -12,7 +12,7 @@ use Rattle.apt_plane.specs.declared.figures.Surface.{Surface}
 use Rattle.apt_plane.specs.Order.{turn_class}
 use Rattle.apt_plane.specs.Ranges.{IsSense}
 use Rattle.apt_plane.specs.Vectors.{displacement, cross, dot, length_squared}
-use Rattle.apt_plane.proofs.Displacements.{cross_swap, dot_swap}
+use Rattle.apt_plane.proofs.Displacements.{cross_swap}
 use Rattle.apt_canon.specs.Circles.{HasSense}
 use Rattle.apt_canon.specs.Scale.{IsNearCircle}
 use Rattle.apt_canon.proofs.Across.{point_further, point_beyond}
@@ -26,7 +26,7 @@ use Rattle.apt_stop.specs.Nearness.{is_near, off_track, near_stop, side_of}
 use Rattle.apt_stop.specs.Courses.{is_by_axis, headed_side, starts_near_stop, stop_side, sigma_of, meets_at}
 use Rattle.apt_stop.specs.Ranges.{IsCourse}
 use Rattle.apt_stop.proofs.Rings.{ring_true, ring_false, near_least, near_most}
-use Rattle.apt_stop.proofs.Moved.{track_target, stop_target}
+use Rattle.apt_stop.proofs.Moved.{track_target, stop_target, no_radius}
 use Rattle.apt_stop.proofs.Contacts.{line_of, two_circles}
 use Rattle.apt_stop.proofs.ToLines.{far_by}
 use Rattle.apt_stop.proofs.Parts.{course_at, Meets}
@@ -121,9 +121,6 @@ module _ (start : Pt) (drive : Surface) (o : Pt) (r : ℕ) (sense : ℤ) (check 
   by_stop (targets.Circ p (pos h)) is free rounds way =
       to_round p h is free rounds (starts_near_stop (course_at start drive (targets.Circ o (pos r)) sense check how (targets.Circ p (pos h)))) refl way
   by_stop (targets.Circ p (negsuc h)) is free rounds way = absurd (no_radius p h (stop_target (course_at start drive (targets.Circ o (pos r)) sense check how (targets.Circ p (negsuc h))) is))
-    where
-      no_radius : (p : Pt) (h : ℕ) → IsCircleTarget p (negsuc h) → ⊥
-      no_radius p h circle = omega (arith, ints, circle.least)
 
   meets_at_radius : (stop : Target) → let c = course_at start drive (targets.Circ o (pos r)) sense check how stop in IsCourse c → Meets c
       → turn_class (displacement o start) sense (displacement o (meets_at c (stop_side c))) ≢ 0
@@ -139,6 +136,3 @@ pub meets_apart : (start : Pt) (drive : Surface) (o : Pt) (r sense : ℤ) (check
     → turn_class (displacement o start) sense (displacement o (meets_at c (stop_side c))) ≢ 0
 meets_apart start drive o (pos r) sense check how stop is free = meets_at_radius start drive o r sense check how stop is free
 meets_apart start drive o (negsuc r) sense check how stop is free = absurd (no_radius o r (track_target (course_at start drive (targets.Circ o (negsuc r)) sense check how stop) is))
-  where
-    no_radius : (o : Pt) (r : ℕ) → IsCircleTarget o (negsuc r) → ⊥
-    no_radius o r circle = omega (arith, ints, circle.least)

@@ -1,5 +1,5 @@
 -- The end of a course round a circle that touches its check surface.
-use Rattle.std.proofs.Common.{refl, ◌≡◌, ◌≢◌, ◌∙◌, sym, inl, inr, ℕ, zero, suc, ◌≤◌, ◌<◌, arith, true, false, true≢false, ◌&&◌, ℤ, pos, negsuc, ◌-ℤ◌, ◌≤ℤ◌, Option, Some, None}
+use Rattle.std.proofs.Common.{refl, ◌≡◌, ◌≢◌, ◌∙◌, inl, inr, ℕ, zero, suc, ◌<◌, arith, true, false, true≢false, ◌&&◌, ℤ, pos, negsuc, ◌-ℤ◌, ◌≤ℤ◌, Option, Some}
 use Rattle.std.proofs.lemmas.Int.{ints}
 use Rattle.std.proofs.lemmas.Bool.Decides.{eqb_tells}
 use Rattle.apt_num.specs.declared.Sign.{Sign}
@@ -9,7 +9,6 @@ use Rattle.apt_words.specs.declared.Stop.{Stop}
 use Rattle.apt_plane.specs.declared.figures.Pt.{Pt}
 use Rattle.apt_plane.specs.declared.figures.Dir.{Dir}
 use Rattle.apt_plane.specs.declared.figures.Axis.{Axis}
-use Rattle.apt_plane.specs.declared.figures.Line.{Line}
 use Rattle.apt_plane.specs.declared.figures.Circ.{Circ}
 use Rattle.apt_plane.specs.declared.figures.Surface.{Surface}
 use Rattle.apt_plane.specs.declared.figures.Surface.TheVariants as surfaces
@@ -18,7 +17,6 @@ use Rattle.apt_plane.specs.Order.{turn_class}
 use Rattle.apt_plane.specs.Ranges.{IsSense, IsDir}
 use Rattle.apt_plane.specs.Vectors.{displacement, cross, dot, length_squared, perp}
 use Rattle.apt_canon.specs.Scale.{IsNearCircle}
-use Rattle.apt_offset.specs.declared.Target.{Target}
 use Rattle.apt_offset.specs.declared.Target.TheVariants as targets
 use Rattle.apt_offset.specs.Sides.{side_at_tangency}
 use Rattle.apt_offset.specs.Targets.{signed, offset_surface}
@@ -28,7 +26,7 @@ use Rattle.apt_contact.specs.Contacts.{IsNearTarget}
 use Rattle.apt_stop.specs.declared.course.Course.{Course}
 use Rattle.apt_stop.specs.Nearness.{is_near, off_track}
 use Rattle.apt_stop.specs.Tangencies.{axis, half_towards, touching_half, tangent_axis}
-use Rattle.apt_stop.specs.Courses.{is_same, is_by_axis, touches_on, touches_at, is_past_axis, is_past_or_none}
+use Rattle.apt_stop.specs.Courses.{is_same, is_by_axis, touches_on, touches_at}
 use Rattle.apt_stop.specs.Ranges.{IsCourse}
 use Rattle.apt_stop.specs.Ends.{IsOnAxisOf, TouchesStop}
 use Rattle.apt_stop.proofs.Moved.{track_target, stop_target}
@@ -100,6 +98,6 @@ touches_on_round start k v m sense (surfaces.Circ j) how is free = elim (eqb_tel
       let stop : IsCircleTarget j.c (j.r -ℤ signed (side_at_tangency (surfaces.Circ k) (surfaces.Circ j) v) m) = stop_target c is in
       by_axis start k v m sense (surfaces.Circ j) how (displacement k.c j.c) (touching_half k j) (rw two.0 refl) is free (two_centres k.c j.c is.drive.centre is.check.centre two.1)
       (λ there q ray near.
-        near_circle_stop k j v m q (omega (arith, ints, is.drive.least)) (omega (arith, ints, is.check.least)) (some_way (length_squared (displacement k.c j.c)) two.1) circle.least stop.least there
-        (not_true _ free.touching) ray near)
+      near_circle_stop k j v m q (omega (arith, ints, is.drive.least)) (omega (arith, ints, is.check.least)) (some_way (length_squared (displacement k.c j.c)) two.1) circle.least stop.least there
+      (not_true _ free.touching) ray near)
 ]

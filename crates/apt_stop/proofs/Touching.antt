@@ -51,23 +51,25 @@ from_right s w a r h n e centre end = (
 )
 
 -- ---- as squares
-three_less : (r : ℕ) → 3 ≤ r → pos r -ℤ pos 3 ≡ pos (r - 3)
-three_less r least = omega (arith, ints)
+most_size : (x : ℤ) (h n : ℕ) → pos 0 ≤ℤ x → AtLeast (neg_ℤ x) (neg_ℤ (pos h)) n → square x ≤ h * h * n
+most_size (pos zero) h n some at = omega arith
+most_size (pos (suc x)) zero n some at = absurd at
+most_size (pos (suc x)) (suc h) n some at = at
+most_size (negsuc x) h n some at = absurd (omega (arith, ints, some))
 
-most_size : (x : ℤ) (r n : ℕ) → pos 0 ≤ℤ x → AtLeast (neg_ℤ x) (negsuc (r + 2)) n → square x ≤ (r + 3) * (r + 3) * n
-most_size (pos zero) r n some at = omega arith
-most_size (pos (suc x)) r n some at = omega (arith, at)
-most_size (negsuc x) r n some at = absurd (omega (arith, ints, some))
+-- a number that is r lengths, up to g
+pub within_squares : (x : ℤ) (r g n : ℕ) → g ≤ r → OnLine x (pos r) n (pos g) → ((r - g) * (r - g) * n ≤ square x) × (square x ≤ (r + g) * (r + g) * n)
+within_squares x r g n less is =
+    let up = (at_least_squares x (r - g) n).0 (subst (λ (z : ℤ). AtLeast x z n) (lower r g less) is.right) in
+    (up.1, most_size x (r + g) n up.0 (subst (λ (z : ℤ). AtLeast (neg_ℤ x) z n) (upper r g) is.left))
+  where
+    lower : (r g : ℕ) → g ≤ r → pos r -ℤ pos g ≡ pos (r - g)
+    lower r g less = omega (arith, ints)
 
-bound_below : (r : ℕ) → neg_ℤ (pos r) -ℤ pos 3 ≡ negsuc (r + 2)
-bound_below r = omega (arith, ints)
+    upper : (r g : ℕ) → neg_ℤ (pos r) -ℤ pos g ≡ neg_ℤ (pos (r + g))
+    upper r g = omega (arith, ints)
 
-pub about_squares : (x : ℤ) (r n : ℕ) → 3 ≤ r → IsAbout x (pos r) n → ((r - 3) * (r - 3) * n ≤ square x) × (square x ≤ (r + 3) * (r + 3) * n)
-about_squares x r n least is =
-    let up = (at_least_squares x (r - 3) n).0 (subst (λ (z : ℤ). AtLeast x z n) (three_less r least) is.0) in
-    (up.1, most_size x r n up.0 (subst (λ (z : ℤ). AtLeast (neg_ℤ x) z n) (bound_below r) is.1))
-
-pub four_less : (r : ℕ) → 4 ≤ r → pos r -ℤ pos 4 ≡ pos (r - 4)
+four_less : (r : ℕ) → 4 ≤ r → pos r -ℤ pos 4 ≡ pos (r - 4)
 four_less r least = omega (arith, ints)
 
 pub four_off : (o : Pt) (r : ℕ) (q : Pt) → 4 ≤ r → (r - 4) * (r - 4) ≤ length_squared (displacement o q) → length_squared (displacement o q) ≤ (r + 4) * (r + 4) → IsNearCircle (circle_about o (pos r)) (pos 4) q
@@ -88,7 +90,7 @@ near_stop_by d o q r least is low high =
 
 about_near : (d : Dir) (o q : Pt) (x r : ℤ) → pos 100 ≤ℤ r → Foots d o q → square x ≡ square (cross d (displacement o q)) → IsAbout x r (length_squared d) → IsNearCircle (circle_about o r) (pos 4) q
 about_near d o q x (pos r) least is same at =
-    let squares = about_squares x r (length_squared d) (omega (arith, ints, least)) at in
+    let squares = within_squares x r 3 (length_squared d) (omega (arith, ints, least)) (record { right = at.0; left = at.1 }) in
     near_stop_by d o q r (omega (arith, ints, least)) is (rw same at squares.0) (rw same at squares.1)
 about_near d o q x (negsuc r) least is same at = absurd (omega (arith, ints, least))
 
@@ -156,7 +158,7 @@ touches_stop l c v m q is least room e end =
 turned_parts : (a b p q : ℤ) → (neg_ℤ b *ℤ q) -ℤ (a *ℤ p) ≡ neg_ℤ ((a *ℤ p) +ℤ (b *ℤ q))
 turned_parts a b p q = rw (as_diff a, as_diff b, as_diff p, as_diff q) (simp differences (diff-same _ _ _ _ (omega arith)))
 
-pub turned_cross : (d v : Dir) → cross (perp d) v ≡ neg_ℤ (dot d v)
+turned_cross : (d v : Dir) → cross (perp d) v ≡ neg_ℤ (dot d v)
 turned_cross d v = turned_parts d.dx d.dy v.dx v.dy
 
 pub turned_length : (d : Dir) → length_squared (perp d) ≡ length_squared d

@@ -1,29 +1,25 @@
--- The end of a motion round a circle that touches a line or a circle lies within 4 units of the stop.
-use Rattle.std.proofs.Common.{refl, ◌≡◌, ◌≢◌, ◌∙◌, sym, ap, ◌⊎◌, inl, inr, ℕ, zero, suc, ◌+◌, ◌-◌, ◌*◌, ◌≤◌, ◌<◌, subst, arith, Bool, true, false, ℤ, pos, negsuc, neg_ℤ, ◌+ℤ◌, ◌-ℤ◌, ◌*ℤ◌, ◌<ℤ◌, ◌≤ℤ◌, unsigned_abs}
+-- How far the end of a motion round a circle that touches lies along its axis, and from its stop, by the test of the gap: in numbers.
+use Rattle.std.proofs.Common.{refl, ◌≡◌, ◌≢◌, ap, ◌⊎◌, inl, inr, ℕ, zero, suc, ◌+◌, ◌-◌, ◌*◌, ◌≤◌, ◌<◌, subst, arith, Bool, true, false, ℤ, pos, negsuc, neg_ℤ, ◌+ℤ◌, ◌-ℤ◌, ◌*ℤ◌, ◌<ℤ◌, ◌≤ℤ◌, unsigned_abs}
 use Rattle.std.specs.Prelude.{nat_le, int_le, ◌||◌, if◌then◌else◌}
 use Rattle.std.proofs.Math.Nat.{mul-le-mul_left}
-use Rattle.std.proofs.lemmas.Nat.{mul-le}
 use Rattle.std.proofs.lemmas.Int.{ints}
 use Rattle.std.proofs.lemmas.Bool.{and_parts, leb-true}
 use Rattle.apt_num.specs.declared.Sign.{Sign}
 use Rattle.apt_num.specs.declared.Sign.TheVariants as signs
 use Rattle.apt_num.specs.Sign.{AtLeast, OnLine, square, sign_of}
-use Rattle.apt_num.proofs.AtLeast.{at_least_squares}
-use Rattle.apt_num.proofs.Squares.{cancel_le}
 use Rattle.apt_plane.specs.declared.figures.Pt.{Pt}
 use Rattle.apt_plane.specs.declared.figures.Dir.{Dir}
 use Rattle.apt_plane.specs.Vectors.{displacement, cross, dot, length_squared}
 use Rattle.apt_plane.proofs.Displacements.{lagrange}
 use Rattle.apt_plane.proofs.Heights.{one-times}
 use Rattle.apt_canon.specs.Scale.{IsNearCircle}
-use Rattle.apt_canon.proofs.NearCircle.{not_negative}
 use Rattle.apt_canon.proofs.LineCircleLaws.{sense_size}
 use Rattle.apt_contact.specs.Meetings.{circle_about}
 use Rattle.apt_offset.specs.Turns.{opposite}
 use Rattle.apt_offset.specs.Sides.{side_or_left, times as place_times}
 use Rattle.apt_offset.specs.Targets.{signed, greater}
 use Rattle.apt_stop.specs.Gaps.{gap, size, is_about}
-use Rattle.apt_stop.proofs.Touching.{add_bounds, four_off}
+use Rattle.apt_stop.proofs.Touching.{add_bounds}
 use Rattle.apt_stop.proofs.Rings.{near_least, near_most}
 use Rattle.apt_stop.proofs.OnRounds.{half_sense}
 use Rattle.apt_stop.proofs.OnRays.{IsOnRay}
