@@ -1,6 +1,6 @@
 //! What GO asks for.
 
-ghost use Rattle.std.specs.Prelude.{◌≡◌, ◌×◌, ◌∷◌, [], Some, IfOk, IfSome};
+ghost use Rattle.std.specs.Prelude.{◌≡◌, ◌∷◌, [], Some, IfOk, IfSome};
 ghost use Rattle.std.specs.Result.{IfErr};
 ghost use Rattle.apt_words.specs.Rows.{first_of, unless};
 ghost use Rattle.apt_words.specs.declared.deed.Deed.TheVariants as deeds;
@@ -13,10 +13,8 @@ ghost use Rattle.apt_meaning.specs.Ranges.{IsSituation};
 ghost use Rattle.apt_meaning.specs.Refusals.{refusal_of, start_names};
 ghost use Rattle.apt_meaning.specs.StartUps as start_ups;
 ghost use Rattle.apt_motion.specs.Finding as finding;
-ghost use Rattle.apt_motion.specs.Finding.{IsFound};
 
 use crate::contours::surface_named;
-use crate::found::Found;
 use apt_cldata::{Position, Reach};
 use apt_defs::Table;
 use apt_meaning::{Effect, Settings, Situation, surface_of};
@@ -35,9 +33,9 @@ pub(crate) fn go(
     how: Stop,
     name: &Symbol,
     other: &Option<(Stop, Symbol)>,
-) -> Result<Found, Case>
+) -> Result<Effect, Case>
     requires { IsSituation at.now }
-    ensures { IsFound (asked (refusal_of at.now (deeds.GoStart how name.now other.now)) (effect_of at.now (deeds.GoStart how name.now other.now))) result }
+    ensures { result ≡ asked (refusal_of at.now (deeds.GoStart how name.now other.now)) (effect_of at.now (deeds.GoStart how name.now other.now)) }
 {
     let Some(from) = at.position else {
         return Err(Case::NoFrom);
@@ -107,7 +105,7 @@ fn two_surfaces(table: &Table, a: &Symbol, b: &Symbol) -> Result<(Surface, Surfa
 ///
 /// `NoFeed`, else the first case that refuses the start-up.
 #[tactic(auto, using(crate::proofs::Cases::start_unless))]
-fn started(settings: &Settings, from: Position, u: &StartUp) -> Result<Found, Case>
+fn started(settings: &Settings, from: Position, u: &StartUp) -> Result<Effect, Case>
     requires { IsStartUp u.now }
     ensures { result ≡ unless (finding.go_cases_on settings.now u.now) (finding.start_of from u.now) }
 {
@@ -115,10 +113,7 @@ fn started(settings: &Settings, from: Position, u: &StartUp) -> Result<Found, Ca
         return Err(Case::NoFeed);
     }
     match start(u) {
-        Ok(at) => Ok(Found {
-            effect: Effect::Moves(Reach::Start, Position { at, z: from.z }),
-            end: None,
-        }),
+        Ok(at) => Ok(Effect::Moves(Reach::Start, Position { at, z: from.z })),
         Err(case) => Err(case),
     }
 }
