@@ -1,6 +1,6 @@
 -- A chord is clear exactly where its ends and the foot of the centre tell so.
 use Rattle.std.proofs.Common.{refl, ◌≡◌, ◌↔◌, ◌⊎◌, inl, inr, ℕ, ◌+◌, ◌*◌, ◌≤◌, ◌<◌, ◌∙◌, ap, sym, arith, Bool, true, false, true≢false, not, IsTrue, ℤ, pos, negsuc, ◌-ℤ◌, ◌<ℤ◌, ◌≤ℤ◌, int_lt, unsigned_abs}
-use Rattle.std.specs.Prelude.{◌&&◌, nat_le, nat_lt}
+use Rattle.std.specs.Prelude.{◌&&◌, nat_le, nat_lt, int_le}
 use Rattle.std.proofs.lemmas.Int.{ints}
 use Rattle.std.proofs.lemmas.Bool.{cases_Bool, cases_lt, leb-true, le-leb, ltb-true, ltb-false, and_parts}
 use Rattle.apt_plane.specs.declared.figures.Pt.{Pt}
@@ -16,11 +16,20 @@ use Rattle.apt_arc.specs.Cuts.{IsClear}
 use Rattle.apt_arc.specs.Made.{is_clear, is_over, is_foot_near}
 
 -- ---- tests
-lt_true : (a b : ℤ) → int_lt a b ≡ true → a <ℤ b
+pub lt_true : (a b : ℤ) → int_lt a b ≡ true → a <ℤ b
 lt_true a b e = grind (arith, ints)
 
 lt_false : (a b : ℤ) → int_lt a b ≡ false → b ≤ℤ a
 lt_false a b e = grind (arith, ints)
+
+pub lt_from : (a b : ℤ) → a <ℤ b → int_lt a b ≡ true
+lt_from a b h = grind (arith, ints)
+
+pub le_true : (a b : ℤ) → int_le a b ≡ true → a ≤ℤ b
+le_true a b e = grind (arith, ints)
+
+pub le_from : (a b : ℤ) → a ≤ℤ b → int_le a b ≡ true
+le_from a b h = grind (arith, ints)
 
 first_fails : (a b : Bool) → a ≡ false → (a && b) ≡ false
 first_fails a b e = rw e refl

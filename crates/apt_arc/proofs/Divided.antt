@@ -1,7 +1,6 @@
 -- The list that is made divides the arc, it is short, and no other list divides it.
 use Rattle.std.proofs.Common.{◌≡◌, inl, inr, ℕ, ◌+◌, ◌*◌, ◌^◌, ◌≤◌, ◌<◌, ◌∙◌, ap, sym, subst, arith, List, [], ◌∷◌, ◌++◌, length, ℤ, unsigned_abs}
 use Rattle.std.proofs.lemmas.Nat.{mul-le}
-use Rattle.std.proofs.lemmas.Int.{ints}
 use Rattle.apt_plane.specs.declared.figures.Pt.{Pt}
 use Rattle.apt_plane.specs.declared.figures.Dir.{Dir}
 use Rattle.apt_plane.specs.declared.figures.Circ.{Circ}
@@ -16,15 +15,12 @@ use Rattle.apt_arc.specs.Divisions.{IsDivision}
 use Rattle.apt_arc.specs.Made.{chain, quarters, first_past, stations, divided}
 use Rattle.apt_arc.proofs.Spans.{some_length}
 use Rattle.apt_arc.proofs.Lists.{cuts_are}
-use Rattle.apt_arc.proofs.Tracks.{within, within_large, within_small, nearby, sag_least}
+use Rattle.apt_arc.proofs.Tracks.{within, within_large, within_small, nearby, sag_least, size_of_radius}
 use Rattle.apt_arc.proofs.Depth.{chain_cut, cuts_short, deepest}
 use Rattle.apt_arc.proofs.Parts.{quarter_of, ray_nearby, dir_turned, quarters_divide}
 use Rattle.apt_arc.proofs.Steps.{arc_steps}
 use Rattle.apt_arc.proofs.Only.{IsAfter, one_order}
 use Rattle.apt_arc.proofs.Quartered.{stations_few}
-
-size_of_radius : (t : Circ) → IsTrack t → unsigned_abs t.r ≡ within t + 3
-size_of_radius t is = omega (arith, ints, is.least)
 
 same_radius : (r x y : ℕ) → r ≡ x → r ≤ y → x ≤ y
 same_radius r x y e h = omega (arith, e, h)

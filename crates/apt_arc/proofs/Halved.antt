@@ -12,7 +12,7 @@ use Rattle.apt_arc.specs.declared.arc.Arc.{Arc}
 use Rattle.apt_arc.specs.Ranges.{IsPiece, ArePieces}
 use Rattle.apt_arc.specs.Cuts.{middle}
 use Rattle.apt_arc.specs.Made.{is_clear, pieces, vertices, stations, onward}
-use Rattle.apt_arc.proofs.Lists.{pieces_halved, chain_more, chain_none}
+use Rattle.apt_arc.proofs.Lists.{one_less, pieces_halved, chain_more, chain_none}
 use Rattle.apt_arc.specs.Halves.{IsHalved, IsNext}
 
 pub is_halved : (n : ℕ) (t : Circ) (sag : ℤ) (a b : Pt) → 0 < n → is_clear t sag a b ≡ false → IsHalved n t sag a b
@@ -30,9 +30,6 @@ both_on old mid new l k ps e f g = f ∙ ap (λ (xs : List Pt). xs ++ k) e ∙ a
 
 pub one_on : (old new ps : List Pt) (b : Pt) → new ≡ old ++ b ∷ [] → ps ≡ b ∷ [] → new ≡ old ++ ps
 one_on old new ps b e f = e ∙ ap (λ (xs : List Pt). old ++ xs) (sym f)
-
-one_less : (n : ℕ) → suc n - 1 ≡ n
-one_less n = omega arith
 
 pub power_half : (n x y : ℕ) → 0 < n → x ≤ 2 ^ (n - 1) → y ≤ 2 ^ (n - 1) → x + y ≤ 2 ^ n
 power_half zero x y h p q = absurd (omega (arith, h))
@@ -78,8 +75,8 @@ last_vertices left arc from u e =
 pub last_length : (left : ℕ) (arc : Arc) (from : Pt) (u : Dir) → stations left arc u ≡ arc.end ∷ [] → length (vertices left arc from u) ≡ length (pieces 24 arc.track arc.sag from arc.end)
 last_length left arc from u e = ap length (last_vertices left arc from u e)
 
-pub last_piece : (left : ℕ) (arc : Arc) (from : Pt) (u : Dir) → stations left arc u ≡ arc.end ∷ [] → ArePieces arc.track arc.sense from (stations left arc u) → IsPiece arc.track arc.sense from arc.end
-last_piece left arc from u e are = (first_piece arc.track arc.sense from arc.end (stations left arc u) [] e are).0
+pub end_piece : (left : ℕ) (arc : Arc) (from : Pt) (u : Dir) → stations left arc u ≡ arc.end ∷ [] → ArePieces arc.track arc.sense from (stations left arc u) → IsPiece arc.track arc.sense from arc.end
+end_piece left arc from u e are = (first_piece arc.track arc.sense from arc.end (stations left arc u) [] e are).0
 
 -- ---- counted, and appended
 pub counted : (x y l k n : ℕ) → x ≡ l → y ≡ k → n ≡ l + k → x + y ≡ n

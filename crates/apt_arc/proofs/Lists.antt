@@ -8,7 +8,7 @@ use Rattle.apt_arc.specs.Made.{is_clear, pieces, chain}
 use Rattle.apt_arc.proofs.Clear.{clear_tells}
 
 -- ---- a piece that is clear, and one that is halved
-one_less : (n : ℕ) → suc n - 1 ≡ n
+pub one_less : (n : ℕ) → suc n - 1 ≡ n
 one_less n = omega arith
 
 pub pieces_none : (n : ℕ) (track : Circ) (sag : ℤ) (a b : Pt) → n ≡ 0 → pieces n track sag a b ≡ b ∷ []
@@ -51,9 +51,6 @@ cut_is (suc n) track sag a b list (inr is) =
     is.3 ∙ both is.1 is.2 _ _ (cut_is n track sag a (middle track a b) is.1 is.4) (cut_is n track sag (middle track a b) b is.2 is.5)
     ∙ sym (pieces_cut n track sag a b (is_false track sag a b is.0))
 
-pub one_cut : (n : ℕ) (track : Circ) (sag : ℤ) (a b : Pt) (list other : List Pt) → IsCut n track sag a b list → IsCut n track sag a b other → list ≡ other
-one_cut n track sag a b list other is also = cut_is n track sag a b list is ∙ sym (cut_is n track sag a b other also)
-
 -- more halvings may be allowed than there are
 pub cut_deeper : (n : ℕ) (track : Circ) (sag : ℤ) (a b : Pt) (list : List Pt) → IsCut n track sag a b list → IsCut (suc n) track sag a b list
 cut_deeper zero track sag a b list is = inl is
@@ -86,6 +83,3 @@ pub cuts_are : (n : ℕ) (track : Circ) (sag : ℤ) (a : Pt) (qs list : List Pt)
 cuts_are n track sag a [] list is = is ∙ sym (chain_none n track sag a [] refl)
 cuts_are n track sag a (q ∷ qs) list is =
     is.2 ∙ both is.0 is.1 _ _ (cut_is n track sag a q is.0 is.3) (cuts_are n track sag q qs is.1 is.4) ∙ sym (chain_more n track sag a q (q ∷ qs) qs refl)
-
-pub one_list : (n : ℕ) (track : Circ) (sag : ℤ) (a : Pt) (qs list other : List Pt) → AreCuts n track sag a qs list → AreCuts n track sag a qs other → list ≡ other
-one_list n track sag a qs list other is also = cuts_are n track sag a qs list is ∙ sym (cuts_are n track sag a qs other also)

@@ -33,12 +33,12 @@ ordered_after t sense s p q r is some at_p at_q at_r one two =
     (cyc_after sense vs vp (displacement t.c q) (displacement t.c r) is (cyc_of t sense s p q is some at_p at_q one) (cyc_of t sense s q r is some at_q at_r two))
 
 -- one of a list in order comes after what comes before its first
-later : (t : Circ) (sense : ℤ) (s a x : Pt) (list : List Pt) → IsSense sense → 0 < length_squared (displacement t.c s) → IsAfter t sense s a → Each list (IsAfter t sense s)
+comes_later : (t : Circ) (sense : ℤ) (s a x : Pt) (list : List Pt) → IsSense sense → 0 < length_squared (displacement t.c s) → IsAfter t sense s a → Each list (IsAfter t sense s)
     → AreInOrder t sense s a list → IsIn x list → AreOrdered t sense s a x
-later t sense s a x [] is some at each order here = absurd here
-later t sense s a x (p ∷ ps) is some at each order (inl e) = subst (λ (z : Pt). AreOrdered t sense s a z) (sym e) order.0
-later t sense s a x (p ∷ ps) is some at each order (inr more) =
-    later t sense s a x ps is some at each.1 (after_head ps order.1 each.1) more
+comes_later t sense s a x [] is some at each order here = absurd here
+comes_later t sense s a x (p ∷ ps) is some at each order (inl e) = subst (λ (z : Pt). AreOrdered t sense s a z) (sym e) order.0
+comes_later t sense s a x (p ∷ ps) is some at each order (inr more) =
+    comes_later t sense s a x ps is some at each.1 (after_head ps order.1 each.1) more
   where
     after_head : (qs : List Pt) → AreInOrder t sense s p qs → Each qs (IsAfter t sense s) → AreInOrder t sense s a qs
     after_head [] on all = tt
@@ -58,7 +58,7 @@ one_order t sense s a b (p ∷ ps) (q ∷ qs) is some each also order on to back
       | inl e ↦ e
       | inr more ↦ elim (back q (inl refl)) [
         | inl e ↦ sym e
-        | inr less ↦ absurd (never_both t sense s p q is some each.0 also.0 (later t sense s p q ps is some each.0 each.1 order.1 less) (later t sense s q p qs is some also.0 also.1 on.1 more))
+        | inr less ↦ absurd (never_both t sense s p q is some each.0 also.0 (comes_later t sense s p q ps is some each.0 each.1 order.1 less) (comes_later t sense s q p qs is some also.0 also.1 on.1 more))
       ]
     ] in
     both_heads p q ps qs same
@@ -68,5 +68,5 @@ one_order t sense s a b (p ∷ ps) (q ∷ qs) is some each also order on to back
   where
     not_again : (h x : Pt) (hs : List Pt) → Each (h ∷ hs) (IsAfter t sense s) → AreInOrder t sense s h hs → x ≡ h → IsIn x hs → ⊥
     not_again h x hs all from e here =
-        let after = later t sense s h h hs is some all.0 all.1 from (subst (λ (z : Pt). IsIn z hs) e here) in
+        let after = comes_later t sense s h h hs is some all.0 all.1 from (subst (λ (z : Pt). IsIn z hs) e here) in
         never_both t sense s h h is some all.0 all.0 after after

@@ -1,5 +1,5 @@
 -- The list of quarter points that the code makes, and the pieces between them.
-use Rattle.std.proofs.Common.{refl, ◌≡◌, ◌⊎◌, inl, inr, ℕ, suc, ◌∙◌, ap, sym, subst, arith, true, false, true≢false, List, [], ◌∷◌, ◌++◌, ℤ, pos, ◌<ℤ◌, ◌≤ℤ◌}
+use Rattle.std.proofs.Common.{refl, ◌≡◌, ◌⊎◌, inl, inr, ℕ, zero, suc, ◌∙◌, ap, sym, subst, arith, true, false, true≢false, List, [], ◌∷◌, ◌++◌, ℤ, pos, ◌<ℤ◌, ◌≤ℤ◌}
 use Rattle.std.proofs.lemmas.Bool.{cases_Bool, and_parts, and_from}
 use Rattle.apt_num.proofs.Squares.{size_neg}
 use Rattle.apt_plane.specs.declared.figures.Pt.{Pt}
@@ -25,7 +25,7 @@ use Rattle.apt_arc.proofs.Tracks.{within, within_large, nearby, near_track, aime
 use Rattle.apt_arc.proofs.Ways.{IsTurned, turn_round, turn_after, onward_turned, IsOneOf, one_of, ray_onward, IsPast, reaches, first_found}
 
 -- ---- the test whether a point is on the way
-pub on_tells : (t : Circ) (sense : ℤ) (s e q : Pt) → is_on_the_way t sense s e q ≡ true → IsOnTheWay t sense s e q
+on_tells : (t : Circ) (sense : ℤ) (s e q : Pt) → is_on_the_way t sense s e q ≡ true → IsOnTheWay t sense s e q
 on_tells t sense s e q h =
     let vs = displacement t.c s in
     let vq = displacement t.c q in
@@ -33,7 +33,7 @@ on_tells t sense s e q h =
     let both = and_parts (is_before vs sense vs vq) (is_before vs sense vq ve) h in
     ((before_tells vs vs vq sense).0 both.0, (before_tells vs vq ve sense).0 both.1)
 
-pub on_from : (t : Circ) (sense : ℤ) (s e q : Pt) → IsOnTheWay t sense s e q → is_on_the_way t sense s e q ≡ true
+on_from : (t : Circ) (sense : ℤ) (s e q : Pt) → IsOnTheWay t sense s e q → is_on_the_way t sense s e q ≡ true
 on_from t sense s e q on =
     let vs = displacement t.c s in
     let vq = displacement t.c q in
@@ -44,18 +44,24 @@ off_tells : (t : Circ) (sense : ℤ) (s e q : Pt) → is_on_the_way t sense s e 
 off_tells t sense s e q h on = true≢false (sym (on_from t sense s e q on) ∙ h)
 
 -- ---- the code's list, a point at a time
-pub list_none : (n : ℕ) (t : Circ) (sense : ℤ) (s e : Pt) (u : Dir) → is_on_the_way t sense s e (ray_point t u) ≡ false → quarters_from (suc n) t sense s e u ≡ []
+pub list_none : (n : ℕ) (t : Circ) (sense : ℤ) (s e : Pt) (u : Dir) → n ≡ 0 → quarters_from n t sense s e u ≡ []
 unfolding quarters_from
-list_none n t sense s e u h = rw h refl
+list_none zero t sense s e u h = refl
+list_none (suc n) t sense s e u h = absurd (omega (arith, h))
 
-pub list_more : (n : ℕ) (t : Circ) (sense : ℤ) (s e : Pt) (u : Dir) (rest : List Pt) → is_on_the_way t sense s e (ray_point t u) ≡ true → quarters_from n t sense s e (onward sense u) ≡ rest
+pub list_off : (n : ℕ) (t : Circ) (sense : ℤ) (s e : Pt) (u : Dir) → is_on_the_way t sense s e (ray_point t u) ≡ false → quarters_from n t sense s e u ≡ []
+unfolding quarters_from
+list_off zero t sense s e u h = refl
+list_off (suc n) t sense s e u h = rw h refl
+
+pub list_on : (n : ℕ) (t : Circ) (sense : ℤ) (s e : Pt) (u : Dir) → is_on_the_way t sense s e (ray_point t u) ≡ true
+    → quarters_from (suc n) t sense s e u ≡ ray_point t u ∷ quarters_from n t sense s e (onward sense u)
+unfolding quarters_from
+list_on n t sense s e u h = rw h refl
+
+list_more : (n : ℕ) (t : Circ) (sense : ℤ) (s e : Pt) (u : Dir) (rest : List Pt) → is_on_the_way t sense s e (ray_point t u) ≡ true → quarters_from n t sense s e (onward sense u) ≡ rest
     → quarters_from (suc n) t sense s e u ≡ ray_point t u ∷ rest
-unfolding quarters_from
-list_more n t sense s e u rest h more = rw (h, more) refl
-
-pub list_end : (t : Circ) (sense : ℤ) (s e : Pt) (u : Dir) → quarters_from 0 t sense s e u ≡ []
-unfolding quarters_from
-list_end t sense s e u = refl
+list_more n t sense s e u rest h more = list_on n t sense s e u h ∙ ap (λ (xs : List Pt). ray_point t u ∷ xs) more
 
 -- ---- four points, and what holds of them
 record AreParts (t : Circ) (sense : ℤ) (axis : Dir) (s e p q r v : Pt) : Type 0 where
@@ -180,22 +186,22 @@ list_divides t sense axis s e u are =
     let r = ray_point t u2 in
     let v = ray_point t u3 in
     elim (cases_Bool (is_on_the_way t sense s e p)) [
-      | inr f ↦ subst (Divides t sense axis s e) (sym (list_none 3 t sense s e u f)) (divides_none t sense axis s e p q r v are (off_tells t sense s e p f))
+      | inr f ↦ subst (Divides t sense axis s e) (sym (list_off 4 t sense s e u f)) (divides_none t sense axis s e p q r v are (off_tells t sense s e p f))
       | inl f ↦ elim (cases_Bool (is_on_the_way t sense s e q)) [
         | inr g ↦
-            subst (Divides t sense axis s e) (sym (list_more 3 t sense s e u [] f (list_none 2 t sense s e u1 g)))
+            subst (Divides t sense axis s e) (sym (list_more 3 t sense s e u [] f (list_off 3 t sense s e u1 g)))
             (divides_one t sense axis s e p q r v are (on_tells t sense s e p f) (off_tells t sense s e q g))
         | inl g ↦ elim (cases_Bool (is_on_the_way t sense s e r)) [
           | inr h ↦
-              subst (Divides t sense axis s e) (sym (list_more 3 t sense s e u (q ∷ []) f (list_more 2 t sense s e u1 [] g (list_none 1 t sense s e u2 h))))
+              subst (Divides t sense axis s e) (sym (list_more 3 t sense s e u (q ∷ []) f (list_more 2 t sense s e u1 [] g (list_off 2 t sense s e u2 h))))
               (divides_two t sense axis s e p q r v are (on_tells t sense s e p f) (on_tells t sense s e q g) (off_tells t sense s e r h))
           | inl h ↦ elim (cases_Bool (is_on_the_way t sense s e v)) [
             | inr k ↦
-                subst (Divides t sense axis s e) (sym (list_more 3 t sense s e u (q ∷ r ∷ []) f (list_more 2 t sense s e u1 (r ∷ []) g (list_more 1 t sense s e u2 [] h (list_none 0 t sense s e u3 k)))))
+                subst (Divides t sense axis s e) (sym (list_more 3 t sense s e u (q ∷ r ∷ []) f (list_more 2 t sense s e u1 (r ∷ []) g (list_more 1 t sense s e u2 [] h (list_off 1 t sense s e u3 k)))))
                 (divides_three t sense axis s e p q r v are (on_tells t sense s e p f) (on_tells t sense s e q g) (on_tells t sense s e r h) (off_tells t sense s e v k))
             | inl k ↦
                 subst (Divides t sense axis s e)
-                (sym (list_more 3 t sense s e u (q ∷ r ∷ v ∷ []) f (list_more 2 t sense s e u1 (r ∷ v ∷ []) g (list_more 1 t sense s e u2 (v ∷ []) h (list_more 0 t sense s e u3 [] k (list_end t sense s e (onward sense u3)))))))
+                (sym (list_more 3 t sense s e u (q ∷ r ∷ v ∷ []) f (list_more 2 t sense s e u1 (r ∷ v ∷ []) g (list_more 1 t sense s e u2 (v ∷ []) h (list_more 0 t sense s e u3 [] k (list_none 0 t sense s e (onward sense u3) refl))))))
                 (divides_four t sense axis s e p q r v are (on_tells t sense s e p f) (on_tells t sense s e q g) (on_tells t sense s e r h) (on_tells t sense s e v k))
           ]
         ]
@@ -203,7 +209,7 @@ list_divides t sense axis s e u are =
     ]
 
 -- ---- the four points are such
-pub dir_perp : (u : Dir) → IsDir u → IsDir (perp u)
+dir_perp : (u : Dir) → IsDir u → IsDir (perp u)
 dir_perp u is = record { dx = rw (size_neg u.dy) is.dy; dy = is.dx; length = rw (size_neg u.dy) (omega (arith, is.length)) }
 
 pub dir_turned : (a b : Dir) → IsDir a → IsTurned a b → IsDir b

@@ -17,7 +17,9 @@ use Rattle.apt_arc.specs.Made.{onward, is_behind, first_past, is_on_the_way, qua
 use Rattle.apt_arc.specs.Halves.{IsNext}
 use Rattle.apt_arc.proofs.Spans.{aimed_nearby}
 use Rattle.apt_arc.proofs.Tracks.{within, point_near, near_track, aimed}
-use Rattle.apt_arc.proofs.Parts.{quarters_divide}
+use Rattle.apt_arc.proofs.Clear.{lt_from}
+use Rattle.apt_arc.proofs.Lists.{one_less}
+use Rattle.apt_arc.proofs.Parts.{list_none, list_off, list_on, quarters_divide}
 
 abbrev pub way : ℤ → ℤ → Dir
 way x y = record { dx = x; dy = y }
@@ -43,9 +45,6 @@ unfolding first_past
 first_behind zero t sense s u e = refl
 first_behind (suc n) t sense s u e = rw e refl
 
-one_less : (n : ℕ) → suc n - 1 ≡ n
-one_less n = omega arith
-
 first_next : (n : ℕ) (t : Circ) (sense : ℤ) (s : Pt) (u : Dir) → is_behind t sense s u ≡ false → first_past (suc n) t sense s u ≡ first_past n t sense s (onward sense u)
 unfolding first_past
 first_next n t sense s u e = rw e refl
@@ -59,14 +58,11 @@ pub sense_fits : (sense : ℤ) → IsSense sense → FitsSigned w8 sense
 sense_fits sense (inl e) = omega (arith, ints, e)
 sense_fits sense (inr e) = omega (arith, ints, e)
 
-lt_from : (a : ℤ) → pos 0 <ℤ a → int_lt (pos 0) a ≡ true
-lt_from a h = grind (arith, ints)
-
 and_true : (a b : Bool) → a ≡ true → b ≡ (a && b)
 and_true a b e = rw e refl
 
 behind_core : (d m : ℤ) (b : Bool) → b ≡ int_le (pos 0) m → pos 0 <ℤ d → b ≡ (int_lt (pos 0) d && int_le (pos 0) m)
-behind_core d m b e h = e ∙ and_true (int_lt (pos 0) d) (int_le (pos 0) m) (lt_from d h)
+behind_core d m b e h = e ∙ and_true (int_lt (pos 0) d) (int_le (pos 0) m) (lt_from (pos 0) d h)
 
 pub behind_is : (t : Circ) (sense : ℤ) (s p : Pt) (u x y : Dir) (d k m : ℤ) → p ≡ ray_point t u → x ≡ displacement t.c p → y ≡ displacement t.c s → d ≡ dot x y → k ≡ cross x y → m ≡ sense *ℤ k → pos 0 <ℤ d
     → int_le (pos 0) m ≡ is_behind t sense s u
@@ -81,21 +77,6 @@ pub later : (n : ℕ) (t : Circ) (sense : ℤ) (s : Pt) (u v x : Dir) → 0 < n 
 later n t sense s u v x some off turn e = e ∙ ap (first_past (n - 1) t sense s) turn ∙ sym (first_later n t sense s u some off)
 
 -- ---- the list
-list_none : (n : ℕ) (t : Circ) (sense : ℤ) (s e : Pt) (u : Dir) → n ≡ 0 → quarters_from n t sense s e u ≡ []
-unfolding quarters_from
-list_none zero t sense s e u h = refl
-list_none (suc n) t sense s e u h = absurd (omega (arith, h))
-
-list_off : (n : ℕ) (t : Circ) (sense : ℤ) (s e : Pt) (u : Dir) → is_on_the_way t sense s e (ray_point t u) ≡ false → quarters_from n t sense s e u ≡ []
-unfolding quarters_from
-list_off zero t sense s e u h = refl
-list_off (suc n) t sense s e u h = rw h refl
-
-list_on : (n : ℕ) (t : Circ) (sense : ℤ) (s e : Pt) (u : Dir) → is_on_the_way t sense s e (ray_point t u) ≡ true
-    → quarters_from (suc n) t sense s e u ≡ ray_point t u ∷ quarters_from n t sense s e (onward sense u)
-unfolding quarters_from
-list_on n t sense s e u h = rw h refl
-
 then_end : (xs : List Pt) (e : Pt) → xs ≡ [] → xs ++ e ∷ [] ≡ e ∷ []
 then_end xs e h = rw h refl
 

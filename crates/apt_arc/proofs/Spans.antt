@@ -199,7 +199,7 @@ pub sense_back : (sense : ℤ) → IsSense sense → IsSense (neg_ℤ sense)
 sense_back sense (inl e) = inr (rw e refl)
 sense_back sense (inr e) = inl (rw e refl)
 
-double_neg : (z : ℤ) → neg_ℤ (neg_ℤ z) ≡ z
+pub double_neg : (z : ℤ) → neg_ℤ (neg_ℤ z) ≡ z
 double_neg z = omega (arith, ints)
 
 neg_both : (x y : ℤ) → neg_ℤ x *ℤ neg_ℤ y ≡ x *ℤ y

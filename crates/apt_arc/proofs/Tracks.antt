@@ -84,7 +84,7 @@ part_small x y p h = (root_le x (p + 6) (omega (arith, h)), root_le y (p + 6) (o
 place_small : (c z : ℤ) (p : ℕ) → unsigned_abs (z -ℤ c) ≤ p + 6 → unsigned_abs c + (p + 3) ≤ 49500000 → unsigned_abs z ≤ 50000000
 place_small c z p h g = omega (arith, ints, h, g)
 
-size_of_radius : (t : Circ) → IsTrack t → unsigned_abs t.r ≡ within t + 3
+pub size_of_radius : (t : Circ) → IsTrack t → unsigned_abs t.r ≡ within t + 3
 size_of_radius t is = omega (arith, ints, is.least)
 
 pub point_near : (t : Circ) (a : Pt) → IsTrack t → IsNearCircle t (pos 3) a → IsPoint a

@@ -13,11 +13,10 @@ use Rattle.apt_canon.proofs.Sharp.{ray_way, ray_turned}
 use Rattle.apt_plane.proofs.Turned.{turned_by, turned_back}
 use Rattle.apt_plane.proofs.Quarters.{IsOnward, left_is, right, right_is}
 use Rattle.apt_arc.specs.Made.{onward, is_behind, first_past}
+use Rattle.apt_arc.proofs.Spans.{double_neg}
+use Rattle.apt_arc.proofs.Clear.{lt_true, lt_from, le_true, le_from}
 
 -- ---- quarter turns of directions
-double_neg : (z : ℤ) → neg_ℤ (neg_ℤ z) ≡ z
-double_neg z = omega (arith, ints)
-
 perp_four : (u : Dir) → perp (perp (perp (perp u))) ≡ u
 perp_four u = rw (double_neg u.dx, double_neg u.dy) refl
 
@@ -103,24 +102,12 @@ ray_onward t sense u (inr e) =
 abbrev pub IsPast : Circ → ℤ → Pt → Dir → Type 0
 IsPast t sense s u = (pos 0 <ℤ dot (ray_way t u) (displacement t.c s)) × (pos 0 ≤ℤ turned_by sense (ray_way t u) (displacement t.c s))
 
-lt_tells : (a b : ℤ) → int_lt a b ≡ true → a <ℤ b
-lt_tells a b e = grind (arith, ints)
-
-le_tells : (a b : ℤ) → int_le a b ≡ true → a ≤ℤ b
-le_tells a b e = grind (arith, ints)
-
-lt_from : (a b : ℤ) → a <ℤ b → int_lt a b ≡ true
-lt_from a b h = grind (arith, ints)
-
-le_from : (a b : ℤ) → a ≤ℤ b → int_le a b ≡ true
-le_from a b h = grind (arith, ints)
-
 behind_tells : (t : Circ) (sense : ℤ) (s : Pt) (u : Dir) → is_behind t sense s u ≡ true → IsPast t sense s u
 behind_tells t sense s u e =
     let x = dot (ray_way t u) (displacement t.c s) in
     let y = turned_by sense (ray_way t u) (displacement t.c s) in
     let both = and_parts (int_lt (pos 0) x) (int_le (pos 0) y) e in
-    (lt_tells (pos 0) x both.0, le_tells (pos 0) y both.1)
+    (lt_true (pos 0) x both.0, le_true (pos 0) y both.1)
 
 behind_from : (t : Circ) (sense : ℤ) (s : Pt) (u : Dir) → IsPast t sense s u → is_behind t sense s u ≡ true
 behind_from t sense s u past =

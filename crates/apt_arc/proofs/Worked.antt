@@ -1,5 +1,5 @@
 -- Divisions worked out by hand, which the definitions compute, cut by cut.
-use Rattle.std.proofs.Common.{refl, ◌≡◌, Bool, true, false, ℤ, pos, neg_ℤ, [], ◌∷◌}
+use Rattle.std.proofs.Common.{refl, ◌≡◌, true, false, ℤ, pos, neg_ℤ, [], ◌∷◌}
 use Rattle.apt_num.specs.Root.{root}
 use Rattle.apt_plane.specs.declared.figures.Pt.{Pt}
 use Rattle.apt_plane.specs.declared.figures.Dir.{Dir}

@@ -1,5 +1,5 @@
 -- What a course has that nothing refuses: a side where it meets its stop, and else an axis.
-use Rattle.std.proofs.Common.{refl, ◌≡◌, ◌≢◌, ◌∙◌, sym, true≢false, Bool, true, false, Option, Some, None}
+use Rattle.std.proofs.Common.{refl, ◌≡◌, ◌≢◌, true≢false, Bool, true, false, Option, Some, None}
 use Rattle.std.specs.Prelude.{not, ◌||◌, is_none, is_some}
 use Rattle.std.proofs.lemmas.Bool.{not-false}
 use Rattle.apt_num.specs.declared.Sign.{Sign}

@@ -1,5 +1,5 @@
 -- What the steps of a decision come to, and what its answers say.
-use Rattle.std.proofs.Common.{refl, ◌≡◌, ◌↔◌, ◌∙◌, sym, Bool, true, false, ℤ, List, [], ◌∷◌, ◌++◌, Option, Some, None, Result, Ok, Err, IfOk, IsErrOf}
+use Rattle.std.proofs.Common.{refl, ◌≡◌, ◌↔◌, ◌∙◌, Bool, true, false, ℤ, List, [], ◌∷◌, ◌++◌, Option, Some, None, Result, Ok, Err, IfOk, IsErrOf}
 use Rattle.std.specs.Prelude.{if◌then◌else◌, not, is_none}
 use Rattle.apt_num.specs.declared.Sign.{Sign}
 use Rattle.apt_num.specs.declared.Sign.TheVariants as signs
@@ -22,7 +22,7 @@ use Rattle.apt_stop.specs.Tangencies.{tangent_axis}
 use Rattle.apt_stop.specs.Courses.{is_tanto, is_past, is_past_axis, is_past_or_none, stop_side, sigma_of, meets_at, touches_at, end_of, stop_cases, way_cases, course_cases, choice_of}
 use Rattle.apt_stop.specs.Ends.{IsEndOn}
 use Rattle.apt_stop.specs.Ranges.{IsCourse}
-use Rattle.apt_stop.specs.Steps.{within, met, led, meeting, touched, touch}
+use Rattle.apt_stop.specs.Steps.{met, led, meeting, touched, touch}
 use Rattle.apt_stop.proofs.Inside.{inside_point}
 use Rattle.apt_stop.proofs.Ended.{course_ends}
 

@@ -1,5 +1,5 @@
 -- On which side of a stop a start is that is not near it.
-use Rattle.std.proofs.Common.{◌≡◌, ◌≢◌, ℕ, sym, ◌∙◌, arith, inl, inr, ℤ, pos, ◌+ℤ◌, ◌-ℤ◌, neg_ℤ, Bool, false, ◌&&◌, subst}
+use Rattle.std.proofs.Common.{◌≡◌, ◌≢◌, ℕ, sym, ◌∙◌, arith, inl, inr, ℤ, pos, ◌+ℤ◌, ◌-ℤ◌, neg_ℤ, false, subst}
 use Rattle.std.proofs.lemmas.Int.{ints}
 use Rattle.std.proofs.lemmas.Bool.{and_cases, both_ways}
 use Rattle.apt_num.specs.declared.Sign.{Sign}
@@ -8,6 +8,7 @@ use Rattle.apt_num.specs.Sign.{AtLeast, root_sign_of, is_at_least}
 use Rattle.apt_num.proofs.AtLeast.{root_sign_at_least, root_sign_at_most}
 use Rattle.apt_num.proofs.Testing.{is_at_least-false, is_at_least-from}
 use Rattle.apt_num.proofs.Sums.{at_least-weaker}
+use Rattle.apt_stop.specs.Gaps.{is_within}
 
 -- at least h: so it is not refused at 8 units less
 not_lower : (k h : ℤ) (n : ℕ) → AtLeast k h n → is_at_least k (h -ℤ pos 8) n ≡ false → ⊥
@@ -30,12 +31,8 @@ not_right k h n d = (root_sign_at_least k h n).0 d
 not_left : (k h : ℤ) (n : ℕ) → root_sign_of k h n ≢ signs.Plus → AtLeast (neg_ℤ k) (neg_ℤ h) n
 not_left k h n d = (root_sign_at_most k h n).0 d
 
--- the test whether k is within 8 of h
-abbrev pub is_within : ℤ → ℤ → ℕ → Bool
-is_within k h n = is_at_least k (h -ℤ pos 8) n && is_at_least (neg_ℤ k) (neg_ℤ h -ℤ pos 8) n
-
 -- what is not within 8 is further up or further down
-far_left : (k h : ℤ) (n : ℕ) → is_within k h n ≡ false → AtLeast k h n → AtLeast k (h +ℤ pos 8) n
+far_left : (k h : ℤ) (n : ℕ) → is_within k h (pos 8) n ≡ false → AtLeast k h n → AtLeast k (h +ℤ pos 8) n
 far_left k h n e left = elim (and_cases (is_at_least k (h -ℤ pos 8) n) (is_at_least (neg_ℤ k) (neg_ℤ h -ℤ pos 8) n) e) [
   | inl lower ↦ absurd (not_lower k h n left lower)
   | inr higher ↦
@@ -43,13 +40,13 @@ far_left k h n e left = elim (and_cases (is_at_least k (h -ℤ pos 8) n) (is_at_
       (subst (λ (z : ℤ). AtLeast (neg_ℤ (neg_ℤ k)) z n) (omega (arith, ints)) (is_at_least-false (neg_ℤ k) (neg_ℤ h -ℤ pos 8) n higher))
 ]
 
-far_right : (k h : ℤ) (n : ℕ) → is_within k h n ≡ false → AtLeast (neg_ℤ k) (neg_ℤ h) n → AtLeast (neg_ℤ k) (neg_ℤ h +ℤ pos 8) n
+far_right : (k h : ℤ) (n : ℕ) → is_within k h (pos 8) n ≡ false → AtLeast (neg_ℤ k) (neg_ℤ h) n → AtLeast (neg_ℤ k) (neg_ℤ h +ℤ pos 8) n
 far_right k h n e right = elim (and_cases (is_at_least k (h -ℤ pos 8) n) (is_at_least (neg_ℤ k) (neg_ℤ h -ℤ pos 8) n) e) [
   | inl lower ↦ subst (λ (z : ℤ). AtLeast (neg_ℤ k) z n) (omega (arith, ints)) (is_at_least-false k (h -ℤ pos 8) n lower)
   | inr higher ↦ absurd (not_lower (neg_ℤ k) (neg_ℤ h) n right higher)
 ]
 
-within_both : (k h : ℤ) (n : ℕ) → is_within k h n ≡ false → AtLeast k h n → AtLeast (neg_ℤ k) (neg_ℤ h) n → ⊥
+within_both : (k h : ℤ) (n : ℕ) → is_within k h (pos 8) n ≡ false → AtLeast k h n → AtLeast (neg_ℤ k) (neg_ℤ h) n → ⊥
 within_both k h n e left right = elim (and_cases (is_at_least k (h -ℤ pos 8) n) (is_at_least (neg_ℤ k) (neg_ℤ h -ℤ pos 8) n) e) [
   | inl lower ↦ not_lower k h n left lower
   | inr higher ↦ not_lower (neg_ℤ k) (neg_ℤ h) n right higher
@@ -60,7 +57,7 @@ IsFar signs.Plus k h n = AtLeast k (h +ℤ pos 8) n
 IsFar signs.Minus k h n = AtLeast (neg_ℤ k) (neg_ℤ h +ℤ pos 8) n
 IsFar signs.Zero k h n = ⊥
 
-pub far_on_side : (side : Sign) (k h : ℤ) (n : ℕ) → root_sign_of k h n ≡ side → is_within k h n ≡ false → IsFar side k h n
+pub far_on_side : (side : Sign) (k h : ℤ) (n : ℕ) → root_sign_of k h n ≡ side → is_within k h (pos 8) n ≡ false → IsFar side k h n
 far_on_side signs.Plus k h n e far = far_left k h n far (not_right k h n (λ f. apart_plus (sym e ∙ f)))
 far_on_side signs.Minus k h n e far = far_right k h n far (not_left k h n (λ f. apart_plus (sym f ∙ e)))
 far_on_side signs.Zero k h n e far =

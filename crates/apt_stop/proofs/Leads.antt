@@ -5,9 +5,7 @@ use Rattle.std.proofs.lemmas.Bool.{true≢false}
 use Rattle.apt_num.specs.declared.Sign.{Sign}
 use Rattle.apt_num.specs.declared.Sign.TheVariants as signs
 use Rattle.apt_num.specs.Sign.{AtLeast, OnLine, sign_of}
-use Rattle.apt_num.proofs.Ring.{as_diff, diff-same, differences}
 use Rattle.apt_plane.specs.declared.figures.Pt.{Pt}
-use Rattle.apt_plane.specs.declared.figures.Dir.{Dir}
 use Rattle.apt_plane.specs.declared.figures.Line.{Line}
 use Rattle.apt_plane.specs.Ranges.{IsSense}
 use Rattle.apt_plane.specs.Vectors.{displacement, cross, dot, length_squared}
@@ -16,6 +14,7 @@ use Rattle.apt_stop.specs.Courses.{is_same}
 use Rattle.apt_num.proofs.Sums.{at_least-sum}
 use Rattle.apt_stop.proofs.Approaches.{Approach, along-left, along-right, heading_cross, in_sense-left, in_sense-right, turned_zero}
 use Rattle.apt_stop.proofs.Far.{IsFar}
+use Rattle.apt_stop.proofs.Onwards.{cross_step}
 
 -- from p to x along the track f to the left of d, to the stop g to the left of e
 pub record Leads (d e : Line) (f g sense : ℤ) (side : Sign) (p x : Pt) : Type 0 where
@@ -28,15 +27,6 @@ pub record Leads (d e : Line) (f g sense : ℤ) (side : Sign) (p x : Pt) : Type 
   pub far : IsFar side (cross e.dir (displacement e.base p)) g (length_squared e.dir)
   pub crosses : cross e.dir d.dir ≢ pos 0
   pub ahead : is_same side (sign_of (cross e.dir (heading sense d.dir))) ≡ false
-
--- the height of the end is that of the start and that of the way
-pub cross_displacements : (d : Dir) (b p x : Pt) → cross d (displacement b x) ≡ cross d (displacement b p) +ℤ cross d (displacement p x)
-cross_displacements d b p x = ring d.dx d.dy b.x b.y p.x p.y x.x x.y
-  where
-    ring : (dx dy bx by px py xx xy : ℤ) → (dx *ℤ (xy -ℤ by)) -ℤ (dy *ℤ (xx -ℤ bx))
-        ≡ ((dx *ℤ (py -ℤ by)) -ℤ (dy *ℤ (px -ℤ bx))) +ℤ ((dx *ℤ (xy -ℤ py)) -ℤ (dy *ℤ (xx -ℤ px)))
-    ring dx dy bx by px py xx xy =
-        rw (as_diff dx, as_diff dy, as_diff bx, as_diff by, as_diff px, as_diff py, as_diff xx, as_diff xy) (simp differences (diff-same _ _ _ _ (omega arith)))
 
 -- a bound of one height and one of another bound their difference
 pub rise_at_least : (a b w h i k : ℤ) (n : ℕ) → a ≡ b +ℤ w → h +ℤ i ≡ k → AtLeast a h n → AtLeast (neg_ℤ b) i n → AtLeast w k n
@@ -51,7 +41,7 @@ fall_at_least a b w h i k n e f p q =
 
 Leads-Approach : (d e : Line) (f g sense : ℤ) (side : Sign) (p x : Pt) → Leads d e f g sense side p x → Approach d.dir e.dir (displacement p x)
 Leads-Approach d e f g sense side p x is =
-    let rise = cross_displacements d.dir d.base p x in record {
+    let rise = cross_step d.dir d.base p x in record {
       track = is.drive;
       stop = is.check;
       left = rise_at_least _ _ _ (f -ℤ pos 1) (neg_ℤ f -ℤ pos 3) (negsuc 3) (length_squared d.dir) rise (omega (arith, ints)) is.track.right is.start.left;
@@ -72,13 +62,13 @@ heads_left (negsuc m) e d = absurd (true≢false e)
 -- it runs in its sense
 pub runs_in_sense : (d e : Line) (f g sense : ℤ) (side : Sign) (p x : Pt) → Leads d e f g sense side p x → pos 0 <ℤ (sense *ℤ dot d.dir (displacement p x))
 runs_in_sense d e f g sense signs.Plus p x is =
-    let fall = fall_at_least _ _ _ (neg_ℤ g -ℤ pos 1) (g +ℤ pos 8) (pos 7) (length_squared e.dir) (cross_displacements e.dir e.base p x) (omega (arith, ints)) is.stop.left is.far in
+    let fall = fall_at_least _ _ _ (neg_ℤ g -ℤ pos 1) (g +ℤ pos 8) (pos 7) (length_squared e.dir) (cross_step e.dir e.base p x) (omega (arith, ints)) is.stop.left is.far in
     let turned : is_same signs.Plus (sign_of (sense *ℤ cross e.dir d.dir)) ≡ false = rw (← heading_cross sense d.dir e.dir) is.ahead in
     in_sense-right sense (dot d.dir (displacement p x)) (cross e.dir d.dir) is.turn
     (along-right d.dir e.dir (displacement p x) (Leads-Approach d e f g sense signs.Plus p x is) fall)
     (heads_right (sense *ℤ cross e.dir d.dir) turned (λ z. is.crosses (turned_zero sense (cross e.dir d.dir) is.turn z)))
 runs_in_sense d e f g sense signs.Minus p x is =
-    let rise = rise_at_least _ _ _ (g -ℤ pos 1) (neg_ℤ g +ℤ pos 8) (pos 7) (length_squared e.dir) (cross_displacements e.dir e.base p x) (omega (arith, ints)) is.stop.right is.far in
+    let rise = rise_at_least _ _ _ (g -ℤ pos 1) (neg_ℤ g +ℤ pos 8) (pos 7) (length_squared e.dir) (cross_step e.dir e.base p x) (omega (arith, ints)) is.stop.right is.far in
     let turned : is_same signs.Minus (sign_of (sense *ℤ cross e.dir d.dir)) ≡ false = rw (← heading_cross sense d.dir e.dir) is.ahead in
     in_sense-left sense (dot d.dir (displacement p x)) (cross e.dir d.dir) is.turn
     (along-left d.dir e.dir (displacement p x) (Leads-Approach d e f g sense signs.Minus p x is) rise)

@@ -1,8 +1,7 @@
 -- The end of a course along a line that meets its stop.
-use Rattle.std.proofs.Common.{refl, ◌≡◌, ◌≢◌, inl, inr, ℕ, ◌≤◌, ◌<◌, arith, true, ℤ, pos, negsuc, neg_ℤ, ◌<ℤ◌}
+use Rattle.std.proofs.Common.{refl, ◌≡◌, ◌≢◌, inl, ℕ, ◌≤◌, ◌<◌, arith, true, ℤ, pos, negsuc, neg_ℤ, ◌<ℤ◌}
 use Rattle.std.proofs.lemmas.Int.{ints}
 use Rattle.std.proofs.lemmas.Bool.{or_parts}
-use Rattle.apt_num.specs.declared.Sign.{Sign}
 use Rattle.apt_num.specs.Sign.{OnLine, sign_of}
 use Rattle.apt_words.specs.declared.Stop.{Stop}
 use Rattle.apt_plane.specs.declared.figures.Pt.{Pt}
@@ -10,7 +9,6 @@ use Rattle.apt_plane.specs.declared.figures.Dir.{Dir}
 use Rattle.apt_plane.specs.declared.figures.Surface.{Surface}
 use Rattle.apt_plane.specs.Vectors.{displacement, cross, dot, length_squared}
 use Rattle.apt_plane.specs.Distances.{EveryPoint}
-use Rattle.apt_plane.specs.Ranges.{IsSense}
 use Rattle.apt_plane.proofs.Displacements.{cross_swap}
 use Rattle.apt_canon.proofs.Across.{point_further}
 use Rattle.apt_offset.specs.declared.Target.{Target}
@@ -29,8 +27,10 @@ use Rattle.apt_stop.proofs.Moved.{track_target, stop_target}
 use Rattle.apt_stop.proofs.Contacts.{contact-near, lines_cross}
 use Rattle.apt_stop.proofs.Leads.{Leads}
 use Rattle.apt_stop.proofs.ToLines.{keeps_line, leads_to_line, far_by}
-use Rattle.apt_stop.proofs.Tracks.{track_runs}
-use Rattle.apt_stop.proofs.Lies.{Lies, Near, Outside, Inside, lies}
+use Rattle.apt_stop.proofs.Tracks.{track_runs, sense_to}
+use Rattle.apt_stop.proofs.Placed.{placed}
+use Rattle.apt_stop.proofs.Sided.{sided}
+use Rattle.apt_stop.proofs.Lies.{Lies, lies}
 use Rattle.apt_stop.proofs.Towards.{Towards, leads_on, keeps_side}
 use Rattle.apt_stop.proofs.Parts.{course_at, Meets}
 
@@ -75,15 +75,6 @@ module _ (start : Pt) (drive : Surface) (b : Pt) (d : Dir) (h sense : ℤ) (chec
         kept = rw side (keeps_line e f k (side_of c.stop c.start) start q (far_by e f k start tests.0) both.1);
       }
 
-  sense_by : (side : Sign) (k : ℤ) (n m r : ℕ) → IsSense sense → Lies side k n m r → IsSense (signed side sense)
-  sense_by side k n m r is (Near e at near) = rw e is
-  sense_by side k n m r is (Outside e before far) = rw e (other_sense is)
-    where
-      other_sense : IsSense sense → IsSense (neg_ℤ sense)
-      other_sense (inl e) = inr (rw e refl)
-      other_sense (inr e) = inl (rw e refl)
-  sense_by side k n m r is (Inside e near) = rw e is
-
   to_round : (o : Pt) (r : ℕ) → let c = course_at start drive (targets.Line b d h) sense check how (targets.Circ o (pos r)) in IsCourse c → Meets c → Met c d (meets_at c (stop_side c))
   to_round o r is free =
       let c = course_at start drive (targets.Line b d h) sense check how (targets.Circ o (pos r)) in
@@ -94,7 +85,7 @@ module _ (start : Pt) (drive : Surface) (b : Pt) (d : Dir) (h sense : ℤ) (chec
       let some : 0 < length_squared d = omega (arith, line.dir.length) in
       let at : Lies (stop_side c) (way_on_to c d o) (length_squared d) (length_squared (displacement o start)) r =
       lies (starts_near_stop c) (way_on_to c d o) (length_squared d) (length_squared (displacement o start)) r (omega (arith, large)) some refl free.past in
-      let sigma = sense_by (stop_side c) (way_on_to c d o) (length_squared d) (length_squared (displacement o start)) r is.sense at in
+      let sigma = sense_to (stop_side c) sense (sided c (placed c is) free.past) is.sense in
       let both = contact-near (targets.Line b d h) (targets.Circ o (pos r)) (signed (stop_side c) sense) line circle sigma free.meeting in
       let towards : Towards start d sense o r (stop_side c) q = record {
         turn = is.sense;

@@ -28,7 +28,7 @@ use Rattle.apt_contact.specs.Meetings.{circle_about}
 use Rattle.apt_stop.specs.Gaps.{gap, size, is_within, line_touches}
 use Rattle.apt_stop.specs.Tangencies.{axis}
 use Rattle.apt_stop.proofs.Reach.{touch_far, touch_near}
-use Rattle.apt_stop.proofs.Leads.{cross_displacements}
+use Rattle.apt_stop.proofs.Onwards.{cross_step}
 
 -- at most three units from a length of r
 abbrev IsAbout : ℤ → ℤ → ℕ → Type 0
@@ -150,7 +150,7 @@ pub touches_stop : (l : Line) (c : Circ) (v : Sign) (m : ℤ) (q : Pt) → Foots
 touches_stop l c v m q is least room e end =
     let k = cross l.dir (displacement l.base c.c) in
     rw (place_is l c v)
-    (touch_by l.dir c.c q v k (cross l.dir (displacement l.base q)) c.r m is (cross_displacements l.dir l.base c.c q) least (touches_by (size k) c.r (length_squared l.dir) e) end (rw (place_is l c v) at room))
+    (touch_by l.dir c.c q v k (cross l.dir (displacement l.base q)) c.r m is (cross_step l.dir l.base c.c q) least (touches_by (size k) c.r (length_squared l.dir) e) end (rw (place_is l c v) at room))
 
 -- ---- the axis
 turned_parts : (a b p q : ℤ) → (neg_ℤ b *ℤ q) -ℤ (a *ℤ p) ≡ neg_ℤ ((a *ℤ p) +ℤ (b *ℤ q))

@@ -1,6 +1,8 @@
-//! Tests of figures, of where they meet, and of where start-ups end and motions stop.
+//! Tests of figures, of where they meet, of the division of arcs, and of where start-ups end and motions stop.
 #![tactic(auto)]
 
+#[cfg(test)]
+mod arc;
 #[cfg(test)]
 mod canon;
 #[cfg(test)]

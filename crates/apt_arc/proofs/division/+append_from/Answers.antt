@@ -2,7 +2,7 @@ use Rattle.std.proofs.Common.{refl, ◌-◌, arith, FitsSigned, w8}
 use Rattle.std.proofs.lemmas.Int.{to_z-of_z}
 use Rattle.apt_arc.specs.Made.{pieces, onward, vertices}
 use Rattle.apt_arc.proofs.Quartered.{sense_fits}
-use Rattle.apt_arc.proofs.Halved.{both_on, last_on, next_vertices, next_length, next_pieces, last_vertices, last_length, last_piece}
+use Rattle.apt_arc.proofs.Halved.{both_on, last_on, next_vertices, next_length, next_pieces, last_vertices, last_length, end_piece}
 use Rattle.apt_arc.proofs.division.+append_from.Goals as goal
 
 pub append_piece-requires-clause-room : goal.append_piece-requires-clause-room
@@ -31,7 +31,7 @@ append_from-requires t c =
     )
 
 pub append_piece-requires-in-None-clause-piece : goal.append_piece-requires-in-None-clause-piece
-append_piece-requires-in-None-clause-piece t c = last_piece c.args.left c.args.arc.now c.args.from c.args.u (c.in-None.ensures.none refl) c.requires.pieces
+append_piece-requires-in-None-clause-piece t c = end_piece c.args.left c.args.arc.now c.args.from c.args.u (c.in-None.ensures.none refl) c.requires.pieces
 
 pub append_piece-requires-in-None-clause-room : goal.append_piece-requires-in-None-clause-room
 append_piece-requires-in-None-clause-room t c = omega (arith, c.requires.room, last_length c.args.left c.args.arc.now c.args.from c.args.u (c.in-None.ensures.none refl))

@@ -1,5 +1,4 @@
 use Rattle.std.proofs.Common.{◌∙◌, rules}
-use Rattle.apt_contact.specs.Meetings.{meeting_of}
 use Rattle.apt_contact.specs.Contacts.{HasMeeting}
 use Rattle.apt_stop.proofs.Decided.{meets_led}
 use Rattle.apt_stop.proofs.decisions.meeting.Goals as goal
