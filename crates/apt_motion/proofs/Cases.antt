@@ -113,15 +113,29 @@ start_up_known at how name other from first second here on_first on_second = rw 
 abbrev behind_names : Situation → Option StartUp → List Row
 behind_names at u = (lacks_feed at.settings, cases.NoFeed) ∷ start_cases u
 
+from_there : (at : Situation) (from : Position) (rows : List Row) → at.position ≡ Some from → first_of ((is_none at.position, cases.NoFrom) ∷ rows) ≡ first_of rows
+from_there at from rows here = rw here refl
+
+-- the rows of the names and those behind
+abbrev from_names : Situation → List ℕ → Option (Stop × List ℕ) → Option StartUp → List Row
+from_names at name other u =
+    each_name (is_undefined at.table) cases.Undefined (start_names name other) ++ each_name (is_no_surface at.table) cases.WrongKind (start_names name other) ++ behind_names at u
+
 pub go_refused : (at : Situation) (how : Stop) (name : List ℕ) (other : Option (Stop × List ℕ)) (from : Position) (case : Case)
     → at.position ≡ Some from → first_of (names_cases at.table (start_names name other)) ≡ Some case → refusal_of at (deeds.GoStart how name other) ≡ Some case
-go_refused at how name other from case here refused = rw here (names_stop at.table name other (behind_names at (start_up_at at how name other)) case refused)
+go_refused at how name other from case here refused =
+    let u = start_up_at at how name other in
+    from_there at from (from_names at name other u) here ∙ names_stop at.table name other (behind_names at u) case refused
 
 asked_by : (lacks : Bool) (f : Option Case) (to : Position)
     → asked (cond lacks (Some cases.NoFeed) f) (moves reaches.Start (cond (is_none f) (Some to) None)) ≡ unless_case (cond lacks (Some cases.NoFeed) f) (effects.Moves reaches.Start to)
 asked_by true f to = refl
 asked_by false None to = refl
 asked_by false (Some case) to = refl
+
+position_there : (p : Option Position) (from : Position) (o : Option StartUp) (u : StartUp) → p ≡ Some from → o ≡ Some u
+    → (p >>= λ from. o >>= λ u. start_position from u) ≡ start_position from u
+position_there p from o u here there = rw (here, there) refl
 
 pub go_asked : (at : Situation) (how : Stop) (name : List ℕ) (other : Option (Stop × List ℕ)) (from : Position) (first : Goal) (second : Option Goal) (r : Result Effect Case)
     → at.position ≡ Some from → goal_in at.table how name ≡ Some first → second_in at.table other ≡ Some second
@@ -131,8 +145,9 @@ go_asked at how name other from first second r here on_first on_second same =
     let u = start_up_on at from first second in
     let there = start_up_known at how name other from first second here on_first on_second in
     let refusal : refusal_of at (deeds.GoStart how name other) ≡ first_of (go_cases_on at.settings u) =
-    rw here (names_pass at.table how name other first second (behind_names at (start_up_at at how name other)) on_first on_second ∙ ap (λ o. first_of (behind_names at o)) there) in
-    let position : start_position_at at how name other ≡ start_position from u = rw (here, there) refl in
+    from_there at from (from_names at name other (start_up_at at how name other)) here
+    ∙ names_pass at.table how name other first second (behind_names at (start_up_at at how name other)) on_first on_second ∙ ap (λ o. first_of (behind_names at o)) there in
+    let position : start_position_at at how name other ≡ start_position from u = position_there at.position from (start_up_at at how name other) u here there in
     let effect : effect_of at (deeds.GoStart how name other) ≡ moves reaches.Start (start_position from u) = ap (λ o. moves reaches.Start o) position in
     rw (refusal, effect, same) (sym (asked_by (lacks_feed at.settings) (first_of (start_up_cases u)) (at_height from.z (start_point u))))
 

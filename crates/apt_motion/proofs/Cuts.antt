@@ -1,6 +1,6 @@
 -- The motions that contours ask for, and where they end.
 use Rattle.std.proofs.Common.{◌≡◌, ◌∙◌, ℕ, Bool, true, false, List, [], ◌∷◌, ◌++◌, Option, Some, None, Result, Ok, Err, refl, sym, ap, cond}
-use Rattle.std.specs.Prelude.{not}
+use Rattle.std.specs.Prelude.{not, ◌&&◌}
 use Rattle.apt_num.specs.declared.Sign.{Sign}
 use Rattle.apt_words.specs.declared.Case.{Case}
 use Rattle.apt_words.specs.declared.Case.TheVariants as cases
@@ -13,6 +13,8 @@ use Rattle.apt_words.specs.Rows.{Row, first_of, unless, unless_case}
 use Rattle.apt_plane.specs.declared.figures.Pt.{Pt}
 use Rattle.apt_plane.specs.declared.figures.Surface.{Surface}
 use Rattle.apt_offset.specs.Turns.{is_zero}
+use Rattle.apt_offset.specs.Targets.{lacks_room}
+use Rattle.apt_stop.specs.Nearness.{is_near, off_track}
 use Rattle.apt_stop.specs.declared.course.Choice.{Choice}
 use Rattle.apt_stop.specs.declared.course.Course.{Course}
 use Rattle.apt_stop.specs.Courses.{choice_of, end_of, course_cases}
@@ -25,7 +27,7 @@ use Rattle.apt_meaning.specs.declared.effect.Effect.{Effect}
 use Rattle.apt_meaning.specs.declared.effect.Effect.TheVariants as effects
 use Rattle.apt_meaning.specs.OnLines.{built}
 use Rattle.apt_meaning.specs.Situations.{has_feed, with_side}
-use Rattle.apt_meaning.specs.Motions.{surface_in, line_in, motion, motion_at, turn_at, contact, is_too_fine, if_turned}
+use Rattle.apt_meaning.specs.Motions.{surface_in, line_in, motion, motion_at, turn_at, contact, is_too_fine, if_turned, track_of, stop_of, starts_on_check, course_of}
 use Rattle.apt_meaning.specs.Effects.{cuts, effect_of}
 use Rattle.apt_meaning.specs.Records.{records_of, after}
 use Rattle.apt_meaning.specs.Refusals.{is_not_built, name_cases, motion_cases, turned_cases, surface_cases, refusal_of}
@@ -48,6 +50,19 @@ ended_case (Some case) c = refl
 
 pub end_unless : (c : Course) (r : Result Choice Case) → r ≡ unless (course_cases c) (choice_of c) → ended r ≡ unless (course_cases c) (end_of c)
 end_unless c r e = rw e (ended_case (first_of (course_cases c)) c)
+
+-- ---- the end of a motion
+
+pub on_and_off : (b : Bool) → b ≡ true → b ≡ false → ⊥
+on_and_off b e f = cc
+
+pub motion_end : (m : Motion) (r : Result Pt Case) → lacks_room (track_of m) ≡ false → starts_on_check m ≡ false → lacks_room (stop_of m) ≡ false
+    → is_near (track_of m) off_track m.start.at ≡ true → r ≡ unless (course_cases (course_of m)) (contact m) → r ≡ unless (motion_cases m) (contact m)
+motion_end m r track on stop near is = is ∙ ap (λ f. unless_case f (contact m)) (sym (none_before (lacks_room (track_of m)) (starts_on_check m) (lacks_room (stop_of m)) (is_near (track_of m) off_track m.start.at) (course_cases (course_of m)) track on stop near))
+  where
+    none_before : (a b c d : Bool) (rows : List Row) → a ≡ false → b ≡ false → c ≡ false → d ≡ true
+        → first_of ((a, cases.NoRoom) ∷ (not b && c, cases.NoRoom) ∷ (not d, cases.OffDrive) ∷ (b, cases.OnCheck) ∷ rows) ≡ first_of rows
+    none_before a b c d rows e f g h = rw (e, f, g, h) refl
 
 -- ---- the motion that a contour asks for
 

@@ -117,5 +117,5 @@ plain_by at deed (effects.Sets s said) plain none is = tt
 plain_by at deed (effects.Moves reach to) plain none is = tt
 plain_by at deed (effects.Cuts m) plain none is = is plain
 
-pub plain : (at : Situation) (deed : Deed) (e : Effect) → IsNoContour deed → IsNoDefinition at deed → effect_of at deed ≡ Some e → IsPlain e
-plain at deed e plain none asks = plain_by at deed e plain none (by at deed e asks)
+pub is_plain : (at : Situation) (deed : Deed) (e : Effect) → IsNoContour deed → IsNoDefinition at deed → effect_of at deed ≡ Some e → IsPlain e
+is_plain at deed e uncut none asks = plain_by at deed e uncut none (by at deed e asks)

@@ -23,7 +23,7 @@ use Rattle.apt_meaning.proofs.Walk.{same_some, compiled_follows}
 use Rattle.apt_motion.specs.declared.runs.RunError.{RunError}
 use Rattle.apt_motion.specs.Ends.{Ends}
 use Rattle.apt_motion.specs.Finding.{IsNoContour, IsNoDefinition, IsPlain}
-use Rattle.apt_motion.proofs.Plain.{plain}
+use Rattle.apt_motion.proofs.Plain.{is_plain}
 
 regroup : (front more : List Record) (r : Result (List Record) Refusal) → with_front front (with_front more r) ≡ with_front (front ++ more) r
 regroup front more (Ok rest) = ap (λ (x : List Record). Ok x) (sym (append_assoc front more rest))
@@ -79,7 +79,7 @@ fit at deed e is scalars worded does =
 found_is : (at : Situation) (deed : Deed) (e : Effect) → IsSituation at → HasScalars deed → DeedHasText deed → IsNoContour deed → IsNoDefinition at deed
     → asked (refusal_of at deed) (effect_of at deed) ≡ Ok e → IsPlain e × IsEffect e
 found_is at deed e is scalars worded uncut none does =
-    (plain at deed e uncut none (asked_fine (refusal_of at deed) (effect_of at deed) e does).1, (fit at deed e is scalars worded does).good)
+    (is_plain at deed e uncut none (asked_fine (refusal_of at deed) (effect_of at deed) e does).1, (fit at deed e is scalars worded does).good)
 
 pub found_plain : (at : Situation) (deed : Deed) (r : Result Effect Case) → IsSituation at → HasScalars deed → DeedHasText deed → IsNoContour deed → IsNoDefinition at deed
     → r ≡ asked (refusal_of at deed) (effect_of at deed) → IfOk r IsPlain × IfOk r IsEffect
