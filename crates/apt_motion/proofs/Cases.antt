@@ -18,6 +18,7 @@ use Rattle.apt_defs.specs.declared.figure.Figure.{Figure}
 use Rattle.apt_defs.specs.declared.figure.Figure.TheVariants as figures
 use Rattle.apt_defs.specs.Figures.{Table, figure_named}
 use Rattle.apt_meaning.specs.declared.situation.Situation.{Situation}
+use Rattle.apt_meaning.specs.declared.effect.Effect.{Effect}
 use Rattle.apt_meaning.specs.declared.effect.Effect.TheVariants as effects
 use Rattle.apt_meaning.specs.Situations.{lacks_feed, at_height}
 use Rattle.apt_meaning.specs.Motions.{as_surface, surface_in}
@@ -113,9 +114,25 @@ start_up_known at how name other from first second here on_first on_second = rw 
 abbrev behind_names : Situation → Option StartUp → List Row
 behind_names at u = (lacks_feed at.settings, cases.NoFeed) ∷ start_cases u
 
+-- a situation with a position
+behind_position : (p : Option Position) (from : Position) (rows : List Row) → p ≡ Some from → first_of ((is_none p, cases.NoFrom) ∷ rows) ≡ first_of rows
+behind_position p from rows here = rw here refl
+
+-- the rows behind that of the position
+abbrev go_rows : Situation → List ℕ → Option (Stop × List ℕ) → Option StartUp → List Row
+go_rows at name other u =
+    each_name (is_undefined at.table) cases.Undefined (start_names name other) ++ each_name (is_no_surface at.table) cases.WrongKind (start_names name other)
+    ++ behind_names at u
+
 pub go_refused : (at : Situation) (how : Stop) (name : List ℕ) (other : Option (Stop × List ℕ)) (from : Position) (case : Case)
     → at.position ≡ Some from → first_of (names_cases at.table (start_names name other)) ≡ Some case → refusal_of at (deeds.GoStart how name other) ≡ Some case
-go_refused at how name other from case here refused = rw here (names_stop at.table name other (behind_names at (start_up_at at how name other)) case refused)
+go_refused at how name other from case here refused =
+    let u = start_up_at at how name other in
+    behind_position at.position from (go_rows at name other u) here ∙ names_stop at.table name other (behind_names at u) case refused
+
+started_from : (p : Option Position) (o : Option StartUp) (from : Position) (u : StartUp) → p ≡ Some from → o ≡ Some u
+    → (p >>= λ f. o >>= λ v. start_position f v) ≡ start_position from u
+started_from p o from u here there = rw (here, there) refl
 
 found_by : (lacks : Bool) (f : Option Case) (to : Position)
     → IsFound (asked (cond lacks (Some cases.NoFeed) f) (moves reaches.Start (cond (is_none f) (Some to) None)))
@@ -124,18 +141,25 @@ found_by true f to = refl
 found_by false None to = (refl, refl)
 found_by false (Some case) to = refl
 
+found_as : (f g : Option Case) (o p : Option Effect) (r s : Result Found Case) → f ≡ g → o ≡ p → r ≡ s → IsFound (asked g p) s → IsFound (asked f o) r
+found_as f g o p r s e h same is = rw (e, h, same) is
+
 pub go_found : (at : Situation) (how : Stop) (name : List ℕ) (other : Option (Stop × List ℕ)) (from : Position) (first : Goal) (second : Option Goal) (r : Result Found Case)
     → at.position ≡ Some from → goal_in at.table how name ≡ Some first → second_in at.table other ≡ Some second
     → r ≡ unless (go_cases_on at.settings (start_up_on at from first second)) (start_of from (start_up_on at from first second))
     → IsFound (asked (refusal_of at (deeds.GoStart how name other)) (effect_of at (deeds.GoStart how name other))) r
 go_found at how name other from first second r here on_first on_second same =
     let u = start_up_on at from first second in
+    let v = start_up_at at how name other in
     let there = start_up_known at how name other from first second here on_first on_second in
     let refusal : refusal_of at (deeds.GoStart how name other) ≡ first_of (go_cases_on at.settings u) =
-    rw here (names_pass at.table how name other first second (behind_names at (start_up_at at how name other)) on_first on_second ∙ ap (λ o. first_of (behind_names at o)) there) in
-    let position : start_position_at at how name other ≡ start_position from u = rw (here, there) refl in
-    let effect : effect_of at (deeds.GoStart how name other) ≡ moves reaches.Start (start_position from u) = ap (λ o. moves reaches.Start o) position in
-    rw (refusal, effect, same) (found_by (lacks_feed at.settings) (first_of (start_up_cases u)) (at_height from.z (start_point u)))
+    behind_position at.position from (go_rows at name other v) here ∙ names_pass at.table how name other first second (behind_names at v) on_first on_second
+    ∙ ap (λ o. first_of (behind_names at o)) there in
+    let effect : effect_of at (deeds.GoStart how name other) ≡ moves reaches.Start (start_position from u) =
+    ap (λ o. moves reaches.Start o) (started_from at.position v from u here there) in
+    found_as (refusal_of at (deeds.GoStart how name other)) (first_of (go_cases_on at.settings u)) (effect_of at (deeds.GoStart how name other))
+    (moves reaches.Start (start_position from u)) r (unless (go_cases_on at.settings u) (start_of from u)) refusal effect same
+    (found_by (lacks_feed at.settings) (first_of (start_up_cases u)) (at_height from.z (start_point u)))
 
 -- ---- the move of a start-up, where it ends
 

@@ -60,8 +60,11 @@ abbrev pub go_cases_on : Settings → StartUp → List Row
 go_cases_on s u = (lacks_feed s, cases.NoFeed) ∷ start_up_cases u
 
 -- the move to where a start-up ends
+abbrev pub start_to : Position → Pt → Found
+start_to from p = record { effect = effects.Moves reaches.Start (at_height from.z p); end = None }
+
 abbrev pub start_of : Position → StartUp → Found
-start_of from u = record { effect = effects.Moves reaches.Start (at_height from.z (start_point u)); end = None }
+start_of from u = start_to from (start_point u)
 
 abbrev pub motion_on : Situation → Option Side → Go → Position → Surface → Stop → Surface → Option Motion
 motion_on at side go start d how e =
