@@ -143,6 +143,7 @@ pub go_asked : (at : Situation) (how : Stop) (name : List ℕ) (other : Option (
     → r ≡ asked (refusal_of at (deeds.GoStart how name other)) (effect_of at (deeds.GoStart how name other))
 go_asked at how name other from first second r here on_first on_second same =
     let u = start_up_on at from first second in
+    let v = start_up_at at how name other in
     let there = start_up_known at how name other from first second here on_first on_second in
     let refusal : refusal_of at (deeds.GoStart how name other) ≡ first_of (go_cases_on at.settings u) =
     from_there at from (from_names at name other (start_up_at at how name other)) here

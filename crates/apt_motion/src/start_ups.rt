@@ -6,6 +6,7 @@ ghost use Rattle.apt_words.specs.Rows.{first_of, unless};
 ghost use Rattle.apt_words.specs.declared.deed.Deed.TheVariants as deeds;
 ghost use Rattle.apt_plane.specs.Ranges.{IsSurface};
 ghost use Rattle.apt_startup.specs.Ranges.{IsGoal, IsStartUp};
+ghost use Rattle.apt_cldata.specs.Ranges.{IsPosition};
 ghost use Rattle.apt_meaning.specs.Compiled.{asked};
 ghost use Rattle.apt_meaning.specs.Effects.{effect_of};
 ghost use Rattle.apt_meaning.specs.Motions as motions;
@@ -18,7 +19,7 @@ use crate::contours::surface_named;
 use apt_cldata::{Position, Reach};
 use apt_defs::Table;
 use apt_meaning::{Effect, Settings, Situation, surface_of};
-use apt_plane::Surface;
+use apt_plane::{Pt, Surface};
 use apt_startup::{Goal, StartUp, start};
 use apt_words::{Case, Stop, Symbol};
 
@@ -41,13 +42,24 @@ pub(crate) fn go(
         return Err(Case::NoFrom);
     };
     let (first, second) = goals(&at.table, how, name, other)?;
-    let start_up = StartUp {
+    started(&at.settings, from, &start_up_on(at, from, first, second))
+}
+
+/// The start-up from a position to known surfaces.
+fn start_up_on(at: &Situation, from: Position, first: Goal, second: Option<Goal>) -> StartUp
+    requires situation { IsSituation at.now }
+    requires from { IsPosition from }
+    requires first { IsGoal first }
+    requires second { IfSome second IsGoal }
+    ensures value { result ≡ finding.start_up_on at.now from first second }
+    ensures range { IsStartUp result }
+{
+    StartUp {
         start: from.at,
         first,
         second,
         radius: at.settings.radius,
-    };
-    started(&at.settings, from, &start_up)
+    }
 }
 
 /// The surfaces for which the names of GO stand, and how the cutter stops there.
@@ -115,5 +127,14 @@ fn started(settings: &Settings, from: Position, u: &StartUp) -> Result<Effect, C
     match start(u) {
         Ok(at) => Ok(Effect::Moves(Reach::Start, Position { at, z: from.z })),
         Err(case) => Err(case),
+    }
+}
+
+fn start_to(from: Position, at: Pt) -> Found
+    ensures { result ≡ finding.start_to from at }
+{
+    Found {
+        effect: Effect::Moves(Reach::Start, Position { at, z: from.z }),
+        end: None,
     }
 }
