@@ -12,7 +12,9 @@ ghost use Rattle.apt_meaning.specs.Effects.{effect_of};
 ghost use Rattle.apt_meaning.specs.Motions as motions;
 ghost use Rattle.apt_meaning.specs.Ranges.{IsSituation};
 ghost use Rattle.apt_meaning.specs.Refusals.{refusal_of, start_names};
+ghost use Rattle.apt_meaning.specs.Situations.{at_height};
 ghost use Rattle.apt_meaning.specs.StartUps as start_ups;
+ghost use Rattle.apt_meaning.specs.declared.effect.Effect.TheVariants as effects;
 ghost use Rattle.apt_motion.specs.Finding as finding;
 
 use crate::contours::surface_named;
@@ -125,16 +127,13 @@ fn started(settings: &Settings, from: Position, u: &StartUp) -> Result<Effect, C
         return Err(Case::NoFeed);
     }
     match start(u) {
-        Ok(at) => Ok(Effect::Moves(Reach::Start, Position { at, z: from.z })),
+        Ok(to) => Ok(start_to(from, to)),
         Err(case) => Err(case),
     }
 }
 
-fn start_to(from: Position, at: Pt) -> Found
-    ensures { result ≡ finding.start_to from at }
+fn start_to(from: Position, at: Pt) -> Effect
+    ensures { result ≡ effects.Moves Reach.Start (at_height from.z at) }
 {
-    Found {
-        effect: Effect::Moves(Reach::Start, Position { at, z: from.z }),
-        end: None,
-    }
+    Effect::Moves(Reach::Start, Position { at, z: from.z })
 }

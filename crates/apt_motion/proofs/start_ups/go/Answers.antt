@@ -2,7 +2,7 @@ use Rattle.std.proofs.Common.{rules, ◌≡◌, ◌∙◌, ap}
 use Rattle.apt_words.specs.Rows.{unless}
 use Rattle.apt_startup.specs.declared.StartUp.{StartUp}
 use Rattle.apt_motion.specs.Finding.{start_up_on, go_cases_on, start_of}
-use Rattle.apt_motion.proofs.Cases.{go_refused, go_found}
+use Rattle.apt_motion.proofs.Cases.{go_refused, go_asked}
 use Rattle.apt_motion.proofs.start_ups.go.Goals as goal
 
 pub returns-in_err-first : goal.returns-in_err-first
@@ -20,4 +20,4 @@ returns c =
     let u : StartUp = start_up_on at from first second in
     let value : c.started.result ≡ unless (go_cases_on at.settings u) (start_of from u) =
     c.started.ensures ∙ ap (λ u. unless (go_cases_on at.settings u) (start_of from u)) c.start_up_on.ensures.value in
-    go_found at a.how a.name.now a.other.now from first second c.started.result c.in-Some.is c.in_ok-first.ensures.first c.in_ok-first.ensures.second value
+    go_asked at a.how a.name.now a.other.now from first second c.started.result c.in-Some.is c.in_ok-first.ensures.first c.in_ok-first.ensures.second value
