@@ -1,7 +1,6 @@
 -- The motions that contours ask for, and where they end.
 use Rattle.std.proofs.Common.{◌≡◌, ◌∙◌, ℕ, Bool, true, false, List, [], ◌∷◌, ◌++◌, Option, Some, None, Result, Ok, Err, refl, sym, ap, cond}
 use Rattle.std.specs.Prelude.{not, ◌&&◌}
-use Rattle.apt_num.specs.declared.Sign.{Sign}
 use Rattle.apt_words.specs.declared.Case.{Case}
 use Rattle.apt_words.specs.declared.Case.TheVariants as cases
 use Rattle.apt_words.specs.declared.Go.{Go}
@@ -20,17 +19,16 @@ use Rattle.apt_stop.specs.declared.course.Course.{Course}
 use Rattle.apt_stop.specs.Courses.{choice_of, end_of, course_cases}
 use Rattle.apt_cldata.specs.declared.record.Position.{Position}
 use Rattle.apt_cldata.specs.declared.record.Record.{Record}
-use Rattle.apt_meaning.specs.declared.situation.Settings.{Settings}
 use Rattle.apt_meaning.specs.declared.motion.Motion.{Motion}
 use Rattle.apt_meaning.specs.declared.situation.Situation.{Situation}
 use Rattle.apt_meaning.specs.declared.effect.Effect.{Effect}
 use Rattle.apt_meaning.specs.declared.effect.Effect.TheVariants as effects
 use Rattle.apt_meaning.specs.OnLines.{built}
 use Rattle.apt_meaning.specs.Situations.{has_feed, with_side}
-use Rattle.apt_meaning.specs.Motions.{surface_in, line_in, motion, motion_at, turn_at, contact, is_too_fine, if_turned, track_of, stop_of, starts_on_check, course_of}
+use Rattle.apt_meaning.specs.Motions.{surface_in, line_in, motion, motion_at, turn_at, contact, is_too_fine, track_of, stop_of, starts_on_check, course_of}
 use Rattle.apt_meaning.specs.Effects.{cuts, effect_of}
 use Rattle.apt_meaning.specs.Records.{records_of, after}
-use Rattle.apt_meaning.specs.Refusals.{is_not_built, name_cases, motion_cases, turned_cases, surface_cases, refusal_of}
+use Rattle.apt_meaning.specs.Refusals.{is_not_built, name_cases, motion_cases, surface_cases, refusal_of}
 use Rattle.apt_meaning.specs.Compiled.{asked, refused_at}
 use Rattle.apt_motion.specs.declared.runs.RunError.TheVariants as errors
 use Rattle.apt_motion.specs.Ends.{HasPassed, HasAdvanced}
@@ -147,12 +145,14 @@ pub has_cut : (at : Situation) (step : Step) (records : List Record) (m : Motion
     → Ok end ≡ unless (motion_cases m) (contact m)
     → HasAdvanced at step records (records ++ records_of step (effects.Cuts m) (end ∷ [])) (Ok (after at (effects.Cuts m) (end ∷ [])))
 has_cut at step records m end by is =
-    let asks = end_asked (refusal_of at step.deed) (effect_of at step.deed) m end by is in
-    (effects.Cuts m, record {
-      asks = asks.0;
-      after = ap (λ p. after at (effects.Cuts m) (p ∷ [])) asks.1;
-      records = ap (λ p. records ++ records_of step (effects.Cuts m) (p ∷ [])) asks.1;
-    })
+    let asks = end_asked (refusal_of at step.deed) (effect_of at step.deed) m end by is in (
+      effects.Cuts m,
+      record {
+        asks = asks.0;
+        after = ap (λ p. after at (effects.Cuts m) (p ∷ [])) asks.1;
+        records = ap (λ p. records ++ records_of step (effects.Cuts m) (p ∷ [])) asks.1;
+      },
+    )
 
 pub is_stopped : (at : Situation) (step : Step) (m : Motion) (case : Case) → IsMotionBy (refusal_of at step.deed) (effect_of at step.deed) (Ok m)
     → Err case ≡ unless (motion_cases m) (contact m) → HasPassed at step (Err (errors.Refused (refused_at step case)))

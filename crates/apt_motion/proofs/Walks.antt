@@ -1,5 +1,5 @@
 -- The walk of the compiling pass over steps, and what its records are.
-use Rattle.std.proofs.Common.{◌≡◌, ◌∙◌, List, [], ◌∷◌, ◌++◌, Vec, Option, Some, None, Result, Ok, Err, IfOk, refl, sym, ap, subst, append_assoc}
+use Rattle.std.proofs.Common.{◌≡◌, ◌∙◌, List, ◌∷◌, ◌++◌, Vec, Option, Some, None, Result, Ok, Err, IfOk, refl, sym, ap, subst, append_assoc}
 use Rattle.apt_words.specs.declared.Case.{Case}
 use Rattle.apt_words.specs.declared.Refusal.{Refusal}
 use Rattle.apt_words.specs.declared.deed.Deed.{Deed}

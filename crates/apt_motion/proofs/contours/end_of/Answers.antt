@@ -20,7 +20,7 @@ returns-clause-value c =
     let near : is_near (track_of m) off_track m.start.at ≡ true =
     sym (c.is_near.ensures ∙ ap (λ t. is_near t off_track m.start.at) track) ∙ c.if-not-is_near.false in
     let stop_room : lacks_room (stop_of m) ≡ false = elim c.else-not-on.branch [
-      else-not-on-via-then-not-on+else-lacks_room-2 w ↦ sym (w.lacks_room-then-not-on.ensures ∙ ap lacks_room stop) ∙ w.if-lacks_room-2.false
+      | else-not-on-via-then-not-on+else-lacks_room-2 w ↦ sym (w.lacks_room-then-not-on.ensures ∙ ap lacks_room stop) ∙ w.if-lacks_room-2.false
       | else-not-on-via-else-not-on w ↦ absurd (on_and_off c.is_on_check-on.result w.if-not-on.false c.if-on.false)
     ] in
     motion_end m c.course_end.result room on stop_room near

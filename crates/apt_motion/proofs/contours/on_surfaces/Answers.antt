@@ -1,6 +1,6 @@
-use Rattle.std.proofs.Common.{◌≡◌, ◌∙◌, ap, sym}
+use Rattle.std.proofs.Common.{◌∙◌, ap, sym}
 use Rattle.apt_words.specs.Rows.{unless}
-use Rattle.apt_meaning.specs.Motions.{motion, turn_at}
+use Rattle.apt_meaning.specs.Motions.{motion}
 use Rattle.apt_meaning.specs.Situations.{with_side}
 use Rattle.apt_motion.specs.Finding.{turn_cases}
 use Rattle.apt_motion.proofs.Cuts.{turned_by}
