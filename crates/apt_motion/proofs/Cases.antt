@@ -1,5 +1,5 @@
 -- The first case of rows, and what GO asks for.
-use Rattle.std.proofs.Common.{◌≡◌, ◌∙◌, ℕ, Bool, true, false, List, [], ◌∷◌, ◌++◌, ℤ, Option, Some, None, Result, Ok, Err, is_none, refl, ap, cond}
+use Rattle.std.proofs.Common.{◌≡◌, ◌∙◌, ℕ, Bool, true, false, List, [], ◌∷◌, ◌++◌, ℤ, Option, Some, None, Result, Ok, Err, is_none, refl, sym, ap, cond}
 use Rattle.std.specs.Option.{option_or}
 use Rattle.apt_words.specs.declared.Case.{Case}
 use Rattle.apt_words.specs.declared.Case.TheVariants as cases
@@ -18,6 +18,7 @@ use Rattle.apt_defs.specs.declared.figure.Figure.{Figure}
 use Rattle.apt_defs.specs.declared.figure.Figure.TheVariants as figures
 use Rattle.apt_defs.specs.Figures.{Table, figure_named}
 use Rattle.apt_meaning.specs.declared.situation.Situation.{Situation}
+use Rattle.apt_meaning.specs.declared.effect.Effect.{Effect}
 use Rattle.apt_meaning.specs.declared.effect.Effect.TheVariants as effects
 use Rattle.apt_meaning.specs.Situations.{lacks_feed, at_height}
 use Rattle.apt_meaning.specs.Motions.{as_surface, surface_in}
@@ -25,8 +26,7 @@ use Rattle.apt_meaning.specs.StartUps.{goal_in, second_in, start_up_at, start_po
 use Rattle.apt_meaning.specs.Effects.{moves, effect_of}
 use Rattle.apt_meaning.specs.Refusals.{position_cases, is_undefined, is_other_kind, is_no_surface, point_cases, name_cases, each_name, start_names, start_cases, refusal_of}
 use Rattle.apt_meaning.specs.Compiled.{asked}
-use Rattle.apt_motion.specs.declared.found.Found.{Found}
-use Rattle.apt_motion.specs.Finding.{IsFound, names_cases, start_up_on, go_cases_on, start_of}
+use Rattle.apt_motion.specs.Finding.{names_cases, start_up_on, go_cases_on, start_of}
 
 -- ---- rows behind rows
 
@@ -113,35 +113,50 @@ start_up_known at how name other from first second here on_first on_second = rw 
 abbrev behind_names : Situation → Option StartUp → List Row
 behind_names at u = (lacks_feed at.settings, cases.NoFeed) ∷ start_cases u
 
+from_there : (at : Situation) (from : Position) (rows : List Row) → at.position ≡ Some from → first_of ((is_none at.position, cases.NoFrom) ∷ rows) ≡ first_of rows
+from_there at from rows here = rw here refl
+
+-- the rows of the names and those behind
+abbrev from_names : Situation → List ℕ → Option (Stop × List ℕ) → Option StartUp → List Row
+from_names at name other u =
+    each_name (is_undefined at.table) cases.Undefined (start_names name other) ++ each_name (is_no_surface at.table) cases.WrongKind (start_names name other) ++ behind_names at u
+
 pub go_refused : (at : Situation) (how : Stop) (name : List ℕ) (other : Option (Stop × List ℕ)) (from : Position) (case : Case)
     → at.position ≡ Some from → first_of (names_cases at.table (start_names name other)) ≡ Some case → refusal_of at (deeds.GoStart how name other) ≡ Some case
-go_refused at how name other from case here refused = rw here (names_stop at.table name other (behind_names at (start_up_at at how name other)) case refused)
+go_refused at how name other from case here refused =
+    let u = start_up_at at how name other in
+    from_there at from (from_names at name other u) here ∙ names_stop at.table name other (behind_names at u) case refused
 
-found_by : (lacks : Bool) (f : Option Case) (to : Position)
-    → IsFound (asked (cond lacks (Some cases.NoFeed) f) (moves reaches.Start (cond (is_none f) (Some to) None)))
-    (unless_case (cond lacks (Some cases.NoFeed) f) (record { effect = effects.Moves reaches.Start to; end = None }))
-found_by true f to = refl
-found_by false None to = (refl, refl)
-found_by false (Some case) to = refl
+asked_by : (lacks : Bool) (f : Option Case) (to : Position)
+    → asked (cond lacks (Some cases.NoFeed) f) (moves reaches.Start (cond (is_none f) (Some to) None)) ≡ unless_case (cond lacks (Some cases.NoFeed) f) (effects.Moves reaches.Start to)
+asked_by true f to = refl
+asked_by false None to = refl
+asked_by false (Some case) to = refl
 
-pub go_found : (at : Situation) (how : Stop) (name : List ℕ) (other : Option (Stop × List ℕ)) (from : Position) (first : Goal) (second : Option Goal) (r : Result Found Case)
+position_there : (p : Option Position) (from : Position) (o : Option StartUp) (u : StartUp) → p ≡ Some from → o ≡ Some u
+    → (p >>= λ from. o >>= λ u. start_position from u) ≡ start_position from u
+position_there p from o u here there = rw (here, there) refl
+
+pub go_asked : (at : Situation) (how : Stop) (name : List ℕ) (other : Option (Stop × List ℕ)) (from : Position) (first : Goal) (second : Option Goal) (r : Result Effect Case)
     → at.position ≡ Some from → goal_in at.table how name ≡ Some first → second_in at.table other ≡ Some second
     → r ≡ unless (go_cases_on at.settings (start_up_on at from first second)) (start_of from (start_up_on at from first second))
-    → IsFound (asked (refusal_of at (deeds.GoStart how name other)) (effect_of at (deeds.GoStart how name other))) r
-go_found at how name other from first second r here on_first on_second same =
+    → r ≡ asked (refusal_of at (deeds.GoStart how name other)) (effect_of at (deeds.GoStart how name other))
+go_asked at how name other from first second r here on_first on_second same =
     let u = start_up_on at from first second in
+    let v = start_up_at at how name other in
     let there = start_up_known at how name other from first second here on_first on_second in
     let refusal : refusal_of at (deeds.GoStart how name other) ≡ first_of (go_cases_on at.settings u) =
-    rw here (names_pass at.table how name other first second (behind_names at (start_up_at at how name other)) on_first on_second ∙ ap (λ o. first_of (behind_names at o)) there) in
-    let position : start_position_at at how name other ≡ start_position from u = rw (here, there) refl in
+    from_there at from (from_names at name other (start_up_at at how name other)) here
+    ∙ names_pass at.table how name other first second (behind_names at (start_up_at at how name other)) on_first on_second ∙ ap (λ o. first_of (behind_names at o)) there in
+    let position : start_position_at at how name other ≡ start_position from u = position_there at.position from (start_up_at at how name other) u here there in
     let effect : effect_of at (deeds.GoStart how name other) ≡ moves reaches.Start (start_position from u) = ap (λ o. moves reaches.Start o) position in
-    rw (refusal, effect, same) (found_by (lacks_feed at.settings) (first_of (start_up_cases u)) (at_height from.z (start_point u)))
+    rw (refusal, effect, same) (sym (asked_by (lacks_feed at.settings) (first_of (start_up_cases u)) (at_height from.z (start_point u))))
 
 -- ---- the move of a start-up, where it ends
 
 -- the move to a point at a height, where there is one
-abbrev pub moved_to : ℤ → Result Pt Case → Result Found Case
-moved_to z (Ok p) = Ok (record { effect = effects.Moves reaches.Start (at_height z p); end = None })
+abbrev pub moved_to : ℤ → Result Pt Case → Result Effect Case
+moved_to z (Ok p) = Ok (effects.Moves reaches.Start (at_height z p))
 moved_to z (Err case) = Err case
 
 moved_unless : (f : Option Case) (from : Position) (u : StartUp) → moved_to from.z (unless_case f (start_point u)) ≡ unless_case f (start_of from u)

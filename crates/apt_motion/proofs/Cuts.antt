@@ -1,91 +1,104 @@
--- A contour that no case refuses is cut to its contact.
-use Rattle.std.proofs.Common.{◌≡◌, ℕ, List, [], ◌∷◌, Option, Some, None, Result, Ok, Err, refl}
-use Rattle.apt_num.specs.declared.Sign.{Sign}
+-- The motions that contours ask for, and where they end.
+use Rattle.std.proofs.Common.{◌≡◌, ◌∙◌, ℕ, Bool, true, false, List, [], ◌∷◌, ◌++◌, Option, Some, None, Result, Ok, Err, refl, sym, ap, cond}
+use Rattle.std.specs.Prelude.{not, ◌&&◌}
 use Rattle.apt_words.specs.declared.Case.{Case}
 use Rattle.apt_words.specs.declared.Case.TheVariants as cases
 use Rattle.apt_words.specs.declared.Go.{Go}
 use Rattle.apt_words.specs.declared.Side.{Side}
 use Rattle.apt_words.specs.declared.Stop.{Stop}
 use Rattle.apt_words.specs.declared.deed.Deed.TheVariants as deeds
+use Rattle.apt_words.specs.declared.deed.Step.{Step}
 use Rattle.apt_words.specs.Rows.{Row, first_of, unless, unless_case}
 use Rattle.apt_plane.specs.declared.figures.Pt.{Pt}
 use Rattle.apt_plane.specs.declared.figures.Surface.{Surface}
+use Rattle.apt_offset.specs.Turns.{is_zero}
+use Rattle.apt_offset.specs.Targets.{lacks_room}
+use Rattle.apt_stop.specs.Nearness.{is_near, off_track}
+use Rattle.apt_stop.specs.declared.course.Choice.{Choice}
+use Rattle.apt_stop.specs.declared.course.Course.{Course}
+use Rattle.apt_stop.specs.Courses.{choice_of, end_of, course_cases}
 use Rattle.apt_cldata.specs.declared.record.Position.{Position}
-use Rattle.apt_meaning.specs.declared.situation.Settings.{Settings}
+use Rattle.apt_cldata.specs.declared.record.Record.{Record}
 use Rattle.apt_meaning.specs.declared.motion.Motion.{Motion}
 use Rattle.apt_meaning.specs.declared.situation.Situation.{Situation}
+use Rattle.apt_meaning.specs.declared.effect.Effect.{Effect}
 use Rattle.apt_meaning.specs.declared.effect.Effect.TheVariants as effects
 use Rattle.apt_meaning.specs.OnLines.{built}
-use Rattle.apt_meaning.specs.Situations.{with_side}
-use Rattle.apt_meaning.specs.Motions.{surface_in, line_in, motion, motion_at, turn_at, contact, if_turned}
+use Rattle.apt_meaning.specs.Situations.{has_feed, with_side}
+use Rattle.apt_meaning.specs.Motions.{surface_in, line_in, motion, motion_at, turn_at, contact, is_too_fine, track_of, stop_of, starts_on_check, course_of}
 use Rattle.apt_meaning.specs.Effects.{cuts, effect_of}
-use Rattle.apt_meaning.specs.Refusals.{is_not_built, name_cases, motion_cases, turned_cases, surface_cases, refusal_of}
-use Rattle.apt_meaning.specs.Compiled.{asked}
-use Rattle.apt_meaning.proofs.Refused.{first_none}
-use Rattle.apt_motion.specs.declared.found.Found.{Found}
-use Rattle.apt_motion.specs.Finding.{IsFound, cut_of, motion_on, contour_cases_on}
+use Rattle.apt_meaning.specs.Records.{records_of, after}
+use Rattle.apt_meaning.specs.Refusals.{is_not_built, name_cases, motion_cases, surface_cases, refusal_of}
+use Rattle.apt_meaning.specs.Compiled.{asked, refused_at}
+use Rattle.apt_motion.specs.declared.runs.RunError.TheVariants as errors
+use Rattle.apt_motion.specs.Ends.{HasPassed, HasAdvanced}
+use Rattle.apt_motion.specs.Finding.{IsMotionBy, motion_on, contour_cases_on, turn_cases}
 use Rattle.apt_motion.proofs.Cases.{name_refused, known_surface}
 
--- ---- a motion with its end
+-- ---- the end of a course
 
--- a motion that ends at a point, where it does
-abbrev pub ended : Motion → Result Pt Case → Result Found Case
-ended m (Ok p) = Ok (record { effect = effects.Cuts m; end = Some p })
-ended m (Err case) = Err case
+-- the end of a choice, where there is one
+abbrev pub ended : Result Choice Case → Result Pt Case
+ended (Ok x) = Ok x.end
+ended (Err case) = Err case
 
-ended_unless : (f : Option Case) (m : Motion) → ended m (unless_case f (contact m)) ≡ unless_case f (cut_of m)
-ended_unless None m = refl
-ended_unless (Some case) m = refl
+ended_case : (f : Option Case) (c : Course) → ended (unless_case f (choice_of c)) ≡ unless_case f (end_of c)
+ended_case None c = refl
+ended_case (Some case) c = refl
 
-pub cut_unless : (m : Motion) (r : Result Pt Case) → r ≡ unless (motion_cases m) (contact m) → ended m r ≡ unless (motion_cases m) (cut_of m)
-cut_unless m r e = rw e (ended_unless (first_of (motion_cases m)) m)
+pub end_unless : (c : Course) (r : Result Choice Case) → r ≡ unless (course_cases c) (choice_of c) → ended r ≡ unless (course_cases c) (end_of c)
+end_unless c r e = rw e (ended_case (first_of (course_cases c)) c)
 
--- ---- what a contour asks for
+-- ---- the end of a motion
 
-cut_or_refused : (f : Option Case) (o : Option Motion) (m : Motion) → (f ≡ None → o ≡ Some m) → IsFound (asked f (cuts o)) (unless_case f (cut_of m))
-cut_or_refused None o m h = rw (h refl) (refl, refl)
-cut_or_refused (Some case) o m h = refl
+pub on_and_off : (b : Bool) → b ≡ true → b ≡ false → ⊥
+on_and_off b e f = cc
 
-turned_there : (s : Settings) (start : Position) (drive : Surface) (turned : Sign) (how : Stop) (check : Surface)
-    → first_of (turned_cases s start drive turned how check) ≡ None → if_turned s start drive turned how check ≡ Some (motion s start drive turned how check)
-turned_there s start drive turned how check fine =
-    let none = first_none (turned_cases s start drive turned how check) fine in
-    let turns = none.1.1.1 in
-    rw turns.0 refl
+pub motion_end : (m : Motion) (r : Result Pt Case) → lacks_room (track_of m) ≡ false → starts_on_check m ≡ false → lacks_room (stop_of m) ≡ false
+    → is_near (track_of m) off_track m.start.at ≡ true → r ≡ unless (course_cases (course_of m)) (contact m) → r ≡ unless (motion_cases m) (contact m)
+motion_end m r track on stop near is = is ∙ ap (λ f. unless_case f (contact m)) (sym (none_before (lacks_room (track_of m)) (starts_on_check m) (lacks_room (stop_of m)) (is_near (track_of m) off_track m.start.at) (course_cases (course_of m)) track on stop near))
+  where
+    none_before : (a b c d : Bool) (rows : List Row) → a ≡ false → b ≡ false → c ≡ false → d ≡ true
+        → first_of ((a, cases.NoRoom) ∷ (not b && c, cases.NoRoom) ∷ (not d, cases.OffDrive) ∷ (b, cases.OnCheck) ∷ rows) ≡ first_of rows
+    none_before a b c d rows e f g h = rw (e, f, g, h) refl
 
--- a motion to its contact, unless a case refuses it
-abbrev pub turned_to : Settings → Position → Surface → Sign → Stop → Surface → Result Found Case
-turned_to s start d turned how e = unless (turned_cases s start d turned how e) (cut_of (motion s start d turned how e))
+-- ---- the motion that a contour asks for
 
-turned_found : (s : Settings) (start : Position) (drive : Surface) (turned : Sign) (how : Stop) (check : Surface)
-    → IsFound (asked (first_of (turned_cases s start drive turned how check)) (cuts (if_turned s start drive turned how check))) (turned_to s start drive turned how check)
-turned_found s start drive turned how check =
-    cut_or_refused (first_of (turned_cases s start drive turned how check)) (if_turned s start drive turned how check) (motion s start drive turned how check)
-    (turned_there s start drive turned how check)
+motion_by : (rapid unfed fine straight : Bool) (m : Motion)
+    → IsMotionBy (first_of ((rapid, cases.RapidContour) ∷ (unfed, cases.NoFeed) ∷ (fine, cases.TooFine) ∷ (straight, cases.NoTurn) ∷ motion_cases m)) (cuts (cond straight None (Some m)))
+    (unless ((rapid, cases.RapidContour) ∷ (unfed, cases.NoFeed) ∷ (fine, cases.TooFine) ∷ (straight, cases.NoTurn) ∷ []) m)
+motion_by true unfed fine straight m = refl
+motion_by false true fine straight m = refl
+motion_by false false true straight m = refl
+motion_by false false false true m = refl
+motion_by false false false false m = (refl, refl)
+
+-- on a line that runs so against forward
+pub turned_by : (at : Situation) (side : Option Side) (go : Go) (how : Stop) (start : Position) (d e x : Surface) (r : Result Motion Case) → built d ≡ Some x
+    → r ≡ unless (turn_cases (with_side at.settings side) (turn_at at start x go)) (motion (with_side at.settings side) start x (turn_at at start x go) how e)
+    → IsMotionBy (first_of (contour_cases_on at side go start d how e)) (cuts (motion_on at side go start d how e)) r
+turned_by at side go how start d e x r on same =
+    let s = with_side at.settings side in
+    let turned = turn_at at start x go in
+    rw (on, same) (motion_by s.rapid (not (has_feed s)) (is_too_fine s) (is_zero turned) (motion s start x turned how e))
 
 -- on known surfaces
-pub contour_found : (at : Situation) (side : Option Side) (go : Go) (drive : List ℕ) (how : Stop) (check : List ℕ) (start : Position) (d e : Surface) (found : Result Found Case)
+pub contour_motion : (at : Situation) (side : Option Side) (go : Go) (drive : List ℕ) (how : Stop) (check : List ℕ) (start : Position) (d e : Surface) (r : Result Motion Case)
     → at.position ≡ Some start → surface_in at.table drive ≡ Some d → surface_in at.table check ≡ Some e
-    → IsFound (asked (first_of (contour_cases_on at side go start d how e)) (cuts (motion_on at side go start d how e))) found
-    → IsFound (asked (refusal_of at (deeds.Contour side go drive how check)) (effect_of at (deeds.Contour side go drive how check))) found
+    → IsMotionBy (first_of (contour_cases_on at side go start d how e)) (cuts (motion_on at side go start d how e)) r
+    → IsMotionBy (refusal_of at (deeds.Contour side go drive how check)) (effect_of at (deeds.Contour side go drive how check)) r
 unfolding motion_at
-contour_found at side go drive how check start d e found here on_d on_e is =
+contour_motion at side go drive how check start d e r here on_d on_e is =
     let known_d = known_surface at.table drive d on_d in
     let known_e = known_surface at.table check e on_e in
     rw (here, known_d.0, known_d.1, known_e.0, known_e.1, on_d, on_e) is
-
--- on lines
-pub lines_found : (at : Situation) (side : Option Side) (go : Go) (how : Stop) (start : Position) (d e x y : Surface) (found : Result Found Case)
-    → built d ≡ Some x → built e ≡ Some y → found ≡ turned_to (with_side at.settings side) start x (turn_at at start x go) how y
-    → IsFound (asked (first_of (contour_cases_on at side go start d how e)) (cuts (motion_on at side go start d how e))) found
-lines_found at side go how start d e x y found on_d on_e is = rw (on_d, on_e, is) (turned_found (with_side at.settings side) start x (turn_at at start x go) how y)
 
 -- ---- a contour with a name that stands for no surface
 
 -- the rows behind those of both names
 abbrev behind_names : Situation → Option Side → Go → List ℕ → Stop → List ℕ → Position → List Row
 behind_names at side go drive how check start =
-    (is_not_built at.table drive, cases.NotBuilt) ∷ (is_not_built at.table check, cases.NotBuilt) ∷ surface_cases at side go how (Some start) (line_in at.table drive) (line_in at.table check)
+    (is_not_built at.table drive, cases.NotBuilt) ∷ surface_cases at side go how (Some start) (line_in at.table drive) (surface_in at.table check)
 
 pub drive_refused : (at : Situation) (side : Option Side) (go : Go) (drive : List ℕ) (how : Stop) (check : List ℕ) (start : Position) (case : Case)
     → at.position ≡ Some start → first_of (name_cases at.table drive []) ≡ Some case → refusal_of at (deeds.Contour side go drive how check) ≡ Some case
@@ -98,3 +111,55 @@ pub check_refused : (at : Situation) (side : Option Side) (go : Go) (drive : Lis
 check_refused at side go drive how check start d case here on_d refused =
     let known = known_surface at.table drive d on_d in
     rw (here, known.0, known.1) (name_refused at.table check (behind_names at side go drive how check start) case refused)
+
+-- ---- a motion that is run to its end
+
+ends : (f : Option Case) (p q : Pt) → Ok p ≡ unless_case f q → (f ≡ None) × (p ≡ q)
+ends None p q e = (refl, same_ok p q e)
+  where
+    same_ok : (p q : Pt) → ◌≡◌ {A = Result Pt Case} (Ok p) (Ok q) → p ≡ q
+    same_ok p q e = cc
+ends (Some case) p q e = absurd cc
+
+stops : (f : Option Case) (case : Case) (q : Pt) → Err case ≡ unless_case f q → f ≡ Some case
+stops None case q e = absurd cc
+stops (Some other) case q e = ap Some (same_err case other e)
+  where
+    same_err : (case other : Case) → ◌≡◌ {A = Result Pt Case} (Err case) (Err other) → other ≡ case
+    same_err case other e = cc
+
+-- what a step asks for whose motion ends
+end_asked : (f : Option Case) (o : Option Effect) (m : Motion) (end : Pt) → IsMotionBy f o (Ok m) → Ok end ≡ unless (motion_cases m) (contact m)
+    → (asked f o ≡ Ok (effects.Cuts m)) × (end ≡ contact m)
+end_asked f o m end by is =
+    let at_end = ends (first_of (motion_cases m)) end (contact m) is in
+    (rw (by.0, by.1, at_end.0) refl, at_end.1)
+
+pub has_passed : (at : Situation) (step : Step) (m : Motion) (end : Pt) → IsMotionBy (refusal_of at step.deed) (effect_of at step.deed) (Ok m)
+    → Ok end ≡ unless (motion_cases m) (contact m) → HasPassed at step (Ok (after at (effects.Cuts m) (end ∷ [])))
+has_passed at step m end by is =
+    let asks = end_asked (refusal_of at step.deed) (effect_of at step.deed) m end by is in
+    (effects.Cuts m, record { asks = asks.0; after = ap (λ p. after at (effects.Cuts m) (p ∷ [])) asks.1 })
+
+pub has_cut : (at : Situation) (step : Step) (records : List Record) (m : Motion) (end : Pt) → IsMotionBy (refusal_of at step.deed) (effect_of at step.deed) (Ok m)
+    → Ok end ≡ unless (motion_cases m) (contact m)
+    → HasAdvanced at step records (records ++ records_of step (effects.Cuts m) (end ∷ [])) (Ok (after at (effects.Cuts m) (end ∷ [])))
+has_cut at step records m end by is =
+    let asks = end_asked (refusal_of at step.deed) (effect_of at step.deed) m end by is in (
+      effects.Cuts m,
+      record {
+        asks = asks.0;
+        after = ap (λ p. after at (effects.Cuts m) (p ∷ [])) asks.1;
+        records = ap (λ p. records ++ records_of step (effects.Cuts m) (p ∷ [])) asks.1;
+      },
+    )
+
+pub is_stopped : (at : Situation) (step : Step) (m : Motion) (case : Case) → IsMotionBy (refusal_of at step.deed) (effect_of at step.deed) (Ok m)
+    → Err case ≡ unless (motion_cases m) (contact m) → HasPassed at step (Err (errors.Refused (refused_at step case)))
+is_stopped at step m case by is =
+    let refused : refusal_of at step.deed ≡ Some case = by.1 ∙ stops (first_of (motion_cases m)) case (contact m) is in
+    (case, record { asks = rw refused refl; told = refl })
+
+pub is_stopped_again : (at : Situation) (step : Step) (records : List Record) (m : Motion) (case : Case) → IsMotionBy (refusal_of at step.deed) (effect_of at step.deed) (Ok m)
+    → Err case ≡ unless (motion_cases m) (contact m) → HasAdvanced at step records records (Err (errors.Refused (refused_at step case)))
+is_stopped_again at step records m case by is = is_stopped at step m case by is

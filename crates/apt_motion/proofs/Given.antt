@@ -1,5 +1,5 @@
 -- What a definition asks for, and what is behind it.
-use Rattle.std.proofs.Common.{◌≡◌, ◌∙◌, ℕ, List, Option, Some, None, IsSome, Result, Ok, Err, refl, sym, ap, subst, append-nil}
+use Rattle.std.proofs.Common.{◌≡◌, ◌∙◌, ℕ, List, Option, Some, IsSome, Result, Ok, Err, refl, sym, ap, subst, append-nil}
 use Rattle.apt_words.specs.declared.Case.{Case}
 use Rattle.apt_words.specs.declared.deed.Deed.{Deed}
 use Rattle.apt_words.specs.declared.deed.Step.{Step}
@@ -17,7 +17,7 @@ use Rattle.apt_meaning.specs.Refusals.{refused, refused_if_any, refused_definiti
 use Rattle.apt_meaning.specs.Compiled.{asked, refused_at}
 use Rattle.apt_meaning.proofs.Defined.{its_own}
 use Rattle.apt_motion.specs.declared.runs.RunError.TheVariants as errors
-use Rattle.apt_motion.specs.Ends.{HasFound, HasAdvanced}
+use Rattle.apt_motion.specs.Ends.{HasPassed, HasAdvanced}
 
 abbrev named : List ℕ → Result Figure Case → Result Effect Case
 named name (Ok f) = Ok (effects.Defines name f)
@@ -49,33 +49,38 @@ definition_asked at deed d is =
     ap (λ (cs : List Row). asked (first_of cs) (effect_of at deed)) own.cases ∙ ap (λ (o : Option Effect). asked (first_of (refused_definition at deed)) o) own.effect ∙ own_given at deed d is
 
 pub has_given : (at : Situation) (step : Step) (table : Table) → HasDefined at.settings.units at.table step.deed table
-    → HasFound at step (record at { table = table }) (Ok None)
+    → HasPassed at step (Ok (record at { table = table }))
 has_given at step table defined =
     let name = defined.0 in
     let f = defined.1 in
     let is = defined.2 in (
       effects.Defines name f,
       record {
-        passed = record {
-          asks = definition_asked at step.deed (record { name = name; figure = Ok f }) is.defines;
-          after = ap (λ (t : Table). record at { table = t }) is.table;
-        };
-        silent = refl;
+        asks = definition_asked at step.deed (record { name = name; figure = Ok f }) is.defines;
+        after = ap (λ (t : Table). record at { table = t }) is.table;
       },
     )
 
-pub is_refused : (at : Situation) (step : Step) (now : Situation) (case : Case) → IsRefusedBy at.settings.units at.table step.deed case
-    → HasFound at step now (Err (errors.Refused (refused_at step case)))
-is_refused at step now case is = (case, record { asks = definition_asked at step.deed (record { name = is.0; figure = Err case }) is.1; told = refl })
+pub is_refused : (at : Situation) (step : Step) (case : Case) → IsRefusedBy at.settings.units at.table step.deed case
+    → HasPassed at step (Err (errors.Refused (refused_at step case)))
+is_refused at step case is = (case, record { asks = definition_asked at step.deed (record { name = is.0; figure = Err case }) is.1; told = refl })
 
 -- ---- the same with records, of which a definition has none
 
 pub has_defined : (at : Situation) (step : Step) (records : List Record) (table : Table) → HasDefined at.settings.units at.table step.deed table
     → HasAdvanced at step records records (Ok (record at { table = table }))
 has_defined at step records table defined =
-    let given = (has_given at step table defined).1 in
-    ((has_given at step table defined).0, record { asks = given.passed.asks; after = given.passed.after; records = rw given.silent (sym (append-nil records)) })
+    let name = defined.0 in
+    let f = defined.1 in
+    let is = defined.2 in (
+      effects.Defines name f,
+      record {
+        asks = definition_asked at step.deed (record { name = name; figure = Ok f }) is.defines;
+        after = ap (λ (t : Table). record at { table = t }) is.table;
+        records = sym (append-nil records);
+      },
+    )
 
 pub refused_again : (at : Situation) (step : Step) (records : List Record) (case : Case) → IsRefusedBy at.settings.units at.table step.deed case
     → HasAdvanced at step records records (Err (errors.Refused (refused_at step case)))
-refused_again at step records case is = is_refused at step at case is
+refused_again at step records case is = is_refused at step case is

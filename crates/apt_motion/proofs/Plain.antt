@@ -1,5 +1,5 @@
--- What a step asks for that is no contour has no end, and what one asks for that is no definition defines nothing.
-use Rattle.std.proofs.Common.{◌≡◌, ℕ, List, [], Result, Ok, Err, Option, Some, None, IfSome, refl}
+-- What a step asks for that is neither a contour nor a definition neither cuts nor defines.
+use Rattle.std.proofs.Common.{◌≡◌, ℕ, List, Result, Ok, Err, Option, Some, None, IfSome, refl}
 use Rattle.apt_words.specs.declared.Case.{Case}
 use Rattle.apt_words.specs.declared.Go.{Go}
 use Rattle.apt_words.specs.declared.Side.{Side}
@@ -19,9 +19,8 @@ use Rattle.apt_meaning.specs.declared.effect.Effect.TheVariants as effects
 use Rattle.apt_meaning.specs.Motions.{motion_at}
 use Rattle.apt_meaning.specs.StartUps.{start_position_at}
 use Rattle.apt_meaning.specs.Effects.{moves, cuts, place_in, names, defines, defined, moved_from, effect_of}
-use Rattle.apt_meaning.specs.Compiled.{ends_of}
 use Rattle.apt_meaning.proofs.Said.{of_some, either_turn}
-use Rattle.apt_motion.specs.Finding.{IsNoContour, IsNoDefinition, DefinesNothing}
+use Rattle.apt_motion.specs.Finding.{IsNoContour, IsNoDefinition, IsPlain}
 
 -- only a definition defines, and only a contour cuts
 abbrev IsBy : Situation → Deed → Effect → Type 0
@@ -112,20 +111,11 @@ suits at deeds.If = tt
 by : (at : Situation) (deed : Deed) (e : Effect) → effect_of at deed ≡ Some e → IsBy at deed e
 by at deed e asks = of_some (IsBy at deed) (effect_of at deed) e asks (suits at deed)
 
-uncut : (at : Situation) (deed : Deed) (e : Effect) → IsNoContour deed → IsBy at deed e → ends_of e ≡ []
-uncut at deed (effects.Defines n f) plain is = refl
-uncut at deed (effects.Sets s said) plain is = refl
-uncut at deed (effects.Moves reach to) plain is = refl
-uncut at deed (effects.Cuts m) plain is = absurd (is plain)
+plain_by : (at : Situation) (deed : Deed) (e : Effect) → IsNoContour deed → IsNoDefinition at deed → IsBy at deed e → IsPlain e
+plain_by at deed (effects.Defines n f) plain none is = is none
+plain_by at deed (effects.Sets s said) plain none is = tt
+plain_by at deed (effects.Moves reach to) plain none is = tt
+plain_by at deed (effects.Cuts m) plain none is = is plain
 
-pub plain_no_end : (at : Situation) (deed : Deed) (e : Effect) → IsNoContour deed → effect_of at deed ≡ Some e → ends_of e ≡ []
-plain_no_end at deed e plain asks = uncut at deed e plain (by at deed e asks)
-
-unnamed : (at : Situation) (deed : Deed) (e : Effect) → IsNoDefinition at deed → IsBy at deed e → DefinesNothing e
-unnamed at deed (effects.Defines n f) none is = is none
-unnamed at deed (effects.Sets s said) none is = tt
-unnamed at deed (effects.Moves reach to) none is = tt
-unnamed at deed (effects.Cuts m) none is = tt
-
-pub defines_nothing : (at : Situation) (deed : Deed) (e : Effect) → IsNoDefinition at deed → effect_of at deed ≡ Some e → DefinesNothing e
-defines_nothing at deed e none asks = unnamed at deed e none (by at deed e asks)
+pub is_plain : (at : Situation) (deed : Deed) (e : Effect) → IsNoContour deed → IsNoDefinition at deed → effect_of at deed ≡ Some e → IsPlain e
+is_plain at deed e uncut none asks = plain_by at deed e uncut none (by at deed e asks)

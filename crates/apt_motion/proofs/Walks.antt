@@ -1,19 +1,15 @@
 -- The walk of the compiling pass over steps, and what its records are.
-use Rattle.std.proofs.Common.{◌≡◌, ◌∙◌, List, [], ◌∷◌, ◌++◌, Vec, Option, Some, None, Result, Ok, Err, IfOk, IfSome, refl, sym, ap, subst, append_assoc}
+use Rattle.std.proofs.Common.{◌≡◌, ◌∙◌, List, ◌∷◌, ◌++◌, Vec, Option, Some, None, Result, Ok, Err, IfOk, refl, sym, ap, subst, append_assoc}
 use Rattle.apt_words.specs.declared.Case.{Case}
 use Rattle.apt_words.specs.declared.Refusal.{Refusal}
 use Rattle.apt_words.specs.declared.deed.Deed.{Deed}
 use Rattle.apt_words.specs.declared.deed.Step.{Step}
 use Rattle.apt_words.specs.Sources.{DeedHasText, AreExecuted}
 use Rattle.apt_scalar.specs.StepScalars.{HasScalars, AreScalars}
-use Rattle.apt_plane.specs.declared.figures.Pt.{Pt}
-use Rattle.apt_plane.specs.Ranges.{IsPoint}
 use Rattle.apt_cldata.specs.declared.record.Record.{Record}
 use Rattle.apt_cldata.specs.Ranges.{AreRecords}
 use Rattle.apt_meaning.specs.declared.situation.Situation.{Situation}
 use Rattle.apt_meaning.specs.declared.effect.Effect.{Effect}
-use Rattle.apt_meaning.specs.declared.effect.Effect.TheVariants as effects
-use Rattle.apt_meaning.specs.Motions.{contact}
 use Rattle.apt_meaning.specs.Effects.{effect_of}
 use Rattle.apt_meaning.specs.Refusals.{refusal_of}
 use Rattle.apt_meaning.specs.Situations.{first_situation}
@@ -25,10 +21,9 @@ use Rattle.apt_meaning.proofs.Asked.{answered}
 use Rattle.apt_meaning.proofs.Kept.{kept, first_situation-IsSituation}
 use Rattle.apt_meaning.proofs.Walk.{same_some, compiled_follows}
 use Rattle.apt_motion.specs.declared.runs.RunError.{RunError}
-use Rattle.apt_motion.specs.Ends.{Ends, IsToDo}
-use Rattle.apt_motion.specs.declared.found.Found.{Found}
-use Rattle.apt_motion.specs.Finding.{IsNoDefinition, IsFound, ends_at}
-use Rattle.apt_motion.proofs.Plain.{defines_nothing}
+use Rattle.apt_motion.specs.Ends.{Ends}
+use Rattle.apt_motion.specs.Finding.{IsNoContour, IsNoDefinition, IsPlain}
+use Rattle.apt_motion.proofs.Plain.{is_plain}
 
 regroup : (front more : List Record) (r : Result (List Record) Refusal) → with_front front (with_front more r) ≡ with_front (front ++ more) r
 regroup front more (Ok rest) = ap (λ (x : List Record). Ok x) (sym (append_assoc front more rest))
@@ -80,32 +75,16 @@ fit at deed e is scalars worded does =
     } in
     subst (IsFit at) (same_some a.e e (sym a.asked ∙ h.1)) fits
 
-no_ends : (p : Pt) → ◌≡◌ {A = List Pt} [] (p ∷ []) → ⊥
-no_ends p h = cc
+-- what is found of a step that is neither a definition nor a contour
+found_is : (at : Situation) (deed : Deed) (e : Effect) → IsSituation at → HasScalars deed → DeedHasText deed → IsNoContour deed → IsNoDefinition at deed
+    → asked (refusal_of at deed) (effect_of at deed) ≡ Ok e → IsPlain e × IsEffect e
+found_is at deed e is scalars worded uncut none does =
+    (is_plain at deed e uncut none (asked_fine (refusal_of at deed) (effect_of at deed) e does).1, (fit at deed e is scalars worded does).good)
 
-same_end : (p q : Pt) → ◌≡◌ {A = List Pt} (p ∷ []) (q ∷ []) → p ≡ q
-same_end p q h = cc
-
--- the end of a contour is a point
-end_in : (e : Effect) (end : Option Pt) → HasIn e (ends_of e) → ends_of e ≡ ends_at end → IfSome end IsPoint
-end_in e None is same = tt
-end_in (effects.Defines n f) (Some p) is same = absurd (no_ends p same)
-end_in (effects.Sets s said) (Some p) is same = absurd (no_ends p same)
-end_in (effects.Moves reach to) (Some p) is same = absurd (no_ends p same)
-end_in (effects.Cuts m) (Some p) is same = subst IsPoint (same_end (contact m) p same) is.1.0
-
--- what is found of a step that defines nothing
-pub to_do : (at : Situation) (step : Step) (f : Found) → IsSituation at → HasScalars step.deed → DeedHasText step.deed → IsNoDefinition at step.deed
-    → IsFound (asked (refusal_of at step.deed) (effect_of at step.deed)) (Ok f) → IsToDo at step f
-to_do at step f is scalars worded none found =
-    let fits = fit at step.deed f.effect is scalars worded found.0 in
-    record {
-      asks = found.0;
-      ends = found.1;
-      effect = fits.good;
-      end = end_in f.effect f.end fits.ends found.1;
-      nothing = defines_nothing at step.deed f.effect none (asked_fine (refusal_of at step.deed) (effect_of at step.deed) f.effect found.0).1;
-    }
+pub found_plain : (at : Situation) (deed : Deed) (r : Result Effect Case) → IsSituation at → HasScalars deed → DeedHasText deed → IsNoContour deed → IsNoDefinition at deed
+    → r ≡ asked (refusal_of at deed) (effect_of at deed) → IfOk r IsPlain × IfOk r IsEffect
+found_plain at deed (Ok e) is scalars worded uncut none same = found_is at deed e is scalars worded uncut none (sym same)
+found_plain at deed (Err case) is scalars worded uncut none same = (tt, tt)
 
 -- ---- runs
 

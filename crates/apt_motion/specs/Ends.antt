@@ -1,10 +1,9 @@
 -- How steps are passed and taken, and how runs end.
-use Rattle.std.specs.Prelude.{◌≡◌, [], ◌++◌, List, Option, Some, None, IfSome, Result, Ok, Err}
+use Rattle.std.specs.Prelude.{◌≡◌, ◌++◌, List, Option, Some, None, Result, Ok, Err}
 use Rattle.std.proofs.Common.{Vec}
 use Rattle.apt_words.specs.declared.Case.{Case}
 use Rattle.apt_words.specs.declared.Refusal.{Refusal}
 use Rattle.apt_words.specs.declared.deed.Step.{Step}
-use Rattle.apt_plane.specs.Ranges.{IsPoint}
 use Rattle.apt_cldata.specs.declared.record.Record.{Record}
 use Rattle.apt_meaning.specs.declared.situation.Situation.{Situation}
 use Rattle.apt_meaning.specs.declared.effect.Effect.{Effect}
@@ -12,9 +11,6 @@ use Rattle.apt_meaning.specs.Effects.{effect_of}
 use Rattle.apt_meaning.specs.Refusals.{refusal_of}
 use Rattle.apt_meaning.specs.Records.{records_of, after}
 use Rattle.apt_meaning.specs.Compiled.{ends_of, asked, refused_at}
-use Rattle.apt_meaning.specs.Ranges.{IsEffect}
-use Rattle.apt_motion.specs.declared.found.Found.{Found}
-use Rattle.apt_motion.specs.Finding.{DefinesNothing, ends_at}
 use Rattle.apt_motion.specs.declared.runs.RunError.{RunError}
 use Rattle.apt_motion.specs.declared.runs.RunError.TheVariants as errors
 
@@ -38,26 +34,6 @@ abbrev pub HasPassed : Situation → Step → Result Situation RunError → Type
 HasPassed at step (Ok behind) = (e : Effect) × IsPassed at step behind e
 HasPassed at step (Err (errors.Refused refusal)) = (case : Case) × IsRefused at step refusal case
 HasPassed at step (Err errors.NoMemory) = Unit {0}
-
--- what a step asks for that defines nothing, with the end of its contour
-pub record IsToDo (at : Situation) (step : Step) (f : Found) : Type 0 where
-  pub asks : asked (refusal_of at step.deed) (effect_of at step.deed) ≡ Ok f.effect
-  pub ends : ends_of f.effect ≡ ends_at f.end
-  pub effect : IsEffect f.effect
-  pub end : IfSome f.end IsPoint
-  pub nothing : DefinesNothing f.effect
-
--- a step is passed, and has no records: it defines a name
-pub record IsGiven (at : Situation) (step : Step) (behind : Situation) (e : Effect) : Type 0 where
-  pub passed : IsPassed at step behind e
-  pub silent : records_of step e (ends_of e) ≡ []
-
--- a name is given its figure, or nothing is changed yet, or the step is refused, or memory was short
-abbrev pub HasFound : Situation → Step → Situation → Result (Option Found) RunError → Type 0
-HasFound at step now (Ok None) = (e : Effect) × IsGiven at step now e
-HasFound at step now (Ok (Some f)) = (now ≡ at) × IsToDo at step f
-HasFound at step now (Err (errors.Refused refusal)) = (case : Case) × IsRefused at step refusal case
-HasFound at step now (Err errors.NoMemory) = Unit {0}
 
 -- a step is taken or refused, or memory was short
 abbrev pub HasAdvanced : Situation → Step → List Record → List Record → Result Situation RunError → Type 0

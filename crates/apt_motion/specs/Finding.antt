@@ -1,7 +1,8 @@
--- What the compiling pass finds of a step that defines nothing: its effect with the end of its contour, or the case that refuses it.
-use Rattle.std.specs.Prelude.{◌≡◌, ◌≢◌, ℕ, List, [], ◌∷◌, ◌++◌, Option, Some, None, Result, Ok, Err}
+-- What the compiling pass finds of a step that defines nothing: its effect, or its motion, or the case that refuses it.
+use Rattle.std.specs.Prelude.{◌≡◌, ◌≢◌, not, ℕ, List, [], ◌∷◌, ◌++◌, Option, Some, None, Result, Ok, Err}
+use Rattle.apt_num.specs.declared.Sign.{Sign}
 use Rattle.apt_words.specs.Options.{◌>>=◌}
-use Rattle.apt_words.specs.Rows.{Row}
+use Rattle.apt_words.specs.Rows.{Row, first_of}
 use Rattle.apt_words.specs.declared.Case.{Case}
 use Rattle.apt_words.specs.declared.Case.TheVariants as cases
 use Rattle.apt_words.specs.declared.Go.{Go}
@@ -9,8 +10,8 @@ use Rattle.apt_words.specs.declared.Side.{Side}
 use Rattle.apt_words.specs.declared.Stop.{Stop}
 use Rattle.apt_words.specs.declared.deed.Deed.{Deed}
 use Rattle.apt_words.specs.declared.deed.Deed.TheVariants as deeds
-use Rattle.apt_plane.specs.declared.figures.Pt.{Pt}
 use Rattle.apt_plane.specs.declared.figures.Surface.{Surface}
+use Rattle.apt_offset.specs.Turns.{is_zero}
 use Rattle.apt_startup.specs.declared.Goal.{Goal}
 use Rattle.apt_startup.specs.declared.StartUp.{StartUp}
 use Rattle.apt_startup.specs.StartUps.{start_up_cases, start_point}
@@ -24,11 +25,9 @@ use Rattle.apt_meaning.specs.declared.motion.Motion.{Motion}
 use Rattle.apt_meaning.specs.declared.effect.Effect.{Effect}
 use Rattle.apt_meaning.specs.declared.effect.Effect.TheVariants as effects
 use Rattle.apt_meaning.specs.OnLines.{built}
-use Rattle.apt_meaning.specs.Situations.{lacks_feed, with_side, at_height}
-use Rattle.apt_meaning.specs.Motions.{contact, turn_at, if_turned}
-use Rattle.apt_meaning.specs.Refusals.{is_undefined, is_no_surface, is_left_out, each_name, surface_cases}
-use Rattle.apt_meaning.specs.Compiled.{ends_of}
-use Rattle.apt_motion.specs.declared.found.Found.{Found}
+use Rattle.apt_meaning.specs.Situations.{has_feed, lacks_feed, with_side, at_height}
+use Rattle.apt_meaning.specs.Motions.{is_too_fine, turn_at, if_turned}
+use Rattle.apt_meaning.specs.Refusals.{is_undefined, is_no_surface, is_left_out, each_name, motion_cases, surface_cases}
 
 abbrev pub IsNoContour : Deed → Type 0
 IsNoContour deed = (side : Option Side) (go : Go) (drive : List ℕ) (how : Stop) (check : List ℕ) → deed ≢ deeds.Contour side go drive how check
@@ -40,14 +39,14 @@ IsNoStart deed = (how : Stop) (name : List ℕ) (other : Option (Stop × List �
 abbrev pub IsNoDefinition : Situation → Deed → Type 0
 IsNoDefinition at deed = definition_of at.settings.units at.table deed ≡ None
 
--- an effect that defines nothing
-abbrev pub DefinesNothing : Effect → Type 0
-DefinesNothing (effects.Defines n f) = ⊥
-DefinesNothing (effects.Sets s said) = Unit {0}
-DefinesNothing (effects.Moves reach to) = Unit {0}
-DefinesNothing (effects.Cuts m) = Unit {0}
+-- an effect that defines nothing and is no contour
+abbrev pub IsPlain : Effect → Type 0
+IsPlain (effects.Defines n f) = ⊥
+IsPlain (effects.Sets s said) = Unit {0}
+IsPlain (effects.Moves reach to) = Unit {0}
+IsPlain (effects.Cuts m) = ⊥
 
--- ---- GO and contours whose names stand for surfaces
+-- ---- GO whose names stand for surfaces
 
 -- each name is there, and then each stands for a surface
 abbrev pub names_cases : Table → List (List ℕ) → List Row
@@ -60,28 +59,22 @@ abbrev pub go_cases_on : Settings → StartUp → List Row
 go_cases_on s u = (lacks_feed s, cases.NoFeed) ∷ start_up_cases u
 
 -- the move to where a start-up ends
-abbrev pub start_of : Position → StartUp → Found
-start_of from u = record { effect = effects.Moves reaches.Start (at_height from.z (start_point u)); end = None }
+abbrev pub start_of : Position → StartUp → Effect
+start_of from u = effects.Moves reaches.Start (at_height from.z (start_point u))
+
+-- ---- contours whose names stand for surfaces
 
 abbrev pub motion_on : Situation → Option Side → Go → Position → Surface → Stop → Surface → Option Motion
-motion_on at side go start d how e =
-    built d >>= λ drive. built e >>= λ check. if_turned (with_side at.settings side) start drive (turn_at at start drive go) how check
+motion_on at side go start d how e = built d >>= λ drive. if_turned (with_side at.settings side) start drive (turn_at at start drive go) how e
 
 abbrev pub contour_cases_on : Situation → Option Side → Go → Position → Surface → Stop → Surface → List Row
-contour_cases_on at side go start d how e =
-    (is_left_out (Some d), cases.NotBuilt) ∷ (is_left_out (Some e), cases.NotBuilt) ∷ surface_cases at side go how (Some start) (built d) (built e)
+contour_cases_on at side go start d how e = (is_left_out (Some d), cases.NotBuilt) ∷ surface_cases at side go how (Some start) (built d) (Some e)
 
--- ---- what is found
+-- what refuses a contour before its motion is known
+abbrev pub turn_cases : Settings → Sign → List Row
+turn_cases s turned = (s.rapid, cases.RapidContour) ∷ (not (has_feed s), cases.NoFeed) ∷ (is_too_fine s, cases.TooFine) ∷ (is_zero turned, cases.NoTurn) ∷ []
 
-abbrev pub ends_at : Option Pt → List Pt
-ends_at None = []
-ends_at (Some p) = p ∷ []
-
--- an effect with where its contour ends, or the case that refuses its step
-abbrev pub IsFound : Result Effect Case → Result Found Case → Type 0
-IsFound due (Ok f) = (due ≡ Ok f.effect) × (ends_of f.effect ≡ ends_at f.end)
-IsFound due (Err case) = due ≡ Err case
-
--- a contour to its contact
-abbrev pub cut_of : Motion → Found
-cut_of m = record { effect = effects.Cuts m; end = Some (contact m) }
+-- the motion that a step asks for, which its own cases alone may refuse, or the case that refuses the step
+abbrev pub IsMotionBy : Option Case → Option Effect → Result Motion Case → Type 0
+IsMotionBy f o (Ok m) = (o ≡ Some (effects.Cuts m)) × (f ≡ first_of (motion_cases m))
+IsMotionBy f o (Err case) = f ≡ Some case

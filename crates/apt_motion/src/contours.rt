@@ -1,32 +1,29 @@
-//! What contours ask for, and where they end.
+//! The motions that contours ask for, and where they end.
 
-ghost use Rattle.std.specs.Prelude.{◌≡◌, ◌≤◌, [], ◌∷◌, false, unsigned_abs, Some, IfOk, MatchResult};
-ghost use Rattle.apt_plane.specs.Ranges.{IsPoint, IsLine, IsSurface, IsSense};
+ghost use Rattle.std.specs.Prelude.{◌≡◌, [], ◌∷◌, Some, IfOk, MatchResult};
+ghost use Rattle.apt_plane.specs.Ranges.{IsPoint, IsSurface};
 ghost use Rattle.apt_words.specs.Rows.{first_of, unless};
 ghost use Rattle.apt_words.specs.declared.deed.Deed.TheVariants as deeds;
-ghost use Rattle.apt_canon.specs.Meeting.{meeting_point};
-ghost use Rattle.apt_stop.specs.Lines as lines;
 ghost use Rattle.apt_certify.specs.Jobs.{IsStraight};
+ghost use Rattle.apt_stop.specs.Courses as courses;
+ghost use Rattle.apt_stop.specs.Ranges.{IsCourse};
 ghost use Rattle.apt_cldata.specs.Ranges.{IsPosition};
-ghost use Rattle.apt_meaning.specs.Compiled.{asked};
 ghost use Rattle.apt_meaning.specs.Effects.{cuts, effect_of};
 ghost use Rattle.apt_meaning.specs.Motions as motions;
 ghost use Rattle.apt_meaning.specs.Ranges.{IsSituation, AreSettings, IsMotion};
 ghost use Rattle.apt_meaning.specs.Refusals as refusals;
 ghost use Rattle.apt_meaning.specs.Refusals.{refusal_of};
-ghost use Rattle.apt_meaning.specs.Straight.{IsStraightMotion};
 ghost use Rattle.apt_motion.specs.Finding as finding;
-ghost use Rattle.apt_motion.specs.Finding.{IsFound, cut_of};
+ghost use Rattle.apt_motion.specs.Finding.{IsMotionBy};
 
-use crate::found::Found;
 use apt_cldata::Position;
 use apt_defs::Table;
-use apt_meaning::{Effect, Motion, Settings, Situation, built, is_too_fine, surface_of, turn_at};
+use apt_meaning::{Motion, Settings, Situation, built, is_too_fine, surface_of, turn_at};
 use apt_num::Sign;
 use apt_offset::signs::is_zero;
-use apt_offset::{is_on_check, lacks_room, offset_surface, signed};
-use apt_plane::{Line, Pt, Surface};
-use apt_stop::{is_near, line_stop};
+use apt_offset::{Target, is_on_check, lacks_room, offset_surface};
+use apt_plane::{Pt, Surface};
+use apt_stop::{Course, decide, is_near};
 use apt_words::{Case, Go, Side, Stop, Symbol};
 
 /// How far a start may be off its track, in grid units.
@@ -47,32 +44,34 @@ pub(crate) fn surface_named(table: &Table, name: &Symbol) -> Result<Surface, Cas
     }
 }
 
-/// What a contour statement asks for, with its contact.
+/// The motion that a contour asks for.
 ///
 /// # Errors
 ///
-/// The first case that refuses it.
+/// The first case that refuses it, where no motion is known yet.
 #[inline(always)]
-pub(crate) fn contour(
+pub(crate) fn motion(
     at: &Situation,
     side: Option<Side>,
     go: Go,
     drive: &Symbol,
     how: Stop,
     check: &Symbol,
-) -> Result<Found, Case>
+) -> Result<Motion, Case>
     requires { IsSituation at.now }
-    ensures { IsFound (asked (refusal_of at.now (deeds.Contour side go drive.now how check.now)) (effect_of at.now (deeds.Contour side go drive.now how check.now))) result }
+    ensures motion { IsMotionBy (refusal_of at.now (deeds.Contour side go drive.now how check.now)) (effect_of at.now (deeds.Contour side go drive.now how check.now)) result }
+    ensures range { IfOk result IsMotion }
 {
     let Some(start) = at.position else {
         return Err(Case::NoFrom);
     };
     let drive = surface_named(&at.table, drive)?;
     let check = surface_named(&at.table, check)?;
-    on_surfaces(at, side, go, start, drive, how, check)
+    on_surfaces(at, side, go, start, drive, how, &check)
 }
 
-/// A contour on known surfaces: lines are built so far.
+/// A contour on known surfaces: drive surfaces are lines so far.
+#[inline(always)]
 fn on_surfaces(
     at: &Situation,
     side: Option<Side>,
@@ -80,39 +79,39 @@ fn on_surfaces(
     start: Position,
     drive: Surface,
     how: Stop,
-    check: Surface,
-) -> Result<Found, Case>
+    check: &Surface,
+) -> Result<Motion, Case>
     requires situation { IsSituation at.now }
     requires start { IsPosition start }
     requires drive { IsSurface drive }
-    requires check { IsSurface check }
-    ensures { IsFound (asked (first_of (finding.contour_cases_on at.now side go start drive how check)) (cuts (finding.motion_on at.now side go start drive how check))) result }
+    requires check { IsSurface check.now }
+    ensures motion { IsMotionBy (first_of (finding.contour_cases_on at.now side go start drive how check.now)) (cuts (finding.motion_on at.now side go start drive how check.now)) result }
+    ensures range { IfOk result IsMotion }
 {
     let Some(drive) = built(drive) else {
         return Err(Case::NotBuilt);
     };
-    let Some(check) = built(check) else {
-        return Err(Case::NotBuilt);
-    };
     let settings = at.settings.with_side(side);
     let turned = turn_at(at.forward, start, &drive, go);
-    cut_turned(&settings, start, &drive, turned, how, &check)
+    turned_motion(&settings, start, &drive, turned, how, check)
 }
 
-/// A contour on lines, whose drive surface runs so against forward.
-fn cut_turned(
+/// A contour along a drive surface that runs so against forward.
+#[inline(always)]
+fn turned_motion(
     settings: &Settings,
     start: Position,
     drive: &Surface,
     turned: Sign,
     how: Stop,
     check: &Surface,
-) -> Result<Found, Case>
+) -> Result<Motion, Case>
     requires settings { AreSettings settings.now }
     requires start { IsPosition start }
-    requires drive { IsStraight drive.now }
-    requires check { IsStraight check.now }
-    ensures { result ≡ unless (refusals.turned_cases settings.now start drive.now turned how check.now) (cut_of (motions.motion settings.now start drive.now turned how check.now)) }
+    requires drive { IsSurface drive.now }
+    requires check { IsSurface check.now }
+    ensures value { result ≡ unless (finding.turn_cases settings.now turned) (motions.motion settings.now start drive.now turned how check.now) }
+    ensures range { IfOk result IsMotion }
 {
     if settings.rapid {
         return Err(Case::RapidContour);
@@ -126,40 +125,27 @@ fn cut_turned(
     if is_zero(turned) {
         return Err(Case::NoTurn);
     }
-    to_contact(Motion::along(settings, start, drive, turned, how, check))
-}
-
-/// A motion with its contact.
-#[tactic(auto, using(crate::proofs::Cuts::cut_unless))]
-fn to_contact(motion: Motion) -> Result<Found, Case>
-    requires { IsStraightMotion motion }
-    ensures { result ≡ unless (refusals.motion_cases motion) (cut_of motion) }
-{
-    match end_of(&motion) {
-        Ok(end) => Ok(Found {
-            effect: Effect::Cuts(motion),
-            end: Some(end),
-        }),
-        Err(case) => Err(case),
-    }
+    Ok(Motion::along(settings, start, drive, turned, how, check))
 }
 
 /// Where a motion ends.
 ///
 /// # Errors
 ///
-/// The first case that refuses it: `NoRoom`, `OffDrive`, `OnCheck`, `Parallel`, `Behind`, `OutOfRange`.
-fn end_of(m: &Motion) -> Result<Pt, Case>
-    requires { IsStraightMotion m.now }
-    ensures { result ≡ unless (refusals.motion_cases m.now) (motions.contact m.now) }
+/// The first case that refuses it: `NoRoom`, `OffDrive`, `OnCheck`, or one that refuses its course.
+pub(crate) fn end_of(m: &Motion) -> Result<Pt, Case>
+    requires { IsMotion m.now }
+    ensures value { result ≡ unless (refusals.motion_cases m.now) (motions.contact m.now) }
+    ensures range { IfOk result IsPoint }
 {
     let track = m.track();
-    let side = m.check_side();
-    let on = is_on_check(m.how, side);
     if lacks_room(&track) {
         return Err(Case::NoRoom);
     }
-    if !on && lacks_room(&offset_surface(&m.check, side, m.radius)) {
+    let side = m.check_side();
+    let on = is_on_check(m.how, side);
+    let stop = stop_at(m, side);
+    if !on && lacks_room(&stop) {
         return Err(Case::NoRoom);
     }
     if !is_near(&track, OFF_TRACK, m.start.at) {
@@ -168,63 +154,48 @@ fn end_of(m: &Motion) -> Result<Pt, Case>
     if on {
         return Err(Case::OnCheck);
     }
-    stopped(m, signed(side, m.radius))
+    course_end(&course(m, track, stop))
 }
 
-/// Where a motion on its track ends, with its check line moved so far to its left.
-fn stopped(m: &Motion, stop_off: i64) -> Result<Pt, Case>
-    requires motion { IsStraightMotion m.now }
-    requires stop_off { stop_off ≡ motions.stop_offset m.now }
-    requires small { unsigned_abs stop_off ≤ 500000 }
-    ensures { result ≡ unless (refusals.stop_cases m.now m.now.drive m.now.check) (motions.contact m.now) }
-{
-    match (&m.drive, &m.check) {
-        (Surface::Line(drive), Surface::Line(check)) => line_end(m, drive, check, stop_off),
-        (Surface::Line(_), Surface::Circ(_)) | (Surface::Circ(_), _) => unreachable!(),
-    }
-}
-
-/// Where a motion along a line stops at a line.
-fn line_end(m: &Motion, drive: &Line, check: &Line, stop_off: i64) -> Result<Pt, Case>
+/// The curve on which a motion stops, by the place of the cutter at the check surface.
+#[inline(always)]
+fn stop_at(m: &Motion, side: Sign) -> Target
     requires motion { IsMotion m.now }
-    requires drive { IsLine drive.now }
-    requires check { IsLine check.now }
-    requires stop_off { stop_off ≡ motions.stop_offset m.now }
-    requires small { unsigned_abs stop_off ≤ 500000 }
-    ensures { result ≡ unless (refusals.stop_cases m.now (Surface.Line drive.now) (Surface.Line check.now)) (motions.contact_between m.now (Surface.Line drive.now) (Surface.Line check.now)) }
+    requires side { side ≡ motions.check_side m.now }
+    ensures { result ≡ motions.stop_of m.now }
 {
-    let off = m.track_offset();
-    stop_at(m.start.at, drive, off, m.sense, m.how, check, stop_off)
+    offset_surface(&m.check, side, m.radius)
 }
 
-fn stop_at(
-    start: Pt,
-    drive: &Line,
-    off: i64,
-    sense: i8,
-    how: Stop,
-    check: &Line,
-    stop_off: i64,
-) -> Result<Pt, Case>
-    requires start { IsPoint start }
-    requires drive { IsLine drive.now }
-    requires off { unsigned_abs off ≤ 500000 }
-    requires sense { IsSense sense }
-    requires check { IsLine check.now }
-    requires stop_off { unsigned_abs stop_off ≤ 500000 }
-    ensures { result ≡ unless ((refusals.is_tanto how, Case.Parallel) ∷ lines.line_cases start drive.now off sense check.now stop_off) (meeting_point drive.now off check.now stop_off) }
+/// The course of a motion, by its targets.
+#[inline(always)]
+fn course(m: &Motion, track: Target, stop: Target) -> Course
+    requires motion { IsMotion m.now }
+    requires track { track ≡ motions.track_of m.now }
+    requires stop { stop ≡ motions.stop_of m.now }
+    ensures { result ≡ motions.course_of m.now }
 {
-    if is_tanto(how) {
-        return Err(Case::Parallel);
+    Course {
+        start: m.start.at,
+        drive: m.drive,
+        track,
+        sense: m.sense,
+        check: m.check,
+        how: m.how,
+        stop,
     }
-    line_stop(start, drive, off, sense, check, stop_off)
 }
 
-fn is_tanto(how: Stop) -> bool
-    ensures { result ≡ refusals.is_tanto how }
+/// Where a course ends.
+#[inline(always)]
+#[tactic(auto, using(crate::proofs::Cuts::end_unless))]
+fn course_end(c: &Course) -> Result<Pt, Case>
+    requires { IsCourse c.now }
+    ensures value { result ≡ unless (courses.course_cases c.now) (courses.end_of c.now) }
+    ensures range { IfOk result IsPoint }
 {
-    match how {
-        Stop::To | Stop::On | Stop::Past => false,
-        Stop::Tanto => true,
+    match decide(c) {
+        Ok(choice) => Ok(choice.end),
+        Err(case) => Err(case),
     }
 }

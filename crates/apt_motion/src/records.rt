@@ -1,15 +1,14 @@
 //! The records of effects that define nothing, and what holds behind them.
 
-ghost use Rattle.std.specs.Prelude.{◌≡◌, ◌≤◌, ◌+◌, ◌++◌, [], ◌∷◌, vec_len, vec_capacity, IfOk, IfSome, OnOk};
+ghost use Rattle.std.specs.Prelude.{◌≡◌, ◌≤◌, ◌+◌, ◌++◌, [], ◌∷◌, vec_len, vec_capacity, OnOk};
 ghost use Rattle.apt_plane.specs.Ranges.{IsPoint};
 ghost use Rattle.apt_cldata.specs.declared.record.Record.TheVariants as lines;
 ghost use Rattle.apt_meaning.specs.Compiled.{ends_of};
-ghost use Rattle.apt_meaning.specs.Ranges.{IsSituation, IsEffect};
+ghost use Rattle.apt_meaning.specs.Ranges.{IsSituation, IsEffect, IsMotion};
 ghost use Rattle.apt_meaning.specs.Records as written;
 ghost use Rattle.apt_meaning.specs.declared.effect.Effect.TheVariants as effects;
-ghost use Rattle.apt_motion.specs.Finding.{DefinesNothing, ends_at};
+ghost use Rattle.apt_motion.specs.Finding.{IsPlain};
 
-use crate::found::Found;
 use apt_cldata::{Position, Record, Vertices};
 use apt_meaning::{Effect, Motion, Situation};
 use apt_plane::Pt;
@@ -74,45 +73,35 @@ fn write_cut(
     Ok(())
 }
 
-/// Then holds what holds behind what a step asks for that defines nothing.
-pub(crate) fn pass_by(at: &mut Situation, found: Found)
+/// Then holds what holds behind what a step asks for that is neither a definition nor a contour.
+pub(crate) fn pass_by(at: &mut Situation, effect: Effect)
     requires situation { IsSituation at.old }
-    requires effect { IsEffect found.effect }
-    requires defines_nothing { DefinesNothing found.effect }
-    requires ends { ends_of found.effect ≡ ends_at found.end }
-    requires end { IfSome found.end IsPoint }
-    ensures { at.new ≡ written.after at.old found.effect (ends_of found.effect) }
+    requires effect { IsEffect effect }
+    requires plain { IsPlain effect }
+    ensures { at.new ≡ written.after at.old effect (ends_of effect) }
 {
-    match found.effect {
-        Effect::Defines(..) => unreachable!(),
+    match effect {
         Effect::Sets(settings, _) => at.settings = settings,
         Effect::Moves(reach, to) => at.go_to(reach, to),
-        Effect::Cuts(motion) => {
-            let Some(end) = found.end else { unreachable!() };
-            at.cut_along(&motion, &[end]);
-        }
+        Effect::Defines(..) | Effect::Cuts(_) => unreachable!(),
     }
 }
 
-/// The records of what a step asks for that defines nothing; then holds what holds behind it.
+/// The records of what a step asks for that is neither a definition nor a contour; then holds what holds behind it.
 pub(crate) fn take(
-    alloc: Global,
     records: &mut Vec<Record>,
     at: &mut Situation,
     step: &Step,
-    found: Found,
+    effect: Effect,
 ) -> Result<(), AllocError>
     requires situation { IsSituation at.old }
-    requires effect { IsEffect found.effect }
-    requires defines_nothing { DefinesNothing found.effect }
-    requires ends { ends_of found.effect ≡ ends_at found.end }
-    requires end { IfSome found.end IsPoint }
-    ensures after { OnOk result (at.new ≡ written.after at.old found.effect (ends_of found.effect)) }
-    ensures records { OnOk result (records.new.items ≡ records.old.items ++ written.records_of step.now found.effect (ends_of found.effect)) }
+    requires effect { IsEffect effect }
+    requires plain { IsPlain effect }
+    ensures after { OnOk result (at.new ≡ written.after at.old effect (ends_of effect)) }
+    ensures records { OnOk result (records.new.items ≡ records.old.items ++ written.records_of step.now effect (ends_of effect)) }
 {
     make_room(records)?;
-    match found.effect {
-        Effect::Defines(..) => unreachable!(),
+    match effect {
         Effect::Sets(settings, note) => {
             if let Some(note) = note {
                 put(records, step, Record::Note(note));
@@ -123,11 +112,27 @@ pub(crate) fn take(
             put(records, step, Record::Point(reach, to));
             at.go_to(reach, to);
         }
-        Effect::Cuts(motion) => {
-            let Some(end) = found.end else { unreachable!() };
-            write_cut(alloc, records, step, &motion, end)?;
-            at.cut_along(&motion, &[end]);
-        }
+        Effect::Defines(..) | Effect::Cuts(_) => unreachable!(),
     }
+    Ok(())
+}
+
+/// The records of a contour that ends at a point; then holds what holds behind it.
+pub(crate) fn take_cut(
+    alloc: Global,
+    records: &mut Vec<Record>,
+    at: &mut Situation,
+    step: &Step,
+    motion: &Motion,
+    end: Pt,
+) -> Result<(), AllocError>
+    requires motion { IsMotion motion.now }
+    requires end { IsPoint end }
+    ensures after { OnOk result (at.new ≡ written.after at.old (effects.Cuts motion.now) (end ∷ [])) }
+    ensures records { OnOk result (records.new.items ≡ records.old.items ++ written.records_of step.now (effects.Cuts motion.now) (end ∷ [])) }
+{
+    make_room(records)?;
+    write_cut(alloc, records, step, motion, end)?;
+    at.cut_along(motion, &[end]);
     Ok(())
 }

@@ -1,25 +1,28 @@
 //! The records of a part program, and the first step of it that is refused.
 
-ghost use Rattle.std.specs.Prelude.{◌≡◌, IfOk};
+ghost use Rattle.std.specs.Prelude.{◌≡◌, IfOk, Ok};
 ghost use Rattle.std.specs.Result.{result_map_both};
 ghost use Rattle.apt_words.specs.Built.{AreBuiltSteps, IsBuilt};
 ghost use Rattle.apt_words.specs.Sources.{AreExecuted, DeedHasText};
 ghost use Rattle.apt_scalar.specs.StepScalars.{AreScalars, HasScalars};
 ghost use Rattle.apt_cldata.specs.Ranges.{AreRecords};
 ghost use Rattle.apt_meaning.specs.Compiled.{compilation, first_refused, refused_at};
-ghost use Rattle.apt_meaning.specs.Ranges.{IsSituation};
+ghost use Rattle.apt_meaning.specs.Effects.{effect_of};
+ghost use Rattle.apt_meaning.specs.Ranges.{IsSituation, IsMotion};
+ghost use Rattle.apt_meaning.specs.Refusals.{refusal_of};
 ghost use Rattle.apt_meaning.specs.Records.{FollowsLegally};
 ghost use Rattle.apt_meaning.specs.Situations.{first_situation};
 ghost use Rattle.apt_meaning.specs.declared.situation.Situation.{Situation};
-ghost use Rattle.apt_motion.specs.Ends.{Ends, HasAdvanced, HasFound, HasPassed, ArePassed};
-ghost use Rattle.apt_motion.specs.Finding.{IsNoDefinition};
+ghost use Rattle.apt_motion.specs.Ends.{Ends, HasAdvanced, HasPassed, ArePassed};
+ghost use Rattle.apt_motion.specs.Finding.{IsMotionBy, IsNoDefinition};
 
-use crate::found::{Found, find};
-use crate::records::{pass_by, take};
+use crate::contours::{end_of, motion};
+use crate::found::find;
+use crate::records::{pass_by, take, take_cut};
 use apt_cldata::Record;
 use apt_defs::{DefError, define};
-use apt_meaning::Situation;
-use apt_words::{Case, Refusal, Step};
+use apt_meaning::{Motion, Situation};
+use apt_words::{Case, Deed, Refusal, Step};
 use std::alloc::{AllocError, Global};
 
 /// Why there are no records.
@@ -52,40 +55,8 @@ fn refused(step: &Step, case: Case) -> RunError
     })
 }
 
-/// Gives the name that a step defines its figure, or finds what the step asks for.
-#[tactic(auto, using(crate::proofs::Given::has_given, crate::proofs::Given::is_refused))]
-fn given_or_found(at: &mut Situation, step: &Step) -> Result<Option<Found>, RunError>
-    requires situation { IsSituation at.old }
-    requires scalars { HasScalars step.now.deed }
-    requires built { IsBuilt step.now.deed }
-    requires text { DeedHasText step.now.deed }
-    ensures { HasFound at.old step.now at.new result }
-{
-    match define(step, at.settings.units, &mut at.table) {
-        Ok(true) => Ok(None),
-        Ok(false) => found(at, step),
-        Err(DefError::Case(case)) => Err(refused(step, case)),
-        Err(DefError::NoMemory) => Err(RunError::NoMemory),
-    }
-}
-
-/// What a step asks for that defines nothing.
-#[tactic(auto, using(crate::proofs::Walks::to_do))]
-fn found(at: &Situation, step: &Step) -> Result<Option<Found>, RunError>
-    requires situation { IsSituation at.now }
-    requires scalars { HasScalars step.now.deed }
-    requires built { IsBuilt step.now.deed }
-    requires text { DeedHasText step.now.deed }
-    requires defines_nothing { IsNoDefinition at.now step.now.deed }
-    ensures { HasFound at.now step.now at.now result }
-{
-    match find(at, &step.deed)? {
-        Ok(found) => Ok(Some(found)),
-        Err(case) => Err(refused(step, case)),
-    }
-}
-
 /// Passes a step: then holds what holds behind it, its contour run to its contact.
+#[tactic(auto, using(crate::proofs::Given::has_given, crate::proofs::Given::is_refused))]
 fn pass(at: &mut Situation, step: &Step) -> Result<(), RunError>
     requires situation { IsSituation at.old }
     requires scalars { HasScalars step.now.deed }
@@ -93,10 +64,48 @@ fn pass(at: &mut Situation, step: &Step) -> Result<(), RunError>
     requires text { DeedHasText step.now.deed }
     ensures { HasPassed at.old step.now (result_map_both (λ _. at.new) (λ e. e) result) }
 {
-    if let Some(found) = given_or_found(at, step)? {
-        pass_by(at, found);
+    match define(step, at.settings.units, &mut at.table) {
+        Ok(true) => Ok(()),
+        Ok(false) => go_on(at, step),
+        Err(DefError::Case(case)) => Err(refused(step, case)),
+        Err(DefError::NoMemory) => Err(RunError::NoMemory),
     }
-    Ok(())
+}
+
+/// Passes a step that defines nothing.
+fn go_on(at: &mut Situation, step: &Step) -> Result<(), RunError>
+    requires situation { IsSituation at.old }
+    requires scalars { HasScalars step.now.deed }
+    requires built { IsBuilt step.now.deed }
+    requires text { DeedHasText step.now.deed }
+    requires defines_nothing { IsNoDefinition at.old step.now.deed }
+    ensures { HasPassed at.old step.now (result_map_both (λ _. at.new) (λ e. e) result) }
+{
+    match &step.deed {
+        Deed::Contour(side, go, drive, how, check) => {
+            match &motion(at, *side, *go, drive, *how, check) {
+                Ok(motion) => go_along(at, step, motion),
+                Err(case) => Err(refused(step, *case)),
+            }
+        }
+        deed => match find(at, deed)? {
+            Ok(effect) => Ok(pass_by(at, effect)),
+            Err(case) => Err(refused(step, case)),
+        },
+    }
+}
+
+/// Passes a contour, run to its contact.
+#[tactic(auto, using(crate::proofs::Cuts::has_passed, crate::proofs::Cuts::is_stopped))]
+fn go_along(at: &mut Situation, step: &Step, motion: &Motion) -> Result<(), RunError>
+    requires motion { IsMotion motion.now }
+    requires asks { IsMotionBy (refusal_of at.old step.now.deed) (effect_of at.old step.now.deed) (Ok motion.now) }
+    ensures { HasPassed at.old step.now (result_map_both (λ _. at.new) (λ e. e) result) }
+{
+    match end_of(motion) {
+        Ok(end) => Ok(at.cut_along(motion, &[end])),
+        Err(case) => Err(refused(step, case)),
+    }
 }
 
 /// Takes a step: its records go behind those before.
@@ -121,7 +130,7 @@ fn advance(
     }
 }
 
-/// Takes a step that defines nothing: its records go behind those before.
+/// Takes a step that defines nothing. The motion of a contour stays where it is made.
 fn act(
     alloc: Global,
     records: &mut Vec<Record>,
@@ -135,8 +144,35 @@ fn act(
     requires defines_nothing { IsNoDefinition at.old step.now.deed }
     ensures { HasAdvanced at.old step.now records.old.items records.new.items (result_map_both (λ _. at.new) (λ e. e) result) }
 {
-    match find(at, &step.deed)? {
-        Ok(found) => Ok(take(alloc, records, at, step, found)?),
+    match &step.deed {
+        Deed::Contour(side, go, drive, how, check) => {
+            match &motion(at, *side, *go, drive, *how, check) {
+                Ok(motion) => cut(alloc, records, at, step, motion),
+                Err(case) => Err(refused(step, *case)),
+            }
+        }
+        deed => match find(at, deed)? {
+            Ok(effect) => Ok(take(records, at, step, effect)?),
+            Err(case) => Err(refused(step, case)),
+        },
+    }
+}
+
+/// Takes a contour, run to its contact.
+#[tactic(auto, using(crate::proofs::Cuts::has_cut, crate::proofs::Cuts::is_stopped_again))]
+fn cut(
+    alloc: Global,
+    records: &mut Vec<Record>,
+    at: &mut Situation,
+    step: &Step,
+    motion: &Motion,
+) -> Result<(), RunError>
+    requires motion { IsMotion motion.now }
+    requires asks { IsMotionBy (refusal_of at.old step.now.deed) (effect_of at.old step.now.deed) (Ok motion.now) }
+    ensures { HasAdvanced at.old step.now records.old.items records.new.items (result_map_both (λ _. at.new) (λ e. e) result) }
+{
+    match end_of(motion) {
+        Ok(end) => Ok(take_cut(alloc, records, at, step, motion, end)?),
         Err(case) => Err(refused(step, case)),
     }
 }

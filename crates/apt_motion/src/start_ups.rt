@@ -1,26 +1,27 @@
 //! What GO asks for.
 
-ghost use Rattle.std.specs.Prelude.{◌≡◌, ◌×◌, ◌∷◌, [], Some, IfOk, IfSome};
+ghost use Rattle.std.specs.Prelude.{◌≡◌, ◌∷◌, [], Some, IfOk, IfSome};
 ghost use Rattle.std.specs.Result.{IfErr};
 ghost use Rattle.apt_words.specs.Rows.{first_of, unless};
 ghost use Rattle.apt_words.specs.declared.deed.Deed.TheVariants as deeds;
 ghost use Rattle.apt_plane.specs.Ranges.{IsSurface};
 ghost use Rattle.apt_startup.specs.Ranges.{IsGoal, IsStartUp};
+ghost use Rattle.apt_cldata.specs.Ranges.{IsPosition};
 ghost use Rattle.apt_meaning.specs.Compiled.{asked};
 ghost use Rattle.apt_meaning.specs.Effects.{effect_of};
 ghost use Rattle.apt_meaning.specs.Motions as motions;
 ghost use Rattle.apt_meaning.specs.Ranges.{IsSituation};
 ghost use Rattle.apt_meaning.specs.Refusals.{refusal_of, start_names};
+ghost use Rattle.apt_meaning.specs.Situations.{at_height};
 ghost use Rattle.apt_meaning.specs.StartUps as start_ups;
+ghost use Rattle.apt_meaning.specs.declared.effect.Effect.TheVariants as effects;
 ghost use Rattle.apt_motion.specs.Finding as finding;
-ghost use Rattle.apt_motion.specs.Finding.{IsFound};
 
 use crate::contours::surface_named;
-use crate::found::Found;
 use apt_cldata::{Position, Reach};
 use apt_defs::Table;
 use apt_meaning::{Effect, Settings, Situation, surface_of};
-use apt_plane::Surface;
+use apt_plane::{Pt, Surface};
 use apt_startup::{Goal, StartUp, start};
 use apt_words::{Case, Stop, Symbol};
 
@@ -35,21 +36,32 @@ pub(crate) fn go(
     how: Stop,
     name: &Symbol,
     other: &Option<(Stop, Symbol)>,
-) -> Result<Found, Case>
+) -> Result<Effect, Case>
     requires { IsSituation at.now }
-    ensures { IsFound (asked (refusal_of at.now (deeds.GoStart how name.now other.now)) (effect_of at.now (deeds.GoStart how name.now other.now))) result }
+    ensures { result ≡ asked (refusal_of at.now (deeds.GoStart how name.now other.now)) (effect_of at.now (deeds.GoStart how name.now other.now)) }
 {
     let Some(from) = at.position else {
         return Err(Case::NoFrom);
     };
     let (first, second) = goals(&at.table, how, name, other)?;
-    let start_up = StartUp {
+    started(&at.settings, from, &start_up_on(at, from, first, second))
+}
+
+/// The start-up from a position to known surfaces.
+fn start_up_on(at: &Situation, from: Position, first: Goal, second: Option<Goal>) -> StartUp
+    requires situation { IsSituation at.now }
+    requires from { IsPosition from }
+    requires first { IsGoal first }
+    requires second { IfSome second IsGoal }
+    ensures value { result ≡ finding.start_up_on at.now from first second }
+    ensures range { IsStartUp result }
+{
+    StartUp {
         start: from.at,
         first,
         second,
         radius: at.settings.radius,
-    };
-    started(&at.settings, from, &start_up)
+    }
 }
 
 /// The surfaces for which the names of GO stand, and how the cutter stops there.
@@ -107,7 +119,7 @@ fn two_surfaces(table: &Table, a: &Symbol, b: &Symbol) -> Result<(Surface, Surfa
 ///
 /// `NoFeed`, else the first case that refuses the start-up.
 #[tactic(auto, using(crate::proofs::Cases::start_unless))]
-fn started(settings: &Settings, from: Position, u: &StartUp) -> Result<Found, Case>
+fn started(settings: &Settings, from: Position, u: &StartUp) -> Result<Effect, Case>
     requires { IsStartUp u.now }
     ensures { result ≡ unless (finding.go_cases_on settings.now u.now) (finding.start_of from u.now) }
 {
@@ -115,10 +127,13 @@ fn started(settings: &Settings, from: Position, u: &StartUp) -> Result<Found, Ca
         return Err(Case::NoFeed);
     }
     match start(u) {
-        Ok(at) => Ok(Found {
-            effect: Effect::Moves(Reach::Start, Position { at, z: from.z }),
-            end: None,
-        }),
+        Ok(to) => Ok(start_to(from, to)),
         Err(case) => Err(case),
     }
+}
+
+fn start_to(from: Position, at: Pt) -> Effect
+    ensures { result ≡ effects.Moves Reach.Start (at_height from.z at) }
+{
+    Effect::Moves(Reach::Start, Position { at, z: from.z })
 }

@@ -1,14 +1,16 @@
 use Rattle.std.proofs.Common.{◌∙◌, ap, sym}
+use Rattle.apt_words.specs.Rows.{unless}
+use Rattle.apt_meaning.specs.Motions.{motion}
 use Rattle.apt_meaning.specs.Situations.{with_side}
-use Rattle.apt_motion.proofs.Cuts.{turned_to, lines_found}
+use Rattle.apt_motion.specs.Finding.{turn_cases}
+use Rattle.apt_motion.proofs.Cuts.{turned_by}
 use Rattle.apt_motion.proofs.contours.on_surfaces.Goals as goal
 
-pub returns : goal.returns
-returns c =
+pub returns-clause-motion : goal.returns-clause-motion
+returns-clause-motion c =
     let a = c.args in
     let at = a.at.now in
     let x = c.in-Some.drive in
-    let y = c.in-Some-built.check in
-    let value = c.cut_turned.ensures ∙ ap (λ s. turned_to s a.start x c.turn_at-turned.result a.how y) c.with_side-settings.ensures
-    ∙ ap (λ turned. turned_to (with_side at.settings a.side) a.start x turned a.how y) c.turn_at-turned.ensures in
-    lines_found at a.side a.go a.how a.start a.drive a.check x y c.cut_turned.result (sym c.in-Some.ensures.value) (sym c.in-Some-built.ensures.value) value
+    let value = c.turned_motion.ensures.value ∙ ap (λ s. unless (turn_cases s c.turn_at-turned.result) (motion s a.start x c.turn_at-turned.result a.how a.check.now)) c.with_side-settings.ensures
+    ∙ ap (λ turned. unless (turn_cases (with_side at.settings a.side) turned) (motion (with_side at.settings a.side) a.start x turned a.how a.check.now)) c.turn_at-turned.ensures in
+    turned_by at a.side a.go a.how a.start a.drive a.check.now x c.turned_motion.result (sym c.in-Some.ensures.value) value

@@ -1,19 +1,19 @@
 use Rattle.std.proofs.Common.{◌∙◌, Err, ap, sym, subst}
+use Rattle.std.specs.Result.{result_map_both}
 use Rattle.apt_defs.specs.declared.definitions.DefError.{DefError}
 use Rattle.apt_defs.specs.Figures.{Table}
 use Rattle.apt_defs.specs.Definitions.{HasOrNone}
 use Rattle.apt_meaning.specs.Compiled.{refused_at}
 use Rattle.apt_motion.specs.declared.runs.RunError.{RunError}
 use Rattle.apt_motion.specs.declared.runs.RunError.TheVariants as errors
-use Rattle.apt_motion.specs.Ends.{HasFound}
+use Rattle.apt_motion.specs.Ends.{HasPassed}
 use Rattle.apt_motion.proofs.Given.{is_refused}
-use Rattle.apt_motion.proofs.runs.given_or_found.Goals as goal
+use Rattle.apt_motion.proofs.runs.pass.Goals as goal
 
 pub returns-in-Ok-false : goal.returns-in-Ok-false
 returns-in-Ok-false c =
-    let at = c.args.at.now in
-    let same = (subst (HasOrNone at.settings.units at.table c.args.step.now.deed c.define.new.table) c.in-Ok-false.field-0-test c.in-Ok-false.ensures.ok).1 in
-    subst (λ (t : Table). HasFound (record at { table = t }) c.args.step.now (record at { table = c.define.new.table }) c.found.result) same c.found.ensures
+    subst (λ (t : Table). HasPassed (record c.args.at.now { table = t }) c.args.step.now (result_map_both (λ _. c.go_on.new.at) (λ e. e) c.go_on.result))
+    (subst (HasOrNone c.args.at.now.settings.units c.args.at.now.table c.args.step.now.deed c.define.new.table) c.in-Ok-false.field-0-test c.in-Ok-false.ensures.ok).1 c.go_on.ensures
 
 pub returns-in-Err-Case : goal.returns-in-Err-Case
 returns-in-Err-Case c =
@@ -21,5 +21,5 @@ returns-in-Err-Case c =
     let st = c.args.step.now in
     let case = c.in-Err-Case.case in
     let refuses = (c.in-Err-Case.ensures.refused case).0 (ap (λ (e : DefError). Err e) c.in-Err-Case.field-0-is) in
-    subst (λ (e : RunError). HasFound at st at (Err e)) (sym (c.refused.ensures ∙ ap (λ case. errors.Refused (refused_at st case)) c.in-Err-Case.case-is))
-    (is_refused at st at case refuses)
+    subst (λ (e : RunError). HasPassed at st (Err e)) (sym (c.refused.ensures ∙ ap (λ case. errors.Refused (refused_at st case)) c.in-Err-Case.case-is))
+    (is_refused at st case refuses)
