@@ -5,6 +5,7 @@ use Rattle.std.proofs.lemmas.Bool.{true≢false}
 use Rattle.std.proofs.lemmas.Int.{ints}
 use Rattle.apt_num.specs.declared.Sign.{Sign}
 use Rattle.apt_num.specs.declared.Sign.TheVariants as signs
+use Rattle.apt_num.proofs.Squares.{size_neg}
 use Rattle.apt_words.specs.declared.Stop.{Stop}
 use Rattle.apt_words.specs.declared.Stop.TheVariants as stops
 use Rattle.apt_plane.specs.declared.figures.Axis.{Axis}
@@ -98,12 +99,12 @@ band_narrow (surfaces.Line l) signs.Zero r i o line is is_i is_o =
 band_narrow (surfaces.Line l) signs.Minus r i o line is is_i is_o =
     record { lo = omega (arith, ints, is.least, is.most, is_o.least, is_o.most); hi = omega (arith, ints, is.least, is.most, is_i.least, is_i.most) }
 band_narrow (surfaces.Circ c) signs.Plus r i o round is is_i is_o =
-    record { lo = omega (arith, ints, round.least, round.most, is.least, is.most, is_o.least, is_o.most); hi = omega (arith, ints, round.least, round.most, is.least, is.most, is_i.least, is_i.most) }
+    record { lo = omega (arith, ints, round.least, round.x, is.least, is.most, is_o.least, is_o.most); hi = omega (arith, ints, round.least, round.x, is.least, is.most, is_i.least, is_i.most) }
 band_narrow (surfaces.Circ c) signs.Zero r i o round is is_i is_o =
     let both = greater_in i o is_i is_o in
-    record { lo = omega (arith, ints, round.least, round.most, both.least, both.most); hi = omega (arith, ints, round.least, round.most, both.least, both.most) }
+    record { lo = omega (arith, ints, round.least, round.x, both.least, both.most); hi = omega (arith, ints, round.least, round.x, both.least, both.most) }
 band_narrow (surfaces.Circ c) signs.Minus r i o round is is_i is_o =
-    record { lo = omega (arith, ints, round.least, round.most, is.least, is.most, is_i.least, is_i.most); hi = omega (arith, ints, round.least, round.most, is.least, is.most, is_o.least, is_o.most) }
+    record { lo = omega (arith, ints, round.least, round.x, is.least, is.most, is_i.least, is_i.most); hi = omega (arith, ints, round.least, round.x, is.least, is.most, is_o.least, is_o.most) }
 
 out_sign_is : (s : Surface) (side : Sign) → IsSense (out_sign_at s side)
 out_sign_is (surfaces.Line l) signs.Plus = inl refl
@@ -114,10 +115,10 @@ out_sign_is (surfaces.Circ c) signs.Zero = inl refl
 out_sign_is (surfaces.Circ c) signs.Minus = inl refl
 
 turned_long : (d : Dir) → length_squared (perp d) ≡ length_squared d
-turned_long d = omega (arith, abs-neg d.dy)
+turned_long d = rw (size_neg d.dy) (omega arith)
 
 perp_in : (d : Dir) → IsDir d → IsDir (perp d)
-perp_in d is = record { dx = rw (abs-neg d.dy) is.dy; dy = is.dx; length = rw (turned_long d) is.length }
+perp_in d is = record { dx = rw (size_neg d.dy) is.dy; dy = is.dx; length = rw (turned_long d) is.length }
 
 apart : (n : ℕ) → (n == 0) ≡ false → 1 ≤ n
 apart zero e = absurd (true≢false e)
