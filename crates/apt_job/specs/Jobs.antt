@@ -1,18 +1,20 @@
 -- The jobs of records that follow steps: one for each contour.
-use Rattle.std.specs.Prelude.{◌≡◌, ℤ, pos, negsuc, List, [], ◌∷◌, ◌++◌}
+use Rattle.std.specs.Prelude.{◌≡◌, ℤ, pos, negsuc, false, List, [], ◌∷◌, ◌++◌}
 use Rattle.apt_num.specs.declared.Sign.{Sign}
 use Rattle.apt_num.specs.declared.Sign.TheVariants as signs
 use Rattle.apt_words.specs.declared.deed.Step.{Step}
 use Rattle.apt_plane.specs.declared.figures.Pt.{Pt}
 use Rattle.apt_plane.specs.declared.figures.Surface.{Surface}
 use Rattle.apt_plane.specs.declared.figures.Surface.TheVariants as surfaces
+use Rattle.apt_offset.specs.Targets.{lacks_room}
+use Rattle.apt_stop.specs.Courses.{axis_of}
 use Rattle.apt_certify.specs.declared.leg.Job.{Job}
 use Rattle.apt_cldata.specs.declared.record.Record.{Record}
 use Rattle.apt_meaning.specs.declared.situation.Situation.{Situation}
 use Rattle.apt_meaning.specs.declared.motion.Motion.{Motion}
 use Rattle.apt_meaning.specs.declared.effect.Effect.{Effect}
 use Rattle.apt_meaning.specs.declared.effect.Effect.TheVariants as effects
-use Rattle.apt_meaning.specs.Motions.{drive_side, check_side, stop_side, leg_of}
+use Rattle.apt_meaning.specs.Motions.{drive_side, check_side, stop_of, starts_on_check, course_of, stop_side, leg_of}
 use Rattle.apt_meaning.specs.Records.{Begins, after}
 use Rattle.apt_job.specs.declared.legs.Sides.{Sides}
 
@@ -42,10 +44,14 @@ MakesJobs at (step ∷ steps) written jobs =
     (e : Effect) × (vertices : List Pt) × (rest : List Record) × (more : List Job)
     × Begins at step written e vertices rest × (jobs ≡ jobs_by e vertices ++ more) × MakesJobs (after at e vertices) steps rest more
 
--- the place of the cutter at the check surface of a motion, and the side of the stop on which the motion runs
+-- the side of the stop on which a motion runs, and the axis on which it ends where it touches
+abbrev pub AreBounds : Motion → Sides → Type 0
+AreBounds m sides = (sides.stop ≡ stop_side m) × (sides.axis ≡ axis_of (course_of m))
+
+-- the place of the cutter at the check surface of a motion; and where there is room for the cutter at a stop that the start is not on, what bounds the motion
 pub record AreSides (m : Motion) (sides : Sides) : Type 0 where
   pub check : sides.check ≡ check_side m
-  pub stop : sides.stop ≡ stop_side m
+  pub bounds : starts_on_check m ≡ false → lacks_room (stop_of m) ≡ false → AreBounds m sides
 
 -- those of an effect that is a contour
 abbrev pub HasSides : Sides → Effect → Type 0

@@ -1,22 +1,24 @@
 //! The jobs of motions.
 
-ghost use Rattle.std.specs.Prelude.{◌≡◌, ◌≤◌, ◌∷◌, unsigned_abs, IfOk, IfSome};
+ghost use Rattle.std.specs.Prelude.{◌≡◌, ◌∷◌, true, false, IfOk, IfSome};
+ghost use Rattle.apt_plane.specs.Ranges.{IsPoint, IsSurface, IsSense};
+ghost use Rattle.apt_offset.specs.Ranges.{IsTarget};
+ghost use Rattle.apt_offset.specs.Targets as targets;
 ghost use Rattle.apt_certify.specs.Legs as legs;
 ghost use Rattle.apt_meaning.specs.Motions as motions;
 ghost use Rattle.apt_meaning.specs.Straight.{IsStraightMotion, IsLined};
 ghost use Rattle.apt_job.specs.Jobs as spec;
 ghost use Rattle.apt_job.specs.Fronts.{points_at};
-ghost use Rattle.apt_job.specs.Jobs.{AreSides, HasSides};
+ghost use Rattle.apt_job.specs.Jobs.{AreBounds, AreSides, HasSides};
 
 use apt_certify::{Job, Leg, Points};
 use apt_cldata::Position;
 use apt_meaning::{Effect, Motion};
 use apt_num::Sign;
 use apt_offset::signs::{is_zero, opposite};
-use apt_offset::{band_at, is_on_check, lacks_room, offset_surface, signed};
-use apt_plane::Surface;
-use apt_stop::{heading, line_side};
-use apt_words::Stop;
+use apt_offset::{Target, band_at, is_on_check, lacks_room, offset_surface};
+use apt_plane::{Axis, Surface};
+use apt_stop::{Course, axis, kept_side};
 use std::alloc::{AllocError, Global};
 
 /// Whether the track of a motion is there.
@@ -30,11 +32,13 @@ pub(crate) fn has_track(m: &Motion) -> bool
     }
 }
 
-/// The place of the cutter at the check surface, and the side of the stop on which a motion runs.
+/// The place of the cutter at the check surface; and where a stop is there, the side of it on which a motion runs, and the
+/// axis on which it ends where it touches.
 #[derive(Clone, Copy)]
 pub(crate) struct Sides {
     pub check: Sign,
     pub stop: Sign,
+    pub axis: Option<Axis>,
 }
 
 fn sides_of(m: &Motion) -> Sides
@@ -42,10 +46,67 @@ fn sides_of(m: &Motion) -> Sides
     ensures { AreSides m.now result }
 {
     let check = m.check_side();
+    let stop = stop_at(m, check);
+    if is_on_check(m.how, check) || lacks_room(&stop) {
+        return Sides {
+            check,
+            stop: Sign::Zero,
+            axis: None,
+        };
+    }
+    let course = course(m, stop);
     Sides {
         check,
-        stop: stop_side(m, check),
+        stop: kept_side(&course),
+        axis: axis(&course),
     }
+}
+
+/// The curve on which a motion stops, by the place of the cutter at the check surface.
+#[inline(always)]
+fn stop_at(m: &Motion, check_side: Sign) -> Target
+    requires motion { IsStraightMotion m.now }
+    requires check_side { check_side ≡ motions.check_side m.now }
+    ensures value { result ≡ motions.stop_of m.now }
+    ensures range { targets.lacks_room result ≡ false → IsTarget result }
+{
+    offset_surface(&m.check, check_side, m.radius)
+}
+
+/// The course of a motion, by its stop.
+#[inline(always)]
+fn course(m: &Motion, stop: Target) -> Course
+    requires motion { IsStraightMotion m.now }
+    requires stop { stop ≡ motions.stop_of m.now }
+    requires room { IsTarget stop }
+    ensures value { result ≡ motions.course_of m.now }
+    ensures start { IsPoint result.start }
+    ensures drive { IsSurface result.drive }
+    ensures track { IsTarget result.track }
+    ensures sense { IsSense result.sense }
+    ensures check { IsSurface result.check }
+    ensures stop { IsTarget result.stop }
+{
+    Course {
+        start: m.start.at,
+        drive: m.drive,
+        track: track(m),
+        sense: m.sense,
+        check: m.check,
+        how: m.how,
+        stop,
+    }
+}
+
+/// The track of a motion along a line, which has room.
+#[inline(always)]
+#[tactic(auto, using(crate::proofs::Ranges::track_has_room))]
+fn track(m: &Motion) -> Target
+    requires { IsStraightMotion m.now }
+    ensures value { result ≡ motions.track_of m.now }
+    ensures range { IsTarget result }
+{
+    m.track()
 }
 
 /// Those of the motion of an effect; an effect that is no contour has none.
@@ -58,45 +119,22 @@ pub(crate) fn effect_sides(effect: &Option<Effect>) -> Sides
         Some(Effect::Defines(..) | Effect::Sets(..) | Effect::Moves(..)) | None => Sides {
             check: Sign::Zero,
             stop: Sign::Zero,
+            axis: None,
         },
     }
 }
 
-/// Whether its stop, and the side on which it runs, are there.
+/// Whether its stop is there, and what bounds it.
+#[tactic(auto, using(crate::proofs::Ranges::stop_there, crate::proofs::Ranges::no_stop))]
 pub(crate) fn has_stop(m: &Motion, sides: Sides) -> bool
     requires motion { IsStraightMotion m.now }
     requires sides { AreSides m.now sides }
     ensures { result ≡ motions.has_stop m.now }
 {
-    !is_on_check(m.how, sides.check)
-        && !lacks_room(&offset_surface(&m.check, sides.check, m.radius))
-        && !is_zero(sides.stop)
-}
-
-/// The side of the stop on which a motion runs, by the place of the cutter at the check surface.
-fn stop_side(m: &Motion, check_side: Sign) -> Sign
-    requires motion { IsStraightMotion m.now }
-    requires check_side { check_side ≡ motions.check_side m.now }
-    ensures { result ≡ motions.stop_side m.now }
-{
-    match m.how {
-        Stop::To | Stop::On | Stop::Past => side_between(m, signed(check_side, m.radius)),
-        Stop::Tanto => Sign::Zero,
+    if is_on_check(m.how, sides.check) || lacks_room(&stop_at(m, sides.check)) {
+        return false;
     }
-}
-
-fn side_between(m: &Motion, stop_off: i64) -> Sign
-    requires motion { IsStraightMotion m.now }
-    requires stop_off { stop_off ≡ motions.stop_offset m.now }
-    requires small { unsigned_abs stop_off ≤ 500000 }
-    ensures { result ≡ motions.side_between m.now m.now.drive m.now.check }
-{
-    match (&m.drive, &m.check) {
-        (Surface::Line(drive), Surface::Line(check)) => {
-            line_side(m.start.at, heading(m.sense, drive.dir), check, stop_off)
-        }
-        (Surface::Line(_), Surface::Circ(_)) | (Surface::Circ(_), _) => Sign::Zero,
-    }
+    !is_zero(sides.stop) || sides.axis.is_some()
 }
 
 /// The edge of the stop that a motion must not pass, by the side of the stop on which it runs.
@@ -112,7 +150,8 @@ fn beyond(m: &Motion, side: Sign) -> Sign
 
 fn leg_of(m: &Motion, sides: Sides) -> Leg
     requires motion { IsStraightMotion m.now }
-    requires sides { AreSides m.now sides }
+    requires check_side { sides.check ≡ motions.check_side m.now }
+    requires bounds { AreBounds m.now sides }
     ensures { result ≡ motions.leg_of m.now }
 {
     Leg {
@@ -123,7 +162,7 @@ fn leg_of(m: &Motion, sides: Sides) -> Leg
         stop_band: band_at(&m.check, sides.check, m.radius, m.inner, m.outer),
         beyond: beyond(m, sides.stop),
         sense: m.sense,
-        axis: None,
+        axis: sides.axis,
     }
 }
 
@@ -153,6 +192,7 @@ fn points(alloc: Global, start: Position, positions: &[Position]) -> Result<Poin
 }
 
 /// The job of a contour.
+#[tactic(auto, using(crate::proofs::Ranges::bounds_there))]
 pub(crate) fn job_of(
     alloc: Global,
     m: &Motion,
@@ -160,6 +200,7 @@ pub(crate) fn job_of(
     positions: &[Position],
 ) -> Result<Job, AllocError>
     requires motion { IsStraightMotion m.now }
+    requires defined { motions.is_defined m.now ≡ true }
     requires sides { AreSides m.now sides }
     ensures { IfOk result (λ job. job ≡ spec.job_of m.now (points_at positions.now)) }
 {

@@ -1,6 +1,6 @@
 //! The walk over steps and records.
 
-ghost use Rattle.std.specs.Prelude.{◌≡◌, ◌+◌, ◌-◌, ◌<◌, ◌≤◌, ◌^◌, ◌++◌, List, length, Ok, IfOk, IfErr, OnOk};
+ghost use Rattle.std.specs.Prelude.{true, ◌≡◌, ◌+◌, ◌-◌, ◌<◌, ◌≤◌, ◌^◌, ◌++◌, List, length, Ok, IfOk, IfErr, OnOk};
 ghost use Rattle.apt_words.specs.Built.{AreBuiltSteps};
 ghost use Rattle.apt_words.specs.Sources.{AreExecuted};
 ghost use Rattle.apt_words.specs.declared.Case.{Case};
@@ -11,6 +11,7 @@ ghost use Rattle.apt_cldata.specs.declared.record.Record.{Record};
 ghost use Rattle.apt_defs.specs.Definitions.{IsRefusedBy};
 ghost use Rattle.apt_meaning.specs.Compiled.{first_refused};
 ghost use Rattle.apt_meaning.specs.Ranges.{IsSituation, IsEffect};
+ghost use Rattle.apt_meaning.specs.Motions.{is_defined};
 ghost use Rattle.apt_meaning.specs.Records as written;
 ghost use Rattle.apt_meaning.specs.Situations.{first_situation};
 ghost use Rattle.apt_meaning.specs.Straight.{IsLined};
@@ -52,6 +53,7 @@ fn cut(
     vertices: &[Position],
 ) -> Result<(), AllocError>
     requires motion { IsLined (effects.Cuts motion.now) }
+    requires defined { is_defined motion.now ≡ true }
     requires sides { AreSides motion.now sides }
     requires vertices { HasIn (effects.Cuts motion.now) (points_at vertices.now) }
     ensures after { OnOk result (at.new ≡ written.after at.old (effects.Cuts motion.now) (points_at vertices.now)) }
@@ -93,6 +95,7 @@ fn take(
     requires lined { IsLined effect.now }
     requires sides { HasSides sides effect.now }
     requires vertices { HasIn effect.now (points_at vertices.now) }
+    requires may { written.MayHave effect.now (points_at vertices.now) }
     ensures after { OnOk result (at.new ≡ written.after at.old effect.now (points_at vertices.now)) }
     ensures jobs { OnOk result (jobs.new.items ≡ jobs.old.items ++ jobs_by effect.now (points_at vertices.now)) }
 {

@@ -70,6 +70,10 @@ take-requires-clause-vertices c =
     let stands = stands_first st c.in_ok-found.found e c.steps.rest.now vertices later c.in-Ok.ensures.taken c.in-Some.is in
     (steps_in xs c.args.records.now at c.steps.rest.now c.steps.jobs.items st (drop (i + 1) xs) e vertices later walk (sym c.in_ok-found.ensures.value ∙ c.in-Some.is) stands).within
 
+pub take-requires-clause-may : goal.take-requires-clause-may
+take-requires-clause-may c =
+    (stands_first c.st-item.result c.in_ok-found.found c.in-Some.found c.steps.rest.now (points_at c.in-Ok.front.vertices.now) c.in-Ok.front.rest.now c.in-Ok.ensures.taken c.in-Some.is).may
+
 pub steps-preserved : goal.steps-preserved
 steps-preserved c =
     let xs = c.args.steps.now in
