@@ -1,29 +1,13 @@
-ghost use Rattle.std.specs.Prelude.{◌+◌, ◌*◌, ◌≤◌, ◌^◌, unsigned_abs};
-ghost use Rattle.apt_plane.specs.Ranges.{IsLine, IsPoint, IsSurface};
+ghost use Rattle.apt_plane.specs.Ranges.{IsPoint, IsSurface};
 
 use apt_num::Sign;
 use apt_offset::Target;
 use apt_plane::{Circ, Dir, Line, Pt, Surface};
-use apt_stop::{heading, is_near, is_touching, line_stop, side_of, tangent_axis};
-use apt_words::Case;
+use apt_stop::{heading, is_near, is_touching, side_of, tangent_axis};
 
 mod decisions;
 
 const ORIGIN: Pt = Pt { x: 0, y: 0 };
-
-fn line(x: i64, y: i64, dx: i64, dy: i64) -> Line
-    requires x { unsigned_abs x ≤ 50000000 }
-    requires y { unsigned_abs y ≤ 50000000 }
-    requires dx { unsigned_abs dx ≤ 10 ^ 8 }
-    requires dy { unsigned_abs dy ≤ 10 ^ 8 }
-    requires length { 1 ≤ unsigned_abs dx * unsigned_abs dx + unsigned_abs dy * unsigned_abs dy }
-    ensures { IsLine result }
-{
-    Line {
-        base: Pt { x, y },
-        dir: Dir { dx, dy },
-    }
-}
 
 fn at(x: i16, y: i16) -> Pt
     ensures { IsPoint result }
@@ -136,75 +120,6 @@ fn heads(rt: HostRuntime) {
     let displacement = Dir { dx: 3, dy: -4 };
     assert_eq!(rt; heading(1, displacement), displacement);
     assert_eq!(rt; heading(-1, displacement), Dir { dx: -3, dy: 4 });
-}
-
-/// Along y = 50 to the line up through (1000, 0), moved to x = 950 or to x = 1050: a start within 8 of
-/// the stop, or past it, has it behind.
-#[test]
-fn stops_at_a_wall(rt: HostRuntime) {
-    let track = line(0, 0, 1, 0);
-    let wall = line(1000, 0, 0, 1);
-    let behind = Err(Case::Behind);
-    let short = Ok(Pt { x: 950, y: 50 });
-    let past = Ok(Pt { x: 1050, y: 50 });
-    let table: [(i16, Result<Pt, Case>, Result<Pt, Case>); 6] = [
-        (0, short, past),
-        (941, short, past),
-        (942, behind, past),
-        (958, behind, past),
-        (1041, behind, past),
-        (1042, behind, behind),
-    ];
-    for (x, first, second) in table {
-        assert_eq!(rt;
-            line_stop(at(x, 50), &track, 50, 1, &wall, 50),
-            first,
-            "at {x}"
-        );
-        assert_eq!(rt;
-            line_stop(at(x, 50), &track, 50, 1, &wall, -50),
-            second,
-            "at {x}"
-        );
-    }
-}
-
-/// The other way along the same track, away from the wall and to it.
-#[test]
-fn stops_on_the_way_back(rt: HostRuntime) {
-    let track = line(0, 0, 1, 0);
-    let wall = line(1000, 0, 0, 1);
-    let away = line_stop(at(0, 50), &track, 50, -1, &wall, 50);
-    assert_eq!(rt; away, Err(Case::Behind));
-    let back = line_stop(at(2000, 50), &track, 50, -1, &wall, -50);
-    assert_eq!(rt; back, Ok(Pt { x: 1050, y: 50 }));
-}
-
-/// Moved (3, 4) and (-5, 12) by multiples of their lengths, 5 and 13: they meet at (7.25, 58).
-#[test]
-fn stops_at_a_slanted_line(rt: HostRuntime) {
-    let track = line(10, 20, 3, 4);
-    let check = line(7, -9, -5, 12);
-    let met = line_stop(at(-10, 35), &track, 25, 1, &check, -26);
-    assert_eq!(rt; met, Ok(Pt { x: 7, y: 58 }));
-    let away = line_stop(at(-10, 35), &track, 25, -1, &check, -26);
-    assert_eq!(rt; away, Err(Case::Behind));
-}
-
-/// A parallel line is never met, also where the start is on it; a line that is almost parallel is met
-/// past the coordinate limit.
-#[test]
-fn stops_nowhere(rt: HostRuntime) {
-    let track = line(0, 0, 1, 0);
-    let beside = line_stop(at(0, 0), &track, 0, 1, &line(0, 500, -2, 0), 0);
-    assert_eq!(rt; beside, Err(Case::Parallel));
-    let along = line_stop(at(0, 0), &track, 0, 1, &track, 0);
-    assert_eq!(rt; along, Err(Case::Parallel));
-    let slope = line(0, 50_000_000, 100_000_000, 1);
-    let far = line_stop(at(0, 0), &track, 0, -1, &slope, 0);
-    assert_eq!(rt; far, Err(Case::OutOfRange));
-    let back = line_stop(at(0, 0), &track, 0, 1, &slope, 0);
-    assert_eq!(rt; back, Err(Case::Behind));
 }
 
 /// Along (1, 0), so many grid units above 100,000.
