@@ -5,12 +5,11 @@ ghost use Rattle.apt_scalar.specs.StepScalars.{AreScalars};
 ghost use Rattle.apt_plane.specs.Ranges.{IsSurface};
 ghost use Rattle.apt_cldata.specs.Ranges.{IsPosition, ArePositions, AreRecords, vertex_count};
 ghost use Rattle.apt_cldata.specs.declared.record.Record.{Record};
-ghost use Rattle.apt_meaning.specs.Compiled.{first_refused};
-ghost use Rattle.apt_meaning.specs.Situations.{first_situation};
 
 use apt_certify::Job;
 use apt_cldata::{Note, Position, Reach, Record, Vertices};
 use apt_job::{JobError, jobs};
+use apt_motion::ends;
 use apt_plane::{Dir, Line, Pt, Surface};
 use apt_words::{Deed, Go, Side, Step, Stop, Symbol};
 use std::alloc::{AllocError, Global};
@@ -31,7 +30,6 @@ fn edge_steps() -> Option<[Step; 7]>
     ensures scalars { IfSome result AreScalars }
     ensures built { IfSome result AreBuiltSteps }
     ensures sources { IfSome result AreExecuted }
-    ensures passes { IfSome result (λ steps. first_refused first_situation steps ≡ None) }
 {
     let l1 = Symbol::new("L1")?;
     let l2 = Symbol::new("L2")?;
@@ -81,21 +79,19 @@ fn right_edge() -> Surface
 }
 
 /// What a CL file says in place of the compiler's records: by how much the line of the first statement is later
-/// and the last vertex higher, the side, and how many records it has.
+/// and the last vertex higher, and the side.
 #[derive(Clone, Copy)]
 struct Change {
     later: u8,
     higher: i8,
     side: Side,
-    count: usize,
 }
 
-fn changed(later: u8, higher: i8, side: Side, count: usize) -> Change {
+fn changed(later: u8, higher: i8, side: Side) -> Change {
     Change {
         later,
         higher,
         side,
-        count,
     }
 }
 
@@ -109,20 +105,35 @@ fn vertices(alloc: Global, higher: i8) -> Result<Vertices, AllocError>
     Ok(Vertices { at })
 }
 
-fn records(alloc: Global, change: Change) -> Result<[Record; 13], AllocError>
-    ensures range { IfOk result AreRecords }
-    ensures few { IfOk result (λ rs. vertex_count rs + length rs < 2 ^ 62) }
+/// The records of what is set.
+fn settings(later: u8) -> [Record; 5]
+    ensures range { AreRecords result }
+    ensures few { vertex_count result ≡ 0 }
 {
-    let vertices = vertices(alloc, change.higher)?;
-    Ok([
+    [
         Record::Statement {
-            line: 1 + u32::from(change.later),
+            line: 1 + u32::from(later),
             step: 1,
         },
         Record::Note(Note::Cutter(50_000)),
         Record::Statement { line: 2, step: 2 },
         Record::Note(Note::Fedrat(100)),
         Record::Statement { line: 5, step: 5 },
+    ]
+}
+
+/// All records but the vertices of the contour.
+fn front(change: Change) -> [Record; 11]
+    ensures range { AreRecords result }
+    ensures few { vertex_count result ≡ 0 }
+{
+    let [a, b, c, d, e] = settings(change.later);
+    [
+        a,
+        b,
+        c,
+        d,
+        e,
         Record::Point(Reach::From, position(-200_000, 100_000)),
         Record::Statement { line: 6, step: 6 },
         Record::Point(Reach::Godlta, position(-100_000, 100_000)),
@@ -136,23 +147,27 @@ fn records(alloc: Global, change: Change) -> Result<[Record; 13], AllocError>
             surface: right_edge(),
             how: Stop::Past,
         },
-        Record::Contour(vertices),
-        Record::Note(Note::Stop),
-    ])
+    ]
 }
 
-/// So many records, or all where there are fewer.
-#[tactic(auto, using(crate::proofs::Edge::part_in, crate::proofs::Edge::part_few))]
-fn part(records: &[Record], count: usize) -> &[Record]
-    requires range { AreRecords records.now }
-    requires few { vertex_count records.now + length records.now < 2 ^ 62 }
-    ensures range { AreRecords result.now }
-    ensures few { vertex_count result.now + length result.now < 2 ^ 62 }
+/// All records.
+fn records(alloc: Global, change: Change) -> Result<[Record; 12], AllocError>
+    ensures range { IfOk result AreRecords }
+    ensures few { IfOk result (λ rs. vertex_count rs + length rs < 2 ^ 62) }
 {
-    match records.get(..count) {
-        Some(part) => part,
-        None => records,
-    }
+    let vertices = vertices(alloc, change.higher)?;
+    let [a, b, c, d, e, f, g, h, i, j, k] = front(change);
+    Ok([a, b, c, d, e, f, g, h, i, j, k, Record::Contour(vertices)])
+}
+
+/// One more record than there should be.
+fn more(alloc: Global) -> Result<[Record; 13], AllocError>
+    ensures range { IfOk result AreRecords }
+    ensures few { IfOk result (λ rs. vertex_count rs + length rs < 2 ^ 62) }
+{
+    let [a, b, c, d, e, f, g, h, i, j, k, l] = records(alloc, changed(0, 0, Side::Right))?;
+    let stop = Record::Note(Note::Stop);
+    Ok([a, b, c, d, e, f, g, h, i, j, k, l, stop])
 }
 
 /// The number of the first record that does not answer, 0 where all do.
@@ -169,21 +184,26 @@ fn the_first_record_that_does_not_answer_is_told(rt: HostRuntime) -> Result<(), 
     let Some(steps) = edge_steps() else {
         return Ok(());
     };
+    let Ok(None) = ends(rt.alloc(), &steps) else {
+        assert!(rt; false, "a step is refused");
+        return Ok(());
+    };
     let table = [
-        (changed(0, 0, Side::Right, 12), 0),
-        (changed(1, 0, Side::Right, 12), 1),
-        (changed(0, 0, Side::Right, 0), 1),
-        (changed(0, 0, Side::Right, 5), 6),
-        (changed(0, 0, Side::Left, 12), 10),
-        (changed(0, 1, Side::Right, 12), 12),
-        (changed(0, 0, Side::Right, 11), 12),
-        (changed(0, 0, Side::Right, 13), 13),
+        (changed(0, 0, Side::Right), 0),
+        (changed(1, 0, Side::Right), 1),
+        (changed(0, 0, Side::Left), 10),
+        (changed(0, 1, Side::Right), 12),
     ];
     for (change, want) in table {
         let records = records(rt.alloc(), change)?;
-        let found = jobs(rt.alloc(), &steps, part(&records, change.count));
-        assert_eq!(rt; entry_of(found), want, "of {} records", change.count);
+        assert_eq!(rt; entry_of(jobs(rt.alloc(), &steps, &records)), want);
     }
+    assert_eq!(rt; entry_of(jobs(rt.alloc(), &steps, &[])), 1);
+    assert_eq!(rt; entry_of(jobs(rt.alloc(), &steps, &settings(0))), 6);
+    let front = front(changed(0, 0, Side::Right));
+    assert_eq!(rt; entry_of(jobs(rt.alloc(), &steps, &front)), 12);
+    let more = more(rt.alloc())?;
+    assert_eq!(rt; entry_of(jobs(rt.alloc(), &steps, &more)), 13);
     Ok(())
 }
 
@@ -192,8 +212,12 @@ fn a_contour_is_a_job(rt: HostRuntime) -> Result<(), Fail> {
     let Some(steps) = edge_steps() else {
         return Ok(());
     };
-    let records = records(rt.alloc(), changed(0, 0, Side::Right, 12))?;
-    let Ok(jobs) = jobs(rt.alloc(), &steps, part(&records, 12)) else {
+    let Ok(None) = ends(rt.alloc(), &steps) else {
+        assert!(rt; false, "a step is refused");
+        return Ok(());
+    };
+    let records = records(rt.alloc(), changed(0, 0, Side::Right))?;
+    let Ok(jobs) = jobs(rt.alloc(), &steps, &records) else {
         assert!(rt; false, "a record does not answer");
         return Ok(());
     };

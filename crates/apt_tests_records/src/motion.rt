@@ -3,6 +3,7 @@ ghost use Rattle.std.specs.Prelude.{◌≡◌};
 use apt_cldata::{Position, Record};
 use apt_motion::{RunError, run};
 use apt_words::{Case, Deed, Go, Refusal, Side, Step, Stop, Symbol};
+use std::alloc::Global;
 use std::process::Abort;
 use std::test::Fail;
 
@@ -60,6 +61,57 @@ fn contours_end_at_their_contact(rt: HostRuntime) -> Result<(), Fail> {
     };
     assert_eq!(rt; (end.at.x, end.at.y, end.z), (525_000, -25_000, 100_000));
     Ok(())
+}
+
+/// Where a motion along the x axis from x = -1 ends at a circle about (5, b) with radius 1, in grid units: the cutter
+/// has a radius of a quarter, on this side, and starts so many quarters below the axis.
+fn end_at_circle(
+    rt: &impl Abort,
+    alloc: Global,
+    side: Side,
+    quarters: u8,
+    how: Stop,
+    b: u8,
+) -> Option<(i64, i64)> {
+    let line = symbol(rt, "L1");
+    let circle = symbol(rt, "C1");
+    let below = -250_000 * i64::from(quarters);
+    let b = 1_000_000 * i64::from(b);
+    let steps = [
+        step(1, Deed::Cutter(500_000)),
+        step(2, Deed::Fedrat(10_000_000)),
+        step(3, Deed::LineXy(line.copied(), 0, 0, 5_000_000, 0)),
+        step(4, Deed::CircleXyr(circle.copied(), 5_000_000, b, 1_000_000)),
+        step(5, Deed::FromXy(-2_000_000, below, None)),
+        step(6, Deed::Godlta(1_000_000, 0, 0)),
+        step(7, Deed::Contour(Some(side), Go::Forward, line, how, circle)),
+    ];
+    let Ok(records) = run(alloc, &steps) else {
+        return None;
+    };
+    let end = records.last().and_then(end_of)?;
+    Some((end.at.x, end.at.y))
+}
+
+#[test]
+fn contours_end_at_circles(rt: HostRuntime) {
+    let table = [
+        (Side::Right, 1, Stop::To, 0, (377_526, -25_000)),
+        (Side::Right, 1, Stop::On, 0, (403_175, -25_000)),
+        (Side::Right, 1, Stop::Past, 0, (429_289, -25_000)),
+        (Side::Right, 1, Stop::Tanto, 1, (500_000, -25_000)),
+        (Side::On, 0, Stop::To, 0, (375_000, 0)),
+        (Side::On, 0, Stop::On, 0, (400_000, 0)),
+        (Side::On, 0, Stop::Past, 0, (425_000, 0)),
+        (Side::On, 0, Stop::Tanto, 1, (500_000, 0)),
+    ];
+    for (side, quarters, how, b, want) in table {
+        let Some(end) = end_at_circle(&rt, rt.alloc(), side, quarters, how, b) else {
+            assert!(rt; false, "a step is refused");
+            return;
+        };
+        assert_eq!(rt; end, want);
+    }
 }
 
 #[test]
