@@ -1,5 +1,5 @@
 -- The walk of a judge over steps and records.
-use Rattle.std.proofs.Common.{◌≡◌, ◌∙◌, ◌+◌, ◌-◌, ◌≤◌, ℕ, suc, ℤ, arith, List, [], ◌∷◌, ◌++◌, length, map, Option, Some, None, Ok, refl, sym, ap, subst, inl, inr, append_assoc, append-nil}
+use Rattle.std.proofs.Common.{◌≡◌, ◌∙◌, ◌+◌, ◌-◌, ◌≤◌, ℕ, suc, ℤ, arith, List, [], ◌∷◌, ◌++◌, length, map, Option, Some, None, refl, sym, ap, subst, inl, inr, append_assoc, append-nil}
 use Rattle.std.proofs.Common.{length-append, ◌==◌, true, false}
 use Rattle.std.proofs.lemmas.Bool.{true≢false, eqb-true}
 use Rattle.apt_words.specs.Built.{AreBuiltSteps}
