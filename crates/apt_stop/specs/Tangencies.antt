@@ -39,3 +39,8 @@ HaveNoAxis (surfaces.Line l) (surfaces.Line k) = Unit {0}
 HaveNoAxis (surfaces.Line l) (surfaces.Circ c) = ⊥
 HaveNoAxis (surfaces.Circ c) (surfaces.Line l) = ⊥
 HaveNoAxis (surfaces.Circ c) (surfaces.Circ d) = c.c ≡ d.c
+
+-- the direction of the quarter points of an arc that stops there: square to a line, or through both centres
+abbrev pub axis_towards : Pt → Surface → Dir
+axis_towards c (surfaces.Line l) = perp l.dir
+axis_towards c (surfaces.Circ d) = displacement c d.c
