@@ -198,8 +198,8 @@ wrong_kind = refl
 wrong_check : contour (at (record here { feed = pos 0; rapid = true; outtol = pos 7 }) on_track) turns.Left (codes "C1") stops.To (codes "A") ≡ Some cases.WrongKind
 wrong_check = refl
 
--- a circle is not built yet as the drive surface; as the check surface it is one like a line
-round_drive : contour (at (record here { feed = pos 0; rapid = true; outtol = pos 7 }) on_track) turns.Left (codes "C1") stops.To (codes "L2") ≡ Some cases.NotBuilt
+-- a circle is one like a line, as the drive surface and as the check surface
+round_drive : contour (at (record here { feed = pos 0; rapid = true; outtol = pos 7 }) on_track) turns.Left (codes "C1") stops.To (codes "L2") ≡ Some cases.RapidContour
 round_drive = refl
 
 round_check : contour (at (record here { feed = pos 0; rapid = true; outtol = pos 7 }) on_track) turns.Left (codes "L1") stops.To (codes "C1") ≡ Some cases.RapidContour

@@ -135,6 +135,14 @@ sag m r = lesser (r -ℤ (leg_of m).band.lo) (pos (unsigned_abs r / 4))
 abbrev pub arc_on : Motion → Pt → ℤ → Arc
 arc_on m c r = record { track = circle_about c r; sense = m.sense; axis = axis_towards c m.check; sag = sag m r; start = m.start.at; end = contact m }
 
+-- the arc along which it runs, none along a line
+abbrev pub arc_along : Motion → Target → Option Arc
+arc_along m (targets.Line b d h) = None
+arc_along m (targets.Circ c r) = Some (arc_on m c r)
+
+abbrev pub arc_of : Motion → Option Arc
+arc_of m = arc_along m (track_of m)
+
 -- its end alone along a line, and round a circle those of the arc's division
 abbrev pub vertices_on : Motion → Target → List Pt
 vertices_on m (targets.Line b d h) = contact m ∷ []
