@@ -26,7 +26,7 @@ has_meeting meetings.Apart e f = absurd cc
 has_meeting meetings.One e f = tt
 has_meeting meetings.Two e f = tt
 
-line_of : (b : Pt) (d : Dir) (h : ℤ) → IsLineTarget b d h → IsLine (line_on b d)
+pub line_of : (b : Pt) (d : Dir) (h : ℤ) → IsLineTarget b d h → IsLine (line_on b d)
 line_of b d h is = record { base = is.base; dir = is.dir }
 
 pub lines_cross : (b e : Pt) (d f : Dir) → HasMeeting (of_lines (line_on b d) (line_on e f)) → cross d f ≢ pos 0
@@ -57,7 +57,7 @@ of_line_and_round b d h c r sigma is_a is_b sense m =
       point_on_circle (line_on b d) h (circle_about c (pos r)) sigma r refl (radius_small r is_b.most) sense (line_of b d h is_a) is_a.off near,
     )
 
-two_circles : (c : Pt) (r : ℕ) (d : Pt) (q : ℕ) → IsCircleTarget c (pos r) → IsCircleTarget d (pos q) → HasMeeting (of_circles (circle_about c (pos r)) (circle_about d (pos q)))
+pub two_circles : (c : Pt) (r : ℕ) (d : Pt) (q : ℕ) → IsCircleTarget c (pos r) → IsCircleTarget d (pos q) → HasMeeting (of_circles (circle_about c (pos r)) (circle_about d (pos q)))
     → TwoCircles (circle_about c (pos r)) (circle_about d (pos q)) r q
 two_circles c r d q is_a is_b m =
     let meet = circles_overlap (circle_about c (pos r)) (circle_about d (pos q)) m in record {

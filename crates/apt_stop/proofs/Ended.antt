@@ -20,7 +20,9 @@ use Rattle.apt_stop.specs.Ends.{MeetsStop, EndsOnLine, EndsOnCircle, IsEndOn}
 use Rattle.apt_stop.proofs.Parts.{course_at, Meets, Touches, meets, touches}
 use Rattle.apt_stop.proofs.OnLines.{Met, meets_on_line}
 use Rattle.apt_stop.proofs.Feet.{Touched, touches_on_line}
-use Rattle.apt_stop.proofs.OnRounds.{meets_on_round, touches_round}
+use Rattle.apt_stop.proofs.OnRounds.{meets_on_round}
+use Rattle.apt_stop.proofs.RoundsApart.{meets_apart}
+use Rattle.apt_stop.proofs.RoundsTouched.{TouchedRound, touches_on_round}
 
 -- ---- along a line
 met_ends : (c : Course) (d : Dir) → is_tanto c.how ≡ false → Meets c → Met c d (meets_at c (stop_side c)) → EndsOnLine c d (end_of c)
@@ -70,25 +72,41 @@ on_line start l v sense check how w m place is none false e =
     met_ends c l.dir e free (meets_on_line start (surfaces.Line l) l.base l.dir (signed v m) sense check how (offset_surface check w m) is free)
 
 -- ---- round a circle
-on_round : (start : Pt) (k : Circ) (v : Sign) (sense : ℤ) (check : Surface) (how : Stop) (w : Sign) (m : ℤ)
-    → let c = moved start (surfaces.Circ k) v sense check how w m in IsCourse c → NoneHolds (course_cases c) → (b : Bool) → is_tanto how ≡ b → EndsOnCircle c (end_of c)
-on_round start k v sense check how w m is none true e =
-    let c = moved start (surfaces.Circ k) v sense check how w m in
-    let free = touches c e none in
-    rw free.end (record {
-      track = touches_round start k k.c (k.r -ℤ signed v m) sense check how (offset_surface check w m) is free;
+touched_round-ends : (c : Course) (o q : Pt) → is_tanto c.how ≡ true → end_of c ≡ q → TouchedRound c o q → EndsOnCircle c o (end_of c)
+touched_round-ends c o q e end touched =
+    rw end (record {
+      track = touched.track;
       meets = λ f. absurd (true≢false (sym e ∙ f));
+      touches = λ f. touched.stop;
+      apart = touched.apart;
     })
-on_round start k v sense check how w m is none false e =
+
+touch_round : (start : Pt) (k : Circ) (v : Sign) (sense : ℤ) (check : Surface) (how : Stop) (w : Sign) (m : ℤ) → w ≡ side_at_tangency (surfaces.Circ k) check v → is_tanto how ≡ true
+    → let c = moved start (surfaces.Circ k) v sense check how w m in IsCourse c → Touches c → EndsOnCircle c k.c (end_of c)
+touch_round start k v sense check how w m place e is free =
+    subst (λ (w : Sign). let c = moved start (surfaces.Circ k) v sense check how w m in IsCourse c → Touches c → EndsOnCircle c k.c (end_of c)) (sym place)
+    (λ is free. touched_round-ends _ k.c _ e free.end (touches_on_round start k v m sense check how is free)) is free
+
+on_round : (start : Pt) (k : Circ) (v : Sign) (sense : ℤ) (check : Surface) (how : Stop) (w : Sign) (m : ℤ) → (how ≡ stops.Tanto → w ≡ side_at_tangency (surfaces.Circ k) check v)
+    → let c = moved start (surfaces.Circ k) v sense check how w m in IsCourse c → NoneHolds (course_cases c) → (b : Bool) → is_tanto how ≡ b → EndsOnCircle c k.c (end_of c)
+on_round start k v sense check how w m place is none true e =
+    let c = moved start (surfaces.Circ k) v sense check how w m in
+    touch_round start k v sense check how w m (place (is_touch how e)) e is (touches c e none)
+on_round start k v sense check how w m place is none false e =
     let c = moved start (surfaces.Circ k) v sense check how w m in
     let free = meets c e none in
     let both = meets_on_round start (surfaces.Circ k) k.c (k.r -ℤ signed v m) sense check how (offset_surface check w m) is free in
-    rw free.end (record { track = both.0; meets = λ f. both.1 })
+    rw free.end (record {
+      track = both.0;
+      meets = λ f. both.1;
+      touches = λ f. absurd (true≢false (sym f ∙ e));
+      apart = meets_apart start (surfaces.Circ k) k.c (k.r -ℤ signed v m) sense check how (offset_surface check w m) is free;
+    })
 
 moved_ends : (start : Pt) (drive : Surface) (v : Sign) (sense : ℤ) (check : Surface) (how : Stop) (w : Sign) (m : ℤ) → (how ≡ stops.Tanto → w ≡ side_at_tangency drive check v)
     → let c = moved start drive v sense check how w m in IsCourse c → NoneHolds (course_cases c) → IsEndOn c.track c (end_of c)
 moved_ends start (surfaces.Line l) v sense check how w m place is none = on_line start l v sense check how w m place is none (is_tanto how) refl
-moved_ends start (surfaces.Circ k) v sense check how w m place is none = on_round start k v sense check how w m is none (is_tanto how) refl
+moved_ends start (surfaces.Circ k) v sense check how w m place is none = on_round start k v sense check how w m place is none (is_tanto how) refl
 
 -- of a course that has such an end, by its targets
 abbrev HasEnd : Course → Target → Target → Type 0

@@ -30,7 +30,7 @@ use Rattle.apt_stop.proofs.Lies.{ahead_of}
 use Rattle.apt_stop.proofs.Touching.{touches_stop, foot_on_axis}
 use Rattle.apt_stop.proofs.Parts.{course_at, Touches}
 
-not_true : (b : Bool) → not b ≡ false → b ≡ true
+pub not_true : (b : Bool) → not b ≡ false → b ≡ true
 not_true true e = refl
 not_true false e = absurd cc
 

@@ -21,6 +21,14 @@ pub mod Parts
 pub mod OnLines
 pub mod Feet
 pub mod OnRounds
+pub mod OneWay
+pub mod Apart
+pub mod Aside
+pub mod OnRays
+pub mod RoundGaps
+pub mod RoundStops
+pub mod RoundsApart
+pub mod RoundsTouched
 pub mod Ended
 pub mod Placed
 pub mod Sided

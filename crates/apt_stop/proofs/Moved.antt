@@ -1,14 +1,15 @@
 -- The ranges of surfaces that are moved by a cutter's radius.
-use Rattle.std.proofs.Common.{◌≡◌, ◌≤◌, sym, subst, arith, false, ℤ, pos, ◌-ℤ◌, ◌≤ℤ◌, int_lt, unsigned_abs}
+use Rattle.std.proofs.Common.{◌≡◌, ℕ, ◌≤◌, sym, subst, arith, false, ℤ, pos, negsuc, ◌-ℤ◌, ◌≤ℤ◌, int_lt, unsigned_abs}
 use Rattle.std.proofs.lemmas.Int.{ints}
 use Rattle.apt_num.specs.declared.Sign.{Sign}
 use Rattle.apt_num.specs.declared.Sign.TheVariants as signs
+use Rattle.apt_plane.specs.declared.figures.Pt.{Pt}
 use Rattle.apt_plane.specs.declared.figures.Surface.{Surface}
 use Rattle.apt_plane.specs.declared.figures.Surface.TheVariants as surfaces
 use Rattle.apt_plane.specs.Ranges.{IsSurface}
 use Rattle.apt_offset.specs.declared.Target.{Target}
 use Rattle.apt_offset.specs.Targets.{signed, offset_surface, lacks_room}
-use Rattle.apt_offset.specs.Ranges.{IsRadius, IsTarget}
+use Rattle.apt_offset.specs.Ranges.{IsRadius, IsTarget, IsCircleTarget}
 use Rattle.apt_stop.specs.declared.course.Course.{Course}
 use Rattle.apt_stop.specs.Ranges.{IsCourse}
 
@@ -39,3 +40,6 @@ stop_target c is =
     let moved = is.moved in
     subst (λ (t : Target). IsTarget t) (sym moved.stop)
     (moved_target c.check moved.at_check moved.radius is.check moved.cutter (subst (λ (t : Target). lacks_room t ≡ false) moved.stop is.stop_room))
+
+pub no_radius : (o : Pt) (r : ℕ) → IsCircleTarget o (negsuc r) → ⊥
+no_radius o r circle = omega (arith, ints, circle.least)

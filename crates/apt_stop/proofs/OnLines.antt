@@ -23,7 +23,7 @@ use Rattle.apt_stop.specs.Courses.{starts_near_stop, stop_side, meets_at, is_sam
 use Rattle.apt_stop.specs.Ranges.{IsCourse}
 use Rattle.apt_stop.specs.Ends.{IsKept}
 use Rattle.apt_stop.proofs.NearLaws.{near-OnLine}
-use Rattle.apt_stop.proofs.Moved.{track_target, stop_target}
+use Rattle.apt_stop.proofs.Moved.{track_target, stop_target, no_radius}
 use Rattle.apt_stop.proofs.Contacts.{contact-near, lines_cross}
 use Rattle.apt_stop.proofs.Leads.{Leads}
 use Rattle.apt_stop.proofs.ToLines.{keeps_line, leads_to_line, far_by}
@@ -105,6 +105,3 @@ module _ (start : Pt) (drive : Surface) (b : Pt) (d : Dir) (h sense : ℤ) (chec
   meets_on_line (targets.Line e f k) is free = to_line e f k is free
   meets_on_line (targets.Circ o (pos r)) is free = to_round o r is free
   meets_on_line (targets.Circ o (negsuc r)) is free = absurd (no_radius o r (stop_target (course_at start drive (targets.Line b d h) sense check how (targets.Circ o (negsuc r))) is))
-    where
-      no_radius : (o : Pt) (r : ℕ) → IsCircleTarget o (negsuc r) → ⊥
-      no_radius o r circle = omega (arith, ints, circle.least)

@@ -1,17 +1,14 @@
 -- The end of a course round a circle: on its track, and on the stop that it meets.
-use Rattle.std.proofs.Common.{refl, ◌≢◌, inl, inr, ℕ, zero, suc, ◌≤◌, arith, true≢false, ℤ, pos}
+use Rattle.std.proofs.Common.{refl, ◌≢◌, inl, ℕ, zero, suc, ◌≤◌, arith, ℤ, pos}
 use Rattle.std.proofs.lemmas.Int.{ints}
 use Rattle.apt_num.proofs.Squares.{size_neg}
-use Rattle.std.proofs.lemmas.Bool.Decides.{eqb_tells}
 use Rattle.apt_num.specs.declared.Sign.{Sign}
 use Rattle.apt_num.specs.declared.Sign.TheVariants as signs
 use Rattle.apt_words.specs.declared.Stop.{Stop}
 use Rattle.apt_plane.specs.declared.figures.Pt.{Pt}
 use Rattle.apt_plane.specs.declared.figures.Dir.{Dir}
 use Rattle.apt_plane.specs.declared.figures.Axis.{Axis}
-use Rattle.apt_plane.specs.declared.figures.Circ.{Circ}
 use Rattle.apt_plane.specs.declared.figures.Surface.{Surface}
-use Rattle.apt_plane.specs.declared.figures.Surface.TheVariants as surfaces
 use Rattle.apt_plane.specs.Vectors.{displacement, length_squared, perp}
 use Rattle.apt_plane.specs.Ranges.{IsSense, IsDir, IsPoint}
 use Rattle.apt_canon.specs.Scale.{times}
@@ -25,15 +22,14 @@ use Rattle.apt_offset.specs.Targets.{signed}
 use Rattle.apt_offset.specs.Ranges.{IsCircleTarget}
 use Rattle.apt_contact.specs.Meetings.{circle_about}
 use Rattle.apt_contact.specs.Contacts.{IsNearTarget}
-use Rattle.apt_stop.specs.Tangencies.{axis, half_towards, touching_half, tangent_axis}
-use Rattle.apt_stop.specs.Courses.{stop_side, sigma_of, meets_at, touches_on, touches_at}
+use Rattle.apt_stop.specs.Courses.{stop_side, sigma_of, meets_at, touches_on}
 use Rattle.apt_stop.specs.Ranges.{IsCourse}
 use Rattle.apt_stop.proofs.Moved.{track_target, stop_target}
 use Rattle.apt_stop.proofs.Contacts.{contact-near}
-use Rattle.apt_stop.proofs.Placed.{placed, has_half}
+use Rattle.apt_stop.proofs.Placed.{placed}
 use Rattle.apt_stop.proofs.Sided.{sided}
 use Rattle.apt_stop.proofs.Tracks.{sense_to}
-use Rattle.apt_stop.proofs.Parts.{course_at, Meets, Touches}
+use Rattle.apt_stop.proofs.Parts.{course_at, Meets}
 
 -- ---- a course that meets its stop has a side, which tells the point that is meant
 other_side : (side : Sign) → side ≢ signs.Zero → opposite side ≢ signs.Zero
@@ -42,7 +38,7 @@ other_side signs.Zero some = absurd (some refl)
 other_side signs.Minus some = λ e. cc
 
 module _ (start : Pt) (drive : Surface) (o : Pt) (r sense : ℤ) (check : Surface) (how : Stop) where
-  sigma_is : (stop : Target) → let c = course_at start drive (targets.Circ o r) sense check how stop in IsCourse c → Meets c → IsSense (sigma_of sense (stop_side c) c.track stop)
+  pub sigma_is : (stop : Target) → let c = course_at start drive (targets.Circ o r) sense check how stop in IsCourse c → Meets c → IsSense (sigma_of sense (stop_side c) c.track stop)
   sigma_is (targets.Line e f k) is free =
       let c = course_at start drive (targets.Circ o r) sense check how (targets.Line e f k) in
       sense_to (opposite (stop_side c)) sense (other_side (stop_side c) (sided c (placed c is) free.past)) is.sense
@@ -57,42 +53,28 @@ module _ (start : Pt) (drive : Surface) (o : Pt) (r sense : ℤ) (check : Surfac
       contact-near (targets.Circ o r) stop (sigma_of sense (stop_side c) c.track stop) (track_target c is) (stop_target c is) (sigma_is stop is free) free.meeting
 
 -- ---- one that touches ends on the axis
-half_sense : (half : Sign) → half ≢ signs.Zero → IsSense (signed half (pos 1))
+pub half_sense : (half : Sign) → half ≢ signs.Zero → IsSense (signed half (pos 1))
 half_sense half some = sense_to half (pos 1) some (inl refl)
 
 -- a direction kept or turned round, and turned by a quarter
-turned_dir : (s : ℤ) (u : Dir) → IsSense s → IsDir u → IsDir (times s u)
+pub turned_dir : (s : ℤ) (u : Dir) → IsSense s → IsDir u → IsDir (times s u)
 turned_dir s u sense is = record {
   dx = rw (sense_size s u.dx sense) is.dx;
   dy = rw (sense_size s u.dy sense) is.dy;
   length = rw (sense_size s u.dx sense, sense_size s u.dy sense) is.length;
 }
 
-quarter_dir : (u : Dir) → IsDir u → IsDir (perp u)
+pub quarter_dir : (u : Dir) → IsDir u → IsDir (perp u)
 quarter_dir u is = record { dx = rw (size_neg u.dy) is.dy; dy = is.dx; length = rw (size_neg u.dy) (omega (arith, is.length)) }
 
-ray_at : (o : Pt) (r : ℤ) (a : Axis) → IsCircleTarget o r → IsDir a.along → a.half ≢ signs.Zero → IsNearTarget (targets.Circ o r) (pos 1) (touches_on (targets.Circ o r) a)
+pub ray_at : (o : Pt) (r : ℤ) (a : Axis) → IsCircleTarget o r → IsDir a.along → a.half ≢ signs.Zero → IsNearTarget (targets.Circ o r) (pos 1) (touches_on (targets.Circ o r) a)
 ray_at o r a is dir some =
     let u = times (signed a.half (pos 1)) a.along in
     ray_near (circle_about o r) u (record { centre = is.centre; least = omega (arith, ints, is.least); most = is.most }) (turned_dir (signed a.half (pos 1)) a.along (half_sense a.half some) dir)
 
-two_centres : (p q : Pt) → IsPoint p → IsPoint q → length_squared (displacement p q) ≢ 0 → IsDir (displacement p q)
+pub two_centres : (p q : Pt) → IsPoint p → IsPoint q → length_squared (displacement p q) ≢ 0 → IsDir (displacement p q)
 two_centres p q is_p is_q some = way_is_dir p q is_p is_q (positive (length_squared (displacement p q)) some)
   where
     positive : (n : ℕ) → n ≢ 0 → 1 ≤ n
     positive zero d = absurd (d refl)
     positive (suc n) d = omega arith
-
--- the end on the axis of the circle k and a check surface
-pub touches_round : (start : Pt) (k : Circ) (o : Pt) (r sense : ℤ) (check : Surface) (how : Stop) (stop : Target)
-    → let c = course_at start (surfaces.Circ k) (targets.Circ o r) sense check how stop in IsCourse c → Touches c
-    → IsNearTarget (targets.Circ o r) (pos 1) (touches_at c (tangent_axis (surfaces.Circ k) check))
-touches_round start k o r sense (surfaces.Line l) how stop is free =
-    let a = axis k.c (perp l.dir) (half_towards l k) in
-    ray_at o r a (track_target _ is) (quarter_dir l.dir is.check.dir) (has_half _ a is refl)
-touches_round start k o r sense (surfaces.Circ j) how stop is free = elim (eqb_tells (length_squared (displacement k.c j.c)) 0) [
-  | inl one ↦ absurd (true≢false (rw one.0 at free.axis))
-  | inr two ↦
-      let a = axis k.c (displacement k.c j.c) (touching_half k j) in
-      rw two.0 (ray_at o r a (track_target _ is) (two_centres k.c j.c is.drive.centre is.check.centre two.1) (has_half _ a is (rw two.0 refl)))
-]

@@ -54,3 +54,10 @@ touch_far M t N l a positive e far = cancel_le M (t * t) N positive (omega (arit
 
 pub touch_near : (M t N l a : ℕ) → 0 < M → M * N ≡ l * l + a * a → 2 * (l * l) ≤ M → a * a ≤ t * t * M → N ≤ (t + 1) * (t + 1)
 touch_near M t N l a positive e along near = cancel_le M N ((t + 1) * (t + 1)) positive (omega (arith, e, along, near))
+
+-- ---- the end on an axis: across it by less than a unit
+pub touch_within : (M t N l a : ℕ) → 0 < M → M * N ≡ l * l + a * a → 2 * (l * l) ≤ M → a * a ≤ t * t * M → N ≤ t * t
+touch_within M t N l a positive e along near = elim (cases_lt (t * t) N) [
+  | inl past ↦ absurd (omega (arith, e, along, near, mul-le-mul_left M past, positive))
+  | inr fine ↦ fine
+]

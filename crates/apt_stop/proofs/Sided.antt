@@ -103,7 +103,7 @@ ahead_zero k n e = rw e (is_at_least-from (pos 0) (negsuc 7) n tt)
 axis_zero : (k : ℤ) (n : ℕ) → k ≡ pos 0 → is_by_axis k n ≡ true
 axis_zero k n e = rw (e, is_at_least-from (pos 0) (negsuc 7) n tt) refl
 
-no_turn : (s k : ℤ) → IsSense s → s *ℤ k ≡ pos 0 → k ≡ pos 0
+pub no_turn : (s k : ℤ) → IsSense s → s *ℤ k ≡ pos 0 → k ≡ pos 0
 no_turn s k is none = elim is [
   | inl e ↦ omega (arith, ints, rw (e, kept k) at none)
   | inr e ↦ omega (arith, ints, rw (e, turned k) at none)

@@ -34,7 +34,7 @@ use Rattle.apt_stop.proofs.Onwards.{cross_step}
 abbrev IsAbout : ℤ → ℤ → ℕ → Type 0
 IsAbout x r n = AtLeast x (r -ℤ pos 3) n × AtLeast (neg_ℤ x) (neg_ℤ r -ℤ pos 3) n
 
-add_bounds : (a b x h i k : ℤ) (n : ℕ) → a +ℤ b ≡ x → h +ℤ i ≡ k → AtLeast a h n → AtLeast b i n → AtLeast x k n
+pub add_bounds : (a b x h i k : ℤ) (n : ℕ) → a +ℤ b ≡ x → h +ℤ i ≡ k → AtLeast a h n → AtLeast b i n → AtLeast x k n
 add_bounds a b x h i k n e f p q = subst (λ (z : ℤ). AtLeast z k n) e (subst (λ (z : ℤ). AtLeast (a +ℤ b) z n) f (at_least-sum a b h i n p q))
 
 -- s is how far the centre is from the line, w how far the end is, both to its left, and a the difference
@@ -51,26 +51,28 @@ from_right s w a r h n e centre end = (
 )
 
 -- ---- as squares
-three_less : (r : ℕ) → 3 ≤ r → pos r -ℤ pos 3 ≡ pos (r - 3)
-three_less r least = omega (arith, ints)
+most_size : (x : ℤ) (h n : ℕ) → pos 0 ≤ℤ x → AtLeast (neg_ℤ x) (neg_ℤ (pos h)) n → square x ≤ h * h * n
+most_size (pos zero) h n some at = omega arith
+most_size (pos (suc x)) zero n some at = absurd at
+most_size (pos (suc x)) (suc h) n some at = at
+most_size (negsuc x) h n some at = absurd (omega (arith, ints, some))
 
-most_size : (x : ℤ) (r n : ℕ) → pos 0 ≤ℤ x → AtLeast (neg_ℤ x) (negsuc (r + 2)) n → square x ≤ (r + 3) * (r + 3) * n
-most_size (pos zero) r n some at = omega arith
-most_size (pos (suc x)) r n some at = omega (arith, at)
-most_size (negsuc x) r n some at = absurd (omega (arith, ints, some))
+-- a number that is r lengths, up to g
+pub within_squares : (x : ℤ) (r g n : ℕ) → g ≤ r → OnLine x (pos r) n (pos g) → ((r - g) * (r - g) * n ≤ square x) × (square x ≤ (r + g) * (r + g) * n)
+within_squares x r g n less is =
+    let up = (at_least_squares x (r - g) n).0 (subst (λ (z : ℤ). AtLeast x z n) (lower r g less) is.right) in
+    (up.1, most_size x (r + g) n up.0 (subst (λ (z : ℤ). AtLeast (neg_ℤ x) z n) (upper r g) is.left))
+  where
+    lower : (r g : ℕ) → g ≤ r → pos r -ℤ pos g ≡ pos (r - g)
+    lower r g less = omega (arith, ints)
 
-bound_below : (r : ℕ) → neg_ℤ (pos r) -ℤ pos 3 ≡ negsuc (r + 2)
-bound_below r = omega (arith, ints)
-
-about_squares : (x : ℤ) (r n : ℕ) → 3 ≤ r → IsAbout x (pos r) n → ((r - 3) * (r - 3) * n ≤ square x) × (square x ≤ (r + 3) * (r + 3) * n)
-about_squares x r n least is =
-    let up = (at_least_squares x (r - 3) n).0 (subst (λ (z : ℤ). AtLeast x z n) (three_less r least) is.0) in
-    (up.1, most_size x r n up.0 (subst (λ (z : ℤ). AtLeast (neg_ℤ x) z n) (bound_below r) is.1))
+    upper : (r g : ℕ) → neg_ℤ (pos r) -ℤ pos g ≡ neg_ℤ (pos (r + g))
+    upper r g = omega (arith, ints)
 
 four_less : (r : ℕ) → 4 ≤ r → pos r -ℤ pos 4 ≡ pos (r - 4)
 four_less r least = omega (arith, ints)
 
-four_off : (o : Pt) (r : ℕ) (q : Pt) → 4 ≤ r → (r - 4) * (r - 4) ≤ length_squared (displacement o q) → length_squared (displacement o q) ≤ (r + 4) * (r + 4) → IsNearCircle (circle_about o (pos r)) (pos 4) q
+pub four_off : (o : Pt) (r : ℕ) (q : Pt) → 4 ≤ r → (r - 4) * (r - 4) ≤ length_squared (displacement o q) → length_squared (displacement o q) ≤ (r + 4) * (r + 4) → IsNearCircle (circle_about o (pos r)) (pos 4) q
 four_off o r q least low high = record { outside = rw (four_less r least, not_negative (r - 4)) low; inside = rw (not_negative (r + 4)) high }
 
 pub record Foots (d : Dir) (o q : Pt) : Type 0 where
@@ -88,17 +90,17 @@ near_stop_by d o q r least is low high =
 
 about_near : (d : Dir) (o q : Pt) (x r : ℤ) → pos 100 ≤ℤ r → Foots d o q → square x ≡ square (cross d (displacement o q)) → IsAbout x r (length_squared d) → IsNearCircle (circle_about o r) (pos 4) q
 about_near d o q x (pos r) least is same at =
-    let squares = about_squares x r (length_squared d) (omega (arith, ints, least)) at in
+    let squares = within_squares x r 3 (length_squared d) (omega (arith, ints, least)) (record { right = at.0; left = at.1 }) in
     near_stop_by d o q r (omega (arith, ints, least)) is (rw same at squares.0) (rw same at squares.1)
 about_near d o q x (negsuc r) least is same at = absurd (omega (arith, ints, least))
 
 -- ---- by the test of the gap
-touches_by : (k r : ℤ) (n : ℕ) → is_within k r gap n ≡ true → OnLine k r n (pos 2)
+pub touches_by : (k r : ℤ) (n : ℕ) → is_within k r gap n ≡ true → OnLine k r n (pos 2)
 touches_by k r n e =
     let both = and_parts (is_at_least k (r -ℤ gap) n) (is_at_least (neg_ℤ k) (neg_ℤ r -ℤ gap) n) e in
     record { right = is_at_least-true k (r -ℤ gap) n both.0; left = is_at_least-true (neg_ℤ k) (neg_ℤ r -ℤ gap) n both.1 }
 
-neg_square : (a : ℤ) → square (neg_ℤ a) ≡ square a
+pub neg_square : (a : ℤ) → square (neg_ℤ a) ≡ square a
 neg_square a = rw (size_neg a) refl
 
 -- ---- the place at the circle, by the side of the line on which its centre is
@@ -159,10 +161,10 @@ turned_parts a b p q = rw (as_diff a, as_diff b, as_diff p, as_diff q) (simp dif
 turned_cross : (d v : Dir) → cross (perp d) v ≡ neg_ℤ (dot d v)
 turned_cross d v = turned_parts d.dx d.dy v.dx v.dy
 
-turned_length : (d : Dir) → length_squared (perp d) ≡ length_squared d
+pub turned_length : (d : Dir) → length_squared (perp d) ≡ length_squared d
 turned_length d = rw (size_neg d.dy) (omega arith)
 
-within_eight : (z : ℤ) (n : ℕ) → 2 * square z ≤ n → AtLeast z (negsuc 7) n
+pub within_eight : (z : ℤ) (n : ℕ) → 2 * square z ≤ n → AtLeast z (negsuc 7) n
 within_eight (pos z) n h = tt
 within_eight (negsuc z) n h = omega (arith, h)
 

@@ -1,11 +1,12 @@
--- What the end of a course along a line is, by distances and products, whatever formula gives it.
-use Rattle.std.specs.Prelude.{◌≡◌, ℤ, pos, ◌+ℤ◌, ◌-ℤ◌, ◌<ℤ◌, true, false, Option, Some, None}
+-- What the end of a course is, by distances and products, whatever formula gives it.
+use Rattle.std.specs.Prelude.{◌≡◌, ◌≢◌, ℤ, pos, ◌+ℤ◌, ◌-ℤ◌, ◌<ℤ◌, true, false, Option, Some, None}
 use Rattle.apt_num.specs.declared.Sign.{Sign}
 use Rattle.apt_num.specs.declared.Sign.TheVariants as signs
 use Rattle.apt_plane.specs.declared.figures.Pt.{Pt}
 use Rattle.apt_plane.specs.declared.figures.Dir.{Dir}
 use Rattle.apt_plane.specs.declared.figures.Axis.{Axis}
 use Rattle.apt_plane.specs.Vectors.{displacement, dot, Scaled}
+use Rattle.apt_plane.specs.Order.{turn_class}
 use Rattle.apt_plane.specs.Distances.{IsAbove, IsBelow, IsOver, IsUnder, EveryPoint, about}
 use Rattle.apt_plane.specs.Axes.{IsOnAxis}
 use Rattle.apt_offset.specs.declared.Target.{Target}
@@ -46,12 +47,14 @@ pub record EndsOnLine (c : Course) (d : Dir) (q : Pt) : Type 0 where
   pub meets : is_tanto c.how ≡ false → MeetsStop c q
   pub touches : is_tanto c.how ≡ true → TouchesStop c q
 
--- one round a circle ends within a unit of its track, and of its stop where it meets it
-pub record EndsOnCircle (c : Course) (q : Pt) : Type 0 where
+-- one round a circle about o ends within a unit of its track, and of its stop where it meets it; seen from the centre, its end is not in the direction of its start
+pub record EndsOnCircle (c : Course) (o : Pt) (q : Pt) : Type 0 where
   pub track : IsNearTarget c.track (pos 1) q
   pub meets : is_tanto c.how ≡ false → IsNearTarget c.stop (pos 1) q
+  pub touches : is_tanto c.how ≡ true → TouchesStop c q
+  pub apart : turn_class (displacement o c.start) c.sense (displacement o q) ≢ 0
 
 -- what is said of an end by its track
 abbrev pub IsEndOn : Target → Course → Pt → Type 0
 IsEndOn (targets.Line b d h) c q = EndsOnLine c d q
-IsEndOn (targets.Circ o r) c q = EndsOnCircle c q
+IsEndOn (targets.Circ o r) c q = EndsOnCircle c o q
