@@ -55,7 +55,7 @@ chord_parts : (a b c d : ℤ) → (((c -ℤ a) *ℤ (c -ℤ a)) +ℤ ((d -ℤ b)
     ≡ ((a *ℤ a) +ℤ (b *ℤ b)) +ℤ ((c *ℤ c) +ℤ (d *ℤ d))
 chord_parts a b c d = rw (as_diff a, as_diff b, as_diff c, as_diff d, diff-pos 2) (simp differences (diff-same _ _ _ _ (omega arith)))
 
-chord_long : (a b : Dir) → pos (length_squared (chord a b)) +ℤ (pos 2 *ℤ dot a b) ≡ pos (length_squared a) +ℤ pos (length_squared b)
+pub chord_long : (a b : Dir) → pos (length_squared (chord a b)) +ℤ (pos 2 *ℤ dot a b) ≡ pos (length_squared a) +ℤ pos (length_squared b)
 chord_long a b = rw (← square_length_squared (chord a b), ← square_length_squared a, ← square_length_squared b) at (chord_parts a.dx a.dy b.dx b.dy)
 
 dot_sum_parts : (a b c d : ℤ) → ((a +ℤ c) *ℤ (c -ℤ a)) +ℤ ((b +ℤ d) *ℤ (d -ℤ b)) ≡ ((c *ℤ c) +ℤ (d *ℤ d)) -ℤ ((a *ℤ a) +ℤ (b *ℤ b))

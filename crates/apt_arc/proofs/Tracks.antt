@@ -42,13 +42,13 @@ pub is_round : (t : Circ) → IsTrack t → IsRound t
 is_round t is = record { centre = record { x = omega (arith, is.x); y = omega (arith, is.y) }; least = omega (arith, ints, is.least); most = omega (arith, ints, is.least, is.x) }
 
 -- ---- near the track
-length_tells : (h n : ℕ) → IsLengthAtMost (pos h) n ↔ (h * h ≤ n)
+pub length_tells : (h n : ℕ) → IsLengthAtMost (pos h) n ↔ (h * h ≤ n)
 length_tells h n = (
   λ is. omega (arith, (length_at_most 1 h n).0 (subst (λ (z : ℤ). IsLengthAtMost z n) (sym (one-times (pos h))) is)),
   λ le. subst (λ (z : ℤ). IsLengthAtMost z n) (one-times (pos h)) ((length_at_most 1 h n).1 (omega (arith, le))),
 )
 
-root_tells : (h n : ℕ) → IsRootAtMost n (pos h) ↔ (n ≤ h * h)
+pub root_tells : (h n : ℕ) → IsRootAtMost n (pos h) ↔ (n ≤ h * h)
 root_tells h n = (
   λ is. omega (arith, (root_at_most 1 h n).0 (subst (λ (z : ℤ). IsRootAtMost n z) (sym (one-times (pos h))) is)),
   λ le. subst (λ (z : ℤ). IsRootAtMost n z) (one-times (pos h)) ((root_at_most 1 h n).1 (omega (arith, le))),

@@ -5,3 +5,4 @@ pub mod Steps
 pub mod Divisions
 pub mod Made
 pub mod Halves
+pub mod Stops

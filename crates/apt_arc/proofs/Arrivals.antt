@@ -1,0 +1,105 @@
+-- Where nothing refuses, an arc meets its stop before the axis, or on its ray, and its end is not in the direction of its start. The axis leads from the centre towards the stop.
+use Rattle.std.proofs.Common.{◌≡◌, ◌≢◌, ◌⊎◌, ℕ, ◌+◌, ◌*◌, ◌≤◌, ◌<◌, subst, arith, ℤ, pos, ◌+ℤ◌, ◌-ℤ◌, ◌<ℤ◌, ◌≤ℤ◌, unsigned_abs}
+use Rattle.std.proofs.Math.Nat.{mul-le-mul_left}
+use Rattle.std.proofs.lemmas.Int.{ints}
+use Rattle.apt_plane.specs.declared.figures.Pt.{Pt}
+use Rattle.apt_plane.specs.declared.figures.Dir.{Dir}
+use Rattle.apt_plane.specs.declared.figures.Circ.{Circ}
+use Rattle.apt_plane.specs.Vectors.{displacement, length_squared}
+use Rattle.apt_plane.specs.Distances.{IsLengthAtMost, IsRootAtMost}
+use Rattle.apt_plane.specs.Order.{turn_class}
+use Rattle.apt_plane.proofs.Turned.{turned_by}
+use Rattle.apt_plane.proofs.Around.{Cyc}
+use Rattle.apt_canon.specs.Scale.{IsNearCircle}
+use Rattle.apt_arc.specs.declared.arc.Arc.{Arc}
+use Rattle.apt_arc.specs.Ranges.{IsTrack, IsArc}
+use Rattle.apt_arc.specs.Stops.{IsRoute, to_start, to_end}
+use Rattle.apt_arc.proofs.Spans.{IsNearby}
+use Rattle.apt_arc.proofs.Tracks.{within, within_large, radius_is, nearby, near_track, length_tells, root_tells}
+use Rattle.apt_arc.proofs.Governed.{IsHardlyAcross, IsHardlyNearerTo, IsOnRay, away_reached}
+use Rattle.apt_arc.proofs.Kept.{IsOnCircle, IsStopped}
+use Rattle.apt_arc.proofs.NearRows.{IsNearRow, near_reached}
+use Rattle.apt_arc.proofs.Apart.{away_apart, near_apart}
+
+-- ---- an end at most a unit from its track
+shorter : (p : ℕ) (r : ℤ) → r ≡ pos (p + 3) → r -ℤ pos 1 ≡ pos (p + 2)
+shorter p r e = omega (arith, ints, e)
+
+longer : (p : ℕ) (r : ℤ) → r ≡ pos (p + 3) → r +ℤ pos 1 ≡ pos (p + 4)
+longer p r e = omega (arith, ints, e)
+
+pub on_circle : (t : Circ) (x : Pt) → IsTrack t → IsNearCircle t (pos 1) x → IsOnCircle (within t) (displacement t.c x)
+on_circle t x is near =
+    let n = length_squared (displacement t.c x) in
+    let p = within t in
+    record {
+      low = (length_tells (p + 2) n).0 (subst (λ (z : ℤ). IsLengthAtMost z n) (shorter p t.r (radius_is t is)) near.outside);
+      high = (root_tells (p + 4) n).0 (subst (λ (z : ℤ). IsRootAtMost n z) (longer p t.r (radius_is t is)) near.inside);
+    }
+
+within_three : (p n : ℕ) → (p + 2) * (p + 2) ≤ n → n ≤ (p + 4) * (p + 4) → (p * p ≤ n) × (n ≤ (p + 6) * (p + 6))
+within_three p n low high = (omega (arith, low), omega (arith, high))
+
+pub near_end : (a : Arc) → IsRoute a → IsNearCircle a.track (pos 3) a.end
+near_end a is =
+    let on = on_circle a.track a.end is.track is.end in
+    let both = within_three (within a.track) (length_squared (to_end a)) on.low on.high in
+    let near : IsNearby (within a.track) (to_end a) = record { low = both.0; high = both.1 } in
+    near_track a.track a.end is.track near
+
+-- ---- an arc and the axis: its end lies on the far side, or hardly across it
+pub record EndsPast (a : Arc) (b : Dir) : Type 0 where
+  pub some : 0 < length_squared b
+  pub side : (turned_by a.sense b (to_end a) ≤ℤ pos 0) ⊎ IsHardlyAcross a.sense b (to_end a)
+
+abbrev pub Arrives : Arc → Dir → Type 0
+Arrives a b = (Cyc (to_start a) a.sense (to_end a) b ⊎ IsOnRay a.sense b (to_end a)) × (turn_class (to_start a) a.sense (to_end a) ≢ 0)
+
+some_length : (p n k : ℕ) → 97 ≤ p → (p + k) * (p + k) ≤ n → 0 < n
+some_length p n k least h = omega (arith, h, least, mul-le-mul_left p least)
+
+pub away_arrives : (a : Arc) (b : Dir) → IsRoute a → EndsPast a b → ¬ IsHardlyNearerTo b (to_start a) (to_end a) → Arrives a b
+away_arrives a b is past nearer =
+    let vs = to_start a in
+    let ve = to_end a in
+    let p = within a.track in
+    let least = within_large a.track is.track in
+    let low : (p + 0) * (p + 0) ≤ length_squared vs = omega (arith, (nearby a.track a.start is.track is.start).low) in (
+      away_reached a.sense vs ve b is.sense past.some nearer past.side,
+      away_apart a.sense vs ve b is.sense (some_length p (length_squared vs) 0 least low) (some_length p (length_squared ve) 2 least (on_circle a.track a.end is.track is.end).low) nearer,
+    )
+
+-- the start lies more than 8 before the axis
+pub near_arrives : (a : Arc) (b : Dir) → IsRoute a → EndsPast a b → pos 0 <ℤ turned_by a.sense b (to_start a)
+    → 64 * length_squared b < unsigned_abs (turned_by a.sense b (to_start a)) * unsigned_abs (turned_by a.sense b (to_start a)) → Arrives a b
+near_arrives a b is past ahead far =
+    let p = within a.track in
+    let vs = to_start a in
+    let ve = to_end a in
+    let row : IsNearRow p a.sense vs ve b =
+    record {
+      turn = is.sense;
+      least = within_large a.track is.track;
+      axis = past.some;
+      start = nearby a.track a.start is.track is.start;
+      end = on_circle a.track a.end is.track is.end;
+      ahead = ahead;
+      far = far;
+      hardly = past.side;
+    } in
+    (near_reached p a.sense vs ve b row, near_apart p a.sense vs ve b row)
+
+-- ---- so it can be divided
+pub is_arc : (a : Arc) → IsRoute a → turn_class (to_start a) a.sense (to_end a) ≢ 0 → IsArc a
+is_arc a is apart = record { track = is.track; sense = is.sense; axis = is.axis; sag = is.sag; start = is.start; end = near_end a is; apart = apart }
+
+pub stopped : (a : Arc) (b : Dir) → IsRoute a → 0 < length_squared b → Cyc (to_start a) a.sense (to_end a) b ⊎ IsOnRay a.sense b (to_end a)
+    → IsStopped (within a.track) a.sense (to_start a) (to_end a) b
+stopped a b is some met = record {
+  turn = is.sense;
+  least = within_large a.track is.track;
+  axis = some;
+  start = nearby a.track a.start is.track is.start;
+  end = on_circle a.track a.end is.track is.end;
+  met = met;
+}
