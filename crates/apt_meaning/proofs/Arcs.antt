@@ -23,6 +23,8 @@ use Rattle.apt_contact.proofs.ContactLaws.{circles_overlap}
 use Rattle.apt_stop.specs.Nearness.{is_near, off_track}
 use Rattle.apt_stop.specs.Tangencies.{tangent_axis, IsElsewhere}
 use Rattle.apt_stop.specs.Courses.{is_tanto, course_cases}
+use Rattle.apt_stop.specs.Ends.{EndsOnCircle}
+use Rattle.apt_stop.proofs.Ended.{course_ends}
 use Rattle.apt_stop.proofs.Axes.{no_axis, towards-IsDir}
 use Rattle.apt_stop.proofs.Rings.{near_least, near_most, ring_true}
 use Rattle.apt_stop.proofs.Parts.{meets, touches}
@@ -34,7 +36,6 @@ use Rattle.apt_meaning.specs.Motions.{drive_side, check_side, course_of, contact
 use Rattle.apt_meaning.specs.Refusals.{motion_cases}
 use Rattle.apt_meaning.specs.Ranges.{IsMotion}
 use Rattle.apt_meaning.proofs.Legal.{course_is}
-use Rattle.apt_meaning.proofs.RoundEnds.{EndsRound, round_ends}
 
 -- a motion round a circle, the radius of its track, and its arc
 abbrev pub round : Motion → Circ → Motion
@@ -48,7 +49,7 @@ arc_round m d = arc_on (round m d) d.c (radius_round m d)
 
 -- ---- its track
 
-enough : (r : ℤ) → int_lt r least_radius ≡ false → least_radius ≤ℤ r
+pub enough : (r : ℤ) → int_lt r least_radius ≡ false → least_radius ≤ℤ r
 enough r e = grind (arith, ints)
 
 pub track_is : (m : Motion) (d : Circ) → IsMotion (round m d) → NoneHolds (motion_cases (round m d)) → IsTrack (circle_about d.c (radius_round m d))
@@ -132,8 +133,8 @@ elsewhere m d true e none = touch_elsewhere d m.check (touches (course_of (round
 
 -- ---- all of it
 
-pub ends_round : (m : Motion) (d : Circ) → IsMotion (round m d) → NoneHolds (motion_cases (round m d)) → EndsRound (course_of (round m d)) d.c (contact (round m d))
-ends_round m d is none = round_ends (course_of (round m d)) d.c (radius_round m d) refl (course_is (round m d) is none) none.1.1.1.1
+pub ends_round : (m : Motion) (d : Circ) → IsMotion (round m d) → NoneHolds (motion_cases (round m d)) → EndsOnCircle (course_of (round m d)) d.c (contact (round m d))
+ends_round m d is none = course_ends (course_of (round m d)) (course_is (round m d) is none) none.1.1.1.1
 
 pub arc_is : (m : Motion) (d : Circ) → IsMotion (round m d) → NoneHolds (motion_cases (round m d)) → IsArc (arc_round m d)
 arc_is m d is none =

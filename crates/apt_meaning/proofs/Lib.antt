@@ -1,8 +1,8 @@
 pub mod Bands
 pub mod Edges
 pub mod Legal
-pub mod RoundEnds
 pub mod Arcs
+pub mod Starts
 pub mod Overruns
 pub mod Rounds
 pub mod Cuts

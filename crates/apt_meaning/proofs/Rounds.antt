@@ -16,15 +16,17 @@ use Rattle.apt_plane.proofs.SegmentLaws.{at_end}
 use Rattle.apt_plane.proofs.Weaker.{every_over, every_under}
 use Rattle.apt_contact.specs.Meetings.{circle_about}
 use Rattle.apt_stop.specs.Courses.{is_tanto, axis_of}
+use Rattle.apt_stop.specs.Ends.{EndsOnCircle}
 use Rattle.apt_stop.proofs.Chosen.{bound_there}
 use Rattle.apt_arc.specs.declared.arc.Arc.{Arc}
 use Rattle.apt_arc.specs.Made.{divided}
 use Rattle.apt_arc.specs.Ranges.{IsTrack, IsArc}
 use Rattle.apt_arc.specs.Steps.{chord_band, IsInside, AreSteps}
+use Rattle.apt_arc.specs.Stops.{EveryChord}
 use Rattle.apt_arc.proofs.Divided.{divides}
 use Rattle.apt_arc.proofs.Steps.{arc_steps, division_ends}
 use Rattle.apt_certify.specs.Jobs.{ArePoints}
-use Rattle.apt_certify.specs.Legs.{IsSome, IsOnAxisOrNone, AllHold, tests_from, last_of}
+use Rattle.apt_certify.specs.Legs.{IsWithinEdge, IsSome, IsOnAxisOrNone, AllHold, tests_from, last_of}
 use Rattle.apt_meaning.specs.declared.motion.Motion.{Motion}
 use Rattle.apt_meaning.specs.Motions.{check_side, course_of, contact, leg_of, sag}
 use Rattle.apt_meaning.specs.Refusals.{motion_cases}
@@ -32,9 +34,8 @@ use Rattle.apt_meaning.specs.Ranges.{IsMotion}
 use Rattle.apt_meaning.specs.Records.{IsLegalCut}
 use Rattle.apt_meaning.proofs.Bands.{near_surface}
 use Rattle.apt_meaning.proofs.Legal.{course_is, leg_bounded, no_axis, on_axis}
-use Rattle.apt_meaning.proofs.RoundEnds.{EndsRound}
 use Rattle.apt_meaning.proofs.Arcs.{round, radius_round, arc_round, arc_is, room_round, sag_within, ends_round}
-use Rattle.apt_meaning.proofs.Overruns.{AreWithin, round_within}
+use Rattle.apt_meaning.proofs.Overruns.{round_within}
 
 -- ---- how it ends
 
@@ -42,7 +43,7 @@ record EndsThere (m : Motion) (q : Pt) : Type 0 where
   stop : InBand m.check (leg_of m).stop_band (scaled q)
   axis : IsOnAxisOrNone (leg_of m).axis q
 
-ends_there : (m : Motion) (d : Circ) (q : Pt) (tanto : Bool) → is_tanto m.how ≡ tanto → IsMotion (round m d) → EndsRound (course_of (round m d)) d.c q → EndsThere (round m d) q
+ends_there : (m : Motion) (d : Circ) (q : Pt) (tanto : Bool) → is_tanto m.how ≡ tanto → IsMotion (round m d) → EndsOnCircle (course_of (round m d)) d.c q → EndsThere (round m d) q
 ends_there m d q false e is ends = record {
   stop = near_surface m.check (check_side (round m d)) m.radius m.inner m.outer (pos 1) q is.inner.least is.outer.least (omega (arith, ints)) (ends.meets e);
   axis = rw (no_axis (course_of (round m d)) e) tt;
@@ -64,7 +65,7 @@ chord_in_band d t sag band a b same lo hi inside =
     }
 
 tests_hold : (m : Motion) (d : Circ) (s a e : Pt) (list : List Pt) → IsMotion (round m d) → AreSteps (circle_about d.c (radius_round m d)) (sag (round m d) (radius_round m d)) m.sense s a list e
-    → AreWithin (leg_of (round m d)) a list → EndsThere (round m d) e → AllHold (leg_of (round m d)) s (tests_from a list)
+    → EveryChord a list (IsWithinEdge (leg_of (round m d)) (leg_of (round m d)).beyond) → EndsThere (round m d) e → AllHold (leg_of (round m d)) s (tests_from a list)
 tests_hold m d s a e [] is steps within ends = subst (λ (q : Pt). AllHold (leg_of (round m d)) s (tests_from q [])) (sym steps) (ends.stop, (ends.axis, tt))
 tests_hold m d s a e (x ∷ xs) is steps within ends =
     let t = circle_about d.c (radius_round m d) in

@@ -182,9 +182,7 @@ impl Motion {
             self.inner,
             self.outer,
         );
-        let margin = r - band.lo;
-        let quarter = (r.unsigned_abs() / 4) as i64;
-        if margin <= quarter { margin } else { quarter }
+        lesser(r - band.lo, (r.unsigned_abs() / 4) as i64)
     }
 }
 
@@ -230,4 +228,10 @@ fn allowance(tolerance: i64) -> i64
     } else {
         tolerance
     }
+}
+
+fn lesser(a: i64, b: i64) -> i64
+    ensures { result ≡ motions.lesser a b }
+{
+    if a <= b { a } else { b }
 }
