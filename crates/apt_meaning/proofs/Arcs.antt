@@ -1,7 +1,6 @@
 -- The arc of a contour round a circle that no case refuses can be divided.
 use Rattle.std.proofs.Common.{◌≡◌, refl, sym, subst, ℕ, ◌+◌, ◌-◌, ◌*◌, ◌/◌, ◌≤◌, ℤ, pos, negsuc, ◌-ℤ◌, ◌*ℤ◌, ◌≤ℤ◌, unsigned_abs, Bool, true, false, Option, Some, None, IfSome, arith}
 use Rattle.std.specs.Prelude.{int_lt, is_none, is_some}
-use Rattle.std.specs.Option.{IsNone}
 use Rattle.std.proofs.lemmas.Int.{ints}
 use Rattle.std.proofs.lemmas.Nat.{mul-le}
 use Rattle.std.proofs.lemmas.Bool.{true≢false, not-false}

@@ -1,5 +1,5 @@
 -- A step that no case refuses has an effect in range, and a contour that it asks for is legal with its own vertices, to its contact.
-use Rattle.std.proofs.Common.{◌≡◌, ℕ, ℤ, unsigned_abs, int_lt, not, Bool, true, false, List, [], ◌∷◌, Option, Some, None, is_none, IsSome, IfSome, Result, Ok, Err, IfOk, refl, cond, sym, ap, subst, ◌∙◌, pos, arith}
+use Rattle.std.proofs.Common.{◌≡◌, ℕ, ℤ, unsigned_abs, int_lt, not, Bool, true, false, List, [], ◌∷◌, Option, Some, None, is_none, IsSome, IfSome, Result, Ok, Err, IfOk, refl, cond, sym, ap, subst, ◌∙◌, pos}
 use Rattle.std.proofs.lemmas.Bool.{true≢false}
 use Rattle.apt_num.specs.declared.Sign.{Sign}
 use Rattle.apt_words.specs.declared.Go.{Go}
@@ -18,7 +18,6 @@ use Rattle.apt_words.specs.Sources.{DeedHasText}
 use Rattle.apt_scalar.specs.Scalars.{IsScalar, grid_units, tenths, whole}
 use Rattle.apt_plane.specs.declared.figures.Pt.{Pt}
 use Rattle.apt_plane.specs.declared.figures.Surface.{Surface}
-use Rattle.apt_plane.specs.declared.figures.Surface.TheVariants as surfaces
 use Rattle.apt_plane.specs.Ranges.{IsPoint, IsSurface}
 use Rattle.apt_offset.specs.Turns.{is_zero}
 use Rattle.apt_startup.specs.declared.Goal.{Goal}

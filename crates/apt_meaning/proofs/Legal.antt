@@ -22,17 +22,17 @@ use Rattle.apt_offset.specs.Edges as edges
 use Rattle.apt_offset.specs.Edges.{widened}
 use Rattle.apt_offset.specs.Sides.{side_at_tangency}
 use Rattle.apt_offset.specs.Turns.{is_zero}
-use Rattle.apt_offset.specs.Targets.{signed, lacks_room, band_at}
+use Rattle.apt_offset.specs.Targets.{signed, lacks_room}
 use Rattle.apt_stop.specs.declared.course.Course.{Course}
 use Rattle.apt_stop.specs.Nearness.{is_near, heading, off_track}
-use Rattle.apt_stop.specs.Courses.{is_tanto, kept_side, axis_of, end_of, course_cases}
+use Rattle.apt_stop.specs.Courses.{is_tanto, kept_side, axis_of}
 use Rattle.apt_stop.specs.Ends.{IsOnAxisOf, EndsOnLine}
 use Rattle.apt_stop.specs.Ranges.{IsCourse}
 use Rattle.apt_stop.proofs.NearLaws.{near-OnLine}
 use Rattle.apt_stop.proofs.Chosen.{bound_there}
 use Rattle.apt_stop.proofs.Ended.{course_ends}
 use Rattle.apt_certify.specs.declared.leg.Leg.{Leg}
-use Rattle.apt_certify.specs.Legs.{beyond_of, IsBounded, IsWithinEdge, IsOnAxisOrNone, IsLegal}
+use Rattle.apt_certify.specs.Legs.{beyond_of, IsBounded, IsOnAxisOrNone}
 use Rattle.apt_meaning.specs.declared.motion.Motion.{Motion}
 use Rattle.apt_meaning.specs.Motions.{track_of, stop_of, drive_side, check_side, starts_on_check, course_of, stop_side, contact, leg_of, has_track, has_bound, is_defined}
 use Rattle.apt_meaning.specs.Refusals.{motion_cases}

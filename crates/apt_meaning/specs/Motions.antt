@@ -1,11 +1,9 @@
 -- Contour motions: the parts of one at a situation, its leg, and where it stops.
 use Rattle.std.specs.Prelude.{ℤ, pos, ◌-ℤ◌, ◌/◌, unsigned_abs, int_lt, int_le, ◌&&◌, ◌||◌, not, Bool, is_some, List, [], ◌∷◌, ℕ, Option, Some, None, if◌then◌else◌}
 use Rattle.apt_num.specs.declared.Sign.{Sign}
-use Rattle.apt_num.specs.declared.Sign.TheVariants as signs
 use Rattle.apt_words.specs.declared.Go.{Go}
 use Rattle.apt_words.specs.declared.Side.{Side}
 use Rattle.apt_words.specs.declared.Stop.{Stop}
-use Rattle.apt_words.specs.declared.Stop.TheVariants as stops
 use Rattle.apt_words.specs.Options.{◌>>=◌}
 use Rattle.apt_plane.specs.declared.figures.Pt.{Pt}
 use Rattle.apt_plane.specs.declared.figures.Surface.{Surface}

@@ -1,6 +1,6 @@
 //! Motions.
 
-ghost use Rattle.std.specs.Prelude.{◌≡◌, ◌^◌, ◌≤ℤ◌, false, pos, IfSome};
+ghost use Rattle.std.specs.Prelude.{◌≡◌, ◌^◌, ◌/◌, ◌≤ℤ◌, ◌-ℤ◌, unsigned_abs, false, pos, IfSome};
 ghost use Rattle.apt_words.specs.Rows.{NoneHolds};
 ghost use Rattle.apt_plane.specs.Ranges.{IsSurface, IsSense};
 ghost use Rattle.apt_arc.specs.Ranges.{IsArc};
@@ -175,6 +175,16 @@ impl Motion {
         requires most { r ≤ℤ pos (10 ^ 8) }
         ensures { result ≡ motions.sag self.now r }
     {
+        lesser(self.inner_margin(r), quarter(r))
+    }
+
+    /// How far inside of a track of this radius the drive band reaches.
+    fn inner_margin(&self, r: i64) -> i64
+        requires motion { IsMotion self.now }
+        requires least { pos 100 ≤ℤ r }
+        requires most { r ≤ℤ pos (10 ^ 8) }
+        ensures { result ≡ r -ℤ (motions.leg_of self.now).band.lo }
+    {
         let band = band_at(
             &self.drive,
             self.drive_side(),
@@ -182,8 +192,16 @@ impl Motion {
             self.inner,
             self.outer,
         );
-        lesser(r - band.lo, (r.unsigned_abs() / 4) as i64)
+        r - band.lo
     }
+}
+
+/// A quarter of a length.
+fn quarter(r: i64) -> i64
+    requires { pos 0 ≤ℤ r }
+    ensures { result ≡ pos (unsigned_abs r / 4) }
+{
+    (r.unsigned_abs() / 4) as i64
 }
 
 /// How a drive surface runs at the start against forward.
