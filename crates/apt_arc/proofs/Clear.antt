@@ -106,7 +106,7 @@ pub clear_tells : (track : Circ) (sag : ℤ) (a b : Pt) → IsTrue (is_clear tra
 unfolding is_clear
 clear_tells track sag a b = over_tells track.c (track.r -ℤ sag) a b
 
--- ---- by a band whose outer edge is out of fits
+-- ---- by a band whose outer edge is out of reach
 under_far : (c p : Pt) → IsPoint c → IsPoint p → IsUnder (about c) (pos 200000000) (scaled p)
 under_far c p at_c at_p =
     rw (one-times c.x, one-times c.y) ((root_at_most 1 200000000 (length_squared (displacement c p))).1 (omega (arith, displacement_short c p at_c at_p)))

@@ -70,7 +70,7 @@ first_length t sense a b is piece =
 one_more : (r j sag : ℕ) → r ≤ 3 ^ j * sag → r ≤ 1 * 3 ^ j * sag
 one_more r j sag h = omega (arith, h)
 
--- a piece is cut by k halvings, one in the other, where three to the power of k makes the fits as long as the radius
+-- a piece is cut by k halvings, one in the other, where three to the power of k makes the sag as long as the radius
 pub piece_cut : (k : ℕ) (t : Circ) (sag sense : ℤ) (a b : Pt) → IsTrack t → IsSag t sag → IsSense sense → IsPiece t sense a b → within t + 3 ≤ 3 ^ k * unsigned_abs sag
     → IsCut k t sag a b (pieces k t sag a b)
 piece_cut k t sag sense a b is fits turn piece deep = cut_level k 1 t sag sense a b is fits turn piece (first_length t sense a b is piece) (one_more (within t + 3) k (unsigned_abs sag) deep)

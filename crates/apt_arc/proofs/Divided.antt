@@ -12,7 +12,7 @@ use Rattle.apt_arc.specs.Ranges.{IsTrack, IsArc}
 use Rattle.apt_arc.specs.Cuts.{AreCuts}
 use Rattle.apt_arc.specs.Quarters.{IsIn, Each, IsQuarterPoint, IsOnTheWay, AreQuarters}
 use Rattle.apt_arc.specs.Divisions.{IsDivision}
-use Rattle.apt_arc.specs.Made.{chain, quarters, first_past, stations, divided}
+use Rattle.apt_arc.specs.Made.{chain, quarters, first_past, stations, vertices, divided}
 use Rattle.apt_arc.proofs.Spans.{some_length}
 use Rattle.apt_arc.proofs.Lists.{cuts_are}
 use Rattle.apt_arc.proofs.Tracks.{within, within_large, within_small, nearby, sag_least, size_of_radius}
@@ -27,6 +27,7 @@ same_radius r x y e h = omega (arith, e, h)
 
 cuts : (arc : Arc) → IsArc arc → (k : ℕ) → unsigned_abs arc.track.r ≤ 3 ^ k * unsigned_abs arc.sag
     → AreCuts k arc.track arc.sag arc.start (quarters arc.track arc.sense arc.start arc.end arc.axis ++ arc.end ∷ []) (divided arc)
+unfolding divided vertices stations
 cuts arc fits k deep =
     let t = arc.track in
     chain_cut k t arc.sag arc.sense arc.start (quarters t arc.sense arc.start arc.end arc.axis ++ arc.end ∷ []) fits.track fits.sag fits.sense (quarters_divide arc fits).1
@@ -41,6 +42,7 @@ few : (n m k l : ℕ) → n ≤ m * k → m ≤ l → n ≤ l * k
 few n m k l h g = omega (arith, h, mul-le m k l k g (omega arith))
 
 pub short : (arc : Arc) → IsArc arc → (k : ℕ) → unsigned_abs arc.track.r ≤ 3 ^ k * unsigned_abs arc.sag → length (divided arc) ≤ 5 * 2 ^ k
+unfolding stations
 short arc fits k deep =
     let points = stations 4 arc (first_past 3 arc.track arc.sense arc.start arc.axis) in
     few (length (divided arc)) (length points) (2 ^ k) 5 (cuts_short k arc.track arc.sag arc.start points (divided arc) (cuts arc fits k deep))
@@ -76,6 +78,7 @@ one_quarters arc list other fits are also =
     (λ x here. let is = one_of_each t sense u s e x other also.each here in are.all x is.0 is.1)
 
 pub only : (arc : Arc) → IsArc arc → (list : List Pt) → IsDivision arc list → list ≡ divided arc
+unfolding divided vertices stations
 only arc fits list division =
     let t = arc.track in
     let points = quarters t arc.sense arc.start arc.end arc.axis in

@@ -11,7 +11,7 @@ use Rattle.apt_canon.specs.Feet.{ray_point}
 use Rattle.apt_arc.specs.declared.arc.Arc.{Arc}
 use Rattle.apt_arc.specs.Ranges.{IsPiece, ArePieces}
 use Rattle.apt_arc.specs.Cuts.{middle}
-use Rattle.apt_arc.specs.Made.{is_clear, pieces, vertices, stations, onward}
+use Rattle.apt_arc.specs.Made.{is_clear, pieces, first_past, vertices, stations, divided, onward}
 use Rattle.apt_arc.proofs.Lists.{one_less, pieces_halved, chain_more, chain_none}
 use Rattle.apt_arc.specs.Halves.{IsHalved, IsNext}
 
@@ -47,6 +47,7 @@ first_piece t sense a q list qs e are = rw e at are
 
 pub next_vertices : (left : ℕ) (arc : Arc) (from q : Pt) (u v : Dir) → IsNext left arc u q → v ≡ onward arc.sense u
     → vertices left arc from u ≡ pieces 24 arc.track arc.sag from q ++ vertices (left - 1) arc q v
+unfolding vertices
 next_vertices left arc from q u v next turn =
     chain_more 24 arc.track arc.sag from q (stations left arc u) (stations (left - 1) arc (onward arc.sense u)) next.list
     ∙ ap (λ (d : Dir). pieces 24 arc.track arc.sag from q ++ vertices (left - 1) arc q d) (sym turn)
@@ -68,6 +69,7 @@ nothing_on [] = refl
 nothing_on (x ∷ xs) = ap (λ (ys : List Pt). x ∷ ys) (nothing_on xs)
 
 pub last_vertices : (left : ℕ) (arc : Arc) (from : Pt) (u : Dir) → stations left arc u ≡ arc.end ∷ [] → vertices left arc from u ≡ pieces 24 arc.track arc.sag from arc.end
+unfolding vertices
 last_vertices left arc from u e =
     chain_more 24 arc.track arc.sag from arc.end (stations left arc u) [] e ∙ ap (λ (xs : List Pt). pieces 24 arc.track arc.sag from arc.end ++ xs) (chain_none 24 arc.track arc.sag arc.end [] refl)
     ∙ nothing_on (pieces 24 arc.track arc.sag from arc.end)
@@ -77,6 +79,14 @@ last_length left arc from u e = ap length (last_vertices left arc from u e)
 
 pub end_piece : (left : ℕ) (arc : Arc) (from : Pt) (u : Dir) → stations left arc u ≡ arc.end ∷ [] → ArePieces arc.track arc.sense from (stations left arc u) → IsPiece arc.track arc.sense from arc.end
 end_piece left arc from u e are = (first_piece arc.track arc.sense from arc.end (stations left arc u) [] e are).0
+
+-- ---- of the whole arc
+pub whole_is : (arc : Arc) (u : Dir) → u ≡ first_past 3 arc.track arc.sense arc.start arc.axis → divided arc ≡ vertices 4 arc arc.start u
+unfolding divided
+whole_is arc u turn = ap (λ (d : Dir). vertices 4 arc arc.start d) (sym turn)
+
+pub whole_length : (arc : Arc) (u : Dir) (n : ℕ) → u ≡ first_past 3 arc.track arc.sense arc.start arc.axis → n ≡ length (vertices 4 arc arc.start u) → n ≡ length (divided arc)
+whole_length arc u n turn e = e ∙ sym (ap length (whole_is arc u turn))
 
 -- ---- counted, and appended
 pub counted : (x y l k n : ℕ) → x ≡ l → y ≡ k → n ≡ l + k → x + y ≡ n

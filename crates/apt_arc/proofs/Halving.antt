@@ -5,7 +5,7 @@ use Rattle.std.proofs.lemmas.Nat.{mul-le, mul-lt}
 use Rattle.std.proofs.lemmas.Bool.{cases_lt}
 use Rattle.apt_num.proofs.Squares.{four_le}
 
--- ---- what is cut is long: q = r - w, t = w - 3
+-- ---- what is cut is long: q is the radius less the sag, t the sag less 3
 constant : (q t : ℕ) → 5 ≤ t → 3 * t + 9 ≤ q → 4 * ((t + 3) * (q + t + 3)) ≤ 4 * (2 * (q * t) + t * t)
 constant q t a b = omega (arith, mul-le-mul_left q a)
 
@@ -25,7 +25,7 @@ near_piece D A B X j k q t e a b n c d = elim (cases_lt (4 * ((t + 3) * (q + t +
       ))
 ]
 
--- ---- and turns far: p = r - 3
+-- ---- and turns far: p is the radius less 3
 pub across_core : (p U D Q E : ℕ) → U * D ≡ 4 * (Q * Q) + E * E → 2 * (p * p) ≤ U → E ≤ 12 * (p + 3) → 32 * (p + 3) < D → 97 ≤ p → 38 * (p + 3) ≤ Q
 across_core p U D Q E h u e d lo = elim (cases_lt Q (38 * (p + 3))) [
   | inl small ↦

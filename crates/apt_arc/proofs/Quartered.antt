@@ -81,15 +81,18 @@ then_end : (xs : List Pt) (e : Pt) → xs ≡ [] → xs ++ e ∷ [] ≡ e ∷ []
 then_end xs e h = rw h refl
 
 pub none_left : (left : ℕ) (arc : Arc) (u : Dir) → left ≡ 0 → stations left arc u ≡ arc.end ∷ []
+unfolding stations
 none_left left arc u h =
     then_end (quarters_from left arc.track arc.sense arc.start arc.end u) arc.end (list_none left arc.track arc.sense arc.start arc.end u h)
 
 pub none_next : (left : ℕ) (arc : Arc) (u : Dir) (q : Pt) → q ≡ ray_point arc.track u → is_on_the_way arc.track arc.sense arc.start arc.end q ≡ false → stations left arc u ≡ arc.end ∷ []
+unfolding stations
 none_next left arc u q at off =
     then_end (quarters_from left arc.track arc.sense arc.start arc.end u) arc.end
     (list_off left arc.track arc.sense arc.start arc.end u (subst (λ (x : Pt). is_on_the_way arc.track arc.sense arc.start arc.end x ≡ false) at off))
 
 pub is_next : (left : ℕ) (arc : Arc) (u : Dir) (q : Pt) → 0 < left → q ≡ ray_point arc.track u → is_on_the_way arc.track arc.sense arc.start arc.end q ≡ true → IsNext left arc u q
+unfolding stations
 is_next zero arc u q some at on = absurd (omega (arith, some))
 is_next (suc n) arc u q some at on = record {
   some = some;
@@ -106,6 +109,7 @@ list_short (suc n) t sense s e u = elim (cases_Bool (is_on_the_way t sense s e (
 ]
 
 pub stations_few : (n : ℕ) (arc : Arc) (u : Dir) → length (stations n arc u) ≤ n + 1
+unfolding stations
 stations_few n arc u =
     omega (arith, length-append (quarters_from n arc.track arc.sense arc.start arc.end u) (arc.end ∷ []), list_short n arc.track arc.sense arc.start arc.end u)
 
@@ -117,4 +121,5 @@ pub arc_end : (arc : Arc) → IsArc arc → IsPoint arc.end
 arc_end arc fits = point_near arc.track arc.end fits.track fits.end
 
 pub arc_pieces : (arc : Arc) (u : Dir) → IsArc arc → u ≡ first_past 3 arc.track arc.sense arc.start arc.axis → ArePieces arc.track arc.sense arc.start (stations 4 arc u)
+unfolding stations
 arc_pieces arc u fits turn = subst (λ (d : Dir). ArePieces arc.track arc.sense arc.start (stations 4 arc d)) (sym turn) (quarters_divide arc fits).1

@@ -21,7 +21,7 @@ use Rattle.apt_arc.specs.Cuts.{IsClear, middle, IsCut, AreCuts}
 use Rattle.apt_arc.specs.Quarters.{IsQuarterPoint, IsOnTheWay, Each, AreInOrder}
 use Rattle.apt_arc.specs.Steps.{IsStep, IsInside, AreSteps}
 use Rattle.apt_arc.specs.Divisions.{IsDivision}
-use Rattle.apt_arc.specs.Made.{quarters, divided}
+use Rattle.apt_arc.specs.Made.{quarters, stations, vertices, divided}
 use Rattle.apt_arc.proofs.Spans.{some_length, chord_is}
 use Rattle.apt_arc.proofs.Lists.{is_false}
 use Rattle.apt_arc.proofs.Tracks.{within, within_large, radius_is, nearby, half_pieces, sag_parts, chord_length}
@@ -106,6 +106,7 @@ order_end t sense u s a e (q ∷ qs) order each last = (order.0, order_end t sen
 
 -- the vertices of an arc lead from its start to its end
 pub arc_steps : (arc : Arc) → IsArc arc → AreSteps arc.track arc.sag arc.sense arc.start arc.start (divided arc) arc.end
+unfolding divided vertices stations
 arc_steps arc fits =
     let t = arc.track in
     let sense = arc.sense in

@@ -6,7 +6,7 @@ use Rattle.apt_arc.specs.Cuts.{AreCuts}
 use Rattle.apt_arc.specs.Quarters.{AreQuarters}
 use Rattle.apt_arc.specs.Steps.{AreSteps}
 
--- a list divides an arc: it is the cuts of the pieces between the quarter points on the way, none deeper than the powers of three by which the sag reaches the radius, and leads by steps from the start to the end
+-- a list divides an arc: it is the cuts of the pieces between the quarter points on the way, with at most k halvings one in the other wherever the sag times 3 ^ k is at least the radius, and it leads by steps from the start to the end
 pub record IsDivision (a : Arc) (list : List Pt) : Type 0 where
   pub points : List Pt
   pub quarters : AreQuarters a.track a.sense a.axis a.start a.end points

@@ -67,13 +67,13 @@ quarters t sense s e u = quarters_from 4 t sense s e (first_past 3 t sense s u)
 -- ---- an arc
 
 -- the quarter points from a direction on, and the end
-abbrev pub stations : ℕ → Arc → Dir → List Pt
+unfoldable pub stations : ℕ → Arc → Dir → List Pt
 stations n a u = quarters_from n a.track a.sense a.start a.end u ++ a.end ∷ []
 
 -- the vertices from a point near the track through these
-abbrev pub vertices : ℕ → Arc → Pt → Dir → List Pt
+unfoldable pub vertices : ℕ → Arc → Pt → Dir → List Pt
 vertices n a from u = chain 24 a.track a.sag from (stations n a u)
 
 -- the vertices of an arc behind its start
-abbrev pub divided : Arc → List Pt
+unfoldable pub divided : Arc → List Pt
 divided a = vertices 4 a a.start (first_past 3 a.track a.sense a.start a.axis)

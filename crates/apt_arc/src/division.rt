@@ -29,7 +29,7 @@ pub enum ArcError {
 ///
 /// `TooManyPoints` exactly where they are more than `room`; `NoMemory` where memory runs out. Then `out` is as
 /// before.
-#[tactic(auto, using(crate::proofs::Divided::divides, crate::proofs::Divided::only, crate::proofs::Divided::short))]
+#[tactic(auto, using(crate::proofs::Divided::divides, crate::proofs::Divided::short))]
 pub fn chords(arc: &Arc, room: u64, out: &mut Vec<Pt>) -> Result<(), ArcError>
     requires { IsArc arc.now }
     ensures ok { OnOk result (out.new.items ≡ out.old.items ++ divided arc.now) }
@@ -64,8 +64,17 @@ fn append_all(arc: &Arc, room: u64, out: &mut Vec<Pt>) -> Result<(), ArcError>
     if out.reserve(due as usize).is_err() {
         return Err(ArcError::NoMemory);
     }
-    append_from(arc, arc.start, first_past(arc, arc.axis, 3), 4, out);
+    append_whole(arc, out);
     Ok(())
+}
+
+/// Appends the vertices: there is room for them.
+fn append_whole(arc: &Arc, out: &mut Vec<Pt>)
+    requires arc { IsArc arc.now }
+    requires room { vec_len out.old + length (divided arc.now) ≤ vec_capacity out.old }
+    ensures { out.new.items ≡ out.old.items ++ divided arc.now }
+{
+    append_from(arc, arc.start, first_past(arc, arc.axis, 3), 4, out);
 }
 
 /// How many vertices there are from a point through the quarter points from a direction on.

@@ -14,7 +14,7 @@ use Rattle.apt_offset.specs.declared.Target.TheVariants as targets
 use Rattle.apt_offset.specs.Ranges.{IsTarget}
 use Rattle.apt_contact.specs.declared.Meeting.TheVariants.{Parallel, Apart, One}
 use Rattle.apt_contact.specs.Meetings.{line_on, circle_about, meeting_of, of_lines, of_line_and_circle, of_circles}
-use Rattle.apt_contact.specs.Contacts.{AreParallel, Meet, Touch}
+use Rattle.apt_contact.specs.Contacts.{IsCurve, AreParallel, Meet, Touch}
 use Rattle.apt_contact.proofs.Sides.{signs_in_order, apart_by_sides, one_by_sides, between_is, zero_is}
 use Rattle.apt_contact.proofs.Sides as sides
 use Rattle.apt_contact.proofs.Distances.{apart_by_distance, one_by_distance, radii_in_order, no_distance}
@@ -109,26 +109,30 @@ parallel_law (targets.Circ c r) (targets.Circ d q) = circles_parallel (circle_ab
 pub not_negative : (r : ℤ) → pos 100 ≤ℤ r → pos 0 ≤ℤ r
 not_negative r h = omega (arith, ints)
 
-pub apart_law : (a b : Target) → IsTarget a → IsTarget b → (meeting_of a b ≡ Apart) ↔ ((¬ AreParallel a b) × (¬ Meet a b))
+pub target_is_curve : (t : Target) → IsTarget t → IsCurve t
+target_is_curve (targets.Line b d h) is = is
+target_is_curve (targets.Circ c r) is = record { centre = is.centre; least = not_negative r is.least; most = is.most }
+
+pub apart_law : (a b : Target) → IsCurve a → IsCurve b → (meeting_of a b ≡ Apart) ↔ ((¬ AreParallel a b) × (¬ Meet a b))
 apart_law (targets.Line b d h) (targets.Line e f k) is_a is_b =
     (λ apart. absurd (lines_not_apart (line_on b d) (line_on e f) apart), λ no. absurd (no.1 no.0))
 apart_law (targets.Line b d h) (targets.Circ c r) is_a is_b =
-    let law = line_circle_apart (line_on b d) h (circle_about c r) (not_negative r is_b.least) in
+    let law = line_circle_apart (line_on b d) h (circle_about c r) is_b.least in
     (λ e. (λ p. p, law.0 e), λ no. law.1 no.1)
 apart_law (targets.Circ c r) (targets.Line b d h) is_a is_b =
-    let law = line_circle_apart (line_on b d) h (circle_about c r) (not_negative r is_a.least) in
+    let law = line_circle_apart (line_on b d) h (circle_about c r) is_a.least in
     (λ e. (λ p. p, law.0 e), λ no. law.1 no.1)
 apart_law (targets.Circ c r) (targets.Circ d q) is_a is_b = circles_apart (circle_about c r) (circle_about d q)
 
-pub one_law : (a b : Target) → IsTarget a → IsTarget b → (meeting_of a b ≡ One) ↔ ((¬ AreParallel a b) × Touch a b)
+pub one_law : (a b : Target) → IsCurve a → IsCurve b → (meeting_of a b ≡ One) ↔ ((¬ AreParallel a b) × Touch a b)
 one_law (targets.Line b d h) (targets.Line e f k) is_a is_b =
     let law = lines_one (line_on b d) (line_on e f) in
     (λ one. (law.0 one, law.0 one), λ apart. law.1 apart.0)
 one_law (targets.Line b d h) (targets.Circ c r) is_a is_b =
-    let law = line_circle_one b d h c r (not_negative r is_b.least) in
+    let law = line_circle_one b d h c r is_b.least in
     (λ e. (λ p. p, law.0 e), λ touch. law.1 touch.1)
 one_law (targets.Circ c r) (targets.Line b d h) is_a is_b =
-    let law = line_circle_one b d h c r (not_negative r is_a.least) in
+    let law = line_circle_one b d h c r is_a.least in
     (λ e. (λ p. p, law.0 e), λ touch. law.1 touch.1)
 one_law (targets.Circ c r) (targets.Circ d q) is_a is_b =
-    circles_one (circle_about c r) (circle_about d q) (not_negative r is_a.least) (not_negative q is_b.least)
+    circles_one (circle_about c r) (circle_about d q) is_a.least is_b.least

@@ -4,12 +4,14 @@ use Rattle.apt_num.specs.Sign.{AtLeast, square}
 use Rattle.apt_words.specs.declared.Case.{Case}
 use Rattle.apt_words.specs.declared.Case.TheVariants as cases
 use Rattle.apt_plane.specs.declared.figures.Pt.{Pt}
+use Rattle.apt_plane.specs.Ranges.{IsRound}
 use Rattle.apt_plane.specs.Vectors.{displacement, cross, length_squared}
 use Rattle.apt_canon.specs.Scale.{is_in_range, IsNearLine, IsNearCircle}
 use Rattle.apt_canon.specs.Meeting.{meeting_point}
 use Rattle.apt_canon.specs.Circles.{line_circle_point, circle_circle_point}
 use Rattle.apt_offset.specs.declared.Target.{Target}
 use Rattle.apt_offset.specs.declared.Target.TheVariants as targets
+use Rattle.apt_offset.specs.Ranges.{IsLineTarget}
 use Rattle.apt_contact.specs.declared.Meeting.{Meeting}
 use Rattle.apt_contact.specs.declared.Meeting.TheVariants as meetings
 use Rattle.apt_contact.specs.Meetings.{line_on, circle_about}
@@ -28,6 +30,11 @@ contact a b sigma = if is_in_range (contact_point a b sigma) then Ok (contact_po
 abbrev pub IsNearTarget : Target → ℤ → Pt → Type 0
 IsNearTarget (targets.Line b d h) g p = IsNearLine (line_on b d) h g p
 IsNearTarget (targets.Circ c r) g p = IsNearCircle (circle_about c r) g p
+
+-- what may meet: a moved line, or a circle of any radius from 0
+abbrev pub IsCurve : Target → Type 0
+IsCurve (targets.Line b d h) = IsLineTarget b d h
+IsCurve (targets.Circ c r) = IsRound (circle_about c r)
 
 -- the targets have a common point
 abbrev pub HasMeeting : Meeting → Type 0

@@ -3,8 +3,7 @@
 ghost use Rattle.std.specs.Prelude.{◌≡◌, ◌↔◌, ◌*◌, ◌^◌, ◌≤◌, unsigned_abs};
 ghost use Rattle.apt_num.specs.Sign as signs;
 ghost use Rattle.apt_plane.specs.Ranges.{IsLine, IsMoved, IsRound};
-ghost use Rattle.apt_offset.specs.Ranges.{IsTarget, IsCircleTarget};
-ghost use Rattle.apt_contact.specs.Contacts.{AreParallel, Meet, Touch};
+ghost use Rattle.apt_contact.specs.Contacts.{IsCurve, AreParallel, Meet, Touch};
 ghost use Rattle.apt_contact.specs.Meetings as spec;
 
 use crate::Meeting;
@@ -13,10 +12,10 @@ use apt_offset::Target;
 use apt_plane::vectors::{cross_of, displacement, height, length_squared, length_squared_of};
 use apt_plane::{Circ, Line, Moved};
 
-/// In how many points two targets meet, each at any offset of up to 10^8 grid units.
+/// In how many points two targets meet: lines moved by up to 10^8 grid units, and circles of any radius from 0 to 10^8.
 pub fn meet(a: &Target, b: &Target) -> Meeting
-    requires first { IsTarget a.now }
-    requires second { IsTarget b.now }
+    requires first { IsCurve a.now }
+    requires second { IsCurve b.now }
     ensures value { result ≡ spec.meeting_of a.now b.now }
     ensures parallel { (result ≡ Meeting.Parallel) ↔ AreParallel a.now b.now }
     ensures apart { (result ≡ Meeting.Apart) ↔ ((¬ AreParallel a.now b.now) × (¬ Meet a.now b.now)) }
@@ -26,8 +25,8 @@ pub fn meet(a: &Target, b: &Target) -> Meeting
 }
 
 fn meeting_of(a: &Target, b: &Target) -> Meeting
-    requires first { IsTarget a.now }
-    requires second { IsTarget b.now }
+    requires first { IsCurve a.now }
+    requires second { IsCurve b.now }
     ensures { result ≡ spec.meeting_of a.now b.now }
 {
     match *a {
@@ -41,7 +40,7 @@ fn meeting_of(a: &Target, b: &Target) -> Meeting
 
 fn line_meets(l: &Moved, other: &Target) -> Meeting
     requires line { IsMoved l.now }
-    requires other { IsTarget other.now }
+    requires other { IsCurve other.now }
     ensures { result ≡ spec.meeting_of (Target.Line l.now.line.base l.now.line.dir l.now.off) other.now }
 {
     match *other {
@@ -51,8 +50,8 @@ fn line_meets(l: &Moved, other: &Target) -> Meeting
 }
 
 fn circle_meets(c: &Circ, other: &Target) -> Meeting
-    requires circle { IsCircleTarget c.now.c c.now.r }
-    requires other { IsTarget other.now }
+    requires circle { IsRound c.now }
+    requires other { IsCurve other.now }
     ensures { result ≡ spec.meeting_of (Target.Circ c.now.c c.now.r) other.now }
 {
     match *other {

@@ -23,7 +23,7 @@ place (pos (suc x)) d = inr (inl (refl, omega (arith, ints)))
 place (negsuc x) d = inr (inr (inr (refl, omega (arith, ints))))
 
 -- the half turn lies behind
-abbrev IsPlace : ℤ → ℤ → ℕ → Type 0
+abbrev pub IsPlace : ℤ → ℤ → ℕ → Type 0
 IsPlace x d k = ((k ≡ 0) × (x ≡ pos 0) × (pos 0 <ℤ d)) ⊎ (((k ≡ 1) × (pos 0 <ℤ x)) ⊎ (((k ≡ 2) × (x ≡ pos 0) × (d <ℤ pos 0)) ⊎ ((k ≡ 3) × (x <ℤ pos 0))))
 
 strictly : (x d : ℤ) (k : ℕ) → (x ≡ pos 0 → d ≡ pos 0 → ⊥) → Place x d k → IsPlace x d k

@@ -11,7 +11,7 @@ use Rattle.apt_plane.specs.Order.{turn_class, ComesBefore}
 use Rattle.apt_plane.proofs.Displacements.{square_length_squared, cross_self, dot_swap}
 use Rattle.apt_plane.proofs.Heights.{one-times}
 use Rattle.apt_plane.proofs.Turned.{turned_by, turned_back, minus-times, plucker_turned, about_start}
-use Rattle.apt_plane.proofs.Around.{Cyc, is_place, before_cyc, before_onward, before_from_start, cyc_after}
+use Rattle.apt_plane.proofs.Around.{Cyc, IsPlace, is_place, before_cyc, before_onward, before_from_start, cyc_after}
 
 -- w lies a quarter turn on from v
 pub record IsOnward (sense : ℤ) (v w : Dir) : Type 0 where
@@ -147,13 +147,13 @@ only_core n sw dw we se de es e f some p q none not_start =
     cases (pos n) = inr (omega (arith, ints))
     cases (negsuc n) = inl (omega (arith, ints))
 
-not_ahead : (x d : ℤ) (k : ℕ) → k ≢ 0 → ((k ≡ 0) × (x ≡ pos 0) × (pos 0 <ℤ d)) ⊎ (((k ≡ 1) × (pos 0 <ℤ x)) ⊎ (((k ≡ 2) × (x ≡ pos 0) × (d <ℤ pos 0)) ⊎ ((k ≡ 3) × (x <ℤ pos 0)))) → x ≡ pos 0 → d <ℤ pos 0
+not_ahead : (x d : ℤ) (k : ℕ) → k ≢ 0 → IsPlace x d k → x ≡ pos 0 → d <ℤ pos 0
 not_ahead x d k some (inl p) e = absurd (some p.0)
 not_ahead x d k some (inr (inl p)) e = absurd (omega (arith, ints, p.1, e))
 not_ahead x d k some (inr (inr (inl p))) e = p.2
 not_ahead x d k some (inr (inr (inr p))) e = absurd (omega (arith, ints, p.1, e))
 
-zero_class : (x d : ℤ) (k : ℕ) → k ≡ 0 → ((k ≡ 0) × (x ≡ pos 0) × (pos 0 <ℤ d)) ⊎ (((k ≡ 1) × (pos 0 <ℤ x)) ⊎ (((k ≡ 2) × (x ≡ pos 0) × (d <ℤ pos 0)) ⊎ ((k ≡ 3) × (x <ℤ pos 0)))) → (x ≡ pos 0) × (pos 0 <ℤ d)
+zero_class : (x d : ℤ) (k : ℕ) → k ≡ 0 → IsPlace x d k → (x ≡ pos 0) × (pos 0 <ℤ d)
 zero_class x d k e (inl p) = (p.1, p.2)
 zero_class x d k e (inr (inl p)) = absurd (omega (arith, e, p.0))
 zero_class x d k e (inr (inr (inl p))) = absurd (omega (arith, e, p.0))
@@ -216,7 +216,7 @@ fourth_behind sense s e p q r t are some =
     let turns = fourth_turn sense s e p q r t are in
     less (turned_by sense s t) (dot s t) (turn_class s sense t) some turns.0 turns.1 (is_place sense s t are.either are.start are.fourth)
   where
-    less : (x d : ℤ) (k : ℕ) → k ≢ 0 → x ≤ℤ pos 0 → pos 0 <ℤ d → ((k ≡ 0) × (x ≡ pos 0) × (pos 0 <ℤ d)) ⊎ (((k ≡ 1) × (pos 0 <ℤ x)) ⊎ (((k ≡ 2) × (x ≡ pos 0) × (d <ℤ pos 0)) ⊎ ((k ≡ 3) × (x <ℤ pos 0)))) → x <ℤ pos 0
+    less : (x d : ℤ) (k : ℕ) → k ≢ 0 → x ≤ℤ pos 0 → pos 0 <ℤ d → IsPlace x d k → x <ℤ pos 0
     less x d k some h g (inl p) = absurd (some p.0)
     less x d k some h g (inr (inl p)) = absurd (omega (arith, ints, p.1, h))
     less x d k some h g (inr (inr (inl p))) = absurd (omega (arith, ints, p.2, g))

@@ -32,6 +32,7 @@ pub mod RoundsTouched
 pub mod Ended
 pub mod Placed
 pub mod Sided
+pub mod OnMovedLines
 pub mod Decided
 pub mod Chosen
 mod Worked

@@ -8,9 +8,11 @@ use Rattle.apt_words.specs.declared.Case.TheVariants as cases
 use Rattle.apt_words.specs.Rows.{unless}
 use Rattle.apt_plane.specs.declared.figures.Pt.{Pt}
 use Rattle.apt_plane.specs.declared.figures.Axis.{Axis}
+use Rattle.apt_plane.specs.declared.figures.Moved.{Moved}
 use Rattle.apt_plane.specs.Ranges.{IsPoint, IsDir, IsSense}
 use Rattle.apt_plane.specs.Vectors.{displacement, cross, dot, length_squared}
 use Rattle.apt_canon.specs.Scale.{is_in_range}
+use Rattle.apt_canon.specs.Meeting.{are_parallel, meeting_point}
 use Rattle.apt_offset.specs.declared.Target.{Target}
 use Rattle.apt_offset.specs.declared.Target.TheVariants as targets
 use Rattle.apt_offset.specs.Ranges.{IsTarget}
@@ -77,6 +79,13 @@ led c = if is_past c c.track c.stop then Err cases.Behind else within (met c)
 
 abbrev pub meeting : Course → Result Choice Case
 meeting c = unless (meeting_cases c.track c.stop ++ (is_past c c.track c.stop, cases.Behind) ∷ (not (is_in_range (meets_at c (stop_side c))), cases.OutOfRange) ∷ []) (met c)
+
+-- along one moved line to another
+abbrev pub straight : Course → Moved → Moved → Result Choice Case
+straight c track stop =
+    if are_parallel track.line stop.line then Err cases.Parallel
+    else if is_past c c.track c.stop then Err cases.Behind
+    else within (record { side = stop_side c; end = meeting_point track.line track.off stop.line stop.off; axis = None })
 
 -- ---- a course that touches its check surface
 

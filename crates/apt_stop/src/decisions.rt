@@ -16,14 +16,15 @@ ghost use Rattle.apt_stop.specs.Tangencies as tangencies;
 
 use crate::course::{Choice, Course};
 use crate::gaps::is_touching;
-use crate::sides::{far_side, is_past, side_from};
+use crate::sides::{are_parallel, far_side, is_past, side_from};
 use crate::tangencies::tangent_axis;
 use crate::touches::{is_past_axis, touch_point};
+use apt_canon::line_line;
 use apt_contact::{Meeting, contact, meet};
 use apt_num::Sign;
 use apt_offset::Target;
 use apt_offset::signs::opposite;
-use apt_plane::Axis;
+use apt_plane::{Axis, Line, Moved};
 use apt_words::{Case, Stop};
 
 /// How a course ends: the side of its stop on which it runs, its last point, rounded to the grid, and the axis on which
@@ -58,6 +59,28 @@ fn meeting(c: &Course) -> Result<Choice, Case>
     requires { IsPlaced c.now }
     ensures { result ≡ steps.meeting c.now }
 {
+    if let (
+        Target::Line { base, dir, off },
+        Target::Line {
+            base: at,
+            dir: along,
+            off: over,
+        },
+    ) = (c.track, c.stop)
+    {
+        let track = Moved {
+            line: Line { base, dir },
+            off,
+        };
+        let stop = Moved {
+            line: Line {
+                base: at,
+                dir: along,
+            },
+            off: over,
+        };
+        return straight(c, &track, &stop);
+    }
     match meet(&c.track, &c.stop) {
         Meeting::Parallel => Err(Case::Parallel),
         Meeting::Apart => Err(Case::NoContact),
@@ -65,7 +88,31 @@ fn meeting(c: &Course) -> Result<Choice, Case>
     }
 }
 
-/// The same, where its targets meet.
+/// The same along a line to a line, the motion that programs have most.
+fn straight(c: &Course, track: &Moved, stop: &Moved) -> Result<Choice, Case>
+    requires placed { IsPlaced c.now }
+    requires track { c.now.track ≡ Target.Line track.now.line.base track.now.line.dir track.now.off }
+    requires stop { c.now.stop ≡ Target.Line stop.now.line.base stop.now.line.dir stop.now.off }
+    ensures { result ≡ steps.straight c.now track.now stop.now }
+{
+    if are_parallel(&track.line, &stop.line) {
+        return Err(Case::Parallel);
+    }
+    let far = far_side(&c.stop, c.start);
+    if is_past(c, far) {
+        return Err(Case::Behind);
+    }
+    match line_line(track, stop) {
+        Ok(end) => Ok(Choice {
+            side: side_from(c, far),
+            end,
+            axis: None,
+        }),
+        Err(_) => Err(Case::OutOfRange),
+    }
+}
+
+/// How a course ends whose targets meet.
 fn leading(c: &Course) -> Result<Choice, Case>
     requires placed { IsPlaced c.now }
     requires meeting { HasMeeting (meeting_of c.now.track c.now.stop) }

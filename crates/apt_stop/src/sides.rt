@@ -1,8 +1,9 @@
 //! On which side of its stop a course runs, and whether its stop lies behind it.
 
 ghost use Rattle.std.specs.Prelude.{◌≡◌, ◌*◌, ◌^◌, ◌≤◌, ◌*ℤ◌, unsigned_abs};
-ghost use Rattle.apt_plane.specs.Ranges.{IsPoint, IsDir, IsShort, IsSense};
+ghost use Rattle.apt_plane.specs.Ranges.{IsPoint, IsDir, IsShort, IsLine, IsSense};
 ghost use Rattle.apt_plane.specs.Vectors as vectors;
+ghost use Rattle.apt_canon.specs.Meeting as meeting;
 ghost use Rattle.apt_offset.specs.Ranges.{IsTarget};
 ghost use Rattle.apt_stop.specs.Nearness as near;
 ghost use Rattle.apt_stop.specs.Courses as spec;
@@ -16,7 +17,7 @@ use crate::nearness::{
 use apt_num::{Sign, compare, sign_of};
 use apt_offset::Target;
 use apt_plane::vectors::{cross, displacement, dot, height, length_squared, length_squared_of};
-use apt_plane::{Dir, Pt};
+use apt_plane::{Dir, Line, Pt};
 
 /// The side of a target on which a point is, and none where it is near.
 pub(crate) fn far_side(target: &Target, p: Pt) -> Option<Sign>
@@ -156,6 +157,15 @@ pub(crate) fn is_by_axis(k: i128, n: u128) -> bool
     ensures { result ≡ spec.is_by_axis k n }
 {
     is_in_strip(k, 0, NEAR_STOP, n)
+}
+
+/// Whether two lines are parallel.
+pub(crate) fn are_parallel(a: &Line, b: &Line) -> bool
+    requires first { IsLine a.now }
+    requires second { IsLine b.now }
+    ensures { result ≡ meeting.are_parallel a.now b.now }
+{
+    cross(a.dir, b.dir).unsigned_abs() == 0
 }
 
 fn turned(sense: i8, k: i128) -> i128

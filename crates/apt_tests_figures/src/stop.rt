@@ -7,6 +7,8 @@ use apt_plane::{Circ, Dir, Line, Pt, Surface};
 use apt_stop::{heading, is_near, is_touching, line_stop, side_of, tangent_axis};
 use apt_words::Case;
 
+mod decisions;
+
 const ORIGIN: Pt = Pt { x: 0, y: 0 };
 
 fn line(x: i64, y: i64, dx: i64, dy: i64) -> Line
