@@ -1,7 +1,8 @@
 -- Where nothing refuses, an arc meets its stop before the axis, or on its ray, and its end is not in the direction of its start. The axis leads from the centre towards the stop.
-use Rattle.std.proofs.Common.{◌≡◌, ◌≢◌, ◌⊎◌, ℕ, ◌+◌, ◌*◌, ◌≤◌, ◌<◌, subst, arith, ℤ, pos, ◌+ℤ◌, ◌-ℤ◌, ◌<ℤ◌, ◌≤ℤ◌, unsigned_abs}
+use Rattle.std.proofs.Common.{◌≡◌, ◌≢◌, ◌⊎◌, ℕ, ◌+◌, ◌*◌, ◌≤◌, ◌<◌, subst, arith, ℤ, pos, ◌+ℤ◌, ◌-ℤ◌, ◌<ℤ◌, ◌≤ℤ◌, unsigned_abs, inl, inr, neg_ℤ, ◌*ℤ◌}
 use Rattle.std.proofs.Math.Nat.{mul-le-mul_left}
 use Rattle.std.proofs.lemmas.Int.{ints}
+use Rattle.apt_num.proofs.Ring.{neg-*ℤ}
 use Rattle.apt_plane.specs.declared.figures.Pt.{Pt}
 use Rattle.apt_plane.specs.declared.figures.Dir.{Dir}
 use Rattle.apt_plane.specs.declared.figures.Circ.{Circ}
@@ -11,15 +12,16 @@ use Rattle.apt_plane.specs.Order.{turn_class}
 use Rattle.apt_plane.proofs.Turned.{turned_by}
 use Rattle.apt_plane.proofs.Around.{Cyc}
 use Rattle.apt_canon.specs.Scale.{IsNearCircle}
+use Rattle.apt_canon.specs.Circles.{HasSense}
 use Rattle.apt_arc.specs.declared.arc.Arc.{Arc}
 use Rattle.apt_arc.specs.Ranges.{IsTrack, IsArc}
 use Rattle.apt_arc.specs.Stops.{IsRoute, to_start, to_end}
-use Rattle.apt_arc.proofs.Spans.{IsNearby}
+use Rattle.apt_plane.proofs.Nearby.{IsNearby, IsOnCircle}
 use Rattle.apt_arc.proofs.Tracks.{within, within_large, radius_is, nearby, near_track, length_tells, root_tells}
-use Rattle.apt_arc.proofs.Governed.{IsHardlyAcross, IsHardlyNearerTo, IsOnRay, away_reached}
-use Rattle.apt_arc.proofs.Kept.{IsOnCircle, IsStopped}
-use Rattle.apt_arc.proofs.NearRows.{IsNearRow, near_reached}
-use Rattle.apt_arc.proofs.Apart.{away_apart, near_apart}
+use Rattle.apt_plane.proofs.Governed.{IsHardlyAcross, IsHardlyNearerTo, IsOnRay, away_reached}
+use Rattle.apt_plane.proofs.Kept.{IsStopped}
+use Rattle.apt_plane.proofs.NearRows.{IsNearRow, near_reached}
+use Rattle.apt_plane.proofs.Apart.{away_apart, near_apart}
 
 -- ---- an end at most a unit from its track
 shorter : (p : ℕ) (r : ℤ) → r ≡ pos (p + 3) → r -ℤ pos 1 ≡ pos (p + 2)
@@ -103,3 +105,11 @@ stopped a b is some met = record {
   end = on_circle a.track a.end is.track is.end;
   met = met;
 }
+
+-- ---- a number and its sense
+pub far_by : (z k : ℤ) (n m : ℕ) → n ≡ m → unsigned_abs z ≡ unsigned_abs k → 64 * m < unsigned_abs k * unsigned_abs k → 64 * n < unsigned_abs z * unsigned_abs z
+far_by z k n m e f h = rw (e, f) h
+
+pub past_side : (sense k : ℤ) (n : ℕ) → HasSense (neg_ℤ sense) k n → unsigned_abs (sense *ℤ k) ≡ unsigned_abs k → ((sense *ℤ k) ≤ℤ pos 0) ⊎ (2 * (unsigned_abs (sense *ℤ k) * unsigned_abs (sense *ℤ k)) ≤ n)
+past_side sense k n (inl ahead) same = inl (omega (arith, ints, rw (neg-*ℤ sense k) at ahead))
+past_side sense k n (inr short) same = inr (rw same short)

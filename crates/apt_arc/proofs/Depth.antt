@@ -7,7 +7,7 @@ use Rattle.apt_plane.specs.declared.figures.Pt.{Pt}
 use Rattle.apt_plane.specs.declared.figures.Circ.{Circ}
 use Rattle.apt_plane.specs.Vectors.{displacement, dot, length_squared}
 use Rattle.apt_plane.specs.Ranges.{IsSense}
-use Rattle.apt_arc.proofs.Spans.{chord, chord_is}
+use Rattle.apt_arc.proofs.Spans.{chord_is}
 use Rattle.apt_arc.proofs.Thirds.{first_level, next_level, last_level}
 use Rattle.apt_arc.specs.Ranges.{IsTrack, IsSag, IsPiece, ArePieces}
 use Rattle.apt_arc.specs.Cuts.{middle, IsCut, AreCuts}
@@ -15,6 +15,7 @@ use Rattle.apt_arc.specs.Made.{is_clear, pieces, chain}
 use Rattle.apt_arc.proofs.Clear.{clear_tells}
 use Rattle.apt_arc.proofs.Lists.{pieces_none, pieces_clear, pieces_cut, not_clear, cut_is, cut_at, chain_more, chain_none}
 use Rattle.apt_arc.proofs.Tracks.{within, within_large, within_small, nearby, half_pieces, half_lengths, is_long, chord_length, sag_least}
+use Rattle.apt_plane.proofs.Lengths.{chord}
 
 once : (e sag r : ℕ) → r ≤ e * 3 ^ 0 * sag → r ≤ e * sag
 once e sag r h = omega (arith, h)

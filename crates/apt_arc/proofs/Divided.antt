@@ -13,7 +13,7 @@ use Rattle.apt_arc.specs.Cuts.{AreCuts}
 use Rattle.apt_arc.specs.Quarters.{IsIn, Each, IsQuarterPoint, IsOnTheWay, AreQuarters}
 use Rattle.apt_arc.specs.Divisions.{IsDivision}
 use Rattle.apt_arc.specs.Made.{chain, quarters, first_past, stations, vertices, divided}
-use Rattle.apt_arc.proofs.Spans.{some_length}
+use Rattle.apt_plane.proofs.Nearby.{some_length}
 use Rattle.apt_arc.proofs.Lists.{cuts_are}
 use Rattle.apt_arc.proofs.Tracks.{within, within_large, within_small, nearby, sag_least, size_of_radius}
 use Rattle.apt_arc.proofs.Depth.{chain_cut, cuts_short, deepest}

@@ -9,10 +9,9 @@ use Rattle.apt_plane.specs.declared.figures.Circ.{Circ}
 use Rattle.apt_plane.specs.Vectors.{between, displacement, displacement_to, cross, length_squared}
 use Rattle.apt_plane.specs.Ranges.{IsSense}
 use Rattle.apt_plane.proofs.Displacements.{to, between_part, cross_linear, cross_self}
-use Rattle.apt_plane.proofs.Turned.{turned_by}
+use Rattle.apt_plane.proofs.Turned.{turned_by, turned_other}
 use Rattle.apt_plane.proofs.Around.{Cyc, before_cyc, before_between}
 use Rattle.apt_arc.specs.Steps.{IsStep}
-use Rattle.apt_arc.proofs.Spans.{turned_other}
 use Rattle.apt_arc.proofs.Vertices.{IsUpToEnd, both_long, not_first_class, up_to_end}
 
 -- the way to a point between two, in the ways to them

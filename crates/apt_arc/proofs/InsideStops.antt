@@ -12,7 +12,7 @@ use Rattle.apt_plane.specs.Distances.{IsUnder, IsLengthAtMost, IsRootAtMost, abo
 use Rattle.apt_plane.proofs.Heights.{one-times}
 use Rattle.apt_plane.proofs.Lengths.{plus}
 use Rattle.apt_plane.proofs.RingLaws.{root_at_most, under-between}
-use Rattle.apt_plane.proofs.Turned.{turned_by, turned_back}
+use Rattle.apt_plane.proofs.Turned.{turned_by, turned_back, size_sense}
 use Rattle.apt_plane.proofs.Around.{Cyc}
 use Rattle.apt_canon.specs.Scale.{IsNearCircle}
 use Rattle.apt_canon.specs.Circles.{HasSense, IsBeyond}
@@ -20,13 +20,12 @@ use Rattle.apt_arc.specs.declared.arc.Arc.{Arc}
 use Rattle.apt_arc.specs.Ranges.{IsArc}
 use Rattle.apt_arc.specs.Divisions.{IsDivision}
 use Rattle.apt_arc.specs.Stops.{EveryChord, IsRoute, to_start, to_end, IsAhead, StartsInside}
-use Rattle.apt_arc.proofs.Spans.{size_sense}
 use Rattle.apt_arc.proofs.Tracks.{within, within_large, nearby, length_tells, root_tells}
-use Rattle.apt_arc.proofs.Governed.{IsOnRay}
-use Rattle.apt_arc.proofs.Kept.{inside_kept}
-use Rattle.apt_arc.proofs.AwayRows.{inside_away}
+use Rattle.apt_plane.proofs.Governed.{IsOnRay}
+use Rattle.apt_plane.proofs.Kept.{inside_kept}
+use Rattle.apt_plane.proofs.AwayRows.{inside_away}
 use Rattle.apt_arc.proofs.Vertices.{IsVertex}
-use Rattle.apt_arc.proofs.Arrivals.{EndsPast, Arrives, on_circle, away_arrives, near_arrives, is_arc, stopped}
+use Rattle.apt_arc.proofs.Arrivals.{EndsPast, Arrives, on_circle, away_arrives, near_arrives, is_arc, stopped, far_by}
 use Rattle.apt_arc.proofs.LineStops.{chords_of}
 
 -- ---- distances from the circle's centre q
@@ -80,9 +79,6 @@ reverse_parts z a b c d x y = rw (as_diff z, as_diff a, as_diff b, as_diff c, as
 -- turned from the axis: seen from the way itself towards the circle
 turned_axis : (sense : ℤ) (c q : Pt) (v : Dir) → turned_by sense (displacement q c) v ≡ sense *ℤ cross v (displacement c q)
 turned_axis sense c q v = reverse_parts sense c.x c.y q.x q.y v.dx v.dy
-
-pub far_by : (z k : ℤ) (n m : ℕ) → n ≡ m → unsigned_abs z ≡ unsigned_abs k → 64 * m < unsigned_abs k * unsigned_abs k → 64 * n < unsigned_abs z * unsigned_abs z
-far_by z k n m e f h = rw (e, f) h
 
 inside_near : (a : Arc) (q : Pt) → IsRoute a → EndsPast a (displacement q a.track.c) → IsAhead (a.sense *ℤ cross (to_start a) (displacement a.track.c q)) (length_squared (displacement a.track.c q))
     → Arrives a (displacement q a.track.c)

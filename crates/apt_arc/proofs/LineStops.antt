@@ -1,8 +1,8 @@
 -- No point of any chord of an arc is more than 12 units past the line at its end.
-use Rattle.std.proofs.Common.{refl, ◌≡◌, ◌↔◌, ◌⊎◌, inl, inr, ℕ, ◌*◌, ◌≤◌, ◌<◌, ◌∙◌, ap, sym, subst, arith, List, [], ◌∷◌, ℤ, pos, neg_ℤ, ◌+ℤ◌, ◌-ℤ◌, ◌*ℤ◌, ◌≤ℤ◌, ◌<ℤ◌, unsigned_abs}
+use Rattle.std.proofs.Common.{◌≡◌, ◌↔◌, ◌⊎◌, inl, inr, ℕ, ◌*◌, ◌≤◌, ◌<◌, ◌∙◌, ap, sym, subst, arith, List, [], ◌∷◌, ℤ, pos, neg_ℤ, ◌+ℤ◌, ◌-ℤ◌, ◌*ℤ◌, ◌≤ℤ◌, ◌<ℤ◌, unsigned_abs}
 use Rattle.std.proofs.lemmas.Int.{ints}
 use Rattle.apt_num.specs.Sign.{AtLeast, square}
-use Rattle.apt_num.proofs.Ring.{as_diff, diff-same, differences, neg-*ℤ, *ℤ-neg, neg-*ℤ-neg}
+use Rattle.apt_num.proofs.Ring.{as_diff, diff-same, differences, double_neg, *ℤ-neg, neg-*ℤ-neg}
 use Rattle.apt_num.proofs.Squares.{size_neg}
 use Rattle.apt_num.proofs.Sums.{at_least-weaker}
 use Rattle.apt_plane.specs.declared.figures.Pt.{Pt}
@@ -13,7 +13,7 @@ use Rattle.apt_plane.specs.Distances.{IsAbove, IsBelow, EveryPoint}
 use Rattle.apt_plane.proofs.Displacements.{to, dot_swap}
 use Rattle.apt_plane.proofs.Heights.{one-times}
 use Rattle.apt_plane.proofs.SegmentLaws.{above-between}
-use Rattle.apt_plane.proofs.Turned.{turned_by}
+use Rattle.apt_plane.proofs.Turned.{turned_by, size_sense}
 use Rattle.apt_plane.proofs.Around.{Cyc}
 use Rattle.apt_canon.specs.Circles.{HasSense, IsFurther}
 use Rattle.apt_arc.specs.declared.arc.Arc.{Arc}
@@ -21,13 +21,12 @@ use Rattle.apt_arc.specs.Ranges.{IsArc}
 use Rattle.apt_arc.specs.Quarters.{Each}
 use Rattle.apt_arc.specs.Divisions.{IsDivision}
 use Rattle.apt_arc.specs.Stops.{EveryChord, IsRoute, to_start, to_end, IsAhead, StartsLeft, StartsRight}
-use Rattle.apt_arc.proofs.Spans.{size_sense}
 use Rattle.apt_arc.proofs.Tracks.{within, within_large, nearby}
-use Rattle.apt_arc.proofs.Governed.{IsOnRay}
-use Rattle.apt_arc.proofs.Kept.{line_kept}
-use Rattle.apt_arc.proofs.AwayRows.{line_away, reverse, dot_reverse}
+use Rattle.apt_plane.proofs.Governed.{IsOnRay}
+use Rattle.apt_plane.proofs.Kept.{line_kept}
+use Rattle.apt_plane.proofs.AwayRows.{line_away, reverse, dot_reverse, reverse_length}
 use Rattle.apt_arc.proofs.Vertices.{IsVertex, division_vertices}
-use Rattle.apt_arc.proofs.Arrivals.{EndsPast, Arrives, on_circle, away_arrives, near_arrives, is_arc, stopped}
+use Rattle.apt_arc.proofs.Arrivals.{EndsPast, Arrives, on_circle, away_arrives, near_arrives, is_arc, stopped, far_by, past_side}
 
 chords_by : (P : Scaled → Type 0) → ((a b : Pt) → P (scaled a) → P (scaled b) → EveryPoint a b P) → (a : Pt) (list : List Pt) → P (scaled a) → Each list (λ x. P (scaled x)) → EveryChord a list P
 chords_by P all a [] first each = tt
@@ -119,9 +118,6 @@ left_away a l h is past far near =
     (line_away (within t) (cross l.dir (displacement l.base c)) h (to_start a) (to_end a) (line_axis l) (within_large t is.track) past.some (nearby t a.start is.track is.start) (on_circle t a.end is.track is.end)
     (left_over l (h +ℤ pos 8) c a.start (above_tells l (h +ℤ pos 8) a.start far)) end)
 
-far_by : (z k : ℤ) (n m : ℕ) → n ≡ m → unsigned_abs z ≡ unsigned_abs k → 64 * m < unsigned_abs k * unsigned_abs k → 64 * n < unsigned_abs z * unsigned_abs z
-far_by z k n m e f h = rw (e, f) h
-
 turn_start : (a : Arc) (l : Line) → turned_by a.sense (line_axis l) (to_start a) ≡ a.sense *ℤ dot (to_start a) l.dir
 turn_start a l = line_side a.sense l (to_start a) ∙ ap (λ z. a.sense *ℤ z) (dot_swap l.dir (to_start a))
 
@@ -131,10 +127,6 @@ left_near a l is past ahead =
     (far_by (turned_by a.sense (line_axis l) (to_start a)) (a.sense *ℤ dot (to_start a) l.dir) (length_squared (line_axis l)) (length_squared l.dir) (axis_length l) (ap unsigned_abs (turn_start a l)) ahead.1)
 
 -- ---- the contact
-past_side : (sense k : ℤ) (n : ℕ) → HasSense (neg_ℤ sense) k n → unsigned_abs (sense *ℤ k) ≡ unsigned_abs k → ((sense *ℤ k) ≤ℤ pos 0) ⊎ (2 * (unsigned_abs (sense *ℤ k) * unsigned_abs (sense *ℤ k)) ≤ n)
-past_side sense k n (inl ahead) same = inl (omega (arith, ints, rw (neg-*ℤ sense k) at ahead))
-past_side sense k n (inr short) same = inr (rw same short)
-
 by_parts : (z y : ℤ) (n m : ℕ) → z ≡ y → n ≡ m → (y ≤ℤ pos 0) ⊎ (2 * (unsigned_abs y * unsigned_abs y) ≤ m) → (z ≤ℤ pos 0) ⊎ (2 * (unsigned_abs z * unsigned_abs z) ≤ n)
 by_parts z y n m e f is = rw (e, f) is
 
@@ -174,9 +166,6 @@ back_height_parts a b x y = rw (as_diff a, as_diff b, as_diff x, as_diff y) (sim
 height_back : (l : Line) (s : Scaled) → height (back_line l) s ≡ neg_ℤ (height l s)
 height_back l s = back_height_parts l.dir.dx l.dir.dy (displacement_to l.base s).dx (displacement_to l.base s).dy
 
-reverse_length : (d : Dir) → length_squared (reverse d) ≡ length_squared d
-reverse_length d = rw (size_neg d.dx, size_neg d.dy) refl
-
 both_ways : (k h i j : ℤ) (n m : ℕ) → k ≡ h → i ≡ j → n ≡ m → AtLeast k i n ↔ AtLeast h j m
 both_ways k h i j n m e f g = rw (e, f, g) (λ is. is, λ is. is)
 
@@ -188,14 +177,11 @@ above_back : (l : Line) (lo : ℤ) (s : Scaled) → IsAbove (back_line l) lo s �
 above_back l lo s =
     both_ways (height (back_line l) s) (neg_ℤ (height l s)) (pos s.m *ℤ lo) (neg_ℤ (pos s.m *ℤ neg_ℤ lo)) (length_squared (back_line l).dir) (length_squared l.dir) (height_back l s) (two_backs (pos s.m) lo) (reverse_length l.dir)
 
-none_back : (z : ℤ) → neg_ℤ (neg_ℤ z) ≡ z
-none_back z = omega (arith, ints)
-
 -- and below above
 below_back : (l : Line) (hi : ℤ) (s : Scaled) → IsBelow (back_line l) hi s ↔ IsAbove l (neg_ℤ hi) s
 below_back l hi s =
     both_ways (neg_ℤ (height (back_line l) s)) (height l s) (neg_ℤ (pos s.m *ℤ hi)) (pos s.m *ℤ neg_ℤ hi) (length_squared (back_line l).dir) (length_squared l.dir)
-    (ap neg_ℤ (height_back l s) ∙ none_back (height l s)) (sym (*ℤ-neg (pos s.m) hi)) (reverse_length l.dir)
+    (ap neg_ℤ (height_back l s) ∙ double_neg (height l s)) (sym (*ℤ-neg (pos s.m) hi)) (reverse_length l.dir)
 
 every_back : (l : Line) (lo hi : ℤ) (a : Pt) (list : List Pt) → neg_ℤ lo ≡ hi → EveryChord a list (IsAbove (back_line l) lo) → EveryChord a list (IsBelow l hi)
 every_back l lo hi a [] same each = tt

@@ -4,7 +4,7 @@ use Rattle.std.proofs.lemmas.Int.{ints}
 use Rattle.std.proofs.lemmas.Nat.{mul-le}
 use Rattle.std.proofs.lemmas.Bool.{cases_lt}
 use Rattle.apt_num.specs.Sign.{signed_square}
-use Rattle.apt_num.proofs.Ring.{as_diff, diff-pos, diff-same, differences, scaled_le, neg-*ℤ}
+use Rattle.apt_num.proofs.Ring.{as_diff, diff-pos, diff-same, differences, scaled_le}
 use Rattle.apt_num.proofs.Squares.{size_mul, size_neg}
 use Rattle.apt_plane.specs.declared.figures.Pt.{Pt}
 use Rattle.apt_plane.specs.declared.figures.Dir.{Dir}
@@ -15,26 +15,25 @@ use Rattle.apt_plane.specs.Ranges.{IsSense}
 use Rattle.apt_plane.proofs.Displacements.{to, dot_times}
 use Rattle.apt_plane.proofs.Lengths.{plus, times, length_of_times}
 use Rattle.apt_plane.proofs.RingLaws.{length_at_most, root_at_most, negative_over, over_from}
-use Rattle.apt_plane.proofs.Turned.{turned_by, turned_back}
+use Rattle.apt_plane.proofs.Turned.{turned_by, turned_back, size_sense}
 use Rattle.apt_plane.proofs.Around.{Cyc}
 use Rattle.apt_canon.specs.Scale.{IsNearCircle}
-use Rattle.apt_canon.specs.Circles.{HasSense, IsBeyond}
+use Rattle.apt_canon.specs.Circles.{IsBeyond}
 use Rattle.apt_arc.specs.declared.arc.Arc.{Arc}
 use Rattle.apt_arc.specs.Ranges.{IsTrack, IsSag, IsArc}
 use Rattle.apt_arc.specs.Steps.{IsStep, IsInside, AreSteps}
 use Rattle.apt_arc.specs.Quarters.{Each}
 use Rattle.apt_arc.specs.Divisions.{IsDivision}
 use Rattle.apt_arc.specs.Stops.{EveryChord, IsRoute, to_start, to_end, IsAback, StartsOutside}
-use Rattle.apt_arc.proofs.Spans.{size_sense}
 use Rattle.apt_arc.proofs.Tracks.{within, within_large, nearby, length_tells, root_tells, chord_length}
-use Rattle.apt_arc.proofs.Farther.{farther_signed}
-use Rattle.apt_arc.proofs.Governed.{IsHardlyAcross, IsOnRay, governed}
-use Rattle.apt_arc.proofs.AwayRows.{outside_away, reverse}
-use Rattle.apt_arc.proofs.Outside.{HasLessShare, less_times, AreMeeting, IsOnChord, IsOutside, IsContact, outside_from, outside_contact}
+use Rattle.apt_num.proofs.Farther.{farther_signed}
+use Rattle.apt_plane.proofs.Governed.{IsHardlyAcross, IsOnRay, governed}
+use Rattle.apt_plane.proofs.AwayRows.{outside_away, reverse}
+use Rattle.apt_plane.proofs.Outside.{HasLessShare, less_times, AreMeeting, IsOnChord, IsOutside, IsContact, outside_from, outside_contact}
 use Rattle.apt_arc.proofs.Vertices.{IsUpToEnd, both_long, steps_up_to_end}
 use Rattle.apt_arc.proofs.Inner.{mixed, way_between, mixed_up_to_end}
-use Rattle.apt_arc.proofs.Arrivals.{EndsPast, Arrives, on_circle, near_end, away_arrives, near_arrives, is_arc}
-use Rattle.apt_arc.proofs.InsideStops.{from_stop, far_by}
+use Rattle.apt_arc.proofs.Arrivals.{EndsPast, Arrives, on_circle, near_end, away_arrives, near_arrives, is_arc, far_by, past_side}
+use Rattle.apt_arc.proofs.InsideStops.{from_stop}
 
 -- ---- the share of a longer way
 signed_times : (m : ℕ) (f : ℤ) → signed_square (pos m *ℤ f) ≡ pos (m * m) *ℤ signed_square f
@@ -267,14 +266,10 @@ outside_near a q is past aback =
     (far_by (turned_by a.sense g (to_start a)) k (length_squared g) (length_squared g) refl (ap unsigned_abs back ∙ size_neg k) aback.1)
 
 -- ---- the contact
-past_side : (sense k : ℤ) (n : ℕ) → unsigned_abs (sense *ℤ k) ≡ unsigned_abs k → HasSense (neg_ℤ sense) k n → ((sense *ℤ k) ≤ℤ pos 0) ⊎ (2 * (unsigned_abs (sense *ℤ k) * unsigned_abs (sense *ℤ k)) ≤ n)
-past_side sense k n same (inl ahead) = inl (omega (arith, ints, rw (neg-*ℤ sense k) at ahead))
-past_side sense k n same (inr short) = inr (rw same short)
-
 ends_past : (a : Arc) (stop : Circ) → IsRoute a → 0 < length_squared (displacement a.track.c stop.c) → IsBeyond a.track stop (neg_ℤ a.sense) a.end → EndsPast a (displacement a.track.c stop.c)
 ends_past a stop is some beyond =
     let g = displacement a.track.c stop.c in
-    record { some = some; side = past_side a.sense (cross g (to_end a)) (length_squared g) (size_sense a.sense (cross g (to_end a)) is.sense) beyond }
+    record { some = some; side = past_side a.sense (cross g (to_end a)) (length_squared g) beyond (size_sense a.sense (cross g (to_end a)) is.sense) }
 
 hardly_across : (sense : ℤ) (g e : Dir) → IsSense sense → IsHardlyAcross sense g e → 2 * (unsigned_abs (cross g e) * unsigned_abs (cross g e)) ≤ length_squared g
 hardly_across sense g e is short = rw (size_sense sense (cross g e) is) at short

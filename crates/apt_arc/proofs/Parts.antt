@@ -20,9 +20,10 @@ use Rattle.apt_arc.specs.declared.arc.Arc.{Arc}
 use Rattle.apt_arc.specs.Ranges.{IsTrack, IsPiece, ArePieces, IsArc}
 use Rattle.apt_arc.specs.Quarters.{IsQuarterPoint, IsOnTheWay, AreQuarters}
 use Rattle.apt_arc.specs.Made.{onward, is_on_the_way, quarters_from, quarters}
-use Rattle.apt_arc.proofs.Spans.{IsNearby, aimed_nearby, some_length}
+use Rattle.apt_arc.proofs.Spans.{aimed_nearby}
 use Rattle.apt_arc.proofs.Tracks.{within, within_large, nearby, near_track, aimed}
 use Rattle.apt_arc.proofs.Ways.{IsTurned, turn_round, turn_after, onward_turned, IsOneOf, one_of, ray_onward, IsPast, reaches, first_found}
+use Rattle.apt_plane.proofs.Nearby.{IsNearby, some_length}
 
 -- ---- the test whether a point is on the way
 on_tells : (t : Circ) (sense : ℤ) (s e q : Pt) → is_on_the_way t sense s e q ≡ true → IsOnTheWay t sense s e q

@@ -1,23 +1,18 @@
 -- Two ways from a centre to points near a circle, a turn of at most a quarter apart: p is three units less than the radius.
-use Rattle.std.proofs.Common.{refl, ◌≡◌, inl, inr, ℕ, ◌+◌, ◌*◌, ◌≤◌, ◌<◌, ◌∙◌, ap, sym, subst, arith, ℤ, pos, neg_ℤ, ◌+ℤ◌, ◌-ℤ◌, ◌*ℤ◌, ◌<ℤ◌, ◌≤ℤ◌, unsigned_abs}
+use Rattle.std.proofs.Common.{refl, ◌≡◌, ℕ, ◌+◌, ◌*◌, ◌≤◌, ◌<◌, ◌∙◌, ap, sym, subst, arith, ℤ, pos, neg_ℤ, ◌+ℤ◌, ◌-ℤ◌, ◌*ℤ◌, ◌<ℤ◌, ◌≤ℤ◌, unsigned_abs}
 use Rattle.std.proofs.Math.Nat.{mul-le-mul_left}
 use Rattle.std.proofs.lemmas.Int.{ints}
-use Rattle.apt_num.proofs.Ring.{as_diff, diff-pos, diff-same, differences, neg-*ℤ, *ℤ-neg}
-use Rattle.apt_num.proofs.Squares.{size_mul, size_neg, root_le, four_le}
+use Rattle.apt_num.proofs.Ring.{as_diff, diff-pos, diff-same, differences, neg-*ℤ-neg}
+use Rattle.apt_num.proofs.Squares.{size_mul, size_neg, root_le, four_le, natural}
 use Rattle.apt_plane.specs.declared.figures.Dir.{Dir}
 use Rattle.apt_plane.specs.Vectors.{cross, dot, length_squared}
 use Rattle.apt_plane.specs.Ranges.{IsSense}
-use Rattle.apt_plane.proofs.Displacements.{to, square_length_squared, lagrange, cross_square, cross_swap, dot_swap}
-use Rattle.apt_plane.proofs.Lengths.{plus, length_of_sum}
+use Rattle.apt_plane.proofs.Displacements.{square_length_squared, lagrange, cross_square, cross_swap, dot_swap}
+use Rattle.apt_plane.proofs.Lengths.{plus, length_of_sum, chord, chord_long}
 use Rattle.apt_num.proofs.Products.{plus_of}
 use Rattle.apt_arc.proofs.Halving.{across_core, steep_core, between_core}
-use Rattle.apt_plane.proofs.Heights.{one-times}
-use Rattle.apt_plane.proofs.Turned.{turned_by, minus-times, dot_about}
-
--- at most three units from the circle
-pub record IsNearby (p : ℕ) (v : Dir) : Type 0 where
-  pub low : p * p ≤ length_squared v
-  pub high : length_squared v ≤ (p + 6) * (p + 6)
+use Rattle.apt_plane.proofs.Turned.{turned_by, size_sense, sense_back, turned_other, dot_about}
+use Rattle.apt_plane.proofs.Nearby.{IsNearby}
 
 pub record IsSpan (p : ℕ) (sense : ℤ) (a b : Dir) : Type 0 where
   pub onwards : pos 0 <ℤ turned_by sense a b
@@ -32,32 +27,10 @@ pub record IsAimed (p : ℕ) (u m : Dir) : Type 0 where
   pub low : 2 * ((p + 3) * (p + 3)) ≤ 2 * length_squared m + 3 * (p + 3)
   pub high : 2 * length_squared m ≤ 2 * ((p + 3) * (p + 3)) + 3 * (p + 3)
 
-pub some_length : (p : ℕ) (v : Dir) → 97 ≤ p → IsNearby p v → 0 < length_squared v
-some_length p v least near = omega (arith, near.low, mul-le-mul_left p least, least)
-
 pub aimed_nearby : (p : ℕ) (u m : Dir) → IsAimed p u m → IsNearby p m
 aimed_nearby p u m is = record { low = omega (arith, is.low); high = omega (arith, is.high) }
 
--- the way from the first point to the second
-abbrev pub chord : Dir → Dir → Dir
-chord a b = to (b.dx -ℤ a.dx) (b.dy -ℤ a.dy)
-
--- ---- sizes
-pub natural : (z : ℤ) → pos 0 ≤ℤ z → z ≡ pos (unsigned_abs z)
-natural z h = omega (arith, ints)
-
-pub size_sense : (sense z : ℤ) → IsSense sense → unsigned_abs (sense *ℤ z) ≡ unsigned_abs z
-size_sense sense z (inl e) = rw (e, one-times z) refl
-size_sense sense z (inr e) = rw (e, minus-times z) (size_neg z)
-
 -- ---- the sum of the ways, and the chord
-chord_parts : (a b c d : ℤ) → (((c -ℤ a) *ℤ (c -ℤ a)) +ℤ ((d -ℤ b) *ℤ (d -ℤ b))) +ℤ (pos 2 *ℤ ((a *ℤ c) +ℤ (b *ℤ d)))
-    ≡ ((a *ℤ a) +ℤ (b *ℤ b)) +ℤ ((c *ℤ c) +ℤ (d *ℤ d))
-chord_parts a b c d = rw (as_diff a, as_diff b, as_diff c, as_diff d, diff-pos 2) (simp differences (diff-same _ _ _ _ (omega arith)))
-
-pub chord_long : (a b : Dir) → pos (length_squared (chord a b)) +ℤ (pos 2 *ℤ dot a b) ≡ pos (length_squared a) +ℤ pos (length_squared b)
-chord_long a b = rw (← square_length_squared (chord a b), ← square_length_squared a, ← square_length_squared b) at (chord_parts a.dx a.dy b.dx b.dy)
-
 dot_sum_parts : (a b c d : ℤ) → ((a +ℤ c) *ℤ (c -ℤ a)) +ℤ ((b +ℤ d) *ℤ (d -ℤ b)) ≡ ((c *ℤ c) +ℤ (d *ℤ d)) -ℤ ((a *ℤ a) +ℤ (b *ℤ b))
 dot_sum_parts a b c d = rw (as_diff a, as_diff b, as_diff c, as_diff d) (simp differences (diff-same _ _ _ _ (omega arith)))
 
@@ -195,20 +168,6 @@ positive_end p a h least la = omega (arith, la, mul-le-mul_left p least, least)
 along_is : (n : ℕ) (d z : ℤ) → z ≡ pos n +ℤ d → pos 0 ≤ℤ d → z ≡ pos (n + unsigned_abs d)
 along_is n d z e h = omega (arith, ints, e, h)
 
-pub sense_back : (sense : ℤ) → IsSense sense → IsSense (neg_ℤ sense)
-sense_back sense (inl e) = inr (rw e refl)
-sense_back sense (inr e) = inl (rw e refl)
-
-pub double_neg : (z : ℤ) → neg_ℤ (neg_ℤ z) ≡ z
-double_neg z = omega (arith, ints)
-
-neg_both : (x y : ℤ) → neg_ℤ x *ℤ neg_ℤ y ≡ x *ℤ y
-neg_both x y = rw (neg-*ℤ x (neg_ℤ y), *ℤ-neg x y) (double_neg (x *ℤ y))
-
--- in the other sense
-pub turned_other : (sense : ℤ) (u v : Dir) → turned_by (neg_ℤ sense) v u ≡ turned_by sense u v
-turned_other sense u v = ap (λ z. neg_ℤ sense *ℤ z) (cross_swap u v) ∙ neg_both sense (cross u v)
-
 pub halves : (p : ℕ) (sense : ℤ) (a b m : Dir) → 97 ≤ p → IsSense sense → IsSpan p sense a b → 3 * (p + 3) ≤ unsigned_abs (cross a b) → IsAimed p (plus a b) m
     → IsSpan p sense a m × IsSpan p sense m b
 halves p sense a b m least is span far aimed =
@@ -220,7 +179,7 @@ halves p sense a b m least is span far aimed =
     let same : turned_by sense a b ≡ pos q = natural (turned_by sense a b) (omega (arith, ints, span.onwards)) ∙ ap (λ n. pos n) (size_sense sense (cross a b) is) in
     let some : 0 < q = omega (arith, far) in
     let first_turn : turned_by sense a u ≡ pos q = ap (λ z. sense *ℤ z) (cross_first a b) ∙ same in
-    let second_turn : turned_by (neg_ℤ sense) b u ≡ pos q = ap (λ z. neg_ℤ sense *ℤ z) (cross_second a b) ∙ neg_both sense (cross a b) ∙ same in
+    let second_turn : turned_by (neg_ℤ sense) b u ≡ pos q = ap (λ z. neg_ℤ sense *ℤ z) (cross_second a b) ∙ neg-*ℤ-neg sense (cross a b) ∙ same in
     let first =
     half p sense u a m q (length_squared a + h) least is aimed first_turn (along_is (length_squared a) (dot a b) (dot u a) (along_first a b) span.ahead)
     (reach p (length_squared a) (length_squared b) (length_squared (chord a b)) h q least span.start.low span.start.high span.end.high whole far)

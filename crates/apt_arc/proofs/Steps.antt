@@ -22,11 +22,12 @@ use Rattle.apt_arc.specs.Quarters.{IsQuarterPoint, IsOnTheWay, Each, AreInOrder}
 use Rattle.apt_arc.specs.Steps.{IsStep, IsInside, AreSteps}
 use Rattle.apt_arc.specs.Divisions.{IsDivision}
 use Rattle.apt_arc.specs.Made.{quarters, stations, vertices, divided}
-use Rattle.apt_arc.proofs.Spans.{some_length, chord_is}
+use Rattle.apt_arc.proofs.Spans.{chord_is}
 use Rattle.apt_arc.proofs.Lists.{is_false}
 use Rattle.apt_arc.proofs.Tracks.{within, within_large, radius_is, nearby, half_pieces, sag_parts, chord_length}
 use Rattle.apt_arc.proofs.Depth.{all_cuts}
 use Rattle.apt_arc.proofs.Parts.{quarters_divide}
+use Rattle.apt_plane.proofs.Nearby.{some_length}
 
 -- ---- a chord that is clear turns by less than a quarter
 ahead_core : (p q v A B D X h : ℕ) → 1 * 1 * D + X ≡ (1 + 1) * (1 * A + 1 * B) → D + 2 * h ≡ A + B → A ≤ (p + 6) * (p + 6) → B ≤ (p + 6) * (p + 6)

@@ -1,5 +1,5 @@
 -- The end of an arc that touches its stop is not in the direction of its start.
-use Rattle.std.proofs.Common.{◌≡◌, ◌⊎◌, inl, inr, ℕ, ◌+◌, ◌*◌, ◌^◌, ◌≤◌, ◌<◌, ◌∙◌, ap, sym, subst, arith, ℤ, pos, ◌+ℤ◌, ◌-ℤ◌, ◌*ℤ◌, ◌≤ℤ◌, ◌<ℤ◌, unsigned_abs}
+use Rattle.std.proofs.Common.{◌≡◌, ◌⊎◌, inl, inr, ◌+◌, ◌*◌, ◌^◌, ◌≤◌, ◌<◌, ◌∙◌, ap, sym, subst, arith, ℤ, pos, ◌+ℤ◌, ◌-ℤ◌, ◌*ℤ◌, ◌≤ℤ◌, ◌<ℤ◌, unsigned_abs}
 use Rattle.apt_num.specs.Sign.{square}
 use Rattle.apt_num.proofs.Ring.{as_diff, diff-same, differences}
 use Rattle.apt_plane.specs.declared.figures.Pt.{Pt}
@@ -7,16 +7,15 @@ use Rattle.apt_plane.specs.declared.figures.Dir.{Dir}
 use Rattle.apt_plane.specs.declared.figures.Circ.{Circ}
 use Rattle.apt_plane.specs.Vectors.{displacement, cross, dot, length_squared}
 use Rattle.apt_plane.specs.Ranges.{IsDir, IsSense}
-use Rattle.apt_plane.proofs.Turned.{turned_by}
+use Rattle.apt_plane.proofs.Turned.{turned_by, size_sense}
 use Rattle.apt_canon.specs.Scale.{times}
 use Rattle.apt_canon.specs.Feet.{ray_point}
 use Rattle.apt_arc.specs.declared.arc.Arc.{Arc}
 use Rattle.apt_arc.specs.Ranges.{IsTrack, IsArc}
 use Rattle.apt_arc.specs.Stops.{IsRoute, to_start, to_end}
-use Rattle.apt_arc.proofs.Spans.{size_sense}
 use Rattle.apt_arc.proofs.Tracks.{within, within_large, nearby, aimed}
-use Rattle.apt_arc.proofs.Apart.{ray_apart}
-use Rattle.apt_arc.proofs.Arrivals.{on_circle, is_arc}
+use Rattle.apt_plane.proofs.Apart.{ray_apart}
+use Rattle.apt_arc.proofs.Arrivals.{on_circle, is_arc, far_by}
 
 -- ---- an axis, or the other way along it
 cross_parts : (k a b c d : ℤ) → ((k *ℤ a) *ℤ d) -ℤ ((k *ℤ b) *ℤ c) ≡ k *ℤ ((a *ℤ d) -ℤ (b *ℤ c))
@@ -44,9 +43,6 @@ dir_along k u is dir = record {
 size_across : (sense k : ℤ) (u v : Dir) → IsSense sense → IsSense k → unsigned_abs (turned_by sense (times k u) v) ≡ unsigned_abs (cross u v)
 size_across sense k u v is turn = size_sense sense (cross (times k u) v) is ∙ ap unsigned_abs (cross_along k u v) ∙ size_sense k (cross u v) turn
 
-far_by : (m n x y : ℕ) → m ≡ n → x ≡ y → 64 * n < y * y → 64 * m < x * x
-far_by m n x y e f h = rw (e, f) h
-
 behind_by : (z w : ℤ) → z ≡ w → w ≤ℤ pos 0 → z ≤ℤ pos 0
 behind_by z w e h = rw e h
 
@@ -60,7 +56,7 @@ circle_touching a u k is dir half at off =
     is_arc a is
     (ray_apart (within t) a.sense (to_start a) (to_end a) b is.sense (within_large t is.track) (nearby t a.start is.track is.start) (on_circle t a.end is.track is.end) (rw (size_sense a.sense (cross b (to_end a)) is.sense) aim.0) aim.1
     (elim off [
-      | inl far ↦ inl (far_by (length_squared b) (length_squared u) (unsigned_abs (turned_by a.sense b (to_start a))) (unsigned_abs (cross u (to_start a))) (length_along k u half) (size_across a.sense k u (to_start a) is.sense half) far)
+      | inl far ↦ inl (far_by (turned_by a.sense b (to_start a)) (cross u (to_start a)) (length_squared b) (length_squared u) (length_along k u half) (size_across a.sense k u (to_start a) is.sense half) far)
       | inr behind ↦ inr (behind_by (dot b (to_start a)) (k *ℤ dot u (to_start a)) (dot_along k u (to_start a)) behind)
     ]))
   where

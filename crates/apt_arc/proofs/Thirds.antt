@@ -5,13 +5,13 @@ use Rattle.std.proofs.lemmas.Nat.{mul-le}
 use Rattle.std.proofs.lemmas.Int.{ints}
 use Rattle.std.proofs.lemmas.Bool.{cases_lt}
 use Rattle.apt_num.proofs.Ring.{as_diff, diff-pos, diff-same, differences}
-use Rattle.apt_num.proofs.Squares.{size_mul, size_add, root_le, cancel_le}
+use Rattle.apt_num.proofs.Squares.{size_mul, size_add, root_le, cancel_le, natural}
 use Rattle.apt_plane.specs.declared.figures.Dir.{Dir}
 use Rattle.apt_plane.specs.Vectors.{cross, dot, length_squared}
 use Rattle.apt_plane.proofs.Displacements.{to, square_length_squared, lagrange}
-use Rattle.apt_plane.proofs.Lengths.{plus}
+use Rattle.apt_plane.proofs.Lengths.{plus, chord}
 use Rattle.apt_plane.proofs.Turned.{dot_about}
-use Rattle.apt_arc.proofs.Spans.{IsSpan, IsAimed, chord, gap, gap_small, dot_sum_chord, cross_sum_chord, sum_is, chord_is, two_cross, natural}
+use Rattle.apt_arc.proofs.Spans.{IsSpan, IsAimed, gap, gap_small, dot_sum_chord, cross_sum_chord, sum_is, chord_is, two_cross}
 
 -- ---- in numbers: what is left after the equations
 third_core : (z U E Y Q r H D V W : ℕ)

@@ -11,19 +11,20 @@ use Rattle.apt_plane.specs.Vectors.{between, displacement, displacement_to, dot,
 use Rattle.apt_plane.specs.Distances.{IsLengthAtMost, IsRootAtMost}
 use Rattle.apt_plane.specs.Ranges.{IsPoint, IsDir, IsRound, IsSense}
 use Rattle.apt_plane.proofs.Displacements.{stewart}
-use Rattle.apt_plane.proofs.Lengths.{plus}
+use Rattle.apt_plane.proofs.Lengths.{plus, chord}
 use Rattle.apt_plane.proofs.Heights.{one-times}
 use Rattle.apt_plane.proofs.RingLaws.{length_at_most, root_at_most}
 use Rattle.apt_canon.specs.Scale.{IsNearCircle, sum}
 use Rattle.apt_canon.specs.Feet.{ray_point}
 use Rattle.apt_canon.proofs.Sharp.{ray_across, ray_forward, ray_radius}
 use Rattle.apt_arc.proofs.Halving.{near_piece}
-use Rattle.apt_arc.proofs.Spans.{IsNearby, IsSpan, IsAimed, chord, far_turn, halves, sum_is}
+use Rattle.apt_arc.proofs.Spans.{IsSpan, IsAimed, far_turn, halves, sum_is}
 use Rattle.apt_arc.proofs.Thirds.{thirds}
 use Rattle.apt_arc.specs.Ranges.{IsTrack, IsSag, IsPiece}
 use Rattle.apt_arc.specs.Cuts.{middle}
 use Rattle.apt_arc.specs.Made.{is_clear, is_over}
 use Rattle.apt_arc.proofs.Clear.{near_point}
+use Rattle.apt_plane.proofs.Nearby.{IsNearby}
 
 -- three units less than the radius
 abbrev pub within : Circ → ℕ

@@ -19,13 +19,12 @@ use Rattle.apt_arc.specs.Quarters.{IsQuarterPoint, IsOnTheWay, Each}
 use Rattle.apt_arc.specs.Steps.{AreSteps}
 use Rattle.apt_arc.specs.Divisions.{IsDivision}
 use Rattle.apt_arc.specs.Made.{quarters}
-use Rattle.apt_arc.proofs.Spans.{some_length}
+use Rattle.apt_plane.proofs.Nearby.{some_length, IsRoundedPoint}
 use Rattle.apt_arc.proofs.Lists.{is_false}
 use Rattle.apt_arc.proofs.Tracks.{within, within_large, within_small, nearby, middle_dir, half_pieces, aimed, size_of_radius, sag_least}
 use Rattle.apt_arc.proofs.Depth.{deepest}
 use Rattle.apt_arc.proofs.Parts.{quarters_divide, quarter_of, dir_turned}
 use Rattle.apt_arc.proofs.Divided.{one_quarters}
-use Rattle.apt_arc.proofs.Kept.{IsRoundedPoint}
 
 -- the end, or met before it
 abbrev pub IsUpToEnd : Circ → ℤ → Pt → Pt → Pt → Type 0

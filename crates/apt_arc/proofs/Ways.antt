@@ -10,10 +10,10 @@ use Rattle.apt_plane.specs.Vectors.{displacement, dot, perp}
 use Rattle.apt_plane.specs.Ranges.{IsSense}
 use Rattle.apt_plane.proofs.Displacements.{dot_swap}
 use Rattle.apt_canon.proofs.Sharp.{ray_way, ray_turned}
+use Rattle.apt_num.proofs.Ring.{double_neg}
 use Rattle.apt_plane.proofs.Turned.{turned_by, turned_back}
 use Rattle.apt_plane.proofs.Quarters.{IsOnward, left_is, right, right_is}
 use Rattle.apt_arc.specs.Made.{onward, is_behind, first_past}
-use Rattle.apt_arc.proofs.Spans.{double_neg}
 use Rattle.apt_arc.proofs.Clear.{lt_true, lt_from, le_true, le_from}
 
 -- ---- quarter turns of directions

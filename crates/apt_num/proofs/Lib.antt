@@ -14,3 +14,11 @@ pub mod Footed
 pub mod Chords
 pub mod Convex
 mod Worked
+pub mod Farther
+pub mod LineSteps
+pub mod InsideSteps
+pub mod InsideGive
+pub mod Moves
+pub mod Carried
+pub mod OnAxis
+pub mod Rays

@@ -80,6 +80,9 @@ pub *ℤ-neg : (a b : ℤ) → a *ℤ neg_ℤ b ≡ neg_ℤ (a *ℤ b)
 pub neg-*ℤ-neg : (a b : ℤ) → neg_ℤ a *ℤ neg_ℤ b ≡ a *ℤ b
 neg-*ℤ-neg a b = rw (as_diff a, as_diff b) (simp differences (diff-same _ _ _ _ (omega arith)))
 
+pub double_neg : (z : ℤ) → neg_ℤ (neg_ℤ z) ≡ z
+double_neg z = omega (arith, ints)
+
 pub pos-*ℤ : (m n : ℕ) → pos m *ℤ pos n ≡ pos (m * n)
 pos-*ℤ m n = omega (arith, ints)
 

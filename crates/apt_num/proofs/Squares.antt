@@ -87,3 +87,6 @@ size_le a = omega (arith, ints)
 
 pub neg_size_le : (a : ℤ) → neg_ℤ (pos (unsigned_abs a)) ≤ℤ a
 neg_size_le a = omega (arith, ints)
+
+pub natural : (z : ℤ) → pos 0 ≤ℤ z → z ≡ pos (unsigned_abs z)
+natural z h = omega (arith, ints)

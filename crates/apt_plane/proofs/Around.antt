@@ -50,6 +50,13 @@ some_way sense s u is p q e f =
 pub is_place : (sense : ℤ) (s u : Dir) → IsSense sense → 0 < length_squared s → 0 < length_squared u → IsPlace (turned_by sense s u) (dot s u) (turn_class s sense u)
 is_place sense s u is p q = strictly (turned_by sense s u) (dot s u) (turn_class s sense u) (some_way sense s u is p q) (place (turned_by sense s u) (dot s u))
 
+-- in the direction of the start
+pub zero_class : (x d : ℤ) (k : ℕ) → k ≡ 0 → IsPlace x d k → (x ≡ pos 0) × (pos 0 <ℤ d)
+zero_class x d k e (inl p) = (p.1, p.2)
+zero_class x d k e (inr (inl p)) = absurd (omega (arith, e, p.0))
+zero_class x d k e (inr (inr (inl p))) = absurd (omega (arith, e, p.0))
+zero_class x d k e (inr (inr (inr p))) = absurd (omega (arith, e, p.0))
+
 -- ---- one class before another
 abbrev Comes : ℕ → ℕ → ℤ → Type 0
 Comes k l c = (k < l) ⊎ ((k ≡ l) × ((k ≡ 1) ⊎ (k ≡ 3)) × (pos 0 <ℤ c))

@@ -87,6 +87,17 @@ difference_of_lengths u v p q long short = elim (cases_lt (length_squared (minus
   | inr past ↦ past
 ]
 
+-- the way from the first point to the second
+abbrev pub chord : Dir → Dir → Dir
+chord a b = to (b.dx -ℤ a.dx) (b.dy -ℤ a.dy)
+
+chord_parts : (a b c d : ℤ) → (((c -ℤ a) *ℤ (c -ℤ a)) +ℤ ((d -ℤ b) *ℤ (d -ℤ b))) +ℤ (pos 2 *ℤ ((a *ℤ c) +ℤ (b *ℤ d)))
+    ≡ ((a *ℤ a) +ℤ (b *ℤ b)) +ℤ ((c *ℤ c) +ℤ (d *ℤ d))
+chord_parts a b c d = rw (as_diff a, as_diff b, as_diff c, as_diff d, diff-pos 2) (simp differences (diff-same _ _ _ _ (omega arith)))
+
+pub chord_long : (a b : Dir) → pos (length_squared (chord a b)) +ℤ (pos 2 *ℤ dot a b) ≡ pos (length_squared a) +ℤ pos (length_squared b)
+chord_long a b = rw (← square_length_squared (chord a b), ← square_length_squared a, ← square_length_squared b) at (chord_parts a.dx a.dy b.dx b.dy)
+
 -- the way to a point between two, in the ways to them
 pub displacement_between : (c p q : Pt) (j k : ℕ) → displacement_to c (between p q j k) ≡ plus (times (pos k) (displacement c p)) (times (pos j) (displacement c q))
 displacement_between c p q j k = rw (between_part c.x p.x q.x j k, between_part c.y p.y q.y j k) refl

@@ -10,3 +10,10 @@ pub mod Turns
 pub mod Turned
 pub mod Around
 pub mod Quarters
+pub mod Nearby
+pub mod Governed
+pub mod Kept
+pub mod AwayRows
+pub mod NearRows
+pub mod Apart
+pub mod Outside

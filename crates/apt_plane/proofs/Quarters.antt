@@ -11,7 +11,7 @@ use Rattle.apt_plane.specs.Order.{turn_class, ComesBefore}
 use Rattle.apt_plane.proofs.Displacements.{square_length_squared, cross_self, dot_swap}
 use Rattle.apt_plane.proofs.Heights.{one-times}
 use Rattle.apt_plane.proofs.Turned.{turned_by, turned_back, minus-times, plucker_turned, about_start}
-use Rattle.apt_plane.proofs.Around.{Cyc, IsPlace, is_place, before_cyc, before_onward, before_from_start, cyc_after}
+use Rattle.apt_plane.proofs.Around.{Cyc, IsPlace, is_place, zero_class, before_cyc, before_onward, before_from_start, cyc_after}
 
 -- w lies a quarter turn on from v
 pub record IsOnward (sense : ℤ) (v w : Dir) : Type 0 where
@@ -152,12 +152,6 @@ not_ahead x d k some (inl p) e = absurd (some p.0)
 not_ahead x d k some (inr (inl p)) e = absurd (omega (arith, ints, p.1, e))
 not_ahead x d k some (inr (inr (inl p))) e = p.2
 not_ahead x d k some (inr (inr (inr p))) e = absurd (omega (arith, ints, p.1, e))
-
-zero_class : (x d : ℤ) (k : ℕ) → k ≡ 0 → IsPlace x d k → (x ≡ pos 0) × (pos 0 <ℤ d)
-zero_class x d k e (inl p) = (p.1, p.2)
-zero_class x d k e (inr (inl p)) = absurd (omega (arith, e, p.0))
-zero_class x d k e (inr (inr (inl p))) = absurd (omega (arith, e, p.0))
-zero_class x d k e (inr (inr (inr p))) = absurd (omega (arith, e, p.0))
 
 -- ---- after the start and before the end
 abbrev pub IsBetween : ℤ → Dir → Dir → Dir → Type 0

@@ -1,7 +1,8 @@
 -- Cross products in the sense of a turn, and of four directions with each other.
-use Rattle.std.proofs.Common.{refl, ◌≡◌, inl, inr, ◌∙◌, ap, arith, ℤ, pos, negsuc, neg_ℤ, ◌+ℤ◌, ◌-ℤ◌, ◌*ℤ◌}
+use Rattle.std.proofs.Common.{refl, ◌≡◌, inl, inr, ◌∙◌, ap, arith, ℤ, pos, negsuc, neg_ℤ, ◌+ℤ◌, ◌-ℤ◌, ◌*ℤ◌, unsigned_abs}
 use Rattle.std.proofs.lemmas.Int.{ints}
 use Rattle.apt_num.proofs.Ring.{as_diff, diff-same, differences, *ℤ-neg, neg-*ℤ-neg}
+use Rattle.apt_num.proofs.Squares.{size_neg}
 use Rattle.apt_plane.specs.declared.figures.Dir.{Dir}
 use Rattle.apt_plane.specs.Vectors.{cross, dot, length_squared}
 use Rattle.apt_plane.specs.Ranges.{IsSense}
@@ -22,6 +23,18 @@ sense_twice sense x y (inr e) = rw (e, minus-times x, minus-times y) (neg-*ℤ-n
 
 pub turned_back : (sense : ℤ) (u v : Dir) → turned_by sense v u ≡ neg_ℤ (turned_by sense u v)
 turned_back sense u v = ap (λ z. sense *ℤ z) (cross_swap u v) ∙ *ℤ-neg sense (cross u v)
+
+pub size_sense : (sense z : ℤ) → IsSense sense → unsigned_abs (sense *ℤ z) ≡ unsigned_abs z
+size_sense sense z (inl e) = rw (e, one-times z) refl
+size_sense sense z (inr e) = rw (e, minus-times z) (size_neg z)
+
+pub sense_back : (sense : ℤ) → IsSense sense → IsSense (neg_ℤ sense)
+sense_back sense (inl e) = inr (rw e refl)
+sense_back sense (inr e) = inl (rw e refl)
+
+-- in the other sense
+pub turned_other : (sense : ℤ) (u v : Dir) → turned_by (neg_ℤ sense) v u ≡ turned_by sense u v
+turned_other sense u v = ap (λ z. neg_ℤ sense *ℤ z) (cross_swap u v) ∙ neg-*ℤ-neg sense (cross u v)
 
 -- ---- four directions
 plucker_parts : (a b c d e f g h : ℤ) → (((a *ℤ d) -ℤ (b *ℤ c)) *ℤ ((e *ℤ h) -ℤ (f *ℤ g))) +ℤ (((e *ℤ b) -ℤ (f *ℤ a)) *ℤ ((c *ℤ h) -ℤ (d *ℤ g)))

@@ -4,9 +4,9 @@ use Rattle.std.proofs.Math.Nat.{mul-le-mul_left}
 use Rattle.std.proofs.lemmas.Nat.{mul-le}
 use Rattle.std.proofs.lemmas.Bool.{cases_lt}
 use Rattle.apt_num.proofs.Squares.{four_le, root_le, cancel_le}
-use Rattle.apt_arc.proofs.Farther.{IsHardlyNearer}
-use Rattle.apt_arc.proofs.LineSteps.{OneOnCircle, other_way}
-use Rattle.apt_arc.proofs.InsideSteps.{IsSeen, ahead_is, behind_is, some_long, size_ahead, size_below}
+use Rattle.apt_num.proofs.Farther.{IsHardlyNearer}
+use Rattle.apt_num.proofs.LineSteps.{OneOnCircle, other_way}
+use Rattle.apt_num.proofs.InsideSteps.{IsSeen, ahead_is, behind_is, some_long, size_ahead, size_below}
 
 -- k + 1 is twice n
 up_give : (f g n m k : ℕ) → k + 1 ≡ 2 * n → 2 * (g * g * n) ≤ 2 * (f * f * m) + g * g → k * g ≤ f * (n + m)

@@ -6,11 +6,10 @@ use Rattle.apt_plane.specs.Vectors.{cross, dot, length_squared}
 use Rattle.apt_plane.specs.Ranges.{IsSense}
 use Rattle.apt_plane.proofs.Displacements.{lagrange, dot_square}
 use Rattle.apt_num.proofs.Products.{sign_cases, no_minus}
-use Rattle.apt_plane.proofs.Turned.{turned_by, turned_back, about_start}
-use Rattle.apt_arc.proofs.Spans.{size_sense, sense_back, turned_other}
+use Rattle.apt_plane.proofs.Turned.{turned_by, turned_back, about_start, size_sense, sense_back, turned_other}
 use Rattle.apt_plane.proofs.Around.{Cyc, cyc_on_a_way}
 use Rattle.apt_num.proofs.Turning.{not_first, not_third}
-use Rattle.apt_arc.proofs.Farther.{IsFarther, IsHardlyNearer, farther_hardly, farther_of, on_ray, on_ray_behind}
+use Rattle.apt_num.proofs.Farther.{IsFarther, IsHardlyNearer, farther_hardly, farther_of, on_ray, on_ray_behind}
 
 -- v is at least as far from the axis b as a
 abbrev pub IsFartherFrom : Dir → Dir → Dir → Type 0
@@ -90,7 +89,7 @@ back_below sense u v h = rw (turned_back sense u v) (omega (arith, ints, h))
 back_above : (sense : ℤ) (u v : Dir) → turned_by sense u v ≤ℤ pos 0 → pos 0 ≤ℤ turned_by sense v u
 back_above sense u v h = rw (turned_back sense u v) (omega (arith, ints, h))
 
-back_plus : (sense : ℤ) (u v : Dir) → turned_by sense u v <ℤ pos 0 → pos 0 <ℤ turned_by sense v u
+pub back_plus : (sense : ℤ) (u v : Dir) → turned_by sense u v <ℤ pos 0 → pos 0 <ℤ turned_by sense v u
 back_plus sense u v h = rw (turned_back sense u v) (omega (arith, ints, h))
 
 -- where the end is met before the axis, a point of the way is governed by the start on the near side of the axis, and by the end on the other

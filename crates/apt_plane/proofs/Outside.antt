@@ -6,16 +6,16 @@ use Rattle.std.proofs.lemmas.Nat.{mul-le}
 use Rattle.std.proofs.lemmas.Bool.{cases_lt}
 use Rattle.apt_num.specs.Sign.{signed_square}
 use Rattle.apt_num.proofs.Ring.{as_diff, diff-pos, diff-same, differences}
-use Rattle.apt_num.proofs.Squares.{size_neg}
 use Rattle.apt_plane.specs.declared.figures.Dir.{Dir}
 use Rattle.apt_plane.specs.Vectors.{cross, dot, length_squared}
 use Rattle.apt_plane.proofs.Displacements.{square_length_squared, lagrange, dot_square}
-use Rattle.apt_plane.proofs.Lengths.{plus, times, length_of_times, sum_of_lengths}
-use Rattle.apt_arc.proofs.Spans.{IsNearby, chord, chord_long}
-use Rattle.apt_arc.proofs.Moves.{IsUpTo, IsCrossing, moved}
-use Rattle.apt_arc.proofs.Carried.{carried}
-use Rattle.apt_arc.proofs.OnAxis.{on_axis}
-use Rattle.apt_arc.proofs.Rays.{ray}
+use Rattle.apt_plane.proofs.AwayRows.{reverse, reverse_length}
+use Rattle.apt_plane.proofs.Lengths.{plus, times, length_of_times, sum_of_lengths, chord, chord_long}
+use Rattle.apt_plane.proofs.Nearby.{IsNearby}
+use Rattle.apt_num.proofs.Moves.{IsUpTo, IsCrossing, moved}
+use Rattle.apt_num.proofs.Carried.{carried}
+use Rattle.apt_num.proofs.OnAxis.{on_axis}
+use Rattle.apt_num.proofs.Rays.{ray}
 
 -- the share of the axis that v has, over its length, is at most that of a
 abbrev pub HasLessShare : Dir → Dir → Dir → Type 0
@@ -58,12 +58,6 @@ same_way a b c d e f = rw (e, f) refl
 again : (m : ℕ) (g v : Dir) → length_squared (plus (less_times m g v) (times (pos m) g)) ≡ length_squared v
 again m g v = same_way _ _ _ _ (again_part v.dx (pos m *ℤ g.dx)) (again_part v.dy (pos m *ℤ g.dy))
 
-abbrev back : Dir → Dir
-back u = record { dx = neg_ℤ u.dx; dy = neg_ℤ u.dy }
-
-back_long : (u : Dir) → length_squared (back u) ≡ length_squared u
-back_long u = rw (size_neg u.dx, size_neg u.dy) refl
-
 -- v is shorter by so much than m g
 far_least : (r q w m G : ℕ) → 8 ≤ w → w ≤ q → 0 < m → (r + q) * (r + q) < G → (m * (q - w) + m * (r + 3)) * (m * (q - w) + m * (r + 3)) < m * m * G + 1
 far_least r q w m G least stop some far =
@@ -78,7 +72,7 @@ far_apart r q w m g v is near far =
       | inr fine ↦ fine
       | inl short ↦
           let both =
-          sum_of_lengths (back (less_times m g v)) v (m * (q - w)) (m * (r + 3)) 1 (omega (arith, short, back_long (less_times m g v))) (omega (arith, near.high)) in
+          sum_of_lengths (reverse (less_times m g v)) v (m * (q - w)) (m * (r + 3)) 1 (omega (arith, short, reverse_length (less_times m g v))) (omega (arith, near.high)) in
           absurd (omega (
             arith,
             both,
@@ -91,7 +85,7 @@ far_apart r q w m g v is near far =
     turn_other : (c d : ℤ) → neg_ℤ (c -ℤ d) +ℤ c ≡ d
     turn_other c d = omega (arith, ints)
 
-    turned_round : (m : ℕ) (g v : Dir) → length_squared (plus (back (less_times m g v)) v) ≡ length_squared (times (pos m) g)
+    turned_round : (m : ℕ) (g v : Dir) → length_squared (plus (reverse (less_times m g v)) v) ≡ length_squared (times (pos m) g)
     turned_round m g v = same_way _ _ _ _ (turn_other v.dx (pos m *ℤ g.dx)) (turn_other v.dy (pos m *ℤ g.dy))
 
 -- the stop's circle inside the track

@@ -1,23 +1,20 @@
 -- Away from a stop, where nothing refuses: the end is strictly nearer to the axis than the start.
-use Rattle.std.proofs.Common.{◌≡◌, ℕ, ◌+◌, ◌*◌, ◌≤◌, ◌<◌, subst, arith, ℤ, pos, negsuc, neg_ℤ, ◌+ℤ◌, ◌-ℤ◌, ◌*ℤ◌}
-use Rattle.std.proofs.Math.Nat.{mul-le-mul_left}
+use Rattle.std.proofs.Common.{refl, ◌≡◌, ℕ, ◌+◌, ◌*◌, ◌≤◌, ◌<◌, subst, arith, ℤ, pos, negsuc, neg_ℤ, ◌+ℤ◌, ◌-ℤ◌, ◌*ℤ◌}
 use Rattle.std.proofs.lemmas.Int.{ints}
 use Rattle.apt_num.specs.Sign.{AtLeast}
 use Rattle.apt_num.proofs.Ring.{as_diff, diff-same, differences}
+use Rattle.apt_num.proofs.Squares.{size_neg}
 use Rattle.apt_num.proofs.Sums.{at_least-sum}
 use Rattle.apt_plane.specs.declared.figures.Dir.{Dir}
 use Rattle.apt_plane.specs.Vectors.{dot, length_squared}
 use Rattle.apt_plane.proofs.Displacements.{to, dot_square}
 use Rattle.apt_plane.proofs.Lengths.{plus}
-use Rattle.apt_arc.proofs.Spans.{IsNearby}
-use Rattle.apt_arc.proofs.Farther.{hardly_back}
-use Rattle.apt_arc.proofs.LineSteps.{other_way, line_give}
-use Rattle.apt_arc.proofs.InsideGive.{inside_give_step}
-use Rattle.apt_arc.proofs.Governed.{IsHardlyNearerTo}
-use Rattle.apt_arc.proofs.Kept.{IsOnCircle, start_to_circle, seen}
-
-some_length : (p n : ℕ) → 97 ≤ p → p * p ≤ n → 0 < n
-some_length p n least h = omega (arith, h, mul-le-mul_left p least, least)
+use Rattle.apt_plane.proofs.Nearby.{IsNearby, IsOnCircle, some_length}
+use Rattle.apt_num.proofs.Farther.{hardly_back}
+use Rattle.apt_num.proofs.LineSteps.{other_way, line_give}
+use Rattle.apt_num.proofs.InsideGive.{inside_give_step}
+use Rattle.apt_plane.proofs.Governed.{IsHardlyNearerTo}
+use Rattle.apt_plane.proofs.Kept.{start_to_circle, seen}
 
 -- ---- a line stop: the start at least 8 before it, the end at most 1
 all_gone : (rest f g : ℤ) → ((rest -ℤ f) +ℤ (f -ℤ g)) +ℤ neg_ℤ (rest -ℤ g) ≡ pos 0
@@ -58,7 +55,10 @@ reverse_parts a b c d = rw (as_diff a, as_diff b, as_diff c, as_diff d) (simp di
 pub dot_reverse : (b v : Dir) → dot (reverse b) v ≡ neg_ℤ (dot b v)
 dot_reverse b v = reverse_parts b.dx b.dy v.dx v.dy
 
-pub hardly_reverse : (b a v : Dir) → 0 < length_squared a → IsHardlyNearerTo b a v → IsHardlyNearerTo (reverse b) v a
+pub reverse_length : (b : Dir) → length_squared (reverse b) ≡ length_squared b
+reverse_length b = rw (size_neg b.dx, size_neg b.dy) refl
+
+hardly_reverse : (b a v : Dir) → 0 < length_squared a → IsHardlyNearerTo b a v → IsHardlyNearerTo (reverse b) v a
 hardly_reverse b a v some hardly = rw (dot_reverse b v, dot_reverse b a) (hardly_back (dot b a) (length_squared a) (dot b v) (length_squared v) some hardly)
 
 pub outside_away : (p S : ℕ) (s e b : Dir) → 97 ≤ p → 1 ≤ S → IsNearby p s → IsOnCircle p e
@@ -68,5 +68,5 @@ outside_away p S s e b least large start end near far = λ hardly.
     past S (length_squared (plus s back))
     (inside_give_step p (length_squared e) (length_squared s) (length_squared back) (length_squared (plus e back)) (length_squared (plus s back)) S (dot back e) (dot back s)
     (other_way p (length_squared s) (length_squared e) (start_to_circle p s e least start end)) (seen e s back)
-    (hardly_reverse b s e (some_length p (length_squared s) least start.low) hardly) near large)
+    (hardly_reverse b s e (some_length p s least start) hardly) near large)
     far

@@ -10,11 +10,10 @@ use Rattle.apt_plane.specs.Vectors.{dot, length_squared}
 use Rattle.apt_plane.specs.Ranges.{IsSense}
 use Rattle.apt_plane.proofs.Displacements.{dot_square}
 use Rattle.apt_num.proofs.Products.{strict_each}
-use Rattle.apt_plane.proofs.Turned.{turned_by, turned_back, about_start}
-use Rattle.apt_arc.proofs.Spans.{IsNearby}
+use Rattle.apt_plane.proofs.Turned.{turned_by, about_start}
+use Rattle.apt_plane.proofs.Nearby.{IsNearby, IsOnCircle}
 use Rattle.apt_plane.proofs.Around.{Cyc}
-use Rattle.apt_arc.proofs.Governed.{IsHardlyAcross, IsOnRay, whole, side_of, none_across}
-use Rattle.apt_arc.proofs.Kept.{IsOnCircle}
+use Rattle.apt_plane.proofs.Governed.{IsHardlyAcross, IsOnRay, whole, side_of, back_plus, none_across}
 
 -- the start is far across, the end hardly
 outweighs : (B n m y f g z p : ℕ) → 0 < B → 64 * B < y * y → 2 * (z * z) ≤ B → f * f ≤ B * n → B * m ≡ g * g + z * z → n ≤ (p + 6) * (p + 6) → (p + 2) * (p + 2) ≤ m → 97 ≤ p → f * z < y * g
@@ -54,9 +53,6 @@ behind p sense s e b row hardly below =
     let less = outweighs (length_squared b) (length_squared s) (length_squared e) y (unsigned_abs (dot b s)) (unsigned_abs (dot b e)) z p row.axis row.far hardly (dot_square b s) (whole sense b e row.turn) row.start.high row.end.low row.least in
     sign_by (length_squared b) (turned_by sense s e) (dot b s *ℤ turned_by sense b e) (turned_by sense b s *ℤ dot b e) (about_start sense b s e) (strict_each (turned_by sense b s) (dot b e) row.ahead below)
     (rw (size_mul (dot b s) (turned_by sense b e), size_mul (turned_by sense b s) (dot b e)) less)
-
-back_plus : (sense : ℤ) (u v : Dir) → turned_by sense u v <ℤ pos 0 → pos 0 <ℤ turned_by sense v u
-back_plus sense u v h = rw (turned_back sense u v) (omega (arith, ints, h))
 
 pub near_reached : (p : ℕ) (sense : ℤ) (s e b : Dir) → IsNearRow p sense s e b → Cyc s sense e b ⊎ IsOnRay sense b e
 near_reached p sense s e b row = elim (side_of (turned_by sense b e)) [

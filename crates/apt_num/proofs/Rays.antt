@@ -7,7 +7,7 @@ use Rattle.std.proofs.lemmas.Bool.{cases_lt}
 use Rattle.apt_num.specs.Sign.{signed_square}
 use Rattle.apt_num.proofs.Ring.{*ℤ-neg, neg-*ℤ}
 use Rattle.apt_num.proofs.Squares.{slack, four_le, root_le}
-use Rattle.apt_arc.proofs.Moves.{IsUpTo, IsCrossing, share_up, share_back}
+use Rattle.apt_num.proofs.Moves.{IsUpTo, IsCrossing, share_up, share_back}
 
 -- ---- J at most 2 r x
 ray_near : (x w p m V J F G L e : ℕ) → 4 * ((x + w) * x * (m * F)) ≤ J * (V + m * m * (x * x)) → J + (p + w) * (p + w) ≡ (x + w) * (x + w) + G

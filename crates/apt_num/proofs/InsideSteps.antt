@@ -5,8 +5,8 @@ use Rattle.std.proofs.lemmas.Nat.{mul-le}
 use Rattle.std.proofs.lemmas.Int.{ints}
 use Rattle.std.proofs.lemmas.Bool.{cases_lt}
 use Rattle.apt_num.proofs.Squares.{four_le, root_le, cancel_le}
-use Rattle.apt_arc.proofs.Farther.{IsFarther}
-use Rattle.apt_arc.proofs.LineSteps.{SecondRounded}
+use Rattle.apt_num.proofs.Farther.{IsFarther}
+use Rattle.apt_num.proofs.LineSteps.{SecondRounded}
 
 -- ---- the part along the axis, of a first on its side and of a first behind it
 up_strict : (f g n m : ℕ) → g * g * n ≤ f * f * m → 2 * (n * g) ≤ f * (n + m)

@@ -3,29 +3,21 @@ use Rattle.std.proofs.Common.{refl, ◌≡◌, ◌≢◌, ◌⊎◌, inl, inr, �
 use Rattle.std.proofs.Math.Nat.{mul-le-mul_left}
 use Rattle.std.proofs.lemmas.Int.{ints}
 use Rattle.apt_num.proofs.Ring.{neg-*ℤ}
-use Rattle.apt_num.proofs.Squares.{size_mul, cancel_same}
+use Rattle.apt_num.proofs.Squares.{size_mul, cancel_same, natural}
 use Rattle.apt_plane.specs.declared.figures.Dir.{Dir}
 use Rattle.apt_plane.specs.Vectors.{cross, dot, length_squared}
 use Rattle.apt_plane.specs.Ranges.{IsSense}
 use Rattle.apt_plane.specs.Order.{turn_class}
 use Rattle.apt_plane.proofs.Displacements.{lagrange, dot_swap}
 use Rattle.apt_num.proofs.Products.{plus_of, both_plus, one_each}
-use Rattle.apt_plane.proofs.Turned.{turned_by, turned_back, about_start, dot_about}
-use Rattle.apt_arc.proofs.Spans.{IsNearby, natural, size_sense, some_length}
-use Rattle.apt_plane.proofs.Around.{is_place}
-use Rattle.apt_arc.proofs.Farther.{as_far, farther_hardly}
-use Rattle.apt_arc.proofs.Governed.{IsFartherFrom, IsHardlyAcross, IsHardlyNearerTo}
-use Rattle.apt_arc.proofs.Kept.{IsOnCircle}
-use Rattle.apt_arc.proofs.NearRows.{IsNearRow}
+use Rattle.apt_plane.proofs.Turned.{turned_by, turned_back, about_start, dot_about, size_sense}
+use Rattle.apt_plane.proofs.Nearby.{IsNearby, some_length, IsOnCircle}
+use Rattle.apt_plane.proofs.Around.{is_place, zero_class}
+use Rattle.apt_num.proofs.Farther.{as_far, farther_hardly}
+use Rattle.apt_plane.proofs.Governed.{IsFartherFrom, IsHardlyAcross, IsHardlyNearerTo}
+use Rattle.apt_plane.proofs.NearRows.{IsNearRow}
 
 -- ---- in one direction
-first_class : (x d : ℤ) (k : ℕ) → k ≡ 0 → ((k ≡ 0) × (x ≡ pos 0) × (pos 0 <ℤ d)) ⊎ (((k ≡ 1) × (pos 0 <ℤ x)) ⊎ (((k ≡ 2) × (x ≡ pos 0) × (d <ℤ pos 0)) ⊎ ((k ≡ 3) × (x <ℤ pos 0))))
-    → (x ≡ pos 0) × (pos 0 <ℤ d)
-first_class x d k e (inl u) = (u.1, u.2)
-first_class x d k e (inr (inl u)) = absurd (omega (arith, e, u.0))
-first_class x d k e (inr (inr (inl u))) = absurd (omega (arith, e, u.0))
-first_class x d k e (inr (inr (inr u))) = absurd (omega (arith, e, u.0))
-
 no_cross : (sense z : ℤ) → IsSense sense → sense *ℤ z ≡ pos 0 → z ≡ pos 0
 no_cross sense z is e = omega (arith, ints, rw (e) at (size_sense sense z is))
 
@@ -38,7 +30,7 @@ drop_sum k a y b e f = rw f at e ∙ omega (arith, ints)
 
 one_way : (sense : ℤ) (s e : Dir) → IsSense sense → 0 < length_squared s → 0 < length_squared e → turn_class s sense e ≡ 0 → (cross s e ≡ pos 0) × (pos 0 <ℤ dot s e)
 one_way sense s e is p q same =
-    let both = first_class (turned_by sense s e) (dot s e) (turn_class s sense e) same (is_place sense s e is p q) in
+    let both = zero_class (turned_by sense s e) (dot s e) (turn_class s sense e) same (is_place sense s e is p q) in
     (no_cross sense (cross s e) is both.0, both.1)
 
 along_both : (s e b : Dir) → cross s e ≡ pos 0 → pos (length_squared s) *ℤ dot b e ≡ dot s b *ℤ dot s e

@@ -5,7 +5,7 @@ use Rattle.std.proofs.lemmas.Int.{ints}
 use Rattle.std.proofs.lemmas.Nat.{mul-le, mul-lt}
 use Rattle.apt_num.specs.Sign.{signed_square}
 use Rattle.apt_num.proofs.Squares.{slack, root_le, cancel_le}
-use Rattle.apt_arc.proofs.Moves.{IsUpTo, IsCrossing, below_at, share_up, share_back}
+use Rattle.apt_num.proofs.Moves.{IsUpTo, IsCrossing, below_at, share_up, share_back}
 
 contact_core : (p q A G J f : ℕ) → J + q * q ≡ (p + 1) * (p + 1) + G → 2 * f + (q + 11) * (q + 11) ≤ A + G
     → p * p ≤ A → A ≤ (p + 2) * (p + 2) → G ≤ (p + 1 + q) * (p + 1 + q) → (p + 1) * (p + 1) + q * q ≤ G + 2 * ((p + 1) * q) → 99 ≤ p

@@ -6,7 +6,7 @@ use Rattle.std.proofs.lemmas.Int.{ints}
 use Rattle.std.proofs.lemmas.Bool.{cases_lt}
 use Rattle.apt_num.specs.Sign.{AtLeast}
 use Rattle.apt_num.proofs.Squares.{root_le}
-use Rattle.apt_arc.proofs.Farther.{IsFarther, IsHardlyNearer}
+use Rattle.apt_num.proofs.Farther.{IsFarther, IsHardlyNearer}
 
 -- ---- the strict law
 step_line : (p f g n m : ℕ) → g * g * n ≤ f * f * m → 16 * m ≤ (4 * p + 15) * (4 * p + 15) → p * p ≤ n → 4 * (p * g) ≤ (4 * p + 15) * f
