@@ -1,5 +1,5 @@
 -- The arc of a contour round a circle that no case refuses can be divided.
-use Rattle.std.proofs.Common.{◌≡◌, refl, sym, subst, ℕ, ◌+◌, ◌-◌, ◌*◌, ◌/◌, ◌≤◌, ℤ, pos, negsuc, ◌-ℤ◌, ◌*ℤ◌, ◌≤ℤ◌, unsigned_abs, Bool, true, false, Option, Some, None, IfSome, arith}
+use Rattle.std.proofs.Common.{◌≡◌, refl, sym, subst, ℕ, ◌+◌, ◌-◌, ◌*◌, ◌/◌, ◌≤◌, ℤ, pos, negsuc, ◌-ℤ◌, ◌*ℤ◌, ◌≤ℤ◌, unsigned_abs, Bool, true, false, List, [], ◌∷◌, Option, Some, None, IfSome, arith}
 use Rattle.std.specs.Prelude.{int_lt, is_none, is_some}
 use Rattle.std.proofs.lemmas.Int.{ints}
 use Rattle.std.proofs.lemmas.Nat.{mul-le}
@@ -13,6 +13,7 @@ use Rattle.apt_plane.specs.declared.figures.Surface.{Surface}
 use Rattle.apt_plane.specs.declared.figures.Surface.TheVariants as surfaces
 use Rattle.apt_plane.specs.Vectors.{displacement, length_squared}
 use Rattle.apt_canon.specs.Scale.{IsNearCircle}
+use Rattle.apt_offset.specs.declared.Target.{Target}
 use Rattle.apt_offset.specs.declared.Target.TheVariants as targets
 use Rattle.apt_offset.specs.Targets.{signed, offset_surface, least_radius}
 use Rattle.apt_offset.proofs.Rooms.{HasRoomAbout, circle_room, moved_circle}
@@ -28,10 +29,11 @@ use Rattle.apt_stop.proofs.Axes.{no_axis, towards-IsDir}
 use Rattle.apt_stop.proofs.Rings.{near_least, near_most, ring_true}
 use Rattle.apt_stop.proofs.Parts.{meets, touches}
 use Rattle.apt_arc.specs.declared.arc.Arc.{Arc}
+use Rattle.apt_arc.specs.Made.{divided}
 use Rattle.apt_arc.specs.Ranges.{IsTrack, IsSag, IsArc}
 use Rattle.apt_arc.proofs.Tracks.{near_track}
 use Rattle.apt_meaning.specs.declared.motion.Motion.{Motion}
-use Rattle.apt_meaning.specs.Motions.{drive_side, check_side, course_of, contact, leg_of, lesser, sag, arc_on, arc_of}
+use Rattle.apt_meaning.specs.Motions.{drive_side, check_side, course_of, contact, leg_of, lesser, sag, arc_on, arc_along, arc_of, vertices_on, vertices_of, track_of}
 use Rattle.apt_meaning.specs.Refusals.{motion_cases}
 use Rattle.apt_meaning.specs.Ranges.{IsMotion}
 use Rattle.apt_meaning.proofs.Legal.{course_is}
@@ -154,3 +156,16 @@ arc_on_drive m (surfaces.Circ d) is none = arc_is m d is none
 
 pub arc_in : (m : Motion) (arc : Option Arc) → arc ≡ arc_of m → IsMotion m → NoneHolds (motion_cases m) → IfSome arc IsArc
 arc_in m arc e is none = subst (λ (o : Option Arc). IfSome o IsArc) (sym e) (arc_on_drive m m.drive is none)
+
+-- ---- its vertices, by its arc
+
+abbrev pub vertices_by : Pt → Option Arc → List Pt
+vertices_by end None = end ∷ []
+vertices_by end (Some arc) = divided arc
+
+vertices_along : (m : Motion) (track : Target) → vertices_on m track ≡ vertices_by (contact m) (arc_along m track)
+vertices_along m (targets.Line b d h) = refl
+vertices_along m (targets.Circ c r) = refl
+
+pub vertices-vertices_by : (m : Motion) → vertices_of m ≡ vertices_by (contact m) (arc_of m)
+vertices-vertices_by m = vertices_along m (track_of m)

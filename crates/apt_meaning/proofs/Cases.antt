@@ -278,9 +278,9 @@ fine : contour (at here on_track) turns.Forward (codes "L1") stops.To (codes "L2
 unfolding root
 fine = refl
 
--- ---- round the circle: from its right, with the tool on it, or to its left, which is inside
+-- ---- round the circle, from its rightmost point: with the cutter on it, or to its left, which is inside
 
-on_circle : Option Position
+abbrev on_circle : Option Position
 on_circle = Some (above (pos 10000) (pos 0))
 
 round_no_turn : contour (at (record here { side = sides.On }) on_circle) turns.Forward (codes "C1") stops.On (codes "L2") ≡ Some cases.NoTurn
