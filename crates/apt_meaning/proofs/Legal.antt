@@ -1,21 +1,19 @@
 -- A contour along a line that no case refuses is legal, and all that a contour asks for that no case refuses is there.
-use Rattle.std.proofs.Common.{◌≡◌, refl, sym, ap, ◌∙◌, ℤ, pos, ◌+ℤ◌, ◌*ℤ◌, Bool, true, false, not, [], ◌∷◌, Option, Some, None, is_some, arith}
+use Rattle.std.proofs.Common.{◌≡◌, refl, sym, ap, ◌∙◌, pos, Bool, true, false, not, [], ◌∷◌, Option, Some, None, is_some, arith}
 use Rattle.std.specs.Prelude.{◌&&◌, ◌||◌}
 use Rattle.std.proofs.lemmas.Int.{ints}
 use Rattle.std.proofs.lemmas.Bool.{true≢false, not-false}
 use Rattle.apt_num.specs.declared.Sign.{Sign}
 use Rattle.apt_num.specs.declared.Sign.TheVariants as signs
-use Rattle.apt_num.proofs.Ring.{as_diff, diff-same, differences}
 use Rattle.apt_words.specs.declared.Stop.TheVariants as stops
 use Rattle.apt_words.specs.Rows.{NoneHolds}
 use Rattle.apt_plane.specs.declared.figures.Pt.{Pt}
-use Rattle.apt_plane.specs.declared.figures.Dir.{Dir}
 use Rattle.apt_plane.specs.declared.figures.Line.{Line}
 use Rattle.apt_plane.specs.declared.figures.Band.{Band}
 use Rattle.apt_plane.specs.declared.figures.Axis.{Axis}
 use Rattle.apt_plane.specs.declared.figures.Surface.{Surface}
 use Rattle.apt_plane.specs.declared.figures.Surface.TheVariants as surfaces
-use Rattle.apt_plane.specs.Vectors.{scaled, displacement, dot}
+use Rattle.apt_plane.specs.Vectors.{scaled, displacement}
 use Rattle.apt_plane.specs.Distances.{InBand, EveryPoint}
 use Rattle.apt_plane.proofs.SegmentLaws.{in_band-between}
 use Rattle.apt_offset.specs.Edges as edges
@@ -24,12 +22,13 @@ use Rattle.apt_offset.specs.Sides.{side_at_tangency}
 use Rattle.apt_offset.specs.Turns.{is_zero}
 use Rattle.apt_offset.specs.Targets.{signed, lacks_room}
 use Rattle.apt_stop.specs.declared.course.Course.{Course}
-use Rattle.apt_stop.specs.Nearness.{is_near, heading, off_track}
+use Rattle.apt_stop.specs.Nearness.{is_near, off_track}
 use Rattle.apt_stop.specs.Courses.{is_tanto, kept_side, axis_of}
 use Rattle.apt_stop.specs.Ends.{IsOnAxisOf, EndsOnLine}
 use Rattle.apt_stop.specs.Ranges.{IsCourse}
 use Rattle.apt_stop.proofs.NearLaws.{near-OnLine}
 use Rattle.apt_stop.proofs.Chosen.{bound_there}
+use Rattle.apt_stop.proofs.Tracks.{heading_dot}
 use Rattle.apt_stop.proofs.Ended.{course_ends}
 use Rattle.apt_certify.specs.declared.leg.Leg.{Leg}
 use Rattle.apt_certify.specs.Legs.{beyond_of, IsBounded, IsOnAxisOrNone}
@@ -96,12 +95,6 @@ leg_bounded m there =
     (ap (λ b. not b || is_some (axis_of (course_of m))) (beyond_is_zero m.check (stop_side m)) ∙ there)
 
 -- ---- its tests hold
-
-heading_dot : (sense : ℤ) (d u : Dir) → dot (heading sense d) u ≡ sense *ℤ dot d u
-heading_dot sense d u = ring sense d.dx d.dy u.dx u.dy
-  where
-    ring : (s dx dy ux uy : ℤ) → ((s *ℤ dx) *ℤ ux) +ℤ ((s *ℤ dy) *ℤ uy) ≡ s *ℤ ((dx *ℤ ux) +ℤ (dy *ℤ uy))
-    ring s dx dy ux uy = rw (as_diff s, as_diff dx, as_diff dy, as_diff ux, as_diff uy) (simp differences (diff-same _ _ _ _ (omega arith)))
 
 -- where there is no side there is no edge
 pub no_edge : (check : Surface) (band : Band) (side : Sign) (p q : Pt) → side ≡ signs.Zero → EveryPoint p q (edges.IsWithinEdge check band (beyond_of check side))
