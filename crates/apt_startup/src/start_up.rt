@@ -73,6 +73,7 @@ fn start_on_two(u: &StartUp, second: &Goal) -> Result<Pt, Case>
 }
 
 /// Where two targets meet, nearer to a point.
+#[tactic(auto, using(apt_contact::proofs::MeetingLaws::target_is_curve))]
 fn meeting_near(p: Pt, a: &Target, b: &Target) -> Result<Pt, Case>
     requires point { IsPoint p }
     requires first { IsTarget a.now }

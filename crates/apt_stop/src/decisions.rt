@@ -55,6 +55,7 @@ fn decided(c: &Course) -> Result<Choice, Case>
 }
 
 /// How a course ends that meets its stop.
+#[tactic(auto, using(apt_contact::proofs::MeetingLaws::target_is_curve))]
 fn meeting(c: &Course) -> Result<Choice, Case>
     requires { IsPlaced c.now }
     ensures { result ≡ steps.meeting c.now }
