@@ -113,3 +113,14 @@ far_by z k n m e f h = rw (e, f) h
 pub past_side : (sense k : ℤ) (n : ℕ) → HasSense (neg_ℤ sense) k n → unsigned_abs (sense *ℤ k) ≡ unsigned_abs k → ((sense *ℤ k) ≤ℤ pos 0) ⊎ (2 * (unsigned_abs (sense *ℤ k) * unsigned_abs (sense *ℤ k)) ≤ n)
 past_side sense k n (inl ahead) same = inl (omega (arith, ints, rw (neg-*ℤ sense k) at ahead))
 past_side sense k n (inr short) same = inr (rw same short)
+
+-- ---- a contact is at most a unit from its circle
+pub contact_over : (c : Circ) (h : ℕ) (x : Pt) → c.r -ℤ pos 1 ≡ pos h → IsNearCircle c (pos 1) x → h * h ≤ length_squared (displacement c.c x)
+contact_over c h x e near =
+    let n = length_squared (displacement c.c x) in
+    (length_tells h n).0 (subst (λ (z : ℤ). IsLengthAtMost z n) e near.outside)
+
+pub contact_under : (c : Circ) (h : ℕ) (x : Pt) → c.r +ℤ pos 1 ≡ pos h → IsNearCircle c (pos 1) x → length_squared (displacement c.c x) ≤ h * h
+contact_under c h x e near =
+    let n = length_squared (displacement c.c x) in
+    (root_tells h n).0 (subst (λ (z : ℤ). IsRootAtMost n z) e near.inside)

@@ -8,7 +8,7 @@ use Rattle.apt_plane.specs.declared.figures.Pt.{Pt}
 use Rattle.apt_plane.specs.declared.figures.Dir.{Dir}
 use Rattle.apt_plane.specs.declared.figures.Circ.{Circ}
 use Rattle.apt_plane.specs.Vectors.{scaled, displacement, cross, length_squared}
-use Rattle.apt_plane.specs.Distances.{IsUnder, IsLengthAtMost, IsRootAtMost, about}
+use Rattle.apt_plane.specs.Distances.{IsUnder, about}
 use Rattle.apt_plane.proofs.Heights.{one-times}
 use Rattle.apt_plane.proofs.Lengths.{plus}
 use Rattle.apt_plane.proofs.RingLaws.{root_at_most, under-between}
@@ -20,12 +20,12 @@ use Rattle.apt_arc.specs.declared.arc.Arc.{Arc}
 use Rattle.apt_arc.specs.Ranges.{IsArc}
 use Rattle.apt_arc.specs.Divisions.{IsDivision}
 use Rattle.apt_arc.specs.Stops.{EveryChord, IsRoute, to_start, to_end, IsAhead, StartsInside}
-use Rattle.apt_arc.proofs.Tracks.{within, within_large, nearby, length_tells, root_tells}
+use Rattle.apt_arc.proofs.Tracks.{within, within_large, nearby}
 use Rattle.apt_plane.proofs.Governed.{IsOnRay}
 use Rattle.apt_plane.proofs.Kept.{inside_kept}
 use Rattle.apt_plane.proofs.AwayRows.{inside_away}
 use Rattle.apt_arc.proofs.Vertices.{IsVertex}
-use Rattle.apt_arc.proofs.Arrivals.{EndsPast, Arrives, on_circle, away_arrives, near_arrives, is_arc, stopped, far_by}
+use Rattle.apt_arc.proofs.Arrivals.{EndsPast, Arrives, on_circle, away_arrives, near_arrives, is_arc, stopped, far_by, contact_over, contact_under}
 use Rattle.apt_arc.proofs.LineStops.{chords_of}
 
 -- ---- distances from the circle's centre q
@@ -139,23 +139,13 @@ more S n h = omega (arith, h, mul-le (S - 8) (S - 8) (S + 8) (S + 8) (omega arit
 under_at : (q : Pt) (z : ℤ) (h : ℕ) (x : Pt) → z ≡ pos h → IsUnder (about q) z (scaled x) → length_squared (displacement q x) ≤ h * h
 under_at q z h x e is = under_from q h x (subst (λ (i : ℤ). IsUnder (about q) i (scaled x)) e is)
 
-contact_over : (stop : Circ) (x : Pt) → pos 100 ≤ℤ stop.r → IsNearCircle stop (pos 1) x → (unsigned_abs stop.r - 8 + 7) * (unsigned_abs stop.r - 8 + 7) ≤ length_squared (displacement stop.c x)
-contact_over stop x least near =
-    let n = length_squared (displacement stop.c x) in
-    (length_tells (unsigned_abs stop.r - 8 + 7) n).0 (subst (λ (z : ℤ). IsLengthAtMost z n) (one_less stop.r least) near.outside)
-
-contact_under : (stop : Circ) (x : Pt) → pos 100 ≤ℤ stop.r → IsNearCircle stop (pos 1) x → length_squared (displacement stop.c x) ≤ (unsigned_abs stop.r + 1) * (unsigned_abs stop.r + 1)
-contact_under stop x least near =
-    let n = length_squared (displacement stop.c x) in
-    (root_tells (unsigned_abs stop.r + 1) n).0 (subst (λ (z : ℤ). IsRootAtMost n z) (radius_more 1 stop.r least) near.inside)
-
 -- an arc that stays inside of a circle at whose contact it ends can be divided, and no point of its chords is more than 12 units outside
 pub circle_inside : (a : Arc) (stop : Circ) → IsRoute a → pos 100 ≤ℤ stop.r → 0 < length_squared (displacement a.track.c stop.c) → IsBeyond a.track stop a.sense a.end → IsNearCircle stop (pos 1) a.end
     → StartsInside a stop.c stop.r → IsArc a × ((list : List Pt) → IsDivision a list → EveryChord a.start list (IsUnder (about stop.c) (stop.r +ℤ pos 12)))
 circle_inside a stop is least some beyond end start = elim start [
   | inl away ↦
       let from = under_at stop.c (stop.r -ℤ pos 8) (S - 8) a.start (radius_less stop.r least) away in
-      told (inside_far a stop.c (S - 8) is past (large_radius stop.r least).1 from (contact_over stop a.end least end)) (more S (length_squared (displacement stop.c a.start)) from)
+      told (inside_far a stop.c (S - 8) is past (large_radius stop.r least).1 from (contact_over stop (S - 8 + 7) a.end (one_less stop.r least) end)) (more S (length_squared (displacement stop.c a.start)) from)
   | inr near ↦ told (inside_near a stop.c is past near.1) (under_at stop.c (stop.r +ℤ pos 8) (S + 8) a.start (radius_more 8 stop.r least) near.0)
 ]
   where
@@ -171,5 +161,5 @@ circle_inside a stop is least some beyond end start = elim start [
       is_arc a is arrives.1,
       λ list division.
           subst (λ (z : ℤ). EveryChord a.start list (IsUnder (about stop.c) z)) (sym (radius_more 12 stop.r least))
-          (kept a stop.c S is past.some arrives (large_radius stop.r least).0 from (contact_under stop a.end least end) list division),
+          (kept a stop.c S is past.some arrives (large_radius stop.r least).0 from (contact_under stop (S + 1) a.end (radius_more 1 stop.r least) end) list division),
     )

@@ -43,7 +43,7 @@ chords_of a P arc all first vertex list division =
     chords_by P all a.start list first (each_by (IsVertex a.track a.sense a.start a.end) (λ x. P (scaled x)) vertex list (division_vertices a arc list division))
 
 -- ---- the axis of a line left of which an arc stays leads to the right
-abbrev pub line_axis : Line → Dir
+abbrev line_axis : Line → Dir
 line_axis l = to l.dir.dy (neg_ℤ l.dir.dx)
 
 axis_length : (l : Line) → length_squared (line_axis l) ≡ length_squared l.dir

@@ -25,14 +25,14 @@ use Rattle.apt_arc.specs.Steps.{IsStep, IsInside, AreSteps}
 use Rattle.apt_arc.specs.Quarters.{Each}
 use Rattle.apt_arc.specs.Divisions.{IsDivision}
 use Rattle.apt_arc.specs.Stops.{EveryChord, IsRoute, to_start, to_end, IsAback, StartsOutside}
-use Rattle.apt_arc.proofs.Tracks.{within, within_large, nearby, length_tells, root_tells, chord_length}
+use Rattle.apt_arc.proofs.Tracks.{within, within_large, nearby, chord_length}
 use Rattle.apt_num.proofs.Farther.{farther_signed}
 use Rattle.apt_plane.proofs.Governed.{IsHardlyAcross, IsOnRay, governed}
 use Rattle.apt_plane.proofs.AwayRows.{outside_away, reverse}
 use Rattle.apt_plane.proofs.Outside.{HasLessShare, less_times, AreMeeting, IsOnChord, IsOutside, IsContact, outside_from, outside_contact}
 use Rattle.apt_arc.proofs.Vertices.{IsUpToEnd, both_long, steps_up_to_end}
 use Rattle.apt_arc.proofs.Inner.{mixed, way_between, mixed_up_to_end}
-use Rattle.apt_arc.proofs.Arrivals.{EndsPast, Arrives, on_circle, near_end, away_arrives, near_arrives, is_arc, far_by, past_side}
+use Rattle.apt_arc.proofs.Arrivals.{EndsPast, Arrives, on_circle, near_end, away_arrives, near_arrives, is_arc, far_by, past_side, contact_over, contact_under}
 use Rattle.apt_arc.proofs.InsideStops.{from_stop}
 
 -- ---- the share of a longer way
@@ -130,9 +130,9 @@ chord_shares t sense g s e a x (suc j) (suc k) is some some_s before step first 
 abbrev radius : Circ → ℕ
 radius t = unsigned_abs t.r
 
-pub record MeetsTrack (a : Arc) (q : ℕ) (stop : Pt) : Type 0 where
-  pub wide : unsigned_abs a.sag ≤ q
-  pub meets : radius a.track * radius a.track + (q + 12) * (q + 12) ≤ length_squared (displacement a.track.c stop) + 2 * (radius a.track * (q + 12))
+record MeetsTrack (a : Arc) (q : ℕ) (stop : Pt) : Type 0 where
+  wide : unsigned_abs a.sag ≤ q
+  meets : radius a.track * radius a.track + (q + 12) * (q + 12) ≤ length_squared (displacement a.track.c stop) + 2 * (radius a.track * (q + 12))
 
 meeting : (a : Arc) (q : ℕ) (stop : Pt) → IsRoute a → MeetsTrack a q stop → AreMeeting (radius a.track) q (unsigned_abs a.sag) (length_squared (displacement a.track.c stop))
 meeting a q stop is meets =
@@ -315,16 +315,6 @@ more_one r least = omega (arith, ints, least)
 
 over_at : (q : Pt) (z : ℤ) (h : ℕ) (x : Pt) → z ≡ pos h → IsOver (about q) z (scaled x) → h * h ≤ length_squared (displacement q x)
 over_at q z h x e is = over_from q x h (subst (λ (i : ℤ). IsOver (about q) i (scaled x)) e is)
-
-contact_over : (c : Circ) (h : ℕ) (x : Pt) → c.r -ℤ pos 1 ≡ pos h → IsNearCircle c (pos 1) x → h * h ≤ length_squared (displacement c.c x)
-contact_over c h x e near =
-    let n = length_squared (displacement c.c x) in
-    (length_tells h n).0 (subst (λ (z : ℤ). IsLengthAtMost z n) e near.outside)
-
-contact_under : (c : Circ) (h : ℕ) (x : Pt) → c.r +ℤ pos 1 ≡ pos h → IsNearCircle c (pos 1) x → length_squared (displacement c.c x) ≤ h * h
-contact_under c h x e near =
-    let n = length_squared (displacement c.c x) in
-    (root_tells h n).0 (subst (λ (z : ℤ). IsRootAtMost n z) e near.inside)
 
 track_less : (r : ℤ) → pos 100 ≤ℤ r → r -ℤ pos 1 ≡ pos (unsigned_abs r - 1)
 track_less r least = omega (arith, ints, least)

@@ -24,10 +24,10 @@ cross_parts k a b c d = rw (as_diff k, as_diff a, as_diff b, as_diff c, as_diff 
 dot_parts : (k a b c d : ℤ) → ((k *ℤ a) *ℤ c) +ℤ ((k *ℤ b) *ℤ d) ≡ k *ℤ ((a *ℤ c) +ℤ (b *ℤ d))
 dot_parts k a b c d = rw (as_diff k, as_diff a, as_diff b, as_diff c, as_diff d) (simp differences (diff-same _ _ _ _ (omega arith)))
 
-pub dot_along : (k : ℤ) (u v : Dir) → dot (times k u) v ≡ k *ℤ dot u v
+dot_along : (k : ℤ) (u v : Dir) → dot (times k u) v ≡ k *ℤ dot u v
 dot_along k u v = dot_parts k u.dx u.dy v.dx v.dy
 
-pub cross_along : (k : ℤ) (u v : Dir) → cross (times k u) v ≡ k *ℤ cross u v
+cross_along : (k : ℤ) (u v : Dir) → cross (times k u) v ≡ k *ℤ cross u v
 cross_along k u v = cross_parts k u.dx u.dy v.dx v.dy
 
 length_along : (k : ℤ) (u : Dir) → IsSense k → length_squared (times k u) ≡ length_squared u

@@ -5,7 +5,7 @@ use Rattle.apt_num.proofs.Ring.{as_diff, diff-same, differences, scaled_le, *ℤ
 use Rattle.apt_num.proofs.Products.{no_minus_of}
 
 -- a factor from 1 is left out
-pub cancel : (n : ℕ) (x y : ℤ) → 0 < n → (pos n *ℤ x) ≤ℤ (pos n *ℤ y) → x ≤ℤ y
+cancel : (n : ℕ) (x y : ℤ) → 0 < n → (pos n *ℤ x) ≤ℤ (pos n *ℤ y) → x ≤ℤ y
 cancel n x y some h =
     let parts = *ℤ-minus (pos n) y x in
     omega (arith, ints, no_minus_of n (y -ℤ x) some (rw parts (omega (arith, ints, h))))

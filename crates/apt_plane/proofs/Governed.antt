@@ -62,7 +62,7 @@ pub hardly_from_ray : (sense : ℤ) (b e v : Dir) → IsSense sense → 0 < leng
 hardly_from_ray sense b e v is some on =
     on_ray (length_squared b) (length_squared e) (length_squared v) (dot b e) (unsigned_abs (turned_by sense b e)) (dot b v) some on.0 (whole sense b e is) on.1 (dot_square b v)
 
-pub hardly_to_ray_behind : (sense : ℤ) (b a e : Dir) → IsSense sense → 0 < length_squared b → dot b e <ℤ pos 0 → IsHardlyAcross sense b e → IsHardlyNearerTo b a e
+hardly_to_ray_behind : (sense : ℤ) (b a e : Dir) → IsSense sense → 0 < length_squared b → dot b e <ℤ pos 0 → IsHardlyAcross sense b e → IsHardlyNearerTo b a e
 hardly_to_ray_behind sense b a e is some behind short =
     on_ray_behind (length_squared b) (length_squared a) (length_squared e) (dot b a) (dot b e) (unsigned_abs (turned_by sense b e)) some behind (dot_square b a) (whole sense b e is) short
 
@@ -77,11 +77,11 @@ sized z h = omega (arith, ints, h)
 sized_below : (z : ℤ) → z <ℤ pos 0 → 0 < unsigned_abs z
 sized_below z h = omega (arith, ints, h)
 
-weak_sign : (z : ℤ) → pos 0 <ℤ z → pos 0 ≤ℤ z
-weak_sign z h = omega (arith, ints, h)
+not_below : (z : ℤ) → pos 0 <ℤ z → pos 0 ≤ℤ z
+not_below z h = omega (arith, ints, h)
 
-weak_below : (z : ℤ) → z <ℤ pos 0 → z ≤ℤ pos 0
-weak_below z h = omega (arith, ints, h)
+not_above : (z : ℤ) → z <ℤ pos 0 → z ≤ℤ pos 0
+not_above z h = omega (arith, ints, h)
 
 back_below : (sense : ℤ) (u v : Dir) → pos 0 ≤ℤ turned_by sense u v → turned_by sense v u ≤ℤ pos 0
 back_below sense u v h = rw (turned_back sense u v) (omega (arith, ints, h))
@@ -99,11 +99,11 @@ governed sense s e b x is some some_x way axis =
     let both = cyc_on_a_way sense s x e b is way axis in
     elim (side_of (turned_by sense b x)) [
       | inl below ↦
-          let two = not_first (turned_by sense b x) (turned_by sense x e) (turned_by sense e b) (weak_below (turned_by sense b x) below) both.1 in
-          inr (farther_behind sense b e x is some (back_below sense e b (weak_sign (turned_by sense e b) two.1)) (weak_sign (turned_by sense x e) two.0) (weak_below (turned_by sense b x) below) (inl (sized_below (turned_by sense b x) below)))
+          let two = not_first (turned_by sense b x) (turned_by sense x e) (turned_by sense e b) (not_above (turned_by sense b x) below) both.1 in
+          inr (farther_behind sense b e x is some (back_below sense e b (not_below (turned_by sense e b) two.1)) (not_below (turned_by sense x e) two.0) (not_above (turned_by sense b x) below) (inl (sized_below (turned_by sense b x) below)))
       | inr above ↦
           let two = not_third (turned_by sense b s) (turned_by sense s x) (turned_by sense x b) (back_below sense b x above) both.0 in
-          inl (two.0, farther_ahead sense b s x is some (weak_sign (turned_by sense b s) two.0) (weak_sign (turned_by sense s x) two.1) above (inr (sized (turned_by sense b s) two.0, some_x)))
+          inl (two.0, farther_ahead sense b s x is some (not_below (turned_by sense b s) two.0) (not_below (turned_by sense s x) two.1) above (inr (sized (turned_by sense b s) two.0, some_x)))
     ]
 
 -- ---- where nothing refuses
@@ -123,7 +123,7 @@ away_reached sense s e b is some nearer short = elim (side_of (turned_by sense b
         | inr round ↦ elim (sign_cases (turned_by sense b s)) [
           | inl ahead ↦ inl (inr (inl (meets, ahead)))
           | inr beyond ↦
-              let farther : IsFartherFrom b s e = farther_behind sense b s e is some beyond (back_above sense s e round) (weak_below (turned_by sense b e) below) (inl (sized_below (turned_by sense b e) below)) in
+              let farther : IsFartherFrom b s e = farther_behind sense b s e is some beyond (back_above sense s e round) (not_above (turned_by sense b e) below) (inl (sized_below (turned_by sense b e) below)) in
               absurd (nearer (farther_hardly (dot b s) (length_squared s) (dot b e) (length_squared e) farther))
         ]
       ]

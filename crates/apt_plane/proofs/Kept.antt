@@ -45,7 +45,7 @@ rounded_low p n least h = omega (arith, h, least)
 rounded_high : (p n : ℕ) → 2 * n ≤ 2 * ((p + 3) * (p + 3)) + 3 * (p + 3) → n ≤ (p + 6) * (p + 6)
 rounded_high p n h = omega (arith, h)
 
-pub end_on_circle : (p : ℕ) (e x : Dir) → 97 ≤ p → IsOnCircle p e → IsRoundedPoint p x → OneOnCircle p (length_squared e) (length_squared x)
+end_on_circle : (p : ℕ) (e x : Dir) → 97 ≤ p → IsOnCircle p e → IsRoundedPoint p x → OneOnCircle p (length_squared e) (length_squared x)
 end_on_circle p e x least close rounded = record {
   least = least;
   low = low_of p (length_squared e) close.low;
