@@ -1,17 +1,21 @@
--- Where surfaces have no axis on which they touch.
-use Rattle.std.proofs.Common.{◌≡◌, ◌↔◌, refl, sym, true≢false, arith, Bool, true, false, Option, Some, None}
+-- Where surfaces have no axis on which they touch, and where the quarter points of an arc lie.
+use Rattle.std.proofs.Common.{◌≡◌, ◌↔◌, refl, sym, subst, true≢false, arith, Bool, true, false, Option, Some, None}
 use Rattle.std.specs.Prelude.{◌==◌, if◌then◌else◌}
 use Rattle.std.specs.Bool.{Decides}
 use Rattle.std.specs.Option.{IsNone}
 use Rattle.std.proofs.lemmas.Bool.Decides.{Decides-eqb, Decides-like}
+use Rattle.apt_plane.specs.declared.figures.Pt.{Pt}
+use Rattle.apt_plane.specs.declared.figures.Dir.{Dir}
 use Rattle.apt_plane.specs.declared.figures.Axis.{Axis}
 use Rattle.apt_plane.specs.declared.figures.Circ.{Circ}
 use Rattle.apt_plane.specs.declared.figures.Surface.{Surface}
 use Rattle.apt_plane.specs.declared.figures.Surface.TheVariants as surfaces
+use Rattle.apt_plane.specs.Ranges.{IsPoint, IsDir, IsSurface}
 use Rattle.apt_plane.specs.Vectors.{displacement, length_squared}
 use Rattle.apt_canon.specs.Circles.{are_concentric}
-use Rattle.apt_canon.proofs.Ways.{one_point, no_way}
-use Rattle.apt_stop.specs.Tangencies.{axis, touching_half, tangent_axis, HaveNoAxis}
+use Rattle.apt_canon.proofs.Ways.{one_point, no_way, way-IsDir}
+use Rattle.apt_stop.proofs.OnRounds.{quarter_dir}
+use Rattle.apt_stop.specs.Tangencies.{axis, touching_half, tangent_axis, HaveNoAxis, axis_towards, IsElsewhere}
 
 concentric_tells : (c d : Circ) → Decides (are_concentric c d) (c.c ≡ d.c)
 concentric_tells c d =
@@ -31,3 +35,11 @@ axis_tells (surfaces.Circ c) (surfaces.Circ d) =
 
 pub no_axis : (r : Option Axis) (s t : Surface) → r ≡ tangent_axis s t → IsNone r ↔ HaveNoAxis s t
 no_axis r s t e = rw e (axis_tells s t)
+
+-- ---- the quarter points of an arc that stops at a surface that is elsewhere lie in a direction
+pub towards-IsDir : (c : Pt) (s : Surface) → IsPoint c → IsSurface s → IsElsewhere c s → IsDir (axis_towards c s)
+towards-IsDir c (surfaces.Line l) is_c is elsewhere = quarter_dir l.dir is.dir
+towards-IsDir c (surfaces.Circ d) is_c is elsewhere = way-IsDir c d.c is_c is.centre elsewhere
+
+pub towards_is_dir : (c : Pt) (s : Surface) (d : Dir) → d ≡ axis_towards c s → IsPoint c → IsSurface s → IsElsewhere c s → IsDir d
+towards_is_dir c s d e is_c is elsewhere = subst IsDir (sym e) (towards-IsDir c s is_c is elsewhere)

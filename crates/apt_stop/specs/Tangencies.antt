@@ -1,5 +1,5 @@
 -- The axis on which a motion ends that touches its check surface.
-use Rattle.std.specs.Prelude.{◌≡◌, int_le, ◌||◌, Option, Some, None, if◌then◌else◌}
+use Rattle.std.specs.Prelude.{◌≡◌, ◌≢◌, int_le, ◌||◌, Option, Some, None, if◌then◌else◌}
 use Rattle.apt_num.specs.declared.Sign.{Sign}
 use Rattle.apt_num.specs.declared.Sign.TheVariants as signs
 use Rattle.apt_num.specs.Sign.{sign_of}
@@ -39,3 +39,13 @@ HaveNoAxis (surfaces.Line l) (surfaces.Line k) = Unit {0}
 HaveNoAxis (surfaces.Line l) (surfaces.Circ c) = ⊥
 HaveNoAxis (surfaces.Circ c) (surfaces.Line l) = ⊥
 HaveNoAxis (surfaces.Circ c) (surfaces.Circ d) = c.c ≡ d.c
+
+-- the direction of the quarter points of an arc that stops there: square to a line, or through both centres
+abbrev pub axis_towards : Pt → Surface → Dir
+axis_towards c (surfaces.Line l) = perp l.dir
+axis_towards c (surfaces.Circ d) = displacement c d.c
+
+-- a surface is no circle about a point
+abbrev pub IsElsewhere : Pt → Surface → Type 0
+IsElsewhere c (surfaces.Line l) = Unit {0}
+IsElsewhere c (surfaces.Circ d) = c ≢ d.c

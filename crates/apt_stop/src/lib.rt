@@ -13,4 +13,4 @@ pub use course::{Choice, Course};
 pub use decisions::{axis, decide, kept_side, stop_side};
 pub use gaps::is_touching;
 pub use nearness::{heading, is_near, side_of};
-pub use tangencies::tangent_axis;
+pub use tangencies::{axis_towards, tangent_axis};

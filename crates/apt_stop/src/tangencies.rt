@@ -9,7 +9,7 @@ use apt_num::{Sign, sign_of};
 use apt_offset::signs::opposite;
 use apt_offset::{side_or_left, touch_outside};
 use apt_plane::vectors::{cross, displacement, length_squared, perp};
-use apt_plane::{Axis, Circ, Line, Surface};
+use apt_plane::{Axis, Circ, Dir, Line, Pt, Surface};
 
 /// The axis through the centre of a circle on which a motion along `drive` ends that touches `check`; there is none
 /// for two lines, and for circles about one centre.
@@ -33,6 +33,29 @@ pub fn tangent_axis(drive: &Surface, check: &Surface) -> Option<Axis>
             half: half_towards(line, circle),
         }),
         (Surface::Circ(first), Surface::Circ(second)) => axis_of_circles(first, second),
+    }
+}
+
+/// The direction of one of the quarter points of an arc about `c` that stops at `check`: square to a line, or through
+/// both centres.
+#[tactic(auto, using(crate::proofs::Axes::towards_is_dir))]
+pub fn axis_towards(c: Pt, check: &Surface) -> Dir
+    requires centre { IsPoint c }
+    requires check { IsSurface check.now }
+    ensures value { result ≡ spec.axis_towards c check.now }
+    ensures range { spec.IsElsewhere c check.now → IsDir result }
+{
+    direction_towards(c, check)
+}
+
+fn direction_towards(c: Pt, check: &Surface) -> Dir
+    requires centre { IsPoint c }
+    requires check { IsSurface check.now }
+    ensures { result ≡ spec.axis_towards c check.now }
+{
+    match check {
+        Surface::Line(line) => perp(line.dir),
+        Surface::Circ(circle) => displacement(c, circle.c),
     }
 }
 
