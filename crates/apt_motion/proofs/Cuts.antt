@@ -1,5 +1,5 @@
 -- The motions that contours ask for, and where they end.
-use Rattle.std.proofs.Common.{◌≡◌, ◌∙◌, ℕ, Bool, true, false, List, [], ◌∷◌, ◌++◌, Option, Some, None, Result, Ok, Err, refl, sym, ap, cond}
+use Rattle.std.proofs.Common.{◌≡◌, ◌∙◌, ℕ, ◌+◌, ◌≤◌, ◌<◌, Bool, true, false, List, [], ◌∷◌, ◌++◌, length, Option, Some, None, Result, Ok, Err, refl, sym, ap, subst, cond}
 use Rattle.std.specs.Prelude.{not, ◌&&◌}
 use Rattle.apt_words.specs.declared.Case.{Case}
 use Rattle.apt_words.specs.declared.Case.TheVariants as cases
@@ -8,7 +8,7 @@ use Rattle.apt_words.specs.declared.Side.{Side}
 use Rattle.apt_words.specs.declared.Stop.{Stop}
 use Rattle.apt_words.specs.declared.deed.Deed.TheVariants as deeds
 use Rattle.apt_words.specs.declared.deed.Step.{Step}
-use Rattle.apt_words.specs.Rows.{Row, first_of, unless, unless_case}
+use Rattle.apt_words.specs.Rows.{Row, NoneHolds, first_of, unless, unless_case}
 use Rattle.apt_plane.specs.declared.figures.Pt.{Pt}
 use Rattle.apt_plane.specs.declared.figures.Surface.{Surface}
 use Rattle.apt_offset.specs.Turns.{is_zero}
@@ -17,22 +17,26 @@ use Rattle.apt_stop.specs.Nearness.{is_near, off_track}
 use Rattle.apt_stop.specs.declared.course.Choice.{Choice}
 use Rattle.apt_stop.specs.declared.course.Course.{Course}
 use Rattle.apt_stop.specs.Courses.{choice_of, end_of, course_cases}
+use Rattle.apt_arc.specs.declared.arc.Arc.{Arc}
+use Rattle.apt_arc.specs.Made.{divided}
 use Rattle.apt_cldata.specs.declared.record.Position.{Position}
 use Rattle.apt_cldata.specs.declared.record.Record.{Record}
 use Rattle.apt_meaning.specs.declared.motion.Motion.{Motion}
 use Rattle.apt_meaning.specs.declared.situation.Situation.{Situation}
 use Rattle.apt_meaning.specs.declared.effect.Effect.{Effect}
 use Rattle.apt_meaning.specs.declared.effect.Effect.TheVariants as effects
-use Rattle.apt_meaning.specs.OnLines.{built}
 use Rattle.apt_meaning.specs.Situations.{has_feed, with_side}
-use Rattle.apt_meaning.specs.Motions.{surface_in, line_in, motion, motion_at, turn_at, contact, is_too_fine, track_of, stop_of, starts_on_check, course_of}
+use Rattle.apt_meaning.specs.Motions.{surface_in, motion, motion_at, turn_at, contact, arc_of, vertices_of, is_too_fine, track_of, stop_of, starts_on_check, course_of}
 use Rattle.apt_meaning.specs.Effects.{cuts, effect_of}
 use Rattle.apt_meaning.specs.Records.{records_of, after}
-use Rattle.apt_meaning.specs.Refusals.{is_not_built, name_cases, motion_cases, surface_cases, refusal_of}
-use Rattle.apt_meaning.specs.Compiled.{asked, refused_at}
+use Rattle.apt_meaning.specs.Refusals.{name_cases, motion_cases, surface_cases, refusal_of}
+use Rattle.apt_meaning.specs.Compiled.{most_points, asked, asked_within, refused_at}
+use Rattle.apt_meaning.proofs.Refused.{first_none}
+use Rattle.apt_meaning.proofs.Arcs.{vertices_by, vertices-vertices_by}
 use Rattle.apt_motion.specs.declared.runs.RunError.TheVariants as errors
-use Rattle.apt_motion.specs.Ends.{HasPassed, HasAdvanced}
+use Rattle.apt_motion.specs.Ends.{IsRefusedBehind, HasPassed, HasAdvanced}
 use Rattle.apt_motion.specs.Finding.{IsMotionBy, motion_on, contour_cases_on, turn_cases}
+use Rattle.apt_motion.proofs.Counts.{few_asked, many_asked}
 use Rattle.apt_motion.proofs.Cases.{name_refused, known_surface}
 
 -- ---- the end of a course
@@ -73,14 +77,14 @@ motion_by false false true straight m = refl
 motion_by false false false true m = refl
 motion_by false false false false m = (refl, refl)
 
--- on a line that runs so against forward
-pub turned_by : (at : Situation) (side : Option Side) (go : Go) (how : Stop) (start : Position) (d e x : Surface) (r : Result Motion Case) → built d ≡ Some x
-    → r ≡ unless (turn_cases (with_side at.settings side) (turn_at at start x go)) (motion (with_side at.settings side) start x (turn_at at start x go) how e)
+-- on a drive surface that runs so against forward
+pub turned_by : (at : Situation) (side : Option Side) (go : Go) (how : Stop) (start : Position) (d e : Surface) (r : Result Motion Case)
+    → r ≡ unless (turn_cases (with_side at.settings side) (turn_at at start d go)) (motion (with_side at.settings side) start d (turn_at at start d go) how e)
     → IsMotionBy (first_of (contour_cases_on at side go start d how e)) (cuts (motion_on at side go start d how e)) r
-turned_by at side go how start d e x r on same =
+turned_by at side go how start d e r same =
     let s = with_side at.settings side in
-    let turned = turn_at at start x go in
-    rw (on, same) (motion_by s.rapid (not (has_feed s)) (is_too_fine s) (is_zero turned) (motion s start x turned how e))
+    let turned = turn_at at start d go in
+    rw same (motion_by s.rapid (not (has_feed s)) (is_too_fine s) (is_zero turned) (motion s start d turned how e))
 
 -- on known surfaces
 pub contour_motion : (at : Situation) (side : Option Side) (go : Go) (drive : List ℕ) (how : Stop) (check : List ℕ) (start : Position) (d e : Surface) (r : Result Motion Case)
@@ -97,8 +101,7 @@ contour_motion at side go drive how check start d e r here on_d on_e is =
 
 -- the rows behind those of both names
 abbrev behind_names : Situation → Option Side → Go → List ℕ → Stop → List ℕ → Position → List Row
-behind_names at side go drive how check start =
-    (is_not_built at.table drive, cases.NotBuilt) ∷ surface_cases at side go how (Some start) (line_in at.table drive) (surface_in at.table check)
+behind_names at side go drive how check start = surface_cases at side go how (Some start) (surface_in at.table drive) (surface_in at.table check)
 
 pub drive_refused : (at : Situation) (side : Option Side) (go : Go) (drive : List ℕ) (how : Stop) (check : List ℕ) (start : Position) (case : Case)
     → at.position ≡ Some start → first_of (name_cases at.table drive []) ≡ Some case → refusal_of at (deeds.Contour side go drive how check) ≡ Some case
@@ -141,25 +144,42 @@ has_passed at step m end by is =
     let asks = end_asked (refusal_of at step.deed) (effect_of at step.deed) m end by is in
     (effects.Cuts m, record { asks = asks.0; after = ap (λ p. after at (effects.Cuts m) (p ∷ [])) asks.1 })
 
-pub has_cut : (at : Situation) (step : Step) (records : List Record) (m : Motion) (end : Pt) → IsMotionBy (refusal_of at step.deed) (effect_of at step.deed) (Ok m)
-    → Ok end ≡ unless (motion_cases m) (contact m)
-    → HasAdvanced at step records (records ++ records_of step (effects.Cuts m) (end ∷ [])) (Ok (after at (effects.Cuts m) (end ∷ [])))
-has_cut at step records m end by is =
-    let asks = end_asked (refusal_of at step.deed) (effect_of at step.deed) m end by is in (
-      effects.Cuts m,
-      record {
-        asks = asks.0;
-        after = ap (λ p. after at (effects.Cuts m) (p ∷ [])) asks.1;
-        records = ap (λ p. records ++ records_of step (effects.Cuts m) (p ∷ [])) asks.1;
-      },
-    )
+-- a motion whose end is known: no case refuses it
+pub known_end : (m : Motion) (end : Pt) → Ok end ≡ unless (motion_cases m) (contact m) → NoneHolds (motion_cases m) × (end ≡ contact m)
+known_end m end is =
+    let at_end = ends (first_of (motion_cases m)) end (contact m) is in
+    (first_none (motion_cases m) at_end.0, at_end.1)
+
+pub has_cut : (so_far later : ℕ) (at behind : Situation) (step : Step) (before now : List Record) (m : Motion) (end : Pt)
+    → IsMotionBy (refusal_of at step.deed) (effect_of at step.deed) (Ok m) → Ok end ≡ unless (motion_cases m) (contact m)
+    → behind ≡ after at (effects.Cuts m) (contact m ∷ []) → now ≡ before ++ records_of step (effects.Cuts m) (vertices_of m)
+    → later ≡ so_far + length (vertices_of m) → later ≤ most_points → HasAdvanced so_far later at step before now (Ok behind)
+has_cut so_far later at behind step before now m end by is behind_is now_is later_is few =
+    let asks = end_asked (refusal_of at step.deed) (effect_of at step.deed) m end by is in
+    let within = few_asked so_far (effects.Cuts m) (subst (λ (n : ℕ). n ≤ most_points) later_is few) in
+    (effects.Cuts m, record { asks = ap (asked_within so_far) asks.0 ∙ within; after = behind_is; records = now_is; count = later_is })
+
+pub has_too_many : (so_far : ℕ) (at : Situation) (step : Step) (m : Motion) (end : Pt) → IsMotionBy (refusal_of at step.deed) (effect_of at step.deed) (Ok m)
+    → Ok end ≡ unless (motion_cases m) (contact m) → most_points < so_far + length (vertices_of m)
+    → IsRefusedBehind so_far at step (refused_at step cases.TooManyPoints) cases.TooManyPoints
+has_too_many so_far at step m end by is many =
+    let asks = end_asked (refusal_of at step.deed) (effect_of at step.deed) m end by is in
+    record { asks = ap (asked_within so_far) asks.0 ∙ many_asked so_far (effects.Cuts m) many; told = refl }
+
+stop_asked : (f : Option Case) (o : Option Effect) (m : Motion) (case : Case) → IsMotionBy f o (Ok m) → Err case ≡ unless (motion_cases m) (contact m) → asked f o ≡ Err case
+stop_asked f o m case by is = rw (by.1 ∙ stops (first_of (motion_cases m)) case (contact m) is) refl
 
 pub is_stopped : (at : Situation) (step : Step) (m : Motion) (case : Case) → IsMotionBy (refusal_of at step.deed) (effect_of at step.deed) (Ok m)
     → Err case ≡ unless (motion_cases m) (contact m) → HasPassed at step (Err (errors.Refused (refused_at step case)))
-is_stopped at step m case by is =
-    let refused : refusal_of at step.deed ≡ Some case = by.1 ∙ stops (first_of (motion_cases m)) case (contact m) is in
-    (case, record { asks = rw refused refl; told = refl })
+is_stopped at step m case by is = (case, record { asks = stop_asked (refusal_of at step.deed) (effect_of at step.deed) m case by is; told = refl })
 
-pub is_stopped_again : (at : Situation) (step : Step) (records : List Record) (m : Motion) (case : Case) → IsMotionBy (refusal_of at step.deed) (effect_of at step.deed) (Ok m)
-    → Err case ≡ unless (motion_cases m) (contact m) → HasAdvanced at step records records (Err (errors.Refused (refused_at step case)))
-is_stopped_again at step records m case by is = is_stopped at step m case by is
+pub is_stopped_again : (so_far later : ℕ) (at : Situation) (step : Step) (before now : List Record) (m : Motion) (case : Case)
+    → IsMotionBy (refusal_of at step.deed) (effect_of at step.deed) (Ok m) → Err case ≡ unless (motion_cases m) (contact m)
+    → HasAdvanced so_far later at step before now (Err (errors.Refused (refused_at step case)))
+is_stopped_again so_far later at step before now m case by is =
+    (case, record { asks = ap (asked_within so_far) (stop_asked (refusal_of at step.deed) (effect_of at step.deed) m case by is); told = refl })
+
+-- ---- the vertices round a circle
+
+pub round_vertices : (m : Motion) (arc : Arc) → Some arc ≡ arc_of m → divided arc ≡ vertices_of m
+round_vertices m arc is = ap (vertices_by (contact m)) is ∙ sym (vertices-vertices_by m)

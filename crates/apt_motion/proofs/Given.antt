@@ -1,5 +1,5 @@
 -- What a definition asks for, and what is behind it.
-use Rattle.std.proofs.Common.{◌≡◌, ◌∙◌, ℕ, List, Option, Some, IsSome, Result, Ok, Err, refl, sym, ap, subst, append-nil}
+use Rattle.std.proofs.Common.{◌≡◌, ◌∙◌, ℕ, ◌+◌, ◌≤◌, List, Option, Some, IsSome, Result, Ok, Err, refl, sym, ap, subst, append-nil, arith}
 use Rattle.apt_words.specs.declared.Case.{Case}
 use Rattle.apt_words.specs.declared.deed.Deed.{Deed}
 use Rattle.apt_words.specs.declared.deed.Step.{Step}
@@ -14,10 +14,11 @@ use Rattle.apt_meaning.specs.declared.effect.Effect.{Effect}
 use Rattle.apt_meaning.specs.declared.effect.Effect.TheVariants as effects
 use Rattle.apt_meaning.specs.Effects.{names, defines, defined, effect_of}
 use Rattle.apt_meaning.specs.Refusals.{refused, refused_if_any, refused_definition, refusal_of}
-use Rattle.apt_meaning.specs.Compiled.{asked, refused_at}
+use Rattle.apt_meaning.specs.Compiled.{most_points, asked, asked_within, refused_at}
 use Rattle.apt_meaning.proofs.Defined.{its_own}
 use Rattle.apt_motion.specs.declared.runs.RunError.TheVariants as errors
 use Rattle.apt_motion.specs.Ends.{HasPassed, HasAdvanced}
+use Rattle.apt_motion.proofs.Counts.{few_asked}
 
 abbrev named : List ℕ → Result Figure Case → Result Effect Case
 named name (Ok f) = Ok (effects.Defines name f)
@@ -67,20 +68,23 @@ is_refused at step case is = (case, record { asks = definition_asked at step.dee
 
 -- ---- the same with records, of which a definition has none
 
-pub has_defined : (at : Situation) (step : Step) (records : List Record) (table : Table) → HasDefined at.settings.units at.table step.deed table
-    → HasAdvanced at step records records (Ok (record at { table = table }))
-has_defined at step records table defined =
+pub has_defined : (so_far : ℕ) (at : Situation) (step : Step) (records : List Record) (table : Table) → so_far ≤ most_points
+    → HasDefined at.settings.units at.table step.deed table → HasAdvanced so_far so_far at step records records (Ok (record at { table = table }))
+has_defined so_far at step records table few defined =
     let name = defined.0 in
     let f = defined.1 in
-    let is = defined.2 in (
+    let is = defined.2 in
+    let within : so_far + 0 ≤ most_points = omega (arith, few) in (
       effects.Defines name f,
       record {
-        asks = definition_asked at step.deed (record { name = name; figure = Ok f }) is.defines;
+        asks = ap (asked_within so_far) (definition_asked at step.deed (record { name = name; figure = Ok f }) is.defines) ∙ few_asked so_far (effects.Defines name f) within;
         after = ap (λ (t : Table). record at { table = t }) is.table;
         records = sym (append-nil records);
+        count = omega arith;
       },
     )
 
-pub refused_again : (at : Situation) (step : Step) (records : List Record) (case : Case) → IsRefusedBy at.settings.units at.table step.deed case
-    → HasAdvanced at step records records (Err (errors.Refused (refused_at step case)))
-refused_again at step records case is = is_refused at step case is
+pub refused_again : (so_far later : ℕ) (at : Situation) (step : Step) (before now : List Record) (case : Case) → IsRefusedBy at.settings.units at.table step.deed case
+    → HasAdvanced so_far later at step before now (Err (errors.Refused (refused_at step case)))
+refused_again so_far later at step before now case is =
+    (case, record { asks = ap (asked_within so_far) (definition_asked at step.deed (record { name = is.0; figure = Err case }) is.1); told = refl })

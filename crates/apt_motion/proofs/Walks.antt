@@ -1,5 +1,5 @@
 -- The walk of the compiling pass over steps, and what its records are.
-use Rattle.std.proofs.Common.{◌≡◌, ◌∙◌, List, ◌∷◌, ◌++◌, Vec, Option, Some, None, Result, Ok, Err, IfOk, refl, sym, ap, subst, append_assoc}
+use Rattle.std.proofs.Common.{◌≡◌, ◌∙◌, ℕ, ◌+◌, ◌≤◌, List, ◌∷◌, ◌++◌, length, Vec, Option, Some, None, Result, Ok, Err, IfOk, refl, sym, ap, subst, append_assoc, arith}
 use Rattle.apt_words.specs.declared.Case.{Case}
 use Rattle.apt_words.specs.declared.Refusal.{Refusal}
 use Rattle.apt_words.specs.declared.deed.Deed.{Deed}
@@ -7,19 +7,19 @@ use Rattle.apt_words.specs.declared.deed.Step.{Step}
 use Rattle.apt_words.specs.Sources.{DeedHasText, AreExecuted}
 use Rattle.apt_scalar.specs.StepScalars.{HasScalars, AreScalars}
 use Rattle.apt_cldata.specs.declared.record.Record.{Record}
-use Rattle.apt_cldata.specs.Ranges.{AreRecords}
+use Rattle.apt_cldata.specs.Ranges.{AreRecords, vertex_count}
 use Rattle.apt_meaning.specs.declared.situation.Situation.{Situation}
 use Rattle.apt_meaning.specs.declared.effect.Effect.{Effect}
 use Rattle.apt_meaning.specs.Effects.{effect_of}
 use Rattle.apt_meaning.specs.Refusals.{refusal_of}
 use Rattle.apt_meaning.specs.Situations.{first_situation}
-use Rattle.apt_meaning.specs.Records.{FollowsLegally, records_of, after}
-use Rattle.apt_meaning.specs.Compiled.{ends_of, with_front, asked, or_first, first_refused, or_refused, compilation}
+use Rattle.apt_meaning.specs.Records.{AreOwn, FollowsAs, FollowsLegally, records_of, after}
+use Rattle.apt_meaning.specs.Compiled.{ends_of, points_of, most_points, with_front, asked, asked_within, or_first, first_refused, or_refused, compilation_behind, compilation}
 use Rattle.apt_meaning.specs.Ranges.{IsSituation, IsEffect}
-use Rattle.apt_meaning.specs.Vertices.{HasIn}
 use Rattle.apt_meaning.proofs.Asked.{answered}
 use Rattle.apt_meaning.proofs.Kept.{kept, first_situation-IsSituation}
-use Rattle.apt_meaning.proofs.Walk.{same_some, compiled_follows}
+use Rattle.apt_meaning.proofs.Walk.{fit as fit_of, after_points, behind_step, compiled_follows}
+use Rattle.apt_meaning.proofs.Files.{compiled_fit}
 use Rattle.apt_motion.specs.declared.runs.RunError.{RunError}
 use Rattle.apt_motion.specs.Ends.{Ends}
 use Rattle.apt_motion.specs.Finding.{IsNoContour, IsNoDefinition, IsPlain}
@@ -30,13 +30,13 @@ regroup front more (Ok rest) = ap (λ (x : List Record). Ok x) (sym (append_asso
 regroup front more (Err refusal) = refl
 
 -- one more step of the walk
-pub step_on : (front : List Record) (at : Situation) (step : Step) (steps : List Step) (e : Effect) (total : Result (List Record) Refusal)
-    → asked (refusal_of at step.deed) (effect_of at step.deed) ≡ Ok e → with_front front (compilation at (step ∷ steps)) ≡ total
-    → with_front (front ++ records_of step e (ends_of e)) (compilation (after at e (ends_of e)) steps) ≡ total
-step_on front at step steps e total does so_far =
-    let one : compilation at (step ∷ steps) ≡ with_front (records_of step e (ends_of e)) (compilation (after at e (ends_of e)) steps) =
-    ap (λ (a : Result Effect Case). or_refused step a (λ e. with_front (records_of step e (ends_of e)) (compilation (after at e (ends_of e)) steps))) does in
-    sym (regroup front (records_of step e (ends_of e)) (compilation (after at e (ends_of e)) steps)) ∙ sym (ap (with_front front) one) ∙ so_far
+pub step_on : (so_far : ℕ) (front : List Record) (at : Situation) (step : Step) (steps : List Step) (e : Effect) (total : Result (List Record) Refusal)
+    → asked_within so_far (asked (refusal_of at step.deed) (effect_of at step.deed)) ≡ Ok e → with_front front (compilation_behind so_far at (step ∷ steps)) ≡ total
+    → with_front (front ++ records_of step e (points_of e)) (compilation_behind (so_far + length (points_of e)) (after at e (ends_of e)) steps) ≡ total
+step_on so_far front at step steps e total does now =
+    let one : compilation_behind so_far at (step ∷ steps) ≡ behind_step so_far at step steps e =
+    ap (λ (a : Result Effect Case). or_refused step a (behind_step so_far at step steps)) does in
+    sym (regroup front (records_of step e (points_of e)) (compilation_behind (so_far + length (points_of e)) (after at e (ends_of e)) steps)) ∙ sym (ap (with_front front) one) ∙ now
 
 -- one more step that passes
 pub passes_on : (at : Situation) (step : Step) (steps : List Step) (e : Effect) (total : Option Refusal) → asked (refusal_of at step.deed) (effect_of at step.deed) ≡ Ok e
@@ -47,9 +47,8 @@ passes_on at step steps e total does so_far =
 -- ---- what a step asks for is in range, and so is what holds behind it
 
 -- an effect of a step that no case refuses
-pub record IsFit (at : Situation) (e : Effect) : Type 0 where
+pub record FitsAt (at : Situation) (e : Effect) : Type 0 where
   pub good : IsEffect e
-  pub ends : HasIn e (ends_of e)
   pub behind : IsSituation (after at e (ends_of e))
 
 same_ok : (d e : Effect) → ◌≡◌ {A = Result Effect Case} (Ok d) (Ok e) → d ≡ e
@@ -64,16 +63,13 @@ asked_fine None (Some d) e h = (refl, ap Some (same_ok d e h))
 asked_fine (Some case) o e h = absurd (no_ok case e h)
 
 pub fit : (at : Situation) (deed : Deed) (e : Effect) → IsSituation at → HasScalars deed → DeedHasText deed
-    → asked (refusal_of at deed) (effect_of at deed) ≡ Ok e → IsFit at e
+    → asked (refusal_of at deed) (effect_of at deed) ≡ Ok e → FitsAt at e
 fit at deed e is scalars worded does =
     let h = asked_fine (refusal_of at deed) (effect_of at deed) e does in
-    let a = answered at deed is scalars worded h.0 in
-    let fits : IsFit at a.e = record {
-      good = a.good;
-      ends = a.ends;
-      behind = kept at a.e (ends_of a.e) is a.good a.ends;
-    } in
-    subst (IsFit at) (same_some a.e e (sym a.asked ∙ h.1)) fits
+    let ok = fit_of (effect_of at deed) e h.1 (answered at deed is scalars worded h.0) in record {
+      good = ok.good;
+      behind = subst IsSituation (sym (after_points at e ok.ends)) (kept at e (points_of e) is ok.good ok.within);
+    }
 
 -- what is found of a step that is neither a definition nor a contour
 found_is : (at : Situation) (deed : Deed) (e : Effect) → IsSituation at → HasScalars deed → DeedHasText deed → IsNoContour deed → IsNoDefinition at deed
@@ -89,13 +85,18 @@ found_plain at deed (Err case) is scalars worded uncut none same = (tt, tt)
 -- ---- runs
 
 pub run_follows : {A : Type 0} (steps : List Step) (result : Result (Vec Record A) RunError) → AreScalars steps → AreExecuted steps → Ends (compilation first_situation steps) result
-    → IfOk result (λ records. (behind : Situation) × FollowsLegally first_situation steps records.items behind)
+    → IfOk result (λ records. (behind : Situation) × (FollowsLegally first_situation steps records.items behind × FollowsAs AreOwn first_situation steps records.items behind))
 run_follows steps (Ok records) scalars sources is =
-    let a = compiled_follows first_situation steps records.items first_situation-IsSituation scalars sources is in
-    (a.behind, a.follows)
+    let a = compiled_follows 0 first_situation steps records.items first_situation-IsSituation scalars sources is in
+    (a.behind, (a.follows, a.own))
 run_follows steps (Err e) scalars sources is = tt
 
 pub run_in_range : {A : Type 0} (steps : List Step) (result : Result (Vec Record A) RunError) → AreScalars steps → AreExecuted steps → Ends (compilation first_situation steps) result
     → IfOk result (λ records. AreRecords records.items)
-run_in_range steps (Ok records) scalars sources is = (compiled_follows first_situation steps records.items first_situation-IsSituation scalars sources is).records
+run_in_range steps (Ok records) scalars sources is = (compiled_follows 0 first_situation steps records.items first_situation-IsSituation scalars sources is).records
 run_in_range steps (Err e) scalars sources is = tt
+
+pub run_fits : {A : Type 0} (steps : List Step) (result : Result (Vec Record A) RunError) → AreExecuted steps → Ends (compilation first_situation steps) result
+    → IfOk result (λ records. vertex_count records.items ≤ most_points)
+run_fits steps (Ok records) sources is = omega (arith, (compiled_fit 0 first_situation steps records.items (omega arith) sources is).vertices)
+run_fits steps (Err e) sources is = tt

@@ -1,5 +1,5 @@
 -- How steps are passed and taken, and how runs end.
-use Rattle.std.specs.Prelude.{◌≡◌, ◌++◌, List, Option, Some, None, Result, Ok, Err}
+use Rattle.std.specs.Prelude.{◌≡◌, ◌+◌, ◌++◌, ℕ, List, length, Option, Some, None, Result, Ok, Err}
 use Rattle.std.proofs.Common.{Vec}
 use Rattle.apt_words.specs.declared.Case.{Case}
 use Rattle.apt_words.specs.declared.Refusal.{Refusal}
@@ -10,7 +10,7 @@ use Rattle.apt_meaning.specs.declared.effect.Effect.{Effect}
 use Rattle.apt_meaning.specs.Effects.{effect_of}
 use Rattle.apt_meaning.specs.Refusals.{refusal_of}
 use Rattle.apt_meaning.specs.Records.{records_of, after}
-use Rattle.apt_meaning.specs.Compiled.{ends_of, asked, refused_at}
+use Rattle.apt_meaning.specs.Compiled.{ends_of, points_of, asked, asked_within, refused_at}
 use Rattle.apt_motion.specs.declared.runs.RunError.{RunError}
 use Rattle.apt_motion.specs.declared.runs.RunError.TheVariants as errors
 
@@ -19,14 +19,20 @@ pub record IsPassed (at : Situation) (step : Step) (behind : Situation) (e : Eff
   pub asks : asked (refusal_of at step.deed) (effect_of at step.deed) ≡ Ok e
   pub after : behind ≡ after at e (ends_of e)
 
--- the same, with its records behind those before
-pub record IsTaken (at : Situation) (step : Step) (before now : List Record) (behind : Situation) (e : Effect) : Type 0 where
-  pub asks : asked (refusal_of at step.deed) (effect_of at step.deed) ≡ Ok e
+-- the same behind so many vertices, with its records behind those before, and its vertices counted
+pub record IsTaken (so_far later : ℕ) (at : Situation) (step : Step) (before now : List Record) (behind : Situation) (e : Effect) : Type 0 where
+  pub asks : asked_within so_far (asked (refusal_of at step.deed) (effect_of at step.deed)) ≡ Ok e
   pub after : behind ≡ after at e (ends_of e)
-  pub records : now ≡ before ++ records_of step e (ends_of e)
+  pub records : now ≡ before ++ records_of step e (points_of e)
+  pub count : later ≡ so_far + length (points_of e)
 
 pub record IsRefused (at : Situation) (step : Step) (refusal : Refusal) (case : Case) : Type 0 where
   pub asks : asked (refusal_of at step.deed) (effect_of at step.deed) ≡ Err case
+  pub told : refusal ≡ refused_at step case
+
+-- the same behind so many vertices
+pub record IsRefusedBehind (so_far : ℕ) (at : Situation) (step : Step) (refusal : Refusal) (case : Case) : Type 0 where
+  pub asks : asked_within so_far (asked (refusal_of at step.deed) (effect_of at step.deed)) ≡ Err case
   pub told : refusal ≡ refused_at step case
 
 -- a step is passed or refused, or memory was short
@@ -35,11 +41,11 @@ HasPassed at step (Ok behind) = (e : Effect) × IsPassed at step behind e
 HasPassed at step (Err (errors.Refused refusal)) = (case : Case) × IsRefused at step refusal case
 HasPassed at step (Err errors.NoMemory) = Unit {0}
 
--- a step is taken or refused, or memory was short
-abbrev pub HasAdvanced : Situation → Step → List Record → List Record → Result Situation RunError → Type 0
-HasAdvanced at step before now (Ok behind) = (e : Effect) × IsTaken at step before now behind e
-HasAdvanced at step before now (Err (errors.Refused refusal)) = (case : Case) × IsRefused at step refusal case
-HasAdvanced at step before now (Err errors.NoMemory) = Unit {0}
+-- a step is taken behind so many vertices, and there are so many then, or it is refused, or memory was short
+abbrev pub HasAdvanced : ℕ → ℕ → Situation → Step → List Record → List Record → Result Situation RunError → Type 0
+HasAdvanced so_far later at step before now (Ok behind) = (e : Effect) × IsTaken so_far later at step before now behind e
+HasAdvanced so_far later at step before now (Err (errors.Refused refusal)) = (case : Case) × IsRefusedBehind so_far at step refusal case
+HasAdvanced so_far later at step before now (Err errors.NoMemory) = Unit {0}
 
 -- a run ends with the due records, or the due refusal, or memory was short
 abbrev pub Ends : {A : Type 0} → Result (List Record) Refusal → Result (Vec Record A) RunError → Type 0

@@ -1,7 +1,6 @@
 -- What the compiling pass finds of a step that defines nothing: its effect, or its motion, or the case that refuses it.
 use Rattle.std.specs.Prelude.{◌≡◌, ◌≢◌, not, ℕ, List, [], ◌∷◌, ◌++◌, Option, Some, None, Result, Ok, Err}
 use Rattle.apt_num.specs.declared.Sign.{Sign}
-use Rattle.apt_words.specs.Options.{◌>>=◌}
 use Rattle.apt_words.specs.Rows.{Row, first_of}
 use Rattle.apt_words.specs.declared.Case.{Case}
 use Rattle.apt_words.specs.declared.Case.TheVariants as cases
@@ -24,10 +23,9 @@ use Rattle.apt_meaning.specs.declared.situation.Situation.{Situation}
 use Rattle.apt_meaning.specs.declared.motion.Motion.{Motion}
 use Rattle.apt_meaning.specs.declared.effect.Effect.{Effect}
 use Rattle.apt_meaning.specs.declared.effect.Effect.TheVariants as effects
-use Rattle.apt_meaning.specs.OnLines.{built}
 use Rattle.apt_meaning.specs.Situations.{has_feed, lacks_feed, with_side, at_height}
 use Rattle.apt_meaning.specs.Motions.{is_too_fine, turn_at, if_turned}
-use Rattle.apt_meaning.specs.Refusals.{is_undefined, is_no_surface, is_left_out, each_name, motion_cases, surface_cases}
+use Rattle.apt_meaning.specs.Refusals.{is_undefined, is_no_surface, each_name, motion_cases, turned_cases}
 
 abbrev pub IsNoContour : Deed → Type 0
 IsNoContour deed = (side : Option Side) (go : Go) (drive : List ℕ) (how : Stop) (check : List ℕ) → deed ≢ deeds.Contour side go drive how check
@@ -65,10 +63,10 @@ start_of from u = effects.Moves reaches.Start (at_height from.z (start_point u))
 -- ---- contours whose names stand for surfaces
 
 abbrev pub motion_on : Situation → Option Side → Go → Position → Surface → Stop → Surface → Option Motion
-motion_on at side go start d how e = built d >>= λ drive. if_turned (with_side at.settings side) start drive (turn_at at start drive go) how e
+motion_on at side go start d how e = if_turned (with_side at.settings side) start d (turn_at at start d go) how e
 
 abbrev pub contour_cases_on : Situation → Option Side → Go → Position → Surface → Stop → Surface → List Row
-contour_cases_on at side go start d how e = (is_left_out (Some d), cases.NotBuilt) ∷ surface_cases at side go how (Some start) (built d) (Some e)
+contour_cases_on at side go start d how e = turned_cases (with_side at.settings side) start d (turn_at at start d go) how e
 
 -- what refuses a contour before its motion is known
 abbrev pub turn_cases : Settings → Sign → List Row

@@ -4,7 +4,6 @@ ghost use Rattle.std.specs.Prelude.{◌≡◌, [], ◌∷◌, Some, IfOk, MatchR
 ghost use Rattle.apt_plane.specs.Ranges.{IsPoint, IsSurface};
 ghost use Rattle.apt_words.specs.Rows.{first_of, unless};
 ghost use Rattle.apt_words.specs.declared.deed.Deed.TheVariants as deeds;
-ghost use Rattle.apt_certify.specs.Jobs.{IsStraight};
 ghost use Rattle.apt_stop.specs.Courses as courses;
 ghost use Rattle.apt_stop.specs.Ranges.{IsCourse};
 ghost use Rattle.apt_cldata.specs.Ranges.{IsPosition};
@@ -18,7 +17,7 @@ ghost use Rattle.apt_motion.specs.Finding.{IsMotionBy};
 
 use apt_cldata::Position;
 use apt_defs::Table;
-use apt_meaning::{Motion, Settings, Situation, built, is_too_fine, surface_of, turn_at};
+use apt_meaning::{Motion, Settings, Situation, is_too_fine, surface_of, turn_at};
 use apt_num::Sign;
 use apt_offset::signs::is_zero;
 use apt_offset::{Target, is_on_check, lacks_room, offset_surface};
@@ -70,7 +69,7 @@ pub(crate) fn motion(
     on_surfaces(at, side, go, start, drive, how, &check)
 }
 
-/// A contour on known surfaces: drive surfaces are lines so far.
+/// A contour on known surfaces.
 #[inline(always)]
 fn on_surfaces(
     at: &Situation,
@@ -88,9 +87,6 @@ fn on_surfaces(
     ensures motion { IsMotionBy (first_of (finding.contour_cases_on at.now side go start drive how check.now)) (cuts (finding.motion_on at.now side go start drive how check.now)) result }
     ensures range { IfOk result IsMotion }
 {
-    let Some(drive) = built(drive) else {
-        return Err(Case::NotBuilt);
-    };
     let settings = at.settings.with_side(side);
     let turned = turn_at(at.forward, start, &drive, go);
     turned_motion(&settings, start, &drive, turned, how, check)

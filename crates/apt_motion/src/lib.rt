@@ -7,5 +7,6 @@ mod records;
 mod refusals;
 mod runs;
 mod start_ups;
+mod vertices;
 
 pub use runs::{RunError, ends, run};

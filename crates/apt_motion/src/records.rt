@@ -1,14 +1,20 @@
 //! The records of effects that define nothing, and what holds behind them.
 
-ghost use Rattle.std.specs.Prelude.{◌≡◌, ◌≤◌, ◌+◌, ◌++◌, [], ◌∷◌, vec_len, vec_capacity, OnOk};
+ghost use Rattle.std.specs.Prelude.{◌≡◌, ◌<◌, ◌≤◌, ◌+◌, ◌++◌, [], ◌∷◌, length, map, vec_len, vec_capacity, OnOk, IsErrOf};
+ghost use Rattle.apt_words.specs.Rows.{NoneHolds};
 ghost use Rattle.apt_plane.specs.Ranges.{IsPoint};
 ghost use Rattle.apt_cldata.specs.declared.record.Record.TheVariants as lines;
-ghost use Rattle.apt_meaning.specs.Compiled.{ends_of};
+ghost use Rattle.apt_meaning.specs.Compiled.{ends_of, points_of, most_points};
+ghost use Rattle.apt_meaning.specs.Motions.{contact, vertices_of};
 ghost use Rattle.apt_meaning.specs.Ranges.{IsSituation, IsEffect, IsMotion};
-ghost use Rattle.apt_meaning.specs.Records as written;
+ghost use Rattle.apt_meaning.specs.Refusals.{motion_cases};
+ghost use Rattle.apt_meaning.specs.Records as writing;
+ghost use Rattle.apt_meaning.specs.Situations.{at_height};
 ghost use Rattle.apt_meaning.specs.declared.effect.Effect.TheVariants as effects;
 ghost use Rattle.apt_motion.specs.Finding.{IsPlain};
 
+use crate::vertices::vertices;
+use apt_arc::ArcError;
 use apt_cldata::{Position, Record, Vertices};
 use apt_meaning::{Effect, Motion, Situation};
 use apt_plane::Pt;
@@ -17,6 +23,16 @@ use std::alloc::{AllocError, Global};
 
 /// A contour has so many records, and no step has more.
 const MOST_RECORDS: usize = 4;
+
+/// The contours of a program have so many vertices at most.
+const MOST_POINTS: u64 = 500_000;
+
+/// Records, and how many vertices their contours have.
+#[derive(Drop)]
+pub(crate) struct Written {
+    pub records: Vec<Record>,
+    pub points: u64,
+}
 
 /// Makes room for the records of a step.
 fn make_room(records: &mut Vec<Record>) -> Result<(), AllocError>
@@ -43,22 +59,12 @@ fn put(records: &mut Vec<Record>, step: &Step, line: Record)
     records.push_reserved(line);
 }
 
-/// The records of a contour that ends at a point.
-fn write_cut(
-    alloc: Global,
-    records: &mut Vec<Record>,
-    step: &Step,
-    motion: &Motion,
-    end: Pt,
-) -> Result<(), AllocError>
-    requires { vec_len records.old + 4 ≤ vec_capacity records.old }
-    ensures { OnOk result (records.new.items ≡ records.old.items ++ written.records_of step.now (effects.Cuts motion.now) (end ∷ [])) }
+/// The records of a contour with its vertices.
+fn write_cut(records: &mut Vec<Record>, step: &Step, motion: &Motion, at: Vec<Position>)
+    requires room { vec_len records.old + 4 ≤ vec_capacity records.old }
+    requires at { at.items ≡ map (at_height motion.now.start.z) (vertices_of motion.now) }
+    ensures { records.new.items ≡ records.old.items ++ writing.records_of step.now (effects.Cuts motion.now) (vertices_of motion.now) }
 {
-    let mut at = Vec::with_capacity(alloc, 1)?;
-    at.push_reserved(Position {
-        at: end,
-        z: motion.start.z,
-    });
     let drive = Record::Drive {
         surface: motion.drive,
         side: motion.side,
@@ -70,7 +76,6 @@ fn write_cut(
         how: motion.how,
     });
     records.push_reserved(Record::Contour(Vertices { at }));
-    Ok(())
 }
 
 /// Then holds what holds behind what a step asks for that is neither a definition nor a contour.
@@ -78,7 +83,7 @@ pub(crate) fn pass_by(at: &mut Situation, effect: Effect)
     requires situation { IsSituation at.old }
     requires effect { IsEffect effect }
     requires plain { IsPlain effect }
-    ensures { at.new ≡ written.after at.old effect (ends_of effect) }
+    ensures { at.new ≡ writing.after at.old effect (ends_of effect) }
 {
     match effect {
         Effect::Sets(settings, _) => at.settings = settings,
@@ -87,7 +92,8 @@ pub(crate) fn pass_by(at: &mut Situation, effect: Effect)
     }
 }
 
-/// The records of what a step asks for that is neither a definition nor a contour; then holds what holds behind it.
+/// The records of what a step asks for that is neither a definition nor a contour, and so has no vertices; then holds
+/// what holds behind it.
 pub(crate) fn take(
     records: &mut Vec<Record>,
     at: &mut Situation,
@@ -97,8 +103,8 @@ pub(crate) fn take(
     requires situation { IsSituation at.old }
     requires effect { IsEffect effect }
     requires plain { IsPlain effect }
-    ensures after { OnOk result (at.new ≡ written.after at.old effect (ends_of effect)) }
-    ensures records { OnOk result (records.new.items ≡ records.old.items ++ written.records_of step.now effect (ends_of effect)) }
+    ensures after { OnOk result (at.new ≡ writing.after at.old effect (ends_of effect)) }
+    ensures records { OnOk result (records.new.items ≡ records.old.items ++ writing.records_of step.now effect (points_of effect)) }
 {
     make_room(records)?;
     match effect {
@@ -117,22 +123,36 @@ pub(crate) fn take(
     Ok(())
 }
 
-/// The records of a contour that ends at a point; then holds what holds behind it.
+/// The records of a contour that no case of its own refuses; then holds what holds behind it.
+///
+/// # Errors
+///
+/// `TooManyPoints` where the contours have more vertices with it than a program may have.
 pub(crate) fn take_cut(
     alloc: Global,
-    records: &mut Vec<Record>,
+    written: &mut Written,
     at: &mut Situation,
     step: &Step,
     motion: &Motion,
     end: Pt,
-) -> Result<(), AllocError>
+) -> Result<(), ArcError>
     requires motion { IsMotion motion.now }
-    requires end { IsPoint end }
-    ensures after { OnOk result (at.new ≡ written.after at.old (effects.Cuts motion.now) (end ∷ [])) }
-    ensures records { OnOk result (records.new.items ≡ records.old.items ++ written.records_of step.now (effects.Cuts motion.now) (end ∷ [])) }
+    requires none { NoneHolds (motion_cases motion.now) }
+    requires end { end ≡ contact motion.now }
+    requires point { IsPoint end }
+    requires few { written.old.points ≤ most_points }
+    ensures after { OnOk result (at.new ≡ writing.after at.old (effects.Cuts motion.now) (contact motion.now ∷ [])) }
+    ensures records { OnOk result (written.new.records.items ≡ written.old.records.items ++ writing.records_of step.now (effects.Cuts motion.now) (vertices_of motion.now)) }
+    ensures count { OnOk result (written.new.points ≡ written.old.points + length (vertices_of motion.now)) }
+    ensures few { OnOk result (written.new.points ≤ most_points) }
+    ensures too_many { IsErrOf result ArcError.TooManyPoints → most_points < written.old.points + length (vertices_of motion.now) }
 {
-    make_room(records)?;
-    write_cut(alloc, records, step, motion, end)?;
+    if make_room(&mut written.records).is_err() {
+        return Err(ArcError::NoMemory);
+    }
+    let vertices = vertices(alloc, motion, end, MOST_POINTS - written.points)?;
+    written.points += vertices.len() as u64;
+    write_cut(&mut written.records, step, motion, vertices);
     at.cut_along(motion, &[end]);
     Ok(())
 }

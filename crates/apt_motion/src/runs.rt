@@ -1,16 +1,16 @@
 //! The records of a part program, and the first step of it that is refused.
 
-ghost use Rattle.std.specs.Prelude.{◌≡◌, IfOk, Ok};
+ghost use Rattle.std.specs.Prelude.{◌≡◌, ◌≤◌, IfOk, Ok};
 ghost use Rattle.std.specs.Result.{result_map_both};
 ghost use Rattle.apt_words.specs.Built.{AreBuiltSteps, IsBuilt};
 ghost use Rattle.apt_words.specs.Sources.{AreExecuted, DeedHasText};
 ghost use Rattle.apt_scalar.specs.StepScalars.{AreScalars, HasScalars};
-ghost use Rattle.apt_cldata.specs.Ranges.{AreRecords};
-ghost use Rattle.apt_meaning.specs.Compiled.{compilation, first_refused, refused_at};
+ghost use Rattle.apt_cldata.specs.Ranges.{AreRecords, vertex_count};
+ghost use Rattle.apt_meaning.specs.Compiled.{compilation, first_refused, most_points, refused_at};
 ghost use Rattle.apt_meaning.specs.Effects.{effect_of};
 ghost use Rattle.apt_meaning.specs.Ranges.{IsSituation, IsMotion};
 ghost use Rattle.apt_meaning.specs.Refusals.{refusal_of};
-ghost use Rattle.apt_meaning.specs.Records.{FollowsLegally};
+ghost use Rattle.apt_meaning.specs.Records.{AreOwn, FollowsAs, FollowsLegally};
 ghost use Rattle.apt_meaning.specs.Situations.{first_situation};
 ghost use Rattle.apt_meaning.specs.declared.situation.Situation.{Situation};
 ghost use Rattle.apt_motion.specs.Ends.{Ends, HasAdvanced, HasPassed, ArePassed};
@@ -18,7 +18,8 @@ ghost use Rattle.apt_motion.specs.Finding.{IsMotionBy, IsNoDefinition};
 
 use crate::contours::{end_of, motion};
 use crate::found::find;
-use crate::records::{pass_by, take, take_cut};
+use crate::records::{Written, pass_by, take, take_cut};
+use apt_arc::ArcError;
 use apt_cldata::Record;
 use apt_defs::{DefError, define};
 use apt_meaning::{Motion, Situation};
@@ -108,11 +109,11 @@ fn go_along(at: &mut Situation, step: &Step, motion: &Motion) -> Result<(), RunE
     }
 }
 
-/// Takes a step: its records go behind those before.
+/// Takes a step: its records go behind those before, and its vertices are counted.
 #[tactic(auto, using(crate::proofs::Given::has_defined, crate::proofs::Given::refused_again))]
 fn advance(
     alloc: Global,
-    records: &mut Vec<Record>,
+    written: &mut Written,
     at: &mut Situation,
     step: &Step,
 ) -> Result<(), RunError>
@@ -120,11 +121,12 @@ fn advance(
     requires scalars { HasScalars step.now.deed }
     requires built { IsBuilt step.now.deed }
     requires text { DeedHasText step.now.deed }
-    ensures { HasAdvanced at.old step.now records.old.items records.new.items (result_map_both (λ _. at.new) (λ e. e) result) }
+    requires few { written.old.points ≤ most_points }
+    ensures { HasAdvanced written.old.points written.new.points at.old step.now written.old.records.items written.new.records.items (result_map_both (λ _. at.new) (λ e. e) result) }
 {
     match define(step, at.settings.units, &mut at.table) {
         Ok(true) => Ok(()),
-        Ok(false) => act(alloc, records, at, step),
+        Ok(false) => act(alloc, written, at, step),
         Err(DefError::Case(case)) => Err(refused(step, case)),
         Err(DefError::NoMemory) => Err(RunError::NoMemory),
     }
@@ -133,7 +135,7 @@ fn advance(
 /// Takes a step that defines nothing. The motion of a contour stays where it is made.
 fn act(
     alloc: Global,
-    records: &mut Vec<Record>,
+    written: &mut Written,
     at: &mut Situation,
     step: &Step,
 ) -> Result<(), RunError>
@@ -142,37 +144,43 @@ fn act(
     requires built { IsBuilt step.now.deed }
     requires text { DeedHasText step.now.deed }
     requires defines_nothing { IsNoDefinition at.old step.now.deed }
-    ensures { HasAdvanced at.old step.now records.old.items records.new.items (result_map_both (λ _. at.new) (λ e. e) result) }
+    requires few { written.old.points ≤ most_points }
+    ensures { HasAdvanced written.old.points written.new.points at.old step.now written.old.records.items written.new.records.items (result_map_both (λ _. at.new) (λ e. e) result) }
 {
     match &step.deed {
         Deed::Contour(side, go, drive, how, check) => {
             match &motion(at, *side, *go, drive, *how, check) {
-                Ok(motion) => cut(alloc, records, at, step, motion),
+                Ok(motion) => cut(alloc, written, at, step, motion),
                 Err(case) => Err(refused(step, *case)),
             }
         }
         deed => match find(at, deed)? {
-            Ok(effect) => Ok(take(records, at, step, effect)?),
+            Ok(effect) => Ok(take(&mut written.records, at, step, effect)?),
             Err(case) => Err(refused(step, case)),
         },
     }
 }
 
 /// Takes a contour, run to its contact.
-#[tactic(auto, using(crate::proofs::Cuts::has_cut, crate::proofs::Cuts::is_stopped_again))]
+#[tactic(auto, using(crate::proofs::Cuts::is_stopped_again))]
 fn cut(
     alloc: Global,
-    records: &mut Vec<Record>,
+    written: &mut Written,
     at: &mut Situation,
     step: &Step,
     motion: &Motion,
 ) -> Result<(), RunError>
     requires motion { IsMotion motion.now }
     requires asks { IsMotionBy (refusal_of at.old step.now.deed) (effect_of at.old step.now.deed) (Ok motion.now) }
-    ensures { HasAdvanced at.old step.now records.old.items records.new.items (result_map_both (λ _. at.new) (λ e. e) result) }
+    requires few { written.old.points ≤ most_points }
+    ensures { HasAdvanced written.old.points written.new.points at.old step.now written.old.records.items written.new.records.items (result_map_both (λ _. at.new) (λ e. e) result) }
 {
     match end_of(motion) {
-        Ok(end) => Ok(take_cut(alloc, records, at, step, motion, end)?),
+        Ok(end) => match take_cut(alloc, written, at, step, motion, end) {
+            Ok(()) => Ok(()),
+            Err(ArcError::TooManyPoints) => Err(refused(step, Case::TooManyPoints)),
+            Err(ArcError::NoMemory) => Err(RunError::NoMemory),
+        },
         Err(case) => Err(refused(step, case)),
     }
 }
@@ -184,10 +192,14 @@ fn run_all(alloc: Global, steps: &[Step]) -> Result<Vec<Record>, RunError>
     ensures { Ends (compilation first_situation steps.now) result }
 {
     let mut at = Situation::first(alloc);
-    let mut records = Vec::new(alloc);
+    let mut written = Written {
+        records: Vec::new(alloc),
+        points: 0,
+    };
     'steps: for st in steps {
-        advance(alloc, &mut records, &mut at, st)?;
+        advance(alloc, &mut written, &mut at, st)?;
     }
+    let Written { mut records, .. } = written;
     records.shrink_to_fit();
     Ok(records)
 }
@@ -220,16 +232,19 @@ pub fn ends(alloc: Global, steps: &[Step]) -> Result<Option<Refusal>, AllocError
     }
 }
 
-/// The records of steps, each contour with the point at which it stops. `Refused` has the first step that a case
-/// refuses. The records follow the steps, every contour is legal, and all numbers are in range.
-#[tactic(auto, using(crate::proofs::Walks::run_follows, crate::proofs::Walks::run_in_range))]
+/// The records of steps. A contour along a line has one vertex, the point at which it stops; round a circle it has those
+/// of its arc's division into chords, each within the inward tolerance. A program has up to 500,000 vertices. `Refused`
+/// has the first step that a case refuses, or that has too many vertices. The records follow the steps, every contour
+/// is legal, and all numbers are in range.
+#[tactic(auto, using(crate::proofs::Walks::run_follows, crate::proofs::Walks::run_in_range, crate::proofs::Walks::run_fits))]
 pub fn run(alloc: Global, steps: &[Step]) -> Result<Vec<Record>, RunError>
     requires scalars { AreScalars steps.now }
     requires built { AreBuiltSteps steps.now }
     requires sources { AreExecuted steps.now }
     ensures value { Ends (compilation first_situation steps.now) result }
-    ensures follows { IfOk result (λ records. (behind : Situation) × FollowsLegally first_situation steps.now records.items behind) }
+    ensures follows { IfOk result (λ records. (behind : Situation) × (FollowsLegally first_situation steps.now records.items behind × FollowsAs AreOwn first_situation steps.now records.items behind)) }
     ensures range { IfOk result (λ records. AreRecords records.items) }
+    ensures points { IfOk result (λ records. vertex_count records.items ≤ most_points) }
 {
     run_all(alloc, steps)
 }

@@ -20,11 +20,11 @@ use Rattle.apt_meaning.proofs.Files.{compiled_fit, fini_last}
 pub compiled_file : (statements : List Stmt) (steps : List Step) (written : List Record) → IsTrace statements (record { steps = steps; fault = None })
     → AreScalars steps → AreExecuted steps → StepsEnd false steps → compilation first_situation steps ≡ Ok written → IsFile written
 compiled_file statements steps written trace scalars executed ends compiled =
-    let a = compiled_follows first_situation steps written first_situation-IsSituation scalars executed compiled in
-    let fit = compiled_fit first_situation steps written executed compiled in
+    let a = compiled_follows 0 first_situation steps written first_situation-IsSituation scalars executed compiled in
+    let fit = compiled_fit 0 first_situation steps written (omega arith) executed compiled in
     let few = few_steps statements (record { steps = steps; fault = None }) trace in record {
       ranges = a.records;
       last = fini_last false written (ends_once AreLegal false first_situation steps written a.behind a.follows ends);
-      short = fit.0;
-      numbers = omega (arith, fit.1, few);
+      short = fit.short;
+      numbers = omega (arith, fit.number, few);
     }

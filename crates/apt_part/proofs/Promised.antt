@@ -1,5 +1,5 @@
 -- What a text comes to keeps the promise.
-use Rattle.std.proofs.Common.{◌≡◌, ◌∙◌, ℕ, false, arith, List, Option, Some, None, Result, Ok, Err, refl, sym, ap, subst}
+use Rattle.std.proofs.Common.{◌≡◌, ◌∙◌, ◌+◌, ◌≤◌, ℕ, false, arith, List, Option, Some, None, Result, Ok, Err, refl, sym, ap, subst}
 use Rattle.std.specs.Prelude.{IfOk}
 use Rattle.std.specs.Option.{option_or}
 use Rattle.std.proofs.lemmas.Int.{ints}
@@ -19,12 +19,14 @@ use Rattle.apt_unroll.proofs.Going.{has_trace}
 use Rattle.apt_unroll.proofs.Found.{trace_found}
 use Rattle.apt_unroll.proofs.Steps.{are_scalars, are_built, are_executed, end_once}
 use Rattle.apt_cldata.specs.declared.record.Record.{Record}
+use Rattle.apt_cldata.specs.Ranges.{vertex_count}
 use Rattle.apt_meaning.specs.Situations.{first_situation}
 use Rattle.apt_meaning.specs.Records.{AreLegal}
-use Rattle.apt_meaning.specs.Compiled.{first_refused, compilation}
+use Rattle.apt_meaning.specs.Compiled.{first_refused, compilation, most_points}
 use Rattle.apt_meaning.proofs.Kept.{first_situation-IsSituation}
 use Rattle.apt_meaning.proofs.Walk.{compiled_follows, compiled_passes}
 use Rattle.apt_meaning.proofs.Ends.{ends_once}
+use Rattle.apt_meaning.proofs.Files.{compiled_fit}
 use Rattle.apt_meaning.proofs.Stands.{stands}
 use Rattle.apt_machine.specs.declared.machine.Machine.{Machine}
 use Rattle.apt_machine.specs.Machines.{IsMachine}
@@ -147,11 +149,14 @@ is_done machine text p h =
     let u = trace_of r.statements in
     let w = were_written machine u u.fault (limits machine u.steps) (compilation first_situation u.steps) p.records refl refl refl r.recorded in record {
       passes = passing machine text r.statements p.steps r.read r.steps
-          (record { fault = w.fault; within = w.within; fine = compiled_passes first_situation u.steps p.records w.compiled });
+          (record { fault = w.fault; within = w.within; fine = compiled_passes 0 first_situation u.steps p.records w.compiled });
       compiled = subst (λ (ss : List Step). compilation first_situation ss ≡ Ok p.records) (sym r.steps) w.compiled;
     }
 
 -- ---- the promise
+
+few_from_none : (n : ℕ) → 0 + n ≤ most_points → n ≤ most_points
+few_from_none n h = omega (arith, h)
 
 pub part_steps : (machine : Machine) (text : List ℕ) (p : Compiled) → part_of machine text ≡ Ok (Ok p) → AreSteps p.steps
 part_steps machine text p h = are_steps machine text p.steps (is_done machine text p h).passes
@@ -160,13 +165,15 @@ pub promised : (machine : Machine) (text : List ℕ) (p : Compiled) → IsMachin
 promised machine text p is h =
     let q = is_done machine text p h in
     let are = are_steps machine text p.steps q.passes in
-    let follow = compiled_follows first_situation p.steps p.records first_situation-IsSituation are.scalars are.sources q.compiled in
+    let follow = compiled_follows 0 first_situation p.steps p.records first_situation-IsSituation are.scalars are.sources q.compiled in
     let ends : StepsEnd false p.steps = end_once q.passes.statements (record { steps = p.steps; fault = None }) q.passes.unrolled refl in
-    let can = compiled_written machine nothing_pending first_situation p.steps p.records is (record { feed = refl; rapid = refl }) (record { most = omega (arith, ints) }) first_situation-IsSituation are.scalars are.sources q.passes.within q.compiled in record {
+    let can = compiled_written machine nothing_pending 0 first_situation p.steps p.records is (record { feed = refl; rapid = refl }) (record { most = omega (arith, ints) }) first_situation-IsSituation are.scalars are.sources q.passes.within q.compiled in record {
       passes = q.passes;
       compiled = q.compiled;
       behind = follow.behind;
       follow = follow.follows;
+      own = follow.own;
+      few = few_from_none (vertex_count p.records) (compiled_fit 0 first_situation p.steps p.records (omega arith) are.sources q.compiled).vertices;
       stands = stands AreLegal first_situation p.steps p.records follow.behind follow.follows;
       file = compiled_file q.passes.statements p.steps p.records q.passes.unrolled are.scalars are.sources ends q.compiled;
       reached = plan_reaches p.records;

@@ -1,5 +1,5 @@
 -- The acts of records that the compiler makes can be written.
-use Rattle.std.proofs.Common.{◌≡◌, ◌∙◌, ◌≤◌, ℕ, ℤ, pos, negsuc, zero, suc, ◌≤ℤ◌, int_lt, not, ◌||◌, Bool, true, false, List, [], ◌∷◌, map, Option, Some, None, Ok, refl, sym, ap, subst, cond, arith}
+use Rattle.std.proofs.Common.{◌≡◌, ◌∙◌, ◌+◌, ◌≤◌, ℕ, ℤ, pos, negsuc, zero, suc, ◌≤ℤ◌, int_lt, not, ◌||◌, Bool, true, false, List, [], ◌∷◌, length, map, Option, Some, None, Ok, refl, sym, ap, subst, cond, arith}
 use Rattle.std.proofs.lemmas.Int.{ints}
 use Rattle.std.proofs.lemmas.Bool.{true≢false}
 use Rattle.apt_words.specs.declared.Case.{Case}
@@ -30,7 +30,7 @@ use Rattle.apt_meaning.specs.Situations.{has_feed, lacks_feed, settings_behind}
 use Rattle.apt_meaning.specs.Effects.{effect_of}
 use Rattle.apt_meaning.specs.Refusals.{refusal_of, cases_of}
 use Rattle.apt_meaning.specs.Records.{with_statement, effect_records, records_of, after}
-use Rattle.apt_meaning.specs.Compiled.{ends_of, with_front, compilation}
+use Rattle.apt_meaning.specs.Compiled.{ends_of, points_of, compilation_behind}
 use Rattle.apt_meaning.specs.Ranges.{IsSituation}
 use Rattle.apt_scalar.specs.StepScalars.{AreScalars}
 use Rattle.apt_meaning.specs.Sayings.{settings_with, IsNoteOf, IsSaidBy}
@@ -39,7 +39,7 @@ use Rattle.apt_meaning.proofs.Said.{said_by}
 use Rattle.apt_meaning.proofs.Fed.{IsFed, fed}
 use Rattle.apt_meaning.proofs.Asked.{answered}
 use Rattle.apt_meaning.proofs.Kept.{kept, records_in}
-use Rattle.apt_meaning.proofs.Walk.{done, front_ok, nothing_left, fit}
+use Rattle.apt_meaning.proofs.Walk.{done, front_ok, nothing_left, fit, after_points, behind_step}
 use Rattle.apt_machine.specs.declared.machine.Machine.{Machine}
 use Rattle.apt_machine.specs.Machines.{IsMachine}
 use Rattle.apt_control.specs.declared.Act.{Act}
@@ -196,19 +196,21 @@ taken : (st : Step) (own : Option Case) (more : Option Refusal) → refused_by s
 taken st None more none = (refl, none)
 taken st (Some case) more none = absurd cc
 
-pub compiled_written : (machine : Machine) (p : Pending) (at : Situation) (steps : List Step) (written : List Record) → IsMachine machine → Agrees p at.settings → HasRoom at.settings
-    → IsSituation at → AreScalars steps → AreExecuted steps → limits machine steps ≡ None → compilation at steps ≡ Ok written → AreWritten p written
-compiled_written machine p at [] written is agrees room good numbers sources within h = rw (nothing_left written h) tt
-compiled_written machine p at (step ∷ steps) written is agrees room good numbers sources within h =
-    let d = done step (refusal_of at step.deed) (effect_of at step.deed)
-    (λ e. with_front (records_of step e (ends_of e)) (compilation (after at e (ends_of e)) steps)) written h in
+pub compiled_written : (machine : Machine) (p : Pending) (so_far : ℕ) (at : Situation) (steps : List Step) (written : List Record) → IsMachine machine → Agrees p at.settings → HasRoom at.settings
+    → IsSituation at → AreScalars steps → AreExecuted steps → limits machine steps ≡ None → compilation_behind so_far at steps ≡ Ok written → AreWritten p written
+compiled_written machine p so_far at [] written is agrees room good numbers sources within h = rw (nothing_left written h) tt
+compiled_written machine p so_far at (step ∷ steps) written is agrees room good numbers sources within h =
+    let d = done so_far step (refusal_of at step.deed) (effect_of at step.deed) (behind_step so_far at step steps) written h in
     let e = d.e in
+    let n = so_far + length (points_of e) in
+    let rs = effect_records e (points_of e) in
     let takes = taken step (first_of (machine_cases machine step.deed)) (limits machine steps) within in
     let ok = fit (effect_of at step.deed) e d.asked (answered at step.deed good numbers.0 sources.0.text d.fine) in
-    let f = front_ok (records_of step e (ends_of e)) (compilation (after at e (ends_of e)) steps) written d.rest in
-    let leaves = statement_written p step (effect_records e (ends_of e)) (after at e (ends_of e)).settings
-    (said_written machine p at step.deed e (ends_of e) is agrees room takes.0 (said_by at step.deed e d.asked) (fed at step.deed e d.asked (first_none (cases_of at step.deed) d.fine))
-    (without_statement step (effect_records e (ends_of e)) (records_in step e (ends_of e) sources.0 ok.good ok.ends))) in
-    let more = compiled_written machine (pending_behind p (records_of step e (ends_of e))) (after at e (ends_of e)) steps f.0 is leaves.agrees leaves.room
-    (kept at e (ends_of e) good ok.good ok.ends) numbers.1 sources.1 takes.1 f.1 in
-    rw f.2 (written-append p (records_of step e (ends_of e)) f.0 leaves.can more)
+    let f = front_ok (records_of step e (points_of e)) (compilation_behind n (after at e (ends_of e)) steps) written d.rest in
+    let same = sym (after_points at e ok.ends) in
+    let said = said_written machine p at step.deed e (points_of e) is agrees room takes.0 (said_by at step.deed e d.asked) (fed at step.deed e d.asked (first_none (cases_of at step.deed) d.fine))
+    (without_statement step rs (records_in step e (points_of e) sources.0 ok.good ok.within)) in
+    let leaves = subst (λ (x : Situation). Leaves p (records_of step e (points_of e)) x.settings) same (statement_written p step rs (after at e (points_of e)).settings said) in
+    let behind = subst IsSituation same (kept at e (points_of e) good ok.good ok.within) in
+    let more = compiled_written machine (pending_behind p (records_of step e (points_of e))) n (after at e (ends_of e)) steps f.0 is leaves.agrees leaves.room behind numbers.1 sources.1 takes.1 f.1 in
+    rw f.2 (written-append p (records_of step e (points_of e)) f.0 leaves.can more)

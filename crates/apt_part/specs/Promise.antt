@@ -1,5 +1,5 @@
 -- What holds of the steps of a text and of their records.
-use Rattle.std.specs.Prelude.{◌≡◌, ℕ, List, None, Ok}
+use Rattle.std.specs.Prelude.{◌≡◌, ◌≤◌, ℕ, List, None, Ok}
 use Rattle.apt_words.specs.declared.body.Stmt.{Stmt}
 use Rattle.apt_words.specs.declared.deed.Step.{Step}
 use Rattle.apt_words.specs.Built.{AreBuiltSteps}
@@ -7,11 +7,12 @@ use Rattle.apt_words.specs.Sources.{AreExecuted}
 use Rattle.apt_parse.specs.Programs.{program_of}
 use Rattle.apt_scalar.specs.StepScalars.{AreScalars}
 use Rattle.apt_unroll.specs.Trace.{IsTrace}
+use Rattle.apt_cldata.specs.Ranges.{vertex_count}
 use Rattle.apt_cldata.specs.Files.{IsFile}
 use Rattle.apt_meaning.specs.declared.situation.Situation.{Situation}
 use Rattle.apt_meaning.specs.Situations.{first_situation}
-use Rattle.apt_meaning.specs.Compiled.{first_refused, compilation}
-use Rattle.apt_meaning.specs.Records.{FollowsLegally, stand_of}
+use Rattle.apt_meaning.specs.Compiled.{first_refused, compilation, most_points}
+use Rattle.apt_meaning.specs.Records.{AreOwn, FollowsAs, FollowsLegally, stand_of}
 use Rattle.apt_machine.specs.declared.machine.Machine.{Machine}
 use Rattle.apt_post.specs.Limits.{limits}
 use Rattle.apt_post.specs.Plan.{plan, positions, points}
@@ -26,13 +27,15 @@ pub record Passes (machine : Machine) (text : List ℕ) (steps : List Step) : Ty
   pub within : limits machine steps ≡ None
   pub fine : first_refused first_situation steps ≡ None
 
--- the records follow the steps, every contour legal; they leave the tool where the steps have it, and are those of a CL file; the acts that
--- they ask for lead where they lead, and are a program of a control
+-- the records follow the steps; every contour is legal, and its vertices are the compiler's own, not too many in all; the records leave the
+-- tool where the steps have it, and are those of a CL file; the acts that they ask for lead where they lead, and are a program of a control
 pub record Promise (machine : Machine) (text : List ℕ) (p : Compiled) : Type 0 where
   pub passes : Passes machine text p.steps
   pub compiled : compilation first_situation p.steps ≡ Ok p.records
   pub behind : Situation
   pub follow : FollowsLegally first_situation p.steps p.records behind
+  pub own : FollowsAs AreOwn first_situation p.steps p.records behind
+  pub few : vertex_count p.records ≤ most_points
   pub stands : stand_of None p.records ≡ behind.position
   pub file : IsFile p.records
   pub reached : positions (plan p.records) ≡ points p.records

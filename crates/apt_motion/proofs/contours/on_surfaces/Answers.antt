@@ -1,4 +1,4 @@
-use Rattle.std.proofs.Common.{◌∙◌, ap, sym}
+use Rattle.std.proofs.Common.{◌∙◌, ap}
 use Rattle.apt_words.specs.Rows.{unless}
 use Rattle.apt_meaning.specs.Motions.{motion}
 use Rattle.apt_meaning.specs.Situations.{with_side}
@@ -10,7 +10,6 @@ pub returns-clause-motion : goal.returns-clause-motion
 returns-clause-motion c =
     let a = c.args in
     let at = a.at.now in
-    let x = c.in-Some.drive in
-    let value = c.turned_motion.ensures.value ∙ ap (λ s. unless (turn_cases s c.turn_at-turned.result) (motion s a.start x c.turn_at-turned.result a.how a.check.now)) c.with_side-settings.ensures
-    ∙ ap (λ turned. unless (turn_cases (with_side at.settings a.side) turned) (motion (with_side at.settings a.side) a.start x turned a.how a.check.now)) c.turn_at-turned.ensures in
-    turned_by at a.side a.go a.how a.start a.drive a.check.now x c.turned_motion.result (sym c.in-Some.ensures.value) value
+    let value = c.turned_motion.ensures.value ∙ ap (λ s. unless (turn_cases s c.turn_at-turned.result) (motion s a.start a.drive c.turn_at-turned.result a.how a.check.now)) c.with_side-settings.ensures
+    ∙ ap (λ turned. unless (turn_cases (with_side at.settings a.side) turned) (motion (with_side at.settings a.side) a.start a.drive turned a.how a.check.now)) c.turn_at-turned.ensures in
+    turned_by at a.side a.go a.how a.start a.drive a.check.now c.turned_motion.result value

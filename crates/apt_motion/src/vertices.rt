@@ -1,0 +1,83 @@
+//! The vertices of contours.
+
+ghost use Rattle.std.specs.Prelude.{◌≡◌, ◌<◌, ◌≤◌, ◌↔◌, [], ◌∷◌, length, map, IfOk, OnOk, IsErrOf};
+ghost use Rattle.apt_words.specs.Rows.{NoneHolds};
+ghost use Rattle.apt_arc.specs.Made.{divided};
+ghost use Rattle.apt_arc.specs.Ranges.{IsArc};
+ghost use Rattle.apt_meaning.specs.Motions.{contact, vertices_of};
+ghost use Rattle.apt_meaning.specs.Ranges.{IsMotion};
+ghost use Rattle.apt_meaning.specs.Refusals.{motion_cases};
+ghost use Rattle.apt_meaning.specs.Situations.{at_height};
+
+use apt_arc::{Arc, ArcError, chords};
+use apt_cldata::Position;
+use apt_meaning::Motion;
+use apt_plane::Pt;
+use std::alloc::{AllocError, Global};
+
+/// The vertices of a motion that no case refuses, at its height: its end along a line, and round a circle the ends of
+/// chords.
+///
+/// # Errors
+///
+/// `TooManyPoints` exactly where they are more than there is room for.
+pub(crate) fn vertices(
+    alloc: Global,
+    motion: &Motion,
+    end: Pt,
+    room: u64,
+) -> Result<Vec<Position>, ArcError>
+    requires motion { IsMotion motion.now }
+    requires none { NoneHolds (motion_cases motion.now) }
+    requires end { end ≡ contact motion.now }
+    ensures ok { IfOk result (λ at. at.items ≡ map (at_height motion.now.start.z) (vertices_of motion.now)) }
+    ensures few { OnOk result (length (vertices_of motion.now) ≤ room) }
+    ensures too_many { IsErrOf result ArcError.TooManyPoints ↔ (room < length (vertices_of motion.now)) }
+{
+    match motion.arc(end) {
+        None => end_alone(alloc, end, motion.start.z, room),
+        Some(arc) => ends_of_chords(alloc, &arc, motion.start.z, room),
+    }
+}
+
+/// The one vertex of a contour along a line.
+fn end_alone(alloc: Global, end: Pt, z: i64, room: u64) -> Result<Vec<Position>, ArcError>
+    ensures ok { IfOk result (λ at. at.items ≡ map (at_height z) (end ∷ [])) }
+    ensures few { OnOk result (length (end ∷ []) ≤ room) }
+    ensures too_many { IsErrOf result ArcError.TooManyPoints ↔ (room < length (end ∷ [])) }
+{
+    if room == 0 {
+        return Err(ArcError::TooManyPoints);
+    }
+    let Ok(mut at) = Vec::with_capacity(alloc, 1) else {
+        return Err(ArcError::NoMemory);
+    };
+    at.push_reserved(Position { at: end, z });
+    Ok(at)
+}
+
+/// The vertices round a circle.
+fn ends_of_chords(alloc: Global, arc: &Arc, z: i64, room: u64) -> Result<Vec<Position>, ArcError>
+    requires { IsArc arc.now }
+    ensures ok { IfOk result (λ at. at.items ≡ map (at_height z) (divided arc.now)) }
+    ensures few { OnOk result (length (divided arc.now) ≤ room) }
+    ensures too_many { IsErrOf result ArcError.TooManyPoints ↔ (room < length (divided arc.now)) }
+{
+    let mut points = Vec::new(alloc);
+    chords(arc, room, &mut points)?;
+    match all_at(alloc, &points, z) {
+        Ok(at) => Ok(at),
+        Err(_) => Err(ArcError::NoMemory),
+    }
+}
+
+/// Points at a height.
+fn all_at(alloc: Global, points: &[Pt], z: i64) -> Result<Vec<Position>, AllocError>
+    ensures { IfOk result (λ at. at.items ≡ map (at_height z) points.now) }
+{
+    let mut at = Vec::with_capacity(alloc, points.len())?;
+    'points: for p in points {
+        at.push_reserved(Position { at: *p, z });
+    }
+    Ok(at)
+}
