@@ -24,7 +24,7 @@ use Rattle.apt_meaning.specs.declared.motion.Motion.{Motion}
 use Rattle.apt_meaning.specs.declared.effect.Effect.{Effect}
 use Rattle.apt_meaning.specs.declared.effect.Effect.TheVariants as effects
 use Rattle.apt_meaning.specs.Situations.{with_side}
-use Rattle.apt_meaning.specs.Motions.{surface_in, line_in, motion, if_turned, motion_at}
+use Rattle.apt_meaning.specs.Motions.{surface_in, motion, if_turned, motion_at}
 use Rattle.apt_meaning.specs.StartUps.{start_position_at}
 use Rattle.apt_meaning.specs.Effects.{moves, cuts, place_in, names, defines, defined, moved_from, spins, effect_of}
 use Rattle.apt_meaning.specs.Records.{after}
@@ -145,7 +145,7 @@ like at stand forward (deeds.GotoXy x y z) = refl
 like at stand forward (deeds.GotoPoint p) = moves_like reaches.Goto (place_in at.table p) (place_in at.table p)
 like at stand forward (deeds.Godlta x y z) = moves_like reaches.Godlta (moved_from at x y z) (moved_from (elsewhere at stand forward) x y z)
 like at stand forward (deeds.GoStart how name other) = moves_like reaches.Start (start_position_at at how name other) (start_position_at (elsewhere at stand forward) how name other)
-like at stand forward (deeds.Contour side go drive how check) = contour_like (with_side at.settings side) at.forward forward go how at.position stand (line_in at.table drive) (surface_in at.table check)
+like at stand forward (deeds.Contour side go drive how check) = contour_like (with_side at.settings side) at.forward forward go how at.position stand (surface_in at.table drive) (surface_in at.table check)
 like at stand forward deeds.Rapid = (refl, refl)
 like at stand forward deeds.Halt = (refl, refl)
 like at stand forward deeds.OptHalt = (refl, refl)

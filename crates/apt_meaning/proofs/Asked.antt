@@ -1,5 +1,5 @@
--- A step that no case refuses has an effect in range, and a contour that it asks for is legal to its contact.
-use Rattle.std.proofs.Common.{◌≡◌, ℕ, ℤ, unsigned_abs, int_lt, not, Bool, true, false, List, [], ◌∷◌, Option, Some, None, is_none, IsSome, IfSome, Result, Ok, Err, IfOk, refl, cond, sym, ap, subst, ◌∙◌, pos, arith}
+-- A step that no case refuses has an effect in range, and a contour that it asks for is legal with its own vertices, to its contact.
+use Rattle.std.proofs.Common.{◌≡◌, ℕ, ℤ, unsigned_abs, int_lt, not, Bool, true, false, List, [], ◌∷◌, Option, Some, None, is_none, IsSome, IfSome, Result, Ok, Err, IfOk, refl, cond, sym, ap, subst, ◌∙◌, pos}
 use Rattle.std.proofs.lemmas.Bool.{true≢false}
 use Rattle.apt_num.specs.declared.Sign.{Sign}
 use Rattle.apt_words.specs.declared.Go.{Go}
@@ -18,14 +18,13 @@ use Rattle.apt_words.specs.Sources.{DeedHasText}
 use Rattle.apt_scalar.specs.Scalars.{IsScalar, grid_units, tenths, whole}
 use Rattle.apt_plane.specs.declared.figures.Pt.{Pt}
 use Rattle.apt_plane.specs.declared.figures.Surface.{Surface}
-use Rattle.apt_plane.specs.declared.figures.Surface.TheVariants as surfaces
 use Rattle.apt_plane.specs.Ranges.{IsPoint, IsSurface}
 use Rattle.apt_offset.specs.Turns.{is_zero}
 use Rattle.apt_startup.specs.declared.Goal.{Goal}
 use Rattle.apt_startup.specs.declared.StartUp.{StartUp}
 use Rattle.apt_startup.specs.StartUps.{start_up_cases, start_point}
 use Rattle.apt_startup.proofs.Limits.{start_point-is}
-use Rattle.apt_certify.specs.Jobs.{IsStraight}
+use Rattle.apt_certify.specs.Legs.{last_of}
 use Rattle.apt_cldata.specs.Ranges.{IsPosition, IsNote}
 use Rattle.apt_cldata.specs.declared.record.Note.{Note}
 use Rattle.apt_cldata.specs.declared.record.Note.TheVariants as notes
@@ -45,46 +44,59 @@ use Rattle.apt_meaning.specs.declared.situation.Situation.{Situation}
 use Rattle.apt_meaning.specs.declared.motion.Motion.{Motion}
 use Rattle.apt_meaning.specs.declared.effect.Effect.{Effect}
 use Rattle.apt_meaning.specs.declared.effect.Effect.TheVariants as effects
-use Rattle.apt_meaning.specs.OnLines.{built}
 use Rattle.apt_meaning.specs.Situations.{radius_of, lacks_feed, with_side, at_height}
-use Rattle.apt_meaning.specs.Motions.{as_surface, surface_in, line_in, turn_at, if_turned, motion, motion_at}
+use Rattle.apt_meaning.specs.Motions.{as_surface, surface_in, contact, vertices_of, turn_at, if_turned, motion, motion_at}
 use Rattle.apt_meaning.specs.StartUps.{goal_in, second_in, start_up_at, start_position, start_position_at}
 use Rattle.apt_meaning.specs.Effects.{moves, cuts, as_position, names, defines as gives, defined, position_by, moved_by, spins, effect_of}
-use Rattle.apt_meaning.specs.Refusals.{is_other_kind, is_left_out, is_no_place, refused, refused_if_any, refused_definition, position_cases, move_cases, motion_cases, turned_cases, surface_cases, contour_cases, start_cases, go_cases, cases_of, refusal_of}
-use Rattle.apt_meaning.specs.Records.{AreLegal, MayHave}
-use Rattle.apt_meaning.specs.Compiled.{ends_of}
-use Rattle.apt_meaning.specs.Ranges.{IsPositionOrNone, AreSettings, IsSituation, IsEffect}
-use Rattle.apt_meaning.specs.Straight.{IsStraightMotion}
+use Rattle.apt_meaning.specs.Refusals.{is_other_kind, is_no_place, refused, refused_if_any, refused_definition, position_cases, move_cases, motion_cases, turned_cases, surface_cases, contour_cases, start_cases, go_cases, cases_of, refusal_of}
+use Rattle.apt_meaning.specs.Records.{AreLegal, AreOwn, MayHave}
+use Rattle.apt_meaning.specs.Compiled.{points_of}
+use Rattle.apt_meaning.specs.Ranges.{IsPositionOrNone, AreSettings, IsSituation, IsMotion, IsEffect}
 use Rattle.apt_scalar.specs.StepScalars.{HasScalars}
 use Rattle.apt_meaning.specs.Vertices.{HasIn}
 use Rattle.apt_meaning.proofs.Refused.{first_none, none_first}
-use Rattle.apt_meaning.proofs.Legal.{motion_legal, motion_contact, motion_defined}
+use Rattle.apt_meaning.proofs.Legal.{motion_defined}
+use Rattle.apt_meaning.proofs.Cuts.{cut_is}
 use Rattle.apt_meaning.proofs.EffectRanges.{reach_in, up_to_in, tolerance_in, radius_in, feed_in, feed_note, whole_note, with_units, with_radius, with_intol, with_outtol, with_feed, with_rapid, with_ended, on_side, on_side_or_as_it_was, motion_is}
-use Rattle.apt_meaning.proofs.Straight.{line_straight, named_surface, straight_surface}
+use Rattle.apt_meaning.proofs.Contours.{named_surface}
 
--- an effect in range, whose contour is legal where it runs to its contact
+-- a contour ends at its contact
+abbrev pub EndsThere : Effect → Type 0
+EndsThere (effects.Defines n f) = Unit {0}
+EndsThere (effects.Sets s saying) = Unit {0}
+EndsThere (effects.Moves reach to) = Unit {0}
+EndsThere (effects.Cuts m) = last_of m.start.at (vertices_of m) ≡ contact m
+
+-- an effect in range, whose contour is legal with its own vertices, which end at its contact
+pub record IsFit (e : Effect) : Type 0 where
+  pub good : IsEffect e
+  pub legal : AreLegal e (points_of e)
+  pub own : AreOwn e (points_of e)
+  pub within : HasIn e (points_of e)
+  pub may : MayHave e (points_of e)
+  pub ends : EndsThere e
+
 pub record Asks (o : Option Effect) : Type 0 where
   pub e : Effect
   pub asked : o ≡ Some e
-  pub good : IsEffect e
-  pub legal : AreLegal e (ends_of e)
-  pub ends : HasIn e (ends_of e)
-  pub may : MayHave e (ends_of e)
+  pub fit : IsFit e
 
 defines : (n : List ℕ) (f : Figure) → IsFigure f → Asks (Some (effects.Defines n f))
-defines n f is = record { e = effects.Defines n f; asked = refl; good = is; legal = tt; ends = tt; may = refl }
+defines n f is = record { e = effects.Defines n f; asked = refl; fit = record { good = is; legal = tt; own = tt; within = tt; may = refl; ends = tt } }
 
 sets : (s : Settings) → AreSettings s → Asks (Some (effects.Sets s None))
-sets s is = record { e = effects.Sets s None; asked = refl; good = (is, tt); legal = tt; ends = tt; may = refl }
+sets s is = record { e = effects.Sets s None; asked = refl; fit = record { good = (is, tt); legal = tt; own = tt; within = tt; may = refl; ends = tt } }
 
 says : (s : Settings) (note : Note) → AreSettings s → IsNote note → Asks (Some (effects.Sets s (Some note)))
-says s note is said = record { e = effects.Sets s (Some note); asked = refl; good = (is, said); legal = tt; ends = tt; may = refl }
+says s note is said = record { e = effects.Sets s (Some note); asked = refl; fit = record { good = (is, said); legal = tt; own = tt; within = tt; may = refl; ends = tt } }
 
 moves_to : (reach : Reach) (to : Position) → IsPosition to → Asks (Some (effects.Moves reach to))
-moves_to reach to is = record { e = effects.Moves reach to; asked = refl; good = is; legal = tt; ends = tt; may = refl }
+moves_to reach to is = record { e = effects.Moves reach to; asked = refl; fit = record { good = is; legal = tt; own = tt; within = tt; may = refl; ends = tt } }
 
-cuts_on : (m : Motion) → IsStraightMotion m → NoneHolds (motion_cases m) → Asks (Some (effects.Cuts m))
-cuts_on m is none = record { e = effects.Cuts m; asked = refl; good = is.motion; legal = motion_legal m is none; ends = (omega arith, (motion_contact m is none, tt)); may = motion_defined m is none }
+cuts_on : (m : Motion) → IsMotion m → NoneHolds (motion_cases m) → Asks (Some (effects.Cuts m))
+cuts_on m is none =
+    let cut = cut_is m is none in
+    record { e = effects.Cuts m; asked = refl; fit = record { good = is; legal = cut.legal; own = cut.own; within = (cut.some, cut.points); may = motion_defined m is none; ends = cut.ends } }
 
 -- ---- definitions
 
@@ -117,20 +129,13 @@ still_there : {A B : Type 0} (o : Option A) (f : A → B) → is_none o ≡ fals
 still_there None f there = absurd (true≢false there)
 still_there (Some x) f there = refl
 
--- ---- points and lines by name
+-- ---- points and surfaces by name
 
 place_asks : (reach : Reach) (o : Option Figure) → IfSome o IsFigure → is_none o ≡ false → is_no_place o ≡ false → Asks (moves reach (o >>= as_position))
 place_asks reach None is there kind = absurd (true≢false there)
 place_asks reach (Some (figures.Point at z)) is there kind = moves_to reach (at_height z at) (record { at = is.at; z = is.z })
 place_asks reach (Some (figures.Shape s)) is there kind = absurd (true≢false kind)
 place_asks reach (Some figures.Scalar) is there kind = absurd (true≢false kind)
-
-line_there : (o : Option Figure) → is_none o ≡ false → is_other_kind o ≡ false → is_left_out (o >>= as_surface) ≡ false → is_none ((o >>= as_surface) >>= built) ≡ false
-line_there None there kind done = absurd (true≢false there)
-line_there (Some (figures.Point at z)) there kind done = absurd (true≢false kind)
-line_there (Some (figures.Shape (surfaces.Line l))) there kind done = refl
-line_there (Some (figures.Shape (surfaces.Circ c))) there kind done = absurd (true≢false done)
-line_there (Some figures.Scalar) there kind done = absurd (true≢false kind)
 
 surface_there : (o : Option Figure) → is_none o ≡ false → is_other_kind o ≡ false → is_none (o >>= as_surface) ≡ false
 surface_there None there kind = absurd (true≢false there)
@@ -190,16 +195,15 @@ unless_asks true o e asks = absurd (true≢false e)
 unless_asks false o e asks = asks
 
 turned_asks : (s : Settings) (start : Position) (drive : Surface) (turned : Sign) (how : Stop) (check : Surface)
-    → AreSettings s → IsPosition start → IsStraight drive → IsSurface check
+    → AreSettings s → IsPosition start → IsSurface drive → IsSurface check
     → NoneHolds (turned_cases s start drive turned how check) → Asks (cuts (if_turned s start drive turned how check))
 turned_asks s start drive turned how check is from d c none =
     let turns = none.1.1.1 in
     let m = motion s start drive turned how check in
-    let good : IsStraightMotion m = record { motion = motion_is s start drive turned how check is from (straight_surface drive d) c turns.0; drive = d } in
-    unless_asks (is_zero turned) (Some m) turns.0 (cuts_on m good turns.1)
+    unless_asks (is_zero turned) (Some m) turns.0 (cuts_on m (motion_is s start drive turned how check is from d c turns.0) turns.1)
 
 surfaces_ask : (at : Situation) (side : Option Side) (go : Go) (how : Stop) (p : Option Position) (d c : Option Surface)
-    → AreSettings at.settings → IsPositionOrNone p → IfSome d IsStraight → IfSome c IsSurface
+    → AreSettings at.settings → IsPositionOrNone p → IfSome d IsSurface → IfSome c IsSurface
     → is_none p ≡ false → is_none d ≡ false → is_none c ≡ false → NoneHolds (surface_cases at side go how p d c)
     → Asks (cuts (p >>= λ start. d >>= λ drive. c >>= λ check. if_turned (with_side at.settings side) start drive (turn_at at start drive go) how check))
 surfaces_ask at side go how None d c is is_p is_d is_c e f g none = absurd (true≢false e)
@@ -214,10 +218,9 @@ unfolding motion_at
 contour_asks at side go drive how check is none =
     let d = none.1 in
     let c = d.1.1 in
-    let built = c.1.1 in
-    surfaces_ask at side go how at.position (line_in at.table drive) (surface_in at.table check) is.settings is.position
-    (line_straight at.table drive is.table) (named_surface at.table check is.table)
-    none.0 (line_there (figure_named at.table drive) d.0 d.1.0 built.0) (surface_there (figure_named at.table check) c.0 c.1.0) built.1
+    surfaces_ask at side go how at.position (surface_in at.table drive) (surface_in at.table check) is.settings is.position
+    (named_surface at.table drive is.table) (named_surface at.table check is.table)
+    none.0 (surface_there (figure_named at.table drive) d.0 d.1.0) (surface_there (figure_named at.table check) c.0 c.1.0) c.1.1
 
 spindle_asks : (s : Settings) (v : ℤ) (turn : Turn) → AreSettings s → IsScalar v → not (is_turning turn) ≡ false → int_lt (whole v) (pos 1) ≡ false → Asks (spins s v turn)
 spindle_asks s v turns.Cw is number turning least = says s (notes.Spindl turns.Cw (whole v)) is (whole_note v number least)
@@ -296,4 +299,4 @@ same x y e = cc
 pub good : (at : Situation) (deed : Deed) (e : Effect) → effect_of at deed ≡ Some e → NoneHolds (cases_of at deed) → IsSituation at → HasScalars deed → DeedHasText deed → IsEffect e
 good at deed e asked none is numbers worded =
     let a = asks at deed is numbers worded none in
-    subst IsEffect (same a.e e (sym a.asked ∙ asked)) a.good
+    subst IsEffect (same a.e e (sym a.asked ∙ asked)) a.fit.good

@@ -198,8 +198,8 @@ wrong_kind = refl
 wrong_check : contour (at (record here { feed = pos 0; rapid = true; outtol = pos 7 }) on_track) turns.Left (codes "C1") stops.To (codes "A") ≡ Some cases.WrongKind
 wrong_check = refl
 
--- a circle is not built yet as the drive surface; as the check surface it is one like a line
-round_drive : contour (at (record here { feed = pos 0; rapid = true; outtol = pos 7 }) on_track) turns.Left (codes "C1") stops.To (codes "L2") ≡ Some cases.NotBuilt
+-- a circle is one like a line, as the drive surface and as the check surface
+round_drive : contour (at (record here { feed = pos 0; rapid = true; outtol = pos 7 }) on_track) turns.Left (codes "C1") stops.To (codes "L2") ≡ Some cases.RapidContour
 round_drive = refl
 
 round_check : contour (at (record here { feed = pos 0; rapid = true; outtol = pos 7 }) on_track) turns.Left (codes "L1") stops.To (codes "C1") ≡ Some cases.RapidContour
@@ -277,3 +277,32 @@ far_contact = refl
 fine : contour (at here on_track) turns.Forward (codes "L1") stops.To (codes "L2") ≡ None
 unfolding root
 fine = refl
+
+-- ---- round the circle, from its rightmost point: with the cutter on it, or to its left, which is inside
+
+abbrev on_circle : Option Position
+on_circle = Some (above (pos 10000) (pos 0))
+
+round_no_turn : contour (at (record here { side = sides.On }) on_circle) turns.Forward (codes "C1") stops.On (codes "L2") ≡ Some cases.NoTurn
+round_no_turn = refl
+
+-- the cutter is wider than the circle
+round_no_room : contour (at here on_circle) turns.Left (codes "C1") stops.On (codes "L1") ≡ Some cases.NoRoom
+round_no_room = refl
+
+round_off_drive : contour (at (record here { side = sides.On }) (Some (above (pos 10004) (pos 0)))) turns.Left (codes "C1") stops.On (codes "L1") ≡ Some cases.OffDrive
+round_off_drive = refl
+
+-- to circles about the same centre there is no contact
+round_itself : contour (at (record here { side = sides.On }) on_circle) turns.Left (codes "C1") stops.On (codes "C1") ≡ Some cases.Parallel
+unfolding root
+round_itself = refl
+
+round_apart : contour (at (record here { side = sides.On }) on_circle) turns.Left (codes "C1") stops.On (codes "L2") ≡ Some cases.NoContact
+unfolding root
+round_apart = refl
+
+-- half round, from the line through its centre to the same line
+round_fine : contour (at (record here { side = sides.On }) on_circle) turns.Left (codes "C1") stops.On (codes "L1") ≡ None
+unfolding root
+round_fine = refl

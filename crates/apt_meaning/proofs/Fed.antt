@@ -21,7 +21,7 @@ use Rattle.apt_meaning.specs.declared.motion.Motion.{Motion}
 use Rattle.apt_meaning.specs.declared.effect.Effect.{Effect}
 use Rattle.apt_meaning.specs.declared.effect.Effect.TheVariants as effects
 use Rattle.apt_meaning.specs.Situations.{has_feed, lacks_feed, with_side}
-use Rattle.apt_meaning.specs.Motions.{surface_in, line_in, turn_at, if_turned, motion_at}
+use Rattle.apt_meaning.specs.Motions.{surface_in, turn_at, if_turned, motion_at}
 use Rattle.apt_meaning.specs.StartUps.{start_position_at}
 use Rattle.apt_meaning.specs.Effects.{moves, cuts, place_in, names, defines, defined, position_by, moved_from, effect_of}
 use Rattle.apt_meaning.specs.Refusals.{move_cases, surface_cases, go_cases, cases_of}
@@ -124,7 +124,7 @@ all_fed at (deeds.GotoXy x y z) none = moves_fed at.settings reaches.Goto (Some 
 all_fed at (deeds.GotoPoint p) none = point_fed at.settings reaches.Goto (place_in at.table p) none.1.1.0
 all_fed at (deeds.Godlta x y z) none = moves_fed at.settings reaches.Godlta (moved_from at x y z) none.1
 all_fed at (deeds.GoStart how name other) none = go_fed at how name other none
-all_fed at (deeds.Contour side go drive how check) none = surfaces_fed at side go how at.position (line_in at.table drive) (surface_in at.table check) none.1.1.1.1.1.1
+all_fed at (deeds.Contour side go drive how check) none = surfaces_fed at side go how at.position (surface_in at.table drive) (surface_in at.table check) none.1.1.1.1.1
 all_fed at deeds.Rapid none = tt
 all_fed at deeds.Halt none = tt
 all_fed at deeds.OptHalt none = tt

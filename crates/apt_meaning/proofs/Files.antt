@@ -1,5 +1,5 @@
 -- The compiler's records fit a CL file: their words fit its lengths, they are few, and FINI stands last.
-use Rattle.std.proofs.Common.{◌≡◌, ℕ, ◌*◌, ◌≤◌, ℤ, pos, Bool, true, false, List, [], ◌∷◌, ◌++◌, length, Some, None, Ok, refl, subst, arith}
+use Rattle.std.proofs.Common.{◌≡◌, ℕ, ◌+◌, ◌*◌, ◌≤◌, ℤ, pos, Bool, true, false, List, [], ◌∷◌, ◌++◌, length, map, Some, None, Ok, refl, subst, arith}
 use Rattle.std.specs.Prelude.{MatchBool}
 use Rattle.std.proofs.lemmas.List.{length-map, length-append}
 use Rattle.apt_words.specs.declared.Side.{Side}
@@ -8,27 +8,28 @@ use Rattle.apt_words.specs.declared.Units.{Units}
 use Rattle.apt_words.specs.declared.deed.Deed.{Deed}
 use Rattle.apt_words.specs.declared.deed.Step.{Step}
 use Rattle.apt_words.specs.Sources.{DeedHasText, AreExecuted}
+use Rattle.apt_plane.specs.declared.figures.Pt.{Pt}
 use Rattle.apt_plane.specs.declared.figures.Surface.{Surface}
 use Rattle.apt_plane.specs.declared.figures.Surface.TheVariants as surfaces
-use Rattle.apt_cldata.specs.declared.record.Position.{Position}
 use Rattle.apt_cldata.specs.declared.record.Note.{Note}
 use Rattle.apt_cldata.specs.declared.record.Note.TheVariants as notes
 use Rattle.apt_cldata.specs.declared.record.Record.{Record}
 use Rattle.apt_cldata.specs.declared.record.Record.TheVariants as records
-use Rattle.apt_cldata.specs.Ranges.{Mark, Begin, End, Fini, Other, mark_of, EndsBy, EndsOnce}
+use Rattle.apt_cldata.specs.Ranges.{Mark, Begin, End, Fini, Other, mark_of, vertex_count, EndsBy, EndsOnce}
 use Rattle.apt_cldata.specs.Files.{is_fini_mark, HasFiniLast, IsShort, AreShort}
+use Rattle.apt_cldata.proofs.Conditions.{short_when}
 use Rattle.apt_meaning.specs.declared.situation.Situation.{Situation}
 use Rattle.apt_meaning.specs.declared.effect.Effect.{Effect}
 use Rattle.apt_meaning.specs.declared.effect.Effect.TheVariants as effects
 use Rattle.apt_meaning.specs.Situations.{at_height}
-use Rattle.apt_meaning.specs.Motions.{contact}
+use Rattle.apt_meaning.specs.Motions.{vertices_of}
 use Rattle.apt_meaning.specs.Effects.{effect_of}
 use Rattle.apt_meaning.specs.Refusals.{refusal_of}
 use Rattle.apt_meaning.specs.Records.{with_statement, effect_records, records_of, after}
-use Rattle.apt_meaning.specs.Compiled.{ends_of, with_front, compilation}
+use Rattle.apt_meaning.specs.Compiled.{ends_of, points_of, most_points, compilation_behind}
 use Rattle.apt_meaning.specs.Sayings.{IsNoteOf, IsSaidBy}
 use Rattle.apt_meaning.proofs.Said.{said_by}
-use Rattle.apt_meaning.proofs.Walk.{done, front_ok, nothing_left}
+use Rattle.apt_meaning.proofs.Walk.{done, front_ok, nothing_left, behind_step}
 
 -- ---- one record
 
@@ -60,28 +61,36 @@ check_short : (s : Surface) (how : Stop) → IsShort (records.Check s how)
 check_short (surfaces.Line l) how = omega arith
 check_short (surfaces.Circ c) how = omega arith
 
-one_vertex : (p : Position) → IsShort (records.Contour (p ∷ []))
-one_vertex p = omega arith
+-- and a contour the vertices that a program may have
+contour_short : (z : ℤ) (vertices : List Pt) → length vertices ≤ most_points → IsShort (records.Contour (map (at_height z) vertices))
+contour_short z vertices few = short_when (records.Contour (map (at_height z) vertices)) (omega (arith, few, length-map vertices (at_height z)))
 
--- ---- the records of a step: short ones, and at most four
+-- ---- the records of a step: short ones, at most four, with its vertices
 
-effect_short : (at : Situation) (deed : Deed) (e : Effect) → DeedHasText deed → IsSaidBy at deed e → AreShort (effect_records e (ends_of e))
-effect_short at deed (effects.Defines n f) titled said = tt
-effect_short at deed (effects.Sets s None) titled said = tt
-effect_short at deed (effects.Sets s (Some note)) titled said = (note_short at.settings.units deed note titled said.said, tt)
-effect_short at deed (effects.Moves reach to) titled said = (omega arith, tt)
-effect_short at deed (effects.Cuts m) titled said = (drive_short m.drive m.side m.sense, (check_short m.check m.how, (one_vertex (at_height m.start.z (contact m)), tt)))
+effect_short : (at : Situation) (deed : Deed) (e : Effect) (vertices : List Pt) → DeedHasText deed → IsSaidBy at deed e → length vertices ≤ most_points → AreShort (effect_records e vertices)
+effect_short at deed (effects.Defines n f) vertices titled said few = tt
+effect_short at deed (effects.Sets s None) vertices titled said few = tt
+effect_short at deed (effects.Sets s (Some note)) vertices titled said few = (note_short at.settings.units deed note titled said.said, tt)
+effect_short at deed (effects.Moves reach to) vertices titled said few = (omega arith, tt)
+effect_short at deed (effects.Cuts m) vertices titled said few = (drive_short m.drive m.side m.sense, (check_short m.check m.how, (contour_short m.start.z vertices few, tt)))
 
 with_statement-short : (step : Step) (rs : List Record) → AreShort rs → AreShort (with_statement step rs)
 with_statement-short step [] are = tt
 with_statement-short step (r ∷ rs) are = (omega arith, are)
 
-few_records : (step : Step) (e : Effect) → length (records_of step e (ends_of e)) ≤ 4
-few_records step (effects.Defines n f) = omega arith
-few_records step (effects.Sets s None) = omega arith
-few_records step (effects.Sets s (Some note)) = omega arith
-few_records step (effects.Moves reach to) = omega arith
-few_records step (effects.Cuts m) = omega arith
+few_records : (step : Step) (e : Effect) (vertices : List Pt) → length (records_of step e vertices) ≤ 4
+few_records step (effects.Defines n f) vertices = omega arith
+few_records step (effects.Sets s None) vertices = omega arith
+few_records step (effects.Sets s (Some note)) vertices = omega arith
+few_records step (effects.Moves reach to) vertices = omega arith
+few_records step (effects.Cuts m) vertices = omega arith
+
+step_vertices : (step : Step) (e : Effect) → vertex_count (records_of step e (points_of e)) ≡ length (points_of e)
+step_vertices step (effects.Defines n f) = refl
+step_vertices step (effects.Sets s None) = refl
+step_vertices step (effects.Sets s (Some note)) = refl
+step_vertices step (effects.Moves reach to) = refl
+step_vertices step (effects.Cuts m) = omega (arith, length-map (vertices_of m) (at_height m.start.z))
 
 -- ---- the records of all steps
 
@@ -89,21 +98,38 @@ short-append : (xs ys : List Record) → AreShort xs → AreShort ys → AreShor
 short-append [] ys are more = more
 short-append (x ∷ xs) ys are more = (are.0, short-append xs ys are.1 more)
 
-abbrev pub Fit : List Step → List Record → Type 0
-Fit steps written = AreShort written × (length written ≤ 4 * length steps)
+vertex_count-append : (xs ys : List Record) → vertex_count (xs ++ ys) ≡ vertex_count xs + vertex_count ys
+vertex_count-append [] ys = omega arith
+vertex_count-append (x ∷ xs) ys = omega (arith, vertex_count-append xs ys)
 
-fit_behind : (steps : List Step) (step : Step) (front rest : List Record) → AreShort front → length front ≤ 4 → Fit steps rest → Fit (step ∷ steps) (front ++ rest)
-fit_behind steps step front rest are few more = (short-append front rest are more.0, omega (arith, few, more.1, length-append front rest))
+-- the records of steps behind so many vertices fit a file
+pub record Fit (so_far : ℕ) (steps : List Step) (written : List Record) : Type 0 where
+  pub short : AreShort written
+  pub number : length written ≤ 4 * length steps
+  pub vertices : so_far + vertex_count written ≤ most_points
 
-pub compiled_fit : (at : Situation) (steps : List Step) (written : List Record) → AreExecuted steps → compilation at steps ≡ Ok written → Fit steps written
-compiled_fit at [] written executed h = rw (nothing_left written h) (tt, omega arith)
-compiled_fit at (step ∷ steps) written executed h =
-    let d = done step (refusal_of at step.deed) (effect_of at step.deed)
-    (λ e. with_front (records_of step e (ends_of e)) (compilation (after at e (ends_of e)) steps)) written h in
+fit_behind : (so_far : ℕ) (steps : List Step) (step : Step) (e : Effect) (rest : List Record) → AreShort (records_of step e (points_of e)) → Fit (so_far + length (points_of e)) steps rest
+    → Fit so_far (step ∷ steps) (records_of step e (points_of e) ++ rest)
+fit_behind so_far steps step e rest are more =
+    let front = records_of step e (points_of e) in record {
+      short = short-append front rest are more.short;
+      number = omega (arith, few_records step e (points_of e), more.number, length-append front rest);
+      vertices = omega (arith, vertex_count-append front rest, step_vertices step e, more.vertices);
+    }
+
+few_points : (so_far n : ℕ) → so_far + n ≤ most_points → n ≤ most_points
+few_points so_far n h = omega (arith, h)
+
+pub compiled_fit : (so_far : ℕ) (at : Situation) (steps : List Step) (written : List Record) → so_far ≤ most_points → AreExecuted steps → compilation_behind so_far at steps ≡ Ok written
+    → Fit so_far steps written
+compiled_fit so_far at [] written few executed h = rw (nothing_left written h) (record { short = tt; number = omega arith; vertices = omega (arith, few) })
+compiled_fit so_far at (step ∷ steps) written few executed h =
+    let d = done so_far step (refusal_of at step.deed) (effect_of at step.deed) (behind_step so_far at step steps) written h in
     let e = d.e in
-    let f = front_ok (records_of step e (ends_of e)) (compilation (after at e (ends_of e)) steps) written d.rest in
-    let short = with_statement-short step (effect_records e (ends_of e)) (effect_short at step.deed e executed.0.text (said_by at step.deed e d.asked)) in
-    rw f.2 (fit_behind steps step (records_of step e (ends_of e)) f.0 short (few_records step e) (compiled_fit (after at e (ends_of e)) steps f.0 executed.1 f.1))
+    let n = so_far + length (points_of e) in
+    let f = front_ok (records_of step e (points_of e)) (compilation_behind n (after at e (ends_of e)) steps) written d.rest in
+    let short = effect_short at step.deed e (points_of e) executed.0.text (said_by at step.deed e d.asked) (few_points so_far (length (points_of e)) d.few) in
+    rw f.2 (fit_behind so_far steps step e f.0 (with_statement-short step (effect_records e (points_of e)) short) (compiled_fit n (after at e (ends_of e)) steps f.0 d.few executed.1 f.1))
 
 -- ---- the end
 

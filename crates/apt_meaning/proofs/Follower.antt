@@ -1,5 +1,5 @@
 -- A situation that agrees with the compiler's at the same step, and is left in range by records in range.
-use Rattle.std.proofs.Common.{◌≡◌, ◌≤◌, ℤ, arith, List, [], ◌∷◌, ◌++◌, length, map, Some, None, subst}
+use Rattle.std.proofs.Common.{◌≡◌, ◌≤◌, ℤ, arith, List, [], ◌∷◌, ◌++◌, length, map, Some, None, sym, subst}
 use Rattle.apt_words.specs.Sources.{DeedHasText}
 use Rattle.apt_words.specs.declared.deed.Step.{Step}
 use Rattle.apt_scalar.specs.StepScalars.{HasScalars}
@@ -15,16 +15,15 @@ use Rattle.apt_meaning.specs.Situations.{first_situation, at_height}
 use Rattle.apt_meaning.specs.Effects.{effect_of}
 use Rattle.apt_meaning.specs.Refusals.{refusal_of}
 use Rattle.apt_meaning.specs.Records.{records_of, after}
-use Rattle.apt_meaning.specs.Compiled.{ends_of, first_refused}
-use Rattle.apt_meaning.specs.Ranges.{AreSettings, IsNoteOrNone, IsSituation, IsEffect}
-use Rattle.apt_meaning.specs.Straight.{IsLined}
+use Rattle.apt_meaning.specs.Compiled.{ends_of, points_of, first_refused}
+use Rattle.apt_meaning.specs.Ranges.{AreSettings, IsNoteOrNone, IsSituation, IsEffect, HasMotion}
 use Rattle.apt_meaning.specs.Vertices.{HasIn}
 use Rattle.apt_meaning.proofs.Agree.{Agrees, AreLike, alike, agrees_behind, agrees_first}
 use Rattle.apt_meaning.proofs.Asked.{answered}
 use Rattle.apt_meaning.proofs.Kept.{kept, first_situation-IsSituation}
 use Rattle.apt_meaning.proofs.Said.{of_some}
-use Rattle.apt_meaning.proofs.Straight.{made}
-use Rattle.apt_meaning.proofs.Walk.{fit, passed}
+use Rattle.apt_meaning.proofs.Contours.{made}
+use Rattle.apt_meaning.proofs.Walk.{fit, passed, after_points}
 
 -- ---- what records in range say of their effect
 
@@ -58,23 +57,23 @@ says_in step (effects.Cuts m) vertices rest are =
     record { leads = tt; within = (some_points m.start.z vertices contour.0, points_in m.start.z vertices contour.1); later = are.1.1.1.1 }
 
 -- an effect like one in range
-effect_in : (e d : Effect) → AreLike e d → IsEffect e → IsLined d → LeadsIn d → IsEffect d
-effect_in (effects.Defines n f) (effects.Defines m g) same good lined leads = subst IsFigure same.1 good
-effect_in (effects.Defines n f) (effects.Sets t said) same good lined leads = absurd same
-effect_in (effects.Defines n f) (effects.Moves reach to) same good lined leads = absurd same
-effect_in (effects.Defines n f) (effects.Cuts o) same good lined leads = absurd same
-effect_in (effects.Sets s say) (effects.Defines m g) same good lined leads = absurd same
-effect_in (effects.Sets s say) (effects.Sets t said) same good lined leads = (subst AreSettings same.0 good.0, subst IsNoteOrNone same.1 good.1)
-effect_in (effects.Sets s say) (effects.Moves reach to) same good lined leads = absurd same
-effect_in (effects.Sets s say) (effects.Cuts o) same good lined leads = absurd same
-effect_in (effects.Moves how from) (effects.Defines m g) same good lined leads = absurd same
-effect_in (effects.Moves how from) (effects.Sets t said) same good lined leads = absurd same
-effect_in (effects.Moves how from) (effects.Moves reach to) same good lined leads = leads
-effect_in (effects.Moves how from) (effects.Cuts o) same good lined leads = absurd same
-effect_in (effects.Cuts m) (effects.Defines n g) same good lined leads = absurd same
-effect_in (effects.Cuts m) (effects.Sets t said) same good lined leads = absurd same
-effect_in (effects.Cuts m) (effects.Moves reach to) same good lined leads = absurd same
-effect_in (effects.Cuts m) (effects.Cuts o) same good lined leads = lined.motion
+effect_in : (e d : Effect) → AreLike e d → IsEffect e → HasMotion d → LeadsIn d → IsEffect d
+effect_in (effects.Defines n f) (effects.Defines m g) same good motion leads = subst IsFigure same.1 good
+effect_in (effects.Defines n f) (effects.Sets t said) same good motion leads = absurd same
+effect_in (effects.Defines n f) (effects.Moves reach to) same good motion leads = absurd same
+effect_in (effects.Defines n f) (effects.Cuts o) same good motion leads = absurd same
+effect_in (effects.Sets s say) (effects.Defines m g) same good motion leads = absurd same
+effect_in (effects.Sets s say) (effects.Sets t said) same good motion leads = (subst AreSettings same.0 good.0, subst IsNoteOrNone same.1 good.1)
+effect_in (effects.Sets s say) (effects.Moves reach to) same good motion leads = absurd same
+effect_in (effects.Sets s say) (effects.Cuts o) same good motion leads = absurd same
+effect_in (effects.Moves how from) (effects.Defines m g) same good motion leads = absurd same
+effect_in (effects.Moves how from) (effects.Sets t said) same good motion leads = absurd same
+effect_in (effects.Moves how from) (effects.Moves reach to) same good motion leads = leads
+effect_in (effects.Moves how from) (effects.Cuts o) same good motion leads = absurd same
+effect_in (effects.Cuts m) (effects.Defines n g) same good motion leads = absurd same
+effect_in (effects.Cuts m) (effects.Sets t said) same good motion leads = absurd same
+effect_in (effects.Cuts m) (effects.Moves reach to) same good motion leads = absurd same
+effect_in (effects.Cuts m) (effects.Cuts o) same good motion leads = motion
 
 -- ---- the walk beside the compiler's
 
@@ -99,7 +98,7 @@ keeps_up_first steps passes = record {
 -- a step whose effect, with these vertices, is in range, and what holds behind it
 pub record StepsOn (at : Situation) (steps : List Step) (e : Effect) (vertices : List Pt) (rest : List Record) : Type 0 where
   pub good : IsEffect e
-  pub lined : IsLined e
+  pub motion : HasMotion e
   pub within : HasIn e vertices
   pub behind : KeepsUp (after at e vertices) steps
   pub later : AreRecords rest
@@ -113,19 +112,19 @@ steps_on at step steps written d us rest keeps numbers worded are asked front =
     let does = passed step (refusal_of c step.deed) (effect_of c step.deed) (λ e. first_refused (after c e (ends_of e)) steps) beside.passes in
     let e = does.e in
     let fits = fit (effect_of c step.deed) e does.asked (answered c step.deed beside.situation numbers worded does.fine) in
-    let lined = of_some IsLined (effect_of at step.deed) d asked (made at step.deed keeps.situation) in
+    let motion = of_some HasMotion (effect_of at step.deed) d asked (made at step.deed keeps.situation) in
     let says = says_in step d us rest (subst AreRecords front are) in
-    let good = effect_in e d (alike c at step.deed e d beside.agrees does.asked asked) fits.good lined says.leads in
+    let good = effect_in e d (alike c at step.deed e d beside.agrees does.asked asked) fits.good motion says.leads in
     record {
       good = good;
-      lined = lined;
+      motion = motion;
       within = says.within;
       behind = record {
         situation = kept at d us keeps.situation good says.within;
         beside = record {
           c = after c e (ends_of e);
           passes = does.rest;
-          situation = kept c e (ends_of e) beside.situation fits.good fits.ends;
+          situation = subst IsSituation (sym (after_points c e fits.ends)) (kept c e (points_of e) beside.situation fits.good fits.within);
           agrees = agrees_behind c at step.deed e d (ends_of e) us beside.agrees does.asked asked;
         };
       };

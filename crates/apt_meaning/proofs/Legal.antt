@@ -1,46 +1,42 @@
--- A contour along a line that no case refuses is legal, its contact is a point, and all that it asks for is there.
-use Rattle.std.proofs.Common.{◌≡◌, refl, sym, ap, ◌∙◌, ℤ, pos, ◌+ℤ◌, ◌*ℤ◌, Bool, true, false, not, [], ◌∷◌, Option, Some, None, is_some, arith}
+-- A contour along a line that no case refuses is legal, and all that a contour asks for that no case refuses is there.
+use Rattle.std.proofs.Common.{◌≡◌, refl, sym, ap, ◌∙◌, pos, Bool, true, false, not, [], ◌∷◌, Option, Some, None, is_some, arith}
 use Rattle.std.specs.Prelude.{◌&&◌, ◌||◌}
 use Rattle.std.proofs.lemmas.Int.{ints}
 use Rattle.std.proofs.lemmas.Bool.{true≢false, not-false}
 use Rattle.apt_num.specs.declared.Sign.{Sign}
 use Rattle.apt_num.specs.declared.Sign.TheVariants as signs
-use Rattle.apt_num.proofs.Ring.{as_diff, diff-same, differences}
 use Rattle.apt_words.specs.declared.Stop.TheVariants as stops
 use Rattle.apt_words.specs.Rows.{NoneHolds}
 use Rattle.apt_plane.specs.declared.figures.Pt.{Pt}
-use Rattle.apt_plane.specs.declared.figures.Dir.{Dir}
 use Rattle.apt_plane.specs.declared.figures.Line.{Line}
 use Rattle.apt_plane.specs.declared.figures.Band.{Band}
 use Rattle.apt_plane.specs.declared.figures.Axis.{Axis}
 use Rattle.apt_plane.specs.declared.figures.Surface.{Surface}
 use Rattle.apt_plane.specs.declared.figures.Surface.TheVariants as surfaces
-use Rattle.apt_plane.specs.Ranges.{IsPoint}
-use Rattle.apt_plane.specs.Vectors.{scaled, displacement, dot}
+use Rattle.apt_plane.specs.Vectors.{scaled, displacement}
 use Rattle.apt_plane.specs.Distances.{InBand, EveryPoint}
 use Rattle.apt_plane.proofs.SegmentLaws.{in_band-between}
 use Rattle.apt_offset.specs.Edges as edges
 use Rattle.apt_offset.specs.Edges.{widened}
 use Rattle.apt_offset.specs.Sides.{side_at_tangency}
 use Rattle.apt_offset.specs.Turns.{is_zero}
-use Rattle.apt_offset.specs.Targets.{signed, lacks_room, band_at}
+use Rattle.apt_offset.specs.Targets.{signed, lacks_room}
 use Rattle.apt_stop.specs.declared.course.Course.{Course}
-use Rattle.apt_stop.specs.Nearness.{is_near, heading, off_track}
-use Rattle.apt_stop.specs.Courses.{is_tanto, kept_side, axis_of, end_of, course_cases}
+use Rattle.apt_stop.specs.Nearness.{is_near, off_track}
+use Rattle.apt_stop.specs.Courses.{is_tanto, kept_side, axis_of}
 use Rattle.apt_stop.specs.Ends.{IsOnAxisOf, EndsOnLine}
 use Rattle.apt_stop.specs.Ranges.{IsCourse}
 use Rattle.apt_stop.proofs.NearLaws.{near-OnLine}
-use Rattle.apt_stop.proofs.Chosen.{bound_there, end_is_point}
+use Rattle.apt_stop.proofs.Chosen.{bound_there}
+use Rattle.apt_stop.proofs.Tracks.{heading_dot}
 use Rattle.apt_stop.proofs.Ended.{course_ends}
 use Rattle.apt_certify.specs.declared.leg.Leg.{Leg}
-use Rattle.apt_certify.specs.Jobs.{IsStraight}
-use Rattle.apt_certify.specs.Legs.{beyond_of, IsBounded, IsWithinEdge, IsOnAxisOrNone, IsLegal}
+use Rattle.apt_certify.specs.Legs.{beyond_of, IsBounded, IsOnAxisOrNone}
 use Rattle.apt_meaning.specs.declared.motion.Motion.{Motion}
 use Rattle.apt_meaning.specs.Motions.{track_of, stop_of, drive_side, check_side, starts_on_check, course_of, stop_side, contact, leg_of, has_track, has_bound, is_defined}
 use Rattle.apt_meaning.specs.Refusals.{motion_cases}
 use Rattle.apt_meaning.specs.Ranges.{IsMotion}
 use Rattle.apt_meaning.specs.Records.{IsLegalCut}
-use Rattle.apt_meaning.specs.Straight.{IsStraightMotion}
 use Rattle.apt_meaning.proofs.Bands.{near_surface}
 use Rattle.apt_meaning.proofs.Edges.{kept_before}
 
@@ -53,7 +49,7 @@ second_false : (on lacks : Bool) → on ≡ false → (not on && lacks) ≡ fals
 second_false false lacks e f = f
 second_false true lacks e f = absurd (true≢false e)
 
-stop_room : (m : Motion) → NoneHolds (motion_cases m) → lacks_room (stop_of m) ≡ false
+pub stop_room : (m : Motion) → NoneHolds (motion_cases m) → lacks_room (stop_of m) ≡ false
 stop_room m none = second_false (starts_on_check m) (lacks_room (stop_of m)) none.1.1.1.0 none.1.0
 
 pub course_in_range : (m : Motion) → IsMotion m → lacks_room (track_of m) ≡ false → lacks_room (stop_of m) ≡ false → is_near (track_of m) off_track m.start.at ≡ true → IsCourse (course_of m)
@@ -76,7 +72,7 @@ course_in_range m is track stop near = record {
   near = near;
 }
 
-course_is : (m : Motion) → IsMotion m → NoneHolds (motion_cases m) → IsCourse (course_of m)
+pub course_is : (m : Motion) → IsMotion m → NoneHolds (motion_cases m) → IsCourse (course_of m)
 course_is m is none = course_in_range m is none.0 (stop_room m none) (not-false _ none.1.1.0)
 
 -- ---- it is bounded
@@ -93,36 +89,30 @@ beyond_is_zero (surfaces.Line l) signs.Zero = refl
 beyond_is_zero (surfaces.Line l) signs.Minus = refl
 beyond_is_zero (surfaces.Circ c) side = refl
 
-leg_bounded : (m : Motion) → has_bound m ≡ true → IsBounded (leg_of m)
+pub leg_bounded : (m : Motion) → has_bound m ≡ true → IsBounded (leg_of m)
 leg_bounded m there =
     edge_bounded (leg_of m) (beyond_of m.check (stop_side m)) (axis_of (course_of m)) refl refl
     (ap (λ b. not b || is_some (axis_of (course_of m))) (beyond_is_zero m.check (stop_side m)) ∙ there)
 
 -- ---- its tests hold
 
-heading_dot : (sense : ℤ) (d u : Dir) → dot (heading sense d) u ≡ sense *ℤ dot d u
-heading_dot sense d u = ring sense d.dx d.dy u.dx u.dy
-  where
-    ring : (s dx dy ux uy : ℤ) → ((s *ℤ dx) *ℤ ux) +ℤ ((s *ℤ dy) *ℤ uy) ≡ s *ℤ ((dx *ℤ ux) +ℤ (dy *ℤ uy))
-    ring s dx dy ux uy = rw (as_diff s, as_diff dx, as_diff dy, as_diff ux, as_diff uy) (simp differences (diff-same _ _ _ _ (omega arith)))
-
 -- where there is no side there is no edge
-no_edge : (check : Surface) (band : Band) (side : Sign) (p q : Pt) → side ≡ signs.Zero → EveryPoint p q (edges.IsWithinEdge check band (beyond_of check side))
+pub no_edge : (check : Surface) (band : Band) (side : Sign) (p q : Pt) → side ≡ signs.Zero → EveryPoint p q (edges.IsWithinEdge check band (beyond_of check side))
 no_edge (surfaces.Line l) band side p q e = rw e (λ j k h. tt)
 no_edge (surfaces.Circ c) band side p q e = rw e (λ j k h. tt)
 
-no_side : (c : Course) → is_tanto c.how ≡ true → kept_side c ≡ signs.Zero
+pub no_side : (c : Course) → is_tanto c.how ≡ true → kept_side c ≡ signs.Zero
 no_side c e = rw e refl
 
-no_axis : (c : Course) → is_tanto c.how ≡ false → axis_of c ≡ None
+pub no_axis : (c : Course) → is_tanto c.how ≡ false → axis_of c ≡ None
 no_axis c e = rw e refl
 
-on_axis : (axis : Option Axis) (q : Pt) → IsOnAxisOf axis q → IsOnAxisOrNone axis q
+pub on_axis : (axis : Option Axis) (q : Pt) → IsOnAxisOf axis q → IsOnAxisOrNone axis q
 on_axis (Some axis) q on = on
 on_axis None q on = absurd on
 
 -- a motion along a line
-abbrev along : Motion → Line → Motion
+abbrev pub along : Motion → Line → Motion
 along m d = record m { drive = surfaces.Line d }
 
 -- how it ends, by whether it touches
@@ -151,7 +141,7 @@ ends_at_stop : (m : Motion) (d : Line) (q : Pt) (tanto : Bool) → is_tanto m.ho
 ends_at_stop m d q false e is ends = meets m d q is e ends
 ends_at_stop m d q true e is ends = touches m d q is e ends
 
-line_legal : (m : Motion) (d : Line) → IsMotion (along m d) → NoneHolds (motion_cases (along m d)) → IsLegalCut (along m d) (contact (along m d) ∷ [])
+pub line_legal : (m : Motion) (d : Line) → IsMotion (along m d) → NoneHolds (motion_cases (along m d)) → IsLegalCut (along m d) (contact (along m d) ∷ [])
 line_legal m d is none =
     let course = course_is (along m d) is none in
     let ends : EndsOnLine (course_of (along m d)) d.dir (contact (along m d)) = course_ends (course_of (along m d)) course none.1.1.1.1 in
@@ -167,18 +157,6 @@ line_legal m d is none =
       };
     }
 
-legal_on : (m : Motion) (drive : Surface) → IsStraight drive → IsMotion (record m { drive = drive }) → NoneHolds (motion_cases (record m { drive = drive }))
-    → IsLegalCut (record m { drive = drive }) (contact (record m { drive = drive }) ∷ [])
-legal_on m (surfaces.Line d) straight is none = line_legal m d is none
-legal_on m (surfaces.Circ d) straight is none = absurd straight
-
--- a motion that no case refuses is legal, and its contact is a point
-pub motion_legal : (m : Motion) → IsStraightMotion m → NoneHolds (motion_cases m) → IsLegalCut m (contact m ∷ [])
-motion_legal m is none = legal_on m m.drive is.drive is.motion none
-
-pub motion_contact : (m : Motion) → IsStraightMotion m → NoneHolds (motion_cases m) → IsPoint (contact m)
-motion_contact m is none = end_is_point (course_of m) none.1.1.1.1
-
 -- ---- what it asks for is there
 
 all_there : (a b c d : Bool) → a ≡ false → b ≡ false → c ≡ false → d ≡ true → (not a && (not b && not c && d)) ≡ true
@@ -188,10 +166,10 @@ all_there false false true d e f g h = absurd (true≢false g)
 all_there false true c d e f g h = absurd (true≢false f)
 all_there true b c d e f g h = absurd (true≢false e)
 
-pub motion_defined : (m : Motion) → IsStraightMotion m → NoneHolds (motion_cases m) → is_defined m ≡ true
+pub motion_defined : (m : Motion) → IsMotion m → NoneHolds (motion_cases m) → is_defined m ≡ true
 motion_defined m is none =
     all_there (lacks_room (track_of m)) (starts_on_check m) (lacks_room (stop_of m)) (has_bound m)
-    none.0 none.1.1.1.0 (stop_room m none) (bound_there (course_of m) (course_is m is.motion none) none.1.1.1.1)
+    none.0 none.1.1.1.0 (stop_room m none) (bound_there (course_of m) (course_is m is none) none.1.1.1.1)
 
 -- a motion whose stop is there has an edge that it must not pass, or an axis
 fourth_there : (a b c d : Bool) → (a && (not b && not c && d)) ≡ true → d ≡ true

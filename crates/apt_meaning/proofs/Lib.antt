@@ -1,6 +1,11 @@
 pub mod Bands
 pub mod Edges
 pub mod Legal
+pub mod Arcs
+pub mod Starts
+pub mod Overruns
+pub mod Rounds
+pub mod Cuts
 pub mod Plates
 pub mod Said
 pub mod Defined
@@ -13,7 +18,7 @@ pub mod Stands
 pub mod Walk
 pub mod Begins
 pub mod Moving
-pub mod Straight
+pub mod Contours
 pub mod Agree
 pub mod Follower
 pub mod Ends

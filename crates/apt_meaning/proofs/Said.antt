@@ -26,7 +26,7 @@ use Rattle.apt_meaning.specs.declared.motion.Motion.{Motion}
 use Rattle.apt_meaning.specs.declared.effect.Effect.{Effect}
 use Rattle.apt_meaning.specs.declared.effect.Effect.TheVariants as effects
 use Rattle.apt_meaning.specs.Situations.{with_side}
-use Rattle.apt_meaning.specs.Motions.{surface_in, line_in, turn_at, if_turned, motion, motion_at}
+use Rattle.apt_meaning.specs.Motions.{surface_in, turn_at, if_turned, motion, motion_at}
 use Rattle.apt_meaning.specs.StartUps.{start_position_at}
 use Rattle.apt_meaning.specs.Effects.{moves, cuts, place_in, names, defines, defined, moved_from, spins, effect_of}
 use Rattle.apt_words.specs.ProgramEnds.{is_ended}
@@ -124,7 +124,7 @@ told at (deeds.GotoXy x y z) = refl
 told at (deeds.GotoPoint p) = moves_said at (deeds.GotoPoint p) reaches.Goto (place_in at.table p) refl
 told at (deeds.Godlta x y z) = moves_said at (deeds.Godlta x y z) reaches.Godlta (moved_from at x y z) refl
 told at (deeds.GoStart how name other) = moves_said at (deeds.GoStart how name other) reaches.Start (start_position_at at how name other) refl
-told at (deeds.Contour side go drive how check) = contour_said at (deeds.Contour side go drive how check) side go how at.position (line_in at.table drive) (surface_in at.table check) refl refl
+told at (deeds.Contour side go drive how check) = contour_said at (deeds.Contour side go drive how check) side go how at.position (surface_in at.table drive) (surface_in at.table check) refl refl
 told at deeds.Rapid = record { said = refl; settings = refl }
 told at deeds.Halt = record { said = refl; settings = refl }
 told at deeds.OptHalt = record { said = refl; settings = refl }

@@ -1,5 +1,5 @@
 -- The compiler's walk over steps, on which every contour runs to its contact: the first step that is refused, and the records.
-use Rattle.std.specs.Prelude.{List, [], ◌∷◌, ◌++◌, Option, Some, None, Result, Ok, Err}
+use Rattle.std.specs.Prelude.{ℕ, ◌+◌, nat_lt, List, [], ◌∷◌, ◌++◌, length, Option, Some, None, Result, Ok, Err, if◌then◌else◌}
 use Rattle.apt_plane.specs.declared.figures.Pt.{Pt}
 use Rattle.apt_words.specs.declared.Case.{Case}
 use Rattle.apt_words.specs.declared.Case.TheVariants as cases
@@ -9,7 +9,7 @@ use Rattle.apt_cldata.specs.declared.record.Record.{Record}
 use Rattle.apt_meaning.specs.declared.situation.Situation.{Situation}
 use Rattle.apt_meaning.specs.declared.effect.Effect.{Effect}
 use Rattle.apt_meaning.specs.declared.effect.Effect.TheVariants as effects
-use Rattle.apt_meaning.specs.Motions.{contact}
+use Rattle.apt_meaning.specs.Motions.{contact, vertices_of}
 use Rattle.apt_meaning.specs.Effects.{effect_of}
 use Rattle.apt_meaning.specs.Refusals.{refusal_of}
 use Rattle.apt_meaning.specs.Records.{records_of, after}
@@ -20,14 +20,30 @@ ends_of (effects.Sets s saying) = []
 ends_of (effects.Moves reach to) = []
 ends_of (effects.Cuts m) = contact m ∷ []
 
+-- the vertices that it writes
+abbrev pub points_of : Effect → List Pt
+points_of (effects.Defines n f) = []
+points_of (effects.Sets s saying) = []
+points_of (effects.Moves reach to) = []
+points_of (effects.Cuts m) = vertices_of m
+
 abbrev pub refused_at : Step → Case → Refusal
 refused_at step case = record { line = step.line; step = step.step; case = case }
 
--- what a step asks for, or the first case that refuses it
+-- what a step asks for, or the first case that refuses it; no step is without a case and without an effect
 abbrev pub asked : Option Case → Option Effect → Result Effect Case
 asked (Some case) e = Err case
-asked None None = Err cases.NotBuilt
+asked None None = Err cases.Undefined
 asked None (Some e) = Ok e
+
+-- a program has at most so many vertices of contours
+abbrev pub most_points : ℕ
+most_points = 500000
+
+-- the same, behind so many vertices
+abbrev pub asked_within : ℕ → Result Effect Case → Result Effect Case
+asked_within so_far (Err case) = Err case
+asked_within so_far (Ok e) = if nat_lt most_points (so_far + length (points_of e)) then Err cases.TooManyPoints else Ok e
 
 -- ---- the steps alone
 
@@ -51,9 +67,12 @@ abbrev pub with_front : List Record → Result (List Record) Refusal → Result 
 with_front front (Ok rest) = Ok (front ++ rest)
 with_front front (Err refusal) = Err refusal
 
--- the records of all steps, or the first step that a case refuses
+-- the records of all steps behind so many vertices, or the first step that a case refuses, or that has too many
+abbrev pub compilation_behind : ℕ → Situation → List Step → Result (List Record) Refusal
+compilation_behind so_far at [] = Ok []
+compilation_behind so_far at (step ∷ steps) =
+    or_refused step (asked_within so_far (asked (refusal_of at step.deed) (effect_of at step.deed)))
+    (λ e. with_front (records_of step e (points_of e)) (compilation_behind (so_far + length (points_of e)) (after at e (ends_of e)) steps))
+
 abbrev pub compilation : Situation → List Step → Result (List Record) Refusal
-compilation at [] = Ok []
-compilation at (step ∷ steps) =
-    or_refused step (asked (refusal_of at step.deed) (effect_of at step.deed))
-    (λ e. with_front (records_of step e (ends_of e)) (compilation (after at e (ends_of e)) steps))
+compilation at steps = compilation_behind 0 at steps

@@ -1,7 +1,6 @@
 -- What a step asks for, wherever the figures and the turn that it needs are there.
 use Rattle.std.specs.Prelude.{ℕ, ℤ, pos, ◌+ℤ◌, unsigned_abs, true, List, Option, Some, None, Result, Ok, Err}
 use Rattle.apt_words.specs.declared.Case.{Case}
-use Rattle.apt_words.specs.declared.Stop.{Stop}
 use Rattle.apt_words.specs.declared.Turn.{Turn}
 use Rattle.apt_words.specs.declared.Turn.TheVariants as turns
 use Rattle.apt_words.specs.declared.Units.{Units}

@@ -1,4 +1,3 @@
-pub mod OnLines
 pub mod Situations
 pub mod Motions
 pub mod StartUps
@@ -7,7 +6,6 @@ pub mod Refusals
 pub mod Records
 pub mod Compiled
 pub mod Ranges
-pub mod Straight
 pub mod Vertices
 pub mod Sayings
 pub mod Expectations

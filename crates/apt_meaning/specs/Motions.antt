@@ -1,11 +1,9 @@
 -- Contour motions: the parts of one at a situation, its leg, and where it stops.
-use Rattle.std.specs.Prelude.{ℤ, pos, int_lt, ◌&&◌, ◌||◌, not, Bool, is_some, List, ℕ, Option, Some, None, if◌then◌else◌}
+use Rattle.std.specs.Prelude.{ℤ, pos, ◌-ℤ◌, ◌/◌, unsigned_abs, int_lt, int_le, ◌&&◌, ◌||◌, not, Bool, is_some, List, [], ◌∷◌, ℕ, Option, Some, None, if◌then◌else◌}
 use Rattle.apt_num.specs.declared.Sign.{Sign}
-use Rattle.apt_num.specs.declared.Sign.TheVariants as signs
 use Rattle.apt_words.specs.declared.Go.{Go}
 use Rattle.apt_words.specs.declared.Side.{Side}
 use Rattle.apt_words.specs.declared.Stop.{Stop}
-use Rattle.apt_words.specs.declared.Stop.TheVariants as stops
 use Rattle.apt_words.specs.Options.{◌>>=◌}
 use Rattle.apt_plane.specs.declared.figures.Pt.{Pt}
 use Rattle.apt_plane.specs.declared.figures.Surface.{Surface}
@@ -13,18 +11,22 @@ use Rattle.apt_defs.specs.declared.figure.Figure.{Figure}
 use Rattle.apt_defs.specs.declared.figure.Figure.TheVariants as figures
 use Rattle.apt_defs.specs.Figures.{Table, figure_named}
 use Rattle.apt_offset.specs.declared.Target.{Target}
+use Rattle.apt_offset.specs.declared.Target.TheVariants as targets
 use Rattle.apt_offset.specs.Turns.{tangent, turn, is_zero}
 use Rattle.apt_offset.specs.Sides.{side_at_drive, side_at_check, is_on_check}
 use Rattle.apt_offset.specs.Targets.{signed, greater, offset_surface, lacks_room, band_at}
+use Rattle.apt_contact.specs.Meetings.{circle_about}
 use Rattle.apt_stop.specs.declared.course.Course.{Course}
+use Rattle.apt_stop.specs.Tangencies.{axis_towards}
 use Rattle.apt_stop.specs.Courses.{kept_side, axis_of, end_of}
+use Rattle.apt_arc.specs.declared.arc.Arc.{Arc}
+use Rattle.apt_arc.specs.Made.{divided}
 use Rattle.apt_certify.specs.declared.leg.Leg.{Leg}
 use Rattle.apt_certify.specs.Legs.{beyond_of}
 use Rattle.apt_cldata.specs.declared.record.Position.{Position}
 use Rattle.apt_meaning.specs.declared.situation.Settings.{Settings}
 use Rattle.apt_meaning.specs.declared.situation.Situation.{Situation}
 use Rattle.apt_meaning.specs.declared.motion.Motion.{Motion}
-use Rattle.apt_meaning.specs.OnLines.{built}
 use Rattle.apt_meaning.specs.Situations.{with_side}
 
 -- ---- the parts of a motion
@@ -44,10 +46,6 @@ as_surface figures.Scalar = None
 -- the surface that a name stands for
 abbrev pub surface_in : Table → List ℕ → Option Surface
 surface_in table name = figure_named table name >>= as_surface
-
--- the same, where it is a line
-abbrev pub line_in : Table → List ℕ → Option Surface
-line_in table name = surface_in table name >>= built
 
 -- a motion with these settings, along a drive surface that runs so against forward
 abbrev pub motion : Settings → Position → Surface → Sign → Stop → Surface → Motion
@@ -123,6 +121,36 @@ has_stop m = not (starts_on_check m) && not (lacks_room (stop_of m)) && has_boun
 abbrev pub is_defined : Motion → Bool
 is_defined m = has_track m && has_stop m
 
+-- ---- the vertices that the compiler gives it
+
+abbrev pub lesser : ℤ → ℤ → ℤ
+lesser a b = if int_le a b then a else b
+
+-- how far its chords may lie inside of its track: the drive's own inner margin, at most a quarter of the radius
+abbrev pub sag : Motion → ℤ → ℤ
+sag m r = lesser (r -ℤ (leg_of m).band.lo) (pos (unsigned_abs r / 4))
+
+abbrev pub arc_on : Motion → Pt → ℤ → Arc
+arc_on m c r = record { track = circle_about c r; sense = m.sense; axis = axis_towards c m.check; sag = sag m r; start = m.start.at; end = contact m }
+
+-- the arc along which it runs, none along a line
+abbrev pub arc_along : Motion → Target → Option Arc
+arc_along m (targets.Line b d h) = None
+arc_along m (targets.Circ c r) = Some (arc_on m c r)
+
+abbrev pub arc_of : Motion → Option Arc
+arc_of m = arc_along m (track_of m)
+
+-- its end alone along a line, and round a circle those of the arc's division
+abbrev pub vertices_on : Motion → Target → List Pt
+vertices_on m (targets.Line b d h) = contact m ∷ []
+vertices_on m (targets.Circ c r) = divided (arc_on m c r)
+
+abbrev pub vertices_of : Motion → List Pt
+vertices_of m = vertices_on m (track_of m)
+
+-- ---- the motion of a statement
+
 abbrev pub if_turned : Settings → Position → Surface → Sign → Stop → Surface → Option Motion
 if_turned s start drive turned how check = if is_zero turned then None else Some (motion s start drive turned how check)
 
@@ -130,10 +158,10 @@ if_turned s start drive turned how check = if is_zero turned then None else Some
 abbrev pub turn_at : Situation → Position → Surface → Go → Sign
 turn_at at start drive go = turn at.forward (tangent drive start.at) go
 
--- the motion that a contour statement asks for, where its names stand for a line and a surface and its sense is there
+-- the motion that a contour statement asks for, where its names stand for surfaces and its sense is there
 unfoldable pub motion_at : Situation → Option Side → Go → List ℕ → Stop → List ℕ → Option Motion
 motion_at at side go drive how check = do
   start ← at.position
-  drive ← line_in at.table drive
+  drive ← surface_in at.table drive
   check ← surface_in at.table check
   if_turned (with_side at.settings side) start drive (turn_at at start drive go) how check

@@ -61,3 +61,10 @@ IsEffect (effects.Defines n f) = IsFigure f
 IsEffect (effects.Sets s saying) = AreSettings s × IsNoteOrNone saying
 IsEffect (effects.Moves reach to) = IsPosition to
 IsEffect (effects.Cuts m) = IsMotion m
+
+-- the motion of a contour is in range
+abbrev pub HasMotion : Effect → Type 0
+HasMotion (effects.Defines n f) = Unit {0}
+HasMotion (effects.Sets s saying) = Unit {0}
+HasMotion (effects.Moves reach to) = Unit {0}
+HasMotion (effects.Cuts m) = IsMotion m

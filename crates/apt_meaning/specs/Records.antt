@@ -8,13 +8,16 @@ use Rattle.apt_cldata.specs.declared.record.Position.{Position}
 use Rattle.apt_defs.specs.Figures.{table_with}
 use Rattle.apt_offset.specs.Turns.{tangent}
 use Rattle.apt_stop.specs.Nearness.{heading}
+use Rattle.apt_offset.specs.declared.Target.{Target}
+use Rattle.apt_offset.specs.declared.Target.TheVariants as targets
+use Rattle.apt_arc.specs.Divisions.{IsDivision}
 use Rattle.apt_certify.specs.Legs.{IsBounded, IsLegal, last_of}
 use Rattle.apt_meaning.specs.declared.situation.Situation.{Situation}
 use Rattle.apt_meaning.specs.declared.motion.Motion.{Motion}
 use Rattle.apt_meaning.specs.declared.effect.Effect.{Effect}
 use Rattle.apt_meaning.specs.declared.effect.Effect.TheVariants as effects
 use Rattle.apt_meaning.specs.Situations.{settings_behind, forward_behind, at_height}
-use Rattle.apt_meaning.specs.Motions.{leg_of, is_defined}
+use Rattle.apt_meaning.specs.Motions.{track_of, contact, arc_on, leg_of, is_defined}
 use Rattle.apt_meaning.specs.Effects.{effect_of}
 
 -- ---- what an effect writes and leaves; only a contour has vertices, those of its leg behind the start
@@ -87,6 +90,19 @@ AreLegal (effects.Cuts m) vertices = IsLegalCut m vertices
 -- records follow steps, and every contour is legal
 abbrev pub FollowsLegally : Situation → List Step → List Record → Situation → Type 0
 FollowsLegally at steps written behind = FollowsAs AreLegal at steps written behind
+
+-- ---- the compiler's own vertices
+
+-- its end alone along a line, and round a circle a division of its arc
+abbrev pub IsOwnOn : Motion → Target → List Pt → Type 0
+IsOwnOn m (targets.Line b d h) vertices = vertices ≡ contact m ∷ []
+IsOwnOn m (targets.Circ c r) vertices = IsDivision (arc_on m c r) vertices
+
+abbrev pub AreOwn : Effect → List Pt → Type 0
+AreOwn (effects.Defines n f) vertices = Unit {0}
+AreOwn (effects.Sets s saying) vertices = Unit {0}
+AreOwn (effects.Moves reach to) vertices = Unit {0}
+AreOwn (effects.Cuts m) vertices = IsOwnOn m (track_of m) vertices
 
 -- ---- where records leave the tool, read off them alone
 

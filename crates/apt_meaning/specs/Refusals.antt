@@ -28,9 +28,8 @@ use Rattle.apt_cldata.specs.declared.record.Position.{Position}
 use Rattle.apt_meaning.specs.declared.situation.Settings.{Settings}
 use Rattle.apt_meaning.specs.declared.situation.Situation.{Situation}
 use Rattle.apt_meaning.specs.declared.motion.Motion.{Motion}
-use Rattle.apt_meaning.specs.OnLines.{built}
 use Rattle.apt_meaning.specs.Situations.{has_feed, lacks_feed, with_side}
-use Rattle.apt_meaning.specs.Motions.{motion, is_too_fine, as_surface, surface_in, line_in, turn_at, track_of, stop_of, starts_on_check, course_of}
+use Rattle.apt_meaning.specs.Motions.{motion, is_too_fine, as_surface, surface_in, turn_at, track_of, stop_of, starts_on_check, course_of}
 use Rattle.apt_meaning.specs.StartUps.{start_up_at}
 use Rattle.apt_meaning.specs.Effects.{as_position, position_by, moved_by}
 
@@ -65,14 +64,6 @@ is_other_kind (Some figure) = is_none (as_surface figure)
 
 abbrev pub is_no_surface : Table → List ℕ → Bool
 is_no_surface table name = is_other_kind (figure_named table name)
-
--- it stands for a surface that is not built
-abbrev pub is_left_out : Option Surface → Bool
-is_left_out None = false
-is_left_out (Some surface) = is_none (built surface)
-
-abbrev pub is_not_built : Table → List ℕ → Bool
-is_not_built table name = is_left_out (surface_in table name)
 
 -- it stands for something that is no point
 abbrev pub is_no_place : Option Figure → Bool
@@ -158,8 +149,7 @@ abbrev pub contour_cases : Situation → Option Side → Go → List ℕ → Sto
 contour_cases at side go drive how check =
     (is_none at.position, cases.NoFrom)
     ∷ name_cases at.table drive (name_cases at.table check
-    ((is_not_built at.table drive, cases.NotBuilt)
-    ∷ surface_cases at side go how at.position (line_in at.table drive) (surface_in at.table check)))
+    (surface_cases at side go how at.position (surface_in at.table drive) (surface_in at.table check)))
 
 -- ---- the table of statements
 
@@ -208,7 +198,7 @@ cases_of at deeds.OptHalt = []
 cases_of at deeds.EndWord = []
 cases_of at deeds.Fini = []
 cases_of at (deeds.Fedrat v) = under_one (tenths v) ∷ []
-cases_of at (deeds.Spindl v turn) = (not (is_turning turn), cases.NotBuilt) ∷ under_one (whole v) ∷ []
+cases_of at (deeds.Spindl v turn) = (not (is_turning turn), cases.OutOfRange) ∷ under_one (whole v) ∷ []
 cases_of at deeds.SpindlOff = []
 cases_of at (deeds.Coolnt c) = []
 cases_of at (deeds.Loadtl v) = under_one (whole v) ∷ []

@@ -12,15 +12,12 @@ ghost use Rattle.apt_scalar.specs.StepScalars.{HasScalars, IsScalarOrNone};
 ghost use Rattle.apt_startup.specs.Ranges.{IsStartUp};
 ghost use Rattle.apt_cldata.specs.declared.record.Note.TheVariants as notes;
 ghost use Rattle.apt_meaning.specs.Effects as asking;
-ghost use Rattle.apt_meaning.specs.Ranges.{IsSituation};
+ghost use Rattle.apt_meaning.specs.Ranges.{IsSituation, HasMotion};
 ghost use Rattle.apt_meaning.specs.Situations as situations;
 ghost use Rattle.apt_meaning.specs.StartUps as start_ups;
-ghost use Rattle.apt_meaning.specs.Straight.{IsLined};
 
 use crate::start_up::start_up_at;
-use crate::{
-    Effect, Motion, Situation, line_in, moved_by, place_in, position_by, surface_in, turn_at,
-};
+use crate::{Effect, Motion, Situation, moved_by, place_in, position_by, surface_in, turn_at};
 use apt_cldata::{Note, Position, Reach};
 use apt_defs::definition;
 use apt_offset::signs::is_zero;
@@ -34,15 +31,15 @@ use std::alloc::AllocError;
 /// behind it, with the note that says so, where it has one; the position to which it leads, and how; or the
 /// motion of a contour, from the position on. Lengths and coordinates are in grid units by the units that hold,
 /// feeds in tenths. None where a definition is refused, a FROM or a GOTO names no point, a GODLTA, a GO or a contour
-/// has no position to start from, a name of GO stands for no surface or one of a contour for no line, a case refuses
-/// the point of GO, or a contour has no turn.
-#[tactic(auto, using(crate::proofs::Straight::lined))]
+/// has no position to start from, a name of GO or of a contour stands for no surface, a case refuses the point of GO, or a
+/// contour has no turn. Where a move leads may be out of range; a contour's motion is in range.
+#[tactic(auto, using(crate::proofs::Contours::motion_in))]
 pub fn effect_of(at: &Situation, deed: &Deed) -> Result<Option<Effect>, AllocError>
     requires situation { IsSituation at.now }
     requires scalars { HasScalars deed.now }
     requires built { IsBuilt deed.now }
     ensures value { IfOk result (λ e. e ≡ asking.effect_of at.now deed.now) }
-    ensures lined { IfOk result (λ e. IfSome e IsLined) }
+    ensures motion { IfOk result (λ e. IfSome e HasMotion) }
 {
     asked(at, deed)
 }
@@ -256,7 +253,7 @@ fn contour(
     ensures { result ≡ asking.effect_of at.now (deeds.Contour side go drive.now how check.now) }
 {
     let start = at.position?;
-    let drive = line_in(&at.table, drive)?;
+    let drive = surface_in(&at.table, drive)?;
     let check = surface_in(&at.table, check)?;
     let settings = at.settings.with_side(side);
     let turned = turn_at(at.forward, start, &drive, go);

@@ -16,4 +16,4 @@ pub use effects::effect_of;
 pub use motion::{Motion, is_too_fine, turn_at};
 pub use moves::{moved_by, position_by};
 pub use situation::{Settings, Situation};
-pub use surface::{built, line_in, place_in, position_of, surface_in, surface_of};
+pub use surface::{place_in, position_of, surface_in, surface_of};

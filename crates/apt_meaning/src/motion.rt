@@ -1,20 +1,24 @@
 //! Motions.
 
-ghost use Rattle.std.specs.Prelude.{◌≡◌, false, pos};
+ghost use Rattle.std.specs.Prelude.{◌≡◌, ◌^◌, ◌/◌, ◌≤ℤ◌, ◌-ℤ◌, unsigned_abs, false, pos, IfSome};
+ghost use Rattle.apt_words.specs.Rows.{NoneHolds};
 ghost use Rattle.apt_plane.specs.Ranges.{IsSurface, IsSense};
-ghost use Rattle.apt_offset.specs.Ranges.{IsTarget, IsTolerance};
+ghost use Rattle.apt_arc.specs.Ranges.{IsArc};
+ghost use Rattle.apt_offset.specs.Ranges.{IsTarget, IsCircleTarget, IsTolerance};
 ghost use Rattle.apt_offset.specs.Targets as targets;
 ghost use Rattle.apt_offset.specs.Turns as turns;
 ghost use Rattle.apt_cldata.specs.Ranges.{IsPosition};
 ghost use Rattle.apt_meaning.specs.Motions as motions;
 ghost use Rattle.apt_meaning.specs.Ranges.{AreSettings, IsForward, IsAllowance, IsMotion};
+ghost use Rattle.apt_meaning.specs.Refusals as refusals;
 
 use crate::Settings;
+use apt_arc::Arc;
 use apt_cldata::Position;
 use apt_num::Sign;
-use apt_offset::{Target, offset_surface, side_at_check, side_at_drive, tangent, turn};
-use apt_plane::{Dir, Surface};
-use apt_stop::Course;
+use apt_offset::{Target, band_at, offset_surface, side_at_check, side_at_drive, tangent, turn};
+use apt_plane::{Circ, Dir, Pt, Surface};
+use apt_stop::{Course, axis_towards};
 use apt_words::{Go, Side, Stop};
 
 /// A grid step, in grid units.
@@ -122,6 +126,82 @@ impl Motion {
             stop: self.stop(),
         }
     }
+
+    /// The arc along which it runs to its end, where its track is a circle. Where no case refuses the motion, the arc can
+    /// be divided.
+    #[tactic(auto, using(crate::proofs::Arcs::arc_in))]
+    pub fn arc(&self, end: Pt) -> Option<Arc>
+        requires motion { IsMotion self.now }
+        requires room { targets.lacks_room (motions.track_of self.now) ≡ false }
+        requires end { end ≡ motions.contact self.now }
+        ensures value { result ≡ motions.arc_of self.now }
+        ensures range { NoneHolds (refusals.motion_cases self.now) → IfSome result IsArc }
+    {
+        self.arc_to(end)
+    }
+
+    fn arc_to(&self, end: Pt) -> Option<Arc>
+        requires motion { IsMotion self.now }
+        requires room { targets.lacks_room (motions.track_of self.now) ≡ false }
+        requires end { end ≡ motions.contact self.now }
+        ensures { result ≡ motions.arc_of self.now }
+    {
+        match self.track() {
+            Target::Line { .. } => None,
+            Target::Circ { c, r } => Some(self.arc_about(c, r, end)),
+        }
+    }
+
+    fn arc_about(&self, c: Pt, r: i64, end: Pt) -> Arc
+        requires motion { IsMotion self.now }
+        requires track { IsCircleTarget c r }
+        requires end { end ≡ motions.contact self.now }
+        ensures { result ≡ motions.arc_on self.now c r }
+    {
+        Arc {
+            track: Circ { c, r },
+            sense: self.sense,
+            axis: axis_towards(c, &self.check),
+            sag: self.sag(r),
+            start: self.start.at,
+            end,
+        }
+    }
+
+    /// How far chords may lie inside of a track of this radius.
+    fn sag(&self, r: i64) -> i64
+        requires motion { IsMotion self.now }
+        requires least { pos 100 ≤ℤ r }
+        requires most { r ≤ℤ pos (10 ^ 8) }
+        ensures { result ≡ motions.sag self.now r }
+    {
+        lesser(self.inner_margin(r), quarter(r))
+    }
+
+    /// How far inside of a track of this radius the drive band reaches.
+    fn inner_margin(&self, r: i64) -> i64
+        requires motion { IsMotion self.now }
+        requires least { pos 100 ≤ℤ r }
+        requires most { r ≤ℤ pos (10 ^ 8) }
+        ensures { result ≡ r -ℤ (motions.leg_of self.now).band.lo }
+    {
+        let band = band_at(
+            &self.drive,
+            self.drive_side(),
+            self.radius,
+            self.inner,
+            self.outer,
+        );
+        r - band.lo
+    }
+}
+
+/// A quarter of a length.
+fn quarter(r: i64) -> i64
+    requires { pos 0 ≤ℤ r }
+    ensures { result ≡ pos (unsigned_abs r / 4) }
+{
+    (r.unsigned_abs() / 4) as i64
 }
 
 /// How a drive surface runs at the start against forward.
@@ -166,4 +246,10 @@ fn allowance(tolerance: i64) -> i64
     } else {
         tolerance
     }
+}
+
+fn lesser(a: i64, b: i64) -> i64
+    ensures { result ≡ motions.lesser a b }
+{
+    if a <= b { a } else { b }
 }

@@ -2,12 +2,10 @@
 
 ghost use Rattle.std.specs.Prelude.{◌≡◌, IfSome};
 ghost use Rattle.apt_plane.specs.Ranges.{IsSurface};
-ghost use Rattle.apt_certify.specs.Jobs.{IsStraight};
 ghost use Rattle.apt_cldata.specs.Ranges.{IsPosition};
 ghost use Rattle.apt_defs.specs.Figures.{IsFigure};
 ghost use Rattle.apt_meaning.specs.Effects as asking;
 ghost use Rattle.apt_meaning.specs.Motions as motions;
-ghost use Rattle.apt_meaning.specs.OnLines as lines;
 
 use apt_cldata::Position;
 use apt_defs::{Figure, Table};
@@ -26,20 +24,6 @@ pub fn surface_of(figure: Figure) -> Option<Surface>
     }
 }
 
-/// A drive surface that is built so far: a line.
-#[tactic(auto, using(crate::proofs::Straight::straight_surfaces))]
-pub fn built(surface: Surface) -> Option<Surface>
-    requires { IsSurface surface }
-    ensures value { result ≡ lines.built surface }
-    ensures straight { IfSome result IsStraight }
-    ensures range { IfSome result IsSurface }
-{
-    match surface {
-        Surface::Line(line) => Some(Surface::Line(line)),
-        Surface::Circ(_) => None,
-    }
-}
-
 /// The surface that a name stands for.
 pub fn surface_in(table: &Table, name: &Symbol) -> Option<Surface>
     ensures value { result ≡ motions.surface_in table.now name.now }
@@ -48,18 +32,6 @@ pub fn surface_in(table: &Table, name: &Symbol) -> Option<Surface>
     match table.get(name) {
         None => None,
         Some(figure) => surface_of(figure),
-    }
-}
-
-/// The line that a name stands for.
-pub fn line_in(table: &Table, name: &Symbol) -> Option<Surface>
-    ensures value { result ≡ motions.line_in table.now name.now }
-    ensures straight { IfSome result IsStraight }
-    ensures range { IfSome result IsSurface }
-{
-    match surface_in(table, name) {
-        None => None,
-        Some(surface) => built(surface),
     }
 }
 
