@@ -45,7 +45,7 @@ next_departs : (x : Expectation) (xs : List Expectation) (written : List Record)
     → Departs xs rest k → Departs (x ∷ xs) written (suc k)
 next_departs x xs written vs rest k next departs = rw next.split ((vs, next.met), departs)
 
-next_if : (b : Bool) (due : Record) (written : List Record) (vs : List Pt) (rest : List Record) → IsNext (exactly_if b due) written vs rest → (b ≡ true) × (written ≡ due ∷ rest)
+pub next_if : (b : Bool) (due : Record) (written : List Record) (vs : List Pt) (rest : List Record) → IsNext (exactly_if b due) written vs rest → (b ≡ true) × (written ≡ due ∷ rest)
 next_if true due written vs rest next = (refl, next.split ∙ ap (λ (r : Record). r ∷ rest) next.met.0)
 next_if false due written vs rest next = absurd next.met
 

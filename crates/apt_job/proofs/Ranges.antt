@@ -1,5 +1,5 @@
 -- Jobs are in the range in which they are judged.
-use Rattle.std.proofs.Common.{◌≡◌, ◌≤◌, ◌+◌, ◌^◌, ◌==◌, ℕ, zero, suc, ℤ, unsigned_abs, arith, Bool, true, false, not, List, [], ◌∷◌, ◌++◌, length, Option, Some, None, is_some, inl, inr, refl, sym}
+use Rattle.std.proofs.Common.{◌≡◌, ◌≤◌, ◌+◌, ◌^◌, ◌==◌, ℕ, zero, suc, ℤ, pos, ◌-ℤ◌, ◌≤ℤ◌, unsigned_abs, arith, Bool, true, false, not, List, [], ◌∷◌, ◌++◌, length, Some, None, inl, inr, refl, sym, ap, ◌∙◌}
 use Rattle.std.specs.Prelude.{◌&&◌, ◌||◌, if◌then◌else◌}
 use Rattle.std.proofs.lemmas.Bool.{true≢false}
 use Rattle.std.proofs.lemmas.Int.{ints}
@@ -8,7 +8,6 @@ use Rattle.apt_num.specs.declared.Sign.TheVariants as signs
 use Rattle.apt_num.proofs.Squares.{size_neg}
 use Rattle.apt_words.specs.declared.Stop.{Stop}
 use Rattle.apt_words.specs.declared.Stop.TheVariants as stops
-use Rattle.apt_plane.specs.declared.figures.Axis.{Axis}
 use Rattle.apt_plane.specs.declared.figures.Circ.{Circ}
 use Rattle.apt_plane.specs.declared.figures.Dir.{Dir}
 use Rattle.apt_plane.specs.declared.figures.Pt.{Pt}
@@ -19,73 +18,73 @@ use Rattle.apt_plane.specs.Vectors.{displacement, length_squared, perp}
 use Rattle.apt_canon.specs.Circles.{are_concentric}
 use Rattle.apt_canon.proofs.Ways.{way_is_dir}
 use Rattle.apt_offset.specs.Ranges.{IsRadius}
-use Rattle.apt_offset.specs.Turns.{is_zero}
 use Rattle.apt_offset.specs.Targets.{signed, greater, offset_surface, lacks_room, band_at}
-use Rattle.apt_stop.specs.Courses.{is_tanto, axis_of}
+use Rattle.apt_stop.specs.Courses.{is_tanto}
 use Rattle.apt_stop.specs.Tangencies.{axis, touching_half, tangent_axis}
 use Rattle.apt_certify.specs.declared.leg.Job.{Job}
-use Rattle.apt_certify.specs.Jobs.{IsStraight, IsTrackOf, IsNarrow, IsAxisOrNone, ArePoints, IsLeg, IsJob, AreJobs, point_count}
+use Rattle.apt_certify.specs.Jobs.{IsTrackOf, IsNarrow, IsAxisOrNone, ArePoints, IsLeg, IsJob, AreJobs, point_count}
 use Rattle.apt_meaning.specs.declared.motion.Motion.{Motion}
 use Rattle.apt_meaning.specs.declared.effect.Effect.{Effect}
 use Rattle.apt_meaning.specs.declared.effect.Effect.TheVariants as effects
-use Rattle.apt_meaning.specs.Motions.{drive_side, check_side, track_of, stop_of, starts_on_check, course_of, stop_side, leg_of, has_track, has_bound, has_stop, is_defined}
-use Rattle.apt_meaning.specs.Ranges.{IsAllowance}
-use Rattle.apt_meaning.specs.Straight.{IsStraightMotion, IsLined}
+use Rattle.apt_meaning.specs.Motions.{drive_side, check_side, track_of, stop_of, starts_on_check, course_of, leg_of, has_track, has_bound, has_stop}
+use Rattle.apt_meaning.specs.Ranges.{IsAllowance, IsMotion, HasMotion}
 use Rattle.apt_meaning.specs.Vertices.{HasIn}
-use Rattle.apt_job.specs.declared.legs.Sides.{Sides}
-use Rattle.apt_job.specs.Jobs.{AreBounds, AreSides, out_sign_at, job_of, jobs_by}
+use Rattle.apt_meaning.proofs.Begins.{both}
+use Rattle.apt_job.specs.Jobs.{AreSides, unbounded, bounded, out_sign_at, job_of, jobs_by}
 
 offset_small : (side : Sign) (r : ℤ) → IsRadius r → unsigned_abs (signed side r) ≤ 10 ^ 8
 offset_small signs.Plus r is = omega (arith, ints, is.least, is.most)
 offset_small signs.Zero r is = omega (arith, ints)
 offset_small signs.Minus r is = omega (arith, ints, is.least, is.most)
 
-line_room : (s : Surface) (side : Sign) (r : ℤ) → IsStraight s → lacks_room (offset_surface s side r) ≡ false
-line_room (surfaces.Line l) side r straight = refl
-line_room (surfaces.Circ c) side r straight = absurd straight
-
--- a track along a line has room
-pub track_has_room : (m : Motion) → IsStraightMotion m → lacks_room (track_of m) ≡ false
-track_has_room m is = line_room m.drive (drive_side m) m.radius is.drive
-
 -- ---- what bounds a motion
 
-no_stop_by : (on lacks bound : Bool) → (on || lacks) ≡ true → false ≡ (not on && not lacks && bound)
+-- a track that is not there
+pub no_track : (m : Motion) → lacks_room (track_of m) ≡ true → AreSides m (unbounded (check_side m) false)
+no_track m lacks = record {
+  check = refl;
+  track = rw lacks refl;
+  stop = λ there. absurd (missing there);
+  bounds = λ is. absurd (missing (both (has_track m) (has_stop m) is).0);
+}
+  where
+    missing : has_track m ≡ true → ⊥
+    missing there = true≢false (sym there ∙ ap not lacks)
+
+no_stop_by : (on lacks bound : Bool) → (on || lacks) ≡ true → (not on && not lacks && bound) ≡ false
 no_stop_by true lacks bound e = refl
 no_stop_by false true bound e = refl
 no_stop_by false false bound e = absurd (true≢false (sym e))
 
 -- a stop that is not there
-pub no_stop : (m : Motion) → (starts_on_check m || lacks_room (stop_of m)) ≡ true → false ≡ has_stop m
-no_stop m e = no_stop_by (starts_on_check m) (lacks_room (stop_of m)) (has_bound m) e
+pub no_stop : (m : Motion) → lacks_room (track_of m) ≡ false → (starts_on_check m || lacks_room (stop_of m)) ≡ true → AreSides m (unbounded (check_side m) true)
+no_stop m room e =
+    let none : has_stop m ≡ false = no_stop_by (starts_on_check m) (lacks_room (stop_of m)) (has_bound m) e in record {
+      check = refl;
+      track = rw room refl;
+      stop = λ there. sym none;
+      bounds = λ is. absurd (true≢false (sym (both (has_track m) (has_stop m) is).1 ∙ none));
+    }
 
-bound_by : (side : Sign) (axis : Option Axis) (m : Motion) → side ≡ stop_side m → axis ≡ axis_of (course_of m) → (not (is_zero side) || is_some axis) ≡ has_bound m
-bound_by side axis m e f = rw (e, f) refl
-
--- one that is there
-pub stop_there : (m : Motion) (sides : Sides) → AreSides m sides → starts_on_check m ≡ false → lacks_room (stop_of m) ≡ false
-    → (not (is_zero sides.stop) || is_some sides.axis) ≡ has_stop m
-stop_there m sides are on room =
-    let bounds = are.bounds on room in
-    rw (on, room) (bound_by sides.stop sides.axis m bounds.0 bounds.1)
-
-parts : (a b c d : Bool) → (a && (not b && not c && d)) ≡ true → (b ≡ false) × (c ≡ false)
-parts true false false d e = (refl, refl)
-parts true false true d e = absurd (true≢false (sym e))
-parts true true c d e = absurd (true≢false (sym e))
-parts false b c d e = absurd (true≢false (sym e))
-
--- and that of a motion whose parts are there
-pub bounds_there : (m : Motion) (sides : Sides) → AreSides m sides → is_defined m ≡ true → AreBounds m sides
-bounds_there m sides are is =
-    let on = parts (has_track m) (starts_on_check m) (lacks_room (stop_of m)) (has_bound m) is in
-    are.bounds on.0 on.1
+-- both are there
+pub stop_there : (m : Motion) → lacks_room (track_of m) ≡ false → starts_on_check m ≡ false → lacks_room (stop_of m) ≡ false → AreSides m (bounded (check_side m) (course_of m))
+stop_there m room on stop = record {
+  check = refl;
+  track = rw room refl;
+  stop = λ there. rw (on, stop) refl;
+  bounds = λ is. (refl, refl);
+}
 
 -- ---- legs
 
-track_is : (s : Surface) (side : Sign) (r : ℤ) → IsStraight s → IsRadius r → IsTrackOf s (offset_surface s side r)
-track_is (surfaces.Line l) side r straight is = (refl, refl, offset_small side r is)
-track_is (surfaces.Circ c) side r straight is = absurd straight
+round_small : (k : ℤ) (side : Sign) (r : ℤ) → pos 0 ≤ℤ k → k ≤ℤ pos 49000000 → IsRadius r → unsigned_abs (k -ℤ signed side r) ≤ 10 ^ 8
+round_small k signs.Plus r least most is = omega (arith, ints, least, most, is.least, is.most)
+round_small k signs.Zero r least most is = omega (arith, ints, least, most)
+round_small k signs.Minus r least most is = omega (arith, ints, least, most, is.least, is.most)
+
+track_is : (s : Surface) (side : Sign) (r : ℤ) → IsSurface s → IsRadius r → IsTrackOf s (offset_surface s side r)
+track_is (surfaces.Line l) side r line is = (refl, refl, offset_small side r is)
+track_is (surfaces.Circ c) side r round is = (refl, round_small c.r side r (omega (arith, ints, round.least)) (omega (arith, ints, round.least, round.x)) is)
 
 greater_in : (i o : ℤ) → IsAllowance i → IsAllowance o → IsAllowance (greater i o)
 greater_in i o is_i is_o = record { least = grind (arith, ints, is_i.least, is_o.least); most = grind (arith, ints, is_i.most, is_o.most) }
@@ -142,42 +141,41 @@ axis_in drive check stops.On is_d is_c = tt
 axis_in drive check stops.Past is_d is_c = tt
 axis_in drive check stops.Tanto is_d is_c = tangent_in drive check is_d is_c
 
-leg_in : (m : Motion) → IsStraightMotion m → IsLeg (leg_of m)
-leg_in m is =
-    let good = is.motion in record {
-      drive = good.drive;
-      track = track_is m.drive (drive_side m) m.radius is.drive good.radius;
-      band = band_narrow m.drive (drive_side m) m.radius m.inner m.outer good.drive good.radius good.inner good.outer;
-      check = good.check;
-      stop_band = band_narrow m.check (check_side m) m.radius m.inner m.outer good.check good.radius good.inner good.outer;
-      sense = good.sense;
-      axis = axis_in m.drive m.check m.how good.drive good.check;
-    }
+leg_in : (m : Motion) → IsMotion m → IsLeg (leg_of m)
+leg_in m is = record {
+  drive = is.drive;
+  track = track_is m.drive (drive_side m) m.radius is.drive is.radius;
+  band = band_narrow m.drive (drive_side m) m.radius m.inner m.outer is.drive is.radius is.inner is.outer;
+  check = is.check;
+  stop_band = band_narrow m.check (check_side m) m.radius m.inner m.outer is.check is.radius is.inner is.outer;
+  sense = is.sense;
+  axis = axis_in m.drive m.check m.how is.drive is.check;
+}
 
 more_than : (p : Pt) (vertices : List Pt) → 1 ≤ length vertices → 2 ≤ length (p ∷ vertices)
 more_than p vertices some = omega (arith, some)
 
-job_in : (m : Motion) (vertices : List Pt) → IsStraightMotion m → 1 ≤ length vertices → ArePoints vertices → IsJob (job_of m vertices)
+job_in : (m : Motion) (vertices : List Pt) → IsMotion m → 1 ≤ length vertices → ArePoints vertices → IsJob (job_of m vertices)
 job_in m vertices is some are = record {
   leg = leg_in m is;
   out_sign = out_sign_is m.drive (drive_side m);
   moves = more_than m.start.at vertices some;
-  points = (is.motion.start.at, are);
+  points = (is.start.at, are);
 }
 
-made_in : (e : Effect) (vertices : List Pt) → IsLined e → HasIn e vertices → AreJobs (jobs_by e vertices)
-made_in (effects.Defines n f) vertices lined within = tt
-made_in (effects.Sets s said) vertices lined within = tt
-made_in (effects.Moves reach to) vertices lined within = tt
-made_in (effects.Cuts m) vertices lined within = (job_in m vertices lined within.0 within.1, tt)
+made_in : (e : Effect) (vertices : List Pt) → HasMotion e → HasIn e vertices → AreJobs (jobs_by e vertices)
+made_in (effects.Defines n f) vertices good within = tt
+made_in (effects.Sets s said) vertices good within = tt
+made_in (effects.Moves reach to) vertices good within = tt
+made_in (effects.Cuts m) vertices good within = (job_in m vertices good within.0 within.1, tt)
 
 are_jobs-append : (xs ys : List Job) → AreJobs xs → AreJobs ys → AreJobs (xs ++ ys)
 are_jobs-append [] ys are more = more
 are_jobs-append (x ∷ xs) ys are more = (are.0, are_jobs-append xs ys are.1 more)
 
 -- one more effect's jobs
-pub jobs_in : (jobs : List Job) (e : Effect) (vertices : List Pt) → AreJobs jobs → IsLined e → HasIn e vertices → AreJobs (jobs ++ jobs_by e vertices)
-jobs_in jobs e vertices are lined within = are_jobs-append jobs (jobs_by e vertices) are (made_in e vertices lined within)
+pub jobs_in : (jobs : List Job) (e : Effect) (vertices : List Pt) → AreJobs jobs → HasMotion e → HasIn e vertices → AreJobs (jobs ++ jobs_by e vertices)
+jobs_in jobs e vertices are good within = are_jobs-append jobs (jobs_by e vertices) are (made_in e vertices good within)
 
 pub points-append : (xs ys : List Job) → point_count (xs ++ ys) ≡ point_count xs + point_count ys
 points-append [] ys = omega arith

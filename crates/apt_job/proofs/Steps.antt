@@ -120,7 +120,7 @@ walk_on all written at rest jobs step steps e vertices later walk asked stands =
       makes = λ more makes. subst (λ (js : List Job). MakesJobs first_situation all written js) (sym (append_assoc jobs (jobs_by e vertices) more))
           (walk.makes (jobs_by e vertices ++ more) (e, vertices, later, more, begins, refl, makes));
       fails = λ k fails. walk.fails k (inr (e, vertices, later, begins, subst (λ (n : ℕ). FailsAt (after at e vertices) n steps later k) (sym further) fails));
-      range = jobs_in jobs e vertices walk.range on.lined on.within;
+      range = jobs_in jobs e vertices walk.range on.motion on.within;
       points = omega (arith, points-append jobs (jobs_by e vertices), light step e vertices, load, walk.points);
     }
 

@@ -1,20 +1,21 @@
 -- The jobs of records that follow steps: one for each contour.
-use Rattle.std.specs.Prelude.{◌≡◌, ℤ, pos, negsuc, false, List, [], ◌∷◌, ◌++◌}
+use Rattle.std.specs.Prelude.{◌≡◌, ℤ, pos, negsuc, Bool, true, false, not, ◌||◌, List, [], ◌∷◌, ◌++◌, None, is_some}
 use Rattle.apt_num.specs.declared.Sign.{Sign}
 use Rattle.apt_num.specs.declared.Sign.TheVariants as signs
 use Rattle.apt_words.specs.declared.deed.Step.{Step}
 use Rattle.apt_plane.specs.declared.figures.Pt.{Pt}
 use Rattle.apt_plane.specs.declared.figures.Surface.{Surface}
 use Rattle.apt_plane.specs.declared.figures.Surface.TheVariants as surfaces
-use Rattle.apt_offset.specs.Targets.{lacks_room}
-use Rattle.apt_stop.specs.Courses.{axis_of}
+use Rattle.apt_offset.specs.Turns.{is_zero}
+use Rattle.apt_stop.specs.declared.course.Course.{Course}
+use Rattle.apt_stop.specs.Courses.{kept_side, axis_of}
 use Rattle.apt_certify.specs.declared.leg.Job.{Job}
 use Rattle.apt_cldata.specs.declared.record.Record.{Record}
 use Rattle.apt_meaning.specs.declared.situation.Situation.{Situation}
 use Rattle.apt_meaning.specs.declared.motion.Motion.{Motion}
 use Rattle.apt_meaning.specs.declared.effect.Effect.{Effect}
 use Rattle.apt_meaning.specs.declared.effect.Effect.TheVariants as effects
-use Rattle.apt_meaning.specs.Motions.{drive_side, check_side, stop_of, starts_on_check, course_of, stop_side, leg_of}
+use Rattle.apt_meaning.specs.Motions.{drive_side, check_side, course_of, stop_side, leg_of, has_track, has_stop, is_defined}
 use Rattle.apt_meaning.specs.Records.{Begins, after}
 use Rattle.apt_job.specs.declared.legs.Sides.{Sides}
 
@@ -44,14 +45,32 @@ MakesJobs at (step ∷ steps) written jobs =
     (e : Effect) × (vertices : List Pt) × (rest : List Record) × (more : List Job)
     × Begins at step written e vertices rest × (jobs ≡ jobs_by e vertices ++ more) × MakesJobs (after at e vertices) steps rest more
 
+-- ---- what bounds a motion
+
+-- the sides of a motion without a stop
+abbrev pub unbounded : Sign → Bool → Sides
+unbounded check track = record { check = check; has_track = track; has_stop = false; stop = signs.Zero; axis = None }
+
+-- those of a motion with its track and its stop, by its course
+abbrev pub bounded : Sign → Course → Sides
+bounded check c = record {
+  check = check;
+  has_track = true;
+  has_stop = not (is_zero (kept_side c)) || is_some (axis_of c);
+  stop = kept_side c;
+  axis = axis_of c;
+}
+
 -- the side of the stop on which a motion runs, and the axis on which it ends where it touches
 abbrev pub AreBounds : Motion → Sides → Type 0
 AreBounds m sides = (sides.stop ≡ stop_side m) × (sides.axis ≡ axis_of (course_of m))
 
--- the place of the cutter at the check surface of a motion; and where there is room for the cutter at a stop that the start is not on, what bounds the motion
+-- the place of the cutter at the check surface of a motion, and whether its track is there; where it is, whether its stop is, and where both are, what bounds the motion
 pub record AreSides (m : Motion) (sides : Sides) : Type 0 where
   pub check : sides.check ≡ check_side m
-  pub bounds : starts_on_check m ≡ false → lacks_room (stop_of m) ≡ false → AreBounds m sides
+  pub track : sides.has_track ≡ has_track m
+  pub stop : has_track m ≡ true → sides.has_stop ≡ has_stop m
+  pub bounds : is_defined m ≡ true → AreBounds m sides
 
 -- those of an effect that is a contour
 abbrev pub HasSides : Sides → Effect → Type 0

@@ -1,15 +1,14 @@
 //! The records in front of a list: whether they are those of a step.
 
-ghost use Rattle.std.specs.Prelude.{◌≡◌, ◌≤◌, [], List, Some, IfSome, IfErr, MatchOption};
+ghost use Rattle.std.specs.Prelude.{◌≡◌, ◌≤◌, true, [], List, Some, IfSome, IfErr, MatchOption};
 ghost use Rattle.apt_plane.specs.declared.figures.Pt.{Pt};
 ghost use Rattle.apt_meaning.specs.Expectations as expectations;
 ghost use Rattle.apt_meaning.specs.Motions as motions;
-ghost use Rattle.apt_meaning.specs.Straight.{IsStraightMotion, IsLined};
 ghost use Rattle.apt_meaning.specs.declared.effect.Effect.TheVariants as effects;
 ghost use Rattle.apt_job.specs.Fronts.{points_at, is_silent, IsBehind, AreSaid, AreTaken};
 ghost use Rattle.apt_job.specs.Jobs.{AreSides, HasSides};
 
-use crate::legs::{Sides, has_stop, has_track};
+use crate::legs::Sides;
 use crate::matches::{are_at, is_check, is_drive, is_note, is_point, is_statement};
 use apt_cldata::{Note, Position, Reach, Record};
 use apt_meaning::{Effect, Motion};
@@ -70,14 +69,14 @@ fn point<'a>(reach: Reach, to: Position, records: &'a [Record]) -> Option<Front<
     }
 }
 
-fn drive<'a>(m: &Motion, records: &'a [Record]) -> Option<Front<'a>>
-    requires { IsStraightMotion m.now }
+fn drive<'a>(m: &Motion, sides: Sides, records: &'a [Record]) -> Option<Front<'a>>
+    requires { AreSides m.now sides }
     ensures { IsBehind (expectations.exactly_if (motions.has_track m.now) (Record.Drive m.now.drive m.now.side m.now.sense)) records.now result }
 {
     let [first, rest @ ..] = records else {
         return None;
     };
-    if has_track(m) && is_drive(m, first) {
+    if sides.has_track && is_drive(m, first) {
         Some(Front {
             vertices: &[],
             rest,
@@ -88,14 +87,14 @@ fn drive<'a>(m: &Motion, records: &'a [Record]) -> Option<Front<'a>>
 }
 
 fn check<'a>(m: &Motion, sides: Sides, records: &'a [Record]) -> Option<Front<'a>>
-    requires motion { IsStraightMotion m.now }
     requires sides { AreSides m.now sides }
+    requires track { motions.has_track m.now ≡ true }
     ensures { IsBehind (expectations.exactly_if (motions.has_stop m.now) (Record.Check m.now.check m.now.how)) records.now result }
 {
     let [first, rest @ ..] = records else {
         return None;
     };
-    if has_stop(m, sides) && is_check(m, first) {
+    if sides.has_stop && is_check(m, first) {
         Some(Front {
             vertices: &[],
             rest,
@@ -137,12 +136,11 @@ fn contour(start: Position, records: &[Record]) -> Option<Front<'_>>
 /// The records of a contour.
 #[tactic(auto, using(crate::proofs::InFront::cut_said, crate::proofs::InFront::cut_departs))]
 fn cut<'a>(m: &Motion, sides: Sides, records: &'a [Record]) -> Result<Front<'a>, u64>
-    requires motion { IsStraightMotion m.now }
-    requires sides { AreSides m.now sides }
+    requires { AreSides m.now sides }
     ensures said { AreSaid (Some (effects.Cuts m.now)) records.now result }
     ensures few { IfErr result (λ k. k ≤ 2) }
 {
-    let Some(behind_drive) = drive(m, records) else {
+    let Some(behind_drive) = drive(m, sides, records) else {
         return Err(0);
     };
     let Some(behind_check) = check(m, sides, behind_drive.rest) else {
@@ -156,8 +154,7 @@ fn cut<'a>(m: &Motion, sides: Sides, records: &'a [Record]) -> Result<Front<'a>,
 
 /// The records of an effect.
 fn said<'a>(effect: &Option<Effect>, sides: Sides, records: &'a [Record]) -> Result<Front<'a>, u64>
-    requires lined { IfSome effect.now IsLined }
-    requires sides { IfSome effect.now (HasSides sides) }
+    requires { IfSome effect.now (HasSides sides) }
     ensures said { AreSaid effect.now records.now result }
     ensures few { IfErr result (λ k. k ≤ 2) }
 {
@@ -188,8 +185,7 @@ pub(crate) fn taken<'a>(
     sides: Sides,
     records: &'a [Record],
 ) -> Result<Front<'a>, u64>
-    requires lined { IfSome effect.now IsLined }
-    requires sides { IfSome effect.now (HasSides sides) }
+    requires { IfSome effect.now (HasSides sides) }
     ensures taken { AreTaken step.now effect.now records.now result }
     ensures few { IfErr result (λ k. k ≤ 3) }
 {

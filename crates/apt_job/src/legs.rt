@@ -6,7 +6,7 @@ ghost use Rattle.apt_offset.specs.Ranges.{IsTarget};
 ghost use Rattle.apt_offset.specs.Targets as targets;
 ghost use Rattle.apt_certify.specs.Legs as legs;
 ghost use Rattle.apt_meaning.specs.Motions as motions;
-ghost use Rattle.apt_meaning.specs.Straight.{IsStraightMotion, IsLined};
+ghost use Rattle.apt_meaning.specs.Ranges.{IsMotion, HasMotion};
 ghost use Rattle.apt_job.specs.Jobs as spec;
 ghost use Rattle.apt_job.specs.Fronts.{points_at};
 ghost use Rattle.apt_job.specs.Jobs.{AreBounds, AreSides, HasSides};
@@ -21,51 +21,72 @@ use apt_plane::{Axis, Surface};
 use apt_stop::{Course, axis, kept_side};
 use std::alloc::{AllocError, Global};
 
-/// Whether the track of a motion is there.
-pub(crate) fn has_track(m: &Motion) -> bool
-    requires { IsStraightMotion m.now }
-    ensures { result ≡ motions.has_track m.now }
-{
-    match m.drive {
-        Surface::Line(_) => true,
-        Surface::Circ(_) => !lacks_room(&m.track()),
-    }
-}
-
-/// The place of the cutter at the check surface; and where a stop is there, the side of it on which a motion runs, and the
-/// axis on which it ends where it touches.
+/// The place of the cutter at the check surface; whether the track of a motion is there, and where it is, whether the stop
+/// is; where both are, the side of the stop on which the motion runs, and the axis on which it ends where it touches.
 #[derive(Clone, Copy)]
 pub(crate) struct Sides {
     pub check: Sign,
+    pub has_track: bool,
+    pub has_stop: bool,
     pub stop: Sign,
     pub axis: Option<Axis>,
 }
 
+#[tactic(auto, using(crate::proofs::Ranges::no_track, crate::proofs::Ranges::no_stop, crate::proofs::Ranges::stop_there))]
 fn sides_of(m: &Motion) -> Sides
-    requires { IsStraightMotion m.now }
+    requires { IsMotion m.now }
     ensures { AreSides m.now result }
 {
     let check = m.check_side();
+    let track = m.track();
+    if lacks_room(&track) {
+        return unbounded(check, false);
+    }
     let stop = stop_at(m, check);
     if is_on_check(m.how, check) || lacks_room(&stop) {
-        return Sides {
-            check,
-            stop: Sign::Zero,
-            axis: None,
-        };
+        return unbounded(check, true);
     }
-    let course = course(m, stop);
+    bounds(check, &course(m, track, stop))
+}
+
+/// The sides of a motion without a stop.
+fn unbounded(check: Sign, has_track: bool) -> Sides
+    ensures { result ≡ spec.unbounded check has_track }
+{
     Sides {
         check,
-        stop: kept_side(&course),
-        axis: axis(&course),
+        has_track,
+        has_stop: false,
+        stop: Sign::Zero,
+        axis: None,
+    }
+}
+
+/// The sides of a motion, by its course.
+fn bounds(check: Sign, course: &Course) -> Sides
+    requires start { IsPoint course.now.start }
+    requires drive { IsSurface course.now.drive }
+    requires track { IsTarget course.now.track }
+    requires sense { IsSense course.now.sense }
+    requires check { IsSurface course.now.check }
+    requires stop { IsTarget course.now.stop }
+    ensures { result ≡ spec.bounded check course.now }
+{
+    let stop = kept_side(course);
+    let axis = axis(course);
+    Sides {
+        check,
+        has_track: true,
+        has_stop: !is_zero(stop) || axis.is_some(),
+        stop,
+        axis,
     }
 }
 
 /// The curve on which a motion stops, by the place of the cutter at the check surface.
 #[inline(always)]
 fn stop_at(m: &Motion, check_side: Sign) -> Target
-    requires motion { IsStraightMotion m.now }
+    requires motion { IsMotion m.now }
     requires check_side { check_side ≡ motions.check_side m.now }
     ensures value { result ≡ motions.stop_of m.now }
     ensures range { targets.lacks_room result ≡ false → IsTarget result }
@@ -73,12 +94,14 @@ fn stop_at(m: &Motion, check_side: Sign) -> Target
     offset_surface(&m.check, check_side, m.radius)
 }
 
-/// The course of a motion, by its stop.
+/// The course of a motion, by its track and its stop.
 #[inline(always)]
-fn course(m: &Motion, stop: Target) -> Course
-    requires motion { IsStraightMotion m.now }
+fn course(m: &Motion, track: Target, stop: Target) -> Course
+    requires motion { IsMotion m.now }
+    requires track { track ≡ motions.track_of m.now }
+    requires track_room { IsTarget track }
     requires stop { stop ≡ motions.stop_of m.now }
-    requires room { IsTarget stop }
+    requires stop_room { IsTarget stop }
     ensures value { result ≡ motions.course_of m.now }
     ensures start { IsPoint result.start }
     ensures drive { IsSurface result.drive }
@@ -90,7 +113,7 @@ fn course(m: &Motion, stop: Target) -> Course
     Course {
         start: m.start.at,
         drive: m.drive,
-        track: track(m),
+        track,
         sense: m.sense,
         check: m.check,
         how: m.how,
@@ -98,43 +121,17 @@ fn course(m: &Motion, stop: Target) -> Course
     }
 }
 
-/// The track of a motion along a line, which has room.
-#[inline(always)]
-#[tactic(auto, using(crate::proofs::Ranges::track_has_room))]
-fn track(m: &Motion) -> Target
-    requires { IsStraightMotion m.now }
-    ensures value { result ≡ motions.track_of m.now }
-    ensures range { IsTarget result }
-{
-    m.track()
-}
-
 /// Those of the motion of an effect; an effect that is no contour has none.
 pub(crate) fn effect_sides(effect: &Option<Effect>) -> Sides
-    requires { IfSome effect.now IsLined }
+    requires { IfSome effect.now HasMotion }
     ensures { IfSome effect.now (HasSides result) }
 {
     match effect {
         Some(Effect::Cuts(m)) => sides_of(m),
-        Some(Effect::Defines(..) | Effect::Sets(..) | Effect::Moves(..)) | None => Sides {
-            check: Sign::Zero,
-            stop: Sign::Zero,
-            axis: None,
-        },
+        Some(Effect::Defines(..) | Effect::Sets(..) | Effect::Moves(..)) | None => {
+            unbounded(Sign::Zero, false)
+        }
     }
-}
-
-/// Whether its stop is there, and what bounds it.
-#[tactic(auto, using(crate::proofs::Ranges::stop_there, crate::proofs::Ranges::no_stop))]
-pub(crate) fn has_stop(m: &Motion, sides: Sides) -> bool
-    requires motion { IsStraightMotion m.now }
-    requires sides { AreSides m.now sides }
-    ensures { result ≡ motions.has_stop m.now }
-{
-    if is_on_check(m.how, sides.check) || lacks_room(&stop_at(m, sides.check)) {
-        return false;
-    }
-    !is_zero(sides.stop) || sides.axis.is_some()
 }
 
 /// The edge of the stop that a motion must not pass, by the side of the stop on which it runs.
@@ -149,7 +146,7 @@ fn beyond(m: &Motion, side: Sign) -> Sign
 }
 
 fn leg_of(m: &Motion, sides: Sides) -> Leg
-    requires motion { IsStraightMotion m.now }
+    requires motion { IsMotion m.now }
     requires check_side { sides.check ≡ motions.check_side m.now }
     requires bounds { AreBounds m.now sides }
     ensures { result ≡ motions.leg_of m.now }
@@ -192,14 +189,13 @@ fn points(alloc: Global, start: Position, positions: &[Position]) -> Result<Poin
 }
 
 /// The job of a contour.
-#[tactic(auto, using(crate::proofs::Ranges::bounds_there))]
 pub(crate) fn job_of(
     alloc: Global,
     m: &Motion,
     sides: Sides,
     positions: &[Position],
 ) -> Result<Job, AllocError>
-    requires motion { IsStraightMotion m.now }
+    requires motion { IsMotion m.now }
     requires defined { motions.is_defined m.now ≡ true }
     requires sides { AreSides m.now sides }
     ensures { IfOk result (λ job. job ≡ spec.job_of m.now (points_at positions.now)) }

@@ -10,11 +10,10 @@ ghost use Rattle.apt_cldata.specs.Ranges.{AreRecords, vertex_count};
 ghost use Rattle.apt_cldata.specs.declared.record.Record.{Record};
 ghost use Rattle.apt_defs.specs.Definitions.{IsRefusedBy};
 ghost use Rattle.apt_meaning.specs.Compiled.{first_refused};
-ghost use Rattle.apt_meaning.specs.Ranges.{IsSituation, IsEffect};
+ghost use Rattle.apt_meaning.specs.Ranges.{IsSituation, IsMotion, IsEffect, HasMotion};
 ghost use Rattle.apt_meaning.specs.Motions.{is_defined};
 ghost use Rattle.apt_meaning.specs.Records as written;
 ghost use Rattle.apt_meaning.specs.Situations.{first_situation};
-ghost use Rattle.apt_meaning.specs.Straight.{IsLined};
 ghost use Rattle.apt_meaning.specs.Vertices.{HasIn};
 ghost use Rattle.apt_meaning.specs.declared.effect.Effect.TheVariants as effects;
 ghost use Rattle.apt_job.specs.Answering.{IsEntry};
@@ -52,7 +51,7 @@ fn cut(
     sides: Sides,
     vertices: &[Position],
 ) -> Result<(), AllocError>
-    requires motion { IsLined (effects.Cuts motion.now) }
+    requires motion { IsMotion motion.now }
     requires defined { is_defined motion.now ≡ true }
     requires sides { AreSides motion.now sides }
     requires vertices { HasIn (effects.Cuts motion.now) (points_at vertices.now) }
@@ -92,7 +91,7 @@ fn take(
     requires situation { IsSituation at.old }
     requires effect { IsEffect effect.now }
     requires defines_nothing { DefinesNothing effect.now }
-    requires lined { IsLined effect.now }
+    requires has_motion { HasMotion effect.now }
     requires sides { HasSides sides effect.now }
     requires vertices { HasIn effect.now (points_at vertices.now) }
     requires may { written.MayHave effect.now (points_at vertices.now) }

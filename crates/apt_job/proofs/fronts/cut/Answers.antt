@@ -1,7 +1,9 @@
 use Rattle.std.proofs.Common.{refl}
+use Rattle.apt_cldata.specs.declared.record.Record.TheVariants as records
 use Rattle.apt_meaning.specs.declared.effect.Effect.TheVariants as effects
+use Rattle.apt_meaning.specs.Motions.{has_track}
 use Rattle.apt_job.specs.Fronts.{points_at}
-use Rattle.apt_job.proofs.InFront.{cut_said}
+use Rattle.apt_job.proofs.InFront.{next_if, cut_said}
 use Rattle.apt_job.proofs.fronts.cut.Goals as goal
 
 pub returns-in-Some-contour-clause-said : goal.returns-in-Some-contour-clause-said
@@ -14,3 +16,9 @@ returns-in-Some-contour-clause-said c =
       cut_said c.args.m.now c.args.records.now drive.rest.now check.rest.now front.rest.now
           (points_at drive.vertices.now) (points_at check.vertices.now) (points_at front.vertices.now) c.in-Some.ensures c.in-Some-check.ensures c.in-Some-contour.ensures,
     )
+
+pub check-requires-clause-track : goal.check-requires-clause-track
+check-requires-clause-track c =
+    let m = c.args.m.now in
+    let drive = c.in-Some.behind_drive in
+    (next_if (has_track m) (records.Drive m.drive m.side m.sense) c.args.records.now (points_at drive.vertices.now) drive.rest.now c.in-Some.ensures).0
