@@ -82,6 +82,6 @@ fn apart(at: &Situation, deed: &Deed) -> Result<Result<Effect, Case>, AllocError
     }
     match effect_of(at, deed)? {
         Some(effect) => Ok(Ok(effect)),
-        None => Ok(Err(Case::NotBuilt)),
+        None => Ok(Err(Case::Undefined)),
     }
 }
