@@ -15,7 +15,7 @@ use apt_words::{Deed, Go, Side, Step, Stop, Symbol};
 use std::alloc::{AllocError, Global};
 use std::test::Fail;
 
-fn step(line: u32, deed: Deed) -> Step
+pub(crate) fn step(line: u32, deed: Deed) -> Step
     ensures { result ≡ record { line = line; step = line; deed = deed } }
 {
     Step {
@@ -60,7 +60,7 @@ fn position(x: i64, z: i64) -> Position
     }
 }
 
-fn lower_edge() -> Surface
+pub(crate) fn lower_edge() -> Surface
     ensures { IsSurface result }
 {
     Surface::Line(Line {

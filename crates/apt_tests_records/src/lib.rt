@@ -6,6 +6,8 @@ mod certify;
 #[cfg(test)]
 mod cldata;
 #[cfg(test)]
+mod ends;
+#[cfg(test)]
 mod job;
 #[cfg(test)]
 mod motion;
