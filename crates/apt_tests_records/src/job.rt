@@ -153,7 +153,7 @@ fn front(change: Change) -> [Record; 11]
 /// All records.
 fn records(alloc: Global, change: Change) -> Result<[Record; 12], AllocError>
     ensures range { IfOk result AreRecords }
-    ensures few { IfOk result (λ rs. vertex_count rs + length rs < 2 ^ 62) }
+    ensures few { IfOk result (λ rs. vertex_count rs + length rs < 2 ^ 61) }
 {
     let vertices = vertices(alloc, change.higher)?;
     let [a, b, c, d, e, f, g, h, i, j, k] = front(change);
