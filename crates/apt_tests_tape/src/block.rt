@@ -1,45 +1,67 @@
-ghost use Rattle.std.specs.Prelude.{◌≡◌};
+ghost use Rattle.std.specs.Prelude.{◌≡◌, ◌≤◌, length};
 ghost use Rattle.apt_block.specs.Block.{IsBlock, tape_word};
 
 use apt_block::{Block, BlockError, TapeCause, TapeWord, read_block, write_block};
 use std::alloc::{AllocError, Global};
 use std::test::Fail;
 
-const fn word(letter: u8, value: i64) -> TapeWord
+fn word(letter: u8, value: i64) -> TapeWord
     ensures { result ≡ tape_word letter value }
 {
     TapeWord { letter, value }
 }
 
+fn block_of(words: &[TapeWord]) -> Block
+    requires { length words.now ≤ 12 }
+    ensures { result ≡ words.now }
+{
+    let mut block = Block::new();
+    'words: for word in words {
+        block.push(*word);
+    }
+    block
+}
+
 fn start() -> Block
     ensures { IsBlock result }
 {
-    let mut block = Block::new();
-    block.push(word(b'N', 1));
-    block.push(word(b'G', 70));
-    block.push(word(b'G', 90));
-    block.push(word(b'G', 94));
-    block
+    block_of(&[
+        word(b'N', 1),
+        word(b'G', 70),
+        word(b'G', 90),
+        word(b'G', 94),
+    ])
+}
+
+fn cut() -> Block
+    ensures { IsBlock result }
+{
+    block_of(&[
+        word(b'N', 2),
+        word(b'G', 1),
+        word(b'X', 100_000),
+        word(b'Y', 200_000),
+        word(b'Z', 300_000),
+        word(b'F', 100),
+    ])
 }
 
 fn below_zero() -> Block
     ensures { IsBlock result }
 {
-    let mut block = Block::new();
-    block.push(word(b'X', -50_000_000));
-    block.push(word(b'Y', 0));
-    block.push(word(b'Z', -1));
-    block.push(word(b'S', 1_250));
-    block.push(word(b'T', 7));
-    block
+    block_of(&[
+        word(b'X', -50_000_000),
+        word(b'Y', 0),
+        word(b'Z', -1),
+        word(b'S', 1_250),
+        word(b'T', 7),
+    ])
 }
 
 fn end() -> Block
     ensures { IsBlock result }
 {
-    let mut block = Block::new();
-    block.push(word(b'M', 2));
-    block
+    block_of(&[word(b'M', 2)])
 }
 
 fn spelled(alloc: Global, block: &Block) -> Result<Vec<u8>, AllocError>
@@ -55,6 +77,10 @@ fn spells_blocks(rt: HostRuntime) -> Result<(), Fail> {
     let alloc = rt.alloc();
     let cases = [
         (spelled(alloc, &start())?, "N0001G70G90G94\n"),
+        (
+            spelled(alloc, &cut())?,
+            "N0002G01X+00100000Y+00200000Z+00300000F0100\n",
+        ),
         (
             spelled(alloc, &below_zero())?,
             "X-50000000Y+00000000Z-00000001S1250T07\n",
@@ -78,44 +104,20 @@ fn appends_blocks(rt: HostRuntime) -> Result<(), Fail> {
     Ok(())
 }
 
-fn is_read(text: &str, want: &[TapeWord]) -> bool {
+fn is_read(text: &str, want: &Block) -> bool {
     match read_block(text.as_bytes()) {
-        Ok(block) => block.words.as_slice() == want,
+        Ok(block) => block.words.as_slice() == want.words.as_slice(),
         Err(_) => false,
     }
 }
 
-const START: [TapeWord; 4] = [
-    word(b'N', 1),
-    word(b'G', 70),
-    word(b'G', 90),
-    word(b'G', 94),
-];
-
-const CUT: [TapeWord; 6] = [
-    word(b'N', 2),
-    word(b'G', 1),
-    word(b'X', 100_000),
-    word(b'Y', 200_000),
-    word(b'Z', 300_000),
-    word(b'F', 100),
-];
-
-const BELOW_ZERO: [TapeWord; 5] = [
-    word(b'X', -50_000_000),
-    word(b'Y', 0),
-    word(b'Z', -1),
-    word(b'S', 1_250),
-    word(b'T', 7),
-];
-
 #[test]
 fn reads_blocks(rt: HostRuntime) {
-    assert!(rt; is_read("N0001G70G90G94\n", &START));
-    assert!(rt; is_read("N0002G01X+00100000Y+00200000Z+00300000F0100\n", &CUT));
-    assert!(rt; is_read("X-50000000Y-00000000Z-00000001S1250T07\n", &BELOW_ZERO));
-    assert!(rt; is_read("M02\n", &[word(b'M', 2)]));
-    assert!(rt; is_read("\n", &[]));
+    assert!(rt; is_read("N0001G70G90G94\n", &start()));
+    assert!(rt; is_read("N0002G01X+00100000Y+00200000Z+00300000F0100\n", &cut()));
+    assert!(rt; is_read("X-50000000Y-00000000Z-00000001S1250T07\n", &below_zero()));
+    assert!(rt; is_read("M02\n", &end()));
+    assert!(rt; is_read("\n", &Block::new()));
 }
 
 fn refusal(text: &str) -> Option<BlockError> {
