@@ -90,8 +90,7 @@ fn sum_in_parentheses(
 }
 
 /// The expression of tokens that blanks part.
-/// The expression of tokens between blanks, numbers in millionths.
-pub(crate) fn read(alloc: Global, text: &str) -> Result<Option<Expr>, AllocError> {
+fn read(alloc: Global, text: &str) -> Result<Option<Expr>, AllocError> {
     let mut tokens = Vec::new(alloc);
     for word in text.split_whitespace() {
         tokens.push(token(word))?;
