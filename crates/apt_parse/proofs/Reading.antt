@@ -1,5 +1,5 @@
 -- What the reader keeps, one statement more.
-use Rattle.std.specs.Prelude.{◌≡◌, ℕ, List, [], ◌∷◌, ◌++◌, Option, Some, None, Bool, true, false, ◌||◌, not, is_some, if◌then◌else◌}
+use Rattle.std.specs.Prelude.{◌≡◌, ℕ, List, [], ◌∷◌, ◌++◌, Option, Some, None, Bool, true, false, ◌&&◌, ◌||◌, not, is_some, if◌then◌else◌}
 use Rattle.std.proofs.Common.{refl, ap, sym, ◌∙◌}
 use Rattle.std.proofs.lemmas.List.{append_assoc, append-nil}
 use Rattle.apt_words.specs.declared.body.Body.{Body}
@@ -8,7 +8,7 @@ use Rattle.apt_words.specs.Flow.{flow_of, macro_name}
 use Rattle.apt_lexis.specs.declared.cause.PartCause.{PartCause}
 use Rattle.apt_lexis.specs.declared.cause.PartCause.TheVariants as causes
 use Rattle.apt_words.specs.Built.{is_built}
-use Rattle.apt_parse.specs.Statements.{or_none, labels_of, macros_of, macro_behind, loop_behind, macro_from, loop_from, open_macro, open_loop, first_fault, is_misplaced, is_misplaced_heading, is_out_of_place, lacks_partno, is_label_again, is_macro_again, is_in_macro, is_out_of_loop}
+use Rattle.apt_parse.specs.Statements.{or_none, labels_of, macros_of, macro_behind, loop_behind, macro_from, loop_from, open_macro, open_loop, first_fault, is_misplaced, is_misplaced_heading, is_out_of_place, is_partno, lacks_partno, is_label_again, is_macro_again, is_in_macro, is_out_of_loop}
 
 pub labels_behind : (sts : List Stmt) (st : Stmt) → labels_of (sts ++ st ∷ []) ≡ labels_of sts ++ or_none st.label
 labels_behind [] st = append-nil (or_none st.label)
@@ -36,24 +36,25 @@ first_of a b c d e f g =
     else if f then Some causes.MacroOpen else if g then Some causes.LoopOpen else None
 
 -- what the tests tell of a statement without fault
-record HasNoFault (misplaced known label_again macro_again in_macro : Bool) : Type 0 where
+record HasNoFault (misplaced known untitled label_again macro_again in_macro : Bool) : Type 0 where
   placed : misplaced ≡ false
   built : known ≡ true
+  titled : untitled ≡ false
   label : label_again ≡ false
   macro : macro_again ≡ false
   outside : in_macro ≡ false
 
-none_of : (a b c d e f g : Bool) → first_of a b c d e f g ≡ None → HasNoFault a b d e f
+none_of : (a b c d e f g : Bool) → first_of a b c d e f g ≡ None → HasNoFault a b c d e f
 none_of true b c d e f g h = cc
 none_of false false c d e f g h = cc
 none_of false true true d e f g h = cc
 none_of false true false true e f g h = cc
 none_of false true false false true f g h = cc
 none_of false true false false false true g h = cc
-none_of false true false false false false g h = record { placed = refl; built = refl; label = refl; macro = refl; outside = refl }
+none_of false true false false false false g h = record { placed = refl; built = refl; titled = refl; label = refl; macro = refl; outside = refl }
 
 no_fault : (sts : List Stmt) (label : Option (List ℕ)) (b : Body) → first_fault sts label b ≡ None
-    → HasNoFault (is_misplaced sts b) (is_built b) (is_label_again sts label) (is_macro_again sts (flow_of b))
+    → HasNoFault (is_misplaced sts b) (is_built b) (lacks_partno sts b) (is_label_again sts label) (is_macro_again sts (flow_of b))
     (is_in_macro (is_some (open_macro sts)) (flow_of b))
 no_fault sts label b h =
     none_of (is_misplaced sts b) (is_built b) (lacks_partno sts b) (is_label_again sts label) (is_macro_again sts (flow_of b))
@@ -71,6 +72,23 @@ no_macro_again sts label b h = (no_fault sts label b h).macro
 or_none_of : (a b : Bool) → (a || b) ≡ false → b ≡ false
 or_none_of true b h = cc
 or_none_of false b h = h
+
+neither_of : (a b : Bool) → (a || b) ≡ false → a ≡ false
+neither_of true b h = cc
+neither_of false b h = refl
+
+-- a heading without fault stands where it can
+pub no_fault-headed : (sts : List Stmt) (label : Option (List ℕ)) (b : Body) → first_fault sts label b ≡ None → is_misplaced_heading sts b ≡ false
+no_fault-headed sts label b h =
+    neither_of (is_misplaced_heading sts b) (is_out_of_place (is_some (open_macro sts)) (flow_of b)) (no_fault sts label b h).placed
+
+-- and the first statement is PARTNO
+pub no_fault-first : (label : Option (List ℕ)) (b : Body) → first_fault [] label b ≡ None → is_partno b ≡ true
+no_fault-first label b h = by (is_partno b) (no_fault [] label b h).titled
+  where
+    by : (partno : Bool) → (true && not partno) ≡ false → partno ≡ true
+    by true e = refl
+    by false e = cc
 
 -- a statement without fault stands where it can
 pub no_fault-placed : (sts : List Stmt) (label : Option (List ℕ)) (b : Body) → first_fault sts label b ≡ None

@@ -53,7 +53,7 @@ fn causes_of_parts(rt: HostRuntime) -> Result<(), Fail> {
     Ok(())
 }
 
-const CASES: [(Case, &str); 34] = [
+const CASES: [(Case, &str); 33] = [
     (Case::Budget, "Budget"),
     (Case::AfterEnd, "AfterEnd"),
     (Case::Unknown, "Unknown"),
@@ -87,7 +87,6 @@ const CASES: [(Case, &str); 34] = [
     (Case::NoContact, "NoContact"),
     (Case::Behind, "Behind"),
     (Case::TooManyPoints, "TooManyPoints"),
-    (Case::NotBuilt, "NotBuilt"),
 ];
 
 #[test]

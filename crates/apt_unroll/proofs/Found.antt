@@ -3,7 +3,7 @@ use Rattle.std.proofs.Common.{◌≡◌, ℕ, ◌+◌, ◌-◌, ◌≤◌, ◌<�
 use Rattle.apt_words.specs.declared.Refusal.{Refusal}
 use Rattle.apt_words.specs.declared.body.Stmt.{Stmt}
 use Rattle.apt_words.specs.declared.deed.Step.{Step}
-use Rattle.apt_unroll.specs.Situations.{Situation, first_situation}
+use Rattle.apt_unroll.specs.Stages.{Stage, first_stage}
 use Rattle.apt_unroll.specs.Actions.{Action, most_steps}
 use Rattle.apt_unroll.specs.Trace.{Trace, moment_of, about_to_run, moment, IsDone, AreRun, IsTrace, trace_from, trace_of}
 use Rattle.apt_unroll.proofs.Prefixes.{next_of}
@@ -15,19 +15,19 @@ abbrev IsTimed : ℕ → Option (ℕ × Action) → Type 0
 IsTimed n None = Unit {0}
 IsTimed n (Some (line, a)) = InTime n a
 
-moment_timed : (sts : List Stmt) (n : ℕ) (s : Situation) → IsTimed n (moment sts n s)
+moment_timed : (sts : List Stmt) (n : ℕ) (s : Stage) → IsTimed n (moment sts n s)
 moment_timed sts n s = by (about_to_run sts s)
   where
     by : (o : Option (ℕ × Stmt)) → IsTimed n (moment_of sts n s o)
     by None = tt
     by (Some (i, st)) = step_in_time sts n s i st
 
-pub few : (sts : List Stmt) (n : ℕ) (s : Situation) (step : Step) (next : Option Situation) → IsDone sts n s step next → n ≤ 200000
+pub few : (sts : List Stmt) (n : ℕ) (s : Stage) (step : Step) (next : Option Stage) → IsDone sts n s step next → n ≤ 200000
 few sts n s step next done = subst (IsTimed n) done.1 (moment_timed sts n s)
 
 -- ---- the trace is found
 
-found : (left n : ℕ) (sts : List Stmt) (s : Situation) (behind : List Situation) (steps : List Step) (fault : Option Refusal) → n + left ≡ 200002 → n ≤ 200001
+found : (left n : ℕ) (sts : List Stmt) (s : Stage) (behind : List Stage) (steps : List Step) (fault : Option Refusal) → n + left ≡ 200002 → n ≤ 200001
     → AreRun sts n (s ∷ behind) steps fault → trace_from left n sts s ≡ record { steps = steps; fault = fault }
 found left n sts s [] [] None count early run = absurd run
 found left n sts s [] [] (Some refusal) count early run =
@@ -46,14 +46,14 @@ found left n sts s (next ∷ behind) (step ∷ steps) fault count early run =
     rw (next_of left n sts s some, run.0.1, rest, sym run.0.0) refl
 
 pub trace_found : (sts : List Stmt) (t : Trace) → IsTrace sts t → t ≡ trace_of sts
-trace_found sts t is = sym (found (most_steps + 1) 1 sts first_situation is.behind t.steps t.fault refl (omega arith) is.run)
+trace_found sts t is = sym (found (most_steps + 1) 1 sts first_stage is.behind t.steps t.fault refl (omega arith) is.run)
 
 pub one_trace : (sts : List Stmt) (t other : Trace) → t ≡ trace_of sts → IsTrace sts other → other ≡ t
 one_trace sts t other e is = trace_found sts other is ∙ sym e
 
 -- ---- how many steps
 
-run_short : (n : ℕ) (sts : List Stmt) (s : Situation) (behind : List Situation) (steps : List Step) (fault : Option Refusal) → n ≤ 200001
+run_short : (n : ℕ) (sts : List Stmt) (s : Stage) (behind : List Stage) (steps : List Step) (fault : Option Refusal) → n ≤ 200001
     → AreRun sts n (s ∷ behind) steps fault → length steps + n ≤ 200001
 run_short n sts s [] [] None early run = absurd run
 run_short n sts s [] [] (Some refusal) early run = omega (arith, early)
@@ -66,4 +66,4 @@ run_short n sts s (next ∷ behind) (step ∷ steps) fault early run =
     omega (arith, run_short (n + 1) sts next behind steps fault (omega (arith, in_time)) run.1)
 
 pub few_steps : (sts : List Stmt) (t : Trace) → IsTrace sts t → length t.steps ≤ 200000
-few_steps sts t is = omega (arith, run_short 1 sts first_situation is.behind t.steps t.fault (omega arith) is.run)
+few_steps sts t is = omega (arith, run_short 1 sts first_stage is.behind t.steps t.fault (omega arith) is.run)

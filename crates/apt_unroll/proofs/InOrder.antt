@@ -15,14 +15,14 @@ use Rattle.apt_words.specs.declared.deed.Deed.TheVariants as deeds
 use Rattle.apt_scalar.specs.Meanings.{Names}
 use Rattle.apt_unroll.specs.Deeds.{execution, deed_of, names_behind}
 use Rattle.apt_unroll.specs.Places.{begins_macro, behind_macros, executed_from}
-use Rattle.apt_unroll.specs.Situations.{Situation}
+use Rattle.apt_unroll.specs.Stages.{Stage}
 use Rattle.apt_unroll.specs.Actions.{go_on, action, most_steps, step_of}
 use Rattle.apt_unroll.specs.Trace.{Trace, empty_trace, with_number, moment_of, moment, with_step, with_moment, trace_from, trace_of}
 use Rattle.apt_unroll.specs.Straight.{IsStraight, AreStraight, or_refused, deed_at, straight_from, in_order}
 use Rattle.apt_unroll.proofs.Nesting.{first_of, rest_of}
 
--- a situation outside of macros
-abbrev outside : ℕ → Bool → Names → Situation
+-- a stage outside of macros
+abbrev outside : ℕ → Bool → Names → Stage
 outside at ended names = record { at = at; ended = ended; names = names; calls = [] }
 
 -- ---- one statement
@@ -41,7 +41,7 @@ begins_none ProgramEnds rest straight = refl
 stays_put : (sts : List Stmt) (i : ℕ) (st : Stmt) (rest : List Stmt) → drop i sts ≡ st ∷ rest → AreStraight (st ∷ rest) → executed_from sts i ≡ i
 stays_put sts i st rest e straight = ap (behind_macros false i) e ∙ ap (λ b. if b then behind_macros true (i + 1) rest else i) (begins_none (flow_of st.body) rest straight)
 
-moment_is : (sts : List Stmt) (n : ℕ) (s : Situation) (st : Stmt) (rest : List Stmt) → drop s.at sts ≡ st ∷ rest → AreStraight (st ∷ rest)
+moment_is : (sts : List Stmt) (n : ℕ) (s : Stage) (st : Stmt) (rest : List Stmt) → drop s.at sts ≡ st ∷ rest → AreStraight (st ∷ rest)
     → moment sts n s ≡ Some (st.line, step_of sts n s s.at st)
 moment_is sts n s st rest e straight =
     ap (λ i. moment_of sts n s (with_number i (slice_get sts i))) (stays_put sts s.at st rest e straight)
@@ -50,7 +50,7 @@ moment_is sts n s st rest e straight =
 abbrev tested : {A : Type 0} → Bool → Bool → Result A Case → Result A Case
 tested late ended r = if late then Err cases.Budget else if ended then Err cases.AfterEnd else r
 
-onward : (late ended : Bool) (line n i : ℕ) (s : Situation) (d : Result Deed Case) (more : Situation → Trace) (rest : Deed → Trace)
+onward : (late ended : Bool) (line n i : ℕ) (s : Stage) (d : Result Deed Case) (more : Stage → Trace) (rest : Deed → Trace)
     → (late ≡ false → (deed : Deed) → more (record { at = i + 1; ended = is_ended s.ended deed; names = names_behind s.names deed; calls = s.calls }) ≡ rest deed)
     → with_moment n (Some (line, tested late ended (d >>= go_on i s))) more ≡ or_refused line n (tested late ended d) rest
 onward true ended line n i s d more rest h = refl
@@ -58,7 +58,7 @@ onward false true line n i s d more rest h = refl
 onward false false line n i s (Err case) more rest h = refl
 onward false false line n i s (Ok deed) more rest h = ap (with_step line n deed) (h refl deed)
 
-at_fini : (late ended : Bool) (line n : ℕ) (more : Situation → Trace) (rest : Deed → Trace) → rest deeds.Fini ≡ empty_trace
+at_fini : (late ended : Bool) (line n : ℕ) (more : Stage → Trace) (rest : Deed → Trace) → rest deeds.Fini ≡ empty_trace
     → with_moment n (Some (line, tested late ended (Ok (deeds.Fini, None)))) more ≡ or_refused line n (tested late ended (Ok deeds.Fini)) rest
 at_fini true ended line n more rest h = refl
 at_fini false true line n more rest h = refl

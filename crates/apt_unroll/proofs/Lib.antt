@@ -7,6 +7,7 @@ pub mod Nesting
 pub mod Going
 pub mod Found
 pub mod Steps
+pub mod Titles
 pub mod InOrder
 pub mod Prefixes
 mod Worked

@@ -21,7 +21,7 @@ use Rattle.apt_unroll.specs.Deeds.{three, four, coordinates, surfaces, circle_th
 use Rattle.apt_unroll.specs.Places.{regions_of}
 use Rattle.apt_unroll.specs.declared.places.Region.TheVariants as regions
 use Rattle.apt_unroll.specs.Calls.{bindings}
-use Rattle.apt_unroll.specs.Situations.{first_situation}
+use Rattle.apt_unroll.specs.Stages.{first_stage}
 use Rattle.apt_unroll.specs.Actions.{label_by, action, step_of}
 use Rattle.apt_unroll.specs.Trace.{Trace, trace_from, trace_of}
 
@@ -107,10 +107,10 @@ unfolding trace_from action deed_of execution coordinates
 figure_as_scalar = refl
 
 -- the 200,001st step is refused before all else
-too_many : step_of [] 200001 (record first_situation { ended = true }) 0 (on 1 bodies.Rapid) ≡ Err cases.Budget
+too_many : step_of [] 200001 (record first_stage { ended = true }) 0 (on 1 bodies.Rapid) ≡ Err cases.Budget
 too_many = refl
 
-last_of_all : step_of [] 200000 first_situation 0 (on 1 bodies.Fini) ≡ Ok (deeds.Fini, None)
+last_of_all : step_of [] 200000 first_stage 0 (on 1 bodies.Fini) ≡ Ok (deeds.Fini, None)
 unfolding action
 last_of_all = refl
 

@@ -1,4 +1,4 @@
--- What the statement of a situation does there, and where the run goes on.
+-- What the statement of a stage does there, and where the run goes on.
 use Rattle.std.specs.Prelude.{◌≡◌, ℕ, ◌+◌, ℤ, pos, int_lt, nat_lt, ◌==◌, ◌&&◌, not, List, [], ◌∷◌, length, slice_get, Option, Some, None, Result, Ok, Err, if◌then◌else◌}
 use Rattle.std.specs.Ordering.{int_eq}
 use Rattle.apt_words.specs.Chains.{◌>>=◌}
@@ -16,24 +16,24 @@ use Rattle.apt_unroll.specs.declared.numbers.Naming.TheVariants as namings
 use Rattle.apt_unroll.specs.Deeds.{deed_of, names_behind}
 use Rattle.apt_unroll.specs.Places.{named, target}
 use Rattle.apt_unroll.specs.Calls.{Formal, Actual, bindings}
-use Rattle.apt_unroll.specs.Situations.{Call, Situation, parameters}
+use Rattle.apt_unroll.specs.Stages.{Call, Stage, parameters}
 
--- a step's deed with the situation behind it, none behind FINI; or the case that refuses the step
+-- a step's deed with the stage behind it, none behind FINI; or the case that refuses the step
 abbrev pub Action : Type 0
-Action = Result (Deed × Option Situation) Case
+Action = Result (Deed × Option Stage) Case
 
 -- ---- the following statement
 
-abbrev pub go_on : ℕ → Situation → Deed → Action
+abbrev pub go_on : ℕ → Stage → Deed → Action
 go_on i s deed = Ok (deed, Some (record { at = i + 1; ended = is_ended s.ended deed; names = names_behind s.names deed; calls = s.calls }))
 
 -- what a statement does behind which the following one is executed
-abbrev pub onward : Situation → ℕ → Body → Action
+abbrev pub onward : Stage → ℕ → Body → Action
 onward s i body = deed_of s.names (parameters s.calls) body >>= go_on i s
 
 -- ---- a label
 
-abbrev pub jump_to : Situation → Deed → Option ℕ → Action
+abbrev pub jump_to : Stage → Deed → Option ℕ → Action
 jump_to s deed None = Err cases.JumpOutside
 jump_to s deed (Some j) = Ok (deed, Some (record s { at = j }))
 
@@ -46,7 +46,7 @@ label_by v below zero above = if int_lt v (pos 0) then below else if int_eq v (p
 abbrev pub most_calls : ℕ
 most_calls = 8
 
-abbrev pub enter : Situation → ℕ → ℕ → Parameters → Action
+abbrev pub enter : Stage → ℕ → ℕ → Parameters → Action
 enter s back first bound = Ok (deeds.Call, Some (record s { at = first; calls = record { back = back; bound = bound } ∷ s.calls }))
 
 abbrev pub parameters_at : Flow → Formal
@@ -65,7 +65,7 @@ formal_of None = []
 formal_of (Some st) = parameters_at (flow_of st.body)
 
 -- NoSuchMacro, then Depth at the ninth open call, then BadArgs and the values of the arguments
-abbrev pub call : List Stmt → Situation → ℕ → Actual → Option ℕ → Action
+abbrev pub call : List Stmt → Stage → ℕ → Actual → Option ℕ → Action
 call sts s i actual None = Err cases.NoSuchMacro
 call sts s i actual (Some k) =
     if length s.calls == most_calls then Err cases.Depth
@@ -74,14 +74,14 @@ call sts s i actual (Some k) =
 -- ---- a return
 
 -- a run comes to TERMAC in a call alone, so that one without a call can't come
-abbrev pub return : Situation → List Call → Action
+abbrev pub return : Stage → List Call → Action
 return s [] = Err cases.JumpOutside
 return s (c ∷ more) = Ok (deeds.Termac, Some (record s { at = c.back; calls = more }))
 
--- ---- the statement of a situation
+-- ---- the statement of a stage
 
 -- the i-th statement, by what it is to the flow; a MACRO is passed over, so that it can't come
-unfoldable pub action : List Stmt → Situation → ℕ → Body → Flow → Action
+unfoldable pub action : List Stmt → Stage → ℕ → Body → Flow → Action
 action sts s i body Onward = deed_of s.names (parameters s.calls) body >>= go_on i s
 action sts s i body (MacroBegins m ps) = Err cases.JumpOutside
 action sts s i body MacroEnds = return s s.calls
@@ -96,8 +96,8 @@ action sts s i body ProgramEnds = Ok (deeds.Fini, None)
 abbrev pub most_steps : ℕ
 most_steps = 200000
 
--- an action as it is done: the deed, and the situation behind it where there is one; or the case
-abbrev pub IsActed : Action → Result Deed Case → Situation → Type 0
+-- an action as it is done: the deed, and the stage behind it where there is one; or the case
+abbrev pub IsActed : Action → Result Deed Case → Stage → Type 0
 IsActed (Ok (deed, Some next)) (Ok d) now = (d ≡ deed) × (now ≡ next)
 IsActed (Ok (deed, None)) (Ok d) now = d ≡ deed
 IsActed (Err case) (Err c) now = c ≡ case
@@ -105,7 +105,7 @@ IsActed (Ok action) (Err c) now = ⊥
 IsActed (Err case) (Ok d) now = ⊥
 
 -- the n-th step: too many steps come first, then a statement but FINI behind END, then the refusals of the statement
-abbrev pub step_of : List Stmt → ℕ → Situation → ℕ → Stmt → Action
+abbrev pub step_of : List Stmt → ℕ → Stage → ℕ → Stmt → Action
 step_of sts n s i st =
     if nat_lt most_steps n then Err cases.Budget
     else if s.ended && not (is_fini st.body) then Err cases.AfterEnd

@@ -2,7 +2,7 @@ pub mod Deeds
 pub mod Places
 pub mod Tables
 pub mod Calls
-pub mod Situations
+pub mod Stages
 pub mod Actions
 pub mod Trace
 pub mod Straight

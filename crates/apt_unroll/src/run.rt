@@ -11,7 +11,7 @@ ghost use Rattle.apt_unroll.specs.Actions.{IsActed, action};
 ghost use Rattle.apt_unroll.specs.Deeds as defining;
 ghost use Rattle.apt_unroll.specs.Places.{begins_macro, goes_on, named};
 ghost use Rattle.apt_unroll.specs.declared.numbers.Naming.TheVariants as namings;
-ghost use Rattle.apt_unroll.specs.Situations as situations;
+ghost use Rattle.apt_unroll.specs.Stages as stages;
 
 use crate::calls::bindings;
 use crate::deeds::{bind_behind, deed_of};
@@ -31,7 +31,7 @@ pub(crate) struct Call {
 }
 
 impl Model for Call {
-    ghost use Rattle.apt_unroll.specs.Situations.{Call as Opened};
+    ghost use Rattle.apt_unroll.specs.Stages.{Call as Opened};
 
     ghost Value = { Opened };
 
@@ -54,7 +54,7 @@ impl MadeWith<Global> for Call {
     }
 }
 
-/// Where a run stands. Clauses see a situation.
+/// Where a run stands. Clauses see a stage.
 #[derive(Drop)]
 pub(crate) struct Run {
     at: usize,
@@ -68,9 +68,9 @@ pub(crate) struct Run {
 
 impl Model for Run {
     ghost use Rattle.std.specs.Prelude.{◌≡◌, [], reverse};
-    ghost use Rattle.apt_unroll.specs.Situations.{Situation};
+    ghost use Rattle.apt_unroll.specs.Stages.{Stage};
 
-    ghost Value = { Situation };
+    ghost Value = { Stage };
 
     ghost view = { λ r. record { at = r.at; ended = r.ended; names = r.env; calls = reverse r.calls.items } };
 
@@ -79,7 +79,7 @@ impl Model for Run {
 
 impl Run {
     pub(crate) fn new(alloc: Global) -> Run
-        ensures { result ≡ situations.first_situation }
+        ensures { result ≡ stages.first_stage }
     {
         Run {
             at: 0,
@@ -107,7 +107,7 @@ impl Run {
 
     /// The parameters of the running macro.
     fn frame(&self) -> &Frame
-        ensures { result.now ≡ situations.parameters self.now.calls }
+        ensures { result.now ≡ stages.parameters self.now.calls }
     {
         match self.calls.as_slice().last() {
             Some(call) => &call.frame,
@@ -117,7 +117,7 @@ impl Run {
 
     /// What a statement does, or its first refusal.
     pub(crate) fn deed(&self, body: &Body) -> Result<Result<Deed, Case>, AllocError>
-        ensures { IfOk result (λ deed. deed ≡ defining.deed_of self.now.names (situations.parameters self.now.calls) body.now) }
+        ensures { IfOk result (λ deed. deed ≡ defining.deed_of self.now.names (stages.parameters self.now.calls) body.now) }
     {
         deed_of(&self.env, self.frame(), body)
     }

@@ -1,11 +1,10 @@
 //! The trace of a program.
 
-ghost use Rattle.std.specs.Prelude.{◌≡◌, ◌≢◌, ◌<◌, ◌^◌, ◌++◌, ◌∷◌, [], false, None, Some, slice_get, IfOk, OnOk, IfSome, IsSome, option_map, vec_len, vec_capacity};
+ghost use Rattle.std.specs.Prelude.{◌≡◌, ◌<◌, ◌^◌, ◌++◌, ◌∷◌, [], false, None, Some, slice_get, IfOk, OnOk, IsSome, option_map, vec_len, vec_capacity};
 ghost use Rattle.apt_words.specs.Built.{AreBuilt, AreBuiltSteps};
 ghost use Rattle.apt_words.specs.Flow.{AreNested, flow_of, is_fini};
 ghost use Rattle.apt_words.specs.ProgramEnds.{StepsEnd};
 ghost use Rattle.apt_words.specs.Sources.{AreStmts, AreExecuted};
-ghost use Rattle.apt_words.specs.declared.Case.TheVariants as cases;
 ghost use Rattle.apt_scalar.specs.StepScalars.{AreScalars};
 ghost use Rattle.apt_unroll.specs.Actions.{IsActed, action, onward, step_of};
 ghost use Rattle.apt_unroll.specs.Places.{begins_macro, executed_from, goes_on};
@@ -63,7 +62,6 @@ pub fn unroll(alloc: Global, p: &Program) -> Result<Unrolled, AllocError>
     ensures scalars { IfOk result (λ u. AreScalars u.steps) }
     ensures built { IfOk result (λ u. AreBuiltSteps u.steps) }
     ensures sources { IfOk result (λ u. AreExecuted u.steps) }
-    ensures none_unbuilt { IfOk result (λ u. IfSome u.fault (λ refusal. refusal.case ≢ cases.NotBuilt)) }
     ensures ends { IfOk result (λ u. u.fault ≡ None → StepsEnd false u.steps) }
 {
     unroll_all(alloc, p)

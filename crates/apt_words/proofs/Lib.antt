@@ -3,3 +3,4 @@ pub mod Texts
 mod Words
 pub mod Bytes
 pub mod Rows
+pub mod Titles

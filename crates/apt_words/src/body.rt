@@ -92,56 +92,107 @@ impl Model for Args {
 /// A bool is true for LEFT. A stop that is left out is `To`, and a turn of the spindle `Cw`.
 #[derive(Drop)]
 pub enum Body {
+    /// `PARTNO` and the text behind it.
     Partno(Text),
+    /// `REMARK` and the text behind it.
     Remark(Text),
+    /// `UNITS/INCHES` or `UNITS/MM`.
     Units(Units),
+    /// `CLPRNT`.
     Clprnt,
+    /// `NOPOST`.
     Nopost,
+    /// `MACHIN/` and its list.
     Machin(Exprs),
+    /// `n=e`.
     Assign(Symbol, Expr),
+    /// `n=POINT/x,y` or `n=POINT/x,y,z`.
     PointXy(Symbol, Expr, Expr, Option<Expr>),
+    /// `n=POINT/INTOF,l,l`.
     PointLines(Symbol, Symbol, Symbol),
+    /// `n=POINT/k,INTOF,s,s`.
     PointPick(Symbol, Pick, Symbol, Symbol),
+    /// `n=POINT/CENTER,c`.
     PointCenter(Symbol, Symbol),
+    /// `n=LINE/x,y,x,y`.
     LineXy(Symbol, Expr, Expr, Expr, Expr),
+    /// `n=LINE/p,p`.
     LinePoints(Symbol, Symbol, Symbol),
+    /// `n=LINE/p,PARLEL,l`.
     LinePar(Symbol, Symbol, Symbol),
+    /// `n=LINE/p,PERPTO,l`.
     LinePerp(Symbol, Symbol, Symbol),
+    /// `n=LINE/PARLEL,l,k,e`.
     LineAt(Symbol, Symbol, Pick, Expr),
+    /// `n=LINE/p,h,TANTO,c`.
     LineTan(Symbol, Symbol, bool, Symbol),
+    /// `n=LINE/h,TANTO,c,h,TANTO,c`.
     LineTwo(Symbol, bool, Symbol, bool, Symbol),
+    /// `n=CIRCLE/e,e,e`, of numbers or of points.
     CircleThree(Symbol, Expr, Expr, Expr),
+    /// `n=CIRCLE/CENTER,p,RADIUS,e`.
     CircleRadius(Symbol, Symbol, Expr),
+    /// `n=CIRCLE/CENTER,p,TANTO,l`.
     CircleTan(Symbol, Symbol, Symbol),
+    /// `n=CIRCLE/CENTER,p,p`.
     CircleThrough(Symbol, Symbol, Symbol),
+    /// `n=CIRCLE/k,l,k,l,RADIUS,e`.
     CircleCorner(Symbol, Pick, Symbol, Pick, Symbol, Expr),
+    /// `CUTTER/e`.
     Cutter(Expr),
+    /// `INTOL/e`.
     Intol(Expr),
+    /// `OUTTOL/e`.
     Outtol(Expr),
+    /// `TLLFT`, `TLRGT` or `TLON`.
     Tool(Side),
+    /// `FROM/x,y` or `FROM/x,y,z`.
     FromXy(Expr, Expr, Option<Expr>),
+    /// `FROM/p`.
     FromPoint(Symbol),
+    /// `GOTO/x,y` or `GOTO/x,y,z`.
     GotoXy(Expr, Expr, Option<Expr>),
+    /// `GOTO/p`.
     GotoPoint(Symbol),
+    /// `GODLTA/x,y,z`.
     Godlta(Expr, Expr, Expr),
+    /// `GO/q,s` or `GO/q,s,q,s`.
     GoStart(Stop, Symbol, Option<(Stop, Symbol)>),
+    /// `GOLFT/s,q,s`, `GORGT`, `GOFWD` or `GOBACK`, behind a side or not.
     Contour(Option<Side>, Go, Symbol, Stop, Symbol),
+    /// `RAPID`.
     Rapid,
+    /// `STOP`.
     Halt,
+    /// `OPSTOP`.
     OptHalt,
+    /// `END`.
     EndWord,
+    /// `FINI`.
     Fini,
+    /// `FEDRAT/e`.
     Fedrat(Expr),
+    /// `SPINDL/e` with `CLW` or `CCLW`.
     Spindl(Expr, Turn),
+    /// `SPINDL/OFF`.
     SpindlOff,
+    /// `COOLNT/` with `MIST`, `FLOOD` or `OFF`.
     Coolnt(Cool),
+    /// `LOADTL/e`.
     Loadtl(Expr),
+    /// `m=MACRO` and its parameters.
     Macro(Symbol, Params),
+    /// `TERMAC`.
     Termac,
+    /// `CALL/m` and its arguments.
     Call(Symbol, Args),
+    /// `LOOPST`.
     Loopst,
+    /// `LOOPND`.
     Loopnd,
+    /// `JUMPTO/label`.
     Jumpto(Symbol),
+    /// `IF (e) label,label,label`.
     If(Expr, Symbol, Symbol, Symbol),
 }
 

@@ -77,40 +77,72 @@ pub enum Pick {
 /// Why a step of a part program is refused.
 #[derive(Clone, Copy, Debug, PartialEq, Eq)]
 pub enum Case {
+    /// It would be step 200,001.
     Budget,
+    /// Another statement than FINI stands behind END.
     AfterEnd,
+    /// A name has no value.
     Unknown,
+    /// A quotient by 0.
     DivideByZero,
+    /// The root of a negative value.
     NegativeRoot,
+    /// A result of more than 1,000,000 in size.
     TooLarge,
+    /// A jump in no loop and no macro, or out of its own.
     JumpOutside,
+    /// A call of a macro that is not there.
     NoSuchMacro,
+    /// The ninth open call.
     Depth,
+    /// Arguments that don't fit their macro, or the definition of a parameter.
     BadArgs,
+    /// A name stands for nothing.
     Undefined,
+    /// A name stands for another kind.
     WrongKind,
+    /// A number beyond its limits.
     OutOfRange,
+    /// A figure without extent or direction.
     Degenerate,
+    /// Curves of a definition that don't meet.
     NoMeeting,
+    /// A circle that reaches too far from an axis.
     CircleTooLarge,
+    /// A feed above the machine's greatest.
     FeedTooLarge,
+    /// A speed above the machine's greatest.
     SpindleTooLarge,
+    /// A tool number above the machine's greatest.
     ToolTooLarge,
+    /// FROM where the tool has a position.
     FromAgain,
+    /// A motion where the tool has no position.
     NoFrom,
+    /// A cut without a feed.
     NoFeed,
+    /// A contour behind RAPID.
     RapidContour,
+    /// A contour with both tolerances under a grid step.
     TooFine,
+    /// A turn that has no sense at the start.
     NoTurn,
+    /// The cutter does not fit within a circle.
     NoRoom,
+    /// The start is off the track.
     OffDrive,
+    /// The cutter stands on the surface before which, or behind which, it is to stop.
     OnCheck,
+    /// Lines that don't meet, circles about one centre, or a line that is to touch a line.
     Parallel,
+    /// Surfaces that don't touch.
     NotTangent,
+    /// A circle that misses the other surface.
     NoContact,
+    /// The stop is not ahead.
     Behind,
+    /// The contours of the program would have too many points.
     TooManyPoints,
-    NotBuilt,
 }
 
 /// The first step of a part program that is refused: its line, its number, both from 1, and the case.

@@ -43,7 +43,6 @@ impl Case {
             Case::NoContact => "NoContact",
             Case::Behind => "Behind",
             Case::TooManyPoints => "TooManyPoints",
-            Case::NotBuilt => "NotBuilt",
         }
     }
 }

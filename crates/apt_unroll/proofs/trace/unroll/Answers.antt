@@ -1,15 +1,13 @@
-use Rattle.std.proofs.Common.{◌≡◌, ◌≢◌, false, None}
-use Rattle.std.specs.Prelude.{IfSome}
+use Rattle.std.proofs.Common.{◌≡◌, false, None}
 use Rattle.std.proofs.lemmas.Result.{IfOk-weaker}
 use Rattle.apt_words.specs.Built.{AreBuiltSteps}
 use Rattle.apt_words.specs.ProgramEnds.{StepsEnd}
 use Rattle.apt_words.specs.Sources.{AreExecuted}
-use Rattle.apt_words.specs.declared.Case.TheVariants as cases
 use Rattle.apt_scalar.specs.StepScalars.{AreScalars}
 use Rattle.apt_unroll.specs.Trace.{IsTrace, Trace, trace_of}
 use Rattle.apt_unroll.proofs.Going.{has_trace}
 use Rattle.apt_unroll.proofs.Found.{one_trace}
-use Rattle.apt_unroll.proofs.Steps.{are_scalars, are_built, are_executed, none_unbuilt, end_once}
+use Rattle.apt_unroll.proofs.Steps.{are_scalars, are_built, are_executed, end_once}
 use Rattle.apt_unroll.proofs.trace.unroll.Goals as goal
 
 -- src/trace.rt:55:1
@@ -35,12 +33,6 @@ pub returns-clause-sources : goal.returns-clause-sources
 returns-clause-sources c =
     IfOk-weaker c.unroll_all.result (λ u. u ≡ trace_of c.args.p.now) (λ u. AreExecuted u.steps)
     (λ u is. are_executed c.args.p.now u c.requires.built c.requires.sources (has_trace c.args.p.now u c.requires.nested is)) c.unroll_all.ensures
-
--- src/trace.rt:55:1
-pub returns-clause-none_unbuilt : goal.returns-clause-none_unbuilt
-returns-clause-none_unbuilt c =
-    IfOk-weaker c.unroll_all.result (λ u. u ≡ trace_of c.args.p.now) (λ u. IfSome u.fault (λ refusal. refusal.case ≢ cases.NotBuilt))
-    (λ u is. none_unbuilt c.args.p.now u c.requires.built c.requires.sources (has_trace c.args.p.now u c.requires.nested is)) c.unroll_all.ensures
 
 -- src/trace.rt:55:1
 pub returns-clause-ends : goal.returns-clause-ends

@@ -8,15 +8,15 @@ pub record Call : Type 0 where
   pub bound : Parameters
 
 -- calls stand innermost first
-pub record Situation : Type 0 where
+pub record Stage : Type 0 where
   pub at : ℕ
   pub ended : Bool
   pub names : Names
   pub calls : List Call
 
 -- a program begins at its first statement, with no names
-abbrev pub first_situation : Situation
-first_situation = record { at = 0; ended = false; names = []; calls = [] }
+abbrev pub first_stage : Stage
+first_stage = record { at = 0; ended = false; names = []; calls = [] }
 
 -- the parameters of the running macro
 abbrev pub parameters : List Call → Parameters
