@@ -16,3 +16,4 @@ pub mod ByteLaws
 pub mod WordsFit
 pub mod PieceLaws
 mod Worked
+pub mod Lengths

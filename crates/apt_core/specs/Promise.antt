@@ -15,7 +15,7 @@ use Rattle.apt_report.specs.declared.status.Summary.TheVariants as summaries
 use Rattle.apt_certify.specs.declared.verdict.Verdict.{Verdict}
 use Rattle.apt_report.specs.Lines.{line_of}
 use Rattle.apt_part.specs.Compilation.{Compiled, part_of}
-use Rattle.apt_part.specs.Promise.{Promise}
+use Rattle.apt_part.specs.Promise.{Promise, file_limit}
 use Rattle.apt_core.specs.Words.{FourNames, TapeNames, Ask, Compile, Certify, Decode}
 use Rattle.apt_core.specs.Outputs.{Output, output_of, part_limit, machine_limit, Held, due}
 use Rattle.apt_core.specs.Delivery.{with_output, IsBegun}
@@ -150,10 +150,6 @@ pub record Compiles (n : FourNames) (before after : Files) (told : Status) : Typ
   pub writes_later : before.write_faults ≤ after.write_faults
 
 -- ---- `certify`
-
--- the longest CL file and the longest tape, in bytes
-abbrev pub file_limit : ℕ
-file_limit = 67108864
 
 -- the files that are read, in order
 abbrev pub inputs : FourNames → List Input

@@ -1,5 +1,5 @@
--- The compiler's records fit a CL file: their words fit its lengths, they are few, and FINI stands last.
-use Rattle.std.proofs.Common.{◌≡◌, ℕ, ◌+◌, ◌*◌, ◌≤◌, ℤ, pos, Bool, true, false, List, [], ◌∷◌, ◌++◌, length, map, Some, None, Ok, refl, subst, arith}
+-- The compiler's records fit a CL file: their words fit its lengths, they are few, their bytes are few, and FINI stands last.
+use Rattle.std.proofs.Common.{◌≡◌, ℕ, ◌+◌, ◌*◌, ◌≤◌, ℤ, pos, Bool, true, false, List, [], ◌∷◌, ◌++◌, length, map, Some, None, Ok, refl, ap, subst, arith}
 use Rattle.std.specs.Prelude.{MatchBool}
 use Rattle.std.proofs.lemmas.List.{length-map, length-append}
 use Rattle.apt_words.specs.declared.Side.{Side}
@@ -8,6 +8,7 @@ use Rattle.apt_words.specs.declared.Units.{Units}
 use Rattle.apt_words.specs.declared.deed.Deed.{Deed}
 use Rattle.apt_words.specs.declared.deed.Step.{Step}
 use Rattle.apt_words.specs.Sources.{DeedHasText, AreExecuted}
+use Rattle.apt_words.proofs.Titles.{title_length, title_lengths}
 use Rattle.apt_plane.specs.declared.figures.Pt.{Pt}
 use Rattle.apt_plane.specs.declared.figures.Surface.{Surface}
 use Rattle.apt_plane.specs.declared.figures.Surface.TheVariants as surfaces
@@ -18,6 +19,8 @@ use Rattle.apt_cldata.specs.declared.record.Record.TheVariants as records
 use Rattle.apt_cldata.specs.Ranges.{Mark, Begin, End, Fini, Other, mark_of, vertex_count, EndsBy, EndsOnce}
 use Rattle.apt_cldata.specs.Files.{is_fini_mark, HasFiniLast, IsShort, AreShort}
 use Rattle.apt_cldata.proofs.Conditions.{short_when}
+use Rattle.apt_cldata.proofs.RecordLaws.{triples_length}
+use Rattle.apt_cldata.proofs.Lengths.{bytes_in, bytes_of, bytes_of-append}
 use Rattle.apt_meaning.specs.declared.situation.Situation.{Situation}
 use Rattle.apt_meaning.specs.declared.effect.Effect.{Effect}
 use Rattle.apt_meaning.specs.declared.effect.Effect.TheVariants as effects
@@ -92,6 +95,49 @@ step_vertices step (effects.Sets s (Some note)) = refl
 step_vertices step (effects.Moves reach to) = refl
 step_vertices step (effects.Cuts m) = omega (arith, length-map (vertices_of m) (at_height m.start.z))
 
+-- ---- the bytes of a step
+
+note_bytes : (units : Units) (deed : Deed) (note : Note) → IsNoteOf units deed note → bytes_in (records.Note note) ≤ 44 + 8 * title_length deed
+note_bytes units deed (notes.Partno text) said = omega (arith, length-map text pos, ap title_length said)
+note_bytes units deed (notes.Units others) said = omega arith
+note_bytes units deed (notes.Cutter d) said = omega arith
+note_bytes units deed (notes.Intol t) said = omega arith
+note_bytes units deed (notes.Outtol t) said = omega arith
+note_bytes units deed (notes.Fedrat f) said = omega arith
+note_bytes units deed (notes.Spindl turn n) said = omega arith
+note_bytes units deed (notes.Coolnt c) said = omega arith
+note_bytes units deed (notes.Loadtl n) said = omega arith
+note_bytes units deed notes.Rapid said = omega arith
+note_bytes units deed notes.Stop said = omega arith
+note_bytes units deed notes.OptStop said = omega arith
+note_bytes units deed notes.End said = omega arith
+note_bytes units deed notes.Fini said = omega arith
+
+drive_bytes : (s : Surface) (side : Side) (sense : ℤ) → bytes_in (records.Drive s side sense) ≤ 84
+drive_bytes (surfaces.Line l) side sense = omega arith
+drive_bytes (surfaces.Circ c) side sense = omega arith
+
+check_bytes : (s : Surface) (how : Stop) → bytes_in (records.Check s how) ≤ 76
+check_bytes (surfaces.Line l) how = omega arith
+check_bytes (surfaces.Circ c) how = omega arith
+
+contour_bytes : (z : ℤ) (vertices : List Pt) → bytes_in (records.Contour (map (at_height z) vertices)) ≤ 28 + 24 * length vertices
+contour_bytes z vertices = omega (arith, triples_length (map (at_height z) vertices), length-map vertices (at_height z))
+
+effect_bytes : (at : Situation) (deed : Deed) (e : Effect) (vertices : List Pt) → IsSaidBy at deed e → bytes_of (effect_records e vertices) ≤ 188 + 24 * length vertices + 8 * title_length deed
+effect_bytes at deed (effects.Defines n f) vertices said = omega arith
+effect_bytes at deed (effects.Sets s None) vertices said = omega arith
+effect_bytes at deed (effects.Sets s (Some note)) vertices said = omega (arith, note_bytes at.settings.units deed note said.said)
+effect_bytes at deed (effects.Moves reach to) vertices said = omega arith
+effect_bytes at deed (effects.Cuts m) vertices said = omega (arith, drive_bytes m.drive m.side m.sense, check_bytes m.check m.how, contour_bytes m.start.z vertices)
+
+with_statement-bytes : (step : Step) (rs : List Record) → bytes_of (with_statement step rs) ≤ 44 + bytes_of rs
+with_statement-bytes step [] = omega arith
+with_statement-bytes step (r ∷ rs) = omega arith
+
+step_bytes : (at : Situation) (step : Step) (e : Effect) (vertices : List Pt) → IsSaidBy at step.deed e → bytes_of (records_of step e vertices) ≤ 232 + 24 * length vertices + 8 * title_length step.deed
+step_bytes at step e vertices said = omega (arith, effect_bytes at step.deed e vertices said, with_statement-bytes step (effect_records e vertices))
+
 -- ---- the records of all steps
 
 short-append : (xs ys : List Record) → AreShort xs → AreShort ys → AreShort (xs ++ ys)
@@ -107,14 +153,17 @@ pub record Fit (so_far : ℕ) (steps : List Step) (written : List Record) : Type
   pub short : AreShort written
   pub number : length written ≤ 4 * length steps
   pub vertices : so_far + vertex_count written ≤ most_points
+  pub bytes : bytes_of written ≤ 232 * length steps + 24 * vertex_count written + 8 * title_lengths steps
 
-fit_behind : (so_far : ℕ) (steps : List Step) (step : Step) (e : Effect) (rest : List Record) → AreShort (records_of step e (points_of e)) → Fit (so_far + length (points_of e)) steps rest
+fit_behind : (so_far : ℕ) (steps : List Step) (step : Step) (e : Effect) (rest : List Record) → AreShort (records_of step e (points_of e))
+    → bytes_of (records_of step e (points_of e)) ≤ 232 + 24 * length (points_of e) + 8 * title_length step.deed → Fit (so_far + length (points_of e)) steps rest
     → Fit so_far (step ∷ steps) (records_of step e (points_of e) ++ rest)
-fit_behind so_far steps step e rest are more =
+fit_behind so_far steps step e rest are bytes more =
     let front = records_of step e (points_of e) in record {
       short = short-append front rest are more.short;
       number = omega (arith, few_records step e (points_of e), more.number, length-append front rest);
       vertices = omega (arith, vertex_count-append front rest, step_vertices step e, more.vertices);
+      bytes = omega (arith, bytes_of-append front rest, bytes, more.bytes, vertex_count-append front rest, step_vertices step e);
     }
 
 few_points : (so_far n : ℕ) → so_far + n ≤ most_points → n ≤ most_points
@@ -122,14 +171,15 @@ few_points so_far n h = omega (arith, h)
 
 pub compiled_fit : (so_far : ℕ) (at : Situation) (steps : List Step) (written : List Record) → so_far ≤ most_points → AreExecuted steps → compilation_behind so_far at steps ≡ Ok written
     → Fit so_far steps written
-compiled_fit so_far at [] written few executed h = rw (nothing_left written h) (record { short = tt; number = omega arith; vertices = omega (arith, few) })
+compiled_fit so_far at [] written few executed h = rw (nothing_left written h) (record { short = tt; number = omega arith; vertices = omega (arith, few); bytes = omega arith })
 compiled_fit so_far at (step ∷ steps) written few executed h =
     let d = done so_far step (refusal_of at step.deed) (effect_of at step.deed) (behind_step so_far at step steps) written h in
     let e = d.e in
     let n = so_far + length (points_of e) in
     let f = front_ok (records_of step e (points_of e)) (compilation_behind n (after at e (ends_of e)) steps) written d.rest in
-    let short = effect_short at step.deed e (points_of e) executed.0.text (said_by at step.deed e d.asked) (few_points so_far (length (points_of e)) d.few) in
-    rw f.2 (fit_behind so_far steps step e f.0 (with_statement-short step (effect_records e (points_of e)) short) (compiled_fit n (after at e (ends_of e)) steps f.0 d.few executed.1 f.1))
+    let said = said_by at step.deed e d.asked in
+    let short = effect_short at step.deed e (points_of e) executed.0.text said (few_points so_far (length (points_of e)) d.few) in
+    rw f.2 (fit_behind so_far steps step e f.0 (with_statement-short step (effect_records e (points_of e)) short) (step_bytes at step e (points_of e) said) (compiled_fit n (after at e (ends_of e)) steps f.0 d.few executed.1 f.1))
 
 -- ---- the end
 

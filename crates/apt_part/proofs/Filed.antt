@@ -1,21 +1,28 @@
--- The compiler's records are those of a CL file.
-use Rattle.std.proofs.Common.{◌≡◌, false, List, None, Ok, arith}
+-- The compiler's records are those of a CL file, and neither it nor the tape is too long.
+use Rattle.std.proofs.Common.{◌≡◌, ◌≤◌, false, List, length, None, Ok, arith}
 use Rattle.apt_words.specs.declared.body.Stmt.{Stmt}
 use Rattle.apt_words.specs.declared.deed.Step.{Step}
 use Rattle.apt_words.specs.ProgramEnds.{StepsEnd}
 use Rattle.apt_words.specs.Sources.{AreExecuted}
+use Rattle.apt_words.proofs.Titles.{title_lengths}
 use Rattle.apt_scalar.specs.StepScalars.{AreScalars}
 use Rattle.apt_unroll.specs.Trace.{IsTrace}
 use Rattle.apt_unroll.proofs.Found.{few_steps}
 use Rattle.apt_cldata.specs.declared.record.Record.{Record}
-use Rattle.apt_cldata.specs.Files.{IsFile}
+use Rattle.apt_cldata.specs.Files.{file_of, IsFile}
+use Rattle.apt_cldata.proofs.Lengths.{file_length}
 use Rattle.apt_meaning.specs.Situations.{first_situation}
 use Rattle.apt_meaning.specs.Records.{AreLegal}
 use Rattle.apt_meaning.specs.Compiled.{compilation}
 use Rattle.apt_meaning.proofs.Kept.{first_situation-IsSituation}
 use Rattle.apt_meaning.proofs.Walk.{compiled_follows}
 use Rattle.apt_meaning.proofs.Ends.{ends_once}
-use Rattle.apt_meaning.proofs.Files.{compiled_fit, fini_last}
+use Rattle.apt_meaning.proofs.Files.{Fit, compiled_fit, fini_last}
+use Rattle.apt_machine.specs.declared.machine.Machine.{Machine}
+use Rattle.apt_post.specs.Plan.{plan}
+use Rattle.apt_post.specs.Blocks.{tape_bytes}
+use Rattle.apt_post.proofs.Lengths.{plan_length}
+use Rattle.apt_part.specs.Promise.{file_limit}
 
 pub compiled_file : (statements : List Stmt) (steps : List Step) (written : List Record) → IsTrace statements (record { steps = steps; fault = None })
     → AreScalars steps → AreExecuted steps → StepsEnd false steps → compilation first_situation steps ≡ Ok written → IsFile written
@@ -28,3 +35,9 @@ compiled_file statements steps written trace scalars executed ends compiled =
       short = fit.short;
       numbers = omega (arith, fit.number, few);
     }
+
+pub file_fits : (steps : List Step) (written : List Record) → Fit 0 steps written → length steps ≤ 200000 → title_lengths steps ≤ 256 → length (file_of written) ≤ file_limit
+file_fits steps written fit few titles = omega (arith, file_length written, fit.bytes, fit.vertices, few, titles)
+
+pub tape_fits : (m : Machine) (steps : List Step) (written : List Record) → Fit 0 steps written → length steps ≤ 200000 → length (tape_bytes m (plan written)) ≤ file_limit
+tape_fits m steps written fit few = omega (arith, plan_length m written, fit.number, fit.vertices, few)

@@ -8,15 +8,18 @@ use Rattle.apt_words.specs.declared.body.Stmt.{Stmt}
 use Rattle.apt_words.specs.declared.deed.Step.{Step}
 use Rattle.apt_words.specs.Built.{AreBuilt}
 use Rattle.apt_words.specs.Sources.{AreStmts}
+use Rattle.apt_words.proofs.Titles.{HasTitle, titles_short}
 use Rattle.apt_parse.proofs.AllBuilt.{program_of-built}
 use Rattle.apt_parse.proofs.AllSources.{program_of-stmts}
+use Rattle.apt_parse.proofs.Titled.{program_of-titled}
 use Rattle.apt_words.specs.Flow.{AreNested}
 use Rattle.apt_words.specs.ProgramEnds.{StepsEnd}
 use Rattle.apt_parse.specs.Programs.{Fault, program_of}
 use Rattle.apt_parse.proofs.Nesting.{program_of-nested}
 use Rattle.apt_unroll.specs.Trace.{Trace, IsTrace, trace_of}
 use Rattle.apt_unroll.proofs.Going.{has_trace}
-use Rattle.apt_unroll.proofs.Found.{trace_found}
+use Rattle.apt_unroll.proofs.Found.{trace_found, few_steps}
+use Rattle.apt_unroll.proofs.Titles.{steps_titled}
 use Rattle.apt_unroll.proofs.Steps.{are_scalars, are_built, are_executed, end_once}
 use Rattle.apt_cldata.specs.declared.record.Record.{Record}
 use Rattle.apt_cldata.specs.Ranges.{vertex_count}
@@ -36,7 +39,7 @@ use Rattle.apt_post.proofs.Reaching.{plan_reaches}
 use Rattle.apt_post.proofs.Programs.{planned_program}
 use Rattle.apt_part.specs.Compilation.{earliest_of, refusal_by, unless_refused, steps_or_fault, steps_of, Compiled, earlier, unless_fault, records_by, with_steps, or_fault, part_of}
 use Rattle.apt_part.specs.Promise.{Passes, Promise, AreSteps}
-use Rattle.apt_part.proofs.Filed.{compiled_file}
+use Rattle.apt_part.proofs.Filed.{compiled_file, file_fits, tape_fits}
 use Rattle.apt_part.proofs.Written.{compiled_written}
 
 -- a fact of all programs of texts
@@ -167,15 +170,21 @@ promised machine text p is h =
     let are = are_steps machine text p.steps q.passes in
     let follow = compiled_follows 0 first_situation p.steps p.records first_situation-IsSituation are.scalars are.sources q.compiled in
     let ends : StepsEnd false p.steps = end_once q.passes.statements (record { steps = p.steps; fault = None }) q.passes.unrolled refl in
+    let trace : Trace = record { steps = p.steps; fault = None } in
+    let fit = compiled_fit 0 first_situation p.steps p.records (omega arith) are.sources q.compiled in
+    let few = few_steps q.passes.statements trace q.passes.unrolled in
+    let titled = steps_titled q.passes.statements trace (of_text HasTitle text q.passes.statements q.passes.read (program_of-titled text)) q.passes.unrolled in
     let can = compiled_written machine nothing_pending 0 first_situation p.steps p.records is (record { feed = refl; rapid = refl }) (record { most = omega (arith, ints) }) first_situation-IsSituation are.scalars are.sources q.passes.within q.compiled in record {
       passes = q.passes;
       compiled = q.compiled;
       behind = follow.behind;
       follow = follow.follows;
       own = follow.own;
-      few = few_from_none (vertex_count p.records) (compiled_fit 0 first_situation p.steps p.records (omega arith) are.sources q.compiled).vertices;
+      few = few_from_none (vertex_count p.records) fit.vertices;
       stands = stands AreLegal first_situation p.steps p.records follow.behind follow.follows;
       file = compiled_file q.passes.statements p.steps p.records q.passes.unrolled are.scalars are.sources ends q.compiled;
+      file_fits = file_fits p.steps p.records fit few (titles_short p.steps titled are.sources);
       reached = plan_reaches p.records;
       program = planned_program p.records (ends_once AreLegal false first_situation p.steps p.records follow.behind follow.follows ends) can;
+      tape_fits = tape_fits machine p.steps p.records fit few;
     }

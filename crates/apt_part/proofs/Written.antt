@@ -34,7 +34,7 @@ use Rattle.apt_meaning.specs.Compiled.{ends_of, points_of, compilation_behind}
 use Rattle.apt_meaning.specs.Ranges.{IsSituation}
 use Rattle.apt_scalar.specs.StepScalars.{AreScalars}
 use Rattle.apt_meaning.specs.Sayings.{settings_with, IsNoteOf, IsSaidBy}
-use Rattle.apt_meaning.proofs.Refused.{first_none}
+use Rattle.apt_words.proofs.Rows.{first_none}
 use Rattle.apt_meaning.proofs.Said.{said_by}
 use Rattle.apt_meaning.proofs.Fed.{IsFed, fed}
 use Rattle.apt_meaning.proofs.Asked.{answered}

@@ -1,5 +1,5 @@
 -- What holds of the steps of a text and of their records.
-use Rattle.std.specs.Prelude.{◌≡◌, ◌≤◌, ℕ, List, None, Ok}
+use Rattle.std.specs.Prelude.{◌≡◌, ◌≤◌, ℕ, List, length, None, Ok}
 use Rattle.apt_words.specs.declared.body.Stmt.{Stmt}
 use Rattle.apt_words.specs.declared.deed.Step.{Step}
 use Rattle.apt_words.specs.Built.{AreBuiltSteps}
@@ -8,7 +8,7 @@ use Rattle.apt_parse.specs.Programs.{program_of}
 use Rattle.apt_scalar.specs.StepScalars.{AreScalars}
 use Rattle.apt_unroll.specs.Trace.{IsTrace}
 use Rattle.apt_cldata.specs.Ranges.{vertex_count}
-use Rattle.apt_cldata.specs.Files.{IsFile}
+use Rattle.apt_cldata.specs.Files.{file_of, IsFile}
 use Rattle.apt_meaning.specs.declared.situation.Situation.{Situation}
 use Rattle.apt_meaning.specs.Situations.{first_situation}
 use Rattle.apt_meaning.specs.Compiled.{first_refused, compilation, most_points}
@@ -16,7 +16,7 @@ use Rattle.apt_meaning.specs.Records.{AreOwn, FollowsAs, FollowsLegally, stand_o
 use Rattle.apt_machine.specs.declared.machine.Machine.{Machine}
 use Rattle.apt_post.specs.Limits.{limits}
 use Rattle.apt_post.specs.Plan.{plan, positions, points}
-use Rattle.apt_post.specs.Blocks.{IsProgram}
+use Rattle.apt_post.specs.Blocks.{tape_bytes, IsProgram}
 use Rattle.apt_part.specs.Compilation.{Compiled}
 
 -- these are the steps of the one trace of a text, all of them, and no case and no limit of the machine refuses one
@@ -27,8 +27,13 @@ pub record Passes (machine : Machine) (text : List ℕ) (steps : List Step) : Ty
   pub within : limits machine steps ≡ None
   pub fine : first_refused first_situation steps ≡ None
 
+-- the longest CL file and the longest tape, in bytes: 64 MiB
+abbrev pub file_limit : ℕ
+file_limit = 67108864
+
 -- the records follow the steps; every contour is legal, and its vertices are the compiler's own, not too many in all; the records leave the
--- tool where the steps have it, and are those of a CL file; the acts that they ask for lead where they lead, and are a program of a control
+-- tool where the steps have it, and are those of a CL file; the acts that they ask for lead where they lead, and are a program of a control.
+-- Neither the file nor the tape is too long to be read again
 pub record Promise (machine : Machine) (text : List ℕ) (p : Compiled) : Type 0 where
   pub passes : Passes machine text p.steps
   pub compiled : compilation first_situation p.steps ≡ Ok p.records
@@ -38,8 +43,10 @@ pub record Promise (machine : Machine) (text : List ℕ) (p : Compiled) : Type 0
   pub few : vertex_count p.records ≤ most_points
   pub stands : stand_of None p.records ≡ behind.position
   pub file : IsFile p.records
+  pub file_fits : length (file_of p.records) ≤ file_limit
   pub reached : positions (plan p.records) ≡ points p.records
   pub program : IsProgram (plan p.records)
+  pub tape_fits : length (tape_bytes machine (plan p.records)) ≤ file_limit
 
 -- what the crates below know of steps
 pub record AreSteps (steps : List Step) : Type 0 where

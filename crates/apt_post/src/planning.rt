@@ -143,7 +143,7 @@ fn push_acts(acts: &mut Vec<Act>, p: Pending, r: &Record) -> Result<(), AllocErr
     match r {
         Record::Note(note) => push_act(acts, note_act(p, note)),
         Record::Point(reach, to) => push_act(acts, point_act(p, *reach, *to)),
-        Record::Contour(vertices) => push_cuts(acts, p, &vertices.at),
+        Record::Contour(vertices) => push_cuts(acts, p, vertices.as_slice()),
         _ => Ok(()),
     }
 }
@@ -152,7 +152,7 @@ fn segments_of(r: &Record) -> usize
     ensures { result ≡ plans.record_segments r.now }
 {
     match r {
-        Record::Contour(vertices) => vertices.at.len(),
+        Record::Contour(vertices) => vertices.as_slice().len(),
         _ => 0,
     }
 }

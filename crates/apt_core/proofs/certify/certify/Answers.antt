@@ -2,7 +2,8 @@ use Rattle.std.proofs.Common.{[], ◌∷◌, refl}
 use Rattle.apt_core.specs.Outputs.{part_limit, machine_limit}
 use Rattle.apt_core.specs.Request.{four_names}
 use Rattle.apt_core.specs.Inputs.{input}
-use Rattle.apt_core.specs.Promise.{Files, file_limit, files_on}
+use Rattle.apt_core.specs.Promise.{Files, files_on}
+use Rattle.apt_part.specs.Promise.{file_limit}
 use Rattle.apt_core.proofs.Readings.{AreRead, read_on, reads_on, not_read_on}
 use Rattle.apt_core.proofs.Certifying.{unread_certifies}
 use Rattle.apt_core.proofs.certify.certify.Goals as goal

@@ -1,0 +1,27 @@
+-- How many bytes a file has.
+use Rattle.std.proofs.Common.{◌≡◌, ℕ, ◌+◌, ◌*◌, pos, List, [], ◌∷◌, ◌++◌, length, refl, arith}
+use Rattle.std.proofs.lemmas.List.{length-append}
+use Rattle.apt_cldata.specs.declared.record.Record.{Record}
+use Rattle.apt_cldata.specs.Words.{words_of}
+use Rattle.apt_cldata.specs.Files.{head, record_bytes, records_bytes, file_of}
+use Rattle.apt_cldata.proofs.PieceLaws.{framed_length}
+
+-- the bytes of a record: four for its length, and eight for its number and for each of its words
+abbrev pub bytes_in : Record → ℕ
+bytes_in r = 12 + 8 * length (words_of r)
+
+abbrev pub bytes_of : List Record → ℕ
+bytes_of [] = 0
+bytes_of (r ∷ rs) = bytes_in r + bytes_of rs
+
+pub bytes_of-append : (xs ys : List Record) → bytes_of (xs ++ ys) ≡ bytes_of xs + bytes_of ys
+bytes_of-append [] ys = omega arith
+bytes_of-append (x ∷ xs) ys = omega (arith, bytes_of-append xs ys)
+
+records_length : (seq : ℕ) (rs : List Record) → length (records_bytes seq rs) ≡ bytes_of rs
+records_length seq [] = refl
+records_length seq (r ∷ rs) =
+    omega (arith, length-append (record_bytes seq r) (records_bytes (seq + 1) rs), framed_length (pos seq ∷ words_of r), records_length (seq + 1) rs)
+
+pub file_length : (rs : List Record) → length (file_of rs) ≡ 8 + bytes_of rs
+file_length rs = omega (arith, length-append head (records_bytes 1 rs), records_length 1 rs)

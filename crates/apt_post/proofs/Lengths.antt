@@ -1,0 +1,106 @@
+-- How many bytes a tape has: at most 44 a block, and a block for the units, each record and each vertex.
+use Rattle.std.proofs.Common.{◌≡◌, ℕ, ◌+◌, ◌*◌, ◌≤◌, ◌==◌, pos, Bool, true, false, List, [], ◌∷◌, ◌++◌, map, length, refl, arith}
+use Rattle.std.specs.Prelude.{if◌then◌else◌, ◌%◌}
+use Rattle.std.proofs.lemmas.List.{length-map, length-append}
+use Rattle.apt_words.specs.declared.Units.TheVariants.{Inch, Mm}
+use Rattle.apt_words.specs.declared.Turn.TheVariants as turns
+use Rattle.apt_words.specs.declared.Cool.TheVariants as coolants
+use Rattle.apt_tapecode.specs.Tapecode.{byte_of}
+use Rattle.apt_cldata.specs.declared.record.Reach.TheVariants as reaches
+use Rattle.apt_cldata.specs.declared.record.Note.{Note}
+use Rattle.apt_cldata.specs.declared.record.Note.TheVariants as notes
+use Rattle.apt_cldata.specs.declared.record.Record.{Record}
+use Rattle.apt_cldata.specs.declared.record.Record.TheVariants as records
+use Rattle.apt_cldata.specs.Ranges.{vertices_in, vertex_count}
+use Rattle.apt_machine.specs.declared.machine.Machine.{Machine}
+use Rattle.apt_block.specs.declared.block.TapeWord.{TapeWord}
+use Rattle.apt_block.specs.Block.{spelling, tape_word, letter_n}
+use Rattle.apt_control.specs.declared.Act.{Act}
+use Rattle.apt_control.specs.declared.Act.TheVariants as acts
+use Rattle.apt_post.specs.declared.planning.Pending.{Pending}
+use Rattle.apt_post.specs.Plan.{cut_to, end_of, note_acts, record_acts, record_pending, acts_from, nothing_pending, plan}
+use Rattle.apt_post.specs.Blocks.{act_words, act_block, acts_text, tape_text, tape_bytes}
+
+-- ---- a block
+
+block_length : (none : Bool) (n : ℕ) (act : Act) → length (spelling ((if none then [] else tape_word letter_n (pos n) ∷ []) ++ act_words act)) ≤ 44
+block_length true n (acts.Units Inch) = omega arith
+block_length true n (acts.Units Mm) = omega arith
+block_length true n (acts.Rapid x y z) = omega arith
+block_length true n (acts.Cut x y z feed) = omega arith
+block_length true n (acts.Spindle turns.Cw s) = omega arith
+block_length true n (acts.Spindle turns.Ccw s) = omega arith
+block_length true n (acts.Spindle turns.Off s) = omega arith
+block_length true n (acts.Tool t) = omega arith
+block_length true n (acts.Coolant coolants.Mist) = omega arith
+block_length true n (acts.Coolant coolants.Flood) = omega arith
+block_length true n (acts.Coolant coolants.Off) = omega arith
+block_length true n acts.Stop = omega arith
+block_length true n acts.OptStop = omega arith
+block_length true n acts.End = omega arith
+block_length false n (acts.Units Inch) = omega arith
+block_length false n (acts.Units Mm) = omega arith
+block_length false n (acts.Rapid x y z) = omega arith
+block_length false n (acts.Cut x y z feed) = omega arith
+block_length false n (acts.Spindle turns.Cw s) = omega arith
+block_length false n (acts.Spindle turns.Ccw s) = omega arith
+block_length false n (acts.Spindle turns.Off s) = omega arith
+block_length false n (acts.Tool t) = omega arith
+block_length false n (acts.Coolant coolants.Mist) = omega arith
+block_length false n (acts.Coolant coolants.Flood) = omega arith
+block_length false n (acts.Coolant coolants.Off) = omega arith
+block_length false n acts.Stop = omega arith
+block_length false n acts.OptStop = omega arith
+block_length false n acts.End = omega arith
+
+text_length : (step k : ℕ) (acts : List Act) → length (acts_text step k acts) ≤ 44 * length acts
+text_length step k [] = omega arith
+text_length step k (act ∷ more) =
+    let block = spelling (act_block step k act) in
+    omega (arith, length-append block (acts_text step (k + 1) more), block_length (step == 0) (1 + (k * step) % 9999) act, text_length step (k + 1) more)
+
+tape_length : (m : Machine) (acts : List Act) → length (tape_bytes m acts) ≤ 2 + 44 * length acts
+tape_length m acts = omega (arith, length-map (tape_text m.seq acts) (byte_of m.code), text_length m.seq 0 acts)
+
+-- ---- the acts of records
+
+end_once : (ended : Bool) → length (if ended then [] else acts.End ∷ []) ≤ 1
+end_once true = omega arith
+end_once false = omega arith
+
+note_few : (p : Pending) (note : Note) → length (note_acts p note) ≤ 1
+note_few p (notes.Partno text) = omega arith
+note_few p (notes.Units units) = omega arith
+note_few p (notes.Cutter d) = omega arith
+note_few p (notes.Intol t) = omega arith
+note_few p (notes.Outtol t) = omega arith
+note_few p (notes.Fedrat f) = omega arith
+note_few p (notes.Spindl turn n) = omega arith
+note_few p (notes.Coolnt c) = omega arith
+note_few p (notes.Loadtl n) = omega arith
+note_few p notes.Rapid = omega arith
+note_few p notes.Stop = omega arith
+note_few p notes.OptStop = omega arith
+note_few p notes.End = end_once p.ended
+note_few p notes.Fini = end_once p.ended
+
+record_few : (p : Pending) (r : Record) → length (record_acts p r) ≤ 1 + vertices_in r
+record_few p (records.Statement line step) = omega arith
+record_few p (records.Note note) = note_few p note
+record_few p (records.Drive surface side sense) = omega arith
+record_few p (records.Check surface how) = omega arith
+record_few p (records.Point reaches.From to) = omega arith
+record_few p (records.Point reaches.Goto to) = omega arith
+record_few p (records.Point reaches.Godlta to) = omega arith
+record_few p (records.Point reaches.Start to) = omega arith
+record_few p (records.Contour vertices) = omega (arith, length-map vertices (cut_to p))
+
+acts_few : (p : Pending) (rs : List Record) → length (acts_from p rs) ≤ length rs + vertex_count rs
+acts_few p [] = omega arith
+acts_few p (r ∷ rs) =
+    omega (arith, length-append (record_acts p r) (acts_from (record_pending p r) rs), record_few p r, acts_few (record_pending p r) rs)
+
+-- ---- the tape of records
+
+pub plan_length : (m : Machine) (rs : List Record) → length (tape_bytes m (plan rs)) ≤ 46 + 44 * (length rs + vertex_count rs)
+plan_length m rs = omega (arith, tape_length m (plan rs), acts_few nothing_pending rs)
