@@ -1,4 +1,4 @@
--- Where nothing refuses, an arc meets its stop before the axis, or on its ray, and its end is not in the direction of its start. The axis leads from the centre towards the stop.
+-- Where nothing refuses, an arc meets its stop before the axis, or on its ray. The axis leads from the centre towards the stop.
 use Rattle.std.proofs.Common.{◌≡◌, ◌≢◌, ◌⊎◌, ℕ, ◌+◌, ◌*◌, ◌≤◌, ◌<◌, subst, arith, ℤ, pos, ◌+ℤ◌, ◌-ℤ◌, ◌<ℤ◌, ◌≤ℤ◌, unsigned_abs, inl, inr, neg_ℤ, ◌*ℤ◌}
 use Rattle.std.proofs.Math.Nat.{mul-le-mul_left}
 use Rattle.std.proofs.lemmas.Int.{ints}
@@ -21,7 +21,6 @@ use Rattle.apt_arc.proofs.Tracks.{within, within_large, radius_is, nearby, near_
 use Rattle.apt_plane.proofs.Governed.{IsHardlyAcross, IsHardlyNearerTo, IsOnRay, away_reached}
 use Rattle.apt_plane.proofs.Kept.{IsStopped}
 use Rattle.apt_plane.proofs.NearRows.{IsNearRow, near_reached}
-use Rattle.apt_plane.proofs.Apart.{away_apart, near_apart}
 
 -- ---- an end at most a unit from its track
 shorter : (p : ℕ) (r : ℤ) → r ≡ pos (p + 3) → r -ℤ pos 1 ≡ pos (p + 2)
@@ -55,21 +54,10 @@ pub record EndsPast (a : Arc) (b : Dir) : Type 0 where
   pub side : (turned_by a.sense b (to_end a) ≤ℤ pos 0) ⊎ IsHardlyAcross a.sense b (to_end a)
 
 abbrev pub Arrives : Arc → Dir → Type 0
-Arrives a b = (Cyc (to_start a) a.sense (to_end a) b ⊎ IsOnRay a.sense b (to_end a)) × (turn_class (to_start a) a.sense (to_end a) ≢ 0)
-
-some_length : (p n k : ℕ) → 97 ≤ p → (p + k) * (p + k) ≤ n → 0 < n
-some_length p n k least h = omega (arith, h, least, mul-le-mul_left p least)
+Arrives a b = Cyc (to_start a) a.sense (to_end a) b ⊎ IsOnRay a.sense b (to_end a)
 
 pub away_arrives : (a : Arc) (b : Dir) → IsRoute a → EndsPast a b → ¬ IsHardlyNearerTo b (to_start a) (to_end a) → Arrives a b
-away_arrives a b is past nearer =
-    let vs = to_start a in
-    let ve = to_end a in
-    let p = within a.track in
-    let least = within_large a.track is.track in
-    let low : (p + 0) * (p + 0) ≤ length_squared vs = omega (arith, (nearby a.track a.start is.track is.start).low) in (
-      away_reached a.sense vs ve b is.sense past.some nearer past.side,
-      away_apart a.sense vs ve b is.sense (some_length p (length_squared vs) 0 least low) (some_length p (length_squared ve) 2 least (on_circle a.track a.end is.track is.end).low) nearer,
-    )
+away_arrives a b is past nearer = away_reached a.sense (to_start a) (to_end a) b is.sense past.some nearer past.side
 
 -- the start lies more than 8 before the axis
 pub near_arrives : (a : Arc) (b : Dir) → IsRoute a → EndsPast a b → pos 0 <ℤ turned_by a.sense b (to_start a)
@@ -89,11 +77,11 @@ near_arrives a b is past ahead far =
       far = far;
       hardly = past.side;
     } in
-    (near_reached p a.sense vs ve b row, near_apart p a.sense vs ve b row)
+    near_reached p a.sense vs ve b row
 
 -- ---- so it can be divided
-pub is_arc : (a : Arc) → IsRoute a → turn_class (to_start a) a.sense (to_end a) ≢ 0 → IsArc a
-is_arc a is apart = record { track = is.track; sense = is.sense; axis = is.axis; sag = is.sag; start = is.start; end = near_end a is; apart = apart }
+pub is_arc : (a : Arc) → IsRoute a → IsArc a
+is_arc a is = record { track = is.track; sense = is.sense; axis = is.axis; sag = is.sag; start = is.start; end = near_end a is; apart = is.apart }
 
 pub stopped : (a : Arc) (b : Dir) → IsRoute a → 0 < length_squared b → Cyc (to_start a) a.sense (to_end a) b ⊎ IsOnRay a.sense b (to_end a)
     → IsStopped (within a.track) a.sense (to_start a) (to_end a) b

@@ -69,8 +69,8 @@ inside_vertex a q S is some met large start end x (inr vertex) =
 kept : (a : Arc) (q : Pt) (S : ℕ) → IsRoute a → 0 < length_squared (displacement q a.track.c) → Arrives a (displacement q a.track.c) → 58 ≤ S
     → length_squared (displacement q a.start) ≤ (S + 8) * (S + 8) → length_squared (displacement q a.end) ≤ (S + 1) * (S + 1) → (list : List Pt) → IsDivision a list → EveryChord a.start list (IsUnder (about q) (pos (S + 12)))
 kept a q S is some arrives large start end =
-    chords_of a (IsUnder (about q) (pos (S + 12))) (is_arc a is arrives.1) (λ p r u v. under-between q p r (pos (S + 12)) u v)
-    (under_to q (S + 12) a.start (wider S (length_squared (displacement q a.start)) 8 (omega arith) start)) (inside_vertex a q S is some arrives.0 large start end)
+    chords_of a (IsUnder (about q) (pos (S + 12))) (is_arc a is) (λ p r u v. under-between q p r (pos (S + 12)) u v)
+    (under_to q (S + 12) a.start (wider S (length_squared (displacement q a.start)) 8 (omega arith) start)) (inside_vertex a q S is some arrives large start end)
 
 -- ---- which way it arrives
 reverse_parts : (z a b c d x y : ℤ) → z *ℤ (((a -ℤ c) *ℤ y) -ℤ ((b -ℤ d) *ℤ x)) ≡ z *ℤ ((x *ℤ (d -ℤ b)) -ℤ (y *ℤ (c -ℤ a)))
@@ -139,10 +139,10 @@ more S n h = omega (arith, h, mul-le (S - 8) (S - 8) (S + 8) (S + 8) (omega arit
 under_at : (q : Pt) (z : ℤ) (h : ℕ) (x : Pt) → z ≡ pos h → IsUnder (about q) z (scaled x) → length_squared (displacement q x) ≤ h * h
 under_at q z h x e is = under_from q h x (subst (λ (i : ℤ). IsUnder (about q) i (scaled x)) e is)
 
--- an arc that stays inside of a circle at whose contact it ends can be divided, and no point of its chords is more than 12 units outside
+-- where an arc stays inside of a circle at whose contact it ends, no point of its chords is more than 12 units outside
 pub circle_inside : (a : Arc) (stop : Circ) → IsRoute a → pos 100 ≤ℤ stop.r → 0 < length_squared (displacement a.track.c stop.c) → IsBeyond a.track stop a.sense a.end → IsNearCircle stop (pos 1) a.end
-    → StartsInside a stop.c stop.r → IsArc a × ((list : List Pt) → IsDivision a list → EveryChord a.start list (IsUnder (about stop.c) (stop.r +ℤ pos 12)))
-circle_inside a stop is least some beyond end start = elim start [
+    → StartsInside a stop.c stop.r → (list : List Pt) → IsDivision a list → EveryChord a.start list (IsUnder (about stop.c) (stop.r +ℤ pos 12))
+circle_inside a stop is least some beyond end start list division = elim start [
   | inl away ↦
       let from = under_at stop.c (stop.r -ℤ pos 8) (S - 8) a.start (radius_less stop.r least) away in
       told (inside_far a stop.c (S - 8) is past (large_radius stop.r least).1 from (contact_over stop (S - 8 + 7) a.end (one_less stop.r least) end)) (more S (length_squared (displacement stop.c a.start)) from)
@@ -156,10 +156,7 @@ circle_inside a stop is least some beyond end start = elim start [
     past = ends_past a stop is some beyond
 
     told : Arrives a (displacement stop.c a.track.c) → length_squared (displacement stop.c a.start) ≤ (S + 8) * (S + 8)
-        → IsArc a × ((list : List Pt) → IsDivision a list → EveryChord a.start list (IsUnder (about stop.c) (stop.r +ℤ pos 12)))
-    told arrives from = (
-      is_arc a is arrives.1,
-      λ list division.
-          subst (λ (z : ℤ). EveryChord a.start list (IsUnder (about stop.c) z)) (sym (radius_more 12 stop.r least))
-          (kept a stop.c S is past.some arrives (large_radius stop.r least).0 from (contact_under stop (S + 1) a.end (radius_more 1 stop.r least) end) list division),
-    )
+        → EveryChord a.start list (IsUnder (about stop.c) (stop.r +ℤ pos 12))
+    told arrives from =
+        subst (λ (z : ℤ). EveryChord a.start list (IsUnder (about stop.c) z)) (sym (radius_more 12 stop.r least))
+        (kept a stop.c S is past.some arrives (large_radius stop.r least).0 from (contact_under stop (S + 1) a.end (radius_more 1 stop.r least) end) list division)

@@ -12,6 +12,7 @@ pub mod Only
 pub mod Quartered
 pub mod Divided
 pub mod Halved
+pub mod Rooms
 pub mod Worked
 pub mod Vertices
 pub mod Inner
@@ -19,4 +20,3 @@ pub mod Arrivals
 pub mod LineStops
 pub mod InsideStops
 pub mod OutsideStops
-pub mod TangentStops

@@ -90,8 +90,8 @@ left_kept : (a : Arc) (l : Line) (h : ℤ) → IsRoute a → 0 < length_squared 
     → (list : List Pt) → IsDivision a list → EveryChord a.start list (IsAbove l (h -ℤ pos 12))
 left_kept a l h is some arrives start end =
     let first = above_tells l (h -ℤ pos 8) a.start start in
-    chords_of a (IsAbove l (h -ℤ pos 12)) (is_arc a is arrives.1) (λ p q r s. λ j k m. above-between l (h -ℤ pos 12) p q j k r s)
-    (above_from l (h -ℤ pos 12) a.start (left_weaker l (h -ℤ pos 8) (h -ℤ pos 12) a.start (omega (arith, ints)) first)) (left_vertex a l h is some arrives.0 first (above_tells l (h -ℤ pos 1) a.end end))
+    chords_of a (IsAbove l (h -ℤ pos 12)) (is_arc a is) (λ p q r s. λ j k m. above-between l (h -ℤ pos 12) p q j k r s)
+    (above_from l (h -ℤ pos 12) a.start (left_weaker l (h -ℤ pos 8) (h -ℤ pos 12) a.start (omega (arith, ints)) first)) (left_vertex a l h is some arrives first (above_tells l (h -ℤ pos 1) a.end end))
 
 -- ---- which way it arrives
 line_side_parts : (z a b x y : ℤ) → z *ℤ ((b *ℤ y) -ℤ (neg_ℤ a *ℤ x)) ≡ z *ℤ ((a *ℤ x) +ℤ (b *ℤ y))
@@ -140,10 +140,10 @@ ends_past a l is some further =
           (past_side a.sense (dot l.dir ve) (length_squared l.dir) further (size_sense a.sense (dot l.dir ve) is.sense));
     }
 
--- an arc that stays left of a line at whose contact it ends can be divided, and no point of its chords is more than 12 units past the line
+-- where an arc stays left of a line at whose contact it ends, no point of its chords is more than 12 units past the line
 pub line_left : (a : Arc) (l : Line) (h : ℤ) → IsRoute a → 0 < length_squared l.dir → IsFurther l a.track (neg_ℤ a.sense) a.end → IsAbove l (h -ℤ pos 1) (scaled a.end) → IsBelow l (h +ℤ pos 1) (scaled a.end)
-    → StartsLeft a l h → IsArc a × ((list : List Pt) → IsDivision a list → EveryChord a.start list (IsAbove l (h -ℤ pos 12)))
-line_left a l h is some further above below start = elim start [
+    → StartsLeft a l h → (list : List Pt) → IsDivision a list → EveryChord a.start list (IsAbove l (h -ℤ pos 12))
+line_left a l h is some further above below start list division = elim start [
   | inl away ↦ told (left_away a l h is past away below) (above_from l (h -ℤ pos 8) a.start (left_weaker l (h +ℤ pos 8) (h -ℤ pos 8) a.start (omega (arith, ints)) (above_tells l (h +ℤ pos 8) a.start away)))
   | inr near ↦ told (left_near a l is past near.1) near.0
 ]
@@ -151,10 +151,8 @@ line_left a l h is some further above below start = elim start [
     past : EndsPast a (line_axis l)
     past = ends_past a l is some further
 
-    told : Arrives a (line_axis l) → IsAbove l (h -ℤ pos 8) (scaled a.start) → IsArc a × ((list : List Pt) → IsDivision a list → EveryChord a.start list (IsAbove l (h -ℤ pos 12)))
-    told arrives from =
-        let arc = is_arc a is arrives.1 in
-        (arc, left_kept a l h is past.some arrives from above)
+    told : Arrives a (line_axis l) → IsAbove l (h -ℤ pos 8) (scaled a.start) → EveryChord a.start list (IsAbove l (h -ℤ pos 12))
+    told arrives from = left_kept a l h is past.some arrives from above list division
 
 -- ---- the other side: the same line, run the other way
 abbrev back_line : Line → Line
@@ -212,11 +210,11 @@ starts_back a l h (inr near) = inr (
 
 -- and right of one
 pub line_right : (a : Arc) (l : Line) (h : ℤ) → IsRoute a → 0 < length_squared l.dir → IsFurther l a.track a.sense a.end → IsAbove l (h -ℤ pos 1) (scaled a.end) → IsBelow l (h +ℤ pos 1) (scaled a.end)
-    → StartsRight a l h → IsArc a × ((list : List Pt) → IsDivision a list → EveryChord a.start list (IsBelow l (h +ℤ pos 12)))
-line_right a l h is some further above below start =
+    → StartsRight a l h → (list : List Pt) → IsDivision a list → EveryChord a.start list (IsBelow l (h +ℤ pos 12))
+line_right a l h is some further above below start list division =
     let ve = to_end a in
     let left =
     line_left a (back_line l) (neg_ℤ h) is (subst (λ n. 0 < n) (sym (reverse_length l.dir)) some)
     (sense_both a.sense (dot l.dir ve) (dot (reverse l.dir) ve) (length_squared l.dir) (length_squared (reverse l.dir)) (dot_reverse l.dir ve) (reverse_length l.dir) further)
-    (from_below l (neg_ℤ h -ℤ pos 1) (h +ℤ pos 1) a.end (omega (arith, ints)) below) (from_above l (h -ℤ pos 1) (neg_ℤ h +ℤ pos 1) a.end (omega (arith, ints)) above) (starts_back a l h start) in
-    (left.0, λ list division. every_back l (neg_ℤ h -ℤ pos 12) (h +ℤ pos 12) a.start list (omega (arith, ints)) (left.1 list division))
+    (from_below l (neg_ℤ h -ℤ pos 1) (h +ℤ pos 1) a.end (omega (arith, ints)) below) (from_above l (h -ℤ pos 1) (neg_ℤ h +ℤ pos 1) a.end (omega (arith, ints)) above) (starts_back a l h start) list division in
+    every_back l (neg_ℤ h -ℤ pos 12) (h +ℤ pos 12) a.start list (omega (arith, ints)) left

@@ -359,11 +359,11 @@ some_near p n least h = omega (arith, h, mul-le 97 97 p p least least)
 natural_least : (r : ℤ) → pos 100 ≤ℤ r → 100 ≤ unsigned_abs r
 natural_least r least = omega (arith, ints, least)
 
--- an arc that stays outside of a circle at whose contact it ends can be divided, and no point of its chords lies further inside than 12 units and the sag
+-- where an arc stays outside of a circle at whose contact it ends, no point of its chords lies further inside than 12 units and the sag
 pub circle_outside : (a : Arc) (stop : Circ) → IsRoute a → pos 100 ≤ℤ stop.r → 0 < length_squared (displacement a.track.c stop.c)
     → ((a.track.r -ℤ stop.r) *ℤ (a.track.r -ℤ stop.r)) ≤ℤ pos (length_squared (displacement a.track.c stop.c)) → IsBeyond a.track stop (neg_ℤ a.sense) a.end → IsNearCircle stop (pos 1) a.end → StartsOutside a stop.c stop.r
-    → IsArc a × ((list : List Pt) → IsDivision a list → EveryChord a.start list (IsOver (about stop.c) ((stop.r -ℤ pos 12) -ℤ a.sag)))
-circle_outside a stop is least some meets beyond end start = elim start [
+    → (list : List Pt) → IsDivision a list → EveryChord a.start list (IsOver (about stop.c) ((stop.r -ℤ pos 12) -ℤ a.sag))
+circle_outside a stop is least some meets beyond end start list division = elim start [
   | inl away ↦
       let from = over_at stop.c (stop.r +ℤ pos 8) (unsigned_abs stop.r + 1 + 7) a.start (more_eight stop.r least) away in
       told (outside_far a stop.c (unsigned_abs stop.r + 1) is past (omega arith) from (contact_under stop (unsigned_abs stop.r + 1) a.end (more_one stop.r least) end))
@@ -377,10 +377,9 @@ circle_outside a stop is least some meets beyond end start = elim start [
     past : EndsPast a (displacement a.track.c stop.c)
     past = ends_past a stop is some beyond
 
-    every : (list : List Pt) → Arrives a (displacement a.track.c stop.c) → (q + 4) * (q + 4) ≤ length_squared (displacement stop.c a.start) → MeetsTrack a q stop.c → AreSteps a.track a.sag a.sense a.start a.start list a.end
-        → EveryChord a.start list (IsOver (about stop.c) (pos q -ℤ a.sag))
-    every list arrives from at steps = elim arrives.0 [
-      | inr ray ↦ axis_over a q stop.c a.start list is at (contact a stop is least end ray) steps
+    every : Arrives a (displacement a.track.c stop.c) → (q + 4) * (q + 4) ≤ length_squared (displacement stop.c a.start) → MeetsTrack a q stop.c → EveryChord a.start list (IsOver (about stop.c) (pos q -ℤ a.sag))
+    every arrives from at = elim arrives [
+      | inr ray ↦ axis_over a q stop.c a.start list is at (contact a stop is least end ray) division.steps
       | inl before ↦
           before_over a q stop.c list
           (record {
@@ -392,16 +391,13 @@ circle_outside a stop is least some meets beyond end start = elim start [
             end = outside a q stop.c a.end is (near_end a is) (four_at q (length_squared (displacement stop.c a.end)) (contact_over stop (q + 11) a.end (less_one stop.r least) end));
             before = before;
           })
-          steps
+          division.steps
     ]
 
     told : Arrives a (displacement a.track.c stop.c) → (q + 4) * (q + 4) ≤ length_squared (displacement stop.c a.start)
-        → IsArc a × ((list : List Pt) → IsDivision a list → EveryChord a.start list (IsOver (about stop.c) ((stop.r -ℤ pos 12) -ℤ a.sag)))
-    told arrives from = (
-      is_arc a is arrives.1,
-      λ list division. elim (cases_lt q (unsigned_abs a.sag)) [
-        | inl wide ↦ below_over stop.c a.start ((stop.r -ℤ pos 12) -ℤ a.sag) list (no_edge stop.r a.sag least is.sag.least wide)
-        | inr narrow ↦
-            subst (λ (z : ℤ). EveryChord a.start list (IsOver (about stop.c) z)) (sym (edge_from stop.r a.sag least)) (every list arrives from (meets_track a stop is least meets narrow) division.steps)
-      ],
-    )
+        → EveryChord a.start list (IsOver (about stop.c) ((stop.r -ℤ pos 12) -ℤ a.sag))
+    told arrives from = elim (cases_lt q (unsigned_abs a.sag)) [
+      | inl wide ↦ below_over stop.c a.start ((stop.r -ℤ pos 12) -ℤ a.sag) list (no_edge stop.r a.sag least is.sag.least wide)
+      | inr narrow ↦
+          subst (λ (z : ℤ). EveryChord a.start list (IsOver (about stop.c) z)) (sym (edge_from stop.r a.sag least)) (every arrives from (meets_track a stop is least meets narrow))
+    ]

@@ -1,7 +1,6 @@
 -- The list of quarter points that the code makes, and the pieces between them.
 use Rattle.std.proofs.Common.{refl, ◌≡◌, ◌⊎◌, inl, inr, ℕ, zero, suc, ◌∙◌, ap, sym, subst, arith, true, false, true≢false, List, [], ◌∷◌, ◌++◌, ℤ, pos, ◌<ℤ◌, ◌≤ℤ◌}
 use Rattle.std.proofs.lemmas.Bool.{cases_Bool, and_parts, and_from}
-use Rattle.apt_num.proofs.Squares.{size_neg}
 use Rattle.apt_plane.specs.declared.figures.Pt.{Pt}
 use Rattle.apt_plane.specs.declared.figures.Dir.{Dir}
 use Rattle.apt_plane.specs.declared.figures.Circ.{Circ}
@@ -10,7 +9,7 @@ use Rattle.apt_plane.specs.Ranges.{IsDir}
 use Rattle.apt_plane.specs.Order.{ComesBefore, is_before}
 use Rattle.apt_plane.proofs.Displacements.{dot_swap}
 use Rattle.apt_plane.proofs.Turns.{before_tells}
-use Rattle.apt_plane.proofs.Turned.{turned_by, turned_back}
+use Rattle.apt_plane.proofs.Turned.{turned_by, turned_back, perp_dir}
 use Rattle.apt_plane.proofs.Around.{some_way}
 use Rattle.apt_plane.proofs.Quarters.{onward_turn, onward_square, AreFour, second_first, third_second, fourth_third, start_first, first_second, second_third, third_fourth, none_between, first_between, second_between, third_between, fourth_between}
 use Rattle.apt_canon.specs.Feet.{ray_point}
@@ -210,14 +209,11 @@ list_divides t sense axis s e u are =
     ]
 
 -- ---- the four points are such
-dir_perp : (u : Dir) → IsDir u → IsDir (perp u)
-dir_perp u is = record { dx = rw (size_neg u.dy) is.dy; dy = is.dx; length = rw (size_neg u.dy) (omega (arith, is.length)) }
-
 pub dir_turned : (a b : Dir) → IsDir a → IsTurned a b → IsDir b
 dir_turned a b is (inl e) = subst IsDir (sym e) is
-dir_turned a b is (inr (inl e)) = subst IsDir (sym e) (dir_perp a is)
-dir_turned a b is (inr (inr (inl e))) = subst IsDir (sym e) (dir_perp (perp a) (dir_perp a is))
-dir_turned a b is (inr (inr (inr e))) = subst IsDir (sym e) (dir_perp (perp (perp a)) (dir_perp (perp a) (dir_perp a is)))
+dir_turned a b is (inr (inl e)) = subst IsDir (sym e) (perp_dir a is)
+dir_turned a b is (inr (inr (inl e))) = subst IsDir (sym e) (perp_dir (perp a) (perp_dir a is))
+dir_turned a b is (inr (inr (inr e))) = subst IsDir (sym e) (perp_dir (perp (perp a)) (perp_dir (perp a) (perp_dir a is)))
 
 quarter_at : (t : Circ) (a b : Dir) → IsTurned a b → IsQuarterPoint t a (ray_point t b)
 quarter_at t a b (inl e) = inl (ap (ray_point t) e)

@@ -1,11 +1,12 @@
 -- Arcs that end at a stop.
-use Rattle.std.specs.Prelude.{ℕ, ◌⊎◌, ◌*◌, ◌<◌, ℤ, pos, ◌+ℤ◌, ◌-ℤ◌, ◌*ℤ◌, ◌<ℤ◌, List, [], ◌∷◌}
+use Rattle.std.specs.Prelude.{◌≢◌, ℕ, ◌⊎◌, ◌*◌, ◌<◌, ℤ, pos, ◌+ℤ◌, ◌-ℤ◌, ◌*ℤ◌, ◌<ℤ◌, List, [], ◌∷◌}
 use Rattle.apt_num.specs.Sign.{square}
 use Rattle.apt_plane.specs.declared.figures.Pt.{Pt}
 use Rattle.apt_plane.specs.declared.figures.Dir.{Dir}
 use Rattle.apt_plane.specs.declared.figures.Line.{Line}
 use Rattle.apt_plane.specs.Vectors.{Scaled, scaled, displacement, cross, dot, length_squared}
 use Rattle.apt_plane.specs.Distances.{IsAbove, IsBelow, IsOver, IsUnder, EveryPoint, about}
+use Rattle.apt_plane.specs.Order.{turn_class}
 use Rattle.apt_plane.specs.Ranges.{IsDir, IsSense}
 use Rattle.apt_canon.specs.Scale.{IsNearCircle}
 use Rattle.apt_arc.specs.declared.arc.Arc.{Arc}
@@ -16,7 +17,7 @@ abbrev pub EveryChord : Pt → List Pt → (Scaled → Type 0) → Type 0
 EveryChord a [] P = Unit {0}
 EveryChord a (x ∷ xs) P = EveryPoint a x P × EveryChord x xs P
 
--- an arc that ends within a unit of its track: whether its ends lie in one direction is not said
+-- an arc that ends within a unit of its track
 pub record IsRoute (a : Arc) : Type 0 where
   pub track : IsTrack a.track
   pub sense : IsSense a.sense
@@ -24,6 +25,7 @@ pub record IsRoute (a : Arc) : Type 0 where
   pub sag : IsSag a.track a.sag
   pub start : IsNearCircle a.track (pos 3) a.start
   pub end : IsNearCircle a.track (pos 1) a.end
+  pub apart : turn_class (displacement a.track.c a.start) a.sense (displacement a.track.c a.end) ≢ 0
 
 -- the ways from the centre to the ends
 abbrev pub to_start : Arc → Dir

@@ -1,6 +1,6 @@
 //! A piece of an arc, halved until its chords are clear.
 
-ghost use Rattle.std.specs.Prelude.{◌≡◌, ◌≤◌, ◌+◌, ◌^◌, ◌++◌, ◌∷◌, [], ◌↔◌, IsTrue, IsFalse, false, length, vec_len, vec_capacity};
+ghost use Rattle.std.specs.Prelude.{◌≡◌, ◌≤◌, ◌+◌, ◌^◌, ◌++◌, ◌∷◌, [], ◌↔◌, IsTrue, IsFalse, false, length, take, vec_len, vec_capacity};
 ghost use Rattle.apt_plane.specs.Vectors.{displacement};
 ghost use Rattle.apt_plane.specs.Ranges.{IsPoint, IsDir};
 ghost use Rattle.apt_canon.specs.Scale.{sum};
@@ -74,37 +74,33 @@ fn halve(arc: &Arc, a: Pt, b: Pt) -> Pt
     middle(&arc.track, a, b)
 }
 
-/// Appends the vertices of a piece behind its start, halved at most so deep: there is room for them.
-#[tactic(auto, using(crate::proofs::Halved::one_long, crate::proofs::Halved::both_on, crate::proofs::Halved::one_on))]
-pub(crate) fn append_piece(arc: &Arc, a: Pt, b: Pt, depth: u8, out: &mut Vec<Pt>)
-    requires arc { IsArc arc.now }
-    requires piece { IsPiece arc.now.track arc.now.sense a b }
-    requires room { vec_len out.old + length (spec.pieces depth arc.now.track arc.now.sag a b) ≤ vec_capacity out.old }
-    ensures items { out.new.items ≡ out.old.items ++ spec.pieces depth arc.now.track arc.now.sag a b }
-    ensures len { vec_len out.new ≡ vec_len out.old + length (spec.pieces depth arc.now.track arc.now.sag a b) }
-    ensures capacity { vec_capacity out.new ≡ vec_capacity out.old }
-{
-    if is_whole(arc, a, b, depth) {
-        out.push_reserved(b);
-        return;
-    }
-    let m = halve(arc, a, b);
-    append_piece(arc, a, m, depth - 1, out);
-    append_piece(arc, m, b, depth - 1, out);
-}
-
-/// How many vertices that are.
-#[tactic(auto, using(crate::proofs::Halved::one_long, crate::proofs::Halved::power_half))]
-pub(crate) fn count_piece(arc: &Arc, a: Pt, b: Pt, depth: u8) -> u64
+/// Appends the vertices of a piece behind its start, halved at most so deep, as far as there is room for them, and
+/// counts them all.
+#[tactic(auto, using(crate::proofs::Halved::one_long, crate::proofs::Halved::power_half, crate::proofs::Rooms::one_fits))]
+pub(crate) fn append_piece(arc: &Arc, a: Pt, b: Pt, depth: u8, out: &mut Vec<Pt>) -> u64
     requires arc { IsArc arc.now }
     requires piece { IsPiece arc.now.track arc.now.sense a b }
     requires depth { depth ≤ 24 }
-    ensures value { result ≡ length (spec.pieces depth arc.now.track arc.now.sag a b) }
+    ensures count { result ≡ length (spec.pieces depth arc.now.track arc.now.sag a b) }
     ensures small { result ≤ 2 ^ depth }
+    ensures items { out.new.items ≡ take (vec_capacity out.old) (out.old.items ++ spec.pieces depth arc.now.track arc.now.sag a b) }
+    ensures capacity { vec_capacity out.new ≡ vec_capacity out.old }
 {
     if is_whole(arc, a, b, depth) {
+        push_if_room(out, b);
         return 1;
     }
     let m = halve(arc, a, b);
-    count_piece(arc, a, m, depth - 1) + count_piece(arc, m, b, depth - 1)
+    append_piece(arc, a, m, depth - 1, out) + append_piece(arc, m, b, depth - 1, out)
+}
+
+/// Appends a point if there is room for it.
+#[tactic(auto, using(crate::proofs::Rooms::one_more, crate::proofs::Rooms::none_more))]
+fn push_if_room(out: &mut Vec<Pt>, point: Pt)
+    ensures items { out.new.items ≡ take (vec_capacity out.old) (out.old.items ++ point ∷ []) }
+    ensures capacity { vec_capacity out.new ≡ vec_capacity out.old }
+{
+    if out.len() < out.capacity() {
+        out.push_reserved(point);
+    }
 }

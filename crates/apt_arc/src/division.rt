@@ -1,6 +1,6 @@
 //! The vertices of an arc.
 
-ghost use Rattle.std.specs.Prelude.{◌≡◌, ◌≤◌, ◌<◌, ◌+◌, ◌*◌, ◌^◌, ◌++◌, ◌↔◌, OnOk, OnErr, IsErrOf, ℕ, List, length, unsigned_abs, vec_len, vec_capacity};
+ghost use Rattle.std.specs.Prelude.{◌≡◌, ◌≤◌, ◌<◌, ◌+◌, ◌*◌, ◌^◌, ◌++◌, ◌↔◌, OnOk, OnErr, IsErrOf, ℕ, List, length, take, unsigned_abs, vec_capacity};
 ghost use Rattle.apt_plane.specs.declared.figures.Pt.{Pt};
 ghost use Rattle.apt_plane.specs.Ranges.{IsDir};
 ghost use Rattle.apt_arc.specs.Ranges.{IsArc, ArePieces};
@@ -9,9 +9,10 @@ ghost use Rattle.apt_arc.specs.Made.{divided};
 ghost use Rattle.apt_arc.specs.Made as spec;
 
 use crate::arc::Arc;
-use crate::cuts::{append_piece, count_piece};
+use crate::cuts::append_piece;
 use crate::quarters::{first_past, next_point, onward};
 use apt_plane::{Dir, Pt};
+use std::alloc::AllocError;
 
 /// No piece is halved more often than so, one half in the other.
 const DEPTH: u8 = 24;
@@ -42,70 +43,66 @@ pub fn chords(arc: &Arc, room: u64, out: &mut Vec<Pt>) -> Result<(), ArcError>
     append_all(arc, room, out)
 }
 
-/// How many vertices an arc has behind its start.
-pub fn count(arc: &Arc) -> u64
-    requires { IsArc arc.now }
-    ensures value { result ≡ length (divided arc.now) }
-    ensures small { result ≤ 5 * 2 ^ 24 }
-{
-    count_from(arc, arc.start, first_past(arc, arc.axis, 3), 4)
-}
-
+/// The vertices are made once, where there is room for them already; else twice, behind room for them all.
+#[tactic(auto, using(crate::proofs::Rooms::all_there, crate::proofs::Rooms::as_before))]
 fn append_all(arc: &Arc, room: u64, out: &mut Vec<Pt>) -> Result<(), ArcError>
     requires arc { IsArc arc.now }
     ensures ok { OnOk result (out.new.items ≡ out.old.items ++ divided arc.now) }
     ensures too_many { IsErrOf result ArcError.TooManyPoints ↔ (room < length (divided arc.now)) }
     ensures err { OnErr result (out.new.items ≡ out.old.items) }
 {
-    let due = count(arc);
+    let before = out.len();
+    let due = append_whole(arc, out);
+    if due <= room && due <= (out.capacity() - before) as u64 {
+        return Ok(());
+    }
+    out.truncate(before);
     if due > room {
         return Err(ArcError::TooManyPoints);
     }
-    if out.reserve(due as usize).is_err() {
-        return Err(ArcError::NoMemory);
+    match append_behind_room(arc, due, out) {
+        Ok(()) => Ok(()),
+        Err(AllocError) => Err(ArcError::NoMemory),
     }
+}
+
+/// Appends the vertices, so many, once there is room for them.
+#[tactic(auto, using(crate::proofs::Rooms::all_there))]
+fn append_behind_room(arc: &Arc, due: u64, out: &mut Vec<Pt>) -> Result<(), AllocError>
+    requires arc { IsArc arc.now }
+    requires due { due ≡ length (divided arc.now) }
+    ensures ok { OnOk result (out.new.items ≡ out.old.items ++ divided arc.now) }
+    ensures err { OnErr result (out.new.items ≡ out.old.items) }
+{
+    out.reserve(due as usize)?;
     append_whole(arc, out);
     Ok(())
 }
 
-/// Appends the vertices: there is room for them.
-fn append_whole(arc: &Arc, out: &mut Vec<Pt>)
-    requires arc { IsArc arc.now }
-    requires room { vec_len out.old + length (divided arc.now) ≤ vec_capacity out.old }
-    ensures { out.new.items ≡ out.old.items ++ divided arc.now }
+/// Appends the vertices as far as there is room for them, and counts them all.
+fn append_whole(arc: &Arc, out: &mut Vec<Pt>) -> u64
+    requires { IsArc arc.now }
+    ensures count { result ≡ length (divided arc.now) }
+    ensures items { out.new.items ≡ take (vec_capacity out.old) (out.old.items ++ divided arc.now) }
+    ensures capacity { vec_capacity out.new ≡ vec_capacity out.old }
 {
-    append_from(arc, arc.start, first_past(arc, arc.axis, 3), 4, out);
+    append_from(arc, arc.start, first_past(arc, arc.axis, 3), 4, out)
 }
 
-/// How many vertices there are from a point through the quarter points from a direction on.
-fn count_from(arc: &Arc, from: Pt, u: Dir, left: u8) -> u64
+/// The same from a point through the quarter points from a direction on.
+fn append_from(arc: &Arc, from: Pt, u: Dir, left: u8, out: &mut Vec<Pt>) -> u64
     requires arc { IsArc arc.now }
     requires dir { IsDir u }
     requires pieces { ArePieces arc.now.track arc.now.sense from (spec.stations left arc.now u) }
     requires few { left ≤ 4 }
-    ensures value { result ≡ length (spec.vertices left arc.now from u) }
+    ensures count { result ≡ length (spec.vertices left arc.now from u) }
     ensures small { result ≤ (left + 1) * 2 ^ 24 }
+    ensures items { out.new.items ≡ take (vec_capacity out.old) (out.old.items ++ spec.vertices left arc.now from u) }
+    ensures capacity { vec_capacity out.new ≡ vec_capacity out.old }
 {
     match next_point(arc, u, left) {
-        Some(point) => count_piece(arc, from, point, DEPTH)
-            + count_from(arc, point, onward(arc.sense, u), left - 1),
-        None => count_piece(arc, from, arc.end, DEPTH),
-    }
-}
-
-/// Appends them: there is room for them.
-fn append_from(arc: &Arc, from: Pt, u: Dir, left: u8, out: &mut Vec<Pt>)
-    requires arc { IsArc arc.now }
-    requires dir { IsDir u }
-    requires pieces { ArePieces arc.now.track arc.now.sense from (spec.stations left arc.now u) }
-    requires room { vec_len out.old + length (spec.vertices left arc.now from u) ≤ vec_capacity out.old }
-    ensures { out.new.items ≡ out.old.items ++ spec.vertices left arc.now from u }
-{
-    match next_point(arc, u, left) {
-        Some(point) => {
-            append_piece(arc, from, point, DEPTH, out);
-            append_from(arc, point, onward(arc.sense, u), left - 1, out);
-        }
+        Some(point) => append_piece(arc, from, point, DEPTH, out)
+            + append_from(arc, point, onward(arc.sense, u), left - 1, out),
         None => append_piece(arc, from, arc.end, DEPTH, out),
     }
 }

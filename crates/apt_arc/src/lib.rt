@@ -16,4 +16,4 @@ mod division;
 mod quarters;
 
 pub use arc::Arc;
-pub use division::{ArcError, chords, count};
+pub use division::{ArcError, chords};

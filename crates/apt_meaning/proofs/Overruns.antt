@@ -71,7 +71,7 @@ AreWithin m d check = EveryChord m.start.at (divided (arc_round (to m d check) d
 route : (m : Motion) (d : Circ) → IsMotion (round m d) → NoneHolds (motion_cases (round m d)) → IsRoute (arc_round m d)
 route m d is none =
     let arc = arc_is m d is none in
-    record { track = arc.track; sense = arc.sense; axis = arc.axis; sag = arc.sag; start = arc.start; end = (ends_round m d is none).track }
+    record { track = arc.track; sense = arc.sense; axis = arc.axis; sag = arc.sag; start = arc.start; end = (ends_round m d is none).track; apart = arc.apart }
 
 other_sense : (sense : ℤ) → IsSense sense → IsSense (neg_ℤ sense)
 other_sense sense (inl e) = inr (rw e refl)
@@ -97,7 +97,7 @@ to_line m d l signs.Plus is none meeting free e some =
     let further : IsFurther l a.track (neg_ℤ m.sense) a.end =
     subst (λ (q : Pt). IsFurther l a.track (neg_ℤ m.sense) q) (end_by n signs.Plus free e) (point_further l h a.track (neg_ℤ m.sense) is.check (other_sense m.sense is.sense)) in
     let starts = starts_left a l h (starts_near_stop (course_of n)) is.sense refl free.past e in
-    let kept = (line_left a l h (route n d is none) (omega (arith, is.check.dir.length)) further (above_at l (h -ℤ pos 1) a.end on.right) (below_at l (h +ℤ pos 1) (neg_ℤ h -ℤ pos 1) a.end (omega (arith, ints)) on.left) starts).1
+    let kept = line_left a l h (route n d is none) (omega (arith, is.check.dir.length)) further (above_at l (h -ℤ pos 1) a.end on.right) (below_at l (h +ℤ pos 1) (neg_ℤ h -ℤ pos 1) a.end (omega (arith, ints)) on.left) starts
     (divided a) (divides a (arc_is n d is none)) in
     let room = band_at-HasRoom l (check_side n) m.radius m.inner m.outer is.inner.least is.outer.least in
     let leg = leg_of n in
@@ -110,7 +110,7 @@ to_line m d l signs.Minus is none meeting free e some =
     let on = (ends_round n d is none).meets meeting in
     let further : IsFurther l a.track m.sense a.end = subst (λ (q : Pt). IsFurther l a.track m.sense q) (end_by n signs.Minus free e) (point_further l h a.track m.sense is.check is.sense) in
     let starts = starts_right a l h (starts_near_stop (course_of n)) is.sense refl free.past e in
-    let kept = (line_right a l h (route n d is none) (omega (arith, is.check.dir.length)) further (above_at l (h -ℤ pos 1) a.end on.right) (below_at l (h +ℤ pos 1) (neg_ℤ h -ℤ pos 1) a.end (omega (arith, ints)) on.left) starts).1
+    let kept = line_right a l h (route n d is none) (omega (arith, is.check.dir.length)) further (above_at l (h -ℤ pos 1) a.end on.right) (below_at l (h +ℤ pos 1) (neg_ℤ h -ℤ pos 1) a.end (omega (arith, ints)) on.left) starts
     (divided a) (divides a (arc_is n d is none)) in
     let room = band_at-HasRoom l (check_side n) m.radius m.inner m.outer is.inner.least is.outer.least in
     let leg = leg_of n in
@@ -135,7 +135,7 @@ to_circle m d k signs.Plus is none meeting free e some =
     let beyond : IsBeyond a.track (circle_about k.c s) m.sense a.end =
     subst (λ (q : Pt). IsBeyond a.track (circle_about k.c s) m.sense q) (end_by n signs.Plus free e) (point_beyond a.track (circle_about k.c s) m.sense dir is.sense) in
     let starts = starts_inside a k.c s (starts_near_stop (course_of n)) least is.sense refl free.past e in
-    let kept = (circle_inside a (circle_about k.c s) (route n d is none) least (omega (arith, dir.length)) beyond ((ends_round n d is none).meets meeting) starts).1 (divided a) (divides a (arc_is n d is none)) in
+    let kept = circle_inside a (circle_about k.c s) (route n d is none) least (omega (arith, dir.length)) beyond ((ends_round n d is none).meets meeting) starts (divided a) (divides a (arc_is n d is none)) in
     let room = circle_room k.r (check_side n) m.radius m.inner m.outer is.inner.least is.outer.least in
     let leg = leg_of n in
     let edge = beyond_by n signs.Plus free e in
@@ -153,7 +153,7 @@ to_circle m d k signs.Minus is none meeting free e some =
     let starts = starts_outside a k.c s (starts_near_stop (course_of n)) least is.sense refl free.past e in
     let overlap = (circles_overlap a.track (circle_about k.c s) free.meeting).1.inside in
     let meets_track : ((a.track.r -ℤ s) *ℤ (a.track.r -ℤ s)) ≤ℤ pos (length_squared (displacement a.track.c k.c)) = rw (own_square (a.track.r -ℤ s)) (omega (arith, ints, overlap)) in
-    let kept = (circle_outside a (circle_about k.c s) (route n d is none) least (omega (arith, dir.length)) meets_track beyond ((ends_round n d is none).meets meeting) starts).1 (divided a) (divides a (arc_is n d is none)) in
+    let kept = circle_outside a (circle_about k.c s) (route n d is none) least (omega (arith, dir.length)) meets_track beyond ((ends_round n d is none).meets meeting) starts (divided a) (divides a (arc_is n d is none)) in
     let room = circle_room k.r (check_side n) m.radius m.inner m.outer is.inner.least is.outer.least in
     let leg = leg_of n in
     let edge = beyond_by n signs.Minus free e in

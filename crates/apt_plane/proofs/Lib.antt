@@ -15,5 +15,4 @@ pub mod Governed
 pub mod Kept
 pub mod AwayRows
 pub mod NearRows
-pub mod Apart
 pub mod Outside

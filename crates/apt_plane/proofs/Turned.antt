@@ -4,8 +4,8 @@ use Rattle.std.proofs.lemmas.Int.{ints}
 use Rattle.apt_num.proofs.Ring.{as_diff, diff-same, differences, *ℤ-neg, neg-*ℤ-neg}
 use Rattle.apt_num.proofs.Squares.{size_neg}
 use Rattle.apt_plane.specs.declared.figures.Dir.{Dir}
-use Rattle.apt_plane.specs.Vectors.{cross, dot, length_squared}
-use Rattle.apt_plane.specs.Ranges.{IsSense}
+use Rattle.apt_plane.specs.Vectors.{cross, dot, length_squared, perp}
+use Rattle.apt_plane.specs.Ranges.{IsDir, IsSense}
 use Rattle.apt_plane.proofs.Heights.{one-times}
 use Rattle.apt_plane.proofs.Displacements.{square_length_squared, cross_swap}
 
@@ -75,3 +75,7 @@ dot_parts a b c d e f = rw (as_diff a, as_diff b, as_diff c, as_diff d, as_diff 
 
 pub dot_about : (s u v : Dir) → pos (length_squared s) *ℤ dot u v ≡ (dot s u *ℤ dot s v) +ℤ (cross s u *ℤ cross s v)
 dot_about s u v = rw (square_length_squared s) (dot_parts s.dx s.dy u.dx u.dy v.dx v.dy)
+
+-- a quarter turn of a direction is one
+pub perp_dir : (u : Dir) → IsDir u → IsDir (perp u)
+perp_dir u is = record { dx = rw (size_neg u.dy) is.dy; dy = is.dx; length = rw (size_neg u.dy) (omega (arith, is.length)) }
