@@ -117,15 +117,6 @@ fn coolnt_by(words: &[i64]) -> Result<Record, Misfit>
     Ok(Record::Note(Note::Coolnt(cool_at(0, *c)?)))
 }
 
-fn units_by(words: &[i64]) -> Result<Record, Misfit>
-    ensures { result ≡ spec.units_by words.now }
-{
-    let [u] = words else {
-        return Err(Misfit::Count);
-    };
-    Ok(Record::Note(Note::Units(units_at(0, *u)?)))
-}
-
 fn command_by(alloc: Global, sub: i64, words: &[i64]) -> Result<Result<Record, Misfit>, AllocError>
     requires { length words.now < 2 ^ 32 }
     ensures { IfOk result (λ r. r ≡ spec.command_by sub words.now) }
@@ -156,32 +147,19 @@ fn loadtl_by(words: &[i64]) -> Result<Record, Misfit>
     Ok(Record::Note(Note::Loadtl(number_alone(1, GREATEST, words)?)))
 }
 
-fn cutter_by(words: &[i64]) -> Result<Record, Misfit>
-    ensures { result ≡ spec.cutter_by words.now }
-{
-    Ok(Record::Note(Note::Cutter(number_alone(0, 1_000_000, words)?)))
-}
-
-fn intol_by(words: &[i64]) -> Result<Record, Misfit>
-    ensures { result ≡ spec.intol_by words.now }
-{
-    Ok(Record::Note(Note::Intol(number_alone(0, 10_000, words)?)))
-}
-
-fn outtol_by(words: &[i64]) -> Result<Record, Misfit>
-    ensures { result ≡ spec.outtol_by words.now }
-{
-    Ok(Record::Note(Note::Outtol(number_alone(0, 10_000, words)?)))
-}
-
 fn setting_by(sub: i64, words: &[i64]) -> Result<Record, Misfit>
     ensures { result ≡ spec.setting_by sub words.now }
 {
     match sub {
-        1 => cutter_by(words),
-        2 => intol_by(words),
-        3 => outtol_by(words),
-        4 => units_by(words),
+        1 => Ok(Record::Note(Note::Cutter(number_alone(0, 1_000_000, words)?))),
+        2 => Ok(Record::Note(Note::Intol(number_alone(0, 10_000, words)?))),
+        3 => Ok(Record::Note(Note::Outtol(number_alone(0, 10_000, words)?))),
+        4 => {
+            let [u] = words else {
+                return Err(Misfit::Count);
+            };
+            Ok(Record::Note(Note::Units(units_at(0, *u)?)))
+        }
         _ => Err(Misfit::Subtype),
     }
 }
@@ -317,7 +295,7 @@ fn positions_by(alloc: Global, words: &[i64]) -> Result<Result<Vertices, Misfit>
         rest = after;
     }
     if rest.is_empty() {
-        Ok(Ok(Vertices { at }))
+        Ok(Ok(Vertices::from_vec(at)))
     } else {
         Ok(Err(Misfit::Count))
     }

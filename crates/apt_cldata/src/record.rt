@@ -1,6 +1,11 @@
 //! Records.
+
+ghost use Rattle.std.specs.Prelude.{◌≡◌, [], ◌∷◌};
+
 use apt_plane::{Pt, Surface};
 use apt_words::{Cool, Side, Stop, Text, Turn, Units};
+use smallvec::SmallVec;
+use std::alloc::Global;
 use std::marker::Model;
 
 /// A point and its height, in grid units.
@@ -8,6 +13,16 @@ use std::marker::Model;
 pub struct Position {
     pub at: Pt,
     pub z: i64,
+}
+
+/// The origin.
+impl Default for Position {
+    fn default() -> Position {
+        Position {
+            at: Pt { x: 0, y: 0 },
+            z: 0,
+        }
+    }
 }
 
 /// How a position is reached: set by FROM, or moved to.
@@ -39,10 +54,10 @@ pub enum Note {
     Fini,
 }
 
-/// The vertices of a contour behind its start. Clauses see their list.
+/// The vertices of a contour behind its start; a single one takes no memory of its own. Clauses see their list.
 #[derive(Drop)]
 pub struct Vertices {
-    pub at: Vec<Position>,
+    at: SmallVec<Position, 1>,
 }
 
 impl Model for Vertices {
@@ -52,6 +67,33 @@ impl Model for Vertices {
     ghost Value = { List Position };
 
     ghost view = { λ v. v.at.items };
+}
+
+impl Vertices {
+    /// A single vertex.
+    pub fn one(alloc: Global, vertex: Position) -> Vertices
+        ensures { result ≡ vertex ∷ [] }
+    {
+        Vertices {
+            at: SmallVec::from_buf(alloc, [vertex]),
+        }
+    }
+
+    /// All of them, in order.
+    pub fn as_slice(&self) -> &[Position]
+        ensures { result.now ≡ self.now }
+    {
+        self.at.as_slice()
+    }
+
+    /// Those of a list.
+    pub fn from_vec(list: Vec<Position>) -> Vertices
+        ensures { result ≡ list.items }
+    {
+        Vertices {
+            at: SmallVec::from_vec(list),
+        }
+    }
 }
 
 /// A record of a CL file. The sense of a drive is 1 along a line's direction or anticlockwise round a circle,

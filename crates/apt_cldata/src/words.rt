@@ -45,7 +45,7 @@ pub(crate) fn push_record(bytes: &mut Vec<u8>, seq: u64, said: &Record) -> Resul
             let reach = row(reach_word(*reach));
             push_rows(bytes, &[row(seq), row(5000), reach, x, y, z])
         }
-        Record::Contour(vertices) => match vertices.at.as_slice() {
+        Record::Contour(vertices) => match vertices.as_slice() {
             [vertex] => {
                 let [x, y, z] = position_rows(*vertex);
                 push_rows(bytes, &[row(seq), row(5000), row(5), x, y, z])

@@ -5,7 +5,6 @@ use Rattle.std.proofs.lemmas.Bool.{true≢false}
 use Rattle.std.proofs.lemmas.Int.{ints}
 use Rattle.apt_num.specs.declared.Sign.{Sign}
 use Rattle.apt_num.specs.declared.Sign.TheVariants as signs
-use Rattle.apt_num.proofs.Squares.{size_neg}
 use Rattle.apt_words.specs.declared.Stop.{Stop}
 use Rattle.apt_words.specs.declared.Stop.TheVariants as stops
 use Rattle.apt_plane.specs.declared.figures.Circ.{Circ}
@@ -14,7 +13,8 @@ use Rattle.apt_plane.specs.declared.figures.Pt.{Pt}
 use Rattle.apt_plane.specs.declared.figures.Surface.{Surface}
 use Rattle.apt_plane.specs.declared.figures.Surface.TheVariants as surfaces
 use Rattle.apt_plane.specs.Ranges.{IsDir, IsCircle, IsSurface, IsSense}
-use Rattle.apt_plane.specs.Vectors.{displacement, length_squared, perp}
+use Rattle.apt_plane.specs.Vectors.{displacement, length_squared}
+use Rattle.apt_plane.proofs.Turned.{perp_dir}
 use Rattle.apt_canon.specs.Circles.{are_concentric}
 use Rattle.apt_canon.proofs.Ways.{way_is_dir}
 use Rattle.apt_offset.specs.Ranges.{IsRadius}
@@ -113,12 +113,6 @@ out_sign_is (surfaces.Circ c) signs.Plus = inr refl
 out_sign_is (surfaces.Circ c) signs.Zero = inl refl
 out_sign_is (surfaces.Circ c) signs.Minus = inl refl
 
-turned_long : (d : Dir) → length_squared (perp d) ≡ length_squared d
-turned_long d = rw (size_neg d.dy) (omega arith)
-
-perp_in : (d : Dir) → IsDir d → IsDir (perp d)
-perp_in d is = record { dx = rw (size_neg d.dy) is.dy; dy = is.dx; length = rw (turned_long d) is.length }
-
 apart : (n : ℕ) → (n == 0) ≡ false → 1 ≤ n
 apart zero e = absurd (true≢false e)
 apart (suc n) e = omega arith
@@ -131,8 +125,8 @@ between_circles c d half false e is_c is_d =
 
 tangent_in : (s t : Surface) → IsSurface s → IsSurface t → IsAxisOrNone (tangent_axis s t)
 tangent_in (surfaces.Line l) (surfaces.Line k) is_s is_t = tt
-tangent_in (surfaces.Line l) (surfaces.Circ c) is_s is_t = record { at = is_t.centre; along = perp_in l.dir is_s.dir }
-tangent_in (surfaces.Circ c) (surfaces.Line l) is_s is_t = record { at = is_s.centre; along = perp_in l.dir is_t.dir }
+tangent_in (surfaces.Line l) (surfaces.Circ c) is_s is_t = record { at = is_t.centre; along = perp_dir l.dir is_s.dir }
+tangent_in (surfaces.Circ c) (surfaces.Line l) is_s is_t = record { at = is_s.centre; along = perp_dir l.dir is_t.dir }
 tangent_in (surfaces.Circ c) (surfaces.Circ d) is_s is_t = between_circles c d (touching_half c d) (are_concentric c d) refl is_s is_t
 
 axis_in : (drive check : Surface) (how : Stop) → IsSurface drive → IsSurface check → IsAxisOrNone (if is_tanto how then tangent_axis drive check else None)

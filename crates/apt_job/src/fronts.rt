@@ -111,8 +111,9 @@ fn vertices_at(start: Position, r: &Record) -> Option<&[Position]>
 {
     match r {
         Record::Contour(vertices) => {
-            if are_at(start, &vertices.at) {
-                Some(&vertices.at)
+            let positions = vertices.as_slice();
+            if are_at(start, positions) {
+                Some(positions)
             } else {
                 None
             }

@@ -3,7 +3,6 @@
 ghost use Rattle.std.specs.Prelude.{◌≡◌, ◌∷◌, true, false, IfOk, IfSome};
 ghost use Rattle.apt_plane.specs.Ranges.{IsPoint, IsSurface, IsSense};
 ghost use Rattle.apt_offset.specs.Ranges.{IsTarget};
-ghost use Rattle.apt_offset.specs.Targets as targets;
 ghost use Rattle.apt_certify.specs.Legs as legs;
 ghost use Rattle.apt_meaning.specs.Motions as motions;
 ghost use Rattle.apt_meaning.specs.Ranges.{IsMotion, HasMotion};
@@ -16,7 +15,7 @@ use apt_cldata::Position;
 use apt_meaning::{Effect, Motion};
 use apt_num::Sign;
 use apt_offset::signs::{is_zero, opposite};
-use apt_offset::{Target, band_at, is_on_check, lacks_room, offset_surface};
+use apt_offset::{band_at, is_on_check, lacks_room};
 use apt_plane::{Axis, Surface};
 use apt_stop::{Course, axis, kept_side};
 use std::alloc::{AllocError, Global};
@@ -42,11 +41,11 @@ fn sides_of(m: &Motion) -> Sides
     if lacks_room(&track) {
         return unbounded(check, false);
     }
-    let stop = stop_at(m, check);
+    let stop = m.stop(check);
     if is_on_check(m.how, check) || lacks_room(&stop) {
         return unbounded(check, true);
     }
-    bounds(check, &course(m, track, stop))
+    bounds(check, &m.course(track, stop))
 }
 
 /// The sides of a motion without a stop.
@@ -80,44 +79,6 @@ fn bounds(check: Sign, course: &Course) -> Sides
         has_stop: !is_zero(stop) || axis.is_some(),
         stop,
         axis,
-    }
-}
-
-/// The curve on which a motion stops, by the place of the cutter at the check surface.
-#[inline(always)]
-fn stop_at(m: &Motion, check_side: Sign) -> Target
-    requires motion { IsMotion m.now }
-    requires check_side { check_side ≡ motions.check_side m.now }
-    ensures value { result ≡ motions.stop_of m.now }
-    ensures range { targets.lacks_room result ≡ false → IsTarget result }
-{
-    offset_surface(&m.check, check_side, m.radius)
-}
-
-/// The course of a motion, by its track and its stop.
-#[inline(always)]
-fn course(m: &Motion, track: Target, stop: Target) -> Course
-    requires motion { IsMotion m.now }
-    requires track { track ≡ motions.track_of m.now }
-    requires track_room { IsTarget track }
-    requires stop { stop ≡ motions.stop_of m.now }
-    requires stop_room { IsTarget stop }
-    ensures value { result ≡ motions.course_of m.now }
-    ensures start { IsPoint result.start }
-    ensures drive { IsSurface result.drive }
-    ensures track { IsTarget result.track }
-    ensures sense { IsSense result.sense }
-    ensures check { IsSurface result.check }
-    ensures stop { IsTarget result.stop }
-{
-    Course {
-        start: m.start.at,
-        drive: m.drive,
-        track,
-        sense: m.sense,
-        check: m.check,
-        how: m.how,
-        stop,
     }
 }
 

@@ -54,10 +54,10 @@ use Rattle.apt_meaning.specs.Compiled.{points_of}
 use Rattle.apt_meaning.specs.Ranges.{IsPositionOrNone, AreSettings, IsSituation, IsMotion, IsEffect}
 use Rattle.apt_scalar.specs.StepScalars.{HasScalars}
 use Rattle.apt_meaning.specs.Vertices.{HasIn}
-use Rattle.apt_meaning.proofs.Refused.{first_none, none_first}
+use Rattle.apt_words.proofs.Rows.{first_none, none_first}
 use Rattle.apt_meaning.proofs.Legal.{motion_defined}
 use Rattle.apt_meaning.proofs.Cuts.{cut_is}
-use Rattle.apt_meaning.proofs.EffectRanges.{reach_in, up_to_in, tolerance_in, radius_in, feed_in, feed_note, whole_note, with_units, with_radius, with_intol, with_outtol, with_feed, with_rapid, with_ended, on_side, on_side_or_as_it_was, motion_is}
+use Rattle.apt_meaning.proofs.EffectRanges.{reach_in, up_to_in, tolerance_in, radius_in, feed_in, feed_note, whole_note, with_units, with_radius, with_intol, with_outtol, with_feed, with_rapid, on_side, on_side_or_as_it_was, motion_is}
 use Rattle.apt_meaning.proofs.Contours.{named_surface}
 
 -- a contour ends at its contact
@@ -271,7 +271,7 @@ asks at (deeds.Contour side go drive how check) is numbers worded none = contour
 asks at deeds.Rapid is numbers worded none = says (record at.settings { rapid = true }) notes.Rapid (with_rapid at.settings true is.settings) tt
 asks at deeds.Halt is numbers worded none = says at.settings notes.Stop is.settings tt
 asks at deeds.OptHalt is numbers worded none = says at.settings notes.OptStop is.settings tt
-asks at deeds.EndWord is numbers worded none = says (record at.settings { ended = true }) notes.End (with_ended at.settings true is.settings) tt
+asks at deeds.EndWord is numbers worded none = says at.settings notes.End is.settings tt
 asks at deeds.Fini is numbers worded none = says at.settings notes.Fini is.settings tt
 asks at (deeds.Fedrat v) is numbers worded none =
     let good = feed_in v numbers none.0 in

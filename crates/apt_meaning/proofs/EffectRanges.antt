@@ -92,9 +92,6 @@ with_feed s feed is good = record { radius = is.radius; intol = is.intol; outtol
 pub with_rapid : (s : Settings) (rapid : Bool) → AreSettings s → AreSettings (record s { rapid = rapid })
 with_rapid s rapid is = record { radius = is.radius; intol = is.intol; outtol = is.outtol; feed = is.feed }
 
-pub with_ended : (s : Settings) (ended : Bool) → AreSettings s → AreSettings (record s { ended = ended })
-with_ended s ended is = record { radius = is.radius; intol = is.intol; outtol = is.outtol; feed = is.feed }
-
 pub on_side_or_as_it_was : (s : Settings) (side : Option Side) → AreSettings s → AreSettings (with_side s side)
 on_side_or_as_it_was s None is = is
 on_side_or_as_it_was s (Some side) is = on_side s side is

@@ -9,7 +9,6 @@ pub mod Cuts
 pub mod Plates
 pub mod Said
 pub mod Defined
-pub mod Refused
 pub mod EffectRanges
 pub mod Asked
 pub mod Fed

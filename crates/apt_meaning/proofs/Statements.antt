@@ -191,7 +191,7 @@ halt = refl
 opt_halt : effect_of at deeds.OptHalt ≡ says here notes.OptStop
 opt_halt = refl
 
-end_word : effect_of at deeds.EndWord ≡ says (record here { ended = true }) notes.End
+end_word : effect_of at deeds.EndWord ≡ says here notes.End
 end_word = refl
 
 fini : effect_of at deeds.Fini ≡ says here notes.Fini

@@ -130,7 +130,7 @@ effect_of at (deeds.Contour side go drive how check) = cuts (motion_at at side g
 effect_of at deeds.Rapid = says (record at.settings { rapid = true }) notes.Rapid
 effect_of at deeds.Halt = says at.settings notes.Stop
 effect_of at deeds.OptHalt = says at.settings notes.OptStop
-effect_of at deeds.EndWord = says (record at.settings { ended = true }) notes.End
+effect_of at deeds.EndWord = says at.settings notes.End
 effect_of at deeds.Fini = says at.settings notes.Fini
 effect_of at (deeds.Fedrat v) = says (record at.settings { feed = tenths v }) (notes.Fedrat (tenths v))
 effect_of at (deeds.Spindl v turn) = spins at.settings v turn

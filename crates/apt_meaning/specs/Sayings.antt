@@ -28,7 +28,7 @@ settings_with s (notes.Loadtl n) = s
 settings_with s notes.Rapid = record s { rapid = true }
 settings_with s notes.Stop = s
 settings_with s notes.OptStop = s
-settings_with s notes.End = record s { ended = true }
+settings_with s notes.End = s
 settings_with s notes.Fini = s
 
 -- the statement that says a note

@@ -21,7 +21,6 @@ first_settings = record {
   side = sides.On;
   feed = pos 0;
   rapid = false;
-  ended = false;
 }
 
 -- a program begins with no position, no forward direction and no names

@@ -113,7 +113,7 @@ fn asked_apart(at: &Situation, deed: &Deed) -> Result<Option<Effect>, AllocError
         Deed::Rapid => Ok(Some(Effect::says(s.with_rapid(), Note::Rapid))),
         Deed::Halt => Ok(Some(Effect::says(s, Note::Stop))),
         Deed::OptHalt => Ok(Some(Effect::says(s, Note::OptStop))),
-        Deed::EndWord => Ok(Some(Effect::says(s.behind_end(), Note::End))),
+        Deed::EndWord => Ok(Some(Effect::says(s, Note::End))),
         Deed::Fini => Ok(Some(Effect::says(s, Note::Fini))),
         Deed::Spindl(v, Turn::Cw) => Ok(Some(spindl(at, *v, Turn::Cw))),
         Deed::Spindl(v, Turn::Ccw) => Ok(Some(spindl(at, *v, Turn::Ccw))),

@@ -2,7 +2,7 @@
 
 ghost use Rattle.std.specs.Prelude.{◌≡◌, ◌^◌, ◌/◌, ◌≤ℤ◌, ◌-ℤ◌, unsigned_abs, false, pos, IfSome};
 ghost use Rattle.apt_words.specs.Rows.{NoneHolds};
-ghost use Rattle.apt_plane.specs.Ranges.{IsSurface, IsSense};
+ghost use Rattle.apt_plane.specs.Ranges.{IsPoint, IsSurface, IsSense};
 ghost use Rattle.apt_arc.specs.Ranges.{IsArc};
 ghost use Rattle.apt_offset.specs.Ranges.{IsTarget, IsCircleTarget, IsTolerance};
 ghost use Rattle.apt_offset.specs.Targets as targets;
@@ -102,28 +102,41 @@ impl Motion {
         offset_surface(&self.drive, self.drive_side(), self.radius)
     }
 
-    /// The curve on which it stops.
-    pub fn stop(&self) -> Target
-        requires { IsMotion self.now }
+    /// The curve on which it stops, by the place of the cutter at the check surface.
+    #[inline(always)]
+    pub fn stop(&self, check_side: Sign) -> Target
+        requires motion { IsMotion self.now }
+        requires check_side { check_side ≡ motions.check_side self.now }
         ensures value { result ≡ motions.stop_of self.now }
         ensures range { targets.lacks_room result ≡ false → IsTarget result }
     {
-        offset_surface(&self.check, self.check_side(), self.radius)
+        offset_surface(&self.check, check_side, self.radius)
     }
 
-    /// Its course, before it is cut.
-    pub fn course(&self) -> Course
-        requires { IsMotion self.now }
-        ensures { result ≡ motions.course_of self.now }
+    /// Its course, before it is cut, by its track and its stop.
+    #[inline(always)]
+    pub fn course(&self, track: Target, stop: Target) -> Course
+        requires motion { IsMotion self.now }
+        requires track { track ≡ motions.track_of self.now }
+        requires track_room { IsTarget track }
+        requires stop { stop ≡ motions.stop_of self.now }
+        requires stop_room { IsTarget stop }
+        ensures value { result ≡ motions.course_of self.now }
+        ensures start { IsPoint result.start }
+        ensures drive { IsSurface result.drive }
+        ensures track { IsTarget result.track }
+        ensures sense { IsSense result.sense }
+        ensures check { IsSurface result.check }
+        ensures stop { IsTarget result.stop }
     {
         Course {
             start: self.start.at,
             drive: self.drive,
-            track: self.track(),
+            track,
             sense: self.sense,
             check: self.check,
             how: self.how,
-            stop: self.stop(),
+            stop,
         }
     }
 

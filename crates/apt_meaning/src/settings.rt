@@ -71,16 +71,6 @@ impl Settings {
         }
     }
 
-    /// Behind END.
-    pub fn behind_end(self) -> Settings
-        ensures { result ≡ record self { ended = true } }
-    {
-        Settings {
-            ended: true,
-            ..self
-        }
-    }
-
     /// A position is reached: a move spends a pending RAPID.
     pub fn reach(&mut self, reach: Reach)
         ensures { self.new ≡ situations.settings_behind reach self.old }

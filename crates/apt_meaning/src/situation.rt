@@ -10,8 +10,8 @@ use apt_words::{Side, Units};
 use std::alloc::Global;
 
 /// What statements set: the units, the cutter's radius and the tolerances inwards and outwards in grid units,
-/// the side of the cutter, the feed in tenths of a length unit per minute (0 for none), whether RAPID is
-/// pending, and whether END came.
+/// the side of the cutter, the feed in tenths of a length unit per minute (0 for none), and whether RAPID is
+/// pending.
 #[derive(Clone, Copy)]
 pub struct Settings {
     pub units: Units,
@@ -21,7 +21,6 @@ pub struct Settings {
     pub side: Side,
     pub feed: i64,
     pub rapid: bool,
-    pub ended: bool,
 }
 
 impl Settings {
@@ -37,7 +36,6 @@ impl Settings {
             side: Side::On,
             feed: 0,
             rapid: false,
-            ended: false,
         }
     }
 }

@@ -30,6 +30,10 @@ use Rattle.apt_meaning.specs.Refusals.{is_undefined, is_no_surface, each_name, m
 abbrev pub IsNoContour : Deed → Type 0
 IsNoContour deed = (side : Option Side) (go : Go) (drive : List ℕ) (how : Stop) (check : List ℕ) → deed ≢ deeds.Contour side go drive how check
 
+abbrev pub IsContour : Deed → Type 0
+IsContour (deeds.Contour side go drive how check) = Unit {0}
+IsContour _ = ⊥
+
 abbrev pub IsNoStart : Deed → Type 0
 IsNoStart deed = (how : Stop) (name : List ℕ) (other : Option (Stop × List ℕ)) → deed ≢ deeds.GoStart how name other
 

@@ -20,7 +20,7 @@ use apt_defs::Table;
 use apt_meaning::{Motion, Settings, Situation, is_too_fine, surface_of, turn_at};
 use apt_num::Sign;
 use apt_offset::signs::is_zero;
-use apt_offset::{Target, is_on_check, lacks_room, offset_surface};
+use apt_offset::{is_on_check, lacks_room};
 use apt_plane::{Pt, Surface};
 use apt_stop::{Course, decide, is_near};
 use apt_words::{Case, Go, Side, Stop, Symbol};
@@ -140,7 +140,7 @@ pub(crate) fn end_of(m: &Motion) -> Result<Pt, Case>
     }
     let side = m.check_side();
     let on = is_on_check(m.how, side);
-    let stop = stop_at(m, side);
+    let stop = m.stop(side);
     if !on && lacks_room(&stop) {
         return Err(Case::NoRoom);
     }
@@ -150,36 +150,7 @@ pub(crate) fn end_of(m: &Motion) -> Result<Pt, Case>
     if on {
         return Err(Case::OnCheck);
     }
-    course_end(&course(m, track, stop))
-}
-
-/// The curve on which a motion stops, by the place of the cutter at the check surface.
-#[inline(always)]
-fn stop_at(m: &Motion, side: Sign) -> Target
-    requires motion { IsMotion m.now }
-    requires side { side ≡ motions.check_side m.now }
-    ensures { result ≡ motions.stop_of m.now }
-{
-    offset_surface(&m.check, side, m.radius)
-}
-
-/// The course of a motion, by its targets.
-#[inline(always)]
-fn course(m: &Motion, track: Target, stop: Target) -> Course
-    requires motion { IsMotion m.now }
-    requires track { track ≡ motions.track_of m.now }
-    requires stop { stop ≡ motions.stop_of m.now }
-    ensures { result ≡ motions.course_of m.now }
-{
-    Course {
-        start: m.start.at,
-        drive: m.drive,
-        track,
-        sense: m.sense,
-        check: m.check,
-        how: m.how,
-        stop,
-    }
+    course_end(&m.course(track, stop))
 }
 
 /// Where a course ends.

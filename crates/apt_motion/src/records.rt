@@ -15,7 +15,7 @@ ghost use Rattle.apt_motion.specs.Finding.{IsPlain};
 
 use crate::vertices::vertices;
 use apt_arc::ArcError;
-use apt_cldata::{Position, Record, Vertices};
+use apt_cldata::{Record, Vertices};
 use apt_meaning::{Effect, Motion, Situation};
 use apt_plane::Pt;
 use apt_words::Step;
@@ -60,9 +60,9 @@ fn put(records: &mut Vec<Record>, step: &Step, line: Record)
 }
 
 /// The records of a contour with its vertices.
-fn write_cut(records: &mut Vec<Record>, step: &Step, motion: &Motion, at: Vec<Position>)
+fn write_cut(records: &mut Vec<Record>, step: &Step, motion: &Motion, vertices: Vertices)
     requires room { vec_len records.old + 4 ≤ vec_capacity records.old }
-    requires at { at.items ≡ map (at_height motion.now.start.z) (vertices_of motion.now) }
+    requires vertices { vertices ≡ map (at_height motion.now.start.z) (vertices_of motion.now) }
     ensures { records.new.items ≡ records.old.items ++ writing.records_of step.now (effects.Cuts motion.now) (vertices_of motion.now) }
 {
     let drive = Record::Drive {
@@ -75,7 +75,7 @@ fn write_cut(records: &mut Vec<Record>, step: &Step, motion: &Motion, at: Vec<Po
         surface: motion.check,
         how: motion.how,
     });
-    records.push_reserved(Record::Contour(Vertices { at }));
+    records.push_reserved(Record::Contour(vertices));
 }
 
 /// Then holds what holds behind what a step asks for that is neither a definition nor a contour.
@@ -94,6 +94,7 @@ pub(crate) fn pass_by(at: &mut Situation, effect: Effect)
 
 /// The records of what a step asks for that is neither a definition nor a contour, and so has no vertices; then holds
 /// what holds behind it.
+#[inline(always)]
 pub(crate) fn take(
     records: &mut Vec<Record>,
     at: &mut Situation,
@@ -151,7 +152,7 @@ pub(crate) fn take_cut(
         return Err(ArcError::NoMemory);
     }
     let vertices = vertices(alloc, motion, end, MOST_POINTS - written.points)?;
-    written.points += vertices.len() as u64;
+    written.points += vertices.as_slice().len() as u64;
     write_cut(&mut written.records, step, motion, vertices);
     at.cut_along(motion, &[end]);
     Ok(())

@@ -14,7 +14,7 @@ ghost use Rattle.apt_meaning.specs.Records.{AreOwn, FollowsAs, FollowsLegally};
 ghost use Rattle.apt_meaning.specs.Situations.{first_situation};
 ghost use Rattle.apt_meaning.specs.declared.situation.Situation.{Situation};
 ghost use Rattle.apt_motion.specs.Ends.{Ends, HasAdvanced, HasPassed, ArePassed};
-ghost use Rattle.apt_motion.specs.Finding.{IsMotionBy, IsNoDefinition};
+ghost use Rattle.apt_motion.specs.Finding.{IsContour, IsMotionBy, IsNoContour, IsNoDefinition};
 
 use crate::contours::{end_of, motion};
 use crate::found::find;
@@ -65,38 +65,51 @@ fn pass(at: &mut Situation, step: &Step) -> Result<(), RunError>
     requires text { DeedHasText step.now.deed }
     ensures { HasPassed at.old step.now (result_map_both (λ _. at.new) (λ e. e) result) }
 {
-    match define(step, at.settings.units, &mut at.table) {
-        Ok(true) => Ok(()),
-        Ok(false) => go_on(at, step),
-        Err(DefError::Case(case)) => Err(refused(step, case)),
-        Err(DefError::NoMemory) => Err(RunError::NoMemory),
+    match &step.deed {
+        Deed::Contour(..) => pass_contour(at, step),
+        Deed::GotoXy(..) => go_on(at, step),
+        _ => match define(step, at.settings.units, &mut at.table) {
+            Ok(true) => Ok(()),
+            Ok(false) => go_on(at, step),
+            Err(DefError::Case(case)) => Err(refused(step, case)),
+            Err(DefError::NoMemory) => Err(RunError::NoMemory),
+        },
     }
 }
 
-/// Passes a step that defines nothing.
+/// Passes a step that is neither a definition nor a contour.
+#[inline(always)]
 fn go_on(at: &mut Situation, step: &Step) -> Result<(), RunError>
     requires situation { IsSituation at.old }
     requires scalars { HasScalars step.now.deed }
     requires built { IsBuilt step.now.deed }
     requires text { DeedHasText step.now.deed }
+    requires plain { IsNoContour step.now.deed }
     requires defines_nothing { IsNoDefinition at.old step.now.deed }
     ensures { HasPassed at.old step.now (result_map_both (λ _. at.new) (λ e. e) result) }
 {
-    match &step.deed {
-        Deed::Contour(side, go, drive, how, check) => {
-            match &motion(at, *side, *go, drive, *how, check) {
-                Ok(motion) => go_along(at, step, motion),
-                Err(case) => Err(refused(step, *case)),
-            }
-        }
-        deed => match find(at, deed)? {
-            Ok(effect) => Ok(pass_by(at, effect)),
-            Err(case) => Err(refused(step, case)),
-        },
+    match find(at, &step.deed)? {
+        Ok(effect) => Ok(pass_by(at, effect)),
+        Err(case) => Err(refused(step, case)),
     }
 }
 
-/// Passes a contour, run to its contact.
+/// Passes a contour. Its motion stays where it is made.
+fn pass_contour(at: &mut Situation, step: &Step) -> Result<(), RunError>
+    requires situation { IsSituation at.old }
+    requires contour { IsContour step.now.deed }
+    ensures { HasPassed at.old step.now (result_map_both (λ _. at.new) (λ e. e) result) }
+{
+    let Deed::Contour(side, go, drive, how, check) = &step.deed else {
+        unreachable!();
+    };
+    match &motion(at, *side, *go, drive, *how, check) {
+        Ok(motion) => go_along(at, step, motion),
+        Err(case) => Err(refused(step, *case)),
+    }
+}
+
+/// Passes a motion, run to its contact.
 #[tactic(auto, using(crate::proofs::Cuts::has_passed, crate::proofs::Cuts::is_stopped))]
 fn go_along(at: &mut Situation, step: &Step, motion: &Motion) -> Result<(), RunError>
     requires motion { IsMotion motion.now }
@@ -124,44 +137,58 @@ fn advance(
     requires few { written.old.points ≤ most_points }
     ensures { HasAdvanced written.old.points written.new.points at.old step.now written.old.records.items written.new.records.items (result_map_both (λ _. at.new) (λ e. e) result) }
 {
-    match define(step, at.settings.units, &mut at.table) {
-        Ok(true) => Ok(()),
-        Ok(false) => act(alloc, written, at, step),
-        Err(DefError::Case(case)) => Err(refused(step, case)),
-        Err(DefError::NoMemory) => Err(RunError::NoMemory),
+    match &step.deed {
+        Deed::Contour(..) => contour(alloc, written, at, step),
+        Deed::GotoXy(..) => act(written, at, step),
+        _ => match define(step, at.settings.units, &mut at.table) {
+            Ok(true) => Ok(()),
+            Ok(false) => act(written, at, step),
+            Err(DefError::Case(case)) => Err(refused(step, case)),
+            Err(DefError::NoMemory) => Err(RunError::NoMemory),
+        },
     }
 }
 
-/// Takes a step that defines nothing. The motion of a contour stays where it is made.
-fn act(
+/// Takes a step that is neither a definition nor a contour.
+#[inline(always)]
+fn act(written: &mut Written, at: &mut Situation, step: &Step) -> Result<(), RunError>
+    requires situation { IsSituation at.old }
+    requires scalars { HasScalars step.now.deed }
+    requires built { IsBuilt step.now.deed }
+    requires text { DeedHasText step.now.deed }
+    requires plain { IsNoContour step.now.deed }
+    requires defines_nothing { IsNoDefinition at.old step.now.deed }
+    requires few { written.old.points ≤ most_points }
+    ensures { HasAdvanced written.old.points written.new.points at.old step.now written.old.records.items written.new.records.items (result_map_both (λ _. at.new) (λ e. e) result) }
+{
+    match find(at, &step.deed)? {
+        Ok(effect) => Ok(take(&mut written.records, at, step, effect)?),
+        Err(case) => Err(refused(step, case)),
+    }
+}
+
+/// Takes a contour. Its motion stays where it is made.
+fn contour(
     alloc: Global,
     written: &mut Written,
     at: &mut Situation,
     step: &Step,
 ) -> Result<(), RunError>
     requires situation { IsSituation at.old }
-    requires scalars { HasScalars step.now.deed }
-    requires built { IsBuilt step.now.deed }
-    requires text { DeedHasText step.now.deed }
-    requires defines_nothing { IsNoDefinition at.old step.now.deed }
+    requires contour { IsContour step.now.deed }
     requires few { written.old.points ≤ most_points }
     ensures { HasAdvanced written.old.points written.new.points at.old step.now written.old.records.items written.new.records.items (result_map_both (λ _. at.new) (λ e. e) result) }
 {
-    match &step.deed {
-        Deed::Contour(side, go, drive, how, check) => {
-            match &motion(at, *side, *go, drive, *how, check) {
-                Ok(motion) => cut(alloc, written, at, step, motion),
-                Err(case) => Err(refused(step, *case)),
-            }
-        }
-        deed => match find(at, deed)? {
-            Ok(effect) => Ok(take(&mut written.records, at, step, effect)?),
-            Err(case) => Err(refused(step, case)),
-        },
+    let Deed::Contour(side, go, drive, how, check) = &step.deed else {
+        unreachable!();
+    };
+    match &motion(at, *side, *go, drive, *how, check) {
+        Ok(motion) => cut(alloc, written, at, step, motion),
+        Err(case) => Err(refused(step, *case)),
     }
 }
 
-/// Takes a contour, run to its contact.
+/// Takes a motion, run to its contact.
 #[tactic(auto, using(crate::proofs::Cuts::is_stopped_again))]
 fn cut(
     alloc: Global,

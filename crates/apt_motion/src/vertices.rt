@@ -10,10 +10,13 @@ ghost use Rattle.apt_meaning.specs.Refusals.{motion_cases};
 ghost use Rattle.apt_meaning.specs.Situations.{at_height};
 
 use apt_arc::{Arc, ArcError, chords};
-use apt_cldata::Position;
+use apt_cldata::{Position, Vertices};
 use apt_meaning::Motion;
 use apt_plane::Pt;
 use std::alloc::{AllocError, Global};
+
+/// Few arcs have more chords.
+const MANY_CHORDS: usize = 512;
 
 /// The vertices of a motion that no case refuses, at its height: its end along a line, and round a circle the ends of
 /// chords.
@@ -26,11 +29,11 @@ pub(crate) fn vertices(
     motion: &Motion,
     end: Pt,
     room: u64,
-) -> Result<Vec<Position>, ArcError>
+) -> Result<Vertices, ArcError>
     requires motion { IsMotion motion.now }
     requires none { NoneHolds (motion_cases motion.now) }
     requires end { end ≡ contact motion.now }
-    ensures ok { IfOk result (λ at. at.items ≡ map (at_height motion.now.start.z) (vertices_of motion.now)) }
+    ensures ok { IfOk result (λ vs. vs ≡ map (at_height motion.now.start.z) (vertices_of motion.now)) }
     ensures few { OnOk result (length (vertices_of motion.now) ≤ room) }
     ensures too_many { IsErrOf result ArcError.TooManyPoints ↔ (room < length (vertices_of motion.now)) }
 {
@@ -41,33 +44,39 @@ pub(crate) fn vertices(
 }
 
 /// The one vertex of a contour along a line.
-fn end_alone(alloc: Global, end: Pt, z: i64, room: u64) -> Result<Vec<Position>, ArcError>
-    ensures ok { IfOk result (λ at. at.items ≡ map (at_height z) (end ∷ [])) }
+fn end_alone(alloc: Global, end: Pt, z: i64, room: u64) -> Result<Vertices, ArcError>
+    ensures ok { IfOk result (λ vs. vs ≡ map (at_height z) (end ∷ [])) }
     ensures few { OnOk result (length (end ∷ []) ≤ room) }
     ensures too_many { IsErrOf result ArcError.TooManyPoints ↔ (room < length (end ∷ [])) }
 {
     if room == 0 {
         return Err(ArcError::TooManyPoints);
     }
-    let Ok(mut at) = Vec::with_capacity(alloc, 1) else {
-        return Err(ArcError::NoMemory);
-    };
-    at.push_reserved(Position { at: end, z });
-    Ok(at)
+    Ok(Vertices::one(alloc, Position { at: end, z }))
 }
 
 /// The vertices round a circle.
-fn ends_of_chords(alloc: Global, arc: &Arc, z: i64, room: u64) -> Result<Vec<Position>, ArcError>
+fn ends_of_chords(alloc: Global, arc: &Arc, z: i64, room: u64) -> Result<Vertices, ArcError>
     requires { IsArc arc.now }
-    ensures ok { IfOk result (λ at. at.items ≡ map (at_height z) (divided arc.now)) }
+    ensures ok { IfOk result (λ vs. vs ≡ map (at_height z) (divided arc.now)) }
     ensures few { OnOk result (length (divided arc.now) ≤ room) }
     ensures too_many { IsErrOf result ArcError.TooManyPoints ↔ (room < length (divided arc.now)) }
 {
-    let mut points = Vec::new(alloc);
+    let mut points = with_room(alloc);
     chords(arc, room, &mut points)?;
     match all_at(alloc, &points, z) {
-        Ok(at) => Ok(at),
+        Ok(at) => Ok(Vertices::from_vec(at)),
         Err(_) => Err(ArcError::NoMemory),
+    }
+}
+
+/// No points, with room for those of most arcs if there is memory for it.
+fn with_room(alloc: Global) -> Vec<Pt>
+    ensures { result.items ≡ [] }
+{
+    match Vec::with_capacity(alloc, MANY_CHORDS) {
+        Ok(points) => points,
+        Err(_) => Vec::new(alloc),
     }
 }
 

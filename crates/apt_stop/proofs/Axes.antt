@@ -14,7 +14,7 @@ use Rattle.apt_plane.specs.Ranges.{IsPoint, IsDir, IsSurface}
 use Rattle.apt_plane.specs.Vectors.{displacement, length_squared}
 use Rattle.apt_canon.specs.Circles.{are_concentric}
 use Rattle.apt_canon.proofs.Ways.{one_point, no_way, way-IsDir}
-use Rattle.apt_stop.proofs.OnRounds.{quarter_dir}
+use Rattle.apt_plane.proofs.Turned.{perp_dir}
 use Rattle.apt_stop.specs.Tangencies.{axis, touching_half, tangent_axis, HaveNoAxis, axis_towards, IsElsewhere}
 
 concentric_tells : (c d : Circ) → Decides (are_concentric c d) (c.c ≡ d.c)
@@ -38,7 +38,7 @@ no_axis r s t e = rw e (axis_tells s t)
 
 -- ---- the quarter points of an arc that stops at a surface that is elsewhere lie in a direction
 pub towards-IsDir : (c : Pt) (s : Surface) → IsPoint c → IsSurface s → IsElsewhere c s → IsDir (axis_towards c s)
-towards-IsDir c (surfaces.Line l) is_c is elsewhere = quarter_dir l.dir is.dir
+towards-IsDir c (surfaces.Line l) is_c is elsewhere = perp_dir l.dir is.dir
 towards-IsDir c (surfaces.Circ d) is_c is elsewhere = way-IsDir c d.c is_c is.centre elsewhere
 
 pub towards_is_dir : (c : Pt) (s : Surface) (d : Dir) → d ≡ axis_towards c s → IsPoint c → IsSurface s → IsElsewhere c s → IsDir d

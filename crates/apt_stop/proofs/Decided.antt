@@ -6,7 +6,7 @@ use Rattle.apt_num.specs.declared.Sign.TheVariants as signs
 use Rattle.apt_words.specs.declared.Case.{Case}
 use Rattle.apt_words.specs.declared.Case.TheVariants as cases
 use Rattle.apt_words.specs.Rows.{Row, first_of, unless, unless_case, NoneHolds}
-use Rattle.apt_words.proofs.Rows.{refused_by}
+use Rattle.apt_words.proofs.Rows.{refused_by, first_none}
 use Rattle.apt_plane.specs.declared.figures.Pt.{Pt}
 use Rattle.apt_plane.specs.declared.figures.Axis.{Axis}
 use Rattle.apt_plane.specs.Ranges.{IsPoint}
@@ -98,21 +98,13 @@ touch_is c e = rw e (by_axis c (tangent_axis c.drive c.check))
 
 -- ---- conditions of which none holds
 
-none_in : (test : Bool) (case : Case) (rows : List Row) → (first_of rows ≡ None → NoneHolds rows) → (if test then Some case else first_of rows) ≡ None → (test ≡ false) × NoneHolds rows
-none_in true case rows h e = absurd cc
-none_in false case rows h e = (refl, h e)
-
-none_holds : (rows : List Row) → first_of rows ≡ None → NoneHolds rows
-none_holds [] e = tt
-none_holds (row ∷ rows) e = none_in row.0 row.1 rows (none_holds rows) e
-
 given_case : {A : Type 0} (refusal : Option Case) (x : A) (P : A → Type 0) → (refusal ≡ None → P x) → IfOk (unless_case refusal x) P
 given_case None x P p = p refl
 given_case (Some other) x P p = tt
 
 -- what holds of a value that nothing refuses holds of an answer
 given_when : {A : Type 0} (rows : List Row) (x : A) (P : A → Type 0) → (NoneHolds rows → P x) → IfOk (unless rows x) P
-given_when rows x P p = given_case (first_of rows) x P (λ e. p (none_holds rows e))
+given_when rows x P p = given_case (first_of rows) x P (λ e. p (first_none rows e))
 
 pub none_behind : (rows more : List Row) → NoneHolds (rows ++ more) → NoneHolds more
 none_behind [] more none = none

@@ -1,13 +1,16 @@
 -- The ranges of surfaces that are moved by a cutter's radius.
-use Rattle.std.proofs.Common.{◌≡◌, ℕ, ◌≤◌, sym, subst, arith, false, ℤ, pos, negsuc, ◌-ℤ◌, ◌≤ℤ◌, int_lt, unsigned_abs}
+use Rattle.std.proofs.Common.{◌≡◌, ℕ, ◌≤◌, sym, subst, arith, false, true, ℤ, pos, negsuc, ◌-ℤ◌, ◌≤ℤ◌, int_lt, unsigned_abs}
 use Rattle.std.proofs.lemmas.Int.{ints}
 use Rattle.apt_num.specs.declared.Sign.{Sign}
 use Rattle.apt_num.specs.declared.Sign.TheVariants as signs
 use Rattle.apt_plane.specs.declared.figures.Pt.{Pt}
 use Rattle.apt_plane.specs.declared.figures.Surface.{Surface}
 use Rattle.apt_plane.specs.declared.figures.Surface.TheVariants as surfaces
-use Rattle.apt_plane.specs.Ranges.{IsSurface}
+use Rattle.apt_words.specs.declared.Stop.TheVariants as stops
+use Rattle.apt_plane.specs.Ranges.{IsPoint, IsSurface, IsSense}
 use Rattle.apt_offset.specs.declared.Target.{Target}
+use Rattle.apt_offset.specs.Sides.{side_at_tangency}
+use Rattle.apt_stop.specs.Nearness.{is_near, off_track}
 use Rattle.apt_offset.specs.Targets.{signed, offset_surface, lacks_room}
 use Rattle.apt_offset.specs.Ranges.{IsRadius, IsTarget, IsCircleTarget}
 use Rattle.apt_stop.specs.declared.course.Course.{Course}
@@ -43,3 +46,18 @@ stop_target c is =
 
 pub no_radius : (o : Pt) (r : ℕ) → IsCircleTarget o (negsuc r) → ⊥
 no_radius o r circle = omega (arith, ints, circle.least)
+
+-- surfaces that are moved so make a course
+pub moved_course : (c : Course) (at_drive at_check : Sign) (radius : ℤ) → c.track ≡ offset_surface c.drive at_drive radius → c.stop ≡ offset_surface c.check at_check radius
+    → (c.how ≡ stops.Tanto → at_check ≡ side_at_tangency c.drive c.check at_drive) → IsRadius radius → IsPoint c.start → IsSurface c.drive → IsSense c.sense → IsSurface c.check
+    → lacks_room c.track ≡ false → lacks_room c.stop ≡ false → is_near c.track off_track c.start ≡ true → IsCourse c
+moved_course c at_drive at_check radius track stop touching is start drive sense check track_room stop_room near = record {
+  start = start;
+  drive = drive;
+  sense = sense;
+  check = check;
+  moved = record { at_drive = at_drive; at_check = at_check; radius = radius; cutter = is; track = track; stop = stop; touching = touching };
+  track_room = track_room;
+  stop_room = stop_room;
+  near = near;
+}

@@ -29,7 +29,7 @@ use Rattle.apt_stop.proofs.OneWay.{AreOneWay, Rounds}
 use Rattle.apt_stop.proofs.Aside.{dot_on, cross_on, not_hardly, far_aside}
 
 -- the way e from the centre lies along an axis, on a half of it
-pub record IsOnRay (along : Dir) (half : Sign) (e : Dir) : Type 0 where
+pub record LiesOnAxis (along : Dir) (half : Sign) (e : Dir) : Type 0 where
   pub across : 2 * square (cross along e) ≤ length_squared along
   pub onwards : pos 0 <ℤ (signed half (pos 1) *ℤ dot along e)
 
@@ -38,7 +38,7 @@ unturned : (turn : ℤ) (along e : Dir) → IsSense turn → 2 * square (cross (
 unturned turn along e sense off forward =
     (rw (heading_turn turn along e, sense_size turn (cross along e) sense, heading_length turn along sense) at off, rw (heading_dot turn along e) at forward)
 
-pub ray_is : (o : Pt) (r : ℤ) (a : Axis) → IsCircleTarget o r → IsDir a.along → a.half ≢ signs.Zero → IsOnRay a.along a.half (displacement o (touches_on (targets.Circ o r) a))
+pub ray_is : (o : Pt) (r : ℤ) (a : Axis) → IsCircleTarget o r → IsDir a.along → a.half ≢ signs.Zero → LiesOnAxis a.along a.half (displacement o (touches_on (targets.Circ o r) a))
 ray_is o r a is dir some =
     let turn = signed a.half (pos 1) in
     let sense = half_sense a.half some in
@@ -57,7 +57,7 @@ on_half signs.Minus k some h = omega (arith, ints, h)
 by_axis : (k : ℤ) (n : ℕ) → 2 * square k ≤ n → OnLine k (pos 0) n (pos 8)
 by_axis k n h = record { right = within_eight k n h; left = within_eight (neg_ℤ k) n (rw (neg_square k) h) }
 
-pub ray_on_axis : (a : Axis) (q : Pt) → a.half ≢ signs.Zero → IsOnRay a.along a.half (displacement a.at q) → IsOnAxis a q
+pub ray_on_axis : (a : Axis) (q : Pt) → a.half ≢ signs.Zero → LiesOnAxis a.along a.half (displacement a.at q) → IsOnAxis a q
 ray_on_axis a q some is =
     (by_axis (cross a.along (displacement a.at q)) (length_squared a.along) is.across, on_half a.half (dot a.along (displacement a.at q)) some is.onwards)
 
@@ -90,7 +90,7 @@ same_half signs.Minus n k l d some e ahead onwards =
     minus_same (negsuc k) h = refl
 
 -- so it is far from the axis, where the stop is not behind
-pub ray_apart : (o : Pt) (r : ℕ) (p q : Pt) (along : Dir) (half : Sign) → Rounds o r p q → 0 < length_squared along → half ≢ signs.Zero → IsOnRay along half (displacement o q)
+pub ray_apart : (o : Pt) (r : ℕ) (p q : Pt) (along : Dir) (half : Sign) → Rounds o r p q → 0 < length_squared along → half ≢ signs.Zero → LiesOnAxis along half (displacement o q)
     → (is_by_axis (cross along (displacement o p)) (length_squared along) && is_same half (sign_of (dot along (displacement o p)))) ≡ false
     → AreOneWay (displacement o p) (displacement o q) → ⊥
 ray_apart o r p q along half is some there ray past way =

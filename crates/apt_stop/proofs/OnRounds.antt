@@ -1,7 +1,6 @@
 -- The end of a course round a circle: on its track, and on the stop that it meets.
 use Rattle.std.proofs.Common.{refl, ◌≢◌, inl, ℕ, zero, suc, ◌≤◌, arith, ℤ, pos}
 use Rattle.std.proofs.lemmas.Int.{ints}
-use Rattle.apt_num.proofs.Squares.{size_neg}
 use Rattle.apt_num.specs.declared.Sign.{Sign}
 use Rattle.apt_num.specs.declared.Sign.TheVariants as signs
 use Rattle.apt_words.specs.declared.Stop.{Stop}
@@ -63,9 +62,6 @@ turned_dir s u sense is = record {
   dy = rw (sense_size s u.dy sense) is.dy;
   length = rw (sense_size s u.dx sense, sense_size s u.dy sense) is.length;
 }
-
-pub quarter_dir : (u : Dir) → IsDir u → IsDir (perp u)
-quarter_dir u is = record { dx = rw (size_neg u.dy) is.dy; dy = is.dx; length = rw (size_neg u.dy) (omega (arith, is.length)) }
 
 pub ray_at : (o : Pt) (r : ℤ) (a : Axis) → IsCircleTarget o r → IsDir a.along → a.half ≢ signs.Zero → IsNearTarget (targets.Circ o r) (pos 1) (touches_on (targets.Circ o r) a)
 ray_at o r a is dir some =

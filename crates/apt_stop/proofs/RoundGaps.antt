@@ -22,7 +22,7 @@ use Rattle.apt_stop.specs.Gaps.{gap, size, is_about}
 use Rattle.apt_stop.proofs.Touching.{add_bounds}
 use Rattle.apt_stop.proofs.Rings.{near_least, near_most}
 use Rattle.apt_stop.proofs.OnRounds.{half_sense}
-use Rattle.apt_stop.proofs.OnRays.{IsOnRay}
+use Rattle.apt_stop.proofs.OnRays.{LiesOnAxis}
 
 -- ---- how far the end lies along the axis: n is the square of the axis' length, m that of the way to the end, x how far that leads across and y along
 along_low : (n m x y r : ℕ) → n * m ≡ y * y + x * x → 2 * (x * x) ≤ n → (r - 1) * (r - 1) ≤ m → 2 ≤ r → (r - 2) * (r - 2) * n ≤ y * y
@@ -50,7 +50,7 @@ up_by (pos (suc k)) r n some up low high = record {
 up_by (negsuc k) r n some up low high = absurd (omega (arith, ints, up))
 
 -- the way to an end on a ray leads along it by a radius, up to two units
-ray_by : (along : Dir) (half : Sign) (e : Dir) (r : ℕ) → 2 ≤ r → half ≢ signs.Zero → IsOnRay along half e → (r - 1) * (r - 1) ≤ length_squared e → length_squared e ≤ (r + 1) * (r + 1)
+ray_by : (along : Dir) (half : Sign) (e : Dir) (r : ℕ) → 2 ≤ r → half ≢ signs.Zero → LiesOnAxis along half e → (r - 1) * (r - 1) ≤ length_squared e → length_squared e ≤ (r + 1) * (r + 1)
     → OnLine (signed half (pos 1) *ℤ dot along e) (pos r) (length_squared along) (pos 2)
 ray_by along half e r some there ray low high =
     let n = length_squared along in
@@ -60,7 +60,7 @@ ray_by along half e r some there ray low high =
     up_by (signed half (pos 1) *ℤ dot along e) r n some ray.onwards
     (rw same (along_low n (length_squared e) x y r (lagrange along e) ray.across low some)) (rw same (along_high n (length_squared e) x y r (lagrange along e) high))
 
-pub ray_length : (o : Pt) (r : ℤ) (along : Dir) (half : Sign) (q : Pt) → pos 100 ≤ℤ r → half ≢ signs.Zero → IsOnRay along half (displacement o q) → IsNearCircle (circle_about o r) (pos 1) q
+pub ray_length : (o : Pt) (r : ℤ) (along : Dir) (half : Sign) (q : Pt) → pos 100 ≤ℤ r → half ≢ signs.Zero → LiesOnAxis along half (displacement o q) → IsNearCircle (circle_about o r) (pos 1) q
     → OnLine (signed half (pos 1) *ℤ dot along (displacement o q)) r (length_squared along) (pos 2)
 ray_length o (pos r) along half q least there ray near =
     ray_by along half (displacement o q) r (omega (arith, ints, least)) there ray (near_least o r q (omega (arith, ints, least)) near) (near_most o r q near)

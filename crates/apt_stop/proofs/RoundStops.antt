@@ -23,7 +23,7 @@ use Rattle.apt_stop.specs.Tangencies.{half_towards, touching_half}
 use Rattle.apt_stop.proofs.Onwards.{dot_step, cross_step}
 use Rattle.apt_stop.proofs.Reach.{touch_far, touch_within}
 use Rattle.apt_stop.proofs.Touching.{within_squares, four_off, turned_length, touches_by, neg_square}
-use Rattle.apt_stop.proofs.OnRays.{IsOnRay}
+use Rattle.apt_stop.proofs.OnRays.{LiesOnAxis}
 use Rattle.apt_stop.proofs.RoundGaps.{IsAboutSize, ray_length, about_length, touches_line_by, touches_circle_by}
 
 -- ---- by the products with an axis
@@ -70,7 +70,7 @@ across_turned : (d v : Dir) (half : Sign) (r : ℤ) → OnLine (signed half (pos
 across_turned d v half r is = rw (turned_dot d v, turned_length d) at is
 
 pub near_line_stop : (k : Circ) (l : Line) (v : Sign) (m : ℤ) (q : Pt) → pos 100 ≤ℤ (k.r -ℤ signed v m) → half_towards l k ≢ signs.Zero → line_touches l k ≡ true
-    → IsOnRay (perp l.dir) (half_towards l k) (displacement k.c q) → IsNearCircle (circle_about k.c (k.r -ℤ signed v m)) (pos 1) q
+    → LiesOnAxis (perp l.dir) (half_towards l k) (displacement k.c q) → IsNearCircle (circle_about k.c (k.r -ℤ signed v m)) (pos 1) q
     → IsNearLine (line_on l.base l.dir) (signed (side_at_tangency (surfaces.Circ k) (surfaces.Line l) v) m) (pos 4) q
 near_line_stop k l v m q least there touching ray near =
     let d = l.dir in
@@ -105,7 +105,7 @@ step_by a b c g e f = rw f e
 
 pub near_circle_stop : (k j : Circ) (v : Sign) (m : ℤ) (q : Pt) → pos 0 ≤ℤ k.r → pos 0 ≤ℤ j.r → 0 < length_squared (displacement k.c j.c) → pos 100 ≤ℤ (k.r -ℤ signed v m)
     → pos 100 ≤ℤ (j.r -ℤ signed (side_at_tangency (surfaces.Circ k) (surfaces.Circ j) v) m) → touching_half k j ≢ signs.Zero → circles_touch k j ≡ true
-    → IsOnRay (displacement k.c j.c) (touching_half k j) (displacement k.c q) → IsNearCircle (circle_about k.c (k.r -ℤ signed v m)) (pos 1) q
+    → LiesOnAxis (displacement k.c j.c) (touching_half k j) (displacement k.c q) → IsNearCircle (circle_about k.c (k.r -ℤ signed v m)) (pos 1) q
     → IsNearCircle (circle_about j.c (j.r -ℤ signed (side_at_tangency (surfaces.Circ k) (surfaces.Circ j) v) m)) (pos 4) q
 near_circle_stop k j v m q some_k some_j apart least room there touching ray near =
     let g = displacement k.c j.c in

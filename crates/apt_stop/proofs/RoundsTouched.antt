@@ -33,9 +33,10 @@ use Rattle.apt_stop.proofs.Moved.{track_target, stop_target}
 use Rattle.apt_stop.proofs.Placed.{has_half}
 use Rattle.apt_stop.proofs.Parts.{course_at, Touches}
 use Rattle.apt_stop.proofs.Feet.{not_true}
-use Rattle.apt_stop.proofs.OnRounds.{ray_at, quarter_dir, two_centres}
+use Rattle.apt_plane.proofs.Turned.{perp_dir}
+use Rattle.apt_stop.proofs.OnRounds.{ray_at, two_centres}
 use Rattle.apt_stop.proofs.OneWay.{one_way}
-use Rattle.apt_stop.proofs.OnRays.{IsOnRay, ray_is, ray_on_axis, ray_apart}
+use Rattle.apt_stop.proofs.OnRays.{LiesOnAxis, ray_is, ray_on_axis, ray_apart}
 use Rattle.apt_stop.proofs.RoundsApart.{rounds_of}
 use Rattle.apt_stop.proofs.RoundStops.{near_line_stop, near_circle_stop}
 
@@ -46,7 +47,7 @@ pub record TouchedRound (c : Course) (o q : Pt) : Type 0 where
   pub apart : turn_class (displacement o c.start) c.sense (displacement o q) ≢ 0
 
 ray_class : (o : Pt) (r : ℤ) (p q : Pt) (along : Dir) (half : Sign) (sense : ℤ) → pos 100 ≤ℤ r → IsSense sense → is_near (targets.Circ o r) off_track p ≡ true → IsNearCircle (circle_about o r) (pos 1) q
-    → 0 < length_squared along → half ≢ signs.Zero → IsOnRay along half (displacement o q)
+    → 0 < length_squared along → half ≢ signs.Zero → LiesOnAxis along half (displacement o q)
     → (is_by_axis (cross along (displacement o p)) (length_squared along) && is_same half (sign_of (dot along (displacement o p)))) ≡ false
     → turn_class (displacement o p) sense (displacement o q) ≢ 0
 ray_class o (pos r) p q along half sense large turn start end some there ray past = λ first.
@@ -63,7 +64,7 @@ touching start k v m sense check how =
 
 module _ (start : Pt) (k : Circ) (v : Sign) (m sense : ℤ) (check : Surface) (how : Stop) (along : Dir) (half : Sign) where
   by_axis : tangent_axis (surfaces.Circ k) check ≡ Some (axis k.c along half) → let c = touching start k v m sense check how in IsCourse c → Touches c → IsDir along
-      → (half ≢ signs.Zero → (q : Pt) → IsOnRay along half (displacement k.c q) → IsNearCircle (circle_about k.c (k.r -ℤ signed v m)) (pos 1) q → IsNearTarget c.stop (pos 4) q)
+      → (half ≢ signs.Zero → (q : Pt) → LiesOnAxis along half (displacement k.c q) → IsNearCircle (circle_about k.c (k.r -ℤ signed v m)) (pos 1) q → IsNearTarget c.stop (pos 4) q)
       → TouchedRound c k.c (touches_at c (tangent_axis (surfaces.Circ k) check))
   by_axis e is free dir stops =
       let c = touching start k v m sense check how in
@@ -88,7 +89,7 @@ pub touches_on_round : (start : Pt) (k : Circ) (v : Sign) (m sense : ℤ) (check
     → let c = touching start k v m sense check how in IsCourse c → Touches c → TouchedRound c k.c (touches_at c (tangent_axis (surfaces.Circ k) check))
 touches_on_round start k v m sense (surfaces.Line l) how is free =
     let circle : IsCircleTarget k.c (k.r -ℤ signed v m) = track_target (touching start k v m sense (surfaces.Line l) how) is in
-    by_axis start k v m sense (surfaces.Line l) how (perp l.dir) (half_towards l k) refl is free (quarter_dir l.dir is.check.dir)
+    by_axis start k v m sense (surfaces.Line l) how (perp l.dir) (half_towards l k) refl is free (perp_dir l.dir is.check.dir)
     (λ there q ray near. near_line_stop k l v m q circle.least there (not_true _ free.touching) ray near)
 touches_on_round start k v m sense (surfaces.Circ j) how is free = elim (eqb_tells (length_squared (displacement k.c j.c)) 0) [
   | inl one ↦ absurd (true≢false (rw one.0 at free.axis))

@@ -9,6 +9,6 @@ pub returns-else-are_at : goal.returns-else-are_at
 returns-else-are_at c = λ m.
     let z = c.args.start.z in
     let ps = c.in-Contour.vertices in
-    let e : are_at z ps ≡ false = ap (are_at z) (sym c.vertices.view_is ∙ sym c.deref.ensures.value) ∙ sym c.are_at.ensures ∙ c.if-are_at.false in
+    let e : are_at z ps ≡ false = ap (are_at z) (sym c.as_slice-positions.ensures) ∙ sym c.are_at.ensures ∙ c.if-are_at.false in
     let met = subst (λ (r : Record). Meets (VerticesAt z) r m.0) c.in-Contour.is m.1 in
     not_one_height z ps m.0 e met

@@ -14,7 +14,7 @@ returns-clause-value c =
     let m = c.args.m.now in
     let side = c.check_side-side.ensures in
     let track = c.track-track.ensures.value in
-    let stop : c.stop_at-stop.result ≡ stop_of m = c.stop_at-stop.ensures in
+    let stop : c.stop-stop.result ≡ stop_of m = c.stop-stop.ensures.value in
     let on : starts_on_check m ≡ false = sym (c.is_on_check-on.ensures ∙ ap (is_on_check m.how) side) ∙ c.if-on.false in
     let room : lacks_room (track_of m) ≡ false = sym (c.lacks_room.ensures ∙ ap lacks_room track) ∙ c.if-lacks_room.false in
     let near : is_near (track_of m) off_track m.start.at ≡ true =
@@ -24,4 +24,10 @@ returns-clause-value c =
       | else-not-on-via-else-not-on w ↦ absurd (on_and_off c.is_on_check-on.result w.if-not-on.false c.if-on.false)
     ] in
     motion_end m c.course_end.result room on stop_room near
-    (c.course_end.ensures.value ∙ ap (λ t. unless (courses.course_cases t) (courses.end_of t)) c.course.ensures)
+    (c.course_end.ensures.value ∙ ap (λ t. unless (courses.course_cases t) (courses.end_of t)) c.course.ensures.value)
+
+pub course-requires-clause-stop_room : goal.course-requires-clause-stop_room
+course-requires-clause-stop_room c = elim c.else-not-on.branch [
+  | else-not-on-via-then-not-on+else-lacks_room-2 w ↦ c.stop-stop.ensures.range (sym w.lacks_room-then-not-on.ensures ∙ w.if-lacks_room-2.false)
+  | else-not-on-via-else-not-on w ↦ absurd (on_and_off c.is_on_check-on.result w.if-not-on.false c.if-on.false)
+]

@@ -13,9 +13,9 @@ use Rattle.apt_motion.proofs.runs.advance.Goals as goal
 pub returns-in-Ok-false : goal.returns-in-Ok-false
 returns-in-Ok-false c =
     let before = c.args.written.now in
-    let now = c.act.new.written in
-    subst (λ (t : Table). HasAdvanced before.points now.points (record c.args.at.now { table = t }) c.args.step.now before.records.items now.records.items (result_map_both (λ _. c.act.new.at) (λ e. e) c.act.result))
-    (subst (HasOrNone c.args.at.now.settings.units c.args.at.now.table c.args.step.now.deed c.define.new.table) c.in-Ok-false.field-0-test c.in-Ok-false.ensures.ok).1 c.act.ensures
+    let now = c.act-in-Ok-false.new.written in
+    subst (λ (t : Table). HasAdvanced before.points now.points (record c.args.at.now { table = t }) c.args.step.now before.records.items now.records.items (result_map_both (λ _. c.act-in-Ok-false.new.at) (λ e. e) c.act-in-Ok-false.result))
+    (subst (HasOrNone c.args.at.now.settings.units c.args.at.now.table c.args.step.now.deed c.define.new.table) c.in-Ok-false.field-0-test c.in-Ok-false.ensures.ok).1 c.act-in-Ok-false.ensures
 
 pub returns-in-Err-Case : goal.returns-in-Err-Case
 returns-in-Err-Case c =

@@ -12,8 +12,8 @@ use Rattle.apt_motion.proofs.runs.pass.Goals as goal
 
 pub returns-in-Ok-false : goal.returns-in-Ok-false
 returns-in-Ok-false c =
-    subst (λ (t : Table). HasPassed (record c.args.at.now { table = t }) c.args.step.now (result_map_both (λ _. c.go_on.new.at) (λ e. e) c.go_on.result))
-    (subst (HasOrNone c.args.at.now.settings.units c.args.at.now.table c.args.step.now.deed c.define.new.table) c.in-Ok-false.field-0-test c.in-Ok-false.ensures.ok).1 c.go_on.ensures
+    subst (λ (t : Table). HasPassed (record c.args.at.now { table = t }) c.args.step.now (result_map_both (λ _. c.go_on-in-Ok-false.new.at) (λ e. e) c.go_on-in-Ok-false.result))
+    (subst (HasOrNone c.args.at.now.settings.units c.args.at.now.table c.args.step.now.deed c.define.new.table) c.in-Ok-false.field-0-test c.in-Ok-false.ensures.ok).1 c.go_on-in-Ok-false.ensures
 
 pub returns-in-Err-Case : goal.returns-in-Err-Case
 returns-in-Err-Case c =
