@@ -1,5 +1,5 @@
 -- The place of the cutter at a surface: left of a line or inside a circle (Plus), right or outside (Minus), or on it (Zero).
-use Rattle.std.specs.Prelude.{ℕ, ◌*◌, nat_le, Bool, false, ℤ, pos, ◌-ℤ◌, ◌*ℤ◌, unsigned_abs, max, Result, Ok, Err, if◌then◌else◌}
+use Rattle.std.specs.Prelude.{ℕ, ◌*◌, nat_le, Bool, false, ℤ, pos, ◌-ℤ◌, ◌*ℤ◌, unsigned_abs, max, if◌then◌else◌}
 use Rattle.apt_num.specs.declared.Sign.{Sign}
 use Rattle.apt_num.specs.declared.Sign.TheVariants as signs
 use Rattle.apt_num.specs.Sign.{sign_of}
@@ -7,8 +7,6 @@ use Rattle.apt_words.specs.declared.Side.{Side}
 use Rattle.apt_words.specs.declared.Side.TheVariants as sides
 use Rattle.apt_words.specs.declared.Stop.{Stop}
 use Rattle.apt_words.specs.declared.Stop.TheVariants as stops
-use Rattle.apt_words.specs.declared.Case.{Case}
-use Rattle.apt_words.specs.declared.Case.TheVariants as cases
 use Rattle.apt_plane.specs.declared.figures.Pt.{Pt}
 use Rattle.apt_plane.specs.declared.figures.Circ.{Circ}
 use Rattle.apt_plane.specs.declared.figures.Surface.{Surface}
@@ -71,7 +69,3 @@ is_on_check stops.To w = is_zero w
 is_on_check stops.Past w = is_zero w
 is_on_check stops.On w = false
 is_on_check stops.Tanto w = false
-
-abbrev pub side_at_stop : Surface → Stop → Pt → Surface → Sign → Result Sign Case
-side_at_stop check how start drive v =
-    if is_on_check how (side_at_check check how start drive v) then Err cases.OnCheck else Ok (side_at_check check how start drive v)

@@ -1,19 +1,12 @@
 -- Targets and tolerance bands.
-use Rattle.std.specs.Prelude.{ℤ, pos, neg_ℤ, ◌+ℤ◌, ◌-ℤ◌, int_lt, int_le, Bool, false, Result, Ok, Err, if◌then◌else◌}
+use Rattle.std.specs.Prelude.{ℤ, pos, neg_ℤ, ◌+ℤ◌, ◌-ℤ◌, int_lt, int_le, Bool, false, if◌then◌else◌}
 use Rattle.apt_num.specs.declared.Sign.{Sign}
 use Rattle.apt_num.specs.declared.Sign.TheVariants as signs
-use Rattle.apt_words.specs.declared.Side.{Side}
-use Rattle.apt_words.specs.declared.Stop.{Stop}
-use Rattle.apt_words.specs.declared.Case.{Case}
-use Rattle.apt_words.specs.declared.Case.TheVariants as cases
-use Rattle.apt_words.specs.Chains.{◌>>=◌}
-use Rattle.apt_plane.specs.declared.figures.Pt.{Pt}
 use Rattle.apt_plane.specs.declared.figures.Surface.{Surface}
 use Rattle.apt_plane.specs.declared.figures.Surface.TheVariants as surfaces
 use Rattle.apt_plane.specs.declared.figures.Band.{Band}
 use Rattle.apt_offset.specs.declared.Target.{Target}
 use Rattle.apt_offset.specs.declared.Target.TheVariants as targets
-use Rattle.apt_offset.specs.Sides.{side_at_drive, side_at_check, side_at_stop}
 
 abbrev pub signed : Sign → ℤ → ℤ
 signed signs.Plus r = r
@@ -33,9 +26,6 @@ offset_surface (surfaces.Circ c) v r = targets.Circ c.c (c.r -ℤ signed v r)
 abbrev pub lacks_room : Target → Bool
 lacks_room (targets.Line base dir off) = false
 lacks_room (targets.Circ c r) = int_lt r least_radius
-
-abbrev pub target : Surface → Sign → ℤ → Result Target Case
-target surface v r = if lacks_room (offset_surface surface v r) then Err cases.NoRoom else Ok (offset_surface surface v r)
 
 abbrev pub greater : ℤ → ℤ → ℤ
 greater a b = if int_le a b then b else a
@@ -57,19 +47,3 @@ circle_band circle signs.Zero r i o = band (circle -ℤ greater i o) (circle +�
 abbrev pub band_at : Surface → Sign → ℤ → ℤ → ℤ → Band
 band_at (surfaces.Line l) v r i o = line_band v r i o
 band_at (surfaces.Circ c) v r i o = circle_band c.r v r i o
-
--- the track: the drive surface moved to the side of the cutter
-abbrev pub drive_target : Surface → Side → ℤ → ℤ → Result Target Case
-drive_target drive side sense r = target drive (side_at_drive side sense) r
-
-abbrev pub drive_band : Surface → Side → ℤ → ℤ → ℤ → ℤ → Band
-drive_band drive side sense r i o = band_at drive (side_at_drive side sense) r i o
-
--- the stop target, from the start of the motion
-abbrev pub stop_target : Surface → Stop → Pt → Surface → Side → ℤ → ℤ → Result Target Case
-stop_target check how start drive side sense r =
-    side_at_stop check how start drive (side_at_drive side sense) >>= λ v. target check v r
-
--- the band in which the motion ends
-abbrev pub stop_band : Surface → Stop → Pt → Surface → Side → ℤ → ℤ → ℤ → ℤ → Band
-stop_band check how start drive side sense r i o = band_at check (side_at_check check how start drive (side_at_drive side sense)) r i o

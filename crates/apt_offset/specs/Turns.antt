@@ -1,12 +1,10 @@
 -- The turn at the start of a contour motion.
-use Rattle.std.specs.Prelude.{ℤ, pos, negsuc, Bool, true, false, Result, Ok, Err}
+use Rattle.std.specs.Prelude.{Bool, true, false}
 use Rattle.apt_num.specs.declared.Sign.{Sign}
 use Rattle.apt_num.specs.declared.Sign.TheVariants as signs
 use Rattle.apt_num.specs.Sign.{sign_of}
 use Rattle.apt_words.specs.declared.Go.{Go}
 use Rattle.apt_words.specs.declared.Go.TheVariants as turns
-use Rattle.apt_words.specs.declared.Case.{Case}
-use Rattle.apt_words.specs.declared.Case.TheVariants as cases
 use Rattle.apt_plane.specs.declared.figures.Pt.{Pt}
 use Rattle.apt_plane.specs.declared.figures.Dir.{Dir}
 use Rattle.apt_plane.specs.declared.figures.Surface.{Surface}
@@ -34,12 +32,3 @@ turn forward t turns.Left = sign_of (cross forward t)
 turn forward t turns.Right = opposite (sign_of (cross forward t))
 turn forward t turns.Forward = sign_of (dot forward t)
 turn forward t turns.Back = opposite (sign_of (dot forward t))
-
-abbrev pub sense_of : Sign → Result ℤ Case
-sense_of signs.Plus = Ok (pos 1)
-sense_of signs.Zero = Err cases.NoTurn
-sense_of signs.Minus = Ok (negsuc 0)
-
--- the sense of a motion: 1 along a line's direction or anticlockwise round a circle, -1 the other way
-abbrev pub turn_sense : Dir → Pt → Surface → Go → Result ℤ Case
-turn_sense forward start drive go = sense_of (turn forward (tangent drive start) go)

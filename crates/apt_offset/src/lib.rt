@@ -9,13 +9,9 @@ mod turns;
 
 use apt_plane::{Dir, Pt};
 pub use edges::overruns;
-pub use sides::{
-    is_on_check, side_at_check, side_at_drive, side_at_stop, side_or_left, touch_outside,
-};
-pub use targets::{
-    band_at, drive_band, drive_target, lacks_room, offset_surface, signed, stop_band, stop_target,
-};
-pub use turns::{tangent, turn, turn_sense};
+pub use sides::{is_on_check, side_at_check, side_at_drive, side_or_left, touch_outside};
+pub use targets::{band_at, lacks_room, offset_surface, signed};
+pub use turns::{tangent, turn};
 
 /// A surface moved for the cutter's radius: a line `off` grid units to its left, or a circle.
 #[derive(Clone, Copy, Debug, PartialEq, Eq)]

@@ -1,8 +1,7 @@
 //! The place of the cutter at a surface: left of a line or inside a circle (Plus), right or outside
 //! (Minus), or on it (Zero).
 
-ghost use Rattle.std.specs.Prelude.{◌≡◌, ◌↔◌, IsErrOf};
-ghost use Rattle.std.specs.Result.{IfErr};
+ghost use Rattle.std.specs.Prelude.{◌≡◌, ◌↔◌, true};
 ghost use Rattle.apt_plane.specs.Ranges.{IsPoint, IsSurface, IsLine, IsCircle};
 ghost use Rattle.apt_offset.specs.Refusals.{StartsOn};
 ghost use Rattle.apt_offset.specs.Sides as spec;
@@ -11,7 +10,7 @@ use crate::signs::{is_zero, opposite, times};
 use apt_num::{Sign, compare, sign_of};
 use apt_plane::vectors::{cross, displacement, length_squared};
 use apt_plane::{Circ, Line, Pt, Surface};
-use apt_words::{Case, Side, Stop};
+use apt_words::{Side, Stop};
 
 /// The place at the drive surface.
 pub fn side_at_drive(side: Side, sense: i8) -> Sign
@@ -25,11 +24,13 @@ pub fn side_at_drive(side: Side, sense: i8) -> Sign
 }
 
 /// The place at the check surface where the motion stops; Zero under `To` and `Past` where the start is on it.
+#[tactic(auto, using(crate::proofs::Refusals::starts_on))]
 pub fn side_at_check(check: &Surface, how: Stop, start: Pt, drive: &Surface, at_drive: Sign) -> Sign
     requires check { IsSurface check.now }
     requires start { IsPoint start }
     requires drive { IsSurface drive.now }
-    ensures { result ≡ spec.side_at_check check.now how start drive.now at_drive }
+    ensures value { result ≡ spec.side_at_check check.now how start drive.now at_drive }
+    ensures on_check { (spec.is_on_check how result ≡ true) ↔ StartsOn check.now how start }
 {
     match how {
         Stop::To => side_at(check, start),
@@ -46,33 +47,6 @@ pub fn is_on_check(how: Stop, side: Sign) -> bool
     match how {
         Stop::To | Stop::Past => is_zero(side),
         Stop::On | Stop::Tanto => false,
-    }
-}
-
-/// The place at the check surface where the motion stops.
-///
-/// # Errors
-///
-/// `OnCheck` where the start is on the check surface, under `To` and `Past`.
-pub fn side_at_stop(
-    check: &Surface,
-    how: Stop,
-    start: Pt,
-    drive: &Surface,
-    at_drive: Sign,
-) -> Result<Sign, Case>
-    requires check { IsSurface check.now }
-    requires start { IsPoint start }
-    requires drive { IsSurface drive.now }
-    ensures value { result ≡ spec.side_at_stop check.now how start drive.now at_drive }
-    ensures on_check { IsErrOf result Case.OnCheck ↔ StartsOn check.now how start }
-    ensures only { IfErr result (λ case. case ≡ Case.OnCheck) }
-{
-    let side = side_at_check(check, how, start, drive, at_drive);
-    if is_on_check(how, side) {
-        Err(Case::OnCheck)
-    } else {
-        Ok(side)
     }
 }
 

@@ -1,36 +1,14 @@
 //! The turn at the start of a contour motion.
 
-ghost use Rattle.std.specs.Prelude.{◌≡◌, ◌≤◌, ◌^◌, ◌↔◌, IfOk, IsErrOf, unsigned_abs};
-ghost use Rattle.apt_plane.specs.Ranges.{IsPoint, IsSurface, IsVector, IsSense};
+ghost use Rattle.std.specs.Prelude.{◌≡◌};
+ghost use Rattle.apt_plane.specs.Ranges.{IsPoint, IsSurface, IsVector};
 ghost use Rattle.apt_offset.specs.Turns as turning;
 
 use crate::signs::opposite;
 use apt_num::{Sign, sign_of};
 use apt_plane::vectors::{cross, displacement, dot, perp};
 use apt_plane::{Dir, Pt, Surface};
-use apt_words::{Case, Go};
-
-/// The sense of a motion: 1 along a line's direction or anticlockwise round a circle, -1 the other way.
-///
-/// # Errors
-///
-/// `NoTurn` where the drive surface runs neither way against forward: square to it for `Forward` and
-/// `Back`, along it for `Left` and `Right`.
-pub fn turn_sense(forward: Dir, start: Pt, drive: &Surface, go: Go) -> Result<i8, Case>
-    requires forward_dx { unsigned_abs forward.dx ≤ 10 ^ 8 }
-    requires forward_dy { unsigned_abs forward.dy ≤ 10 ^ 8 }
-    requires start { IsPoint start }
-    requires drive { IsSurface drive.now }
-    ensures value { result ≡ turning.turn_sense forward start drive.now go }
-    ensures no_turn { IsErrOf result Case.NoTurn ↔ (turning.turn forward (turning.tangent drive.now start) go ≡ Sign.Zero) }
-    ensures sense { IfOk result IsSense }
-{
-    match turn(forward, tangent(drive, start), go) {
-        Sign::Plus => Ok(1),
-        Sign::Zero => Err(Case::NoTurn),
-        Sign::Minus => Ok(-1),
-    }
-}
+use apt_words::Go;
 
 /// The direction of a surface at a point: that of a line, or the tangent of a circle, anticlockwise.
 pub fn tangent(drive: &Surface, at: Pt) -> Dir
