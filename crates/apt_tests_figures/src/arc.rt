@@ -3,7 +3,7 @@
 ghost use Rattle.std.specs.Prelude.{◌≤ℤ◌, pos};
 ghost use Rattle.apt_arc.specs.Ranges.{IsArc};
 
-use apt_arc::{Arc, ArcError, chords, count};
+use apt_arc::{Arc, ArcError, chords};
 use apt_plane::{Circ, Dir, Pt};
 use std::alloc::Global;
 use std::test::Fail;
@@ -73,11 +73,12 @@ fn largest() -> Arc
     }
 }
 
-/// The start of an arc and the vertices behind it, and why there are none.
+/// The start of an arc and the vertices behind it, and why there are none. There is room for 600 points at first, so that
+/// those of most arcs are appended at once.
 fn divided(alloc: Global, arc: &Arc, room: u64) -> Result<(Vec<Pt>, Option<ArcError>), Fail>
     requires { IsArc arc.now }
 {
-    let mut points = Vec::new(alloc);
+    let mut points = Vec::with_capacity(alloc, 600)?;
     points.push(arc.start)?;
     match chords(arc, room, &mut points) {
         Ok(()) => Ok((points, None)),
@@ -123,12 +124,19 @@ fn half_round(rt: HostRuntime) -> Result<(), Fail> {
     );
     assert_eq!(rt; points.get(128).copied(), Some(Pt { x: 225_000, y: 0 }));
     assert_eq!(rt; points.get(256).copied(), Some(Pt { x: 0, y: -225_000 }));
-    assert_eq!(rt; count(&half(50)), 128, "with a greater sag");
+    let (points, error) = divided(rt.alloc(), &half(50), 128)?;
+    assert_eq!(rt; error, None);
+    assert_eq!(rt; points.len(), 129, "with a greater sag");
     Ok(())
 }
 
 #[test]
 fn the_largest_track(rt: HostRuntime) -> Result<(), Fail> {
-    assert_eq!(rt; count(&largest()), 4096);
+    let (points, error) = divided(rt.alloc(), &largest(), 4096)?;
+    assert_eq!(rt; error, None);
+    assert_eq!(rt; points.len(), 4097);
+    let (points, error) = divided(rt.alloc(), &largest(), 4095)?;
+    assert_eq!(rt; error, Some(ArcError::TooManyPoints));
+    assert_eq!(rt; points.len(), 1);
     Ok(())
 }

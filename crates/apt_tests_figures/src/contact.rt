@@ -4,9 +4,9 @@ ghost use Rattle.std.specs.Prelude.{IsTrue};
 ghost use Rattle.apt_plane.specs.Ranges.{IsPoint, IsDir};
 ghost use Rattle.apt_offset.specs.Ranges.{IsTarget, IsLineTarget, IsCircleTarget};
 
+use crate::ranges::{is_dir, is_point};
 use apt_contact::{Meeting, contact, meet};
 use apt_offset::Target;
-use apt_plane::vectors::length_squared;
 use apt_plane::{Dir, Pt};
 use apt_words::Case;
 
@@ -20,20 +20,6 @@ fn line(x: i64, y: i64, dx: i64, dy: i64, off: i64) -> Target {
 
 fn circle(x: i64, y: i64, r: i64) -> Target {
     Target::Circ { c: Pt { x, y }, r }
-}
-
-fn is_point(p: Pt) -> bool
-    ensures { IsTrue result → IsPoint p }
-{
-    p.x.unsigned_abs() <= 50_000_000 && p.y.unsigned_abs() <= 50_000_000
-}
-
-fn is_dir(dir: Dir) -> bool
-    ensures { IsTrue result → IsDir dir }
-{
-    dir.dx.unsigned_abs() <= 100_000_000
-        && dir.dy.unsigned_abs() <= 100_000_000
-        && length_squared(dir) >= 1
 }
 
 fn is_line(base: Pt, dir: Dir, off: i64) -> bool

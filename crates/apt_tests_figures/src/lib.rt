@@ -12,6 +12,8 @@ mod defs;
 #[cfg(test)]
 mod offset;
 #[cfg(test)]
+mod ranges;
+#[cfg(test)]
 mod startup;
 #[cfg(test)]
 mod stop;

@@ -1,10 +1,14 @@
 ghost use Rattle.std.specs.Prelude.{◌≡◌, IsTrue};
-ghost use Rattle.apt_plane.specs.Ranges.{IsPoint, IsSurface, IsCircle, IsBand};
+ghost use Rattle.apt_plane.specs.Ranges.{IsPoint, IsVector, IsSurface, IsCircle, IsBand};
 
+use crate::ranges::is_point;
 use apt_num::Sign;
-use apt_offset::{Target, drive_band, drive_target, overruns, stop_band, stop_target, turn_sense};
+use apt_offset::{
+    Target, band_at, is_on_check, lacks_room, offset_surface, overruns, side_at_check,
+    side_at_drive, tangent, turn,
+};
 use apt_plane::{Band, Circ, Dir, Line, Pt, Spot, Surface};
-use apt_words::{Case, Go, Side, Stop};
+use apt_words::{Go, Side, Stop};
 
 const EAST: Dir = Dir { dx: 1, dy: 0 };
 
@@ -43,12 +47,35 @@ fn circle(c: Pt, r: i64) -> Surface
     Surface::Circ(Circ { c, r })
 }
 
-fn line_target(base: Pt, dir: Dir, off: i64) -> Result<Target, Case> {
-    Ok(Target::Line { base, dir, off })
+fn line_target(base: Pt, dir: Dir, off: i64) -> Target {
+    Target::Line { base, dir, off }
 }
 
-fn circle_target(c: Pt, r: i64) -> Result<Target, Case> {
-    Ok(Target::Circ { c, r })
+fn circle_target(c: Pt, r: i64) -> Target {
+    Target::Circ { c, r }
+}
+
+/// How a surface runs at a point against forward.
+fn turn_at(forward: Dir, at: Pt, drive: &Surface, go: Go) -> Sign
+    requires forward { IsVector forward }
+    requires at { IsPoint at }
+    requires drive { IsSurface drive.now }
+{
+    turn(forward, tangent(drive, at), go)
+}
+
+/// Where a cutter of the radius 50 stops that runs in the sense 1; None where it starts on the check surface.
+fn stop_of(check: &Surface, how: Stop, start: Pt, drive: &Surface, side: Side) -> Option<Target>
+    requires check { IsSurface check.now }
+    requires start { IsPoint start }
+    requires drive { IsSurface drive.now }
+{
+    let place = side_at_check(check, how, start, drive, side_at_drive(side, 1));
+    if is_on_check(how, place) {
+        None
+    } else {
+        Some(offset_surface(check, place, 50))
+    }
 }
 
 /// Seen to the north, the line to the right runs to the right; seen along it, ahead. A circle runs to
@@ -57,27 +84,19 @@ fn circle_target(c: Pt, r: i64) -> Result<Target, Case> {
 fn turns(rt: HostRuntime) {
     let line = base_line();
     let round = circle(ORIGIN, 1000);
-    let none = Err(Case::NoTurn);
-    let table: [(Go, Result<i8, Case>, Result<i8, Case>); 4] = [
-        (Go::Left, Ok(-1), none),
-        (Go::Right, Ok(1), none),
-        (Go::Forward, none, Ok(1)),
-        (Go::Back, none, Ok(-1)),
+    let none = Sign::Zero;
+    let table: [(Go, Sign, Sign); 4] = [
+        (Go::Left, Sign::Minus, none),
+        (Go::Right, Sign::Plus, none),
+        (Go::Forward, none, Sign::Plus),
+        (Go::Back, none, Sign::Minus),
     ];
     for (go, from_south, from_west) in table {
-        assert_eq!(rt;
-            turn_sense(NORTH, CENTRE, &line, go),
-            from_south,
-            "at {go:?}"
-        );
-        assert_eq!(rt; turn_sense(EAST, CENTRE, &line, go), from_west, "at {go:?}");
-        assert_eq!(rt; turn_sense(NOWHERE, CENTRE, &line, go), none, "at {go:?}");
-        assert_eq!(rt;
-            turn_sense(NORTH, CENTRE, &round, go),
-            from_west,
-            "at {go:?}"
-        );
-        assert_eq!(rt; turn_sense(NORTH, ORIGIN, &round, go), none, "at {go:?}");
+        assert_eq!(rt; turn_at(NORTH, CENTRE, &line, go), from_south, "at {go:?}");
+        assert_eq!(rt; turn_at(EAST, CENTRE, &line, go), from_west, "at {go:?}");
+        assert_eq!(rt; turn_at(NOWHERE, CENTRE, &line, go), none, "at {go:?}");
+        assert_eq!(rt; turn_at(NORTH, CENTRE, &round, go), from_west, "at {go:?}");
+        assert_eq!(rt; turn_at(NORTH, ORIGIN, &round, go), none, "at {go:?}");
     }
 }
 
@@ -96,13 +115,14 @@ fn tracks(rt: HostRuntime) {
         (Side::On, -1, 0, 1000),
     ];
     for (side, sense, off, reach) in table {
-        let track = drive_target(&line, side, sense, 50);
+        let place = side_at_drive(side, sense);
+        let track = offset_surface(&line, place, 50);
         assert_eq!(rt;
             track,
             line_target(ORIGIN, EAST, off),
             "at {side:?}, {sense}"
         );
-        let arc = drive_target(&round, side, sense, 50);
+        let arc = offset_surface(&round, place, 50);
         assert_eq!(rt; arc, circle_target(CENTRE, reach), "at {side:?}, {sense}");
     }
 }
@@ -111,12 +131,12 @@ fn tracks(rt: HostRuntime) {
 #[test]
 fn room(rt: HostRuntime) {
     let round = circle(CENTRE, 1000);
-    let least = drive_target(&round, Side::Left, 1, 900);
+    let least = offset_surface(&round, Sign::Plus, 900);
     assert_eq!(rt; least, circle_target(CENTRE, 100));
-    let less = drive_target(&round, Side::Left, 1, 901);
-    assert_eq!(rt; less, Err(Case::NoRoom));
-    let stop = stop_target(&round, Stop::To, CENTRE, &base_line(), Side::On, 1, 901);
-    assert_eq!(rt; stop, Err(Case::NoRoom));
+    assert!(rt; !lacks_room(&least));
+    let less = offset_surface(&round, Sign::Plus, 901);
+    assert!(rt; lacks_room(&less));
+    assert!(rt; !lacks_room(&offset_surface(&base_line(), Sign::Plus, 901)));
 }
 
 /// The upright line has the origin on its left and (2000, 0) on its right; the circle about (1000, 0)
@@ -135,14 +155,14 @@ fn stops(rt: HostRuntime) {
         (Stop::On, 0, 0, 300, 300),
     ];
     for (how, off, back, outer, inner) in table {
-        let there = stop_target(&wall, how, left, &line, Side::Left, 1, 50);
-        assert_eq!(rt; there, line_target(CENTRE, NORTH, off), "at {how:?}");
-        let here = stop_target(&wall, how, right, &line, Side::Left, 1, 50);
-        assert_eq!(rt; here, line_target(CENTRE, NORTH, back), "at {how:?}");
-        let outside = stop_target(&hole, how, left, &line, Side::Left, 1, 50);
-        assert_eq!(rt; outside, circle_target(CENTRE, outer), "at {how:?}");
-        let within = stop_target(&hole, how, inside, &line, Side::Left, 1, 50);
-        assert_eq!(rt; within, circle_target(CENTRE, inner), "at {how:?}");
+        let there = stop_of(&wall, how, left, &line, Side::Left);
+        assert_eq!(rt; there, Some(line_target(CENTRE, NORTH, off)), "at {how:?}");
+        let here = stop_of(&wall, how, right, &line, Side::Left);
+        assert_eq!(rt; here, Some(line_target(CENTRE, NORTH, back)), "at {how:?}");
+        let outside = stop_of(&hole, how, left, &line, Side::Left);
+        assert_eq!(rt; outside, Some(circle_target(CENTRE, outer)), "at {how:?}");
+        let within = stop_of(&hole, how, inside, &line, Side::Left);
+        assert_eq!(rt; within, Some(circle_target(CENTRE, inner)), "at {how:?}");
     }
 }
 
@@ -154,19 +174,19 @@ fn starts_on_check(rt: HostRuntime) {
     let hole = circle(CENTRE, 300);
     let on_wall = Pt { x: 1000, y: 7 };
     let on_hole = Pt { x: 700, y: 0 };
-    let table: [(Stop, Result<Target, Case>, Result<Target, Case>); 3] = [
-        (Stop::To, Err(Case::OnCheck), Err(Case::OnCheck)),
-        (Stop::Past, Err(Case::OnCheck), Err(Case::OnCheck)),
+    let table: [(Stop, Option<Target>, Option<Target>); 3] = [
+        (Stop::To, None, None),
+        (Stop::Past, None, None),
         (
             Stop::On,
-            line_target(CENTRE, NORTH, 0),
-            circle_target(CENTRE, 300),
+            Some(line_target(CENTRE, NORTH, 0)),
+            Some(circle_target(CENTRE, 300)),
         ),
     ];
     for (how, wall_target, hole_target) in table {
-        let there = stop_target(&wall, how, on_wall, &line, Side::Left, 1, 50);
+        let there = stop_of(&wall, how, on_wall, &line, Side::Left);
         assert_eq!(rt; there, wall_target, "at {how:?}");
-        let round = stop_target(&hole, how, on_hole, &line, Side::Left, 1, 50);
+        let round = stop_of(&hole, how, on_hole, &line, Side::Left);
         assert_eq!(rt; round, hole_target, "at {how:?}");
     }
 }
@@ -193,26 +213,34 @@ fn touches(rt: HostRuntime) {
         (Side::On, 300, 300, 0, 200, 200),
     ];
     for (side, over_reach, under_reach, off, beside_reach, held_reach) in table {
-        let first = stop_target(&over, Stop::Tanto, ORIGIN, &line, side, 1, 50);
-        assert_eq!(rt; first, circle_target(above, over_reach), "at {side:?}");
-        let second = stop_target(&under, Stop::Tanto, ORIGIN, &line, side, 1, 50);
-        assert_eq!(rt; second, circle_target(below, under_reach), "at {side:?}");
-        let third = stop_target(&wall, Stop::Tanto, ORIGIN, &round, side, 1, 50);
+        let first = stop_of(&over, Stop::Tanto, ORIGIN, &line, side);
+        assert_eq!(rt;
+            first,
+            Some(circle_target(above, over_reach)),
+            "at {side:?}"
+        );
+        let second = stop_of(&under, Stop::Tanto, ORIGIN, &line, side);
+        assert_eq!(rt;
+            second,
+            Some(circle_target(below, under_reach)),
+            "at {side:?}"
+        );
+        let third = stop_of(&wall, Stop::Tanto, ORIGIN, &round, side);
         assert_eq!(rt;
             third,
-            line_target(Pt { x: 300, y: 0 }, NORTH, off),
+            Some(line_target(Pt { x: 300, y: 0 }, NORTH, off)),
             "at {side:?}"
         );
-        let fourth = stop_target(&beside, Stop::Tanto, ORIGIN, &round, side, 1, 50);
+        let fourth = stop_of(&beside, Stop::Tanto, ORIGIN, &round, side);
         assert_eq!(rt;
             fourth,
-            circle_target(Pt { x: 500, y: 0 }, beside_reach),
+            Some(circle_target(Pt { x: 500, y: 0 }, beside_reach)),
             "at {side:?}"
         );
-        let fifth = stop_target(&held, Stop::Tanto, ORIGIN, &round, side, 1, 50);
+        let fifth = stop_of(&held, Stop::Tanto, ORIGIN, &round, side);
         assert_eq!(rt;
             fifth,
-            circle_target(Pt { x: 100, y: 0 }, held_reach),
+            Some(circle_target(Pt { x: 100, y: 0 }, held_reach)),
             "at {side:?}"
         );
     }
@@ -230,7 +258,7 @@ fn bands(rt: HostRuntime) {
         (Side::On, Stop::On, (-7, 7), (993, 1007)),
     ];
     for (side, how, (right, left), (inner, outer)) in table {
-        let track = drive_band(&line, side, 1, 50, 3, 7);
+        let track = band_at(&line, side_at_drive(side, 1), 50, 3, 7);
         assert_eq!(rt;
             track,
             Band {
@@ -239,7 +267,7 @@ fn bands(rt: HostRuntime) {
             },
             "at {side:?}"
         );
-        let arc = drive_band(&round, side, 1, 50, 3, 7);
+        let arc = band_at(&round, side_at_drive(side, 1), 50, 3, 7);
         assert_eq!(rt;
             arc,
             Band {
@@ -248,7 +276,8 @@ fn bands(rt: HostRuntime) {
             },
             "at {side:?}"
         );
-        let stop = stop_band(&wall, how, ORIGIN, &line, Side::On, 1, 50, 3, 7);
+        let place = side_at_check(&wall, how, ORIGIN, &line, Sign::Zero);
+        let stop = band_at(&wall, place, 50, 3, 7);
         assert_eq!(rt;
             stop,
             Band {
@@ -258,16 +287,11 @@ fn bands(rt: HostRuntime) {
             "at {how:?}"
         );
     }
-    let on_check = stop_band(&wall, Stop::To, CENTRE, &line, Side::On, 1, 50, 3, 7);
+    let place = side_at_check(&wall, Stop::To, CENTRE, &line, Sign::Zero);
+    let on_check = band_at(&wall, place, 50, 3, 7);
     assert_eq!(rt; on_check, Band { lo: -7, hi: 7 });
-    let inwards = drive_band(&line, Side::On, 1, 50, 9, 7);
+    let inwards = band_at(&line, Sign::Zero, 50, 9, 7);
     assert_eq!(rt; inwards, Band { lo: -9, hi: 9 });
-}
-
-fn is_point(p: Pt) -> bool
-    ensures { IsTrue result → IsPoint p }
-{
-    p.x.unsigned_abs() <= 50_000_000 && p.y.unsigned_abs() <= 50_000_000
 }
 
 fn is_band(band: Band) -> bool

@@ -89,8 +89,8 @@ fn sum_in_parentheses(
     Ok(text)
 }
 
-/// The expression of tokens that blanks part.
-fn read(alloc: Global, text: &str) -> Result<Option<Expr>, AllocError> {
+/// The expression of tokens between blanks, numbers in millionths.
+pub(crate) fn read(alloc: Global, text: &str) -> Result<Option<Expr>, AllocError> {
     let mut tokens = Vec::new(alloc);
     for word in text.split_whitespace() {
         tokens.push(token(word))?;

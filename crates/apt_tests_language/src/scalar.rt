@@ -1,9 +1,7 @@
-ghost use Rattle.std.specs.Prelude.{◌≡◌};
-ghost use Rattle.apt_words.specs.declared.parts.Part.TheVariants.{Num};
-
+use crate::expr::read;
 use apt_scalar::{Bound, Env, Frame, Kind, Value, bind, eval, grid_units, tenths, whole};
-use apt_words::{Case, Expr, Millionths, Node, Op, Part, Parts, Symbol, Units};
-use std::alloc::{AllocError, AllocGlobal, Global};
+use apt_words::{Case, Expr, Node, Symbol, Units};
+use std::alloc::{AllocGlobal, Global};
 use std::process::Abort;
 use std::test::Fail;
 
@@ -13,26 +11,6 @@ const GREATEST: i64 = 1_000_000_000_000;
 
 fn symbol(rt: &impl Abort, text: &str) -> Symbol {
     Symbol::new(text).expect(rt, "a symbol")
-}
-
-fn number(v: i64) -> Part
-    ensures { result ≡ Num v }
-{
-    Part::Num(Millionths::new(v))
-}
-
-fn both(alloc: Global, a: i64, op: Op, b: i64) -> Result<Expr, AllocError> {
-    let items = vec![in alloc; number(a), Part::with_number(op, b)]?;
-    Ok(Expr {
-        node: Node::Parts(Box::new(alloc, Parts { items })?),
-    })
-}
-
-fn root(alloc: Global, v: i64) -> Result<Expr, AllocError> {
-    let items = vec![in alloc; number(v), Part::Root]?;
-    Ok(Expr {
-        node: Node::Parts(Box::new(alloc, Parts { items })?),
-    })
 }
 
 /// The values of names, each bound behind those before it.
@@ -51,45 +29,34 @@ fn no_parameters(alloc: Global) -> Frame {
     }
 }
 
-const OPERATIONS: [(i64, Op, i64, Result<i64, Case>); 9] = [
-    (2 * ONE, Op::Div, 3 * ONE, Ok(666_667)),
-    (-ONE, Op::Div, 3 * ONE, Ok(-333_333)),
-    (-1, Op::Mul, 500_000, Ok(-1)),
-    (1, Op::Mul, 499_999, Ok(0)),
-    (GREATEST - 1, Op::Add, 1, Ok(GREATEST)),
-    (1, Op::Sub, 3, Ok(-2)),
-    (ONE, Op::Div, 0, Err(Case::DivideByZero)),
-    (GREATEST, Op::Mul, 2 * ONE, Err(Case::TooLarge)),
-    (-GREATEST, Op::Sub, 1, Err(Case::TooLarge)),
+/// Numbers are in millionths.
+const VALUES: [(&str, Result<i64, Case>); 13] = [
+    ("2000000 / 3000000", Ok(666_667)),
+    ("- 1000000 / 3000000", Ok(-333_333)),
+    ("- 1 * 500000", Ok(-1)),
+    ("1 * 499999", Ok(0)),
+    ("999999999999 + 1", Ok(GREATEST)),
+    ("1 - 3", Ok(-2)),
+    ("1000000 / 0", Err(Case::DivideByZero)),
+    ("1000000000000 * 2000000", Err(Case::TooLarge)),
+    ("- 1000000000000 - 1", Err(Case::TooLarge)),
+    ("SQRTF ( 2000000 )", Ok(1_414_214)),
+    ("SQRTF ( 1000000000000 )", Ok(1_000 * ONE)),
+    ("SQRTF ( 0 )", Ok(0)),
+    ("SQRTF ( - 1000000 )", Err(Case::NegativeRoot)),
 ];
 
 #[test]
-fn operators_round_and_refuse(rt: HostRuntime) -> Result<(), Fail> {
+fn values_round_and_are_refused(rt: HostRuntime) -> Result<(), Fail> {
     let alloc = rt.alloc();
     let env = Env::new(alloc);
     let frame = no_parameters(alloc);
-    for &(a, op, b, want) in &OPERATIONS {
-        let e = both(alloc, a, op, b)?;
-        assert_eq!(rt; eval(&e, &env, &frame), want, "at {a} and {b}");
-    }
-    Ok(())
-}
-
-const ROOTS: [(i64, Result<i64, Case>); 4] = [
-    (2 * ONE, Ok(1_414_214)),
-    (GREATEST, Ok(1_000 * ONE)),
-    (0, Ok(0)),
-    (-ONE, Err(Case::NegativeRoot)),
-];
-
-#[test]
-fn roots_are_nearest(rt: HostRuntime) -> Result<(), Fail> {
-    let alloc = rt.alloc();
-    let env = Env::new(alloc);
-    let frame = no_parameters(alloc);
-    for &(v, want) in &ROOTS {
-        let e = root(alloc, v)?;
-        assert_eq!(rt; eval(&e, &env, &frame), want, "at {v}");
+    for &(text, want) in &VALUES {
+        let Some(e) = read(alloc, text)? else {
+            assert!(rt; false, "{text} is no expression");
+            return Ok(());
+        };
+        assert_eq!(rt; eval(&e, &env, &frame), want, "at {text}");
     }
     Ok(())
 }

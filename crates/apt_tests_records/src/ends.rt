@@ -122,13 +122,11 @@ fn moves(how: Stop) -> [Record; 7]
     ]
 }
 
-fn vertex(alloc: Global, x: i64) -> Result<Vertices, AllocError>
+fn vertex(alloc: Global, x: i64) -> Vertices
     requires { unsigned_abs x ≤ 50000000 }
-    ensures { IfOk result (λ ps. (1 ≤ length ps) × ArePositions ps) }
+    ensures { (length result ≡ 1) × ArePositions result }
 {
-    let mut at = Vec::new(alloc);
-    at.push(on_axis(x))?;
-    Ok(Vertices { at })
+    Vertices::one(alloc, on_axis(x))
 }
 
 /// All records of a motion that ends so many units past its contact.
@@ -136,7 +134,7 @@ fn records(alloc: Global, how: Stop, past: i8) -> Result<[Record; 14], AllocErro
     ensures range { IfOk result AreRecords }
     ensures few { IfOk result (λ rs. vertex_count rs + length rs < 2 ^ 62) }
 {
-    let vertex = vertex(alloc, contact(how) + i64::from(past))?;
+    let vertex = vertex(alloc, contact(how) + i64::from(past));
     let [a, b, c, d, e, f] = settings();
     let [g, h, i, j, k, l, m] = moves(how);
     let end = Record::Contour(vertex);

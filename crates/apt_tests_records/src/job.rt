@@ -97,12 +97,12 @@ fn changed(later: u8, higher: i8, side: Side) -> Change {
 
 /// The vertices of a contour in two segments.
 fn vertices(alloc: Global, higher: i8) -> Result<Vertices, AllocError>
-    ensures { IfOk result (λ ps. (1 ≤ length ps) × ArePositions ps) }
+    ensures { IfOk result (λ ps. (length ps ≡ 2) × ArePositions ps) }
 {
     let mut at = Vec::new(alloc);
     at.push(position(0, 100_000))?;
     at.push(position(525_000, 100_000 + i64::from(higher)))?;
-    Ok(Vertices { at })
+    Ok(Vertices::from_vec(at))
 }
 
 /// The records of what is set.

@@ -26,7 +26,7 @@ fn step(step: u32, deed: Deed) -> Step
 /// Where a contour ends.
 fn end_of(record: &Record) -> Option<Position> {
     match record {
-        Record::Contour(vertices) => vertices.at.last().copied(),
+        Record::Contour(vertices) => vertices.as_slice().last().copied(),
         _ => None,
     }
 }

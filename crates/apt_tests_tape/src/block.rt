@@ -1,4 +1,4 @@
-ghost use Rattle.std.specs.Prelude.{◌≡◌, ◌≤◌, length};
+ghost use Rattle.std.specs.Prelude.{◌≡◌};
 ghost use Rattle.apt_block.specs.Block.{IsBlock, tape_word};
 
 use apt_block::{Block, BlockError, TapeCause, TapeWord, read_block, write_block};
@@ -11,57 +11,62 @@ fn word(letter: u8, value: i64) -> TapeWord
     TapeWord { letter, value }
 }
 
-fn block_of(words: &[TapeWord]) -> Block
-    requires { length words.now ≤ 12 }
-    ensures { result ≡ words.now }
-{
-    let mut block = Block::new();
-    'words: for word in words {
-        block.push(*word);
-    }
-    block
-}
-
 fn start() -> Block
     ensures { IsBlock result }
 {
-    block_of(&[
-        word(b'N', 1),
-        word(b'G', 70),
-        word(b'G', 90),
-        word(b'G', 94),
-    ])
+    let mut block = Block::new();
+    block.push(word(b'N', 1));
+    block.push(word(b'G', 70));
+    block.push(word(b'G', 90));
+    block.push(word(b'G', 94));
+    block
 }
 
-fn cut() -> Block
+fn way() -> Block
     ensures { IsBlock result }
 {
-    block_of(&[
-        word(b'N', 2),
-        word(b'G', 1),
-        word(b'X', 100_000),
-        word(b'Y', 200_000),
-        word(b'Z', 300_000),
-        word(b'F', 100),
-    ])
+    let mut block = Block::new();
+    block.push(word(b'N', 2));
+    block.push(word(b'G', 1));
+    block.push(word(b'X', 100_000));
+    block.push(word(b'Y', 200_000));
+    block.push(word(b'Z', 300_000));
+    block
+}
+
+fn feed() -> Block
+    ensures { IsBlock result }
+{
+    let mut block = Block::new();
+    block.push(word(b'F', 100));
+    block
+}
+
+/// The words of both.
+fn cut() -> Block {
+    let mut block = way();
+    let _ = block.words.try_push(word(b'F', 100));
+    block
 }
 
 fn below_zero() -> Block
     ensures { IsBlock result }
 {
-    block_of(&[
-        word(b'X', -50_000_000),
-        word(b'Y', 0),
-        word(b'Z', -1),
-        word(b'S', 1_250),
-        word(b'T', 7),
-    ])
+    let mut block = Block::new();
+    block.push(word(b'X', -50_000_000));
+    block.push(word(b'Y', 0));
+    block.push(word(b'Z', -1));
+    block.push(word(b'S', 1_250));
+    block.push(word(b'T', 7));
+    block
 }
 
 fn end() -> Block
     ensures { IsBlock result }
 {
-    block_of(&[word(b'M', 2)])
+    let mut block = Block::new();
+    block.push(word(b'M', 2));
+    block
 }
 
 fn spelled(alloc: Global, block: &Block) -> Result<Vec<u8>, AllocError>
@@ -78,9 +83,10 @@ fn spells_blocks(rt: HostRuntime) -> Result<(), Fail> {
     let cases = [
         (spelled(alloc, &start())?, "N0001G70G90G94\n"),
         (
-            spelled(alloc, &cut())?,
-            "N0002G01X+00100000Y+00200000Z+00300000F0100\n",
+            spelled(alloc, &way())?,
+            "N0002G01X+00100000Y+00200000Z+00300000\n",
         ),
+        (spelled(alloc, &feed())?, "F0100\n"),
         (
             spelled(alloc, &below_zero())?,
             "X-50000000Y+00000000Z-00000001S1250T07\n",

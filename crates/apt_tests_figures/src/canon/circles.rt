@@ -3,6 +3,7 @@
 ghost use Rattle.std.specs.Prelude.{pos, ◌≤ℤ◌, IsTrue};
 ghost use Rattle.apt_plane.specs.Ranges.{IsPoint, IsMoved, IsRound, IsSense};
 
+use crate::ranges::is_point;
 use apt_canon::{FormFault, circle_circle, line_circle};
 use apt_plane::vectors::length_squared;
 use apt_plane::{Circ, Dir, Line, Moved, Pt};
@@ -29,12 +30,6 @@ fn circ(x: i64, y: i64, r: i64) -> Circ {
 
 fn at(x: i64, y: i64) -> Result<Pt, FormFault> {
     Ok(Pt { x, y })
-}
-
-fn is_point(p: Pt) -> bool
-    ensures { IsTrue result → IsPoint p }
-{
-    p.x.unsigned_abs() <= 50_000_000 && p.y.unsigned_abs() <= 50_000_000
 }
 
 fn is_moved(l: &Moved) -> bool

@@ -1,13 +1,13 @@
 //! Where courses stop, worked out by hand.
 
-ghost use Rattle.std.specs.Prelude.{◌≡◌, ◌+◌, ◌≤◌, unsigned_abs, IsTrue};
-ghost use Rattle.apt_plane.specs.Ranges.{IsPoint, IsDir, IsLine, IsCircle, IsSurface, IsSense};
+ghost use Rattle.std.specs.Prelude.{◌≡◌, IsTrue};
+ghost use Rattle.apt_plane.specs.Ranges.{IsPoint, IsSurface, IsSense};
 ghost use Rattle.apt_offset.specs.Ranges.{IsRadius};
 ghost use Rattle.apt_offset.specs.Sides.{side_at_tangency};
 
+use crate::ranges::{is_point, is_surface};
 use apt_num::Sign;
 use apt_offset::{lacks_room, offset_surface, side_at_check};
-use apt_plane::vectors::length_squared;
 use apt_plane::{Axis, Circ, Dir, Line, Pt, Surface};
 use apt_stop::{Choice, Course, decide, is_near};
 use apt_words::{Case, Stop};
@@ -28,52 +28,6 @@ struct Leg {
 
 /// A side, a point, and the half of an axis.
 type Found = Result<(Sign, Pt, Option<Sign>), Case>;
-
-fn is_point(p: Pt) -> bool
-    ensures { IsTrue result → IsPoint p }
-{
-    p.x.unsigned_abs() <= 50_000_000 && p.y.unsigned_abs() <= 50_000_000
-}
-
-fn is_dir(dir: Dir) -> bool
-    ensures { IsTrue result → IsDir dir }
-{
-    dir.dx.unsigned_abs() <= 100_000_000
-        && dir.dy.unsigned_abs() <= 100_000_000
-        && length_squared(dir) >= 1
-}
-
-fn is_line(line: &Line) -> bool
-    ensures { IsTrue result → IsLine line.now }
-{
-    is_point(line.base) && is_dir(line.dir)
-}
-
-fn is_circle(circle: &Circ) -> bool
-    ensures { IsTrue result → IsCircle circle.now }
-{
-    is_point(circle.c)
-        && circle.r >= 100
-        && circle.r <= 49_000_000
-        && is_inside(circle.c, circle.r.unsigned_abs())
-}
-
-fn is_inside(c: Pt, r: u64) -> bool
-    requires point { IsPoint c }
-    requires r { r ≤ 49000000 }
-    ensures { IsTrue result → (unsigned_abs c.x + r ≤ 49000000) × (unsigned_abs c.y + r ≤ 49000000) }
-{
-    c.x.unsigned_abs() + r <= 49_000_000 && c.y.unsigned_abs() + r <= 49_000_000
-}
-
-fn is_surface(surface: &Surface) -> bool
-    ensures { IsTrue result → IsSurface surface.now }
-{
-    match surface {
-        Surface::Line(line) => is_line(line),
-        Surface::Circ(circle) => is_circle(circle),
-    }
-}
 
 fn is_sense(sense: i8) -> bool
     ensures { IsTrue result → IsSense sense }
@@ -109,6 +63,7 @@ fn ended(leg: &Leg) -> Option<Found> {
     if in_range { placed(leg) } else { None }
 }
 
+#[tactic(auto, using(apt_stop::proofs::Moved::moved_course))]
 fn placed(leg: &Leg) -> Option<Found>
     requires start { IsPoint leg.now.start }
     requires drive { IsSurface leg.now.drive }
