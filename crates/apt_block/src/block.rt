@@ -68,18 +68,31 @@ impl Block {
 /// Why a tape can't be read.
 #[derive(Clone, Copy, Debug, PartialEq, Eq)]
 pub enum TapeCause {
+    /// There is no rewind stop.
     NoStart,
+    /// A row with a hole too many or too few.
     BadParity,
+    /// A row of no character.
     BadCode,
+    /// A character that can not stand in its block.
     BadBlock,
+    /// A G code of no group, or a second one of its group.
     BadG,
+    /// An M code over 9.
     BadM,
+    /// A speed or a tool without its M code, or that code without it.
     BadMix,
+    /// A move before the units are given.
     NoUnits,
+    /// A move before a motion code is given.
     NoMode,
+    /// A cut before a feed is given.
     NoFeed,
+    /// A move before all coordinates are given.
     NoPosition,
+    /// The tape ends within a block, or before its end.
     Truncated,
+    /// Something stands behind the end.
     AfterEnd,
 }
 
