@@ -109,7 +109,7 @@ speed_from_zero turns.Cw n h = (omega (arith, ints, h.0), h.1)
 speed_from_zero turns.Ccw n h = (omega (arith, ints, h.0), h.1)
 speed_from_zero turns.Off n h = subst (IsFromTo (pos 0) greatest) (sym h) (omega (arith, ints), omega (arith, ints))
 
-spindl_again : (turn : Turn) (n : ℤ) → IsSpeed turn n → spindl_at n (turn_word turn) ≡ Ok (records.Note (notes.Spindl turn n))
+spindl_again : (turn : Turn) (n : ℤ) → IsSpeed turn n → spindl_at n (turn_word turn) ≡ Ok (records.Note (notes.Spindle turn n))
 spindl_again turn n h =
     bind_again (from_to (pos 0) greatest 0 n) _ n _ (from_to_again (pos 0) greatest 0 n (speed_from_zero turn n h))
     (bind_again (turn_at 1 n (turn_word turn)) _ turn _ (turn_again 1 turn n h) refl)
@@ -121,10 +121,10 @@ note_again (notes.Units u) h = bind_again (units_at 0 (units_word u)) _ u _ (uni
 note_again (notes.Cutter d) h = number_again (pos 0) (pos 1000000) d notes.Cutter h
 note_again (notes.Intol t) h = number_again (pos 0) (pos 10000) t notes.Intol h
 note_again (notes.Outtol t) h = number_again (pos 0) (pos 10000) t notes.Outtol h
-note_again (notes.Fedrat f) h = number_again (pos 1) greatest f notes.Fedrat h
-note_again (notes.Spindl turn n) h = spindl_again turn n h
-note_again (notes.Coolnt c) h = bind_again (cool_at 0 (cool_word c)) _ c _ (cool_again 0 c) refl
-note_again (notes.Loadtl n) h = number_again (pos 1) greatest n notes.Loadtl h
+note_again (notes.Feed f) h = number_again (pos 1) greatest f notes.Feed h
+note_again (notes.Spindle turn n) h = spindl_again turn n h
+note_again (notes.Coolant c) h = bind_again (cool_at 0 (cool_word c)) _ c _ (cool_again 0 c) refl
+note_again (notes.Tool n) h = number_again (pos 1) greatest n notes.Tool h
 note_again notes.Rapid h = refl
 note_again notes.Stop h = refl
 note_again notes.OptStop h = refl

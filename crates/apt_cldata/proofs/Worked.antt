@@ -91,13 +91,13 @@ abbrev at : ℤ → ℤ → ℤ → Position
 at x y z = record { at = record { x = x; y = y }; z = z }
 
 notes_in_words :
-    map note_words (notes.Partno (codes "AB") ∷ notes.Rapid ∷ notes.Stop ∷ notes.OptStop ∷ notes.End ∷ notes.Fedrat (pos 60) ∷ [])
+    map note_words (notes.Partno (codes "AB") ∷ notes.Rapid ∷ notes.Stop ∷ notes.OptStop ∷ notes.End ∷ notes.Feed (pos 60) ∷ [])
     ≡ (pos 2000 ∷ pos 1 ∷ pos 65 ∷ pos 66 ∷ []) ∷ (pos 2000 ∷ pos 2 ∷ []) ∷ (pos 2000 ∷ pos 3 ∷ []) ∷ (pos 2000 ∷ pos 4 ∷ []) ∷ (pos 2000 ∷ pos 5 ∷ [])
     ∷ (pos 2000 ∷ pos 6 ∷ pos 60 ∷ []) ∷ []
 notes_in_words = refl
 
 tools_in_words :
-    map note_words (notes.Spindl turns.Cw (pos 70) ∷ notes.Spindl turns.Ccw (pos 70) ∷ notes.Spindl turns.Off (pos 0) ∷ notes.Coolnt cools.Off ∷ notes.Coolnt cools.Mist ∷ notes.Coolnt cools.Flood ∷ notes.Loadtl (pos 9) ∷ [])
+    map note_words (notes.Spindle turns.Cw (pos 70) ∷ notes.Spindle turns.Ccw (pos 70) ∷ notes.Spindle turns.Off (pos 0) ∷ notes.Coolant cools.Off ∷ notes.Coolant cools.Mist ∷ notes.Coolant cools.Flood ∷ notes.Tool (pos 9) ∷ [])
     ≡ (pos 2000 ∷ pos 7 ∷ pos 70 ∷ pos 1 ∷ []) ∷ (pos 2000 ∷ pos 7 ∷ pos 70 ∷ pos 2 ∷ []) ∷ (pos 2000 ∷ pos 7 ∷ pos 0 ∷ pos 0 ∷ []) ∷ (pos 2000 ∷ pos 8 ∷ pos 0 ∷ [])
     ∷ (pos 2000 ∷ pos 8 ∷ pos 1 ∷ []) ∷ (pos 2000 ∷ pos 8 ∷ pos 2 ∷ []) ∷ (pos 2000 ∷ pos 9 ∷ pos 9 ∷ []) ∷ []
 tools_in_words = refl

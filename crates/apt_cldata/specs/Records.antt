@@ -42,10 +42,10 @@ number_alone least most (n ∷ []) = from_to least most 0 n
 number_alone least most ws = Err misfits.Count
 
 abbrev pub fedrat_by : List ℤ → Result Record Misfit
-fedrat_by ws = number_alone (pos 1) greatest ws >>= λ f. Ok (records.Note (notes.Fedrat f))
+fedrat_by ws = number_alone (pos 1) greatest ws >>= λ f. Ok (records.Note (notes.Feed f))
 
 abbrev pub loadtl_by : List ℤ → Result Record Misfit
-loadtl_by ws = number_alone (pos 1) greatest ws >>= λ n. Ok (records.Note (notes.Loadtl n))
+loadtl_by ws = number_alone (pos 1) greatest ws >>= λ n. Ok (records.Note (notes.Tool n))
 
 abbrev pub cutter_by : List ℤ → Result Record Misfit
 cutter_by ws = number_alone (pos 0) (pos 1000000) ws >>= λ d. Ok (records.Note (notes.Cutter d))
@@ -57,14 +57,14 @@ abbrev pub outtol_by : List ℤ → Result Record Misfit
 outtol_by ws = number_alone (pos 0) (pos 10000) ws >>= λ t. Ok (records.Note (notes.Outtol t))
 
 abbrev pub spindl_at : ℤ → ℤ → Result Record Misfit
-spindl_at n turn = from_to (pos 0) greatest 0 n >>= λ n. turn_at 1 n turn >>= λ turn. Ok (records.Note (notes.Spindl turn n))
+spindl_at n turn = from_to (pos 0) greatest 0 n >>= λ n. turn_at 1 n turn >>= λ turn. Ok (records.Note (notes.Spindle turn n))
 
 abbrev pub spindl_by : List ℤ → Result Record Misfit
 spindl_by (n ∷ turn ∷ []) = spindl_at n turn
 spindl_by ws = Err misfits.Count
 
 abbrev pub coolnt_by : List ℤ → Result Record Misfit
-coolnt_by (c ∷ []) = cool_at 0 c >>= λ c. Ok (records.Note (notes.Coolnt c))
+coolnt_by (c ∷ []) = cool_at 0 c >>= λ c. Ok (records.Note (notes.Coolant c))
 coolnt_by ws = Err misfits.Count
 
 abbrev pub units_by : List ℤ → Result Record Misfit

@@ -96,7 +96,7 @@ fn spindl_at(n: i64, turn: i64) -> Result<Record, Misfit>
 {
     let n = from_to(0, GREATEST, 0, n)?;
     let turn = turn_at(1, n, turn)?;
-    Ok(Record::Note(Note::Spindl(turn, n)))
+    Ok(Record::Note(Note::Spindle(turn, n)))
 }
 
 fn spindl_by(words: &[i64]) -> Result<Record, Misfit>
@@ -114,7 +114,7 @@ fn coolnt_by(words: &[i64]) -> Result<Record, Misfit>
     let [c] = words else {
         return Err(Misfit::Count);
     };
-    Ok(Record::Note(Note::Coolnt(cool_at(0, *c)?)))
+    Ok(Record::Note(Note::Coolant(cool_at(0, *c)?)))
 }
 
 fn command_by(alloc: Global, sub: i64, words: &[i64]) -> Result<Result<Record, Misfit>, AllocError>
@@ -138,13 +138,13 @@ fn command_by(alloc: Global, sub: i64, words: &[i64]) -> Result<Result<Record, M
 fn fedrat_by(words: &[i64]) -> Result<Record, Misfit>
     ensures { result ≡ spec.fedrat_by words.now }
 {
-    Ok(Record::Note(Note::Fedrat(number_alone(1, GREATEST, words)?)))
+    Ok(Record::Note(Note::Feed(number_alone(1, GREATEST, words)?)))
 }
 
 fn loadtl_by(words: &[i64]) -> Result<Record, Misfit>
     ensures { result ≡ spec.loadtl_by words.now }
 {
-    Ok(Record::Note(Note::Loadtl(number_alone(1, GREATEST, words)?)))
+    Ok(Record::Note(Note::Tool(number_alone(1, GREATEST, words)?)))
 }
 
 fn setting_by(sub: i64, words: &[i64]) -> Result<Record, Misfit>

@@ -1,5 +1,5 @@
 -- The segments of jobs are those of the contours of their records.
-use Rattle.std.proofs.Common.{◌≡◌, ◌+◌, List, [], ◌∷◌, ◌++◌, length, Some, None, ap, sym, ◌∙◌, refl, arith}
+use Rattle.std.proofs.Common.{◌≡◌, ◌+◌, List, [], ◌∷◌, ◌++◌, length, ap, sym, ◌∙◌, refl, arith}
 use Rattle.std.proofs.lemmas.List.{length-map}
 use Rattle.apt_plane.specs.declared.figures.Pt.{Pt}
 use Rattle.apt_words.specs.declared.deed.Step.{Step}
@@ -7,6 +7,7 @@ use Rattle.apt_cldata.specs.declared.record.Record.{Record}
 use Rattle.apt_certify.specs.declared.leg.Job.{Job}
 use Rattle.apt_certify.specs.Jobs.{segment_count}
 use Rattle.apt_meaning.specs.declared.situation.Situation.{Situation}
+use Rattle.apt_meaning.specs.declared.effect.Change.TheVariants as changes
 use Rattle.apt_meaning.specs.declared.effect.Effect.{Effect}
 use Rattle.apt_meaning.specs.declared.effect.Effect.TheVariants as effects
 use Rattle.apt_meaning.specs.Situations.{at_height}
@@ -20,14 +21,15 @@ segments-append (r ∷ rs) ys = omega (arith, segments-append rs ys)
 
 effect_segments : (step : Step) (e : Effect) (vertices : List Pt) → MayHave e vertices → segments (records_of step e vertices) ≡ length vertices
 effect_segments step (effects.Defines n f) vertices may = rw may refl
-effect_segments step (effects.Sets s None) vertices may = rw may refl
-effect_segments step (effects.Sets s (Some note)) vertices may = rw may refl
+effect_segments step (effects.Sets (changes.Said note)) vertices may = rw may refl
+effect_segments step (effects.Sets (changes.Side side)) vertices may = rw may refl
+effect_segments step (effects.Sets changes.Nothing) vertices may = rw may refl
 effect_segments step (effects.Moves reach to) vertices may = rw may refl
 effect_segments step (effects.Cuts m) vertices may = omega (arith, length-map vertices (at_height m.start.z))
 
 job_segments : (e : Effect) (vertices : List Pt) (more : List Job) → MayHave e vertices → segment_count (jobs_by e vertices ++ more) ≡ length vertices + segment_count more
 job_segments (effects.Defines n f) vertices more may = rw may (omega arith)
-job_segments (effects.Sets s said) vertices more may = rw may (omega arith)
+job_segments (effects.Sets change) vertices more may = rw may (omega arith)
 job_segments (effects.Moves reach to) vertices more may = rw may (omega arith)
 job_segments (effects.Cuts m) vertices more may = omega arith
 

@@ -1,42 +1,46 @@
 -- What a definition leaves behind, and why one is refused.
-use Rattle.std.proofs.Common.{◌≡◌, ◌↔◌, ℕ, List, Option, Some, option_map, ap, ◌∙◌, Result, Ok, Err}
+use Rattle.std.proofs.Common.{◌≡◌, ◌↔◌, ℕ, List, ap, ◌∙◌, Ok, Err}
+use Rattle.std.specs.Prelude.{IsErrOf}
+use Rattle.apt_words.specs.Asks.{Ask, Defines, ask_of}
 use Rattle.apt_words.specs.declared.Case.{Case}
 use Rattle.apt_words.specs.declared.Units.{Units}
+use Rattle.apt_words.specs.declared.ask.Form.{Form}
 use Rattle.apt_words.specs.declared.deed.Deed.{Deed}
 use Rattle.apt_defs.specs.declared.figure.Figure.{Figure}
-use Rattle.apt_defs.specs.declared.figure.Definition.{Definition}
 use Rattle.apt_defs.specs.Figures.{Table, table_with}
-use Rattle.apt_defs.specs.Definitions.{definition_of, defines, HasDefined, IsRefusedBy}
+use Rattle.apt_defs.specs.Definitions.{figure_of, HasDefined, IsDefinition, IsRefusedBy}
 use Rattle.apt_defs.proofs.Named.{given, others}
 
-pub has_defined : (units : Units) (before : Table) (deed : Deed) (now : Table) (name : List ℕ) (f : Figure)
-    → definition_of units before deed ≡ defines name (Ok f) → now ≡ table_with before name f → HasDefined units before deed now
-has_defined units before deed now name f d e = (
+pub has_defined : (units : Units) (before : Table) (deed : Deed) (now : Table) (name : List ℕ) (form : Form) (f : Figure) → IsDefinition deed name form
+    → figure_of units before form ≡ Ok f → now ≡ table_with before name f → HasDefined units before deed now
+has_defined units before deed now name form f asked figure e = (
   name,
+  form,
   f,
   record {
-    defines = d;
+    asked = asked;
+    figure = figure;
     table = e;
     set = rw e (given before name f);
     others = λ other apart. rw e (others before name f other apart);
   },
 )
 
-figure_in : Option Definition → Option (Result Figure Case)
-figure_in o = option_map (λ d. d.figure) o
+-- a step defines one name by one form
+both_asked : (ask : Ask) (n m : List ℕ) (f g : Form) → ask ≡ Defines n f → ask ≡ Defines m g → (n ≡ m) × (f ≡ g)
+both_asked ask n m f g p q = (cc, cc)
 
-err_case : (o : Option (Result Figure Case)) (c d : Case) → o ≡ Some (Err c) → o ≡ Some (Err d) → c ≡ d
-err_case o c d p q = cc
+pub same_form : (deed : Deed) (n m : List ℕ) (f g : Form) → IsDefinition deed n f → IsDefinition deed m g → (n ≡ m) × (f ≡ g)
+same_form deed n m f g p q = both_asked (ask_of deed) n m f g p q
 
-ok_or_err : (o : Option (Result Figure Case)) (f : Figure) (c : Case) → o ≡ Some (Ok f) → o ≡ Some (Err c) → ⊥
-ok_or_err o f c p q = cc
+-- an error is the same of any result
+same_error : {A B E : Type 0} (e x : E) → IsErrOf {T = A} (Err e) x → IsErrOf {T = B} (Err e) x
+same_error e x h = cc
 
-pub refused_by : (units : Units) (t : Table) (deed : Deed) (n : List ℕ) (c case : Case) → definition_of units t deed ≡ defines n (Err c)
-    → (c ≡ case) ↔ IsRefusedBy units t deed case
-unfolding figure_in
-refused_by units t deed n c case d = (λ e. (n, d ∙ ap (λ x. defines n (Err x)) e), λ is. err_case (figure_in (definition_of units t deed)) c case (ap figure_in d) (ap figure_in is.1))
-
-pub not_refused : (units : Units) (t : Table) (deed : Deed) (n : List ℕ) (f : Figure) (case : Case) → definition_of units t deed ≡ defines n (Ok f)
-    → IsRefusedBy units t deed case → ⊥
-unfolding figure_in
-not_refused units t deed n f case d is = ok_or_err (figure_in (definition_of units t deed)) f case (ap figure_in d) (ap figure_in is.1)
+-- what refuses the form refuses the step
+pub refused_by : {A B E : Type 0} (units : Units) (t : Table) (deed : Deed) (name : List ℕ) (form : Form) (case : Case) (e x : E) → IsDefinition deed name form
+    → IsErrOf {T = A} (Err e) x ↔ (figure_of units t form ≡ Err case) → IsErrOf {T = B} (Err e) x ↔ IsRefusedBy units t deed case
+refused_by {A} {B} units t deed name form case e x asked by = (
+  λ h. (name, form, asked, by.0 (same_error {A = B} {B = A} e x h)),
+  λ is. same_error {A = A} {B = B} e x (by.1 (ap (λ f. figure_of units t f) (same_form deed name is.0 form is.1 asked is.2).1 ∙ is.3)),
+)

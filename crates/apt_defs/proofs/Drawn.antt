@@ -38,7 +38,7 @@ use Rattle.apt_canon.proofs.RoundsLaws.{of_centre, of_through, of_touching, thre
 use Rattle.apt_defs.specs.declared.figure.Figure.{Figure}
 use Rattle.apt_defs.specs.declared.figure.Figure.TheVariants as figures
 use Rattle.apt_defs.specs.Figures.{Table, AreFigures, figure_named, defined, as_place, as_surface, as_line, as_circle, point_named, surface_named, line_named, circle_named}
-use Rattle.apt_defs.specs.Forms.{is_within, within, point_at, coordinate, length_by, height_by, point_by, formed, a_point, a_line, a_circle, both_meetings, meetings, is_further, is_preferred, picked, line_between, line_through, point_xy, point_lines, point_pick, point_center, line_xy, line_points, line_parallel, line_perpendicular, line_at, line_tangent, line_two, circle_xyr, circle_points, circle_radius, circle_tangent, circle_by_point, circle_corner}
+use Rattle.apt_defs.specs.Forms.{is_within, within, point_at, coordinate, length_by, height_by, point_by, formed, a_point, a_line, a_circle, both_meetings, meetings, is_further, is_preferred, picked, line_between, line_through, point_xy, point_lines, point_pick, centre_point, line_xy, line_points, line_parallel, line_perpendicular, line_at, line_tangent, line_two, circle_xyr, circle_points, circle_radius, circle_tangent, circle_by_point, circle_corner}
 use Rattle.apt_defs.specs.Drawn.{IsPointOf, IsLineOf, IsCircleOf, IsAt, IsHeight, IsWritten, IsOnBoth, IsOfLine, IsOfCircles, IsMeeting, ComesFirst, LiesPast, IsChosen, RunsTo, RunsToAt, IsParallel, IsSquare, IsParallelAt, RunsBy, IsTangentFrom, IsTangentOf, IsAbout, IsAboutAt, IsAlong, IsAboutThrough, IsInCorner, OfPoint, OfSurface, OfLine, OfCircle, IsPlaceOf, IsSurfaceOf}
 use Rattle.apt_defs.proofs.InRange.{then_in, either_in, point_in, surface_in, line_in, circle_in}
 
@@ -291,8 +291,8 @@ point_pick_drawn t pick a b are =
     (λ r is_r. then_in (AreMeetings s r) (IsPointOf (IsChosen s r pick)) (meetings s r) (λ m. a_point (picked pick m.0 m.1)) (meetings_are s r is_s is_r)
     (λ m is. (refl, chosen_by s r pick m.0 m.1 (is_preferred pick m.1 m.0) is.0 is.1 refl))))
 
-pub point_center_drawn : (t : Table) (c : List ℕ) → AreFigures t → IfOk (point_center t c) (λ f. OfCircle t c (λ k. IsPointOf (λ p. p ≡ k.c) f))
-point_center_drawn t c are = from_circle (λ k. IsPointOf (λ p. p ≡ k.c)) t c (λ k. a_point k.c) are (λ k is. (refl, refl))
+pub centre_point_drawn : (t : Table) (c : List ℕ) → AreFigures t → IfOk (centre_point t c) (λ f. OfCircle t c (λ k. IsPointOf (λ p. p ≡ k.c) f))
+centre_point_drawn t c are = from_circle (λ k. IsPointOf (λ p. p ≡ k.c)) t c (λ k. a_point k.c) are (λ k is. (refl, refl))
 
 -- ---- LINE
 

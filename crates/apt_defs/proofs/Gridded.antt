@@ -1,100 +1,60 @@
--- What a statement defines depends on its lengths in grid units alone.
-use Rattle.std.proofs.Common.{◌≡◌, sym, ap, ◌∙◌, refl, ℤ, pos, Bool, true, false, Option, Some, None, Result, Ok}
+-- What a form gives depends on its lengths in grid units alone.
+use Rattle.std.proofs.Common.{◌≡◌, sym, ap, ◌∙◌, refl, ℕ, ℤ, pos, Bool, true, false, List, Option, Some, None, Result, Ok, Err, IfOk}
 use Rattle.apt_words.specs.Chains.{◌>>=◌}
 use Rattle.apt_words.specs.declared.Case.{Case}
 use Rattle.apt_words.specs.declared.Units.{Units}
 use Rattle.apt_words.specs.declared.Units.TheVariants.{Inch}
+use Rattle.apt_words.specs.declared.ask.CircleForm.TheVariants as circles
+use Rattle.apt_words.specs.declared.ask.Form.{Form}
+use Rattle.apt_words.specs.declared.ask.Form.TheVariants as forms
+use Rattle.apt_words.specs.declared.ask.LineForm.TheVariants as lines
+use Rattle.apt_words.specs.declared.ask.PointForm.TheVariants as points
 use Rattle.apt_words.specs.declared.deed.Deed.{Deed}
-use Rattle.apt_words.specs.declared.deed.Deed.TheVariants as deeds
 use Rattle.apt_plane.specs.declared.figures.Pt.{Pt}
 use Rattle.apt_canon.specs.Feet.{parallel_at}
 use Rattle.apt_canon.specs.Rounds.{circle_of, corner}
-use Rattle.apt_defs.specs.declared.figure.Definition.{Definition}
+use Rattle.apt_defs.specs.declared.figure.Figure.{Figure}
 use Rattle.apt_defs.specs.declared.figure.Figure.TheVariants as figures
 use Rattle.apt_defs.specs.Figures.{Table, point_named, line_named}
 use Rattle.apt_defs.specs.Forms.{within, point_at, line_through, line_formed, circle_formed}
-use Rattle.apt_defs.specs.Definitions.{definition_of, defines, HasOrNone}
+use Rattle.apt_defs.specs.Definitions.{figure_of, HasOrNone, IsDefinition}
 use Rattle.apt_defs.specs.Alike.{in_grid, AreAlike}
+use Rattle.apt_defs.proofs.Defined.{has_defined, same_form}
 
-abbrev point_in_grid : ℤ → ℤ → Result Pt Case
-point_in_grid x y = within 50000000 x >>= λ gx. within 50000000 y >>= λ gy. Ok (point_at gx gy)
+abbrev at_grid : ℤ → ℤ → Result Pt Case
+at_grid x y = within 50000000 x >>= λ gx. within 50000000 y >>= λ gy. Ok (point_at gx gy)
 
 abbrev height_in_grid : Option ℤ → Result ℤ Case
 height_in_grid None = Ok (pos 0)
 height_in_grid (Some z) = within 50000000 z
 
--- what a statement defines whose lengths are grid units
-abbrev by_grid : Table → Deed → Option Definition
-by_grid t (deeds.PointXy n x y z) = defines n (point_in_grid x y >>= λ p. height_in_grid z >>= λ h. Ok (figures.Point p h))
-by_grid t (deeds.LineXy n x y u v) = defines n (point_in_grid x y >>= λ p. point_in_grid u v >>= λ q. line_through p q)
-by_grid t (deeds.LineAt n l k v) = defines n (line_named t l >>= λ m. within 100000000 v >>= λ d. line_formed (parallel_at m k d))
-by_grid t (deeds.CircleXyr n x y r) = defines n (point_in_grid x y >>= λ c. within 100000000 r >>= λ g. circle_formed (circle_of c g))
-by_grid t (deeds.CircleRadius n p r) = defines n (point_named t p >>= λ c. within 100000000 r >>= λ g. circle_formed (circle_of c g))
-by_grid t (deeds.CircleCorner n j a k b r) =
-    defines n (line_named t a >>= λ l. line_named t b >>= λ m. within 100000000 r >>= λ g. circle_formed (corner l j m k g))
-by_grid t deed = definition_of Inch t deed
+-- what a form gives whose lengths are grid units
+abbrev by_grid : Table → Form → Result Figure Case
+by_grid t (forms.Point (points.Xy x y z)) = at_grid x y >>= λ p. height_in_grid z >>= λ h. Ok (figures.Point p h)
+by_grid t (forms.Line (lines.Xy x y u v)) = at_grid x y >>= λ p. at_grid u v >>= λ q. line_through p q
+by_grid t (forms.Line (lines.Beside l k v)) = line_named t l >>= λ m. within 100000000 v >>= λ d. line_formed (parallel_at m k d)
+by_grid t (forms.Circle (circles.Xyr x y r)) = at_grid x y >>= λ c. within 100000000 r >>= λ g. circle_formed (circle_of c g)
+by_grid t (forms.Circle (circles.Radius p r)) = point_named t p >>= λ c. within 100000000 r >>= λ g. circle_formed (circle_of c g)
+by_grid t (forms.Circle (circles.Corner j a k b r)) = line_named t a >>= λ l. line_named t b >>= λ m. within 100000000 r >>= λ g. circle_formed (corner l j m k g)
+by_grid t form = figure_of Inch t form
 
-gridded : (units : Units) (t : Table) (deed : Deed) → definition_of units t deed ≡ by_grid t (in_grid units deed)
-gridded units t (deeds.Partno text) = refl
-gridded units t (deeds.Remark text) = refl
-gridded units t (deeds.Units others) = refl
-gridded units t deeds.Clprnt = refl
-gridded units t deeds.Nopost = refl
-gridded units t deeds.Machin = refl
-gridded units t (deeds.Assign n v) = refl
-gridded units t (deeds.PointXy n x y None) = refl
-gridded units t (deeds.PointXy n x y (Some z)) = refl
-gridded units t (deeds.PointLines n a b) = refl
-gridded units t (deeds.PointPick n k a b) = refl
-gridded units t (deeds.PointCenter n c) = refl
-gridded units t (deeds.LineXy n x y u v) = refl
-gridded units t (deeds.LinePoints n p q) = refl
-gridded units t (deeds.LinePar n p l) = refl
-gridded units t (deeds.LinePerp n p l) = refl
-gridded units t (deeds.LineAt n l k v) = refl
-gridded units t (deeds.LineTan n p h c) = refl
-gridded units t (deeds.LineTwo n h c k d) = refl
-gridded units t (deeds.CircleXyr n x y r) = refl
-gridded units t (deeds.CirclePoints n a b c) = refl
-gridded units t (deeds.CircleRadius n p r) = refl
-gridded units t (deeds.CircleTan n p l) = refl
-gridded units t (deeds.CircleThrough n p q) = refl
-gridded units t (deeds.CircleCorner n j a k b r) = refl
-gridded units t (deeds.Cutter v) = refl
-gridded units t (deeds.Intol v) = refl
-gridded units t (deeds.Outtol v) = refl
-gridded units t (deeds.Tool side) = refl
-gridded units t (deeds.FromXy x y z) = refl
-gridded units t (deeds.FromPoint p) = refl
-gridded units t (deeds.GotoXy x y z) = refl
-gridded units t (deeds.GotoPoint p) = refl
-gridded units t (deeds.Godlta x y z) = refl
-gridded units t (deeds.GoStart q s other) = refl
-gridded units t (deeds.Contour side go d q c) = refl
-gridded units t deeds.Rapid = refl
-gridded units t deeds.Halt = refl
-gridded units t deeds.OptHalt = refl
-gridded units t deeds.EndWord = refl
-gridded units t deeds.Fini = refl
-gridded units t (deeds.Fedrat v) = refl
-gridded units t (deeds.Spindl v turn) = refl
-gridded units t deeds.SpindlOff = refl
-gridded units t (deeds.Coolnt c) = refl
-gridded units t (deeds.Loadtl v) = refl
-gridded units t deeds.Macro = refl
-gridded units t deeds.Termac = refl
-gridded units t deeds.Call = refl
-gridded units t deeds.Loopst = refl
-gridded units t deeds.Loopnd = refl
-gridded units t deeds.Jumpto = refl
-gridded units t deeds.If = refl
+gridded : (units : Units) (t : Table) (form : Form) → figure_of units t form ≡ by_grid t (in_grid units form)
+gridded units t (forms.Point (points.Xy x y None)) = refl
+gridded units t (forms.Point (points.Xy x y (Some z))) = refl
+gridded units t (forms.Line (lines.Xy x y u v)) = refl
+gridded units t (forms.Circle (circles.Xyr x y r)) = refl
+gridded units t form = refl
 
-pub alike : (units v : Units) (t : Table) (deed e : Deed) (o : Option Definition) → o ≡ definition_of units t deed → AreAlike units deed v e → o ≡ definition_of v t e
-alike units v t deed e o made same = made ∙ gridded units t deed ∙ ap (by_grid t) same ∙ sym (gridded v t e)
+pub alike : (units other : Units) (t : Table) (form same : Form) → AreAlike units form other same → figure_of units t form ≡ figure_of other t same
+alike units other t form same is = gridded units t form ∙ ap (by_grid t) is ∙ sym (gridded other t same)
 
-pub alike_step : (units v : Units) (t : Table) (deed e : Deed) (now : Table) (defined : Bool) → HasOrNone units t deed now defined → AreAlike units deed v e → HasOrNone v t e now defined
-alike_step units v t deed e now true is same =
-    let made = is.2 in
-    let same_way = sym (alike units v t deed e (definition_of units t deed) refl same) in
-    (is.0, is.1, record { defines = same_way ∙ made.defines; table = made.table; set = made.set; others = made.others })
-alike_step units v t deed e now false is same = (sym (alike units v t deed e (definition_of units t deed) refl same) ∙ is.0, is.1)
+-- a step that defines the same name by a form that is alike leaves the same table
+pub alike_step : {E : Type 0} (units other : Units) (t : Table) (deed same : Deed) (name : List ℕ) (form another : Form) (now : Table) (r : Result Bool E)
+    → IfOk r (HasOrNone units t deed now) → IsDefinition deed name form → IsDefinition same name another → AreAlike units form other another → IfOk r (HasOrNone other t same now)
+alike_step units other t deed same name form another now (Ok true) is asked again are =
+    let made = is.3 in
+    let one = same_form deed is.0 name is.1 form made.asked asked in
+    let figure = sym (alike units other t form another are) ∙ ap (λ x. figure_of units t x) (sym one.1) ∙ made.figure in
+    has_defined other t same now name another is.2 again figure (rw (← one.0) made.table)
+alike_step units other t deed same name form another now (Ok false) is asked again are = absurd (is.0 name form asked)
+alike_step units other t deed same name form another now (Err e) is asked again are = tt

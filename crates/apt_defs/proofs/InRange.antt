@@ -9,8 +9,11 @@ use Rattle.apt_words.specs.Chains.{◌>>=◌}
 use Rattle.apt_words.specs.declared.Case.TheVariants as cases
 use Rattle.apt_words.specs.declared.Pick.{Pick}
 use Rattle.apt_words.specs.declared.Units.{Units}
-use Rattle.apt_words.specs.declared.deed.Deed.{Deed}
-use Rattle.apt_words.specs.declared.deed.Deed.TheVariants as deeds
+use Rattle.apt_words.specs.declared.ask.CircleForm.TheVariants as circles
+use Rattle.apt_words.specs.declared.ask.Form.{Form}
+use Rattle.apt_words.specs.declared.ask.Form.TheVariants as forms
+use Rattle.apt_words.specs.declared.ask.LineForm.TheVariants as lines
+use Rattle.apt_words.specs.declared.ask.PointForm.TheVariants as points
 use Rattle.apt_scalar.specs.Scalars.{grid_units}
 use Rattle.apt_plane.specs.declared.figures.Pt.{Pt}
 use Rattle.apt_plane.specs.declared.figures.Dir.{Dir}
@@ -33,8 +36,8 @@ use Rattle.apt_canon.proofs.TangentAnswers.{from_range, two_range}
 use Rattle.apt_defs.specs.declared.figure.Figure.{Figure}
 use Rattle.apt_defs.specs.declared.figure.Figure.TheVariants as figures
 use Rattle.apt_defs.specs.Figures.{Table, IsPointAtHeight, IsFigure, AreFigures, figure_named, defined, as_place, as_surface, as_line, as_circle, place_named, point_named, surface_named, line_named, circle_named}
-use Rattle.apt_defs.specs.Forms.{is_within, within, coordinate, length_by, height_by, point_by, point_at, formed, a_point, a_line, a_circle, both_meetings, meetings, is_preferred, picked, line_between, line_through, point_xy, point_lines, point_pick, point_center, line_xy, line_points, line_parallel, line_perpendicular, line_at, line_tangent, line_two, circle_xyr, circle_points, circle_radius, circle_tangent, circle_by_point, circle_corner}
-use Rattle.apt_defs.specs.Definitions.{definition_of}
+use Rattle.apt_defs.specs.Forms.{is_within, within, coordinate, length_by, height_by, point_by, point_at, formed, a_point, a_line, a_circle, both_meetings, meetings, is_preferred, picked, line_between, line_through, point_xy, point_lines, point_pick, centre_point, line_xy, line_points, line_parallel, line_perpendicular, line_at, line_tangent, line_two, circle_xyr, circle_points, circle_radius, circle_tangent, circle_by_point, circle_corner}
+use Rattle.apt_defs.specs.Definitions.{figure_of}
 use Rattle.apt_defs.proofs.Ends.{displacement_in_range}
 use Rattle.apt_defs.proofs.Tables.{looked_up}
 
@@ -80,17 +83,17 @@ as_circle_in : (s : Surface) → IsSurface s → IfOk (as_circle s) IsCircle
 as_circle_in (surfaces.Line l) is = tt
 as_circle_in (surfaces.Circ c) is = is
 
-figure_in : (t : Table) (n : List ℕ) → AreFigures t → IfOk (defined (figure_named t n)) IsFigure
-figure_in t n are = defined_in (figure_named t n) (looked_up t n are)
+named_in : (t : Table) (n : List ℕ) → AreFigures t → IfOk (defined (figure_named t n)) IsFigure
+named_in t n are = defined_in (figure_named t n) (looked_up t n are)
 
 place_in : (t : Table) (n : List ℕ) → AreFigures t → IfOk (place_named t n) (λ p. IsPointAtHeight p.0 p.1)
-place_in t n are = then_in IsFigure (λ p. IsPointAtHeight p.0 p.1) (defined (figure_named t n)) as_place (figure_in t n are) as_place_in
+place_in t n are = then_in IsFigure (λ p. IsPointAtHeight p.0 p.1) (defined (figure_named t n)) as_place (named_in t n are) as_place_in
 
 pub point_in : (t : Table) (n : List ℕ) → AreFigures t → IfOk (point_named t n) IsPoint
 point_in t n are = then_in (λ p. IsPointAtHeight p.0 p.1) IsPoint (place_named t n) (λ p. Ok p.0) (place_in t n are) (λ p is. is.at)
 
 pub surface_in : (t : Table) (n : List ℕ) → AreFigures t → IfOk (surface_named t n) IsSurface
-surface_in t n are = then_in IsFigure IsSurface (defined (figure_named t n)) as_surface (figure_in t n are) as_surface_in
+surface_in t n are = then_in IsFigure IsSurface (defined (figure_named t n)) as_surface (named_in t n are) as_surface_in
 
 pub line_in : (t : Table) (n : List ℕ) → AreFigures t → IfOk (line_named t n) IsLine
 line_in t n are = then_in IsSurface IsLine (surface_named t n) as_line (surface_in t n are) as_line_in
@@ -247,8 +250,8 @@ point_pick_in t pick a b =
     (λ s. any_in IsFigure (surface_named t b) (λ r. meetings s r >>= λ m. a_point (picked pick m.0 m.1))
     (λ r. then_in (λ m. IsPoint m.0 × IsPoint m.1) IsFigure (meetings s r) (λ m. a_point (picked pick m.0 m.1)) (meetings_in s r) (λ m is. picked_in pick m.0 m.1 is.0 is.1)))
 
-point_center_in : (t : Table) (c : List ℕ) → AreFigures t → IfOk (point_center t c) IsFigure
-point_center_in t c are = then_in IsCircle IsFigure (circle_named t c) (λ k. a_point k.c) (circle_in t c are) (λ k is. a_point_in k.c is.centre)
+centre_point_in : (t : Table) (c : List ℕ) → AreFigures t → IfOk (centre_point t c) IsFigure
+centre_point_in t c are = then_in IsCircle IsFigure (circle_named t c) (λ k. a_point k.c) (circle_in t c are) (λ k is. a_point_in k.c is.centre)
 
 line_xy_in : (units : Units) (x y u v : ℤ) → IfOk (line_xy units x y u v) IsFigure
 line_xy_in units x y u v =
@@ -319,57 +322,23 @@ circle_corner_in units t pick_a a pick_b b r =
     (λ l. any_in IsFigure (line_named t b) (λ m. length_by units r >>= λ g. formed (corner l pick_a m pick_b g) >>= a_circle)
     (λ m. any_in IsFigure (length_by units r) (λ g. formed (corner l pick_a m pick_b g) >>= a_circle) (λ g. circle_formed (corner l pick_a m pick_b g) (corner_in l pick_a m pick_b g))))
 
--- the figure of a definition is in range, whatever it is
-pub definition_in : (units : Units) (t : Table) (deed : Deed) → AreFigures t → IfSome (definition_of units t deed) (λ d. IfOk d.figure IsFigure)
-definition_in units t (deeds.Partno text) are = tt
-definition_in units t (deeds.Remark text) are = tt
-definition_in units t (deeds.Units others) are = tt
-definition_in units t deeds.Clprnt are = tt
-definition_in units t deeds.Nopost are = tt
-definition_in units t deeds.Machin are = tt
-definition_in units t (deeds.Assign n v) are = tt
-definition_in units t (deeds.PointXy n x y z) are = point_xy_in units x y z
-definition_in units t (deeds.PointLines n a b) are = point_lines_in t a b
-definition_in units t (deeds.PointPick n k a b) are = point_pick_in t k a b
-definition_in units t (deeds.PointCenter n c) are = point_center_in t c are
-definition_in units t (deeds.LineXy n x y u v) are = line_xy_in units x y u v
-definition_in units t (deeds.LinePoints n p q) are = line_points_in t p q are
-definition_in units t (deeds.LinePar n p l) are = line_parallel_in t p l are
-definition_in units t (deeds.LinePerp n p l) are = line_perpendicular_in t p l are
-definition_in units t (deeds.LineAt n l k v) are = line_at_in units t l k v are
-definition_in units t (deeds.LineTan n p h c) are = line_tangent_in t p h c are
-definition_in units t (deeds.LineTwo n h c k d) are = line_two_in t h c k d are
-definition_in units t (deeds.CircleXyr n x y r) are = circle_xyr_in units x y r
-definition_in units t (deeds.CirclePoints n a b c) are = circle_points_in t a b c
-definition_in units t (deeds.CircleRadius n p r) are = circle_radius_in units t p r
-definition_in units t (deeds.CircleTan n p l) are = circle_tangent_in t p l
-definition_in units t (deeds.CircleThrough n p q) are = circle_by_point_in t p q
-definition_in units t (deeds.CircleCorner n j a k b r) are = circle_corner_in units t j a k b r
-definition_in units t (deeds.Cutter v) are = tt
-definition_in units t (deeds.Intol v) are = tt
-definition_in units t (deeds.Outtol v) are = tt
-definition_in units t (deeds.Tool side) are = tt
-definition_in units t (deeds.FromXy x y z) are = tt
-definition_in units t (deeds.FromPoint p) are = tt
-definition_in units t (deeds.GotoXy x y z) are = tt
-definition_in units t (deeds.GotoPoint p) are = tt
-definition_in units t (deeds.Godlta x y z) are = tt
-definition_in units t (deeds.GoStart q s other) are = tt
-definition_in units t (deeds.Contour side go d q c) are = tt
-definition_in units t deeds.Rapid are = tt
-definition_in units t deeds.Halt are = tt
-definition_in units t deeds.OptHalt are = tt
-definition_in units t deeds.EndWord are = tt
-definition_in units t deeds.Fini are = tt
-definition_in units t (deeds.Fedrat v) are = tt
-definition_in units t (deeds.Spindl v turn) are = tt
-definition_in units t deeds.SpindlOff are = tt
-definition_in units t (deeds.Coolnt c) are = tt
-definition_in units t (deeds.Loadtl v) are = tt
-definition_in units t deeds.Macro are = tt
-definition_in units t deeds.Termac are = tt
-definition_in units t deeds.Call are = tt
-definition_in units t deeds.Loopst are = tt
-definition_in units t deeds.Loopnd are = tt
-definition_in units t deeds.Jumpto are = tt
-definition_in units t deeds.If are = tt
+-- what a form gives is in range, whatever it is
+pub figure_in : (units : Units) (t : Table) (form : Form) → AreFigures t → IfOk (figure_of units t form) IsFigure
+figure_in units t (forms.Number v) are = tt
+figure_in units t (forms.Point (points.Xy x y z)) are = point_xy_in units x y z
+figure_in units t (forms.Point (points.Lines a b)) are = point_lines_in t a b
+figure_in units t (forms.Point (points.Picked k a b)) are = point_pick_in t k a b
+figure_in units t (forms.Point (points.Centre c)) are = centre_point_in t c are
+figure_in units t (forms.Line (lines.Xy x y u v)) are = line_xy_in units x y u v
+figure_in units t (forms.Line (lines.Points p q)) are = line_points_in t p q are
+figure_in units t (forms.Line (lines.Parallel p l)) are = line_parallel_in t p l are
+figure_in units t (forms.Line (lines.Square p l)) are = line_perpendicular_in t p l are
+figure_in units t (forms.Line (lines.Beside l k v)) are = line_at_in units t l k v are
+figure_in units t (forms.Line (lines.Past p h c)) are = line_tangent_in t p h c are
+figure_in units t (forms.Line (lines.PastTwo h c k d)) are = line_two_in t h c k d are
+figure_in units t (forms.Circle (circles.Xyr x y r)) are = circle_xyr_in units x y r
+figure_in units t (forms.Circle (circles.Points a b c)) are = circle_points_in t a b c
+figure_in units t (forms.Circle (circles.Radius p r)) are = circle_radius_in units t p r
+figure_in units t (forms.Circle (circles.Along p l)) are = circle_tangent_in t p l
+figure_in units t (forms.Circle (circles.Through p q)) are = circle_by_point_in t p q
+figure_in units t (forms.Circle (circles.Corner j a k b r)) are = circle_corner_in units t j a k b r

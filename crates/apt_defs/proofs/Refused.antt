@@ -19,7 +19,7 @@ use Rattle.apt_canon.specs.Rounds.{circle_of, circle_through, circle_touching, c
 use Rattle.apt_defs.specs.declared.figure.Figure.{Figure}
 use Rattle.apt_defs.specs.declared.figure.Figure.TheVariants as figures
 use Rattle.apt_defs.specs.Figures.{Table, figure_named, defined, as_place, as_surface, as_line, as_circle, point_named, surface_named, line_named, circle_named}
-use Rattle.apt_defs.specs.Forms.{is_within, within, coordinate, length_by, height_by, point_at, point_by, formed, a_point, a_line, a_circle, meetings, picked, line_through, point_xy, point_lines, point_pick, point_center, line_xy, line_points, line_parallel, line_perpendicular, line_at, line_tangent, line_two, circle_xyr, circle_points, circle_radius, circle_tangent, circle_by_point, circle_corner}
+use Rattle.apt_defs.specs.Forms.{is_within, within, coordinate, length_by, height_by, point_at, point_by, formed, a_point, a_line, a_circle, meetings, picked, line_through, point_xy, point_lines, point_pick, centre_point, line_xy, line_points, line_parallel, line_perpendicular, line_at, line_tangent, line_two, circle_xyr, circle_points, circle_radius, circle_tangent, circle_by_point, circle_corner}
 use Rattle.apt_defs.specs.Names as names
 use Rattle.apt_defs.specs.Names.{APoint, ALine, ACircle, ASurface, kind_case, name_case, first_case, is_far, is_too_long, is_too_high}
 
@@ -138,8 +138,8 @@ pub point_pick_names : (t : Table) (pick : Pick) (a b : List ℕ) (c : Case) →
 point_pick_names t pick a b c h =
     two_names (surface_named t a) (surface_named t b) (λ s r. meetings s r >>= λ m. a_point (picked pick m.0 m.1)) (name_case t (names.a_surface a)) (name_case t (names.a_surface b)) c (surface_case t a) (surface_case t b) h
 
-pub point_center_names : (t : Table) (a : List ℕ) (c : Case) → first_case t (names.a_circle a ∷ []) ≡ Some c → point_center t a ≡ Err c
-point_center_names t a c h = one_name (circle_named t a) (λ k. a_point k.c) (name_case t (names.a_circle a)) c (circle_case t a) h
+pub centre_point_names : (t : Table) (a : List ℕ) (c : Case) → first_case t (names.a_circle a ∷ []) ≡ Some c → centre_point t a ≡ Err c
+centre_point_names t a c h = one_name (circle_named t a) (λ k. a_point k.c) (name_case t (names.a_circle a)) c (circle_case t a) h
 
 pub line_points_names : (t : Table) (a b : List ℕ) (c : Case) → first_case t (names.a_point a ∷ names.a_point b ∷ []) ≡ Some c → line_points t a b ≡ Err c
 line_points_names t a b c h =

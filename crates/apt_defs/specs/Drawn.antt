@@ -1,11 +1,19 @@
 -- What a definition draws: what the figure has to do with the names and numbers of its statement, apart from the formulas that find it.
 use Rattle.std.specs.Prelude.{◌≡◌, ◌≢◌, ◌⊎◌, ℕ, ℤ, pos, negsuc, neg_ℤ, ◌≤ℤ◌, ◌<ℤ◌, Bool, true, false, List, Option, Some, None, IsSomeAnd}
 use Rattle.apt_num.specs.Sign.{square}
+use Rattle.apt_words.specs.Asks.{Defines, ask_of}
 use Rattle.apt_words.specs.declared.Pick.{Pick}
 use Rattle.apt_words.specs.declared.Pick.TheVariants as picks
 use Rattle.apt_words.specs.declared.Units.{Units}
+use Rattle.apt_words.specs.declared.ask.CircleForm.{CircleForm}
+use Rattle.apt_words.specs.declared.ask.CircleForm.TheVariants as circles
+use Rattle.apt_words.specs.declared.ask.Form.{Form}
+use Rattle.apt_words.specs.declared.ask.Form.TheVariants as forms
+use Rattle.apt_words.specs.declared.ask.LineForm.{LineForm}
+use Rattle.apt_words.specs.declared.ask.LineForm.TheVariants as lines
+use Rattle.apt_words.specs.declared.ask.PointForm.{PointForm}
+use Rattle.apt_words.specs.declared.ask.PointForm.TheVariants as points
 use Rattle.apt_words.specs.declared.deed.Deed.{Deed}
-use Rattle.apt_words.specs.declared.deed.Deed.TheVariants as deeds
 use Rattle.apt_scalar.specs.Scalars.{grid_units}
 use Rattle.apt_plane.specs.declared.figures.Pt.{Pt}
 use Rattle.apt_plane.specs.declared.figures.Line.{Line}
@@ -21,7 +29,7 @@ use Rattle.apt_canon.specs.RoundLaws.{Touches, IsThrough, IsBeside}
 use Rattle.apt_defs.specs.declared.figure.Figure.{Figure}
 use Rattle.apt_defs.specs.declared.figure.Figure.TheVariants as figures
 use Rattle.apt_defs.specs.Figures.{Table, figure_named}
-use Rattle.apt_defs.specs.Names.{defined_name}
+use Rattle.apt_defs.specs.Definitions.{IsNoDefinition}
 
 -- ---- a figure of its kind, of which a fact holds
 
@@ -225,40 +233,50 @@ pub record IsInCorner (l : Line) (pick_l : Pick) (m : Line) (pick_m : Pick) (r :
   pub side_first : IsPicked l pick_l k.c
   pub side_second : IsPicked m pick_m k.c
 
--- ---- what each statement draws; those that define nothing draw nothing
+-- ---- what each form draws
 
-abbrev pub IsDrawn : Units → Table → Deed → Figure → Type 0
-IsDrawn units t (deeds.Assign n v) f = f ≡ figures.Scalar
-IsDrawn units t (deeds.PointXy n x y z) f = IsWritten units x y z f
-IsDrawn units t (deeds.PointLines n a b) f = OfLine t a (λ l. OfLine t b (λ m. IsPointOf (IsOnBoth l m) f))
-IsDrawn units t (deeds.PointPick n k a b) f = OfSurface t a (λ s. OfSurface t b (λ r. IsPointOf (IsChosen s r k) f))
-IsDrawn units t (deeds.PointCenter n c) f = OfCircle t c (λ k. IsPointOf (λ p. p ≡ k.c) f)
-IsDrawn units t (deeds.LineXy n x y u v) f = IsLineOf (RunsToAt units x y u v) f
-IsDrawn units t (deeds.LinePoints n a b) f = OfPoint t a (λ p. OfPoint t b (λ q. IsLineOf (RunsTo p q) f))
-IsDrawn units t (deeds.LinePar n a b) f = OfPoint t a (λ p. OfLine t b (λ m. IsLineOf (IsParallel p m) f))
-IsDrawn units t (deeds.LinePerp n a b) f = OfPoint t a (λ p. OfLine t b (λ m. IsLineOf (IsSquare p m) f))
-IsDrawn units t (deeds.LineAt n a k v) f = OfLine t a (λ m. IsLineOf (IsParallelAt m k (grid_units units v)) f)
-IsDrawn units t (deeds.LineTan n a h b) f = OfPoint t a (λ p. OfCircle t b (λ c. IsLineOf (IsTangentFrom p h c) f))
-IsDrawn units t (deeds.LineTwo n h a k b) f = OfCircle t a (λ c. OfCircle t b (λ d. IsLineOf (IsTangentOf c h d k) f))
-IsDrawn units t (deeds.CircleXyr n x y r) f = IsCircleOf (IsAboutAt units x y r) f
-IsDrawn units t (deeds.CirclePoints n a b c) f = OfPoint t a (λ p. OfPoint t b (λ q. OfPoint t c (λ r. IsCircleOf (IsThrough p q r) f)))
-IsDrawn units t (deeds.CircleRadius n a r) f = OfPoint t a (λ p. IsCircleOf (IsAbout p (grid_units units r)) f)
-IsDrawn units t (deeds.CircleTan n a b) f = OfPoint t a (λ p. OfLine t b (λ l. IsCircleOf (IsAlong p l) f))
-IsDrawn units t (deeds.CircleThrough n a b) f = OfPoint t a (λ p. OfPoint t b (λ q. IsCircleOf (IsAboutThrough p q) f))
-IsDrawn units t (deeds.CircleCorner n j a k b r) f = OfLine t a (λ l. OfLine t b (λ m. IsCircleOf (IsInCorner l j m k (grid_units units r)) f))
-IsDrawn units t _ f = ⊥
+abbrev pub PointIsDrawn : Units → Table → PointForm → Figure → Type 0
+PointIsDrawn units t (points.Xy x y z) f = IsWritten units x y z f
+PointIsDrawn units t (points.Lines a b) f = OfLine t a (λ l. OfLine t b (λ m. IsPointOf (IsOnBoth l m) f))
+PointIsDrawn units t (points.Picked k a b) f = OfSurface t a (λ s. OfSurface t b (λ r. IsPointOf (IsChosen s r k) f))
+PointIsDrawn units t (points.Centre c) f = OfCircle t c (λ k. IsPointOf (λ p. p ≡ k.c) f)
+
+abbrev pub LineIsDrawn : Units → Table → LineForm → Figure → Type 0
+LineIsDrawn units t (lines.Xy x y u v) f = IsLineOf (RunsToAt units x y u v) f
+LineIsDrawn units t (lines.Points a b) f = OfPoint t a (λ p. OfPoint t b (λ q. IsLineOf (RunsTo p q) f))
+LineIsDrawn units t (lines.Parallel a b) f = OfPoint t a (λ p. OfLine t b (λ m. IsLineOf (IsParallel p m) f))
+LineIsDrawn units t (lines.Square a b) f = OfPoint t a (λ p. OfLine t b (λ m. IsLineOf (IsSquare p m) f))
+LineIsDrawn units t (lines.Beside a k v) f = OfLine t a (λ m. IsLineOf (IsParallelAt m k (grid_units units v)) f)
+LineIsDrawn units t (lines.Past a h b) f = OfPoint t a (λ p. OfCircle t b (λ c. IsLineOf (IsTangentFrom p h c) f))
+LineIsDrawn units t (lines.PastTwo h a k b) f = OfCircle t a (λ c. OfCircle t b (λ d. IsLineOf (IsTangentOf c h d k) f))
+
+abbrev pub CircleIsDrawn : Units → Table → CircleForm → Figure → Type 0
+CircleIsDrawn units t (circles.Xyr x y r) f = IsCircleOf (IsAboutAt units x y r) f
+CircleIsDrawn units t (circles.Points a b c) f = OfPoint t a (λ p. OfPoint t b (λ q. OfPoint t c (λ r. IsCircleOf (IsThrough p q r) f)))
+CircleIsDrawn units t (circles.Radius a r) f = OfPoint t a (λ p. IsCircleOf (IsAbout p (grid_units units r)) f)
+CircleIsDrawn units t (circles.Along a b) f = OfPoint t a (λ p. OfLine t b (λ l. IsCircleOf (IsAlong p l) f))
+CircleIsDrawn units t (circles.Through a b) f = OfPoint t a (λ p. OfPoint t b (λ q. IsCircleOf (IsAboutThrough p q) f))
+CircleIsDrawn units t (circles.Corner j a k b r) f = OfLine t a (λ l. OfLine t b (λ m. IsCircleOf (IsInCorner l j m k (grid_units units r)) f))
+
+-- a number is no figure
+abbrev pub IsDrawn : Units → Table → Form → Figure → Type 0
+IsDrawn units t (forms.Number v) f = f ≡ figures.Scalar
+IsDrawn units t (forms.Point form) f = PointIsDrawn units t form f
+IsDrawn units t (forms.Line form) f = LineIsDrawn units t form f
+IsDrawn units t (forms.Circle form) f = CircleIsDrawn units t form f
 
 -- ---- behind a step
 
 -- the name that the statement defines has now a figure that is drawn as it says
 pub record IsDrawnIn (units : Units) (before : Table) (deed : Deed) (now : Table) : Type 0 where
   pub name : List ℕ
+  pub form : Form
   pub figure : Figure
-  pub defines : defined_name deed ≡ Some name
+  pub asked : ask_of deed ≡ Defines name form
   pub set : figure_named now name ≡ Some figure
-  pub drawn : IsDrawn units before deed figure
+  pub drawn : IsDrawn units before form figure
 
 -- or it defines none
 abbrev pub HasDrawn : Units → Table → Deed → Table → Bool → Type 0
 HasDrawn units before deed now true = IsDrawnIn units before deed now
-HasDrawn units before deed now false = defined_name deed ≡ None
+HasDrawn units before deed now false = IsNoDefinition deed

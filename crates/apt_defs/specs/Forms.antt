@@ -118,8 +118,8 @@ picked pick p q = if is_preferred pick q p then q else p
 abbrev pub point_pick : Table → Pick → List ℕ → List ℕ → Result Figure Case
 point_pick t pick a b = surface_named t a >>= λ s. surface_named t b >>= λ r. meetings s r >>= λ m. a_point (picked pick m.0 m.1)
 
-abbrev pub point_center : Table → List ℕ → Result Figure Case
-point_center t c = circle_named t c >>= λ k. a_point k.c
+abbrev pub centre_point : Table → List ℕ → Result Figure Case
+centre_point t c = circle_named t c >>= λ k. a_point k.c
 
 -- ---- LINE
 

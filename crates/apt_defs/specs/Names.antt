@@ -4,8 +4,14 @@ use Rattle.std.specs.Option.{option_or}
 use Rattle.apt_words.specs.declared.Case.{Case}
 use Rattle.apt_words.specs.declared.Case.TheVariants as cases
 use Rattle.apt_words.specs.declared.Units.{Units}
-use Rattle.apt_words.specs.declared.deed.Deed.{Deed}
-use Rattle.apt_words.specs.declared.deed.Deed.TheVariants as deeds
+use Rattle.apt_words.specs.declared.ask.CircleForm.{CircleForm}
+use Rattle.apt_words.specs.declared.ask.CircleForm.TheVariants as circles
+use Rattle.apt_words.specs.declared.ask.Form.{Form}
+use Rattle.apt_words.specs.declared.ask.Form.TheVariants as forms
+use Rattle.apt_words.specs.declared.ask.LineForm.{LineForm}
+use Rattle.apt_words.specs.declared.ask.LineForm.TheVariants as lines
+use Rattle.apt_words.specs.declared.ask.PointForm.{PointForm}
+use Rattle.apt_words.specs.declared.ask.PointForm.TheVariants as points
 use Rattle.apt_scalar.specs.Scalars.{grid_units}
 use Rattle.apt_plane.specs.declared.figures.Surface.TheVariants as surfaces
 use Rattle.apt_defs.specs.declared.figure.Figure.{Figure}
@@ -53,45 +59,35 @@ a_circle n = record { kind = ACircle; name = n }
 abbrev pub a_surface : List ℕ → Named
 a_surface n = record { kind = ASurface; name = n }
 
--- the name that a statement defines
-abbrev pub defined_name : Deed → Option (List ℕ)
-defined_name (deeds.Assign n v) = Some n
-defined_name (deeds.PointXy n x y z) = Some n
-defined_name (deeds.PointLines n a b) = Some n
-defined_name (deeds.PointPick n k a b) = Some n
-defined_name (deeds.PointCenter n c) = Some n
-defined_name (deeds.LineXy n x y u v) = Some n
-defined_name (deeds.LinePoints n p q) = Some n
-defined_name (deeds.LinePar n p l) = Some n
-defined_name (deeds.LinePerp n p l) = Some n
-defined_name (deeds.LineAt n l k v) = Some n
-defined_name (deeds.LineTan n p h c) = Some n
-defined_name (deeds.LineTwo n h c k d) = Some n
-defined_name (deeds.CircleXyr n x y r) = Some n
-defined_name (deeds.CirclePoints n a b c) = Some n
-defined_name (deeds.CircleRadius n p r) = Some n
-defined_name (deeds.CircleTan n p l) = Some n
-defined_name (deeds.CircleThrough n p q) = Some n
-defined_name (deeds.CircleCorner n j a k b r) = Some n
-defined_name _ = None
+-- the names from which a form draws its figure, in the order in which they stand
+abbrev pub point_names : PointForm → List Named
+point_names (points.Xy x y z) = []
+point_names (points.Lines a b) = a_line a ∷ a_line b ∷ []
+point_names (points.Picked k a b) = a_surface a ∷ a_surface b ∷ []
+point_names (points.Centre c) = a_circle c ∷ []
 
--- the names from which a definition draws its figure, in the order in which they stand
-abbrev pub names_of : Deed → List Named
-names_of (deeds.PointLines n a b) = a_line a ∷ a_line b ∷ []
-names_of (deeds.PointPick n k a b) = a_surface a ∷ a_surface b ∷ []
-names_of (deeds.PointCenter n a) = a_circle a ∷ []
-names_of (deeds.LinePoints n a b) = a_point a ∷ a_point b ∷ []
-names_of (deeds.LinePar n a b) = a_point a ∷ a_line b ∷ []
-names_of (deeds.LinePerp n a b) = a_point a ∷ a_line b ∷ []
-names_of (deeds.LineAt n a k v) = a_line a ∷ []
-names_of (deeds.LineTan n a h b) = a_point a ∷ a_circle b ∷ []
-names_of (deeds.LineTwo n h a k b) = a_circle a ∷ a_circle b ∷ []
-names_of (deeds.CirclePoints n a b c) = a_point a ∷ a_point b ∷ a_point c ∷ []
-names_of (deeds.CircleRadius n a r) = a_point a ∷ []
-names_of (deeds.CircleTan n a b) = a_point a ∷ a_line b ∷ []
-names_of (deeds.CircleThrough n a b) = a_point a ∷ a_point b ∷ []
-names_of (deeds.CircleCorner n j a k b r) = a_line a ∷ a_line b ∷ []
-names_of _ = []
+abbrev pub line_names : LineForm → List Named
+line_names (lines.Xy x y u v) = []
+line_names (lines.Points p q) = a_point p ∷ a_point q ∷ []
+line_names (lines.Parallel p l) = a_point p ∷ a_line l ∷ []
+line_names (lines.Square p l) = a_point p ∷ a_line l ∷ []
+line_names (lines.Beside l k v) = a_line l ∷ []
+line_names (lines.Past p h c) = a_point p ∷ a_circle c ∷ []
+line_names (lines.PastTwo h c k d) = a_circle c ∷ a_circle d ∷ []
+
+abbrev pub circle_names : CircleForm → List Named
+circle_names (circles.Xyr x y r) = []
+circle_names (circles.Points a b c) = a_point a ∷ a_point b ∷ a_point c ∷ []
+circle_names (circles.Radius p r) = a_point p ∷ []
+circle_names (circles.Along p l) = a_point p ∷ a_line l ∷ []
+circle_names (circles.Through p q) = a_point p ∷ a_point q ∷ []
+circle_names (circles.Corner j a k b r) = a_line a ∷ a_line b ∷ []
+
+abbrev pub names_of : Form → List Named
+names_of (forms.Number v) = []
+names_of (forms.Point form) = point_names form
+names_of (forms.Line form) = line_names form
+names_of (forms.Circle form) = circle_names form
 
 -- a name without a figure is undefined, and one of another kind is of the wrong one
 abbrev pub kind_case : Kind → Option Figure → Option Case
@@ -119,12 +115,32 @@ abbrev pub is_too_high : Units → Option ℤ → Bool
 is_too_high units None = false
 is_too_high units (Some z) = is_far units z
 
--- whether a number of a definition leaves its limit
-abbrev pub has_far_number : Units → Deed → Bool
-has_far_number units (deeds.PointXy n x y z) = is_far units x || (is_far units y || is_too_high units z)
-has_far_number units (deeds.LineXy n x y u v) = is_far units x || (is_far units y || (is_far units u || is_far units v))
-has_far_number units (deeds.LineAt n a k v) = is_too_long units v
-has_far_number units (deeds.CircleXyr n x y r) = is_far units x || (is_far units y || is_too_long units r)
-has_far_number units (deeds.CircleRadius n a r) = is_too_long units r
-has_far_number units (deeds.CircleCorner n j a k b r) = is_too_long units r
-has_far_number units _ = false
+abbrev pub point_is_far : Units → PointForm → Bool
+point_is_far units (points.Xy x y z) = is_far units x || (is_far units y || is_too_high units z)
+point_is_far units (points.Lines a b) = false
+point_is_far units (points.Picked k a b) = false
+point_is_far units (points.Centre c) = false
+
+abbrev pub line_is_far : Units → LineForm → Bool
+line_is_far units (lines.Xy x y u v) = is_far units x || (is_far units y || (is_far units u || is_far units v))
+line_is_far units (lines.Points p q) = false
+line_is_far units (lines.Parallel p l) = false
+line_is_far units (lines.Square p l) = false
+line_is_far units (lines.Beside l k v) = is_too_long units v
+line_is_far units (lines.Past p h c) = false
+line_is_far units (lines.PastTwo h c k d) = false
+
+abbrev pub circle_is_far : Units → CircleForm → Bool
+circle_is_far units (circles.Xyr x y r) = is_far units x || (is_far units y || is_too_long units r)
+circle_is_far units (circles.Points a b c) = false
+circle_is_far units (circles.Radius p r) = is_too_long units r
+circle_is_far units (circles.Along p l) = false
+circle_is_far units (circles.Through p q) = false
+circle_is_far units (circles.Corner j a k b r) = is_too_long units r
+
+-- whether a number of a form leaves its limit
+abbrev pub has_far_number : Units → Form → Bool
+has_far_number units (forms.Number v) = false
+has_far_number units (forms.Point form) = point_is_far units form
+has_far_number units (forms.Line form) = line_is_far units form
+has_far_number units (forms.Circle form) = circle_is_far units form

@@ -7,7 +7,7 @@ ghost use Rattle.apt_defs.specs.Forms as forms;
 
 use apt_canon::FormFault;
 use apt_plane::{Circ, Line, Pt, Surface};
-use apt_words::{Case, Symbol};
+use apt_words::Case;
 
 /// What a name stands for: a point with its height, a line or a circle, or a number.
 #[derive(Clone, Copy, PartialEq, Eq)]
@@ -15,13 +15,6 @@ pub enum Figure {
     Point { at: Pt, z: i64 },
     Shape(Surface),
     Scalar,
-}
-
-/// What a statement defines: the name, and its figure or the case that refuses it.
-#[derive(Drop)]
-pub struct Definition {
-    pub name: Symbol,
-    pub figure: Result<Figure, Case>,
 }
 
 /// Why a formula gives no figure.

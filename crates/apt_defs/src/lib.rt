@@ -1,4 +1,4 @@
-//! The figures that names stand for, and the statements that define them.
+//! The figures that names stand for, and the forms that define them.
 #![tactic(auto)]
 
 mod circles;
@@ -9,7 +9,7 @@ mod numbers;
 mod points;
 mod table;
 
-pub use definitions::{DefError, define, definition};
-pub use figure::{Definition, Figure};
+pub use definitions::{DefError, define, define_as, figure_of};
+pub use figure::Figure;
 pub use numbers::is_in_reach;
 pub use table::{Table, point, surface};

@@ -3,7 +3,8 @@
 ghost use Rattle.std.specs.Prelude.{◌≡◌, ◌^◌, ◌≤◌, unsigned_abs, IfOk};
 ghost use Rattle.apt_plane.specs.Ranges.{IsPoint};
 ghost use Rattle.apt_scalar.specs.Scalars.{IsScalar};
-ghost use Rattle.apt_scalar.specs.StepScalars.{IsScalarOrNone};
+ghost use Rattle.apt_scalar.specs.StepScalars.{AllScalars};
+ghost use Rattle.apt_words.specs.Asks.{listed};
 ghost use Rattle.apt_defs.specs.Forms as forms;
 
 use apt_plane::Pt;
@@ -54,7 +55,7 @@ pub fn length_by(units: Units, v: i64) -> Result<i64, Case>
 
 /// A height, 0 where it is left out.
 pub fn height_by(units: Units, z: Option<i64>) -> Result<i64, Case>
-    requires { IsScalarOrNone z }
+    requires { AllScalars (listed z) }
     ensures value { result ≡ forms.height_by units z }
     ensures range { IfOk result (λ g. unsigned_abs g ≤ 50000000) }
 {

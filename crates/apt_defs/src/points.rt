@@ -4,7 +4,8 @@ ghost use Rattle.std.specs.Prelude.{◌≡◌, pos, ◌≤ℤ◌, IfOk};
 ghost use Rattle.apt_plane.specs.Ranges.{IsPoint, IsLine, IsMoved, IsCircle, IsRound, IsSurface};
 ghost use Rattle.apt_canon.specs.Circles as circles;
 ghost use Rattle.apt_scalar.specs.Scalars.{IsScalar};
-ghost use Rattle.apt_scalar.specs.StepScalars.{IsScalarOrNone};
+ghost use Rattle.apt_scalar.specs.StepScalars.{AllScalars};
+ghost use Rattle.apt_words.specs.Asks.{listed};
 ghost use Rattle.apt_defs.specs.Figures.{IsFigure};
 ghost use Rattle.apt_defs.specs.Forms as forms;
 
@@ -19,7 +20,7 @@ use apt_words::{Case, Pick, Symbol, Units};
 pub fn point_xy(units: Units, x: i64, y: i64, z: Option<i64>) -> Result<Figure, Case>
     requires x { IsScalar x }
     requires y { IsScalar y }
-    requires z { IsScalarOrNone z }
+    requires z { AllScalars (listed z) }
     ensures value { result ≡ forms.point_xy units x y z }
     ensures range { IfOk result IsFigure }
 {
@@ -140,8 +141,8 @@ fn is_further(a: i64, b: i64, c: i64, d: i64) -> bool
     }
 }
 
-pub fn point_center(table: &Table, circle: &Symbol) -> Result<Figure, Case>
-    ensures value { result ≡ forms.point_center table.now circle.now }
+pub fn centre_point(table: &Table, circle: &Symbol) -> Result<Figure, Case>
+    ensures value { result ≡ forms.centre_point table.now circle.now }
     ensures range { IfOk result IsFigure }
 {
     a_point(circle_named(table, circle)?.c)

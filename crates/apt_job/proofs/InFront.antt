@@ -8,6 +8,7 @@ use Rattle.apt_cldata.specs.declared.record.Position.{Position}
 use Rattle.apt_cldata.specs.declared.record.Record.{Record}
 use Rattle.apt_cldata.specs.declared.record.Record.TheVariants as records
 use Rattle.apt_meaning.specs.declared.motion.Motion.{Motion}
+use Rattle.apt_meaning.specs.declared.effect.Change.TheVariants as changes
 use Rattle.apt_meaning.specs.declared.effect.Effect.{Effect}
 use Rattle.apt_meaning.specs.declared.effect.Effect.TheVariants as effects
 use Rattle.apt_meaning.specs.Situations.{at_height}
@@ -91,8 +92,9 @@ statement_due step = Exactly (records.Statement step.line step.step)
 behind_due : (step : Step) (o : Option Effect) → is_silent o ≡ false → behind_statement step (expected_of o) ≡ statement_due step ∷ expected_of o
 behind_due step None e = refl
 behind_due step (Some (effects.Defines n f)) e = absurd (true≢false e)
-behind_due step (Some (effects.Sets s None)) e = absurd (true≢false e)
-behind_due step (Some (effects.Sets s (Some note))) e = refl
+behind_due step (Some (effects.Sets (changes.Said note))) e = refl
+behind_due step (Some (effects.Sets (changes.Side side))) e = absurd (true≢false e)
+behind_due step (Some (effects.Sets changes.Nothing)) e = absurd (true≢false e)
 behind_due step (Some (effects.Moves reach to)) e = refl
 behind_due step (Some (effects.Cuts m)) e = refl
 

@@ -8,11 +8,10 @@ use Rattle.apt_num.specs.declared.Sign.TheVariants as signs
 use Rattle.apt_words.specs.declared.Stop.{Stop}
 use Rattle.apt_words.specs.declared.Stop.TheVariants as stops
 use Rattle.apt_plane.specs.declared.figures.Circ.{Circ}
-use Rattle.apt_plane.specs.declared.figures.Dir.{Dir}
 use Rattle.apt_plane.specs.declared.figures.Pt.{Pt}
 use Rattle.apt_plane.specs.declared.figures.Surface.{Surface}
 use Rattle.apt_plane.specs.declared.figures.Surface.TheVariants as surfaces
-use Rattle.apt_plane.specs.Ranges.{IsDir, IsCircle, IsSurface, IsSense}
+use Rattle.apt_plane.specs.Ranges.{IsCircle, IsSurface, IsSense}
 use Rattle.apt_plane.specs.Vectors.{displacement, length_squared}
 use Rattle.apt_plane.proofs.Turned.{perp_dir}
 use Rattle.apt_canon.specs.Circles.{are_concentric}
@@ -159,7 +158,7 @@ job_in m vertices is some are = record {
 
 made_in : (e : Effect) (vertices : List Pt) → HasMotion e → HasIn e vertices → AreJobs (jobs_by e vertices)
 made_in (effects.Defines n f) vertices good within = tt
-made_in (effects.Sets s said) vertices good within = tt
+made_in (effects.Sets change) vertices good within = tt
 made_in (effects.Moves reach to) vertices good within = tt
 made_in (effects.Cuts m) vertices good within = (job_in m vertices good within.0 within.1, tt)
 

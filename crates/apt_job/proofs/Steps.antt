@@ -2,7 +2,6 @@
 use Rattle.std.proofs.Common.{◌≡◌, ◌∙◌, ◌+◌, ◌-◌, ◌≤◌, ℕ, suc, ℤ, arith, List, [], ◌∷◌, ◌++◌, length, map, Option, Some, None, refl, sym, ap, subst, inl, inr, append_assoc, append-nil}
 use Rattle.std.proofs.Common.{length-append, ◌==◌, true, false}
 use Rattle.std.proofs.lemmas.Bool.{true≢false, eqb-true}
-use Rattle.apt_words.specs.Built.{AreBuiltSteps}
 use Rattle.apt_words.specs.Sources.{AreExecuted}
 use Rattle.apt_words.specs.declared.Case.{Case}
 use Rattle.apt_words.specs.declared.deed.Deed.{Deed}
@@ -14,9 +13,10 @@ use Rattle.apt_certify.specs.Jobs.{AreJobs, point_count}
 use Rattle.apt_cldata.specs.declared.record.Record.{Record}
 use Rattle.apt_cldata.specs.Ranges.{vertex_count, AreRecords}
 use Rattle.apt_defs.specs.Figures.{Table}
-use Rattle.apt_defs.specs.Definitions.{definition_of, IsRefusedBy}
+use Rattle.apt_defs.specs.Definitions.{figure_of, IsRefusedBy}
 use Rattle.apt_meaning.specs.declared.situation.Settings.{Settings}
 use Rattle.apt_meaning.specs.declared.situation.Situation.{Situation}
+use Rattle.apt_meaning.specs.declared.effect.Change.TheVariants as changes
 use Rattle.apt_meaning.specs.declared.effect.Effect.{Effect}
 use Rattle.apt_meaning.specs.declared.effect.Effect.TheVariants as effects
 use Rattle.apt_meaning.specs.Situations.{first_situation, at_height}
@@ -53,8 +53,9 @@ length-heights z (v ∷ vs) = ap suc (length-heights z vs)
 -- a contour has more records than its job has points before its vertices
 light : (step : Step) (e : Effect) (vertices : List Pt) → point_count (jobs_by e vertices) ≤ weight (records_of step e vertices)
 light step (effects.Defines n f) vertices = omega arith
-light step (effects.Sets s None) vertices = omega arith
-light step (effects.Sets s (Some note)) vertices = omega arith
+light step (effects.Sets (changes.Said note)) vertices = omega arith
+light step (effects.Sets (changes.Side side)) vertices = omega arith
+light step (effects.Sets changes.Nothing) vertices = omega arith
 light step (effects.Moves reach to) vertices = omega arith
 light step (effects.Cuts m) vertices = omega (arith, length-heights m.start.z vertices)
 
@@ -68,7 +69,6 @@ pub record IsWalk (all : List Step) (written : List Record) (at : Situation) (re
   pub keeps : KeepsUp at steps
   pub scalars : AreScalars steps
   pub sources : AreExecuted steps
-  pub built : AreBuiltSteps steps
   pub records : AreRecords rest
   pub part : length rest ≤ length written
   pub makes : (more : List Job) → MakesJobs at steps rest more → MakesJobs first_situation all written (jobs ++ more)
@@ -76,13 +76,12 @@ pub record IsWalk (all : List Step) (written : List Record) (at : Situation) (re
   pub range : AreJobs jobs
   pub points : point_count jobs + weight rest ≤ weight written
 
-pub walk_first : (all : List Step) (written : List Record) → AreScalars all → AreBuiltSteps all → AreExecuted all
+pub walk_first : (all : List Step) (written : List Record) → AreScalars all → AreExecuted all
     → first_refused first_situation all ≡ None → AreRecords written → IsWalk all written first_situation written [] all
-walk_first all written scalars built sources passes are = record {
+walk_first all written scalars sources passes are = record {
   keeps = keeps_up_first all passes;
   scalars = scalars;
   sources = sources;
-  built = built;
   records = are;
   part = omega arith;
   makes = λ more makes. makes;
@@ -114,7 +113,6 @@ walk_on all written at rest jobs step steps e vertices later walk asked stands =
       keeps = on.behind;
       scalars = walk.scalars.1;
       sources = walk.sources.1;
-      built = walk.built.1;
       records = on.later;
       part = omega (arith, size, walk.part);
       makes = λ more makes. subst (λ (js : List Job). MakesJobs first_situation all written js) (sym (append_assoc jobs (jobs_by e vertices) more))
@@ -141,9 +139,9 @@ walk_waits all written at rest jobs deed steps now walk named = subst (λ (s : S
 -- the situations agree on definitions
 refused_beside : (c at : Situation) (deed : Deed) (case : Case) → Agrees c at → IsRefusedBy at.settings.units at.table deed case → refusal_of c deed ≡ Some case
 refused_beside c at deed case agrees is =
-    let units = ap (λ (s : Settings). definition_of s.units at.table deed) (sym agrees.settings) in
-    let table = ap (λ (t : Table). definition_of c.settings.units t deed) (sym agrees.table) in
-    refused_name c deed case (is.0, table ∙ units ∙ is.1)
+    let units = ap (λ (s : Settings). figure_of s.units at.table is.1) (sym agrees.settings) in
+    let table = ap (λ (t : Table). figure_of c.settings.units t is.1) (sym agrees.table) in
+    refused_name c deed case (is.0, is.1, is.2, table ∙ units ∙ is.3)
 
 no_case : (o : Option Case) (case : Case) → o ≡ None → o ≡ Some case → ⊥
 no_case o case none some = cc

@@ -18,13 +18,13 @@ use Rattle.apt_job.specs.Jobs.{jobs_by, MakesJobs}
 
 effect_legal : (e : Effect) (vertices : List Pt) (more : List Job) → MayHave e vertices → AreLegal (jobs_by e vertices ++ more) → IsLegalEffect e vertices × AreLegal more
 effect_legal (effects.Defines n f) vertices more may legal = (tt, legal)
-effect_legal (effects.Sets s said) vertices more may legal = (tt, legal)
+effect_legal (effects.Sets change) vertices more may legal = (tt, legal)
 effect_legal (effects.Moves reach to) vertices more may legal = (tt, legal)
 effect_legal (effects.Cuts m) vertices more may legal = (record { bounded = defined_bounded m may; legal = legal.0 }, legal.1)
 
 jobs_legal : (e : Effect) (vertices : List Pt) (more : List Job) → IsLegalEffect e vertices → AreLegal more → AreLegal (jobs_by e vertices ++ more)
 jobs_legal (effects.Defines n f) vertices more legal later = later
-jobs_legal (effects.Sets s said) vertices more legal later = later
+jobs_legal (effects.Sets change) vertices more legal later = later
 jobs_legal (effects.Moves reach to) vertices more legal later = later
 jobs_legal (effects.Cuts m) vertices more legal later = (legal.legal, later)
 

@@ -5,6 +5,7 @@ use Rattle.apt_words.specs.declared.deed.Step.{Step}
 use Rattle.apt_plane.specs.declared.figures.Pt.{Pt}
 use Rattle.apt_cldata.specs.declared.record.Position.{Position}
 use Rattle.apt_cldata.specs.declared.record.Record.{Record}
+use Rattle.apt_meaning.specs.declared.effect.Change.TheVariants as changes
 use Rattle.apt_meaning.specs.declared.effect.Effect.{Effect}
 use Rattle.apt_meaning.specs.declared.effect.Effect.TheVariants as effects
 use Rattle.apt_meaning.specs.Records.{MayHave, effect_records, records_of}
@@ -43,8 +44,9 @@ IsBehind x written (Some f) = IsNext x written (points_at f.vertices.now) f.rest
 abbrev pub is_silent : Option Effect → Bool
 is_silent None = false
 is_silent (Some (effects.Defines n f)) = true
-is_silent (Some (effects.Sets s None)) = true
-is_silent (Some (effects.Sets s (Some note))) = false
+is_silent (Some (effects.Sets (changes.Said note))) = false
+is_silent (Some (effects.Sets (changes.Side side))) = true
+is_silent (Some (effects.Sets changes.Nothing)) = true
 is_silent (Some (effects.Moves reach to)) = false
 is_silent (Some (effects.Cuts m)) = false
 

@@ -34,7 +34,7 @@ job_of m vertices = record { leg = leg_of m; out_sign = out_sign_at m.drive (dri
 
 abbrev pub jobs_by : Effect → List Pt → List Job
 jobs_by (effects.Defines n f) vertices = []
-jobs_by (effects.Sets s saying) vertices = []
+jobs_by (effects.Sets change) vertices = []
 jobs_by (effects.Moves reach to) vertices = []
 jobs_by (effects.Cuts m) vertices = job_of m vertices ∷ []
 
@@ -75,6 +75,6 @@ pub record AreSides (m : Motion) (sides : Sides) : Type 0 where
 -- those of an effect that is a contour
 abbrev pub HasSides : Sides → Effect → Type 0
 HasSides sides (effects.Defines n f) = Unit {0}
-HasSides sides (effects.Sets s said) = Unit {0}
+HasSides sides (effects.Sets change) = Unit {0}
 HasSides sides (effects.Moves reach to) = Unit {0}
 HasSides sides (effects.Cuts m) = AreSides m sides

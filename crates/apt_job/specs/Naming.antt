@@ -1,16 +1,13 @@
 -- Steps that define a name, and what holds behind them.
-use Rattle.std.specs.Prelude.{◌≡◌, ℕ, Bool, true, false, List, [], Some, None}
+use Rattle.std.specs.Prelude.{◌≡◌, ℕ, Bool, true, false, List, [], Some}
 use Rattle.apt_words.specs.declared.deed.Deed.{Deed}
 use Rattle.apt_defs.specs.declared.figure.Figure.{Figure}
-use Rattle.apt_defs.specs.Definitions.{definition_of}
+use Rattle.apt_defs.specs.Definitions.{IsNoDefinition}
 use Rattle.apt_meaning.specs.declared.situation.Situation.{Situation}
 use Rattle.apt_meaning.specs.declared.effect.Effect.{Effect}
 use Rattle.apt_meaning.specs.declared.effect.Effect.TheVariants as effects
 use Rattle.apt_meaning.specs.Effects.{effect_of}
 use Rattle.apt_meaning.specs.Records.{after}
-
-abbrev pub IsNoDefinition : Situation → Deed → Type 0
-IsNoDefinition at deed = definition_of at.settings.units at.table deed ≡ None
 
 -- a step asks for a figure of a name, and the name has it
 pub record IsNamed (at : Situation) (deed : Deed) (now : Situation) (name : List ℕ) (f : Figure) : Type 0 where
@@ -20,11 +17,11 @@ pub record IsNamed (at : Situation) (deed : Deed) (now : Situation) (name : List
 -- a step that defines a name, or one that defines none and leaves what holds as it was
 abbrev pub HasNamed : Situation → Deed → Situation → Bool → Type 0
 HasNamed at deed now true = (name : List ℕ) × (f : Figure) × IsNamed at deed now name f
-HasNamed at deed now false = IsNoDefinition at deed × (now ≡ at)
+HasNamed at deed now false = IsNoDefinition deed × (now ≡ at)
 
 -- an effect that defines nothing
 abbrev pub DefinesNothing : Effect → Type 0
 DefinesNothing (effects.Defines n f) = ⊥
-DefinesNothing (effects.Sets s said) = Unit {0}
+DefinesNothing (effects.Sets change) = Unit {0}
 DefinesNothing (effects.Moves reach to) = Unit {0}
 DefinesNothing (effects.Cuts m) = Unit {0}

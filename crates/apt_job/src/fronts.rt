@@ -11,7 +11,7 @@ ghost use Rattle.apt_job.specs.Jobs.{AreSides, HasSides};
 use crate::legs::Sides;
 use crate::matches::{are_at, is_check, is_drive, is_note, is_point, is_statement};
 use apt_cldata::{Note, Position, Reach, Record};
-use apt_meaning::{Effect, Motion};
+use apt_meaning::{Change, Effect, Motion};
 use apt_words::Step;
 
 /// The vertices of a contour in front, and the records behind what is in front.
@@ -19,6 +19,17 @@ use apt_words::Step;
 pub(crate) struct Front<'a> {
     pub vertices: &'a [Position],
     pub rest: &'a [Record],
+}
+
+/// No record is taken.
+fn nothing(records: &[Record]) -> Front<'_>
+    ensures vertices { result.vertices.now ≡ [] }
+    ensures rest { result.rest.now ≡ records.now }
+{
+    Front {
+        vertices: &[],
+        rest: records,
+    }
 }
 
 fn statement<'a>(step: &Step, records: &'a [Record]) -> Option<Front<'a>>
@@ -161,11 +172,9 @@ fn said<'a>(effect: &Option<Effect>, sides: Sides, records: &'a [Record]) -> Res
 {
     match effect {
         None => Err(0),
-        Some(Effect::Defines(_, _) | Effect::Sets(_, None)) => Ok(Front {
-            vertices: &[],
-            rest: records,
-        }),
-        Some(Effect::Sets(_, Some(said))) => note(said, records).ok_or(0),
+        Some(Effect::Defines(..)) => Ok(nothing(records)),
+        Some(Effect::Sets(Change::Side(_) | Change::Nothing)) => Ok(nothing(records)),
+        Some(Effect::Sets(Change::Said(said))) => note(said, records).ok_or(0),
         Some(Effect::Moves(reach, to)) => point(*reach, *to, records).ok_or(0),
         Some(Effect::Cuts(m)) => cut(m, sides, records),
     }
@@ -175,7 +184,10 @@ fn said<'a>(effect: &Option<Effect>, sides: Sides, records: &'a [Record]) -> Res
 fn is_silent(effect: &Option<Effect>) -> bool
     ensures { result ≡ is_silent effect.now }
 {
-    matches!(effect, Some(Effect::Defines(_, _) | Effect::Sets(_, None)))
+    matches!(
+        effect,
+        Some(Effect::Defines(..) | Effect::Sets(Change::Side(_) | Change::Nothing))
+    )
 }
 
 /// The records of a step, which begin with its statement; else how many records in front are as they are due.

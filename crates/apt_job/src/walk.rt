@@ -1,7 +1,6 @@
 //! The walk over steps and records.
 
 ghost use Rattle.std.specs.Prelude.{true, ◌≡◌, ◌+◌, ◌-◌, ◌<◌, ◌≤◌, ◌^◌, ◌++◌, List, length, Ok, IfOk, IfErr, OnOk};
-ghost use Rattle.apt_words.specs.Built.{AreBuiltSteps};
 ghost use Rattle.apt_words.specs.Sources.{AreExecuted};
 ghost use Rattle.apt_words.specs.declared.Case.{Case};
 ghost use Rattle.apt_scalar.specs.StepScalars.{AreScalars, HasScalars};
@@ -100,7 +99,7 @@ fn take(
 {
     match effect {
         Effect::Defines(..) => unreachable!(),
-        Effect::Sets(settings, _) => at.settings = *settings,
+        Effect::Sets(change) => at.settings.change(change),
         Effect::Moves(reach, to) => at.go_to(*reach, *to),
         Effect::Cuts(motion) => cut(alloc, jobs, at, motion, sides, vertices)?,
     }
@@ -114,7 +113,6 @@ fn take(
 /// `Entry` has the number of the first record that does not answer the steps, from 1.
 pub fn jobs(alloc: Global, steps: &[Step], records: &[Record]) -> Result<Vec<Job>, JobError>
     requires scalars { AreScalars steps.now }
-    requires built { AreBuiltSteps steps.now }
     requires sources { AreExecuted steps.now }
     requires passes { first_refused first_situation steps.now ≡ None }
     requires records { AreRecords records.now }

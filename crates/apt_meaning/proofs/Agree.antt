@@ -1,12 +1,13 @@
 -- Two situations that differ only in where the tool stands, and what steps ask for at both.
-use Rattle.std.proofs.Common.{◌≡◌, ◌∙◌, ℕ, ℤ, Bool, true, false, List, Result, Ok, Err, Option, Some, None, is_none, refl, sym, ap, subst, cond}
+use Rattle.std.proofs.Common.{◌≡◌, ◌∙◌, ℕ, Bool, true, false, List, Result, Ok, Err, Option, Some, None, is_none, refl, sym, ap, subst, cond}
 use Rattle.apt_words.specs.declared.Case.{Case}
 use Rattle.apt_words.specs.declared.Go.{Go}
 use Rattle.apt_words.specs.declared.Stop.{Stop}
-use Rattle.apt_words.specs.declared.Turn.{Turn}
-use Rattle.apt_words.specs.declared.Turn.TheVariants as turns
+use Rattle.apt_words.specs.declared.ask.Form.{Form}
+use Rattle.apt_words.specs.declared.ask.Route.{Route}
+use Rattle.apt_words.specs.declared.ask.Route.TheVariants as routes
 use Rattle.apt_words.specs.declared.deed.Deed.{Deed}
-use Rattle.apt_words.specs.declared.deed.Deed.TheVariants as deeds
+use Rattle.apt_words.specs.Asks.{Ask, Titles, Says, Sets, Defines, Goes, Cuts, Nothing, ask_of}
 use Rattle.apt_words.specs.Options.{◌>>=◌}
 use Rattle.apt_plane.specs.declared.figures.Pt.{Pt}
 use Rattle.apt_plane.specs.declared.figures.Dir.{Dir}
@@ -16,8 +17,7 @@ use Rattle.apt_cldata.specs.declared.record.Position.{Position}
 use Rattle.apt_cldata.specs.declared.record.Reach.{Reach}
 use Rattle.apt_cldata.specs.declared.record.Reach.TheVariants as reaches
 use Rattle.apt_defs.specs.declared.figure.Figure.{Figure}
-use Rattle.apt_defs.specs.declared.figure.Definition.{Definition}
-use Rattle.apt_defs.specs.Definitions.{definition_of}
+use Rattle.apt_defs.specs.Definitions.{figure_of}
 use Rattle.apt_meaning.specs.declared.situation.Settings.{Settings}
 use Rattle.apt_meaning.specs.declared.situation.Situation.{Situation}
 use Rattle.apt_meaning.specs.declared.motion.Motion.{Motion}
@@ -26,7 +26,7 @@ use Rattle.apt_meaning.specs.declared.effect.Effect.TheVariants as effects
 use Rattle.apt_meaning.specs.Situations.{with_side}
 use Rattle.apt_meaning.specs.Motions.{surface_in, motion, if_turned, motion_at}
 use Rattle.apt_meaning.specs.StartUps.{start_position_at}
-use Rattle.apt_meaning.specs.Effects.{moves, cuts, place_in, names, defines, defined, moved_from, spins, effect_of}
+use Rattle.apt_meaning.specs.Effects.{moves, cuts, place_at, names, defined, moved_from, goes, effect_by, effect_of}
 use Rattle.apt_meaning.specs.Records.{after}
 
 -- the same settings and names, and both or neither have a position
@@ -42,19 +42,19 @@ elsewhere c p forward = record c { position = p; forward = forward }
 -- effects that differ only in where they lead
 abbrev pub AreLike : Effect → Effect → Type 0
 AreLike (effects.Defines n f) (effects.Defines m g) = (n ≡ m) × (f ≡ g)
-AreLike (effects.Defines n f) (effects.Sets t said) = ⊥
+AreLike (effects.Defines n f) (effects.Sets other) = ⊥
 AreLike (effects.Defines n f) (effects.Moves reach to) = ⊥
 AreLike (effects.Defines n f) (effects.Cuts o) = ⊥
-AreLike (effects.Sets s say) (effects.Defines m g) = ⊥
-AreLike (effects.Sets s say) (effects.Sets t said) = (s ≡ t) × (say ≡ said)
-AreLike (effects.Sets s say) (effects.Moves reach to) = ⊥
-AreLike (effects.Sets s say) (effects.Cuts o) = ⊥
+AreLike (effects.Sets change) (effects.Defines m g) = ⊥
+AreLike (effects.Sets change) (effects.Sets other) = change ≡ other
+AreLike (effects.Sets change) (effects.Moves reach to) = ⊥
+AreLike (effects.Sets change) (effects.Cuts o) = ⊥
 AreLike (effects.Moves how from) (effects.Defines m g) = ⊥
-AreLike (effects.Moves how from) (effects.Sets t said) = ⊥
+AreLike (effects.Moves how from) (effects.Sets other) = ⊥
 AreLike (effects.Moves how from) (effects.Moves reach to) = how ≡ reach
 AreLike (effects.Moves how from) (effects.Cuts o) = ⊥
 AreLike (effects.Cuts m) (effects.Defines n g) = ⊥
-AreLike (effects.Cuts m) (effects.Sets t said) = ⊥
+AreLike (effects.Cuts m) (effects.Sets other) = ⊥
 AreLike (effects.Cuts m) (effects.Moves reach to) = ⊥
 AreLike (effects.Cuts m) (effects.Cuts o) = m.side ≡ o.side
 
@@ -68,14 +68,10 @@ figure_like : (n : List ℕ) (r : Result Figure Case) → AreLikeIfThere (names 
 figure_like n (Ok f) = (refl, refl)
 figure_like n (Err case) = tt
 
-definition_like : (o : Option Definition) → AreLikeIfThere (defines o) (defines o)
-definition_like None = tt
-definition_like (Some d) = figure_like d.name d.figure
-
 -- where the tool stands decides no definition
-defined_like : (c : Situation) (p : Option Position) (forward : Dir) (deed : Deed) → AreLikeIfThere (defined c deed) (defined (elsewhere c p forward) deed)
+defined_like : (c : Situation) (p : Option Position) (forward : Dir) (name : List ℕ) (form : Form) → AreLikeIfThere (defined c name form) (defined (elsewhere c p forward) name form)
 unfolding defined
-defined_like c p forward deed = definition_like (definition_of c.settings.units c.table deed)
+defined_like c p forward name form = figure_like name (figure_of c.settings.units c.table form)
 
 moves_like : (reach : Reach) (o p : Option Position) → AreLikeIfThere (moves reach o) (moves reach p)
 moves_like reach None p = tt
@@ -104,65 +100,21 @@ contour_like s from to go how (Some start) (Some here) (Some drive) (Some check)
     turned_like (is_zero (turn from (tangent drive start.at) go)) (is_zero (turn to (tangent drive here.at) go))
     (motion s start drive (turn from (tangent drive start.at) go) how check) (motion s here drive (turn to (tangent drive here.at) go) how check) refl
 
-spindle_like : (s : Settings) (v : ℤ) (turn : Turn) → AreLikeIfThere (spins s v turn) (spins s v turn)
-spindle_like s v turns.Cw = (refl, refl)
-spindle_like s v turns.Ccw = (refl, refl)
-spindle_like s v turns.Off = tt
+goes_like : (at : Situation) (stand : Option Position) (forward : Dir) (route : Route) → AreLikeIfThere (goes at route) (goes (elsewhere at stand forward) route)
+goes_like at stand forward (routes.From place) = moves_like reaches.From (place_at at place) (place_at (elsewhere at stand forward) place)
+goes_like at stand forward (routes.Goto place) = moves_like reaches.Goto (place_at at place) (place_at (elsewhere at stand forward) place)
+goes_like at stand forward (routes.By x y z) = moves_like reaches.Godlta (moved_from at x y z) (moved_from (elsewhere at stand forward) x y z)
+goes_like at stand forward (routes.Start how name other) = moves_like reaches.Start (start_position_at at how name other) (start_position_at (elsewhere at stand forward) how name other)
 
-like : (c : Situation) (p : Option Position) (forward : Dir) (deed : Deed) → AreLikeIfThere (effect_of c deed) (effect_of (elsewhere c p forward) deed)
+like : (at : Situation) (stand : Option Position) (forward : Dir) (ask : Ask) → AreLikeIfThere (effect_by at ask) (effect_by (elsewhere at stand forward) ask)
 unfolding motion_at
-like at stand forward (deeds.Partno text) = (refl, refl)
-like at stand forward (deeds.Remark text) = (refl, refl)
-like at stand forward (deeds.Units units) = (refl, refl)
-like at stand forward deeds.Clprnt = (refl, refl)
-like at stand forward deeds.Nopost = (refl, refl)
-like at stand forward deeds.Machin = (refl, refl)
-like at stand forward (deeds.Assign n v) = defined_like at stand forward (deeds.Assign n v)
-like at stand forward (deeds.PointXy n x y z) = defined_like at stand forward (deeds.PointXy n x y z)
-like at stand forward (deeds.PointLines n a b) = defined_like at stand forward (deeds.PointLines n a b)
-like at stand forward (deeds.PointPick n k a b) = defined_like at stand forward (deeds.PointPick n k a b)
-like at stand forward (deeds.PointCenter n c) = defined_like at stand forward (deeds.PointCenter n c)
-like at stand forward (deeds.LineXy n x y u v) = defined_like at stand forward (deeds.LineXy n x y u v)
-like at stand forward (deeds.LinePoints n p q) = defined_like at stand forward (deeds.LinePoints n p q)
-like at stand forward (deeds.LinePar n p l) = defined_like at stand forward (deeds.LinePar n p l)
-like at stand forward (deeds.LinePerp n p l) = defined_like at stand forward (deeds.LinePerp n p l)
-like at stand forward (deeds.LineAt n l k v) = defined_like at stand forward (deeds.LineAt n l k v)
-like at stand forward (deeds.LineTan n p h c) = defined_like at stand forward (deeds.LineTan n p h c)
-like at stand forward (deeds.LineTwo n h c k d) = defined_like at stand forward (deeds.LineTwo n h c k d)
-like at stand forward (deeds.CircleXyr n x y r) = defined_like at stand forward (deeds.CircleXyr n x y r)
-like at stand forward (deeds.CirclePoints n a b c) = defined_like at stand forward (deeds.CirclePoints n a b c)
-like at stand forward (deeds.CircleRadius n p r) = defined_like at stand forward (deeds.CircleRadius n p r)
-like at stand forward (deeds.CircleTan n p l) = defined_like at stand forward (deeds.CircleTan n p l)
-like at stand forward (deeds.CircleThrough n p q) = defined_like at stand forward (deeds.CircleThrough n p q)
-like at stand forward (deeds.CircleCorner n j a k b r) = defined_like at stand forward (deeds.CircleCorner n j a k b r)
-like at stand forward (deeds.Cutter v) = (refl, refl)
-like at stand forward (deeds.Intol v) = (refl, refl)
-like at stand forward (deeds.Outtol v) = (refl, refl)
-like at stand forward (deeds.Tool side) = (refl, refl)
-like at stand forward (deeds.FromXy x y z) = refl
-like at stand forward (deeds.FromPoint p) = moves_like reaches.From (place_in at.table p) (place_in at.table p)
-like at stand forward (deeds.GotoXy x y z) = refl
-like at stand forward (deeds.GotoPoint p) = moves_like reaches.Goto (place_in at.table p) (place_in at.table p)
-like at stand forward (deeds.Godlta x y z) = moves_like reaches.Godlta (moved_from at x y z) (moved_from (elsewhere at stand forward) x y z)
-like at stand forward (deeds.GoStart how name other) = moves_like reaches.Start (start_position_at at how name other) (start_position_at (elsewhere at stand forward) how name other)
-like at stand forward (deeds.Contour side go drive how check) = contour_like (with_side at.settings side) at.forward forward go how at.position stand (surface_in at.table drive) (surface_in at.table check)
-like at stand forward deeds.Rapid = (refl, refl)
-like at stand forward deeds.Halt = (refl, refl)
-like at stand forward deeds.OptHalt = (refl, refl)
-like at stand forward deeds.EndWord = (refl, refl)
-like at stand forward deeds.Fini = (refl, refl)
-like at stand forward (deeds.Fedrat v) = (refl, refl)
-like at stand forward (deeds.Spindl v turn) = spindle_like at.settings v turn
-like at stand forward deeds.SpindlOff = (refl, refl)
-like at stand forward (deeds.Coolnt c) = (refl, refl)
-like at stand forward (deeds.Loadtl v) = (refl, refl)
-like at stand forward deeds.Macro = (refl, refl)
-like at stand forward deeds.Termac = (refl, refl)
-like at stand forward deeds.Call = (refl, refl)
-like at stand forward deeds.Loopst = (refl, refl)
-like at stand forward deeds.Loopnd = (refl, refl)
-like at stand forward deeds.Jumpto = (refl, refl)
-like at stand forward deeds.If = (refl, refl)
+like at stand forward (Titles text) = refl
+like at stand forward (Says saying) = refl
+like at stand forward (Sets side) = refl
+like at stand forward (Defines name form) = defined_like at stand forward name form
+like at stand forward (Goes route) = goes_like at stand forward route
+like at stand forward (Cuts side go drive how check) = contour_like (with_side at.settings side) at.forward forward go how at.position stand (surface_in at.table drive) (surface_in at.table check)
+like at stand forward Nothing = refl
 
 is_elsewhere : (c at : Situation) → Agrees c at → at ≡ elsewhere c at.position at.forward
 is_elsewhere c at agrees = rw (sym agrees.settings, sym agrees.table) refl
@@ -172,24 +124,24 @@ pub alike : (c at : Situation) (deed : Deed) (e d : Effect) → Agrees c at → 
 alike c at deed e d agrees ask asked =
     let asked_there : effect_of (elsewhere c at.position at.forward) deed ≡ Some d = ap (λ (x : Situation). effect_of x deed) (sym (is_elsewhere c at agrees)) ∙ asked in
     subst (λ (o : Option Effect). AreLikeIfThere (Some e) o) asked_there
-    (subst (λ (o : Option Effect). AreLikeIfThere o (effect_of (elsewhere c at.position at.forward) deed)) ask (like c at.position at.forward deed))
+    (subst (λ (o : Option Effect). AreLikeIfThere o (effect_of (elsewhere c at.position at.forward) deed)) ask (like c at.position at.forward (ask_of deed)))
 
 -- and they agree behind it
 behind_like : (c at : Situation) (e d : Effect) (vs us : List Pt) → Agrees c at → AreLike e d → Agrees (after c e vs) (after at d us)
 behind_like c at (effects.Defines n f) (effects.Defines m g) vs us agrees same = record { settings = agrees.settings; table = rw (same.0, same.1, agrees.table) refl; position = agrees.position }
-behind_like c at (effects.Defines n f) (effects.Sets t said) vs us agrees same = absurd same
+behind_like c at (effects.Defines n f) (effects.Sets other) vs us agrees same = absurd same
 behind_like c at (effects.Defines n f) (effects.Moves reach to) vs us agrees same = absurd same
 behind_like c at (effects.Defines n f) (effects.Cuts o) vs us agrees same = absurd same
-behind_like c at (effects.Sets s say) (effects.Defines m g) vs us agrees same = absurd same
-behind_like c at (effects.Sets s say) (effects.Sets t said) vs us agrees same = record { settings = sym same.0; table = agrees.table; position = agrees.position }
-behind_like c at (effects.Sets s say) (effects.Moves reach to) vs us agrees same = absurd same
-behind_like c at (effects.Sets s say) (effects.Cuts o) vs us agrees same = absurd same
+behind_like c at (effects.Sets change) (effects.Defines m g) vs us agrees same = absurd same
+behind_like c at (effects.Sets change) (effects.Sets other) vs us agrees same = record { settings = rw (same, agrees.settings) refl; table = agrees.table; position = agrees.position }
+behind_like c at (effects.Sets change) (effects.Moves reach to) vs us agrees same = absurd same
+behind_like c at (effects.Sets change) (effects.Cuts o) vs us agrees same = absurd same
 behind_like c at (effects.Moves how from) (effects.Defines m g) vs us agrees same = absurd same
-behind_like c at (effects.Moves how from) (effects.Sets t said) vs us agrees same = absurd same
+behind_like c at (effects.Moves how from) (effects.Sets other) vs us agrees same = absurd same
 behind_like c at (effects.Moves how from) (effects.Moves reach to) vs us agrees same = record { settings = rw (same, agrees.settings) refl; table = agrees.table; position = refl }
 behind_like c at (effects.Moves how from) (effects.Cuts o) vs us agrees same = absurd same
 behind_like c at (effects.Cuts m) (effects.Defines n g) vs us agrees same = absurd same
-behind_like c at (effects.Cuts m) (effects.Sets t said) vs us agrees same = absurd same
+behind_like c at (effects.Cuts m) (effects.Sets other) vs us agrees same = absurd same
 behind_like c at (effects.Cuts m) (effects.Moves reach to) vs us agrees same = absurd same
 behind_like c at (effects.Cuts m) (effects.Cuts o) vs us agrees same = record { settings = rw (same, agrees.settings) refl; table = agrees.table; position = refl }
 

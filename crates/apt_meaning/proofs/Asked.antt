@@ -1,5 +1,5 @@
 -- A step that no case refuses has an effect in range, and a contour that it asks for is legal with its own vertices, to its contact.
-use Rattle.std.proofs.Common.{◌≡◌, ℕ, ℤ, unsigned_abs, int_lt, not, Bool, true, false, List, [], ◌∷◌, Option, Some, None, is_none, IsSome, IfSome, Result, Ok, Err, IfOk, refl, cond, sym, ap, subst, ◌∙◌, pos}
+use Rattle.std.proofs.Common.{◌≡◌, ℕ, not, Bool, true, false, List, [], ◌∷◌, Option, Some, None, is_none, IfSome, Result, Ok, Err, IfOk, refl, cond, sym, ap, subst, ◌∙◌, pos}
 use Rattle.std.proofs.lemmas.Bool.{true≢false}
 use Rattle.apt_num.specs.declared.Sign.{Sign}
 use Rattle.apt_words.specs.declared.Go.{Go}
@@ -7,15 +7,20 @@ use Rattle.apt_words.specs.declared.Side.{Side}
 use Rattle.apt_words.specs.declared.Stop.{Stop}
 use Rattle.apt_words.specs.declared.Case.{Case}
 use Rattle.apt_words.specs.declared.Case.TheVariants as cases
-use Rattle.apt_words.specs.declared.Turn.{Turn}
-use Rattle.apt_words.specs.declared.Turn.TheVariants as turns
+use Rattle.apt_words.specs.declared.Units.{Units}
+use Rattle.apt_words.specs.declared.ask.Form.{Form}
+use Rattle.apt_words.specs.declared.ask.Place.{Place}
+use Rattle.apt_words.specs.declared.ask.Place.TheVariants as places
+use Rattle.apt_words.specs.declared.ask.Route.{Route}
+use Rattle.apt_words.specs.declared.ask.Route.TheVariants as routes
+use Rattle.apt_words.specs.declared.ask.Saying.{Saying}
+use Rattle.apt_words.specs.declared.ask.Saying.TheVariants as sayings
 use Rattle.apt_words.specs.declared.deed.Deed.{Deed}
-use Rattle.apt_words.specs.declared.deed.Deed.TheVariants as deeds
-use Rattle.apt_words.specs.Built.{is_turning}
+use Rattle.apt_words.specs.Asks.{Ask, Titles, Says, Sets, Defines, Goes, Cuts, Nothing, ask_of, numbers_of, saying_numbers}
 use Rattle.apt_words.specs.Options.{◌>>=◌}
 use Rattle.apt_words.specs.Rows.{Row, first_of, NoneHolds}
-use Rattle.apt_words.specs.Sources.{DeedHasText}
-use Rattle.apt_scalar.specs.Scalars.{IsScalar, grid_units, tenths, whole}
+use Rattle.apt_words.specs.Sources.{AskHasText, DeedHasText}
+use Rattle.apt_scalar.specs.Scalars.{grid_units}
 use Rattle.apt_plane.specs.declared.figures.Pt.{Pt}
 use Rattle.apt_plane.specs.declared.figures.Surface.{Surface}
 use Rattle.apt_plane.specs.Ranges.{IsPoint, IsSurface}
@@ -34,36 +39,37 @@ use Rattle.apt_cldata.specs.declared.record.Reach.TheVariants as reaches
 use Rattle.apt_defs.specs.declared.figure.Figure.{Figure}
 use Rattle.apt_defs.specs.declared.figure.Figure.TheVariants as figures
 use Rattle.apt_defs.specs.Figures.{IsFigure, figure_named}
-use Rattle.apt_defs.specs.declared.figure.Definition.{Definition}
 use Rattle.apt_defs.specs.Forms.{is_in_reach}
-use Rattle.apt_defs.specs.Definitions.{definition_of, IsDefinition}
-use Rattle.apt_defs.proofs.InRange.{definition_in}
+use Rattle.apt_defs.specs.Definitions.{figure_of}
+use Rattle.apt_defs.proofs.InRange.{figure_in}
 use Rattle.apt_defs.proofs.Tables.{looked_up}
 use Rattle.apt_meaning.specs.declared.situation.Settings.{Settings}
 use Rattle.apt_meaning.specs.declared.situation.Situation.{Situation}
 use Rattle.apt_meaning.specs.declared.motion.Motion.{Motion}
+use Rattle.apt_meaning.specs.declared.effect.Change.{Change}
+use Rattle.apt_meaning.specs.declared.effect.Change.TheVariants as changes
 use Rattle.apt_meaning.specs.declared.effect.Effect.{Effect}
 use Rattle.apt_meaning.specs.declared.effect.Effect.TheVariants as effects
-use Rattle.apt_meaning.specs.Situations.{radius_of, lacks_feed, with_side, at_height}
+use Rattle.apt_meaning.specs.Situations.{lacks_feed, with_side, at_height}
 use Rattle.apt_meaning.specs.Motions.{as_surface, surface_in, contact, vertices_of, turn_at, if_turned, motion, motion_at}
 use Rattle.apt_meaning.specs.StartUps.{goal_in, second_in, start_up_at, start_position, start_position_at}
-use Rattle.apt_meaning.specs.Effects.{moves, cuts, as_position, names, defines as gives, defined, position_by, moved_by, spins, effect_of}
-use Rattle.apt_meaning.specs.Refusals.{is_other_kind, is_no_place, refused, refused_if_any, refused_definition, position_cases, move_cases, motion_cases, turned_cases, surface_cases, contour_cases, start_cases, go_cases, cases_of, refusal_of}
+use Rattle.apt_meaning.specs.Effects.{note_of, moves, cuts, as_position, place_at, names, defined, position_by, moved_by, goes, effect_by, effect_of}
+use Rattle.apt_meaning.specs.Refusals.{is_other_kind, is_no_place, refused, refused_form, position_cases, place_cases, move_cases, note_cases, route_cases, motion_cases, turned_cases, surface_cases, contour_cases, start_cases, go_cases, cases_by, cases_of, refusal_of}
 use Rattle.apt_meaning.specs.Records.{AreLegal, AreOwn, MayHave}
 use Rattle.apt_meaning.specs.Compiled.{points_of}
-use Rattle.apt_meaning.specs.Ranges.{IsPositionOrNone, AreSettings, IsSituation, IsMotion, IsEffect}
-use Rattle.apt_scalar.specs.StepScalars.{HasScalars}
+use Rattle.apt_meaning.specs.Ranges.{IsPositionOrNone, AreSettings, IsChange, IsSituation, IsMotion, IsEffect}
+use Rattle.apt_scalar.specs.StepScalars.{AllScalars, HasScalars}
 use Rattle.apt_meaning.specs.Vertices.{HasIn}
 use Rattle.apt_words.proofs.Rows.{first_none, none_first}
 use Rattle.apt_meaning.proofs.Legal.{motion_defined}
 use Rattle.apt_meaning.proofs.Cuts.{cut_is}
-use Rattle.apt_meaning.proofs.EffectRanges.{reach_in, up_to_in, tolerance_in, radius_in, feed_in, feed_note, whole_note, with_units, with_radius, with_intol, with_outtol, with_feed, with_rapid, on_side, on_side_or_as_it_was, motion_is}
+use Rattle.apt_meaning.proofs.EffectRanges.{reach_in, up_to_in, feed_note, whole_note, on_side_or_as_it_was, motion_is}
 use Rattle.apt_meaning.proofs.Contours.{named_surface}
 
 -- a contour ends at its contact
 abbrev pub EndsThere : Effect → Type 0
 EndsThere (effects.Defines n f) = Unit {0}
-EndsThere (effects.Sets s saying) = Unit {0}
+EndsThere (effects.Sets change) = Unit {0}
 EndsThere (effects.Moves reach to) = Unit {0}
 EndsThere (effects.Cuts m) = last_of m.start.at (vertices_of m) ≡ contact m
 
@@ -84,11 +90,11 @@ pub record Asks (o : Option Effect) : Type 0 where
 defines : (n : List ℕ) (f : Figure) → IsFigure f → Asks (Some (effects.Defines n f))
 defines n f is = record { e = effects.Defines n f; asked = refl; fit = record { good = is; legal = tt; own = tt; within = tt; may = refl; ends = tt } }
 
-sets : (s : Settings) → AreSettings s → Asks (Some (effects.Sets s None))
-sets s is = record { e = effects.Sets s None; asked = refl; fit = record { good = (is, tt); legal = tt; own = tt; within = tt; may = refl; ends = tt } }
+sets : (change : Change) → IsChange change → Asks (Some (effects.Sets change))
+sets change is = record { e = effects.Sets change; asked = refl; fit = record { good = is; legal = tt; own = tt; within = tt; may = refl; ends = tt } }
 
-says : (s : Settings) (note : Note) → AreSettings s → IsNote note → Asks (Some (effects.Sets s (Some note)))
-says s note is said = record { e = effects.Sets s (Some note); asked = refl; fit = record { good = (is, said); legal = tt; own = tt; within = tt; may = refl; ends = tt } }
+says : (note : Note) → IsNote note → Asks (Some (effects.Sets (changes.Said note)))
+says note is = sets (changes.Said note) is
 
 moves_to : (reach : Reach) (to : Position) → IsPosition to → Asks (Some (effects.Moves reach to))
 moves_to reach to is = record { e = effects.Moves reach to; asked = refl; fit = record { good = is; legal = tt; own = tt; within = tt; may = refl; ends = tt } }
@@ -104,14 +110,10 @@ figure_asks : (n : List ℕ) (r : Result Figure Case) → IfOk r IsFigure → No
 figure_asks n (Ok f) is none = defines n f is
 figure_asks n (Err case) is none = absurd (true≢false none.0)
 
-definition_asks : (o : Option Definition) → IsSome o → IfSome o (λ d. IfOk d.figure IsFigure) → NoneHolds (refused_if_any o) → Asks (gives o)
-definition_asks None there is none = absurd (true≢false (sym there))
-definition_asks (Some d) there is none = figure_asks d.name d.figure is none
-
-defined_asks : (at : Situation) (deed : Deed) → IsDefinition at.settings.units at.table deed → IsSituation at → NoneHolds (refused_definition at deed) → Asks (defined at deed)
-unfolding defined refused_definition
-defined_asks at deed there is none =
-    definition_asks (definition_of at.settings.units at.table deed) there (definition_in at.settings.units at.table deed is.table) none
+defined_asks : (at : Situation) (name : List ℕ) (form : Form) → IsSituation at → NoneHolds (refused_form at form) → Asks (defined at name form)
+unfolding defined refused_form
+defined_asks at name form is none =
+    figure_asks name (figure_of at.settings.units at.table form) (figure_in at.settings.units at.table form is.table) none
 
 -- ---- moves
 
@@ -222,71 +224,46 @@ contour_asks at side go drive how check is none =
     (named_surface at.table drive is.table) (named_surface at.table check is.table)
     none.0 (surface_there (figure_named at.table drive) d.0 d.1.0) (surface_there (figure_named at.table check) c.0 c.1.0) c.1.1
 
-spindle_asks : (s : Settings) (v : ℤ) (turn : Turn) → AreSettings s → IsScalar v → not (is_turning turn) ≡ false → int_lt (whole v) (pos 1) ≡ false → Asks (spins s v turn)
-spindle_asks s v turns.Cw is number turning least = says s (notes.Spindl turns.Cw (whole v)) is (whole_note v number least)
-spindle_asks s v turns.Ccw is number turning least = says s (notes.Spindl turns.Ccw (whole v)) is (whole_note v number least)
-spindle_asks s v turns.Off is number turning least = absurd (true≢false turning)
+-- ---- places
 
--- ---- a line for each statement
+place_asked : (reach : Reach) (at : Situation) (place : Place) (more : List Row) → IsSituation at → NoneHolds (place_cases at place more) → Asks (moves reach (place_at at place))
+place_asked reach at (places.Xyz x y z) more is none = moves_to reach (position_by at.settings.units x y z) (position_is (position_by at.settings.units x y z) more none)
+place_asked reach at (places.Named p) more is none = place_asks reach (figure_named at.table p) (looked_up at.table p is.table) none.0 none.1.0
+
+route_asks : (at : Situation) (route : Route) → IsSituation at → NoneHolds (route_cases at route) → Asks (goes at route)
+route_asks at (routes.From place) is none = place_asked reaches.From at place [] is none.1
+route_asks at (routes.Goto place) is none = place_asked reaches.Goto at place ((lacks_feed at.settings, cases.NoFeed) ∷ []) is none
+route_asks at (routes.By x y z) is none =
+    move_asks reaches.Godlta at.settings (at.position >>= λ p. Some (moved_by at.settings.units x y z p)) (still_there at.position (moved_by at.settings.units x y z) none.0) none.1
+route_asks at (routes.Start how name other) is none = go_asks at how name other is none
+
+-- ---- notes
+
+saying_in : (units : Units) (saying : Saying) → AllScalars (saying_numbers saying) → NoneHolds (note_cases (note_of units saying)) → IsNote (note_of units saying)
+saying_in units (sayings.Units others) numbers none = tt
+saying_in units (sayings.Diameter v) numbers none = up_to_in (pos 1000000) (grid_units units v) none.0
+saying_in units (sayings.Inward v) numbers none = up_to_in (pos 10000) (grid_units units v) none.0
+saying_in units (sayings.Outward v) numbers none = up_to_in (pos 10000) (grid_units units v) none.0
+saying_in units (sayings.Feed v) numbers none = feed_note v numbers.0 none.0
+saying_in units (sayings.Clockwise n) numbers none = whole_note n numbers.0 none.0
+saying_in units (sayings.Anticlockwise n) numbers none = whole_note n numbers.0 none.0
+saying_in units sayings.SpindleOff numbers none = refl
+saying_in units (sayings.Tool n) numbers none = whole_note n numbers.0 none.0
+saying_in units _ numbers none = tt
+
+-- ---- a line for each ask
+
+asks_by : (at : Situation) (ask : Ask) → IsSituation at → AllScalars (numbers_of ask) → AskHasText ask → NoneHolds (cases_by at ask) → Asks (effect_by at ask)
+asks_by at (Titles text) is numbers worded none = says (notes.Partno text) worded.0
+asks_by at (Says saying) is numbers worded none = says (note_of at.settings.units saying) (saying_in at.settings.units saying numbers none)
+asks_by at (Sets side) is numbers worded none = sets (changes.Side side) tt
+asks_by at (Defines name form) is numbers worded none = defined_asks at name form is none
+asks_by at (Goes route) is numbers worded none = route_asks at route is none
+asks_by at (Cuts side go drive how check) is numbers worded none = contour_asks at side go drive how check is none
+asks_by at Nothing is numbers worded none = sets changes.Nothing tt
 
 pub asks : (at : Situation) (deed : Deed) → IsSituation at → HasScalars deed → DeedHasText deed → NoneHolds (cases_of at deed) → Asks (effect_of at deed)
-asks at (deeds.Partno text) is numbers worded none = says at.settings (notes.Partno text) is.settings worded.0
-asks at (deeds.Remark text) is numbers worded none = sets at.settings is.settings
-asks at (deeds.Units units) is numbers worded none = says (record at.settings { units = units }) (notes.Units units) (with_units at.settings units is.settings) tt
-asks at deeds.Clprnt is numbers worded none = sets at.settings is.settings
-asks at deeds.Nopost is numbers worded none = sets at.settings is.settings
-asks at deeds.Machin is numbers worded none = sets at.settings is.settings
-asks at (deeds.Assign n v) is numbers worded none = defined_asks at (deeds.Assign n v) refl is none
-asks at (deeds.PointXy n x y z) is numbers worded none = defined_asks at (deeds.PointXy n x y z) refl is none
-asks at (deeds.PointLines n a b) is numbers worded none = defined_asks at (deeds.PointLines n a b) refl is none
-asks at (deeds.PointPick n k a b) is numbers worded none = defined_asks at (deeds.PointPick n k a b) refl is none
-asks at (deeds.PointCenter n c) is numbers worded none = defined_asks at (deeds.PointCenter n c) refl is none
-asks at (deeds.LineXy n x y u v) is numbers worded none = defined_asks at (deeds.LineXy n x y u v) refl is none
-asks at (deeds.LinePoints n p q) is numbers worded none = defined_asks at (deeds.LinePoints n p q) refl is none
-asks at (deeds.LinePar n p l) is numbers worded none = defined_asks at (deeds.LinePar n p l) refl is none
-asks at (deeds.LinePerp n p l) is numbers worded none = defined_asks at (deeds.LinePerp n p l) refl is none
-asks at (deeds.LineAt n l k v) is numbers worded none = defined_asks at (deeds.LineAt n l k v) refl is none
-asks at (deeds.LineTan n p h c) is numbers worded none = defined_asks at (deeds.LineTan n p h c) refl is none
-asks at (deeds.LineTwo n h c k d) is numbers worded none = defined_asks at (deeds.LineTwo n h c k d) refl is none
-asks at (deeds.CircleXyr n x y r) is numbers worded none = defined_asks at (deeds.CircleXyr n x y r) refl is none
-asks at (deeds.CirclePoints n a b c) is numbers worded none = defined_asks at (deeds.CirclePoints n a b c) refl is none
-asks at (deeds.CircleRadius n p r) is numbers worded none = defined_asks at (deeds.CircleRadius n p r) refl is none
-asks at (deeds.CircleTan n p l) is numbers worded none = defined_asks at (deeds.CircleTan n p l) refl is none
-asks at (deeds.CircleThrough n p q) is numbers worded none = defined_asks at (deeds.CircleThrough n p q) refl is none
-asks at (deeds.CircleCorner n j a k b r) is numbers worded none = defined_asks at (deeds.CircleCorner n j a k b r) refl is none
-asks at (deeds.Cutter v) is numbers worded none =
-    let radius = pos (radius_of (unsigned_abs (grid_units at.settings.units v))) in
-    says (record at.settings { radius = radius }) (notes.Cutter (grid_units at.settings.units v)) (with_radius at.settings radius is.settings (radius_in (grid_units at.settings.units v) none.0)) (up_to_in (pos 1000000) (grid_units at.settings.units v) none.0)
-asks at (deeds.Intol v) is numbers worded none = says (record at.settings { intol = grid_units at.settings.units v }) (notes.Intol (grid_units at.settings.units v)) (with_intol at.settings (grid_units at.settings.units v) is.settings (tolerance_in (grid_units at.settings.units v) none.0)) (up_to_in (pos 10000) (grid_units at.settings.units v) none.0)
-asks at (deeds.Outtol v) is numbers worded none = says (record at.settings { outtol = grid_units at.settings.units v }) (notes.Outtol (grid_units at.settings.units v)) (with_outtol at.settings (grid_units at.settings.units v) is.settings (tolerance_in (grid_units at.settings.units v) none.0)) (up_to_in (pos 10000) (grid_units at.settings.units v) none.0)
-asks at (deeds.Tool side) is numbers worded none = sets (record at.settings { side = side }) (on_side at.settings side is.settings)
-asks at (deeds.FromXy x y z) is numbers worded none = moves_to reaches.From (position_by at.settings.units x y z) (position_is (position_by at.settings.units x y z) [] none.1)
-asks at (deeds.FromPoint p) is numbers worded none = place_asks reaches.From (figure_named at.table p) (looked_up at.table p is.table) none.1.0 none.1.1.0
-asks at (deeds.GotoXy x y z) is numbers worded none = move_asks reaches.Goto at.settings (Some (position_by at.settings.units x y z)) refl none
-asks at (deeds.GotoPoint p) is numbers worded none = place_asks reaches.Goto (figure_named at.table p) (looked_up at.table p is.table) none.0 none.1.0
-asks at (deeds.Godlta x y z) is numbers worded none =
-    move_asks reaches.Godlta at.settings (at.position >>= λ p. Some (moved_by at.settings.units x y z p)) (still_there at.position (moved_by at.settings.units x y z) none.0) none.1
-asks at (deeds.GoStart how name other) is numbers worded none = go_asks at how name other is none
-asks at (deeds.Contour side go drive how check) is numbers worded none = contour_asks at side go drive how check is none
-asks at deeds.Rapid is numbers worded none = says (record at.settings { rapid = true }) notes.Rapid (with_rapid at.settings true is.settings) tt
-asks at deeds.Halt is numbers worded none = says at.settings notes.Stop is.settings tt
-asks at deeds.OptHalt is numbers worded none = says at.settings notes.OptStop is.settings tt
-asks at deeds.EndWord is numbers worded none = says at.settings notes.End is.settings tt
-asks at deeds.Fini is numbers worded none = says at.settings notes.Fini is.settings tt
-asks at (deeds.Fedrat v) is numbers worded none =
-    let good = feed_in v numbers none.0 in
-    says (record at.settings { feed = tenths v }) (notes.Fedrat (tenths v)) (with_feed at.settings (tenths v) is.settings good) (feed_note v good none.0)
-asks at (deeds.Spindl v turn) is numbers worded none = spindle_asks at.settings v turn is.settings numbers none.0 none.1.0
-asks at deeds.SpindlOff is numbers worded none = says at.settings (notes.Spindl turns.Off (pos 0)) is.settings refl
-asks at (deeds.Coolnt c) is numbers worded none = says at.settings (notes.Coolnt c) is.settings tt
-asks at (deeds.Loadtl v) is numbers worded none = says at.settings (notes.Loadtl (whole v)) is.settings (whole_note v numbers none.0)
-asks at deeds.Macro is numbers worded none = sets at.settings is.settings
-asks at deeds.Termac is numbers worded none = sets at.settings is.settings
-asks at deeds.Call is numbers worded none = sets at.settings is.settings
-asks at deeds.Loopst is numbers worded none = sets at.settings is.settings
-asks at deeds.Loopnd is numbers worded none = sets at.settings is.settings
-asks at deeds.Jumpto is numbers worded none = sets at.settings is.settings
-asks at deeds.If is numbers worded none = sets at.settings is.settings
+asks at deed is numbers worded none = asks_by at (ask_of deed) is numbers worded none
 
 -- where no case refuses it, a step has an effect
 pub answered : (at : Situation) (deed : Deed) → IsSituation at → HasScalars deed → DeedHasText deed → refusal_of at deed ≡ None → Asks (effect_of at deed)

@@ -1,5 +1,5 @@
 -- The records of a step begin in one way only, and where they begin they are as expected.
-use Rattle.std.proofs.Common.{◌≡◌, ◌∙◌, ℕ, zero, suc, ℤ, Bool, true, false, List, [], ◌∷◌, ◌++◌, map, Option, Some, None, refl, sym, ap, subst}
+use Rattle.std.proofs.Common.{◌≡◌, ◌∙◌, ℕ, zero, suc, ℤ, Bool, true, false, List, [], ◌∷◌, ◌++◌, map, Option, Some, refl, sym, ap, subst}
 use Rattle.std.specs.Prelude.{◌&&◌}
 use Rattle.std.proofs.lemmas.Bool.{true≢false}
 use Rattle.apt_words.specs.declared.deed.Step.{Step}
@@ -7,6 +7,7 @@ use Rattle.apt_plane.specs.declared.figures.Pt.{Pt}
 use Rattle.apt_cldata.specs.declared.record.Position.{Position}
 use Rattle.apt_cldata.specs.declared.record.Record.{Record}
 use Rattle.apt_meaning.specs.declared.situation.Situation.{Situation}
+use Rattle.apt_meaning.specs.declared.effect.Change.TheVariants as changes
 use Rattle.apt_meaning.specs.declared.effect.Effect.{Effect}
 use Rattle.apt_meaning.specs.declared.effect.Effect.TheVariants as effects
 use Rattle.apt_meaning.specs.Situations.{at_height}
@@ -30,8 +31,9 @@ heights_same z (p ∷ ps) (q ∷ qs) e = rw (same_point z p q cc, heights_same z
 front_once : (step : Step) (e : Effect) (vs us : List Pt) (xs ys : List Record) → MayHave e vs → MayHave e us
     → records_of step e vs ++ xs ≡ records_of step e us ++ ys → (vs ≡ us) × (xs ≡ ys)
 front_once step (effects.Defines n f) vs us xs ys v u e = (v ∙ sym u, e)
-front_once step (effects.Sets s None) vs us xs ys v u e = (v ∙ sym u, e)
-front_once step (effects.Sets s (Some note)) vs us xs ys v u e = (v ∙ sym u, cc)
+front_once step (effects.Sets (changes.Said note)) vs us xs ys v u e = (v ∙ sym u, cc)
+front_once step (effects.Sets (changes.Side side)) vs us xs ys v u e = (v ∙ sym u, e)
+front_once step (effects.Sets changes.Nothing) vs us xs ys v u e = (v ∙ sym u, e)
 front_once step (effects.Moves reach to) vs us xs ys v u e = (v ∙ sym u, cc)
 front_once step (effects.Cuts m) vs us xs ys v u e =
     let same : map (at_height m.start.z) vs ≡ map (at_height m.start.z) us = cc in
@@ -72,8 +74,9 @@ both false b e = absurd (true≢false (sym e))
 
 front_met : (step : Step) (e : Effect) (vertices : List Pt) → MayHave e vertices → AreMet (behind_statement step (expected_of (Some e))) (records_of step e vertices)
 front_met step (effects.Defines n f) vertices may = tt
-front_met step (effects.Sets s None) vertices may = tt
-front_met step (effects.Sets s (Some note)) vertices may = (([], (refl, refl)), (([], (refl, refl)), tt))
+front_met step (effects.Sets (changes.Said note)) vertices may = (([], (refl, refl)), (([], (refl, refl)), tt))
+front_met step (effects.Sets (changes.Side side)) vertices may = tt
+front_met step (effects.Sets changes.Nothing) vertices may = tt
 front_met step (effects.Moves reach to) vertices may = (([], (refl, refl)), (([], (refl, refl)), tt))
 front_met step (effects.Cuts m) vertices may =
     let there = both (has_track m) (has_stop m) may in

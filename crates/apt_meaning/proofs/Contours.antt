@@ -3,8 +3,11 @@ use Rattle.std.proofs.Common.{◌≡◌, ℕ, Bool, true, false, List, Option, S
 use Rattle.apt_words.specs.declared.Case.{Case}
 use Rattle.apt_words.specs.declared.Go.{Go}
 use Rattle.apt_words.specs.declared.Stop.{Stop}
+use Rattle.apt_words.specs.declared.ask.Form.{Form}
+use Rattle.apt_words.specs.declared.ask.Route.{Route}
+use Rattle.apt_words.specs.declared.ask.Route.TheVariants as routes
 use Rattle.apt_words.specs.declared.deed.Deed.{Deed}
-use Rattle.apt_words.specs.declared.deed.Deed.TheVariants as deeds
+use Rattle.apt_words.specs.Asks.{Ask, Titles, Says, Sets, Defines, Goes, Cuts, Nothing, ask_of}
 use Rattle.apt_words.specs.Options.{◌>>=◌}
 use Rattle.apt_plane.specs.declared.figures.Dir.{Dir}
 use Rattle.apt_plane.specs.declared.figures.Surface.{Surface}
@@ -13,10 +16,9 @@ use Rattle.apt_offset.specs.Turns.{tangent, turn, is_zero}
 use Rattle.apt_cldata.specs.declared.record.Position.{Position}
 use Rattle.apt_cldata.specs.declared.record.Reach.{Reach}
 use Rattle.apt_cldata.specs.declared.record.Reach.TheVariants as reaches
-use Rattle.apt_defs.specs.declared.figure.Definition.{Definition}
 use Rattle.apt_defs.specs.declared.figure.Figure.{Figure}
 use Rattle.apt_defs.specs.declared.figure.Figure.TheVariants as figures
-use Rattle.apt_defs.specs.Definitions.{definition_of}
+use Rattle.apt_defs.specs.Definitions.{figure_of}
 use Rattle.apt_defs.specs.Figures.{Table, IsFigure, AreFigures, figure_named}
 use Rattle.apt_defs.proofs.Tables.{looked_up}
 use Rattle.apt_meaning.specs.declared.situation.Settings.{Settings}
@@ -26,9 +28,8 @@ use Rattle.apt_meaning.specs.declared.effect.Effect.{Effect}
 use Rattle.apt_meaning.specs.Situations.{with_side}
 use Rattle.apt_meaning.specs.Motions.{as_surface, surface_in, motion, if_turned, motion_at}
 use Rattle.apt_meaning.specs.StartUps.{start_position_at}
-use Rattle.apt_meaning.specs.Effects.{moves, cuts, moved_from, place_in, names, defines, defined, effect_of}
+use Rattle.apt_meaning.specs.Effects.{moves, cuts, moved_from, place_at, names, defined, goes, effect_by, effect_of}
 use Rattle.apt_meaning.specs.Ranges.{IsPositionOrNone, AreSettings, IsSituation, IsMotion, HasMotion}
-use Rattle.apt_meaning.proofs.Said.{either_turn}
 use Rattle.apt_meaning.proofs.EffectRanges.{on_side_or_as_it_was, motion_is}
 
 -- ---- names of surfaces
@@ -66,69 +67,30 @@ names_made : (name : List ℕ) (r : Result Figure Case) → IfSome (names name r
 names_made name (Ok f) = tt
 names_made name (Err case) = tt
 
-defines_made : (o : Option Definition) → IfSome (defines o) HasMotion
-defines_made None = tt
-defines_made (Some d) = names_made d.name d.figure
-
-defined_made : (at : Situation) (deed : Deed) → IfSome (defined at deed) HasMotion
+defined_made : (at : Situation) (name : List ℕ) (form : Form) → IfSome (defined at name form) HasMotion
 unfolding defined
-defined_made at deed = defines_made (definition_of at.settings.units at.table deed)
+defined_made at name form = names_made name (figure_of at.settings.units at.table form)
+
+goes_made : (at : Situation) (route : Route) → IfSome (goes at route) HasMotion
+goes_made at (routes.From place) = moves_made reaches.From (place_at at place)
+goes_made at (routes.Goto place) = moves_made reaches.Goto (place_at at place)
+goes_made at (routes.By x y z) = moves_made reaches.Godlta (moved_from at x y z)
+goes_made at (routes.Start how name other) = moves_made reaches.Start (start_position_at at how name other)
+
+made_by : (at : Situation) (ask : Ask) → IsSituation at → IfSome (effect_by at ask) HasMotion
+unfolding motion_at
+made_by at (Titles text) is = tt
+made_by at (Says saying) is = tt
+made_by at (Sets side) is = tt
+made_by at (Defines name form) is = defined_made at name form
+made_by at (Goes route) is = goes_made at route
+made_by at (Cuts side go drive how check) is =
+    contour_made (with_side at.settings side) at.forward go how at.position (surface_in at.table drive) (surface_in at.table check)
+    (on_side_or_as_it_was at.settings side is.settings) is.position (named_surface at.table drive is.table) (named_surface at.table check is.table)
+made_by at Nothing is = tt
 
 pub made : (at : Situation) (deed : Deed) → IsSituation at → IfSome (effect_of at deed) HasMotion
-unfolding motion_at
-made at (deeds.Partno text) is = tt
-made at (deeds.Remark text) is = tt
-made at (deeds.Units units) is = tt
-made at deeds.Clprnt is = tt
-made at deeds.Nopost is = tt
-made at deeds.Machin is = tt
-made at (deeds.Assign n v) is = defined_made at (deeds.Assign n v)
-made at (deeds.PointXy n x y z) is = defined_made at (deeds.PointXy n x y z)
-made at (deeds.PointLines n a b) is = defined_made at (deeds.PointLines n a b)
-made at (deeds.PointPick n k a b) is = defined_made at (deeds.PointPick n k a b)
-made at (deeds.PointCenter n c) is = defined_made at (deeds.PointCenter n c)
-made at (deeds.LineXy n x y u v) is = defined_made at (deeds.LineXy n x y u v)
-made at (deeds.LinePoints n p q) is = defined_made at (deeds.LinePoints n p q)
-made at (deeds.LinePar n p l) is = defined_made at (deeds.LinePar n p l)
-made at (deeds.LinePerp n p l) is = defined_made at (deeds.LinePerp n p l)
-made at (deeds.LineAt n l k v) is = defined_made at (deeds.LineAt n l k v)
-made at (deeds.LineTan n p h c) is = defined_made at (deeds.LineTan n p h c)
-made at (deeds.LineTwo n h c k d) is = defined_made at (deeds.LineTwo n h c k d)
-made at (deeds.CircleXyr n x y r) is = defined_made at (deeds.CircleXyr n x y r)
-made at (deeds.CirclePoints n a b c) is = defined_made at (deeds.CirclePoints n a b c)
-made at (deeds.CircleRadius n p r) is = defined_made at (deeds.CircleRadius n p r)
-made at (deeds.CircleTan n p l) is = defined_made at (deeds.CircleTan n p l)
-made at (deeds.CircleThrough n p q) is = defined_made at (deeds.CircleThrough n p q)
-made at (deeds.CircleCorner n j a k b r) is = defined_made at (deeds.CircleCorner n j a k b r)
-made at (deeds.Cutter v) is = tt
-made at (deeds.Intol v) is = tt
-made at (deeds.Outtol v) is = tt
-made at (deeds.Tool side) is = tt
-made at (deeds.FromXy x y z) is = tt
-made at (deeds.FromPoint p) is = moves_made reaches.From (place_in at.table p)
-made at (deeds.GotoXy x y z) is = tt
-made at (deeds.GotoPoint p) is = moves_made reaches.Goto (place_in at.table p)
-made at (deeds.Godlta x y z) is = moves_made reaches.Godlta (moved_from at x y z)
-made at (deeds.GoStart how name other) is = moves_made reaches.Start (start_position_at at how name other)
-made at (deeds.Contour side go drive how check) is = contour_made (with_side at.settings side) at.forward go how at.position (surface_in at.table drive) (surface_in at.table check)
-    (on_side_or_as_it_was at.settings side is.settings) is.position (named_surface at.table drive is.table) (named_surface at.table check is.table)
-made at deeds.Rapid is = tt
-made at deeds.Halt is = tt
-made at deeds.OptHalt is = tt
-made at deeds.EndWord is = tt
-made at deeds.Fini is = tt
-made at (deeds.Fedrat v) is = tt
-made at (deeds.Spindl v turn) is = either_turn HasMotion at.settings v turn tt tt
-made at deeds.SpindlOff is = tt
-made at (deeds.Coolnt c) is = tt
-made at (deeds.Loadtl v) is = tt
-made at deeds.Macro is = tt
-made at deeds.Termac is = tt
-made at deeds.Call is = tt
-made at deeds.Loopst is = tt
-made at deeds.Loopnd is = tt
-made at deeds.Jumpto is = tt
-made at deeds.If is = tt
+made at deed is = made_by at (ask_of deed) is
 
 pub motion_in : (at : Situation) (deed : Deed) (e : Option Effect) → IsSituation at → e ≡ effect_of at deed → IfSome e HasMotion
 motion_in at deed e is same = subst (λ (o : Option Effect). IfSome o HasMotion) (sym same) (made at deed is)

@@ -14,7 +14,7 @@ use Rattle.apt_meaning.specs.declared.effect.Effect.{Effect}
 use Rattle.apt_meaning.specs.declared.effect.Effect.TheVariants as effects
 use Rattle.apt_meaning.specs.Situations.{first_situation}
 use Rattle.apt_meaning.specs.Effects.{defined, effect_of}
-use Rattle.apt_meaning.specs.Refusals.{refused_definition, refusal_of}
+use Rattle.apt_meaning.specs.Refusals.{refused_form, refusal_of}
 
 -- ---- names: lines to the right and up, points, circles, a line to the left, one that meets the first far off, and a number
 
@@ -77,9 +77,9 @@ point_pick : effect_of at (deeds.PointPick (codes "P4") picks.XLarge (codes "L1"
 unfolding root defined
 point_pick = refl
 
-point_center : effect_of at (deeds.PointCenter (codes "P4") (codes "C2")) ≡ point (codes "P4") (pos 500000) (pos 0) (pos 0)
+centre_point : effect_of at (deeds.PointCenter (codes "P4") (codes "C2")) ≡ point (codes "P4") (pos 500000) (pos 0) (pos 0)
 unfolding defined
-point_center = refl
+centre_point = refl
 
 line_points : effect_of at (deeds.LinePoints (codes "L3") (codes "P3") (codes "P2")) ≡ some_line (codes "L3") (pos 0) (pos 200000) (pos 400000) (neg_ℤ (pos 200000))
 unfolding defined
@@ -134,44 +134,44 @@ circle_corner = refl
 -- ---- refusals
 
 far_line : refusal_of at (deeds.LineXy (codes "L9") (pos 0) (pos 0) (pos 0) (whole 501)) ≡ Some cases.OutOfRange
-unfolding refused_definition
+unfolding refused_form
 far_line = refl
 
 -- its points are 0 and 4 millionths: the same on the grid
 short_line : refusal_of at (deeds.LineXy (codes "L9") (pos 0) (pos 0) (pos 4) (pos 0)) ≡ Some cases.Degenerate
-unfolding refused_definition
+unfolding refused_form
 short_line = refl
 
 far_point : refusal_of at (deeds.PointXy (codes "P9") (pos 0) (pos 0) (Some (whole 501))) ≡ Some cases.OutOfRange
-unfolding refused_definition
+unfolding refused_form
 far_point = refl
 
 -- names are tried before numbers
 unknown_name : refusal_of at (deeds.CircleRadius (codes "C9") (codes "B") (whole 1001)) ≡ Some cases.Undefined
-unfolding refused_definition
+unfolding refused_form
 unknown_name = refl
 
 -- the first name's kind is tried before the second is looked for
 other_kind : refusal_of at (deeds.LinePar (codes "L9") (codes "L1") (codes "B")) ≡ Some cases.WrongKind
-unfolding refused_definition
+unfolding refused_form
 other_kind = refl
 
 one_point : refusal_of at (deeds.LinePoints (codes "L9") (codes "P1") (codes "P1")) ≡ Some cases.Degenerate
-unfolding refused_definition
+unfolding refused_form
 one_point = refl
 
 parallel_lines : refusal_of at (deeds.PointLines (codes "P9") (codes "L1") (codes "L4")) ≡ Some cases.NoMeeting
-unfolding root refused_definition
+unfolding root refused_form
 parallel_lines = refl
 
 far_meeting : refusal_of at (deeds.PointLines (codes "P9") (codes "L1") (codes "L5")) ≡ Some cases.OutOfRange
-unfolding root refused_definition
+unfolding root refused_form
 far_meeting = refl
 
 great_circle : refusal_of at (deeds.CircleXyr (codes "C9") (whole 480) (pos 0) (whole 11)) ≡ Some cases.CircleTooLarge
-unfolding refused_definition
+unfolding refused_form
 great_circle = refl
 
 greatest_circle : refusal_of at (deeds.CircleXyr (codes "C9") (whole 480) (pos 0) (whole 10)) ≡ None
-unfolding refused_definition
+unfolding refused_form
 greatest_circle = refl

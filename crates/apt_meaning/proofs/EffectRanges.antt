@@ -16,14 +16,18 @@ use Rattle.apt_plane.specs.Ranges.{IsSurface, IsSense}
 use Rattle.apt_offset.specs.Ranges.{IsRadius, IsTolerance}
 use Rattle.apt_offset.specs.Turns.{is_zero}
 use Rattle.apt_offset.specs.Targets.{signed, greater}
+use Rattle.apt_cldata.specs.declared.record.Note.{Note}
+use Rattle.apt_cldata.specs.declared.record.Note.TheVariants as notes
 use Rattle.apt_cldata.specs.declared.record.Position.{Position}
-use Rattle.apt_cldata.specs.Ranges.{IsPosition, IsFromTo}
+use Rattle.apt_cldata.specs.Ranges.{IsPosition, IsNote, IsFromTo}
 use Rattle.apt_defs.specs.Forms.{is_in_reach}
+use Rattle.apt_meaning.specs.declared.effect.Change.{Change}
+use Rattle.apt_meaning.specs.declared.effect.Change.TheVariants as changes
 use Rattle.apt_meaning.specs.declared.situation.Settings.{Settings}
-use Rattle.apt_meaning.specs.Situations.{radius_of, with_side}
+use Rattle.apt_meaning.specs.Situations.{radius_of, with_side, settings_with, changed}
 use Rattle.apt_meaning.specs.Motions.{grid_step, motion}
 use Rattle.apt_meaning.specs.Refusals.{is_up_to}
-use Rattle.apt_meaning.specs.Ranges.{AreSettings, IsFeed, IsAllowance, IsMotion}
+use Rattle.apt_meaning.specs.Ranges.{AreSettings, IsChange, IsAllowance, IsMotion}
 
 -- ---- what a condition that fails says
 
@@ -32,17 +36,6 @@ reach_in v e = grind (arith, ints, not-false)
 
 pub up_to_in : (most v : ℤ) → not (is_up_to most v) ≡ false → IsFromTo (pos 0) most v
 up_to_in most v e = grind (arith, ints, not-false)
-
-pub tolerance_in : (v : ℤ) → not (is_up_to (pos 10000) v) ≡ false → IsTolerance v
-tolerance_in v e =
-    let h = up_to_in (pos 10000) v e in
-    record { least = h.0; most = h.1 }
-
--- half of a diameter
-pub radius_in : (v : ℤ) → not (is_up_to (pos 1000000) v) ≡ false → IsRadius (pos (radius_of (unsigned_abs v)))
-radius_in v e =
-    let h = up_to_in (pos 1000000) v e in
-    record { least = omega (arith, ints); most = omega (arith, ints, h) }
 
 -- ---- lengths
 
@@ -55,11 +48,8 @@ grid_units_small the_units.Mm v h = omega (arith, ints, (near-IsNear v (pos 100)
 near_small : (v : ℤ) → IsScalar v → unsigned_abs (tenths v) ≤ 10 ^ 7
 near_small v h = omega (arith, ints, (near-IsNear v (pos (10 ^ 5)) (omega (arith, ints))).nearest, h)
 
-pub feed_in : (v : ℤ) → IsScalar v → int_lt (tenths v) (pos 1) ≡ false → IsFeed (tenths v)
-feed_in v h e = record { least = grind (arith, ints); most = omega (arith, ints, near_small v h) }
-
-pub feed_note : (v : ℤ) → IsFeed (tenths v) → int_lt (tenths v) (pos 1) ≡ false → IsFromTo (pos 1) (pos 2147483647) (tenths v)
-feed_note v is e = (grind (arith, ints), omega (arith, ints, is.most))
+pub feed_note : (v : ℤ) → IsScalar v → int_lt (tenths v) (pos 1) ≡ false → IsFromTo (pos 1) (pos 2147483647) (tenths v)
+feed_note v h e = (grind (arith, ints), omega (arith, ints, near_small v h))
 
 -- ---- speeds and tools
 
@@ -69,25 +59,14 @@ whole_small v h = omega (arith, ints, (near-IsNear v (pos one) (omega (arith, in
 pub whole_note : (v : ℤ) → IsScalar v → int_lt (whole v) (pos 1) ≡ false → IsFromTo (pos 1) (pos 2147483647) (whole v)
 whole_note v h e = (grind (arith, ints), omega (arith, ints, whole_small v h))
 
--- ---- settings that change in one place
+-- ---- settings behind what is set
 
-pub with_units : (s : Settings) (units : Units) → AreSettings s → AreSettings (record s { units = units })
-with_units s units is = record { radius = is.radius; intol = is.intol; outtol = is.outtol; feed = is.feed }
-
-pub with_radius : (s : Settings) (radius : ℤ) → AreSettings s → IsRadius radius → AreSettings (record s { radius = radius })
-with_radius s radius is good = record { radius = good; intol = is.intol; outtol = is.outtol; feed = is.feed }
-
-pub with_intol : (s : Settings) (intol : ℤ) → AreSettings s → IsTolerance intol → AreSettings (record s { intol = intol })
-with_intol s intol is good = record { radius = is.radius; intol = good; outtol = is.outtol; feed = is.feed }
-
-pub with_outtol : (s : Settings) (outtol : ℤ) → AreSettings s → IsTolerance outtol → AreSettings (record s { outtol = outtol })
-with_outtol s outtol is good = record { radius = is.radius; intol = is.intol; outtol = good; feed = is.feed }
+-- half of a diameter
+radius_in : (d : ℤ) → IsFromTo (pos 0) (pos 1000000) d → IsRadius (pos (radius_of (unsigned_abs d)))
+radius_in d is = record { least = omega (arith, ints); most = omega (arith, ints, is.0, is.1) }
 
 pub on_side : (s : Settings) (side : Side) → AreSettings s → AreSettings (record s { side = side })
 on_side s side is = record { radius = is.radius; intol = is.intol; outtol = is.outtol; feed = is.feed }
-
-pub with_feed : (s : Settings) (feed : ℤ) → AreSettings s → IsFeed feed → AreSettings (record s { feed = feed })
-with_feed s feed is good = record { radius = is.radius; intol = is.intol; outtol = is.outtol; feed = good }
 
 pub with_rapid : (s : Settings) (rapid : Bool) → AreSettings s → AreSettings (record s { rapid = rapid })
 with_rapid s rapid is = record { radius = is.radius; intol = is.intol; outtol = is.outtol; feed = is.feed }
@@ -95,6 +74,20 @@ with_rapid s rapid is = record { radius = is.radius; intol = is.intol; outtol = 
 pub on_side_or_as_it_was : (s : Settings) (side : Option Side) → AreSettings s → AreSettings (with_side s side)
 on_side_or_as_it_was s None is = is
 on_side_or_as_it_was s (Some side) is = on_side s side is
+
+note_kept : (s : Settings) (note : Note) → AreSettings s → IsNote note → AreSettings (settings_with s note)
+note_kept s (notes.Units units) is said = record { radius = is.radius; intol = is.intol; outtol = is.outtol; feed = is.feed }
+note_kept s (notes.Cutter d) is said = record { radius = radius_in d said; intol = is.intol; outtol = is.outtol; feed = is.feed }
+note_kept s (notes.Intol t) is said = record { radius = is.radius; intol = record { least = said.0; most = said.1 }; outtol = is.outtol; feed = is.feed }
+note_kept s (notes.Outtol t) is said = record { radius = is.radius; intol = is.intol; outtol = record { least = said.0; most = said.1 }; feed = is.feed }
+note_kept s (notes.Feed f) is said = record { radius = is.radius; intol = is.intol; outtol = is.outtol; feed = record { least = omega (arith, ints, said.0); most = said.1 } }
+note_kept s notes.Rapid is said = with_rapid s true is
+note_kept s _ is said = is
+
+pub change_kept : (s : Settings) (change : Change) → AreSettings s → IsChange change → AreSettings (changed s change)
+change_kept s (changes.Said note) is said = note_kept s note is said
+change_kept s (changes.Side side) is said = on_side s side is
+change_kept s changes.Nothing is said = is
 
 -- ---- motions
 

@@ -1,11 +1,17 @@
 -- A contour or a move that no case refuses has a feed; a rapid move needs none.
-use Rattle.std.proofs.Common.{◌≡◌, ℕ, not, false, List, Result, Ok, Err, Option, Some, None, IfSome}
+use Rattle.std.proofs.Common.{◌≡◌, ℕ, not, false, List, [], ◌∷◌, Result, Ok, Err, Option, Some, None, IfSome}
 use Rattle.apt_words.specs.declared.Case.{Case}
+use Rattle.apt_words.specs.declared.Case.TheVariants as cases
 use Rattle.apt_words.specs.declared.Go.{Go}
 use Rattle.apt_words.specs.declared.Side.{Side}
 use Rattle.apt_words.specs.declared.Stop.{Stop}
+use Rattle.apt_words.specs.declared.ask.Form.{Form}
+use Rattle.apt_words.specs.declared.ask.Place.{Place}
+use Rattle.apt_words.specs.declared.ask.Place.TheVariants as places
+use Rattle.apt_words.specs.declared.ask.Route.{Route}
+use Rattle.apt_words.specs.declared.ask.Route.TheVariants as routes
 use Rattle.apt_words.specs.declared.deed.Deed.{Deed}
-use Rattle.apt_words.specs.declared.deed.Deed.TheVariants as deeds
+use Rattle.apt_words.specs.Asks.{Ask, Titles, Says, Sets, Defines, Goes, Cuts, Nothing, ask_of}
 use Rattle.apt_words.specs.Options.{◌>>=◌}
 use Rattle.apt_words.specs.Rows.{NoneHolds}
 use Rattle.apt_plane.specs.declared.figures.Surface.{Surface}
@@ -13,8 +19,7 @@ use Rattle.apt_cldata.specs.declared.record.Position.{Position}
 use Rattle.apt_cldata.specs.declared.record.Reach.{Reach}
 use Rattle.apt_cldata.specs.declared.record.Reach.TheVariants as reaches
 use Rattle.apt_defs.specs.declared.figure.Figure.{Figure}
-use Rattle.apt_defs.specs.declared.figure.Definition.{Definition}
-use Rattle.apt_defs.specs.Definitions.{definition_of}
+use Rattle.apt_defs.specs.Definitions.{figure_of}
 use Rattle.apt_meaning.specs.declared.situation.Settings.{Settings}
 use Rattle.apt_meaning.specs.declared.situation.Situation.{Situation}
 use Rattle.apt_meaning.specs.declared.motion.Motion.{Motion}
@@ -23,13 +28,13 @@ use Rattle.apt_meaning.specs.declared.effect.Effect.TheVariants as effects
 use Rattle.apt_meaning.specs.Situations.{has_feed, lacks_feed, with_side}
 use Rattle.apt_meaning.specs.Motions.{surface_in, turn_at, if_turned, motion_at}
 use Rattle.apt_meaning.specs.StartUps.{start_position_at}
-use Rattle.apt_meaning.specs.Effects.{moves, cuts, place_in, names, defines, defined, position_by, moved_from, effect_of}
-use Rattle.apt_meaning.specs.Refusals.{move_cases, surface_cases, go_cases, cases_of}
-use Rattle.apt_meaning.proofs.Said.{of_some, either_turn}
+use Rattle.apt_meaning.specs.Effects.{moves, cuts, place_in, place_at, names, defined, position_by, moved_from, goes, effect_by, effect_of}
+use Rattle.apt_meaning.specs.Refusals.{place_cases, move_cases, route_cases, surface_cases, go_cases, cases_by, cases_of}
+use Rattle.apt_meaning.proofs.Said.{of_some}
 
 abbrev pub IsFed : Settings → Effect → Type 0
 IsFed s (effects.Defines n f) = Unit {0}
-IsFed s (effects.Sets t said) = Unit {0}
+IsFed s (effects.Sets change) = Unit {0}
 IsFed s (effects.Moves reaches.From to) = Unit {0}
 IsFed s (effects.Moves reaches.Goto to) = lacks_feed s ≡ false
 IsFed s (effects.Moves reaches.Godlta to) = lacks_feed s ≡ false
@@ -40,13 +45,9 @@ figure_fed : (s : Settings) (n : List ℕ) (r : Result Figure Case) → IfSome (
 figure_fed s n (Ok f) = tt
 figure_fed s n (Err case) = tt
 
-definition_fed : (s : Settings) (o : Option Definition) → IfSome (defines o) (IsFed s)
-definition_fed s None = tt
-definition_fed s (Some d) = figure_fed s d.name d.figure
-
-defined_fed : (at : Situation) (deed : Deed) → IfSome (defined at deed) (IsFed at.settings)
+defined_fed : (at : Situation) (name : List ℕ) (form : Form) → IfSome (defined at name form) (IsFed at.settings)
 unfolding defined
-defined_fed at deed = definition_fed at.settings (definition_of at.settings.units at.table deed)
+defined_fed at name form = figure_fed at.settings name (figure_of at.settings.units at.table form)
 
 move_fed : (s : Settings) (reach : Reach) (to : Position) → lacks_feed s ≡ false → IsFed s (effects.Moves reach to)
 move_fed s reaches.From to fed = tt
@@ -88,61 +89,26 @@ surfaces_fed at side go how (Some start) (Some drive) None none = tt
 surfaces_fed at side go how (Some start) (Some drive) (Some check) none =
     cuts_fed at.settings (if_turned (with_side at.settings side) start drive (turn_at at start drive go) how check) (without_side at.settings side none.1.0)
 
-all_fed : (at : Situation) (deed : Deed) → NoneHolds (cases_of at deed) → IfSome (effect_of at deed) (IsFed at.settings)
+goto_fed : (at : Situation) (place : Place) → NoneHolds (place_cases at place ((lacks_feed at.settings, cases.NoFeed) ∷ [])) → IfSome (moves reaches.Goto (place_at at place)) (IsFed at.settings)
+goto_fed at (places.Xyz x y z) none = moves_fed at.settings reaches.Goto (Some (position_by at.settings.units x y z)) none
+goto_fed at (places.Named p) none = point_fed at.settings reaches.Goto (place_in at.table p) none.1.1.0
+
+goes_fed : (at : Situation) (route : Route) → NoneHolds (route_cases at route) → IfSome (goes at route) (IsFed at.settings)
+goes_fed at (routes.From place) none = from_fed at.settings (place_at at place)
+goes_fed at (routes.Goto place) none = goto_fed at place none
+goes_fed at (routes.By x y z) none = moves_fed at.settings reaches.Godlta (moved_from at x y z) none.1
+goes_fed at (routes.Start how name other) none = go_fed at how name other none
+
+all_fed : (at : Situation) (ask : Ask) → NoneHolds (cases_by at ask) → IfSome (effect_by at ask) (IsFed at.settings)
 unfolding motion_at
-all_fed at (deeds.Partno text) none = tt
-all_fed at (deeds.Remark text) none = tt
-all_fed at (deeds.Units units) none = tt
-all_fed at deeds.Clprnt none = tt
-all_fed at deeds.Nopost none = tt
-all_fed at deeds.Machin none = tt
-all_fed at (deeds.Assign n v) none = defined_fed at (deeds.Assign n v)
-all_fed at (deeds.PointXy n x y z) none = defined_fed at (deeds.PointXy n x y z)
-all_fed at (deeds.PointLines n a b) none = defined_fed at (deeds.PointLines n a b)
-all_fed at (deeds.PointPick n k a b) none = defined_fed at (deeds.PointPick n k a b)
-all_fed at (deeds.PointCenter n c) none = defined_fed at (deeds.PointCenter n c)
-all_fed at (deeds.LineXy n x y u v) none = defined_fed at (deeds.LineXy n x y u v)
-all_fed at (deeds.LinePoints n p q) none = defined_fed at (deeds.LinePoints n p q)
-all_fed at (deeds.LinePar n p l) none = defined_fed at (deeds.LinePar n p l)
-all_fed at (deeds.LinePerp n p l) none = defined_fed at (deeds.LinePerp n p l)
-all_fed at (deeds.LineAt n l k v) none = defined_fed at (deeds.LineAt n l k v)
-all_fed at (deeds.LineTan n p h c) none = defined_fed at (deeds.LineTan n p h c)
-all_fed at (deeds.LineTwo n h c k d) none = defined_fed at (deeds.LineTwo n h c k d)
-all_fed at (deeds.CircleXyr n x y r) none = defined_fed at (deeds.CircleXyr n x y r)
-all_fed at (deeds.CirclePoints n a b c) none = defined_fed at (deeds.CirclePoints n a b c)
-all_fed at (deeds.CircleRadius n p r) none = defined_fed at (deeds.CircleRadius n p r)
-all_fed at (deeds.CircleTan n p l) none = defined_fed at (deeds.CircleTan n p l)
-all_fed at (deeds.CircleThrough n p q) none = defined_fed at (deeds.CircleThrough n p q)
-all_fed at (deeds.CircleCorner n j a k b r) none = defined_fed at (deeds.CircleCorner n j a k b r)
-all_fed at (deeds.Cutter v) none = tt
-all_fed at (deeds.Intol v) none = tt
-all_fed at (deeds.Outtol v) none = tt
-all_fed at (deeds.Tool side) none = tt
-all_fed at (deeds.FromXy x y z) none = tt
-all_fed at (deeds.FromPoint p) none = from_fed at.settings (place_in at.table p)
-all_fed at (deeds.GotoXy x y z) none = moves_fed at.settings reaches.Goto (Some (position_by at.settings.units x y z)) none
-all_fed at (deeds.GotoPoint p) none = point_fed at.settings reaches.Goto (place_in at.table p) none.1.1.0
-all_fed at (deeds.Godlta x y z) none = moves_fed at.settings reaches.Godlta (moved_from at x y z) none.1
-all_fed at (deeds.GoStart how name other) none = go_fed at how name other none
-all_fed at (deeds.Contour side go drive how check) none = surfaces_fed at side go how at.position (surface_in at.table drive) (surface_in at.table check) none.1.1.1.1.1
-all_fed at deeds.Rapid none = tt
-all_fed at deeds.Halt none = tt
-all_fed at deeds.OptHalt none = tt
-all_fed at deeds.EndWord none = tt
-all_fed at deeds.Fini none = tt
-all_fed at (deeds.Fedrat v) none = tt
-all_fed at (deeds.Spindl v turn) none = either_turn (IsFed at.settings) at.settings v turn tt tt
-all_fed at deeds.SpindlOff none = tt
-all_fed at (deeds.Coolnt c) none = tt
-all_fed at (deeds.Loadtl n) none = tt
-all_fed at deeds.Macro none = tt
-all_fed at deeds.Termac none = tt
-all_fed at deeds.Call none = tt
-all_fed at deeds.Loopst none = tt
-all_fed at deeds.Loopnd none = tt
-all_fed at deeds.Jumpto none = tt
-all_fed at deeds.If none = tt
+all_fed at (Titles text) none = tt
+all_fed at (Says saying) none = tt
+all_fed at (Sets side) none = tt
+all_fed at (Defines name form) none = defined_fed at name form
+all_fed at (Goes route) none = goes_fed at route none
+all_fed at (Cuts side go drive how check) none = surfaces_fed at side go how at.position (surface_in at.table drive) (surface_in at.table check) none.1.1.1.1.1
+all_fed at Nothing none = tt
 
 -- the effect of a step that no case refuses
 pub fed : (at : Situation) (deed : Deed) (e : Effect) → effect_of at deed ≡ Some e → NoneHolds (cases_of at deed) → IsFed at.settings e
-fed at deed e asked none = of_some (IsFed at.settings) (effect_of at deed) e asked (all_fed at deed none)
+fed at deed e asked none = of_some (IsFed at.settings) (effect_of at deed) e asked (all_fed at (ask_of deed) none)

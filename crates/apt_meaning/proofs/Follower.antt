@@ -9,6 +9,7 @@ use Rattle.apt_cldata.specs.Ranges.{IsPosition, ArePositions, AreRecords}
 use Rattle.apt_cldata.specs.declared.record.Record.{Record}
 use Rattle.apt_defs.specs.Figures.{IsFigure}
 use Rattle.apt_meaning.specs.declared.situation.Situation.{Situation}
+use Rattle.apt_meaning.specs.declared.effect.Change.TheVariants as changes
 use Rattle.apt_meaning.specs.declared.effect.Effect.{Effect}
 use Rattle.apt_meaning.specs.declared.effect.Effect.TheVariants as effects
 use Rattle.apt_meaning.specs.Situations.{first_situation, at_height}
@@ -16,7 +17,7 @@ use Rattle.apt_meaning.specs.Effects.{effect_of}
 use Rattle.apt_meaning.specs.Refusals.{refusal_of}
 use Rattle.apt_meaning.specs.Records.{records_of, after}
 use Rattle.apt_meaning.specs.Compiled.{ends_of, points_of, first_refused}
-use Rattle.apt_meaning.specs.Ranges.{AreSettings, IsNoteOrNone, IsSituation, IsEffect, HasMotion}
+use Rattle.apt_meaning.specs.Ranges.{IsChange, IsSituation, IsEffect, HasMotion}
 use Rattle.apt_meaning.specs.Vertices.{HasIn}
 use Rattle.apt_meaning.proofs.Agree.{Agrees, AreLike, alike, agrees_behind, agrees_first}
 use Rattle.apt_meaning.proofs.Asked.{answered}
@@ -30,7 +31,7 @@ use Rattle.apt_meaning.proofs.Walk.{fit, passed, after_points}
 -- a move leads to a position
 abbrev LeadsIn : Effect → Type 0
 LeadsIn (effects.Defines n f) = Unit {0}
-LeadsIn (effects.Sets s said) = Unit {0}
+LeadsIn (effects.Sets change) = Unit {0}
 LeadsIn (effects.Moves reach to) = IsPosition to
 LeadsIn (effects.Cuts m) = Unit {0}
 
@@ -49,8 +50,9 @@ pub record SaysIn (e : Effect) (vertices : List Pt) (rest : List Record) : Type 
 
 says_in : (step : Step) (e : Effect) (vertices : List Pt) (rest : List Record) → AreRecords (records_of step e vertices ++ rest) → SaysIn e vertices rest
 says_in step (effects.Defines n f) vertices rest are = record { leads = tt; within = tt; later = are }
-says_in step (effects.Sets s None) vertices rest are = record { leads = tt; within = tt; later = are }
-says_in step (effects.Sets s (Some note)) vertices rest are = record { leads = tt; within = tt; later = are.1.1 }
+says_in step (effects.Sets (changes.Said note)) vertices rest are = record { leads = tt; within = tt; later = are.1.1 }
+says_in step (effects.Sets (changes.Side side)) vertices rest are = record { leads = tt; within = tt; later = are }
+says_in step (effects.Sets changes.Nothing) vertices rest are = record { leads = tt; within = tt; later = are }
 says_in step (effects.Moves reach to) vertices rest are = record { leads = are.1.0; within = tt; later = are.1.1 }
 says_in step (effects.Cuts m) vertices rest are =
     let contour = are.1.1.1.0 in
@@ -59,19 +61,19 @@ says_in step (effects.Cuts m) vertices rest are =
 -- an effect like one in range
 effect_in : (e d : Effect) → AreLike e d → IsEffect e → HasMotion d → LeadsIn d → IsEffect d
 effect_in (effects.Defines n f) (effects.Defines m g) same good motion leads = subst IsFigure same.1 good
-effect_in (effects.Defines n f) (effects.Sets t said) same good motion leads = absurd same
+effect_in (effects.Defines n f) (effects.Sets other) same good motion leads = absurd same
 effect_in (effects.Defines n f) (effects.Moves reach to) same good motion leads = absurd same
 effect_in (effects.Defines n f) (effects.Cuts o) same good motion leads = absurd same
-effect_in (effects.Sets s say) (effects.Defines m g) same good motion leads = absurd same
-effect_in (effects.Sets s say) (effects.Sets t said) same good motion leads = (subst AreSettings same.0 good.0, subst IsNoteOrNone same.1 good.1)
-effect_in (effects.Sets s say) (effects.Moves reach to) same good motion leads = absurd same
-effect_in (effects.Sets s say) (effects.Cuts o) same good motion leads = absurd same
+effect_in (effects.Sets change) (effects.Defines m g) same good motion leads = absurd same
+effect_in (effects.Sets change) (effects.Sets other) same good motion leads = subst IsChange same good
+effect_in (effects.Sets change) (effects.Moves reach to) same good motion leads = absurd same
+effect_in (effects.Sets change) (effects.Cuts o) same good motion leads = absurd same
 effect_in (effects.Moves how from) (effects.Defines m g) same good motion leads = absurd same
-effect_in (effects.Moves how from) (effects.Sets t said) same good motion leads = absurd same
+effect_in (effects.Moves how from) (effects.Sets other) same good motion leads = absurd same
 effect_in (effects.Moves how from) (effects.Moves reach to) same good motion leads = leads
 effect_in (effects.Moves how from) (effects.Cuts o) same good motion leads = absurd same
 effect_in (effects.Cuts m) (effects.Defines n g) same good motion leads = absurd same
-effect_in (effects.Cuts m) (effects.Sets t said) same good motion leads = absurd same
+effect_in (effects.Cuts m) (effects.Sets other) same good motion leads = absurd same
 effect_in (effects.Cuts m) (effects.Moves reach to) same good motion leads = absurd same
 effect_in (effects.Cuts m) (effects.Cuts o) same good motion leads = motion
 

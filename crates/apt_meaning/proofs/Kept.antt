@@ -24,13 +24,14 @@ use Rattle.apt_defs.proofs.Tables.{still_figures}
 use Rattle.apt_meaning.specs.declared.situation.Settings.{Settings}
 use Rattle.apt_meaning.specs.declared.situation.Situation.{Situation}
 use Rattle.apt_meaning.specs.declared.motion.Motion.{Motion}
+use Rattle.apt_meaning.specs.declared.effect.Change.TheVariants as changes
 use Rattle.apt_meaning.specs.declared.effect.Effect.{Effect}
 use Rattle.apt_meaning.specs.declared.effect.Effect.TheVariants as effects
 use Rattle.apt_meaning.specs.Situations.{first_situation, settings_behind, forward_behind, at_height}
 use Rattle.apt_meaning.specs.Records.{with_statement, effect_records, records_of, after}
 use Rattle.apt_meaning.specs.Ranges.{IsPositionOrNone, IsForward, AreSettings, IsSituation, IsMotion, IsEffect}
 use Rattle.apt_meaning.specs.Vertices.{HasIn}
-use Rattle.apt_meaning.proofs.EffectRanges.{with_rapid, on_side}
+use Rattle.apt_meaning.proofs.EffectRanges.{with_rapid, on_side, change_kept}
 
 -- ---- directions
 
@@ -87,7 +88,7 @@ cut_kept at m last is good end = record {
 pub kept : (at : Situation) (e : Effect) (vertices : List Pt) → IsSituation at → IsEffect e → HasIn e vertices → IsSituation (after at e vertices)
 kept at (effects.Defines n f) vertices is good within =
     record { settings = is.settings; position = is.position; forward = is.forward; table = still_figures at.table n f is.table good }
-kept at (effects.Sets s said) vertices is good within = record { settings = good.0; position = is.position; forward = is.forward; table = is.table }
+kept at (effects.Sets change) vertices is good within = record { settings = change_kept at.settings change is.settings good; position = is.position; forward = is.forward; table = is.table }
 kept at (effects.Moves reach to) vertices is good within = record {
   settings = settings_kept reach at.settings is.settings;
   position = good;
@@ -121,8 +122,9 @@ still_some z (v ∷ vs) h = omega arith
 
 said_in : (e : Effect) (vertices : List Pt) → IsEffect e → HasIn e vertices → AreRecords (effect_records e vertices)
 said_in (effects.Defines n f) vertices good within = tt
-said_in (effects.Sets s None) vertices good within = tt
-said_in (effects.Sets s (Some note)) vertices good within = (good.1, tt)
+said_in (effects.Sets (changes.Said note)) vertices good within = (good, tt)
+said_in (effects.Sets (changes.Side side)) vertices good within = tt
+said_in (effects.Sets changes.Nothing) vertices good within = tt
 said_in (effects.Moves reach to) vertices good within = (good, tt)
 said_in (effects.Cuts m) vertices good within = ((good.drive, good.sense), (good.check, ((still_some m.start.z vertices within.0, positions_in m.start.z vertices good.start.z within.1), tt)))
 

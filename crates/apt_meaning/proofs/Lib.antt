@@ -8,7 +8,6 @@ pub mod Rounds
 pub mod Cuts
 pub mod Plates
 pub mod Said
-pub mod Defined
 pub mod EffectRanges
 pub mod Asked
 pub mod Fed

@@ -1,5 +1,5 @@
 -- Records leave the tool where the situation behind them has it.
-use Rattle.std.proofs.Common.{◌≡◌, ◌∙◌, ℤ, List, [], ◌∷◌, ◌++◌, map, Option, Some, None, refl, ap}
+use Rattle.std.proofs.Common.{◌≡◌, ◌∙◌, ℤ, List, [], ◌∷◌, ◌++◌, map, Option, Some, refl, ap}
 use Rattle.apt_words.specs.declared.deed.Deed.{Deed}
 use Rattle.apt_words.specs.declared.deed.Step.{Step}
 use Rattle.apt_plane.specs.declared.figures.Pt.{Pt}
@@ -8,6 +8,7 @@ use Rattle.apt_cldata.specs.declared.record.Position.{Position}
 use Rattle.apt_cldata.specs.declared.record.Record.{Record}
 use Rattle.apt_meaning.specs.declared.situation.Situation.{Situation}
 use Rattle.apt_meaning.specs.declared.motion.Motion.{Motion}
+use Rattle.apt_meaning.specs.declared.effect.Change.TheVariants as changes
 use Rattle.apt_meaning.specs.declared.effect.Effect.{Effect}
 use Rattle.apt_meaning.specs.declared.effect.Effect.TheVariants as effects
 use Rattle.apt_meaning.specs.Situations.{at_height}
@@ -30,8 +31,9 @@ stand-append p (x ∷ xs) ys = stand-append (stand_after p x) xs ys
 effect_stands : (at : Situation) (step : Step) (e : Effect) (vertices : List Pt) → effect_of at step.deed ≡ Some e
     → stand_of at.position (records_of step e vertices) ≡ (after at e vertices).position
 effect_stands at step (effects.Defines n f) vertices asked = refl
-effect_stands at step (effects.Sets s None) vertices asked = refl
-effect_stands at step (effects.Sets s (Some note)) vertices asked = refl
+effect_stands at step (effects.Sets (changes.Said note)) vertices asked = refl
+effect_stands at step (effects.Sets (changes.Side side)) vertices asked = refl
+effect_stands at step (effects.Sets changes.Nothing) vertices asked = refl
 effect_stands at step (effects.Moves reach to) vertices asked = refl
 effect_stands at step (effects.Cuts m) vertices asked =
     ap (λ (p : Option Position). last_position p (map (at_height m.start.z) vertices)) (starts_here at step.deed m asked) ∙ last-at_height m.start.z m.start.at vertices

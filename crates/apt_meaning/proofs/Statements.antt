@@ -1,5 +1,5 @@
 -- What each statement asks for that is no definition.
-use Rattle.std.specs.Prelude.{◌≡◌, refl, ℕ, ◌*◌, ℤ, pos, neg_ℤ, true, codes, [], ◌∷◌, Option, Some, None}
+use Rattle.std.specs.Prelude.{◌≡◌, refl, ℕ, ◌*◌, ℤ, pos, neg_ℤ, true, codes, List, [], ◌∷◌, Option, Some, None, option_map}
 use Rattle.apt_num.specs.Root.{root}
 use Rattle.apt_words.specs.declared.Cool.TheVariants as cools
 use Rattle.apt_words.specs.declared.Go.TheVariants as turns
@@ -9,12 +9,15 @@ use Rattle.apt_words.specs.declared.Side.TheVariants as sides
 use Rattle.apt_words.specs.declared.Stop.{Stop}
 use Rattle.apt_words.specs.declared.Stop.TheVariants as stops
 use Rattle.apt_words.specs.declared.Units.TheVariants as the_units
+use Rattle.apt_words.specs.declared.deed.Deed.{Deed}
 use Rattle.apt_words.specs.declared.deed.Deed.TheVariants as deeds
 use Rattle.apt_plane.specs.declared.figures.Surface.{Surface}
 use Rattle.apt_plane.specs.declared.figures.Surface.TheVariants as surfaces
 use Rattle.apt_cldata.specs.declared.record.Note.{Note}
 use Rattle.apt_cldata.specs.declared.record.Note.TheVariants as notes
 use Rattle.apt_cldata.specs.declared.record.Position.{Position}
+use Rattle.apt_cldata.specs.declared.record.Record.{Record}
+use Rattle.apt_cldata.specs.declared.record.Record.TheVariants as records
 use Rattle.apt_cldata.specs.declared.record.Reach.{Reach}
 use Rattle.apt_cldata.specs.declared.record.Reach.TheVariants as reaches
 use Rattle.apt_defs.specs.declared.figure.Figure.TheVariants as figures
@@ -27,6 +30,7 @@ use Rattle.apt_meaning.specs.Situations.{first_settings, position_at}
 use Rattle.apt_meaning.specs.Motions.{motion_at, contact}
 use Rattle.apt_meaning.specs.StartUps.{start_up_at}
 use Rattle.apt_meaning.specs.Effects.{effect_of}
+use Rattle.apt_meaning.specs.Records.{effect_records, after}
 
 -- ---- a corner of two lines and a point, with a cutter of radius 12500 on the left
 
@@ -54,49 +58,56 @@ at = record {
 abbrev whole : ℕ → ℤ
 whole n = pos (n * 1000000)
 
-abbrev sets : Settings → Option Effect
-sets s = Some (effects.Sets s None)
+-- the settings and the records behind what a step asks for that has no vertices
+abbrev behind : Effect → Settings × List Record
+behind e = ((after at e []).settings, effect_records e [])
 
-abbrev says : Settings → Note → Option Effect
-says s note = Some (effects.Sets s (Some note))
+abbrev told : Deed → Option (Settings × List Record)
+told deed = option_map behind (effect_of at deed)
+
+abbrev sets : Settings → Option (Settings × List Record)
+sets s = Some (s, [])
+
+abbrev says : Settings → Note → Option (Settings × List Record)
+says s note = Some (s, records.Note note ∷ [])
 
 abbrev moves : Reach → Position → Option Effect
 moves reach to = Some (effects.Moves reach to)
 
 -- ---- the part and its settings
 
-partno : effect_of at (deeds.Partno (codes "A")) ≡ says here (notes.Partno (codes "A"))
+partno : told (deeds.Partno (codes "A")) ≡ says here (notes.Partno (codes "A"))
 partno = refl
 
-remark : effect_of at (deeds.Remark (codes "A")) ≡ sets here
+remark : told (deeds.Remark (codes "A")) ≡ sets here
 remark = refl
 
-units : effect_of at (deeds.Units the_units.Mm) ≡ says (record here { units = the_units.Mm }) (notes.Units the_units.Mm)
+units : told (deeds.Units the_units.Mm) ≡ says (record here { units = the_units.Mm }) (notes.Units the_units.Mm)
 units = refl
 
-clprnt : effect_of at deeds.Clprnt ≡ sets here
+clprnt : told deeds.Clprnt ≡ sets here
 clprnt = refl
 
-nopost : effect_of at deeds.Nopost ≡ sets here
+nopost : told deeds.Nopost ≡ sets here
 nopost = refl
 
-machin : effect_of at deeds.Machin ≡ sets here
+machin : told deeds.Machin ≡ sets here
 machin = refl
 
 -- the diameter is in grid units, and half of an odd one is rounded up
-cutter : effect_of at (deeds.Cutter (pos 70)) ≡ says (record here { radius = pos 4 }) (notes.Cutter (pos 7))
+cutter : told (deeds.Cutter (pos 70)) ≡ says (record here { radius = pos 4 }) (notes.Cutter (pos 7))
 cutter = refl
 
-intol : effect_of at (deeds.Intol (pos 1000)) ≡ says (record here { intol = pos 100 }) (notes.Intol (pos 100))
+intol : told (deeds.Intol (pos 1000)) ≡ says (record here { intol = pos 100 }) (notes.Intol (pos 100))
 intol = refl
 
-outtol : effect_of at (deeds.Outtol (pos 1000)) ≡ says (record here { outtol = pos 100 }) (notes.Outtol (pos 100))
+outtol : told (deeds.Outtol (pos 1000)) ≡ says (record here { outtol = pos 100 }) (notes.Outtol (pos 100))
 outtol = refl
 
-tool : effect_of at (deeds.Tool sides.Right) ≡ sets (record here { side = sides.Right })
+tool : told (deeds.Tool sides.Right) ≡ sets (record here { side = sides.Right })
 tool = refl
 
-tool_on : effect_of at (deeds.Tool sides.On) ≡ sets (record here { side = sides.On })
+tool_on : told (deeds.Tool sides.On) ≡ sets (record here { side = sides.On })
 tool_on = refl
 
 -- ---- moves
@@ -182,57 +193,64 @@ on_line_beside = refl
 
 -- ---- commands
 
-rapid : effect_of at deeds.Rapid ≡ says (record here { rapid = true }) notes.Rapid
+rapid : told deeds.Rapid ≡ says (record here { rapid = true }) notes.Rapid
 rapid = refl
 
-halt : effect_of at deeds.Halt ≡ says here notes.Stop
+halt : told deeds.Halt ≡ says here notes.Stop
 halt = refl
 
-opt_halt : effect_of at deeds.OptHalt ≡ says here notes.OptStop
+opt_halt : told deeds.OptHalt ≡ says here notes.OptStop
 opt_halt = refl
 
-end_word : effect_of at deeds.EndWord ≡ says here notes.End
+end_word : told deeds.EndWord ≡ says here notes.End
 end_word = refl
 
-fini : effect_of at deeds.Fini ≡ says here notes.Fini
+fini : told deeds.Fini ≡ says here notes.Fini
 fini = refl
 
 -- in tenths of an inch per minute
-fedrat : effect_of at (deeds.Fedrat (pos 12350000)) ≡ says (record here { feed = pos 124 }) (notes.Fedrat (pos 124))
+fedrat : told (deeds.Fedrat (pos 12350000)) ≡ says (record here { feed = pos 124 }) (notes.Feed (pos 124))
 fedrat = refl
 
 -- in turns per minute, to the nearest
-spindl : effect_of at (deeds.Spindl (pos 1200500000) spins.Cw) ≡ says here (notes.Spindl spins.Cw (pos 1201))
+spindl : told (deeds.Spindl (pos 1200500000) spins.Cw) ≡ says here (notes.Spindle spins.Cw (pos 1201))
 spindl = refl
 
-spindl_counterclockwise : effect_of at (deeds.Spindl (pos 700499999) spins.Ccw) ≡ says here (notes.Spindl spins.Ccw (pos 700))
+spindl_counterclockwise : told (deeds.Spindl (pos 700499999) spins.Ccw) ≡ says here (notes.Spindle spins.Ccw (pos 700))
 spindl_counterclockwise = refl
 
-spindl_off : effect_of at deeds.SpindlOff ≡ says here (notes.Spindl spins.Off (pos 0))
+spindl_off : told deeds.SpindlOff ≡ says here (notes.Spindle spins.Off (pos 0))
 spindl_off = refl
 
-coolnt : effect_of at (deeds.Coolnt cools.Mist) ≡ says here (notes.Coolnt cools.Mist)
+coolnt : told (deeds.Coolnt cools.Mist) ≡ says here (notes.Coolant cools.Mist)
 coolnt = refl
 
-loadtl : effect_of at (deeds.Loadtl (pos 7000000)) ≡ says here (notes.Loadtl (pos 7))
+loadtl : told (deeds.Loadtl (pos 7000000)) ≡ says here (notes.Tool (pos 7))
 loadtl = refl
+
+-- no text gives a number with a spindle that stands: it stands
+spindl_standing : told (deeds.Spindl (pos 7000000) spins.Off) ≡ says here (notes.Spindle spins.Off (pos 0))
+spindl_standing = refl
+
+macro : told deeds.Macro ≡ sets here
+macro = refl
 
 -- ---- macros, loops and jumps: they change nothing but where the run goes on
 
-termac : effect_of at deeds.Termac ≡ sets here
+termac : told deeds.Termac ≡ sets here
 termac = refl
 
-call : effect_of at deeds.Call ≡ sets here
+call : told deeds.Call ≡ sets here
 call = refl
 
-loopst : effect_of at deeds.Loopst ≡ sets here
+loopst : told deeds.Loopst ≡ sets here
 loopst = refl
 
-loopnd : effect_of at deeds.Loopnd ≡ sets here
+loopnd : told deeds.Loopnd ≡ sets here
 loopnd = refl
 
-jumpto : effect_of at deeds.Jumpto ≡ sets here
+jumpto : told deeds.Jumpto ≡ sets here
 jumpto = refl
 
-if_word : effect_of at deeds.If ≡ sets here
+if_word : told deeds.If ≡ sets here
 if_word = refl

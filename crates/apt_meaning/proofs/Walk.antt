@@ -81,7 +81,7 @@ fit o e h asks = subst IsFit (same_some asks.e e (sym asks.asked ∙ h)) asks.fi
 -- behind its own vertices a contour leaves the tool at its contact
 pub after_points : (at : Situation) (e : Effect) → EndsThere e → after at e (ends_of e) ≡ after at e (points_of e)
 after_points at (effects.Defines n f) ends = refl
-after_points at (effects.Sets s saying) ends = refl
+after_points at (effects.Sets change) ends = refl
 after_points at (effects.Moves reach to) ends = refl
 after_points at (effects.Cuts m) ends = ap (λ (q : Pt). after at (effects.Cuts m) (q ∷ [])) (sym ends)
 

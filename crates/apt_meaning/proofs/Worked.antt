@@ -24,7 +24,7 @@ use Rattle.apt_meaning.specs.Situations.{first_situation, position_at}
 use Rattle.apt_meaning.specs.Motions.{motion_at}
 use Rattle.apt_meaning.specs.StartUps.{start_up_at}
 use Rattle.apt_meaning.specs.Effects.{defined}
-use Rattle.apt_meaning.specs.Refusals.{refused_definition}
+use Rattle.apt_meaning.specs.Refusals.{refused_form}
 use Rattle.apt_meaning.specs.Compiled.{compilation}
 
 -- steps on the lines from the n-th on
@@ -56,7 +56,7 @@ first_part =
     ∷ deeds.GotoXy (whole 1) (whole 2) (Some (whole 3)) ∷ deeds.Fini ∷ []
 
 first_records : made first_part ≡
-    Ok (with_note 1 (notes.Partno (codes "FIRST")) ++ with_note 2 (notes.Fedrat (pos 100)) ++ reached 3 reaches.From (position_at (pos 0) (pos 0) (pos 0))
+    Ok (with_note 1 (notes.Partno (codes "FIRST")) ++ with_note 2 (notes.Feed (pos 100)) ++ reached 3 reaches.From (position_at (pos 0) (pos 0) (pos 0))
     ++ reached 4 reaches.Goto (position_at (pos 100000) (pos 200000) (pos 300000)) ++ with_note 5 notes.Fini)
 first_records = refl
 
@@ -104,10 +104,10 @@ cut n drive check x y =
     ∷ records.Contour (position_at x y (pos 50000) ∷ []) ∷ []
 
 plate_records : made plate ≡
-    Ok (with_note 1 (notes.Partno (codes "SQUARE")) ++ with_note 2 (notes.Cutter (pos 50000)) ++ with_note 7 (notes.Fedrat (pos 100))
+    Ok (with_note 1 (notes.Partno (codes "SQUARE")) ++ with_note 2 (notes.Cutter (pos 50000)) ++ with_note 7 (notes.Feed (pos 100))
     ++ reached 8 reaches.From (position_at (neg_ℤ (pos 100000)) (neg_ℤ (pos 100000)) (pos 50000)) ++ reached 9 reaches.Start (position_at low low (pos 50000))
     ++ cut 10 bottom right high low ++ cut 11 right top high high ++ cut 12 top left low high ++ cut 13 left bottom low low ++ with_note 14 notes.Fini)
-unfolding root motion_at start_up_at refused_definition defined
+unfolding root motion_at start_up_at refused_form defined
 plate_records = refl
 
 -- ---- other parts
@@ -116,7 +116,7 @@ plate_records = refl
 millimetres : made (deeds.Partno (codes "") ∷ deeds.Units the_units.Mm ∷ deeds.Rapid ∷ deeds.FromXy (pos 0) (pos 0) None
     ∷ deeds.Godlta (whole 1) (whole 2) (neg_ℤ (pos 500000)) ∷ deeds.Fedrat (pos 100000) ∷ deeds.GotoXy (whole 1) (whole 2) None ∷ deeds.EndWord ∷ deeds.Fini ∷ []) ≡
     Ok (with_note 1 (notes.Partno (codes "")) ++ with_note 2 (notes.Units the_units.Mm) ++ with_note 3 notes.Rapid ++ reached 4 reaches.From (position_at (pos 0) (pos 0) (pos 0))
-    ++ reached 5 reaches.Godlta (position_at (pos 10000) (pos 20000) (neg_ℤ (pos 5000))) ++ with_note 6 (notes.Fedrat (pos 1))
+    ++ reached 5 reaches.Godlta (position_at (pos 10000) (pos 20000) (neg_ℤ (pos 5000))) ++ with_note 6 (notes.Feed (pos 1))
     ++ reached 7 reaches.Goto (position_at (pos 10000) (pos 20000) (pos 0)) ++ with_note 8 notes.End ++ with_note 9 notes.Fini)
 millimetres = refl
 
@@ -132,7 +132,7 @@ position_again = refl
 
 -- a name that stands for a number can stand for a line later
 line_again : made (deeds.Assign (codes "L1") (whole 5) ∷ edge (codes "L1") 0 0 5 0 ∷ deeds.Fini ∷ []) ≡ Ok (with_note 3 notes.Fini)
-unfolding refused_definition defined
+unfolding refused_form defined
 line_again = refl
 
 -- ---- points
@@ -140,22 +140,22 @@ line_again = refl
 -- FROM and GOTO on points take their heights along
 points : made (deeds.Fedrat (whole 10) ∷ deeds.PointXy (codes "P1") (whole 1) (whole 2) (Some (whole 3)) ∷ deeds.PointXy (codes "P2") (pos 0) (whole 2) None
     ∷ deeds.FromPoint (codes "P1") ∷ deeds.GotoPoint (codes "P2") ∷ deeds.Fini ∷ []) ≡
-    Ok (with_note 1 (notes.Fedrat (pos 100)) ++ reached 4 reaches.From (position_at (pos 100000) (pos 200000) (pos 300000))
+    Ok (with_note 1 (notes.Feed (pos 100)) ++ reached 4 reaches.From (position_at (pos 100000) (pos 200000) (pos 300000))
     ++ reached 5 reaches.Goto (position_at (pos 0) (pos 200000) (pos 0)) ++ with_note 6 notes.Fini)
-unfolding refused_definition defined
+unfolding refused_form defined
 points = refl
 
 -- a number is no point, and a refused definition is told
 no_such_point : made (deeds.Assign (codes "P1") (whole 5) ∷ deeds.FromPoint (codes "P1") ∷ deeds.Fini ∷ []) ≡ refused 2 cases.WrongKind
-unfolding refused_definition defined
+unfolding refused_form defined
 no_such_point = refl
 
 far_point : made (deeds.PointXy (codes "P1") (whole 501) (pos 0) None ∷ deeds.FromPoint (codes "P1") ∷ deeds.Fini ∷ []) ≡ refused 1 cases.OutOfRange
-unfolding refused_definition defined
+unfolding refused_form defined
 far_point = refl
 
 -- to the point in which two lines meet
 meeting : made (deeds.Rapid ∷ edge (codes "L1") 0 0 5 0 ∷ edge (codes "L2") 3 4 3 0 ∷ deeds.PointLines (codes "P1") (codes "L1") (codes "L2") ∷ deeds.GotoPoint (codes "P1") ∷ deeds.Fini ∷ []) ≡
     Ok (with_note 1 notes.Rapid ++ reached 5 reaches.Goto (position_at (pos 300000) (pos 0) (pos 0)) ++ with_note 6 notes.Fini)
-unfolding root refused_definition defined
+unfolding root refused_form defined
 meeting = refl

@@ -16,14 +16,14 @@ use Rattle.apt_meaning.specs.Records.{records_of, after}
 
 abbrev pub ends_of : Effect → List Pt
 ends_of (effects.Defines n f) = []
-ends_of (effects.Sets s saying) = []
+ends_of (effects.Sets change) = []
 ends_of (effects.Moves reach to) = []
 ends_of (effects.Cuts m) = contact m ∷ []
 
 -- the vertices that it writes
 abbrev pub points_of : Effect → List Pt
 points_of (effects.Defines n f) = []
-points_of (effects.Sets s saying) = []
+points_of (effects.Sets change) = []
 points_of (effects.Moves reach to) = []
 points_of (effects.Cuts m) = vertices_of m
 

@@ -1,11 +1,17 @@
 -- What a step asks for, wherever the figures and the turn that it needs are there.
-use Rattle.std.specs.Prelude.{ℕ, ℤ, pos, ◌+ℤ◌, unsigned_abs, true, List, Option, Some, None, Result, Ok, Err}
+use Rattle.std.specs.Prelude.{ℕ, ℤ, pos, ◌+ℤ◌, List, Option, Some, None, Result, Ok, Err}
+use Rattle.apt_words.specs.Asks.{Ask, Titles, Says, Sets, Defines, Goes, Cuts, Nothing, ask_of}
 use Rattle.apt_words.specs.declared.Case.{Case}
-use Rattle.apt_words.specs.declared.Turn.{Turn}
 use Rattle.apt_words.specs.declared.Turn.TheVariants as turns
 use Rattle.apt_words.specs.declared.Units.{Units}
+use Rattle.apt_words.specs.declared.ask.Form.{Form}
+use Rattle.apt_words.specs.declared.ask.Place.{Place}
+use Rattle.apt_words.specs.declared.ask.Place.TheVariants as places
+use Rattle.apt_words.specs.declared.ask.Route.{Route}
+use Rattle.apt_words.specs.declared.ask.Route.TheVariants as routes
+use Rattle.apt_words.specs.declared.ask.Saying.{Saying}
+use Rattle.apt_words.specs.declared.ask.Saying.TheVariants as sayings
 use Rattle.apt_words.specs.declared.deed.Deed.{Deed}
-use Rattle.apt_words.specs.declared.deed.Deed.TheVariants as deeds
 use Rattle.apt_words.specs.Options.{◌>>=◌}
 use Rattle.apt_scalar.specs.Scalars.{grid_units, tenths, whole}
 use Rattle.apt_cldata.specs.declared.record.Note.{Note}
@@ -15,23 +21,38 @@ use Rattle.apt_cldata.specs.declared.record.Reach.{Reach}
 use Rattle.apt_cldata.specs.declared.record.Reach.TheVariants as reaches
 use Rattle.apt_defs.specs.declared.figure.Figure.{Figure}
 use Rattle.apt_defs.specs.declared.figure.Figure.TheVariants as figures
-use Rattle.apt_defs.specs.declared.figure.Definition.{Definition}
 use Rattle.apt_defs.specs.Figures.{Table, figure_named}
-use Rattle.apt_defs.specs.Definitions.{definition_of}
-use Rattle.apt_meaning.specs.declared.situation.Settings.{Settings}
+use Rattle.apt_defs.specs.Definitions.{figure_of}
 use Rattle.apt_meaning.specs.declared.situation.Situation.{Situation}
 use Rattle.apt_meaning.specs.declared.motion.Motion.{Motion}
+use Rattle.apt_meaning.specs.declared.effect.Change.TheVariants as changes
 use Rattle.apt_meaning.specs.declared.effect.Effect.{Effect}
 use Rattle.apt_meaning.specs.declared.effect.Effect.TheVariants as effects
-use Rattle.apt_meaning.specs.Situations.{radius_of, position_at, at_height}
+use Rattle.apt_meaning.specs.Situations.{position_at, at_height}
 use Rattle.apt_meaning.specs.Motions.{motion_at}
 use Rattle.apt_meaning.specs.StartUps.{start_position_at}
 
-abbrev pub sets : Settings → Option Effect
-sets s = Some (effects.Sets s None)
+-- ---- what is said: lengths in grid units, feeds in tenths, speeds and tools in whole numbers
 
-abbrev pub says : Settings → Note → Option Effect
-says s note = Some (effects.Sets s (Some note))
+abbrev pub note_of : Units → Saying → Note
+note_of units (sayings.Units others) = notes.Units others
+note_of units (sayings.Diameter v) = notes.Cutter (grid_units units v)
+note_of units (sayings.Inward v) = notes.Intol (grid_units units v)
+note_of units (sayings.Outward v) = notes.Outtol (grid_units units v)
+note_of units (sayings.Feed v) = notes.Feed (tenths v)
+note_of units (sayings.Clockwise n) = notes.Spindle turns.Cw (whole n)
+note_of units (sayings.Anticlockwise n) = notes.Spindle turns.Ccw (whole n)
+note_of units sayings.SpindleOff = notes.Spindle turns.Off (pos 0)
+note_of units (sayings.Coolant cool) = notes.Coolant cool
+note_of units (sayings.Tool n) = notes.Tool (whole n)
+note_of units sayings.Rapid = notes.Rapid
+note_of units sayings.Stop = notes.Stop
+note_of units sayings.OptStop = notes.OptStop
+note_of units sayings.End = notes.End
+note_of units sayings.Fini = notes.Fini
+
+abbrev pub says : Note → Option Effect
+says note = Some (effects.Sets (changes.Said note))
 
 abbrev pub moves : Reach → Option Position → Option Effect
 moves reach None = None
@@ -67,80 +88,36 @@ as_position figures.Scalar = None
 abbrev pub place_in : Table → List ℕ → Option Position
 place_in table name = figure_named table name >>= as_position
 
+abbrev pub place_at : Situation → Place → Option Position
+place_at at (places.Xyz x y z) = Some (position_by at.settings.units x y z)
+place_at at (places.Named p) = place_in at.table p
+
+abbrev pub goes : Situation → Route → Option Effect
+goes at (routes.From place) = moves reaches.From (place_at at place)
+goes at (routes.Goto place) = moves reaches.Goto (place_at at place)
+goes at (routes.By x y z) = moves reaches.Godlta (moved_from at x y z)
+goes at (routes.Start how name other) = moves reaches.Start (start_position_at at how name other)
+
 -- ---- definitions
 
 abbrev pub names : List ℕ → Result Figure Case → Option Effect
 names name (Ok f) = Some (effects.Defines name f)
 names name (Err case) = None
 
-abbrev pub defines : Option Definition → Option Effect
-defines None = None
-defines (Some d) = names d.name d.figure
-
 -- a definition gives its name a figure; a refused one asks for nothing
-unfoldable pub defined : Situation → Deed → Option Effect
-defined at deed = defines (definition_of at.settings.units at.table deed)
+unfoldable pub defined : Situation → List ℕ → Form → Option Effect
+defined at name form = names name (figure_of at.settings.units at.table form)
 
--- ---- the spindle: SPINDL with a number turns it, and SPINDL/OFF alone stops it
+-- ---- what a step asks for
 
-abbrev pub spins : Settings → ℤ → Turn → Option Effect
-spins s v turns.Cw = says s (notes.Spindl turns.Cw (whole v))
-spins s v turns.Ccw = says s (notes.Spindl turns.Ccw (whole v))
-spins s v turns.Off = None
-
--- ---- the table of statements
+abbrev pub effect_by : Situation → Ask → Option Effect
+effect_by at (Titles text) = says (notes.Partno text)
+effect_by at (Says saying) = says (note_of at.settings.units saying)
+effect_by at (Sets side) = Some (effects.Sets (changes.Side side))
+effect_by at (Defines name form) = defined at name form
+effect_by at (Goes route) = goes at route
+effect_by at (Cuts side go drive how check) = cuts (motion_at at side go drive how check)
+effect_by at Nothing = Some (effects.Sets changes.Nothing)
 
 abbrev pub effect_of : Situation → Deed → Option Effect
-effect_of at (deeds.Partno text) = says at.settings (notes.Partno text)
-effect_of at (deeds.Remark text) = sets at.settings
-effect_of at (deeds.Units units) = says (record at.settings { units = units }) (notes.Units units)
-effect_of at deeds.Clprnt = sets at.settings
-effect_of at deeds.Nopost = sets at.settings
-effect_of at deeds.Machin = sets at.settings
-effect_of at (deeds.Assign n v) = defined at (deeds.Assign n v)
-effect_of at (deeds.PointXy n x y z) = defined at (deeds.PointXy n x y z)
-effect_of at (deeds.PointLines n a b) = defined at (deeds.PointLines n a b)
-effect_of at (deeds.PointPick n k a b) = defined at (deeds.PointPick n k a b)
-effect_of at (deeds.PointCenter n c) = defined at (deeds.PointCenter n c)
-effect_of at (deeds.LineXy n x y u v) = defined at (deeds.LineXy n x y u v)
-effect_of at (deeds.LinePoints n p q) = defined at (deeds.LinePoints n p q)
-effect_of at (deeds.LinePar n p l) = defined at (deeds.LinePar n p l)
-effect_of at (deeds.LinePerp n p l) = defined at (deeds.LinePerp n p l)
-effect_of at (deeds.LineAt n l k v) = defined at (deeds.LineAt n l k v)
-effect_of at (deeds.LineTan n p h c) = defined at (deeds.LineTan n p h c)
-effect_of at (deeds.LineTwo n h c k d) = defined at (deeds.LineTwo n h c k d)
-effect_of at (deeds.CircleXyr n x y r) = defined at (deeds.CircleXyr n x y r)
-effect_of at (deeds.CirclePoints n a b c) = defined at (deeds.CirclePoints n a b c)
-effect_of at (deeds.CircleRadius n p r) = defined at (deeds.CircleRadius n p r)
-effect_of at (deeds.CircleTan n p l) = defined at (deeds.CircleTan n p l)
-effect_of at (deeds.CircleThrough n p q) = defined at (deeds.CircleThrough n p q)
-effect_of at (deeds.CircleCorner n j a k b r) = defined at (deeds.CircleCorner n j a k b r)
-effect_of at (deeds.Cutter v) =
-    says (record at.settings { radius = pos (radius_of (unsigned_abs (grid_units at.settings.units v))) }) (notes.Cutter (grid_units at.settings.units v))
-effect_of at (deeds.Intol v) = says (record at.settings { intol = grid_units at.settings.units v }) (notes.Intol (grid_units at.settings.units v))
-effect_of at (deeds.Outtol v) = says (record at.settings { outtol = grid_units at.settings.units v }) (notes.Outtol (grid_units at.settings.units v))
-effect_of at (deeds.Tool side) = sets (record at.settings { side = side })
-effect_of at (deeds.FromXy x y z) = Some (effects.Moves reaches.From (position_by at.settings.units x y z))
-effect_of at (deeds.FromPoint p) = moves reaches.From (place_in at.table p)
-effect_of at (deeds.GotoXy x y z) = Some (effects.Moves reaches.Goto (position_by at.settings.units x y z))
-effect_of at (deeds.GotoPoint p) = moves reaches.Goto (place_in at.table p)
-effect_of at (deeds.Godlta x y z) = moves reaches.Godlta (moved_from at x y z)
-effect_of at (deeds.GoStart how name other) = moves reaches.Start (start_position_at at how name other)
-effect_of at (deeds.Contour side go drive how check) = cuts (motion_at at side go drive how check)
-effect_of at deeds.Rapid = says (record at.settings { rapid = true }) notes.Rapid
-effect_of at deeds.Halt = says at.settings notes.Stop
-effect_of at deeds.OptHalt = says at.settings notes.OptStop
-effect_of at deeds.EndWord = says at.settings notes.End
-effect_of at deeds.Fini = says at.settings notes.Fini
-effect_of at (deeds.Fedrat v) = says (record at.settings { feed = tenths v }) (notes.Fedrat (tenths v))
-effect_of at (deeds.Spindl v turn) = spins at.settings v turn
-effect_of at deeds.SpindlOff = says at.settings (notes.Spindl turns.Off (pos 0))
-effect_of at (deeds.Coolnt c) = says at.settings (notes.Coolnt c)
-effect_of at (deeds.Loadtl v) = says at.settings (notes.Loadtl (whole v))
-effect_of at deeds.Macro = sets at.settings
-effect_of at deeds.Termac = sets at.settings
-effect_of at deeds.Call = sets at.settings
-effect_of at deeds.Loopst = sets at.settings
-effect_of at deeds.Loopnd = sets at.settings
-effect_of at deeds.Jumpto = sets at.settings
-effect_of at deeds.If = sets at.settings
+effect_of at deed = effect_by at (ask_of deed)

@@ -5,6 +5,7 @@ use Rattle.apt_words.specs.declared.deed.Step.{Step}
 use Rattle.apt_cldata.specs.declared.record.Record.{Record}
 use Rattle.apt_cldata.specs.declared.record.Record.TheVariants as records
 use Rattle.apt_meaning.specs.declared.situation.Situation.{Situation}
+use Rattle.apt_meaning.specs.declared.effect.Change.TheVariants as changes
 use Rattle.apt_meaning.specs.declared.effect.Effect.{Effect}
 use Rattle.apt_meaning.specs.declared.effect.Effect.TheVariants as effects
 use Rattle.apt_meaning.specs.Situations.{at_height}
@@ -25,8 +26,9 @@ exactly_if false r = Nothing
 abbrev pub expected_of : Option Effect → List Expectation
 expected_of None = Nothing ∷ []
 expected_of (Some (effects.Defines n f)) = []
-expected_of (Some (effects.Sets s None)) = []
-expected_of (Some (effects.Sets s (Some note))) = Exactly (records.Note note) ∷ []
+expected_of (Some (effects.Sets (changes.Said note))) = Exactly (records.Note note) ∷ []
+expected_of (Some (effects.Sets (changes.Side side))) = []
+expected_of (Some (effects.Sets changes.Nothing)) = []
 expected_of (Some (effects.Moves reach to)) = Exactly (records.Point reach to) ∷ []
 expected_of (Some (effects.Cuts m)) =
     exactly_if (has_track m) (records.Drive m.drive m.side m.sense) ∷ exactly_if (has_stop m) (records.Check m.check m.how) ∷ VerticesAt m.start.z ∷ []

@@ -7,5 +7,4 @@ pub mod Records
 pub mod Compiled
 pub mod Ranges
 pub mod Vertices
-pub mod Sayings
 pub mod Expectations

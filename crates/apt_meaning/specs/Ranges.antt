@@ -4,12 +4,13 @@ use Rattle.apt_plane.specs.declared.figures.Dir.{Dir}
 use Rattle.apt_plane.specs.Ranges.{IsSurface, IsSense}
 use Rattle.apt_offset.specs.Ranges.{IsRadius, IsTolerance}
 use Rattle.apt_cldata.specs.Ranges.{IsPosition, IsNote}
-use Rattle.apt_cldata.specs.declared.record.Note.{Note}
 use Rattle.apt_cldata.specs.declared.record.Position.{Position}
 use Rattle.apt_defs.specs.Figures.{IsFigure, AreFigures}
 use Rattle.apt_meaning.specs.declared.situation.Settings.{Settings}
 use Rattle.apt_meaning.specs.declared.situation.Situation.{Situation}
 use Rattle.apt_meaning.specs.declared.motion.Motion.{Motion}
+use Rattle.apt_meaning.specs.declared.effect.Change.{Change}
+use Rattle.apt_meaning.specs.declared.effect.Change.TheVariants as changes
 use Rattle.apt_meaning.specs.declared.effect.Effect.{Effect}
 use Rattle.apt_meaning.specs.declared.effect.Effect.TheVariants as effects
 
@@ -20,7 +21,7 @@ IsPositionOrNone (Some p) = IsPosition p
 -- a feed in tenths, 0 for none
 pub record IsFeed (f : ℤ) : Type 0 where
   pub least : pos 0 ≤ℤ f
-  pub most : f ≤ℤ pos (10 ^ 7)
+  pub most : f ≤ℤ pos 2147483647
 
 pub record IsForward (d : Dir) : Type 0 where
   pub dx : unsigned_abs d.dx ≤ 10 ^ 8
@@ -52,19 +53,20 @@ pub record IsMotion (m : Motion) : Type 0 where
   pub inner : IsAllowance m.inner
   pub outer : IsAllowance m.outer
 
-abbrev pub IsNoteOrNone : Option Note → Type 0
-IsNoteOrNone None = Unit {0}
-IsNoteOrNone (Some note) = IsNote note
+abbrev pub IsChange : Change → Type 0
+IsChange (changes.Said note) = IsNote note
+IsChange (changes.Side side) = Unit {0}
+IsChange changes.Nothing = Unit {0}
 
 abbrev pub IsEffect : Effect → Type 0
 IsEffect (effects.Defines n f) = IsFigure f
-IsEffect (effects.Sets s saying) = AreSettings s × IsNoteOrNone saying
+IsEffect (effects.Sets change) = IsChange change
 IsEffect (effects.Moves reach to) = IsPosition to
 IsEffect (effects.Cuts m) = IsMotion m
 
 -- the motion of a contour is in range
 abbrev pub HasMotion : Effect → Type 0
 HasMotion (effects.Defines n f) = Unit {0}
-HasMotion (effects.Sets s saying) = Unit {0}
+HasMotion (effects.Sets change) = Unit {0}
 HasMotion (effects.Moves reach to) = Unit {0}
 HasMotion (effects.Cuts m) = IsMotion m

@@ -1,5 +1,5 @@
 -- Which records answer which steps: what an effect writes, what it leaves, and the walk over both.
-use Rattle.std.specs.Prelude.{◌≡◌, true, List, [], ◌∷◌, ◌++◌, map, Option, Some, None}
+use Rattle.std.specs.Prelude.{◌≡◌, true, List, [], ◌∷◌, ◌++◌, map, Option, Some}
 use Rattle.apt_plane.specs.declared.figures.Pt.{Pt}
 use Rattle.apt_words.specs.declared.deed.Step.{Step}
 use Rattle.apt_cldata.specs.declared.record.Record.{Record}
@@ -14,19 +14,26 @@ use Rattle.apt_arc.specs.Divisions.{IsDivision}
 use Rattle.apt_certify.specs.Legs.{IsBounded, IsLegal, last_of}
 use Rattle.apt_meaning.specs.declared.situation.Situation.{Situation}
 use Rattle.apt_meaning.specs.declared.motion.Motion.{Motion}
+use Rattle.apt_meaning.specs.declared.effect.Change.{Change}
+use Rattle.apt_meaning.specs.declared.effect.Change.TheVariants as changes
 use Rattle.apt_meaning.specs.declared.effect.Effect.{Effect}
 use Rattle.apt_meaning.specs.declared.effect.Effect.TheVariants as effects
-use Rattle.apt_meaning.specs.Situations.{settings_behind, forward_behind, at_height}
+use Rattle.apt_meaning.specs.Situations.{changed, settings_behind, forward_behind, at_height}
 use Rattle.apt_meaning.specs.Motions.{track_of, contact, arc_on, leg_of, is_defined}
 use Rattle.apt_meaning.specs.Effects.{effect_of}
 
 -- ---- what an effect writes and leaves; only a contour has vertices, those of its leg behind the start
 
+-- a note has its record; the side of the cutter is told by the contours behind it
+abbrev pub change_records : Change → List Record
+change_records (changes.Said note) = records.Note note ∷ []
+change_records (changes.Side side) = []
+change_records changes.Nothing = []
+
 -- a contour keeps the height
 abbrev pub effect_records : Effect → List Pt → List Record
 effect_records (effects.Defines n f) vertices = []
-effect_records (effects.Sets s None) vertices = []
-effect_records (effects.Sets s (Some note)) vertices = records.Note note ∷ []
+effect_records (effects.Sets change) vertices = change_records change
 effect_records (effects.Moves reach to) vertices = records.Point reach to ∷ []
 effect_records (effects.Cuts m) vertices =
     records.Drive m.drive m.side m.sense ∷ records.Check m.check m.how ∷ records.Contour (map (at_height m.start.z) vertices) ∷ []
@@ -42,7 +49,7 @@ records_of step e vertices = with_statement step (effect_records e vertices)
 -- the situation behind an effect; behind a contour forward is the tangent of the drive surface, in its sense
 abbrev pub after : Situation → Effect → List Pt → Situation
 after at (effects.Defines n f) vertices = record at { table = table_with at.table n f }
-after at (effects.Sets s saying) vertices = record at { settings = s }
+after at (effects.Sets change) vertices = record at { settings = changed at.settings change }
 after at (effects.Moves reach to) vertices = record at {
   settings = settings_behind reach at.settings;
   position = Some to;
@@ -59,7 +66,7 @@ after at (effects.Cuts m) vertices = record at {
 -- only a contour has vertices, and its track and its stop are there
 abbrev pub MayHave : Effect → List Pt → Type 0
 MayHave (effects.Defines n f) vertices = vertices ≡ []
-MayHave (effects.Sets s saying) vertices = vertices ≡ []
+MayHave (effects.Sets change) vertices = vertices ≡ []
 MayHave (effects.Moves reach to) vertices = vertices ≡ []
 MayHave (effects.Cuts m) vertices = is_defined m ≡ true
 
@@ -83,7 +90,7 @@ pub record IsLegalCut (m : Motion) (vertices : List Pt) : Type 0 where
 
 abbrev pub AreLegal : Effect → List Pt → Type 0
 AreLegal (effects.Defines n f) vertices = Unit {0}
-AreLegal (effects.Sets s saying) vertices = Unit {0}
+AreLegal (effects.Sets change) vertices = Unit {0}
 AreLegal (effects.Moves reach to) vertices = Unit {0}
 AreLegal (effects.Cuts m) vertices = IsLegalCut m vertices
 
@@ -100,7 +107,7 @@ IsOwnOn m (targets.Circ c r) vertices = IsDivision (arc_on m c r) vertices
 
 abbrev pub AreOwn : Effect → List Pt → Type 0
 AreOwn (effects.Defines n f) vertices = Unit {0}
-AreOwn (effects.Sets s saying) vertices = Unit {0}
+AreOwn (effects.Sets change) vertices = Unit {0}
 AreOwn (effects.Moves reach to) vertices = Unit {0}
 AreOwn (effects.Cuts m) vertices = IsOwnOn m (track_of m) vertices
 

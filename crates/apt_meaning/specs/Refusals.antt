@@ -1,4 +1,4 @@
--- The manual's table: for each statement the conditions that refuse it, in order, and their cases.
+-- The manual's table: for each thing that is asked the conditions that refuse it, in order, and their cases.
 use Rattle.std.specs.Prelude.{ℕ, ℤ, pos, int_lt, int_le, ◌&&◌, not, Bool, true, false, is_some, is_none, List, [], ◌∷◌, ◌++◌, Option, Some, None, Result, Ok, Err}
 use Rattle.apt_num.specs.declared.Sign.{Sign}
 use Rattle.apt_words.specs.declared.Case.{Case}
@@ -6,16 +6,19 @@ use Rattle.apt_words.specs.declared.Case.TheVariants as cases
 use Rattle.apt_words.specs.declared.Go.{Go}
 use Rattle.apt_words.specs.declared.Side.{Side}
 use Rattle.apt_words.specs.declared.Stop.{Stop}
+use Rattle.apt_words.specs.declared.Turn.TheVariants as turns
+use Rattle.apt_words.specs.declared.ask.Form.{Form}
+use Rattle.apt_words.specs.declared.ask.Place.{Place}
+use Rattle.apt_words.specs.declared.ask.Place.TheVariants as places
+use Rattle.apt_words.specs.declared.ask.Route.{Route}
+use Rattle.apt_words.specs.declared.ask.Route.TheVariants as routes
 use Rattle.apt_words.specs.declared.deed.Deed.{Deed}
-use Rattle.apt_words.specs.declared.deed.Deed.TheVariants as deeds
-use Rattle.apt_words.specs.Built.{is_turning}
+use Rattle.apt_words.specs.Asks.{Ask, Titles, Says, Sets, Defines, Goes, Cuts, Nothing, ask_of}
 use Rattle.apt_words.specs.Options.{◌>>=◌}
 use Rattle.apt_words.specs.Rows.{Row, first_of}
-use Rattle.apt_scalar.specs.Scalars.{grid_units, tenths, whole}
 use Rattle.apt_plane.specs.declared.figures.Surface.{Surface}
 use Rattle.apt_defs.specs.declared.figure.Figure.{Figure}
-use Rattle.apt_defs.specs.declared.figure.Definition.{Definition}
-use Rattle.apt_defs.specs.Definitions.{definition_of}
+use Rattle.apt_defs.specs.Definitions.{figure_of}
 use Rattle.apt_defs.specs.Forms.{is_in_reach}
 use Rattle.apt_defs.specs.Figures.{Table, figure_named}
 use Rattle.apt_offset.specs.Turns.{is_zero}
@@ -24,6 +27,8 @@ use Rattle.apt_stop.specs.Nearness.{is_near, off_track}
 use Rattle.apt_stop.specs.Courses.{course_cases}
 use Rattle.apt_startup.specs.declared.StartUp.{StartUp}
 use Rattle.apt_startup.specs.StartUps.{start_up_cases}
+use Rattle.apt_cldata.specs.declared.record.Note.{Note}
+use Rattle.apt_cldata.specs.declared.record.Note.TheVariants as notes
 use Rattle.apt_cldata.specs.declared.record.Position.{Position}
 use Rattle.apt_meaning.specs.declared.situation.Settings.{Settings}
 use Rattle.apt_meaning.specs.declared.situation.Situation.{Situation}
@@ -31,7 +36,7 @@ use Rattle.apt_meaning.specs.declared.motion.Motion.{Motion}
 use Rattle.apt_meaning.specs.Situations.{has_feed, lacks_feed, with_side}
 use Rattle.apt_meaning.specs.Motions.{motion, is_too_fine, as_surface, surface_in, turn_at, track_of, stop_of, starts_on_check, course_of}
 use Rattle.apt_meaning.specs.StartUps.{start_up_at}
-use Rattle.apt_meaning.specs.Effects.{as_position, position_by, moved_by}
+use Rattle.apt_meaning.specs.Effects.{note_of, as_position, position_by, moved_by}
 
 -- ---- numbers and names
 
@@ -87,13 +92,9 @@ abbrev pub refused : Result Figure Case → List Row
 refused (Ok f) = []
 refused (Err case) = (true, case) ∷ []
 
-abbrev pub refused_if_any : Option Definition → List Row
-refused_if_any None = []
-refused_if_any (Some d) = refused d.figure
-
 -- a definition is refused by its own first case
-unfoldable pub refused_definition : Situation → Deed → List Row
-refused_definition at deed = refused_if_any (definition_of at.settings.units at.table deed)
+unfoldable pub refused_form : Situation → Form → List Row
+refused_form at form = refused (figure_of at.settings.units at.table form)
 
 -- ---- moves
 
@@ -151,64 +152,51 @@ contour_cases at side go drive how check =
     ∷ name_cases at.table drive (name_cases at.table check
     (surface_cases at side go how at.position (surface_in at.table drive) (surface_in at.table check)))
 
--- ---- the table of statements
-
 abbrev pub godlta_cases : Situation → ℤ → ℤ → ℤ → List Row
 godlta_cases at x y z = (is_none at.position, cases.NoFrom) ∷ move_cases at.settings (at.position >>= λ p. Some (moved_by at.settings.units x y z p))
 
+abbrev pub place_cases : Situation → Place → List Row → List Row
+place_cases at (places.Xyz x y z) more = position_cases (position_by at.settings.units x y z) more
+place_cases at (places.Named p) more = point_cases at.table p more
+
+-- ---- the table of what is asked
+
+-- a note whose number is out of its range
+abbrev pub note_cases : Note → List Row
+note_cases (notes.Partno text) = []
+note_cases (notes.Units units) = []
+note_cases (notes.Cutter d) = length_cases (pos 1000000) d
+note_cases (notes.Intol t) = length_cases (pos 10000) t
+note_cases (notes.Outtol t) = length_cases (pos 10000) t
+note_cases (notes.Feed f) = under_one f ∷ []
+note_cases (notes.Spindle turns.Cw n) = under_one n ∷ []
+note_cases (notes.Spindle turns.Ccw n) = under_one n ∷ []
+note_cases (notes.Spindle turns.Off n) = []
+note_cases (notes.Coolant c) = []
+note_cases (notes.Tool n) = under_one n ∷ []
+note_cases notes.Rapid = []
+note_cases notes.Stop = []
+note_cases notes.OptStop = []
+note_cases notes.End = []
+note_cases notes.Fini = []
+
+abbrev pub route_cases : Situation → Route → List Row
+route_cases at (routes.From place) = (is_some at.position, cases.FromAgain) ∷ place_cases at place []
+route_cases at (routes.Goto place) = place_cases at place ((lacks_feed at.settings, cases.NoFeed) ∷ [])
+route_cases at (routes.By x y z) = godlta_cases at x y z
+route_cases at (routes.Start how name other) = go_cases at how name other
+
+abbrev pub cases_by : Situation → Ask → List Row
+cases_by at (Titles text) = []
+cases_by at (Says saying) = note_cases (note_of at.settings.units saying)
+cases_by at (Sets side) = []
+cases_by at (Defines name form) = refused_form at form
+cases_by at (Goes route) = route_cases at route
+cases_by at (Cuts side go drive how check) = contour_cases at side go drive how check
+cases_by at Nothing = []
+
 abbrev pub cases_of : Situation → Deed → List Row
-cases_of at (deeds.Partno text) = []
-cases_of at (deeds.Remark text) = []
-cases_of at (deeds.Units units) = []
-cases_of at deeds.Clprnt = []
-cases_of at deeds.Nopost = []
-cases_of at deeds.Machin = []
-cases_of at (deeds.Assign n v) = refused_definition at (deeds.Assign n v)
-cases_of at (deeds.PointXy n x y z) = refused_definition at (deeds.PointXy n x y z)
-cases_of at (deeds.PointLines n a b) = refused_definition at (deeds.PointLines n a b)
-cases_of at (deeds.PointPick n k a b) = refused_definition at (deeds.PointPick n k a b)
-cases_of at (deeds.PointCenter n c) = refused_definition at (deeds.PointCenter n c)
-cases_of at (deeds.LineXy n x y u v) = refused_definition at (deeds.LineXy n x y u v)
-cases_of at (deeds.LinePoints n p q) = refused_definition at (deeds.LinePoints n p q)
-cases_of at (deeds.LinePar n p l) = refused_definition at (deeds.LinePar n p l)
-cases_of at (deeds.LinePerp n p l) = refused_definition at (deeds.LinePerp n p l)
-cases_of at (deeds.LineAt n l k v) = refused_definition at (deeds.LineAt n l k v)
-cases_of at (deeds.LineTan n p h c) = refused_definition at (deeds.LineTan n p h c)
-cases_of at (deeds.LineTwo n h c k d) = refused_definition at (deeds.LineTwo n h c k d)
-cases_of at (deeds.CircleXyr n x y r) = refused_definition at (deeds.CircleXyr n x y r)
-cases_of at (deeds.CirclePoints n a b c) = refused_definition at (deeds.CirclePoints n a b c)
-cases_of at (deeds.CircleRadius n p r) = refused_definition at (deeds.CircleRadius n p r)
-cases_of at (deeds.CircleTan n p l) = refused_definition at (deeds.CircleTan n p l)
-cases_of at (deeds.CircleThrough n p q) = refused_definition at (deeds.CircleThrough n p q)
-cases_of at (deeds.CircleCorner n j a k b r) = refused_definition at (deeds.CircleCorner n j a k b r)
-cases_of at (deeds.Cutter v) = length_cases (pos 1000000) (grid_units at.settings.units v)
-cases_of at (deeds.Intol v) = length_cases (pos 10000) (grid_units at.settings.units v)
-cases_of at (deeds.Outtol v) = length_cases (pos 10000) (grid_units at.settings.units v)
-cases_of at (deeds.Tool side) = []
-cases_of at (deeds.FromXy x y z) = (is_some at.position, cases.FromAgain) ∷ position_cases (position_by at.settings.units x y z) []
-cases_of at (deeds.FromPoint p) = (is_some at.position, cases.FromAgain) ∷ point_cases at.table p []
-cases_of at (deeds.GotoXy x y z) = move_cases at.settings (Some (position_by at.settings.units x y z))
-cases_of at (deeds.GotoPoint p) = point_cases at.table p ((lacks_feed at.settings, cases.NoFeed) ∷ [])
-cases_of at (deeds.Godlta x y z) = godlta_cases at x y z
-cases_of at (deeds.GoStart how name other) = go_cases at how name other
-cases_of at (deeds.Contour side go drive how check) = contour_cases at side go drive how check
-cases_of at deeds.Rapid = []
-cases_of at deeds.Halt = []
-cases_of at deeds.OptHalt = []
-cases_of at deeds.EndWord = []
-cases_of at deeds.Fini = []
-cases_of at (deeds.Fedrat v) = under_one (tenths v) ∷ []
-cases_of at (deeds.Spindl v turn) = (not (is_turning turn), cases.OutOfRange) ∷ under_one (whole v) ∷ []
-cases_of at deeds.SpindlOff = []
-cases_of at (deeds.Coolnt c) = []
-cases_of at (deeds.Loadtl v) = under_one (whole v) ∷ []
-cases_of at deeds.Macro = []
-cases_of at deeds.Termac = []
-cases_of at deeds.Call = []
-cases_of at deeds.Loopst = []
-cases_of at deeds.Loopnd = []
-cases_of at deeds.Jumpto = []
-cases_of at deeds.If = []
+cases_of at deed = cases_by at (ask_of deed)
 
 -- the first case that refuses a step
 abbrev pub refusal_of : Situation → Deed → Option Case

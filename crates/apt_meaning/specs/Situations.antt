@@ -1,14 +1,18 @@
 -- What holds before a step, and how moves change it.
-use Rattle.std.specs.Prelude.{ℕ, ◌+◌, ◌/◌, ℤ, pos, ◌==◌, int_lt, ◌||◌, Bool, true, false, not, [], Option, Some, None, if◌then◌else◌}
+use Rattle.std.specs.Prelude.{ℕ, ◌+◌, ◌/◌, ℤ, pos, unsigned_abs, ◌==◌, int_lt, ◌||◌, Bool, true, false, not, [], Option, Some, None, if◌then◌else◌}
 use Rattle.apt_words.specs.declared.Units.TheVariants as the_units
 use Rattle.apt_words.specs.declared.Side.{Side}
 use Rattle.apt_words.specs.declared.Side.TheVariants as sides
 use Rattle.apt_plane.specs.declared.figures.Pt.{Pt}
 use Rattle.apt_plane.specs.declared.figures.Dir.{Dir}
 use Rattle.apt_plane.specs.Vectors.{displacement, length_squared}
+use Rattle.apt_cldata.specs.declared.record.Note.{Note}
+use Rattle.apt_cldata.specs.declared.record.Note.TheVariants as notes
 use Rattle.apt_cldata.specs.declared.record.Position.{Position}
 use Rattle.apt_cldata.specs.declared.record.Reach.{Reach}
 use Rattle.apt_cldata.specs.declared.record.Reach.TheVariants as reaches
+use Rattle.apt_meaning.specs.declared.effect.Change.{Change}
+use Rattle.apt_meaning.specs.declared.effect.Change.TheVariants as changes
 use Rattle.apt_meaning.specs.declared.situation.Settings.{Settings}
 use Rattle.apt_meaning.specs.declared.situation.Situation.{Situation}
 
@@ -41,6 +45,30 @@ with_side s (Some side) = record s { side = side }
 -- half the diameter, rounded up
 abbrev pub radius_of : ℕ → ℕ
 radius_of diameter = (diameter + 1) / 2
+
+-- ---- what is set
+
+-- the settings behind a note
+abbrev pub settings_with : Settings → Note → Settings
+settings_with s (notes.Partno text) = s
+settings_with s (notes.Units units) = record s { units = units }
+settings_with s (notes.Cutter d) = record s { radius = pos (radius_of (unsigned_abs d)) }
+settings_with s (notes.Intol t) = record s { intol = t }
+settings_with s (notes.Outtol t) = record s { outtol = t }
+settings_with s (notes.Feed f) = record s { feed = f }
+settings_with s (notes.Spindle turn n) = s
+settings_with s (notes.Coolant c) = s
+settings_with s (notes.Tool n) = s
+settings_with s notes.Rapid = record s { rapid = true }
+settings_with s notes.Stop = s
+settings_with s notes.OptStop = s
+settings_with s notes.End = s
+settings_with s notes.Fini = s
+
+abbrev pub changed : Settings → Change → Settings
+changed s (changes.Said note) = settings_with s note
+changed s (changes.Side side) = record s { side = side }
+changed s changes.Nothing = s
 
 -- ---- moves
 

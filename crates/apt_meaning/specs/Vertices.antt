@@ -8,6 +8,6 @@ use Rattle.apt_meaning.specs.declared.effect.Effect.TheVariants as effects
 -- a contour has at least one vertex
 abbrev pub HasIn : Effect → List Pt → Type 0
 HasIn (effects.Defines n f) vertices = Unit {0}
-HasIn (effects.Sets s said) vertices = Unit {0}
+HasIn (effects.Sets change) vertices = Unit {0}
 HasIn (effects.Moves reach to) vertices = Unit {0}
 HasIn (effects.Cuts m) vertices = (1 ≤ length vertices) × ArePoints vertices

@@ -1,43 +1,63 @@
 //! What steps ask for, refusals aside.
 
-ghost use Rattle.std.specs.Prelude.{◌≡◌, ◌≢◌, ℕ, List, Option, Some, IfOk, IfSome};
-ghost use Rattle.apt_words.specs.Built.{IsBuilt};
-ghost use Rattle.apt_words.specs.declared.Go.{Go};
-ghost use Rattle.apt_words.specs.declared.Side.{Side};
-ghost use Rattle.apt_words.specs.declared.Stop.{Stop};
-ghost use Rattle.apt_words.specs.declared.deed.Deed.TheVariants as deeds;
-ghost use Rattle.apt_scalar.specs.Scalars as scalars;
+ghost use Rattle.std.specs.Prelude.{◌≡◌, Some, IfOk, IfSome};
+ghost use Rattle.apt_words.specs.Asks.{form_numbers, place_numbers, route_numbers, saying_numbers};
 ghost use Rattle.apt_scalar.specs.Scalars.{IsScalar};
-ghost use Rattle.apt_scalar.specs.StepScalars.{HasScalars, IsScalarOrNone};
+ghost use Rattle.apt_scalar.specs.StepScalars.{AllScalars, HasScalars};
 ghost use Rattle.apt_startup.specs.Ranges.{IsStartUp};
-ghost use Rattle.apt_cldata.specs.declared.record.Note.TheVariants as notes;
 ghost use Rattle.apt_meaning.specs.Effects as asking;
+ghost use Rattle.apt_meaning.specs.Motions as motions;
 ghost use Rattle.apt_meaning.specs.Ranges.{IsSituation, HasMotion};
 ghost use Rattle.apt_meaning.specs.Situations as situations;
 ghost use Rattle.apt_meaning.specs.StartUps as start_ups;
 
 use crate::start_up::start_up_at;
-use crate::{Effect, Motion, Situation, moved_by, place_in, position_by, surface_in, turn_at};
+use crate::{
+    Change, Effect, Motion, Situation, moved_by, place_in, position_by, surface_in, turn_at,
+};
 use apt_cldata::{Note, Position, Reach};
-use apt_defs::definition;
+use apt_defs::figure_of;
 use apt_offset::signs::is_zero;
 use apt_plane::Pt;
 use apt_scalar::{grid_units, tenths, whole};
 use apt_startup::{StartUp, start};
-use apt_words::{Deed, Go, Side, Stop, Symbol, Turn};
+use apt_words::{Ask, Deed, Form, Go, Place, Route, Saying, Side, Stop, Symbol, Turn, Units};
 use std::alloc::AllocError;
 
-/// What a step asks for at a situation, whether or not a case refuses it: the figure of a name; the settings
-/// behind it, with the note that says so, where it has one; the position to which it leads, and how; or the
-/// motion of a contour, from the position on. Lengths and coordinates are in grid units by the units that hold,
-/// feeds in tenths. None where a definition is refused, a FROM or a GOTO names no point, a GODLTA, a GO or a contour
-/// has no position to start from, a name of GO or of a contour stands for no surface, a case refuses the point of GO, or a
-/// contour has no turn. Where a move leads may be out of range; a contour's motion is in range.
+/// The note that a statement has the CL file say: lengths in grid units by the units that hold, feeds in tenths,
+/// speeds and tools in whole numbers.
+pub fn note_of(units: Units, saying: &Saying) -> Note
+    requires { AllScalars (saying_numbers saying.now) }
+    ensures { result ≡ asking.note_of units saying.now }
+{
+    match saying {
+        Saying::Units(units) => Note::Units(*units),
+        Saying::Diameter(v) => Note::Cutter(grid_units(units, *v)),
+        Saying::Inward(v) => Note::Intol(grid_units(units, *v)),
+        Saying::Outward(v) => Note::Outtol(grid_units(units, *v)),
+        Saying::Feed(v) => Note::Feed(tenths(*v)),
+        Saying::Clockwise(n) => Note::Spindle(Turn::Cw, whole(*n)),
+        Saying::Anticlockwise(n) => Note::Spindle(Turn::Ccw, whole(*n)),
+        Saying::SpindleOff => Note::Spindle(Turn::Off, 0),
+        Saying::Coolant(cool) => Note::Coolant(*cool),
+        Saying::Tool(n) => Note::Tool(whole(*n)),
+        Saying::Rapid => Note::Rapid,
+        Saying::Stop => Note::Stop,
+        Saying::OptStop => Note::OptStop,
+        Saying::End => Note::End,
+        Saying::Fini => Note::Fini,
+    }
+}
+
+/// What a step asks for at a situation, whether or not a case refuses it: the figure of a name; what is set; the position
+/// to which it leads, and how; or the motion of a contour, from the position on. Lengths and coordinates are in grid units
+/// by the units that hold, feeds in tenths. None where a definition is refused, a FROM or a GOTO names no point, a GODLTA,
+/// a GO or a contour has no position to start from, a name of GO or of a contour stands for no surface, a case refuses the
+/// point of GO, or a contour has no turn. Where a move leads may be out of range; a contour's motion is in range.
 #[tactic(auto, using(crate::proofs::Contours::motion_in))]
 pub fn effect_of(at: &Situation, deed: &Deed) -> Result<Option<Effect>, AllocError>
     requires situation { IsSituation at.now }
     requires scalars { HasScalars deed.now }
-    requires built { IsBuilt deed.now }
     ensures value { IfOk result (λ e. e ≡ asking.effect_of at.now deed.now) }
     ensures motion { IfOk result (λ e. IfSome e HasMotion) }
 {
@@ -47,158 +67,68 @@ pub fn effect_of(at: &Situation, deed: &Deed) -> Result<Option<Effect>, AllocErr
 fn asked(at: &Situation, deed: &Deed) -> Result<Option<Effect>, AllocError>
     requires situation { IsSituation at.now }
     requires scalars { HasScalars deed.now }
-    requires built { IsBuilt deed.now }
     ensures { IfOk result (λ e. e ≡ asking.effect_of at.now deed.now) }
 {
-    match deed {
-        Deed::Contour(side, go, drive, how, check) => Ok(contour(
-            at, *side, *go, drive, *how, check,
-        )),
-        _ => asked_apart(at, deed),
+    match deed.ask() {
+        Ask::Titles(text) => Ok(Some(says(Note::Partno(text.copied()?)))),
+        Ask::Says(saying) => Ok(Some(says(note_of(at.settings.units, &saying)))),
+        Ask::Sets(side) => Ok(Some(Effect::Sets(Change::Side(side)))),
+        Ask::Defines(name, form) => Ok(defined(at, name, &form)),
+        Ask::Goes(route) => Ok(goes(at, &route)),
+        Ask::Cuts(side, go, drive, how, check) => Ok(contour(at, side, go, &drive, how, &check)),
+        Ask::Nothing => Ok(Some(Effect::Sets(Change::Nothing))),
     }
 }
 
-/// What a step asks for that is no contour.
-fn asked_apart(at: &Situation, deed: &Deed) -> Result<Option<Effect>, AllocError>
-    requires situation { IsSituation at.now }
-    requires scalars { HasScalars deed.now }
-    requires built { IsBuilt deed.now }
-    requires apart { (side : Option Side) (go : Go) (drive : List ℕ) (how : Stop) (check : List ℕ) → deed.now ≢ deeds.Contour side go drive how check }
-    ensures { IfOk result (λ e. e ≡ asking.effect_of at.now deed.now) }
+/// One record says what changes.
+fn says(note: Note) -> Effect
+    ensures { Some result ≡ asking.says note }
 {
-    let s = at.settings;
-    match deed {
-        Deed::Partno(text) => Ok(Some(Effect::says(s, Note::Partno(text.copied()?)))),
-        Deed::Units(units) => Ok(Some(Effect::says(s.with_units(*units), Note::Units(*units)))),
-        Deed::Remark(_)
-        | Deed::Clprnt
-        | Deed::Nopost
-        | Deed::Machin
-        | Deed::Macro
-        | Deed::Termac
-        | Deed::Call
-        | Deed::Loopst
-        | Deed::Loopnd
-        | Deed::Jumpto
-        | Deed::If => Ok(Some(Effect::sets(s))),
-        Deed::Assign(..)
-        | Deed::PointXy(..)
-        | Deed::PointLines(..)
-        | Deed::PointPick(..)
-        | Deed::PointCenter(..)
-        | Deed::LineXy(..)
-        | Deed::LinePoints(..)
-        | Deed::LinePar(..)
-        | Deed::LinePerp(..)
-        | Deed::LineAt(..)
-        | Deed::LineTan(..)
-        | Deed::LineTwo(..)
-        | Deed::CircleXyr(..)
-        | Deed::CirclePoints(..)
-        | Deed::CircleRadius(..)
-        | Deed::CircleTan(..)
-        | Deed::CircleThrough(..)
-        | Deed::CircleCorner(..) => Ok(defined(at, deed)),
-        Deed::Cutter(v) => Ok(Some(cutter(at, *v))),
-        Deed::Intol(v) => Ok(Some(intol(at, *v))),
-        Deed::Outtol(v) => Ok(Some(outtol(at, *v))),
-        Deed::Fedrat(v) => Ok(Some(fedrat(at, *v))),
-        Deed::Tool(side) => Ok(Some(Effect::sets(s.on_side(*side)))),
-        Deed::FromXy(x, y, z) => Ok(Some(reached(at, Reach::From, *x, *y, *z))),
-        Deed::FromPoint(p) => Ok(to_point(at, Reach::From, p)),
-        Deed::GotoXy(x, y, z) => Ok(Some(reached(at, Reach::Goto, *x, *y, *z))),
-        Deed::GotoPoint(p) => Ok(to_point(at, Reach::Goto, p)),
-        Deed::Godlta(x, y, z) => Ok(godlta(at, *x, *y, *z)),
-        Deed::GoStart(how, name, other) => Ok(go(at, *how, name, other)),
-        Deed::Rapid => Ok(Some(Effect::says(s.with_rapid(), Note::Rapid))),
-        Deed::Halt => Ok(Some(Effect::says(s, Note::Stop))),
-        Deed::OptHalt => Ok(Some(Effect::says(s, Note::OptStop))),
-        Deed::EndWord => Ok(Some(Effect::says(s, Note::End))),
-        Deed::Fini => Ok(Some(Effect::says(s, Note::Fini))),
-        Deed::Spindl(v, Turn::Cw) => Ok(Some(spindl(at, *v, Turn::Cw))),
-        Deed::Spindl(v, Turn::Ccw) => Ok(Some(spindl(at, *v, Turn::Ccw))),
-        Deed::SpindlOff => Ok(Some(Effect::says(s, Note::Spindl(Turn::Off, 0)))),
-        Deed::Coolnt(cool) => Ok(Some(Effect::says(s, Note::Coolnt(*cool)))),
-        Deed::Loadtl(v) => Ok(Some(loadtl(at, *v))),
-        _ => unreachable!(),
-    }
+    Effect::Sets(Change::Said(note))
 }
 
 /// The figure of a name, where no case refuses it.
 #[tactic(auto, unfolding(crate::specs::Effects::defined))]
-fn defined(at: &Situation, deed: &Deed) -> Option<Effect>
-    requires { HasScalars deed.now }
-    ensures { result ≡ asking.defined at.now deed.now }
+fn defined(at: &Situation, name: Symbol, form: &Form) -> Option<Effect>
+    requires { AllScalars (form_numbers form.now) }
+    ensures { result ≡ asking.defined at.now name form.now }
 {
-    let definition = definition(deed, at.settings.units, &at.table)?;
-    match definition.figure {
-        Ok(figure) => Some(Effect::Defines(definition.name, figure)),
+    match figure_of(form, at.settings.units, &at.table) {
+        Ok(figure) => Some(Effect::Defines(name, figure)),
         Err(_) => None,
     }
 }
 
-fn cutter(at: &Situation, v: i64) -> Effect
-    requires { IsScalar v }
-    ensures { Some result ≡ asking.effect_of at.now (deeds.Cutter v) }
+/// The move to a place.
+fn goes(at: &Situation, route: &Route) -> Option<Effect>
+    requires situation { IsSituation at.now }
+    requires scalars { AllScalars (route_numbers route.now) }
+    ensures { result ≡ asking.goes at.now route.now }
 {
-    let diameter = grid_units(at.settings.units, v);
-    Effect::says(at.settings.with_diameter(diameter), Note::Cutter(diameter))
+    match route {
+        Route::From(place) => to_place(at, Reach::From, place),
+        Route::Goto(place) => to_place(at, Reach::Goto, place),
+        Route::By(x, y, z) => godlta(at, *x, *y, *z),
+        Route::Start(how, name, other) => go(at, *how, name, other),
+    }
 }
 
-fn intol(at: &Situation, v: i64) -> Effect
-    requires { IsScalar v }
-    ensures { Some result ≡ asking.effect_of at.now (deeds.Intol v) }
+fn to_place(at: &Situation, reach: Reach, place: &Place) -> Option<Effect>
+    requires { AllScalars (place_numbers place.now) }
+    ensures { result ≡ asking.moves reach (asking.place_at at.now place.now) }
 {
-    let intol = grid_units(at.settings.units, v);
-    Effect::says(at.settings.with_intol(intol), Note::Intol(intol))
-}
-
-fn outtol(at: &Situation, v: i64) -> Effect
-    requires { IsScalar v }
-    ensures { Some result ≡ asking.effect_of at.now (deeds.Outtol v) }
-{
-    let outtol = grid_units(at.settings.units, v);
-    Effect::says(at.settings.with_outtol(outtol), Note::Outtol(outtol))
-}
-
-fn fedrat(at: &Situation, v: i64) -> Effect
-    requires { IsScalar v }
-    ensures { Some result ≡ asking.effect_of at.now (deeds.Fedrat v) }
-{
-    let feed = tenths(v);
-    Effect::says(at.settings.with_feed(feed), Note::Fedrat(feed))
-}
-
-/// A spindle that turns, in turns per minute.
-fn spindl(at: &Situation, v: i64, turn: Turn) -> Effect
-    requires { IsScalar v }
-    ensures { result ≡ Effect.Sets at.now.settings (Some (notes.Spindl turn (scalars.whole v))) }
-{
-    Effect::says(at.settings, Note::Spindl(turn, whole(v)))
-}
-
-fn loadtl(at: &Situation, v: i64) -> Effect
-    requires { IsScalar v }
-    ensures { Some result ≡ asking.effect_of at.now (deeds.Loadtl v) }
-{
-    Effect::says(at.settings, Note::Loadtl(whole(v)))
-}
-
-fn reached(at: &Situation, reach: Reach, x: i64, y: i64, z: Option<i64>) -> Effect
-    requires x { IsScalar x }
-    requires y { IsScalar y }
-    requires z { IsScalarOrNone z }
-    ensures { result ≡ Effect.Moves reach (asking.position_by at.now.settings.units x y z) }
-{
-    Effect::Moves(reach, position_by(at.settings.units, x, y, z))
-}
-
-/// The move to the point of a name, at its height.
-fn to_point(at: &Situation, reach: Reach, name: &Symbol) -> Option<Effect>
-    ensures { result ≡ asking.moves reach (asking.place_in at.now.table name.now) }
-{
-    let to = place_in(&at.table, name)?;
+    let to = place_at(at, place)?;
     Some(Effect::Moves(reach, to))
+}
+
+fn place_at(at: &Situation, place: &Place) -> Option<Position>
+    requires { AllScalars (place_numbers place.now) }
+    ensures { result ≡ asking.place_at at.now place.now }
+{
+    match place {
+        Place::Xyz(x, y, z) => Some(position_by(at.settings.units, *x, *y, *z)),
+        Place::Named(name) => place_in(&at.table, name),
+    }
 }
 
 fn godlta(at: &Situation, x: i64, y: i64, z: i64) -> Option<Effect>
@@ -206,7 +136,7 @@ fn godlta(at: &Situation, x: i64, y: i64, z: i64) -> Option<Effect>
     requires x { IsScalar x }
     requires y { IsScalar y }
     requires z { IsScalar z }
-    ensures { result ≡ asking.effect_of at.now (deeds.Godlta x y z) }
+    ensures { result ≡ asking.moves Reach.Godlta (asking.moved_from at.now x y z) }
 {
     let from = at.position?;
     let to = moved_by(at.settings.units, x, y, z, from);
@@ -216,7 +146,7 @@ fn godlta(at: &Situation, x: i64, y: i64, z: i64) -> Option<Effect>
 /// The move to the start-up point.
 fn go(at: &Situation, how: Stop, name: &Symbol, other: &Option<(Stop, Symbol)>) -> Option<Effect>
     requires { IsSituation at.now }
-    ensures { result ≡ asking.effect_of at.now (deeds.GoStart how name.now other.now) }
+    ensures { result ≡ asking.moves Reach.Start (start_ups.start_position_at at.now how name.now other.now) }
 {
     let from = at.position?;
     let start_up = start_up_at(at, how, name, other)?;
@@ -250,7 +180,7 @@ fn contour(
     check: &Symbol,
 ) -> Option<Effect>
     requires { IsSituation at.now }
-    ensures { result ≡ asking.effect_of at.now (deeds.Contour side go drive.now how check.now) }
+    ensures { result ≡ asking.cuts (motions.motion_at at.now side go drive.now how check.now) }
 {
     let start = at.position?;
     let drive = surface_in(&at.table, drive)?;

@@ -2,7 +2,8 @@
 
 ghost use Rattle.std.specs.Prelude.{◌≡◌, ◌≤◌, ◌+ℤ◌, [], Some, unsigned_abs};
 ghost use Rattle.apt_scalar.specs.Scalars.{IsScalar, grid_units};
-ghost use Rattle.apt_scalar.specs.StepScalars.{IsScalarOrNone};
+ghost use Rattle.apt_scalar.specs.StepScalars.{AllScalars};
+ghost use Rattle.apt_words.specs.Asks.{listed};
 ghost use Rattle.apt_plane.specs.Ranges.{IsPoint};
 ghost use Rattle.apt_certify.specs.Jobs.{ArePoints};
 ghost use Rattle.apt_certify.specs.Legs as legs;
@@ -26,7 +27,7 @@ use apt_words::Units;
 pub fn position_by(units: Units, x: i64, y: i64, z: Option<i64>) -> Position
     requires x { IsScalar x }
     requires y { IsScalar y }
-    requires z { IsScalarOrNone z }
+    requires z { AllScalars (listed z) }
     ensures { result ≡ asking.position_by units x y z }
 {
     Position {
@@ -40,7 +41,7 @@ pub fn position_by(units: Units, x: i64, y: i64, z: Option<i64>) -> Position
 
 /// The height is 0 where it is left out.
 fn height(units: Units, z: Option<i64>) -> i64
-    requires { IsScalarOrNone z }
+    requires { AllScalars (listed z) }
     ensures { result ≡ asking.height_by units z }
 {
     match z {

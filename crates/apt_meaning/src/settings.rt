@@ -1,54 +1,42 @@
 //! Settings that change in one place.
 
-ghost use Rattle.std.specs.Prelude.{◌≡◌, pos, true, false, unsigned_abs};
+ghost use Rattle.std.specs.Prelude.{◌≡◌};
+ghost use Rattle.apt_cldata.specs.Ranges.{IsNote};
+ghost use Rattle.apt_meaning.specs.Ranges.{IsChange};
 ghost use Rattle.apt_meaning.specs.Situations as situations;
 
-use crate::Settings;
-use apt_cldata::Reach;
-use apt_words::{Side, Units};
+use crate::{Change, Settings};
+use apt_cldata::{Note, Reach};
+use apt_words::Side;
 
 impl Settings {
-    /// With other units.
-    pub fn with_units(self, units: Units) -> Settings
-        ensures { result ≡ record self { units = units } }
+    /// Those behind a note: the cutter's radius is half its diameter, rounded up.
+    fn set_by(&mut self, note: &Note)
+        requires { IsNote note.now }
+        ensures { self.new ≡ situations.settings_with self.old note.now }
     {
-        Settings { units, ..self }
+        match note {
+            Note::Units(units) => self.units = *units,
+            Note::Cutter(diameter) => self.radius = diameter.unsigned_abs().div_ceil(2) as i64,
+            Note::Intol(intol) => self.intol = *intol,
+            Note::Outtol(outtol) => self.outtol = *outtol,
+            Note::Feed(feed) => self.feed = *feed,
+            Note::Rapid => self.rapid = true,
+            Note::Partno(_) | Note::Spindle(..) | Note::Coolant(_) | Note::Tool(_) => {}
+            Note::Stop | Note::OptStop | Note::End | Note::Fini => {}
+        }
     }
 
-    /// With the cutter of a diameter in grid units: its radius is half of it, rounded up.
-    pub fn with_diameter(self, diameter: i64) -> Settings
-        ensures { result ≡ record self { radius = pos (situations.radius_of (unsigned_abs diameter)) } }
+    /// What a step sets holds from now on.
+    pub fn change(&mut self, change: &Change)
+        requires { IsChange change.now }
+        ensures { self.new ≡ situations.changed self.old change.now }
     {
-        let radius = diameter.unsigned_abs().div_ceil(2) as i64;
-        Settings { radius, ..self }
-    }
-
-    /// With another tolerance inwards, in grid units.
-    pub fn with_intol(self, intol: i64) -> Settings
-        ensures { result ≡ record self { intol = intol } }
-    {
-        Settings { intol, ..self }
-    }
-
-    /// With another tolerance outwards, in grid units.
-    pub fn with_outtol(self, outtol: i64) -> Settings
-        ensures { result ≡ record self { outtol = outtol } }
-    {
-        Settings { outtol, ..self }
-    }
-
-    /// With another feed, in tenths.
-    pub fn with_feed(self, feed: i64) -> Settings
-        ensures { result ≡ record self { feed = feed } }
-    {
-        Settings { feed, ..self }
-    }
-
-    /// With the cutter on a side.
-    pub fn on_side(self, side: Side) -> Settings
-        ensures { result ≡ record self { side = side } }
-    {
-        Settings { side, ..self }
+        match change {
+            Change::Said(note) => self.set_by(note),
+            Change::Side(side) => self.side = *side,
+            Change::Nothing => {}
+        }
     }
 
     /// With the side that a word sets, where it sets one.
@@ -57,17 +45,7 @@ impl Settings {
     {
         match side {
             None => self,
-            Some(side) => self.on_side(side),
-        }
-    }
-
-    /// With a pending RAPID.
-    pub fn with_rapid(self) -> Settings
-        ensures { result ≡ record self { rapid = true } }
-    {
-        Settings {
-            rapid: true,
-            ..self
+            Some(side) => Settings { side, ..self },
         }
     }
 

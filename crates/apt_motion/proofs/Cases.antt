@@ -23,8 +23,8 @@ use Rattle.apt_meaning.specs.declared.effect.Effect.TheVariants as effects
 use Rattle.apt_meaning.specs.Situations.{lacks_feed, at_height}
 use Rattle.apt_meaning.specs.Motions.{as_surface, surface_in}
 use Rattle.apt_meaning.specs.StartUps.{goal_in, second_in, start_up_at, start_position, start_position_at}
-use Rattle.apt_meaning.specs.Effects.{moves, effect_of}
-use Rattle.apt_meaning.specs.Refusals.{position_cases, is_undefined, is_other_kind, is_no_surface, point_cases, name_cases, each_name, start_names, start_cases, refusal_of}
+use Rattle.apt_meaning.specs.Effects.{moves, as_position, effect_of}
+use Rattle.apt_meaning.specs.Refusals.{position_cases, is_undefined, is_other_kind, is_no_surface, name_cases, each_name, start_names, start_cases, refusal_of}
 use Rattle.apt_meaning.specs.Compiled.{asked}
 use Rattle.apt_motion.specs.Finding.{names_cases, start_up_on, go_cases_on, start_of}
 
@@ -34,7 +34,7 @@ first_or : (b : Bool) (case : Case) (f g : Option Case) → cond b (Some case) (
 first_or true case f g = refl
 first_or false case f g = refl
 
-first_append : (rows more : List Row) → first_of (rows ++ more) ≡ option_or (first_of rows) (first_of more)
+pub first_append : (rows more : List Row) → first_of (rows ++ more) ≡ option_or (first_of rows) (first_of more)
 first_append [] more = refl
 first_append (row ∷ rows) more = ap (cond row.0 (Some row.1)) (first_append rows more) ∙ first_or row.0 row.1 (first_of rows) (first_of more)
 
@@ -48,12 +48,15 @@ pub name_refused : (table : Table) (name : List ℕ) (more : List Row) (case : C
     → first_of (name_cases table name more) ≡ Some case
 name_refused table name more case e = first_append (name_cases table name []) more ∙ ap (λ (f : Option Case). option_or f (first_of more)) e
 
-pub point_refused : (table : Table) (name : List ℕ) (more : List Row) (case : Case) → first_of (point_cases table name []) ≡ Some case
-    → first_of (point_cases table name more) ≡ Some case
-point_refused table name more case e = first_append (point_cases table name []) more ∙ ap (λ (f : Option Case). option_or f (first_of more)) e
+-- ---- a name that stands for a point
 
-pub point_passed : (table : Table) (name : List ℕ) (more : List Row) → first_of (point_cases table name []) ≡ None → first_of (point_cases table name more) ≡ first_of more
-point_passed table name more e = first_append (point_cases table name []) more ∙ ap (λ (f : Option Case). option_or f (first_of more)) e
+abbrev pub position_of : Option Figure → Option Position
+position_of None = None
+position_of (Some figure) = as_position figure
+
+pub position_of-is : (o : Option Figure) → o >>= as_position ≡ position_of o
+position_of-is None = refl
+position_of-is (Some figure) = refl
 
 -- ---- a name that stands for a surface
 

@@ -22,7 +22,8 @@ use Rattle.apt_meaning.proofs.Walk.{fit as fit_of, after_points, behind_step, co
 use Rattle.apt_meaning.proofs.Files.{compiled_fit}
 use Rattle.apt_motion.specs.declared.runs.RunError.{RunError}
 use Rattle.apt_motion.specs.Ends.{Ends}
-use Rattle.apt_motion.specs.Finding.{IsNoContour, IsNoDefinition, IsPlain}
+use Rattle.apt_defs.specs.Definitions.{IsNoDefinition}
+use Rattle.apt_motion.specs.Finding.{IsNoContour, IsPlain}
 use Rattle.apt_motion.proofs.Plain.{is_plain}
 
 regroup : (front more : List Record) (r : Result (List Record) Refusal) → with_front front (with_front more r) ≡ with_front (front ++ more) r
@@ -72,12 +73,12 @@ fit at deed e is scalars worded does =
     }
 
 -- what is found of a step that is neither a definition nor a contour
-found_is : (at : Situation) (deed : Deed) (e : Effect) → IsSituation at → HasScalars deed → DeedHasText deed → IsNoContour deed → IsNoDefinition at deed
+found_is : (at : Situation) (deed : Deed) (e : Effect) → IsSituation at → HasScalars deed → DeedHasText deed → IsNoContour deed → IsNoDefinition deed
     → asked (refusal_of at deed) (effect_of at deed) ≡ Ok e → IsPlain e × IsEffect e
 found_is at deed e is scalars worded uncut none does =
     (is_plain at deed e uncut none (asked_fine (refusal_of at deed) (effect_of at deed) e does).1, (fit at deed e is scalars worded does).good)
 
-pub found_plain : (at : Situation) (deed : Deed) (r : Result Effect Case) → IsSituation at → HasScalars deed → DeedHasText deed → IsNoContour deed → IsNoDefinition at deed
+pub found_plain : (at : Situation) (deed : Deed) (r : Result Effect Case) → IsSituation at → HasScalars deed → DeedHasText deed → IsNoContour deed → IsNoDefinition deed
     → r ≡ asked (refusal_of at deed) (effect_of at deed) → IfOk r IsPlain × IfOk r IsEffect
 found_plain at deed (Ok e) is scalars worded uncut none same = found_is at deed e is scalars worded uncut none (sym same)
 found_plain at deed (Err case) is scalars worded uncut none same = (tt, tt)

@@ -7,6 +7,8 @@ use Rattle.apt_words.specs.declared.Case.TheVariants as cases
 use Rattle.apt_words.specs.declared.Go.{Go}
 use Rattle.apt_words.specs.declared.Side.{Side}
 use Rattle.apt_words.specs.declared.Stop.{Stop}
+use Rattle.apt_words.specs.Asks.{Cuts, ask_of}
+use Rattle.apt_words.specs.declared.ask.Place.{Place}
 use Rattle.apt_words.specs.declared.deed.Deed.{Deed}
 use Rattle.apt_words.specs.declared.deed.Deed.TheVariants as deeds
 use Rattle.apt_plane.specs.declared.figures.Surface.{Surface}
@@ -17,36 +19,40 @@ use Rattle.apt_startup.specs.StartUps.{start_up_cases, start_point}
 use Rattle.apt_cldata.specs.declared.record.Position.{Position}
 use Rattle.apt_cldata.specs.declared.record.Reach.TheVariants as reaches
 use Rattle.apt_defs.specs.Figures.{Table}
-use Rattle.apt_defs.specs.Definitions.{definition_of}
 use Rattle.apt_meaning.specs.declared.situation.Settings.{Settings}
 use Rattle.apt_meaning.specs.declared.situation.Situation.{Situation}
 use Rattle.apt_meaning.specs.declared.motion.Motion.{Motion}
 use Rattle.apt_meaning.specs.declared.effect.Effect.{Effect}
 use Rattle.apt_meaning.specs.declared.effect.Effect.TheVariants as effects
 use Rattle.apt_meaning.specs.Situations.{has_feed, lacks_feed, with_side, at_height}
+use Rattle.apt_meaning.specs.Effects.{place_at}
 use Rattle.apt_meaning.specs.Motions.{is_too_fine, turn_at, if_turned}
-use Rattle.apt_meaning.specs.Refusals.{is_undefined, is_no_surface, each_name, motion_cases, turned_cases}
+use Rattle.apt_meaning.specs.Refusals.{place_cases, is_undefined, is_no_surface, each_name, motion_cases, turned_cases}
 
 abbrev pub IsNoContour : Deed → Type 0
-IsNoContour deed = (side : Option Side) (go : Go) (drive : List ℕ) (how : Stop) (check : List ℕ) → deed ≢ deeds.Contour side go drive how check
+IsNoContour deed = (side : Option Side) (go : Go) (drive : List ℕ) (how : Stop) (check : List ℕ) → ask_of deed ≢ Cuts side go drive how check
 
 abbrev pub IsContour : Deed → Type 0
 IsContour (deeds.Contour side go drive how check) = Unit {0}
 IsContour _ = ⊥
 
-abbrev pub IsNoStart : Deed → Type 0
-IsNoStart deed = (how : Stop) (name : List ℕ) (other : Option (Stop × List ℕ)) → deed ≢ deeds.GoStart how name other
-
--- and that defines nothing
-abbrev pub IsNoDefinition : Situation → Deed → Type 0
-IsNoDefinition at deed = definition_of at.settings.units at.table deed ≡ None
-
 -- an effect that defines nothing and is no contour
 abbrev pub IsPlain : Effect → Type 0
 IsPlain (effects.Defines n f) = ⊥
-IsPlain (effects.Sets s said) = Unit {0}
+IsPlain (effects.Sets change) = Unit {0}
 IsPlain (effects.Moves reach to) = Unit {0}
 IsPlain (effects.Cuts m) = ⊥
+
+-- ---- moves to a place
+
+-- a place, or the case that refuses it; none is without both
+abbrev pub found_place : Option Case → Option Position → Result Position Case
+found_place (Some case) to = Err case
+found_place None None = Err cases.Undefined
+found_place None (Some to) = Ok to
+
+abbrev pub placed : Situation → Place → Result Position Case
+placed at place = found_place (first_of (place_cases at place [])) (place_at at place)
 
 -- ---- GO whose names stand for surfaces
 

@@ -1,22 +1,23 @@
 //! What is found of a step that is neither a definition nor a contour.
 
 ghost use Rattle.std.specs.Prelude.{◌≡◌, IfOk};
-ghost use Rattle.apt_words.specs.Built.{IsBuilt};
+ghost use Rattle.apt_words.specs.Asks.{place_numbers, route_numbers, saying_numbers};
+ghost use Rattle.apt_words.specs.Rows.{first_of};
 ghost use Rattle.apt_words.specs.Sources.{DeedHasText};
-ghost use Rattle.apt_words.specs.declared.deed.Deed.TheVariants as deeds;
-ghost use Rattle.apt_scalar.specs.Scalars.{IsScalar};
-ghost use Rattle.apt_scalar.specs.StepScalars.{HasScalars, IsScalarOrNone};
+ghost use Rattle.apt_scalar.specs.StepScalars.{AllScalars, HasScalars};
+ghost use Rattle.apt_defs.specs.Definitions.{IsNoDefinition};
 ghost use Rattle.apt_meaning.specs.Compiled.{asked};
 ghost use Rattle.apt_meaning.specs.Effects as asking;
 ghost use Rattle.apt_meaning.specs.Ranges.{IsSituation, IsEffect};
+ghost use Rattle.apt_meaning.specs.Refusals as refusals;
 ghost use Rattle.apt_meaning.specs.Refusals.{refusal_of};
-ghost use Rattle.apt_motion.specs.Finding.{IsNoContour, IsNoDefinition, IsNoStart, IsPlain};
+ghost use Rattle.apt_motion.specs.Finding.{IsNoContour, IsPlain};
 
-use crate::refusals::{move_to, refusal};
+use crate::refusals::{godlta, note_case, placed};
 use crate::start_ups::go;
-use apt_cldata::Reach;
-use apt_meaning::{Effect, Situation, effect_of, position_by};
-use apt_words::{Case, Deed};
+use apt_cldata::{Note, Reach};
+use apt_meaning::{Change, Effect, Situation, note_of};
+use apt_words::{Ask, Case, Deed, Place, Route, Saying};
 use std::alloc::AllocError;
 
 /// What a step asks for that is neither a definition nor a contour, or the first case that refuses it.
@@ -25,10 +26,9 @@ use std::alloc::AllocError;
 pub(crate) fn find(at: &Situation, deed: &Deed) -> Result<Result<Effect, Case>, AllocError>
     requires situation { IsSituation at.now }
     requires scalars { HasScalars deed.now }
-    requires built { IsBuilt deed.now }
     requires text { DeedHasText deed.now }
     requires plain { IsNoContour deed.now }
-    requires defines_nothing { IsNoDefinition at.now deed.now }
+    requires defines_nothing { IsNoDefinition deed.now }
     ensures value { IfOk result (λ found. found ≡ asked (refusal_of at.now deed.now) (asking.effect_of at.now deed.now)) }
     ensures plain { IfOk result (λ found. IfOk found IsPlain) }
     ensures range { IfOk result (λ found. IfOk found IsEffect) }
@@ -40,48 +40,78 @@ pub(crate) fn find(at: &Situation, deed: &Deed) -> Result<Result<Effect, Case>, 
 fn found(at: &Situation, deed: &Deed) -> Result<Result<Effect, Case>, AllocError>
     requires situation { IsSituation at.now }
     requires scalars { HasScalars deed.now }
-    requires built { IsBuilt deed.now }
     requires plain { IsNoContour deed.now }
-    requires defines_nothing { IsNoDefinition at.now deed.now }
+    requires defines_nothing { IsNoDefinition deed.now }
     ensures { IfOk result (λ found. found ≡ asked (refusal_of at.now deed.now) (asking.effect_of at.now deed.now)) }
 {
-    match deed {
-        Deed::GoStart(how, name, other) => Ok(go(at, *how, name, other)),
-        Deed::GotoXy(x, y, z) => Ok(goto(at, *x, *y, *z)),
-        _ => apart(at, deed),
+    match deed.ask() {
+        Ask::Titles(text) => Ok(Ok(said(Note::Partno(text.copied()?)))),
+        Ask::Says(saying) => Ok(say(at, &saying)),
+        Ask::Sets(side) => Ok(Ok(Effect::Sets(Change::Side(side)))),
+        Ask::Goes(route) => Ok(goes(at, &route)),
+        Ask::Nothing => Ok(Ok(Effect::Sets(Change::Nothing))),
+        Ask::Defines(..) | Ask::Cuts(..) => unreachable!(),
     }
 }
 
-/// What a GOTO by scalars asks for: its position is found once, for its cases and for the move.
-#[inline(always)]
-fn goto(at: &Situation, x: i64, y: i64, z: Option<i64>) -> Result<Effect, Case>
-    requires x { IsScalar x }
-    requires y { IsScalar y }
-    requires z { IsScalarOrNone z }
-    ensures { result ≡ asked (refusal_of at.now (deeds.GotoXy x y z)) (asking.effect_of at.now (deeds.GotoXy x y z)) }
+fn said(note: Note) -> Effect
+    ensures { result ≡ Effect.Sets (Change.Said note) }
 {
-    let to = position_by(at.settings.units, x, y, z);
-    match move_to(&at.settings, to) {
+    Effect::Sets(Change::Said(note))
+}
+
+/// What a note asks for that is in its range.
+fn say(at: &Situation, saying: &Saying) -> Result<Effect, Case>
+    requires { AllScalars (saying_numbers saying.now) }
+    ensures { let note = asking.note_of at.now.settings.units saying.now in result ≡ asked (first_of (refusals.note_cases note)) (asking.says note) }
+{
+    let note = note_of(at.settings.units, saying);
+    match note_case(&note) {
         Some(case) => Err(case),
-        None => Ok(Effect::Moves(Reach::Goto, to)),
+        None => Ok(said(note)),
     }
 }
 
-/// What a step asks for that is no GO and no GOTO by scalars either.
-fn apart(at: &Situation, deed: &Deed) -> Result<Result<Effect, Case>, AllocError>
+/// What a move asks for.
+#[inline(always)]
+fn goes(at: &Situation, route: &Route) -> Result<Effect, Case>
     requires situation { IsSituation at.now }
-    requires scalars { HasScalars deed.now }
-    requires built { IsBuilt deed.now }
-    requires plain { IsNoContour deed.now }
-    requires no_start { IsNoStart deed.now }
-    requires defines_nothing { IsNoDefinition at.now deed.now }
-    ensures { IfOk result (λ found. found ≡ asked (refusal_of at.now deed.now) (asking.effect_of at.now deed.now)) }
+    requires scalars { AllScalars (route_numbers route.now) }
+    ensures { result ≡ asked (first_of (refusals.route_cases at.now route.now)) (asking.goes at.now route.now) }
 {
-    if let Some(case) = refusal(at, deed) {
-        return Ok(Err(case));
+    match route {
+        Route::From(place) => from(at, place),
+        Route::Goto(place) => goto(at, place),
+        Route::By(x, y, z) => godlta(at, *x, *y, *z),
+        Route::Start(how, name, other) => go(at, *how, name, other),
     }
-    match effect_of(at, deed)? {
-        Some(effect) => Ok(Ok(effect)),
-        None => Ok(Err(Case::Undefined)),
+}
+
+/// FROM comes once.
+#[tactic(auto, using(crate::proofs::Places::from_asked))]
+fn from(at: &Situation, place: &Place) -> Result<Effect, Case>
+    requires { AllScalars (place_numbers place.now) }
+    ensures { result ≡ asked (first_of (refusals.route_cases at.now (Route.From place.now))) (asking.goes at.now (Route.From place.now)) }
+{
+    if at.position.is_some() {
+        return Err(Case::FromAgain);
+    }
+    match placed(at, place) {
+        Ok(to) => Ok(Effect::Moves(Reach::From, to)),
+        Err(case) => Err(case),
+    }
+}
+
+/// A place is found once, for its cases and for the move, which needs a feed.
+#[inline(always)]
+#[tactic(auto, using(crate::proofs::Places::goto_asked))]
+fn goto(at: &Situation, place: &Place) -> Result<Effect, Case>
+    requires { AllScalars (place_numbers place.now) }
+    ensures { result ≡ asked (first_of (refusals.route_cases at.now (Route.Goto place.now))) (asking.goes at.now (Route.Goto place.now)) }
+{
+    match placed(at, place) {
+        Ok(_) if at.settings.lacks_feed() => Err(Case::NoFeed),
+        Ok(to) => Ok(Effect::Moves(Reach::Goto, to)),
+        Err(case) => Err(case),
     }
 }

@@ -16,7 +16,7 @@ ghost use Rattle.apt_motion.specs.Finding.{IsPlain};
 use crate::vertices::vertices;
 use apt_arc::ArcError;
 use apt_cldata::{Record, Vertices};
-use apt_meaning::{Effect, Motion, Situation};
+use apt_meaning::{Change, Effect, Motion, Situation};
 use apt_plane::Pt;
 use apt_words::Step;
 use std::alloc::{AllocError, Global};
@@ -86,7 +86,7 @@ pub(crate) fn pass_by(at: &mut Situation, effect: Effect)
     ensures { at.new ≡ writing.after at.old effect (ends_of effect) }
 {
     match effect {
-        Effect::Sets(settings, _) => at.settings = settings,
+        Effect::Sets(change) => at.settings.change(&change),
         Effect::Moves(reach, to) => at.go_to(reach, to),
         Effect::Defines(..) | Effect::Cuts(_) => unreachable!(),
     }
@@ -109,11 +109,11 @@ pub(crate) fn take(
 {
     make_room(records)?;
     match effect {
-        Effect::Sets(settings, note) => {
-            if let Some(note) = note {
+        Effect::Sets(change) => {
+            at.settings.change(&change);
+            if let Change::Said(note) = change {
                 put(records, step, Record::Note(note));
             }
-            at.settings = settings;
         }
         Effect::Moves(reach, to) => {
             put(records, step, Record::Point(reach, to));

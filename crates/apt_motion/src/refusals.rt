@@ -1,21 +1,20 @@
-//! The cases that refuse steps which are no contours, no start-ups and no definitions.
+//! The cases that refuse notes, and moves to a place.
 
 ghost use Rattle.std.specs.Prelude.{◌≡◌, [], ◌∷◌, Some};
-ghost use Rattle.apt_words.specs.Built.{IsBuilt};
+ghost use Rattle.apt_words.specs.Asks.{place_numbers};
 ghost use Rattle.apt_words.specs.Rows.{first_of};
-ghost use Rattle.apt_words.specs.declared.deed.Deed.TheVariants as deeds;
 ghost use Rattle.apt_scalar.specs.Scalars.{IsScalar};
-ghost use Rattle.apt_scalar.specs.StepScalars.{HasScalars, IsScalarOrNone};
+ghost use Rattle.apt_scalar.specs.StepScalars.{AllScalars};
+ghost use Rattle.apt_meaning.specs.Compiled.{asked};
+ghost use Rattle.apt_meaning.specs.Effects as asking;
 ghost use Rattle.apt_meaning.specs.Ranges.{IsSituation};
 ghost use Rattle.apt_meaning.specs.Refusals as refusals;
-ghost use Rattle.apt_meaning.specs.Refusals.{refusal_of};
-ghost use Rattle.apt_motion.specs.Finding.{IsNoContour, IsNoDefinition, IsNoStart};
+ghost use Rattle.apt_motion.specs.Finding as finding;
 
-use apt_cldata::Position;
+use apt_cldata::{Note, Position, Reach};
 use apt_defs::{Table, is_in_reach, point};
-use apt_meaning::{Settings, Situation, moved_by, position_by};
-use apt_scalar::{grid_units, tenths, whole};
-use apt_words::{Case, Deed, Symbol};
+use apt_meaning::{Effect, Settings, Situation, moved_by, position_by};
+use apt_words::{Case, Place, Symbol, Turn};
 
 /// The greatest diameter of a cutter, in grid units.
 const MOST_DIAMETER: i64 = 1_000_000;
@@ -23,49 +22,17 @@ const MOST_DIAMETER: i64 = 1_000_000;
 /// The greatest tolerance, in grid units.
 const MOST_TOLERANCE: i64 = 10_000;
 
-/// The first case that refuses a step which is no contour, no start-up and no definition.
-pub(crate) fn refusal(at: &Situation, deed: &Deed) -> Option<Case>
-    requires situation { IsSituation at.now }
-    requires scalars { HasScalars deed.now }
-    requires built { IsBuilt deed.now }
-    requires plain { IsNoContour deed.now }
-    requires no_start { IsNoStart deed.now }
-    requires defines_nothing { IsNoDefinition at.now deed.now }
-    ensures { result ≡ refusal_of at.now deed.now }
+/// The case for which a note is refused whose number is out of its range.
+pub(crate) fn note_case(note: &Note) -> Option<Case>
+    ensures { result ≡ first_of (refusals.note_cases note.now) }
 {
-    let units = at.settings.units;
-    match deed {
-        Deed::Partno(_)
-        | Deed::Remark(_)
-        | Deed::Units(_)
-        | Deed::Clprnt
-        | Deed::Nopost
-        | Deed::Machin
-        | Deed::Tool(_)
-        | Deed::Rapid
-        | Deed::Halt
-        | Deed::OptHalt
-        | Deed::EndWord
-        | Deed::Fini
-        | Deed::SpindlOff
-        | Deed::Coolnt(_)
-        | Deed::Macro
-        | Deed::Termac
-        | Deed::Call
-        | Deed::Loopst
-        | Deed::Loopnd
-        | Deed::Jumpto
-        | Deed::If => None,
-        Deed::Cutter(v) => length(MOST_DIAMETER, grid_units(units, *v)),
-        Deed::Intol(v) | Deed::Outtol(v) => length(MOST_TOLERANCE, grid_units(units, *v)),
-        Deed::Fedrat(v) => under_one(tenths(*v)),
-        Deed::Spindl(v, _) | Deed::Loadtl(v) => under_one(whole(*v)),
-        Deed::FromXy(x, y, z) => from(at, *x, *y, *z),
-        Deed::FromPoint(p) => from_point(at, p),
-        Deed::GotoXy(x, y, z) => move_to(&at.settings, position_by(units, *x, *y, *z)),
-        Deed::GotoPoint(p) => goto_point(at, p),
-        Deed::Godlta(x, y, z) => godlta(at, *x, *y, *z),
-        _ => unreachable!(),
+    match note {
+        Note::Cutter(d) => length(MOST_DIAMETER, *d),
+        Note::Intol(t) | Note::Outtol(t) => length(MOST_TOLERANCE, *t),
+        Note::Feed(n) | Note::Tool(n) => under_one(*n),
+        Note::Spindle(Turn::Cw | Turn::Ccw, n) => under_one(*n),
+        Note::Spindle(Turn::Off, _) | Note::Coolant(_) | Note::Partno(_) | Note::Units(_) => None,
+        Note::Rapid | Note::Stop | Note::OptStop | Note::End | Note::Fini => None,
     }
 }
 
@@ -98,56 +65,46 @@ fn position(p: Position) -> Option<Case>
     }
 }
 
-/// FROM comes once.
-fn from(at: &Situation, x: i64, y: i64, z: Option<i64>) -> Option<Case>
-    requires x { IsScalar x }
-    requires y { IsScalar y }
-    requires z { IsScalarOrNone z }
-    ensures { result ≡ refusal_of at.now (deeds.FromXy x y z) }
+/// The position of a place, which is within the limit.
+///
+/// # Errors
+///
+/// The first case that refuses the place.
+#[inline(always)]
+pub(crate) fn placed(at: &Situation, place: &Place) -> Result<Position, Case>
+    requires { AllScalars (place_numbers place.now) }
+    ensures { result ≡ finding.placed at.now place.now }
 {
-    if at.position.is_some() {
-        Some(Case::FromAgain)
-    } else {
-        position(position_by(at.settings.units, x, y, z))
+    match place {
+        Place::Xyz(x, y, z) => within(position_by(at.settings.units, *x, *y, *z)),
+        Place::Named(name) => point_in(&at.table, name),
     }
 }
 
-/// A name stands for a point.
-#[tactic(auto, using(crate::proofs::Places::place_refused))]
-fn no_point(table: &Table, name: &Symbol) -> Option<Case>
-    ensures { result ≡ first_of (refusals.point_cases table.now name.now []) }
+#[inline(always)]
+fn within(to: Position) -> Result<Position, Case>
+    ensures { result ≡ finding.found_place (first_of (refusals.position_cases to [])) (Some to) }
 {
-    point(table, name).err()
-}
-
-/// FROM comes once, also at a point.
-fn from_point(at: &Situation, p: &Symbol) -> Option<Case>
-    ensures { result ≡ refusal_of at.now (deeds.FromPoint p.now) }
-{
-    if at.position.is_some() {
-        Some(Case::FromAgain)
-    } else {
-        no_point(&at.table, p)
+    match position(to) {
+        None => Ok(to),
+        Some(case) => Err(case),
     }
 }
 
-/// A move to a point, which is within the limit, needs a feed.
-#[tactic(auto, using(crate::proofs::Cases::point_refused, crate::proofs::Cases::point_passed))]
-fn goto_point(at: &Situation, p: &Symbol) -> Option<Case>
-    ensures { result ≡ refusal_of at.now (deeds.GotoPoint p.now) }
+/// The point for which a name stands.
+#[tactic(auto, using(crate::proofs::Places::point_placed))]
+fn point_in(table: &Table, name: &Symbol) -> Result<Position, Case>
+    ensures { result ≡ finding.found_place (first_of (refusals.point_cases table.now name.now [])) (asking.place_in table.now name.now) }
 {
-    if let Some(case) = no_point(&at.table, p) {
-        return Some(case);
+    match point(table, name) {
+        Ok((at, z)) => Ok(Position { at, z }),
+        Err(case) => Err(case),
     }
-    if at.settings.lacks_feed() {
-        return Some(Case::NoFeed);
-    }
-    None
 }
 
 /// A move leads to a position within the limit, and needs a feed.
 #[tactic(auto, using(crate::proofs::Cases::position_refused, crate::proofs::Cases::position_passed))]
-pub(crate) fn move_to(settings: &Settings, to: Position) -> Option<Case>
+fn move_to(settings: &Settings, to: Position) -> Option<Case>
     ensures { result ≡ first_of (refusals.move_cases settings.now (Some to)) }
 {
     if let Some(case) = position(to) {
@@ -160,15 +117,19 @@ pub(crate) fn move_to(settings: &Settings, to: Position) -> Option<Case>
 }
 
 /// GODLTA starts from a position; only the new one has to be within the limit.
-fn godlta(at: &Situation, x: i64, y: i64, z: i64) -> Option<Case>
+pub(crate) fn godlta(at: &Situation, x: i64, y: i64, z: i64) -> Result<Effect, Case>
     requires situation { IsSituation at.now }
     requires x { IsScalar x }
     requires y { IsScalar y }
     requires z { IsScalar z }
-    ensures { result ≡ refusal_of at.now (deeds.Godlta x y z) }
+    ensures { result ≡ asked (first_of (refusals.godlta_cases at.now x y z)) (asking.moves Reach.Godlta (asking.moved_from at.now x y z)) }
 {
     let Some(from) = at.position else {
-        return Some(Case::NoFrom);
+        return Err(Case::NoFrom);
     };
-    move_to(&at.settings, moved_by(at.settings.units, x, y, z, from))
+    let to = moved_by(at.settings.units, x, y, z, from);
+    match move_to(&at.settings, to) {
+        Some(case) => Err(case),
+        None => Ok(Effect::Moves(Reach::Godlta, to)),
+    }
 }

@@ -2,7 +2,6 @@
 
 ghost use Rattle.std.specs.Prelude.{◌≡◌, ◌≤◌, IfOk, Ok};
 ghost use Rattle.std.specs.Result.{result_map_both};
-ghost use Rattle.apt_words.specs.Built.{AreBuiltSteps, IsBuilt};
 ghost use Rattle.apt_words.specs.Sources.{AreExecuted, DeedHasText};
 ghost use Rattle.apt_scalar.specs.StepScalars.{AreScalars, HasScalars};
 ghost use Rattle.apt_cldata.specs.Ranges.{AreRecords, vertex_count};
@@ -14,7 +13,8 @@ ghost use Rattle.apt_meaning.specs.Records.{AreOwn, FollowsAs, FollowsLegally};
 ghost use Rattle.apt_meaning.specs.Situations.{first_situation};
 ghost use Rattle.apt_meaning.specs.declared.situation.Situation.{Situation};
 ghost use Rattle.apt_motion.specs.Ends.{Ends, HasAdvanced, HasPassed, ArePassed};
-ghost use Rattle.apt_motion.specs.Finding.{IsContour, IsMotionBy, IsNoContour, IsNoDefinition};
+ghost use Rattle.apt_defs.specs.Definitions.{IsNoDefinition};
+ghost use Rattle.apt_motion.specs.Finding.{IsContour, IsMotionBy, IsNoContour};
 
 use crate::contours::{end_of, motion};
 use crate::found::find;
@@ -61,7 +61,6 @@ fn refused(step: &Step, case: Case) -> RunError
 fn pass(at: &mut Situation, step: &Step) -> Result<(), RunError>
     requires situation { IsSituation at.old }
     requires scalars { HasScalars step.now.deed }
-    requires built { IsBuilt step.now.deed }
     requires text { DeedHasText step.now.deed }
     ensures { HasPassed at.old step.now (result_map_both (λ _. at.new) (λ e. e) result) }
 {
@@ -82,10 +81,9 @@ fn pass(at: &mut Situation, step: &Step) -> Result<(), RunError>
 fn go_on(at: &mut Situation, step: &Step) -> Result<(), RunError>
     requires situation { IsSituation at.old }
     requires scalars { HasScalars step.now.deed }
-    requires built { IsBuilt step.now.deed }
     requires text { DeedHasText step.now.deed }
     requires plain { IsNoContour step.now.deed }
-    requires defines_nothing { IsNoDefinition at.old step.now.deed }
+    requires defines_nothing { IsNoDefinition step.now.deed }
     ensures { HasPassed at.old step.now (result_map_both (λ _. at.new) (λ e. e) result) }
 {
     match find(at, &step.deed)? {
@@ -132,7 +130,6 @@ fn advance(
 ) -> Result<(), RunError>
     requires situation { IsSituation at.old }
     requires scalars { HasScalars step.now.deed }
-    requires built { IsBuilt step.now.deed }
     requires text { DeedHasText step.now.deed }
     requires few { written.old.points ≤ most_points }
     ensures { HasAdvanced written.old.points written.new.points at.old step.now written.old.records.items written.new.records.items (result_map_both (λ _. at.new) (λ e. e) result) }
@@ -154,10 +151,9 @@ fn advance(
 fn act(written: &mut Written, at: &mut Situation, step: &Step) -> Result<(), RunError>
     requires situation { IsSituation at.old }
     requires scalars { HasScalars step.now.deed }
-    requires built { IsBuilt step.now.deed }
     requires text { DeedHasText step.now.deed }
     requires plain { IsNoContour step.now.deed }
-    requires defines_nothing { IsNoDefinition at.old step.now.deed }
+    requires defines_nothing { IsNoDefinition step.now.deed }
     requires few { written.old.points ≤ most_points }
     ensures { HasAdvanced written.old.points written.new.points at.old step.now written.old.records.items written.new.records.items (result_map_both (λ _. at.new) (λ e. e) result) }
 {
@@ -214,7 +210,6 @@ fn cut(
 
 fn run_all(alloc: Global, steps: &[Step]) -> Result<Vec<Record>, RunError>
     requires scalars { AreScalars steps.now }
-    requires built { AreBuiltSteps steps.now }
     requires sources { AreExecuted steps.now }
     ensures { Ends (compilation first_situation steps.now) result }
 {
@@ -233,7 +228,6 @@ fn run_all(alloc: Global, steps: &[Step]) -> Result<Vec<Record>, RunError>
 
 fn pass_all(alloc: Global, steps: &[Step]) -> Result<(), RunError>
     requires scalars { AreScalars steps.now }
-    requires built { AreBuiltSteps steps.now }
     requires sources { AreExecuted steps.now }
     ensures { ArePassed (first_refused first_situation steps.now) result }
 {
@@ -248,7 +242,6 @@ fn pass_all(alloc: Global, steps: &[Step]) -> Result<(), RunError>
 /// is made.
 pub fn ends(alloc: Global, steps: &[Step]) -> Result<Option<Refusal>, AllocError>
     requires scalars { AreScalars steps.now }
-    requires built { AreBuiltSteps steps.now }
     requires sources { AreExecuted steps.now }
     ensures { IfOk result (λ refusal. refusal ≡ first_refused first_situation steps.now) }
 {
@@ -266,7 +259,6 @@ pub fn ends(alloc: Global, steps: &[Step]) -> Result<Option<Refusal>, AllocError
 #[tactic(auto, using(crate::proofs::Walks::run_follows, crate::proofs::Walks::run_in_range, crate::proofs::Walks::run_fits))]
 pub fn run(alloc: Global, steps: &[Step]) -> Result<Vec<Record>, RunError>
     requires scalars { AreScalars steps.now }
-    requires built { AreBuiltSteps steps.now }
     requires sources { AreExecuted steps.now }
     ensures value { Ends (compilation first_situation steps.now) result }
     ensures follows { IfOk result (λ records. (behind : Situation) × (FollowsLegally first_situation steps.now records.items behind × FollowsAs AreOwn first_situation steps.now records.items behind)) }

@@ -1,7 +1,8 @@
 -- The program of a text, or its first fault.
 use Rattle.std.specs.Prelude.{◌≡◌, ℕ, not, Bool, true, false, List, [], ◌∷◌, ◌++◌, length, Option, Some, None, Result, Ok, Err, max}
 use Rattle.std.specs.List.{list_all, find}
-use Rattle.apt_words.specs.Flow.{Flow, Onward, MacroBegins, MacroEnds, Calls, LoopBegins, LoopEnds, Jumps, Branches, ProgramEnds, flow_of, is_fini}
+use Rattle.apt_words.specs.Composition.{flow_of, is_fini}
+use Rattle.apt_words.specs.Flow.{Flow, Onward, MacroBegins, MacroEnds, Calls, LoopBegins, LoopEnds, Jumps, Branches, ProgramEnds}
 use Rattle.apt_words.specs.declared.body.Stmt.{Stmt}
 use Rattle.apt_words.specs.declared.body.Program.{Program}
 use Rattle.apt_lexis.specs.declared.cause.PartCause.{PartCause}

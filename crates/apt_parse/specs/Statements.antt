@@ -5,14 +5,14 @@ use Rattle.std.proofs.Common.{bytes_eq}
 use Rattle.apt_words.specs.declared.body.Body.{Body}
 use Rattle.apt_words.specs.declared.body.Body.TheVariants as bodies
 use Rattle.apt_words.specs.declared.body.Stmt.{Stmt}
-use Rattle.apt_words.specs.Flow.{Flow, Onward, MacroBegins, MacroEnds, Calls, LoopBegins, LoopEnds, Jumps, Branches, ProgramEnds, flow_of, macro_name}
+use Rattle.apt_words.specs.Composition.{flow_of}
+use Rattle.apt_words.specs.Flow.{Flow, Onward, MacroBegins, MacroEnds, Calls, LoopBegins, LoopEnds, Jumps, Branches, ProgramEnds, macro_name}
 use Rattle.apt_lexis.specs.declared.cause.PartCause.{PartCause}
 use Rattle.apt_lexis.specs.declared.cause.PartCause.TheVariants as causes
 use Rattle.apt_lexis.specs.Tokens.{Tokens}
 use Rattle.apt_lexis.specs.Phrase.{Phrase}
 use Rattle.apt_shapes.specs.declared.table.Labelled.{Labelled}
 use Rattle.apt_shapes.specs.Shapes.{shape}
-use Rattle.apt_words.specs.Built.{is_built}
 
 -- ---- what the statements before have opened and named
 
@@ -162,7 +162,6 @@ is_out_of_loop within ProgramEnds = false
 abbrev pub first_fault : List Stmt → Option (List ℕ) → Body → Option PartCause
 first_fault before label body =
     if is_misplaced before body then Some causes.BadShape
-    else if not (is_built body) then Some causes.NotBuilt
     else if lacks_partno before body then Some causes.NoPartno
     else if is_label_again before label then Some causes.LabelTwice
     else if is_macro_again before (flow_of body) then Some causes.MacroTwice

@@ -1,7 +1,6 @@
 //! The part program of a text.
 #![tactic(auto)]
 
-mod built;
 mod names;
 mod program;
 mod read;

@@ -2,8 +2,8 @@
 
 ghost use Rattle.std.specs.Prelude.{◌≡◌, ℕ, List, ◌≤◌, ◌-◌, false, None, max, IfOk};
 ghost use Rattle.std.specs.List.{list_all};
-ghost use Rattle.apt_words.specs.Built.{AreBuilt};
-ghost use Rattle.apt_words.specs.Flow.{flow_of, AreNested};
+ghost use Rattle.apt_words.specs.Composition.{flow_of};
+ghost use Rattle.apt_words.specs.Nesting.{AreNested};
 ghost use Rattle.apt_words.specs.Sources.{AreStmts};
 ghost use Rattle.apt_lexis.specs.Spellings.{SayTheSame};
 ghost use Rattle.apt_parse.specs.ReaderState as reading;
@@ -23,11 +23,10 @@ use std::alloc::Global;
 /// # Errors
 ///
 /// `Bad` is the first fault in the order of reading, with its line.
-#[tactic(auto, using(crate::proofs::Nesting::parsed_nested, crate::proofs::AllBuilt::parsed_built, crate::proofs::AllSources::parsed_stmts, crate::proofs::Respelled::parsed_same))]
+#[tactic(auto, using(crate::proofs::Nesting::parsed_nested, crate::proofs::AllSources::parsed_stmts, crate::proofs::Respelled::parsed_same))]
 pub fn parse(alloc: Global, text: &[u8]) -> Result<Program, ParseError>
     ensures program { programs.IsParsed (programs.program_of text.now) result }
     ensures nested { IfOk result (λ p. AreNested false p) }
-    ensures built { IfOk result (λ p. AreBuilt p) }
     ensures sources { IfOk result (λ p. AreStmts p) }
     ensures same { (other : List ℕ) → SayTheSame text.now other → programs.IsParsed (programs.program_of other) result }
 {

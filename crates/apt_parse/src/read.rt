@@ -1,11 +1,11 @@
 //! The statements that were read, and what they have opened and named.
 ghost use Rattle.std.specs.Prelude.{◌≡◌, [], ◌∷◌, ◌++◌, None, OnOk, false, is_some};
 ghost use Rattle.std.specs.List.{list_any};
-ghost use Rattle.apt_words.specs.Flow.{flow_of, macro_name};
+ghost use Rattle.apt_words.specs.Composition.{flow_of};
+ghost use Rattle.apt_words.specs.Flow.{macro_name};
 ghost use Rattle.apt_parse.specs.Statements as statements;
 ghost use Rattle.apt_parse.specs.ReaderState.{IsRead};
 
-use crate::built::is_built;
 use crate::names::Names;
 use apt_lexis::PartCause;
 use apt_shapes::Labelled;
@@ -43,8 +43,6 @@ impl Read {
     {
         if self.is_misplaced(&said.body) {
             Some(PartCause::BadShape)
-        } else if !is_built(&said.body) {
-            Some(PartCause::NotBuilt)
         } else if self.lacks_partno(&said.body) {
             Some(PartCause::NoPartno)
         } else if self.is_label_again(&said.label) {

@@ -6,13 +6,11 @@ use Rattle.std.proofs.lemmas.Int.{ints}
 use Rattle.apt_words.specs.declared.Refusal.{Refusal}
 use Rattle.apt_words.specs.declared.body.Stmt.{Stmt}
 use Rattle.apt_words.specs.declared.deed.Step.{Step}
-use Rattle.apt_words.specs.Built.{AreBuilt}
 use Rattle.apt_words.specs.Sources.{AreStmts}
 use Rattle.apt_words.proofs.Titles.{HasTitle, titles_short}
-use Rattle.apt_parse.proofs.AllBuilt.{program_of-built}
 use Rattle.apt_parse.proofs.AllSources.{program_of-stmts}
 use Rattle.apt_parse.proofs.Titled.{program_of-titled}
-use Rattle.apt_words.specs.Flow.{AreNested}
+use Rattle.apt_words.specs.Nesting.{AreNested}
 use Rattle.apt_words.specs.ProgramEnds.{StepsEnd}
 use Rattle.apt_parse.specs.Programs.{Fault, program_of}
 use Rattle.apt_parse.proofs.Nesting.{program_of-nested}
@@ -20,7 +18,7 @@ use Rattle.apt_unroll.specs.Trace.{Trace, IsTrace, trace_of}
 use Rattle.apt_unroll.proofs.Going.{has_trace}
 use Rattle.apt_unroll.proofs.Found.{trace_found, few_steps}
 use Rattle.apt_unroll.proofs.Titles.{steps_titled}
-use Rattle.apt_unroll.proofs.Steps.{are_scalars, are_built, are_executed, end_once}
+use Rattle.apt_unroll.proofs.Steps.{are_scalars, are_executed, end_once}
 use Rattle.apt_cldata.specs.declared.record.Record.{Record}
 use Rattle.apt_cldata.specs.Ranges.{vertex_count}
 use Rattle.apt_meaning.specs.Situations.{first_situation}
@@ -100,12 +98,10 @@ passes_comes machine text steps q =
 
 are_steps : (machine : Machine) (text : List ℕ) (steps : List Step) → Passes machine text steps → AreSteps steps
 are_steps machine text steps q =
-    let built = of_text (λ sts. AreBuilt sts) text q.statements q.read (program_of-built text) in
     let stmts = of_text AreStmts text q.statements q.read (program_of-stmts text) in
     let trace : Trace = record { steps = steps; fault = None } in record {
-      scalars = are_scalars q.statements trace built stmts q.unrolled;
-      built = are_built q.statements trace built stmts q.unrolled;
-      sources = are_executed q.statements trace built stmts q.unrolled;
+      scalars = are_scalars q.statements trace stmts q.unrolled;
+      sources = are_executed q.statements trace stmts q.unrolled;
     }
 
 pub passing_steps : (machine : Machine) (text : List ℕ) (steps : List Step) → steps_of machine text ≡ Ok (Ok steps) → AreSteps steps

@@ -17,7 +17,7 @@ use Rattle.apt_lexis.specs.declared.cause.PartCause.TheVariants as causes
 use Rattle.apt_expr.specs.Expressions.{expression}
 use Rattle.apt_shapes.specs.Shapes.{shape}
 use Rattle.apt_parse.specs.Programs.{Fault, program_of}
-use Rattle.apt_unroll.specs.Deeds.{pair, three, four, coordinates, surfaces, execution, deed_of}
+use Rattle.apt_unroll.specs.Deeds.{by_values, executed, deed_of}
 use Rattle.apt_unroll.specs.Actions.{action}
 use Rattle.apt_unroll.specs.Trace.{trace_from, trace_of}
 use Rattle.apt_plane.specs.declared.figures.Surface.{Surface}
@@ -33,7 +33,7 @@ use Rattle.apt_meaning.specs.Situations.{position_at}
 use Rattle.apt_meaning.specs.Motions.{motion_at}
 use Rattle.apt_meaning.specs.StartUps.{start_up_at}
 use Rattle.apt_meaning.specs.Effects.{defined}
-use Rattle.apt_meaning.specs.Refusals.{refused_definition}
+use Rattle.apt_meaning.specs.Refusals.{refused_form}
 use Rattle.apt_tapecode.specs.declared.Code.TheVariants.{Rs358}
 use Rattle.apt_machine.specs.declared.machine.Machine.{Machine}
 use Rattle.apt_control.specs.declared.Act.TheVariants as acts
@@ -95,13 +95,13 @@ cut n drive side sense check how to =
 -- ---- a first part
 
 first_records : records_of (codes "PARTNO FIRST\nFEDRAT/10\nFROM/0,0,0\nGOTO/1,2,3\nFINI\n") ≡
-    written (note_at 1 (notes.Partno (codes "FIRST")) ++ note_at 2 (notes.Fedrat (pos 100)) ++ reached 3 reaches.From (at 0 0 0) ++ reached 4 reaches.Goto (at 100000 200000 300000) ++ note_at 5 notes.Fini)
-unfolding root word_of expression shape pair three four coordinates surfaces execution deed_of trace_from action motion_at start_up_at refused_definition defined
+    written (note_at 1 (notes.Partno (codes "FIRST")) ++ note_at 2 (notes.Feed (pos 100)) ++ reached 3 reaches.From (at 0 0 0) ++ reached 4 reaches.Goto (at 100000 200000 300000) ++ note_at 5 notes.Fini)
+unfolding root word_of expression shape by_values executed deed_of trace_from action motion_at start_up_at refused_form defined
 first_records = refl
 
 first_acts : acts_of (codes "PARTNO FIRST\nFEDRAT/10\nFROM/0,0,0\nGOTO/1,2,3\nFINI\n") ≡
     Ok (Ok (record { acts = acts.Units Inch ∷ acts.Cut (pos 100000) (pos 200000) (pos 300000) (pos 100) ∷ acts.End ∷ []; segments = 0 }))
-unfolding root word_of expression shape pair three four coordinates surfaces execution deed_of trace_from action motion_at start_up_at refused_definition defined
+unfolding root word_of expression shape by_values executed deed_of trace_from action motion_at start_up_at refused_form defined
 first_acts = refl
 
 -- ---- a square plate
@@ -132,10 +132,10 @@ abbrev edge : ℕ → Surface → Surface → ℤ → ℤ → List Record
 edge n drive check x y = cut n drive sides.Right (pos 1) check stops.Past (position_at x y (pos 50000))
 
 plate_records : records_of plate ≡
-    written (note_at 1 (notes.Partno (codes "SQUARE")) ++ note_at 2 (notes.Cutter (pos 50000)) ++ note_at 7 (notes.Fedrat (pos 100))
+    written (note_at 1 (notes.Partno (codes "SQUARE")) ++ note_at 2 (notes.Cutter (pos 50000)) ++ note_at 7 (notes.Feed (pos 100))
     ++ reached 8 reaches.From (position_at (neg_ℤ (pos 100000)) (neg_ℤ (pos 100000)) (pos 50000)) ++ reached 9 reaches.Start (position_at low low (pos 50000))
     ++ edge 11 bottom right high low ++ edge 12 right top high high ++ edge 13 top left low high ++ edge 14 left bottom low low ++ note_at 15 notes.Fini)
-unfolding root word_of expression shape pair three four coordinates surfaces execution deed_of trace_from action motion_at start_up_at refused_definition defined
+unfolding root word_of expression shape by_values executed deed_of trace_from action motion_at start_up_at refused_form defined
 plate_records = refl
 
 plate_acts : acts_of plate ≡
@@ -144,7 +144,7 @@ plate_acts : acts_of plate ≡
           ∷ acts.Cut high low (pos 50000) (pos 100) ∷ acts.Cut high high (pos 50000) (pos 100) ∷ acts.Cut low high (pos 50000) (pos 100) ∷ acts.Cut low low (pos 50000) (pos 100) ∷ acts.End ∷ [];
       segments = 4;
     }))
-unfolding root word_of expression shape pair three four coordinates surfaces execution deed_of trace_from action motion_at start_up_at refused_definition defined
+unfolding root word_of expression shape by_values executed deed_of trace_from action motion_at start_up_at refused_form defined
 plate_acts = refl
 
 -- ---- each statement
@@ -152,39 +152,39 @@ plate_acts = refl
 -- REMARK, CLPRNT, NOPOST, MACHIN and a scalar write no record
 says_nothing : records_of (codes "PARTNO A\nREMARK B\nCLPRNT\nNOPOST\nMACHIN/1,C\nD=2*3\nFINI\n") ≡
     written (titled ++ note_at 7 notes.Fini)
-unfolding root word_of expression shape pair three four coordinates surfaces execution deed_of trace_from action motion_at start_up_at refused_definition defined
+unfolding root word_of expression shape by_values executed deed_of trace_from action motion_at start_up_at refused_form defined
 says_nothing = refl
 
 lengths : records_of (codes "PARTNO A\nUNITS/MM\nCUTTER/6\nINTOL/.01\nOUTTOL/.02\nFEDRAT/120\nFINI\n") ≡
-    written (titled ++ note_at 2 (notes.Units Mm) ++ note_at 3 (notes.Cutter (pos 60000)) ++ note_at 4 (notes.Intol (pos 100)) ++ note_at 5 (notes.Outtol (pos 200)) ++ note_at 6 (notes.Fedrat (pos 1200)) ++ note_at 7 notes.Fini)
-unfolding root word_of expression shape pair three four coordinates surfaces execution deed_of trace_from action motion_at start_up_at refused_definition defined
+    written (titled ++ note_at 2 (notes.Units Mm) ++ note_at 3 (notes.Cutter (pos 60000)) ++ note_at 4 (notes.Intol (pos 100)) ++ note_at 5 (notes.Outtol (pos 200)) ++ note_at 6 (notes.Feed (pos 1200)) ++ note_at 7 notes.Fini)
+unfolding root word_of expression shape by_values executed deed_of trace_from action motion_at start_up_at refused_form defined
 lengths = refl
 
 inches : records_of (codes "PARTNO A\nUNITS/INCHES\nFINI\n") ≡
     written (titled ++ note_at 2 (notes.Units Inch) ++ note_at 3 notes.Fini)
-unfolding root word_of expression shape pair three four coordinates surfaces execution deed_of trace_from action motion_at start_up_at refused_definition defined
+unfolding root word_of expression shape by_values executed deed_of trace_from action motion_at start_up_at refused_form defined
 inches = refl
 
 moves : records_of (codes "PARTNO A\nFEDRAT/1\nFROM/1,2\nGOTO/3,4,5\nGODLTA/.5,.5,1\nFINI\n") ≡
-    written (titled ++ note_at 2 (notes.Fedrat (pos 10)) ++ reached 3 reaches.From (at 100000 200000 0) ++ reached 4 reaches.Goto (at 300000 400000 500000) ++ reached 5 reaches.Godlta (at 350000 450000 600000) ++ note_at 6 notes.Fini)
-unfolding root word_of expression shape pair three four coordinates surfaces execution deed_of trace_from action motion_at start_up_at refused_definition defined
+    written (titled ++ note_at 2 (notes.Feed (pos 10)) ++ reached 3 reaches.From (at 100000 200000 0) ++ reached 4 reaches.Goto (at 300000 400000 500000) ++ reached 5 reaches.Godlta (at 350000 450000 600000) ++ note_at 6 notes.Fini)
+unfolding root word_of expression shape by_values executed deed_of trace_from action motion_at start_up_at refused_form defined
 moves = refl
 
 machine_words : records_of (codes "PARTNO A\nSPINDL/1200\nSPINDL/700,CLW\nSPINDL/70.5,CCLW\nSPINDL/OFF\nCOOLNT/MIST\nCOOLNT/FLOOD\nCOOLNT/OFF\nLOADTL/7\nFINI\n") ≡
-    written (titled ++ note_at 2 (notes.Spindl spins.Cw (pos 1200)) ++ note_at 3 (notes.Spindl spins.Cw (pos 700)) ++ note_at 4 (notes.Spindl spins.Ccw (pos 71)) ++ note_at 5 (notes.Spindl spins.Off (pos 0))
-    ++ note_at 6 (notes.Coolnt cools.Mist) ++ note_at 7 (notes.Coolnt cools.Flood) ++ note_at 8 (notes.Coolnt cools.Off) ++ note_at 9 (notes.Loadtl (pos 7)) ++ note_at 10 notes.Fini)
-unfolding root word_of expression shape pair three four coordinates surfaces execution deed_of trace_from action motion_at start_up_at refused_definition defined
+    written (titled ++ note_at 2 (notes.Spindle spins.Cw (pos 1200)) ++ note_at 3 (notes.Spindle spins.Cw (pos 700)) ++ note_at 4 (notes.Spindle spins.Ccw (pos 71)) ++ note_at 5 (notes.Spindle spins.Off (pos 0))
+    ++ note_at 6 (notes.Coolant cools.Mist) ++ note_at 7 (notes.Coolant cools.Flood) ++ note_at 8 (notes.Coolant cools.Off) ++ note_at 9 (notes.Tool (pos 7)) ++ note_at 10 notes.Fini)
+unfolding root word_of expression shape by_values executed deed_of trace_from action motion_at start_up_at refused_form defined
 machine_words = refl
 
 commands : records_of (codes "PARTNO A\nSTOP\nOPSTOP\nRAPID\nGOTO/0,0\nEND\nFINI\n") ≡
     written (titled ++ note_at 2 notes.Stop ++ note_at 3 notes.OptStop ++ note_at 4 notes.Rapid ++ reached 5 reaches.Goto (at 0 0 0) ++ note_at 6 notes.End ++ note_at 7 notes.Fini)
-unfolding root word_of expression shape pair three four coordinates surfaces execution deed_of trace_from action motion_at start_up_at refused_definition defined
+unfolding root word_of expression shape by_values executed deed_of trace_from action motion_at start_up_at refused_form defined
 commands = refl
 
 -- the end is given once
 commands_are_acts : acts_of (codes "PARTNO A\nSTOP\nOPSTOP\nRAPID\nGOTO/0,0\nEND\nFINI\n") ≡
     Ok (Ok (record { acts = acts.Units Inch ∷ acts.Stop ∷ acts.OptStop ∷ acts.Rapid (pos 0) (pos 0) (pos 0) ∷ acts.End ∷ []; segments = 0 }))
-unfolding root word_of expression shape pair three four coordinates surfaces execution deed_of trace_from action motion_at start_up_at refused_definition defined
+unfolding root word_of expression shape by_values executed deed_of trace_from action motion_at start_up_at refused_form defined
 commands_are_acts = refl
 
 abbrev across : Surface
@@ -195,101 +195,101 @@ up = line (pos 200000) (pos 0) (pos 0) (pos 100000)
 
 -- the lines, the feed, and a move along the first
 abbrev before : Position → List Record
-before to = titled ++ note_at 4 (notes.Fedrat (pos 10)) ++ reached 5 reaches.From (position_at (neg_ℤ (pos 100000)) (pos 0) (pos 0)) ++ reached 6 reaches.Goto to
+before to = titled ++ note_at 4 (notes.Feed (pos 10)) ++ reached 5 reaches.From (position_at (neg_ℤ (pos 100000)) (pos 0) (pos 0)) ++ reached 6 reaches.Goto to
 
 forward : records_of (codes "PARTNO A\nL1=LINE/0,0,1,0\nL2=LINE/2,0,2,1\nFEDRAT/1\nFROM/-1,0\nGOTO/0,0\nTLLFT\nGOFWD/L1,TO,L2\nFINI\n") ≡
     written (before (at 0 0 0) ++ cut 8 across sides.Left (pos 1) up stops.To (at 200000 0 0) ++ note_at 9 notes.Fini)
-unfolding root word_of expression shape pair three four coordinates surfaces execution deed_of trace_from action motion_at start_up_at refused_definition defined
+unfolding root word_of expression shape by_values executed deed_of trace_from action motion_at start_up_at refused_form defined
 forward = refl
 
 -- a tool word before a contour, and TO where no stop is named
 forward_by_the_stop_alone : records_of (codes "PARTNO A\nL1=LINE/0,0,1,0\nL2=LINE/2,0,2,1\nFEDRAT/1\nFROM/-1,0\nGOTO/0,0\nTLRGT,GOFWD/L1,L2\nFINI\n") ≡
     written (before (at 0 0 0) ++ cut 7 across sides.Right (pos 1) up stops.To (at 200000 0 0) ++ note_at 8 notes.Fini)
-unfolding root word_of expression shape pair three four coordinates surfaces execution deed_of trace_from action motion_at start_up_at refused_definition defined
+unfolding root word_of expression shape by_values executed deed_of trace_from action motion_at start_up_at refused_form defined
 forward_by_the_stop_alone = refl
 
 back : records_of (codes "PARTNO A\nL1=LINE/0,0,1,0\nL2=LINE/2,0,2,1\nFEDRAT/1\nFROM/-1,0\nGOTO/3,0\nTLRGT\nGOBACK/L1,TO,L2\nFINI\n") ≡
     written (before (at 300000 0 0) ++ cut 8 across sides.Right (neg_ℤ (pos 1)) up stops.To (at 200000 0 0) ++ note_at 9 notes.Fini)
-unfolding root word_of expression shape pair three four coordinates surfaces execution deed_of trace_from action motion_at start_up_at refused_definition defined
+unfolding root word_of expression shape by_values executed deed_of trace_from action motion_at start_up_at refused_form defined
 back = refl
 
 abbrev onto : List Record
-onto = titled ++ note_at 4 (notes.Fedrat (pos 10)) ++ reached 5 reaches.From (position_at (pos 200000) (neg_ℤ (pos 100000)) (pos 0)) ++ reached 6 reaches.Goto (at 200000 0 0)
+onto = titled ++ note_at 4 (notes.Feed (pos 10)) ++ reached 5 reaches.From (position_at (pos 200000) (neg_ℤ (pos 100000)) (pos 0)) ++ reached 6 reaches.Goto (at 200000 0 0)
 
 to_the_left : records_of (codes "PARTNO A\nL1=LINE/0,0,1,0\nL2=LINE/0,0,0,1\nFEDRAT/1\nFROM/2,-1\nGOTO/2,0\nTLLFT\nGOLFT/L1,PAST,L2\nFINI\n") ≡
     written (onto ++ cut 8 across sides.Left (neg_ℤ (pos 1)) (line (pos 0) (pos 0) (pos 0) (pos 100000)) stops.Past (at 0 0 0) ++ note_at 9 notes.Fini)
-unfolding root word_of expression shape pair three four coordinates surfaces execution deed_of trace_from action motion_at start_up_at refused_definition defined
+unfolding root word_of expression shape by_values executed deed_of trace_from action motion_at start_up_at refused_form defined
 to_the_left = refl
 
 to_the_right : records_of (codes "PARTNO A\nL1=LINE/0,0,1,0\nL2=LINE/4,0,4,1\nFEDRAT/1\nFROM/2,-1\nGOTO/2,0\nTLRGT\nGORGT/L1,PAST,L2\nFINI\n") ≡
     written (onto ++ cut 8 across sides.Right (pos 1) (line (pos 400000) (pos 0) (pos 0) (pos 100000)) stops.Past (at 400000 0 0) ++ note_at 9 notes.Fini)
-unfolding root word_of expression shape pair three four coordinates surfaces execution deed_of trace_from action motion_at start_up_at refused_definition defined
+unfolding root word_of expression shape by_values executed deed_of trace_from action motion_at start_up_at refused_form defined
 to_the_right = refl
 
 start_up : records_of (codes "PARTNO A\nCUTTER/2\nL1=LINE/0,0,1,0\nL2=LINE/0,0,0,1\nFEDRAT/1\nFROM/5,5,1\nGO/TO,L1,PAST,L2\nFINI\n") ≡
-    written (titled ++ note_at 2 (notes.Cutter (pos 200000)) ++ note_at 5 (notes.Fedrat (pos 10)) ++ reached 6 reaches.From (at 500000 500000 100000) ++ reached 7 reaches.Start (position_at (neg_ℤ (pos 100000)) (pos 100000) (pos 100000)) ++ note_at 8 notes.Fini)
-unfolding root word_of expression shape pair three four coordinates surfaces execution deed_of trace_from action motion_at start_up_at refused_definition defined
+    written (titled ++ note_at 2 (notes.Cutter (pos 200000)) ++ note_at 5 (notes.Feed (pos 10)) ++ reached 6 reaches.From (at 500000 500000 100000) ++ reached 7 reaches.Start (position_at (neg_ℤ (pos 100000)) (pos 100000) (pos 100000)) ++ note_at 8 notes.Fini)
+unfolding root word_of expression shape by_values executed deed_of trace_from action motion_at start_up_at refused_form defined
 start_up = refl
 
 -- ---- macros, loops and jumps: the line of a record is its statement's, the step counts on
 
 called : records_of (codes "PARTNO A\nM=MACRO/X,Y=2\nGOTO/X,Y\nTERMAC\nFEDRAT/1\nFROM/0,0\nCALL/M,X=1\nFINI\n") ≡
-    written (titled ++ said 5 2 (notes.Fedrat (pos 10)) ++ arrived 6 3 reaches.From (at 0 0 0) ++ arrived 3 5 reaches.Goto (at 100000 200000 0) ++ said 8 7 notes.Fini)
-unfolding root word_of expression shape pair three four coordinates surfaces execution deed_of trace_from action motion_at start_up_at refused_definition defined
+    written (titled ++ said 5 2 (notes.Feed (pos 10)) ++ arrived 6 3 reaches.From (at 0 0 0) ++ arrived 3 5 reaches.Goto (at 100000 200000 0) ++ said 8 7 notes.Fini)
+unfolding root word_of expression shape by_values executed deed_of trace_from action motion_at start_up_at refused_form defined
 called = refl
 
 looped : records_of (codes "PARTNO A\nFEDRAT/1\nFROM/0,0\nN=0\nLOOPST\nL)N=N+1\nGODLTA/1,0,0\nIF(N-2)L,E,E\nE)LOOPND\nFINI\n") ≡
-    written (titled ++ note_at 2 (notes.Fedrat (pos 10)) ++ reached 3 reaches.From (at 0 0 0)
+    written (titled ++ note_at 2 (notes.Feed (pos 10)) ++ reached 3 reaches.From (at 0 0 0)
     ++ arrived 7 7 reaches.Godlta (at 100000 0 0) ++ arrived 7 10 reaches.Godlta (at 200000 0 0) ++ said 10 13 notes.Fini)
-unfolding root word_of expression shape pair three four coordinates surfaces execution deed_of trace_from action motion_at start_up_at refused_definition defined
+unfolding root word_of expression shape by_values executed deed_of trace_from action motion_at start_up_at refused_form defined
 looped = refl
 
 jumped : records_of (codes "PARTNO A\nLOOPST\nJUMPTO/B\nSTOP\nB)LOOPND\nFINI\n") ≡
     written (titled ++ said 6 5 notes.Fini)
-unfolding root word_of expression shape pair three four coordinates surfaces execution deed_of trace_from action motion_at start_up_at refused_definition defined
+unfolding root word_of expression shape by_values executed deed_of trace_from action motion_at start_up_at refused_form defined
 jumped = refl
 
 -- ---- refusals and faults
 
 past_the_machine : records_of (codes "PARTNO A\nFEDRAT/1000\nFINI\n") ≡
     refused 2 cases.FeedTooLarge
-unfolding root word_of expression shape pair three four coordinates surfaces execution deed_of trace_from action motion_at start_up_at refused_definition defined
+unfolding root word_of expression shape by_values executed deed_of trace_from action motion_at start_up_at refused_form defined
 past_the_machine = refl
 
 -- of two refused steps the first
 refused_before_the_machine : records_of (codes "PARTNO A\nGOTO/1,2\nFEDRAT/1000\nFINI\n") ≡
     refused 2 cases.NoFeed
-unfolding root word_of expression shape pair three four coordinates surfaces execution deed_of trace_from action motion_at start_up_at refused_definition defined
+unfolding root word_of expression shape by_values executed deed_of trace_from action motion_at start_up_at refused_form defined
 refused_before_the_machine = refl
 
 the_machine_first : records_of (codes "PARTNO A\nFEDRAT/1000\nGOTO/1000,2\nFINI\n") ≡
     refused 2 cases.FeedTooLarge
-unfolding root word_of expression shape pair three four coordinates surfaces execution deed_of trace_from action motion_at start_up_at refused_definition defined
+unfolding root word_of expression shape by_values executed deed_of trace_from action motion_at start_up_at refused_form defined
 the_machine_first = refl
 
 refused_before_unknown : records_of (codes "PARTNO A\nGOTO/1,2\nGOTO/B,2\nFINI\n") ≡
     refused 2 cases.NoFeed
-unfolding root word_of expression shape pair three four coordinates surfaces execution deed_of trace_from action motion_at start_up_at refused_definition defined
+unfolding root word_of expression shape by_values executed deed_of trace_from action motion_at start_up_at refused_form defined
 refused_before_unknown = refl
 
 machine_before_unknown : records_of (codes "PARTNO A\nFEDRAT/1000\nGOTO/B,2\nFINI\n") ≡
     refused 2 cases.FeedTooLarge
-unfolding root word_of expression shape pair three four coordinates surfaces execution deed_of trace_from action motion_at start_up_at refused_definition defined
+unfolding root word_of expression shape by_values executed deed_of trace_from action motion_at start_up_at refused_form defined
 machine_before_unknown = refl
 
 -- the steps stop before a value that is refused
 unknown : records_of (codes "PARTNO A\nFEDRAT/1\nGOTO/B,2\nGOTO/1000,2\nFINI\n") ≡
     refused 3 cases.Unknown
-unfolding root word_of expression shape pair three four coordinates surfaces execution deed_of trace_from action motion_at start_up_at refused_definition defined
+unfolding root word_of expression shape by_values executed deed_of trace_from action motion_at start_up_at refused_form defined
 unknown = refl
 
 no_length : records_of (codes "PARTNO A\nL1=LINE/1,2,1,2\nFINI\n") ≡
     refused 2 cases.Degenerate
-unfolding root word_of expression shape pair three four coordinates surfaces execution deed_of trace_from action motion_at start_up_at refused_definition defined
+unfolding root word_of expression shape by_values executed deed_of trace_from action motion_at start_up_at refused_form defined
 no_length = refl
 
 -- a fault of the text comes before all steps
 fault_first : records_of (codes "PARTNO A\nGOTO/1,2\nGOTO/1,2,3,4\nFINI\n") ≡
     Err (3, causes.BadShape)
-unfolding root word_of expression shape pair three four coordinates surfaces execution deed_of trace_from action motion_at start_up_at refused_definition defined
+unfolding root word_of expression shape by_values executed deed_of trace_from action motion_at start_up_at refused_form defined
 fault_first = refl

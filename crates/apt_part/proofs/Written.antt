@@ -1,14 +1,15 @@
 -- The acts of records that the compiler makes can be written.
-use Rattle.std.proofs.Common.{◌≡◌, ◌∙◌, ◌+◌, ◌≤◌, ℕ, ℤ, pos, negsuc, zero, suc, ◌≤ℤ◌, int_lt, not, ◌||◌, Bool, true, false, List, [], ◌∷◌, length, map, Option, Some, None, Ok, refl, sym, ap, subst, cond, arith}
+use Rattle.std.proofs.Common.{◌≡◌, ◌∙◌, ◌+◌, ◌≤◌, ℕ, ℤ, pos, negsuc, zero, suc, ◌≤ℤ◌, int_lt, not, ◌||◌, Bool, true, false, List, [], ◌∷◌, length, map, Option, Some, None, Ok, refl, sym, subst, cond, arith}
 use Rattle.std.proofs.lemmas.Int.{ints}
 use Rattle.std.proofs.lemmas.Bool.{true≢false}
 use Rattle.apt_words.specs.declared.Case.{Case}
 use Rattle.apt_words.specs.declared.Case.TheVariants as cases
 use Rattle.apt_words.specs.declared.Refusal.{Refusal}
+use Rattle.apt_words.specs.Asks.{Ask, Titles, Says, Sets, Defines, Goes, Cuts, Nothing, ask_of}
 use Rattle.apt_words.specs.declared.Turn.{Turn}
 use Rattle.apt_words.specs.declared.Turn.TheVariants as spins
-use Rattle.apt_words.specs.declared.deed.Deed.{Deed}
-use Rattle.apt_words.specs.declared.deed.Deed.TheVariants as deeds
+use Rattle.apt_words.specs.declared.ask.Saying.{Saying}
+use Rattle.apt_words.specs.declared.ask.Saying.TheVariants as sayings
 use Rattle.apt_words.specs.declared.deed.Step.{Step}
 use Rattle.apt_words.specs.Rows.{first_of}
 use Rattle.apt_words.specs.Sources.{AreExecuted}
@@ -24,18 +25,19 @@ use Rattle.apt_cldata.specs.declared.record.Record.TheVariants as records
 use Rattle.apt_cldata.specs.Ranges.{IsFromTo, greatest, IsNote, IsPosition, ArePositions, AreRecords}
 use Rattle.apt_meaning.specs.declared.situation.Settings.{Settings}
 use Rattle.apt_meaning.specs.declared.situation.Situation.{Situation}
+use Rattle.apt_meaning.specs.declared.effect.Change.{Change}
+use Rattle.apt_meaning.specs.declared.effect.Change.TheVariants as changes
 use Rattle.apt_meaning.specs.declared.effect.Effect.{Effect}
 use Rattle.apt_meaning.specs.declared.effect.Effect.TheVariants as effects
-use Rattle.apt_meaning.specs.Situations.{has_feed, lacks_feed, settings_behind}
-use Rattle.apt_meaning.specs.Effects.{effect_of}
+use Rattle.apt_meaning.specs.Situations.{has_feed, lacks_feed, settings_with, changed, settings_behind}
+use Rattle.apt_meaning.specs.Effects.{note_of, effect_of}
 use Rattle.apt_meaning.specs.Refusals.{refusal_of, cases_of}
-use Rattle.apt_meaning.specs.Records.{with_statement, effect_records, records_of, after}
+use Rattle.apt_meaning.specs.Records.{with_statement, change_records, effect_records, records_of, after}
 use Rattle.apt_meaning.specs.Compiled.{ends_of, points_of, compilation_behind}
-use Rattle.apt_meaning.specs.Ranges.{IsSituation}
+use Rattle.apt_meaning.specs.Ranges.{IsChange, IsSituation, IsEffect}
 use Rattle.apt_scalar.specs.StepScalars.{AreScalars}
-use Rattle.apt_meaning.specs.Sayings.{settings_with, IsNoteOf, IsSaidBy}
 use Rattle.apt_words.proofs.Rows.{first_none}
-use Rattle.apt_meaning.proofs.Said.{said_by}
+use Rattle.apt_meaning.proofs.Said.{IsNoteOf, IsSetBy, IsSaidBy, said_by}
 use Rattle.apt_meaning.proofs.Fed.{IsFed, fed}
 use Rattle.apt_meaning.proofs.Asked.{answered}
 use Rattle.apt_meaning.proofs.Kept.{kept, records_in}
@@ -45,7 +47,7 @@ use Rattle.apt_machine.specs.Machines.{IsMachine}
 use Rattle.apt_control.specs.declared.Act.{Act}
 use Rattle.apt_control.specs.declared.Act.TheVariants as acts
 use Rattle.apt_post.specs.declared.planning.Pending.{Pending}
-use Rattle.apt_post.specs.Limits.{is_past, machine_cases, refused_by, limits}
+use Rattle.apt_post.specs.Limits.{is_past, saying_limits, ask_limits, machine_cases, refused_by, limits}
 use Rattle.apt_post.specs.Plan.{cut_to, move_to}
 use Rattle.apt_post.specs.Blocks.{IsUpTo, CanWrite}
 use Rattle.apt_post.specs.Writing.{CanWriteAll, AreWritten, pending_behind}
@@ -97,9 +99,6 @@ no_case : (b : Bool) (case : Case) → cond b (Some case) None ≡ None → b �
 no_case true case e = absurd cc
 no_case false case e = refl
 
-taken_feed : (machine : Machine) (v : ℤ) → IsMachine machine → first_of (machine_cases machine (deeds.Fedrat v)) ≡ None → tenths v ≤ℤ pos 9999
-taken_feed machine v is takes = not_past machine.feedmax 9999 (tenths v) is.feed (no_case (is_past machine.feedmax (tenths v)) cases.FeedTooLarge takes)
-
 -- records whose acts can be written, and what they leave pending
 pub record Leaves (p : Pending) (rs : List Record) (s : Settings) : Type 0 where
   pub can : AreWritten p rs
@@ -111,7 +110,7 @@ end_written : (ended : Bool) (p : Pending) → CanWriteAll (cond ended [] (acts.
 end_written true p = tt
 end_written false p = (tt, tt)
 
-with_feed : (p : Pending) (s : Settings) (f : ℤ) → Agrees p s → f ≤ℤ pos 9999 → Leaves p (records.Note (notes.Fedrat f) ∷ []) (record s { feed = f })
+with_feed : (p : Pending) (s : Settings) (f : ℤ) → Agrees p s → f ≤ℤ pos 9999 → Leaves p (records.Note (notes.Feed f) ∷ []) (record s { feed = f })
 with_feed p s f agrees most = record { can = (tt, tt); agrees = record { feed = refl; rapid = agrees.rapid }; room = record { most = most } }
 
 -- a number from 1 up that the machine takes
@@ -119,45 +118,44 @@ at_least_one : (most : ℕ) (n : ℤ) → IsFromTo (pos 1) greatest n → n ≤�
 at_least_one most (pos n) range h = (refl, omega (arith, ints, range.0), omega (arith, ints, h))
 at_least_one most (negsuc n) range h = absurd (omega (arith, ints, range.0))
 
-taken_speed : (machine : Machine) (deed : Deed) (v : ℤ) (turn : Turn) (n : ℤ) → IsMachine machine → first_of (machine_cases machine deed) ≡ None
-    → deed ≡ deeds.Spindl v turn → n ≡ whole v → n ≤ℤ pos 9999
-taken_speed machine deed v turn n is takes said e =
-    let fits = subst (λ (d : Deed). first_of (machine_cases machine d) ≡ None) said takes in
-    rw e (not_past machine.spinmax 9999 (whole v) is.spindle (no_case (is_past machine.spinmax (whole v)) cases.SpindleTooLarge fits))
-
-taken_tool : (machine : Machine) (deed : Deed) (v n : ℤ) → IsMachine machine → first_of (machine_cases machine deed) ≡ None
-    → deed ≡ deeds.Loadtl v → n ≡ whole v → n ≤ℤ pos 99
-taken_tool machine deed v n is takes said e =
-    let fits = subst (λ (d : Deed). first_of (machine_cases machine d) ≡ None) said takes in
-    rw e (not_past machine.toolmax 99 (whole v) is.tool (no_case (is_past machine.toolmax (whole v)) cases.ToolTooLarge fits))
-
-spun_written : (p : Pending) (s : Settings) (turn : Turn) (n : ℤ) → Agrees p s → HasRoom s → CanWrite (acts.Spindle turn n) → Leaves p (records.Note (notes.Spindl turn n) ∷ []) s
+spun_written : (p : Pending) (s : Settings) (turn : Turn) (n : ℤ) → Agrees p s → HasRoom s → CanWrite (acts.Spindle turn n) → Leaves p (records.Note (notes.Spindle turn n) ∷ []) s
 spun_written p s turn n agrees room can = record { can = ((can, tt), tt); agrees = agrees; room = room }
 
--- a note that is said by its statement, which the machine takes
-note_written : (machine : Machine) (p : Pending) (s : Settings) (deed : Deed) (note : Note) → IsMachine machine → Agrees p s → HasRoom s
-    → first_of (machine_cases machine deed) ≡ None → IsNoteOf s.units deed note → IsNote note → Leaves p (records.Note note ∷ []) (settings_with s note)
-note_written machine p s deed (notes.Partno text) is agrees room takes says good = record { can = (tt, tt); agrees = agrees; room = room }
-note_written machine p s deed (notes.Units units) is agrees room takes says good = record { can = (tt, tt); agrees = record { feed = agrees.feed; rapid = agrees.rapid }; room = record { most = room.most } }
-note_written machine p s deed (notes.Cutter d) is agrees room takes says good = record { can = (tt, tt); agrees = record { feed = agrees.feed; rapid = agrees.rapid }; room = record { most = room.most } }
-note_written machine p s deed (notes.Intol t) is agrees room takes says good = record { can = (tt, tt); agrees = record { feed = agrees.feed; rapid = agrees.rapid }; room = record { most = room.most } }
-note_written machine p s deed (notes.Outtol t) is agrees room takes says good = record { can = (tt, tt); agrees = record { feed = agrees.feed; rapid = agrees.rapid }; room = record { most = room.most } }
-note_written machine p s deed (notes.Fedrat f) is agrees room takes says good =
-    let v = says.0 in
-    with_feed p s f agrees (subst (λ (g : ℤ). g ≤ℤ pos 9999) (sym says.2) (taken_feed machine v is (subst (λ (d : Deed). first_of (machine_cases machine d) ≡ None) says.1 takes)))
-note_written machine p s deed (notes.Spindl spins.Cw n) is agrees room takes says good =
-    spun_written p s spins.Cw n agrees room (at_least_one 9999 n good (taken_speed machine deed says.0 spins.Cw n is takes says.1 says.2))
-note_written machine p s deed (notes.Spindl spins.Ccw n) is agrees room takes says good =
-    spun_written p s spins.Ccw n agrees room (at_least_one 9999 n good (taken_speed machine deed says.0 spins.Ccw n is takes says.1 says.2))
-note_written machine p s deed (notes.Spindl spins.Off n) is agrees room takes says good = spun_written p s spins.Off n agrees room says.1
-note_written machine p s deed (notes.Coolnt c) is agrees room takes says good = record { can = ((tt, tt), tt); agrees = agrees; room = room }
-note_written machine p s deed (notes.Loadtl n) is agrees room takes says good =
-    record { can = ((at_least_one 99 n good (taken_tool machine deed says.0 n is takes says.1 says.2), tt), tt); agrees = agrees; room = room }
-note_written machine p s deed notes.Rapid is agrees room takes says good = record { can = (tt, tt); agrees = record { feed = agrees.feed; rapid = refl }; room = record { most = room.most } }
-note_written machine p s deed notes.Stop is agrees room takes says good = record { can = ((tt, tt), tt); agrees = agrees; room = room }
-note_written machine p s deed notes.OptStop is agrees room takes says good = record { can = ((tt, tt), tt); agrees = agrees; room = room }
-note_written machine p s deed notes.End is agrees room takes says good = record { can = (end_written p.ended p, tt); agrees = record { feed = agrees.feed; rapid = agrees.rapid }; room = record { most = room.most } }
-note_written machine p s deed notes.Fini is agrees room takes says good = record { can = (end_written p.ended p, tt); agrees = record { feed = agrees.feed; rapid = agrees.rapid }; room = room }
+-- a number that the machine takes
+taken_number : (limit most : ℕ) (n : ℤ) (case : Case) → limit ≤ most → first_of ((is_past limit n, case) ∷ []) ≡ None → n ≤ℤ pos most
+taken_number limit most n case small takes = not_past limit most n small (no_case (is_past limit n) case takes)
+
+-- a note that the machine takes
+saying_written : (machine : Machine) (p : Pending) (s : Settings) (saying : Saying) → IsMachine machine → Agrees p s → HasRoom s
+    → first_of (saying_limits machine saying) ≡ None → IsNote (note_of s.units saying) → Leaves p (records.Note (note_of s.units saying) ∷ []) (settings_with s (note_of s.units saying))
+saying_written machine p s (sayings.Units units) is agrees room takes good = record { can = (tt, tt); agrees = record { feed = agrees.feed; rapid = agrees.rapid }; room = record { most = room.most } }
+saying_written machine p s (sayings.Diameter v) is agrees room takes good = record { can = (tt, tt); agrees = record { feed = agrees.feed; rapid = agrees.rapid }; room = record { most = room.most } }
+saying_written machine p s (sayings.Inward v) is agrees room takes good = record { can = (tt, tt); agrees = record { feed = agrees.feed; rapid = agrees.rapid }; room = record { most = room.most } }
+saying_written machine p s (sayings.Outward v) is agrees room takes good = record { can = (tt, tt); agrees = record { feed = agrees.feed; rapid = agrees.rapid }; room = record { most = room.most } }
+saying_written machine p s (sayings.Feed v) is agrees room takes good = with_feed p s (tenths v) agrees (taken_number machine.feedmax 9999 (tenths v) cases.FeedTooLarge is.feed takes)
+saying_written machine p s (sayings.Clockwise n) is agrees room takes good =
+    spun_written p s spins.Cw (whole n) agrees room (at_least_one 9999 (whole n) good (taken_number machine.spinmax 9999 (whole n) cases.SpindleTooLarge is.spindle takes))
+saying_written machine p s (sayings.Anticlockwise n) is agrees room takes good =
+    spun_written p s spins.Ccw (whole n) agrees room (at_least_one 9999 (whole n) good (taken_number machine.spinmax 9999 (whole n) cases.SpindleTooLarge is.spindle takes))
+saying_written machine p s sayings.SpindleOff is agrees room takes good = spun_written p s spins.Off (pos 0) agrees room refl
+saying_written machine p s (sayings.Coolant cool) is agrees room takes good = record { can = ((tt, tt), tt); agrees = agrees; room = room }
+saying_written machine p s (sayings.Tool n) is agrees room takes good =
+    record { can = ((at_least_one 99 (whole n) good (taken_number machine.toolmax 99 (whole n) cases.ToolTooLarge is.tool takes), tt), tt); agrees = agrees; room = room }
+saying_written machine p s sayings.Rapid is agrees room takes good = record { can = (tt, tt); agrees = record { feed = agrees.feed; rapid = refl }; room = record { most = room.most } }
+saying_written machine p s sayings.Stop is agrees room takes good = record { can = ((tt, tt), tt); agrees = agrees; room = room }
+saying_written machine p s sayings.OptStop is agrees room takes good = record { can = ((tt, tt), tt); agrees = agrees; room = room }
+saying_written machine p s sayings.End is agrees room takes good = record { can = (end_written p.ended p, tt); agrees = record { feed = agrees.feed; rapid = agrees.rapid }; room = record { most = room.most } }
+saying_written machine p s sayings.Fini is agrees room takes good = record { can = (end_written p.ended p, tt); agrees = record { feed = agrees.feed; rapid = agrees.rapid }; room = room }
+
+note_written : (machine : Machine) (p : Pending) (s : Settings) (ask : Ask) (note : Note) → IsMachine machine → Agrees p s → HasRoom s
+    → first_of (ask_limits machine ask) ≡ None → IsNoteOf s.units ask note → IsNote note → Leaves p (records.Note note ∷ []) (settings_with s note)
+note_written machine p s (Titles text) note is agrees room takes said good = rw said (record { can = (tt, tt); agrees = agrees; room = room })
+note_written machine p s (Says saying) note is agrees room takes said good = rw said (saying_written machine p s saying is agrees room takes (subst IsNote said good))
+note_written machine p s (Sets side) note is agrees room takes said good = absurd said
+note_written machine p s (Defines name form) note is agrees room takes said good = absurd said
+note_written machine p s (Goes route) note is agrees room takes said good = absurd said
+note_written machine p s (Cuts side go drive how check) note is agrees room takes said good = absurd said
+note_written machine p s Nothing note is agrees room takes said good = absurd said
 
 moved : (p : Pending) (s : Settings) (reach : Reach) (to : Position) → Agrees p s → HasRoom s → IsPosition to → IsFed s (effects.Moves reach to)
     → Leaves p (records.Point reach to ∷ []) (settings_behind reach s)
@@ -170,16 +168,19 @@ nothing_written : (p : Pending) (s t : Settings) → Agrees p s → HasRoom s �
 nothing_written p s t agrees room f r =
     record { can = tt; agrees = record { feed = agrees.feed ∙ sym f; rapid = agrees.rapid ∙ sym r }; room = record { most = subst (λ (g : ℤ). g ≤ℤ pos 9999) (sym f) room.most } }
 
-said_written : (machine : Machine) (p : Pending) (at : Situation) (deed : Deed) (e : Effect) (vertices : List Pt) → IsMachine machine → Agrees p at.settings → HasRoom at.settings
-    → first_of (machine_cases machine deed) ≡ None → IsSaidBy at deed e → IsFed at.settings e → AreRecords (effect_records e vertices)
+change_written : (machine : Machine) (p : Pending) (s : Settings) (ask : Ask) (change : Change) → IsMachine machine → Agrees p s → HasRoom s
+    → first_of (ask_limits machine ask) ≡ None → IsSetBy s.units ask change → IsChange change → Leaves p (change_records change) (changed s change)
+change_written machine p s ask (changes.Said note) is agrees room takes says good = note_written machine p s ask note is agrees room takes says good
+change_written machine p s ask (changes.Side side) is agrees room takes says good = nothing_written p s (record s { side = side }) agrees room refl refl
+change_written machine p s ask changes.Nothing is agrees room takes says good = nothing_written p s s agrees room refl refl
+
+said_written : (machine : Machine) (p : Pending) (at : Situation) (ask : Ask) (e : Effect) (vertices : List Pt) → IsMachine machine → Agrees p at.settings → HasRoom at.settings
+    → first_of (ask_limits machine ask) ≡ None → IsSaidBy at ask e → IsFed at.settings e → IsEffect e → AreRecords (effect_records e vertices)
     → Leaves p (effect_records e vertices) (after at e vertices).settings
-said_written machine p at deed (effects.Defines n f) vertices is agrees room takes says on in_range = nothing_written p at.settings at.settings agrees room refl refl
-said_written machine p at deed (effects.Sets s None) vertices is agrees room takes says on in_range =
-    nothing_written p at.settings s agrees room (ap (λ (t : Settings). t.feed) says.settings) (ap (λ (t : Settings). t.rapid) says.settings)
-said_written machine p at deed (effects.Sets s (Some note)) vertices is agrees room takes says on in_range =
-    subst (Leaves p (records.Note note ∷ [])) (sym says.settings) (note_written machine p at.settings deed note is agrees room takes says.said in_range.0)
-said_written machine p at deed (effects.Moves reach to) vertices is agrees room takes says on in_range = moved p at.settings reach to agrees room in_range.0 on
-said_written machine p at deed (effects.Cuts m) vertices is agrees room takes says on in_range =
+said_written machine p at ask (effects.Defines n f) vertices is agrees room takes says on good in_range = nothing_written p at.settings at.settings agrees room refl refl
+said_written machine p at ask (effects.Sets change) vertices is agrees room takes says on good in_range = change_written machine p at.settings ask change is agrees room takes says good
+said_written machine p at ask (effects.Moves reach to) vertices is agrees room takes says on good in_range = moved p at.settings reach to agrees room in_range.0 on
+said_written machine p at ask (effects.Cuts m) vertices is agrees room takes says on good in_range =
     record { can = (tt, (tt, (written_cuts p at.settings _ agrees room in_range.1.1.0.1 on, tt))); agrees = record { feed = agrees.feed; rapid = agrees.rapid }; room = record { most = room.most } }
 
 statement_written : (p : Pending) (step : Step) (rs : List Record) (s : Settings) → Leaves p rs s → Leaves p (with_statement step rs) s
@@ -208,7 +209,7 @@ compiled_written machine p so_far at (step ∷ steps) written is agrees room goo
     let ok = fit (effect_of at step.deed) e d.asked (answered at step.deed good numbers.0 sources.0.text d.fine) in
     let f = front_ok (records_of step e (points_of e)) (compilation_behind n (after at e (ends_of e)) steps) written d.rest in
     let same = sym (after_points at e ok.ends) in
-    let said = said_written machine p at step.deed e (points_of e) is agrees room takes.0 (said_by at step.deed e d.asked) (fed at step.deed e d.asked (first_none (cases_of at step.deed) d.fine))
+    let said = said_written machine p at (ask_of step.deed) e (points_of e) is agrees room takes.0 (said_by at step.deed e d.asked) (fed at step.deed e d.asked (first_none (cases_of at step.deed) d.fine)) ok.good
     (without_statement step rs (records_in step e (points_of e) sources.0 ok.good ok.within)) in
     let leaves = subst (λ (x : Situation). Leaves p (records_of step e (points_of e)) x.settings) same (statement_written p step rs (after at e (points_of e)).settings said) in
     let behind = subst IsSituation same (kept at e (points_of e) good ok.good ok.within) in

@@ -2,7 +2,6 @@
 use Rattle.std.specs.Prelude.{◌≡◌, ◌≤◌, ℕ, List, length, None, Ok}
 use Rattle.apt_words.specs.declared.body.Stmt.{Stmt}
 use Rattle.apt_words.specs.declared.deed.Step.{Step}
-use Rattle.apt_words.specs.Built.{AreBuiltSteps}
 use Rattle.apt_words.specs.Sources.{AreExecuted}
 use Rattle.apt_parse.specs.Programs.{program_of}
 use Rattle.apt_scalar.specs.StepScalars.{AreScalars}
@@ -51,5 +50,4 @@ pub record Promise (machine : Machine) (text : List ℕ) (p : Compiled) : Type 0
 -- what the crates below know of steps
 pub record AreSteps (steps : List Step) : Type 0 where
   pub scalars : AreScalars steps
-  pub built : AreBuiltSteps steps
   pub sources : AreExecuted steps

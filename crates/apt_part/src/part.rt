@@ -2,8 +2,7 @@
 
 ghost use Rattle.std.specs.Prelude.{◌≡◌, false, IfOk};
 ghost use Rattle.std.specs.Result.{result_map_both};
-ghost use Rattle.apt_words.specs.Built.{AreBuilt, AreBuiltSteps};
-ghost use Rattle.apt_words.specs.Flow.{AreNested};
+ghost use Rattle.apt_words.specs.Nesting.{AreNested};
 ghost use Rattle.apt_words.specs.Sources.{AreStmts, AreExecuted};
 ghost use Rattle.apt_scalar.specs.StepScalars.{AreScalars};
 ghost use Rattle.apt_meaning.specs.Situations.{first_situation};
@@ -79,7 +78,6 @@ fn whole_steps(alloc: Global, text: Vec<u8>, machine: &Machine) -> Result<Vec<St
 /// The program of a text, or its first fault.
 fn program_in(alloc: Global, text: Vec<u8>) -> Result<Program, PartError>
     ensures program { IsProgramOf (program_of text.items) result }
-    ensures built { IfOk result (λ p. AreBuilt p) }
     ensures sources { IfOk result (λ p. AreStmts p) }
     ensures nested { IfOk result (λ p. AreNested false p) }
 {
@@ -92,7 +90,6 @@ fn program_in(alloc: Global, text: Vec<u8>) -> Result<Program, PartError>
 
 /// The steps of statements, or the first that is refused.
 fn steps_by(alloc: Global, program: Program, machine: &Machine) -> Result<Vec<Step>, RunError>
-    requires built { AreBuilt program }
     requires sources { AreStmts program }
     requires nested { AreNested false program }
     ensures { IsPartBy (parts.steps_by machine.now program) (result_map_both (λ steps. steps.items) (λ e. e) result) }
@@ -114,7 +111,6 @@ fn refused_in(
     machine: &Machine,
 ) -> Result<Option<Refusal>, AllocError>
     requires scalars { AreScalars steps.now }
-    requires built { AreBuiltSteps steps.now }
     requires sources { AreExecuted steps.now }
     ensures { IfOk result (λ r. r ≡ parts.earliest_of (limiting.limits machine.now steps.now) (first_refused first_situation steps.now)) }
 {
@@ -153,7 +149,6 @@ fn whole_part(alloc: Global, text: Vec<u8>, machine: &Machine) -> Result<Part, P
 
 /// What statements come to, or the first refused step.
 fn part_by(alloc: Global, program: Program, machine: &Machine) -> Result<Part, RunError>
-    requires built { AreBuilt program }
     requires sources { AreStmts program }
     requires nested { AreNested false program }
     ensures { IsPartBy (parts.part_by machine.now program) result }
@@ -176,7 +171,6 @@ fn part_by(alloc: Global, program: Program, machine: &Machine) -> Result<Part, R
 /// The records of steps, or the first that its own cases or the machine refuse.
 fn records_of(alloc: Global, steps: &[Step], machine: &Machine) -> Result<Vec<Record>, RunError>
     requires scalars { AreScalars steps.now }
-    requires built { AreBuiltSteps steps.now }
     requires sources { AreExecuted steps.now }
     ensures { Ends (parts.earlier (limiting.limits machine.now steps.now) (compilation first_situation steps.now)) result }
 {

@@ -1,5 +1,5 @@
 -- How many bytes a tape has: at most 44 a block, and a block for the units, each record and each vertex.
-use Rattle.std.proofs.Common.{◌≡◌, ℕ, ◌+◌, ◌*◌, ◌≤◌, ◌==◌, pos, Bool, true, false, List, [], ◌∷◌, ◌++◌, map, length, refl, arith}
+use Rattle.std.proofs.Common.{ℕ, ◌+◌, ◌*◌, ◌≤◌, ◌==◌, pos, Bool, true, false, List, [], ◌∷◌, ◌++◌, length, arith}
 use Rattle.std.specs.Prelude.{if◌then◌else◌, ◌%◌}
 use Rattle.std.proofs.lemmas.List.{length-map, length-append}
 use Rattle.apt_words.specs.declared.Units.TheVariants.{Inch, Mm}
@@ -13,12 +13,11 @@ use Rattle.apt_cldata.specs.declared.record.Record.{Record}
 use Rattle.apt_cldata.specs.declared.record.Record.TheVariants as records
 use Rattle.apt_cldata.specs.Ranges.{vertices_in, vertex_count}
 use Rattle.apt_machine.specs.declared.machine.Machine.{Machine}
-use Rattle.apt_block.specs.declared.block.TapeWord.{TapeWord}
 use Rattle.apt_block.specs.Block.{spelling, tape_word, letter_n}
 use Rattle.apt_control.specs.declared.Act.{Act}
 use Rattle.apt_control.specs.declared.Act.TheVariants as acts
 use Rattle.apt_post.specs.declared.planning.Pending.{Pending}
-use Rattle.apt_post.specs.Plan.{cut_to, end_of, note_acts, record_acts, record_pending, acts_from, nothing_pending, plan}
+use Rattle.apt_post.specs.Plan.{cut_to, note_acts, record_acts, record_pending, acts_from, nothing_pending, plan}
 use Rattle.apt_post.specs.Blocks.{act_words, act_block, acts_text, tape_text, tape_bytes}
 
 -- ---- a block
@@ -74,10 +73,10 @@ note_few p (notes.Units units) = omega arith
 note_few p (notes.Cutter d) = omega arith
 note_few p (notes.Intol t) = omega arith
 note_few p (notes.Outtol t) = omega arith
-note_few p (notes.Fedrat f) = omega arith
-note_few p (notes.Spindl turn n) = omega arith
-note_few p (notes.Coolnt c) = omega arith
-note_few p (notes.Loadtl n) = omega arith
+note_few p (notes.Feed f) = omega arith
+note_few p (notes.Spindle turn n) = omega arith
+note_few p (notes.Coolant c) = omega arith
+note_few p (notes.Tool n) = omega arith
 note_few p notes.Rapid = omega arith
 note_few p notes.Stop = omega arith
 note_few p notes.OptStop = omega arith

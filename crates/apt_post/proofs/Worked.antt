@@ -47,20 +47,20 @@ planned_records : plan (
     records.Statement 1 1 ∷ records.Note (notes.Partno (codes "P"))
     ∷ records.Statement 2 2 ∷ records.Note (notes.Units Mm)
     ∷ records.Statement 3 3 ∷ records.Note (notes.Units Inch)
-    ∷ records.Statement 4 4 ∷ records.Note (notes.Fedrat (pos 100))
+    ∷ records.Statement 4 4 ∷ records.Note (notes.Feed (pos 100))
     ∷ records.Statement 5 5 ∷ records.Point reaches.From (at 1 2 3)
     ∷ records.Statement 6 6 ∷ records.Note notes.Rapid
     ∷ records.Statement 7 7 ∷ records.Point reaches.Goto (at 4 5 6)
     ∷ records.Statement 8 8 ∷ records.Point reaches.Godlta (at 7 8 9)
-    ∷ records.Statement 9 9 ∷ records.Note (notes.Fedrat (pos 200))
+    ∷ records.Statement 9 9 ∷ records.Note (notes.Feed (pos 200))
     ∷ records.Statement 10 10 ∷ records.Point reaches.Start (at 10 11 12)
     ∷ records.Statement 11 11 ∷ records.Drive (surfaces.Line y_axis) Left (pos 1)
     ∷ records.Check (surfaces.Line y_axis) To ∷ records.Contour (at 13 14 15 ∷ at 16 17 18 ∷ [])
     ∷ records.Statement 12 12 ∷ records.Note notes.Stop
     ∷ records.Statement 13 13 ∷ records.Note notes.OptStop
-    ∷ records.Statement 14 14 ∷ records.Note (notes.Spindl Cw (pos 700))
-    ∷ records.Statement 15 15 ∷ records.Note (notes.Coolnt Flood)
-    ∷ records.Statement 16 16 ∷ records.Note (notes.Loadtl (pos 9))
+    ∷ records.Statement 14 14 ∷ records.Note (notes.Spindle Cw (pos 700))
+    ∷ records.Statement 15 15 ∷ records.Note (notes.Coolant Flood)
+    ∷ records.Statement 16 16 ∷ records.Note (notes.Tool (pos 9))
     ∷ records.Statement 17 17 ∷ records.Note notes.End
     ∷ records.Statement 18 18 ∷ records.Note notes.Fini ∷ []
     )

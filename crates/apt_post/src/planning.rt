@@ -63,7 +63,7 @@ fn note_pending(p: Pending, note: &Note) -> Pending
     ensures { result ≡ plans.note_pending p note.now }
 {
     match note {
-        Note::Fedrat(feed) => Pending { feed: *feed, ..p },
+        Note::Feed(feed) => Pending { feed: *feed, ..p },
         Note::Rapid => Pending { rapid: true, ..p },
         Note::End | Note::Fini => Pending { ended: true, ..p },
         _ => p,
@@ -100,9 +100,9 @@ fn note_act(p: Pending, note: &Note) -> Option<Act>
     ensures { plans.acts_by result ≡ plans.note_acts p note.now }
 {
     match note {
-        Note::Spindl(turn, n) => Some(Act::Spindle { turn: *turn, n: *n }),
-        Note::Coolnt(c) => Some(Act::Coolant(*c)),
-        Note::Loadtl(n) => Some(Act::Tool(*n)),
+        Note::Spindle(turn, n) => Some(Act::Spindle { turn: *turn, n: *n }),
+        Note::Coolant(c) => Some(Act::Coolant(*c)),
+        Note::Tool(n) => Some(Act::Tool(*n)),
         Note::Stop => Some(Act::Stop),
         Note::OptStop => Some(Act::OptStop),
         Note::End | Note::Fini if !p.ended => Some(Act::End),

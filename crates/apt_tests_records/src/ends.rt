@@ -1,7 +1,6 @@
 //! Jobs of motions along the x axis to circles, with their ends moved.
 
 ghost use Rattle.std.specs.Prelude.{◌≡◌, ◌+◌, ◌<◌, ◌≤◌, ◌^◌, length, unsigned_abs, IfOk, IfSome};
-ghost use Rattle.apt_words.specs.Built.{AreBuiltSteps};
 ghost use Rattle.apt_words.specs.Sources.{AreExecuted};
 ghost use Rattle.apt_scalar.specs.StepScalars.{AreScalars};
 ghost use Rattle.apt_plane.specs.Ranges.{IsSurface};
@@ -42,7 +41,6 @@ fn contact(how: Stop) -> i64
 /// Both tolerances are a grid step.
 fn steps_to_circle(how: Stop) -> Option<[Step; 8]>
     ensures scalars { IfSome result AreScalars }
-    ensures built { IfSome result AreBuiltSteps }
     ensures sources { IfSome result AreExecuted }
 {
     let axis = Symbol::new("L1")?;
@@ -95,7 +93,7 @@ fn settings() -> [Record; 6]
         Record::Statement { line: 2, step: 2 },
         Record::Note(Note::Outtol(8)),
         Record::Statement { line: 3, step: 3 },
-        Record::Note(Note::Fedrat(100)),
+        Record::Note(Note::Feed(100)),
     ]
 }
 

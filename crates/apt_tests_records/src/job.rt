@@ -1,5 +1,4 @@
 ghost use Rattle.std.specs.Prelude.{◌≡◌, ◌+◌, ◌<◌, ◌≤◌, ◌^◌, List, length, unsigned_abs, Ok, IfOk, IfSome};
-ghost use Rattle.apt_words.specs.Built.{AreBuiltSteps};
 ghost use Rattle.apt_words.specs.Sources.{AreExecuted};
 ghost use Rattle.apt_scalar.specs.StepScalars.{AreScalars};
 ghost use Rattle.apt_plane.specs.Ranges.{IsSurface};
@@ -28,7 +27,6 @@ pub(crate) fn step(line: u32, deed: Deed) -> Step
 /// Along the lower edge of a plate of 5 by 5 inches, with the cutter on its right.
 fn edge_steps() -> Option<[Step; 7]>
     ensures scalars { IfSome result AreScalars }
-    ensures built { IfSome result AreBuiltSteps }
     ensures sources { IfSome result AreExecuted }
 {
     let l1 = Symbol::new("L1")?;
@@ -117,7 +115,7 @@ fn settings(later: u8) -> [Record; 5]
         },
         Record::Note(Note::Cutter(50_000)),
         Record::Statement { line: 2, step: 2 },
-        Record::Note(Note::Fedrat(100)),
+        Record::Note(Note::Feed(100)),
         Record::Statement { line: 5, step: 5 },
     ]
 }

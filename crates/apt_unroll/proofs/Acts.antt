@@ -1,8 +1,10 @@
 -- What a statement does: its deed suits it, and it goes on but at FINI.
 use Rattle.std.proofs.Common.{◌≡◌, ℕ, ◌+◌, ◌&&◌, ◌==◌, nat_lt, not, Bool, true, false, List, [], ◌∷◌, length, slice_get, Option, Some, None, Result, Ok, Err, refl, sym, ap, ◌∙◌}
+use Rattle.std.proofs.Math.Bool.{or-false}
 use Rattle.std.specs.Prelude.{IfOk, if◌then◌else◌}
 use Rattle.apt_words.specs.Chains.{◌>>=◌}
-use Rattle.apt_words.specs.Flow.{Flow, Onward, MacroBegins, MacroEnds, Calls, LoopBegins, LoopEnds, Jumps, Branches, ProgramEnds, flow_of, ends_program, is_fini}
+use Rattle.apt_words.specs.Composition.{flow_of, is_fini}
+use Rattle.apt_words.specs.Flow.{Flow, Onward, MacroBegins, MacroEnds, Calls, LoopBegins, LoopEnds, Jumps, Branches, ProgramEnds, ends_program}
 use Rattle.apt_words.specs.ProgramEnds.{is_ended}
 use Rattle.apt_words.specs.declared.Case.{Case}
 use Rattle.apt_words.specs.declared.Case.TheVariants as cases
@@ -10,15 +12,14 @@ use Rattle.apt_words.specs.declared.body.Body.{Body}
 use Rattle.apt_words.specs.declared.body.Stmt.{Stmt}
 use Rattle.apt_words.specs.declared.deed.Deed.{Deed}
 use Rattle.apt_words.specs.declared.deed.Deed.TheVariants as deeds
-use Rattle.apt_words.specs.Trees.{Tree}
-use Rattle.apt_scalar.specs.Meanings.{Names, Parameters}
+use Rattle.apt_scalar.specs.Meanings.{Parameters}
 use Rattle.apt_scalar.specs.Evaluation.{value_of}
 use Rattle.apt_scalar.specs.Scalars.{IsScalar}
 use Rattle.apt_scalar.proofs.Ranges.{value_of-scalar}
 use Rattle.apt_unroll.specs.declared.numbers.Naming.TheVariants as namings
 use Rattle.apt_unroll.specs.Deeds.{deed_of}
 use Rattle.apt_unroll.specs.Places.{named, target}
-use Rattle.apt_unroll.specs.Calls.{Formal, Actual, lone_name, or_number, expression_for, bound_or_bad, bind_each, fit, bindings}
+use Rattle.apt_unroll.specs.Calls.{Actual, bindings}
 use Rattle.apt_unroll.specs.Stages.{Call, Stage, parameters}
 use Rattle.apt_unroll.specs.Actions.{Action, go_on, jump_to, label_by, most_calls, enter, formal_of, call, return, action, most_steps, IsActed, step_of}
 use Rattle.apt_unroll.proofs.Suits.{Any, any, Suits, deed_of-suits}
@@ -88,20 +89,20 @@ acts sts s i body Onward e =
 acts sts s i body (MacroBegins m ps) e = tt
 acts sts s i body MacroEnds e =
     let last = ends_by body MacroEnds false e refl in
-    by_call (Acts s.ended body) s s.calls (λ case. tt) (λ c more is. ((tt, sym last, plain, plain, plain), last, refl))
+    by_call (Acts s.ended body) s s.calls (λ case. tt) (λ c more is. ((tt, sym last, plain, plain), last, sym (or-false s.ended)))
 acts sts s i body (Calls m actual) e =
     let last = ends_by body (Calls m actual) false e refl in
-    by_macro (Acts s.ended body) sts s i actual (named namings.Macros sts m) (λ case. tt) (λ k bound is. ((tt, sym last, plain, plain, plain), last, refl))
-acts sts s i body LoopBegins e = let last = ends_by body LoopBegins false e refl in ((tt, sym last, plain, plain, plain), last, refl)
-acts sts s i body LoopEnds e = let last = ends_by body LoopEnds false e refl in ((tt, sym last, plain, plain, plain), last, refl)
+    by_macro (Acts s.ended body) sts s i actual (named namings.Macros sts m) (λ case. tt) (λ k bound is. ((tt, sym last, plain, plain), last, sym (or-false s.ended)))
+acts sts s i body LoopBegins e = let last = ends_by body LoopBegins false e refl in ((tt, sym last, plain, plain), last, refl)
+acts sts s i body LoopEnds e = let last = ends_by body LoopEnds false e refl in ((tt, sym last, plain, plain), last, refl)
 acts sts s i body (Jumps l) e =
     let last = ends_by body (Jumps l) false e refl in
-    by_target (Acts s.ended body) s deeds.Jumpto (target sts i l) (λ case. tt) (λ j is. ((tt, sym last, plain, plain, plain), last, refl))
+    by_target (Acts s.ended body) s deeds.Jumpto (target sts i l) (λ case. tt) (λ j is. ((tt, sym last, plain, plain), last, sym (or-false s.ended)))
 acts sts s i body (Branches v a b c) e =
     let last = ends_by body (Branches v a b c) false e refl in
     by_result (Acts s.ended body) IsScalar (value_of s.names (parameters s.calls) v) _ (value_of-scalar s.names (parameters s.calls) v) (λ case. tt)
-    (λ v h. by_target (Acts s.ended body) s deeds.If (target sts i (label_by v a b c)) (λ case. tt) (λ j is. ((tt, sym last, plain, plain, plain), last, refl)))
-acts sts s i body ProgramEnds e = let last = ends_by body ProgramEnds true e refl in ((tt, sym last, plain, plain, plain), last)
+    (λ v h. by_target (Acts s.ended body) s deeds.If (target sts i (label_by v a b c)) (λ case. tt) (λ j is. ((tt, sym last, plain, plain), last, sym (or-false s.ended))))
+acts sts s i body ProgramEnds e = let last = ends_by body ProgramEnds true e refl in ((tt, sym last, plain, plain), last)
 
 pub step_acts : (sts : List Stmt) (n : ℕ) (s : Stage) (i : ℕ) (st : Stmt) → Acts s.ended st.body (step_of sts n s i st)
 step_acts sts n s i st = by_tests (Acts s.ended st.body) sts n s i st (λ case. tt) (λ _ _. acts sts s i st.body (flow_of st.body) refl)

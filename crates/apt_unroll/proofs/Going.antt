@@ -1,7 +1,9 @@
 -- A nested program has a trace: each of its stages can go on.
 use Rattle.std.proofs.Common.{◌≡◌, ℕ, zero, suc, ◌+◌, ◌≤◌, nat_lt, Bool, true, false, List, [], ◌∷◌, drop, Option, Some, None, Ok, Err, refl, sym, subst, arith}
 use Rattle.std.proofs.lemmas.Bool.Decides.{nat_tests}
-use Rattle.apt_words.specs.Flow.{Flow, Onward, MacroBegins, MacroEnds, Calls, LoopBegins, LoopEnds, Jumps, Branches, ProgramEnds, flow_of, Stands, AreNested}
+use Rattle.apt_words.specs.Composition.{flow_of}
+use Rattle.apt_words.specs.Flow.{Flow, Onward, MacroBegins, MacroEnds, Calls, LoopBegins, LoopEnds, Jumps, Branches, ProgramEnds}
+use Rattle.apt_words.specs.Nesting.{Stands, AreNested}
 use Rattle.apt_words.specs.declared.body.Body.{Body}
 use Rattle.apt_words.specs.declared.body.Stmt.{Stmt}
 use Rattle.apt_words.specs.declared.deed.Deed.TheVariants as deeds

@@ -3,7 +3,8 @@ use Rattle.std.proofs.Common.{◌≡◌, ℕ, zero, suc, ◌+◌, ◌≤◌, ◌
 use Rattle.std.specs.Prelude.{if◌then◌else◌}
 use Rattle.std.proofs.lemmas.Bool.Decides.{nat_tests}
 use Rattle.apt_words.specs.Chains.{◌>>=◌}
-use Rattle.apt_words.specs.Flow.{Flow, Onward, MacroBegins, MacroEnds, Calls, LoopBegins, LoopEnds, Jumps, Branches, ProgramEnds, flow_of, ends_program, is_fini}
+use Rattle.apt_words.specs.Composition.{flow_of, is_fini}
+use Rattle.apt_words.specs.Flow.{Flow, Onward, MacroBegins, MacroEnds, Calls, LoopBegins, LoopEnds, Jumps, Branches, ProgramEnds, ends_program}
 use Rattle.apt_words.specs.ProgramEnds.{is_ended}
 use Rattle.apt_words.specs.declared.Case.{Case}
 use Rattle.apt_words.specs.declared.Case.TheVariants as cases
@@ -13,7 +14,7 @@ use Rattle.apt_words.specs.declared.body.Stmt.{Stmt}
 use Rattle.apt_words.specs.declared.deed.Deed.{Deed}
 use Rattle.apt_words.specs.declared.deed.Deed.TheVariants as deeds
 use Rattle.apt_scalar.specs.Meanings.{Names}
-use Rattle.apt_unroll.specs.Deeds.{execution, deed_of, names_behind}
+use Rattle.apt_unroll.specs.Deeds.{by_values, executed, deed_of, names_behind}
 use Rattle.apt_unroll.specs.Places.{begins_macro, behind_macros, executed_from}
 use Rattle.apt_unroll.specs.Stages.{Stage}
 use Rattle.apt_unroll.specs.Actions.{go_on, action, most_steps, step_of}
@@ -69,7 +70,7 @@ fini_is bodies.Fini h = refl
 fini_is _ h = cc
 
 fini_deed : (names : Names) (body : Body) → body ≡ bodies.Fini → deed_of names [] body ≡ Ok deeds.Fini
-unfolding deed_of execution
+unfolding deed_of executed by_values
 fini_deed names body h = rw h refl
 
 none_behind : (n : ℕ) (ended : Bool) (names : Names) (rest : List Stmt) → rest ≡ [] → straight_from n ended names rest ≡ empty_trace

@@ -1,6 +1,7 @@
 -- The next step of a run: where it is looked for, and what it does.
 use Rattle.std.proofs.Common.{◌≡◌, ℕ, ◌&&◌, nat_lt, not, true, false, List, slice_get, Some, None, Ok, refl, sym, ap, ◌∙◌, subst}
-use Rattle.apt_words.specs.Flow.{Flow, Onward, ProgramEnds, flow_of, ends_program, is_fini}
+use Rattle.apt_words.specs.Composition.{flow_of, is_fini}
+use Rattle.apt_words.specs.Flow.{Flow, Onward, ProgramEnds, ends_program}
 use Rattle.apt_words.specs.declared.body.Body.{Body}
 use Rattle.apt_words.specs.declared.body.Stmt.{Stmt}
 use Rattle.apt_words.specs.declared.deed.Deed.{Deed}

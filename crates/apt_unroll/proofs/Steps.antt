@@ -1,8 +1,7 @@
--- What holds of the steps of a trace: their numbers are scalars, they are built, they have lines, numbers and texts, and they end in FINI.
+-- What holds of the steps of a trace: their numbers are scalars, they have lines, numbers and texts, and they end in FINI.
 use Rattle.std.proofs.Common.{◌≡◌, ℕ, zero, suc, ◌+◌, ◌≤◌, ◌&&◌, not, Bool, true, false, List, [], ◌∷◌, drop, slice_get, Option, Some, None, Ok, Err, refl, sym, ap, ◌∙◌, subst, arith}
-use Rattle.std.specs.Prelude.{IsTrue, if◌then◌else◌}
-use Rattle.apt_words.specs.Built.{is_built, AreBuilt, IsBuilt, AreBuiltSteps}
-use Rattle.apt_words.specs.Flow.{flow_of, is_fini}
+use Rattle.std.specs.Prelude.{if◌then◌else◌}
+use Rattle.apt_words.specs.Composition.{flow_of, is_fini}
 use Rattle.apt_words.specs.ProgramEnds.{is_ended, StepsEnd}
 use Rattle.apt_words.specs.Sources.{IsCount, IsStmt, AreStmts, IsExecuted, AreExecuted}
 use Rattle.apt_words.specs.declared.Refusal.{Refusal}
@@ -15,7 +14,7 @@ use Rattle.apt_scalar.specs.StepScalars.{HasScalars, AreScalars}
 use Rattle.apt_unroll.specs.Places.{begins_macro, ends_macro, behind_macros, executed_from}
 use Rattle.apt_unroll.specs.Stages.{Stage, first_stage}
 use Rattle.apt_unroll.specs.Actions.{Action, action, step_of}
-use Rattle.apt_unroll.specs.Trace.{Trace, with_number, moment_of, moment, IsDone, IsRefused, AreRun, IsTrace}
+use Rattle.apt_unroll.specs.Trace.{Trace, with_number, moment_of, moment, IsDone, AreRun, IsTrace}
 use Rattle.apt_unroll.proofs.Suits.{is_end, Suits}
 use Rattle.apt_unroll.proofs.Acts.{Acts, by_tests, step_acts}
 use Rattle.apt_unroll.proofs.Found.{few}
@@ -59,31 +58,24 @@ stmt_at [] i st are h = absurd (cc)
 stmt_at (x ∷ sts) zero st are h = let same : x ≡ st = cc in subst IsStmt same are.0
 stmt_at (x ∷ sts) (suc i) st are h = stmt_at sts i st are.1 h
 
-built_at : (sts : List Stmt) (i : ℕ) (st : Stmt) → AreBuilt sts → slice_get sts i ≡ Some st → IsTrue (is_built st.body)
-built_at [] i st are h = absurd (cc)
-built_at (x ∷ sts) zero st are h = let same : x ≡ st = cc in subst (λ (st : Stmt). IsTrue (is_built st.body)) same are.0
-built_at (x ∷ sts) (suc i) st are h = built_at sts i st are.1 h
-
 -- ---- a step
 
 record IsGood (step : Step) : Type 0 where
   scalars : HasScalars step.deed
-  built : IsBuilt step.deed
   executed : IsExecuted step
 
 pub suits : (ended : Bool) (body : Body) (deed : Deed) (next : Option Stage) → Acts ended body (Ok (deed, next)) → Suits body deed
 suits ended body deed None acts = acts.0
 suits ended body deed (Some next) acts = acts.0
 
-done_good : (sts : List Stmt) (n : ℕ) (s : Stage) (step : Step) (next : Option Stage) → AreBuilt sts → AreStmts sts → 1 ≤ n → IsDone sts n s step next → IsGood step
-done_good sts n s step next built stmts h done =
+done_good : (sts : List Stmt) (n : ℕ) (s : Stage) (step : Step) (next : Option Stage) → AreStmts sts → 1 ≤ n → IsDone sts n s step next → IsGood step
+done_good sts n s step next stmts h done =
     let m = is_at sts n s step.line (Ok (step.deed, next)) done.1 in
     let good = suits s.ended m.st.body step.deed next (subst (Acts s.ended m.st.body) m.does (step_acts sts n s m.i m.st)) in
     let st = stmt_at sts m.i m.st stmts m.there in
     let early = few sts n s step next done in
     record {
       scalars = good.0;
-      built = good.3 (built_at sts m.i m.st built m.there);
       executed = record {
         line = subst IsCount m.line_is st.line;
         step = (omega (arith, h, done.0), omega (arith, early, done.0));
@@ -97,41 +89,34 @@ abbrev AreGood : List Step → Type 0
 AreGood [] = Unit {0}
 AreGood (step ∷ steps) = IsGood step × AreGood steps
 
-run_good : (n : ℕ) (sts : List Stmt) (s : Stage) (behind : List Stage) (steps : List Step) (fault : Option Refusal) → AreBuilt sts → AreStmts sts → 1 ≤ n
+run_good : (n : ℕ) (sts : List Stmt) (s : Stage) (behind : List Stage) (steps : List Step) (fault : Option Refusal) → AreStmts sts → 1 ≤ n
     → AreRun sts n (s ∷ behind) steps fault → AreGood steps
-run_good n sts s [] [] None built stmts h run = absurd run
-run_good n sts s [] [] (Some refusal) built stmts h run = tt
-run_good n sts s [] (step ∷ []) None built stmts h run = (done_good sts n s step None built stmts h run, tt)
-run_good n sts s [] (step ∷ []) (Some refusal) built stmts h run = absurd run
-run_good n sts s [] (step ∷ next ∷ more) fault built stmts h run = absurd run
-run_good n sts s (next ∷ behind) [] fault built stmts h run = absurd run
-run_good n sts s (next ∷ behind) (step ∷ steps) fault built stmts h run =
-    let rest = run_good (n + 1) sts next behind steps fault built stmts (omega arith) run.1 in
-    (done_good sts n s step (Some next) built stmts h run.0, rest)
+run_good n sts s [] [] None stmts h run = absurd run
+run_good n sts s [] [] (Some refusal) stmts h run = tt
+run_good n sts s [] (step ∷ []) None stmts h run = (done_good sts n s step None stmts h run, tt)
+run_good n sts s [] (step ∷ []) (Some refusal) stmts h run = absurd run
+run_good n sts s [] (step ∷ next ∷ more) fault stmts h run = absurd run
+run_good n sts s (next ∷ behind) [] fault stmts h run = absurd run
+run_good n sts s (next ∷ behind) (step ∷ steps) fault stmts h run =
+    let rest = run_good (n + 1) sts next behind steps fault stmts (omega arith) run.1 in
+    (done_good sts n s step (Some next) stmts h run.0, rest)
 
-trace_good : (sts : List Stmt) (t : Trace) → AreBuilt sts → AreStmts sts → IsTrace sts t → AreGood t.steps
-trace_good sts t built stmts is = run_good 1 sts first_stage is.behind t.steps t.fault built stmts (omega arith) is.run
+trace_good : (sts : List Stmt) (t : Trace) → AreStmts sts → IsTrace sts t → AreGood t.steps
+trace_good sts t stmts is = run_good 1 sts first_stage is.behind t.steps t.fault stmts (omega arith) is.run
 
 scalars_of : (steps : List Step) → AreGood steps → AreScalars steps
 scalars_of [] are = tt
 scalars_of (step ∷ steps) are = (are.0.scalars, scalars_of steps are.1)
 
-built_of : (steps : List Step) → AreGood steps → AreBuiltSteps steps
-built_of [] are = tt
-built_of (step ∷ steps) are = (are.0.built, built_of steps are.1)
-
 executed_of : (steps : List Step) → AreGood steps → AreExecuted steps
 executed_of [] are = tt
 executed_of (step ∷ steps) are = (are.0.executed, executed_of steps are.1)
 
-pub are_scalars : (sts : List Stmt) (t : Trace) → AreBuilt sts → AreStmts sts → IsTrace sts t → AreScalars t.steps
-are_scalars sts t built stmts is = scalars_of t.steps (trace_good sts t built stmts is)
+pub are_scalars : (sts : List Stmt) (t : Trace) → AreStmts sts → IsTrace sts t → AreScalars t.steps
+are_scalars sts t stmts is = scalars_of t.steps (trace_good sts t stmts is)
 
-pub are_built : (sts : List Stmt) (t : Trace) → AreBuilt sts → AreStmts sts → IsTrace sts t → AreBuiltSteps t.steps
-are_built sts t built stmts is = built_of t.steps (trace_good sts t built stmts is)
-
-pub are_executed : (sts : List Stmt) (t : Trace) → AreBuilt sts → AreStmts sts → IsTrace sts t → AreExecuted t.steps
-are_executed sts t built stmts is = executed_of t.steps (trace_good sts t built stmts is)
+pub are_executed : (sts : List Stmt) (t : Trace) → AreStmts sts → IsTrace sts t → AreExecuted t.steps
+are_executed sts t stmts is = executed_of t.steps (trace_good sts t stmts is)
 
 -- ---- the end
 

@@ -7,7 +7,8 @@ use Rattle.std.proofs.lemmas.Option.{slice_get_within, slice_get_past}
 use Rattle.apt_words.specs.Options.{only_if}
 use Rattle.apt_words.specs.declared.body.Stmt.{Stmt}
 use Rattle.apt_scalar.specs.Meanings.{meaning}
-use Rattle.apt_words.specs.Flow.{Flow, Onward, MacroBegins, MacroEnds, Calls, LoopBegins, LoopEnds, Jumps, Branches, ProgramEnds, flow_of, macro_name}
+use Rattle.apt_words.specs.Composition.{flow_of}
+use Rattle.apt_words.specs.Flow.{Flow, Onward, MacroBegins, MacroEnds, Calls, LoopBegins, LoopEnds, Jumps, Branches, ProgramEnds, macro_name}
 use Rattle.apt_unroll.specs.Places.{begins_macro, ends_macro, behind_macros, executed_from, is_named, name_in, first_named, named, target}
 use Rattle.apt_unroll.specs.declared.numbers.Naming.{Naming}
 use Rattle.apt_unroll.specs.declared.numbers.Naming.TheVariants as namings

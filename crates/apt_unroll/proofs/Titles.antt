@@ -1,12 +1,12 @@
 -- No step but the first is PARTNO: a run never comes back to the first statement.
-use Rattle.std.proofs.Common.{◌≡◌, ◌⊎◌, inl, inr, ℕ, zero, suc, ◌+◌, ◌≤◌, Bool, true, false, List, [], ◌∷◌, slice_get, Option, Some, None, Ok, Err, refl, sym, ap, ◌∙◌, subst, arith}
-use Rattle.apt_words.specs.Flow.{Flow, Onward, MacroBegins, MacroEnds, Calls, LoopBegins, LoopEnds, Jumps, Branches, ProgramEnds, flow_of}
+use Rattle.std.proofs.Common.{◌≡◌, ◌⊎◌, inl, inr, ℕ, zero, suc, ◌+◌, ◌≤◌, Bool, true, false, List, [], ◌∷◌, slice_get, Option, Some, None, Ok, Err, refl, ap, ◌∙◌, subst, arith}
+use Rattle.apt_words.specs.Composition.{flow_of}
+use Rattle.apt_words.specs.Flow.{Flow, Onward, MacroBegins, MacroEnds, Calls, LoopBegins, LoopEnds, Jumps, Branches, ProgramEnds}
 use Rattle.apt_words.specs.Options.{◌>>=◌, only_if}
 use Rattle.apt_words.specs.declared.Refusal.{Refusal}
 use Rattle.apt_words.specs.declared.body.Body.{Body}
 use Rattle.apt_words.specs.declared.body.Body.TheVariants as bodies
 use Rattle.apt_words.specs.declared.body.Stmt.{Stmt}
-use Rattle.apt_words.specs.declared.deed.Deed.{Deed}
 use Rattle.apt_words.specs.declared.deed.Deed.TheVariants as deeds
 use Rattle.apt_words.specs.declared.deed.Step.{Step}
 use Rattle.apt_words.proofs.Titles.{IsTitled, IsUntitled, AreUntitled, HasTitle, DeedIsUntitled, StepsAreUntitled, StepsHaveTitle}
@@ -115,7 +115,7 @@ step_untitled : (sts : List Stmt) (n : ℕ) (s : Stage) (step : Step) (next : Op
 step_untitled sts n s step next titled late done =
     let m = is_at sts n s step.line (Ok (step.deed, next)) done.1 in
     let good = suits s.ended m.st.body step.deed next (subst (Acts s.ended m.st.body) m.does (step_acts sts n s m.i m.st)) in
-    good.4 (untitled_at sts m.i m.st titled (omega (arith, late, m.from)) m.there)
+    good.3 (untitled_at sts m.i m.st titled (omega (arith, late, m.from)) m.there)
 
 next_behind : (sts : List Stmt) (n : ℕ) (s : Stage) (step : Step) (next : Stage) → HasTitle sts → AreBehind s.calls → IsDone sts n s step (Some next) → IsBehind next
 next_behind sts n s step next titled behind done =

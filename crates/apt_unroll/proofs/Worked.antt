@@ -17,7 +17,7 @@ use Rattle.apt_scalar.specs.declared.names.Value.TheVariants as values
 use Rattle.apt_scalar.specs.declared.names.Kind.TheVariants as kinds
 use Rattle.apt_scalar.specs.declared.names.Bound.TheVariants as bounds
 use Rattle.apt_scalar.specs.Meanings.{Names}
-use Rattle.apt_unroll.specs.Deeds.{three, four, coordinates, surfaces, circle_three, execution, deed_of, names_behind}
+use Rattle.apt_unroll.specs.Deeds.{by_values, executed, deed_of, names_behind}
 use Rattle.apt_unroll.specs.Places.{regions_of}
 use Rattle.apt_unroll.specs.declared.places.Region.TheVariants as regions
 use Rattle.apt_unroll.specs.Calls.{bindings}
@@ -65,45 +65,45 @@ names = (P, values.Shape kinds.Point) ∷ (C, values.Shape kinds.Circle) ∷ (X,
 
 later_by_earlier : trace_of (on 2 (bodies.Assign X (number 1)) ∷ on 5 (bodies.Assign Y (Bin Add (Name X) (number 2))) ∷ [])
     ≡ all_of (step 2 1 (deeds.Assign X (units 1)) ∷ step 5 2 (deeds.Assign Y (units 3)) ∷ [])
-unfolding trace_from action deed_of execution
+unfolding trace_from action deed_of executed by_values
 later_by_earlier = refl
 
 name_given_anew : trace_of (on 1 (bodies.Assign X (number 1)) ∷ on 2 (bodies.Assign X (Bin Add (Name X) (number 2))) ∷ on 3 (bodies.Cutter (Name X)) ∷ [])
     ≡ all_of (step 1 1 (deeds.Assign X (units 1)) ∷ step 2 2 (deeds.Assign X (units 3)) ∷ step 3 3 (deeds.Cutter (units 3)) ∷ [])
-unfolding trace_from action deed_of execution
+unfolding trace_from action deed_of executed by_values
 name_given_anew = refl
 
 line_by_values : trace_of (on 1 (bodies.LineXy L (number 0) (number 1) (number 2) (Bin Div (number 3) (number 2))) ∷ [])
     ≡ all_of (step 1 1 (deeds.LineXy L (units 0) (units 1) (units 2) (pos 1500000)) ∷ [])
-unfolding trace_from action deed_of execution four
+unfolding trace_from action deed_of executed by_values
 line_by_values = refl
 
 behind_end : trace_of (on 1 bodies.EndWord ∷ on 2 bodies.Rapid ∷ on 3 bodies.Fini ∷ []) ≡ up_to (step 1 1 deeds.EndWord ∷ []) 2 2 cases.AfterEnd
-unfolding trace_from action deed_of execution
+unfolding trace_from action deed_of executed by_values
 behind_end = refl
 
 fini_behind_end : trace_of (on 1 bodies.EndWord ∷ on 2 bodies.Fini ∷ []) ≡ all_of (step 1 1 deeds.EndWord ∷ step 2 2 deeds.Fini ∷ [])
-unfolding trace_from action deed_of execution
+unfolding trace_from action deed_of executed by_values
 fini_behind_end = refl
 
 -- the left expression is refused first
 left_is_first : trace_of (on 1 (bodies.Godlta (Name X) (Bin Div (number 1) (number 0)) (number 1)) ∷ []) ≡ up_to [] 1 1 cases.Unknown
-unfolding trace_from action deed_of execution three
+unfolding trace_from action deed_of executed by_values
 left_is_first = refl
 
 second_of_two : trace_of (on 1 (bodies.Assign X (number 1)) ∷ on 2 (bodies.GotoXy (Name X) (Name Y) None) ∷ on 3 bodies.Halt ∷ [])
     ≡ up_to (step 1 1 (deeds.Assign X (units 1)) ∷ []) 2 2 cases.Unknown
-unfolding trace_from action deed_of execution coordinates
+unfolding trace_from action deed_of executed by_values
 second_of_two = refl
 
 by_zero : trace_of (on 1 (bodies.Fedrat (Bin Div (number 1) (number 0))) ∷ []) ≡ up_to [] 1 1 cases.DivideByZero
-unfolding trace_from action deed_of execution
+unfolding trace_from action deed_of executed by_values
 by_zero = refl
 
 -- a figure is no scalar, and a definition that is refused gives no name
 figure_as_scalar : trace_of (on 1 (bodies.PointXy P (number 0) (number 0) None) ∷ on 2 (bodies.Assign X (Name P)) ∷ [])
     ≡ up_to (step 1 1 (deeds.PointXy P (units 0) (units 0) None) ∷ []) 2 2 cases.Unknown
-unfolding trace_from action deed_of execution coordinates
+unfolding trace_from action deed_of executed by_values
 figure_as_scalar = refl
 
 -- the 200,001st step is refused before all else
@@ -117,29 +117,29 @@ last_of_all = refl
 -- ---- circles
 
 three_points : deed_of names [] (bodies.CircleThree Y (Name P) (Name P) (Name P)) ≡ Ok (deeds.CirclePoints Y P P P)
-unfolding deed_of execution circle_three three
+unfolding deed_of executed by_values
 three_points = refl
 
 by_radius : deed_of names [] (bodies.CircleThree Y (number 1) (Name X) (Bin Add (Name X) (Name X))) ≡ Ok (deeds.CircleXyr Y (units 1) (units 4) (units 8))
-unfolding deed_of execution circle_three three
+unfolding deed_of executed by_values
 by_radius = refl
 
 two_points_and_circle : deed_of names [] (bodies.CircleThree Y (Name P) (Name P) (Name C)) ≡ Err cases.Unknown
-unfolding deed_of execution circle_three three
+unfolding deed_of executed by_values
 two_points_and_circle = refl
 
 -- ---- parameters of macros
 
 parameter_for_figure : deed_of names ((L, bounds.Alias P) ∷ []) (bodies.GotoPoint L) ≡ Ok (deeds.GotoPoint P)
-unfolding deed_of execution
+unfolding deed_of executed by_values
 parameter_for_figure = refl
 
 number_for_figure : deed_of names ((L, bounds.Scalar (units 1)) ∷ []) (bodies.GoStart stops.To L None) ≡ Err cases.WrongKind
-unfolding deed_of execution surfaces
+unfolding deed_of executed by_values
 number_for_figure = refl
 
 parameter_defined : deed_of names ((X, bounds.Scalar (units 1)) ∷ []) (bodies.Assign X (Name Y)) ≡ Err cases.BadArgs
-unfolding deed_of execution
+unfolding deed_of executed by_values
 parameter_defined = refl
 
 -- ---- names behind a step
@@ -183,7 +183,7 @@ loop_twice : trace_of counting
     ∷ step 3 5 (deeds.Assign X (units 2)) ∷ step 4 6 deeds.If
     ∷ step 5 7 deeds.Loopnd ∷ step 6 8 deeds.Fini ∷ []
     )
-unfolding trace_from action deed_of execution
+unfolding trace_from action deed_of executed by_values
 loop_twice = refl
 
 -- a jump in no region
@@ -225,7 +225,7 @@ two_calls : trace_of (
     ∷ step 5 4 deeds.Call ∷ step 2 5 (deeds.GotoXy (units 7) (units 3) None) ∷ step 3 6 deeds.Termac
     ∷ step 6 7 deeds.Fini ∷ []
     )
-unfolding trace_from action deed_of execution coordinates
+unfolding trace_from action deed_of executed by_values
 two_calls = refl
 
 -- a macro that calls itself
@@ -244,7 +244,7 @@ no_macro = refl
 -- behind END the macro does not return
 termac_behind_end : trace_of (on 1 (bodies.Macro M []) ∷ on 2 bodies.EndWord ∷ on 3 bodies.Termac ∷ on 4 (bodies.Call M []) ∷ on 5 bodies.Fini ∷ [])
     ≡ up_to (step 4 1 deeds.Call ∷ step 2 2 deeds.EndWord ∷ []) 3 3 cases.AfterEnd
-unfolding trace_from action deed_of execution
+unfolding trace_from action deed_of executed by_values
 termac_behind_end = refl
 
 -- a label of a macro's definition stands in the loop

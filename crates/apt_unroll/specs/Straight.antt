@@ -1,6 +1,7 @@
 -- Programs without macros, loops and jumps: their statements are executed in order.
 use Rattle.std.specs.Prelude.{◌≡◌, ℕ, ◌+◌, ◌&&◌, nat_lt, not, Bool, false, List, [], ◌∷◌, Result, Ok, Err, if◌then◌else◌}
-use Rattle.apt_words.specs.Flow.{Flow, Onward, MacroBegins, MacroEnds, Calls, LoopBegins, LoopEnds, Jumps, Branches, ProgramEnds, flow_of, is_fini}
+use Rattle.apt_words.specs.Composition.{flow_of, is_fini}
+use Rattle.apt_words.specs.Flow.{Flow, Onward, MacroBegins, MacroEnds, Calls, LoopBegins, LoopEnds, Jumps, Branches, ProgramEnds}
 use Rattle.apt_words.specs.ProgramEnds.{is_ended}
 use Rattle.apt_words.specs.declared.Case.{Case}
 use Rattle.apt_words.specs.declared.Case.TheVariants as cases

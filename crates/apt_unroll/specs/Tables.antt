@@ -2,7 +2,7 @@
 use Rattle.std.specs.Prelude.{◌≡◌, ℕ, ◌+◌, Bool, true, false, List, [], ◌∷◌, slice_get, Option, Some, None}
 use Rattle.apt_words.specs.Options.{◌>>=◌, only_if}
 use Rattle.apt_scalar.specs.Meanings.{meaning}
-use Rattle.apt_words.specs.Flow.{flow_of}
+use Rattle.apt_words.specs.Composition.{flow_of}
 use Rattle.apt_words.specs.declared.body.Stmt.{Stmt}
 use Rattle.apt_unroll.specs.declared.numbers.Naming.TheVariants as namings
 use Rattle.apt_unroll.specs.declared.places.Tables.{Tables}

@@ -1,10 +1,12 @@
 //! The values and names of a statement that is executed, in the shapes in which they stand together.
-ghost use Rattle.std.specs.Prelude.{◌≡◌};
+ghost use Rattle.std.specs.Prelude.{◌≡◌, [], ◌∷◌, pos, IfOk, option_map};
+ghost use Rattle.apt_words.specs.Asks.{listed};
+ghost use Rattle.apt_words.specs.Composition.{if_there, names_with, surface_by};
 ghost use Rattle.apt_scalar.specs.Meanings as meanings;
 ghost use Rattle.apt_unroll.specs.Deeds as deeds;
 
 use apt_scalar::{Bound, Env, Frame, Kind, Value, bound_in, eval};
-use apt_words::{Case, Deed, Expr, Stop, Symbol};
+use apt_words::{Case, Expr, Stop, Symbol};
 
 /// The figure's name that a name stands for.
 pub(crate) fn name_for(frame: &Frame, name: &Symbol) -> Result<Symbol, Case>
@@ -17,16 +19,14 @@ pub(crate) fn name_for(frame: &Frame, name: &Symbol) -> Result<Symbol, Case>
     }
 }
 
-#[tactic(auto, unfolding(crate::specs::Deeds::pair))]
 pub(crate) fn pair(frame: &Frame, a: &Symbol, b: &Symbol) -> Result<(Symbol, Symbol), Case>
-    ensures { result ≡ deeds.pair frame.now a.now b.now }
+    ensures { deeds.listed_by deeds.two result ≡ deeds.names_for frame.now (a.now ∷ b.now ∷ []) }
 {
     let a = name_for(frame, a)?;
     let b = name_for(frame, b)?;
     Ok((a, b))
 }
 
-#[tactic(auto, unfolding(crate::specs::Deeds::three))]
 pub(crate) fn three(
     env: &Env,
     frame: &Frame,
@@ -34,7 +34,7 @@ pub(crate) fn three(
     y: &Expr,
     z: &Expr,
 ) -> Result<(i64, i64, i64), Case>
-    ensures { result ≡ deeds.three env.now frame.now x.now y.now z.now }
+    ensures { deeds.listed_by deeds.three result ≡ deeds.values_of env.now frame.now (x.now ∷ y.now ∷ z.now ∷ []) }
 {
     let x = eval(x, env, frame)?;
     let y = eval(y, env, frame)?;
@@ -42,7 +42,6 @@ pub(crate) fn three(
     Ok((x, y, z))
 }
 
-#[tactic(auto, unfolding(crate::specs::Deeds::four))]
 pub(crate) fn four(
     env: &Env,
     frame: &Frame,
@@ -51,7 +50,7 @@ pub(crate) fn four(
     u: &Expr,
     v: &Expr,
 ) -> Result<(i64, i64, i64, i64), Case>
-    ensures { result ≡ deeds.four env.now frame.now x.now y.now u.now v.now }
+    ensures { deeds.listed_by deeds.four result ≡ deeds.values_of env.now frame.now (x.now ∷ y.now ∷ u.now ∷ v.now ∷ []) }
 {
     let x = eval(x, env, frame)?;
     let y = eval(y, env, frame)?;
@@ -61,7 +60,8 @@ pub(crate) fn four(
 }
 
 fn optional(env: &Env, frame: &Frame, e: &Option<Expr>) -> Result<Option<i64>, Case>
-    ensures { result ≡ deeds.optional env.now frame.now e.now }
+    ensures value { deeds.listed_by listed result ≡ deeds.values_of env.now frame.now (listed e.now) }
+    ensures there { IfOk result (λ v. v ≡ if_there e.now (deeds.nth (pos 0) (listed v) 0)) }
 {
     match e {
         None => Ok(None),
@@ -73,7 +73,6 @@ fn optional(env: &Env, frame: &Frame, e: &Option<Expr>) -> Result<Option<i64>, C
 }
 
 /// The values of a place, whose z may be left out.
-#[tactic(auto, unfolding(crate::specs::Deeds::coordinates))]
 pub(crate) fn coordinates(
     env: &Env,
     frame: &Frame,
@@ -81,7 +80,8 @@ pub(crate) fn coordinates(
     y: &Expr,
     z: &Option<Expr>,
 ) -> Result<(i64, i64, Option<i64>), Case>
-    ensures { result ≡ deeds.coordinates env.now frame.now x.now y.now z.now }
+    ensures value { deeds.listed_by deeds.two_or_three result ≡ deeds.values_of env.now frame.now (x.now ∷ y.now ∷ listed z.now) }
+    ensures there { IfOk result (λ r. r.2 ≡ if_there z.now (deeds.nth (pos 0) (listed r.2) 0)) }
 {
     let x = eval(x, env, frame)?;
     let y = eval(y, env, frame)?;
@@ -89,21 +89,19 @@ pub(crate) fn coordinates(
     Ok((x, y, z))
 }
 
-#[tactic(auto, unfolding(crate::specs::Deeds::value_and_name))]
 pub(crate) fn value_and_name(
     env: &Env,
     frame: &Frame,
     e: &Expr,
     a: &Symbol,
 ) -> Result<(i64, Symbol), Case>
-    ensures { result ≡ deeds.value_and_name env.now frame.now e.now a.now }
+    ensures { deeds.listed_by (λ r. (r.0 ∷ [], r.1 ∷ [])) result ≡ deeds.arguments env.now frame.now (e.now ∷ []) (a.now ∷ []) }
 {
     let v = eval(e, env, frame)?;
     let a = name_for(frame, a)?;
     Ok((v, a))
 }
 
-#[tactic(auto, unfolding(crate::specs::Deeds::value_and_pair))]
 pub(crate) fn value_and_pair(
     env: &Env,
     frame: &Frame,
@@ -111,7 +109,7 @@ pub(crate) fn value_and_pair(
     a: &Symbol,
     b: &Symbol,
 ) -> Result<(i64, Symbol, Symbol), Case>
-    ensures { result ≡ deeds.value_and_pair env.now frame.now e.now a.now b.now }
+    ensures { deeds.listed_by (λ r. (r.0 ∷ [], r.1 ∷ r.2 ∷ [])) result ≡ deeds.arguments env.now frame.now (e.now ∷ []) (a.now ∷ b.now ∷ []) }
 {
     let v = eval(e, env, frame)?;
     let a = name_for(frame, a)?;
@@ -119,33 +117,21 @@ pub(crate) fn value_and_pair(
     Ok((v, a, b))
 }
 
-fn second_surface(
-    frame: &Frame,
-    surface: &Option<(Stop, Symbol)>,
-) -> Result<Option<(Stop, Symbol)>, Case>
-    ensures { result ≡ deeds.second_surface frame.now surface.now }
-{
-    match surface {
-        None => Ok(None),
-        Some((stop, name)) => {
-            let name = name_for(frame, name)?;
-            Ok(Some((*stop, name)))
-        }
-    }
-}
-
 /// The surfaces of a start-up, one or two.
-#[tactic(auto, unfolding(crate::specs::Deeds::surfaces))]
 pub(crate) fn surfaces(
     frame: &Frame,
     name: &Symbol,
     other: &Option<(Stop, Symbol)>,
 ) -> Result<(Symbol, Option<(Stop, Symbol)>), Case>
-    ensures { result ≡ deeds.surfaces frame.now name.now other.now }
+    ensures value { deeds.listed_by deeds.one_or_two result ≡ deeds.names_for frame.now (names_with name.now other.now) }
+    ensures there { IfOk result (λ r. r.1 ≡ surface_by other.now (deeds.nth [] (deeds.one_or_two r) 1)) }
 {
     let name = name_for(frame, name)?;
-    let other = second_surface(frame, other)?;
-    Ok((name, other))
+    let Some((stop, other)) = other else {
+        return Ok((name, None));
+    };
+    let other = name_for(frame, other)?;
+    Ok((name, Some((*stop, other))))
 }
 
 /// A lone name of a point.
@@ -168,24 +154,18 @@ fn point_named(env: &Env, name: Symbol) -> Option<Symbol>
     }
 }
 
-/// A circle by three points, or by its centre and radius.
-#[tactic(auto, unfolding(crate::specs::Deeds::circle_three))]
-pub(crate) fn circle_three(
+/// Three lone names of points.
+pub(crate) fn three_points(
     env: &Env,
     frame: &Frame,
-    name: &Symbol,
     x: &Expr,
     y: &Expr,
     z: &Expr,
-) -> Result<Deed, Case>
-    ensures { result ≡ deeds.circle_three env.now frame.now name.now x.now y.now z.now }
+) -> Option<(Symbol, Symbol, Symbol)>
+    ensures { option_map deeds.three result ≡ deeds.lone_points env.now frame.now (x.now ∷ y.now ∷ z.now ∷ []) }
 {
-    let a = lone_point(env, frame, x);
-    let b = lone_point(env, frame, y);
-    let c = lone_point(env, frame, z);
-    if let (Some(a), Some(b), Some(c)) = (a, b, c) {
-        return Ok(Deed::CirclePoints(name.copied(), a, b, c));
-    }
-    let (x, y, r) = three(env, frame, x, y, z)?;
-    Ok(Deed::CircleXyr(name.copied(), x, y, r))
+    let a = lone_point(env, frame, x)?;
+    let b = lone_point(env, frame, y)?;
+    let c = lone_point(env, frame, z)?;
+    Some((a, b, c))
 }

@@ -1,16 +1,18 @@
-//! What a statement does that defines a figure.
+//! The names that statements define, and what a statement does that defines a figure.
 ghost use Rattle.std.specs.Prelude.{◌≡◌, true};
+ghost use Rattle.std.specs.Option.{option_copied};
+ghost use Rattle.apt_words.specs.Composition.{composition};
 ghost use Rattle.apt_unroll.specs.Deeds as deeds;
 ghost use Rattle.apt_unroll.specs.Texts as texts;
 
 use crate::arguments::{
-    circle_three, coordinates, four, name_for, pair, value_and_name, value_and_pair,
+    coordinates, four, name_for, pair, three, three_points, value_and_name, value_and_pair,
 };
 use apt_scalar::{Env, Frame};
-use apt_words::{Body, Case, Deed};
+use apt_words::{Body, Case, Deed, Symbol};
 
 /// What the definition of a point, a line or a circle does.
-#[tactic(auto, unfolding(crate::specs::Deeds::execution))]
+#[tactic(auto, unfolding(crate::specs::Deeds::executed, crate::specs::Deeds::by_values))]
 pub(crate) fn figure(env: &Env, frame: &Frame, body: &Body) -> Result<Deed, Case>
     requires { texts.is_figure body.now ≡ true }
     ensures { result ≡ deeds.execution env.now frame.now body.now }
@@ -60,7 +62,13 @@ pub(crate) fn figure(env: &Env, frame: &Frame, body: &Body) -> Result<Deed, Case
             let (c, d) = pair(frame, c, d)?;
             Ok(Deed::LineTwo(n.copied(), *left, c, *left_too, d))
         }
-        Body::CircleThree(n, x, y, z) => circle_three(env, frame, n, x, y, z),
+        Body::CircleThree(n, x, y, z) => {
+            if let Some((a, b, c)) = three_points(env, frame, x, y, z) {
+                return Ok(Deed::CirclePoints(n.copied(), a, b, c));
+            }
+            let (x, y, r) = three(env, frame, x, y, z)?;
+            Ok(Deed::CircleXyr(n.copied(), x, y, r))
+        }
         Body::CircleRadius(n, p, e) => {
             let (v, p) = value_and_name(env, frame, e, p)?;
             Ok(Deed::CircleRadius(n.copied(), p, v))
@@ -78,5 +86,31 @@ pub(crate) fn figure(env: &Env, frame: &Frame, body: &Body) -> Result<Deed, Case
             Ok(Deed::CircleCorner(n.copied(), *pick, a, *pick_too, b, v))
         }
         _ => unreachable!(),
+    }
+}
+
+/// The name that a statement defines.
+pub(crate) fn defined_name(body: &Body) -> Option<&Symbol>
+    ensures { option_copied result ≡ (composition body.now).defines }
+{
+    match body {
+        Body::Assign(n, _)
+        | Body::PointXy(n, _, _, _)
+        | Body::PointLines(n, _, _)
+        | Body::PointPick(n, _, _, _)
+        | Body::PointCenter(n, _)
+        | Body::LineXy(n, _, _, _, _)
+        | Body::LinePoints(n, _, _)
+        | Body::LinePar(n, _, _)
+        | Body::LinePerp(n, _, _)
+        | Body::LineAt(n, _, _, _)
+        | Body::LineTan(n, _, _, _)
+        | Body::LineTwo(n, _, _, _, _)
+        | Body::CircleThree(n, _, _, _)
+        | Body::CircleRadius(n, _, _)
+        | Body::CircleTan(n, _, _)
+        | Body::CircleThrough(n, _, _)
+        | Body::CircleCorner(n, _, _, _, _, _) => Some(n),
+        _ => None,
     }
 }

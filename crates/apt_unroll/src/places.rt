@@ -1,7 +1,7 @@
 //! Where the statements of a program stand: tables that are made once, where a run first asks for them.
 ghost use Rattle.std.specs.Prelude.{◌≡◌, ◌<◌, ◌≤◌, ◌^◌, true, false, length, slice_get, Some, OnOk, IfOk, IfSome, option_map};
 ghost use Rattle.std.specs.Option.{option_copied};
-ghost use Rattle.apt_words.specs.Flow.{flow_of};
+ghost use Rattle.apt_words.specs.Composition.{flow_of};
 ghost use Rattle.apt_scalar.specs.Meanings.{meaning};
 ghost use Rattle.apt_unroll.specs.Actions as actions;
 ghost use Rattle.apt_unroll.specs.Places as spec;

@@ -1,7 +1,7 @@
 //! What holds between the steps of a run, and what a statement does there.
 ghost use Rattle.std.specs.Prelude.{◌≡◌, ℕ, ◌+◌, ◌<◌, ◌^◌, true, false, List, [], Option, Some, None, Ok, slice_get, reverse, OnOk, IfOk};
 ghost use Rattle.std.specs.Option.{option_copied};
-ghost use Rattle.apt_words.specs.Flow.{flow_of, is_fini};
+ghost use Rattle.apt_words.specs.Composition.{flow_of, is_fini};
 ghost use Rattle.apt_words.specs.declared.body.Body.TheVariants as bodies;
 ghost use Rattle.apt_words.specs.declared.deed.Deed.TheVariants as deeds;
 ghost use Rattle.apt_words.specs.ProgramEnds as endings;
@@ -235,8 +235,5 @@ fn label_by<'a>(v: i64, below: &'a Symbol, zero: &'a Symbol, above: &'a Symbol) 
 fn is_ended(before: bool, deed: &Deed) -> bool
     ensures { result ≡ endings.is_ended before deed.now }
 {
-    match deed {
-        Deed::EndWord => true,
-        _ => before,
-    }
+    before || matches!(deed, Deed::EndWord)
 }

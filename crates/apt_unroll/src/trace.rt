@@ -1,8 +1,8 @@
 //! The trace of a program.
 
 ghost use Rattle.std.specs.Prelude.{◌≡◌, ◌<◌, ◌^◌, ◌++◌, ◌∷◌, [], false, None, Some, slice_get, IfOk, OnOk, IsSome, option_map, vec_len, vec_capacity};
-ghost use Rattle.apt_words.specs.Built.{AreBuilt, AreBuiltSteps};
-ghost use Rattle.apt_words.specs.Flow.{AreNested, flow_of, is_fini};
+ghost use Rattle.apt_words.specs.Composition.{flow_of, is_fini};
+ghost use Rattle.apt_words.specs.Nesting.{AreNested};
 ghost use Rattle.apt_words.specs.ProgramEnds.{StepsEnd};
 ghost use Rattle.apt_words.specs.Sources.{AreStmts, AreExecuted};
 ghost use Rattle.apt_scalar.specs.StepScalars.{AreScalars};
@@ -52,7 +52,6 @@ pub(crate) enum Next {
 /// The one trace of a program: the steps that are executed, up to FINI or to the first that is refused.
 #[tactic(auto, using(crate::proofs::Going::has_trace, crate::proofs::InOrder::straight_in_order))]
 pub fn unroll(alloc: Global, p: &Program) -> Result<Unrolled, AllocError>
-    requires built { AreBuilt p.now }
     requires sources { AreStmts p.now }
     requires nested { AreNested false p.now }
     ensures trace { IfOk result (λ u. IsTrace p.now u) }
@@ -60,7 +59,6 @@ pub fn unroll(alloc: Global, p: &Program) -> Result<Unrolled, AllocError>
     ensures value { IfOk result (λ u. u ≡ trace_of p.now) }
     ensures straight { AreStraight p.now → IfOk result (λ u. u ≡ in_order p.now) }
     ensures scalars { IfOk result (λ u. AreScalars u.steps) }
-    ensures built { IfOk result (λ u. AreBuiltSteps u.steps) }
     ensures sources { IfOk result (λ u. AreExecuted u.steps) }
     ensures ends { IfOk result (λ u. u.fault ≡ None → StepsEnd false u.steps) }
 {

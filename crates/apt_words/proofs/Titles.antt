@@ -1,12 +1,14 @@
 -- PARTNO stands first, and nowhere else: of statements, and of steps.
 use Rattle.std.proofs.Common.{◌≡◌, ℕ, ◌+◌, ◌≤◌, List, [], ◌∷◌, length, refl, arith}
+use Rattle.apt_words.specs.Asks.{Ask, Titles, Says, Sets, Defines, Goes, Cuts, Nothing, ask_of}
+use Rattle.apt_words.specs.declared.Turn.TheVariants as turns
 use Rattle.apt_words.specs.declared.body.Body.{Body}
 use Rattle.apt_words.specs.declared.body.Body.TheVariants as bodies
 use Rattle.apt_words.specs.declared.body.Stmt.{Stmt}
 use Rattle.apt_words.specs.declared.deed.Deed.{Deed}
 use Rattle.apt_words.specs.declared.deed.Deed.TheVariants as deeds
 use Rattle.apt_words.specs.declared.deed.Step.{Step}
-use Rattle.apt_words.specs.Sources.{DeedHasText, AreExecuted}
+use Rattle.apt_words.specs.Sources.{AskHasText, AreExecuted}
 
 abbrev pub IsTitled : Body → Type 0
 IsTitled (bodies.Partno text) = Unit {0}
@@ -39,9 +41,17 @@ StepsHaveTitle (step ∷ steps) = StepsAreUntitled steps
 
 -- ---- how long titles are
 
+abbrev pub asked_title : Ask → ℕ
+asked_title (Titles text) = length text
+asked_title (Says saying) = 0
+asked_title (Sets side) = 0
+asked_title (Defines name form) = 0
+asked_title (Goes route) = 0
+asked_title (Cuts side go drive how check) = 0
+asked_title Nothing = 0
+
 abbrev pub title_length : Deed → ℕ
-title_length (deeds.Partno text) = length text
-title_length _ = 0
+title_length deed = asked_title (ask_of deed)
 
 abbrev pub title_lengths : List Step → ℕ
 title_lengths [] = 0
@@ -49,10 +59,13 @@ title_lengths (step ∷ steps) = title_length step.deed + title_lengths steps
 
 none_untitled : (deed : Deed) → DeedIsUntitled deed → title_length deed ≡ 0
 none_untitled (deeds.Partno text) h = absurd h
+none_untitled (deeds.Spindl n turns.Cw) h = refl
+none_untitled (deeds.Spindl n turns.Ccw) h = refl
+none_untitled (deeds.Spindl n turns.Off) h = refl
 none_untitled _ h = refl
 
-title_short : (deed : Deed) → DeedHasText deed → title_length deed ≤ 256
-title_short (deeds.Partno text) h = h.1
+title_short : (ask : Ask) → AskHasText ask → asked_title ask ≤ 256
+title_short (Titles text) h = h.1
 title_short _ h = omega arith
 
 none_in : (steps : List Step) → StepsAreUntitled steps → title_lengths steps ≡ 0
@@ -62,4 +75,4 @@ none_in (step ∷ steps) are = omega (arith, none_untitled step.deed are.0, none
 -- together they are not longer than one
 pub titles_short : (steps : List Step) → StepsHaveTitle steps → AreExecuted steps → title_lengths steps ≤ 256
 titles_short [] titled executed = omega arith
-titles_short (step ∷ steps) titled executed = omega (arith, title_short step.deed executed.0.text, none_in steps titled)
+titles_short (step ∷ steps) titled executed = omega (arith, title_short (ask_of step.deed) executed.0.text, none_in steps titled)

@@ -4,6 +4,7 @@ pub mod Options
 pub mod Vocabulary
 pub mod Alike
 pub mod Symbols
+pub mod Asks
 pub mod Names
 pub mod Trees
 pub mod TreeParts
@@ -11,5 +12,6 @@ pub mod TreeCodes
 pub mod TreeViews
 pub mod ProgramEnds
 pub mod Flow
-pub mod Built
+pub mod Composition
+pub mod Nesting
 pub mod Sources

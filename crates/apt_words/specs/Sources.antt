@@ -1,11 +1,11 @@
 -- The lines, numbers and texts of statements and steps.
 use Rattle.std.specs.Prelude.{ℕ, Bool, List, [], ◌∷◌, length, ◌≤◌, ◌==◌, ◌&&◌, ◌||◌, nat_le, IsTrue}
 use Rattle.std.specs.List.{list_all}
+use Rattle.apt_words.specs.Asks.{Ask, Titles, Says, Sets, Defines, Goes, Cuts, Nothing, ask_of}
 use Rattle.apt_words.specs.declared.body.Body.{Body}
 use Rattle.apt_words.specs.declared.body.Body.TheVariants as bodies
 use Rattle.apt_words.specs.declared.body.Stmt.{Stmt}
 use Rattle.apt_words.specs.declared.deed.Deed.{Deed}
-use Rattle.apt_words.specs.declared.deed.Deed.TheVariants as deeds
 use Rattle.apt_words.specs.declared.deed.Step.{Step}
 
 -- lines and steps are counted from 1
@@ -39,9 +39,17 @@ AreStmts (st ∷ sts) = IsStmt st × AreStmts sts
 
 -- ---- steps
 
+abbrev pub AskHasText : Ask → Type 0
+AskHasText (Titles text) = IsTitle text
+AskHasText (Says saying) = Unit {0}
+AskHasText (Sets side) = Unit {0}
+AskHasText (Defines n form) = Unit {0}
+AskHasText (Goes route) = Unit {0}
+AskHasText (Cuts side go drive how check) = Unit {0}
+AskHasText Nothing = Unit {0}
+
 abbrev pub DeedHasText : Deed → Type 0
-DeedHasText (deeds.Partno text) = IsTitle text
-DeedHasText _ = Unit {0}
+DeedHasText deed = AskHasText (ask_of deed)
 
 pub record IsExecuted (st : Step) : Type 0 where
   pub line : IsCount st.line

@@ -1,7 +1,7 @@
 //! Statements of part programs.
 
 ghost use Rattle.std.specs.Prelude.{◌≡◌, IfOk};
-ghost use Rattle.apt_words.specs.Flow.{is_fini};
+ghost use Rattle.apt_words.specs.Composition.{is_fini};
 
 use crate::{Cool, Expr, Go, Pick, Side, Stop, Symbol, Turn, Units};
 use std::alloc::AllocError;

@@ -1,6 +1,7 @@
 //! The words that part programs, acts and machines share.
 #![tactic(auto)]
 
+mod ask;
 mod body;
 mod deed;
 mod expr;
@@ -9,6 +10,7 @@ mod parts;
 mod symbol;
 mod word;
 
+pub use ask::{Ask, CircleForm, Form, LineForm, Place, PointForm, Route, Saying};
 pub use body::{Args, Body, Exprs, Params, Program, Stmt, Text};
 pub use deed::{Deed, Step};
 pub use expr::{Expr, Node, Op};

@@ -1,5 +1,4 @@
 use Rattle.std.proofs.Common.{◌≡◌, drop}
-use Rattle.apt_words.specs.Built.{AreBuiltSteps}
 use Rattle.apt_words.specs.Sources.{AreExecuted}
 use Rattle.apt_scalar.specs.StepScalars.{AreScalars}
 use Rattle.apt_meaning.specs.Situations.{first_situation}
@@ -14,5 +13,4 @@ invariant-steps l =
       situation : IsSituation l.at;
       scalars : AreScalars (drop l.st-index l.steps);
       sources : AreExecuted (drop l.st-index l.steps);
-      built : AreBuiltSteps (drop l.st-index l.steps);
     }

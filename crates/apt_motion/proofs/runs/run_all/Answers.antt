@@ -1,6 +1,5 @@
 use Rattle.std.proofs.Common.{◌≡◌, ◌∙◌, ◌≤◌, ℕ, ◌∷◌, ◌+◌, drop, ap, sym, subst}
 use Rattle.std.proofs.lemmas.List.{drop_more}
-use Rattle.apt_words.specs.Built.{AreBuiltSteps}
 use Rattle.apt_words.specs.Sources.{AreExecuted}
 use Rattle.apt_scalar.specs.StepScalars.{AreScalars}
 use Rattle.apt_meaning.specs.Situations.{first_situation}
@@ -32,5 +31,4 @@ steps-preserved c =
       situation = subst IsSituation (sym taken.after) fits.behind;
       scalars = scalars.1;
       sources = sources.1;
-      built = (subst AreBuiltSteps rest c.steps.invariant.built).1;
     }

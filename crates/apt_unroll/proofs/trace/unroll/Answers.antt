@@ -1,40 +1,33 @@
 use Rattle.std.proofs.Common.{◌≡◌, false, None}
 use Rattle.std.proofs.lemmas.Result.{IfOk-weaker}
-use Rattle.apt_words.specs.Built.{AreBuiltSteps}
 use Rattle.apt_words.specs.ProgramEnds.{StepsEnd}
 use Rattle.apt_words.specs.Sources.{AreExecuted}
 use Rattle.apt_scalar.specs.StepScalars.{AreScalars}
 use Rattle.apt_unroll.specs.Trace.{IsTrace, Trace, trace_of}
 use Rattle.apt_unroll.proofs.Going.{has_trace}
 use Rattle.apt_unroll.proofs.Found.{one_trace}
-use Rattle.apt_unroll.proofs.Steps.{are_scalars, are_built, are_executed, end_once}
+use Rattle.apt_unroll.proofs.Steps.{are_scalars, are_executed, end_once}
 use Rattle.apt_unroll.proofs.trace.unroll.Goals as goal
 
--- src/trace.rt:55:1
+-- src/trace.rt:54:1
 pub returns-clause-only : goal.returns-clause-only
 returns-clause-only c =
     IfOk-weaker c.unroll_all.result (λ u. u ≡ trace_of c.args.p.now) (λ u. (other : Trace) → IsTrace c.args.p.now other → other ≡ u)
     (λ u is other. one_trace c.args.p.now u other is) c.unroll_all.ensures
 
--- src/trace.rt:55:1
+-- src/trace.rt:54:1
 pub returns-clause-scalars : goal.returns-clause-scalars
 returns-clause-scalars c =
     IfOk-weaker c.unroll_all.result (λ u. u ≡ trace_of c.args.p.now) (λ u. AreScalars u.steps)
-    (λ u is. are_scalars c.args.p.now u c.requires.built c.requires.sources (has_trace c.args.p.now u c.requires.nested is)) c.unroll_all.ensures
+    (λ u is. are_scalars c.args.p.now u c.requires.sources (has_trace c.args.p.now u c.requires.nested is)) c.unroll_all.ensures
 
--- src/trace.rt:55:1
-pub returns-clause-built : goal.returns-clause-built
-returns-clause-built c =
-    IfOk-weaker c.unroll_all.result (λ u. u ≡ trace_of c.args.p.now) (λ u. AreBuiltSteps u.steps)
-    (λ u is. are_built c.args.p.now u c.requires.built c.requires.sources (has_trace c.args.p.now u c.requires.nested is)) c.unroll_all.ensures
-
--- src/trace.rt:55:1
+-- src/trace.rt:54:1
 pub returns-clause-sources : goal.returns-clause-sources
 returns-clause-sources c =
     IfOk-weaker c.unroll_all.result (λ u. u ≡ trace_of c.args.p.now) (λ u. AreExecuted u.steps)
-    (λ u is. are_executed c.args.p.now u c.requires.built c.requires.sources (has_trace c.args.p.now u c.requires.nested is)) c.unroll_all.ensures
+    (λ u is. are_executed c.args.p.now u c.requires.sources (has_trace c.args.p.now u c.requires.nested is)) c.unroll_all.ensures
 
--- src/trace.rt:55:1
+-- src/trace.rt:54:1
 pub returns-clause-ends : goal.returns-clause-ends
 returns-clause-ends c =
     IfOk-weaker c.unroll_all.result (λ u. u ≡ trace_of c.args.p.now) (λ u. u.fault ≡ None → StepsEnd false u.steps)

@@ -1,0 +1,231 @@
+//! What steps ask for.
+ghost use Rattle.std.specs.Prelude.{◌≡◌};
+ghost use Rattle.apt_words.specs.Asks as asks;
+ghost use Rattle.apt_words.specs.Asks.{ask_of, seen};
+
+use crate::{Cool, Deed, Go, Pick, Side, Stop, Symbol, Text, Turn, Units};
+
+/// How a point is defined. Numbers are in millionths.
+#[derive(Drop)]
+pub enum PointForm {
+    /// By its coordinates, and its height where it has one.
+    Xy(i64, i64, Option<i64>),
+    /// Where two lines meet.
+    Lines(Symbol, Symbol),
+    /// One of the two in which a circle meets a line or another circle.
+    Picked(Pick, Symbol, Symbol),
+    /// The centre of a circle.
+    Centre(Symbol),
+}
+
+/// How a line is defined. Numbers are in millionths.
+#[derive(Drop)]
+pub enum LineForm {
+    /// Through two points by their coordinates.
+    Xy(i64, i64, i64, i64),
+    /// Through two points.
+    Points(Symbol, Symbol),
+    /// Through a point, parallel to a line.
+    Parallel(Symbol, Symbol),
+    /// Through a point, square to a line.
+    Square(Symbol, Symbol),
+    /// Parallel to a line, on a side at a distance.
+    Beside(Symbol, Pick, i64),
+    /// Through a point, past a circle, on its left where true.
+    Past(Symbol, bool, Symbol),
+    /// Past two circles, each on its left where true.
+    PastTwo(bool, Symbol, bool, Symbol),
+}
+
+/// How a circle is defined. Numbers are in millionths.
+#[derive(Drop)]
+pub enum CircleForm {
+    /// By the coordinates of its centre, and its radius.
+    Xyr(i64, i64, i64),
+    /// Through three points.
+    Points(Symbol, Symbol, Symbol),
+    /// About a point, of a radius.
+    Radius(Symbol, i64),
+    /// About a point, along a line.
+    Along(Symbol, Symbol),
+    /// About a point, through another.
+    Through(Symbol, Symbol),
+    /// Along two lines, on a side of each, of a radius.
+    Corner(Pick, Symbol, Pick, Symbol, i64),
+}
+
+/// What a definition gives its name: a number in millionths, a point, a line or a circle.
+#[derive(Drop)]
+pub enum Form {
+    Number(i64),
+    Point(PointForm),
+    Line(LineForm),
+    Circle(CircleForm),
+}
+
+/// What a statement has the CL file say, with its numbers in millionths.
+#[derive(Drop)]
+pub enum Saying {
+    /// The unit of lengths.
+    Units(Units),
+    /// The diameter of the cutter.
+    Diameter(i64),
+    /// The tolerance inwards.
+    Inward(i64),
+    /// The tolerance outwards.
+    Outward(i64),
+    /// The feed.
+    Feed(i64),
+    /// The spindle turns clockwise, so often in a minute.
+    Clockwise(i64),
+    /// The spindle turns anticlockwise, so often in a minute.
+    Anticlockwise(i64),
+    /// The spindle stands still.
+    SpindleOff,
+    /// The coolant.
+    Coolant(Cool),
+    /// The tool of a number.
+    Tool(i64),
+    /// The next move is rapid.
+    Rapid,
+    /// The machine stops.
+    Stop,
+    /// The machine stops where its operator wants it.
+    OptStop,
+    /// The end of the tape.
+    End,
+    /// The end of the program.
+    Fini,
+}
+
+/// A place: by its coordinates in millionths, and its height where it has one, or the point of a name.
+#[derive(Drop)]
+pub enum Place {
+    Xyz(i64, i64, Option<i64>),
+    Named(Symbol),
+}
+
+/// How the tool comes to a place.
+#[derive(Drop)]
+pub enum Route {
+    /// It stands there to begin with.
+    From(Place),
+    /// It goes there.
+    Goto(Place),
+    /// It goes so far along x, y and z, in millionths.
+    By(i64, i64, i64),
+    /// It goes to a surface, or to two.
+    Start(Stop, Symbol, Option<(Stop, Symbol)>),
+}
+
+/// What a step asks for. A contour runs along its drive surface, from a turn on, with the cutter on a side where its
+/// statement sets one, and stops at its check surface.
+#[derive(Drop)]
+pub enum Ask<'a> {
+    /// The part has a title.
+    Titles(&'a Text),
+    /// The CL file says something.
+    Says(Saying),
+    /// The cutter is on a side from now on.
+    Sets(Side),
+    /// A name is defined.
+    Defines(Symbol, Form),
+    /// The tool comes to a place.
+    Goes(Route),
+    /// A contour is cut.
+    Cuts(Option<Side>, Go, Symbol, Stop, Symbol),
+    /// Nothing.
+    Nothing,
+}
+
+impl Deed {
+    /// What the step asks for.
+    #[inline(always)]
+    pub fn ask(&self) -> Ask<'_>
+        ensures { seen result ≡ ask_of self.now }
+    {
+        match self {
+            Deed::Partno(text) => Ask::Titles(text),
+            Deed::Remark(_) | Deed::Clprnt | Deed::Nopost | Deed::Machin => Ask::Nothing,
+            Deed::Units(units) => Ask::Says(Saying::Units(*units)),
+            Deed::Assign(n, v) => Ask::Defines(n.copied(), Form::Number(*v)),
+            Deed::PointXy(n, x, y, z) => point(n, PointForm::Xy(*x, *y, *z)),
+            Deed::PointLines(n, a, b) => point(n, PointForm::Lines(a.copied(), b.copied())),
+            Deed::PointPick(n, k, a, b) => point(n, PointForm::Picked(*k, a.copied(), b.copied())),
+            Deed::PointCenter(n, c) => point(n, PointForm::Centre(c.copied())),
+            Deed::LineXy(n, x, y, u, v) => line(n, LineForm::Xy(*x, *y, *u, *v)),
+            Deed::LinePoints(n, p, q) => line(n, LineForm::Points(p.copied(), q.copied())),
+            Deed::LinePar(n, p, l) => line(n, LineForm::Parallel(p.copied(), l.copied())),
+            Deed::LinePerp(n, p, l) => line(n, LineForm::Square(p.copied(), l.copied())),
+            Deed::LineAt(n, l, k, v) => line(n, LineForm::Beside(l.copied(), *k, *v)),
+            Deed::LineTan(n, p, h, c) => line(n, LineForm::Past(p.copied(), *h, c.copied())),
+            Deed::LineTwo(n, h, c, k, d) => {
+                line(n, LineForm::PastTwo(*h, c.copied(), *k, d.copied()))
+            }
+            Deed::CircleXyr(n, x, y, r) => circle(n, CircleForm::Xyr(*x, *y, *r)),
+            Deed::CirclePoints(n, a, b, c) => {
+                circle(n, CircleForm::Points(a.copied(), b.copied(), c.copied()))
+            }
+            Deed::CircleRadius(n, p, r) => circle(n, CircleForm::Radius(p.copied(), *r)),
+            Deed::CircleTan(n, p, l) => circle(n, CircleForm::Along(p.copied(), l.copied())),
+            Deed::CircleThrough(n, p, q) => circle(n, CircleForm::Through(p.copied(), q.copied())),
+            Deed::CircleCorner(n, j, a, k, b, r) => {
+                circle(n, CircleForm::Corner(*j, a.copied(), *k, b.copied(), *r))
+            }
+            Deed::Cutter(v) => Ask::Says(Saying::Diameter(*v)),
+            Deed::Intol(v) => Ask::Says(Saying::Inward(*v)),
+            Deed::Outtol(v) => Ask::Says(Saying::Outward(*v)),
+            Deed::Tool(side) => Ask::Sets(*side),
+            Deed::FromXy(x, y, z) => Ask::Goes(Route::From(Place::Xyz(*x, *y, *z))),
+            Deed::FromPoint(p) => Ask::Goes(Route::From(Place::Named(p.copied()))),
+            Deed::GotoXy(x, y, z) => Ask::Goes(Route::Goto(Place::Xyz(*x, *y, *z))),
+            Deed::GotoPoint(p) => Ask::Goes(Route::Goto(Place::Named(p.copied()))),
+            Deed::Godlta(x, y, z) => Ask::Goes(Route::By(*x, *y, *z)),
+            Deed::GoStart(how, s, other) => Ask::Goes(start(*how, s, other)),
+            Deed::Contour(side, go, d, how, c) => {
+                Ask::Cuts(*side, *go, d.copied(), *how, c.copied())
+            }
+            Deed::Rapid => Ask::Says(Saying::Rapid),
+            Deed::Halt => Ask::Says(Saying::Stop),
+            Deed::OptHalt => Ask::Says(Saying::OptStop),
+            Deed::EndWord => Ask::Says(Saying::End),
+            Deed::Fini => Ask::Says(Saying::Fini),
+            Deed::Fedrat(v) => Ask::Says(Saying::Feed(*v)),
+            Deed::Spindl(n, Turn::Cw) => Ask::Says(Saying::Clockwise(*n)),
+            Deed::Spindl(n, Turn::Ccw) => Ask::Says(Saying::Anticlockwise(*n)),
+            Deed::Spindl(_, Turn::Off) | Deed::SpindlOff => Ask::Says(Saying::SpindleOff),
+            Deed::Coolnt(cool) => Ask::Says(Saying::Coolant(*cool)),
+            Deed::Loadtl(n) => Ask::Says(Saying::Tool(*n)),
+            Deed::Macro | Deed::Termac | Deed::Call => Ask::Nothing,
+            Deed::Loopst | Deed::Loopnd | Deed::Jumpto | Deed::If => Ask::Nothing,
+        }
+    }
+}
+
+fn point<'a>(name: &Symbol, form: PointForm) -> Ask<'a>
+    ensures { seen result ≡ asks.Defines name.now (Form.Point form) }
+{
+    Ask::Defines(name.copied(), Form::Point(form))
+}
+
+fn line<'a>(name: &Symbol, form: LineForm) -> Ask<'a>
+    ensures { seen result ≡ asks.Defines name.now (Form.Line form) }
+{
+    Ask::Defines(name.copied(), Form::Line(form))
+}
+
+fn circle<'a>(name: &Symbol, form: CircleForm) -> Ask<'a>
+    ensures { seen result ≡ asks.Defines name.now (Form.Circle form) }
+{
+    Ask::Defines(name.copied(), Form::Circle(form))
+}
+
+fn start(how: Stop, surface: &Symbol, other: &Option<(Stop, Symbol)>) -> Route
+    ensures { result ≡ Route.Start how surface.now other.now }
+{
+    let other = match other {
+        None => None,
+        Some((how, surface)) => Some((*how, surface.copied())),
+    };
+    Route::Start(how, surface.copied(), other)
+}
