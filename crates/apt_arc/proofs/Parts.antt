@@ -14,7 +14,7 @@ use Rattle.apt_plane.proofs.Around.{some_way}
 use Rattle.apt_plane.proofs.Quarters.{onward_turn, onward_square, AreFour, second_first, third_second, fourth_third, start_first, first_second, second_third, third_fourth, none_between, first_between, second_between, third_between, fourth_between}
 use Rattle.apt_canon.specs.Feet.{ray_point}
 use Rattle.apt_canon.specs.Scale.{IsNearCircle}
-use Rattle.apt_canon.proofs.Sharp.{ray_way}
+use Rattle.apt_canon.proofs.FootPoints.Sharp.{ray_way}
 use Rattle.apt_arc.specs.declared.arc.Arc.{Arc}
 use Rattle.apt_arc.specs.Ranges.{IsTrack, IsPiece, ArePieces, IsArc}
 use Rattle.apt_arc.specs.Quarters.{IsQuarterPoint, IsOnTheWay, AreQuarters}

@@ -16,7 +16,7 @@ use Rattle.apt_plane.proofs.Heights.{one-times}
 use Rattle.apt_plane.proofs.RingLaws.{length_at_most, root_at_most}
 use Rattle.apt_canon.specs.Scale.{IsNearCircle, sum}
 use Rattle.apt_canon.specs.Feet.{ray_point}
-use Rattle.apt_canon.proofs.Sharp.{ray_across, ray_forward, ray_radius}
+use Rattle.apt_canon.proofs.FootPoints.Sharp.{ray_across, ray_forward, ray_radius}
 use Rattle.apt_arc.proofs.Halving.{near_piece}
 use Rattle.apt_arc.proofs.Spans.{IsSpan, IsAimed, far_turn, halves, sum_is}
 use Rattle.apt_arc.proofs.Thirds.{thirds}

@@ -9,7 +9,7 @@ use Rattle.apt_plane.specs.declared.figures.Circ.{Circ}
 use Rattle.apt_plane.specs.Vectors.{displacement, dot, perp}
 use Rattle.apt_plane.specs.Ranges.{IsSense}
 use Rattle.apt_plane.proofs.Displacements.{dot_swap}
-use Rattle.apt_canon.proofs.Sharp.{ray_way, ray_turned}
+use Rattle.apt_canon.proofs.FootPoints.Sharp.{ray_way, ray_turned}
 use Rattle.apt_num.proofs.Ring.{double_neg}
 use Rattle.apt_plane.proofs.Turned.{turned_by, turned_back}
 use Rattle.apt_plane.proofs.Quarters.{IsOnward, left_is, right, right_is}

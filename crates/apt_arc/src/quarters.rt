@@ -10,7 +10,7 @@ ghost use Rattle.apt_arc.specs.Halves.{IsNext};
 use crate::arc::Arc;
 use apt_canon::ray_point;
 use apt_plane::vectors::{cross, displacement, dot};
-use apt_plane::{Circ, Dir, Pt, before};
+use apt_plane::{Circ, Dir, Pt, before, by_sense};
 
 /// A direction turned by a quarter in the sense.
 #[tactic(auto, using(crate::proofs::Quartered::dir_left, crate::proofs::Quartered::dir_right))]
@@ -42,15 +42,6 @@ fn point_at(track: &Circ, u: Dir) -> Pt
     ray_point(track, u)
 }
 
-#[tactic(auto, using(apt_plane::proofs::Turns::kept, apt_plane::proofs::Turns::turned))]
-fn turned(sense: i8, area: i128) -> i128
-    requires sense { IsSense sense }
-    requires area { unsigned_abs area ≤ 2 ^ 125 }
-    ensures { result ≡ sense *ℤ area }
-{
-    if sense < 0 { -area } else { area }
-}
-
 /// Whether the point in a direction lies up to a quarter turn behind the start.
 fn is_behind(arc: &Arc, u: Dir) -> bool
     requires arc { IsArc arc.now }
@@ -59,7 +50,7 @@ fn is_behind(arc: &Arc, u: Dir) -> bool
 {
     let point = displacement(arc.track.c, point_at(&arc.track, u));
     let way = displacement(arc.track.c, arc.start);
-    dot(point, way) > 0 && turned(arc.sense, cross(point, way)) >= 0
+    dot(point, way) > 0 && by_sense(arc.sense, cross(point, way)) >= 0
 }
 
 /// The direction of the first quarter point past the start.

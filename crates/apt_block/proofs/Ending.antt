@@ -3,7 +3,7 @@ use Rattle.std.proofs.Common.{◌≡◌, ℕ, zero, suc, ◌+◌, ◌==◌, ◌&
 use Rattle.std.proofs.lemmas.Bool.Decides.{nat_tests}
 use Rattle.apt_block.specs.declared.table.Form.{Form}
 use Rattle.apt_block.specs.declared.block.Mark.{Mark}
-use Rattle.apt_block.specs.declared.block.Fault.{Fault}
+use Rattle.apt_block.specs.declared.block.BlockFault.{BlockFault}
 use Rattle.apt_block.specs.declared.block.TapeCause.{TapeCause}
 use Rattle.apt_block.specs.declared.machine.OpenWord.{OpenWord}
 use Rattle.apt_block.specs.declared.machine.Want.{Want}
@@ -12,7 +12,7 @@ use Rattle.apt_block.specs.Block.{bad_block, forms, plus_sign, minus_sign, line_
 use Rattle.apt_block.specs.Machine.{FrontPart, form_for, new_word, with_form, letter_step, with_word, value_of, word_end, with_digit, digit_step, sign_step, step_as, step, is_nothing, is_whole}
 
 -- whether the block is words_of behind a character
-abbrev pub Ends : Bool → Result FrontPart Fault → Type 0
+abbrev pub Ends : Bool → Result FrontPart BlockFault → Type 0
 Ends t (Ok b) = is_whole b ≡ t
 Ends t (Err f) = Unit {0}
 

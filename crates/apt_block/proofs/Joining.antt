@@ -2,7 +2,7 @@
 use Rattle.std.proofs.Common.{subst, ◌≡◌, ℕ, zero, suc, ◌+◌, ◌-◌, ◌*◌, ◌==◌, ◌&&◌, nat_le, true, false, Bool, List, [], ◌∷◌, ◌++◌, drop, length, Option, Some, None, Result, Ok, Err, cond, refl, ap, ◌∙◌, sym, pos, neg_ℤ, unsigned_abs, arith}
 use Rattle.std.proofs.lemmas.Bool.Decides.{nat_tests}
 use Rattle.apt_block.specs.declared.block.Mark.{Mark}
-use Rattle.apt_block.specs.declared.block.Fault.{Fault}
+use Rattle.apt_block.specs.declared.block.BlockFault.{BlockFault}
 use Rattle.apt_block.specs.declared.block.TapeWord.{TapeWord}
 use Rattle.apt_block.specs.declared.block.TapeCause.{TapeCause}
 use Rattle.apt_block.specs.declared.block.TapeCause.TheVariants as causes
@@ -20,34 +20,34 @@ abbrev number_with : Bool → Digits → Number
 number_with minus n = record { value = cond minus (neg_ℤ (pos n.size)) (pos n.size); rest = n.rest }
 
 -- the number of a word, some of whose digits are read
-abbrev number_from : OpenWord → Bool → ℕ → Fault → List Mark → Result Number Fault
+abbrev number_from : OpenWord → Bool → ℕ → BlockFault → List Mark → Result Number BlockFault
 number_from w minus may end text = digits_at may w.size w.last end text >>= in_range w.form >>= λ n. Ok (number_with minus n)
 
 -- the words behind a word's number
-abbrev behind : List TapeWord → ℕ → Form → ℕ → Fault → Result Number Fault → Result (List TapeWord) Fault
+abbrev behind : List TapeWord → ℕ → Form → ℕ → BlockFault → Result Number BlockFault → Result (List TapeWord) BlockFault
 behind words used form at end read =
     read >>= (λ w. unless at (code_fault words form.letter (unsigned_abs w.value)) w) >>= λ w. words_at (drop used forms) (words ++ tape_word form.letter w.value ∷ []) end w.rest
 
-abbrev signed_from : OpenWord → Fault → List Mark → Result Number Fault
+abbrev signed_from : OpenWord → BlockFault → List Mark → Result Number BlockFault
 signed_from w end [] = Err end
 signed_from w end (c ∷ text) =
     cond (c.ch == plus_sign) (number_from w w.minus (suc w.later) end text)
     (cond (c.ch == minus_sign) (number_from w true (suc w.later) end text)
     (number_from w w.minus (suc w.later) end (c ∷ text)))
 
-abbrev from_digit : FrontPart → OpenWord → Fault → List Mark → Result (List TapeWord) Fault
+abbrev from_digit : FrontPart → OpenWord → BlockFault → List Mark → Result (List TapeWord) BlockFault
 from_digit b w end text = behind b.words b.used w.form w.at end (number_from w w.minus (suc w.later) end text)
 
-abbrev resume_as : FrontPart → Fault → List Mark → Want → Result (List TapeWord) Fault
+abbrev resume_as : FrontPart → BlockFault → List Mark → Want → Result (List TapeWord) BlockFault
 resume_as b end text wants.Letter = words_at (drop b.used forms) b.words end text
 resume_as b end text (wants.Sign w) = behind b.words b.used w.form w.at end (signed_from w end text)
 resume_as b end text (wants.Digit w) = from_digit b w end text
 resume_as b end text wants.Nothing = nothing_at b.words text
 
-abbrev pub resume : FrontPart → Fault → List Mark → Result (List TapeWord) Fault
+abbrev pub resume : FrontPart → BlockFault → List Mark → Result (List TapeWord) BlockFault
 resume b end text = resume_as b end text b.want
 
-abbrev goes_on : Fault → List Mark → FrontPart → Result (List TapeWord) Fault
+abbrev goes_on : BlockFault → List Mark → FrontPart → Result (List TapeWord) BlockFault
 goes_on end text b = resume b end text
 
 -- ---- a letter
@@ -77,27 +77,27 @@ drop_have (suc n) [] have = tt
 drop_have (suc n) (f ∷ fs) have = drop_have n fs have.1
 
 -- the number behind a letter is the new word's
-size_from : (f : Form) (at : ℕ) (end : Fault) (text : List Mark) (minus : Bool) → f.digits ≡ suc (f.digits - 1)
+size_from : (f : Form) (at : ℕ) (end : BlockFault) (text : List Mark) (minus : Bool) → f.digits ≡ suc (f.digits - 1)
     → (size_at f end text >>= λ n. Ok (number_with minus n)) ≡ number_from (new_word f at) minus (suc (f.digits - 1)) end text
 size_from f at end text minus have = ap (λ m. digits_at m 0 0 end text >>= in_range f >>= λ n. Ok (number_with minus n)) have
 
-first_signed : (f : Form) (at : ℕ) (end : Fault) (text : List Mark) → f.digits ≡ suc (f.digits - 1) → signed_at f end text ≡ signed_from (new_word f at) end text
+first_signed : (f : Form) (at : ℕ) (end : BlockFault) (text : List Mark) → f.digits ≡ suc (f.digits - 1) → signed_at f end text ≡ signed_from (new_word f at) end text
 first_signed f at end [] have = refl
 first_signed f at end (c ∷ text) have =
     either (c.ch == plus_sign) (c.ch == minus_sign) _ _ _ _ _ _ (size_from f at end text false have) (size_from f at end text true have) (size_from f at end (c ∷ text) false have)
   where
-    either : (t u : Bool) (p q r p' q' r' : Result Number Fault) → p ≡ p' → q ≡ q' → r ≡ r' → cond t p (cond u q r) ≡ cond t p' (cond u q' r')
+    either : (t u : Bool) (p q r p' q' r' : Result Number BlockFault) → p ≡ p' → q ≡ q' → r ≡ r' → cond t p (cond u q r) ≡ cond t p' (cond u q' r')
     either true u p q r p' q' r' e f g = e
     either false true p q r p' q' r' e f g = f
     either false false p q r p' q' r' e f g = g
 
-first : (words : List TapeWord) (used : ℕ) (f : Form) (at : ℕ) (end : Fault) (text : List Mark) (s : Bool) → f.digits ≡ suc (f.digits - 1)
+first : (words : List TapeWord) (used : ℕ) (f : Form) (at : ℕ) (end : BlockFault) (text : List Mark) (s : Bool) → f.digits ≡ suc (f.digits - 1)
     → behind words used f at end (cond s (signed_at f end text) (size_at f end text >>= λ n. Ok (plus n)))
     ≡ goes_on end text (record { words = words; used = used; want = cond s (wants.Sign (new_word f at)) (wants.Digit (new_word f at)) })
 first words used f at end text true have = ap (behind words used f at end) (first_signed f at end text have)
 first words used f at end text false have = ap (behind words used f at end) (size_from f at end text false have)
 
-letter_go : (b : FrontPart) (end : Fault) (c : Mark) (text : List Mark) (fs : List Form) (used : ℕ) → fs ≡ drop used forms → HaveDigits fs
+letter_go : (b : FrontPart) (end : BlockFault) (c : Mark) (text : List Mark) (fs : List Form) (used : ℕ) → fs ≡ drop used forms → HaveDigits fs
     → words_at fs b.words end (c ∷ text) ≡ (with_form b c (form_for used fs c.ch) >>= goes_on end text)
 letter_go b end c text [] used e have = ends (c.ch == line_feed)
   where
@@ -116,12 +116,12 @@ letter_go b end c text (f ∷ later) used e have =
         ∙ first b.words (used + 1) f c.at end text f.signed have.0
     go tail false more = more
 
-letter_law : (b : FrontPart) (end : Fault) (c : Mark) (text : List Mark) → words_at (drop b.used forms) b.words end (c ∷ text) ≡ (letter_step b c >>= goes_on end text)
+letter_law : (b : FrontPart) (end : BlockFault) (c : Mark) (text : List Mark) → words_at (drop b.used forms) b.words end (c ∷ text) ≡ (letter_step b c >>= goes_on end text)
 letter_law b end c text = letter_go b end c text (drop b.used forms) b.used refl (drop_have b.used forms forms_have)
 
 -- ---- the end of a word
 
-word_end_law : (b : FrontPart) (w : OpenWord) (end : Fault) (rest : List Mark) (K : FrontPart → Result (List TapeWord) Fault)
+word_end_law : (b : FrontPart) (w : OpenWord) (end : BlockFault) (rest : List Mark) (K : FrontPart → Result (List TapeWord) BlockFault)
     → ((words : List TapeWord) → K (record { words = words; used = b.used; want = wants.Letter }) ≡ words_at (drop b.used forms) words end rest)
     → behind b.words b.used w.form w.at end (in_range w.form (record { size = w.size; last = w.last; rest = rest }) >>= λ n. Ok (number_with w.minus n)) ≡ (word_end b w >>= K)
 word_end_law b w end rest K same = go (nat_le w.form.least w.size && nat_le w.size w.form.most)
@@ -146,7 +146,7 @@ word_end_law b w end rest K same = go (nat_le w.form.least w.size && nat_le w.si
 abbrev longer : OpenWord → Mark → ℕ → OpenWord
 longer w c n = record { form = w.form; at = w.at; minus = w.minus; later = n - 1; size = 10 * w.size + (c.ch - 48); last = c.at }
 
-abbrev number : FrontPart → OpenWord → Fault → Result Digits Fault → Result (List TapeWord) Fault
+abbrev number : FrontPart → OpenWord → BlockFault → Result Digits BlockFault → Result (List TapeWord) BlockFault
 number b w end r = behind b.words b.used w.form w.at end (r >>= in_range w.form >>= λ n. Ok (number_with w.minus n))
 
 no_zero : (n : ℕ) → false ≡ (suc n == 0)
@@ -155,7 +155,7 @@ no_zero n = grind (arith, nat_tests)
 less : (n : ℕ) → n ≡ suc n - 1
 less n = omega arith
 
-digit_law : (b : FrontPart) (w : OpenWord) (end : Fault) (c : Mark) (text : List Mark) → from_digit b w end (c ∷ text) ≡ (digit_step b w c >>= goes_on end text)
+digit_law : (b : FrontPart) (w : OpenWord) (end : BlockFault) (c : Mark) (text : List Mark) → from_digit b w end (c ∷ text) ≡ (digit_step b w c >>= goes_on end text)
 digit_law b w end c text = go w.later (is_digit c.ch)
   where
     go : (n : ℕ) (d : Bool)
@@ -167,7 +167,7 @@ digit_law b w end c text = go w.later (is_digit c.ch)
         ∙ ap (λ t. cond t (word_end b (longer w c (suc n))) (Ok (record b { want = wants.Digit (longer w c (suc n)) })) >>= goes_on end text) (no_zero n)
     go n false = refl
 
-sign_law : (b : FrontPart) (w : OpenWord) (end : Fault) (c : Mark) (text : List Mark) → behind b.words b.used w.form w.at end (signed_from w end (c ∷ text)) ≡ (sign_step b w c >>= goes_on end text)
+sign_law : (b : FrontPart) (w : OpenWord) (end : BlockFault) (c : Mark) (text : List Mark) → behind b.words b.used w.form w.at end (signed_from w end (c ∷ text)) ≡ (sign_step b w c >>= goes_on end text)
 sign_law b w end c text = go (c.ch == plus_sign) (c.ch == minus_sign)
   where
     go : (t u : Bool)
@@ -180,7 +180,7 @@ sign_law b w end c text = go (c.ch == plus_sign) (c.ch == minus_sign)
 -- ---- all characters
 
 -- one character more
-pub resume_step : (b : FrontPart) (end : Fault) (c : Mark) (text : List Mark) → resume b end (c ∷ text) ≡ (step b c >>= λ b. resume b end text)
+pub resume_step : (b : FrontPart) (end : BlockFault) (c : Mark) (text : List Mark) → resume b end (c ∷ text) ≡ (step b c >>= λ b. resume b end text)
 resume_step b end c text = go b.want
   where
     go : (want : Want) → resume_as b end (c ∷ text) want ≡ (step_as b c want >>= λ b. resume b end text)
@@ -190,7 +190,7 @@ resume_step b end c text = go b.want
     go wants.Nothing = refl
 
 -- no characters more
-pub resume_end : (b : FrontPart) (end : Fault) → resume b end [] ≡ words_of end b
+pub resume_end : (b : FrontPart) (end : BlockFault) → resume b end [] ≡ words_of end b
 resume_end b end = go b.want
   where
     forms_end : (fs : List Form) → words_at fs b.words end [] ≡ Err end
@@ -203,17 +203,17 @@ resume_end b end = go b.want
     go (wants.Digit w) = refl
     go wants.Nothing = refl
 
-all_steps : (b : FrontPart) (end : Fault) (text : List Mark) → resume b end text ≡ (steps b text >>= words_of end)
+all_steps : (b : FrontPart) (end : BlockFault) (text : List Mark) → resume b end text ≡ (steps b text >>= words_of end)
 all_steps b end [] = resume_end b end
 all_steps b end (c ∷ text) = resume_step b end c text ∙ each (step b c) (λ b. all_steps b end text)
   where
-    each : (r : Result FrontPart Fault) → ((b : FrontPart) → resume b end text ≡ (steps b text >>= words_of end))
+    each : (r : Result FrontPart BlockFault) → ((b : FrontPart) → resume b end text ≡ (steps b text >>= words_of end))
         → (r >>= λ b. resume b end text) ≡ (r >>= (λ b. steps b text) >>= words_of end)
     each (Ok b) same = same b
     each (Err e) same = refl
 
 -- the words of a text are those of the front part that all its characters make
-pub block_of_steps : (end : Fault) (text : List Mark) → block_of end text ≡ (steps block_start text >>= words_of end)
+pub block_of_steps : (end : BlockFault) (text : List Mark) → block_of end text ≡ (steps block_start text >>= words_of end)
 block_of_steps end text = all_steps block_start end text
 
 -- ---- a whole block, and one that is open
@@ -221,7 +221,7 @@ block_of_steps end text = all_steps block_start end text
 no_true : false ≡ true → ⊥
 no_true e = cc
 
-pub words_whole : (end : Fault) (b : FrontPart) → is_whole b ≡ true → words_of end b ≡ Ok b.words
+pub words_whole : (end : BlockFault) (b : FrontPart) → is_whole b ≡ true → words_of end b ≡ Ok b.words
 words_whole end b is = go b.want is
   where
     go : (want : Want) → is_nothing want ≡ true → words_as b.words end want ≡ Ok b.words
@@ -230,7 +230,7 @@ words_whole end b is = go b.want is
     go (wants.Digit w) is = absurd (no_true is)
     go wants.Nothing is = refl
 
-pub words_open : (end : Fault) (b : FrontPart) → is_whole b ≡ false → words_of end b ≡ Err end
+pub words_open : (end : BlockFault) (b : FrontPart) → is_whole b ≡ false → words_of end b ≡ Err end
 words_open end b is = go b.want is
   where
     go : (want : Want) → is_nothing want ≡ false → words_as b.words end want ≡ Err end
@@ -247,7 +247,7 @@ block_text_ok text b r e is =
     let end = fault (length text) causes.Truncated in
     subst (λ read. IsReading read r) (sym (block_of_steps end (marks 0 text) ∙ ap (λ r. r >>= words_of end) e)) is
 
-pub block_text_err : (text : List ℕ) (f : Fault) → steps block_start (marks 0 text) ≡ Err f → block_text text ≡ Err f
+pub block_text_err : (text : List ℕ) (f : BlockFault) → steps block_start (marks 0 text) ≡ Err f → block_text text ≡ Err f
 block_text_err text f e =
     let end = fault (length text) causes.Truncated in
     block_of_steps end (marks 0 text) ∙ ap (λ r. r >>= words_of end) e

@@ -6,7 +6,7 @@ use Rattle.std.proofs.Math.Nat.{div-one, div-div-eq-div-mul, div-eq_of_lt, pow-s
 use Rattle.std.specs.List.{flat_map, list_all}
 use Rattle.std.proofs.lemmas.List.Folds.{list_all-append}
 use Rattle.apt_block.specs.declared.block.TapeWord.{TapeWord}
-use Rattle.apt_block.specs.declared.block.Fault.{Fault}
+use Rattle.apt_block.specs.declared.block.BlockFault.{BlockFault}
 use Rattle.apt_block.specs.declared.table.Form.{Form}
 use Rattle.apt_block.specs.Block.{◌>>=◌, form, g_word, letter_n, letter_x, letter_y, letter_z, letter_f, letter_s, letter_t, letter_m, forms, form_in, line_feed, is_digit, is_word_character, Digits, digits_at, in_range, size_at, Number, plus, minus, signed_at, number_at, unless, word_at, tape_word, code_fault, words_at, block_of, block_text, marks, digits, sign, number_text, word_text, spelling, Fits, CanStand, IsBlock, StandsAlone}
 
@@ -27,13 +27,13 @@ one_more v n =
     rw e (omega arith)
 
 -- the number, somewhere, and the rest behind it
-abbrev ReadsSize : Result Digits Fault → ℕ → List ℕ → Type 0
+abbrev ReadsSize : Result Digits BlockFault → ℕ → List ℕ → Type 0
 ReadsSize r size rest = (last : ℕ) × (next : ℕ) × (r ≡ Ok (record { size = size; last = last; rest = marks next rest }))
 
-step : (b : Bool) (m n : ℕ) (r : ℕ → Result Digits Fault) (e : Result Digits Fault) (size : ℕ) (rest : List ℕ) → b ≡ true → m ≡ n → ReadsSize (r n) size rest → ReadsSize (cond b (r m) e) size rest
+step : (b : Bool) (m n : ℕ) (r : ℕ → Result Digits BlockFault) (e : Result Digits BlockFault) (size : ℕ) (rest : List ℕ) → b ≡ true → m ≡ n → ReadsSize (r n) size rest → ReadsSize (cond b (r m) e) size rest
 step b m n r e size rest is same read = rw (is, same) read
 
-digits_again : (n v last at : ℕ) (end : Fault) (rest : List ℕ) → ReadsSize (digits_at n (v / 10 ^ n) last end (marks at (digits n v ++ rest))) v rest
+digits_again : (n v last at : ℕ) (end : BlockFault) (rest : List ℕ) → ReadsSize (digits_at n (v / 10 ^ n) last end (marks at (digits n v ++ rest))) v rest
 digits_again zero v last at end rest = (last, at, ap (λ (s : ℕ). Ok (record { size = s; last = last; rest = marks at rest })) (div-one v))
 digits_again (suc n) v last at end rest =
     step (is_digit (48 + v / 10 ^ n % 10)) _ (v / 10 ^ n) (λ s. digits_at n s at end (marks (at + 1) (digits n v ++ rest))) _ v rest
@@ -45,7 +45,7 @@ digits_again (suc n) v last at end rest =
 is_in_range : (f : Form) (n : Digits) → f.least ≤ n.size → n.size ≤ f.most → in_range f n ≡ Ok n
 is_in_range f n low high = grind (arith, nat_tests)
 
-size_again : (f : Form) (size at : ℕ) (end : Fault) (rest : List ℕ) → f.least ≤ size → size ≤ f.most → f.most < 10 ^ f.digits
+size_again : (f : Form) (size at : ℕ) (end : BlockFault) (rest : List ℕ) → f.least ≤ size → size ≤ f.most → f.most < 10 ^ f.digits
     → ReadsSize (size_at f end (marks at (digits f.digits size ++ rest))) size rest
 size_again f size at end rest low high room =
     let read = digits_again f.digits size 0 at end rest in
@@ -59,29 +59,29 @@ size_again f size at end rest low high room =
     )
 
 -- the word's value, and the rest behind it
-abbrev ReadsNumber : Result Number Fault → ℤ → List ℕ → Type 0
+abbrev ReadsNumber : Result Number BlockFault → ℤ → List ℕ → Type 0
 ReadsNumber r v rest = (next : ℕ) × (r ≡ Ok (record { value = v; rest = marks next rest }))
 
-plus_again : (r : Result Digits Fault) (size : ℕ) (rest : List ℕ) → ReadsSize r size rest → ReadsNumber (r >>= λ n. Ok (plus n)) (pos size) rest
+plus_again : (r : Result Digits BlockFault) (size : ℕ) (rest : List ℕ) → ReadsSize r size rest → ReadsNumber (r >>= λ n. Ok (plus n)) (pos size) rest
 plus_again r size rest read = (read.1, ap (λ r. r >>= λ n. Ok (plus n)) read.2)
 
-minus_again : (r : Result Digits Fault) (size : ℕ) (rest : List ℕ) → ReadsSize r size rest → ReadsNumber (r >>= λ n. Ok (minus n)) (neg_ℤ (pos size)) rest
+minus_again : (r : Result Digits BlockFault) (size : ℕ) (rest : List ℕ) → ReadsSize r size rest → ReadsNumber (r >>= λ n. Ok (minus n)) (neg_ℤ (pos size)) rest
 minus_again r size rest read = (read.1, ap (λ r. r >>= λ n. Ok (minus n)) read.2)
 
-signed_again : (f : Form) (v : ℤ) (at : ℕ) (end : Fault) (rest : List ℕ)
+signed_again : (f : Form) (v : ℤ) (at : ℕ) (end : BlockFault) (rest : List ℕ)
     → ((next : ℕ) → ReadsSize (size_at f end (marks next (digits f.digits (unsigned_abs v) ++ rest))) (unsigned_abs v) rest)
     → ReadsNumber (signed_at f end (marks at (sign v ∷ digits f.digits (unsigned_abs v) ++ rest))) v rest
 signed_again f (pos n) at end rest read = plus_again _ n rest (read (at + 1))
 signed_again f (negsuc n) at end rest read = minus_again _ (suc n) rest (read (at + 1))
 
-either_again : (b : Bool) (f : Form) (v : ℤ) (at : ℕ) (end : Fault) (rest : List ℕ) → MatchBool b (Unit {0}) (v ≡ pos (unsigned_abs v))
+either_again : (b : Bool) (f : Form) (v : ℤ) (at : ℕ) (end : BlockFault) (rest : List ℕ) → MatchBool b (Unit {0}) (v ≡ pos (unsigned_abs v))
     → ((next : ℕ) → ReadsSize (size_at f end (marks next (digits f.digits (unsigned_abs v) ++ rest))) (unsigned_abs v) rest)
     → let text = marks at ((cond b (sign v ∷ []) [] ++ digits f.digits (unsigned_abs v)) ++ rest) in
     ReadsNumber (cond b (signed_at f end text) (size_at f end text >>= λ n. Ok (plus n))) v rest
 either_again true f v at end rest is read = signed_again f v at end rest read
 either_again false f v at end rest is read = subst (λ z. ReadsNumber (size_at f end (marks at (digits f.digits (unsigned_abs v) ++ rest)) >>= λ n. Ok (plus n)) z rest) (sym is) (plus_again _ (unsigned_abs v) rest (read at))
 
-number_again : (f : Form) (v : ℤ) (at : ℕ) (end : Fault) (rest : List ℕ) → Fits f v → f.most < 10 ^ f.digits → ReadsNumber (number_at f end (marks at (number_text f v ++ rest))) v rest
+number_again : (f : Form) (v : ℤ) (at : ℕ) (end : BlockFault) (rest : List ℕ) → Fits f v → f.most < 10 ^ f.digits → ReadsNumber (number_at f end (marks at (number_text f v ++ rest))) v rest
 number_again f v at end rest fits room = either_again f.signed f v at end rest fits.sign (λ next. size_again f (unsigned_abs v) next end rest fits.least fits.most room)
 
 -- ---- the table: each form is found by its letter, has room for its sizes, and its letter ends no block
@@ -112,7 +112,7 @@ forms_stand =
     (n, (g, (g, (g, (g, (g, (x, (y, (z, (f, (s, (t, (m, tt)))))))))))))
 
 -- ---- words
-word_again : (f : Form) (before : List TapeWord) (v : ℤ) (here at : ℕ) (end : Fault) (rest : List ℕ) → Stands f → Fits f v
+word_again : (f : Form) (before : List TapeWord) (v : ℤ) (here at : ℕ) (end : BlockFault) (rest : List ℕ) → Stands f → Fits f v
     → code_fault before f.letter (unsigned_abs v) ≡ None → ReadsNumber (word_at f before here end (marks at (number_text f v ++ rest))) v rest
 word_again f before v here at end rest stand fits known =
     let read = number_again f v at end rest fits stand.room in
@@ -126,13 +126,13 @@ same_word letter w e = λ i. record { letter = sym e i; value = w.value }
 
 -- the words from here on, behind the words before
 abbrev Again : List Form → List TapeWord → List TapeWord → Type 0
-Again later before words = (at : ℕ) (end : Fault) → words_at later before end (marks at (spelling words)) ≡ Ok (before ++ words)
+Again later before words = (at : ℕ) (end : BlockFault) → words_at later before end (marks at (spelling words)) ≡ Ok (before ++ words)
 
-word_here : (f : Form) (fs : List Form) (before : List TapeWord) (w : TapeWord) (ws : List TapeWord) (here at : ℕ) (end : Fault) → Stands f → w.letter ≡ f.letter
+word_here : (f : Form) (fs : List Form) (before : List TapeWord) (w : TapeWord) (ws : List TapeWord) (here at : ℕ) (end : BlockFault) → Stands f → w.letter ≡ f.letter
     → Fits f w.value → code_fault before w.letter (unsigned_abs w.value) ≡ None → Again fs (before ++ w ∷ []) ws
     → (word_at f before here end (marks at ((number_text (form_in forms w.letter) w.value ++ flat_map word_text ws) ++ line_feed ∷ [])) >>= λ v. words_at fs (before ++ tape_word f.letter v.value ∷ []) end v.rest) ≡ Ok (before ++ w ∷ ws)
 word_here f fs before w ws here at end stand same fits known more =
-    let k : Number → Result (List TapeWord) Fault = λ v. words_at fs (before ++ tape_word f.letter v.value ∷ []) end v.rest in
+    let k : Number → Result (List TapeWord) BlockFault = λ v. words_at fs (before ++ tape_word f.letter v.value ∷ []) end v.rest in
     let its_form : form_in forms w.letter ≡ f = ap (form_in forms) same ∙ stand.found in
     let its_text : (number_text (form_in forms w.letter) w.value ++ flat_map word_text ws) ++ line_feed ∷ [] ≡ number_text f w.value ++ spelling ws = ap (λ g. (number_text g w.value ++ flat_map word_text ws) ++ line_feed ∷ []) its_form ∙ append_assoc (number_text f w.value) (flat_map word_text ws) (line_feed ∷ []) in
     let none : code_fault before f.letter (unsigned_abs w.value) ≡ None = ap (λ l. code_fault before l (unsigned_abs w.value)) (sym same) ∙ known in
@@ -150,7 +150,7 @@ at_false : {A : Type 0} (b : Bool) (x y z : A) → b ≡ false → y ≡ z → c
 at_false b x y z is same = rw is same
 
 -- a word of this form, or of a later one
-here_or_later : (b : Bool) (f : Form) (fs : List Form) (before : List TapeWord) (w : TapeWord) (ws : List TapeWord) (at : ℕ) (end : Fault) → (w.letter == f.letter) ≡ b → Stands f
+here_or_later : (b : Bool) (f : Form) (fs : List Form) (before : List TapeWord) (w : TapeWord) (ws : List TapeWord) (at : ℕ) (end : BlockFault) → (w.letter == f.letter) ≡ b → Stands f
     → (CanStand fs (before ++ w ∷ []) ws → Again fs (before ++ w ∷ []) ws) → (CanStand fs before (w ∷ ws) → Again fs before (w ∷ ws))
     → MatchBool b (Fits f w.value × (code_fault before w.letter (unsigned_abs w.value) ≡ None) × CanStand fs (before ++ w ∷ []) ws) (CanStand fs before (w ∷ ws))
     → words_at (f ∷ fs) before end (marks at (spelling (w ∷ ws))) ≡ Ok (before ++ w ∷ ws)
@@ -170,7 +170,7 @@ words_again (f ∷ fs) before (w ∷ ws) stand can at end =
     here_or_later (w.letter == f.letter) f fs before w ws at end refl stand.0 (words_again fs (before ++ w ∷ []) ws stand.1) (words_again fs before (w ∷ ws) stand.1) can
 
 -- what a block's words spell is read as those words, wherever it stands
-pub block_of-spelling : (end : Fault) (at : ℕ) (words : List TapeWord) → IsBlock words → block_of end (marks at (spelling words)) ≡ Ok words
+pub block_of-spelling : (end : BlockFault) (at : ℕ) (words : List TapeWord) → IsBlock words → block_of end (marks at (spelling words)) ≡ Ok words
 block_of-spelling end at words is = words_again forms [] words forms_stand is at end
 
 -- ---- the characters of words

@@ -1,25 +1,25 @@
 -- Blocks of a tape: the table of words, how a block is read, and how it is spelled.
--- A Mark is a character with the place of its byte, a Fault a place with a cause, a Form a row of the table, a TapeWord a
+-- A Mark is a character with the place of its byte, a BlockFault a place with a cause, a Form a row of the table, a TapeWord a
 -- letter with its number.
 use Rattle.std.specs.Prelude.{◌≡◌, ℕ, zero, suc, ◌+◌, ◌-◌, ◌*◌, ◌/◌, ◌%◌, ◌^◌, ◌≤◌, ℤ, pos, negsuc, neg_ℤ, unsigned_abs, ◌==◌, ◌&&◌, ◌||◌, nat_le, Bool, true, false, not, List, [], ◌∷◌, ◌++◌, length, Option, Some, None, Result, Ok, Err, MatchBool, codes, if◌then◌else◌}
 use Rattle.std.specs.List.{list_any, flat_map}
 use Rattle.apt_block.specs.declared.block.TapeWord.{TapeWord}
 use Rattle.apt_block.specs.declared.block.Mark.{Mark}
-use Rattle.apt_block.specs.declared.block.Fault.{Fault}
+use Rattle.apt_block.specs.declared.block.BlockFault.{BlockFault}
 use Rattle.apt_block.specs.declared.block.TapeCause.{TapeCause}
 use Rattle.apt_block.specs.declared.block.TapeCause.TheVariants as causes
 use Rattle.apt_block.specs.declared.table.Form.{Form}
 
 infixl 10 ◌>>=◌
-abbrev pub ◌>>=◌ : {A B : Type 0} → Result A Fault → (A → Result B Fault) → Result B Fault
+abbrev pub ◌>>=◌ : {A B : Type 0} → Result A BlockFault → (A → Result B BlockFault) → Result B BlockFault
 (Ok x) >>= f = f x
 (Err e) >>= f = Err e
 
 -- the place at which reading stops, and why
-abbrev pub fault : ℕ → TapeCause → Fault
+abbrev pub fault : ℕ → TapeCause → BlockFault
 fault at cause = record { at = at; cause = cause }
 
-abbrev pub bad_block : ℕ → Fault
+abbrev pub bad_block : ℕ → BlockFault
 bad_block at = fault at causes.BadBlock
 
 -- the letters of words: sequence number, preparatory function, coordinates, feed, spindle speed, tool, miscellaneous function
@@ -121,7 +121,7 @@ abbrev pub is_digit : ℕ → Bool
 is_digit ch = nat_le 48 ch && nat_le ch 57
 
 -- behind a number so many digits more must stand; what is met where the characters end
-abbrev pub digits_at : ℕ → ℕ → ℕ → Fault → List Mark → Result Digits Fault
+abbrev pub digits_at : ℕ → ℕ → ℕ → BlockFault → List Mark → Result Digits BlockFault
 digits_at zero size last end text = Ok (record { size = size; last = last; rest = text })
 digits_at (suc n) size last end [] = Err end
 digits_at (suc n) size last end (c ∷ text) =
@@ -129,10 +129,10 @@ digits_at (suc n) size last end (c ∷ text) =
     else Err (bad_block c.at)
 
 -- a size out of range can't stand at its last digit
-abbrev pub in_range : Form → Digits → Result Digits Fault
+abbrev pub in_range : Form → Digits → Result Digits BlockFault
 in_range form n = if nat_le form.least n.size && nat_le n.size form.most then Ok n else Err (bad_block n.last)
 
-abbrev pub size_at : Form → Fault → List Mark → Result Digits Fault
+abbrev pub size_at : Form → BlockFault → List Mark → Result Digits BlockFault
 size_at form end text = digits_at form.digits 0 0 end text >>= in_range form
 
 -- a word, and the characters after it
@@ -147,22 +147,22 @@ abbrev pub minus : Digits → Number
 minus n = record { value = neg_ℤ (pos n.size); rest = n.rest }
 
 -- the number behind a letter, with the sign that it may have
-abbrev pub signed_at : Form → Fault → List Mark → Result Number Fault
+abbrev pub signed_at : Form → BlockFault → List Mark → Result Number BlockFault
 signed_at form end [] = Err end
 signed_at form end (c ∷ text) =
     if c.ch == plus_sign then (size_at form end text >>= λ n. Ok (plus n))
     else if c.ch == minus_sign then (size_at form end text >>= λ n. Ok (minus n))
     else (size_at form end (c ∷ text) >>= λ n. Ok (plus n))
 
-abbrev pub number_at : Form → Fault → List Mark → Result Number Fault
+abbrev pub number_at : Form → BlockFault → List Mark → Result Number BlockFault
 number_at form end text = if form.signed then signed_at form end text else (size_at form end text >>= λ n. Ok (plus n))
 
-abbrev pub unless : {A : Type 0} → ℕ → Option TapeCause → A → Result A Fault
+abbrev pub unless : {A : Type 0} → ℕ → Option TapeCause → A → Result A BlockFault
 unless at None x = Ok x
 unless at (Some cause) x = Err (fault at cause)
 
 -- the word whose letter stands at a place, behind the words before it
-abbrev pub word_at : Form → List TapeWord → ℕ → Fault → List Mark → Result Number Fault
+abbrev pub word_at : Form → List TapeWord → ℕ → BlockFault → List Mark → Result Number BlockFault
 word_at form before at end text =
     number_at form end text >>= λ w. unless at (code_fault before form.letter (unsigned_abs w.value)) w
 
@@ -170,16 +170,16 @@ abbrev pub tape_word : ℕ → ℤ → TapeWord
 tape_word letter value = record { letter = letter; value = value }
 
 -- a block ends with its end of block, and nothing after it
-abbrev pub nothing_at : List TapeWord → List Mark → Result (List TapeWord) Fault
+abbrev pub nothing_at : List TapeWord → List Mark → Result (List TapeWord) BlockFault
 nothing_at words [] = Ok words
 nothing_at words (c ∷ text) = Err (bad_block c.at)
 
-abbrev pub end_at : List TapeWord → Fault → List Mark → Result (List TapeWord) Fault
+abbrev pub end_at : List TapeWord → BlockFault → List Mark → Result (List TapeWord) BlockFault
 end_at words end [] = Err end
 end_at words end (c ∷ text) = if c.ch == line_feed then nothing_at words text else Err (bad_block c.at)
 
 -- the words from here on, in the order of the table, behind the words before them
-abbrev pub words_at : List Form → List TapeWord → Fault → List Mark → Result (List TapeWord) Fault
+abbrev pub words_at : List Form → List TapeWord → BlockFault → List Mark → Result (List TapeWord) BlockFault
 words_at [] before end text = end_at before end text
 words_at (form ∷ later) before end [] = Err end
 words_at (form ∷ later) before end (c ∷ text) =
@@ -188,7 +188,7 @@ words_at (form ∷ later) before end (c ∷ text) =
     else words_at later before end (c ∷ text)
 
 -- the words of a block's characters, or the first place that can't stand; end is met where the characters end
-abbrev pub block_of : Fault → List Mark → Result (List TapeWord) Fault
+abbrev pub block_of : BlockFault → List Mark → Result (List TapeWord) BlockFault
 block_of end text = words_at forms [] end text
 
 -- characters with their places, from a place on
@@ -197,7 +197,7 @@ marks at [] = []
 marks at (ch ∷ chs) = record { at = at; ch = ch } ∷ marks (at + 1) chs
 
 -- the block of a text by itself
-abbrev pub block_text : List ℕ → Result (List TapeWord) Fault
+abbrev pub block_text : List ℕ → Result (List TapeWord) BlockFault
 block_text text = block_of (fault (length text) causes.Truncated) (marks 0 text)
 
 -- ---- the one spelling

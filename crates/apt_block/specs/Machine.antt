@@ -1,7 +1,7 @@
 -- A block read character by character: what may come next, and one character more.
 use Rattle.std.specs.Prelude.{◌≡◌, ℕ, ◌+◌, ◌-◌, ◌*◌, ◌^◌, ◌≤◌, ◌<◌, ℤ, pos, neg_ℤ, unsigned_abs, ◌==◌, ◌&&◌, nat_le, Bool, true, false, List, [], ◌∷◌, ◌++◌, length, drop, Option, Some, None, Result, Ok, Err, if◌then◌else◌}
 use Rattle.apt_block.specs.declared.block.Mark.{Mark}
-use Rattle.apt_block.specs.declared.block.Fault.{Fault}
+use Rattle.apt_block.specs.declared.block.BlockFault.{BlockFault}
 use Rattle.apt_block.specs.declared.block.TapeWord.{TapeWord}
 use Rattle.apt_block.specs.declared.read.BlockError.{BlockError}
 use Rattle.apt_block.specs.declared.table.Form.{Form}
@@ -33,11 +33,11 @@ new_word form at =
 abbrev pub first_want : Form → ℕ → Want
 first_want form at = if form.signed then wants.Sign (new_word form at) else wants.Digit (new_word form at)
 
-abbrev pub with_form : FrontPart → Mark → Option (Form × ℕ) → Result FrontPart Fault
+abbrev pub with_form : FrontPart → Mark → Option (Form × ℕ) → Result FrontPart BlockFault
 with_form b c None = if c.ch == line_feed then Ok (record b { want = wants.Nothing }) else Err (bad_block c.at)
 with_form b c (Some found) = Ok (record { words = b.words; used = found.1; want = first_want found.0 c.at })
 
-abbrev pub letter_step : FrontPart → Mark → Result FrontPart Fault
+abbrev pub letter_step : FrontPart → Mark → Result FrontPart BlockFault
 letter_step b c = with_form b c (form_for b.used (drop b.used forms) c.ch)
 
 abbrev pub value_of : OpenWord → ℤ
@@ -47,7 +47,7 @@ abbrev pub with_word : FrontPart → OpenWord → FrontPart
 with_word b w = record { words = b.words ++ tape_word w.form.letter (value_of w) ∷ []; used = b.used; want = wants.Letter }
 
 -- a word behind its last digit: a size out of range is found first, and then its code
-abbrev pub word_end : FrontPart → OpenWord → Result FrontPart Fault
+abbrev pub word_end : FrontPart → OpenWord → Result FrontPart BlockFault
 word_end b w =
     if nat_le w.form.least w.size && nat_le w.size w.form.most
     then unless w.at (code_fault b.words w.form.letter (unsigned_abs (value_of w))) (with_word b w)
@@ -56,40 +56,40 @@ word_end b w =
 abbrev pub with_digit : OpenWord → Mark → OpenWord
 with_digit w c = record w { later = w.later - 1; size = 10 * w.size + (c.ch - 48); last = c.at }
 
-abbrev pub digit_step : FrontPart → OpenWord → Mark → Result FrontPart Fault
+abbrev pub digit_step : FrontPart → OpenWord → Mark → Result FrontPart BlockFault
 digit_step b w c =
     if is_digit c.ch then (if w.later == 0 then word_end b (with_digit w c) else Ok (record b { want = wants.Digit (with_digit w c) }))
     else Err (bad_block c.at)
 
-abbrev pub sign_step : FrontPart → OpenWord → Mark → Result FrontPart Fault
+abbrev pub sign_step : FrontPart → OpenWord → Mark → Result FrontPart BlockFault
 sign_step b w c =
     if c.ch == plus_sign then Ok (record b { want = wants.Digit w })
     else if c.ch == minus_sign then Ok (record b { want = wants.Digit (record w { minus = true }) })
     else digit_step b w c
 
-abbrev pub step_as : FrontPart → Mark → Want → Result FrontPart Fault
+abbrev pub step_as : FrontPart → Mark → Want → Result FrontPart BlockFault
 step_as b c wants.Letter = letter_step b c
 step_as b c (wants.Sign w) = sign_step b w c
 step_as b c (wants.Digit w) = digit_step b w c
 step_as b c wants.Nothing = Err (bad_block c.at)
 
 -- one character more
-abbrev pub step : FrontPart → Mark → Result FrontPart Fault
+abbrev pub step : FrontPart → Mark → Result FrontPart BlockFault
 step b c = step_as b c b.want
 
 -- several characters more
-abbrev pub steps : FrontPart → List Mark → Result FrontPart Fault
+abbrev pub steps : FrontPart → List Mark → Result FrontPart BlockFault
 steps b [] = Ok b
 steps b (c ∷ text) = step b c >>= λ b. steps b text
 
 -- the words of a whole block; end is met where the characters end before it
-abbrev pub words_as : List TapeWord → Fault → Want → Result (List TapeWord) Fault
+abbrev pub words_as : List TapeWord → BlockFault → Want → Result (List TapeWord) BlockFault
 words_as words end wants.Nothing = Ok words
 words_as words end wants.Letter = Err end
 words_as words end (wants.Sign w) = Err end
 words_as words end (wants.Digit w) = Err end
 
-abbrev pub words_of : Fault → FrontPart → Result (List TapeWord) Fault
+abbrev pub words_of : BlockFault → FrontPart → Result (List TapeWord) BlockFault
 words_of end b = words_as b.words end b.want
 
 abbrev pub is_nothing : Want → Bool
@@ -105,12 +105,12 @@ is_whole b = is_nothing b.want
 -- ---- what calls return
 
 -- a step of the code: the front part then, or the fault
-abbrev pub IsStep : {X : Type 0} → Result FrontPart Fault → FrontPart → Result X Fault → Type 0
+abbrev pub IsStep : {X : Type 0} → Result FrontPart BlockFault → FrontPart → Result X BlockFault → Type 0
 IsStep read now (Ok x) = read ≡ Ok now
 IsStep read now (Err f) = read ≡ Err f
 
 -- a block, or the place and the cause of its fault
-abbrev pub IsReading : Result (List TapeWord) Fault → Result (List TapeWord) BlockError → Type 0
+abbrev pub IsReading : Result (List TapeWord) BlockFault → Result (List TapeWord) BlockError → Type 0
 IsReading read (Ok words) = read ≡ Ok words
 IsReading read (Err e) = read ≡ Err (fault e.at e.cause)
 

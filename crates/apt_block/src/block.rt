@@ -20,7 +20,7 @@ pub struct Mark {
 
 /// The place at which reading stops, and why.
 #[derive(Clone, Copy)]
-pub struct Fault {
+pub struct BlockFault {
     pub at: u64,
     pub cause: TapeCause,
 }

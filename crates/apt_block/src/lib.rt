@@ -7,7 +7,7 @@ mod read;
 mod table;
 mod write;
 
-pub use block::{Block, Fault, Mark, TapeCause, TapeWord};
+pub use block::{Block, BlockFault, Mark, TapeCause, TapeWord};
 pub use machine::{BlockReader, OpenWord};
 pub use read::{BlockError, read_block};
 pub use table::Form;

@@ -7,7 +7,7 @@ ghost use Rattle.apt_block.specs.Machine.{IsStep, HasDigits};
 ghost use Rattle.apt_block.specs.declared.machine.Want.TheVariants as wants;
 
 use crate::table::{code_fault, form_for, is_bad_code};
-use crate::{Block, Fault, Form, Mark, TapeCause, TapeWord};
+use crate::{Block, BlockFault, Form, Mark, TapeCause, TapeWord};
 use std::marker::Model;
 
 /// A word that has no end yet: the place of its letter, how many digits must come behind the next one, and
@@ -49,10 +49,10 @@ impl Model for BlockReader {
     ghost invariant = { λ b. IsFrontPart (record { words = b.block; used = b.used; want = b.want }) };
 }
 
-fn bad_block(at: u64) -> Fault
+fn bad_block(at: u64) -> BlockFault
     ensures { result ≡ spec.bad_block at }
 {
-    Fault {
+    BlockFault {
         at,
         cause: TapeCause::BadBlock,
     }
@@ -194,7 +194,7 @@ impl BlockReader {
     }
 
     /// Takes one character more. After a fault the block can't be read on.
-    pub fn step(&mut self, c: Mark) -> Result<(), Fault>
+    pub fn step(&mut self, c: Mark) -> Result<(), BlockFault>
         ensures { IsStep (machine.step self.old c) self.new result }
     {
         match self.want {
@@ -268,7 +268,7 @@ impl BlockReader {
     }
 
     #[tactic(auto, using(crate::proofs::Rooms::want_room))]
-    fn letter_step(&mut self, c: Mark) -> Result<(), Fault>
+    fn letter_step(&mut self, c: Mark) -> Result<(), BlockFault>
         requires used { length self.old.words ≤ self.old.used }
         ensures { IsStep (machine.letter_step self.old c) self.new result }
     {
@@ -286,7 +286,7 @@ impl BlockReader {
         }
     }
 
-    fn sign_step(&mut self, word: OpenWord, c: Mark) -> Result<(), Fault>
+    fn sign_step(&mut self, word: OpenWord, c: Mark) -> Result<(), BlockFault>
         requires used { length self.old.words < self.old.used }
         requires room { HasDigits word }
         ensures { IsStep (machine.sign_step self.old word c) self.new result }
@@ -306,7 +306,7 @@ impl BlockReader {
     }
 
     #[tactic(auto, using(crate::proofs::Rooms::room_step, crate::proofs::Rooms::small))]
-    fn digit_step(&mut self, word: OpenWord, c: Mark) -> Result<(), Fault>
+    fn digit_step(&mut self, word: OpenWord, c: Mark) -> Result<(), BlockFault>
         requires used { length self.old.words < self.old.used }
         requires room { HasDigits word }
         ensures { IsStep (machine.digit_step self.old word c) self.new result }
@@ -324,7 +324,7 @@ impl BlockReader {
     }
 
     /// Adds a word that has its last digit.
-    fn word_end(&mut self, word: OpenWord) -> Result<(), Fault>
+    fn word_end(&mut self, word: OpenWord) -> Result<(), BlockFault>
         requires used { length self.old.words < self.old.used }
         requires small { word.size < 10 ^ 8 }
         ensures { IsStep (machine.word_end self.old word) self.new result }
@@ -332,7 +332,7 @@ impl BlockReader {
         if word.form.least <= word.size && word.size <= word.form.most {
             let value = value_of(&word);
             match code_fault(self.words(), word.form.letter, value.unsigned_abs()) {
-                Some(cause) => Err(Fault { at: word.at, cause }),
+                Some(cause) => Err(BlockFault { at: word.at, cause }),
                 None => {
                     self.block.push(TapeWord {
                         letter: word.form.letter,

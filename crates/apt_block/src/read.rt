@@ -5,7 +5,7 @@ ghost use Rattle.apt_block.specs.Block as spec;
 ghost use Rattle.apt_block.specs.Machine as machine;
 ghost use Rattle.apt_block.specs.Machine.{IsReading};
 
-use crate::{Block, BlockReader, Fault, Mark, TapeCause};
+use crate::{Block, BlockFault, BlockReader, Mark, TapeCause};
 use thiserror::Error;
 
 /// Why characters are no block: the place of the first that can't stand, from 0, and the cause.
@@ -30,7 +30,7 @@ pub fn read_block(text: &[u8]) -> Result<Block, BlockError>
     }
 }
 
-fn all_of(text: &[u8]) -> Result<BlockReader, Fault>
+fn all_of(text: &[u8]) -> Result<BlockReader, BlockFault>
     ensures { result ≡ machine.steps machine.block_start (spec.marks 0 text.now) }
 {
     let mut reader = BlockReader::new();

@@ -72,7 +72,7 @@ fn on_chord(l: &Moved, c: &Circ, sigma: i8) -> Pt
     framed(
         c.c,
         l.line.dir,
-        turned(sigma, half_chord(c.r, depth)),
+        by_sigma(sigma, half_chord(c.r, depth)),
         -depth,
     )
 }
@@ -180,7 +180,7 @@ fn on_common_chord(a: &Circ, b: &Circ, sigma: i8) -> Pt
 {
     let way = way_between(a.c, b.c);
     let depth = chord_depth(a, b, way);
-    framed(a.c, way, depth, turned(sigma, half_chord(a.r, depth)))
+    framed(a.c, way, depth, by_sigma(sigma, half_chord(a.r, depth)))
 }
 
 /// The way between two points is a direction.
@@ -261,7 +261,7 @@ fn half_chord(r: i64, depth: i128) -> i128
 }
 
 /// A length that `sigma` turns.
-fn turned(sigma: i8, length: i128) -> i128
+fn by_sigma(sigma: i8, length: i128) -> i128
     requires sense { IsSense sigma }
     requires length { unsigned_abs length ≤ 2 ^ 57 }
     ensures value { result ≡ sigma *ℤ length }

@@ -11,7 +11,7 @@ ghost use Rattle.apt_certify.specs.Verdicts as verdicts;
 
 use crate::deviations::{greater, worst};
 use crate::leg::{Job, Leg};
-use crate::segments::{Fault, end_fault, segment_fault};
+use crate::segments::{Failure, end_fault, segment_fault};
 use crate::verdict::{Bad, Verdict};
 use apt_plane::Pt;
 
@@ -121,7 +121,7 @@ fn leg_fault(leg: &Leg, start: Pt, vertices: &[Pt]) -> Option<Bad>
 }
 
 /// A fault in a segment of motion 1.
-fn first_motion(segment: u64, fault: Fault) -> Bad
+fn first_motion(segment: u64, fault: Failure) -> Bad
     ensures { result ≡ record { motion = 1; segment = segment; spot = fault.spot; reason = fault.reason } }
 {
     Bad {

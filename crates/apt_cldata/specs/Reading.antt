@@ -6,7 +6,7 @@ use Rattle.apt_cldata.specs.declared.error.ClCause.{ClCause}
 use Rattle.apt_cldata.specs.declared.error.ClCause.TheVariants as causes
 use Rattle.apt_cldata.specs.declared.error.ClError.{ClError}
 use Rattle.apt_cldata.specs.declared.error.ClError.TheVariants as errors
-use Rattle.apt_cldata.specs.declared.error.Fault.{Fault}
+use Rattle.apt_cldata.specs.declared.error.ClFault.{ClFault}
 use Rattle.apt_cldata.specs.declared.fields.Misfit.{Misfit}
 use Rattle.apt_cldata.specs.declared.fields.Misfit.TheVariants as misfits
 use Rattle.apt_cldata.specs.declared.record.Record.{Record}
@@ -14,7 +14,7 @@ use Rattle.apt_cldata.specs.Fields.{◌>>=◌}
 use Rattle.apt_cldata.specs.Records.{record_of}
 use Rattle.apt_cldata.specs.Files.{most_bytes, head, is_fini}
 
-abbrev pub fault : ℕ → ClCause → Fault
+abbrev pub fault : ℕ → ClCause → ClFault
 fault at cause = record { at = at; cause = cause }
 
 -- ---- bytes and words
@@ -38,11 +38,11 @@ abbrev pub is_length : ℕ → Bool
 is_length n = n % 8 == 0 && nat_le 24 n && nat_le n most_bytes
 
 -- where the file ends
-abbrev pub cut_short : ℕ → List ℕ → Fault
+abbrev pub cut_short : ℕ → List ℕ → ClFault
 cut_short at bytes = fault (at + length bytes) causes.Truncated
 
 -- the length of the first record, whose bytes are all there
-unfoldable pub length_of : ℕ → List ℕ → Result ℕ Fault
+unfoldable pub length_of : ℕ → List ℕ → Result ℕ ClFault
 length_of at bytes =
     if nat_lt (length bytes) 4 then Err (cut_short at bytes)
     else if not (is_length (length_in bytes)) then Err (fault at causes.Length)
@@ -50,13 +50,13 @@ length_of at bytes =
     else Ok (length_in bytes)
 
 -- the place of a misfit, of a record at a place: behind the length stand the number, the class, the subtype and the words, of eight bytes each
-abbrev pub misfit_at : ℕ → Misfit → Fault
+abbrev pub misfit_at : ℕ → Misfit → ClFault
 misfit_at at misfits.Class = fault (at + 12) causes.Class
 misfit_at at misfits.Subtype = fault (at + 20) causes.Class
 misfit_at at misfits.Count = fault at causes.Length
 misfit_at at (misfits.Word i) = fault (at + 28 + 8 * i) causes.Range
 
-abbrev pub located : {A : Type 0} → ℕ → Result A Misfit → Result A Fault
+abbrev pub located : {A : Type 0} → ℕ → Result A Misfit → Result A ClFault
 located at (Ok x) = Ok x
 located at (Err misfit) = Err (misfit_at at misfit)
 
@@ -65,7 +65,7 @@ unfoldable pub record_in : ℕ → List ℕ → Result Record Misfit
 record_in n bytes = record_of (word_in (drop 12 bytes)) (word_in (drop 20 bytes)) (words_in (n / 8 - 3) (drop 28 bytes))
 
 -- that record, if it has the number that is due
-unfoldable pub said_by : ℤ → ℕ → ℕ → List ℕ → Result Record Fault
+unfoldable pub said_by : ℤ → ℕ → ℕ → List ℕ → Result Record ClFault
 said_by seq at n bytes =
     if int_eq (word_in (drop 4 bytes)) seq
     then located at (record_in n bytes)
@@ -80,34 +80,34 @@ pub record Piece : Type 0 where
 abbrev pub piece : Record → ℕ → List ℕ → Piece
 piece said at rest = record { said = said; at = at; rest = rest }
 
-unfoldable pub first_of : ℕ → ℕ → List ℕ → Result Piece Fault
+unfoldable pub first_of : ℕ → ℕ → List ℕ → Result Piece ClFault
 first_of seq at bytes =
     length_of at bytes >>= λ n. said_by (pos seq) at n bytes >>= λ r. Ok (piece r (at + (4 + n)) (drop (4 + n) bytes))
 
 -- ---- all records
 
 -- the last record, behind which no bytes stand
-abbrev pub last_of : Piece → Result (List Record) Fault
+abbrev pub last_of : Piece → Result (List Record) ClFault
 last_of p = if length p.rest == 0 then Ok (p.said ∷ []) else Err (fault p.at causes.AfterFini)
 
 -- the records from a number and a place on. There are fewer of them than bytes, so that fuel is never short
-unfoldable pub records_from : ℕ → ℕ → ℕ → List ℕ → Result (List Record) Fault
+unfoldable pub records_from : ℕ → ℕ → ℕ → List ℕ → Result (List Record) ClFault
 records_from zero seq at bytes = Err (cut_short at bytes)
 records_from (suc fuel) seq at bytes =
     first_of seq at bytes >>= λ p.
     if is_fini p.said then last_of p else (records_from fuel (seq + 1) p.at p.rest >>= λ rs. Ok (p.said ∷ rs))
 
 -- the bytes behind a head, from a place in it on
-abbrev pub behind_head : ℕ → List ℕ → List ℕ → Result (List ℕ) Fault
+abbrev pub behind_head : ℕ → List ℕ → List ℕ → Result (List ℕ) ClFault
 behind_head at [] bytes = Ok bytes
 behind_head at (h ∷ hs) [] = Err (fault at causes.Truncated)
 behind_head at (h ∷ hs) (b ∷ bytes) = if b == h then behind_head (at + 1) hs bytes else Err (fault at causes.Header)
 
 -- the records of a file
-unfoldable pub read_of : List ℕ → Result (List Record) Fault
+unfoldable pub read_of : List ℕ → Result (List Record) ClFault
 read_of bytes = behind_head 0 head bytes >>= λ rest. records_from (length bytes) 1 (length head) rest
 
 -- an error is the fault that is met, or memory ran out
-abbrev pub IsFault : {A : Type 0} → Result A Fault → ClError → Type 0
+abbrev pub IsFault : {A : Type 0} → Result A ClFault → ClError → Type 0
 IsFault r errors.NoMemory = Unit {0}
 IsFault r (errors.Bad at cause) = r ≡ Err (fault at cause)

@@ -74,25 +74,25 @@ impl<T: Drop> From<AllocFailed<T>> for ClError {
 
 /// The first place of some bytes that can't stand, counted from 0, and why.
 #[derive(Clone, Copy, PartialEq, Eq)]
-pub(crate) struct Fault {
+pub(crate) struct ClFault {
     pub at: u64,
     pub cause: ClCause,
 }
 
-impl Fault {
-    pub(crate) fn new(at: u64, cause: ClCause) -> Fault
+impl ClFault {
+    pub(crate) fn new(at: u64, cause: ClCause) -> ClFault
         ensures { result ≡ reading.fault at cause }
     {
-        Fault { at, cause }
+        ClFault { at, cause }
     }
 }
 
-impl From<Fault> for ClError {
+impl From<ClFault> for ClError {
     ghost use Rattle.apt_cldata.specs.declared.error.ClError.TheVariants as errors;
 
     ghost from_gives = { λ f e. e ≡ errors.Bad f.at f.cause };
 
-    fn from(fault: Fault) -> Self {
+    fn from(fault: ClFault) -> Self {
         ClError::Bad {
             at: fault.at,
             cause: fault.cause,

@@ -8,7 +8,7 @@ ghost use Rattle.apt_cldata.specs.Reading as spec;
 
 use crate::bytes::{length_in, read_words, word_in};
 use crate::entries::record_of;
-use crate::error::Fault;
+use crate::error::ClFault;
 use crate::fields::Misfit;
 use crate::{ClCause, ClError, Note, Record};
 use std::alloc::{AllocError, Global};
@@ -26,16 +26,16 @@ fn is_length(n: usize) -> bool
 }
 
 /// Where the file ends.
-fn cut_short(at: u64, bytes: &[u8]) -> Fault
+fn cut_short(at: u64, bytes: &[u8]) -> ClFault
     requires { at + length bytes.now < 2 ^ 64 }
     ensures { result ≡ spec.cut_short at bytes.now }
 {
-    Fault::new(at + bytes.len() as u64, ClCause::Truncated)
+    ClFault::new(at + bytes.len() as u64, ClCause::Truncated)
 }
 
 /// The length of the first record, whose bytes are all there.
 #[tactic(auto, unfolding(crate::specs::Reading::length_of))]
-fn length_of(at: u64, bytes: &[u8]) -> Result<usize, Fault>
+fn length_of(at: u64, bytes: &[u8]) -> Result<usize, ClFault>
     requires { at + length bytes.now < 2 ^ 64 }
     ensures value { result ≡ spec.length_of at bytes.now }
     ensures least { IfOk result (λ n. 24 ≤ n) }
@@ -47,7 +47,7 @@ fn length_of(at: u64, bytes: &[u8]) -> Result<usize, Fault>
     }
     let n = length_in(bytes);
     if !is_length(n) {
-        return Err(Fault::new(at, ClCause::Length));
+        return Err(ClFault::new(at, ClCause::Length));
     }
     if bytes.len() < 4 + n {
         return Err(cut_short(at, bytes));
@@ -56,20 +56,20 @@ fn length_of(at: u64, bytes: &[u8]) -> Result<usize, Fault>
 }
 
 /// The place of a misfit, of a record at a place.
-fn misfit_at(at: u64, misfit: Misfit) -> Fault
+fn misfit_at(at: u64, misfit: Misfit) -> ClFault
     requires { at < 2 ^ 63 }
     ensures { result ≡ spec.misfit_at at misfit }
 {
     match misfit {
-        Misfit::Class => Fault::new(at + 12, ClCause::Class),
-        Misfit::Subtype => Fault::new(at + 20, ClCause::Class),
-        Misfit::Count => Fault::new(at, ClCause::Length),
-        Misfit::Word(i) => Fault::new(at + 28 + 8 * u64::from(i), ClCause::Range),
+        Misfit::Class => ClFault::new(at + 12, ClCause::Class),
+        Misfit::Subtype => ClFault::new(at + 20, ClCause::Class),
+        Misfit::Count => ClFault::new(at, ClCause::Length),
+        Misfit::Word(i) => ClFault::new(at + 28 + 8 * u64::from(i), ClCause::Range),
     }
 }
 
 /// What is said, or its misfit by its place.
-fn located(at: u64, said: Result<Record, Misfit>) -> Result<Record, Fault>
+fn located(at: u64, said: Result<Record, Misfit>) -> Result<Record, ClFault>
     requires { at < 2 ^ 63 }
     ensures { result ≡ spec.located at said }
 {
@@ -106,7 +106,7 @@ fn said_by(
     at: u64,
     n: usize,
     bytes: &[u8],
-) -> Result<Result<Record, Fault>, AllocError>
+) -> Result<Result<Record, ClFault>, AllocError>
     requires least { 24 ≤ n }
     requires most { n < 2 ^ 32 }
     requires there { 4 + n ≤ length bytes.now }
@@ -116,7 +116,7 @@ fn said_by(
     if word_in(&bytes[4..]) == seq {
         Ok(located(at, record_in(alloc, words, n, bytes)?))
     } else {
-        Ok(Err(Fault::new(at + 4, ClCause::Seq)))
+        Ok(Err(ClFault::new(at + 4, ClCause::Seq)))
     }
 }
 
@@ -179,17 +179,17 @@ fn records_from(alloc: Global, start: u64, bytes: &[u8]) -> Result<Vec<Record>, 
 }
 
 /// The bytes behind a head.
-fn behind_head<'a>(head: &[u8], bytes: &'a [u8]) -> Result<&'a [u8], Fault>
+fn behind_head<'a>(head: &[u8], bytes: &'a [u8]) -> Result<&'a [u8], ClFault>
     ensures { MatchResult result (λ rest. spec.behind_head 0 head.now bytes.now ≡ Ok rest.now) (λ f. spec.behind_head 0 head.now bytes.now ≡ Err f) }
 {
     'places: for (i, want) in head.iter().enumerate() {
         let at = i as u64;
         match bytes.get(i) {
             None => {
-                return Err(Fault::new(at, ClCause::Truncated));
+                return Err(ClFault::new(at, ClCause::Truncated));
             }
             Some(byte) if byte != want => {
-                return Err(Fault::new(at, ClCause::Header));
+                return Err(ClFault::new(at, ClCause::Header));
             }
             Some(_) => {}
         }

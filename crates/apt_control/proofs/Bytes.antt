@@ -1,6 +1,6 @@
 -- The walk over a byte at the front, and over the end of a block.
 use Rattle.std.proofs.Common.{◌≡◌, ℕ, ◌+◌, ◌<◌, List, [], ◌∷◌, length, drop, get_or, Result, Ok, refl, ap, subst, sym, arith, if◌then◌else◌}
-use Rattle.apt_block.specs.declared.block.Fault.{Fault}
+use Rattle.apt_block.specs.declared.block.BlockFault.{BlockFault}
 use Rattle.apt_block.specs.declared.machine.Want.TheVariants as wants
 use Rattle.apt_block.specs.Block.{◌>>=◌, line_feed}
 use Rattle.apt_block.specs.Machine.{FrontPart, step, is_whole}
@@ -19,7 +19,7 @@ pub block_ends : {H A : Type 0} (means : MeaningOf H A) (s : Walk H A) (ch : ℕ
 block_ends {H = H} {A = A} means s ch is ends =
     subst (λ ch. character_step means s ch ≡ words_step means s s.block.words) (sym is) (ap whole ends)
   where
-    whole : Result FrontPart Fault → Result (Walk H A) Fault
+    whole : Result FrontPart BlockFault → Result (Walk H A) BlockFault
     whole r = r >>= λ b.
         if is_whole b then words_step means s b.words
         else Ok (record s { block = b; count = s.count + 1 })

@@ -5,7 +5,7 @@ use Rattle.std.proofs.Common.{ap, ◌∙◌, arith}
 use Rattle.apt_tapecode.specs.declared.Code.{Code}
 use Rattle.apt_tapecode.specs.Tapecode.{is_tape_character, byte_of, end_of_block, rewind_stop}
 use Rattle.apt_block.specs.declared.block.Mark.{Mark}
-use Rattle.apt_block.specs.declared.block.Fault.{Fault}
+use Rattle.apt_block.specs.declared.block.BlockFault.{BlockFault}
 use Rattle.apt_block.specs.declared.block.TapeWord.{TapeWord}
 use Rattle.apt_block.specs.declared.block.TapeCause.TheVariants as causes
 use Rattle.apt_block.specs.Block.{fault, marks, ◌>>=◌, block_of}
@@ -13,14 +13,14 @@ use Rattle.apt_control.specs.declared.Act.{Act}
 use Rattle.apt_control.specs.Control.{Meaning, MeaningOf, nothing_held, meaning, last_place, after_end, unless_fault, acts_and, texts, run, run_characters, control_run}
 use Rattle.apt_control.proofs.Punched.{characters-punched, after_start-punched}
 
-ok-then : {A B : Type 0} (r : Result A Fault) (x : A) (f : A → Result B Fault) → r ≡ Ok x → (r >>= f) ≡ f x
+ok-then : {A B : Type 0} (r : Result A BlockFault) (x : A) (f : A → Result B BlockFault) → r ≡ Ok x → (r >>= f) ≡ f x
 ok-then r x f e = ap (λ s. s >>= f) e
 
 -- what a block's meaning comes to, by whether the block is an end
-abbrev pub meaning_run : {H A : Type 0} → MeaningOf H A → Fault → List (List Mark) → Meaning H A → Bool → Result (List A) Fault
+abbrev pub meaning_run : {H A : Type 0} → MeaningOf H A → BlockFault → List (List Mark) → Meaning H A → Bool → Result (List A) BlockFault
 meaning_run means end more m t = cond t (unless_fault (after_end end (flat_map (λ text. text) more)) m.acts) (acts_and m.acts (run means m.held end more))
 
-block-run : {H A : Type 0} (means : MeaningOf H A) (held : H) (end : Fault) (text : List Mark) (more : List (List Mark)) (words : List TapeWord) (m : Meaning H A)
+block-run : {H A : Type 0} (means : MeaningOf H A) (held : H) (end : BlockFault) (text : List Mark) (more : List (List Mark)) (words : List TapeWord) (m : Meaning H A)
     → block_of end text ≡ Ok words → means held (last_place text) words ≡ Ok m
     → run means held end (text ∷ more) ≡ meaning_run means end more m m.ends
 block-run means held end text more words m read meant =
@@ -28,7 +28,7 @@ block-run means held end text more words m read meant =
     ∙ ok-then (means held (last_place text) words) m (λ m. meaning_run means end more m m.ends) meant
 
 -- a block that is no end: its acts, and those of the blocks behind it
-pub run-block : {H A : Type 0} (means : MeaningOf H A) (held : H) (end : Fault) (text : List Mark) (more : List (List Mark)) (words : List TapeWord) (m : Meaning H A) (later : List A)
+pub run-block : {H A : Type 0} (means : MeaningOf H A) (held : H) (end : BlockFault) (text : List Mark) (more : List (List Mark)) (words : List TapeWord) (m : Meaning H A) (later : List A)
     → block_of end text ≡ Ok words → means held (last_place text) words ≡ Ok m → m.ends ≡ false → run means m.held end more ≡ Ok later
     → run means held end (text ∷ more) ≡ Ok (m.acts ++ later)
 run-block means held end text more words m later read meant goes_on rest =

@@ -6,7 +6,7 @@ use Rattle.apt_tapecode.specs.declared.Read.{Read}
 use Rattle.apt_tapecode.specs.declared.Read.TheVariants as reads
 use Rattle.apt_tapecode.specs.Tapecode.{reading, rewind_stop, end_of_block}
 use Rattle.apt_block.specs.declared.block.Mark.{Mark}
-use Rattle.apt_block.specs.declared.block.Fault.{Fault}
+use Rattle.apt_block.specs.declared.block.BlockFault.{BlockFault}
 use Rattle.apt_block.specs.declared.block.TapeWord.{TapeWord}
 use Rattle.apt_block.specs.declared.block.TapeCause.TheVariants as causes
 use Rattle.apt_block.specs.Block.{◌>>=◌, fault}
@@ -20,7 +20,7 @@ use Rattle.apt_control.proofs.Steps.{meaning_run}
 use Rattle.apt_control.specs.Walk.{outcome, outcome_as, Walk, walk_start, start_step, past_byte, with_meaning, character_step, block_step, end_step, byte_as, byte_step, byte_steps}
 
 -- ---- what the run comes to from here on
-abbrev run_from : {H A : Type 0} → MeaningOf H A → H → FrontPart → Fault → List (List Mark) → Result (List A) Fault
+abbrev run_from : {H A : Type 0} → MeaningOf H A → H → FrontPart → BlockFault → List (List Mark) → Result (List A) BlockFault
 run_from means held b end [] = Err end
 run_from means held b end (text ∷ more) =
     resume b end text >>= λ words. means held (last_place text) words >>= λ m.
@@ -34,27 +34,27 @@ ahead s bytes = characters s.code (s.count + 1) bytes
 abbrev next_mark : {H A : Type 0} → Walk H A → ℕ → Mark
 next_mark s ch = record { at = s.count; ch = ch }
 
-abbrev start_from : {H A : Type 0} → MeaningOf H A → H → FrontPart → ℕ → Option Characters → Result (List A) Fault
+abbrev start_from : {H A : Type 0} → MeaningOf H A → H → FrontPart → ℕ → Option Characters → Result (List A) BlockFault
 start_from means held b at None = Err (fault at causes.NoStart)
 start_from means held b at (Some cs) = run_from means held b cs.end (texts cs.marks)
 
-abbrev rest_as : {H A : Type 0} → MeaningOf H A → Walk H A → List ℕ → Phase → Result (List A) Fault
+abbrev rest_as : {H A : Type 0} → MeaningOf H A → Walk H A → List ℕ → Phase → Result (List A) BlockFault
 rest_as means s bytes phases.BeforeStart = acts_and s.acts (start_from means s.held s.block (s.count + length bytes) (after_start s.code s.count bytes))
 rest_as means s bytes phases.InBlock = acts_and s.acts (start_from means s.held s.block 0 (Some (characters s.code s.count bytes)))
 rest_as means s bytes phases.BehindEnd = unless_fault (after_end (characters s.code s.count bytes).end (characters s.code s.count bytes).marks) s.acts
 
-abbrev pub rest : {H A : Type 0} → MeaningOf H A → Walk H A → List ℕ → Result (List A) Fault
+abbrev pub rest : {H A : Type 0} → MeaningOf H A → Walk H A → List ℕ → Result (List A) BlockFault
 rest means s bytes = rest_as means s bytes s.phase
 
-acts_and_again : {A : Type 0} (acts more : List A) (r : Result (List A) Fault) → acts_and acts (acts_and more r) ≡ acts_and (acts ++ more) r
+acts_and_again : {A : Type 0} (acts more : List A) (r : Result (List A) BlockFault) → acts_and acts (acts_and more r) ≡ acts_and (acts ++ more) r
 acts_and_again acts more (Ok later) = ap Ok (sym (append_assoc acts more later))
 acts_and_again acts more (Err e) = refl
 
-acts_and_unless : {A : Type 0} (acts more : List A) (o : Option Fault) → acts_and acts (unless_fault o more) ≡ unless_fault o (acts ++ more)
+acts_and_unless : {A : Type 0} (acts more : List A) (o : Option BlockFault) → acts_and acts (unless_fault o more) ≡ unless_fault o (acts ++ more)
 acts_and_unless acts more None = refl
 acts_and_unless acts more (Some f) = refl
 
-run_is_from : {H A : Type 0} (means : MeaningOf H A) (held : H) (end : Fault) (ts : List (List Mark)) → run means held end ts ≡ run_from means held block_start end ts
+run_is_from : {H A : Type 0} (means : MeaningOf H A) (held : H) (end : BlockFault) (ts : List (List Mark)) → run means held end ts ≡ run_from means held block_start end ts
 run_is_from means held end [] = refl
 run_is_from means held end (text ∷ more) = refl
 
@@ -62,7 +62,7 @@ run_is_from means held end (text ∷ more) = refl
 pub run_is_rest : {H A : Type 0} (means : MeaningOf H A) (held : H) (code : Code) (tape : List ℕ) → tape_run means held code tape ≡ rest means (walk_start held code) tape
 run_is_rest {A = A} means held code tape = go (after_start code 0 tape)
   where
-    acts_and_none : (r : Result (List A) Fault) → r ≡ acts_and [] r
+    acts_and_none : (r : Result (List A) BlockFault) → r ≡ acts_and [] r
     acts_and_none (Ok acts) = refl
     acts_and_none (Err e) = refl
 
@@ -99,33 +99,33 @@ has_first (c ∷ cs) = go (c.ch == end_of_block) (texts cs)
     go false [] = refl
     go false (text ∷ more) = refl
 
-abbrev behind_block : {H A : Type 0} → MeaningOf H A → H → Fault → ℕ → List (List Mark) → Result (List TapeWord) Fault → Result (List A) Fault
+abbrev behind_block : {H A : Type 0} → MeaningOf H A → H → BlockFault → ℕ → List (List Mark) → Result (List TapeWord) BlockFault → Result (List A) BlockFault
 behind_block means held end at more read =
     read >>= λ words. means held at words >>= λ m. meaning_run means end more m m.ends
 
-open_ends : (end : Fault) (b : FrontPart) → is_whole b ≡ false → resume b end [] ≡ Err end
+open_ends : (end : BlockFault) (b : FrontPart) → is_whole b ≡ false → resume b end [] ≡ Err end
 open_ends end b is = resume_end b end ∙ words_open end b is
 
 -- ---- one character
 -- a character that ends no block, before the first text
-before_text : {H A : Type 0} (means : MeaningOf H A) (held : H) (b : FrontPart) (end : Fault) (c : Mark) (text : List Mark) (more : List (List Mark)) → is_whole b ≡ false
+before_text : {H A : Type 0} (means : MeaningOf H A) (held : H) (b : FrontPart) (end : BlockFault) (c : Mark) (text : List Mark) (more : List (List Mark)) → is_whole b ≡ false
     → behind_block means held end (last_place (c ∷ text)) more (resume b end text) ≡ run_from means held b end (text ∷ more)
 before_text means held b end c [] more is = ap (behind_block means held end c.at more) (open_ends end b is) ∙ sym (ap (behind_block means held end 0 more) (open_ends end b is))
 before_text means held b end c (d ∷ text) more is = refl
 
-before_text_as : {H A : Type 0} (means : MeaningOf H A) (held : H) (end : Fault) (c : Mark) (text : List Mark) (more : List (List Mark)) (r : Result FrontPart Fault) → Ends false r
+before_text_as : {H A : Type 0} (means : MeaningOf H A) (held : H) (end : BlockFault) (c : Mark) (text : List Mark) (more : List (List Mark)) (r : Result FrontPart BlockFault) → Ends false r
     → behind_block means held end (last_place (c ∷ text)) more (r >>= λ b. resume b end text) ≡ (r >>= λ b. run_from means held b end (text ∷ more))
 before_text_as means held end c text more (Ok b) is = before_text means held b end c text more is
 before_text_as means held end c text more (Err e) is = refl
 
-character_in_text : {H A : Type 0} (means : MeaningOf H A) (held : H) (b : FrontPart) (end : Fault) (c : Mark) (ts : List (List Mark)) → Ends false (step b c) → IsSome (first_of ts)
+character_in_text : {H A : Type 0} (means : MeaningOf H A) (held : H) (b : FrontPart) (end : BlockFault) (c : Mark) (ts : List (List Mark)) → Ends false (step b c) → IsSome (first_of ts)
     → run_from means held b end (with_character c ts) ≡ (step b c >>= λ b. run_from means held b end ts)
 character_in_text means held b end c [] is some = absurd (no_true some)
 character_in_text means held b end c (text ∷ more) is some =
     ap (behind_block means held end (last_place (c ∷ text)) more) (resume_step b end c text) ∙ before_text_as means held end c text more (step b c) is
 
 -- an end of block
-end_in_text : {H A : Type 0} (means : MeaningOf H A) (held : H) (end : Fault) (at : ℕ) (more : List (List Mark)) (r : Result FrontPart Fault) → Ends true r
+end_in_text : {H A : Type 0} (means : MeaningOf H A) (held : H) (end : BlockFault) (at : ℕ) (more : List (List Mark)) (r : Result FrontPart BlockFault) → Ends true r
     → behind_block means held end at more (r >>= λ b. resume b end []) ≡ (r >>= λ b. behind_block means held end at more (Ok b.words))
 end_in_text means held end at more (Ok b) is = ap (behind_block means held end at more) (resume_end b end ∙ words_whole end b is)
 end_in_text means held end at more (Err e) is = refl
@@ -134,12 +134,12 @@ end_in_text means held end at more (Err e) is = refl
 abbrev pub IsOpen : {H A : Type 0} → Walk H A → Type 0
 IsOpen s = is_whole s.block ≡ false
 
-abbrev AreOpen : {H A : Type 0} → Result (Walk H A) Fault → Type 0
+abbrev AreOpen : {H A : Type 0} → Result (Walk H A) BlockFault → Type 0
 AreOpen (Ok s) = IsOpen s
 AreOpen (Err f) = Unit {0}
 
 -- what a block's meaning comes to
-meaning_step : {H A : Type 0} (means : MeaningOf H A) (s : Walk H A) (bytes : List ℕ) (q : Result (Meaning H A) Fault)
+meaning_step : {H A : Type 0} (means : MeaningOf H A) (s : Walk H A) (bytes : List ℕ) (q : Result (Meaning H A) BlockFault)
     → acts_and s.acts (q >>= λ m. meaning_run means (ahead s bytes).end (texts (ahead s bytes).marks) m m.ends)
     ≡ (q >>= (λ m. Ok (with_meaning s m)) >>= λ s. rest means s bytes)
 meaning_step means s bytes (Err e) = refl
@@ -154,10 +154,10 @@ meaning_step {H = H} {A = A} means s bytes (Ok m) = go m.ends
         acts_and_again s.acts m.acts _
         ∙ ap (acts_and (s.acts ++ m.acts)) (run_is_from means m.held (ahead s bytes).end (texts (ahead s bytes).marks))
 
-abbrev step_by_end : {H A : Type 0} → MeaningOf H A → Walk H A → FrontPart → Bool → Result (Walk H A) Fault
+abbrev step_by_end : {H A : Type 0} → MeaningOf H A → Walk H A → FrontPart → Bool → Result (Walk H A) BlockFault
 step_by_end means s b t = cond t (means s.held s.count b.words >>= λ m. Ok (with_meaning s m)) (Ok (record s { block = b; count = s.count + 1 }))
 
-closed_step : {H A : Type 0} (means : MeaningOf H A) (s : Walk H A) (bytes : List ℕ) (r : Result FrontPart Fault) → Ends true r
+closed_step : {H A : Type 0} (means : MeaningOf H A) (s : Walk H A) (bytes : List ℕ) (r : Result FrontPart BlockFault) → Ends true r
     → acts_and s.acts (behind_block means s.held (ahead s bytes).end s.count (texts (ahead s bytes).marks) (r >>= λ b. resume b (ahead s bytes).end []))
     ≡ (r >>= (λ b. step_by_end means s b (is_whole b)) >>= λ s. rest means s bytes)
 closed_step means s bytes (Err e) is = refl
@@ -166,7 +166,7 @@ closed_step means s bytes (Ok b) is =
     ∙ meaning_step means s bytes (means s.held s.count b.words)
     ∙ ap (λ t. step_by_end means s b t >>= λ s. rest means s bytes) (sym is)
 
-open_step : {H A : Type 0} (means : MeaningOf H A) (s : Walk H A) (bytes : List ℕ) (r : Result FrontPart Fault) → s.phase ≡ phases.InBlock → Ends false r
+open_step : {H A : Type 0} (means : MeaningOf H A) (s : Walk H A) (bytes : List ℕ) (r : Result FrontPart BlockFault) → s.phase ≡ phases.InBlock → Ends false r
     → acts_and s.acts (r >>= λ b. run_from means s.held b (ahead s bytes).end (texts (ahead s bytes).marks))
     ≡ (r >>= (λ b. step_by_end means s b (is_whole b)) >>= λ s. rest means s bytes)
 open_step means s bytes (Err e) phase is = refl
@@ -189,7 +189,7 @@ character_law {H = H} {A = A} means s ch bytes phase = go (ch == end_of_block) (
         ap (acts_and s.acts) (character_in_text means s.held s.block _ (next_mark s ch) (texts (ahead s bytes).marks) is (has_first (ahead s bytes).marks))
         ∙ open_step means s bytes (step s.block (next_mark s ch)) phase is
 
-bad_end : {H A : Type 0} (means : MeaningOf H A) (s : Walk H A) (f : Fault) → IsOpen s → acts_and s.acts (run_from means s.held s.block f (texts [])) ≡ Err f
+bad_end : {H A : Type 0} (means : MeaningOf H A) (s : Walk H A) (f : BlockFault) → IsOpen s → acts_and s.acts (run_from means s.held s.block f (texts [])) ≡ Err f
 bad_end means s f is = ap (λ read. acts_and s.acts (behind_block means s.held f 0 [] read)) (open_ends f s.block is)
 
 -- one byte more
@@ -232,7 +232,7 @@ rest_step {H = H} {A = A} means s byte bytes is = go s.phase refl
 open_kept : {H A : Type 0} (means : MeaningOf H A) (s : Walk H A) (byte : ℕ) → IsOpen s → AreOpen (byte_step means s byte)
 open_kept {H = H} {A = A} means s byte is = go s.phase
   where
-    after_meaning : (q : Result (Meaning H A) Fault) → AreOpen (q >>= λ m. Ok (with_meaning s m))
+    after_meaning : (q : Result (Meaning H A) BlockFault) → AreOpen (q >>= λ m. Ok (with_meaning s m))
     after_meaning (Ok m) = refl
     after_meaning (Err e) = tt
 
@@ -240,7 +240,7 @@ open_kept {H = H} {A = A} means s byte is = go s.phase
     after_step b true e = after_meaning (means s.held s.count b.words)
     after_step b false e = e
 
-    character : (r : Result FrontPart Fault) → AreOpen (r >>= λ b. step_by_end means s b (is_whole b))
+    character : (r : Result FrontPart BlockFault) → AreOpen (r >>= λ b. step_by_end means s b (is_whole b))
     character (Ok b) = after_step b (is_whole b) refl
     character (Err e) = tt
 
@@ -284,7 +284,7 @@ pub rest_is_walk : {H A : Type 0} (means : MeaningOf H A) (s : Walk H A) (bytes 
 rest_is_walk means s [] is = no_rest means s is
 rest_is_walk {H = H} {A = A} means s (byte ∷ bytes) is = rest_step means s byte bytes is ∙ each (byte_step means s byte) (open_kept means s byte is) (λ s is. rest_is_walk means s bytes is)
   where
-    each : (r : Result (Walk H A) Fault) → AreOpen r → ((s : Walk H A) → IsOpen s → rest means s bytes ≡ (byte_steps means s bytes >>= outcome))
+    each : (r : Result (Walk H A) BlockFault) → AreOpen r → ((s : Walk H A) → IsOpen s → rest means s bytes ≡ (byte_steps means s bytes >>= outcome))
         → (r >>= λ s. rest means s bytes) ≡ (r >>= (λ s. byte_steps means s bytes) >>= outcome)
     each (Ok s) is same = same s is
     each (Err e) is same = refl

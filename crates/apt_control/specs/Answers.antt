@@ -1,6 +1,6 @@
 -- What calls answer, unless memory runs out.
 use Rattle.std.specs.Prelude.{◌≡◌, Bool, List, [], ◌∷◌, ◌++◌, Option, Some, None, Result, Ok, Err}
-use Rattle.apt_block.specs.declared.block.Fault.{Fault}
+use Rattle.apt_block.specs.declared.block.BlockFault.{BlockFault}
 use Rattle.apt_block.specs.Block.{fault}
 use Rattle.apt_control.specs.declared.Act.{Act}
 use Rattle.apt_control.specs.declared.error.ControlError.{ControlError}
@@ -8,22 +8,22 @@ use Rattle.apt_control.specs.declared.error.ControlError.TheVariants as errors
 use Rattle.apt_control.specs.Control.{Meaning}
 
 -- a refusal is the fault that was read
-abbrev pub IsFault : {Y : Type 0} → ControlError → Result Y Fault → Type 0
+abbrev pub IsFault : {Y : Type 0} → ControlError → Result Y BlockFault → Type 0
 IsFault errors.NoMemory read = Unit {0}
 IsFault (errors.Bad at cause) read = read ≡ Err (fault at cause)
 
 -- a result, seen as a value, is what was read
-abbrev pub IsAnswer : {X Y : Type 0} → (X → Y) → Result X ControlError → Result Y Fault → Type 0
+abbrev pub IsAnswer : {X Y : Type 0} → (X → Y) → Result X ControlError → Result Y BlockFault → Type 0
 IsAnswer view (Ok x) read = read ≡ Ok (view x)
 IsAnswer view (Err e) read = IsFault e read
 
 -- the reader now is what was read
-abbrev pub IsStep : {X Y : Type 0} → Result Y Fault → Y → Result X ControlError → Type 0
+abbrev pub IsStep : {X Y : Type 0} → Result Y BlockFault → Y → Result X ControlError → Type 0
 IsStep read now (Ok x) = read ≡ Ok now
 IsStep read now (Err e) = IsFault e read
 
 -- a block's acts stand behind those before, what it says holds, and the result is whether it is the end
-abbrev pub IsMeaning : {H A : Type 0} → Result (Meaning H A) Fault → H → List A → List A → Result Bool ControlError → Type 0
+abbrev pub IsMeaning : {H A : Type 0} → Result (Meaning H A) BlockFault → H → List A → List A → Result Bool ControlError → Type 0
 IsMeaning {A = A} read held before now (Ok ends) = (acts : List A) × (now ≡ before ++ acts) × (read ≡ Ok (record { held = held; acts = acts; ends = ends }))
 IsMeaning read held before now (Err e) = IsFault e read
 

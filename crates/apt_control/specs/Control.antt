@@ -13,7 +13,7 @@ use Rattle.apt_tapecode.specs.declared.Read.{Read}
 use Rattle.apt_tapecode.specs.declared.Read.TheVariants as reads
 use Rattle.apt_tapecode.specs.Tapecode.{reading, punched, rewind_stop, end_of_block}
 use Rattle.apt_block.specs.declared.block.Mark.{Mark}
-use Rattle.apt_block.specs.declared.block.Fault.{Fault}
+use Rattle.apt_block.specs.declared.block.BlockFault.{BlockFault}
 use Rattle.apt_block.specs.declared.block.TapeWord.{TapeWord}
 use Rattle.apt_block.specs.declared.block.TapeCause.{TapeCause}
 use Rattle.apt_block.specs.declared.block.TapeCause.TheVariants as causes
@@ -27,7 +27,7 @@ use Rattle.apt_control.specs.declared.held.Held.{Held}
 -- the characters of a tape, each with the place of its byte, and what is met behind them: a bad byte, or the tape's end
 pub record Characters : Type 0 where
   pub marks : List Mark
-  pub end : Fault
+  pub end : BlockFault
 
 -- one byte more in front
 abbrev pub in_front : ℕ → Read → Characters → Characters
@@ -75,7 +75,7 @@ pub record Meaning (H A : Type 0) : Type 0 where
 
 -- the meaning of words, where something holds and their end of block is at a place, or a fault
 abbrev pub MeaningOf : Type 0 → Type 0 → Type 0
-MeaningOf H A = H → ℕ → List TapeWord → Result (Meaning H A) Fault
+MeaningOf H A = H → ℕ → List TapeWord → Result (Meaning H A) BlockFault
 
 abbrev pub is_truncated : TapeCause → Bool
 is_truncated causes.NoStart = false
@@ -93,32 +93,32 @@ is_truncated causes.Truncated = true
 is_truncated causes.AfterEnd = false
 
 -- behind the end only rewind stops may stand
-abbrev pub after_end : Fault → List Mark → Option Fault
+abbrev pub after_end : BlockFault → List Mark → Option BlockFault
 after_end end [] = if is_truncated end.cause then None else Some end
 after_end end (c ∷ cs) = if c.ch == rewind_stop then after_end end cs else Some (fault c.at causes.AfterEnd)
 
-abbrev pub unless_fault : {A : Type 0} → Option Fault → A → Result A Fault
+abbrev pub unless_fault : {A : Type 0} → Option BlockFault → A → Result A BlockFault
 unless_fault None x = Ok x
 unless_fault (Some f) x = Err f
 
 -- the acts of what comes later, behind these
-abbrev pub acts_and : {A : Type 0} → List A → Result (List A) Fault → Result (List A) Fault
+abbrev pub acts_and : {A : Type 0} → List A → Result (List A) BlockFault → Result (List A) BlockFault
 acts_and acts later = later >>= λ later. Ok (acts ++ later)
 
 -- the acts of the texts from here on, up to the end
-abbrev pub run : {H A : Type 0} → MeaningOf H A → H → Fault → List (List Mark) → Result (List A) Fault
+abbrev pub run : {H A : Type 0} → MeaningOf H A → H → BlockFault → List (List Mark) → Result (List A) BlockFault
 run means held end [] = Err end
 run means held end (text ∷ more) =
     block_of end text >>= λ words. means held (last_place text) words >>= λ m.
     if m.ends then unless_fault (after_end end (flat_map (λ text. text) more)) m.acts
     else acts_and m.acts (run means m.held end more)
 
-abbrev pub run_characters : {H A : Type 0} → MeaningOf H A → H → ℕ → Option Characters → Result (List A) Fault
+abbrev pub run_characters : {H A : Type 0} → MeaningOf H A → H → ℕ → Option Characters → Result (List A) BlockFault
 run_characters means start at None = Err (fault at causes.NoStart)
 run_characters means start at (Some cs) = run means start cs.end (texts cs.marks)
 
 -- the acts of a tape, read to the end and the last byte, or the fault of least place; start is what holds at the start
-abbrev pub tape_run : {H A : Type 0} → MeaningOf H A → H → Code → List ℕ → Result (List A) Fault
+abbrev pub tape_run : {H A : Type 0} → MeaningOf H A → H → Code → List ℕ → Result (List A) BlockFault
 tape_run means start code tape = run_characters means start (length tape) (after_start code 0 tape)
 
 -- ---- the meaning of blocks: moves, spindle, coolant, tools and stops
@@ -245,5 +245,5 @@ meaning held at words =
     unless at (end_fault now words) (record { held = now; acts = block_acts now words; ends = is_end words })
 
 -- what a control does with a tape
-abbrev pub control_run : Code → List ℕ → Result (List Act) Fault
+abbrev pub control_run : Code → List ℕ → Result (List Act) BlockFault
 control_run code tape = tape_run meaning nothing_held code tape

@@ -4,7 +4,7 @@ use Rattle.apt_tapecode.specs.declared.Code.{Code}
 use Rattle.apt_tapecode.specs.declared.Read.{Read}
 use Rattle.apt_tapecode.specs.declared.Read.TheVariants as reads
 use Rattle.apt_tapecode.specs.Tapecode.{reading, rewind_stop}
-use Rattle.apt_block.specs.declared.block.Fault.{Fault}
+use Rattle.apt_block.specs.declared.block.BlockFault.{BlockFault}
 use Rattle.apt_block.specs.declared.block.TapeWord.{TapeWord}
 use Rattle.apt_block.specs.declared.block.TapeCause.TheVariants as causes
 use Rattle.apt_block.specs.Block.{◌>>=◌, fault}
@@ -47,46 +47,46 @@ with_meaning s m = record {
 }
 
 -- the words of a whole block get their meaning
-abbrev pub words_step : {H A : Type 0} → MeaningOf H A → Walk H A → List TapeWord → Result (Walk H A) Fault
+abbrev pub words_step : {H A : Type 0} → MeaningOf H A → Walk H A → List TapeWord → Result (Walk H A) BlockFault
 words_step means s words = means s.held s.count words >>= λ m. Ok (with_meaning s m)
 
-abbrev pub character_step : {H A : Type 0} → MeaningOf H A → Walk H A → ℕ → Result (Walk H A) Fault
+abbrev pub character_step : {H A : Type 0} → MeaningOf H A → Walk H A → ℕ → Result (Walk H A) BlockFault
 character_step means s ch =
     step s.block (record { at = s.count; ch = ch }) >>= λ b.
     if is_whole b then (means s.held s.count b.words >>= λ m. Ok (with_meaning s m))
     else Ok (record s { block = b; count = s.count + 1 })
 
-abbrev pub block_step : {H A : Type 0} → MeaningOf H A → Walk H A → Read → Result (Walk H A) Fault
+abbrev pub block_step : {H A : Type 0} → MeaningOf H A → Walk H A → Read → Result (Walk H A) BlockFault
 block_step means s (reads.Char ch) = character_step means s ch
 block_step means s reads.Skip = Ok (past_byte s)
 block_step means s reads.BadParity = Err (fault s.count causes.BadParity)
 block_step means s reads.BadCode = Err (fault s.count causes.BadCode)
 
-abbrev pub end_step : {H A : Type 0} → Walk H A → Read → Result (Walk H A) Fault
+abbrev pub end_step : {H A : Type 0} → Walk H A → Read → Result (Walk H A) BlockFault
 end_step s (reads.Char ch) = if ch == rewind_stop then Ok (past_byte s) else Err (fault s.count causes.AfterEnd)
 end_step s reads.Skip = Ok (past_byte s)
 end_step s reads.BadParity = Err (fault s.count causes.BadParity)
 end_step s reads.BadCode = Err (fault s.count causes.BadCode)
 
-abbrev pub byte_as : {H A : Type 0} → MeaningOf H A → Walk H A → ℕ → Phase → Result (Walk H A) Fault
+abbrev pub byte_as : {H A : Type 0} → MeaningOf H A → Walk H A → ℕ → Phase → Result (Walk H A) BlockFault
 byte_as means s byte phases.BeforeStart = Ok (start_step (is_rewind_stop s.code byte) s)
 byte_as means s byte phases.InBlock = block_step means s (reading s.code byte)
 byte_as means s byte phases.BehindEnd = end_step s (reading s.code byte)
 
 -- one byte more
-abbrev pub byte_step : {H A : Type 0} → MeaningOf H A → Walk H A → ℕ → Result (Walk H A) Fault
+abbrev pub byte_step : {H A : Type 0} → MeaningOf H A → Walk H A → ℕ → Result (Walk H A) BlockFault
 byte_step means s byte = byte_as means s byte s.phase
 
 -- some bytes more
-abbrev pub byte_steps : {H A : Type 0} → MeaningOf H A → Walk H A → List ℕ → Result (Walk H A) Fault
+abbrev pub byte_steps : {H A : Type 0} → MeaningOf H A → Walk H A → List ℕ → Result (Walk H A) BlockFault
 byte_steps means s [] = Ok s
 byte_steps means s (byte ∷ bytes) = byte_step means s byte >>= λ s. byte_steps means s bytes
 
 -- no bytes more
-abbrev pub outcome_as : {H A : Type 0} → Walk H A → Phase → Result (List A) Fault
+abbrev pub outcome_as : {H A : Type 0} → Walk H A → Phase → Result (List A) BlockFault
 outcome_as s phases.BeforeStart = Err (fault s.count causes.NoStart)
 outcome_as s phases.InBlock = Err (fault s.count causes.Truncated)
 outcome_as s phases.BehindEnd = Ok s.acts
 
-abbrev pub outcome : {H A : Type 0} → Walk H A → Result (List A) Fault
+abbrev pub outcome : {H A : Type 0} → Walk H A → Result (List A) BlockFault
 outcome s = outcome_as s s.phase

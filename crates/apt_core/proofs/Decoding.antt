@@ -1,6 +1,6 @@
 -- From the parts of the work to what a decode tells.
 use Rattle.std.proofs.Common.{◌≡◌, ◌⊎◌, inl, inr, ℕ, List, [], ◌∷◌, ◌++◌, Result, Ok, Err, ap, sym, ◌∙◌, refl, subst}
-use Rattle.apt_block.specs.declared.block.Fault.{Fault}
+use Rattle.apt_block.specs.declared.block.BlockFault.{BlockFault}
 use Rattle.apt_block.specs.declared.block.TapeCause.{TapeCause}
 use Rattle.apt_block.specs.Block.{fault}
 use Rattle.apt_control.specs.declared.Act.{Act}
@@ -23,7 +23,7 @@ use Rattle.apt_core.proofs.Readings.{AreRead, IsShort, first_not_read}
 pub bad_table_said : (table tape : List ℕ) (answer : Status) → IsBadTable table answer → IsSaid (decoding table tape) (lined answer)
 bad_table_said table tape answer bad = inl (ap lined bad.told ∙ sym (ap (said_on tape) bad.comes))
 
-run_said : (table tape : List ℕ) (machine : Machine) (run : Result (List Act) Fault) → table_of table ≡ Ok machine → control_run machine.code tape ≡ run → decoding table tape ≡ said_of_run run
+run_said : (table tape : List ℕ) (machine : Machine) (run : Result (List Act) BlockFault) → table_of table ≡ Ok machine → control_run machine.code tape ≡ run → decoding table tape ≡ said_of_run run
 run_said table tape machine run tabled e = ap (said_on tape) tabled ∙ ap said_of_run e
 
 pub bad_tape_said : (table tape : List ℕ) (machine : Machine) (at : ℕ) (cause : TapeCause) → table_of table ≡ Ok machine → control_run machine.code tape ≡ Err (fault at cause)

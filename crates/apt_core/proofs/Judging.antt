@@ -9,7 +9,7 @@ use Rattle.apt_certify.specs.Jobs.{AreLegal}
 use Rattle.apt_certify.specs.Verdicts.{IsVerdict, IsFirstBadOrNone}
 use Rattle.apt_meaning.specs.Situations.{first_situation}
 use Rattle.apt_meaning.specs.Records.{AreLegal as IsLegalEffect}
-use Rattle.apt_meaning.proofs.Stands.{stands}
+use Rattle.apt_meaning.proofs.Walks.Stands.{stands}
 use Rattle.apt_job.proofs.Walks.{legal_follows}
 use Rattle.apt_machine.specs.declared.machine.Machine.{Machine}
 use Rattle.apt_machine.specs.Tables.{table_of}

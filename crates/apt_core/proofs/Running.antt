@@ -4,9 +4,9 @@ use Rattle.std.specs.Prelude.{nat_lt, ◌≢◌}
 use Rattle.std.specs.FinMap.{get}
 use Rattle.apt_shelf.specs.Told.{Contents, Rose}
 use Rattle.apt_words.specs.declared.Refusal.{Refusal}
-use Rattle.apt_parse.specs.Programs.{Fault}
+use Rattle.apt_parse.specs.Programs.{TextFault}
 use Rattle.apt_certify.specs.declared.verdict.Verdict.{Verdict}
-use Rattle.apt_block.specs.declared.block.Fault.{Fault as TapeFault}
+use Rattle.apt_block.specs.declared.block.BlockFault.{BlockFault as TapeFault}
 use Rattle.apt_control.specs.declared.Act.{Act}
 use Rattle.apt_control.specs.Control.{control_run}
 use Rattle.apt_machine.specs.declared.machine.Machine.{Machine}
@@ -31,7 +31,7 @@ run_is ask before after told text answer works puts = record { told = told; text
 
 -- ---- usage
 
-part_is_no_usage : (machine : Machine) (r : Result (Result Compiled Refusal) Fault) → (due_part machine r).answer ≢ answers.Usage
+part_is_no_usage : (machine : Machine) (r : Result (Result Compiled Refusal) TextFault) → (due_part machine r).answer ≢ answers.Usage
 part_is_no_usage machine (Err fault) e = let f : ⊥ = cc in f
 part_is_no_usage machine (Ok (Err r)) e = let f : ⊥ = cc in f
 part_is_no_usage machine (Ok (Ok p)) e = let f : ⊥ = cc in f

@@ -1,6 +1,6 @@
 -- What a tape is decoded to: an answer, and the text that is put for it.
 use Rattle.std.specs.Prelude.{◌≡◌, ◌⊎◌, ℕ, List, length, Option, Some, None, Result, Ok, Err}
-use Rattle.apt_block.specs.declared.block.Fault.{Fault}
+use Rattle.apt_block.specs.declared.block.BlockFault.{BlockFault}
 use Rattle.apt_control.specs.declared.Act.{Act}
 use Rattle.apt_control.specs.Control.{control_run}
 use Rattle.apt_machine.specs.declared.machine.Machine.{Machine}
@@ -26,7 +26,7 @@ said_with answer None = lined answer
 said_with answer (Some text) = record { answer = answer; text = text }
 
 -- a line for each act of the tape, or its fault
-abbrev pub said_of_run : Result (List Act) Fault → Said
+abbrev pub said_of_run : Result (List Act) BlockFault → Said
 said_of_run (Err fault) = lined (answers.BadTape fault.at fault.cause)
 said_of_run (Ok acts) = record { answer = answers.Done (summaries.Decoded (length acts)); text = act_lines acts }
 

@@ -1,7 +1,7 @@
 -- What a part is compiled to.
 use Rattle.std.specs.Prelude.{ℕ, nat_lt, List, length, Option, Some, None, Result, Ok, Err, if◌then◌else◌}
 use Rattle.apt_words.specs.declared.Refusal.{Refusal}
-use Rattle.apt_parse.specs.Programs.{Fault}
+use Rattle.apt_parse.specs.Programs.{TextFault}
 use Rattle.apt_cldata.specs.declared.record.Record.{Record}
 use Rattle.apt_cldata.specs.Files.{file_of}
 use Rattle.apt_machine.specs.declared.machine.Machine.{Machine}
@@ -43,7 +43,7 @@ no_output answer = record { answer = answer; output = None }
 abbrev pub done_by : Output → Due
 done_by o = record { answer = answers.Done o.summary; output = Some o }
 
-abbrev pub due_part : Machine → Result (Result Compiled Refusal) Fault → Due
+abbrev pub due_part : Machine → Result (Result Compiled Refusal) TextFault → Due
 due_part machine (Err fault) = no_output (answers.BadPart fault.0 fault.1)
 due_part machine (Ok (Err r)) = no_output (answers.Refused r.line r.step r.case)
 due_part machine (Ok (Ok p)) = done_by (output_of machine p.records)

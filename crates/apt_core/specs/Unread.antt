@@ -8,7 +8,7 @@ use Rattle.apt_report.specs.declared.status.Status.TheVariants as answers
 use Rattle.apt_machine.specs.declared.machine.Machine.{Machine}
 use Rattle.apt_machine.specs.Tables.{table_of}
 use Rattle.apt_words.specs.declared.Refusal.{Refusal}
-use Rattle.apt_parse.specs.Programs.{Fault}
+use Rattle.apt_parse.specs.Programs.{TextFault}
 use Rattle.apt_part.specs.Compilation.{steps_of, part_of}
 use Rattle.apt_part.specs.declared.part.PartError.{PartError}
 use Rattle.apt_part.specs.declared.part.PartError.TheVariants as part_errors
@@ -34,7 +34,7 @@ told_as (part_errors.Refused r) = answers.Refused r.line r.step r.case
 told_as part_errors.NoMemory = answers.NoMemory
 
 -- the answer where a text comes to nothing
-abbrev pub ComesToNone : {A : Type 0} → Result (Result A Refusal) Fault → Status → Type 0
+abbrev pub ComesToNone : {A : Type 0} → Result (Result A Refusal) TextFault → Status → Type 0
 ComesToNone due (answers.BadPart line cause) = due ≡ Err (line, cause)
 ComesToNone due (answers.Refused line step case) = due ≡ Ok (Err (record { line = line; step = step; case = case }))
 ComesToNone due answers.NoMemory = Unit {0}

@@ -30,15 +30,15 @@ use Rattle.apt_canon.specs.Feet.{side_picked, offset_picked, parallel_point, bas
 use Rattle.apt_canon.specs.Tangents.{side_of_circle, tangent_from, tangent_two}
 use Rattle.apt_canon.specs.RoundLaws.{IsThrough, IsBeside}
 use Rattle.apt_canon.specs.Rounds.{is_too_small, is_too_large, circle, circle_of, about_through, distance_from_line, circle_through, circle_touching, circle_three, corner}
-use Rattle.apt_canon.proofs.OnBoth.{answer_on_a, answer_on_b}
-use Rattle.apt_canon.proofs.CircleAnswers.{answer_on_line, answer_on_circle, answer_further, answer_on_first, answer_on_second, answer_beyond}
-use Rattle.apt_canon.proofs.Parallels.{answer_same_dir, answer_on_line as parallel_on_line, answer_beside, answer_away}
-use Rattle.apt_canon.proofs.TangentAnswers.{from_base, from_touches, from_side, from_onwards, two_base, two_touches_first, two_touches_second, two_side_first, two_side_second, two_onwards}
-use Rattle.apt_canon.proofs.RoundsLaws.{of_centre, of_through, of_touching, three_through, in_radius, in_sides, in_touches}
+use Rattle.apt_canon.proofs.LineMeetings.OnBoth.{answer_on_a, answer_on_b}
+use Rattle.apt_canon.proofs.CircleMeetings.Answers.{answer_on_line, answer_on_circle, answer_further, answer_on_first, answer_on_second, answer_beyond}
+use Rattle.apt_canon.proofs.FootPoints.Parallels.{answer_same_dir, answer_on_line as parallel_on_line, answer_beside, answer_away}
+use Rattle.apt_canon.proofs.TangentLines.Answers.{from_base, from_touches, from_side, from_onwards, two_base, two_touches_first, two_touches_second, two_side_first, two_side_second, two_onwards}
+use Rattle.apt_canon.proofs.DefinedCircles.Laws.{of_centre, of_through, of_touching, three_through, in_radius, in_sides, in_touches}
 use Rattle.apt_defs.specs.declared.figure.Figure.{Figure}
 use Rattle.apt_defs.specs.declared.figure.Figure.TheVariants as figures
 use Rattle.apt_defs.specs.Figures.{Table, AreFigures, figure_named, defined, as_place, as_surface, as_line, as_circle, point_named, surface_named, line_named, circle_named}
-use Rattle.apt_defs.specs.Forms.{is_within, within, point_at, coordinate, length_by, height_by, point_by, formed, a_point, a_line, a_circle, both_meetings, meetings, is_further, is_preferred, picked, line_between, line_through, point_xy, point_lines, point_pick, centre_point, line_xy, line_points, line_parallel, line_perpendicular, line_at, line_tangent, line_two, circle_xyr, circle_points, circle_radius, circle_tangent, circle_by_point, circle_corner}
+use Rattle.apt_defs.specs.Forms.{is_within, within, point_at, coordinate, length_by, height_by, point_by, in_case, a_point, a_line, a_circle, both_meetings, meetings, is_further, is_preferred, picked, line_between, line_through, point_xy, point_lines, point_pick, centre_point, line_xy, line_points, line_parallel, line_perpendicular, line_at, line_tangent, line_two, circle_xyr, circle_points, circle_radius, circle_tangent, circle_by_point, circle_corner}
 use Rattle.apt_defs.specs.Drawn.{IsPointOf, IsLineOf, IsCircleOf, IsAt, IsHeight, IsWritten, IsOnBoth, IsOfLine, IsOfCircles, IsMeeting, ComesFirst, LiesPast, IsChosen, RunsTo, RunsToAt, IsParallel, IsSquare, IsParallelAt, RunsBy, IsTangentFrom, IsTangentOf, IsAbout, IsAboutAt, IsAlong, IsAboutThrough, IsInCorner, OfPoint, OfSurface, OfLine, OfCircle, IsPlaceOf, IsSurfaceOf}
 use Rattle.apt_defs.proofs.InRange.{then_in, either_in, point_in, surface_in, line_in, circle_in}
 
@@ -55,15 +55,15 @@ so : {A E : Type 0} (P Q : A → Type 0) (r : Result A E) → IfOk r P → ((a :
 so P Q (Ok a) is more = more a is
 so P Q (Err e) is more = tt
 
-point_drawn : (P : Pt → Type 0) (r : Result Pt FormFault) → ((p : Pt) → Ok p ≡ r → P p) → IfOk (formed r >>= a_point) (IsPointOf P)
+point_drawn : (P : Pt → Type 0) (r : Result Pt FormFault) → ((p : Pt) → Ok p ≡ r → P p) → IfOk (in_case r >>= a_point) (IsPointOf P)
 point_drawn P (Ok p) more = (refl, more p refl)
 point_drawn P (Err e) more = tt
 
-line_drawn : (P : Line → Type 0) (r : Result Line FormFault) → ((l : Line) → Ok l ≡ r → P l) → IfOk (formed r >>= a_line) (IsLineOf P)
+line_drawn : (P : Line → Type 0) (r : Result Line FormFault) → ((l : Line) → Ok l ≡ r → P l) → IfOk (in_case r >>= a_line) (IsLineOf P)
 line_drawn P (Ok l) more = more l refl
 line_drawn P (Err e) more = tt
 
-circle_drawn : (P : Circ → Type 0) (r : Result Circ FormFault) → ((k : Circ) → Ok k ≡ r → P k) → IfOk (formed r >>= a_circle) (IsCircleOf P)
+circle_drawn : (P : Circ → Type 0) (r : Result Circ FormFault) → ((k : Circ) → Ok k ≡ r → P k) → IfOk (in_case r >>= a_circle) (IsCircleOf P)
 circle_drawn P (Ok k) more = more k refl
 circle_drawn P (Err e) more = tt
 
@@ -158,15 +158,15 @@ none_small = omega (arith, ints)
 
 pub point_lines_drawn : (t : Table) (a b : List ℕ) → AreFigures t → IfOk (point_lines t a b) (λ f. OfLine t a (λ l. OfLine t b (λ m. IsPointOf (IsOnBoth l m) f)))
 point_lines_drawn t a b are =
-    from_line (λ l f. OfLine t b (λ m. IsPointOf (IsOnBoth l m) f)) t a (λ l. line_named t b >>= λ m. formed (line_line l (pos 0) m (pos 0)) >>= a_point) are
-    (λ l is_l. from_line (λ m. IsPointOf (IsOnBoth l m)) t b (λ m. formed (line_line l (pos 0) m (pos 0)) >>= a_point) are
+    from_line (λ l f. OfLine t b (λ m. IsPointOf (IsOnBoth l m) f)) t a (λ l. line_named t b >>= λ m. in_case (line_line l (pos 0) m (pos 0)) >>= a_point) are
+    (λ l is_l. from_line (λ m. IsPointOf (IsOnBoth l m)) t b (λ m. in_case (line_line l (pos 0) m (pos 0)) >>= a_point) are
     (λ m is_m. point_drawn (IsOnBoth l m) (line_line l (pos 0) m (pos 0)) (λ p e. record {
       first = answer_on_a (Ok p) l m (pos 0) (pos 0) is_l is_m none_small none_small e;
       second = answer_on_b (Ok p) l m (pos 0) (pos 0) is_l is_m none_small none_small e;
     })))
 
 -- both points in which curves meet
-formed_is : (P : Pt → Type 0) (r : Result Pt FormFault) → ((p : Pt) → Ok p ≡ r → P p) → IfOk (formed r) P
+formed_is : (P : Pt → Type 0) (r : Result Pt FormFault) → ((p : Pt) → Ok p ≡ r → P p) → IfOk (in_case r) P
 formed_is P (Ok p) more = more p refl
 formed_is P (Err e) more = tt
 
@@ -174,8 +174,8 @@ both_are : (P : ℤ → Pt → Type 0) (meeting : ℤ → Result Pt FormFault) �
     → IfOk (both_meetings meeting) (λ m. P (pos 1) m.0 × P (negsuc 0) m.1)
 both_are P meeting each_is =
     let Q : Pt × Pt → Type 0 = λ m. P (pos 1) m.0 × P (negsuc 0) m.1 in
-    then_in (P (pos 1)) Q (formed (meeting (pos 1))) (λ p. formed (meeting (negsuc 0)) >>= λ q. Ok (p, q)) (formed_is (P (pos 1)) (meeting (pos 1)) (each_is (pos 1) (inl refl)))
-    (λ p is_p. then_in (P (negsuc 0)) Q (formed (meeting (negsuc 0))) (λ q. Ok (p, q)) (formed_is (P (negsuc 0)) (meeting (negsuc 0)) (each_is (negsuc 0) (inr refl)))
+    then_in (P (pos 1)) Q (in_case (meeting (pos 1))) (λ p. in_case (meeting (negsuc 0)) >>= λ q. Ok (p, q)) (formed_is (P (pos 1)) (meeting (pos 1)) (each_is (pos 1) (inl refl)))
+    (λ p is_p. then_in (P (negsuc 0)) Q (in_case (meeting (negsuc 0))) (λ q. Ok (p, q)) (formed_is (P (negsuc 0)) (meeting (negsuc 0)) (each_is (negsuc 0) (inr refl)))
     (λ q is_q. (is_p, is_q)))
 
 round : (c : Circ) → IsCircle c → IsRound c
@@ -359,8 +359,8 @@ parallel_is m pick d l is small e = record {
 pub line_at_drawn : (units : Units) (t : Table) (a : List ℕ) (pick : Pick) (v : ℤ) → AreFigures t
     → IfOk (line_at units t a pick v) (λ f. OfLine t a (λ m. IsLineOf (IsParallelAt m pick (grid_units units v)) f))
 line_at_drawn units t a pick v are =
-    from_line (λ m. IsLineOf (IsParallelAt m pick (grid_units units v))) t a (λ m. length_by units v >>= λ d. formed (parallel_at m pick d) >>= a_line) are
-    (λ m is. then_in (IsNumber units v (10 ^ 8)) (IsLineOf (IsParallelAt m pick (grid_units units v))) (length_by units v) (λ d. formed (parallel_at m pick d) >>= a_line) (length_is units v)
+    from_line (λ m. IsLineOf (IsParallelAt m pick (grid_units units v))) t a (λ m. length_by units v >>= λ d. in_case (parallel_at m pick d) >>= a_line) are
+    (λ m is. then_in (IsNumber units v (10 ^ 8)) (IsLineOf (IsParallelAt m pick (grid_units units v))) (length_by units v) (λ d. in_case (parallel_at m pick d) >>= a_line) (length_is units v)
     (λ d n. line_drawn (IsParallelAt m pick (grid_units units v)) (parallel_at m pick d) (λ l e. rw (← n.is) (parallel_is m pick d l is n.small e))))
 
 -- the circle is on the right of a line that passes it on the left
@@ -377,8 +377,8 @@ runs_by false c l near = rw (by_right c.r) at near
 pub line_tangent_drawn : (t : Table) (a : List ℕ) (left : Bool) (b : List ℕ) → AreFigures t
     → IfOk (line_tangent t a left b) (λ f. OfPoint t a (λ p. OfCircle t b (λ c. IsLineOf (IsTangentFrom p left c) f)))
 line_tangent_drawn t a left b are =
-    from_point (λ p f. OfCircle t b (λ c. IsLineOf (IsTangentFrom p left c) f)) t a (λ p. circle_named t b >>= λ c. formed (tangent_from p left c) >>= a_line) are
-    (λ p is_p. from_circle (λ c. IsLineOf (IsTangentFrom p left c)) t b (λ c. formed (tangent_from p left c) >>= a_line) are
+    from_point (λ p f. OfCircle t b (λ c. IsLineOf (IsTangentFrom p left c) f)) t a (λ p. circle_named t b >>= λ c. in_case (tangent_from p left c) >>= a_line) are
+    (λ p is_p. from_circle (λ c. IsLineOf (IsTangentFrom p left c)) t b (λ c. in_case (tangent_from p left c) >>= a_line) are
     (λ c is_c. line_drawn (IsTangentFrom p left c) (tangent_from p left c) (λ l e. record {
       base = from_base (Ok l) p left c e;
       tangent = record { touches = runs_by left c l (from_touches (Ok l) p left c is_p is_c e); side = from_side (Ok l) p left c is_p is_c e };
@@ -388,8 +388,8 @@ line_tangent_drawn t a left b are =
 pub line_two_drawn : (t : Table) (left_c : Bool) (a : List ℕ) (left_d : Bool) (b : List ℕ) → AreFigures t
     → IfOk (line_two t left_c a left_d b) (λ f. OfCircle t a (λ c. OfCircle t b (λ d. IsLineOf (IsTangentOf c left_c d left_d) f)))
 line_two_drawn t left_c a left_d b are =
-    from_circle (λ c f. OfCircle t b (λ d. IsLineOf (IsTangentOf c left_c d left_d) f)) t a (λ c. circle_named t b >>= λ d. formed (tangent_two c left_c d left_d) >>= a_line) are
-    (λ c is_c. from_circle (λ d. IsLineOf (IsTangentOf c left_c d left_d)) t b (λ d. formed (tangent_two c left_c d left_d) >>= a_line) are
+    from_circle (λ c f. OfCircle t b (λ d. IsLineOf (IsTangentOf c left_c d left_d) f)) t a (λ c. circle_named t b >>= λ d. in_case (tangent_two c left_c d left_d) >>= a_line) are
+    (λ c is_c. from_circle (λ d. IsLineOf (IsTangentOf c left_c d left_d)) t b (λ d. in_case (tangent_two c left_c d left_d) >>= a_line) are
     (λ d is_d. line_drawn (IsTangentOf c left_c d left_d) (tangent_two c left_c d left_d) (λ l e. record {
       base = two_base (Ok l) c left_c d left_d is_c is_d e;
       first = record { touches = runs_by left_c c l (two_touches_first (Ok l) c left_c d left_d is_c is_d e); side = two_side_first (Ok l) c left_c d left_d is_c is_d e };
@@ -411,8 +411,8 @@ about_is c r k e =
 
 pub circle_xyr_drawn : (units : Units) (x y r : ℤ) → IfOk (circle_xyr units x y r) (IsCircleOf (IsAboutAt units x y r))
 circle_xyr_drawn units x y r =
-    then_in (IsAt units x y) (IsCircleOf (IsAboutAt units x y r)) (point_by units x y) (λ c. length_by units r >>= λ g. formed (circle_of c g) >>= a_circle) (point_by_is units x y)
-    (λ c at. then_in (IsNumber units r (10 ^ 8)) (IsCircleOf (IsAboutAt units x y r)) (length_by units r) (λ g. formed (circle_of c g) >>= a_circle) (length_is units r)
+    then_in (IsAt units x y) (IsCircleOf (IsAboutAt units x y r)) (point_by units x y) (λ c. length_by units r >>= λ g. in_case (circle_of c g) >>= a_circle) (point_by_is units x y)
+    (λ c at. then_in (IsNumber units r (10 ^ 8)) (IsCircleOf (IsAboutAt units x y r)) (length_by units r) (λ g. in_case (circle_of c g) >>= a_circle) (length_is units r)
     (λ g n. circle_drawn (IsAboutAt units x y r) (circle_of c g) (λ k e.
     let is = about_is c g k e in
     record { centre = rw is.centre at; radius = is.radius ∙ n.is })))
@@ -420,23 +420,23 @@ circle_xyr_drawn units x y r =
 pub circle_radius_drawn : (units : Units) (t : Table) (a : List ℕ) (r : ℤ) → AreFigures t
     → IfOk (circle_radius units t a r) (λ f. OfPoint t a (λ p. IsCircleOf (IsAbout p (grid_units units r)) f))
 circle_radius_drawn units t a r are =
-    from_point (λ p. IsCircleOf (IsAbout p (grid_units units r))) t a (λ p. length_by units r >>= λ g. formed (circle_of p g) >>= a_circle) are
-    (λ p is_p. then_in (IsNumber units r (10 ^ 8)) (IsCircleOf (IsAbout p (grid_units units r))) (length_by units r) (λ g. formed (circle_of p g) >>= a_circle) (length_is units r)
+    from_point (λ p. IsCircleOf (IsAbout p (grid_units units r))) t a (λ p. length_by units r >>= λ g. in_case (circle_of p g) >>= a_circle) are
+    (λ p is_p. then_in (IsNumber units r (10 ^ 8)) (IsCircleOf (IsAbout p (grid_units units r))) (length_by units r) (λ g. in_case (circle_of p g) >>= a_circle) (length_is units r)
     (λ g n. circle_drawn (IsAbout p (grid_units units r)) (circle_of p g) (λ k e. rw (← n.is) (about_is p g k e))))
 
 pub circle_points_drawn : (t : Table) (a b c : List ℕ) → AreFigures t
     → IfOk (circle_points t a b c) (λ f. OfPoint t a (λ p. OfPoint t b (λ q. OfPoint t c (λ r. IsCircleOf (IsThrough p q r) f))))
 circle_points_drawn t a b c are =
     from_point (λ p f. OfPoint t b (λ q. OfPoint t c (λ r. IsCircleOf (IsThrough p q r) f))) t a
-    (λ p. point_named t b >>= λ q. point_named t c >>= λ r. formed (circle_three p q r) >>= a_circle) are
-    (λ p is_p. from_point (λ q f. OfPoint t c (λ r. IsCircleOf (IsThrough p q r) f)) t b (λ q. point_named t c >>= λ r. formed (circle_three p q r) >>= a_circle) are
-    (λ q is_q. from_point (λ r. IsCircleOf (IsThrough p q r)) t c (λ r. formed (circle_three p q r) >>= a_circle) are
+    (λ p. point_named t b >>= λ q. point_named t c >>= λ r. in_case (circle_three p q r) >>= a_circle) are
+    (λ p is_p. from_point (λ q f. OfPoint t c (λ r. IsCircleOf (IsThrough p q r) f)) t b (λ q. point_named t c >>= λ r. in_case (circle_three p q r) >>= a_circle) are
+    (λ q is_q. from_point (λ r. IsCircleOf (IsThrough p q r)) t c (λ r. in_case (circle_three p q r) >>= a_circle) are
     (λ r is_r. circle_drawn (IsThrough p q r) (circle_three p q r) (λ k e. three_through (Ok k) p q r is_p e))))
 
 pub circle_tangent_drawn : (t : Table) (a b : List ℕ) → AreFigures t → IfOk (circle_tangent t a b) (λ f. OfPoint t a (λ p. OfLine t b (λ l. IsCircleOf (IsAlong p l) f)))
 circle_tangent_drawn t a b are =
-    from_point (λ p f. OfLine t b (λ l. IsCircleOf (IsAlong p l) f)) t a (λ p. line_named t b >>= λ l. formed (circle_touching p l) >>= a_circle) are
-    (λ p is_p. from_line (λ l. IsCircleOf (IsAlong p l)) t b (λ l. formed (circle_touching p l) >>= a_circle) are
+    from_point (λ p f. OfLine t b (λ l. IsCircleOf (IsAlong p l) f)) t a (λ p. line_named t b >>= λ l. in_case (circle_touching p l) >>= a_circle) are
+    (λ p is_p. from_line (λ l. IsCircleOf (IsAlong p l)) t b (λ l. in_case (circle_touching p l) >>= a_circle) are
     (λ l is_l. circle_drawn (IsAlong p l) (circle_touching p l) (λ k e. record {
       centre = of_centre (Ok k) p (distance_from_line p l) e;
       touches = of_touching (Ok k) p l is_p is_l e;
@@ -445,8 +445,8 @@ circle_tangent_drawn t a b are =
 pub circle_by_point_drawn : (t : Table) (a b : List ℕ) → AreFigures t
     → IfOk (circle_by_point t a b) (λ f. OfPoint t a (λ p. OfPoint t b (λ q. IsCircleOf (IsAboutThrough p q) f)))
 circle_by_point_drawn t a b are =
-    from_point (λ p f. OfPoint t b (λ q. IsCircleOf (IsAboutThrough p q) f)) t a (λ p. point_named t b >>= λ q. formed (circle_through p q) >>= a_circle) are
-    (λ p is_p. from_point (λ q. IsCircleOf (IsAboutThrough p q)) t b (λ q. formed (circle_through p q) >>= a_circle) are
+    from_point (λ p f. OfPoint t b (λ q. IsCircleOf (IsAboutThrough p q) f)) t a (λ p. point_named t b >>= λ q. in_case (circle_through p q) >>= a_circle) are
+    (λ p is_p. from_point (λ q. IsCircleOf (IsAboutThrough p q)) t b (λ q. in_case (circle_through p q) >>= a_circle) are
     (λ q is_q. circle_drawn (IsAboutThrough p q) (circle_through p q) (λ k e. record {
       centre = of_centre (Ok k) p (about_through p q).r e;
       through = of_through (Ok k) p q is_p is_q e;
@@ -463,7 +463,7 @@ pub circle_corner_drawn : (units : Units) (t : Table) (pick_a : Pick) (a : List 
     → IfOk (circle_corner units t pick_a a pick_b b r) (λ f. OfLine t a (λ l. OfLine t b (λ m. IsCircleOf (IsInCorner l pick_a m pick_b (grid_units units r)) f)))
 circle_corner_drawn units t pick_a a pick_b b r are =
     let d = grid_units units r in
-    from_line (λ l f. OfLine t b (λ m. IsCircleOf (IsInCorner l pick_a m pick_b d) f)) t a (λ l. line_named t b >>= λ m. length_by units r >>= λ g. formed (corner l pick_a m pick_b g) >>= a_circle) are
-    (λ l is_l. from_line (λ m. IsCircleOf (IsInCorner l pick_a m pick_b d)) t b (λ m. length_by units r >>= λ g. formed (corner l pick_a m pick_b g) >>= a_circle) are
-    (λ m is_m. then_in (IsNumber units r (10 ^ 8)) (IsCircleOf (IsInCorner l pick_a m pick_b d)) (length_by units r) (λ g. formed (corner l pick_a m pick_b g) >>= a_circle) (length_is units r)
+    from_line (λ l f. OfLine t b (λ m. IsCircleOf (IsInCorner l pick_a m pick_b d) f)) t a (λ l. line_named t b >>= λ m. length_by units r >>= λ g. in_case (corner l pick_a m pick_b g) >>= a_circle) are
+    (λ l is_l. from_line (λ m. IsCircleOf (IsInCorner l pick_a m pick_b d)) t b (λ m. length_by units r >>= λ g. in_case (corner l pick_a m pick_b g) >>= a_circle) are
+    (λ m is_m. then_in (IsNumber units r (10 ^ 8)) (IsCircleOf (IsInCorner l pick_a m pick_b d)) (length_by units r) (λ g. in_case (corner l pick_a m pick_b g) >>= a_circle) (length_is units r)
     (λ g n. circle_drawn (IsInCorner l pick_a m pick_b d) (corner l pick_a m pick_b g) (λ k e. rw (← n.is) (in_corner l pick_a m pick_b g k is_l is_m n.small e)))))

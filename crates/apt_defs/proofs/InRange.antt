@@ -32,11 +32,11 @@ use Rattle.apt_canon.specs.Circles.{reaches, line_circle_point, line_circle, are
 use Rattle.apt_canon.specs.Feet.{side_picked, offset_picked, parallel_point, based_on, parallel_at}
 use Rattle.apt_canon.specs.Tangents.{tangent_from, tangent_two}
 use Rattle.apt_canon.specs.Rounds.{is_too_small, is_too_large, about_through, distance_from_line, circle, is_far, centre_way, centre_divisor, circle_of, circle_through, circle_touching, circle_about, circle_three, corner}
-use Rattle.apt_canon.proofs.TangentAnswers.{from_range, two_range}
+use Rattle.apt_canon.proofs.TangentLines.Answers.{from_range, two_range}
 use Rattle.apt_defs.specs.declared.figure.Figure.{Figure}
 use Rattle.apt_defs.specs.declared.figure.Figure.TheVariants as figures
 use Rattle.apt_defs.specs.Figures.{Table, IsPointAtHeight, IsFigure, AreFigures, figure_named, defined, as_place, as_surface, as_line, as_circle, place_named, point_named, surface_named, line_named, circle_named}
-use Rattle.apt_defs.specs.Forms.{is_within, within, coordinate, length_by, height_by, point_by, point_at, formed, a_point, a_line, a_circle, both_meetings, meetings, is_preferred, picked, line_between, line_through, point_xy, point_lines, point_pick, centre_point, line_xy, line_points, line_parallel, line_perpendicular, line_at, line_tangent, line_two, circle_xyr, circle_points, circle_radius, circle_tangent, circle_by_point, circle_corner}
+use Rattle.apt_defs.specs.Forms.{is_within, within, coordinate, length_by, height_by, point_by, point_at, in_case, a_point, a_line, a_circle, both_meetings, meetings, is_preferred, picked, line_between, line_through, point_xy, point_lines, point_pick, centre_point, line_xy, line_points, line_parallel, line_perpendicular, line_at, line_tangent, line_two, circle_xyr, circle_points, circle_radius, circle_tangent, circle_by_point, circle_corner}
 use Rattle.apt_defs.specs.Definitions.{figure_of}
 use Rattle.apt_defs.proofs.Ends.{displacement_in_range}
 use Rattle.apt_defs.proofs.Tables.{looked_up}
@@ -55,7 +55,7 @@ any_in : {A B E : Type 0} (Q : B → Type 0) (r : Result A E) (f : A → Result 
 any_in Q (Ok a) f more = more a
 any_in Q (Err e) f more = tt
 
-formed_in : {A : Type 0} (P : A → Type 0) (r : Result A FormFault) → IfOk r P → IfOk (formed r) P
+formed_in : {A : Type 0} (P : A → Type 0) (r : Result A FormFault) → IfOk r P → IfOk (in_case r) P
 formed_in P (Ok a) is = is
 formed_in P (Err e) is = tt
 
@@ -193,8 +193,8 @@ a_point_in p is = record { at = is; z = omega (arith, ints) }
 
 both_in : (meeting : ℤ → Result Pt FormFault) → ((sigma : ℤ) → IfOk (meeting sigma) IsPoint) → IfOk (both_meetings meeting) (λ m. IsPoint m.0 × IsPoint m.1)
 both_in meeting is =
-    then_in IsPoint (λ m. IsPoint m.0 × IsPoint m.1) (formed (meeting (pos 1))) (λ p. formed (meeting (negsuc 0)) >>= λ q. Ok (p, q)) (formed_in IsPoint (meeting (pos 1)) (is (pos 1)))
-    (λ p is_p. then_in IsPoint (λ m. IsPoint m.0 × IsPoint m.1) (formed (meeting (negsuc 0))) (λ q. Ok (p, q)) (formed_in IsPoint (meeting (negsuc 0)) (is (negsuc 0))) (λ q is_q. (is_p, is_q)))
+    then_in IsPoint (λ m. IsPoint m.0 × IsPoint m.1) (in_case (meeting (pos 1))) (λ p. in_case (meeting (negsuc 0)) >>= λ q. Ok (p, q)) (formed_in IsPoint (meeting (pos 1)) (is (pos 1)))
+    (λ p is_p. then_in IsPoint (λ m. IsPoint m.0 × IsPoint m.1) (in_case (meeting (negsuc 0))) (λ q. Ok (p, q)) (formed_in IsPoint (meeting (negsuc 0)) (is (negsuc 0))) (λ q is_q. (is_p, is_q)))
 
 meetings_in : (s r : Surface) → IfOk (meetings s r) (λ m. IsPoint m.0 × IsPoint m.1)
 meetings_in (surfaces.Line l) (surfaces.Line m) = tt
@@ -223,11 +223,11 @@ turned_length d = rw (size_neg d.dy) (omega arith)
 turned_in : (d : Dir) → IsDir d → IsDir (perp d)
 turned_in d is = record { dx = rw (size_neg d.dy) is.dy; dy = is.dx; length = rw (turned_length d) is.length }
 
-line_formed : (r : Result Line FormFault) → IfOk r IsLine → IfOk (formed r >>= a_line) IsFigure
+line_formed : (r : Result Line FormFault) → IfOk r IsLine → IfOk (in_case r >>= a_line) IsFigure
 line_formed (Ok l) is = is
 line_formed (Err e) is = tt
 
-circle_formed : (r : Result Circ FormFault) → IfOk r IsCircle → IfOk (formed r >>= a_circle) IsFigure
+circle_formed : (r : Result Circ FormFault) → IfOk r IsCircle → IfOk (in_case r >>= a_circle) IsFigure
 circle_formed (Ok c) is = is
 circle_formed (Err e) is = tt
 
@@ -240,9 +240,9 @@ point_xy_in units x y z =
 
 point_lines_in : (t : Table) (a b : List ℕ) → IfOk (point_lines t a b) IsFigure
 point_lines_in t a b =
-    any_in IsFigure (line_named t a) (λ l. line_named t b >>= λ m. formed (line_line l (pos 0) m (pos 0)) >>= a_point)
-    (λ l. any_in IsFigure (line_named t b) (λ m. formed (line_line l (pos 0) m (pos 0)) >>= a_point)
-    (λ m. then_in IsPoint IsFigure (formed (line_line l (pos 0) m (pos 0))) a_point (formed_in IsPoint (line_line l (pos 0) m (pos 0)) (line_line_in l (pos 0) m (pos 0))) a_point_in))
+    any_in IsFigure (line_named t a) (λ l. line_named t b >>= λ m. in_case (line_line l (pos 0) m (pos 0)) >>= a_point)
+    (λ l. any_in IsFigure (line_named t b) (λ m. in_case (line_line l (pos 0) m (pos 0)) >>= a_point)
+    (λ m. then_in IsPoint IsFigure (in_case (line_line l (pos 0) m (pos 0))) a_point (formed_in IsPoint (line_line l (pos 0) m (pos 0)) (line_line_in l (pos 0) m (pos 0))) a_point_in))
 
 point_pick_in : (t : Table) (pick : Pick) (a b : List ℕ) → IfOk (point_pick t pick a b) IsFigure
 point_pick_in t pick a b =
@@ -275,52 +275,52 @@ line_perpendicular_in t p l are =
 
 line_at_in : (units : Units) (t : Table) (l : List ℕ) (pick : Pick) (v : ℤ) → AreFigures t → IfOk (line_at units t l pick v) IsFigure
 line_at_in units t l pick v are =
-    then_in IsLine IsFigure (line_named t l) (λ m. length_by units v >>= λ d. formed (parallel_at m pick d) >>= a_line) (line_in t l are)
-    (λ m is. any_in IsFigure (length_by units v) (λ d. formed (parallel_at m pick d) >>= a_line) (λ d. line_formed (parallel_at m pick d) (parallel_in m pick d is)))
+    then_in IsLine IsFigure (line_named t l) (λ m. length_by units v >>= λ d. in_case (parallel_at m pick d) >>= a_line) (line_in t l are)
+    (λ m is. any_in IsFigure (length_by units v) (λ d. in_case (parallel_at m pick d) >>= a_line) (λ d. line_formed (parallel_at m pick d) (parallel_in m pick d is)))
 
 line_tangent_in : (t : Table) (p : List ℕ) (left : Bool) (c : List ℕ) → AreFigures t → IfOk (line_tangent t p left c) IsFigure
 line_tangent_in t p left c are =
-    then_in IsPoint IsFigure (point_named t p) (λ a. circle_named t c >>= λ k. formed (tangent_from a left k) >>= a_line) (point_in t p are)
-    (λ a is_a. then_in IsCircle IsFigure (circle_named t c) (λ k. formed (tangent_from a left k) >>= a_line) (circle_in t c are)
+    then_in IsPoint IsFigure (point_named t p) (λ a. circle_named t c >>= λ k. in_case (tangent_from a left k) >>= a_line) (point_in t p are)
+    (λ a is_a. then_in IsCircle IsFigure (circle_named t c) (λ k. in_case (tangent_from a left k) >>= a_line) (circle_in t c are)
     (λ k is. line_formed (tangent_from a left k) (tangent_from_in a left k is_a is)))
 
 line_two_in : (t : Table) (left_c : Bool) (c : List ℕ) (left_d : Bool) (d : List ℕ) → AreFigures t → IfOk (line_two t left_c c left_d d) IsFigure
 line_two_in t left_c c left_d d are =
-    then_in IsCircle IsFigure (circle_named t c) (λ j. circle_named t d >>= λ k. formed (tangent_two j left_c k left_d) >>= a_line) (circle_in t c are)
-    (λ j is_j. then_in IsCircle IsFigure (circle_named t d) (λ k. formed (tangent_two j left_c k left_d) >>= a_line) (circle_in t d are)
+    then_in IsCircle IsFigure (circle_named t c) (λ j. circle_named t d >>= λ k. in_case (tangent_two j left_c k left_d) >>= a_line) (circle_in t c are)
+    (λ j is_j. then_in IsCircle IsFigure (circle_named t d) (λ k. in_case (tangent_two j left_c k left_d) >>= a_line) (circle_in t d are)
     (λ k is_k. line_formed (tangent_two j left_c k left_d) (tangent_two_in j left_c k left_d is_j is_k)))
 
 circle_xyr_in : (units : Units) (x y r : ℤ) → IfOk (circle_xyr units x y r) IsFigure
 circle_xyr_in units x y r =
-    any_in IsFigure (point_by units x y) (λ c. length_by units r >>= λ g. formed (circle_of c g) >>= a_circle)
-    (λ c. any_in IsFigure (length_by units r) (λ g. formed (circle_of c g) >>= a_circle) (λ g. circle_formed (circle_of c g) (circle_of_in c g)))
+    any_in IsFigure (point_by units x y) (λ c. length_by units r >>= λ g. in_case (circle_of c g) >>= a_circle)
+    (λ c. any_in IsFigure (length_by units r) (λ g. in_case (circle_of c g) >>= a_circle) (λ g. circle_formed (circle_of c g) (circle_of_in c g)))
 
 circle_points_in : (t : Table) (a b c : List ℕ) → IfOk (circle_points t a b c) IsFigure
 circle_points_in t a b c =
-    any_in IsFigure (point_named t a) (λ p. point_named t b >>= λ q. point_named t c >>= λ r. formed (circle_three p q r) >>= a_circle)
-    (λ p. any_in IsFigure (point_named t b) (λ q. point_named t c >>= λ r. formed (circle_three p q r) >>= a_circle)
-    (λ q. any_in IsFigure (point_named t c) (λ r. formed (circle_three p q r) >>= a_circle) (λ r. circle_formed (circle_three p q r) (circle_three_in p q r))))
+    any_in IsFigure (point_named t a) (λ p. point_named t b >>= λ q. point_named t c >>= λ r. in_case (circle_three p q r) >>= a_circle)
+    (λ p. any_in IsFigure (point_named t b) (λ q. point_named t c >>= λ r. in_case (circle_three p q r) >>= a_circle)
+    (λ q. any_in IsFigure (point_named t c) (λ r. in_case (circle_three p q r) >>= a_circle) (λ r. circle_formed (circle_three p q r) (circle_three_in p q r))))
 
 circle_radius_in : (units : Units) (t : Table) (p : List ℕ) (r : ℤ) → IfOk (circle_radius units t p r) IsFigure
 circle_radius_in units t p r =
-    any_in IsFigure (point_named t p) (λ c. length_by units r >>= λ g. formed (circle_of c g) >>= a_circle)
-    (λ c. any_in IsFigure (length_by units r) (λ g. formed (circle_of c g) >>= a_circle) (λ g. circle_formed (circle_of c g) (circle_of_in c g)))
+    any_in IsFigure (point_named t p) (λ c. length_by units r >>= λ g. in_case (circle_of c g) >>= a_circle)
+    (λ c. any_in IsFigure (length_by units r) (λ g. in_case (circle_of c g) >>= a_circle) (λ g. circle_formed (circle_of c g) (circle_of_in c g)))
 
 circle_tangent_in : (t : Table) (p l : List ℕ) → IfOk (circle_tangent t p l) IsFigure
 circle_tangent_in t p l =
-    any_in IsFigure (point_named t p) (λ c. line_named t l >>= λ m. formed (circle_touching c m) >>= a_circle)
-    (λ c. any_in IsFigure (line_named t l) (λ m. formed (circle_touching c m) >>= a_circle) (λ m. circle_formed (circle_touching c m) (circle_of_in c (distance_from_line c m))))
+    any_in IsFigure (point_named t p) (λ c. line_named t l >>= λ m. in_case (circle_touching c m) >>= a_circle)
+    (λ c. any_in IsFigure (line_named t l) (λ m. in_case (circle_touching c m) >>= a_circle) (λ m. circle_formed (circle_touching c m) (circle_of_in c (distance_from_line c m))))
 
 circle_by_point_in : (t : Table) (p q : List ℕ) → IfOk (circle_by_point t p q) IsFigure
 circle_by_point_in t p q =
-    any_in IsFigure (point_named t p) (λ c. point_named t q >>= λ a. formed (circle_through c a) >>= a_circle)
-    (λ c. any_in IsFigure (point_named t q) (λ a. formed (circle_through c a) >>= a_circle) (λ a. circle_formed (circle_through c a) (circle_of_in c (about_through c a).r)))
+    any_in IsFigure (point_named t p) (λ c. point_named t q >>= λ a. in_case (circle_through c a) >>= a_circle)
+    (λ c. any_in IsFigure (point_named t q) (λ a. in_case (circle_through c a) >>= a_circle) (λ a. circle_formed (circle_through c a) (circle_of_in c (about_through c a).r)))
 
 circle_corner_in : (units : Units) (t : Table) (pick_a : Pick) (a : List ℕ) (pick_b : Pick) (b : List ℕ) (r : ℤ) → IfOk (circle_corner units t pick_a a pick_b b r) IsFigure
 circle_corner_in units t pick_a a pick_b b r =
-    any_in IsFigure (line_named t a) (λ l. line_named t b >>= λ m. length_by units r >>= λ g. formed (corner l pick_a m pick_b g) >>= a_circle)
-    (λ l. any_in IsFigure (line_named t b) (λ m. length_by units r >>= λ g. formed (corner l pick_a m pick_b g) >>= a_circle)
-    (λ m. any_in IsFigure (length_by units r) (λ g. formed (corner l pick_a m pick_b g) >>= a_circle) (λ g. circle_formed (corner l pick_a m pick_b g) (corner_in l pick_a m pick_b g))))
+    any_in IsFigure (line_named t a) (λ l. line_named t b >>= λ m. length_by units r >>= λ g. in_case (corner l pick_a m pick_b g) >>= a_circle)
+    (λ l. any_in IsFigure (line_named t b) (λ m. length_by units r >>= λ g. in_case (corner l pick_a m pick_b g) >>= a_circle)
+    (λ m. any_in IsFigure (length_by units r) (λ g. in_case (corner l pick_a m pick_b g) >>= a_circle) (λ g. circle_formed (corner l pick_a m pick_b g) (corner_in l pick_a m pick_b g))))
 
 -- what a form gives is in range, whatever it is
 pub figure_in : (units : Units) (t : Table) (form : Form) → AreFigures t → IfOk (figure_of units t form) IsFigure

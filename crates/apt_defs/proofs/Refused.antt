@@ -19,7 +19,7 @@ use Rattle.apt_canon.specs.Rounds.{circle_of, circle_through, circle_touching, c
 use Rattle.apt_defs.specs.declared.figure.Figure.{Figure}
 use Rattle.apt_defs.specs.declared.figure.Figure.TheVariants as figures
 use Rattle.apt_defs.specs.Figures.{Table, figure_named, defined, as_place, as_surface, as_line, as_circle, point_named, surface_named, line_named, circle_named}
-use Rattle.apt_defs.specs.Forms.{is_within, within, coordinate, length_by, height_by, point_at, point_by, formed, a_point, a_line, a_circle, meetings, picked, line_through, point_xy, point_lines, point_pick, centre_point, line_xy, line_points, line_parallel, line_perpendicular, line_at, line_tangent, line_two, circle_xyr, circle_points, circle_radius, circle_tangent, circle_by_point, circle_corner}
+use Rattle.apt_defs.specs.Forms.{is_within, within, coordinate, length_by, height_by, point_at, point_by, in_case, a_point, a_line, a_circle, meetings, picked, line_through, point_xy, point_lines, point_pick, centre_point, line_xy, line_points, line_parallel, line_perpendicular, line_at, line_tangent, line_two, circle_xyr, circle_points, circle_radius, circle_tangent, circle_by_point, circle_corner}
 use Rattle.apt_defs.specs.Names as names
 use Rattle.apt_defs.specs.Names.{APoint, ALine, ACircle, ASurface, kind_case, name_case, first_case, is_far, is_too_long, is_too_high}
 
@@ -132,7 +132,7 @@ first_none (Some c) rest h = absurd cc
 
 pub point_lines_names : (t : Table) (a b : List ℕ) (c : Case) → first_case t (names.a_line a ∷ names.a_line b ∷ []) ≡ Some c → point_lines t a b ≡ Err c
 point_lines_names t a b c h =
-    two_names (line_named t a) (line_named t b) (λ l m. formed (line_line l (pos 0) m (pos 0)) >>= a_point) (name_case t (names.a_line a)) (name_case t (names.a_line b)) c (line_case t a) (line_case t b) h
+    two_names (line_named t a) (line_named t b) (λ l m. in_case (line_line l (pos 0) m (pos 0)) >>= a_point) (name_case t (names.a_line a)) (name_case t (names.a_line b)) c (line_case t a) (line_case t b) h
 
 pub point_pick_names : (t : Table) (pick : Pick) (a b : List ℕ) (c : Case) → first_case t (names.a_surface a ∷ names.a_surface b ∷ []) ≡ Some c → point_pick t pick a b ≡ Err c
 point_pick_names t pick a b c h =
@@ -155,37 +155,37 @@ line_perpendicular_names t a b c h =
 
 pub line_at_names : (units : Units) (t : Table) (a : List ℕ) (pick : Pick) (v : ℤ) (c : Case) → first_case t (names.a_line a ∷ []) ≡ Some c → line_at units t a pick v ≡ Err c
 line_at_names units t a pick v c h =
-    one_name (line_named t a) (λ m. length_by units v >>= λ d. formed (parallel_at m pick d) >>= a_line) (name_case t (names.a_line a)) c (line_case t a) h
+    one_name (line_named t a) (λ m. length_by units v >>= λ d. in_case (parallel_at m pick d) >>= a_line) (name_case t (names.a_line a)) c (line_case t a) h
 
 pub line_tangent_names : (t : Table) (a : List ℕ) (left : Bool) (b : List ℕ) (c : Case) → first_case t (names.a_point a ∷ names.a_circle b ∷ []) ≡ Some c → line_tangent t a left b ≡ Err c
 line_tangent_names t a left b c h =
-    two_names (point_named t a) (circle_named t b) (λ p k. formed (tangent_from p left k) >>= a_line) (name_case t (names.a_point a)) (name_case t (names.a_circle b)) c (point_case t a) (circle_case t b) h
+    two_names (point_named t a) (circle_named t b) (λ p k. in_case (tangent_from p left k) >>= a_line) (name_case t (names.a_point a)) (name_case t (names.a_circle b)) c (point_case t a) (circle_case t b) h
 
 pub line_two_names : (t : Table) (left_a : Bool) (a : List ℕ) (left_b : Bool) (b : List ℕ) (c : Case) → first_case t (names.a_circle a ∷ names.a_circle b ∷ []) ≡ Some c → line_two t left_a a left_b b ≡ Err c
 line_two_names t left_a a left_b b c h =
-    two_names (circle_named t a) (circle_named t b) (λ j k. formed (tangent_two j left_a k left_b) >>= a_line) (name_case t (names.a_circle a)) (name_case t (names.a_circle b)) c (circle_case t a) (circle_case t b) h
+    two_names (circle_named t a) (circle_named t b) (λ j k. in_case (tangent_two j left_a k left_b) >>= a_line) (name_case t (names.a_circle a)) (name_case t (names.a_circle b)) c (circle_case t a) (circle_case t b) h
 
 pub circle_points_names : (t : Table) (a b d : List ℕ) (c : Case) → first_case t (names.a_point a ∷ names.a_point b ∷ names.a_point d ∷ []) ≡ Some c → circle_points t a b d ≡ Err c
 circle_points_names t a b d c h =
-    three_names (point_named t a) (point_named t b) (point_named t d) (λ p q r. formed (circle_three p q r) >>= a_circle)
+    three_names (point_named t a) (point_named t b) (point_named t d) (λ p q r. in_case (circle_three p q r) >>= a_circle)
     (name_case t (names.a_point a)) (name_case t (names.a_point b)) (name_case t (names.a_point d)) c (point_case t a) (point_case t b) (point_case t d) h
 
 pub circle_radius_names : (units : Units) (t : Table) (a : List ℕ) (r : ℤ) (c : Case) → first_case t (names.a_point a ∷ []) ≡ Some c → circle_radius units t a r ≡ Err c
 circle_radius_names units t a r c h =
-    one_name (point_named t a) (λ p. length_by units r >>= λ g. formed (circle_of p g) >>= a_circle) (name_case t (names.a_point a)) c (point_case t a) h
+    one_name (point_named t a) (λ p. length_by units r >>= λ g. in_case (circle_of p g) >>= a_circle) (name_case t (names.a_point a)) c (point_case t a) h
 
 pub circle_tangent_names : (t : Table) (a b : List ℕ) (c : Case) → first_case t (names.a_point a ∷ names.a_line b ∷ []) ≡ Some c → circle_tangent t a b ≡ Err c
 circle_tangent_names t a b c h =
-    two_names (point_named t a) (line_named t b) (λ p l. formed (circle_touching p l) >>= a_circle) (name_case t (names.a_point a)) (name_case t (names.a_line b)) c (point_case t a) (line_case t b) h
+    two_names (point_named t a) (line_named t b) (λ p l. in_case (circle_touching p l) >>= a_circle) (name_case t (names.a_point a)) (name_case t (names.a_line b)) c (point_case t a) (line_case t b) h
 
 pub circle_by_point_names : (t : Table) (a b : List ℕ) (c : Case) → first_case t (names.a_point a ∷ names.a_point b ∷ []) ≡ Some c → circle_by_point t a b ≡ Err c
 circle_by_point_names t a b c h =
-    two_names (point_named t a) (point_named t b) (λ p q. formed (circle_through p q) >>= a_circle) (name_case t (names.a_point a)) (name_case t (names.a_point b)) c (point_case t a) (point_case t b) h
+    two_names (point_named t a) (point_named t b) (λ p q. in_case (circle_through p q) >>= a_circle) (name_case t (names.a_point a)) (name_case t (names.a_point b)) c (point_case t a) (point_case t b) h
 
 pub circle_corner_names : (units : Units) (t : Table) (pick_a : Pick) (a : List ℕ) (pick_b : Pick) (b : List ℕ) (r : ℤ) (c : Case) → first_case t (names.a_line a ∷ names.a_line b ∷ []) ≡ Some c
     → circle_corner units t pick_a a pick_b b r ≡ Err c
 circle_corner_names units t pick_a a pick_b b r c h =
-    two_names (line_named t a) (line_named t b) (λ l m. length_by units r >>= λ g. formed (corner l pick_a m pick_b g) >>= a_circle)
+    two_names (line_named t a) (line_named t b) (λ l m. length_by units r >>= λ g. in_case (corner l pick_a m pick_b g) >>= a_circle)
     (name_case t (names.a_line a)) (name_case t (names.a_line b)) c (line_case t a) (line_case t b) h
 
 -- ---- and its numbers
@@ -216,23 +216,23 @@ length_far units v f h = far_alone 100000000 (grid_units units v) f h
 
 pub circle_xyr_far : (units : Units) (x y r : ℤ) → (is_far units x || (is_far units y || is_too_long units r)) ≡ true → circle_xyr units x y r ≡ Err cases.OutOfRange
 circle_xyr_far units x y r h =
-    point_far units x y (λ c. length_by units r >>= λ g. formed (circle_of c g) >>= a_circle) (is_too_long units r) h
-    (λ long c. length_far units r (λ g. formed (circle_of c g) >>= a_circle) long)
+    point_far units x y (λ c. length_by units r >>= λ g. in_case (circle_of c g) >>= a_circle) (is_too_long units r) h
+    (λ long c. length_far units r (λ g. in_case (circle_of c g) >>= a_circle) long)
 
 pub line_at_far : (units : Units) (t : Table) (a : List ℕ) (pick : Pick) (v : ℤ) → first_case t (names.a_line a ∷ []) ≡ None → is_too_long units v ≡ true → line_at units t a pick v ≡ Err cases.OutOfRange
 line_at_far units t a pick v none h =
-    name_passes (line_named t a) (λ m. length_by units v >>= λ d. formed (parallel_at m pick d) >>= a_line) (name_case t (names.a_line a)) cases.OutOfRange (line_case t a)
-    (first_none (name_case t (names.a_line a)) None none).0 (λ m. length_far units v (λ d. formed (parallel_at m pick d) >>= a_line) h)
+    name_passes (line_named t a) (λ m. length_by units v >>= λ d. in_case (parallel_at m pick d) >>= a_line) (name_case t (names.a_line a)) cases.OutOfRange (line_case t a)
+    (first_none (name_case t (names.a_line a)) None none).0 (λ m. length_far units v (λ d. in_case (parallel_at m pick d) >>= a_line) h)
 
 pub circle_radius_far : (units : Units) (t : Table) (a : List ℕ) (r : ℤ) → first_case t (names.a_point a ∷ []) ≡ None → is_too_long units r ≡ true → circle_radius units t a r ≡ Err cases.OutOfRange
 circle_radius_far units t a r none h =
-    name_passes (point_named t a) (λ p. length_by units r >>= λ g. formed (circle_of p g) >>= a_circle) (name_case t (names.a_point a)) cases.OutOfRange (point_case t a)
-    (first_none (name_case t (names.a_point a)) None none).0 (λ p. length_far units r (λ g. formed (circle_of p g) >>= a_circle) h)
+    name_passes (point_named t a) (λ p. length_by units r >>= λ g. in_case (circle_of p g) >>= a_circle) (name_case t (names.a_point a)) cases.OutOfRange (point_case t a)
+    (first_none (name_case t (names.a_point a)) None none).0 (λ p. length_far units r (λ g. in_case (circle_of p g) >>= a_circle) h)
 
 pub circle_corner_far : (units : Units) (t : Table) (pick_a : Pick) (a : List ℕ) (pick_b : Pick) (b : List ℕ) (r : ℤ) → first_case t (names.a_line a ∷ names.a_line b ∷ []) ≡ None
     → is_too_long units r ≡ true → circle_corner units t pick_a a pick_b b r ≡ Err cases.OutOfRange
 circle_corner_far units t pick_a a pick_b b r none h =
     let first = first_none (name_case t (names.a_line a)) (first_case t (names.a_line b ∷ [])) none in
-    name_passes (line_named t a) (λ l. line_named t b >>= λ m. length_by units r >>= λ g. formed (corner l pick_a m pick_b g) >>= a_circle) (name_case t (names.a_line a)) cases.OutOfRange (line_case t a) first.0
-    (λ l. name_passes (line_named t b) (λ m. length_by units r >>= λ g. formed (corner l pick_a m pick_b g) >>= a_circle) (name_case t (names.a_line b)) cases.OutOfRange (line_case t b)
-    (first_none (name_case t (names.a_line b)) None first.1).0 (λ m. length_far units r (λ g. formed (corner l pick_a m pick_b g) >>= a_circle) h))
+    name_passes (line_named t a) (λ l. line_named t b >>= λ m. length_by units r >>= λ g. in_case (corner l pick_a m pick_b g) >>= a_circle) (name_case t (names.a_line a)) cases.OutOfRange (line_case t a) first.0
+    (λ l. name_passes (line_named t b) (λ m. length_by units r >>= λ g. in_case (corner l pick_a m pick_b g) >>= a_circle) (name_case t (names.a_line b)) cases.OutOfRange (line_case t b)
+    (first_none (name_case t (names.a_line b)) None first.1).0 (λ m. length_far units r (λ g. in_case (corner l pick_a m pick_b g) >>= a_circle) h))

@@ -62,9 +62,9 @@ case_of faults.Degenerate = cases.Degenerate
 case_of faults.NoMeeting = cases.NoMeeting
 case_of faults.TooLarge = cases.CircleTooLarge
 
-abbrev pub formed : {A : Type 0} → Result A FormFault → Result A Case
-formed (Ok a) = Ok a
-formed (Err fault) = Err (case_of fault)
+abbrev pub in_case : {A : Type 0} → Result A FormFault → Result A Case
+in_case (Ok a) = Ok a
+in_case (Err fault) = Err (case_of fault)
 
 -- a point at height 0
 abbrev pub a_point : Pt → Result Figure Case
@@ -77,10 +77,10 @@ abbrev pub a_circle : Circ → Result Figure Case
 a_circle c = Ok (figures.Shape (surfaces.Circ c))
 
 abbrev pub line_formed : Result Line FormFault → Result Figure Case
-line_formed l = formed l >>= a_line
+line_formed l = in_case l >>= a_line
 
 abbrev pub circle_formed : Result Circ FormFault → Result Figure Case
-circle_formed c = formed c >>= a_circle
+circle_formed c = in_case c >>= a_circle
 
 -- ---- POINT
 
@@ -88,11 +88,11 @@ abbrev pub point_xy : Units → ℤ → ℤ → Option ℤ → Result Figure Cas
 point_xy units x y z = point_by units x y >>= λ p. height_by units z >>= λ h. Ok (figures.Point p h)
 
 abbrev pub point_lines : Table → List ℕ → List ℕ → Result Figure Case
-point_lines t a b = line_named t a >>= λ l. line_named t b >>= λ m. formed (line_line l (pos 0) m (pos 0)) >>= a_point
+point_lines t a b = line_named t a >>= λ l. line_named t b >>= λ m. in_case (line_line l (pos 0) m (pos 0)) >>= a_point
 
 -- the two points in which two curves meet, for sigma 1 and -1
 abbrev pub both_meetings : (ℤ → Result Pt FormFault) → Result (Pt × Pt) Case
-both_meetings meeting = formed (meeting (pos 1)) >>= λ p. formed (meeting (negsuc 0)) >>= λ q. Ok (p, q)
+both_meetings meeting = in_case (meeting (pos 1)) >>= λ p. in_case (meeting (negsuc 0)) >>= λ q. Ok (p, q)
 
 abbrev pub meetings : Surface → Surface → Result (Pt × Pt) Case
 meetings (surfaces.Line l) (surfaces.Line m) = Err cases.WrongKind

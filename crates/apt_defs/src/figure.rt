@@ -30,9 +30,9 @@ fn case_of(fault: FormFault) -> Case
 }
 
 /// A point that a formula gives.
-pub(crate) fn formed(point: Result<Pt, FormFault>) -> Result<Pt, Case>
+pub(crate) fn in_case(point: Result<Pt, FormFault>) -> Result<Pt, Case>
     requires { IfOk point IsPoint }
-    ensures value { result ≡ forms.formed point }
+    ensures value { result ≡ forms.in_case point }
     ensures range { IfOk result IsPoint }
 {
     match point {

@@ -9,7 +9,7 @@ ghost use Rattle.apt_words.specs.Asks.{listed};
 ghost use Rattle.apt_defs.specs.Figures.{IsFigure};
 ghost use Rattle.apt_defs.specs.Forms as forms;
 
-use crate::figure::{Figure, a_point, formed};
+use crate::figure::{Figure, a_point, in_case};
 use crate::numbers::{height_by, point_by};
 use crate::table::{Table, circle_named, line_named, surface};
 use apt_canon::{circle_circle, line_circle, line_line};
@@ -35,7 +35,7 @@ pub fn point_lines(table: &Table, a: &Symbol, b: &Symbol) -> Result<Figure, Case
 {
     let a = line_named(table, a)?;
     let b = line_named(table, b)?;
-    a_point(formed(line_line(&unmoved(a), &unmoved(b)))?)
+    a_point(in_case(line_line(&unmoved(a), &unmoved(b)))?)
 }
 
 fn unmoved(line: Line) -> Moved
@@ -80,8 +80,8 @@ fn on_line(line: Line, circle: Circ) -> Result<(Pt, Pt), Case>
     ensures range { IfOk result (λ m. IsPoint m.0 × IsPoint m.1) }
 {
     let line = unmoved(line);
-    let p = formed(line_circle(&line, &circle, 1))?;
-    let q = formed(line_circle(&line, &circle, -1))?;
+    let p = in_case(line_circle(&line, &circle, 1))?;
+    let q = in_case(line_circle(&line, &circle, -1))?;
     Ok((p, q))
 }
 
@@ -103,8 +103,8 @@ fn on_both(a: Circ, b: Circ) -> Result<(Pt, Pt), Case>
     ensures value { result ≡ forms.both_meetings (λ sigma. circles.circle_circle a b sigma) }
     ensures range { IfOk result (λ m. IsPoint m.0 × IsPoint m.1) }
 {
-    let p = formed(circle_circle(&a, &b, 1))?;
-    let q = formed(circle_circle(&a, &b, -1))?;
+    let p = in_case(circle_circle(&a, &b, 1))?;
+    let q = in_case(circle_circle(&a, &b, -1))?;
     Ok((p, q))
 }
 

@@ -1,12 +1,12 @@
 -- Trees one behind another, the latest first.
 use Rattle.std.specs.Prelude.{◌≡◌, ℕ, ◌+◌, ◌≤◌, ℤ, Bool, true, false, Option, Some, None, List, [], ◌∷◌, ◌++◌, length}
-use Rattle.apt_words.specs.declared.parts.Part.{Part}
-use Rattle.apt_words.specs.declared.parts.Part.TheVariants as marks
+use Rattle.apt_words.specs.declared.postfix.Item.{Item}
+use Rattle.apt_words.specs.declared.postfix.Item.TheVariants as marks
 use Rattle.apt_words.specs.Trees.{Tree, Num, operators}
 use Rattle.apt_words.specs.TreeParts.{parts, latest}
 
 -- how many operands a part has
-abbrev pub arity : Part → ℕ
+abbrev pub arity : Item → ℕ
 arity (marks.Num v) = 0
 arity (marks.Name name) = 0
 arity marks.Neg = 1
@@ -19,7 +19,7 @@ arity (marks.MulNum v) = 1
 arity (marks.DivNum v) = 1
 
 -- a name, or an operator of one operand
-abbrev pub is_simple : Part → Bool
+abbrev pub is_simple : Item → Bool
 is_simple (marks.Name name) = true
 is_simple marks.Neg = true
 is_simple marks.Root = true
@@ -30,7 +30,7 @@ abbrev pub below : List Tree → List Tree
 below [] = []
 below (t ∷ ts) = ts
 
-abbrev pub all_parts : List Tree → List Part
+abbrev pub all_parts : List Tree → List Item
 all_parts [] = []
 all_parts (t ∷ ts) = all_parts ts ++ parts t []
 

@@ -5,7 +5,7 @@ ghost use Rattle.apt_words.specs.Trees.{operators, Num, Name, Neg, Root, Abs, Bi
 ghost use Rattle.apt_words.specs.TreeParts.{after, built, latest};
 ghost use Rattle.apt_expr.specs.Forests.{arity, below, is_simple};
 
-use apt_words::{Expr, Millionths, Node, Op, Part, Parts, Symbol};
+use apt_words::{Expr, Millionths, Node, Op, Item, Postfix, Symbol};
 use std::alloc::{AllocError, Global};
 use std::marker::Model;
 
@@ -14,7 +14,7 @@ use std::marker::Model;
 /// The latest stands apart where it is a number, since it may become one part with an operator before it.
 #[derive(Drop)]
 pub(crate) struct Forest {
-    parts: Vec<Part>,
+    parts: Vec<Item>,
     number: Option<i64>,
 }
 
@@ -48,7 +48,7 @@ impl Forest {
     }
 
     #[tactic(auto, using(crate::proofs::Forests::parts_after, crate::proofs::Forests::trees_after, crate::proofs::Forests::settled_after))]
-    fn push(&mut self, part: Part) -> Result<(), AllocError>
+    fn push(&mut self, part: Item) -> Result<(), AllocError>
         requires operands { arity part ≤ length self.old }
         requires simple { is_simple part ≡ true }
         ensures { OnOk result (self.new ≡ after part self.old) }
@@ -56,7 +56,7 @@ impl Forest {
         match self.number {
             Some(v) => {
                 self.parts.reserve(2)?;
-                self.parts.push_reserved(Part::Num(Millionths::new(v)));
+                self.parts.push_reserved(Item::Num(Millionths::new(v)));
                 self.parts.push_reserved(part);
                 self.number = None;
             }
@@ -70,7 +70,7 @@ impl Forest {
         ensures { OnOk result (self.new ≡ Num v ∷ self.old) }
     {
         if let Some(before) = self.number {
-            self.parts.push(Part::Num(Millionths::new(before)))?;
+            self.parts.push(Item::Num(Millionths::new(before)))?;
         }
         self.number = Some(v);
         Ok(())
@@ -79,7 +79,7 @@ impl Forest {
     pub(crate) fn name(&mut self, name: Symbol) -> Result<(), AllocError>
         ensures { OnOk result (self.new ≡ Name name ∷ self.old) }
     {
-        self.push(Part::Name(name))
+        self.push(Item::Name(name))
     }
 
     #[tactic(auto, using(crate::proofs::Forests::one_operand))]
@@ -87,7 +87,7 @@ impl Forest {
         requires { 1 ≤ length self.old }
         ensures { OnOk result (self.new ≡ Neg (latest self.old) ∷ below self.old) }
     {
-        self.push(Part::Neg)
+        self.push(Item::Neg)
     }
 
     #[tactic(auto, using(crate::proofs::Forests::one_operand))]
@@ -95,7 +95,7 @@ impl Forest {
         requires { 1 ≤ length self.old }
         ensures { OnOk result (self.new ≡ Root (latest self.old) ∷ below self.old) }
     {
-        self.push(Part::Root)
+        self.push(Item::Root)
     }
 
     #[tactic(auto, using(crate::proofs::Forests::one_operand))]
@@ -103,7 +103,7 @@ impl Forest {
         requires { 1 ≤ length self.old }
         ensures { OnOk result (self.new ≡ Abs (latest self.old) ∷ below self.old) }
     {
-        self.push(Part::Abs)
+        self.push(Item::Abs)
     }
 
     /// Joins the latest tree to the one before it.
@@ -114,10 +114,10 @@ impl Forest {
     {
         match self.number {
             Some(v) => {
-                self.parts.push(Part::with_number(op, v))?;
+                self.parts.push(Item::with_number(op, v))?;
                 self.number = None;
             }
-            None => self.parts.push(Part::Bin(op))?,
+            None => self.parts.push(Item::Bin(op))?,
         }
         Ok(())
     }
@@ -137,21 +137,21 @@ impl Forest {
         }
         let mut items = Vec::with_capacity(alloc, parts.len())?;
         items.append(&mut parts)?;
-        let parts = Box::new(alloc, Parts { items })?;
+        let parts = Box::new(alloc, Postfix { items })?;
         Ok(Expr {
-            node: Node::Parts(parts),
+            node: Node::Postfix(parts),
         })
     }
 }
 
 /// The expression of one part.
-fn operand(parts: &[Part]) -> Expr
+fn operand(parts: &[Item]) -> Expr
     requires { length parts.now ≤ 1 }
     ensures { result ≡ built parts.now [] }
 {
     let node = match parts {
-        [Part::Num(v)] => Node::Num(v.value()),
-        [Part::Name(name)] => Node::Name(name.copied()),
+        [Item::Num(v)] => Node::Num(v.value()),
+        [Item::Name(name)] => Node::Name(name.copied()),
         _ => Node::Num(0),
     };
     Expr { node }

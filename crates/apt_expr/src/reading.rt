@@ -140,7 +140,7 @@ fn factor(nesting: u8, tokens: &[Token], forest: &mut Forest) -> Result<Option<u
             forest.number(*v)?;
             Ok(Some(0))
         }
-        [Token::Word(word)] => named(word, forest),
+        [Token::Word(word)] => name_operand(word, forest),
         [Token::Open, behind @ ..] => nested(nesting, behind, forest),
         [Token::Word(word), Token::Open, behind @ ..] => {
             let Some(count) = nested(nesting, behind, forest)? else {
@@ -198,7 +198,7 @@ fn binary(op: Op, a: u32, b: u32, forest: &mut Forest) -> Result<Option<u32>, Al
     Ok(Some(count))
 }
 
-fn named(word: &Symbol, forest: &mut Forest) -> Result<Option<u32>, AllocError>
+fn name_operand(word: &Symbol, forest: &mut Forest) -> Result<Option<u32>, AllocError>
     ensures tree { IfOk result (λ e. option_map (λ n. latest forest.new) e ≡ only_if (is_name word.now) (Name word.now)) }
     ensures grown { IfOk result (λ e. IfSome e (λ n. Grown n forest.old forest.new)) }
 {

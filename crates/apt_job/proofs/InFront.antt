@@ -16,7 +16,7 @@ use Rattle.apt_meaning.specs.Motions.{has_track, has_stop}
 use Rattle.apt_meaning.specs.Records.{effect_records}
 use Rattle.apt_meaning.specs.Expectations.{Expectation, Exactly, VerticesAt, exactly_if, expected_of, behind_statement, Meets, Departs}
 use Rattle.apt_job.specs.Fronts.{points_at, are_at, IsNext, IsAmiss, StandsFirst, is_silent}
-use Rattle.apt_meaning.proofs.Begins.{both}
+use Rattle.apt_meaning.proofs.Walks.Begins.{both}
 
 -- ---- heights
 

@@ -28,7 +28,7 @@ use Rattle.apt_meaning.specs.declared.effect.Effect.TheVariants as effects
 use Rattle.apt_meaning.specs.Motions.{drive_side, check_side, track_of, stop_of, starts_on_check, course_of, leg_of, has_track, has_bound, has_stop}
 use Rattle.apt_meaning.specs.Ranges.{IsAllowance, IsMotion, HasMotion}
 use Rattle.apt_meaning.specs.Vertices.{HasIn}
-use Rattle.apt_meaning.proofs.Begins.{both}
+use Rattle.apt_meaning.proofs.Walks.Begins.{both}
 use Rattle.apt_job.specs.Jobs.{AreSides, unbounded, bounded, out_sign_at, job_of, jobs_by}
 
 offset_small : (side : Sign) (r : ℤ) → IsRadius r → unsigned_abs (signed side r) ≤ 10 ^ 8

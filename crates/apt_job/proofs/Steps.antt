@@ -25,9 +25,9 @@ use Rattle.apt_meaning.specs.Refusals.{refusal_of}
 use Rattle.apt_meaning.specs.Compiled.{ends_of, first_refused}
 use Rattle.apt_meaning.specs.Records.{Begins, records_of, after}
 use Rattle.apt_meaning.specs.Expectations.{expected_of, behind_statement, Departs, FailsAt}
-use Rattle.apt_meaning.proofs.Follower.{KeepsUp, keeps_up_first, StepsOn, steps_on}
-use Rattle.apt_meaning.proofs.Agree.{Agrees}
-use Rattle.apt_meaning.proofs.Walk.{same_some, passed}
+use Rattle.apt_meaning.proofs.Walks.Follower.{KeepsUp, keeps_up_first, StepsOn, steps_on}
+use Rattle.apt_meaning.proofs.Walks.Agree.{Agrees}
+use Rattle.apt_meaning.proofs.Walks.Compiled.{same_some, passed}
 use Rattle.apt_job.specs.Fronts.{StandsFirst}
 use Rattle.apt_job.specs.Jobs.{jobs_by, MakesJobs}
 use Rattle.apt_job.specs.Naming.{HasNamed}

@@ -10,8 +10,8 @@ use Rattle.apt_meaning.specs.declared.effect.Effect.{Effect}
 use Rattle.apt_meaning.specs.declared.effect.Effect.TheVariants as effects
 use Rattle.apt_meaning.specs.Records.{MayHave, AreLegal as IsLegalEffect, FollowsLegally, records_of, after}
 use Rattle.apt_meaning.specs.Expectations.{FailsAt}
-use Rattle.apt_meaning.proofs.Legal.{defined_bounded}
-use Rattle.apt_meaning.proofs.Begins.{begins_once, begins_no_departs}
+use Rattle.apt_meaning.proofs.Contours.Legal.{defined_bounded}
+use Rattle.apt_meaning.proofs.Walks.Begins.{begins_once, begins_no_departs}
 use Rattle.apt_job.specs.Jobs.{jobs_by, MakesJobs}
 
 -- ---- legal jobs, legal records

@@ -18,7 +18,7 @@ use Rattle.apt_meaning.specs.Situations.{position_at}
 use Rattle.apt_meaning.specs.Motions.{motion_at}
 use Rattle.apt_meaning.specs.Records.{Begins}
 use Rattle.apt_meaning.specs.Expectations.{FailsAt}
-use Rattle.apt_meaning.proofs.Plates.{point, lower, right, at_corner, along_lower, leg}
+use Rattle.apt_meaning.proofs.Worked.Plates.{point, lower, right, at_corner, along_lower, leg}
 use Rattle.apt_job.specs.Jobs.{MakesJobs}
 
 abbrev contour : Step

@@ -20,7 +20,7 @@ const MOST_BYTES: usize = 256;
 /// A line, what of it stands in front of its first `$`, whether its statement goes on with the next line, and
 /// whether it has nothing but characters.
 #[derive(Drop)]
-pub(crate) struct Line<'a> {
+pub(crate) struct SourceLine<'a> {
     pub(crate) text: &'a [u8],
     pub(crate) front: &'a [u8],
     pub(crate) goes_on: bool,
@@ -94,14 +94,14 @@ fn said_on(line: &[u8]) -> (&[u8], bool)
     (front, is_single(rest))
 }
 
-fn any_line(rest: &[u8]) -> Option<(Line<'_>, &[u8])>
+fn any_line(rest: &[u8]) -> Option<(SourceLine<'_>, &[u8])>
     ensures none { IsNone result → lines.lines_of rest.now ≡ [] }
     ensures some { IfSome result (λ r. lines.lines_of rest.now ≡ r.0.text.now ∷ lines.lines_of r.1.now) }
     ensures shorter { IfSome result (λ r. length r.1.now < length rest.now) }
 {
     let (text, after) = next_line(rest)?;
     let (front, goes_on) = said_on(text);
-    let line = Line {
+    let line = SourceLine {
         text,
         front,
         goes_on,
@@ -114,7 +114,7 @@ fn any_line(rest: &[u8]) -> Option<(Line<'_>, &[u8])>
 ///
 /// Most lines have no `$` and end with a line feed alone: these are looked at once.
 #[tactic(auto, using(crate::proofs::Fronts::front_short, crate::proofs::PlainLines::first_plain, crate::proofs::PlainLines::plain_said, crate::proofs::PlainLines::plain_ends, crate::proofs::PlainLines::plain_characters))]
-pub(crate) fn first_line(rest: &[u8]) -> Option<(Line<'_>, &[u8])>
+pub(crate) fn first_line(rest: &[u8]) -> Option<(SourceLine<'_>, &[u8])>
     ensures none { IsNone result → lines.lines_of rest.now ≡ [] }
     ensures some { IfSome result (λ r. lines.lines_of rest.now ≡ r.0.text.now ∷ lines.lines_of r.1.now) }
     ensures shorter { IfSome result (λ r. length r.1.now < length rest.now) }
@@ -122,7 +122,7 @@ pub(crate) fn first_line(rest: &[u8]) -> Option<(Line<'_>, &[u8])>
     let (text, behind) = rest.split_at(plain_front(rest));
     match behind.split_first() {
         Some((b'\n', after)) => {
-            let line = Line {
+            let line = SourceLine {
                 text,
                 front: text,
                 goes_on: false,
@@ -135,7 +135,7 @@ pub(crate) fn first_line(rest: &[u8]) -> Option<(Line<'_>, &[u8])>
 }
 
 /// The first fault of a line.
-pub(crate) fn line_fault(number: u32, line: &Line<'_>) -> Option<PartCause>
+pub(crate) fn line_fault(number: u32, line: &SourceLine<'_>) -> Option<PartCause>
     ensures value { result ≡ lines.line_fault number line.now.text.now }
     ensures few { IsNone result → number ≤ 50000 }
 {

@@ -7,7 +7,7 @@ ghost use Rattle.apt_lexis.specs.Sentences as spec;
 ghost use Rattle.apt_lexis.specs.Titles as titles;
 ghost use Rattle.apt_lexis.specs.Tokens as tokens;
 
-use crate::line::{Line, first_line, line_fault};
+use crate::line::{SourceLine, first_line, line_fault};
 use crate::title::{Heading, add_heading, heading_behind, may_be_titled};
 use crate::token::{add_tokens, behind_blanks};
 use crate::{ParseError, PartCause, Token};
@@ -130,7 +130,7 @@ fn take_tokens(
     spare: &mut Option<Vec<Token>>,
     begun: &mut Option<Phrase>,
     number: u32,
-    line: &Line<'_>,
+    line: &SourceLine<'_>,
 ) -> Result<bool, AllocError>
     ensures behind { IfOk result (λ done. spec.by_title begun.old number line.now.text.now None ≡ (if done then record { begun = None; said = begun.new } else record { begun = begun.new; said = None })) }
     ensures ended { IfOk result (λ done. done ≡ true → IsSome begun.new) }
@@ -149,7 +149,7 @@ fn take_titled(
     spare: &mut Option<Vec<Token>>,
     begun: &mut Option<Phrase>,
     number: u32,
-    line: &Line<'_>,
+    line: &SourceLine<'_>,
 ) -> Result<bool, AllocError>
     ensures behind { IfOk result (λ done. spec.behind_line begun.old number line.now.text.now ≡ (if done then record { begun = None; said = begun.new } else record { begun = begun.new; said = None })) }
     ensures ended { IfOk result (λ done. done ≡ true → IsSome begun.new) }
@@ -170,7 +170,7 @@ fn take_line(
     spare: &mut Option<Vec<Token>>,
     begun: &mut Option<Phrase>,
     number: u32,
-    line: &Line<'_>,
+    line: &SourceLine<'_>,
 ) -> Result<bool, AllocError>
     ensures behind { IfOk result (λ done. spec.behind_line begun.old number line.now.text.now ≡ (if done then record { begun = None; said = begun.new } else record { begun = begun.new; said = None })) }
     ensures ended { IfOk result (λ done. done ≡ true → IsSome begun.new) }

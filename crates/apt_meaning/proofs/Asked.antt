@@ -61,10 +61,10 @@ use Rattle.apt_meaning.specs.Ranges.{IsPositionOrNone, AreSettings, IsChange, Is
 use Rattle.apt_scalar.specs.StepScalars.{AllScalars, HasScalars}
 use Rattle.apt_meaning.specs.Vertices.{HasIn}
 use Rattle.apt_words.proofs.Rows.{first_none, none_first}
-use Rattle.apt_meaning.proofs.Legal.{motion_defined}
-use Rattle.apt_meaning.proofs.Cuts.{cut_is}
+use Rattle.apt_meaning.proofs.Contours.Legal.{motion_defined}
+use Rattle.apt_meaning.proofs.Contours.Cuts.{cut_is}
 use Rattle.apt_meaning.proofs.EffectRanges.{reach_in, up_to_in, feed_note, whole_note, on_side_or_as_it_was, motion_is}
-use Rattle.apt_meaning.proofs.Contours.{named_surface}
+use Rattle.apt_meaning.proofs.Contours.Ranges.{named_surface}
 
 -- a contour ends at its contact
 abbrev pub EndsThere : Effect → Type 0

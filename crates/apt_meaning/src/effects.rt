@@ -54,7 +54,7 @@ pub fn note_of(units: Units, saying: &Saying) -> Note
 /// by the units that hold, feeds in tenths. None where a definition is refused, a FROM or a GOTO names no point, a GODLTA,
 /// a GO or a contour has no position to start from, a name of GO or of a contour stands for no surface, a case refuses the
 /// point of GO, or a contour has no turn. Where a move leads may be out of range; a contour's motion is in range.
-#[tactic(auto, using(crate::proofs::Contours::motion_in))]
+#[tactic(auto, using(crate::proofs::Contours::Ranges::motion_in))]
 pub fn effect_of(at: &Situation, deed: &Deed) -> Result<Option<Effect>, AllocError>
     requires situation { IsSituation at.now }
     requires scalars { HasScalars deed.now }

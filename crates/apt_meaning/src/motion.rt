@@ -142,7 +142,7 @@ impl Motion {
 
     /// The arc along which it runs to its end, where its track is a circle. Where no case refuses the motion, the arc can
     /// be divided.
-    #[tactic(auto, using(crate::proofs::Arcs::arc_in))]
+    #[tactic(auto, using(crate::proofs::Contours::Arcs::arc_in))]
     pub fn arc(&self, end: Pt) -> Option<Arc>
         requires motion { IsMotion self.now }
         requires room { targets.lacks_room (motions.track_of self.now) ≡ false }

@@ -130,7 +130,7 @@ fn forward_from(from: Position, to: Pt, forward: Dir) -> Dir
 }
 
 /// The last of a start and the vertices behind it.
-#[tactic(auto, using(crate::proofs::Kept::last_point))]
+#[tactic(auto, using(crate::proofs::Walks::Kept::last_point))]
 fn end_of(start: Pt, vertices: &[Pt]) -> Pt
     requires start { IsPoint start }
     requires vertices { ArePoints vertices.now }

@@ -32,7 +32,7 @@ use Rattle.apt_meaning.specs.Records.{records_of, after}
 use Rattle.apt_meaning.specs.Refusals.{name_cases, motion_cases, surface_cases, refusal_of}
 use Rattle.apt_meaning.specs.Compiled.{most_points, asked, asked_within, refused_at}
 use Rattle.apt_words.proofs.Rows.{first_none}
-use Rattle.apt_meaning.proofs.Arcs.{vertices_by, vertices-vertices_by}
+use Rattle.apt_meaning.proofs.Contours.Arcs.{vertices_by, vertices-vertices_by}
 use Rattle.apt_motion.specs.declared.runs.RunError.TheVariants as errors
 use Rattle.apt_motion.specs.Ends.{IsRefusedBehind, HasPassed, HasAdvanced}
 use Rattle.apt_motion.specs.Finding.{IsMotionBy, motion_on, contour_cases_on, turn_cases}

@@ -22,7 +22,7 @@ use Rattle.apt_meaning.specs.Situations.{at_height, lacks_feed}
 use Rattle.apt_meaning.specs.Compiled.{asked}
 use Rattle.apt_meaning.specs.Effects.{moves, place_in, place_at, position_by, goes}
 use Rattle.apt_meaning.specs.Refusals.{position_cases, point_cases, place_cases, route_cases, is_no_place}
-use Rattle.apt_motion.specs.Finding.{found_place, placed}
+use Rattle.apt_motion.specs.Finding.{found_place, position_at_place}
 use Rattle.apt_motion.proofs.Cases.{first_append, position_of, position_of-is}
 
 -- ---- the point of a name
@@ -59,7 +59,7 @@ once : (stands : Bool) (f : Option Case) (o : Option Position) → stands ≡ fa
 once true f o e = absurd cc
 once false f o e = place_moved reaches.From f o
 
-pub from_asked : (at : Situation) (place : Place) (r : Result Position Case) → is_some at.position ≡ false → r ≡ placed at place
+pub from_asked : (at : Situation) (place : Place) (r : Result Position Case) → is_some at.position ≡ false → r ≡ position_at_place at place
     → moved reaches.From r ≡ asked (first_of (route_cases at (routes.From place))) (goes at (routes.From place))
 from_asked at place r first is = ap (moved reaches.From) is ∙ once (is_some at.position) (first_of (place_cases at place [])) (place_at at place) first
 
@@ -88,13 +88,13 @@ point_fed : (lacks : Bool) (table : Table) (name : List ℕ) → fed lacks (foun
     ≡ asked (first_of (point_cases table name ((lacks, cases.NoFeed) ∷ []))) (moves reaches.Goto (place_in table name))
 point_fed lacks table name = rw (position_of-is (figure_named table name)) (figure_fed lacks (figure_named table name))
 
-place_fed : (at : Situation) (place : Place) → fed (lacks_feed at.settings) (placed at place) ≡ asked (first_of (route_cases at (routes.Goto place))) (goes at (routes.Goto place))
+place_fed : (at : Situation) (place : Place) → fed (lacks_feed at.settings) (position_at_place at place) ≡ asked (first_of (route_cases at (routes.Goto place))) (goes at (routes.Goto place))
 place_fed at (places.Xyz x y z) =
     let to = position_by at.settings.units x y z in
     position_fed (lacks_feed at.settings) (first_of (position_cases to [])) to
     ∙ ap (λ (f : Option Case). asked f (moves reaches.Goto (Some to))) (sym (first_append (position_cases to []) ((lacks_feed at.settings, cases.NoFeed) ∷ [])))
 place_fed at (places.Named name) = point_fed (lacks_feed at.settings) at.table name
 
-pub goto_asked : (at : Situation) (place : Place) (r : Result Position Case) → r ≡ placed at place
+pub goto_asked : (at : Situation) (place : Place) (r : Result Position Case) → r ≡ position_at_place at place
     → fed (lacks_feed at.settings) r ≡ asked (first_of (route_cases at (routes.Goto place))) (goes at (routes.Goto place))
 goto_asked at place r is = ap (fed (lacks_feed at.settings)) is ∙ place_fed at place

@@ -17,9 +17,9 @@ use Rattle.apt_meaning.specs.Records.{AreOwn, FollowsAs, FollowsLegally, records
 use Rattle.apt_meaning.specs.Compiled.{ends_of, points_of, most_points, with_front, asked, asked_within, or_first, first_refused, or_refused, compilation_behind, compilation}
 use Rattle.apt_meaning.specs.Ranges.{IsSituation, IsEffect}
 use Rattle.apt_meaning.proofs.Asked.{answered}
-use Rattle.apt_meaning.proofs.Kept.{kept, first_situation-IsSituation}
-use Rattle.apt_meaning.proofs.Walk.{fit as fit_of, after_points, behind_step, compiled_follows}
-use Rattle.apt_meaning.proofs.Files.{compiled_fit}
+use Rattle.apt_meaning.proofs.Walks.Kept.{kept, first_situation-IsSituation}
+use Rattle.apt_meaning.proofs.Walks.Compiled.{fit as fit_of, after_points, behind_step, compiled_follows}
+use Rattle.apt_meaning.proofs.Walks.Files.{compiled_fit}
 use Rattle.apt_motion.specs.declared.runs.RunError.{RunError}
 use Rattle.apt_motion.specs.Ends.{Ends}
 use Rattle.apt_defs.specs.Definitions.{IsNoDefinition}

@@ -51,8 +51,8 @@ found_place (Some case) to = Err case
 found_place None None = Err cases.Undefined
 found_place None (Some to) = Ok to
 
-abbrev pub placed : Situation → Place → Result Position Case
-placed at place = found_place (first_of (place_cases at place [])) (place_at at place)
+abbrev pub position_at_place : Situation → Place → Result Position Case
+position_at_place at place = found_place (first_of (place_cases at place [])) (place_at at place)
 
 -- ---- GO whose names stand for surfaces
 

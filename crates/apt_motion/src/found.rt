@@ -13,7 +13,7 @@ ghost use Rattle.apt_meaning.specs.Refusals as refusals;
 ghost use Rattle.apt_meaning.specs.Refusals.{refusal_of};
 ghost use Rattle.apt_motion.specs.Finding.{IsNoContour, IsPlain};
 
-use crate::refusals::{godlta, note_case, placed};
+use crate::refusals::{godlta, note_case, position_at_place};
 use crate::start_ups::go;
 use apt_cldata::{Note, Reach};
 use apt_meaning::{Change, Effect, Situation, note_of};
@@ -45,7 +45,7 @@ fn found(at: &Situation, deed: &Deed) -> Result<Result<Effect, Case>, AllocError
     ensures { IfOk result (λ found. found ≡ asked (refusal_of at.now deed.now) (asking.effect_of at.now deed.now)) }
 {
     match deed.ask() {
-        Ask::Titles(text) => Ok(Ok(said(Note::Partno(text.copied()?)))),
+        Ask::Titles(text) => Ok(Ok(note_effect(Note::Partno(text.copied()?)))),
         Ask::Says(saying) => Ok(say(at, &saying)),
         Ask::Sets(side) => Ok(Ok(Effect::Sets(Change::Side(side)))),
         Ask::Goes(route) => Ok(goes(at, &route)),
@@ -54,7 +54,7 @@ fn found(at: &Situation, deed: &Deed) -> Result<Result<Effect, Case>, AllocError
     }
 }
 
-fn said(note: Note) -> Effect
+fn note_effect(note: Note) -> Effect
     ensures { result ≡ Effect.Sets (Change.Said note) }
 {
     Effect::Sets(Change::Said(note))
@@ -68,7 +68,7 @@ fn say(at: &Situation, saying: &Saying) -> Result<Effect, Case>
     let note = note_of(at.settings.units, saying);
     match note_case(&note) {
         Some(case) => Err(case),
-        None => Ok(said(note)),
+        None => Ok(note_effect(note)),
     }
 }
 
@@ -96,7 +96,7 @@ fn from(at: &Situation, place: &Place) -> Result<Effect, Case>
     if at.position.is_some() {
         return Err(Case::FromAgain);
     }
-    match placed(at, place) {
+    match position_at_place(at, place) {
         Ok(to) => Ok(Effect::Moves(Reach::From, to)),
         Err(case) => Err(case),
     }
@@ -109,7 +109,7 @@ fn goto(at: &Situation, place: &Place) -> Result<Effect, Case>
     requires { AllScalars (place_numbers place.now) }
     ensures { result ≡ asked (first_of (refusals.route_cases at.now (Route.Goto place.now))) (asking.goes at.now (Route.Goto place.now)) }
 {
-    match placed(at, place) {
+    match position_at_place(at, place) {
         Ok(_) if at.settings.lacks_feed() => Err(Case::NoFeed),
         Ok(to) => Ok(Effect::Moves(Reach::Goto, to)),
         Err(case) => Err(case),

@@ -71,9 +71,9 @@ fn position(p: Position) -> Option<Case>
 ///
 /// The first case that refuses the place.
 #[inline(always)]
-pub(crate) fn placed(at: &Situation, place: &Place) -> Result<Position, Case>
+pub(crate) fn position_at_place(at: &Situation, place: &Place) -> Result<Position, Case>
     requires { AllScalars (place_numbers place.now) }
-    ensures { result ≡ finding.placed at.now place.now }
+    ensures { result ≡ finding.position_at_place at.now place.now }
 {
     match place {
         Place::Xyz(x, y, z) => within(position_by(at.settings.units, *x, *y, *z)),

@@ -15,7 +15,7 @@ use Rattle.apt_lexis.specs.Sentences.{said_in}
 use Rattle.apt_shapes.specs.declared.table.Labelled.{Labelled}
 use Rattle.apt_shapes.specs.Shapes.{shape}
 use Rattle.apt_parse.specs.Statements.{statement, of_tokens, of_shape, unless_fault, first_fault, open_loop}
-use Rattle.apt_parse.specs.Programs.{Fault, missing, unless_missing, unless_open, without_fini, ends_with, or_fault, program_from, last_line, program_of, IsParsed}
+use Rattle.apt_parse.specs.Programs.{TextFault, missing, unless_missing, unless_open, without_fini, ends_with, or_fault, program_from, last_line, program_of, IsParsed}
 use Rattle.apt_parse.proofs.SaidTexts.{AreSaid, said_in-said}
 use Rattle.apt_parse.proofs.ShapeTexts.{HasTextSaid, shape-fits}
 
@@ -53,22 +53,22 @@ unless_open-holds : (P : List Stmt → Type 0) (sts : List Stmt) (line : Option 
 unless_open-holds P sts (Some line) holds = tt
 unless_open-holds P sts None holds = unless_missing-holds P sts (missing sts) holds
 
-without_fini-holds : (P : List Stmt → Type 0) (last : ℕ) (fault : Option Fault) → IfOk (without_fini last fault) P
+without_fini-holds : (P : List Stmt → Type 0) (last : ℕ) (fault : Option TextFault) → IfOk (without_fini last fault) P
 without_fini-holds P last (Some fault) = tt
 without_fini-holds P last None = tt
 
-ends_with-holds : (P : Bool → List Stmt → Type 0) (last : Bool) (sts : List Stmt) (more : Result (List Stmt) Fault) → P last sts → (P false sts → IfOk more (P true))
+ends_with-holds : (P : Bool → List Stmt → Type 0) (last : Bool) (sts : List Stmt) (more : Result (List Stmt) TextFault) → P last sts → (P false sts → IfOk more (P true))
     → IfOk (ends_with last sts more) (P true)
 ends_with-holds P true sts more holds rest = unless_open-holds (P true) sts (open_loop sts) holds
 ends_with-holds P false sts more holds rest = rest holds
 
-or_fault-holds : (P : Bool → List Stmt → Type 0) (before : List Stmt) (line : ℕ) (read : Result Stmt PartCause) (more : Stmt → Result (List Stmt) Fault) → GoesOn P
+or_fault-holds : (P : Bool → List Stmt → Type 0) (before : List Stmt) (line : ℕ) (read : Result Stmt PartCause) (more : Stmt → Result (List Stmt) TextFault) → GoesOn P
     → P false before → IfOk read (IsNext before) → ((st : Stmt) → P false (before ++ st ∷ []) → IfOk (more st) (P true))
     → IfOk (or_fault before line read more) (P true)
 or_fault-holds P before line (Err cause) more on holds next rest = tt
 or_fault-holds P before line (Ok st) more on holds next rest = ends_with-holds P (is_fini st.body) (before ++ st ∷ []) (more st) (on before st next holds) (rest st)
 
-program_from-holds : (P : Bool → List Stmt → Type 0) (before : List Stmt) (last : ℕ) (fault : Option Fault) (ps : List Phrase) → GoesOn P
+program_from-holds : (P : Bool → List Stmt → Type 0) (before : List Stmt) (last : ℕ) (fault : Option TextFault) (ps : List Phrase) → GoesOn P
     → P false before → AreSaid ps → IfOk (program_from before last fault ps) (P true)
 program_from-holds P before last fault [] on holds said = without_fini-holds (P true) last fault
 program_from-holds P before last fault (p ∷ ps) on holds said =

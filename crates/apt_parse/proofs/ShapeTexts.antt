@@ -17,9 +17,9 @@ use Rattle.apt_lexis.specs.declared.token.Token.{Token}
 use Rattle.apt_lexis.specs.declared.token.Token.TheVariants as tokens
 use Rattle.apt_expr.specs.Expressions.{expression}
 use Rattle.apt_shapes.specs.declared.table.Labelled.{Labelled}
-use Rattle.apt_shapes.specs.Arguments.{arguments, name, word, pick, is_left, said, or_else}
+use Rattle.apt_shapes.specs.Arguments.{arguments, name, word, pick, is_left, says, or_else}
 use Rattle.apt_shapes.specs.Figures.{assign, point_xy, point_xyz, point_center, point_lines, point, line_par, line_perp, line_xy, line_at, line_tan, line, circle_three, circle_through, circle_radius, circle_tan, circle}
-use Rattle.apt_shapes.specs.Motions.{from, goto, godlta, surface, start_one, start_two, start, side_of, turn_of, check_stop, contour, turned}
+use Rattle.apt_shapes.specs.Motions.{from, goto, godlta, surface, start_one, start_two, start, side_of, turn_of, check_stop, contour, contour_behind}
 use Rattle.apt_shapes.specs.Settings.{titled, one, expressions, units_of, units_in, spindle_turn, spindl_off, spindl_on, spindl, cool_of, coolnt}
 use Rattle.apt_shapes.specs.Flow.{parameters, differ, names_of, macro, arguments_in, call, jumpto, condition, if_in}
 use Rattle.apt_shapes.specs.Shapes.{tool, command, alone, with_arguments, figure, macro_alone, defined, named, if_word, untitled, with_text, body, behind_label, shape}
@@ -45,42 +45,42 @@ assign-fits n ts = by (expression ts) _ (λ e. tt)
 point-fits : (n : List ℕ) (args : List (List Token)) → FitsText (point n args)
 point-fits n (a ∷ b ∷ []) =
     either (point_center n a b) (point_xy n a b)
-    (by (said words.Center a) _ (λ _. by (name b) _ (λ c. tt)))
+    (by (says words.Center a) _ (λ _. by (name b) _ (λ c. tt)))
     (by (expression a) _ (λ x. by (expression b) _ (λ y. tt)))
 point-fits n (a ∷ b ∷ c ∷ []) =
     either (point_lines n a b c) (point_xyz n a b c)
-    (by (said words.Intof a) _ (λ _. by (name b) _ (λ b. by (name c) _ (λ c. tt))))
+    (by (says words.Intof a) _ (λ _. by (name b) _ (λ b. by (name c) _ (λ c. tt))))
     (by (expression a) _ (λ x. by (expression b) _ (λ y. by (expression c) _ (λ z. tt))))
-point-fits n (a ∷ b ∷ c ∷ d ∷ []) = by (pick a) _ (λ k. by (said words.Intof b) _ (λ _. by (name c) _ (λ c. by (name d) _ (λ d. tt))))
+point-fits n (a ∷ b ∷ c ∷ d ∷ []) = by (pick a) _ (λ k. by (says words.Intof b) _ (λ _. by (name c) _ (λ c. by (name d) _ (λ d. tt))))
 point-fits n _ = tt
 
 line-fits : (n : List ℕ) (args : List (List Token)) → FitsText (line n args)
 line-fits n (a ∷ b ∷ []) = by (name a) _ (λ p. by (name b) _ (λ q. tt))
 line-fits n (a ∷ b ∷ c ∷ []) =
     either (line_par n a b c) (line_perp n a b c)
-    (by (name a) _ (λ p. by (said words.Parlel b) _ (λ _. by (name c) _ (λ l. tt))))
-    (by (name a) _ (λ p. by (said words.Perpto b) _ (λ _. by (name c) _ (λ l. tt))))
+    (by (name a) _ (λ p. by (says words.Parlel b) _ (λ _. by (name c) _ (λ l. tt))))
+    (by (name a) _ (λ p. by (says words.Perpto b) _ (λ _. by (name c) _ (λ l. tt))))
 line-fits n (a ∷ b ∷ c ∷ d ∷ []) =
     either (line_at n a b c d) (or_else (line_tan n a b c d) (line_xy n a b c d))
-    (by (said words.Parlel a) _ (λ _. by (name b) _ (λ l. by (pick c) _ (λ k. by (expression d) _ (λ e. tt)))))
+    (by (says words.Parlel a) _ (λ _. by (name b) _ (λ l. by (pick c) _ (λ k. by (expression d) _ (λ e. tt)))))
     (either (line_tan n a b c d) (line_xy n a b c d)
-    (by (name a) _ (λ p. by (is_left b) _ (λ h. by (said words.Tanto c) _ (λ _. by (name d) _ (λ c. tt)))))
+    (by (name a) _ (λ p. by (is_left b) _ (λ h. by (says words.Tanto c) _ (λ _. by (name d) _ (λ c. tt)))))
     (by (expression a) _ (λ x. by (expression b) _ (λ y. by (expression c) _ (λ u. by (expression d) _ (λ v. tt))))))
 line-fits n (a ∷ b ∷ c ∷ d ∷ e ∷ f ∷ []) =
-    by (is_left a) _ (λ h. by (said words.Tanto b) _ (λ _. by (name c) _ (λ c. by (is_left d) _ (λ k. by (said words.Tanto e) _ (λ _. by (name f) _ (λ d. tt))))))
+    by (is_left a) _ (λ h. by (says words.Tanto b) _ (λ _. by (name c) _ (λ c. by (is_left d) _ (λ k. by (says words.Tanto e) _ (λ _. by (name f) _ (λ d. tt))))))
 line-fits n _ = tt
 
 circle-fits : (n : List ℕ) (args : List (List Token)) → FitsText (circle n args)
 circle-fits n (a ∷ b ∷ c ∷ []) =
     either (circle_through n a b c) (circle_three n a b c)
-    (by (said words.Center a) _ (λ _. by (name b) _ (λ p. by (name c) _ (λ q. tt))))
+    (by (says words.Center a) _ (λ _. by (name b) _ (λ p. by (name c) _ (λ q. tt))))
     (by (expression a) _ (λ x. by (expression b) _ (λ y. by (expression c) _ (λ r. tt))))
 circle-fits n (a ∷ b ∷ c ∷ d ∷ []) =
     either (circle_radius n a b c d) (circle_tan n a b c d)
-    (by (said words.Center a) _ (λ _. by (name b) _ (λ p. by (said words.Radius c) _ (λ _. by (expression d) _ (λ e. tt)))))
-    (by (said words.Center a) _ (λ _. by (name b) _ (λ p. by (said words.Tanto c) _ (λ _. by (name d) _ (λ l. tt)))))
+    (by (says words.Center a) _ (λ _. by (name b) _ (λ p. by (says words.Radius c) _ (λ _. by (expression d) _ (λ e. tt)))))
+    (by (says words.Center a) _ (λ _. by (name b) _ (λ p. by (says words.Tanto c) _ (λ _. by (name d) _ (λ l. tt)))))
 circle-fits n (a ∷ b ∷ c ∷ d ∷ e ∷ f ∷ []) =
-    by (pick a) _ (λ j. by (name b) _ (λ a. by (pick c) _ (λ k. by (name d) _ (λ b. by (said words.Radius e) _ (λ _. by (expression f) _ (λ e. tt))))))
+    by (pick a) _ (λ j. by (name b) _ (λ a. by (pick c) _ (λ k. by (name d) _ (λ b. by (says words.Radius e) _ (λ _. by (expression f) _ (λ e. tt))))))
 circle-fits n _ = tt
 
 macro-fits : (n : List ℕ) (args : List (List Token)) → FitsText (macro n args)
@@ -102,8 +102,8 @@ defined-fits n (tokens.Word w ∷ tokens.Slash ∷ ts) = figure-fits n (word_of 
 defined-fits n (tokens.Word w ∷ []) = macro_alone-fits n (word_of w)
 defined-fits n _ = tt
 
-named-fits : (n : List ℕ) (ts : List Token) → FitsText (named n ts)
-named-fits n ts = by (only_if (is_name n) n) _ (λ n. either (defined n ts) (assign n ts) (defined-fits n ts) (assign-fits n ts))
+behind_equals-fits : (n : List ℕ) (ts : List Token) → FitsText (named n ts)
+behind_equals-fits n ts = by (only_if (is_name n) n) _ (λ n. either (defined n ts) (assign n ts) (defined-fits n ts) (assign-fits n ts))
 
 -- ---- motions
 
@@ -142,9 +142,9 @@ contour-fits side turn (drive ∷ check ∷ []) = by (name drive) _ (λ drive. b
 contour-fits side turn (drive ∷ q ∷ check ∷ []) = by (name drive) _ (λ drive. by (check_stop q) _ (λ q. by (name check) _ (λ check. tt)))
 contour-fits side turn _ = tt
 
-turned-fits : (side : Option Side) (ts : List Token) → FitsText (turned side ts)
-turned-fits side (tokens.Word w ∷ tokens.Slash ∷ ts) = by (turn_of (word_of w)) _ (λ turn. contour-fits side turn (arguments ts))
-turned-fits side _ = tt
+contour_behind-fits : (side : Option Side) (ts : List Token) → FitsText (contour_behind side ts)
+contour_behind-fits side (tokens.Word w ∷ tokens.Slash ∷ ts) = by (turn_of (word_of w)) _ (λ turn. contour-fits side turn (arguments ts))
+contour_behind-fits side _ = tt
 
 -- ---- settings
 
@@ -153,7 +153,7 @@ units_in-fits (a ∷ []) = by (units_of (word a)) _ (λ u. tt)
 units_in-fits _ = tt
 
 spindl-fits : (args : List (List Token)) → FitsText (spindl args)
-spindl-fits (a ∷ []) = either (spindl_off a) (spindl_on a spins.Cw) (by (said words.Off a) _ (λ _. tt)) (by (expression a) _ (λ e. tt))
+spindl-fits (a ∷ []) = either (spindl_off a) (spindl_on a spins.Cw) (by (says words.Off a) _ (λ _. tt)) (by (expression a) _ (λ e. tt))
 spindl-fits (a ∷ b ∷ []) = by (spindle_turn (word b)) _ (λ turn. by (expression a) _ (λ e. tt))
 spindl-fits _ = tt
 
@@ -220,8 +220,8 @@ alone-fits w = either (tool w) (command w) (by (side_of w) _ (λ side. tt)) (com
 untitled-fits : (ts : List Token) → FitsText (untitled ts)
 untitled-fits (tokens.Word w ∷ []) = alone-fits (word_of w)
 untitled-fits (tokens.Word w ∷ tokens.Slash ∷ ts) = with_arguments-fits (word_of w) (arguments ts)
-untitled-fits (tokens.Word w ∷ tokens.Equals ∷ ts) = named-fits w ts
-untitled-fits (tokens.Word w ∷ tokens.Comma ∷ ts) = by (side_of (word_of w)) _ (λ side. turned-fits (Some side) ts)
+untitled-fits (tokens.Word w ∷ tokens.Equals ∷ ts) = behind_equals-fits w ts
+untitled-fits (tokens.Word w ∷ tokens.Comma ∷ ts) = by (side_of (word_of w)) _ (λ side. contour_behind-fits (Some side) ts)
 untitled-fits (tokens.Word w ∷ tokens.Open ∷ ts) = if_word-fits (word_of w) ts
 untitled-fits _ = tt
 

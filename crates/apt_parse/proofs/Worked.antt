@@ -9,13 +9,13 @@ use Rattle.apt_words.specs.Trees.{Num}
 use Rattle.apt_lexis.specs.declared.cause.PartCause.TheVariants as causes
 use Rattle.apt_expr.specs.Expressions.{expression}
 use Rattle.apt_shapes.specs.Shapes.{shape}
-use Rattle.apt_parse.specs.Programs.{program_of, Fault}
+use Rattle.apt_parse.specs.Programs.{program_of, TextFault}
 
-abbrev fault_of : Result (List Stmt) Fault → Option Fault
+abbrev fault_of : Result (List Stmt) TextFault → Option TextFault
 fault_of (Ok sts) = None
 fault_of (Err fault) = Some fault
 
-abbrev fault : List ℕ → Option Fault
+abbrev fault : List ℕ → Option TextFault
 fault text = fault_of (program_of text)
 
 a_program : program_of (codes "PARTNO A\n$$ a comment\n\nLA) x = $\n  2\nFINI\nEND OF THE TEXT") ≡

@@ -14,10 +14,10 @@ use Rattle.apt_cldata.proofs.Lengths.{file_length}
 use Rattle.apt_meaning.specs.Situations.{first_situation}
 use Rattle.apt_meaning.specs.Records.{AreLegal}
 use Rattle.apt_meaning.specs.Compiled.{compilation}
-use Rattle.apt_meaning.proofs.Kept.{first_situation-IsSituation}
-use Rattle.apt_meaning.proofs.Walk.{compiled_follows}
-use Rattle.apt_meaning.proofs.Ends.{ends_once}
-use Rattle.apt_meaning.proofs.Files.{Fit, compiled_fit, fini_last}
+use Rattle.apt_meaning.proofs.Walks.Kept.{first_situation-IsSituation}
+use Rattle.apt_meaning.proofs.Walks.Compiled.{compiled_follows}
+use Rattle.apt_meaning.proofs.Walks.Ends.{ends_once}
+use Rattle.apt_meaning.proofs.Walks.Files.{Fit, compiled_fit, fini_last}
 use Rattle.apt_machine.specs.declared.machine.Machine.{Machine}
 use Rattle.apt_post.specs.Plan.{plan}
 use Rattle.apt_post.specs.Blocks.{tape_bytes}

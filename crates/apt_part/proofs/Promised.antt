@@ -12,7 +12,7 @@ use Rattle.apt_parse.proofs.AllSources.{program_of-stmts}
 use Rattle.apt_parse.proofs.Titled.{program_of-titled}
 use Rattle.apt_words.specs.Nesting.{AreNested}
 use Rattle.apt_words.specs.ProgramEnds.{StepsEnd}
-use Rattle.apt_parse.specs.Programs.{Fault, program_of}
+use Rattle.apt_parse.specs.Programs.{TextFault, program_of}
 use Rattle.apt_parse.proofs.Nesting.{program_of-nested}
 use Rattle.apt_unroll.specs.Trace.{Trace, IsTrace, trace_of}
 use Rattle.apt_unroll.proofs.Going.{has_trace}
@@ -24,11 +24,11 @@ use Rattle.apt_cldata.specs.Ranges.{vertex_count}
 use Rattle.apt_meaning.specs.Situations.{first_situation}
 use Rattle.apt_meaning.specs.Records.{AreLegal}
 use Rattle.apt_meaning.specs.Compiled.{first_refused, compilation, most_points}
-use Rattle.apt_meaning.proofs.Kept.{first_situation-IsSituation}
-use Rattle.apt_meaning.proofs.Walk.{compiled_follows, compiled_passes}
-use Rattle.apt_meaning.proofs.Ends.{ends_once}
-use Rattle.apt_meaning.proofs.Files.{compiled_fit}
-use Rattle.apt_meaning.proofs.Stands.{stands}
+use Rattle.apt_meaning.proofs.Walks.Kept.{first_situation-IsSituation}
+use Rattle.apt_meaning.proofs.Walks.Compiled.{compiled_follows, compiled_passes}
+use Rattle.apt_meaning.proofs.Walks.Ends.{ends_once}
+use Rattle.apt_meaning.proofs.Walks.Files.{compiled_fit}
+use Rattle.apt_meaning.proofs.Walks.Stands.{stands}
 use Rattle.apt_machine.specs.declared.machine.Machine.{Machine}
 use Rattle.apt_machine.specs.Machines.{IsMachine}
 use Rattle.apt_post.specs.Limits.{limits}
@@ -42,7 +42,7 @@ use Rattle.apt_part.proofs.Written.{compiled_written}
 
 -- a fact of all programs of texts
 of_text : (P : List Stmt → Type 0) (text : List ℕ) (statements : List Stmt) → program_of text ≡ Ok statements → IfOk (program_of text) P → P statements
-of_text P text statements read all = subst (λ (q : Result (List Stmt) Fault). IfOk q P) read all
+of_text P text statements read all = subst (λ (q : Result (List Stmt) TextFault). IfOk q P) read all
 
 -- ---- steps that pass
 
@@ -80,7 +80,7 @@ kept_steps : (steps now : List Step) (r : Option Refusal) → unless_refused ste
 kept_steps steps now None h = (cc, refl)
 kept_steps steps now (Some refusal) h = absurd cc
 
-steps_read : (machine : Machine) (text : List ℕ) (r : Result (List Stmt) Fault) (steps : List Step) → program_of text ≡ r → steps_or_fault machine r ≡ Ok (Ok steps) → Passes machine text steps
+steps_read : (machine : Machine) (text : List ℕ) (r : Result (List Stmt) TextFault) (steps : List Step) → program_of text ≡ r → steps_or_fault machine r ≡ Ok (Ok steps) → Passes machine text steps
 steps_read machine text (Ok statements) steps read h =
     let u = trace_of statements in
     let kept = kept_steps u.steps steps (refusal_by machine u) cc in
@@ -124,7 +124,7 @@ had_steps : (steps : List Step) (r : Result (List Record) Refusal) (p : Compiled
 had_steps steps (Ok records) p h = (cc, cc)
 had_steps steps (Err refusal) p h = absurd cc
 
-were_read : (machine : Machine) (text : List ℕ) (r : Result (List Stmt) Fault) (p : Compiled) → program_of text ≡ r → or_fault machine r ≡ Ok (Ok p) → WereRead machine text p
+were_read : (machine : Machine) (text : List ℕ) (r : Result (List Stmt) TextFault) (p : Compiled) → program_of text ≡ r → or_fault machine r ≡ Ok (Ok p) → WereRead machine text p
 were_read machine text (Ok statements) p read h =
     let had = had_steps (trace_of statements).steps (records_by machine (trace_of statements)) p cc in
     record { statements = statements; read = read; steps = had.0; recorded = had.1 }

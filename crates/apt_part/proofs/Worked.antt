@@ -16,7 +16,7 @@ use Rattle.apt_words.specs.declared.body.Stmt.{Stmt}
 use Rattle.apt_lexis.specs.declared.cause.PartCause.TheVariants as causes
 use Rattle.apt_expr.specs.Expressions.{expression}
 use Rattle.apt_shapes.specs.Shapes.{shape}
-use Rattle.apt_parse.specs.Programs.{Fault, program_of}
+use Rattle.apt_parse.specs.Programs.{TextFault, program_of}
 use Rattle.apt_unroll.specs.Deeds.{by_values, executed, deed_of}
 use Rattle.apt_unroll.specs.Actions.{action}
 use Rattle.apt_unroll.specs.Trace.{trace_from, trace_of}
@@ -43,28 +43,28 @@ use Rattle.apt_part.specs.Compilation.{Compiled, records_by, part_of}
 abbrev largest : Machine
 largest = record { code = Rs358; seq = 1; feedmax = 9999; spinmax = 9999; toolmax = 99 }
 
-abbrev recorded : Result (List Stmt) Fault → Result (Result (List Record) Refusal) Fault
+abbrev recorded : Result (List Stmt) TextFault → Result (Result (List Record) Refusal) TextFault
 recorded (Ok statements) = Ok (records_by largest (trace_of statements))
 recorded (Err fault) = Err fault
 
 -- the records of a text
-abbrev records_of : List ℕ → Result (Result (List Record) Refusal) Fault
+abbrev records_of : List ℕ → Result (Result (List Record) Refusal) TextFault
 records_of text = recorded (program_of text)
 
-abbrev written : List Record → Result (Result (List Record) Refusal) Fault
+abbrev written : List Record → Result (Result (List Record) Refusal) TextFault
 written rs = Ok (Ok rs)
 
-abbrev planned : Result (Result Compiled Refusal) Fault → Result (Result ActsAndSegments Refusal) Fault
+abbrev planned : Result (Result Compiled Refusal) TextFault → Result (Result ActsAndSegments Refusal) TextFault
 planned (Ok (Ok p)) = Ok (Ok (planning p.records))
 planned (Ok (Err refusal)) = Ok (Err refusal)
 planned (Err fault) = Err fault
 
 -- the acts of a text
-abbrev acts_of : List ℕ → Result (Result ActsAndSegments Refusal) Fault
+abbrev acts_of : List ℕ → Result (Result ActsAndSegments Refusal) TextFault
 acts_of text = planned (part_of largest text)
 
 -- the n-th step, on the n-th line
-abbrev refused : ℕ → Case → Result (Result (List Record) Refusal) Fault
+abbrev refused : ℕ → Case → Result (Result (List Record) Refusal) TextFault
 refused n case = Ok (Err (record { line = n; step = n; case = case }))
 
 abbrev said : ℕ → ℕ → Note → List Record

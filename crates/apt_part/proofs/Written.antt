@@ -40,8 +40,8 @@ use Rattle.apt_words.proofs.Rows.{first_none}
 use Rattle.apt_meaning.proofs.Said.{IsNoteOf, IsSetBy, IsSaidBy, said_by}
 use Rattle.apt_meaning.proofs.Fed.{IsFed, fed}
 use Rattle.apt_meaning.proofs.Asked.{answered}
-use Rattle.apt_meaning.proofs.Kept.{kept, records_in}
-use Rattle.apt_meaning.proofs.Walk.{done, front_ok, nothing_left, fit, after_points, behind_step}
+use Rattle.apt_meaning.proofs.Walks.Kept.{kept, records_in}
+use Rattle.apt_meaning.proofs.Walks.Compiled.{done, front_ok, nothing_left, fit, after_points, behind_step}
 use Rattle.apt_machine.specs.declared.machine.Machine.{Machine}
 use Rattle.apt_machine.specs.Machines.{IsMachine}
 use Rattle.apt_control.specs.declared.Act.{Act}

@@ -4,7 +4,7 @@ use Rattle.std.specs.Option.{option_or}
 use Rattle.apt_words.specs.declared.Refusal.{Refusal}
 use Rattle.apt_words.specs.declared.body.Stmt.{Stmt}
 use Rattle.apt_words.specs.declared.deed.Step.{Step}
-use Rattle.apt_parse.specs.Programs.{Fault, program_of}
+use Rattle.apt_parse.specs.Programs.{TextFault, program_of}
 use Rattle.apt_unroll.specs.Trace.{Trace, trace_of}
 use Rattle.apt_cldata.specs.declared.record.Record.{Record}
 use Rattle.apt_meaning.specs.Situations.{first_situation}
@@ -36,12 +36,12 @@ unless_refused steps (Some refusal) = Err refusal
 abbrev pub steps_by : Machine → List Stmt → Result (List Step) Refusal
 steps_by m statements = unless_refused (trace_of statements).steps (refusal_by m (trace_of statements))
 
-abbrev pub steps_or_fault : Machine → Result (List Stmt) Fault → Result (Result (List Step) Refusal) Fault
+abbrev pub steps_or_fault : Machine → Result (List Stmt) TextFault → Result (Result (List Step) Refusal) TextFault
 steps_or_fault m (Ok statements) = Ok (steps_by m statements)
 steps_or_fault m (Err fault) = Err fault
 
 -- the first fault of a text, else the first refused step of its statements, else its steps
-abbrev pub steps_of : Machine → List ℕ → Result (Result (List Step) Refusal) Fault
+abbrev pub steps_of : Machine → List ℕ → Result (Result (List Step) Refusal) TextFault
 steps_of m text = steps_or_fault m (program_of text)
 
 -- ---- records
@@ -77,10 +77,10 @@ with_steps steps (Err refusal) = Err refusal
 abbrev pub part_by : Machine → List Stmt → Result Compiled Refusal
 part_by m statements = with_steps (trace_of statements).steps (records_by m (trace_of statements))
 
-abbrev pub or_fault : Machine → Result (List Stmt) Fault → Result (Result Compiled Refusal) Fault
+abbrev pub or_fault : Machine → Result (List Stmt) TextFault → Result (Result Compiled Refusal) TextFault
 or_fault m (Ok statements) = Ok (part_by m statements)
 or_fault m (Err fault) = Err fault
 
 -- the first fault of a text, else the first refused step of its statements, else what they come to
-abbrev pub part_of : Machine → List ℕ → Result (Result Compiled Refusal) Fault
+abbrev pub part_of : Machine → List ℕ → Result (Result Compiled Refusal) TextFault
 part_of m text = or_fault m (program_of text)

@@ -14,9 +14,9 @@ pub kept : (sense z : ℤ) → IsSense sense → ¬ (sense <ℤ pos 0) → z ≡
 kept sense z (inl e) p = rw e (omega (arith, ints))
 kept sense z (inr e) p = absurd (p (omega (arith, ints)))
 
-pub turned : (sense z : ℤ) → IsSense sense → sense <ℤ pos 0 → neg_ℤ z ≡ sense *ℤ z
-turned sense z (inl e) p = absurd (omega (arith, ints))
-turned sense z (inr e) p = rw e (omega (arith, ints))
+pub negated : (sense z : ℤ) → IsSense sense → sense <ℤ pos 0 → neg_ℤ z ≡ sense *ℤ z
+negated sense z (inl e) p = absurd (omega (arith, ints))
+negated sense z (inr e) p = rw e (omega (arith, ints))
 
 is_positive : (z : ℤ) → IsTrue (int_lt (pos 0) z) ↔ (pos 0 <ℤ z)
 is_positive z = (λ t. grind (arith, ints), λ p. grind (arith, ints))

@@ -8,6 +8,6 @@ mod segments;
 pub mod vectors;
 
 pub use figures::{Axis, Band, Circ, Dir, Line, Moved, Pt, Spot, Surface};
-pub use order::before;
+pub use order::{before, by_sense};
 pub use rings::segment_in_ring;
 pub use segments::{segment_in_line_band, segment_over, segment_under};

@@ -22,7 +22,7 @@ pub fn before(s: Dir, u: Dir, v: Dir, sense: i8) -> bool
     is_earlier(
         turn_class(s, u, sense),
         turn_class(s, v, sense),
-        turned(sense, cross(u, v)),
+        by_sense(sense, cross(u, v)),
     )
 }
 
@@ -40,7 +40,7 @@ fn turn_class(s: Dir, u: Dir, sense: i8) -> u8
     requires sense { IsSense sense }
     ensures { result ≡ spec.turn_class s sense u }
 {
-    class_of(sign_of(turned(sense, cross(s, u))), sign_of(dot(s, u)))
+    class_of(sign_of(by_sense(sense, cross(s, u))), sign_of(dot(s, u)))
 }
 
 fn class_of(aside: Sign, ahead: Sign) -> u8
@@ -56,8 +56,9 @@ fn class_of(aside: Sign, ahead: Sign) -> u8
     }
 }
 
-#[tactic(auto, using(crate::proofs::Turns::kept, crate::proofs::Turns::turned))]
-fn turned(sense: i8, area: i128) -> i128
+/// A number by the sense of a turn.
+#[tactic(auto, using(crate::proofs::Turns::kept, crate::proofs::Turns::negated))]
+pub fn by_sense(sense: i8, area: i128) -> i128
     requires sense { IsSense sense }
     requires area { unsigned_abs area ≤ 2 ^ 125 }
     ensures { result ≡ sense *ℤ area }

@@ -9,7 +9,7 @@ use Rattle.apt_words.specs.declared.Units.{Units}
 use Rattle.apt_machine.specs.declared.machine.Machine.{Machine}
 use Rattle.apt_block.specs.declared.block.TapeWord.{TapeWord}
 use Rattle.apt_block.specs.declared.block.TapeCause.TheVariants as causes
-use Rattle.apt_block.specs.declared.block.Fault.{Fault}
+use Rattle.apt_block.specs.declared.block.BlockFault.{BlockFault}
 use Rattle.apt_block.specs.Block.{fault, marks, spelling, word_text, line_feed, is_word_character, IsBlock}
 use Rattle.apt_block.proofs.Reading.{block_of-spelling, word_characters}
 use Rattle.apt_control.specs.declared.Act.{Act}
@@ -91,7 +91,7 @@ acts-characters step k (act ∷ more) is =
 -- ---- the run
 
 -- the tape's end
-abbrev cut_at : ℕ → Fault
+abbrev cut_at : ℕ → BlockFault
 cut_at place = fault place causes.Truncated
 
 -- acts from anywhere on, where the units are known

@@ -6,8 +6,8 @@ use Rattle.apt_words.specs.Chains.{◌>>=◌}
 use Rattle.apt_words.specs.declared.Case.{Case}
 use Rattle.apt_words.specs.declared.expr.Op.{Op}
 use Rattle.apt_words.specs.declared.expr.Op.TheVariants as ops
-use Rattle.apt_words.specs.declared.parts.Part.{Part}
-use Rattle.apt_words.specs.declared.parts.Parts.{Parts}
+use Rattle.apt_words.specs.declared.postfix.Item.{Item}
+use Rattle.apt_words.specs.declared.postfix.Postfix.{Postfix}
 use Rattle.apt_words.specs.Trees.{Tree, Num, Name, Neg, Bin, Root, Abs, operators}
 use Rattle.apt_words.specs.TreeParts.{parts, built, right, with_number}
 use Rattle.apt_scalar.specs.Scalars.{in_range, apply, square_root, size}
@@ -19,10 +19,10 @@ pushed_below : (v : ℤ) (vs : List ℤ) → length vs < room → pushed v vs �
 pushed_below v vs h = grind (arith, nat_tests)
 
 -- what follows a value that is put on the stack
-abbrev then_all : Names → Parameters → Result ℤ Case → List Part → List ℤ → Result (List ℤ) Case
+abbrev then_all : Names → Parameters → Result ℤ Case → List Item → List ℤ → Result (List ℤ) Case
 then_all names ps r more vs = r >>= λ v. behind_all names ps more (v ∷ vs)
 
-with_room : (names : Names) (ps : Parameters) (r : Result ℤ Case) (more : List Part) (vs : List ℤ) → length vs < room
+with_room : (names : Names) (ps : Parameters) (r : Result ℤ Case) (more : List Item) (vs : List ℤ) → length vs < room
     → (with_value r vs >>= behind_all names ps more) ≡ then_all names ps r more vs
 with_room names ps (Ok v) more vs h = ap (behind_all names ps more) (pushed_below v vs h)
 with_room names ps (Err case) more vs h = refl
@@ -42,7 +42,7 @@ behind_number names ps ops.Mul v vs = refl
 behind_number names ps ops.Div v vs = refl
 
 -- what the parts of a right operand and its operator do, where it is known of other trees than numbers
-right_stacked : (names : Names) (ps : Parameters) (op : Op) (b : Tree) (others more : List Part) (x : ℤ) (vs : List ℤ) → length vs < room
+right_stacked : (names : Names) (ps : Parameters) (op : Op) (b : Tree) (others more : List Item) (x : ℤ) (vs : List ℤ) → length vs < room
     → behind_all names ps others (x ∷ vs) ≡ then_all names ps (value_of names ps b >>= apply op x) more vs
     → behind_all names ps (right op b others more) (x ∷ vs) ≡ then_all names ps (value_of names ps b >>= apply op x) more vs
 right_stacked names ps op (Num v) others more x vs h e =
@@ -55,7 +55,7 @@ right_stacked names ps op (Root t) others more x vs h e = e
 right_stacked names ps op (Abs t) others more x vs h e = e
 
 -- the parts of a tree put its value on the stack
-stacked : (names : Names) (ps : Parameters) (t : Tree) (more : List Part) (vs : List ℤ) → length vs + operators t < room
+stacked : (names : Names) (ps : Parameters) (t : Tree) (more : List Item) (vs : List ℤ) → length vs + operators t < room
     → behind_all names ps (parts t more) vs ≡ then_all names ps (value_of names ps t) more vs
 stacked names ps (Num v) more vs h = with_room names ps (in_range v) more vs (omega arith)
 stacked names ps (Name name) more vs h = with_room names ps (scalar_named names ps name) more vs (omega arith)
@@ -84,7 +84,7 @@ latest : (r : Result ℤ Case) → (r >>= (λ v. Ok (v ∷ [])) >>= λ vs. Ok (t
 latest (Ok v) = refl
 latest (Err case) = refl
 
-pub value_on_stack : (names : Names) (ps : Parameters) (e : Parts) → value_behind names ps e.items.items ≡ value_of names ps (built e.items.items [])
+pub value_on_stack : (names : Names) (ps : Parameters) (e : Postfix) → value_behind names ps e.items.items ≡ value_of names ps (built e.items.items [])
 value_on_stack names ps e =
     let t = built e.items.items [] in
     let small : 0 + operators t < room = omega (arith, e.small) in

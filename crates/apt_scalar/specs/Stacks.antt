@@ -4,8 +4,8 @@ use Rattle.apt_words.specs.Chains.{◌>>=◌}
 use Rattle.apt_words.specs.declared.Case.{Case}
 use Rattle.apt_words.specs.declared.expr.Op.{Op}
 use Rattle.apt_words.specs.declared.expr.Op.TheVariants as ops
-use Rattle.apt_words.specs.declared.parts.Part.{Part}
-use Rattle.apt_words.specs.declared.parts.Part.TheVariants as marks
+use Rattle.apt_words.specs.declared.postfix.Item.{Item}
+use Rattle.apt_words.specs.declared.postfix.Item.TheVariants as marks
 use Rattle.apt_scalar.specs.Scalars.{in_range, apply, square_root, size}
 use Rattle.apt_scalar.specs.Meanings.{Names, Parameters, scalar_named}
 
@@ -32,7 +32,7 @@ with_value r vs = r >>= λ v. Ok (pushed v vs)
 abbrev pub beside : Op → ℤ → List ℤ → Result ℤ Case
 beside op v vs = in_range v >>= apply op (top vs)
 
-abbrev pub behind : Names → Parameters → Part → List ℤ → Result (List ℤ) Case
+abbrev pub behind : Names → Parameters → Item → List ℤ → Result (List ℤ) Case
 behind names parameters (marks.Num v) vs = with_value (in_range v) vs
 behind names parameters (marks.Name name) vs = with_value (scalar_named names parameters name) vs
 behind names parameters marks.Neg vs = with_value (Ok (neg_ℤ (top vs))) (below vs)
@@ -44,9 +44,9 @@ behind names parameters (marks.SubNum v) vs = with_value (beside ops.Sub v vs) (
 behind names parameters (marks.MulNum v) vs = with_value (beside ops.Mul v vs) (below vs)
 behind names parameters (marks.DivNum v) vs = with_value (beside ops.Div v vs) (below vs)
 
-abbrev pub behind_all : Names → Parameters → List Part → List ℤ → Result (List ℤ) Case
+abbrev pub behind_all : Names → Parameters → List Item → List ℤ → Result (List ℤ) Case
 behind_all names parameters [] vs = Ok vs
 behind_all names parameters (p ∷ ps) vs = behind names parameters p vs >>= behind_all names parameters ps
 
-abbrev pub value_behind : Names → Parameters → List Part → Result ℤ Case
+abbrev pub value_behind : Names → Parameters → List Item → Result ℤ Case
 value_behind names parameters ps = behind_all names parameters ps [] >>= λ vs. Ok (top vs)

@@ -7,7 +7,7 @@ ghost use Rattle.apt_scalar.specs.Evaluation as values;
 use crate::names::{Env, Frame, scalar_named};
 use crate::scalars::{apply, in_range, size, square_root};
 use crate::stack::Stack;
-use apt_words::{Case, Expr, Millionths, Node, Op, Part};
+use apt_words::{Case, Expr, Item, Millionths, Node, Op};
 
 /// The value of an expression, or its first refusal: the left operand before the right, operands before
 /// their operator.
@@ -23,11 +23,11 @@ pub fn eval(e: &Expr, env: &Env, frame: &Frame) -> Result<i64, Case>
             Ok(-v)
         }
         Node::Name(name) => scalar_named(name, env, frame),
-        Node::Parts(parts) => value_behind(&parts.items, env, frame),
+        Node::Postfix(parts) => value_behind(&parts.items, env, frame),
     }
 }
 
-fn value_behind(parts: &[Part], env: &Env, frame: &Frame) -> Result<i64, Case>
+fn value_behind(parts: &[Item], env: &Env, frame: &Frame) -> Result<i64, Case>
     ensures value { result ≡ stacks.value_behind env.now frame.now parts.now }
     ensures scalar { IfOk result (λ v. scalars.IsScalar v) }
 {
@@ -39,25 +39,25 @@ fn value_behind(parts: &[Part], env: &Env, frame: &Frame) -> Result<i64, Case>
 }
 
 /// Takes the operands of a part from the stack, and puts its value there.
-fn put(stack: &mut Stack, part: &Part, env: &Env, frame: &Frame) -> Result<(), Case>
+fn put(stack: &mut Stack, part: &Item, env: &Env, frame: &Frame) -> Result<(), Case>
     ensures ok { OnOk result (stacks.behind env.now frame.now part.now stack.old ≡ Ok stack.new) }
     ensures err { IfErr result (λ case. stacks.behind env.now frame.now part.now stack.old ≡ Err case) }
 {
     let v = match part {
-        Part::Num(v) => in_range(i128::from(v.value()))?,
-        Part::Name(name) => scalar_named(name, env, frame)?,
-        Part::Neg => -stack.pop(),
-        Part::Root => square_root(stack.pop())?,
-        Part::Abs => size(stack.pop()),
-        Part::Bin(op) => {
+        Item::Num(v) => in_range(i128::from(v.value()))?,
+        Item::Name(name) => scalar_named(name, env, frame)?,
+        Item::Neg => -stack.pop(),
+        Item::Root => square_root(stack.pop())?,
+        Item::Abs => size(stack.pop()),
+        Item::Bin(op) => {
             let right = stack.pop();
             let left = stack.pop();
             apply(*op, left, right)?
         }
-        Part::AddNum(v) => beside(Op::Add, stack, v)?,
-        Part::SubNum(v) => beside(Op::Sub, stack, v)?,
-        Part::MulNum(v) => beside(Op::Mul, stack, v)?,
-        Part::DivNum(v) => beside(Op::Div, stack, v)?,
+        Item::AddNum(v) => beside(Op::Add, stack, v)?,
+        Item::SubNum(v) => beside(Op::Sub, stack, v)?,
+        Item::MulNum(v) => beside(Op::Mul, stack, v)?,
+        Item::DivNum(v) => beside(Op::Div, stack, v)?,
     };
     stack.push(v);
     Ok(())

@@ -47,8 +47,8 @@ abbrev pub is_word : Word → List Token → Bool
 is_word v (tokens.Word w ∷ []) = bytes_eq (spelling v) w
 is_word v _ = false
 
-abbrev pub said : Word → List Token → Option Bool
-said v a = only_if (is_word v a) true
+abbrev pub says : Word → List Token → Option Bool
+says v a = only_if (is_word v a) true
 
 abbrev pub pick_of : Option Word → Option Pick
 pick_of (Some words.Xlarge) = Some picks.XLarge

@@ -6,7 +6,7 @@ use Rattle.apt_words.specs.declared.word.Word.TheVariants as words
 use Rattle.apt_words.specs.Options.{◌>>=◌}
 use Rattle.apt_lexis.specs.declared.token.Token.{Token}
 use Rattle.apt_expr.specs.Expressions.{expression}
-use Rattle.apt_shapes.specs.Arguments.{name, pick, is_left, said, or_else}
+use Rattle.apt_shapes.specs.Arguments.{name, pick, is_left, says, or_else}
 
 -- the name that is defined
 abbrev pub Name : Type 0
@@ -26,15 +26,15 @@ point_xyz n x y z = expression x >>= λ x. expression y >>= λ y. expression z >
 
 -- POINT/CENTER,c
 abbrev pub point_center : Name → List Token → List Token → Option Body
-point_center n center c = said words.Center center >>= λ _. name c >>= λ c. Some (bodies.PointCenter n c)
+point_center n center c = says words.Center center >>= λ _. name c >>= λ c. Some (bodies.PointCenter n c)
 
 -- POINT/INTOF,l,l
 abbrev pub point_lines : Name → List Token → List Token → List Token → Option Body
-point_lines n intof a b = said words.Intof intof >>= λ _. name a >>= λ a. name b >>= λ b. Some (bodies.PointLines n a b)
+point_lines n intof a b = says words.Intof intof >>= λ _. name a >>= λ a. name b >>= λ b. Some (bodies.PointLines n a b)
 
 -- POINT/k,INTOF,s,s
 abbrev pub point_pick : Name → List Token → List Token → List Token → List Token → Option Body
-point_pick n k intof a b = pick k >>= λ k. said words.Intof intof >>= λ _. name a >>= λ a. name b >>= λ b. Some (bodies.PointPick n k a b)
+point_pick n k intof a b = pick k >>= λ k. says words.Intof intof >>= λ _. name a >>= λ a. name b >>= λ b. Some (bodies.PointPick n k a b)
 
 abbrev pub point : Name → List (List Token) → Option Body
 point n (a ∷ b ∷ []) = or_else (point_center n a b) (point_xy n a b)
@@ -50,11 +50,11 @@ line_points n p q = name p >>= λ p. name q >>= λ q. Some (bodies.LinePoints n 
 
 -- LINE/p,PARLEL,l
 abbrev pub line_par : Name → List Token → List Token → List Token → Option Body
-line_par n p parlel l = name p >>= λ p. said words.Parlel parlel >>= λ _. name l >>= λ l. Some (bodies.LinePar n p l)
+line_par n p parlel l = name p >>= λ p. says words.Parlel parlel >>= λ _. name l >>= λ l. Some (bodies.LinePar n p l)
 
 -- LINE/p,PERPTO,l
 abbrev pub line_perp : Name → List Token → List Token → List Token → Option Body
-line_perp n p perpto l = name p >>= λ p. said words.Perpto perpto >>= λ _. name l >>= λ l. Some (bodies.LinePerp n p l)
+line_perp n p perpto l = name p >>= λ p. says words.Perpto perpto >>= λ _. name l >>= λ l. Some (bodies.LinePerp n p l)
 
 -- LINE/e,e,e,e
 abbrev pub line_xy : Name → List Token → List Token → List Token → List Token → Option Body
@@ -62,17 +62,17 @@ line_xy n x y u v = expression x >>= λ x. expression y >>= λ y. expression u >
 
 -- LINE/PARLEL,l,k,e
 abbrev pub line_at : Name → List Token → List Token → List Token → List Token → Option Body
-line_at n parlel l k e = said words.Parlel parlel >>= λ _. name l >>= λ l. pick k >>= λ k. expression e >>= λ e. Some (bodies.LineAt n l k e)
+line_at n parlel l k e = says words.Parlel parlel >>= λ _. name l >>= λ l. pick k >>= λ k. expression e >>= λ e. Some (bodies.LineAt n l k e)
 
 -- LINE/p,h,TANTO,c
 abbrev pub line_tan : Name → List Token → List Token → List Token → List Token → Option Body
-line_tan n p h tanto c = name p >>= λ p. is_left h >>= λ h. said words.Tanto tanto >>= λ _. name c >>= λ c. Some (bodies.LineTan n p h c)
+line_tan n p h tanto c = name p >>= λ p. is_left h >>= λ h. says words.Tanto tanto >>= λ _. name c >>= λ c. Some (bodies.LineTan n p h c)
 
 -- LINE/h,TANTO,c,h,TANTO,c
 abbrev pub line_two : Name → List Token → List Token → List Token → List Token → List Token → List Token → Option Body
 line_two n h tanto c k tanto' d =
-    is_left h >>= λ h. said words.Tanto tanto >>= λ _. name c >>= λ c.
-    is_left k >>= λ k. said words.Tanto tanto' >>= λ _. name d >>= λ d. Some (bodies.LineTwo n h c k d)
+    is_left h >>= λ h. says words.Tanto tanto >>= λ _. name c >>= λ c.
+    is_left k >>= λ k. says words.Tanto tanto' >>= λ _. name d >>= λ d. Some (bodies.LineTwo n h c k d)
 
 abbrev pub line_of_four : Name → List Token → List Token → List Token → List Token → Option Body
 line_of_four n a b c d = or_else (line_at n a b c d) (or_else (line_tan n a b c d) (line_xy n a b c d))
@@ -92,23 +92,23 @@ circle_three n x y r = expression x >>= λ x. expression y >>= λ y. expression 
 
 -- CIRCLE/CENTER,p,p
 abbrev pub circle_through : Name → List Token → List Token → List Token → Option Body
-circle_through n center p q = said words.Center center >>= λ _. name p >>= λ p. name q >>= λ q. Some (bodies.CircleThrough n p q)
+circle_through n center p q = says words.Center center >>= λ _. name p >>= λ p. name q >>= λ q. Some (bodies.CircleThrough n p q)
 
 -- CIRCLE/CENTER,p,RADIUS,e
 abbrev pub circle_radius : Name → List Token → List Token → List Token → List Token → Option Body
 circle_radius n center p radius e =
-    said words.Center center >>= λ _. name p >>= λ p. said words.Radius radius >>= λ _. expression e >>= λ e. Some (bodies.CircleRadius n p e)
+    says words.Center center >>= λ _. name p >>= λ p. says words.Radius radius >>= λ _. expression e >>= λ e. Some (bodies.CircleRadius n p e)
 
 -- CIRCLE/CENTER,p,TANTO,l
 abbrev pub circle_tan : Name → List Token → List Token → List Token → List Token → Option Body
 circle_tan n center p tanto l =
-    said words.Center center >>= λ _. name p >>= λ p. said words.Tanto tanto >>= λ _. name l >>= λ l. Some (bodies.CircleTan n p l)
+    says words.Center center >>= λ _. name p >>= λ p. says words.Tanto tanto >>= λ _. name l >>= λ l. Some (bodies.CircleTan n p l)
 
 -- CIRCLE/k,l,k,l,RADIUS,e
 abbrev pub circle_corner : Name → List Token → List Token → List Token → List Token → List Token → List Token → Option Body
 circle_corner n j a k b radius e =
     pick j >>= λ j. name a >>= λ a. pick k >>= λ k. name b >>= λ b.
-    said words.Radius radius >>= λ _. expression e >>= λ e. Some (bodies.CircleCorner n j a k b e)
+    says words.Radius radius >>= λ _. expression e >>= λ e. Some (bodies.CircleCorner n j a k b e)
 
 abbrev pub circle : Name → List (List Token) → Option Body
 circle n (a ∷ b ∷ c ∷ []) = or_else (circle_through n a b c) (circle_three n a b c)

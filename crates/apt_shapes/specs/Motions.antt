@@ -83,6 +83,6 @@ contour side turn (drive ∷ q ∷ check ∷ []) =
 contour side turn _ = None
 
 -- a contour behind a tool word and a comma
-abbrev pub turned : Option Side → List Token → Option Body
-turned side (tokens.Word w ∷ tokens.Slash ∷ ts) = turn_of (word_of w) >>= λ turn. contour side turn (arguments ts)
-turned side _ = None
+abbrev pub contour_behind : Option Side → List Token → Option Body
+contour_behind side (tokens.Word w ∷ tokens.Slash ∷ ts) = turn_of (word_of w) >>= λ turn. contour side turn (arguments ts)
+contour_behind side _ = None

@@ -14,7 +14,7 @@ use Rattle.apt_words.specs.Options.{◌>>=◌}
 use Rattle.apt_words.specs.Trees.{Tree}
 use Rattle.apt_lexis.specs.declared.token.Token.{Token}
 use Rattle.apt_expr.specs.Expressions.{expression}
-use Rattle.apt_shapes.specs.Arguments.{word, said, or_else}
+use Rattle.apt_shapes.specs.Arguments.{word, says, or_else}
 
 -- PARTNO text, REMARK text
 abbrev pub titled : Option Word → List ℕ → Option Body
@@ -51,7 +51,7 @@ spindle_turn (Some words.Cclw) = Some turns.Ccw
 spindle_turn _ = None
 
 abbrev pub spindl_off : List Token → Option Body
-spindl_off a = said words.Off a >>= λ _. Some bodies.SpindlOff
+spindl_off a = says words.Off a >>= λ _. Some bodies.SpindlOff
 
 abbrev pub spindl_on : List Token → Turn → Option Body
 spindl_on e turn = expression e >>= λ e. Some (bodies.Spindl e turn)

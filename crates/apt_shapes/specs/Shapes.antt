@@ -13,7 +13,7 @@ use Rattle.apt_lexis.specs.declared.token.Token.TheVariants as tokens
 use Rattle.apt_shapes.specs.declared.table.Labelled.{Labelled}
 use Rattle.apt_shapes.specs.Arguments.{arguments, or_else}
 use Rattle.apt_shapes.specs.Figures.{assign, point, line, circle}
-use Rattle.apt_shapes.specs.Motions.{from, goto, godlta, start, contour, turned, side_of}
+use Rattle.apt_shapes.specs.Motions.{from, goto, godlta, start, contour, contour_behind, side_of}
 use Rattle.apt_shapes.specs.Settings.{titled, one, machin, units_in, spindl, coolnt}
 use Rattle.apt_shapes.specs.Flow.{macro, call, jumpto, if_in}
 
@@ -81,14 +81,14 @@ defined n (tokens.Word w ∷ tokens.Slash ∷ ts) = figure n (word_of w) (argume
 defined n (tokens.Word w ∷ []) = macro_alone n (word_of w)
 defined n _ = None
 
-abbrev pub named : List ℕ → List Token → Option Body
-named n ts = only_if (is_name n) n >>= λ n. or_else (defined n ts) (assign n ts)
+abbrev pub behind_equals : List ℕ → List Token → Option Body
+behind_equals n ts = only_if (is_name n) n >>= λ n. or_else (defined n ts) (assign n ts)
 
 -- ---- statements
 
 -- a tool word, a comma and a contour
 abbrev pub with_side : Option Word → List Token → Option Body
-with_side w ts = side_of w >>= λ side. turned (Some side) ts
+with_side w ts = side_of w >>= λ side. contour_behind (Some side) ts
 
 abbrev pub if_word : Option Word → List Token → Option Body
 if_word (Some words.If) ts = if_in (arguments ts)
@@ -97,7 +97,7 @@ if_word _ ts = None
 abbrev pub untitled : List Token → Option Body
 untitled (tokens.Word w ∷ []) = alone (word_of w)
 untitled (tokens.Word w ∷ tokens.Slash ∷ ts) = with_arguments (word_of w) (arguments ts)
-untitled (tokens.Word w ∷ tokens.Equals ∷ ts) = named w ts
+untitled (tokens.Word w ∷ tokens.Equals ∷ ts) = behind_equals w ts
 untitled (tokens.Word w ∷ tokens.Comma ∷ ts) = with_side (word_of w) ts
 untitled (tokens.Word w ∷ tokens.Open ∷ ts) = if_word (word_of w) ts
 untitled _ = None

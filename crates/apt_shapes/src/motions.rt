@@ -167,12 +167,12 @@ pub(crate) fn onward(turn: Go, args: &[&[Token]]) -> Result<Option<Body>, AllocE
 }
 
 /// A contour behind a tool word and a comma.
-pub(crate) fn turned(
+pub(crate) fn contour_behind(
     alloc: Global,
     side: Option<Side>,
     tokens: &[Token],
 ) -> Result<Option<Body>, AllocError>
-    ensures { IfOk result (λ b. b ≡ motions.turned side tokens.now) }
+    ensures { IfOk result (λ b. b ≡ motions.contour_behind side tokens.now) }
 {
     let [Token::Word(word), Token::Slash, rest @ ..] = tokens else {
         return Ok(None);

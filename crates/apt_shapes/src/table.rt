@@ -9,7 +9,7 @@ ghost use Rattle.apt_shapes.specs.Shapes as shapes;
 use crate::arguments::{arguments, at_comma, name_of};
 use crate::figures::{assign, circle, line, point};
 use crate::flow::{call, if_in, jumpto, macro_of};
-use crate::motions::{from, godlta, goto, onward, side_of, start, turned};
+use crate::motions::{from, godlta, goto, onward, side_of, start, contour_behind};
 use crate::settings::{
     coolnt, cutter, fedrat, intol, loadtl, machin, outtol, spindl, titled, units_in,
 };
@@ -142,8 +142,8 @@ fn defined_or_assigned(
     }
 }
 
-fn named(alloc: Global, word: &Symbol, tokens: &[Token]) -> Result<Option<Body>, AllocError>
-    ensures { IfOk result (λ b. b ≡ shapes.named word.now tokens.now) }
+fn behind_equals(alloc: Global, word: &Symbol, tokens: &[Token]) -> Result<Option<Body>, AllocError>
+    ensures { IfOk result (λ b. b ≡ shapes.behind_equals word.now tokens.now) }
 {
     let Some(n) = name_of(word) else {
         return Ok(None);
@@ -165,7 +165,7 @@ fn with_side(
     ensures { IfOk result (λ b. b ≡ shapes.with_side word tokens.now) }
 {
     match side_of(word) {
-        Some(side) => turned(alloc, Some(side), tokens),
+        Some(side) => contour_behind(alloc, Some(side), tokens),
         None => Ok(None),
     }
 }
@@ -217,7 +217,7 @@ fn untitled(alloc: Global, tokens: &[Token]) -> Result<Option<Body>, AllocError>
     match tokens {
         [Token::Word(word)] => Ok(alone(word_of(word))),
         [Token::Word(word), Token::Slash, rest @ ..] => { behind_slash(alloc, word_of(word), rest) }
-        [Token::Word(word), Token::Equals, rest @ ..] => named(alloc, word, rest),
+        [Token::Word(word), Token::Equals, rest @ ..] => behind_equals(alloc, word, rest),
         [Token::Word(word), Token::Comma, rest @ ..] => with_side(alloc, word_of(word), rest),
         [Token::Word(word), Token::Open, rest @ ..] => if_word(alloc, word_of(word), rest),
         _ => Ok(None),

@@ -9,7 +9,7 @@ use Rattle.apt_plane.specs.Distances.{IsRootAtMost}
 use Rattle.apt_plane.specs.Ranges.{IsRound}
 use Rattle.apt_canon.specs.Scale.{IsNearCircle}
 use Rattle.apt_offset.specs.Ranges.{IsCircleTarget}
-use Rattle.apt_canon.proofs.NearCircle.{not_negative}
+use Rattle.apt_canon.proofs.CircleMeetings.Near.{not_negative}
 use Rattle.apt_startup.specs.Ranges.{IsInSight}
 
 -- what a root at most a length says of the squares

@@ -6,9 +6,9 @@ use Rattle.apt_plane.specs.declared.figures.Dir.{Dir}
 use Rattle.apt_plane.specs.Vectors.{cross}
 use Rattle.apt_plane.specs.Ranges.{IsSense, IsLine}
 use Rattle.apt_canon.proofs.Ways.{way-IsDir}
-use Rattle.apt_canon.proofs.MeetingLaws.{meeting_point-near}
-use Rattle.apt_canon.proofs.LineCircleLaws.{point_on_line, point_on_circle}
-use Rattle.apt_canon.proofs.CircleCircleLaws.{TwoCircles, point_on_first, point_on_second}
+use Rattle.apt_canon.proofs.LineMeetings.Meeting.{meeting_point-near}
+use Rattle.apt_canon.proofs.CircleMeetings.LineCircle.{point_on_line, point_on_circle}
+use Rattle.apt_canon.proofs.CircleMeetings.CircleCircle.{TwoCircles, point_on_first, point_on_second}
 use Rattle.apt_offset.specs.declared.Target.{Target}
 use Rattle.apt_offset.specs.declared.Target.TheVariants as targets
 use Rattle.apt_offset.specs.Ranges.{IsTarget, IsLineTarget, IsCircleTarget}

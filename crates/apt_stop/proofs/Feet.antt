@@ -11,8 +11,8 @@ use Rattle.apt_plane.specs.declared.figures.Surface.TheVariants as surfaces
 use Rattle.apt_plane.specs.Vectors.{displacement, dot, length_squared}
 use Rattle.apt_plane.specs.Ranges.{IsSense, IsLine, IsCircle}
 use Rattle.apt_canon.specs.Feet.{foot_point}
-use Rattle.apt_canon.proofs.LineCircleLaws.{sense_size}
-use Rattle.apt_canon.proofs.FootLaws.{foot_near, foot_across}
+use Rattle.apt_canon.proofs.CircleMeetings.LineCircle.{sense_size}
+use Rattle.apt_canon.proofs.FootPoints.Laws.{foot_near, foot_across}
 use Rattle.apt_offset.specs.declared.Target.TheVariants as targets
 use Rattle.apt_offset.specs.Sides.{side_at_tangency}
 use Rattle.apt_offset.specs.Targets.{signed}

@@ -10,7 +10,7 @@ use Rattle.apt_plane.specs.declared.figures.Surface.{Surface}
 use Rattle.apt_plane.specs.Vectors.{displacement, cross, dot, length_squared}
 use Rattle.apt_plane.specs.Distances.{EveryPoint}
 use Rattle.apt_plane.proofs.Displacements.{cross_swap}
-use Rattle.apt_canon.proofs.Across.{point_further}
+use Rattle.apt_canon.proofs.CircleMeetings.Across.{point_further}
 use Rattle.apt_offset.specs.declared.Target.{Target}
 use Rattle.apt_offset.specs.declared.Target.TheVariants as targets
 use Rattle.apt_offset.specs.Ranges.{IsLineTarget, IsCircleTarget}

@@ -15,8 +15,8 @@ use Rattle.apt_plane.specs.Vectors.{displacement, cross, dot, length_squared}
 use Rattle.apt_plane.specs.Axes.{IsOnHalf, IsOnAxis}
 use Rattle.apt_plane.proofs.Displacements.{cross_swap, dot_swap}
 use Rattle.apt_canon.specs.Scale.{times}
-use Rattle.apt_canon.proofs.LineCircleLaws.{sense_size}
-use Rattle.apt_canon.proofs.Sharp.{ray_across, ray_forward}
+use Rattle.apt_canon.proofs.CircleMeetings.LineCircle.{sense_size}
+use Rattle.apt_canon.proofs.FootPoints.Sharp.{ray_across, ray_forward}
 use Rattle.apt_offset.specs.declared.Target.TheVariants as targets
 use Rattle.apt_offset.specs.Targets.{signed}
 use Rattle.apt_offset.specs.Ranges.{IsCircleTarget}

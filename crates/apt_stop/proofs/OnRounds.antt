@@ -11,8 +11,8 @@ use Rattle.apt_plane.specs.declared.figures.Surface.{Surface}
 use Rattle.apt_plane.specs.Vectors.{displacement, length_squared, perp}
 use Rattle.apt_plane.specs.Ranges.{IsSense, IsDir, IsPoint}
 use Rattle.apt_canon.specs.Scale.{times}
-use Rattle.apt_canon.proofs.LineCircleLaws.{sense_size}
-use Rattle.apt_canon.proofs.Rays.{ray_near}
+use Rattle.apt_canon.proofs.CircleMeetings.LineCircle.{sense_size}
+use Rattle.apt_canon.proofs.FootPoints.Rays.{ray_near}
 use Rattle.apt_canon.proofs.Ways.{way_is_dir}
 use Rattle.apt_offset.specs.declared.Target.{Target}
 use Rattle.apt_offset.specs.declared.Target.TheVariants as targets

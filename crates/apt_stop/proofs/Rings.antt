@@ -10,7 +10,7 @@ use Rattle.apt_plane.specs.Distances.{IsOver, IsUnder, about}
 use Rattle.apt_plane.proofs.Heights.{one-times}
 use Rattle.apt_plane.proofs.RingLaws.{root_at_most, length_at_most}
 use Rattle.apt_canon.specs.Scale.{IsNearCircle}
-use Rattle.apt_canon.proofs.NearCircle.{not_negative}
+use Rattle.apt_canon.proofs.CircleMeetings.Near.{not_negative}
 use Rattle.apt_contact.specs.Meetings.{circle_about}
 
 -- ---- at most a unit from the circle

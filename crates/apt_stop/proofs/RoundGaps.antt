@@ -13,7 +13,7 @@ use Rattle.apt_plane.specs.Vectors.{displacement, cross, dot, length_squared}
 use Rattle.apt_plane.proofs.Displacements.{lagrange}
 use Rattle.apt_plane.proofs.Heights.{one-times}
 use Rattle.apt_canon.specs.Scale.{IsNearCircle}
-use Rattle.apt_canon.proofs.LineCircleLaws.{sense_size}
+use Rattle.apt_canon.proofs.CircleMeetings.LineCircle.{sense_size}
 use Rattle.apt_contact.specs.Meetings.{circle_about}
 use Rattle.apt_offset.specs.Turns.{opposite}
 use Rattle.apt_offset.specs.Sides.{side_or_left, times as place_times}

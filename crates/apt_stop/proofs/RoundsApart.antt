@@ -15,7 +15,7 @@ use Rattle.apt_plane.specs.Vectors.{displacement, cross, dot, length_squared}
 use Rattle.apt_plane.proofs.Displacements.{cross_swap}
 use Rattle.apt_canon.specs.Circles.{HasSense}
 use Rattle.apt_canon.specs.Scale.{IsNearCircle}
-use Rattle.apt_canon.proofs.Across.{point_further, point_beyond}
+use Rattle.apt_canon.proofs.CircleMeetings.Across.{point_further, point_beyond}
 use Rattle.apt_offset.specs.declared.Target.{Target}
 use Rattle.apt_offset.specs.declared.Target.TheVariants as targets
 use Rattle.apt_offset.specs.Turns.{opposite}

@@ -20,7 +20,7 @@ use Rattle.apt_plane.specs.Vectors.{displacement, cross, dot, length_squared, pe
 use Rattle.apt_plane.specs.Axes.{IsOnAxis}
 use Rattle.apt_plane.proofs.Displacements.{lagrange}
 use Rattle.apt_canon.specs.Scale.{IsNearLine, IsNearCircle}
-use Rattle.apt_canon.proofs.NearCircle.{not_negative}
+use Rattle.apt_canon.proofs.CircleMeetings.Near.{not_negative}
 use Rattle.apt_offset.specs.Targets.{signed}
 use Rattle.apt_offset.specs.Sides.{side_at_tangency, inside_or_outside}
 use Rattle.apt_offset.specs.Turns.{opposite}

@@ -15,7 +15,7 @@ use Rattle.apt_plane.specs.Distances.{EveryPoint}
 use Rattle.apt_plane.proofs.RingLaws.{under-between, length_at_most}
 use Rattle.apt_canon.specs.Scale.{IsNearCircle}
 use Rattle.apt_canon.specs.Circles.{HasSense}
-use Rattle.apt_canon.proofs.LineCircleLaws.{sense_size}
+use Rattle.apt_canon.proofs.CircleMeetings.LineCircle.{sense_size}
 use Rattle.apt_offset.specs.declared.Target.TheVariants as targets
 use Rattle.apt_offset.specs.Targets.{signed}
 use Rattle.apt_contact.specs.Meetings.{circle_about}

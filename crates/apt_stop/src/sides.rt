@@ -17,7 +17,7 @@ use crate::nearness::{
 use apt_num::{Sign, compare, sign_of};
 use apt_offset::Target;
 use apt_plane::vectors::{cross, displacement, dot, height, length_squared, length_squared_of};
-use apt_plane::{Dir, Line, Pt};
+use apt_plane::{Dir, Line, Pt, by_sense};
 
 /// The side of a target on which a point is, and none where it is near.
 pub(crate) fn far_side(target: &Target, p: Pt) -> Option<Sign>
@@ -70,10 +70,10 @@ fn headed_side(c: &Course) -> Sign
             sign_of(way_on_to(c, *dir, *centre))
         }
         (Target::Circ { c: centre, .. }, Target::Line { dir, .. }) => {
-            sign_of(turned(c.sense, dot_short(displacement(*centre, c.start), *dir)))
+            sign_of(by_sense(c.sense, dot_short(displacement(*centre, c.start), *dir)))
         }
         (Target::Circ { c: centre, .. }, Target::Circ { c: other, .. }) => {
-            sign_of(turned(c.sense, off_axis(c, *centre, *other)))
+            sign_of(by_sense(c.sense, off_axis(c, *centre, *other)))
         }
     }
 }
@@ -166,14 +166,6 @@ pub(crate) fn are_parallel(a: &Line, b: &Line) -> bool
     ensures { result ≡ meeting.are_parallel a.now b.now }
 {
     cross(a.dir, b.dir).unsigned_abs() == 0
-}
-
-fn turned(sense: i8, k: i128) -> i128
-    requires sense { IsSense sense }
-    requires k { unsigned_abs k ≤ 2 * 10 ^ 16 }
-    ensures { result ≡ sense *ℤ k }
-{
-    if sense < 0 { -k } else { k }
 }
 
 #[tactic(auto, using(crate::proofs::Sizes::dot_small))]

@@ -1,6 +1,6 @@
 use apt_expr::expression;
 use apt_lexis::Token;
-use apt_words::{Expr, Millionths, Node, Op, Part, Symbol};
+use apt_words::{Expr, Millionths, Node, Op, Item, Symbol};
 use std::alloc::{AllocError, Global};
 
 const TEXTS: [(&str, &str); 30] = [
@@ -127,11 +127,11 @@ fn shown(alloc: Global, found: &Option<Expr>) -> Result<String, AllocError> {
         Node::Num(v) => format!(in alloc; "{v}"),
         Node::Minus(v) => format!(in alloc; "-({v})"),
         Node::Name(name) => spelled(alloc, name),
-        Node::Parts(parts) => shown_parts(alloc, &parts.items),
+        Node::Postfix(parts) => shown_parts(alloc, &parts.items),
     }
 }
 
-fn shown_parts(alloc: Global, parts: &[Part]) -> Result<String, AllocError> {
+fn shown_parts(alloc: Global, parts: &[Item]) -> Result<String, AllocError> {
     let mut texts = Vec::new(alloc);
     for part in parts {
         let text = shown_part(alloc, part, &mut texts)?;
@@ -141,21 +141,21 @@ fn shown_parts(alloc: Global, parts: &[Part]) -> Result<String, AllocError> {
 }
 
 /// A part with its operands, which are the latest of the texts.
-fn shown_part(alloc: Global, part: &Part, texts: &mut Vec<String>) -> Result<String, AllocError> {
+fn shown_part(alloc: Global, part: &Item, texts: &mut Vec<String>) -> Result<String, AllocError> {
     match part {
-        Part::Num(v) => number(alloc, v),
-        Part::Name(name) => spelled(alloc, name),
-        Part::Neg => around(alloc, "-", texts),
-        Part::Root => around(alloc, "SQRTF", texts),
-        Part::Abs => around(alloc, "ABSF", texts),
-        Part::Bin(op) => {
+        Item::Num(v) => number(alloc, v),
+        Item::Name(name) => spelled(alloc, name),
+        Item::Neg => around(alloc, "-", texts),
+        Item::Root => around(alloc, "SQRTF", texts),
+        Item::Abs => around(alloc, "ABSF", texts),
+        Item::Bin(op) => {
             let b = taken(alloc, texts);
             joined(alloc, mark(*op), &b, texts)
         }
-        Part::AddNum(v) => joined(alloc, "+", &number(alloc, v)?, texts),
-        Part::SubNum(v) => joined(alloc, "-", &number(alloc, v)?, texts),
-        Part::MulNum(v) => joined(alloc, "*", &number(alloc, v)?, texts),
-        Part::DivNum(v) => joined(alloc, "/", &number(alloc, v)?, texts),
+        Item::AddNum(v) => joined(alloc, "+", &number(alloc, v)?, texts),
+        Item::SubNum(v) => joined(alloc, "-", &number(alloc, v)?, texts),
+        Item::MulNum(v) => joined(alloc, "*", &number(alloc, v)?, texts),
+        Item::DivNum(v) => joined(alloc, "/", &number(alloc, v)?, texts),
     }
 }
 

@@ -18,7 +18,7 @@ use Rattle.apt_scalar.specs.Scalars.{IsScalar}
 use Rattle.apt_scalar.proofs.Ranges.{value_of-scalar}
 use Rattle.apt_unroll.specs.declared.numbers.Naming.TheVariants as namings
 use Rattle.apt_unroll.specs.Deeds.{deed_of}
-use Rattle.apt_unroll.specs.Places.{named, target}
+use Rattle.apt_unroll.specs.Places.{place_of, target}
 use Rattle.apt_unroll.specs.Calls.{Actual, bindings}
 use Rattle.apt_unroll.specs.Stages.{Call, Stage, parameters}
 use Rattle.apt_unroll.specs.Actions.{Action, go_on, jump_to, label_by, most_calls, enter, formal_of, call, return, action, most_steps, IsActed, step_of}
@@ -92,7 +92,7 @@ acts sts s i body MacroEnds e =
     by_call (Acts s.ended body) s s.calls (λ case. tt) (λ c more is. ((tt, sym last, plain, plain), last, sym (or-false s.ended)))
 acts sts s i body (Calls m actual) e =
     let last = ends_by body (Calls m actual) false e refl in
-    by_macro (Acts s.ended body) sts s i actual (named namings.Macros sts m) (λ case. tt) (λ k bound is. ((tt, sym last, plain, plain), last, sym (or-false s.ended)))
+    by_macro (Acts s.ended body) sts s i actual (place_of namings.Macros sts m) (λ case. tt) (λ k bound is. ((tt, sym last, plain, plain), last, sym (or-false s.ended)))
 acts sts s i body LoopBegins e = let last = ends_by body LoopBegins false e refl in ((tt, sym last, plain, plain), last, refl)
 acts sts s i body LoopEnds e = let last = ends_by body LoopEnds false e refl in ((tt, sym last, plain, plain), last, refl)
 acts sts s i body (Jumps l) e =

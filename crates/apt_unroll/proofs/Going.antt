@@ -12,7 +12,7 @@ use Rattle.apt_scalar.specs.Scalars.{IsScalar}
 use Rattle.apt_scalar.proofs.Ranges.{value_of-scalar}
 use Rattle.apt_unroll.specs.declared.numbers.Naming.TheVariants as namings
 use Rattle.apt_unroll.specs.Deeds.{deed_of}
-use Rattle.apt_unroll.specs.Places.{executed_from, named, target}
+use Rattle.apt_unroll.specs.Places.{executed_from, place_of, target}
 use Rattle.apt_unroll.specs.Stages.{Call, Stage, first_stage, parameters}
 use Rattle.apt_unroll.specs.Actions.{Action, go_on, label_by, action, most_steps, step_of}
 use Rattle.apt_unroll.specs.Trace.{Trace, moment, AreRun, IsTrace, with_moment, trace_from, trace_of}
@@ -55,7 +55,7 @@ goes sts s i body (MacroBegins m ps) nested can stands = tt
 goes sts s i body MacroEnds nested can stands =
     by_call (Goes sts) s s.calls (λ _. tt) (λ c more is. (subst (CanGoOn sts i) is can).1)
 goes sts s i body (Calls m actual) nested can stands =
-    by_macro (Goes sts) sts s i actual (named namings.Macros sts m) (λ _. tt)
+    by_macro (Goes sts) sts s i actual (place_of namings.Macros sts m) (λ _. tt)
     (λ k bound is. (body_stands sts m k nested is, elsewhere sts i (i + 1) s.calls can stands))
 goes sts s i body LoopBegins nested can stands = elsewhere sts i (i + 1) s.calls can stands
 goes sts s i body LoopEnds nested can stands = elsewhere sts i (i + 1) s.calls can stands

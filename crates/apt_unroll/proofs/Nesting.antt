@@ -10,7 +10,7 @@ use Rattle.apt_unroll.specs.declared.numbers.Naming.TheVariants as namings
 use Rattle.apt_unroll.specs.declared.places.Open.{Open}
 use Rattle.apt_unroll.specs.declared.places.Region.{Region}
 use Rattle.apt_unroll.specs.declared.places.Region.TheVariants as regions
-use Rattle.apt_unroll.specs.Places.{begins_macro, ends_macro, behind_macros, executed_from, named, none_open, open_behind, loop_with, innermost, region, regions_from, regions_of, is_one_region, are_one_region, are_together, target}
+use Rattle.apt_unroll.specs.Places.{begins_macro, ends_macro, behind_macros, executed_from, place_of, none_open, open_behind, loop_with, innermost, region, regions_from, regions_of, is_one_region, are_one_region, are_together, target}
 use Rattle.apt_unroll.specs.Tables.{IsMacroAt}
 use Rattle.apt_unroll.proofs.Tables.{is_macro}
 
@@ -192,7 +192,7 @@ in_region false k j h = absurd (cc)
 -- a label of the region stands as the statement that jumps to it
 pub target_stands : (sts : List Stmt) (i : ℕ) (name : List ℕ) (j : ℕ) (within : Bool) → AreNested false sts → AreNested within (drop i sts) → target sts i name ≡ Some j
     → AreNested within (drop j sts)
-target_stands sts i name j within nested here h = by (named namings.Labels sts name) h
+target_stands sts i name j within nested here h = by (place_of namings.Labels sts name) h
   where
     by : (o : Option ℕ) → (o >>= λ j. only_if (are_together sts i j) j) ≡ Some j → AreNested within (drop j sts)
     by None h = absurd (cc)
@@ -226,7 +226,7 @@ body_of (MacroBegins m ps) within rest h stands = stands.1
 body_of _ within rest h stands = absurd (cc)
 
 -- behind the MACRO of a name stands a macro's body
-pub body_stands : (sts : List Stmt) (name : List ℕ) (k : ℕ) → AreNested false sts → named namings.Macros sts name ≡ Some k → AreNested true (drop (k + 1) sts)
+pub body_stands : (sts : List Stmt) (name : List ℕ) (k : ℕ) → AreNested false sts → place_of namings.Macros sts name ≡ Some k → AreNested true (drop (k + 1) sts)
 body_stands sts name k nested h = by (slice_get sts k) refl (is_macro sts name k h)
   where
     by : (o : Option Stmt) → slice_get sts k ≡ o → IsMacroAt o → AreNested true (drop (k + 1) sts)

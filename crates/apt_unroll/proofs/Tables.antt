@@ -9,7 +9,7 @@ use Rattle.apt_words.specs.declared.body.Stmt.{Stmt}
 use Rattle.apt_scalar.specs.Meanings.{meaning}
 use Rattle.apt_words.specs.Composition.{flow_of}
 use Rattle.apt_words.specs.Flow.{Flow, Onward, MacroBegins, MacroEnds, Calls, LoopBegins, LoopEnds, Jumps, Branches, ProgramEnds, macro_name}
-use Rattle.apt_unroll.specs.Places.{begins_macro, ends_macro, behind_macros, executed_from, is_named, name_in, first_named, named, target}
+use Rattle.apt_unroll.specs.Places.{begins_macro, ends_macro, behind_macros, executed_from, is_named, name_in, first_named, place_of, target}
 use Rattle.apt_unroll.specs.declared.numbers.Naming.{Naming}
 use Rattle.apt_unroll.specs.declared.numbers.Naming.TheVariants as namings
 use Rattle.apt_unroll.specs.declared.places.Tables.{Tables}
@@ -166,7 +166,7 @@ macro_from i [] name k h = absurd (cc)
 macro_from i (st ∷ sts) name k h =
     macro_by (is_named (name_in namings.Macros st) name) i st sts name k (first_named namings.Macros (i + 1) sts name) (λ there. macro_from (i + 1) sts name k there) refl h
 
-pub is_macro : (sts : List Stmt) (name : List ℕ) (k : ℕ) → named namings.Macros sts name ≡ Some k → IsMacroAt (slice_get sts k)
+pub is_macro : (sts : List Stmt) (name : List ℕ) (k : ℕ) → place_of namings.Macros sts name ≡ Some k → IsMacroAt (slice_get sts k)
 is_macro sts name k h = let m = macro_from 0 sts name k h in subst (λ j. IsMacroAt (slice_get sts j)) (omega arith) m.begins
 
 -- ---- labels and regions

@@ -15,7 +15,7 @@ use Rattle.apt_unroll.specs.declared.numbers.Naming.TheVariants as namings
 use Rattle.apt_unroll.specs.declared.places.Region.{Region}
 use Rattle.apt_unroll.specs.declared.places.Region.TheVariants as regions
 use Rattle.apt_unroll.specs.Deeds.{deed_of}
-use Rattle.apt_unroll.specs.Places.{named, none_open, region, regions_of, are_one_region, are_together, target}
+use Rattle.apt_unroll.specs.Places.{place_of, none_open, region, regions_of, are_one_region, are_together, target}
 use Rattle.apt_unroll.specs.Stages.{Call, Stage, first_stage, parameters}
 use Rattle.apt_unroll.specs.Actions.{Action, go_on, label_by, action, step_of}
 use Rattle.apt_unroll.specs.Trace.{Trace, IsDone, AreRun, IsTrace}
@@ -59,7 +59,7 @@ only_behind sts i (suc k) j titled h = by (are_together sts i (suc k)) h
     by false h = absurd (cc)
 
 target_behind : (sts : List Stmt) (i : ℕ) (name : List ℕ) (j : ℕ) → HasTitle sts → target sts i name ≡ Some j → 1 ≤ j
-target_behind sts i name j titled h = by (named namings.Labels sts name) h
+target_behind sts i name j titled h = by (place_of namings.Labels sts name) h
   where
     by : (o : Option ℕ) → (o >>= λ j. only_if (are_together sts i j) j) ≡ Some j → 1 ≤ j
     by None h = absurd (cc)
@@ -86,7 +86,7 @@ leads sts s i body Onward titled behind =
 leads sts s i body (MacroBegins m ps) titled behind = tt
 leads sts s i body MacroEnds titled behind = by_call Leads s s.calls (λ case. tt) (λ c more is. subst AreBehind is behind)
 leads sts s i body (Calls m actual) titled behind =
-    by_macro Leads sts s i actual (named namings.Macros sts m) (λ case. tt) (λ k bound is. (omega arith, (omega arith, behind)))
+    by_macro Leads sts s i actual (place_of namings.Macros sts m) (λ case. tt) (λ k bound is. (omega arith, (omega arith, behind)))
 leads sts s i body LoopBegins titled behind = (omega arith, behind)
 leads sts s i body LoopEnds titled behind = (omega arith, behind)
 leads sts s i body (Jumps l) titled behind =

@@ -15,7 +15,7 @@ use Rattle.apt_scalar.specs.Meanings.{Parameters}
 use Rattle.apt_scalar.specs.Evaluation.{value_of}
 use Rattle.apt_unroll.specs.declared.numbers.Naming.TheVariants as namings
 use Rattle.apt_unroll.specs.Deeds.{deed_of, names_behind}
-use Rattle.apt_unroll.specs.Places.{named, target}
+use Rattle.apt_unroll.specs.Places.{place_of, target}
 use Rattle.apt_unroll.specs.Calls.{Formal, Actual, bindings}
 use Rattle.apt_unroll.specs.Stages.{Call, Stage, parameters}
 
@@ -86,7 +86,7 @@ unfoldable pub action : List Stmt → Stage → ℕ → Body → Flow → Action
 action sts s i body Onward = deed_of s.names (parameters s.calls) body >>= go_on i s
 action sts s i body (MacroBegins m ps) = Err cases.JumpOutside
 action sts s i body MacroEnds = return s s.calls
-action sts s i body (Calls m actual) = call sts s i actual (named namings.Macros sts m)
+action sts s i body (Calls m actual) = call sts s i actual (place_of namings.Macros sts m)
 action sts s i body LoopBegins = go_on i s deeds.Loopst
 action sts s i body LoopEnds = go_on i s deeds.Loopnd
 action sts s i body (Jumps l) = jump_to s deeds.Jumpto (target sts i l)

@@ -74,8 +74,8 @@ first_named naming i [] name = None
 first_named naming i (st ∷ sts) name = if is_named (name_in naming st) name then Some i else first_named naming (i + 1) sts name
 
 -- the statement with a label, and the MACRO of a name
-abbrev pub named : Naming → List Stmt → List ℕ → Option ℕ
-named naming sts name = first_named naming 0 sts name
+abbrev pub place_of : Naming → List Stmt → List ℕ → Option ℕ
+place_of naming sts name = first_named naming 0 sts name
 
 -- ---- regions: the statements of a loop, from LOOPST to LOOPND, and those of a macro behind MACRO, up to TERMAC
 
@@ -144,4 +144,4 @@ are_together sts i j = are_one_region (slice_get (regions_of sts) i) (slice_get 
 
 -- the statement with a label, where it stands in the region of the i-th
 abbrev pub target : List Stmt → ℕ → List ℕ → Option ℕ
-target sts i name = named namings.Labels sts name >>= λ j. only_if (are_together sts i j) j
+target sts i name = place_of namings.Labels sts name >>= λ j. only_if (are_together sts i j) j

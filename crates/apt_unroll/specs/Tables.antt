@@ -6,7 +6,7 @@ use Rattle.apt_words.specs.Composition.{flow_of}
 use Rattle.apt_words.specs.declared.body.Stmt.{Stmt}
 use Rattle.apt_unroll.specs.declared.numbers.Naming.TheVariants as namings
 use Rattle.apt_unroll.specs.declared.places.Tables.{Tables}
-use Rattle.apt_unroll.specs.Places.{begins_macro, behind_macros, is_named, named, regions_of, are_one_region}
+use Rattle.apt_unroll.specs.Places.{begins_macro, behind_macros, is_named, place_of, regions_of, are_one_region}
 
 -- what is executed where a run comes to the i-th statement, to the next, and so on up to the end
 abbrev pub executed_in : ℕ → List Stmt → List ℕ
@@ -24,8 +24,8 @@ number_if own i name = only_if (is_named own name) i
 pub record AreTables (sts : List Stmt) (t : Tables) : Type 0 where
   pub executed : t.executed.items ≡ executed_in 0 sts
   pub regions : t.regions.items ≡ regions_of sts
-  pub labels : (name : List ℕ) → meaning t.labels name ≡ named namings.Labels sts name
-  pub macros : (name : List ℕ) → meaning t.macros name ≡ named namings.Macros sts name
+  pub labels : (name : List ℕ) → meaning t.labels name ≡ place_of namings.Labels sts name
+  pub macros : (name : List ℕ) → meaning t.macros name ≡ place_of namings.Macros sts name
 
 -- the tables, where they are made
 abbrev pub AreMade : List Stmt → Option Tables → Type 0

@@ -60,7 +60,7 @@ impl Numbers {
         stmts: &[Stmt],
         naming: Naming,
     ) -> Result<Numbers, AllocError>
-        ensures { IfOk result (λ n. (name : List ℕ) → meaning n name ≡ spec.named naming stmts.now name) }
+        ensures { IfOk result (λ n. (name : List ℕ) → meaning n name ≡ spec.place_of naming stmts.now name) }
     {
         let mut numbers = Numbers::new(alloc);
         let mut i = 0;

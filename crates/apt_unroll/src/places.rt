@@ -297,7 +297,7 @@ impl<'a> Listing<'a> {
     #[tactic(auto, using(crate::proofs::Tables::is_macro))]
     pub(crate) fn macro_named(&self, name: &Symbol) -> Option<usize>
         requires { self.now.made ≡ true }
-        ensures value { result ≡ spec.named namings.Macros self.now.stmts name.now }
+        ensures value { result ≡ spec.place_of namings.Macros self.now.stmts name.now }
         ensures begins { IfSome result (λ begin. IsMacroAt (slice_get self.now.stmts begin)) }
     {
         self.tables().macros.get(name)

@@ -9,7 +9,7 @@ ghost use Rattle.apt_scalar.specs.Meanings.{meaning};
 ghost use Rattle.apt_unroll.specs.Actions as actions;
 ghost use Rattle.apt_unroll.specs.Actions.{IsActed, action};
 ghost use Rattle.apt_unroll.specs.Deeds as defining;
-ghost use Rattle.apt_unroll.specs.Places.{begins_macro, goes_on, named};
+ghost use Rattle.apt_unroll.specs.Places.{begins_macro, goes_on, place_of};
 ghost use Rattle.apt_unroll.specs.declared.numbers.Naming.TheVariants as namings;
 ghost use Rattle.apt_unroll.specs.Stages as stages;
 
@@ -198,7 +198,7 @@ impl Run {
     ) -> Result<Result<Deed, Case>, AllocError>
         requires made { listing.now.made ≡ true }
         requires small { i < 2 ^ 63 }
-        ensures { IfOk result (λ r. IsActed (actions.call listing.now.stmts self.old i args.now (named namings.Macros listing.now.stmts name.now)) r self.new) }
+        ensures { IfOk result (λ r. IsActed (actions.call listing.now.stmts self.old i args.now (place_of namings.Macros listing.now.stmts name.now)) r self.new) }
     {
         let Some(begin) = listing.macro_named(name) else {
             return Ok(Err(Case::NoSuchMacro));

@@ -2,9 +2,11 @@
 use Rattle.std.specs.Prelude.{◌≡◌, ◌↔◌, ℕ, List, [], ◌∷◌, Option, Some, None, Bool, true, false, cond}
 use Rattle.std.specs.List.{find}
 use Rattle.std.proofs.Common.{bytes_eq, refl, sym, ap, ◌∙◌}
+use Rattle.std.proofs.lemmas.Bool.{true≢false}
 use Rattle.std.proofs.lemmas.Slice.Eq.{bytes_eq-Decides}
 use Rattle.apt_words.specs.declared.word.Word.{Word}
 use Rattle.apt_words.specs.declared.word.Word.TheVariants as words
+use Rattle.apt_words.specs.Symbols.{is_symbol}
 use Rattle.apt_words.specs.Vocabulary.{spelling, vocabulary, word_of}
 use Rattle.apt_words.specs.Alike.{alike}
 
@@ -12,68 +14,7 @@ use Rattle.apt_words.specs.Alike.{alike}
 word_of-spelling : (w : Word) → word_of (spelling w) ≡ Some w
 unfolding word_of
 word_of-spelling words.Partno = refl
-word_of-spelling words.Remark = refl
-word_of-spelling words.Units = refl
-word_of-spelling words.Inches = refl
-word_of-spelling words.Mm = refl
-word_of-spelling words.Clprnt = refl
-word_of-spelling words.Nopost = refl
-word_of-spelling words.Machin = refl
-word_of-spelling words.Point = refl
-word_of-spelling words.Intof = refl
-word_of-spelling words.Xlarge = refl
-word_of-spelling words.Xsmall = refl
-word_of-spelling words.Ylarge = refl
-word_of-spelling words.Ysmall = refl
-word_of-spelling words.Center = refl
-word_of-spelling words.Line = refl
-word_of-spelling words.Parlel = refl
-word_of-spelling words.Perpto = refl
-word_of-spelling words.Left = refl
-word_of-spelling words.Right = refl
-word_of-spelling words.Tanto = refl
-word_of-spelling words.Circle = refl
-word_of-spelling words.Radius = refl
-word_of-spelling words.Cutter = refl
-word_of-spelling words.Intol = refl
-word_of-spelling words.Outtol = refl
-word_of-spelling words.Tllft = refl
-word_of-spelling words.Tlrgt = refl
-word_of-spelling words.Tlon = refl
-word_of-spelling words.From = refl
-word_of-spelling words.Goto = refl
-word_of-spelling words.Godlta = refl
-word_of-spelling words.Go = refl
-word_of-spelling words.To = refl
-word_of-spelling words.On = refl
-word_of-spelling words.Past = refl
-word_of-spelling words.Golft = refl
-word_of-spelling words.Gorgt = refl
-word_of-spelling words.Gofwd = refl
-word_of-spelling words.Goback = refl
-word_of-spelling words.Rapid = refl
-word_of-spelling words.Stop = refl
-word_of-spelling words.Opstop = refl
-word_of-spelling words.End = refl
-word_of-spelling words.Fini = refl
-word_of-spelling words.Fedrat = refl
-word_of-spelling words.Spindl = refl
-word_of-spelling words.Clw = refl
-word_of-spelling words.Cclw = refl
-word_of-spelling words.Off = refl
-word_of-spelling words.Coolnt = refl
-word_of-spelling words.Flood = refl
-word_of-spelling words.Mist = refl
-word_of-spelling words.Loadtl = refl
-word_of-spelling words.Macro = refl
-word_of-spelling words.Termac = refl
-word_of-spelling words.Call = refl
-word_of-spelling words.Loopst = refl
-word_of-spelling words.Loopnd = refl
-word_of-spelling words.Jumpto = refl
-word_of-spelling words.If = refl
-word_of-spelling words.Sqrtf = refl
-word_of-spelling words.Absf = refl
+word_of-spelling _ = refl
 
 some_same : (v w : Word) → Some v ≡ Some w → v ≡ w
 some_same v w e = cc
@@ -94,6 +35,20 @@ pub spelled : (text : List ℕ) (w : Word) → (word_of text ≡ Some w) ↔ (te
 unfolding word_of
 spelled text w = (spelling-find text vocabulary w, λ e. ap word_of e ∙ word_of-spelling w)
 
+-- each word is a symbol
+spelling_is_symbol : (w : Word) → is_symbol (spelling w) ≡ true
+spelling_is_symbol words.Partno = refl
+spelling_is_symbol _ = refl
+
+no_word_if : (text : List ℕ) (found : Option Word) → word_of text ≡ found → is_symbol text ≡ false → found ≡ None
+no_word_if text None e other = refl
+no_word_if text (Some w) e other =
+    absurd (true≢false (sym (ap is_symbol ((spelled text w).0 e) ∙ spelling_is_symbol w) ∙ other))
+
+-- what is no symbol spells no word
+pub no_word : (text : List ℕ) → is_symbol text ≡ false → word_of text ≡ None
+no_word text other = no_word_if text (word_of text) refl other
+
 -- the word that a text spells among the words that are like it
 abbrev found : List ℕ → Option Word
 found text = find (λ w. bytes_eq (spelling w) text) (alike text)
@@ -101,68 +56,7 @@ found text = find (λ w. bytes_eq (spelling w) text) (alike text)
 -- each word is among those that are like its spelling
 alike-spelling : (w : Word) → found (spelling w) ≡ Some w
 alike-spelling words.Partno = refl
-alike-spelling words.Remark = refl
-alike-spelling words.Units = refl
-alike-spelling words.Inches = refl
-alike-spelling words.Mm = refl
-alike-spelling words.Clprnt = refl
-alike-spelling words.Nopost = refl
-alike-spelling words.Machin = refl
-alike-spelling words.Point = refl
-alike-spelling words.Intof = refl
-alike-spelling words.Xlarge = refl
-alike-spelling words.Xsmall = refl
-alike-spelling words.Ylarge = refl
-alike-spelling words.Ysmall = refl
-alike-spelling words.Center = refl
-alike-spelling words.Line = refl
-alike-spelling words.Parlel = refl
-alike-spelling words.Perpto = refl
-alike-spelling words.Left = refl
-alike-spelling words.Right = refl
-alike-spelling words.Tanto = refl
-alike-spelling words.Circle = refl
-alike-spelling words.Radius = refl
-alike-spelling words.Cutter = refl
-alike-spelling words.Intol = refl
-alike-spelling words.Outtol = refl
-alike-spelling words.Tllft = refl
-alike-spelling words.Tlrgt = refl
-alike-spelling words.Tlon = refl
-alike-spelling words.From = refl
-alike-spelling words.Goto = refl
-alike-spelling words.Godlta = refl
-alike-spelling words.Go = refl
-alike-spelling words.To = refl
-alike-spelling words.On = refl
-alike-spelling words.Past = refl
-alike-spelling words.Golft = refl
-alike-spelling words.Gorgt = refl
-alike-spelling words.Gofwd = refl
-alike-spelling words.Goback = refl
-alike-spelling words.Rapid = refl
-alike-spelling words.Stop = refl
-alike-spelling words.Opstop = refl
-alike-spelling words.End = refl
-alike-spelling words.Fini = refl
-alike-spelling words.Fedrat = refl
-alike-spelling words.Spindl = refl
-alike-spelling words.Clw = refl
-alike-spelling words.Cclw = refl
-alike-spelling words.Off = refl
-alike-spelling words.Coolnt = refl
-alike-spelling words.Flood = refl
-alike-spelling words.Mist = refl
-alike-spelling words.Loadtl = refl
-alike-spelling words.Macro = refl
-alike-spelling words.Termac = refl
-alike-spelling words.Call = refl
-alike-spelling words.Loopst = refl
-alike-spelling words.Loopnd = refl
-alike-spelling words.Jumpto = refl
-alike-spelling words.If = refl
-alike-spelling words.Sqrtf = refl
-alike-spelling words.Absf = refl
+alike-spelling _ = refl
 
 both_none : (a b : Option Word) → ((w : Word) → a ≡ Some w → b ≡ Some w) → ((w : Word) → b ≡ Some w → a ≡ Some w) → a ≡ b
 both_none None None f g = refl

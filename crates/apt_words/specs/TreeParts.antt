@@ -3,24 +3,24 @@ use Rattle.std.specs.Prelude.{◌≡◌, ℕ, ℤ, pos, List, [], ◌∷◌, Opt
 use Rattle.std.proofs.Common.{◌∙◌, ap}
 use Rattle.apt_words.specs.declared.expr.Op.{Op}
 use Rattle.apt_words.specs.declared.expr.Op.TheVariants as ops
-use Rattle.apt_words.specs.declared.parts.Part.{Part}
-use Rattle.apt_words.specs.declared.parts.Part.TheVariants as marks
+use Rattle.apt_words.specs.declared.postfix.Item.{Item}
+use Rattle.apt_words.specs.declared.postfix.Item.TheVariants as marks
 use Rattle.apt_words.specs.Trees.{Tree, Num, Name, Neg, Bin, Root, Abs}
 
 -- an operator with a number to its right
-abbrev pub with_number : Op → ℤ → Part
+abbrev pub with_number : Op → ℤ → Item
 with_number ops.Add v = marks.AddNum v
 with_number ops.Sub v = marks.SubNum v
 with_number ops.Mul v = marks.MulNum v
 with_number ops.Div v = marks.DivNum v
 
 -- the parts of a right operand with its operator, where those of other trees than numbers are given, and more behind them
-abbrev pub right : Op → Tree → List Part → List Part → List Part
+abbrev pub right : Op → Tree → List Item → List Item → List Item
 right op (Num v) others more = with_number op v ∷ more
 right op _ others more = others
 
 -- the parts of a tree, and more behind them
-abbrev pub parts : Tree → List Part → List Part
+abbrev pub parts : Tree → List Item → List Item
 parts (Num v) more = marks.Num v ∷ more
 parts (Name name) more = marks.Name name ∷ more
 parts (Neg t) more = parts t (marks.Neg ∷ more)
@@ -37,7 +37,7 @@ on_two op (b ∷ a ∷ ts) = Bin op a b ∷ ts
 on_two op _ = []
 
 -- the trees behind a part, the latest first
-abbrev pub after : Part → List Tree → List Tree
+abbrev pub after : Item → List Tree → List Tree
 after (marks.Num v) ts = Num v ∷ ts
 after (marks.Name name) ts = Name name ∷ ts
 after marks.Neg ts = on_one Neg ts
@@ -49,7 +49,7 @@ after (marks.SubNum v) ts = on_two ops.Sub (Num v ∷ ts)
 after (marks.MulNum v) ts = on_two ops.Mul (Num v ∷ ts)
 after (marks.DivNum v) ts = on_two ops.Div (Num v ∷ ts)
 
-abbrev pub trees : List Part → List Tree → List Tree
+abbrev pub trees : List Item → List Tree → List Tree
 trees [] ts = ts
 trees (p ∷ ps) ts = trees ps (after p ts)
 
@@ -57,7 +57,7 @@ abbrev pub latest : List Tree → Tree
 latest [] = Num (pos 0)
 latest (t ∷ ts) = t
 
-abbrev pub built : List Part → List Tree → Tree
+abbrev pub built : List Item → List Tree → Tree
 built ps ts = latest (trees ps ts)
 
 pub after-with_number : (op : Op) (v : ℤ) (ts : List Tree) → after (with_number op v) ts ≡ on_two op (Num v ∷ ts)
@@ -66,7 +66,7 @@ after-with_number ops.Sub v ts = refl
 after-with_number ops.Mul v ts = refl
 after-with_number ops.Div v ts = refl
 
-trees-right : (op : Op) (b : Tree) (others more : List Part) (a : Tree) (ts : List Tree)
+trees-right : (op : Op) (b : Tree) (others more : List Item) (a : Tree) (ts : List Tree)
     → trees others (a ∷ ts) ≡ trees more (Bin op a b ∷ ts) → trees (right op b others more) (a ∷ ts) ≡ trees more (Bin op a b ∷ ts)
 trees-right op (Num v) others more a ts e = ap (trees more) (after-with_number op v (a ∷ ts))
 trees-right op (Name name) others more a ts e = e
@@ -75,7 +75,7 @@ trees-right op (Bin p t u) others more a ts e = e
 trees-right op (Root t) others more a ts e = e
 trees-right op (Abs t) others more a ts e = e
 
-pub trees-parts : (t : Tree) (more : List Part) (ts : List Tree) → trees (parts t more) ts ≡ trees more (t ∷ ts)
+pub trees-parts : (t : Tree) (more : List Item) (ts : List Tree) → trees (parts t more) ts ≡ trees more (t ∷ ts)
 trees-parts (Num v) more ts = refl
 trees-parts (Name name) more ts = refl
 trees-parts (Neg t) more ts = trees-parts t _ ts

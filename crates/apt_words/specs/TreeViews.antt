@@ -9,4 +9,4 @@ abbrev pub tree_of : Node → Tree
 tree_of (nodes.Num v) = Num v
 tree_of (nodes.Minus v) = Neg (Num v)
 tree_of (nodes.Name name) = Name name
-tree_of (nodes.Parts ps) = built ps.value.items.items []
+tree_of (nodes.Postfix ps) = built ps.value.items.items []

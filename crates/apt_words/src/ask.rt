@@ -141,6 +141,7 @@ pub enum Ask<'a> {
 impl Deed {
     /// What the step asks for.
     #[inline(always)]
+    #[rattlefmt::skip]
     pub fn ask(&self) -> Ask<'_>
         ensures { seen result ≡ ask_of self.now }
     {
@@ -159,19 +160,13 @@ impl Deed {
             Deed::LinePerp(n, p, l) => line(n, LineForm::Square(p.copied(), l.copied())),
             Deed::LineAt(n, l, k, v) => line(n, LineForm::Beside(l.copied(), *k, *v)),
             Deed::LineTan(n, p, h, c) => line(n, LineForm::Past(p.copied(), *h, c.copied())),
-            Deed::LineTwo(n, h, c, k, d) => {
-                line(n, LineForm::PastTwo(*h, c.copied(), *k, d.copied()))
-            }
+            Deed::LineTwo(n, h, c, k, d) => line(n, LineForm::PastTwo(*h, c.copied(), *k, d.copied())),
             Deed::CircleXyr(n, x, y, r) => circle(n, CircleForm::Xyr(*x, *y, *r)),
-            Deed::CirclePoints(n, a, b, c) => {
-                circle(n, CircleForm::Points(a.copied(), b.copied(), c.copied()))
-            }
+            Deed::CirclePoints(n, a, b, c) => circle(n, CircleForm::Points(a.copied(), b.copied(), c.copied())),
             Deed::CircleRadius(n, p, r) => circle(n, CircleForm::Radius(p.copied(), *r)),
             Deed::CircleTan(n, p, l) => circle(n, CircleForm::Along(p.copied(), l.copied())),
             Deed::CircleThrough(n, p, q) => circle(n, CircleForm::Through(p.copied(), q.copied())),
-            Deed::CircleCorner(n, j, a, k, b, r) => {
-                circle(n, CircleForm::Corner(*j, a.copied(), *k, b.copied(), *r))
-            }
+            Deed::CircleCorner(n, j, a, k, b, r) => circle(n, CircleForm::Corner(*j, a.copied(), *k, b.copied(), *r)),
             Deed::Cutter(v) => Ask::Says(Saying::Diameter(*v)),
             Deed::Intol(v) => Ask::Says(Saying::Inward(*v)),
             Deed::Outtol(v) => Ask::Says(Saying::Outward(*v)),
@@ -182,9 +177,7 @@ impl Deed {
             Deed::GotoPoint(p) => Ask::Goes(Route::Goto(Place::Named(p.copied()))),
             Deed::Godlta(x, y, z) => Ask::Goes(Route::By(*x, *y, *z)),
             Deed::GoStart(how, s, other) => Ask::Goes(start(*how, s, other)),
-            Deed::Contour(side, go, d, how, c) => {
-                Ask::Cuts(*side, *go, d.copied(), *how, c.copied())
-            }
+            Deed::Contour(side, go, d, how, c) => Ask::Cuts(*side, *go, d.copied(), *how, c.copied()),
             Deed::Rapid => Ask::Says(Saying::Rapid),
             Deed::Halt => Ask::Says(Saying::Stop),
             Deed::OptHalt => Ask::Says(Saying::OptStop),

@@ -2,7 +2,7 @@
 ghost use Rattle.std.specs.Prelude.{◌≡◌, option_map};
 ghost use Rattle.apt_words.specs.TreeParts.{lone_name};
 
-use crate::{Parts, Symbol};
+use crate::{Postfix, Symbol};
 use std::marker::Model;
 
 /// The operators between two operands.
@@ -26,7 +26,7 @@ pub enum Node {
     Num(i64),
     Minus(i64),
     Name(Symbol),
-    Parts(Box<Parts>),
+    Postfix(Box<Postfix>),
 }
 
 impl Model for Expr {

@@ -6,7 +6,7 @@ mod body;
 mod deed;
 mod expr;
 mod names;
-mod parts;
+mod postfix;
 mod symbol;
 mod word;
 
@@ -14,7 +14,7 @@ pub use ask::{Ask, CircleForm, Form, LineForm, Place, PointForm, Route, Saying};
 pub use body::{Args, Body, Exprs, Params, Program, Stmt, Text};
 pub use deed::{Deed, Step};
 pub use expr::{Expr, Node, Op};
-pub use parts::{Millionths, Part, Parts};
+pub use postfix::{Item, Millionths, Postfix};
 pub use symbol::{Symbol, is_vocabulary};
 pub use word::{Word, word_of};
 

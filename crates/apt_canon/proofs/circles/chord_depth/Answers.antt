@@ -4,7 +4,7 @@ use Rattle.std.proofs.lemmas.Int.{ints, to_z-of_z}
 use Rattle.apt_num.specs.Near.{near}
 use Rattle.apt_canon.specs.Circles.{chord_depth}
 use Rattle.apt_canon.proofs.Products.{kept}
-use Rattle.apt_canon.proofs.CircleAnswers.{within_chord}
+use Rattle.apt_canon.proofs.CircleMeetings.Answers.{within_chord}
 use Rattle.apt_canon.proofs.circles.chord_depth.Goals as goal
 
 quotient : (c : goal.After-div_near) → c.div_near.result ≡ chord_depth c.args.a.now c.args.b.now

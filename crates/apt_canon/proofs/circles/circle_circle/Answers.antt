@@ -1,7 +1,7 @@
 use Rattle.std.proofs.Common.{◌≡◌, w8}
 use Rattle.std.proofs.lemmas.Int.{to_z-of_z}
 use Rattle.apt_canon.specs.Circles.{circle_circle}
-use Rattle.apt_canon.proofs.CircleAnswers.{answer_concentric, answer_apart, answer_point, answer_on_first, answer_on_second, answer_beyond}
+use Rattle.apt_canon.proofs.CircleMeetings.Answers.{answer_concentric, answer_apart, answer_point, answer_on_first, answer_on_second, answer_beyond}
 use Rattle.apt_canon.proofs.circles.circle_circle.Goals as goal
 
 value : (c : goal.After-meet_circle) → c.meet_circle.result ≡ circle_circle c.args.a.now c.args.b.now c.args.sigma

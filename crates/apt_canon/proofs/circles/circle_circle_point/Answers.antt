@@ -1,7 +1,7 @@
 use Rattle.std.proofs.Common.{◌≡◌, w8}
 use Rattle.std.proofs.lemmas.Int.{to_z-of_z}
 use Rattle.apt_canon.specs.Circles.{circle_circle_point}
-use Rattle.apt_canon.proofs.CircleAnswers.{on_first, on_second, beyond}
+use Rattle.apt_canon.proofs.CircleMeetings.Answers.{on_first, on_second, beyond}
 use Rattle.apt_canon.proofs.circles.circle_circle_point.Goals as goal
 
 value : (c : goal.After-on_common_chord) → c.on_common_chord.result ≡ circle_circle_point c.args.a.now c.args.b.now c.args.sigma

@@ -3,7 +3,7 @@ use Rattle.std.specs.Int.{w128}
 use Rattle.std.proofs.lemmas.Int.{ints, to_z-of_z}
 use Rattle.apt_num.specs.Root.{IsRoot, root}
 use Rattle.apt_num.proofs.Squares.{square_le, root_le}
-use Rattle.apt_canon.proofs.LineCircleLaws.{half_chord-root}
+use Rattle.apt_canon.proofs.CircleMeetings.LineCircle.{half_chord-root}
 use Rattle.apt_canon.proofs.circles.half_chord.Goals as goal
 
 small : (q r g : ℕ) → r ≤ 10 ^ 8 → IsRoot (r * r * 2 ^ 60 - g * g) q → q ≤ 2 ^ 57

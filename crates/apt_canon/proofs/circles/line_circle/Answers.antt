@@ -1,7 +1,7 @@
 use Rattle.std.proofs.Common.{◌≡◌, w8}
 use Rattle.std.proofs.lemmas.Int.{to_z-of_z}
 use Rattle.apt_canon.specs.Circles.{line_circle}
-use Rattle.apt_canon.proofs.CircleAnswers.{answer_no_meeting, answer_in_range, answer_on_line, answer_on_circle, answer_further}
+use Rattle.apt_canon.proofs.CircleMeetings.Answers.{answer_no_meeting, answer_in_range, answer_on_line, answer_on_circle, answer_further}
 use Rattle.apt_canon.proofs.circles.line_circle.Goals as goal
 
 value : (c : goal.After-meet_line) → c.meet_line.result ≡ line_circle c.args.l.now.line c.args.l.now.off c.args.c.now c.args.sigma

@@ -1,8 +1,8 @@
 use Rattle.std.proofs.Common.{◌≡◌, w8}
 use Rattle.std.proofs.lemmas.Int.{to_z-of_z}
 use Rattle.apt_canon.specs.Circles.{line_circle_point}
-use Rattle.apt_canon.proofs.Across.{point_further}
-use Rattle.apt_canon.proofs.CircleAnswers.{on_line, on_circle}
+use Rattle.apt_canon.proofs.CircleMeetings.Across.{point_further}
+use Rattle.apt_canon.proofs.CircleMeetings.Answers.{on_line, on_circle}
 use Rattle.apt_canon.proofs.circles.line_circle_point.Goals as goal
 
 value : (c : goal.After-on_chord) → c.on_chord.result ≡ line_circle_point c.args.l.now.line c.args.l.now.off c.args.c.now c.args.sigma

@@ -4,7 +4,7 @@ use Rattle.apt_num.specs.Sign.{square}
 use Rattle.apt_plane.specs.declared.figures.Dir.{Dir}
 use Rattle.apt_plane.specs.Vectors.{displacement, length_squared}
 use Rattle.apt_canon.specs.Circles.{circle_circle_point}
-use Rattle.apt_canon.proofs.CircleAnswers.{tested_meeting, meeting_answer}
+use Rattle.apt_canon.proofs.CircleMeetings.Answers.{tested_meeting, meeting_answer}
 use Rattle.apt_canon.proofs.circles.meet_circle.Goals as goal
 
 pub on_common_chord-requires-clause-meeting : goal.on_common_chord-requires-clause-meeting

@@ -15,9 +15,9 @@ returns c =
     let fits_depth : FitsSigned w128 depth = omega (arith, ints) in
     let fits_turned : FitsSigned w128 (pos 0 -ℤ depth) = omega (arith, ints) in
     let fits_half : FitsSigned w128 c.half_chord.result = search rules in
-    let fits_along : FitsSigned w128 c.turned.result = search rules in
+    let fits_along : FitsSigned w128 c.by_sigma.result = search rules in
     let half : c.half_chord.result ≡ half_chord circle.r depth = simp to_z-of_z at c.half_chord.ensures.value in
-    let along : c.turned.result ≡ c.args.sigma *ℤ c.half_chord.result = simp to_z-of_z at c.turned.ensures.value in
-    let plain : c.framed.result ≡ framed circle.c l.line.dir c.turned.result (pos 0 -ℤ depth) = simp to_z-of_z at c.framed.ensures in
-    let value : c.framed.result ≡ framed circle.c l.line.dir c.turned.result (neg_ℤ depth) = rw (zero-minus depth) at plain in
+    let along : c.by_sigma.result ≡ c.args.sigma *ℤ c.half_chord.result = simp to_z-of_z at c.by_sigma.ensures.value in
+    let plain : c.framed.result ≡ framed circle.c l.line.dir c.by_sigma.result (pos 0 -ℤ depth) = simp to_z-of_z at c.framed.ensures in
+    let value : c.framed.result ≡ framed circle.c l.line.dir c.by_sigma.result (neg_ℤ depth) = rw (zero-minus depth) at plain in
     value ∙ rw (along, half, c.depth-depth.ensures.value) refl

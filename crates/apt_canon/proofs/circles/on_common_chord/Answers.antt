@@ -12,8 +12,8 @@ returns c =
     let fits_r : FitsSigned w64 a.r = omega (arith, ints) in
     let fits_depth : FitsSigned w128 depth = search rules in
     let fits_half : FitsSigned w128 c.half_chord.result = search rules in
-    let fits_left : FitsSigned w128 c.turned.result = search rules in
+    let fits_left : FitsSigned w128 c.by_sigma.result = search rules in
     let half : c.half_chord.result ≡ half_chord a.r depth = simp to_z-of_z at c.half_chord.ensures.value in
-    let left : c.turned.result ≡ c.args.sigma *ℤ c.half_chord.result = simp to_z-of_z at c.turned.ensures.value in
-    let value : c.framed.result ≡ framed a.c c.way_between-way.result depth c.turned.result = simp to_z-of_z at c.framed.ensures in
+    let left : c.by_sigma.result ≡ c.args.sigma *ℤ c.half_chord.result = simp to_z-of_z at c.by_sigma.ensures.value in
+    let value : c.framed.result ≡ framed a.c c.way_between-way.result depth c.by_sigma.result = simp to_z-of_z at c.framed.ensures in
     value ∙ rw (left, half, c.chord_depth-depth.ensures.value, c.way_between-way.ensures.value) refl

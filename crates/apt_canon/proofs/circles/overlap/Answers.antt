@@ -1,7 +1,7 @@
 use Rattle.std.proofs.Common.{refl, ◌≡◌, arith, ◌+ℤ◌, ◌-ℤ◌, FitsSigned, w64, nat_le, true, false}
 use Rattle.std.proofs.lemmas.Int.{ints, to_z-of_z}
 use Rattle.apt_num.specs.Sign.{square}
-use Rattle.apt_canon.proofs.CircleAnswers.{le-from, le-fails}
+use Rattle.apt_canon.proofs.CircleMeetings.Answers.{le-from, le-fails}
 use Rattle.apt_canon.proofs.circles.overlap.Goals as goal
 
 pub returns-then-size_squared-square : goal.returns-then-size_squared-square

@@ -7,7 +7,7 @@ use Rattle.apt_plane.specs.Vectors.{displacement, dot, length_squared}
 use Rattle.apt_canon.specs.Scale.{IsNearLine}
 use Rattle.apt_canon.specs.Circles.{framed}
 use Rattle.apt_canon.specs.Feet.{foot_point}
-use Rattle.apt_canon.proofs.FootLaws.{foot_near, foot_across}
+use Rattle.apt_canon.proofs.FootPoints.Laws.{foot_near, foot_across}
 use Rattle.apt_canon.proofs.feet.foot_point.Goals as goal
 
 point : (c : goal.After-framed) → c.framed.result ≡ foot_point c.args.p c.args.l.now.line c.args.l.now.off

@@ -1,7 +1,7 @@
 use Rattle.std.proofs.Common.{◌≡◌, w64}
 use Rattle.std.proofs.lemmas.Int.{to_z-of_z}
 use Rattle.apt_canon.specs.Feet.{parallel_at}
-use Rattle.apt_canon.proofs.Parallels.{answer_in_range, answer_same_dir, answer_on_line, answer_beside, answer_away}
+use Rattle.apt_canon.proofs.FootPoints.Parallels.{answer_in_range, answer_same_dir, answer_on_line, answer_beside, answer_away}
 use Rattle.apt_canon.proofs.feet.parallel_at.Goals as goal
 
 value : (c : goal.After-parallel) → c.parallel.result ≡ parallel_at c.args.l.now c.args.pick c.args.d

@@ -6,8 +6,8 @@ use Rattle.apt_plane.specs.declared.figures.Pt.{Pt}
 use Rattle.apt_plane.specs.Vectors.{displacement, cross, dot, length_squared}
 use Rattle.apt_canon.specs.Scale.{unit, times, nearest, from, IsNearCircle}
 use Rattle.apt_canon.specs.Feet.{ray_point}
-use Rattle.apt_canon.proofs.Rays.{ray_near}
-use Rattle.apt_canon.proofs.Sharp.{ray_across, ray_forward, ray_radius}
+use Rattle.apt_canon.proofs.FootPoints.Rays.{ray_near}
+use Rattle.apt_canon.proofs.FootPoints.Sharp.{ray_across, ray_forward, ray_radius}
 use Rattle.apt_canon.proofs.feet.ray_point.Goals as goal
 
 point : (c : goal.After-along) → c.along.result ≡ ray_point c.args.c.now c.args.u

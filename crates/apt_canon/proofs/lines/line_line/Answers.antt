@@ -1,8 +1,8 @@
 use Rattle.std.proofs.Common.{◌≡◌, w64, arith}
 use Rattle.std.proofs.lemmas.Int.{to_z-of_z, ints}
 use Rattle.apt_canon.specs.Meeting.{line_line}
-use Rattle.apt_canon.proofs.Meets.{answer_parallel, answer_in_range}
-use Rattle.apt_canon.proofs.OnBoth.{answer_on_a, answer_on_b}
+use Rattle.apt_canon.proofs.LineMeetings.Meets.{answer_parallel, answer_in_range}
+use Rattle.apt_canon.proofs.LineMeetings.OnBoth.{answer_on_a, answer_on_b}
 use Rattle.apt_canon.proofs.lines.line_line.Goals as goal
 
 value : (c : goal.After-meet) → c.meet.result ≡ line_line c.args.a.now.line c.args.a.now.off c.args.b.now.line c.args.b.now.off

@@ -2,7 +2,7 @@ use Rattle.std.proofs.Common.{pos, w64, arith}
 use Rattle.std.proofs.lemmas.Int.{to_z-of_z, ints}
 use Rattle.apt_plane.specs.declared.figures.Pt.{Pt}
 use Rattle.apt_canon.specs.Scale.{IsNearLine}
-use Rattle.apt_canon.proofs.MeetingLaws.{parts-near}
+use Rattle.apt_canon.proofs.LineMeetings.Meeting.{parts-near}
 use Rattle.apt_canon.proofs.lines.line_line_point.Goals as goal
 
 abbrev point : (c : goal.After-meeting_point) → Pt

@@ -1,7 +1,7 @@
 use Rattle.std.proofs.Common.{◌≡◌, ◌≢◌, arith, pos, ◌∙◌, w64}
 use Rattle.std.proofs.lemmas.Int.{ints, to_z-of_z}
 use Rattle.apt_canon.specs.Meeting.{meeting_point}
-use Rattle.apt_canon.proofs.Meets.{meets}
+use Rattle.apt_canon.proofs.LineMeetings.Meets.{meets}
 use Rattle.apt_canon.proofs.lines.meet.Goals as goal
 
 pub returns : goal.returns

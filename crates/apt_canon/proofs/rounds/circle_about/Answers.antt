@@ -5,7 +5,7 @@ use Rattle.std.proofs.lemmas.Int.{ints, to_z-of_z}
 use Rattle.apt_plane.specs.declared.figures.Dir.{Dir}
 use Rattle.apt_canon.specs.Rounds as rounds
 use Rattle.apt_canon.specs.Scale as scale
-use Rattle.apt_canon.proofs.RoundsSizes.{not_far}
+use Rattle.apt_canon.proofs.DefinedCircles.Sizes.{not_far}
 use Rattle.apt_canon.proofs.rounds.circle_about.Goals as goal
 
 pub returns : goal.returns

@@ -1,4 +1,4 @@
-use Rattle.apt_canon.proofs.RoundsLaws.{three_degenerate, three_too_large, three_range, three_through}
+use Rattle.apt_canon.proofs.DefinedCircles.Laws.{three_degenerate, three_too_large, three_range, three_through}
 use Rattle.apt_canon.proofs.rounds.circle_three.Goals as goal
 
 pub returns-clause-degenerate : goal.returns-clause-degenerate

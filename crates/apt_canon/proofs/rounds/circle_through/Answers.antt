@@ -1,7 +1,7 @@
 use Rattle.std.proofs.Common.{rules, refl, ◌≡◌, FitsSigned, w64, ◌∙◌}
 use Rattle.std.proofs.lemmas.Int.{to_z-of_z}
 use Rattle.apt_canon.specs.Rounds as rounds
-use Rattle.apt_canon.proofs.RoundsLaws.{of_degenerate, of_too_large, of_range, of_centre, of_through}
+use Rattle.apt_canon.proofs.DefinedCircles.Laws.{of_degenerate, of_too_large, of_range, of_centre, of_through}
 use Rattle.apt_canon.proofs.rounds.circle_through.Goals as goal
 
 value : (c : goal.After-about) → c.about.result ≡ rounds.circle_through c.args.c c.args.p

@@ -1,7 +1,7 @@
 use Rattle.std.proofs.Common.{◌≡◌, w64}
 use Rattle.std.proofs.lemmas.Int.{to_z-of_z}
 use Rattle.apt_canon.specs.Rounds as rounds
-use Rattle.apt_canon.proofs.RoundsLaws.{in_refused, in_range, in_radius, in_on_a, in_on_b, in_sides, in_touches}
+use Rattle.apt_canon.proofs.DefinedCircles.Laws.{in_refused, in_range, in_radius, in_on_a, in_on_b, in_sides, in_touches}
 use Rattle.apt_canon.proofs.rounds.corner.Goals as goal
 
 value : (c : goal.After-in_corner) → c.in_corner.result ≡ rounds.corner c.args.a.now c.args.pick_a c.args.b.now c.args.pick_b c.args.r

@@ -5,7 +5,7 @@ use Rattle.apt_num.specs.Near.{near}
 use Rattle.apt_canon.specs.Scale.{unit}
 use Rattle.apt_canon.specs.Rounds.{distance_from_line}
 use Rattle.apt_canon.proofs.Depths.{length_positive}
-use Rattle.apt_canon.proofs.RoundsSizes.{distance_plain, size_units_kept}
+use Rattle.apt_canon.proofs.DefinedCircles.Sizes.{distance_plain, size_units_kept}
 use Rattle.apt_canon.proofs.rounds.distance_from_line.Goals as goal
 
 pub div_near-requires-clause-not_zero : goal.div_near-requires-clause-not_zero

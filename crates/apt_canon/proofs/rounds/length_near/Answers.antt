@@ -1,7 +1,7 @@
 use Rattle.std.proofs.Common.{◌≡◌, ◌*◌, ◌^◌, ◌≤◌, arith, pos, to_z, w64, ap, ◌∙◌}
 use Rattle.std.proofs.lemmas.Int.{ints}
 use Rattle.apt_num.specs.Root.{root_near}
-use Rattle.apt_canon.proofs.RoundsSizes.{nearest_root_small, way_small}
+use Rattle.apt_canon.proofs.DefinedCircles.Sizes.{nearest_root_small, way_small}
 use Rattle.apt_canon.proofs.rounds.length_near.Goals as goal
 
 pub returns : goal.returns

@@ -2,7 +2,7 @@ use Rattle.std.proofs.Common.{rules, refl, ◌≡◌, arith, pos, ◌*ℤ◌, �
 use Rattle.std.specs.Int.{w128}
 use Rattle.std.proofs.lemmas.Int.{to_z-of_z}
 use Rattle.apt_num.specs.Near.{near}
-use Rattle.apt_canon.proofs.RoundsSizes.{twice_fits, twice_kept, twice_size, twice_not_zero}
+use Rattle.apt_canon.proofs.DefinedCircles.Sizes.{twice_fits, twice_kept, twice_size, twice_not_zero}
 use Rattle.apt_canon.proofs.rounds.share.Goals as goal
 
 pub overflow_mul-turn : goal.overflow_mul-turn

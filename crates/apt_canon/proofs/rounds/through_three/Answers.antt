@@ -2,7 +2,7 @@ use Rattle.std.proofs.Common.{rules, refl, ◌≢◌, arith, pos, FitsSigned, �
 use Rattle.std.specs.Int.{w128}
 use Rattle.std.proofs.lemmas.Int.{ints, to_z-of_z}
 use Rattle.apt_canon.proofs.Fits.{not_zero-test}
-use Rattle.apt_canon.proofs.RoundsSizes.{first_way, second_way, turn_small}
+use Rattle.apt_canon.proofs.DefinedCircles.Sizes.{first_way, second_way, turn_small}
 use Rattle.apt_canon.proofs.rounds.through_three.Goals as goal
 
 pub centre_from-requires-clause-b : goal.centre_from-requires-clause-b

@@ -1,7 +1,7 @@
 use Rattle.std.proofs.Common.{◌≡◌, arith, ◌*ℤ◌, unsigned_abs, refl}
 use Rattle.apt_canon.specs.Tangents.{side_of_circle}
 use Rattle.apt_canon.proofs.Shares.{side_kept}
-use Rattle.apt_canon.proofs.TangentCalls.{drop_fits, drop_kept, drop_small}
+use Rattle.apt_canon.proofs.TangentLines.Calls.{drop_fits, drop_kept, drop_small}
 use Rattle.apt_canon.proofs.tangents.drop_between.Goals as goal
 
 pub overflow_sub-result : goal.overflow_sub-result

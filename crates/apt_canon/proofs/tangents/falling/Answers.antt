@@ -1,7 +1,7 @@
 use Rattle.std.proofs.Common.{rules, ◌≡◌, ◌≤◌, ◌^◌, ◌*◌, arith, pos, ◌-ℤ◌, ◌*ℤ◌, unsigned_abs, FitsSigned, w64, ◌∙◌}
 use Rattle.std.specs.Int.{w128}
 use Rattle.std.proofs.lemmas.Int.{ints, to_z-of_z}
-use Rattle.apt_canon.proofs.TangentFrame.{reach, falling_x, falling_y, falling_small}
+use Rattle.apt_canon.proofs.TangentLines.Frame.{reach, falling_x, falling_y, falling_small}
 use Rattle.apt_canon.proofs.tangents.falling.Goals as goal
 
 pub returns-clause-x : goal.returns-clause-x

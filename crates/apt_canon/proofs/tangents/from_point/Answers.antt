@@ -5,7 +5,7 @@ use Rattle.apt_plane.specs.Vectors.{displacement, length_squared}
 use Rattle.apt_canon.specs.Tangents.{side_of_circle}
 use Rattle.apt_canon.proofs.Shares.{side_kept}
 use Rattle.apt_canon.proofs.Ways.{way_is_dir}
-use Rattle.apt_canon.proofs.TangentCalls.{outside_apart, back_kept, same_dir, found_from}
+use Rattle.apt_canon.proofs.TangentLines.Calls.{outside_apart, back_kept, same_dir, found_from}
 use Rattle.apt_canon.proofs.tangents.from_point.Goals as goal
 
 pub direction-requires-clause-way : goal.direction-requires-clause-way

@@ -4,7 +4,7 @@ use Rattle.apt_plane.specs.Vectors.{displacement, length_squared}
 use Rattle.apt_canon.specs.Tangents.{drop}
 use Rattle.apt_canon.proofs.Shares.{side_kept}
 use Rattle.apt_canon.proofs.Ways.{way_is_dir}
-use Rattle.apt_canon.proofs.TangentCalls.{same_dir, same_touch, two_below, two_same, two_found}
+use Rattle.apt_canon.proofs.TangentLines.Calls.{same_dir, same_touch, two_below, two_same, two_found}
 use Rattle.apt_canon.proofs.tangents.of_two.Goals as goal
 
 pub returns-then-apart-square : goal.returns-then-apart-square

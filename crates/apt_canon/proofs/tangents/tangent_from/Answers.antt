@@ -1,4 +1,4 @@
-use Rattle.apt_canon.proofs.TangentAnswers.{from_no_meeting, from_range, from_base, from_touches, from_side, from_onwards}
+use Rattle.apt_canon.proofs.TangentLines.Answers.{from_no_meeting, from_range, from_base, from_touches, from_side, from_onwards}
 use Rattle.apt_canon.proofs.tangents.tangent_from.Goals as goal
 
 pub returns-clause-no_meeting : goal.returns-clause-no_meeting

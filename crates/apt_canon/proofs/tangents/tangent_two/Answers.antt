@@ -1,4 +1,4 @@
-use Rattle.apt_canon.proofs.TangentAnswers.{two_degenerate, two_no_meeting, two_range, two_base, two_touches_first, two_touches_second, two_side_first, two_side_second, two_onwards}
+use Rattle.apt_canon.proofs.TangentLines.Answers.{two_degenerate, two_no_meeting, two_range, two_base, two_touches_first, two_touches_second, two_side_first, two_side_second, two_onwards}
 use Rattle.apt_canon.proofs.tangents.tangent_two.Goals as goal
 
 pub returns-clause-degenerate : goal.returns-clause-degenerate

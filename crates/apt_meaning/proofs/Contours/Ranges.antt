@@ -1,0 +1,96 @@
+-- Names stand for surfaces in range, and the contours that steps ask for have motions in range.
+use Rattle.std.proofs.Common.{◌≡◌, ℕ, Bool, true, false, List, Option, Some, None, Result, Ok, Err, IfSome, refl, sym, subst, cond}
+use Rattle.apt_words.specs.declared.Case.{Case}
+use Rattle.apt_words.specs.declared.Go.{Go}
+use Rattle.apt_words.specs.declared.Stop.{Stop}
+use Rattle.apt_words.specs.declared.ask.Form.{Form}
+use Rattle.apt_words.specs.declared.ask.Route.{Route}
+use Rattle.apt_words.specs.declared.ask.Route.TheVariants as routes
+use Rattle.apt_words.specs.declared.deed.Deed.{Deed}
+use Rattle.apt_words.specs.Asks.{Ask, Titles, Says, Sets, Defines, Goes, Cuts, Nothing, ask_of}
+use Rattle.apt_words.specs.Options.{◌>>=◌}
+use Rattle.apt_plane.specs.declared.figures.Dir.{Dir}
+use Rattle.apt_plane.specs.declared.figures.Surface.{Surface}
+use Rattle.apt_plane.specs.Ranges.{IsSurface}
+use Rattle.apt_offset.specs.Turns.{tangent, turn, is_zero}
+use Rattle.apt_cldata.specs.declared.record.Position.{Position}
+use Rattle.apt_cldata.specs.declared.record.Reach.{Reach}
+use Rattle.apt_cldata.specs.declared.record.Reach.TheVariants as reaches
+use Rattle.apt_defs.specs.declared.figure.Figure.{Figure}
+use Rattle.apt_defs.specs.declared.figure.Figure.TheVariants as figures
+use Rattle.apt_defs.specs.Definitions.{figure_of}
+use Rattle.apt_defs.specs.Figures.{Table, IsFigure, AreFigures, figure_named}
+use Rattle.apt_defs.proofs.Tables.{looked_up}
+use Rattle.apt_meaning.specs.declared.situation.Settings.{Settings}
+use Rattle.apt_meaning.specs.declared.situation.Situation.{Situation}
+use Rattle.apt_meaning.specs.declared.motion.Motion.{Motion}
+use Rattle.apt_meaning.specs.declared.effect.Effect.{Effect}
+use Rattle.apt_meaning.specs.Situations.{with_side}
+use Rattle.apt_meaning.specs.Motions.{as_surface, surface_in, motion, if_turned, motion_at}
+use Rattle.apt_meaning.specs.StartUps.{start_position_at}
+use Rattle.apt_meaning.specs.Effects.{moves, cuts, moved_from, place_at, names, defined, goes, effect_by, effect_of}
+use Rattle.apt_meaning.specs.Ranges.{IsPositionOrNone, AreSettings, IsSituation, IsMotion, HasMotion}
+use Rattle.apt_meaning.proofs.EffectRanges.{on_side_or_as_it_was, motion_is}
+
+-- ---- names of surfaces
+
+figure_surface : (o : Option Figure) → IfSome o IsFigure → IfSome (o >>= as_surface) IsSurface
+figure_surface None is = tt
+figure_surface (Some (figures.Point at z)) is = tt
+figure_surface (Some (figures.Shape s)) is = is
+figure_surface (Some figures.Scalar) is = tt
+
+pub named_surface : (table : Table) (name : List ℕ) → AreFigures table → IfSome (surface_in table name) IsSurface
+named_surface table name are = figure_surface (figure_named table name) (looked_up table name are)
+
+-- ---- what steps ask for, whether or not a case refuses them
+
+moves_made : (reach : Reach) (o : Option Position) → IfSome (moves reach o) HasMotion
+moves_made reach None = tt
+moves_made reach (Some to) = tt
+
+turned_made : (b : Bool) (m : Motion) → (b ≡ false → IsMotion m) → IfSome (cuts (cond b None (Some m))) HasMotion
+turned_made true m is = tt
+turned_made false m is = is refl
+
+contour_made : (s : Settings) (forward : Dir) (go : Go) (how : Stop) (p : Option Position) (d c : Option Surface)
+    → AreSettings s → IsPositionOrNone p → IfSome d IsSurface → IfSome c IsSurface
+    → IfSome (cuts (p >>= λ start. d >>= λ drive. c >>= λ check. if_turned s start drive (turn forward (tangent drive start.at) go) how check)) HasMotion
+contour_made s forward go how None d c is is_p is_d is_c = tt
+contour_made s forward go how (Some start) None c is is_p is_d is_c = tt
+contour_made s forward go how (Some start) (Some drive) None is is_p is_d is_c = tt
+contour_made s forward go how (Some start) (Some drive) (Some check) is is_p is_d is_c =
+    let turned = turn forward (tangent drive start.at) go in
+    turned_made (is_zero turned) (motion s start drive turned how check) (λ turns. motion_is s start drive turned how check is is_p is_d is_c turns)
+
+names_made : (name : List ℕ) (r : Result Figure Case) → IfSome (names name r) HasMotion
+names_made name (Ok f) = tt
+names_made name (Err case) = tt
+
+defined_made : (at : Situation) (name : List ℕ) (form : Form) → IfSome (defined at name form) HasMotion
+unfolding defined
+defined_made at name form = names_made name (figure_of at.settings.units at.table form)
+
+goes_made : (at : Situation) (route : Route) → IfSome (goes at route) HasMotion
+goes_made at (routes.From place) = moves_made reaches.From (place_at at place)
+goes_made at (routes.Goto place) = moves_made reaches.Goto (place_at at place)
+goes_made at (routes.By x y z) = moves_made reaches.Godlta (moved_from at x y z)
+goes_made at (routes.Start how name other) = moves_made reaches.Start (start_position_at at how name other)
+
+made_by : (at : Situation) (ask : Ask) → IsSituation at → IfSome (effect_by at ask) HasMotion
+unfolding motion_at
+made_by at (Titles text) is = tt
+made_by at (Says saying) is = tt
+made_by at (Sets side) is = tt
+made_by at (Defines name form) is = defined_made at name form
+made_by at (Goes route) is = goes_made at route
+made_by at (Cuts side go drive how check) is =
+    contour_made (with_side at.settings side) at.forward go how at.position (surface_in at.table drive) (surface_in at.table check)
+    (on_side_or_as_it_was at.settings side is.settings) is.position (named_surface at.table drive is.table) (named_surface at.table check is.table)
+made_by at Nothing is = tt
+
+pub made : (at : Situation) (deed : Deed) → IsSituation at → IfSome (effect_of at deed) HasMotion
+made at deed is = made_by at (ask_of deed) is
+
+pub motion_in : (at : Situation) (deed : Deed) (e : Option Effect) → IsSituation at → e ≡ effect_of at deed → IfSome e HasMotion
+motion_in at deed e is same = subst (λ (o : Option Effect). IfSome o HasMotion) (sym same) (made at deed is)

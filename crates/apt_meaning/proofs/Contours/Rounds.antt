@@ -1,0 +1,125 @@
+-- A contour round a circle that no case refuses is legal with the vertices of its arc.
+use Rattle.std.proofs.Common.{◌≡◌, refl, sym, subst, ℕ, ◌+◌, ◌*◌, ◌≤◌, ℤ, pos, ◌+ℤ◌, ◌-ℤ◌, ◌≤ℤ◌, unsigned_abs, Bool, true, false, List, [], ◌∷◌, ◌++◌, arith}
+use Rattle.std.proofs.lemmas.Int.{ints}
+use Rattle.apt_num.proofs.Squares.{root_le}
+use Rattle.apt_words.specs.Rows.{NoneHolds}
+use Rattle.apt_plane.specs.declared.figures.Pt.{Pt}
+use Rattle.apt_plane.specs.declared.figures.Band.{Band}
+use Rattle.apt_plane.specs.declared.figures.Circ.{Circ}
+use Rattle.apt_plane.specs.declared.figures.Surface.TheVariants as surfaces
+use Rattle.apt_plane.specs.Ranges.{IsPoint}
+use Rattle.apt_plane.specs.Vectors.{scaled, displacement, length_squared}
+use Rattle.apt_plane.specs.Distances.{InBand, EveryPoint, IsUnder, about}
+use Rattle.apt_plane.proofs.Heights.{one-times}
+use Rattle.apt_plane.proofs.RingLaws.{root_at_most}
+use Rattle.apt_plane.proofs.SegmentLaws.{at_end}
+use Rattle.apt_plane.proofs.Weaker.{every_over, every_under}
+use Rattle.apt_contact.specs.Meetings.{circle_about}
+use Rattle.apt_stop.specs.Courses.{is_tanto, axis_of}
+use Rattle.apt_stop.specs.Ends.{EndsOnCircle}
+use Rattle.apt_stop.proofs.Chosen.{bound_there}
+use Rattle.apt_arc.specs.declared.arc.Arc.{Arc}
+use Rattle.apt_arc.specs.Made.{divided}
+use Rattle.apt_arc.specs.Ranges.{IsTrack, IsArc}
+use Rattle.apt_arc.specs.Steps.{chord_band, IsInside, AreSteps}
+use Rattle.apt_arc.specs.Stops.{EveryChord}
+use Rattle.apt_arc.proofs.Divided.{divides}
+use Rattle.apt_arc.proofs.Steps.{arc_steps, division_ends}
+use Rattle.apt_certify.specs.Jobs.{ArePoints}
+use Rattle.apt_certify.specs.Legs.{IsWithinEdge, IsSome, IsOnAxisOrNone, AllHold, tests_from, last_of}
+use Rattle.apt_meaning.specs.declared.motion.Motion.{Motion}
+use Rattle.apt_meaning.specs.Motions.{check_side, course_of, contact, leg_of, sag}
+use Rattle.apt_meaning.specs.Refusals.{motion_cases}
+use Rattle.apt_meaning.specs.Ranges.{IsMotion}
+use Rattle.apt_meaning.specs.Records.{IsLegalCut}
+use Rattle.apt_meaning.proofs.Contours.Bands.{near_surface}
+use Rattle.apt_meaning.proofs.Contours.Legal.{course_is, leg_bounded, no_axis, on_axis}
+use Rattle.apt_meaning.proofs.Contours.Arcs.{round, radius_round, arc_round, arc_is, room_round, sag_within, ends_round}
+use Rattle.apt_meaning.proofs.Contours.Overruns.{round_within}
+
+-- ---- how it ends
+
+record EndsThere (m : Motion) (q : Pt) : Type 0 where
+  stop : InBand m.check (leg_of m).stop_band (scaled q)
+  axis : IsOnAxisOrNone (leg_of m).axis q
+
+ends_there : (m : Motion) (d : Circ) (q : Pt) (tanto : Bool) → is_tanto m.how ≡ tanto → IsMotion (round m d) → EndsOnCircle (course_of (round m d)) d.c q → EndsThere (round m d) q
+ends_there m d q false e is ends = record {
+  stop = near_surface m.check (check_side (round m d)) m.radius m.inner m.outer (pos 1) q is.inner.least is.outer.least (omega (arith, ints)) (ends.meets e);
+  axis = rw (no_axis (course_of (round m d)) e) tt;
+}
+ends_there m d q true e is ends =
+    let at_stop = ends.touches e in record {
+      stop = near_surface m.check (check_side (round m d)) m.radius m.inner m.outer (pos 4) q is.inner.least is.outer.least (omega (arith, ints)) at_stop.stop;
+      axis = on_axis (axis_of (course_of (round m d))) q at_stop.axis;
+    }
+
+-- ---- its tests hold
+
+chord_in_band : (d : Circ) (t : Circ) (sag : ℤ) (band : Band) (a b : Pt) → t.c ≡ d.c → band.lo ≤ℤ (t.r -ℤ sag) → (t.r +ℤ pos 3) ≤ℤ band.hi → IsInside t sag a b → EveryPoint a b (InBand (surfaces.Circ d) band)
+chord_in_band d t sag band a b same lo hi inside =
+    let there : EveryPoint a b (InBand (about d.c) (chord_band t sag)) = subst (λ (o : Pt). EveryPoint a b (InBand (about o) (chord_band t sag))) same inside in
+    λ j k some. record {
+      lo = every_over (surfaces.Circ d) (t.r -ℤ sag) band.lo a b lo (λ i l more. (there i l more).lo) j k some;
+      hi = every_under (surfaces.Circ d) (t.r +ℤ pos 3) band.hi a b hi (λ i l more. (there i l more).hi) j k some;
+    }
+
+tests_hold : (m : Motion) (d : Circ) (s a e : Pt) (list : List Pt) → IsMotion (round m d) → AreSteps (circle_about d.c (radius_round m d)) (sag (round m d) (radius_round m d)) m.sense s a list e
+    → EveryChord a list (IsWithinEdge (leg_of (round m d)) (leg_of (round m d)).beyond) → EndsThere (round m d) e → AllHold (leg_of (round m d)) s (tests_from a list)
+tests_hold m d s a e [] is steps within ends = subst (λ (q : Pt). AllHold (leg_of (round m d)) s (tests_from q [])) (sym steps) (ends.stop, (ends.axis, tt))
+tests_hold m d s a e (x ∷ xs) is steps within ends =
+    let t = circle_about d.c (radius_round m d) in
+    let band = (leg_of (round m d)).band in
+    let hi : (radius_round m d +ℤ pos 3) ≤ℤ band.hi = omega (arith, ints, (room_round m d is).hi) in
+    (steps.0, (chord_in_band d t (sag (round m d) (radius_round m d)) band a x refl (sag_within m d) hi steps.1, (within.0, tests_hold m d s x e xs is steps.2 within.1 ends)))
+
+last_some : (front : List Pt) (q : Pt) (list : List Pt) → list ≡ front ++ q ∷ [] → IsSome list
+last_some [] q list e = rw e tt
+last_some (p ∷ ps) q list e = rw e tt
+
+some_chord : (a : Arc) → IsArc a → IsSome (divided a)
+some_chord a arc =
+    let last = division_ends a (divided a) arc (divides a arc) in
+    last_some last.0 a.end (divided a) last.1
+
+pub round_legal : (m : Motion) (d : Circ) → IsMotion (round m d) → NoneHolds (motion_cases (round m d)) → IsLegalCut (round m d) (divided (arc_round m d))
+round_legal m d is none =
+    let arc = arc_is m d is none in
+    let steps = arc_steps (arc_round m d) arc in
+    let ends = ends_there m d (contact (round m d)) (is_tanto m.how) refl is (ends_round m d is none) in record {
+      bounded = leg_bounded (round m d) (bound_there (course_of (round m d)) (course_is (round m d) is none) none.1.1.1.1);
+      legal = record {
+        moves = some_chord (arc_round m d) arc;
+        hold = tests_hold m d m.start.at m.start.at (contact (round m d)) (divided (arc_round m d)) is steps (round_within m d is none) ends;
+      };
+    }
+
+-- ---- its vertices are points, of which the last is its end
+
+pub steps_last : (t : Circ) (sag sense : ℤ) (s a e : Pt) (list : List Pt) → AreSteps t sag sense s a list e → last_of a list ≡ e
+steps_last t sag sense s a e [] steps = steps
+steps_last t sag sense s a e (x ∷ xs) steps = steps_last t sag sense s x e xs steps.2
+
+parts_small : (x y h : ℕ) → x * x + y * y ≤ h * h → (x ≤ h) × (y ≤ h)
+parts_small x y h long = (root_le x h (omega (arith, long)), root_le y h (omega (arith, long)))
+
+place_small : (c z : ℤ) (r : ℕ) → unsigned_abs (z -ℤ c) ≤ r + 3 → unsigned_abs c + r ≤ 49500000 → unsigned_abs z ≤ 50000000
+place_small c z r h g = omega (arith, ints, h, g)
+
+under_length : (c p : Pt) (h : ℕ) → IsUnder (about c) (pos h) (scaled p) → length_squared (displacement c p) ≤ h * h
+under_length c p h is = omega (arith, (root_at_most 1 h (length_squared (displacement c p))).0 (rw (one-times c.x, one-times c.y) at is))
+
+outer_radius : (t : Circ) → IsTrack t → t.r +ℤ pos 3 ≡ pos (unsigned_abs t.r + 3)
+outer_radius t is = omega (arith, ints, is.least)
+
+vertex_point : (t : Circ) (p : Pt) → IsTrack t → IsUnder (about t.c) (t.r +ℤ pos 3) (scaled p) → IsPoint p
+vertex_point t p is under =
+    let r = unsigned_abs t.r in
+    let long = under_length t.c p (r + 3) (subst (λ (z : ℤ). IsUnder (about t.c) z (scaled p)) (outer_radius t is) under) in
+    let small = parts_small (unsigned_abs (p.x -ℤ t.c.x)) (unsigned_abs (p.y -ℤ t.c.y)) (r + 3) long in
+    record { x = place_small t.c.x p.x r small.0 is.x; y = place_small t.c.y p.y r small.1 is.y }
+
+pub steps_points : (t : Circ) (sag sense : ℤ) (s a e : Pt) (list : List Pt) → IsTrack t → AreSteps t sag sense s a list e → ArePoints list
+steps_points t sag sense s a e [] is steps = tt
+steps_points t sag sense s a e (x ∷ xs) is steps =
+    (vertex_point t x is (at_end (IsUnder (about t.c) (t.r +ℤ pos 3)) a x (λ j k some. (steps.1 j k some).hi)), steps_points t sag sense s x e xs is steps.2)

@@ -1,0 +1,126 @@
+-- How the start of a course round a circle lies to its stop, by the tests: on its side away from the stop, or near the stop and heading into its side.
+use Rattle.std.proofs.Common.{◌≡◌, refl, inl, inr, subst, ℕ, suc, zero, ◌+◌, ◌-◌, ◌*◌, ◌≤◌, ◌<◌, ℤ, pos, negsuc, neg_ℤ, ◌+ℤ◌, ◌-ℤ◌, ◌*ℤ◌, ◌≤ℤ◌, ◌<ℤ◌, Bool, true, false, ◌&&◌, arith}
+use Rattle.std.specs.Prelude.{if◌then◌else◌}
+use Rattle.std.proofs.lemmas.Int.{ints}
+use Rattle.std.proofs.lemmas.Nat.{mul-le}
+use Rattle.std.proofs.lemmas.Bool.{and_cases, both_ways, cases_lt}
+use Rattle.apt_num.specs.declared.Sign.TheVariants as signs
+use Rattle.apt_num.specs.Sign.{AtLeast, square, sign_of, root_sign_of, is_at_least}
+use Rattle.apt_num.proofs.Squares.{size_neg}
+use Rattle.apt_num.proofs.Testing.{is_at_least-from}
+use Rattle.apt_plane.specs.declared.figures.Pt.{Pt}
+use Rattle.apt_plane.specs.declared.figures.Line.{Line}
+use Rattle.apt_plane.specs.Ranges.{IsSense}
+use Rattle.apt_plane.specs.Vectors.{displacement, cross, dot, length_squared, scaled}
+use Rattle.apt_plane.specs.Distances.{IsAbove, IsBelow, IsOver, IsUnder, about}
+use Rattle.apt_plane.proofs.SegmentLaws.{point_above, point_below}
+use Rattle.apt_canon.proofs.CircleMeetings.LineCircle.{sense_size}
+use Rattle.apt_offset.specs.declared.Target.TheVariants as targets
+use Rattle.apt_stop.specs.Nearness.{is_near, near_stop}
+use Rattle.apt_stop.specs.Courses.{is_by_axis}
+use Rattle.apt_stop.proofs.NearLaws.{near-OnLine}
+use Rattle.apt_stop.proofs.Far.{far_on_side}
+use Rattle.apt_stop.proofs.Rings.{ring_true, ring_false, over_at, under_at}
+use Rattle.apt_arc.specs.declared.arc.Arc.{Arc}
+use Rattle.apt_arc.specs.Stops.{to_start, IsAhead, IsAback, StartsLeft, StartsRight, StartsInside, StartsOutside}
+
+-- ---- off an axis by more than 8 units
+
+below_axis : (k : ℤ) (n : ℕ) → is_at_least k (negsuc 7) n ≡ false → 64 * n < square k
+below_axis (pos a) n e = absurd (both_ways (is_at_least (pos a) (negsuc 7) n) e (is_at_least-from (pos a) (negsuc 7) n tt))
+below_axis (negsuc a) n e = elim (cases_lt (64 * n) (suc a * suc a)) [
+  | inl more ↦ more
+  | inr less ↦ absurd (both_ways (is_at_least (negsuc a) (negsuc 7) n) e (is_at_least-from (negsuc a) (negsuc 7) n (omega (arith, less))))
+]
+
+off_axis : (k : ℤ) (n : ℕ) → is_by_axis k n ≡ false → 64 * n < square k
+off_axis k n e = elim (and_cases (is_at_least k (pos 0 -ℤ near_stop) n) (is_at_least (neg_ℤ k) (neg_ℤ (pos 0) -ℤ near_stop) n) e) [
+  | inl lower ↦ below_axis k n lower
+  | inr higher ↦ rw (size_neg k) at (below_axis (neg_ℤ k) n higher)
+]
+
+plus_is : (z : ℤ) → sign_of z ≡ signs.Plus → pos 0 <ℤ z
+plus_is (pos zero) e = absurd cc
+plus_is (pos (suc n)) e = omega (arith, ints)
+plus_is (negsuc n) e = absurd cc
+
+minus_is : (z : ℤ) → sign_of z ≡ signs.Minus → z <ℤ pos 0
+minus_is (pos zero) e = absurd cc
+minus_is (pos (suc n)) e = absurd cc
+minus_is (negsuc n) e = omega (arith, ints)
+
+ahead : (sense k : ℤ) (n : ℕ) → IsSense sense → is_by_axis k n ≡ false → sign_of (sense *ℤ k) ≡ signs.Plus → IsAhead (sense *ℤ k) n
+ahead sense k n is past e = (plus_is (sense *ℤ k) e, rw (sense_size sense k is) (off_axis k n past))
+
+aback : (sense k : ℤ) (n : ℕ) → IsSense sense → is_by_axis k n ≡ false → sign_of (sense *ℤ k) ≡ signs.Minus → IsAback (sense *ℤ k) n
+aback sense k n is past e = (minus_is (sense *ℤ k) e, rw (sense_size sense k is) (off_axis k n past))
+
+-- ---- a line
+
+pub above_at : (l : Line) (x : ℤ) (p : Pt) → AtLeast (cross l.dir (displacement l.base p)) x (length_squared l.dir) → IsAbove l x (scaled p)
+above_at l x p at =
+    let k = cross l.dir (displacement l.base p) in
+    (point_above (AtLeast k x (length_squared l.dir)) l x p k (length_squared l.dir) refl refl (λ z. z, λ z. z)).0 at
+
+pub below_at : (l : Line) (x y : ℤ) (p : Pt) → y ≡ neg_ℤ x → AtLeast (neg_ℤ (cross l.dir (displacement l.base p))) y (length_squared l.dir) → IsBelow l x (scaled p)
+below_at l x y p e at =
+    let k = cross l.dir (displacement l.base p) in
+    let n = length_squared l.dir in
+    (point_below (AtLeast (neg_ℤ k) (neg_ℤ x) n) l x p k n refl refl (λ z. z, λ z. z)).0 (subst (λ (z : ℤ). AtLeast (neg_ℤ k) z n) e at)
+
+pub starts_left : (a : Arc) (l : Line) (h : ℤ) (near : Bool) → IsSense a.sense → is_near (targets.Line l.base l.dir h) near_stop a.start ≡ near
+    → (near && is_by_axis (dot (to_start a) l.dir) (length_squared l.dir)) ≡ false
+    → (if near then sign_of (a.sense *ℤ dot (to_start a) l.dir) else root_sign_of (cross l.dir (displacement l.base a.start)) h (length_squared l.dir)) ≡ signs.Plus → StartsLeft a l h
+starts_left a l h true is e past side =
+    inr (above_at l (h -ℤ pos 8) a.start (near-OnLine l h near_stop a.start e).right, ahead a.sense (dot (to_start a) l.dir) (length_squared l.dir) is past side)
+starts_left a l h false is e past side =
+    inl (above_at l (h +ℤ pos 8) a.start (far_on_side signs.Plus (cross l.dir (displacement l.base a.start)) h (length_squared l.dir) side e))
+
+pub starts_right : (a : Arc) (l : Line) (h : ℤ) (near : Bool) → IsSense a.sense → is_near (targets.Line l.base l.dir h) near_stop a.start ≡ near
+    → (near && is_by_axis (dot (to_start a) l.dir) (length_squared l.dir)) ≡ false
+    → (if near then sign_of (a.sense *ℤ dot (to_start a) l.dir) else root_sign_of (cross l.dir (displacement l.base a.start)) h (length_squared l.dir)) ≡ signs.Minus → StartsRight a l h
+starts_right a l h true is e past side = inr (
+  below_at l (h +ℤ pos 8) (neg_ℤ h -ℤ pos 8) a.start (omega (arith, ints)) (near-OnLine l h near_stop a.start e).left,
+  aback a.sense (dot (to_start a) l.dir) (length_squared l.dir) is past side,
+)
+starts_right a l h false is e past side =
+    inl (below_at l (h -ℤ pos 8) (neg_ℤ h +ℤ pos 8) a.start (omega (arith, ints)) (far_on_side signs.Minus (cross l.dir (displacement l.base a.start)) h (length_squared l.dir) side e))
+
+-- ---- a circle
+
+less_eight : (n : ℕ) → 100 ≤ n → pos (n - 8) ≡ pos n -ℤ pos 8
+less_eight n least = omega (arith, ints, least)
+
+pub starts_inside : (a : Arc) (q : Pt) (s : ℤ) (near : Bool) → pos 100 ≤ℤ s → IsSense a.sense → is_near (targets.Circ q s) near_stop a.start ≡ near
+    → (near && is_by_axis (cross (to_start a) (displacement a.track.c q)) (length_squared (displacement a.track.c q))) ≡ false
+    → (if near then sign_of (a.sense *ℤ cross (to_start a) (displacement a.track.c q)) else sign_of (pos (square s) -ℤ pos (length_squared (displacement q a.start)))) ≡ signs.Plus → StartsInside a q s
+starts_inside a q (negsuc n) near least is e past side = absurd (omega (arith, ints, least))
+starts_inside a q (pos n) true least is e past side =
+    let g = displacement a.track.c q in
+    let large : 100 ≤ n = omega (arith, ints, least) in
+    let ring = ring_true n 8 (length_squared (displacement q a.start)) (omega (arith, large)) e in
+    inr (under_at q (n + 8) a.start ring.1, ahead a.sense (cross (to_start a) g) (length_squared g) is past side)
+starts_inside a q (pos n) false least is e past side =
+    let large : 100 ≤ n = omega (arith, ints, least) in
+    let m = length_squared (displacement q a.start) in
+    elim (ring_false n 8 m (omega (arith, large)) e) [
+      | inl inside ↦ inl (subst (λ (z : ℤ). IsUnder (about q) z (scaled a.start)) (less_eight n large) (under_at q (n - 8) a.start (omega (arith, inside))))
+      | inr outside ↦ absurd (omega (arith, ints, outside, plus_is (pos (square (pos n)) -ℤ pos m) side))
+    ]
+
+pub starts_outside : (a : Arc) (q : Pt) (s : ℤ) (near : Bool) → pos 100 ≤ℤ s → IsSense a.sense → is_near (targets.Circ q s) near_stop a.start ≡ near
+    → (near && is_by_axis (cross (to_start a) (displacement a.track.c q)) (length_squared (displacement a.track.c q))) ≡ false
+    → (if near then sign_of (a.sense *ℤ cross (to_start a) (displacement a.track.c q)) else sign_of (pos (square s) -ℤ pos (length_squared (displacement q a.start)))) ≡ signs.Minus → StartsOutside a q s
+starts_outside a q (negsuc n) near least is e past side = absurd (omega (arith, ints, least))
+starts_outside a q (pos n) true least is e past side =
+    let g = displacement a.track.c q in
+    let large : 100 ≤ n = omega (arith, ints, least) in
+    let ring = ring_true n 8 (length_squared (displacement q a.start)) (omega (arith, large)) e in
+    inr (subst (λ (z : ℤ). IsOver (about q) z (scaled a.start)) (less_eight n large) (over_at q (n - 8) a.start ring.0), aback a.sense (cross (to_start a) g) (length_squared g) is past side)
+starts_outside a q (pos n) false least is e past side =
+    let large : 100 ≤ n = omega (arith, ints, least) in
+    let m = length_squared (displacement q a.start) in
+    elim (ring_false n 8 m (omega (arith, large)) e) [
+      | inl inside ↦ absurd (omega (arith, ints, inside, mul-le (n - 8) (n - 8) n n (omega arith) (omega arith), minus_is (pos (square (pos n)) -ℤ pos m) side))
+      | inr outside ↦ inl (over_at q (n + 8) a.start (omega (arith, outside)))
+    ]

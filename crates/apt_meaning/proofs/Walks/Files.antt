@@ -1,0 +1,205 @@
+-- The compiler's records fit a CL file: their words fit its lengths, they are few, their bytes are few, and FINI stands last.
+use Rattle.std.proofs.Common.{◌≡◌, ℕ, ◌+◌, ◌*◌, ◌≤◌, ℤ, pos, Bool, true, false, List, [], ◌∷◌, ◌++◌, length, map, Ok, refl, arith}
+use Rattle.std.specs.Prelude.{MatchBool}
+use Rattle.std.proofs.lemmas.List.{length-map, length-append}
+use Rattle.apt_words.specs.declared.Side.{Side}
+use Rattle.apt_words.specs.declared.Stop.{Stop}
+use Rattle.apt_words.specs.declared.Units.{Units}
+use Rattle.apt_words.specs.declared.ask.Saying.{Saying}
+use Rattle.apt_words.specs.declared.ask.Saying.TheVariants as sayings
+use Rattle.apt_words.specs.declared.deed.Step.{Step}
+use Rattle.apt_words.specs.Asks.{Ask, Titles, Says, Sets, Defines, Goes, Cuts, Nothing, ask_of}
+use Rattle.apt_words.specs.Sources.{AskHasText, AreExecuted}
+use Rattle.apt_words.proofs.Titles.{asked_title, title_length, title_lengths}
+use Rattle.apt_plane.specs.declared.figures.Pt.{Pt}
+use Rattle.apt_plane.specs.declared.figures.Surface.{Surface}
+use Rattle.apt_plane.specs.declared.figures.Surface.TheVariants as surfaces
+use Rattle.apt_cldata.specs.declared.record.Note.{Note}
+use Rattle.apt_cldata.specs.declared.record.Note.TheVariants as notes
+use Rattle.apt_cldata.specs.declared.record.Record.{Record}
+use Rattle.apt_cldata.specs.declared.record.Record.TheVariants as records
+use Rattle.apt_cldata.specs.Ranges.{Mark, Begin, End, Fini, Other, mark_of, vertex_count, EndsBy, EndsOnce}
+use Rattle.apt_cldata.specs.Files.{is_fini_mark, HasFiniLast, IsShort, AreShort}
+use Rattle.apt_cldata.proofs.Conditions.{short_when}
+use Rattle.apt_cldata.proofs.RecordLaws.{triples_length}
+use Rattle.apt_cldata.proofs.Lengths.{bytes_in, bytes_of, bytes_of-append}
+use Rattle.apt_meaning.specs.declared.situation.Situation.{Situation}
+use Rattle.apt_meaning.specs.declared.effect.Change.{Change}
+use Rattle.apt_meaning.specs.declared.effect.Change.TheVariants as changes
+use Rattle.apt_meaning.specs.declared.effect.Effect.{Effect}
+use Rattle.apt_meaning.specs.declared.effect.Effect.TheVariants as effects
+use Rattle.apt_meaning.specs.Situations.{at_height}
+use Rattle.apt_meaning.specs.Motions.{vertices_of}
+use Rattle.apt_meaning.specs.Effects.{note_of, effect_of}
+use Rattle.apt_meaning.specs.Refusals.{refusal_of}
+use Rattle.apt_meaning.specs.Records.{with_statement, change_records, effect_records, records_of, after}
+use Rattle.apt_meaning.specs.Compiled.{ends_of, points_of, most_points, compilation_behind}
+use Rattle.apt_meaning.proofs.Said.{IsNoteOf, IsSetBy, IsSaidBy, said_by}
+use Rattle.apt_meaning.proofs.Walks.Compiled.{done, front_ok, nothing_left, behind_step}
+
+-- ---- one record
+
+-- a title has at most 256 bytes
+title_short : (text : List ℕ) → length text ≤ 256 → IsShort (records.Note (notes.Partno text))
+title_short text h = omega (arith, h, length-map text pos)
+
+saying_short : (units : Units) (saying : Saying) → IsShort (records.Note (note_of units saying))
+saying_short units (sayings.Units others) = omega arith
+saying_short units _ = omega arith
+
+note_short : (units : Units) (ask : Ask) (note : Note) → AskHasText ask → IsNoteOf units ask note → IsShort (records.Note note)
+note_short units (Titles text) note titled said = rw said (title_short text titled.1)
+note_short units (Says saying) note titled said = rw said (saying_short units saying)
+note_short units (Sets side) note titled said = absurd said
+note_short units (Defines name form) note titled said = absurd said
+note_short units (Goes route) note titled said = absurd said
+note_short units (Cuts side go drive how check) note titled said = absurd said
+note_short units Nothing note titled said = absurd said
+
+drive_short : (s : Surface) (side : Side) (sense : ℤ) → IsShort (records.Drive s side sense)
+drive_short (surfaces.Line l) side sense = omega arith
+drive_short (surfaces.Circ c) side sense = omega arith
+
+check_short : (s : Surface) (how : Stop) → IsShort (records.Check s how)
+check_short (surfaces.Line l) how = omega arith
+check_short (surfaces.Circ c) how = omega arith
+
+-- and a contour the vertices that a program may have
+contour_short : (z : ℤ) (vertices : List Pt) → length vertices ≤ most_points → IsShort (records.Contour (map (at_height z) vertices))
+contour_short z vertices few = short_when (records.Contour (map (at_height z) vertices)) (omega (arith, few, length-map vertices (at_height z)))
+
+-- ---- the records of a step: short ones, at most four, with its vertices
+
+change_short : (units : Units) (ask : Ask) (change : Change) → AskHasText ask → IsSetBy units ask change → AreShort (change_records change)
+change_short units ask (changes.Said note) titled said = (note_short units ask note titled said, tt)
+change_short units ask (changes.Side side) titled said = tt
+change_short units ask changes.Nothing titled said = tt
+
+effect_short : (at : Situation) (ask : Ask) (e : Effect) (vertices : List Pt) → AskHasText ask → IsSaidBy at ask e → length vertices ≤ most_points → AreShort (effect_records e vertices)
+effect_short at ask (effects.Defines n f) vertices titled said few = tt
+effect_short at ask (effects.Sets change) vertices titled said few = change_short at.settings.units ask change titled said
+effect_short at ask (effects.Moves reach to) vertices titled said few = (omega arith, tt)
+effect_short at ask (effects.Cuts m) vertices titled said few = (drive_short m.drive m.side m.sense, (check_short m.check m.how, (contour_short m.start.z vertices few, tt)))
+
+with_statement-short : (step : Step) (rs : List Record) → AreShort rs → AreShort (with_statement step rs)
+with_statement-short step [] are = tt
+with_statement-short step (r ∷ rs) are = (omega arith, are)
+
+few_records : (step : Step) (e : Effect) (vertices : List Pt) → length (records_of step e vertices) ≤ 4
+few_records step (effects.Defines n f) vertices = omega arith
+few_records step (effects.Sets (changes.Said note)) vertices = omega arith
+few_records step (effects.Sets (changes.Side side)) vertices = omega arith
+few_records step (effects.Sets changes.Nothing) vertices = omega arith
+few_records step (effects.Moves reach to) vertices = omega arith
+few_records step (effects.Cuts m) vertices = omega arith
+
+step_vertices : (step : Step) (e : Effect) → vertex_count (records_of step e (points_of e)) ≡ length (points_of e)
+step_vertices step (effects.Defines n f) = refl
+step_vertices step (effects.Sets (changes.Said note)) = refl
+step_vertices step (effects.Sets (changes.Side side)) = refl
+step_vertices step (effects.Sets changes.Nothing) = refl
+step_vertices step (effects.Moves reach to) = refl
+step_vertices step (effects.Cuts m) = omega (arith, length-map (vertices_of m) (at_height m.start.z))
+
+-- ---- the bytes of a step
+
+saying_bytes : (units : Units) (saying : Saying) → bytes_in (records.Note (note_of units saying)) ≤ 44
+saying_bytes units (sayings.Units others) = omega arith
+saying_bytes units _ = omega arith
+
+note_bytes : (units : Units) (ask : Ask) (note : Note) → IsNoteOf units ask note → bytes_in (records.Note note) ≤ 44 + 8 * asked_title ask
+note_bytes units (Titles text) note said = rw said (omega (arith, length-map text pos))
+note_bytes units (Says saying) note said = rw said (omega (arith, saying_bytes units saying))
+note_bytes units (Sets side) note said = absurd said
+note_bytes units (Defines name form) note said = absurd said
+note_bytes units (Goes route) note said = absurd said
+note_bytes units (Cuts side go drive how check) note said = absurd said
+note_bytes units Nothing note said = absurd said
+
+drive_bytes : (s : Surface) (side : Side) (sense : ℤ) → bytes_in (records.Drive s side sense) ≤ 84
+drive_bytes (surfaces.Line l) side sense = omega arith
+drive_bytes (surfaces.Circ c) side sense = omega arith
+
+check_bytes : (s : Surface) (how : Stop) → bytes_in (records.Check s how) ≤ 76
+check_bytes (surfaces.Line l) how = omega arith
+check_bytes (surfaces.Circ c) how = omega arith
+
+contour_bytes : (z : ℤ) (vertices : List Pt) → bytes_in (records.Contour (map (at_height z) vertices)) ≤ 28 + 24 * length vertices
+contour_bytes z vertices = omega (arith, triples_length (map (at_height z) vertices), length-map vertices (at_height z))
+
+change_bytes : (units : Units) (ask : Ask) (change : Change) → IsSetBy units ask change → bytes_of (change_records change) ≤ 44 + 8 * asked_title ask
+change_bytes units ask (changes.Said note) said = omega (arith, note_bytes units ask note said)
+change_bytes units ask (changes.Side side) said = omega arith
+change_bytes units ask changes.Nothing said = omega arith
+
+effect_bytes : (at : Situation) (ask : Ask) (e : Effect) (vertices : List Pt) → IsSaidBy at ask e → bytes_of (effect_records e vertices) ≤ 188 + 24 * length vertices + 8 * asked_title ask
+effect_bytes at ask (effects.Defines n f) vertices said = omega arith
+effect_bytes at ask (effects.Sets change) vertices said = omega (arith, change_bytes at.settings.units ask change said)
+effect_bytes at ask (effects.Moves reach to) vertices said = omega arith
+effect_bytes at ask (effects.Cuts m) vertices said = omega (arith, drive_bytes m.drive m.side m.sense, check_bytes m.check m.how, contour_bytes m.start.z vertices)
+
+with_statement-bytes : (step : Step) (rs : List Record) → bytes_of (with_statement step rs) ≤ 44 + bytes_of rs
+with_statement-bytes step [] = omega arith
+with_statement-bytes step (r ∷ rs) = omega arith
+
+step_bytes : (at : Situation) (step : Step) (e : Effect) (vertices : List Pt) → IsSaidBy at (ask_of step.deed) e → bytes_of (records_of step e vertices) ≤ 232 + 24 * length vertices + 8 * title_length step.deed
+step_bytes at step e vertices said = omega (arith, effect_bytes at (ask_of step.deed) e vertices said, with_statement-bytes step (effect_records e vertices))
+
+-- ---- the records of all steps
+
+short-append : (xs ys : List Record) → AreShort xs → AreShort ys → AreShort (xs ++ ys)
+short-append [] ys are more = more
+short-append (x ∷ xs) ys are more = (are.0, short-append xs ys are.1 more)
+
+vertex_count-append : (xs ys : List Record) → vertex_count (xs ++ ys) ≡ vertex_count xs + vertex_count ys
+vertex_count-append [] ys = omega arith
+vertex_count-append (x ∷ xs) ys = omega (arith, vertex_count-append xs ys)
+
+-- the records of steps behind so many vertices fit a file
+pub record Fit (so_far : ℕ) (steps : List Step) (written : List Record) : Type 0 where
+  pub short : AreShort written
+  pub number : length written ≤ 4 * length steps
+  pub vertices : so_far + vertex_count written ≤ most_points
+  pub bytes : bytes_of written ≤ 232 * length steps + 24 * vertex_count written + 8 * title_lengths steps
+
+fit_behind : (so_far : ℕ) (steps : List Step) (step : Step) (e : Effect) (rest : List Record) → AreShort (records_of step e (points_of e))
+    → bytes_of (records_of step e (points_of e)) ≤ 232 + 24 * length (points_of e) + 8 * title_length step.deed → Fit (so_far + length (points_of e)) steps rest
+    → Fit so_far (step ∷ steps) (records_of step e (points_of e) ++ rest)
+fit_behind so_far steps step e rest are bytes more =
+    let front = records_of step e (points_of e) in record {
+      short = short-append front rest are more.short;
+      number = omega (arith, few_records step e (points_of e), more.number, length-append front rest);
+      vertices = omega (arith, vertex_count-append front rest, step_vertices step e, more.vertices);
+      bytes = omega (arith, bytes_of-append front rest, bytes, more.bytes, vertex_count-append front rest, step_vertices step e);
+    }
+
+few_points : (so_far n : ℕ) → so_far + n ≤ most_points → n ≤ most_points
+few_points so_far n h = omega (arith, h)
+
+pub compiled_fit : (so_far : ℕ) (at : Situation) (steps : List Step) (written : List Record) → so_far ≤ most_points → AreExecuted steps → compilation_behind so_far at steps ≡ Ok written
+    → Fit so_far steps written
+compiled_fit so_far at [] written few executed h = rw (nothing_left written h) (record { short = tt; number = omega arith; vertices = omega (arith, few); bytes = omega arith })
+compiled_fit so_far at (step ∷ steps) written few executed h =
+    let d = done so_far step (refusal_of at step.deed) (effect_of at step.deed) (behind_step so_far at step steps) written h in
+    let e = d.e in
+    let n = so_far + length (points_of e) in
+    let f = front_ok (records_of step e (points_of e)) (compilation_behind n (after at e (ends_of e)) steps) written d.rest in
+    let said = said_by at step.deed e d.asked in
+    let short = effect_short at (ask_of step.deed) e (points_of e) executed.0.text said (few_points so_far (length (points_of e)) d.few) in
+    rw f.2 (fit_behind so_far steps step e f.0 (with_statement-short step (effect_records e (points_of e)) short) (step_bytes at step e (points_of e) said) (compiled_fit n (after at e (ends_of e)) steps f.0 d.few executed.1 f.1))
+
+-- ---- the end
+
+by_mark : (ended : Bool) (mark : Mark) (rs : List Record) → EndsBy ended mark rs (λ now. EndsOnce now rs) → ((now : Bool) → EndsOnce now rs → HasFiniLast rs)
+    → MatchBool (is_fini_mark mark) (rs ≡ []) (HasFiniLast rs)
+by_mark ended Fini [] ends more = refl
+by_mark ended Fini (r ∷ rs) ends more = absurd ends
+by_mark false End rs ends more = more true ends
+by_mark true End rs ends more = absurd ends
+by_mark ended Begin rs ends more = more ended ends
+by_mark false Other rs ends more = more false ends
+by_mark true Other rs ends more = absurd ends
+
+pub fini_last : (ended : Bool) (rs : List Record) → EndsOnce ended rs → HasFiniLast rs
+fini_last ended [] ends = absurd ends
+fini_last ended (r ∷ rs) ends = by_mark ended (mark_of r) rs ends (λ now. fini_last now rs)
