@@ -5,8 +5,6 @@ use Rattle.apt_words.specs.declared.expr.Op.{Op}
 use Rattle.apt_words.specs.declared.word.Word.{Word}
 use Rattle.apt_words.specs.declared.word.Word.TheVariants as words
 use Rattle.apt_words.specs.Options.{◌>>=◌, only_if}
-use Rattle.apt_words.specs.Symbols.{is_name}
-use Rattle.apt_words.specs.Vocabulary.{word_of}
 use Rattle.apt_words.specs.Trees.{Tree, Num, Name, Neg, Bin, Root, Abs, operators}
 use Rattle.apt_lexis.specs.declared.token.Token.{Token}
 use Rattle.apt_lexis.specs.declared.token.Token.TheVariants as tokens
@@ -46,17 +44,17 @@ inside [] = None
 inside (tokens.Close ∷ []) = Some []
 inside (t ∷ ts) = inside ts >>= λ more. Some (t ∷ more)
 
-abbrev pub function : Option Word → Tree → Option Tree
-function (Some words.Sqrtf) t = Some (Root t)
-function (Some words.Absf) t = Some (Abs t)
+abbrev pub function : Word → Tree → Option Tree
+function words.Sqrtf t = Some (Root t)
+function words.Absf t = Some (Abs t)
 function _ t = None
 
 -- a factor in which so many parentheses may be nested
 abbrev pub factor_of : ℕ → Reader
 factor_of n (tokens.Number v ∷ []) = Some (Num v)
-factor_of n (tokens.Word w ∷ []) = only_if (is_name w) (Name w)
+factor_of n (tokens.Name name ∷ []) = Some (Name name)
 factor_of (suc n) (tokens.Open ∷ ts) = inside ts >>= sum_by (factor_of n)
-factor_of (suc n) (tokens.Word w ∷ tokens.Open ∷ ts) = inside ts >>= sum_by (factor_of n) >>= function (word_of w)
+factor_of (suc n) (tokens.Word w ∷ tokens.Open ∷ ts) = inside ts >>= sum_by (factor_of n) >>= function w
 factor_of _ _ = None
 
 abbrev pub expression_in : ℕ → Reader

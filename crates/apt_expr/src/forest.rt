@@ -5,7 +5,7 @@ ghost use Rattle.apt_words.specs.Trees.{operators, Num, Name, Neg, Root, Abs, Bi
 ghost use Rattle.apt_words.specs.TreeParts.{after, built, latest};
 ghost use Rattle.apt_expr.specs.Forests.{arity, below, is_simple};
 
-use apt_words::{Expr, Millionths, Node, Op, Item, Postfix, Symbol};
+use apt_words::{Expr, Item, Millionths, Node, Op, Postfix, Symbol};
 use std::alloc::{AllocError, Global};
 use std::marker::Model;
 

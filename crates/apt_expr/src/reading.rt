@@ -2,11 +2,8 @@
 
 ghost use Rattle.std.specs.Prelude.{◌≡◌, ◌≤◌, [], ◌∷◌, length, if◌then◌else◌, option_map, IfOk, IfSome};
 ghost use Rattle.apt_lexis.specs.declared.token.Token.TheVariants as tokens;
-ghost use Rattle.apt_words.specs.Options.{only_if};
-ghost use Rattle.apt_words.specs.Symbols.{is_name};
-ghost use Rattle.apt_words.specs.Trees.{operators, Name, Neg};
+ghost use Rattle.apt_words.specs.Trees.{operators, Neg};
 ghost use Rattle.apt_words.specs.TreeParts.{latest};
-ghost use Rattle.apt_words.specs.Vocabulary as vocabulary;
 ghost use Rattle.apt_expr.specs.Expressions as expressions;
 ghost use Rattle.apt_expr.specs.Forests.{Grown, below};
 ghost use Rattle.apt_expr.specs.Operands as operands;
@@ -14,7 +11,7 @@ ghost use Rattle.apt_expr.specs.Operands as operands;
 use crate::forest::Forest;
 use crate::parts::{Rank, first_factor};
 use apt_lexis::Token;
-use apt_words::{Expr, Node, Op, Symbol, Word, is_vocabulary, word_of};
+use apt_words::{Expr, Node, Op, Word};
 use std::alloc::{AllocError, Global};
 
 const MOST_OPERATORS: u32 = 64;
@@ -30,10 +27,7 @@ pub fn expression(alloc: Global, tokens: &[Token]) -> Result<Option<Expr>, Alloc
     let node = match tokens {
         [Token::Number(v)] => Node::Num(*v),
         [Token::Minus, Token::Number(v)] => Node::Minus(*v),
-        [Token::Word(word)] => match name(word) {
-            Some(name) => Node::Name(name),
-            None => return Ok(None),
-        },
+        [Token::Name(name)] => Node::Name(name.copied()),
         _ => return longer(alloc, tokens),
     };
     Ok(Some(Expr { node }))
@@ -140,13 +134,16 @@ fn factor(nesting: u8, tokens: &[Token], forest: &mut Forest) -> Result<Option<u
             forest.number(*v)?;
             Ok(Some(0))
         }
-        [Token::Word(word)] => name_operand(word, forest),
+        [Token::Name(name)] => {
+            forest.name(name.copied())?;
+            Ok(Some(0))
+        }
         [Token::Open, behind @ ..] => nested(nesting, behind, forest),
         [Token::Word(word), Token::Open, behind @ ..] => {
             let Some(count) = nested(nesting, behind, forest)? else {
                 return Ok(None);
             };
-            function(word, count, forest)
+            function(*word, count, forest)
         }
         _ => Ok(None),
     }
@@ -198,39 +195,17 @@ fn binary(op: Op, a: u32, b: u32, forest: &mut Forest) -> Result<Option<u32>, Al
     Ok(Some(count))
 }
 
-fn name_operand(word: &Symbol, forest: &mut Forest) -> Result<Option<u32>, AllocError>
-    ensures tree { IfOk result (λ e. option_map (λ n. latest forest.new) e ≡ only_if (is_name word.now) (Name word.now)) }
-    ensures grown { IfOk result (λ e. IfSome e (λ n. Grown n forest.old forest.new)) }
-{
-    let Some(name) = name(word) else {
-        return Ok(None);
-    };
-    forest.name(name)?;
-    Ok(Some(0))
-}
-
-/// A word that is a name.
-fn name(word: &Symbol) -> Option<Symbol>
-    ensures { result ≡ only_if (is_name word.now) word.now }
-{
-    let name = word.copied();
-    if is_vocabulary(&name) {
-        return None;
-    }
-    Some(name)
-}
-
 /// Makes the latest tree the operand of a function. So many operators stand in it.
-fn function(word: &Symbol, count: u32, forest: &mut Forest) -> Result<Option<u32>, AllocError>
+fn function(word: Word, count: u32, forest: &mut Forest) -> Result<Option<u32>, AllocError>
     requires one { 1 ≤ length forest.old }
     requires counted { count ≡ operators (latest forest.old) }
     requires few { count ≤ 64 }
-    ensures tree { IfOk result (λ e. option_map (λ n. latest forest.new) e ≡ expressions.function (vocabulary.word_of word.now) (latest forest.old)) }
+    ensures tree { IfOk result (λ e. option_map (λ n. latest forest.new) e ≡ expressions.function word (latest forest.old)) }
     ensures grown { IfOk result (λ e. IfSome e (λ n. Grown n (below forest.old) forest.new)) }
 {
-    match word_of(word) {
-        Some(Word::Sqrtf) => forest.root()?,
-        Some(Word::Absf) => forest.absolute()?,
+    match word {
+        Word::Sqrtf => forest.root()?,
+        Word::Absf => forest.absolute()?,
         _ => return Ok(None),
     }
     Ok(Some(count))

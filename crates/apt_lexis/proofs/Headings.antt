@@ -1,29 +1,30 @@
 -- Whether a line takes a text is told by what is read at its front.
 use Rattle.std.proofs.Common.{◌≡◌, ℕ, ◌==◌, List, [], ◌∷◌, map, take, drop, Bool, true, false, Option, Some, None, Ok, Err, ap, ◌∙◌, sym, refl, arith, subst, cond}
-use Rattle.std.specs.Prelude.{ℤ, ◌&&◌, ◌||◌, is_some, codes}
+use Rattle.std.specs.Prelude.{ℤ, ◌&&◌, ◌||◌, not, is_some, codes}
 use Rattle.std.specs.List.{prefix_len, take_while}
 use Rattle.std.proofs.lemmas.Bool.{cond_both, eqb-true}
 use Rattle.std.proofs.lemmas.Bool.Decides.{nat_tests}
 use Rattle.apt_words.specs.Options.{◌>>=◌, only_if}
 use Rattle.apt_words.specs.Symbols.{is_symbol, is_name}
 use Rattle.apt_words.specs.Vocabulary.{word_of}
+use Rattle.apt_words.specs.declared.word.Word.{Word}
 use Rattle.apt_lexis.specs.declared.cause.PartCause.TheVariants as causes
 use Rattle.apt_lexis.specs.declared.token.Token.{Token}
 use Rattle.apt_lexis.specs.declared.token.Token.TheVariants as tokens
-use Rattle.apt_lexis.specs.Tokens.{Read, capital, is_blank, is_letter, is_letter_or_digit, is_in_run, or_bad_number, number_in, word, mark}
-use Rattle.apt_lexis.specs.Titles.{Title, behind, front_word, is_title_word, title, close_first, behind_close, with_tokens, labelled, labelled_title, or_else, title_behind}
+use Rattle.apt_lexis.specs.Tokens.{Read, capital, is_blank, is_letter, is_letter_or_digit, is_in_run, or_bad_number, number_in, word_or_name, of_symbol, word, mark}
+use Rattle.apt_lexis.specs.Titles.{Title, behind, front_word, takes_text, title_word, title, close_first, behind_close, with_tokens, labelled, with_label, labelled_title, or_else, title_behind}
 use Rattle.apt_lexis.specs.Sentences.{is_no_dollar, said_on}
 use Rattle.apt_lexis.specs.Spellings.{TakesNoText}
 use Rattle.apt_lexis.proofs.Fronts.{prefix_no, take_front, none_behind, none_first}
 use Rattle.apt_lexis.proofs.Capitals.{no_both, other_first}
-use Rattle.apt_lexis.proofs.TitleLaws.{no_symbol}
+use Rattle.apt_words.proofs.Words.{no_word}
 use Rattle.apt_lexis.proofs.OneByOne.{inner_length, inner_front, inner_rest, reads_of, reads_behind_blanks, reads_word, reads_number, reads_mark}
 use Rattle.apt_lexis.proofs.PartedRuns.{by_cases}
 
 -- ---- what is read at the front of a title
 
 abbrev pub titled : List Read → Bool
-titled (Ok (tokens.Word w) ∷ reads) = is_title_word w
+titled (Ok (tokens.Word w) ∷ reads) = takes_text w
 titled _ = false
 
 -- behind the name of a label
@@ -32,7 +33,7 @@ closed (Ok tokens.Close ∷ reads) = titled reads
 closed _ = false
 
 abbrev pub labelled_in : List Read → Bool
-labelled_in (Ok (tokens.Word w) ∷ reads) = is_name w && closed reads
+labelled_in (Ok (tokens.Name name) ∷ reads) = closed reads
 labelled_in _ = false
 
 -- nothing that is read takes a text
@@ -64,11 +65,14 @@ some_mapped : {A B : Type 0} (o : Option A) (f : A → B) → is_some (o >>= λ 
 some_mapped None f = refl
 some_mapped (Some x) f = refl
 
-some_labelled : (name text : List ℕ) → is_some (labelled name text) ≡ (is_name name && is_closed text)
-some_labelled name text = named (is_name name)
+some_labelled : (name text : List ℕ) → is_some (labelled name text) ≡ is_closed text
+some_labelled name text = some_mapped (behind_close text >>= title) (with_tokens (tokens.Name name ∷ tokens.Close ∷ []))
+
+some_with_label : (name text : List ℕ) → is_some (with_label name text) ≡ (is_name name && is_closed text)
+some_with_label name text = named (is_name name)
   where
-    named : (t : Bool) → is_some (only_if t text >>= behind_close >>= title >>= λ t. Some (with_tokens (tokens.Word name ∷ tokens.Close ∷ []) t)) ≡ (t && is_closed text)
-    named true = some_mapped (behind_close text >>= title) (with_tokens (tokens.Word name ∷ tokens.Close ∷ []))
+    named : (t : Bool) → is_some (only_if t name >>= λ n. labelled n text) ≡ (t && is_closed text)
+    named true = some_labelled name text
     named false = refl
 
 some_either : (t other : Option Title) → is_some (or_else t other) ≡ (is_some t || is_some other)
@@ -86,16 +90,12 @@ record IsUntitled (text : List ℕ) : Type 0 where
   unclosed : is_closed text ≡ false
   unlabelled : is_labelled text ≡ false
 
-a_name : is_name (codes "A") ≡ true
-unfolding word_of
-a_name = refl
-
 untitled_of : (text : List ℕ) → TakesNoText text → IsUntitled text
 untitled_of text none =
     let heading = neither (is_titled text) (is_labelled text) (sym (some_either (title text) (labelled_title text)) ∙ ap is_some (none [])) in
     record {
       untitled = heading.0;
-      unclosed = ap (λ t. t && is_closed text) (sym a_name) ∙ sym (some_labelled (codes "A") text) ∙ ap is_some (none (tokens.Word (codes "A") ∷ []));
+      unclosed = sym (some_labelled (codes "A") text) ∙ ap is_some (none (tokens.Name (codes "A") ∷ []));
       unlabelled = heading.1;
     }
 
@@ -104,16 +104,8 @@ no_title_behind text is [] = some_either (title text) (labelled_title text) ∙ 
   where
     both : (s t : Bool) → s ≡ false → t ≡ false → (s || t) ≡ false
     both s t e f = rw (e, f) refl
-no_title_behind text is (tokens.Word name ∷ []) = some_labelled name text ∙ second_false (is_name name) (is_closed text) is.unclosed
-  where
-    second_false : (s t : Bool) → t ≡ false → (s && t) ≡ false
-    second_false true t e = e
-    second_false false t e = refl
-no_title_behind text is (tokens.Word name ∷ tokens.Close ∷ []) = named name text (is_name name) is.untitled
-  where
-    named : (name text : List ℕ) (t : Bool) → is_titled text ≡ false → is_some (only_if t text >>= title >>= λ u. Some (with_tokens (tokens.Word name ∷ tokens.Close ∷ []) u)) ≡ false
-    named name text true e = some_mapped (title text) (with_tokens (tokens.Word name ∷ tokens.Close ∷ [])) ∙ e
-    named name text false e = refl
+no_title_behind text is (tokens.Name name ∷ []) = some_labelled name text ∙ is.unclosed
+no_title_behind text is (tokens.Name name ∷ tokens.Close ∷ []) = some_mapped (title text) (with_tokens (tokens.Name name ∷ tokens.Close ∷ [])) ∙ is.untitled
 no_title_behind text is _ = refl
 
 takes_no_text : (text : List ℕ) → IsUntitled text → TakesNoText text
@@ -136,8 +128,14 @@ number_open : (v : Option ℤ) (reads : List Read) → closed (or_bad_number v �
 number_open None reads = refl
 number_open (Some v) reads = refl
 
+word_or_name_open : (symbol : List ℕ) (found : Option Word) (reads : List Read) → closed (Ok (word_or_name symbol found) ∷ reads) ≡ false
+word_or_name_open symbol None reads = refl
+word_or_name_open symbol (Some w) reads = refl
+
 word_open : (text : List ℕ) (reads : List Read) → closed (word text ∷ reads) ≡ false
-word_open text reads = cond_both (is_symbol (map capital text)) (Ok (tokens.Word (map capital text))) (Err causes.BadWord) (λ read. closed (read ∷ reads) ≡ false) (λ _. refl) (λ _. refl)
+word_open text reads =
+    cond_both (is_symbol (map capital text)) (Ok (of_symbol (map capital text))) (Err causes.BadWord) (λ read. closed (read ∷ reads) ≡ false)
+    (λ _. word_or_name_open (map capital text) (word_of (map capital text)) reads) (λ _. refl)
 
 -- one of the marks
 of_mark : (P : Read → Type 0) (b : ℕ) → P (Ok tokens.Equals) → P (Ok tokens.Slash) → P (Ok tokens.Comma) → P (Ok tokens.Open) → ((b == 41) ≡ true → P (Ok tokens.Close)) → P (Ok tokens.Plus) → P (Ok tokens.Minus)
@@ -181,29 +179,50 @@ no_title_word : (b : ℕ) (bs : List ℕ) → is_letter b ≡ false → is_symbo
 no_title_word b bs e = other_first (b ∷ bs) e
 
 abbrev symbol_read : Bool → List ℕ → Read
-symbol_read t text = cond t (Ok (tokens.Word (map capital text))) (Err causes.BadWord)
+symbol_read t text = cond t (Ok (of_symbol (map capital text))) (Err causes.BadWord)
+
+abbrev is_title_word : List ℕ → Bool
+is_title_word symbol = is_some (title_word symbol)
+
+found_titled : (symbol : List ℕ) (found : Option Word) (reads : List Read)
+    → titled (Ok (word_or_name symbol found) ∷ reads) ≡ is_some (found >>= λ w. only_if (takes_text w) w)
+found_titled symbol None reads = refl
+found_titled symbol (Some w) reads = sym (some_if (takes_text w) w)
+
+no_title_symbol : (symbol : List ℕ) → is_symbol symbol ≡ false → is_title_word symbol ≡ false
+no_title_symbol symbol e = rw (no_word symbol e) refl
 
 word_titled : (text : List ℕ) (reads : List Read) → titled (word text ∷ reads) ≡ is_title_word (map capital text)
 word_titled text reads =
     by_cases (is_symbol (map capital text))
-    (λ e. ap (λ t. titled (symbol_read t text ∷ reads)) e)
-    (λ e. ap (λ t. titled (symbol_read t text ∷ reads)) e ∙ sym (no_symbol (map capital text) e))
+    (λ e. ap (λ t. titled (symbol_read t text ∷ reads)) e ∙ found_titled (map capital text) (word_of (map capital text)) reads)
+    (λ e. ap (λ t. titled (symbol_read t text ∷ reads)) e ∙ sym (no_title_symbol (map capital text) e))
+
+found_labelled : (symbol : List ℕ) (found : Option Word) (reads : List Read)
+    → labelled_in (Ok (word_or_name symbol found) ∷ reads) ≡ (not (is_some found) && closed reads)
+found_labelled symbol None reads = refl
+found_labelled symbol (Some w) reads = refl
+
+name_of_symbol : (s t u : Bool) → s ≡ true → (t && u) ≡ ((s && t) && u)
+name_of_symbol s t u e = rw e refl
 
 word_labelled : (text : List ℕ) (reads : List Read) → labelled_in (word text ∷ reads) ≡ (is_name (map capital text) && closed reads)
 word_labelled text reads =
     by_cases (is_symbol (map capital text))
-    (λ e. ap (λ t. labelled_in (symbol_read t text ∷ reads)) e)
+    (λ e. ap (λ t. labelled_in (symbol_read t text ∷ reads)) e
+    ∙ found_labelled (map capital text) (word_of (map capital text)) reads
+    ∙ name_of_symbol (is_symbol (map capital text)) (not (is_some (word_of (map capital text)))) (closed reads) e)
     (λ e. ap (λ t. labelled_in (symbol_read t text ∷ reads)) e ∙ sym (no_name (map capital text) (closed reads) e))
 
 titled_at : (text rest : List ℕ) → behind is_blank text ≡ rest → titled (reads_of rest) ≡ is_title_word (front_word rest)
-titled_at text [] e = refl
+titled_at text [] e = sym (no_title_symbol [] refl)
 titled_at text (b ∷ bs) e =
     by_cases (is_letter b)
     (λ f. ap titled (reads_word b bs f) ∙ word_titled (take_while is_letter_or_digit (b ∷ bs)) _)
-    (λ f. (other_front b bs (clear_front text b bs e) f).0 ∙ sym (no_symbol (front_word (b ∷ bs)) (no_title_word b bs f)))
+    (λ f. (other_front b bs (clear_front text b bs e) f).0 ∙ sym (no_title_symbol (front_word (b ∷ bs)) (no_title_word b bs f)))
 
 is_titled_front : (text : List ℕ) → is_titled text ≡ is_title_word (front_word (behind is_blank text))
-is_titled_front text = some_if (is_title_word (front_word (behind is_blank text))) _
+is_titled_front text = some_mapped (title_word (front_word (behind is_blank text))) _
 
 titled_read : (text : List ℕ) → titled (reads_of text) ≡ is_titled text
 titled_read text = ap titled (sym (reads_behind_blanks text)) ∙ titled_at text (behind is_blank text) refl ∙ sym (is_titled_front text)
@@ -237,7 +256,7 @@ labelled_at text (b ∷ bs) e =
     (λ f. (other_front b bs (clear_front text b bs e) f).1 ∙ sym (no_name (front_word (b ∷ bs)) _ (no_title_word b bs f)))
 
 is_labelled_front : (text : List ℕ) → is_labelled text ≡ is_label (behind is_blank text)
-is_labelled_front text = some_labelled (front_word (behind is_blank text)) (behind is_letter_or_digit (behind is_blank text))
+is_labelled_front text = some_with_label (front_word (behind is_blank text)) (behind is_letter_or_digit (behind is_blank text))
 
 labelled_read : (text : List ℕ) → labelled_in (reads_of text) ≡ is_labelled text
 labelled_read text = ap labelled_in (sym (reads_behind_blanks text)) ∙ labelled_at text (behind is_blank text) refl ∙ sym (is_labelled_front text)

@@ -9,7 +9,7 @@ use Rattle.apt_lexis.specs.declared.cause.PartCause.TheVariants as causes
 use Rattle.apt_lexis.specs.declared.token.Token.{Token}
 use Rattle.apt_lexis.specs.declared.token.Token.TheVariants as tokens
 use Rattle.apt_lexis.specs.Lines.{in_front}
-use Rattle.apt_lexis.specs.Tokens.{Read, Tokens, tokens_of, is_blank, is_letter, is_letter_or_digit, is_in_run, point, begins_with_letter, capital, runs, tokens_of_run, word, number, number_in, or_bad_number, number_behind, mark, all_good, in_front_of}
+use Rattle.apt_lexis.specs.Tokens.{Read, Tokens, tokens_of, is_blank, is_letter, is_letter_or_digit, is_in_run, point, begins_with_letter, capital, runs, tokens_of_run, of_symbol, word, number, number_in, or_bad_number, number_behind, mark, all_good, in_front_of}
 use Rattle.apt_lexis.specs.Titles.{behind}
 use Rattle.apt_lexis.specs.Sentences.{joined}
 use Rattle.apt_lexis.proofs.Fronts.{prefix_yes, prefix_no, take_one_more, drop_one_more, take_front, none_behind, none_first}
@@ -266,13 +266,13 @@ mark_at rest b bs e f g = ap tokens_of e ∙ ap all_good (reads_mark b bs f g)
 
 pub word_more : (ts : List Token) (rest : List ℕ) (b : ℕ) (bs w more : List ℕ) (all : Tokens) → rest ≡ b ∷ bs → is_letter b ≡ true
     → is_symbol (map capital (take_while is_letter_or_digit rest)) ≡ true → w ≡ map capital (take_while is_letter_or_digit rest) → more ≡ behind is_letter_or_digit rest
-    → joined (Ok ts) (tokens_of rest) ≡ all → joined (Ok (ts ++ tokens.Word w ∷ [])) (tokens_of more) ≡ all
+    → joined (Ok ts) (tokens_of rest) ≡ all → joined (Ok (ts ++ of_symbol w ∷ [])) (tokens_of more) ≡ all
 word_more ts rest b bs w more all e f s same on h =
-    one_more ts (tokens.Word w) rest more all
-    (word_at rest b bs e f ∙ ap (λ r. in_front_of r (tokens_of (behind is_letter_or_digit rest))) (good_word (take_while is_letter_or_digit rest) w s same) ∙ ap (λ text. in_front_of (Ok (tokens.Word w)) (tokens_of text)) (sym on)) h
+    one_more ts (of_symbol w) rest more all
+    (word_at rest b bs e f ∙ ap (λ r. in_front_of r (tokens_of (behind is_letter_or_digit rest))) (good_word (take_while is_letter_or_digit rest) w s same) ∙ ap (λ text. in_front_of (Ok (of_symbol w)) (tokens_of text)) (sym on)) h
   where
-    good_word : (text w : List ℕ) → is_symbol (map capital text) ≡ true → w ≡ map capital text → word text ≡ Ok (tokens.Word w)
-    good_word text w s same = rw s (ap (λ v. Ok (tokens.Word v)) (sym same))
+    good_word : (text w : List ℕ) → is_symbol (map capital text) ≡ true → w ≡ map capital text → word text ≡ Ok (of_symbol w)
+    good_word text w s same = rw s (ap (λ v. Ok (of_symbol v)) (sym same))
 
 word_bad : (ts : List Token) (rest : List ℕ) (b : ℕ) (bs : List ℕ) (all : Tokens) → rest ≡ b ∷ bs → is_letter b ≡ true
     → is_symbol (map capital (take_while is_letter_or_digit rest)) ≡ false → joined (Ok ts) (tokens_of rest) ≡ all → Err causes.BadWord ≡ all

@@ -6,9 +6,8 @@ use Rattle.std.proofs.lemmas.Bool.{and_parts}
 use Rattle.std.proofs.lemmas.Bool.Decides.{nat_tests}
 use Rattle.apt_words.specs.Symbols.{is_symbol}
 use Rattle.apt_lexis.specs.declared.cause.PartCause.TheVariants as causes
-use Rattle.apt_lexis.specs.declared.token.Token.TheVariants as tokens
 use Rattle.apt_lexis.specs.Lines.{in_front}
-use Rattle.apt_lexis.specs.Tokens.{Read, capital, is_blank, is_letter, is_letter_or_digit, is_in_run, begins_in_run, runs, number_in, or_bad_number, number, word, mark, number_behind, tokens_of_run}
+use Rattle.apt_lexis.specs.Tokens.{Read, capital, is_blank, is_letter, is_letter_or_digit, is_in_run, begins_in_run, runs, number_in, or_bad_number, number, of_symbol, word, mark, number_behind, tokens_of_run}
 use Rattle.apt_lexis.specs.Sentences.{is_no_dollar, is_single, said_on, goes_on}
 use Rattle.apt_lexis.proofs.Capitals.{no_both}
 use Rattle.apt_lexis.proofs.OneByOne.{reads_of, word_alone, number_alone, mark_alone}
@@ -149,7 +148,7 @@ number_behind-capitals [] = refl
 number_behind-capitals (b ∷ bs) = ap (λ read. read ∷ []) (number-capitals (b ∷ bs))
 
 abbrev read_of_capitals : List ℕ → Read
-read_of_capitals text = cond (is_symbol text) (Ok (tokens.Word text)) (Err causes.BadWord)
+read_of_capitals text = cond (is_symbol text) (Ok (of_symbol text)) (Err causes.BadWord)
 
 word-capitals : (text : List ℕ) → word (map capital text) ≡ word text
 word-capitals text = ap read_of_capitals (capitals_again text)

@@ -3,6 +3,7 @@ use Rattle.std.specs.Prelude.{◌≡◌, ℕ, pos, List, [], ◌∷◌, ◌++◌
 use Rattle.std.proofs.Common.{refl}
 use Rattle.apt_lexis.specs.declared.cause.PartCause.TheVariants as causes
 use Rattle.apt_words.specs.Vocabulary.{word_of}
+use Rattle.apt_words.specs.declared.word.Word.TheVariants as words
 use Rattle.apt_lexis.specs.declared.token.Token.{Token}
 use Rattle.apt_lexis.specs.declared.token.Token.TheVariants as tokens
 use Rattle.apt_lexis.specs.Lines.{lines_of}
@@ -20,7 +21,8 @@ no_line : lines_of [] ≡ []
 no_line = refl
 
 assignment : tokens_of (codes " a1 = 2.5*(-.5)") ≡
-    Ok (tokens.Word (codes "A1") ∷ tokens.Equals ∷ tokens.Number (pos 2500000) ∷ tokens.Star ∷ tokens.Open ∷ tokens.Minus ∷ tokens.Number (pos 500000) ∷ tokens.Close ∷ [])
+    Ok (tokens.Name (codes "A1") ∷ tokens.Equals ∷ tokens.Number (pos 2500000) ∷ tokens.Star ∷ tokens.Open ∷ tokens.Minus ∷ tokens.Number (pos 500000) ∷ tokens.Close ∷ [])
+unfolding word_of
 assignment = refl
 
 two_points : tokens_of (codes "A=1.2.3") ≡ Err causes.BadNumber
@@ -32,7 +34,8 @@ seven_letters = refl
 first_bad : tokens_of (codes "A#1.2.3") ≡ Err causes.BadWord
 first_bad = refl
 
-word_then_number : tokens_of (codes "A.5") ≡ Ok (tokens.Word (codes "A") ∷ tokens.Number (pos 500000) ∷ [])
+word_then_number : tokens_of (codes "A.5") ≡ Ok (tokens.Name (codes "A") ∷ tokens.Number (pos 500000) ∷ [])
+unfolding word_of
 word_then_number = refl
 
 a_million : tokens_of (codes "1000000.0000001") ≡ Err causes.BadNumber
@@ -45,11 +48,11 @@ abbrev phrase : ℕ → List Token → Phrase
 phrase n ts = record { line = n; tokens = Ok ts; text = None }
 
 continued : said_in (codes "A= $ more" ++ 10 ∷ codes "$$ a comment" ++ 10 ∷ codes "  1 $$ end" ++ 10 ∷ codes "B") ≡
-    record { phrases = phrase 1 (tokens.Word (codes "A") ∷ tokens.Equals ∷ tokens.Number (pos 1000000) ∷ []) ∷ phrase 4 (tokens.Word (codes "B") ∷ []) ∷ []; fault = None }
+    record { phrases = phrase 1 (tokens.Name (codes "A") ∷ tokens.Equals ∷ tokens.Number (pos 1000000) ∷ []) ∷ phrase 4 (tokens.Name (codes "B") ∷ []) ∷ []; fault = None }
 unfolding word_of
 continued = refl
 
 titled : said_in (codes "LA) partno  a $ B  " ++ 10 ∷ []) ≡
-    record { phrases = record { line = 1; tokens = Ok (tokens.Word (codes "LA") ∷ tokens.Close ∷ tokens.Word (codes "PARTNO") ∷ []); text = Some (codes " a $ B") } ∷ []; fault = None }
+    record { phrases = record { line = 1; tokens = Ok (tokens.Name (codes "LA") ∷ tokens.Close ∷ tokens.Word words.Partno ∷ []); text = Some (codes " a $ B") } ∷ []; fault = None }
 unfolding word_of
 titled = refl

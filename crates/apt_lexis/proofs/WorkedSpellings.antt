@@ -95,6 +95,7 @@ blank_within is = words_differ (respelled_tokens (codes "STOP") (codes "ST OP") 
 
 -- a zero behind a word is part of it
 zero_behind_a_word : IsRespelled (codes "A.5") (codes "A0.5") → ⊥
+unfolding word_of
 zero_behind_a_word is = names_differ (respelled_tokens (codes "A.5") (codes "A0.5") is)
   where
     names_differ : tokens_of (said_on (codes "A.5")) ≡ tokens_of (said_on (codes "A0.5")) → ⊥

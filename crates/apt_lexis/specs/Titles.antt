@@ -1,9 +1,11 @@
 -- PARTNO and REMARK, the first word of a statement or the first behind its label, take the rest of their line as text.
-use Rattle.std.specs.Prelude.{ℕ, ◌==◌, ◌||◌, Bool, List, [], ◌∷◌, ◌++◌, map, drop, Option, Some, None, codes, if◌then◌else◌}
+use Rattle.std.specs.Prelude.{ℕ, ◌==◌, Bool, true, false, List, [], ◌∷◌, ◌++◌, map, drop, Option, Some, None, if◌then◌else◌}
 use Rattle.std.specs.List.{take_while, prefix_len}
-use Rattle.std.proofs.Common.{bytes_eq}
 use Rattle.apt_words.specs.Options.{◌>>=◌, only_if}
 use Rattle.apt_words.specs.Symbols.{is_name}
+use Rattle.apt_words.specs.Vocabulary.{word_of}
+use Rattle.apt_words.specs.declared.word.Word.{Word}
+use Rattle.apt_words.specs.declared.word.Word.TheVariants as words
 use Rattle.apt_lexis.specs.declared.token.Token.{Token}
 use Rattle.apt_lexis.specs.declared.token.Token.TheVariants as tokens
 use Rattle.apt_lexis.specs.Tokens.{is_blank, is_letter_or_digit, capital}
@@ -15,7 +17,7 @@ blank = 32
 abbrev pub behind : (ℕ → Bool) → List ℕ → List ℕ
 behind test line = drop (prefix_len test line) line
 
--- the word at the front of a line, in capitals
+-- the letters and digits at the front of a line, in capitals
 abbrev pub front_word : List ℕ → List ℕ
 front_word line = map capital (take_while is_letter_or_digit line)
 
@@ -33,19 +35,25 @@ abbrev pub without_blanks : List ℕ → List ℕ
 without_blanks [] = []
 without_blanks (b ∷ bs) = unless_last b (without_blanks bs)
 
-abbrev pub is_title_word : List ℕ → Bool
-is_title_word word = bytes_eq word (codes "PARTNO") || bytes_eq word (codes "REMARK")
+abbrev pub takes_text : Word → Bool
+takes_text words.Partno = true
+takes_text words.Remark = true
+takes_text _ = false
+
+-- PARTNO or REMARK
+abbrev pub title_word : List ℕ → Option Word
+title_word symbol = word_of symbol >>= λ w. only_if (takes_text w) w
 
 -- a word with the text behind it
 abbrev pub Title : Type 0
 Title = List Token × List ℕ
 
-abbrev pub title_word : List ℕ → List ℕ → Option Title
-title_word word rest = only_if (is_title_word word) (tokens.Word word ∷ [], without_blanks (without_blank rest))
+abbrev pub word_with_text : List ℕ → List ℕ → Option Title
+word_with_text symbol rest = title_word symbol >>= λ w. Some (tokens.Word w ∷ [], without_blanks (without_blank rest))
 
 -- PARTNO or REMARK at the front of a line
 abbrev pub title : List ℕ → Option Title
-title line = let line = behind is_blank line in title_word (front_word line) (behind is_letter_or_digit line)
+title line = let line = behind is_blank line in word_with_text (front_word line) (behind is_letter_or_digit line)
 
 -- the parenthesis that closes a label
 abbrev pub close_first : List ℕ → Option (List ℕ)
@@ -60,11 +68,14 @@ with_tokens ts (words, text) = (ts ++ words, text)
 
 -- behind a label without its parenthesis
 abbrev pub labelled : List ℕ → List ℕ → Option Title
-labelled name line = only_if (is_name name) line >>= behind_close >>= title >>= λ t. Some (with_tokens (tokens.Word name ∷ tokens.Close ∷ []) t)
+labelled name line = behind_close line >>= title >>= λ t. Some (with_tokens (tokens.Name name ∷ tokens.Close ∷ []) t)
+
+abbrev pub with_label : List ℕ → List ℕ → Option Title
+with_label symbol line = only_if (is_name symbol) symbol >>= λ name. labelled name line
 
 -- a label, its parenthesis and a title
 abbrev pub labelled_title : List ℕ → Option Title
-labelled_title line = let line = behind is_blank line in labelled (front_word line) (behind is_letter_or_digit line)
+labelled_title line = let line = behind is_blank line in with_label (front_word line) (behind is_letter_or_digit line)
 
 abbrev pub or_else : Option Title → Option Title → Option Title
 or_else None other = other
@@ -77,7 +88,6 @@ title_or_labelled line = or_else (title line) (labelled_title line)
 -- the tokens and the text of a statement that has these tokens before the line
 abbrev pub title_behind : List Token → List ℕ → Option Title
 title_behind [] line = title_or_labelled line
-title_behind (tokens.Word name ∷ []) line = labelled name line
-title_behind (tokens.Word name ∷ tokens.Close ∷ []) line =
-    only_if (is_name name) line >>= title >>= λ t. Some (with_tokens (tokens.Word name ∷ tokens.Close ∷ []) t)
+title_behind (tokens.Name name ∷ []) line = labelled name line
+title_behind (tokens.Name name ∷ tokens.Close ∷ []) line = title line >>= λ t. Some (with_tokens (tokens.Name name ∷ tokens.Close ∷ []) t)
 title_behind _ line = None

@@ -1,9 +1,11 @@
--- The tokens of a line: words, numbers and marks.
+-- The tokens of a line: words, names, numbers and marks.
 use Rattle.std.specs.Prelude.{ℕ, ◌+◌, ◌-◌, ◌*◌, ◌^◌, ℤ, pos, ◌==◌, ◌&&◌, ◌||◌, nat_le, nat_lt, Bool, false, List, [], ◌∷◌, length, map, drop, Option, Some, None, Result, Ok, Err, if◌then◌else◌}
 use Rattle.std.specs.List.{list_all, take_while, prefix_len, flat_map}
 use Rattle.apt_num.specs.Near.{half_up}
 use Rattle.apt_words.specs.Options.{◌>>=◌, only_if}
+use Rattle.apt_words.specs.declared.word.Word.{Word}
 use Rattle.apt_words.specs.Symbols.{is_symbol, is_capital, is_digit}
+use Rattle.apt_words.specs.Vocabulary.{word_of}
 use Rattle.apt_lexis.specs.declared.cause.PartCause.{PartCause}
 use Rattle.apt_lexis.specs.declared.cause.PartCause.TheVariants as causes
 use Rattle.apt_lexis.specs.declared.token.Token.{Token}
@@ -88,9 +90,17 @@ or_bad_number (Some v) = Ok (tokens.Number v)
 abbrev pub number : List ℕ → Read
 number run = or_bad_number (number_in run)
 
--- a word has at most six letters and digits
+abbrev pub word_or_name : List ℕ → Option Word → Token
+word_or_name symbol None = tokens.Name symbol
+word_or_name symbol (Some w) = tokens.Word w
+
+-- a symbol is a word of the vocabulary, or else a name
+abbrev pub of_symbol : List ℕ → Token
+of_symbol symbol = word_or_name symbol (word_of symbol)
+
+-- a word or a name has at most six letters and digits
 abbrev pub word : List ℕ → Read
-word text = if is_symbol (map capital text) then Ok (tokens.Word (map capital text)) else Err causes.BadWord
+word text = if is_symbol (map capital text) then Ok (of_symbol (map capital text)) else Err causes.BadWord
 
 abbrev pub mark : ℕ → Read
 mark b =
@@ -99,12 +109,12 @@ mark b =
     else if b == 43 then Ok tokens.Plus else if b == 45 then Ok tokens.Minus else if b == 42 then Ok tokens.Star
     else Err causes.BadWord
 
--- a number that stands directly behind a word
+-- a number that stands directly behind a word or a name
 abbrev pub number_behind : List ℕ → List Read
 number_behind [] = []
 number_behind run = number run ∷ []
 
--- a run that begins with a letter is a word, and what is behind its letters and digits a number; with a digit or a point it is a number
+-- a run that begins with a letter is a word or a name, and what is behind its letters and digits a number; with a digit or a point it is a number
 abbrev pub tokens_of_run : List ℕ → List Read
 tokens_of_run [] = []
 tokens_of_run (b ∷ bs) =

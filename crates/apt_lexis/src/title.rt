@@ -3,8 +3,10 @@
 ghost use Rattle.std.specs.Prelude.{◌≡◌, [], ◌∷◌, ◌++◌, map, false, None, OnOk, IfOk, option_map, option_and_then};
 ghost use Rattle.std.specs.List.{take_while};
 ghost use Rattle.std.specs.Option.{option_to_list};
+ghost use Rattle.std.proofs.Common.{bytes_eq};
 ghost use Rattle.apt_words.specs.Options.{only_if};
 ghost use Rattle.apt_words.specs.Symbols as symbols;
+ghost use Rattle.apt_words.specs.Vocabulary.{spelling};
 ghost use Rattle.apt_lexis.specs.Titles as spec;
 ghost use Rattle.apt_lexis.specs.Tokens as characters;
 ghost use Rattle.apt_lexis.specs.declared.token.Token.TheVariants as tokens;
@@ -12,7 +14,7 @@ ghost use Rattle.apt_lexis.specs.declared.token.Token.TheVariants as tokens;
 use crate::Token;
 use crate::character::letters_or_digits;
 use crate::token::{behind_blanks, symbol};
-use apt_words::{Symbol, Text};
+use apt_words::{Symbol, Text, Word, is_vocabulary};
 use std::alloc::{AllocError, Global};
 use std::marker::Model;
 
@@ -39,16 +41,10 @@ impl<'a> Model for Heading<'a> {
     ghost view = { λ h. (option_to_list h.label ++ option_to_list h.close ++ h.word ∷ [], h.text.now) };
 }
 
-fn is_title_word(word: &Symbol) -> bool
-    ensures { result ≡ spec.is_title_word word.now }
+fn spells(symbol: &Symbol, word: Word) -> bool
+    ensures { result ≡ bytes_eq symbol.now (spelling word) }
 {
-    word.as_str() == "PARTNO" || word.as_str() == "REMARK"
-}
-
-fn is_name(word: &Symbol) -> bool
-    ensures { result ≡ symbols.is_name word.now }
-{
-    Symbol::name(word.as_str().as_bytes()).is_some()
+    symbol.as_bytes() == word.spelling().as_bytes()
 }
 
 /// The letters and digits at the front of a line, and what stands behind them.
@@ -80,30 +76,41 @@ fn without_blanks(text: &[u8]) -> &[u8]
     rest
 }
 
+/// A symbol as PARTNO or REMARK.
+#[tactic(auto, using(crate::proofs::TitleLaws::is_partno, crate::proofs::TitleLaws::is_remark, crate::proofs::TitleLaws::no_title_spelled))]
+fn as_title_word(symbol: &Symbol) -> Option<Word>
+    ensures { result ≡ spec.title_word symbol.now }
+{
+    if spells(symbol, Word::Partno) {
+        Some(Word::Partno)
+    } else if spells(symbol, Word::Remark) {
+        Some(Word::Remark)
+    } else {
+        None
+    }
+}
+
 /// Letters and digits as PARTNO or REMARK.
-#[tactic(auto, using(crate::proofs::TitleLaws::other_length, crate::proofs::TitleLaws::no_title_word, crate::proofs::TitleLaws::symbol_is))]
-fn title_word(text: &[u8]) -> Option<Symbol>
-    ensures { result ≡ only_if (spec.is_title_word (map characters.capital text.now)) (map characters.capital text.now) }
+#[tactic(auto, using(crate::proofs::TitleLaws::other_length, crate::proofs::TitleLaws::no_symbol, crate::proofs::TitleLaws::symbol_is))]
+fn title_word(text: &[u8]) -> Option<Word>
+    ensures { result ≡ spec.title_word (map characters.capital text.now) }
 {
     if text.len() != TITLE_LETTERS {
         return None;
     }
-    match symbol(text) {
-        Some(word) if is_title_word(&word) => Some(word),
-        _ => None,
-    }
+    as_title_word(&symbol(text)?)
 }
 
 /// PARTNO or REMARK, and the text behind it.
-fn title_of<'a>(word: &[u8], rest: &'a [u8]) -> Option<(Symbol, &'a [u8])>
-    ensures { option_map (λ r. (tokens.Word r.0 ∷ [], r.1.now)) result ≡ spec.title_word (map characters.capital word.now) rest.now }
+fn title_of<'a>(word: &[u8], rest: &'a [u8]) -> Option<(Word, &'a [u8])>
+    ensures { option_map (λ r. (tokens.Word r.0 ∷ [], r.1.now)) result ≡ spec.word_with_text (map characters.capital word.now) rest.now }
 {
     let word = title_word(word)?;
     Some((word, without_blanks(without_blank(rest))))
 }
 
 /// PARTNO or REMARK at the front of a line, and the text behind it.
-fn title(line: &[u8]) -> Option<(Symbol, &[u8])>
+fn title(line: &[u8]) -> Option<(Word, &[u8])>
     ensures { option_map (λ r. (tokens.Word r.0 ∷ [], r.1.now)) result ≡ spec.title line.now }
 {
     let (word, rest) = front_word(behind_blanks(line));
@@ -145,25 +152,27 @@ fn closed_title(line: &[u8]) -> Option<Heading<'_>>
 }
 
 /// The name of some letters and digits.
-#[tactic(auto, using(crate::proofs::TitleLaws::symbol_is, crate::proofs::TitleLaws::no_name))]
+#[tactic(auto, using(crate::proofs::TitleLaws::symbol_is, crate::proofs::TitleLaws::is_symbol_of, crate::proofs::TitleLaws::no_name))]
 fn label(text: &[u8]) -> Option<Symbol>
     ensures { result ≡ only_if (symbols.is_name (map characters.capital text.now)) (map characters.capital text.now) }
 {
-    match symbol(text) {
-        Some(name) if is_name(&name) => Some(name),
-        _ => None,
+    let name = symbol(text)?;
+    if is_vocabulary(&name) {
+        None
+    } else {
+        Some(name)
     }
 }
 
 /// A title behind a label and its parenthesis; the label itself is looked at last.
 #[tactic(auto, using(crate::proofs::TitleLaws::not_closed, crate::proofs::TitleLaws::untitled, crate::proofs::TitleLaws::no_label))]
 fn labelled_title<'a>(name: &[u8], rest: &'a [u8]) -> Option<Heading<'a>>
-    ensures { result ≡ spec.labelled (map characters.capital name.now) rest.now }
+    ensures { result ≡ spec.with_label (map characters.capital name.now) rest.now }
 {
     let (word, text) = title(behind_close(rest)?)?;
     let name = label(name)?;
     Some(Heading {
-        label: Some(Token::Word(name)),
+        label: Some(Token::Name(name)),
         close: Some(Token::Close),
         word: Token::Word(word),
         text,
@@ -195,14 +204,14 @@ pub(crate) fn may_be_titled(line: &[u8]) -> bool
 }
 
 /// The title on a line behind some tokens of its statement.
-#[tactic(auto, using(crate::proofs::TitleLaws::behind_nothing, crate::proofs::TitleLaws::behind_name, crate::proofs::TitleLaws::behind_closed, crate::proofs::TitleLaws::behind_others))]
+#[tactic(auto, using(crate::proofs::TitleLaws::behind_nothing, crate::proofs::TitleLaws::behind_name, crate::proofs::TitleLaws::behind_closed))]
 pub(crate) fn heading_behind<'a>(tokens: &[Token], line: &'a [u8]) -> Option<Heading<'a>>
     ensures { option_map (spec.with_tokens tokens.now) result ≡ spec.title_behind tokens.now line.now }
 {
     match tokens {
         [] => first_title(line),
-        [Token::Word(name)] if is_name(name) => closed_title(line),
-        [Token::Word(name), Token::Close] if is_name(name) => plain_title(line),
+        [Token::Name(_)] => closed_title(line),
+        [Token::Name(_), Token::Close] => plain_title(line),
         _ => None,
     }
 }

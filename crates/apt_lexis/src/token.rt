@@ -12,19 +12,20 @@ ghost use Rattle.apt_lexis.specs.Tokens as spec;
 use crate::PartCause;
 use crate::character::{begins_with_letter, blanks, capital_at};
 use crate::number::number_first;
-use apt_words::Symbol;
+use apt_words::{Symbol, Word, word_of};
 use std::alloc::AllocError;
 
 /// Room is made for so many tokens at once.
 const MORE_TOKENS: usize = 16;
 
-/// A word has at most so many letters and digits.
+/// A word or a name has at most so many letters and digits.
 const MOST_LETTERS: usize = 6;
 
-/// A token: a word in capitals, a number in millionths, or a mark.
+/// A token: a word of the vocabulary, a name, a number in millionths, or a mark.
 #[derive(Debug, Drop)]
 pub enum Token {
-    Word(Symbol),
+    Word(Word),
+    Name(Symbol),
     Number(i64),
     Equals,
     Slash,
@@ -69,6 +70,16 @@ pub(crate) fn symbol(text: &[u8]) -> Option<Symbol>
 {
     let (symbol, rest) = symbol_first(text)?;
     if rest.is_empty() { Some(symbol) } else { None }
+}
+
+/// A word of the vocabulary, or else a name.
+fn named(symbol: Symbol) -> Token
+    ensures { result ≡ spec.of_symbol symbol }
+{
+    match word_of(&symbol) {
+        Some(word) => Token::Word(word),
+        None => Token::Name(symbol),
+    }
 }
 
 fn mark(b: u8) -> Option<Token>
@@ -134,7 +145,7 @@ pub(crate) fn add_tokens(
             },
             _ => match symbol_first(rest) {
                 Some((symbol, behind)) => {
-                    push_token(tokens, Token::Word(symbol))?;
+                    push_token(tokens, named(symbol))?;
                     rest = behind;
                 }
                 None => return Ok(Some(PartCause::BadWord)),

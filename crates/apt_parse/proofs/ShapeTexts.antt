@@ -9,9 +9,7 @@ use Rattle.apt_words.specs.declared.word.Word.{Word}
 use Rattle.apt_words.specs.declared.word.Word.TheVariants as words
 use Rattle.apt_words.specs.declared.Go.TheVariants as turns
 use Rattle.apt_words.specs.declared.Turn.TheVariants as spins
-use Rattle.apt_words.specs.Options.{◌>>=◌, only_if}
-use Rattle.apt_words.specs.Symbols.{is_name}
-use Rattle.apt_words.specs.Vocabulary.{word_of}
+use Rattle.apt_words.specs.Options.{◌>>=◌}
 use Rattle.apt_words.specs.Sources.{IsTitle, HasText}
 use Rattle.apt_lexis.specs.declared.token.Token.{Token}
 use Rattle.apt_lexis.specs.declared.token.Token.TheVariants as tokens
@@ -22,7 +20,7 @@ use Rattle.apt_shapes.specs.Figures.{assign, point_xy, point_xyz, point_center, 
 use Rattle.apt_shapes.specs.Motions.{from, goto, godlta, surface, start_one, start_two, start, side_of, turn_of, check_stop, contour, contour_behind}
 use Rattle.apt_shapes.specs.Settings.{titled, one, expressions, units_of, units_in, spindle_turn, spindl_off, spindl_on, spindl, cool_of, coolnt}
 use Rattle.apt_shapes.specs.Flow.{parameters, differ, names_of, macro, arguments_in, call, jumpto, condition, if_in}
-use Rattle.apt_shapes.specs.Shapes.{tool, command, alone, with_arguments, figure, macro_alone, defined, named, if_word, untitled, with_text, body, behind_label, shape}
+use Rattle.apt_shapes.specs.Shapes.{tool, command, alone, with_arguments, figure, macro_alone, defined, behind_equals, if_word, untitled, with_text, body, labelled, shape}
 use Rattle.apt_parse.proofs.TitleTexts.{only_if-holds}
 
 -- a body that has a text only where it should
@@ -86,24 +84,24 @@ circle-fits n _ = tt
 macro-fits : (n : List ℕ) (args : List (List Token)) → FitsText (macro n args)
 macro-fits n args = by (parameters args) _ (λ ps. only_if-holds HasText (differ (names_of ps)) (bodies.Macro n ps) tt)
 
-figure-fits : (n : List ℕ) (w : Option Word) (args : List (List Token)) → FitsText (figure n w args)
-figure-fits n (Some words.Point) args = point-fits n args
-figure-fits n (Some words.Line) args = line-fits n args
-figure-fits n (Some words.Circle) args = circle-fits n args
-figure-fits n (Some words.Macro) args = macro-fits n args
+figure-fits : (n : List ℕ) (w : Word) (args : List (List Token)) → FitsText (figure n w args)
+figure-fits n words.Point args = point-fits n args
+figure-fits n words.Line args = line-fits n args
+figure-fits n words.Circle args = circle-fits n args
+figure-fits n words.Macro args = macro-fits n args
 figure-fits n _ args = tt
 
-macro_alone-fits : (n : List ℕ) (w : Option Word) → FitsText (macro_alone n w)
-macro_alone-fits n (Some words.Macro) = tt
+macro_alone-fits : (n : List ℕ) (w : Word) → FitsText (macro_alone n w)
+macro_alone-fits n words.Macro = tt
 macro_alone-fits n _ = tt
 
 defined-fits : (n : List ℕ) (ts : List Token) → FitsText (defined n ts)
-defined-fits n (tokens.Word w ∷ tokens.Slash ∷ ts) = figure-fits n (word_of w) (arguments ts)
-defined-fits n (tokens.Word w ∷ []) = macro_alone-fits n (word_of w)
+defined-fits n (tokens.Word w ∷ tokens.Slash ∷ ts) = figure-fits n w (arguments ts)
+defined-fits n (tokens.Word w ∷ []) = macro_alone-fits n w
 defined-fits n _ = tt
 
-behind_equals-fits : (n : List ℕ) (ts : List Token) → FitsText (named n ts)
-behind_equals-fits n ts = by (only_if (is_name n) n) _ (λ n. either (defined n ts) (assign n ts) (defined-fits n ts) (assign-fits n ts))
+behind_equals-fits : (n : List ℕ) (ts : List Token) → FitsText (behind_equals n ts)
+behind_equals-fits n ts = either (defined n ts) (assign n ts) (defined-fits n ts) (assign-fits n ts)
 
 -- ---- motions
 
@@ -143,22 +141,22 @@ contour-fits side turn (drive ∷ q ∷ check ∷ []) = by (name drive) _ (λ dr
 contour-fits side turn _ = tt
 
 contour_behind-fits : (side : Option Side) (ts : List Token) → FitsText (contour_behind side ts)
-contour_behind-fits side (tokens.Word w ∷ tokens.Slash ∷ ts) = by (turn_of (word_of w)) _ (λ turn. contour-fits side turn (arguments ts))
+contour_behind-fits side (tokens.Word w ∷ tokens.Slash ∷ ts) = by (turn_of w) _ (λ turn. contour-fits side turn (arguments ts))
 contour_behind-fits side _ = tt
 
 -- ---- settings
 
 units_in-fits : (args : List (List Token)) → FitsText (units_in args)
-units_in-fits (a ∷ []) = by (units_of (word a)) _ (λ u. tt)
+units_in-fits (a ∷ []) = by (word a >>= units_of) _ (λ u. tt)
 units_in-fits _ = tt
 
 spindl-fits : (args : List (List Token)) → FitsText (spindl args)
 spindl-fits (a ∷ []) = either (spindl_off a) (spindl_on a spins.Cw) (by (says words.Off a) _ (λ _. tt)) (by (expression a) _ (λ e. tt))
-spindl-fits (a ∷ b ∷ []) = by (spindle_turn (word b)) _ (λ turn. by (expression a) _ (λ e. tt))
+spindl-fits (a ∷ b ∷ []) = by (word b >>= spindle_turn) _ (λ turn. by (expression a) _ (λ e. tt))
 spindl-fits _ = tt
 
 coolnt-fits : (args : List (List Token)) → FitsText (coolnt args)
-coolnt-fits (a ∷ []) = by (cool_of (word a)) _ (λ c. tt)
+coolnt-fits (a ∷ []) = by (word a >>= cool_of) _ (λ c. tt)
 coolnt-fits _ = tt
 
 call-fits : (args : List (List Token)) → FitsText (call args)
@@ -173,65 +171,65 @@ if_in-fits : (args : List (List Token)) → FitsText (if_in args)
 if_in-fits (a ∷ b ∷ c ∷ []) = by (condition a) _ (λ cond. by (expression cond.0) _ (λ e. by (name b) _ (λ b. by (name c) _ (λ c. tt))))
 if_in-fits _ = tt
 
-command-fits : (w : Option Word) → FitsText (command w)
-command-fits (Some words.Clprnt) = tt
-command-fits (Some words.Nopost) = tt
-command-fits (Some words.Rapid) = tt
-command-fits (Some words.Stop) = tt
-command-fits (Some words.Opstop) = tt
-command-fits (Some words.End) = tt
-command-fits (Some words.Fini) = tt
-command-fits (Some words.Termac) = tt
-command-fits (Some words.Loopst) = tt
-command-fits (Some words.Loopnd) = tt
+command-fits : (w : Word) → FitsText (command w)
+command-fits words.Clprnt = tt
+command-fits words.Nopost = tt
+command-fits words.Rapid = tt
+command-fits words.Stop = tt
+command-fits words.Opstop = tt
+command-fits words.End = tt
+command-fits words.Fini = tt
+command-fits words.Termac = tt
+command-fits words.Loopst = tt
+command-fits words.Loopnd = tt
 command-fits _ = tt
 
-with_arguments-fits : (w : Option Word) (args : List (List Token)) → FitsText (with_arguments w args)
-with_arguments-fits (Some words.Units) args = units_in-fits args
-with_arguments-fits (Some words.Machin) args = by (expressions args) _ (λ es. tt)
-with_arguments-fits (Some words.Cutter) args = by (one args) _ (λ e. tt)
-with_arguments-fits (Some words.Intol) args = by (one args) _ (λ e. tt)
-with_arguments-fits (Some words.Outtol) args = by (one args) _ (λ e. tt)
-with_arguments-fits (Some words.Fedrat) args = by (one args) _ (λ e. tt)
-with_arguments-fits (Some words.Loadtl) args = by (one args) _ (λ e. tt)
-with_arguments-fits (Some words.From) args = from-fits args
-with_arguments-fits (Some words.Goto) args = goto-fits args
-with_arguments-fits (Some words.Godlta) args = godlta-fits args
-with_arguments-fits (Some words.Go) args = start-fits args
-with_arguments-fits (Some words.Golft) args = contour-fits None turns.Left args
-with_arguments-fits (Some words.Gorgt) args = contour-fits None turns.Right args
-with_arguments-fits (Some words.Gofwd) args = contour-fits None turns.Forward args
-with_arguments-fits (Some words.Goback) args = contour-fits None turns.Back args
-with_arguments-fits (Some words.Spindl) args = spindl-fits args
-with_arguments-fits (Some words.Coolnt) args = coolnt-fits args
-with_arguments-fits (Some words.Call) args = call-fits args
-with_arguments-fits (Some words.Jumpto) args = jumpto-fits args
+with_arguments-fits : (w : Word) (args : List (List Token)) → FitsText (with_arguments w args)
+with_arguments-fits words.Units args = units_in-fits args
+with_arguments-fits words.Machin args = by (expressions args) _ (λ es. tt)
+with_arguments-fits words.Cutter args = by (one args) _ (λ e. tt)
+with_arguments-fits words.Intol args = by (one args) _ (λ e. tt)
+with_arguments-fits words.Outtol args = by (one args) _ (λ e. tt)
+with_arguments-fits words.Fedrat args = by (one args) _ (λ e. tt)
+with_arguments-fits words.Loadtl args = by (one args) _ (λ e. tt)
+with_arguments-fits words.From args = from-fits args
+with_arguments-fits words.Goto args = goto-fits args
+with_arguments-fits words.Godlta args = godlta-fits args
+with_arguments-fits words.Go args = start-fits args
+with_arguments-fits words.Golft args = contour-fits None turns.Left args
+with_arguments-fits words.Gorgt args = contour-fits None turns.Right args
+with_arguments-fits words.Gofwd args = contour-fits None turns.Forward args
+with_arguments-fits words.Goback args = contour-fits None turns.Back args
+with_arguments-fits words.Spindl args = spindl-fits args
+with_arguments-fits words.Coolnt args = coolnt-fits args
+with_arguments-fits words.Call args = call-fits args
+with_arguments-fits words.Jumpto args = jumpto-fits args
 with_arguments-fits _ args = tt
 
 -- ---- statements
 
-if_word-fits : (w : Option Word) (ts : List Token) → FitsText (if_word w ts)
-if_word-fits (Some words.If) ts = if_in-fits (arguments ts)
+if_word-fits : (w : Word) (ts : List Token) → FitsText (if_word w ts)
+if_word-fits words.If ts = if_in-fits (arguments ts)
 if_word-fits _ ts = tt
 
-alone-fits : (w : Option Word) → FitsText (alone w)
+alone-fits : (w : Word) → FitsText (alone w)
 alone-fits w = either (tool w) (command w) (by (side_of w) _ (λ side. tt)) (command-fits w)
 
 untitled-fits : (ts : List Token) → FitsText (untitled ts)
-untitled-fits (tokens.Word w ∷ []) = alone-fits (word_of w)
-untitled-fits (tokens.Word w ∷ tokens.Slash ∷ ts) = with_arguments-fits (word_of w) (arguments ts)
-untitled-fits (tokens.Word w ∷ tokens.Equals ∷ ts) = behind_equals-fits w ts
-untitled-fits (tokens.Word w ∷ tokens.Comma ∷ ts) = by (side_of (word_of w)) _ (λ side. contour_behind-fits (Some side) ts)
-untitled-fits (tokens.Word w ∷ tokens.Open ∷ ts) = if_word-fits (word_of w) ts
+untitled-fits (tokens.Word w ∷ []) = alone-fits w
+untitled-fits (tokens.Word w ∷ tokens.Slash ∷ ts) = with_arguments-fits w (arguments ts)
+untitled-fits (tokens.Name n ∷ tokens.Equals ∷ ts) = behind_equals-fits n ts
+untitled-fits (tokens.Word w ∷ tokens.Comma ∷ ts) = by (side_of w) _ (λ side. contour_behind-fits (Some side) ts)
+untitled-fits (tokens.Word w ∷ tokens.Open ∷ ts) = if_word-fits w ts
 untitled-fits _ = tt
 
-titled-fits : (w : Option Word) (text : List ℕ) → IsTitle text → FitsText (titled w text)
-titled-fits (Some words.Partno) text h = h
-titled-fits (Some words.Remark) text h = tt
+titled-fits : (w : Word) (text : List ℕ) → IsTitle text → FitsText (titled w text)
+titled-fits words.Partno text h = h
+titled-fits words.Remark text h = tt
 titled-fits _ text h = tt
 
 with_text-fits : (ts : List Token) (text : List ℕ) → IsTitle text → FitsText (with_text ts text)
-with_text-fits (tokens.Word w ∷ []) text h = titled-fits (word_of w) text h
+with_text-fits (tokens.Word w ∷ []) text h = titled-fits w text h
 with_text-fits _ text h = tt
 
 body-fits : (ts : List Token) (text : Option (List ℕ)) → IfSome text IsTitle → FitsText (body ts text)
@@ -242,18 +240,11 @@ abbrev pub HasTextSaid : Labelled → Type 0
 HasTextSaid s = HasText s.body
 
 -- with a label or without
-labelled-fits : (label : Option (List ℕ)) (b : Option Body) → FitsText b → IfSome (b >>= λ b. Some (record { label = label; body = b })) HasTextSaid
+labelled-fits : (label : Option (List ℕ)) (b : Option Body) → FitsText b → IfSome (labelled label b) HasTextSaid
 labelled-fits label None h = tt
 labelled-fits label (Some b) h = h
 
-behind_label-fits : (l : List ℕ) (ts : List Token) (text : Option (List ℕ)) → IfSome text IsTitle → IfSome (behind_label l ts text) HasTextSaid
-behind_label-fits l ts text h = named_label (only_if (is_name l) l)
-  where
-    named_label : (o : Option (List ℕ)) → IfSome (o >>= λ l. body ts text >>= λ b. Some (record { label = Some l; body = b })) HasTextSaid
-    named_label None = tt
-    named_label (Some l) = labelled-fits (Some l) (body ts text) (body-fits ts text h)
-
 pub shape-fits : (ts : List Token) (text : Option (List ℕ)) → IfSome text IsTitle → IfSome (shape ts text) HasTextSaid
 unfolding shape
-shape-fits (tokens.Word l ∷ tokens.Close ∷ ts) text h = behind_label-fits l ts text h
+shape-fits (tokens.Name l ∷ tokens.Close ∷ ts) text h = labelled-fits (Some l) (body ts text) (body-fits ts text h)
 shape-fits ts text h = labelled-fits None (body ts text) (body-fits ts text h)

@@ -5,11 +5,12 @@ use Rattle.std.specs.List.{list_all, prefix_len}
 use Rattle.std.proofs.lemmas.Bool.{and_from, and_parts, cond_both}
 use Rattle.apt_words.specs.Options.{◌>>=◌, only_if}
 use Rattle.apt_words.specs.Symbols.{is_name}
+use Rattle.apt_words.specs.declared.word.Word.{Word}
 use Rattle.apt_words.specs.Sources.{is_text_byte, IsText, IsTitle}
 use Rattle.apt_lexis.specs.declared.token.Token.{Token}
 use Rattle.apt_lexis.specs.declared.token.Token.TheVariants as tokens
 use Rattle.apt_lexis.specs.Tokens.{is_blank, is_letter_or_digit}
-use Rattle.apt_lexis.specs.Titles.{Title, blank, behind, front_word, without_blank, unless_last, without_blanks, is_title_word, title_word, title, close_first, behind_close, with_tokens, labelled, or_else, title_or_labelled, title_behind}
+use Rattle.apt_lexis.specs.Titles.{Title, blank, behind, front_word, without_blank, unless_last, without_blanks, title_word, word_with_text, title, close_first, behind_close, with_tokens, labelled, with_label, or_else, title_or_labelled, title_behind}
 
 -- ---- bytes of a line
 
@@ -67,14 +68,17 @@ then_holds P Q (Some x) f h more = more x h
 abbrev pub HasTitle : Title → Type 0
 HasTitle t = IsTitle t.1
 
-title_word-text : (word rest : List ℕ) → IsTitle rest → IfSome (title_word word rest) HasTitle
-title_word-text word rest h =
-    only_if-holds HasTitle (is_title_word word) _ (without_blanks-title (without_blank rest) (without_blank-title rest h))
+word_with_text-text : (symbol rest : List ℕ) → IsTitle rest → IfSome (word_with_text symbol rest) HasTitle
+word_with_text-text symbol rest h = with_word (title_word symbol)
+  where
+    with_word : (found : Option Word) → IfSome (found >>= λ w. Some (tokens.Word w ∷ [], without_blanks (without_blank rest))) HasTitle
+    with_word None = tt
+    with_word (Some w) = without_blanks-title (without_blank rest) (without_blank-title rest h)
 
 title-text : (line : List ℕ) → IsTitle line → IfSome (title line) HasTitle
 title-text line h =
     let line' = behind is_blank line in
-    title_word-text (front_word line') (behind is_letter_or_digit line') (behind-title is_letter_or_digit line' (behind-title is_blank line h))
+    word_with_text-text (front_word line') (behind is_letter_or_digit line') (behind-title is_letter_or_digit line' (behind-title is_blank line h))
 
 close_first-text : (line : List ℕ) → IsTitle line → IfSome (close_first line) IsTitle
 close_first-text [] h = tt
@@ -92,9 +96,12 @@ with_before-text ts line h =
     then_holds HasTitle HasTitle (line >>= title) _ (then_holds IsTitle HasTitle line title h title-text) (with_tokens-text ts)
 
 labelled-text : (name line : List ℕ) → IsTitle line → IfSome (labelled name line) HasTitle
-labelled-text name line h =
-    with_before-text (tokens.Word name ∷ tokens.Close ∷ []) (only_if (is_name name) line >>= behind_close)
-    (then_holds IsTitle IsTitle (only_if (is_name name) line) behind_close (only_if-holds IsTitle (is_name name) line h) behind_close-text)
+labelled-text name line h = with_before-text (tokens.Name name ∷ tokens.Close ∷ []) (behind_close line) (behind_close-text line h)
+
+with_label-text : (symbol line : List ℕ) → IsTitle line → IfSome (with_label symbol line) HasTitle
+with_label-text symbol line h =
+    then_holds (λ _. Unit {0}) HasTitle (only_if (is_name symbol) symbol) (λ name. labelled name line)
+    (only_if-holds (λ _. Unit {0}) (is_name symbol) symbol tt) (λ name _. labelled-text name line h)
 
 or_else-text : (t other : Option Title) → IfSome t HasTitle → IfSome other HasTitle → IfSome (or_else t other) HasTitle
 or_else-text None other h h' = h'
@@ -104,11 +111,10 @@ title_or_labelled-text : (line : List ℕ) → IsTitle line → IfSome (title_or
 title_or_labelled-text line h =
     let line' = behind is_blank line in
     or_else-text (title line) _ (title-text line h)
-    (labelled-text (front_word line') (behind is_letter_or_digit line') (behind-title is_letter_or_digit line' (behind-title is_blank line h)))
+    (with_label-text (front_word line') (behind is_letter_or_digit line') (behind-title is_letter_or_digit line' (behind-title is_blank line h)))
 
 pub title_behind-text : (ts : List Token) (line : List ℕ) → IsTitle line → IfSome (title_behind ts line) HasTitle
 title_behind-text [] line h = title_or_labelled-text line h
-title_behind-text (tokens.Word name ∷ []) line h = labelled-text name line h
-title_behind-text (tokens.Word name ∷ tokens.Close ∷ []) line h =
-    with_before-text (tokens.Word name ∷ tokens.Close ∷ []) (only_if (is_name name) line) (only_if-holds IsTitle (is_name name) line h)
+title_behind-text (tokens.Name name ∷ []) line h = labelled-text name line h
+title_behind-text (tokens.Name name ∷ tokens.Close ∷ []) line h = with_before-text (tokens.Name name ∷ tokens.Close ∷ []) (Some line) h
 title_behind-text _ line h = tt

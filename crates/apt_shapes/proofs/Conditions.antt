@@ -1,8 +1,7 @@
 -- The condition of IF, by the last two tokens of its first argument.
-use Rattle.std.specs.Prelude.{◌≡◌, ℕ, ◌≤◌, Bool, true, false, List, [], ◌∷◌, ◌++◌, length, Option, Some, None, refl}
+use Rattle.std.specs.Prelude.{◌≡◌, ℕ, ◌≤◌, List, [], ◌∷◌, ◌++◌, length, Option, Some, None, refl}
 use Rattle.std.proofs.Common.{ap, ◌∙◌, arith, append_assoc, length-append}
-use Rattle.apt_words.specs.Options.{◌>>=◌, only_if}
-use Rattle.apt_words.specs.Symbols.{is_name}
+use Rattle.apt_words.specs.Options.{◌>>=◌}
 use Rattle.apt_lexis.specs.declared.token.Token.{Token}
 use Rattle.apt_lexis.specs.declared.token.Token.TheVariants as tokens
 use Rattle.apt_shapes.specs.Flow.{condition, label_of}
@@ -21,12 +20,9 @@ behind_label : (t : Token) (front : List Token) (o : Option (List ℕ)) → behi
 behind_label t front None = refl
 behind_label t front (Some l) = refl
 
-label_if : (b : Bool) (l : List ℕ) → only_if b ([], l) ≡ with_label [] (only_if b l)
-label_if true l = refl
-label_if false l = refl
-
 condition_of_one : (t : Token) → condition (t ∷ []) ≡ None
 condition_of_one (tokens.Word w) = refl
+condition_of_one (tokens.Name n) = refl
 condition_of_one (tokens.Number n) = refl
 condition_of_one tokens.Equals = refl
 condition_of_one tokens.Slash = refl
@@ -39,12 +35,14 @@ condition_of_one tokens.Star = refl
 
 condition_of_two : (a b : Token) → condition (a ∷ b ∷ []) ≡ with_label [] (label_of a b)
 condition_of_two (tokens.Word w) b = ap (behind (tokens.Word w)) (condition_of_one b)
+condition_of_two (tokens.Name n) b = ap (behind (tokens.Name n)) (condition_of_one b)
 condition_of_two (tokens.Number n) b = ap (behind (tokens.Number n)) (condition_of_one b)
 condition_of_two tokens.Equals b = ap (behind tokens.Equals) (condition_of_one b)
 condition_of_two tokens.Slash b = ap (behind tokens.Slash) (condition_of_one b)
 condition_of_two tokens.Comma b = ap (behind tokens.Comma) (condition_of_one b)
 condition_of_two tokens.Open b = ap (behind tokens.Open) (condition_of_one b)
-condition_of_two tokens.Close (tokens.Word l) = label_if (is_name l) l
+condition_of_two tokens.Close (tokens.Word w) = refl
+condition_of_two tokens.Close (tokens.Name l) = refl
 condition_of_two tokens.Close (tokens.Number n) = refl
 condition_of_two tokens.Close tokens.Equals = refl
 condition_of_two tokens.Close tokens.Slash = refl
@@ -60,12 +58,14 @@ condition_of_two tokens.Star b = ap (behind tokens.Star) (condition_of_one b)
 
 condition_of_three : (t u v : Token) (ts : List Token) → condition (t ∷ u ∷ v ∷ ts) ≡ behind t (condition (u ∷ v ∷ ts))
 condition_of_three (tokens.Word w) u v ts = refl
+condition_of_three (tokens.Name n) u v ts = refl
 condition_of_three (tokens.Number n) u v ts = refl
 condition_of_three tokens.Equals u v ts = refl
 condition_of_three tokens.Slash u v ts = refl
 condition_of_three tokens.Comma u v ts = refl
 condition_of_three tokens.Open u v ts = refl
 condition_of_three tokens.Close (tokens.Word w) v ts = refl
+condition_of_three tokens.Close (tokens.Name n) v ts = refl
 condition_of_three tokens.Close (tokens.Number n) v ts = refl
 condition_of_three tokens.Close tokens.Equals v ts = refl
 condition_of_three tokens.Close tokens.Slash v ts = refl

@@ -8,9 +8,8 @@ use Rattle.apt_words.specs.declared.Stop.TheVariants as stops
 use Rattle.apt_words.specs.declared.word.Word.{Word}
 use Rattle.apt_words.specs.declared.word.Word.TheVariants as words
 use Rattle.apt_words.specs.Options.{◌>>=◌, only_if}
-use Rattle.apt_words.specs.Symbols.{is_name}
 use Rattle.apt_words.specs.Trees.{Tree}
-use Rattle.apt_words.specs.Vocabulary.{word_of, spelling}
+use Rattle.apt_words.specs.Vocabulary.{spelling}
 use Rattle.apt_lexis.specs.declared.token.Token.{Token}
 use Rattle.apt_lexis.specs.declared.token.Token.TheVariants as tokens
 use Rattle.apt_expr.specs.Expressions.{expression}
@@ -34,51 +33,51 @@ arguments (t ∷ ts) = in_front t (arguments ts)
 -- ---- one argument
 
 abbrev pub name : List Token → Option (List ℕ)
-name (tokens.Word w ∷ []) = only_if (is_name w) w
+name (tokens.Name n ∷ []) = Some n
 name _ = None
 
 -- an argument that is a word of the vocabulary
 abbrev pub word : List Token → Option Word
-word (tokens.Word w ∷ []) = word_of w
+word (tokens.Word w ∷ []) = Some w
 word _ = None
 
 -- an argument is this word of the vocabulary
 abbrev pub is_word : Word → List Token → Bool
-is_word v (tokens.Word w ∷ []) = bytes_eq (spelling v) w
+is_word v (tokens.Word w ∷ []) = bytes_eq (spelling v) (spelling w)
 is_word v _ = false
 
 abbrev pub says : Word → List Token → Option Bool
 says v a = only_if (is_word v a) true
 
-abbrev pub pick_of : Option Word → Option Pick
-pick_of (Some words.Xlarge) = Some picks.XLarge
-pick_of (Some words.Xsmall) = Some picks.XSmall
-pick_of (Some words.Ylarge) = Some picks.YLarge
-pick_of (Some words.Ysmall) = Some picks.YSmall
+abbrev pub pick_of : Word → Option Pick
+pick_of words.Xlarge = Some picks.XLarge
+pick_of words.Xsmall = Some picks.XSmall
+pick_of words.Ylarge = Some picks.YLarge
+pick_of words.Ysmall = Some picks.YSmall
 pick_of _ = None
 
 -- XLARGE, XSMALL, YLARGE or YSMALL
 abbrev pub pick : List Token → Option Pick
-pick a = pick_of (word a)
+pick a = word a >>= pick_of
 
-abbrev pub is_left_of : Option Word → Option Bool
-is_left_of (Some words.Left) = Some true
-is_left_of (Some words.Right) = Some false
+abbrev pub is_left_of : Word → Option Bool
+is_left_of words.Left = Some true
+is_left_of words.Right = Some false
 is_left_of _ = None
 
 -- LEFT or RIGHT
 abbrev pub is_left : List Token → Option Bool
-is_left a = is_left_of (word a)
+is_left a = word a >>= is_left_of
 
-abbrev pub stop_of : Option Word → Option Stop
-stop_of (Some words.To) = Some stops.To
-stop_of (Some words.On) = Some stops.On
-stop_of (Some words.Past) = Some stops.Past
+abbrev pub stop_of : Word → Option Stop
+stop_of words.To = Some stops.To
+stop_of words.On = Some stops.On
+stop_of words.Past = Some stops.Past
 stop_of _ = None
 
 -- TO, ON or PAST
 abbrev pub stop : List Token → Option Stop
-stop a = stop_of (word a)
+stop a = word a >>= stop_of
 
 abbrev pub or_else : {A : Type 0} → Option A → Option A → Option A
 or_else None other = other

@@ -5,7 +5,6 @@ use Rattle.std.proofs.Common.{bytes_eq}
 use Rattle.apt_words.specs.declared.body.Body.{Body}
 use Rattle.apt_words.specs.declared.body.Body.TheVariants as bodies
 use Rattle.apt_words.specs.Options.{◌>>=◌, only_if}
-use Rattle.apt_words.specs.Symbols.{is_name}
 use Rattle.apt_words.specs.Trees.{Tree}
 use Rattle.apt_lexis.specs.declared.token.Token.{Token}
 use Rattle.apt_lexis.specs.declared.token.Token.TheVariants as tokens
@@ -16,12 +15,12 @@ use Rattle.apt_shapes.specs.Arguments.{name}
 
 -- n=e
 abbrev pub argument : List Token → Option (List ℕ × Tree)
-argument (tokens.Word n ∷ tokens.Equals ∷ ts) = only_if (is_name n) n >>= λ n. expression ts >>= λ e. Some (n, e)
+argument (tokens.Name n ∷ tokens.Equals ∷ ts) = expression ts >>= λ e. Some (n, e)
 argument _ = None
 
 -- a parameter: n, or n=e with its default
 abbrev pub parameter : List Token → Option (List ℕ × Option Tree)
-parameter (tokens.Word n ∷ []) = only_if (is_name n) (n, None)
+parameter (tokens.Name n ∷ []) = Some (n, None)
 parameter ts = argument ts >>= λ a. Some (a.0, Some a.1)
 
 abbrev pub parameters : List (List Token) → Option (List (List ℕ × Option Tree))
@@ -58,12 +57,12 @@ jumpto _ = None
 
 -- the label behind a closing parenthesis
 abbrev pub label_of : Token → Token → Option (List ℕ)
-label_of tokens.Close (tokens.Word l) = only_if (is_name l) l
+label_of tokens.Close (tokens.Name l) = Some l
 label_of _ _ = None
 
 -- an expression, the parenthesis that closes it and a label
 abbrev pub condition : List Token → Option (List Token × List ℕ)
-condition (tokens.Close ∷ tokens.Word l ∷ []) = only_if (is_name l) ([], l)
+condition (tokens.Close ∷ tokens.Name l ∷ []) = Some ([], l)
 condition [] = None
 condition (t ∷ ts) = condition ts >>= λ c. Some (t ∷ c.0, c.1)
 

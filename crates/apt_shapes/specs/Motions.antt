@@ -11,7 +11,6 @@ use Rattle.apt_words.specs.declared.body.Body.TheVariants as bodies
 use Rattle.apt_words.specs.declared.word.Word.{Word}
 use Rattle.apt_words.specs.declared.word.Word.TheVariants as words
 use Rattle.apt_words.specs.Options.{◌>>=◌, only_if}
-use Rattle.apt_words.specs.Vocabulary.{word_of}
 use Rattle.apt_lexis.specs.declared.token.Token.{Token}
 use Rattle.apt_lexis.specs.declared.token.Token.TheVariants as tokens
 use Rattle.apt_expr.specs.Expressions.{expression}
@@ -59,17 +58,17 @@ start _ = None
 
 -- ---- contours: a turn word, the drive surface, and the check surface with its modifier
 
-abbrev pub side_of : Option Word → Option Side
-side_of (Some words.Tllft) = Some sides.Left
-side_of (Some words.Tlrgt) = Some sides.Right
-side_of (Some words.Tlon) = Some sides.On
+abbrev pub side_of : Word → Option Side
+side_of words.Tllft = Some sides.Left
+side_of words.Tlrgt = Some sides.Right
+side_of words.Tlon = Some sides.On
 side_of _ = None
 
-abbrev pub turn_of : Option Word → Option Go
-turn_of (Some words.Golft) = Some turns.Left
-turn_of (Some words.Gorgt) = Some turns.Right
-turn_of (Some words.Gofwd) = Some turns.Forward
-turn_of (Some words.Goback) = Some turns.Back
+abbrev pub turn_of : Word → Option Go
+turn_of words.Golft = Some turns.Left
+turn_of words.Gorgt = Some turns.Right
+turn_of words.Gofwd = Some turns.Forward
+turn_of words.Goback = Some turns.Back
 turn_of _ = None
 
 -- TO, ON, PAST or TANTO
@@ -84,5 +83,5 @@ contour side turn _ = None
 
 -- a contour behind a tool word and a comma
 abbrev pub contour_behind : Option Side → List Token → Option Body
-contour_behind side (tokens.Word w ∷ tokens.Slash ∷ ts) = turn_of (word_of w) >>= λ turn. contour side turn (arguments ts)
+contour_behind side (tokens.Word w ∷ tokens.Slash ∷ ts) = turn_of w >>= λ turn. contour side turn (arguments ts)
 contour_behind side _ = None

@@ -17,9 +17,9 @@ use Rattle.apt_expr.specs.Expressions.{expression}
 use Rattle.apt_shapes.specs.Arguments.{word, says, or_else}
 
 -- PARTNO text, REMARK text
-abbrev pub titled : Option Word → List ℕ → Option Body
-titled (Some words.Partno) text = Some (bodies.Partno text)
-titled (Some words.Remark) text = Some (bodies.Remark text)
+abbrev pub titled : Word → List ℕ → Option Body
+titled words.Partno text = Some (bodies.Partno text)
+titled words.Remark text = Some (bodies.Remark text)
 titled _ text = None
 
 -- the expression that stands alone
@@ -35,19 +35,19 @@ expressions (a ∷ args) = expression a >>= λ e. expressions args >>= λ es. So
 abbrev pub machin : List (List Token) → Option Body
 machin args = expressions args >>= λ es. Some (bodies.Machin es)
 
-abbrev pub units_of : Option Word → Option Units
-units_of (Some words.Inches) = Some units.Inch
-units_of (Some words.Mm) = Some units.Mm
+abbrev pub units_of : Word → Option Units
+units_of words.Inches = Some units.Inch
+units_of words.Mm = Some units.Mm
 units_of _ = None
 
 -- UNITS/INCHES, UNITS/MM
 abbrev pub units_in : List (List Token) → Option Body
-units_in (a ∷ []) = units_of (word a) >>= λ u. Some (bodies.Units u)
+units_in (a ∷ []) = word a >>= units_of >>= λ u. Some (bodies.Units u)
 units_in _ = None
 
-abbrev pub spindle_turn : Option Word → Option Turn
-spindle_turn (Some words.Clw) = Some turns.Cw
-spindle_turn (Some words.Cclw) = Some turns.Ccw
+abbrev pub spindle_turn : Word → Option Turn
+spindle_turn words.Clw = Some turns.Cw
+spindle_turn words.Cclw = Some turns.Ccw
 spindle_turn _ = None
 
 abbrev pub spindl_off : List Token → Option Body
@@ -59,16 +59,16 @@ spindl_on e turn = expression e >>= λ e. Some (bodies.Spindl e turn)
 -- SPINDL/OFF, SPINDL/e, SPINDL/e,CLW and SPINDL/e,CCLW
 abbrev pub spindl : List (List Token) → Option Body
 spindl (a ∷ []) = or_else (spindl_off a) (spindl_on a turns.Cw)
-spindl (a ∷ b ∷ []) = spindle_turn (word b) >>= λ turn. spindl_on a turn
+spindl (a ∷ b ∷ []) = word b >>= spindle_turn >>= λ turn. spindl_on a turn
 spindl _ = None
 
-abbrev pub cool_of : Option Word → Option Cool
-cool_of (Some words.Mist) = Some cools.Mist
-cool_of (Some words.Flood) = Some cools.Flood
-cool_of (Some words.Off) = Some cools.Off
+abbrev pub cool_of : Word → Option Cool
+cool_of words.Mist = Some cools.Mist
+cool_of words.Flood = Some cools.Flood
+cool_of words.Off = Some cools.Off
 cool_of _ = None
 
 -- COOLNT/FLOOD, COOLNT/MIST, COOLNT/OFF
 abbrev pub coolnt : List (List Token) → Option Body
-coolnt (a ∷ []) = cool_of (word a) >>= λ c. Some (bodies.Coolnt c)
+coolnt (a ∷ []) = word a >>= cool_of >>= λ c. Some (bodies.Coolnt c)
 coolnt _ = None

@@ -1,13 +1,11 @@
 //! The arguments of a statement.
 
 ghost use Rattle.std.specs.Prelude.{◌≡◌, ◌<◌, [], ◌∷◌, length, map, IfOk, IfSome, MatchOption};
-ghost use Rattle.apt_words.specs.Options.{only_if};
-ghost use Rattle.apt_words.specs.Symbols.{is_name};
 ghost use Rattle.apt_shapes.specs.Arguments as arguments;
 
 use apt_expr::expression;
 use apt_lexis::Token;
-use apt_words::{Expr, Pick, Stop, Symbol, Word, is_vocabulary, word_of};
+use apt_words::{Expr, Pick, Stop, Symbol, Word};
 use std::alloc::{AllocError, Global};
 
 fn is_comma(token: &Token) -> bool
@@ -46,22 +44,11 @@ pub(crate) fn arguments<'a>(
     Ok(args)
 }
 
-/// A word that is no word of the language.
-pub(crate) fn name_of(word: &Symbol) -> Option<Symbol>
-    ensures { result ≡ only_if (is_name word.now) word.now }
-{
-    if is_vocabulary(word) {
-        None
-    } else {
-        Some(word.copied())
-    }
-}
-
 pub(crate) fn name(tokens: &[Token]) -> Option<Symbol>
     ensures { result ≡ arguments.name tokens.now }
 {
     match tokens {
-        [Token::Word(word)] => name_of(word),
+        [Token::Name(name)] => Some(name.copied()),
         _ => None,
     }
 }
@@ -71,7 +58,7 @@ pub(crate) fn vocabulary(tokens: &[Token]) -> Option<Word>
     ensures { result ≡ arguments.word tokens.now }
 {
     match tokens {
-        [Token::Word(word)] => word_of(word),
+        [Token::Word(word)] => Some(*word),
         _ => None,
     }
 }
@@ -81,7 +68,7 @@ pub(crate) fn is_word(word: Word, tokens: &[Token]) -> bool
     ensures { result ≡ arguments.is_word word tokens.now }
 {
     match tokens {
-        [Token::Word(said)] => word.spelling().as_bytes() == said.as_bytes(),
+        [Token::Word(said)] => word.spelling().as_bytes() == said.spelling().as_bytes(),
         _ => false,
     }
 }
@@ -89,11 +76,11 @@ pub(crate) fn is_word(word: Word, tokens: &[Token]) -> bool
 pub(crate) fn pick(tokens: &[Token]) -> Option<Pick>
     ensures { result ≡ arguments.pick tokens.now }
 {
-    match vocabulary(tokens) {
-        Some(Word::Xlarge) => Some(Pick::XLarge),
-        Some(Word::Xsmall) => Some(Pick::XSmall),
-        Some(Word::Ylarge) => Some(Pick::YLarge),
-        Some(Word::Ysmall) => Some(Pick::YSmall),
+    match vocabulary(tokens)? {
+        Word::Xlarge => Some(Pick::XLarge),
+        Word::Xsmall => Some(Pick::XSmall),
+        Word::Ylarge => Some(Pick::YLarge),
+        Word::Ysmall => Some(Pick::YSmall),
         _ => None,
     }
 }
@@ -102,9 +89,9 @@ pub(crate) fn pick(tokens: &[Token]) -> Option<Pick>
 pub(crate) fn is_left(tokens: &[Token]) -> Option<bool>
     ensures { result ≡ arguments.is_left tokens.now }
 {
-    match vocabulary(tokens) {
-        Some(Word::Left) => Some(true),
-        Some(Word::Right) => Some(false),
+    match vocabulary(tokens)? {
+        Word::Left => Some(true),
+        Word::Right => Some(false),
         _ => None,
     }
 }
@@ -112,10 +99,10 @@ pub(crate) fn is_left(tokens: &[Token]) -> Option<bool>
 pub(crate) fn stop(tokens: &[Token]) -> Option<Stop>
     ensures { result ≡ arguments.stop tokens.now }
 {
-    match vocabulary(tokens) {
-        Some(Word::To) => Some(Stop::To),
-        Some(Word::On) => Some(Stop::On),
-        Some(Word::Past) => Some(Stop::Past),
+    match vocabulary(tokens)? {
+        Word::To => Some(Stop::To),
+        Word::On => Some(Stop::On),
+        Word::Past => Some(Stop::Past),
         _ => None,
     }
 }

@@ -3,7 +3,7 @@
 ghost use Rattle.std.specs.Prelude.{◌≡◌, map, option_map, IfOk};
 ghost use Rattle.apt_shapes.specs.Flow as flow;
 
-use crate::arguments::{name, name_of};
+use crate::arguments::name;
 use apt_expr::expression;
 use apt_lexis::Token;
 use apt_words::{Args, Body, Expr, Params, Symbol};
@@ -14,21 +14,18 @@ use std::alloc::{AllocError, Global};
 fn argument(alloc: Global, tokens: &[Token]) -> Result<Option<(Symbol, Expr)>, AllocError>
     ensures { IfOk result (λ a. a ≡ flow.argument tokens.now) }
 {
-    let [Token::Word(word), Token::Equals, value @ ..] = tokens else {
+    let [Token::Name(name), Token::Equals, value @ ..] = tokens else {
         return Ok(None);
     };
-    let Some(name) = name_of(word) else {
-        return Ok(None);
-    };
-    Ok(expression(alloc, value)?.map(|e| (name, e)))
+    Ok(expression(alloc, value)?.map(|e| (name.copied(), e)))
 }
 
 /// A name, with its default where it has one.
 fn parameter(alloc: Global, tokens: &[Token]) -> Result<Option<(Symbol, Option<Expr>)>, AllocError>
     ensures { IfOk result (λ p. p ≡ flow.parameter tokens.now) }
 {
-    if let [Token::Word(word)] = tokens {
-        return Ok(name_of(word).map(|name| (name, None)));
+    if let [Token::Name(name)] = tokens {
+        return Ok(Some((name.copied(), None)));
     }
     Ok(argument(alloc, tokens)?.map(|(name, e)| (name, Some(e))))
 }
@@ -114,7 +111,7 @@ fn label_of(close: &Token, label: &Token) -> Option<Symbol>
     ensures { result ≡ flow.label_of close.now label.now }
 {
     match (close, label) {
-        (Token::Close, Token::Word(label)) => name_of(label),
+        (Token::Close, Token::Name(label)) => Some(label.copied()),
         _ => None,
     }
 }

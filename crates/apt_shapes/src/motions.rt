@@ -6,7 +6,7 @@ ghost use Rattle.apt_shapes.specs.Motions as motions;
 use crate::arguments::{arguments, is_word, name, pair, stop, triple};
 use apt_expr::expression;
 use apt_lexis::Token;
-use apt_words::{Body, Go, Side, Stop, Symbol, Word, word_of};
+use apt_words::{Body, Go, Side, Stop, Symbol, Word};
 use std::alloc::{AllocError, Global};
 
 pub(crate) fn from(alloc: Global, args: &[&[Token]]) -> Result<Option<Body>, AllocError>
@@ -110,25 +110,25 @@ pub(crate) fn start(args: &[&[Token]]) -> Result<Option<Body>, AllocError>
     }
 }
 
-pub(crate) fn side_of(word: Option<Word>) -> Option<Side>
+pub(crate) fn side_of(word: Word) -> Option<Side>
     ensures { result ≡ motions.side_of word }
 {
     match word {
-        Some(Word::Tllft) => Some(Side::Left),
-        Some(Word::Tlrgt) => Some(Side::Right),
-        Some(Word::Tlon) => Some(Side::On),
+        Word::Tllft => Some(Side::Left),
+        Word::Tlrgt => Some(Side::Right),
+        Word::Tlon => Some(Side::On),
         _ => None,
     }
 }
 
-fn turn_of(word: Option<Word>) -> Option<Go>
+fn turn_of(word: Word) -> Option<Go>
     ensures { result ≡ motions.turn_of word }
 {
     match word {
-        Some(Word::Golft) => Some(Go::Left),
-        Some(Word::Gorgt) => Some(Go::Right),
-        Some(Word::Gofwd) => Some(Go::Forward),
-        Some(Word::Goback) => Some(Go::Back),
+        Word::Golft => Some(Go::Left),
+        Word::Gorgt => Some(Go::Right),
+        Word::Gofwd => Some(Go::Forward),
+        Word::Goback => Some(Go::Back),
         _ => None,
     }
 }
@@ -177,7 +177,7 @@ pub(crate) fn contour_behind(
     let [Token::Word(word), Token::Slash, rest @ ..] = tokens else {
         return Ok(None);
     };
-    let Some(turn) = turn_of(word_of(word)) else {
+    let Some(turn) = turn_of(*word) else {
         return Ok(None);
     };
     contour(side, turn, &arguments(alloc, rest)?)

@@ -11,12 +11,12 @@ use apt_words::{Body, Cool, Expr, Exprs, Text, Turn, Units, Word};
 use std::alloc::{AllocError, Global};
 
 /// PARTNO or REMARK with its text.
-pub(crate) fn titled(word: Option<Word>, text: Text) -> Option<Body>
+pub(crate) fn titled(word: Word, text: Text) -> Option<Body>
     ensures { result ≡ settings.titled word text }
 {
     match word {
-        Some(Word::Partno) => Some(Body::Partno(text)),
-        Some(Word::Remark) => Some(Body::Remark(text)),
+        Word::Partno => Some(Body::Partno(text)),
+        Word::Remark => Some(Body::Remark(text)),
         _ => None,
     }
 }
@@ -32,31 +32,31 @@ fn one(alloc: Global, args: &[&[Token]]) -> Result<Option<Expr>, AllocError>
 }
 
 pub(crate) fn cutter(alloc: Global, args: &[&[Token]]) -> Result<Option<Body>, AllocError>
-    ensures { IfOk result (λ b. b ≡ with_arguments (Some Word.Cutter) (map (λ a. a.now) args.now)) }
+    ensures { IfOk result (λ b. b ≡ with_arguments Word.Cutter (map (λ a. a.now) args.now)) }
 {
     Ok(one(alloc, args)?.map(Body::Cutter))
 }
 
 pub(crate) fn intol(alloc: Global, args: &[&[Token]]) -> Result<Option<Body>, AllocError>
-    ensures { IfOk result (λ b. b ≡ with_arguments (Some Word.Intol) (map (λ a. a.now) args.now)) }
+    ensures { IfOk result (λ b. b ≡ with_arguments Word.Intol (map (λ a. a.now) args.now)) }
 {
     Ok(one(alloc, args)?.map(Body::Intol))
 }
 
 pub(crate) fn outtol(alloc: Global, args: &[&[Token]]) -> Result<Option<Body>, AllocError>
-    ensures { IfOk result (λ b. b ≡ with_arguments (Some Word.Outtol) (map (λ a. a.now) args.now)) }
+    ensures { IfOk result (λ b. b ≡ with_arguments Word.Outtol (map (λ a. a.now) args.now)) }
 {
     Ok(one(alloc, args)?.map(Body::Outtol))
 }
 
 pub(crate) fn fedrat(alloc: Global, args: &[&[Token]]) -> Result<Option<Body>, AllocError>
-    ensures { IfOk result (λ b. b ≡ with_arguments (Some Word.Fedrat) (map (λ a. a.now) args.now)) }
+    ensures { IfOk result (λ b. b ≡ with_arguments Word.Fedrat (map (λ a. a.now) args.now)) }
 {
     Ok(one(alloc, args)?.map(Body::Fedrat))
 }
 
 pub(crate) fn loadtl(alloc: Global, args: &[&[Token]]) -> Result<Option<Body>, AllocError>
-    ensures { IfOk result (λ b. b ≡ with_arguments (Some Word.Loadtl) (map (λ a. a.now) args.now)) }
+    ensures { IfOk result (λ b. b ≡ with_arguments Word.Loadtl (map (λ a. a.now) args.now)) }
 {
     Ok(one(alloc, args)?.map(Body::Loadtl))
 }
@@ -80,12 +80,12 @@ pub(crate) fn machin(alloc: Global, args: &[&[Token]]) -> Result<Option<Body>, A
     Ok(expressions(alloc, args)?.map(Body::Machin))
 }
 
-fn units_of(word: Option<Word>) -> Option<Units>
+fn units_of(word: Word) -> Option<Units>
     ensures { result ≡ settings.units_of word }
 {
     match word {
-        Some(Word::Inches) => Some(Units::Inch),
-        Some(Word::Mm) => Some(Units::Mm),
+        Word::Inches => Some(Units::Inch),
+        Word::Mm => Some(Units::Mm),
         _ => None,
     }
 }
@@ -94,17 +94,17 @@ pub(crate) fn units_in(args: &[&[Token]]) -> Result<Option<Body>, AllocError>
     ensures { IfOk result (λ b. b ≡ settings.units_in (map (λ a. a.now) args.now)) }
 {
     match args {
-        [a] => Ok(units_of(vocabulary(a)).map(Body::Units)),
+        [a] => Ok(vocabulary(a).and_then(units_of).map(Body::Units)),
         _ => Ok(None),
     }
 }
 
-fn spindle_turn(word: Option<Word>) -> Option<Turn>
+fn spindle_turn(word: Word) -> Option<Turn>
     ensures { result ≡ settings.spindle_turn word }
 {
     match word {
-        Some(Word::Clw) => Some(Turn::Cw),
-        Some(Word::Cclw) => Some(Turn::Ccw),
+        Word::Clw => Some(Turn::Cw),
+        Word::Cclw => Some(Turn::Ccw),
         _ => None,
     }
 }
@@ -121,7 +121,7 @@ pub(crate) fn spindl(alloc: Global, args: &[&[Token]]) -> Result<Option<Body>, A
     match args {
         [a] if is_word(Word::Off, a) => Ok(Some(Body::SpindlOff)),
         [a] => spindl_on(alloc, a, Turn::Cw),
-        [a, b] => match spindle_turn(vocabulary(b)) {
+        [a, b] => match vocabulary(b).and_then(spindle_turn) {
             Some(turn) => spindl_on(alloc, a, turn),
             None => Ok(None),
         },
@@ -129,13 +129,13 @@ pub(crate) fn spindl(alloc: Global, args: &[&[Token]]) -> Result<Option<Body>, A
     }
 }
 
-fn cool_of(word: Option<Word>) -> Option<Cool>
+fn cool_of(word: Word) -> Option<Cool>
     ensures { result ≡ settings.cool_of word }
 {
     match word {
-        Some(Word::Mist) => Some(Cool::Mist),
-        Some(Word::Flood) => Some(Cool::Flood),
-        Some(Word::Off) => Some(Cool::Off),
+        Word::Mist => Some(Cool::Mist),
+        Word::Flood => Some(Cool::Flood),
+        Word::Off => Some(Cool::Off),
         _ => None,
     }
 }
@@ -144,7 +144,7 @@ pub(crate) fn coolnt(args: &[&[Token]]) -> Result<Option<Body>, AllocError>
     ensures { IfOk result (λ b. b ≡ settings.coolnt (map (λ a. a.now) args.now)) }
 {
     match args {
-        [a] => Ok(cool_of(vocabulary(a)).map(Body::Coolnt)),
+        [a] => Ok(vocabulary(a).and_then(cool_of).map(Body::Coolnt)),
         _ => Ok(None),
     }
 }

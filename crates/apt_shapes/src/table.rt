@@ -6,15 +6,15 @@ ghost use Rattle.apt_shapes.specs.Arguments.{or_else};
 ghost use Rattle.apt_shapes.specs.Figures.{assign};
 ghost use Rattle.apt_shapes.specs.Shapes as shapes;
 
-use crate::arguments::{arguments, at_comma, name_of};
+use crate::arguments::{arguments, at_comma};
 use crate::figures::{assign, circle, line, point};
 use crate::flow::{call, if_in, jumpto, macro_of};
-use crate::motions::{from, godlta, goto, onward, side_of, start, contour_behind};
+use crate::motions::{contour_behind, from, godlta, goto, onward, side_of, start};
 use crate::settings::{
     coolnt, cutter, fedrat, intol, loadtl, machin, outtol, spindl, titled, units_in,
 };
 use apt_lexis::Token;
-use apt_words::{Body, Go, Params, Symbol, Text, Word, word_of};
+use apt_words::{Body, Go, Params, Symbol, Text, Word};
 use std::alloc::{AllocError, Global};
 
 /// What a statement says, with its label where it has one.
@@ -24,26 +24,26 @@ pub struct Labelled {
     pub body: Body,
 }
 
-fn command(word: Option<Word>) -> Option<Body>
+fn command(word: Word) -> Option<Body>
     ensures { result ≡ shapes.command word }
 {
     match word {
-        Some(Word::Clprnt) => Some(Body::Clprnt),
-        Some(Word::Nopost) => Some(Body::Nopost),
-        Some(Word::Rapid) => Some(Body::Rapid),
-        Some(Word::Stop) => Some(Body::Halt),
-        Some(Word::Opstop) => Some(Body::OptHalt),
-        Some(Word::End) => Some(Body::EndWord),
-        Some(Word::Fini) => Some(Body::Fini),
-        Some(Word::Termac) => Some(Body::Termac),
-        Some(Word::Loopst) => Some(Body::Loopst),
-        Some(Word::Loopnd) => Some(Body::Loopnd),
+        Word::Clprnt => Some(Body::Clprnt),
+        Word::Nopost => Some(Body::Nopost),
+        Word::Rapid => Some(Body::Rapid),
+        Word::Stop => Some(Body::Halt),
+        Word::Opstop => Some(Body::OptHalt),
+        Word::End => Some(Body::EndWord),
+        Word::Fini => Some(Body::Fini),
+        Word::Termac => Some(Body::Termac),
+        Word::Loopst => Some(Body::Loopst),
+        Word::Loopnd => Some(Body::Loopnd),
         _ => None,
     }
 }
 
 /// A statement of one word.
-fn alone(word: Option<Word>) -> Option<Body>
+fn alone(word: Word) -> Option<Body>
     ensures { result ≡ shapes.alone word }
 {
     match side_of(word) {
@@ -53,33 +53,29 @@ fn alone(word: Option<Word>) -> Option<Body>
 }
 
 /// A statement of a word, a slash and arguments.
-fn with_arguments(
-    alloc: Global,
-    word: Option<Word>,
-    args: &[&[Token]],
-) -> Result<Option<Body>, AllocError>
+fn with_arguments(alloc: Global, word: Word, args: &[&[Token]]) -> Result<Option<Body>, AllocError>
     ensures { IfOk result (λ b. b ≡ shapes.with_arguments word (map (λ a. a.now) args.now)) }
 {
     match word {
-        Some(Word::Units) => units_in(args),
-        Some(Word::Machin) => machin(alloc, args),
-        Some(Word::Cutter) => cutter(alloc, args),
-        Some(Word::Intol) => intol(alloc, args),
-        Some(Word::Outtol) => outtol(alloc, args),
-        Some(Word::Fedrat) => fedrat(alloc, args),
-        Some(Word::Loadtl) => loadtl(alloc, args),
-        Some(Word::From) => from(alloc, args),
-        Some(Word::Goto) => goto(alloc, args),
-        Some(Word::Godlta) => godlta(alloc, args),
-        Some(Word::Go) => start(args),
-        Some(Word::Golft) => onward(Go::Left, args),
-        Some(Word::Gorgt) => onward(Go::Right, args),
-        Some(Word::Gofwd) => onward(Go::Forward, args),
-        Some(Word::Goback) => onward(Go::Back, args),
-        Some(Word::Spindl) => spindl(alloc, args),
-        Some(Word::Coolnt) => coolnt(args),
-        Some(Word::Call) => call(alloc, args),
-        Some(Word::Jumpto) => jumpto(args),
+        Word::Units => units_in(args),
+        Word::Machin => machin(alloc, args),
+        Word::Cutter => cutter(alloc, args),
+        Word::Intol => intol(alloc, args),
+        Word::Outtol => outtol(alloc, args),
+        Word::Fedrat => fedrat(alloc, args),
+        Word::Loadtl => loadtl(alloc, args),
+        Word::From => from(alloc, args),
+        Word::Goto => goto(alloc, args),
+        Word::Godlta => godlta(alloc, args),
+        Word::Go => start(args),
+        Word::Golft => onward(Go::Left, args),
+        Word::Gorgt => onward(Go::Right, args),
+        Word::Gofwd => onward(Go::Forward, args),
+        Word::Goback => onward(Go::Back, args),
+        Word::Spindl => spindl(alloc, args),
+        Word::Coolnt => coolnt(args),
+        Word::Call => call(alloc, args),
+        Word::Jumpto => jumpto(args),
         _ => Ok(None),
     }
 }
@@ -87,25 +83,25 @@ fn with_arguments(
 fn figure(
     alloc: Global,
     n: &Symbol,
-    word: Option<Word>,
+    word: Word,
     args: &[&[Token]],
 ) -> Result<Option<Body>, AllocError>
     ensures { IfOk result (λ b. b ≡ shapes.figure n.now word (map (λ a. a.now) args.now)) }
 {
     match word {
-        Some(Word::Point) => point(alloc, n, args),
-        Some(Word::Line) => line(alloc, n, args),
-        Some(Word::Circle) => circle(alloc, n, args),
-        Some(Word::Macro) => macro_of(alloc, n, args),
+        Word::Point => point(alloc, n, args),
+        Word::Line => line(alloc, n, args),
+        Word::Circle => circle(alloc, n, args),
+        Word::Macro => macro_of(alloc, n, args),
         _ => Ok(None),
     }
 }
 
-fn macro_alone(alloc: Global, n: &Symbol, word: Option<Word>) -> Option<Body>
+fn macro_alone(alloc: Global, n: &Symbol, word: Word) -> Option<Body>
     ensures { result ≡ shapes.macro_alone n.now word }
 {
     match word {
-        Some(Word::Macro) => Some(Body::Macro(
+        Word::Macro => Some(Body::Macro(
             n.copied(),
             Params {
                 items: Vec::new(alloc),
@@ -121,9 +117,9 @@ fn defined(alloc: Global, n: &Symbol, tokens: &[Token]) -> Result<Option<Body>, 
 {
     match tokens {
         [Token::Word(word), Token::Slash, rest @ ..] => {
-            figure(alloc, n, word_of(word), &arguments(alloc, rest)?)
+            figure(alloc, n, *word, &arguments(alloc, rest)?)
         }
-        [Token::Word(word)] => Ok(macro_alone(alloc, n, word_of(word))),
+        [Token::Word(word)] => Ok(macro_alone(alloc, n, *word)),
         _ => Ok(None),
     }
 }
@@ -142,26 +138,19 @@ fn defined_or_assigned(
     }
 }
 
-fn behind_equals(alloc: Global, word: &Symbol, tokens: &[Token]) -> Result<Option<Body>, AllocError>
-    ensures { IfOk result (λ b. b ≡ shapes.behind_equals word.now tokens.now) }
+fn behind_equals(alloc: Global, n: &Symbol, tokens: &[Token]) -> Result<Option<Body>, AllocError>
+    ensures { IfOk result (λ b. b ≡ shapes.behind_equals n.now tokens.now) }
 {
-    let Some(n) = name_of(word) else {
-        return Ok(None);
-    };
     match tokens {
         [Token::Word(_), Token::Slash, ..] | [Token::Word(_)] => {
-            defined_or_assigned(alloc, &n, tokens)
+            defined_or_assigned(alloc, n, tokens)
         }
-        _ => assign(alloc, &n, tokens),
+        _ => assign(alloc, n, tokens),
     }
 }
 
 /// A tool word, a comma and a contour.
-fn with_side(
-    alloc: Global,
-    word: Option<Word>,
-    tokens: &[Token],
-) -> Result<Option<Body>, AllocError>
+fn with_side(alloc: Global, word: Word, tokens: &[Token]) -> Result<Option<Body>, AllocError>
     ensures { IfOk result (λ b. b ≡ shapes.with_side word tokens.now) }
 {
     match side_of(word) {
@@ -170,32 +159,24 @@ fn with_side(
     }
 }
 
-fn if_word(alloc: Global, word: Option<Word>, tokens: &[Token]) -> Result<Option<Body>, AllocError>
+fn if_word(alloc: Global, word: Word, tokens: &[Token]) -> Result<Option<Body>, AllocError>
     ensures { IfOk result (λ b. b ≡ shapes.if_word word tokens.now) }
 {
     match word {
-        Some(Word::If) => if_in(alloc, &arguments(alloc, tokens)?),
+        Word::If => if_in(alloc, &arguments(alloc, tokens)?),
         _ => Ok(None),
     }
 }
 
 /// A statement of a word, a slash and any number of arguments.
-fn with_many(
-    alloc: Global,
-    word: Option<Word>,
-    tokens: &[Token],
-) -> Result<Option<Body>, AllocError>
+fn with_many(alloc: Global, word: Word, tokens: &[Token]) -> Result<Option<Body>, AllocError>
     ensures { IfOk result (λ b. b ≡ shapes.with_arguments word (arguments.arguments tokens.now)) }
 {
     with_arguments(alloc, word, &arguments(alloc, tokens)?)
 }
 
 /// A statement of a word, a slash and these tokens. Up to three arguments need no list.
-fn behind_slash(
-    alloc: Global,
-    word: Option<Word>,
-    tokens: &[Token],
-) -> Result<Option<Body>, AllocError>
+fn behind_slash(alloc: Global, word: Word, tokens: &[Token]) -> Result<Option<Body>, AllocError>
     ensures { IfOk result (λ b. b ≡ shapes.with_arguments word (arguments.arguments tokens.now)) }
 {
     let Some((first, rest)) = at_comma(tokens) else {
@@ -215,11 +196,11 @@ fn untitled(alloc: Global, tokens: &[Token]) -> Result<Option<Body>, AllocError>
     ensures { IfOk result (λ b. b ≡ shapes.untitled tokens.now) }
 {
     match tokens {
-        [Token::Word(word)] => Ok(alone(word_of(word))),
-        [Token::Word(word), Token::Slash, rest @ ..] => { behind_slash(alloc, word_of(word), rest) }
-        [Token::Word(word), Token::Equals, rest @ ..] => behind_equals(alloc, word, rest),
-        [Token::Word(word), Token::Comma, rest @ ..] => with_side(alloc, word_of(word), rest),
-        [Token::Word(word), Token::Open, rest @ ..] => if_word(alloc, word_of(word), rest),
+        [Token::Word(word)] => Ok(alone(*word)),
+        [Token::Word(word), Token::Slash, rest @ ..] => { behind_slash(alloc, *word, rest) }
+        [Token::Name(n), Token::Equals, rest @ ..] => behind_equals(alloc, n, rest),
+        [Token::Word(word), Token::Comma, rest @ ..] => with_side(alloc, *word, rest),
+        [Token::Word(word), Token::Open, rest @ ..] => if_word(alloc, *word, rest),
         _ => Ok(None),
     }
 }
@@ -229,7 +210,7 @@ fn with_text(tokens: &[Token], text: Text) -> Option<Body>
     ensures { result ≡ shapes.with_text tokens.now text }
 {
     match tokens {
-        [Token::Word(word)] => titled(word_of(word), text),
+        [Token::Word(word)] => titled(*word, text),
         _ => None,
     }
 }
@@ -254,11 +235,8 @@ pub fn shape(
 {
     let mut label = None;
     let mut said = tokens;
-    if let [Token::Word(word), Token::Close, rest @ ..] = tokens {
-        let Some(name) = name_of(word) else {
-            return Ok(None);
-        };
-        label = Some(name);
+    if let [Token::Name(name), Token::Close, rest @ ..] = tokens {
+        label = Some(name.copied());
         said = rest;
     }
     match body(alloc, said, text)? {

@@ -1,6 +1,6 @@
 use apt_expr::expression;
 use apt_lexis::Token;
-use apt_words::{Expr, Millionths, Node, Op, Item, Symbol};
+use apt_words::{Expr, Item, Millionths, Node, Op, Symbol, word_of};
 use std::alloc::{AllocError, Global};
 
 const TEXTS: [(&str, &str); 30] = [
@@ -108,14 +108,21 @@ fn token(word: &str) -> Token {
         [b'+'] => Token::Plus,
         [b'-'] => Token::Minus,
         [b'*'] => Token::Star,
-        _ => word_or_number(word),
+        _ => symbol_or_number(word),
     }
 }
 
-fn word_or_number(word: &str) -> Token {
+fn symbol_or_number(word: &str) -> Token {
     match Symbol::new(word) {
-        Some(symbol) => Token::Word(symbol),
+        Some(symbol) => named(symbol),
         None => Token::Number(word.parse::<i64>().unwrap_or(0)),
+    }
+}
+
+pub(crate) fn named(symbol: Symbol) -> Token {
+    match word_of(&symbol) {
+        Some(word) => Token::Word(word),
+        None => Token::Name(symbol),
     }
 }
 

@@ -1,4 +1,5 @@
 //! Statements without expressions.
+use crate::expr::named;
 use apt_lexis::Token;
 use apt_shapes::{Labelled, shape};
 use apt_words::{Body, Symbol, Text};
@@ -59,7 +60,7 @@ fn token(text: &str) -> Token {
         "(" => Token::Open,
         ")" => Token::Close,
         _ => match Symbol::new(text) {
-            Some(symbol) => Token::Word(symbol),
+            Some(symbol) => named(symbol),
             None => Token::Star,
         },
     }
