@@ -3,7 +3,7 @@
 ghost use Rattle.std.specs.Prelude.{◌≡◌, ◌↔◌, ◌≤◌, ◌<◌, ◌+◌, ◌^◌, [], ◌∷◌, length, IsNone, IfSome};
 ghost use Rattle.apt_plane.specs.Ranges.{IsPoint, IsSense};
 ghost use Rattle.apt_certify.specs.declared.verdict.Verdict.{Verdict};
-ghost use Rattle.apt_certify.specs.Legs.{tests_from};
+ghost use Rattle.apt_certify.specs.Tests.{tests_from};
 ghost use Rattle.apt_certify.specs.Jobs.{ArePoints, IsLeg, IsJob, AreJobs, point_count, AreLegal};
 ghost use Rattle.apt_certify.specs.Faults.{IsFirstFault, IsFirstFaultOfPath};
 ghost use Rattle.apt_certify.specs.Verdicts.{IsVerdict};

@@ -1,5 +1,6 @@
 -- The jobs of records that follow steps are legal exactly where the records follow legally.
-use Rattle.std.proofs.Common.{ℕ, ◌+◌, List, [], ◌∷◌, ◌++◌, length, inl, inr, refl, sym, subst}
+use Rattle.std.proofs.Common.{◌≡◌, ◌∙◌, ℕ, ◌+◌, List, [], ◌∷◌, ◌++◌, length, map, Result, Ok, Err, Vec, inl, inr, refl, sym, ap, subst}
+use Rattle.std.specs.Prelude.{IfOk, IfErr}
 use Rattle.apt_words.specs.declared.deed.Step.{Step}
 use Rattle.apt_plane.specs.declared.figures.Pt.{Pt}
 use Rattle.apt_certify.specs.declared.leg.Job.{Job}
@@ -8,29 +9,43 @@ use Rattle.apt_cldata.specs.declared.record.Record.{Record}
 use Rattle.apt_meaning.specs.declared.situation.Situation.{Situation}
 use Rattle.apt_meaning.specs.declared.effect.Effect.{Effect}
 use Rattle.apt_meaning.specs.declared.effect.Effect.TheVariants as effects
-use Rattle.apt_meaning.specs.Records.{MayHave, AreLegal as IsLegalEffect, FollowsLegally, records_of, after}
-use Rattle.apt_meaning.specs.Expectations.{FailsAt}
+use Rattle.apt_meaning.specs.Paths.{Saying, Contour, contours_behind, said_behind, nothing_said, EveryContour, IsLegalCut, contours_of}
+use Rattle.apt_meaning.specs.Records.{MayHave, FollowsAs, HasAny, Follows, Tells, records_of, after}
+use Rattle.apt_meaning.specs.Expectations.{expected, FailsAt}
+use Rattle.apt_meaning.specs.Situations.{first_situation}
+use Rattle.apt_meaning.proofs.Asked.{CutsLegally}
 use Rattle.apt_meaning.proofs.Contours.Legal.{defined_bounded}
-use Rattle.apt_meaning.proofs.Walks.Begins.{begins_once, begins_no_departs}
-use Rattle.apt_job.specs.Jobs.{jobs_by, MakesJobs}
+use Rattle.apt_meaning.proofs.Walks.Alone.{cuts_by, says_on, nothing_tells, follows, legal_contours, contours_legal}
+use Rattle.apt_meaning.proofs.Walks.Begins.{begins_once, begins_no_departs, departs_once}
+use Rattle.apt_job.specs.declared.error.JobError.{JobError}
+use Rattle.apt_job.specs.declared.error.JobError.TheVariants as errors
+use Rattle.apt_job.specs.Answering.{IsEntry, IsEntryAt}
+use Rattle.apt_job.specs.Jobs.{job_of, job_said, jobs_said, jobs_by, MakesJobs}
 
 -- ---- legal jobs, legal records
 
-effect_legal : (e : Effect) (vertices : List Pt) (more : List Job) → MayHave e vertices → AreLegal (jobs_by e vertices ++ more) → IsLegalEffect e vertices × AreLegal more
+effect_legal : (e : Effect) (vertices : List Pt) (more : List Job) → MayHave e vertices → AreLegal (jobs_by e vertices ++ more) → CutsLegally e vertices × AreLegal more
 effect_legal (effects.Defines n f) vertices more may legal = (tt, legal)
 effect_legal (effects.Sets change) vertices more may legal = (tt, legal)
 effect_legal (effects.Moves reach to) vertices more may legal = (tt, legal)
 effect_legal (effects.Cuts m) vertices more may legal = (record { bounded = defined_bounded m may; legal = legal.0 }, legal.1)
 
-jobs_legal : (e : Effect) (vertices : List Pt) (more : List Job) → IsLegalEffect e vertices → AreLegal more → AreLegal (jobs_by e vertices ++ more)
+jobs_legal : (e : Effect) (vertices : List Pt) (more : List Job) → CutsLegally e vertices → AreLegal more → AreLegal (jobs_by e vertices ++ more)
 jobs_legal (effects.Defines n f) vertices more legal later = later
 jobs_legal (effects.Sets change) vertices more legal later = later
 jobs_legal (effects.Moves reach to) vertices more legal later = later
 jobs_legal (effects.Cuts m) vertices more legal later = (legal.legal, later)
 
+pub makes_follows : (at : Situation) (steps : List Step) (written : List Record) (jobs : List Job) → MakesJobs at steps written jobs
+    → (behind : Situation) × FollowsAs HasAny at steps written behind
+makes_follows at [] written jobs makes = (at, (makes.0, refl))
+makes_follows at (step ∷ steps) written jobs makes =
+    let later = makes_follows (after at makes.0 makes.1) steps makes.2 makes.3 makes.6 in
+    (later.0, (makes.0, makes.1, makes.2, makes.4, tt, later.1))
+
 -- records whose jobs are legal follow legally
 pub legal_follows : (at : Situation) (steps : List Step) (written : List Record) (jobs : List Job) → MakesJobs at steps written jobs → AreLegal jobs
-    → (behind : Situation) × FollowsLegally at steps written behind
+    → (behind : Situation) × FollowsAs CutsLegally at steps written behind
 legal_follows at [] written jobs makes legal = (at, (makes.0, refl))
 legal_follows at (step ∷ steps) written jobs makes legal =
     let e = makes.0 in
@@ -42,9 +57,16 @@ legal_follows at (step ∷ steps) written jobs makes legal =
     let later = legal_follows (after at e vertices) steps rest more makes.6 split.1 in
     (later.0, (e, vertices, rest, begins, split.0, later.1))
 
+-- the records follow the steps, and their contours are legal
+pub jobs_right : (steps : List Step) (written : List Record) (jobs : List Job) → MakesJobs first_situation steps written jobs → AreLegal jobs
+    → Follows steps written × EveryContour IsLegalCut (contours_of written)
+jobs_right steps written jobs makes legal =
+    let f = legal_follows first_situation steps written jobs makes legal in
+    (follows CutsLegally steps written f.0 f.1, legal_contours steps written f.0 f.1)
+
 -- and the jobs of records that follow legally are legal
 pub follows_legal : (at : Situation) (steps : List Step) (written : List Record) (jobs : List Job) (behind : Situation) → MakesJobs at steps written jobs
-    → FollowsLegally at steps written behind → AreLegal jobs
+    → FollowsAs CutsLegally at steps written behind → AreLegal jobs
 follows_legal at [] written jobs behind makes follows = rw makes.1 tt
 follows_legal at (step ∷ steps) written jobs behind makes follows =
     let e = makes.0 in
@@ -52,14 +74,14 @@ follows_legal at (step ∷ steps) written jobs behind makes follows =
     let rest = makes.2 in
     let more = makes.3 in
     let same = begins_once at step written e follows.0 vertices follows.1 rest follows.2 makes.4 follows.3 in
-    let legal = subst (λ (x : Effect). IsLegalEffect x vertices) (sym same.effect) (subst (λ (ps : List Pt). IsLegalEffect follows.0 ps) (sym same.vertices) follows.4) in
-    let later = subst (λ (x : Effect). FollowsLegally (after at x vertices) steps rest behind) (sym same.effect)
-    (subst (λ (ps : List Pt). FollowsLegally (after at follows.0 ps) steps rest behind) (sym same.vertices)
-    (subst (λ (rs : List Record). FollowsLegally (after at follows.0 follows.1) steps rs behind) (sym same.rest) follows.5)) in
+    let legal = subst (λ (x : Effect). CutsLegally x vertices) (sym same.effect) (subst (λ (ps : List Pt). CutsLegally follows.0 ps) (sym same.vertices) follows.4) in
+    let later = subst (λ (x : Effect). FollowsAs CutsLegally (after at x vertices) steps rest behind) (sym same.effect)
+    (subst (λ (ps : List Pt). FollowsAs CutsLegally (after at follows.0 ps) steps rest behind) (sym same.vertices)
+    (subst (λ (rs : List Record). FollowsAs CutsLegally (after at follows.0 follows.1) steps rs behind) (sym same.rest) follows.5)) in
     rw makes.5 (jobs_legal e vertices more legal (follows_legal (after at e vertices) steps rest more behind makes.6 later))
 
 -- records that follow legally have jobs
-pub follows_makes : (at : Situation) (steps : List Step) (written : List Record) (behind : Situation) → FollowsLegally at steps written behind
+pub follows_makes : (at : Situation) (steps : List Step) (written : List Record) (behind : Situation) → FollowsAs CutsLegally at steps written behind
     → (jobs : List Job) × MakesJobs at steps written jobs × AreLegal jobs
 follows_makes at [] written behind follows = ([], (follows.0, refl), tt)
 follows_makes at (step ∷ steps) written behind follows =
@@ -84,3 +106,59 @@ makes_no_fails at (step ∷ steps) written jobs seq k makes (inr f) =
     (subst (λ (ps : List Pt). FailsAt (after at f.0 ps) n steps rest k) (sym same.vertices)
     (subst (λ (rs : List Record). FailsAt (after at f.0 f.1) n steps rs k) (sym same.rest) f.4)) in
     makes_no_fails (after at e vertices) steps rest makes.3 n k makes.6 later
+
+-- ---- records fail at one place
+
+pub fails_once : (at : Situation) (steps : List Step) (written : List Record) (seq j k : ℕ) → FailsAt at seq steps written j → FailsAt at seq steps written k → j ≡ k
+fails_once at [] [] seq j k f g = absurd f
+fails_once at [] (r ∷ rs) seq j k f g = f ∙ sym g
+fails_once at (step ∷ steps) written seq j k (inl f) (inl g) =
+    f.2 ∙ ap (λ (n : ℕ). seq + n) (departs_once (expected at step) written f.0 g.0 f.1 g.1) ∙ sym g.2
+fails_once at (step ∷ steps) written seq j k (inl f) (inr g) = absurd (begins_no_departs at step written g.0 g.1 g.2 f.0 g.3 f.1)
+fails_once at (step ∷ steps) written seq j k (inr f) (inl g) = absurd (begins_no_departs at step written f.0 f.1 f.2 g.0 f.3 g.1)
+fails_once at (step ∷ steps) written seq j k (inr f) (inr g) =
+    let same = begins_once at step written f.0 g.0 f.1 g.1 f.2 g.2 f.3 g.3 in
+    let n = seq + length (records_of step g.0 g.1) in
+    let first = subst (λ (x : Effect). FailsAt (after at x g.1) (seq + length (records_of step x g.1)) steps g.2 j) same.effect
+    (subst (λ (ps : List Pt). FailsAt (after at f.0 ps) (seq + length (records_of step f.0 ps)) steps g.2 j) same.vertices
+    (subst (λ (rs : List Record). FailsAt (after at f.0 f.1) (seq + length (records_of step f.0 f.1)) steps rs j) same.rest f.4)) in
+    fails_once (after at g.0 g.1) steps g.2 n j k first g.4
+
+-- ---- what `jobs` answers
+
+pub jobs_follow : {A : Type 0} (steps : List Step) (written : List Record) (result : Result (Vec Job A) JobError)
+    → IfOk result (λ js. MakesJobs first_situation steps written js.items) → IfOk result (λ js. Follows steps written)
+jobs_follow steps written (Ok js) makes =
+    let f = makes_follows first_situation steps written js.items makes in
+    follows HasAny steps written f.0 f.1
+jobs_follow steps written (Err e) makes = tt
+
+-- the jobs of records that follow steps are those of their contours
+jobs_joined : (e : Effect) (vertices : List Pt) (more : List Job) (cs : List Contour) → more ≡ map job_said cs → jobs_by e vertices ++ more ≡ map job_said (cuts_by e vertices ++ cs)
+jobs_joined (effects.Defines n f) vertices more cs same = same
+jobs_joined (effects.Sets change) vertices more cs same = same
+jobs_joined (effects.Moves reach to) vertices more cs same = same
+jobs_joined (effects.Cuts m) vertices more cs same = ap (λ (js : List Job). job_of m vertices ∷ js) same
+
+said_of : (s : Saying) (at : Situation) (steps : List Step) (written : List Record) (jobs : List Job) → Tells s at → MakesJobs at steps written jobs
+    → jobs ≡ map job_said (contours_behind s written)
+said_of s at [] written jobs t makes = rw (makes.0, makes.1) refl
+said_of s at (step ∷ steps) written jobs t makes =
+    let e = makes.0 in
+    let due = records_of step e makes.1 in
+    let on = says_on s at step e makes.1 t makes.4.asked in
+    rw (makes.4.front, on.contours makes.2)
+    (makes.5 ∙ jobs_joined e makes.1 makes.3 (contours_behind (said_behind s due) makes.2)
+    (said_of (said_behind s due) (after at e makes.1) steps makes.2 makes.3 on.tells makes.6))
+
+pub jobs_are_said : {A : Type 0} (steps : List Step) (written : List Record) (result : Result (Vec Job A) JobError)
+    → IfOk result (λ js. MakesJobs first_situation steps written js.items) → IfOk result (λ js. js.items ≡ jobs_said written)
+jobs_are_said steps written (Ok js) makes = said_of nothing_said first_situation steps written js.items nothing_tells makes
+jobs_are_said steps written (Err e) makes = tt
+
+pub entry_told : {A : Type 0} (steps : List Step) (written : List Record) (result : Result (Vec Job A) JobError)
+    → IfOk result (λ js. MakesJobs first_situation steps written js.items) → IfErr result (IsEntry steps written)
+    → (seq : ℕ) → FailsAt first_situation 1 steps written seq → IsEntryAt seq result
+entry_told steps written (Ok js) makes is seq fails = absurd (makes_no_fails first_situation steps written js.items 1 seq makes fails)
+entry_told steps written (Err (errors.Entry k)) makes is seq fails = fails_once first_situation steps written 1 k seq is fails
+entry_told steps written (Err errors.NoMemory) makes is seq fails = tt

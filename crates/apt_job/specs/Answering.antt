@@ -1,5 +1,5 @@
 -- What `jobs` answers where there are none.
-use Rattle.std.specs.Prelude.{List}
+use Rattle.std.specs.Prelude.{◌≡◌, ℕ, List, Result, Ok, Err}
 use Rattle.apt_words.specs.declared.deed.Step.{Step}
 use Rattle.apt_cldata.specs.declared.record.Record.{Record}
 use Rattle.apt_meaning.specs.Situations.{first_situation}
@@ -11,3 +11,9 @@ use Rattle.apt_job.specs.declared.error.JobError.TheVariants as errors
 abbrev pub IsEntry : List Step → List Record → JobError → Type 0
 IsEntry steps written (errors.Entry seq) = FailsAt first_situation 1 steps written seq
 IsEntry steps written errors.NoMemory = Unit {0}
+
+-- the answer is the record with this number, or memory ran out
+abbrev pub IsEntryAt : {A : Type 0} → ℕ → Result A JobError → Type 0
+IsEntryAt k (Ok jobs) = ⊥
+IsEntryAt k (Err (errors.Entry seq)) = seq ≡ k
+IsEntryAt k (Err errors.NoMemory) = Unit {0}

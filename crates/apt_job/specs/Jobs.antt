@@ -1,5 +1,5 @@
 -- The jobs of records that follow steps: one for each contour.
-use Rattle.std.specs.Prelude.{◌≡◌, ℤ, pos, negsuc, Bool, true, false, not, ◌||◌, List, [], ◌∷◌, ◌++◌, None, is_some}
+use Rattle.std.specs.Prelude.{◌≡◌, ℤ, pos, negsuc, Bool, true, false, not, ◌||◌, List, [], ◌∷◌, ◌++◌, map, None, is_some}
 use Rattle.apt_num.specs.declared.Sign.{Sign}
 use Rattle.apt_num.specs.declared.Sign.TheVariants as signs
 use Rattle.apt_words.specs.declared.deed.Step.{Step}
@@ -16,6 +16,7 @@ use Rattle.apt_meaning.specs.declared.motion.Motion.{Motion}
 use Rattle.apt_meaning.specs.declared.effect.Effect.{Effect}
 use Rattle.apt_meaning.specs.declared.effect.Effect.TheVariants as effects
 use Rattle.apt_meaning.specs.Motions.{drive_side, check_side, course_of, stop_side, leg_of, has_track, has_stop, is_defined}
+use Rattle.apt_meaning.specs.Paths.{Contour, contours_of}
 use Rattle.apt_meaning.specs.Records.{Begins, after}
 use Rattle.apt_job.specs.declared.legs.Sides.{Sides}
 
@@ -31,6 +32,13 @@ out_sign_at (surfaces.Circ c) signs.Minus = pos 1
 -- the job of a contour: its leg, on which side of its track outside lies, and its points
 abbrev pub job_of : Motion → List Pt → Job
 job_of m vertices = record { leg = leg_of m; out_sign = out_sign_at m.drive (drive_side m); points = m.start.at ∷ vertices }
+
+-- the jobs that records say by themselves: one for each of their contours
+abbrev pub job_said : Contour → Job
+job_said c = job_of c.motion c.vertices
+
+abbrev pub jobs_said : List Record → List Job
+jobs_said written = map job_said (contours_of written)
 
 abbrev pub jobs_by : Effect → List Pt → List Job
 jobs_by (effects.Defines n f) vertices = []

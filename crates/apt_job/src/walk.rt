@@ -1,6 +1,6 @@
 //! The walk over steps and records.
 
-ghost use Rattle.std.specs.Prelude.{true, ◌≡◌, ◌+◌, ◌-◌, ◌<◌, ◌≤◌, ◌^◌, ◌++◌, List, length, Ok, IfOk, IfErr, OnOk};
+ghost use Rattle.std.specs.Prelude.{true, ◌≡◌, ◌+◌, ◌-◌, ◌<◌, ◌≤◌, ◌^◌, ◌++◌, ℕ, List, length, Ok, IfOk, IfErr, OnOk};
 ghost use Rattle.apt_words.specs.Sources.{AreExecuted};
 ghost use Rattle.apt_words.specs.declared.Case.{Case};
 ghost use Rattle.apt_scalar.specs.StepScalars.{AreScalars, HasScalars};
@@ -15,9 +15,11 @@ ghost use Rattle.apt_meaning.specs.Records as written;
 ghost use Rattle.apt_meaning.specs.Situations.{first_situation};
 ghost use Rattle.apt_meaning.specs.Vertices.{HasIn};
 ghost use Rattle.apt_meaning.specs.declared.effect.Effect.TheVariants as effects;
-ghost use Rattle.apt_job.specs.Answering.{IsEntry};
+ghost use Rattle.apt_meaning.specs.Expectations.{FailsAt};
+ghost use Rattle.apt_meaning.specs.Records.{Follows};
+ghost use Rattle.apt_job.specs.Answering.{IsEntry, IsEntryAt};
 ghost use Rattle.apt_job.specs.Fronts.{points_at};
-ghost use Rattle.apt_job.specs.Jobs.{AreSides, HasSides, jobs_by, MakesJobs};
+ghost use Rattle.apt_job.specs.Jobs.{AreSides, HasSides, jobs_by, jobs_said, MakesJobs};
 ghost use Rattle.apt_job.specs.Naming.{DefinesNothing, HasNamed};
 
 use crate::JobError;
@@ -106,12 +108,31 @@ fn take(
     Ok(())
 }
 
-/// The jobs of records that answer steps, whether or not their contours are legal: one for each contour, in order.
+/// The jobs of records that answer steps, whether or not their contours are legal: one for each contour, in order, as
+/// the records say it by themselves.
 ///
 /// # Errors
 ///
 /// `Entry` has the number of the first record that does not answer the steps, from 1.
+#[tactic(auto, using(crate::proofs::Walks::jobs_follow, crate::proofs::Walks::jobs_are_said, crate::proofs::Walks::entry_told))]
 pub fn jobs(alloc: Global, steps: &[Step], records: &[Record]) -> Result<Vec<Job>, JobError>
+    requires scalars { AreScalars steps.now }
+    requires sources { AreExecuted steps.now }
+    requires passes { first_refused first_situation steps.now ≡ None }
+    requires records { AreRecords records.now }
+    requires few { vertex_count records.now + length records.now < 2 ^ 62 }
+    ensures jobs { IfOk result (λ js. MakesJobs first_situation steps.now records.now js.items) }
+    ensures follows { IfOk result (λ js. Follows steps.now records.now) }
+    ensures said { IfOk result (λ js. js.items ≡ jobs_said records.now) }
+    ensures range { IfOk result (λ js. AreJobs js.items) }
+    ensures few { IfOk result (λ js. point_count js.items < 2 ^ 63) }
+    ensures entry { IfErr result (IsEntry steps.now records.now) }
+    ensures entry_at { (seq : ℕ) → FailsAt first_situation 1 steps.now records.now seq → IsEntryAt seq result }
+{
+    jobs_of(alloc, steps, records)
+}
+
+fn jobs_of(alloc: Global, steps: &[Step], records: &[Record]) -> Result<Vec<Job>, JobError>
     requires scalars { AreScalars steps.now }
     requires sources { AreExecuted steps.now }
     requires passes { first_refused first_situation steps.now ≡ None }

@@ -29,7 +29,7 @@ use Rattle.apt_startup.specs.declared.Goal.{Goal}
 use Rattle.apt_startup.specs.declared.StartUp.{StartUp}
 use Rattle.apt_startup.specs.StartUps.{start_up_cases, start_point}
 use Rattle.apt_startup.proofs.Limits.{start_point-is}
-use Rattle.apt_certify.specs.Legs.{last_of}
+use Rattle.apt_certify.specs.Legal.{last_of}
 use Rattle.apt_cldata.specs.Ranges.{IsPosition, IsNote}
 use Rattle.apt_cldata.specs.declared.record.Note.{Note}
 use Rattle.apt_cldata.specs.declared.record.Note.TheVariants as notes
@@ -55,7 +55,8 @@ use Rattle.apt_meaning.specs.Motions.{as_surface, surface_in, contact, vertices_
 use Rattle.apt_meaning.specs.StartUps.{goal_in, second_in, start_up_at, start_position, start_position_at}
 use Rattle.apt_meaning.specs.Effects.{note_of, moves, cuts, as_position, place_at, names, defined, position_by, moved_by, goes, effect_by, effect_of}
 use Rattle.apt_meaning.specs.Refusals.{is_other_kind, is_no_place, refused, refused_form, position_cases, place_cases, move_cases, note_cases, route_cases, motion_cases, turned_cases, surface_cases, contour_cases, start_cases, go_cases, cases_by, cases_of, refusal_of}
-use Rattle.apt_meaning.specs.Records.{AreLegal, AreOwn, MayHave}
+use Rattle.apt_meaning.specs.Paths.{IsLegalCut}
+use Rattle.apt_meaning.specs.Records.{IsOwnCut, MayHave}
 use Rattle.apt_meaning.specs.Compiled.{points_of}
 use Rattle.apt_meaning.specs.Ranges.{IsPositionOrNone, AreSettings, IsChange, IsSituation, IsMotion, IsEffect}
 use Rattle.apt_scalar.specs.StepScalars.{AllScalars, HasScalars}
@@ -73,11 +74,25 @@ EndsThere (effects.Sets change) = Unit {0}
 EndsThere (effects.Moves reach to) = Unit {0}
 EndsThere (effects.Cuts m) = last_of m.start.at (vertices_of m) ≡ contact m
 
+-- a contour is legal
+abbrev pub CutsLegally : Effect → List Pt → Type 0
+CutsLegally (effects.Defines n f) vertices = Unit {0}
+CutsLegally (effects.Sets change) vertices = Unit {0}
+CutsLegally (effects.Moves reach to) vertices = Unit {0}
+CutsLegally (effects.Cuts m) vertices = IsLegalCut m vertices
+
+-- a contour has the compiler's own vertices
+abbrev pub CutsOwn : Effect → List Pt → Type 0
+CutsOwn (effects.Defines n f) vertices = Unit {0}
+CutsOwn (effects.Sets change) vertices = Unit {0}
+CutsOwn (effects.Moves reach to) vertices = Unit {0}
+CutsOwn (effects.Cuts m) vertices = IsOwnCut m vertices
+
 -- an effect in range, whose contour is legal with its own vertices, which end at its contact
 pub record IsFit (e : Effect) : Type 0 where
   pub good : IsEffect e
-  pub legal : AreLegal e (points_of e)
-  pub own : AreOwn e (points_of e)
+  pub legal : CutsLegally e (points_of e)
+  pub own : CutsOwn e (points_of e)
   pub within : HasIn e (points_of e)
   pub may : MayHave e (points_of e)
   pub ends : EndsThere e

@@ -14,6 +14,7 @@ use Rattle.apt_words.specs.Asks.{Ask, Titles, Says, Sets, Defines, Goes, Cuts, N
 use Rattle.apt_words.specs.Options.{◌>>=◌}
 use Rattle.apt_plane.specs.declared.figures.Surface.{Surface}
 use Rattle.apt_offset.specs.Turns.{is_zero}
+use Rattle.apt_offset.specs.Targets.{greater}
 use Rattle.apt_cldata.specs.declared.record.Note.{Note}
 use Rattle.apt_cldata.specs.declared.record.Note.TheVariants as notes
 use Rattle.apt_cldata.specs.declared.record.Position.{Position}
@@ -21,7 +22,6 @@ use Rattle.apt_cldata.specs.declared.record.Reach.{Reach}
 use Rattle.apt_cldata.specs.declared.record.Reach.TheVariants as reaches
 use Rattle.apt_defs.specs.declared.figure.Figure.{Figure}
 use Rattle.apt_defs.specs.Definitions.{figure_of}
-use Rattle.apt_meaning.specs.declared.situation.Settings.{Settings}
 use Rattle.apt_meaning.specs.declared.situation.Situation.{Situation}
 use Rattle.apt_meaning.specs.declared.motion.Motion.{Motion}
 use Rattle.apt_meaning.specs.declared.effect.Change.{Change}
@@ -29,7 +29,7 @@ use Rattle.apt_meaning.specs.declared.effect.Change.TheVariants as changes
 use Rattle.apt_meaning.specs.declared.effect.Effect.{Effect}
 use Rattle.apt_meaning.specs.declared.effect.Effect.TheVariants as effects
 use Rattle.apt_meaning.specs.Situations.{with_side}
-use Rattle.apt_meaning.specs.Motions.{surface_in, turn_at, if_turned, motion, motion_at}
+use Rattle.apt_meaning.specs.Motions.{grid_step, surface_in, turn_at, if_turned, motion, motion_at}
 use Rattle.apt_meaning.specs.StartUps.{start_position_at}
 use Rattle.apt_meaning.specs.Effects.{note_of, moves, cuts, place_at, names, defined, moved_from, goes, effect_by, effect_of}
 
@@ -52,12 +52,18 @@ IsSetBy units ask (changes.Said note) = IsNoteOf units ask note
 IsSetBy units ask (changes.Side side) = asks_end ask ≡ false
 IsSetBy units ask changes.Nothing = asks_end ask ≡ false
 
--- a contour starts at the position
+-- a contour starts at the position, with the cutter and the tolerances that are set
+pub record IsMotionOf (at : Situation) (m : Motion) : Type 0 where
+  pub start : at.position ≡ Some m.start
+  pub radius : m.radius ≡ at.settings.radius
+  pub inner : m.inner ≡ greater at.settings.intol grid_step
+  pub outer : m.outer ≡ greater at.settings.outtol grid_step
+
 abbrev pub IsSaidBy : Situation → Ask → Effect → Type 0
 IsSaidBy at ask (effects.Defines n f) = asks_end ask ≡ false
 IsSaidBy at ask (effects.Sets change) = IsSetBy at.settings.units ask change
 IsSaidBy at ask (effects.Moves reach to) = asks_end ask ≡ false
-IsSaidBy at ask (effects.Cuts m) = (asks_end ask ≡ false) × (at.position ≡ Some m.start)
+IsSaidBy at ask (effects.Cuts m) = (asks_end ask ≡ false) × IsMotionOf at m
 
 figure_said : (at : Situation) (ask : Ask) (n : List ℕ) (r : Result Figure Case) → asks_end ask ≡ false → IfSome (names n r) (IsSaidBy at ask)
 figure_said at ask n (Ok f) on = on
@@ -77,11 +83,16 @@ unless_said : (at : Situation) (ask : Ask) (b : Bool) (o : Option Motion) → If
 unless_said at ask true o said = tt
 unless_said at ask false o said = said
 
-turned_said : (at : Situation) (ask : Ask) (s : Settings) (start : Position) (drive : Surface) (turned : Sign) (how : Stop) (check : Surface)
-    → asks_end ask ≡ false → at.position ≡ Some start → IfSome (cuts (if_turned s start drive turned how check)) (IsSaidBy at ask)
-turned_said at ask s start drive turned how check on here =
-    let m = motion s start drive turned how check in
-    unless_said at ask (is_zero turned) (Some m) (on, here)
+motion_of : (at : Situation) (side : Option Side) (start : Position) (drive : Surface) (turned : Sign) (how : Stop) (check : Surface) → at.position ≡ Some start
+    → IsMotionOf at (motion (with_side at.settings side) start drive turned how check)
+motion_of at None start drive turned how check here = record { start = here; radius = refl; inner = refl; outer = refl }
+motion_of at (Some side) start drive turned how check here = record { start = here; radius = refl; inner = refl; outer = refl }
+
+turned_said : (at : Situation) (ask : Ask) (side : Option Side) (start : Position) (drive : Surface) (turned : Sign) (how : Stop) (check : Surface)
+    → asks_end ask ≡ false → at.position ≡ Some start → IfSome (cuts (if_turned (with_side at.settings side) start drive turned how check)) (IsSaidBy at ask)
+turned_said at ask side start drive turned how check on here =
+    let m = motion (with_side at.settings side) start drive turned how check in
+    unless_said at ask (is_zero turned) (Some m) (on, motion_of at side start drive turned how check here)
 
 contour_said : (at : Situation) (ask : Ask) (side : Option Side) (go : Go) (how : Stop) (p : Option Position) (d c : Option Surface)
     → asks_end ask ≡ false → at.position ≡ p
@@ -90,7 +101,7 @@ contour_said at ask side go how None d c on here = tt
 contour_said at ask side go how (Some start) None c on here = tt
 contour_said at ask side go how (Some start) (Some drive) None on here = tt
 contour_said at ask side go how (Some start) (Some drive) (Some check) on here =
-    turned_said at ask (with_side at.settings side) start drive (turn_at at start drive go) how check on here
+    turned_said at ask side start drive (turn_at at start drive go) how check on here
 
 goes_said : (at : Situation) (route : Route) → IfSome (goes at route) (IsSaidBy at (Goes route))
 goes_said at (routes.From place) = moves_said at (Goes (routes.From place)) reaches.From (place_at at place) refl

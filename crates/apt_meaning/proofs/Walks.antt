@@ -1,6 +1,6 @@
 -- The records of one step after another.
 pub mod Kept
-pub mod Stands
+pub mod Alone
 pub mod Compiled
 pub mod Begins
 pub mod Agree

@@ -11,16 +11,17 @@ use Rattle.apt_stop.specs.Nearness.{heading}
 use Rattle.apt_offset.specs.declared.Target.{Target}
 use Rattle.apt_offset.specs.declared.Target.TheVariants as targets
 use Rattle.apt_arc.specs.Divisions.{IsDivision}
-use Rattle.apt_certify.specs.Legs.{IsBounded, IsLegal, last_of}
+use Rattle.apt_certify.specs.Legal.{last_of}
 use Rattle.apt_meaning.specs.declared.situation.Situation.{Situation}
 use Rattle.apt_meaning.specs.declared.motion.Motion.{Motion}
 use Rattle.apt_meaning.specs.declared.effect.Change.{Change}
 use Rattle.apt_meaning.specs.declared.effect.Change.TheVariants as changes
 use Rattle.apt_meaning.specs.declared.effect.Effect.{Effect}
 use Rattle.apt_meaning.specs.declared.effect.Effect.TheVariants as effects
-use Rattle.apt_meaning.specs.Situations.{changed, settings_behind, forward_behind, at_height}
-use Rattle.apt_meaning.specs.Motions.{track_of, contact, arc_on, leg_of, is_defined}
+use Rattle.apt_meaning.specs.Situations.{first_situation, changed, settings_behind, forward_behind, at_height}
+use Rattle.apt_meaning.specs.Motions.{track_of, contact, arc_on, is_defined}
 use Rattle.apt_meaning.specs.Effects.{effect_of}
+use Rattle.apt_meaning.specs.Paths.{Saying, radius_by, said_by}
 
 -- ---- what an effect writes and leaves; only a contour has vertices, those of its leg behind the start
 
@@ -83,21 +84,6 @@ FollowsAs Allowed at (step ∷ steps) written behind =
     (e : Effect) × (vertices : List Pt) × (rest : List Record)
     × Begins at step written e vertices rest × Allowed e vertices × FollowsAs Allowed (after at e vertices) steps rest behind
 
--- a leg that has an edge or an axis, and whose tests all hold
-pub record IsLegalCut (m : Motion) (vertices : List Pt) : Type 0 where
-  pub bounded : IsBounded (leg_of m)
-  pub legal : IsLegal (leg_of m) m.start.at vertices
-
-abbrev pub AreLegal : Effect → List Pt → Type 0
-AreLegal (effects.Defines n f) vertices = Unit {0}
-AreLegal (effects.Sets change) vertices = Unit {0}
-AreLegal (effects.Moves reach to) vertices = Unit {0}
-AreLegal (effects.Cuts m) vertices = IsLegalCut m vertices
-
--- records follow steps, and every contour is legal
-abbrev pub FollowsLegally : Situation → List Step → List Record → Situation → Type 0
-FollowsLegally at steps written behind = FollowsAs AreLegal at steps written behind
-
 -- ---- the compiler's own vertices
 
 -- its end alone along a line, and round a circle a division of its arc
@@ -105,26 +91,28 @@ abbrev pub IsOwnOn : Motion → Target → List Pt → Type 0
 IsOwnOn m (targets.Line b d h) vertices = vertices ≡ contact m ∷ []
 IsOwnOn m (targets.Circ c r) vertices = IsDivision (arc_on m c r) vertices
 
-abbrev pub AreOwn : Effect → List Pt → Type 0
-AreOwn (effects.Defines n f) vertices = Unit {0}
-AreOwn (effects.Sets change) vertices = Unit {0}
-AreOwn (effects.Moves reach to) vertices = Unit {0}
-AreOwn (effects.Cuts m) vertices = IsOwnOn m (track_of m) vertices
+abbrev pub IsOwnCut : Motion → List Pt → Type 0
+IsOwnCut m vertices = IsOwnOn m (track_of m) vertices
 
--- ---- where records leave the tool, read off them alone
+-- ---- what holds behind records, beside what they say by themselves
 
-abbrev pub last_position : Option Position → List Position → Option Position
-last_position p [] = p
-last_position p (v ∷ vs) = last_position (Some v) vs
+-- a situation has the settings, the position and the forward direction that records have said
+pub record Tells (s : Saying) (at : Situation) : Type 0 where
+  pub units : at.settings.units ≡ s.units
+  pub radius : at.settings.radius ≡ radius_by s.diameter
+  pub intol : at.settings.intol ≡ s.intol
+  pub outtol : at.settings.outtol ≡ s.outtol
+  pub feed : at.settings.feed ≡ s.feed
+  pub rapid : at.settings.rapid ≡ s.rapid
+  pub position : at.position ≡ s.position
+  pub forward : at.forward ≡ s.forward
 
-abbrev pub stand_after : Option Position → Record → Option Position
-stand_after p (records.Statement line step) = p
-stand_after p (records.Note note) = p
-stand_after p (records.Drive surface side sense) = p
-stand_after p (records.Check surface how) = p
-stand_after p (records.Point reach to) = Some to
-stand_after p (records.Contour vertices) = last_position p vertices
+-- a contour may have any vertices
+abbrev pub HasAny : Effect → List Pt → Type 0
+HasAny e vertices = Unit {0}
 
-abbrev pub stand_of : Option Position → List Record → Option Position
-stand_of p [] = p
-stand_of p (r ∷ rs) = stand_of (stand_after p r) rs
+-- records follow the steps of a program, each contour with any vertices, and the situation behind them is what they say by themselves
+pub record Follows (steps : List Step) (written : List Record) : Type 0 where
+  pub behind : Situation
+  pub follow : FollowsAs HasAny first_situation steps written behind
+  pub tells : Tells (said_by written) behind

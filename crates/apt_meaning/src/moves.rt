@@ -6,7 +6,7 @@ ghost use Rattle.apt_scalar.specs.StepScalars.{AllScalars};
 ghost use Rattle.apt_words.specs.Asks.{listed};
 ghost use Rattle.apt_plane.specs.Ranges.{IsPoint};
 ghost use Rattle.apt_certify.specs.Jobs.{ArePoints};
-ghost use Rattle.apt_certify.specs.Legs as legs;
+ghost use Rattle.apt_certify.specs.Legal as legal;
 ghost use Rattle.apt_cldata.specs.Ranges.{IsPosition};
 ghost use Rattle.apt_meaning.specs.Effects as asking;
 ghost use Rattle.apt_meaning.specs.Ranges.{IsSituation, IsMotion, IsPositionOrNone};
@@ -134,14 +134,14 @@ fn forward_from(from: Position, to: Pt, forward: Dir) -> Dir
 fn end_of(start: Pt, vertices: &[Pt]) -> Pt
     requires start { IsPoint start }
     requires vertices { ArePoints vertices.now }
-    ensures value { result ≡ legs.last_of start vertices.now }
+    ensures value { result ≡ legal.last_of start vertices.now }
     ensures range { IsPoint result }
 {
     last_of(start, vertices)
 }
 
 fn last_of(start: Pt, vertices: &[Pt]) -> Pt
-    ensures { result ≡ legs.last_of start vertices.now }
+    ensures { result ≡ legal.last_of start vertices.now }
 {
     let mut last = start;
     for p in vertices {

@@ -13,7 +13,10 @@ use Rattle.apt_meaning.specs.declared.effect.Effect.{Effect}
 use Rattle.apt_meaning.specs.Effects.{effect_of}
 use Rattle.apt_meaning.specs.Refusals.{refusal_of}
 use Rattle.apt_meaning.specs.Situations.{first_situation}
-use Rattle.apt_meaning.specs.Records.{AreOwn, FollowsAs, FollowsLegally, records_of, after}
+use Rattle.apt_meaning.specs.Paths.{EveryContour, IsLegalCut, contours_of}
+use Rattle.apt_meaning.specs.Records.{Follows, IsOwnCut, records_of, after}
+use Rattle.apt_meaning.proofs.Asked.{CutsLegally}
+use Rattle.apt_meaning.proofs.Walks.Alone.{follows, legal_contours, own_contours}
 use Rattle.apt_meaning.specs.Compiled.{ends_of, points_of, most_points, with_front, asked, asked_within, or_first, first_refused, or_refused, compilation_behind, compilation}
 use Rattle.apt_meaning.specs.Ranges.{IsSituation, IsEffect}
 use Rattle.apt_meaning.proofs.Asked.{answered}
@@ -86,11 +89,25 @@ found_plain at deed (Err case) is scalars worded uncut none same = (tt, tt)
 -- ---- runs
 
 pub run_follows : {A : Type 0} (steps : List Step) (result : Result (Vec Record A) RunError) → AreScalars steps → AreExecuted steps → Ends (compilation first_situation steps) result
-    → IfOk result (λ records. (behind : Situation) × (FollowsLegally first_situation steps records.items behind × FollowsAs AreOwn first_situation steps records.items behind))
+    → IfOk result (λ records. Follows steps records.items)
 run_follows steps (Ok records) scalars sources is =
     let a = compiled_follows 0 first_situation steps records.items first_situation-IsSituation scalars sources is in
-    (a.behind, (a.follows, a.own))
+    follows CutsLegally steps records.items a.behind a.follows
 run_follows steps (Err e) scalars sources is = tt
+
+pub run_legal : {A : Type 0} (steps : List Step) (result : Result (Vec Record A) RunError) → AreScalars steps → AreExecuted steps → Ends (compilation first_situation steps) result
+    → IfOk result (λ records. EveryContour IsLegalCut (contours_of records.items))
+run_legal steps (Ok records) scalars sources is =
+    let a = compiled_follows 0 first_situation steps records.items first_situation-IsSituation scalars sources is in
+    legal_contours steps records.items a.behind a.follows
+run_legal steps (Err e) scalars sources is = tt
+
+pub run_own : {A : Type 0} (steps : List Step) (result : Result (Vec Record A) RunError) → AreScalars steps → AreExecuted steps → Ends (compilation first_situation steps) result
+    → IfOk result (λ records. EveryContour IsOwnCut (contours_of records.items))
+run_own steps (Ok records) scalars sources is =
+    let a = compiled_follows 0 first_situation steps records.items first_situation-IsSituation scalars sources is in
+    own_contours steps records.items a.behind a.own
+run_own steps (Err e) scalars sources is = tt
 
 pub run_in_range : {A : Type 0} (steps : List Step) (result : Result (Vec Record A) RunError) → AreScalars steps → AreExecuted steps → Ends (compilation first_situation steps) result
     → IfOk result (λ records. AreRecords records.items)

@@ -9,7 +9,8 @@ ghost use Rattle.apt_meaning.specs.Compiled.{compilation, first_refused, most_po
 ghost use Rattle.apt_meaning.specs.Effects.{effect_of};
 ghost use Rattle.apt_meaning.specs.Ranges.{IsSituation, IsMotion};
 ghost use Rattle.apt_meaning.specs.Refusals.{refusal_of};
-ghost use Rattle.apt_meaning.specs.Records.{AreOwn, FollowsAs, FollowsLegally};
+ghost use Rattle.apt_meaning.specs.Paths.{EveryContour, IsLegalCut, contours_of};
+ghost use Rattle.apt_meaning.specs.Records.{Follows, IsOwnCut};
 ghost use Rattle.apt_meaning.specs.Situations.{first_situation};
 ghost use Rattle.apt_meaning.specs.declared.situation.Situation.{Situation};
 ghost use Rattle.apt_motion.specs.Ends.{Ends, HasAdvanced, HasPassed, ArePassed};
@@ -256,12 +257,14 @@ pub fn ends(alloc: Global, steps: &[Step]) -> Result<Option<Refusal>, AllocError
 /// of its arc's division into chords, each within the inward tolerance. A program has up to 500,000 vertices. `Refused`
 /// has the first step that a case refuses, or that has too many vertices. The records follow the steps, every contour
 /// is legal, and all numbers are in range.
-#[tactic(auto, using(crate::proofs::Walks::run_follows, crate::proofs::Walks::run_in_range, crate::proofs::Walks::run_fits))]
+#[tactic(auto, using(crate::proofs::Walks::run_follows, crate::proofs::Walks::run_legal, crate::proofs::Walks::run_own, crate::proofs::Walks::run_in_range, crate::proofs::Walks::run_fits))]
 pub fn run(alloc: Global, steps: &[Step]) -> Result<Vec<Record>, RunError>
     requires scalars { AreScalars steps.now }
     requires sources { AreExecuted steps.now }
     ensures value { Ends (compilation first_situation steps.now) result }
-    ensures follows { IfOk result (λ records. (behind : Situation) × (FollowsLegally first_situation steps.now records.items behind × FollowsAs AreOwn first_situation steps.now records.items behind)) }
+    ensures follows { IfOk result (λ records. Follows steps.now records.items) }
+    ensures legal { IfOk result (λ records. EveryContour IsLegalCut (contours_of records.items)) }
+    ensures own { IfOk result (λ records. EveryContour IsOwnCut (contours_of records.items)) }
     ensures range { IfOk result (λ records. AreRecords records.items) }
     ensures points { IfOk result (λ records. vertex_count records.items ≤ most_points) }
 {

@@ -12,8 +12,8 @@ use Rattle.apt_cldata.specs.declared.record.Record.{Record}
 use Rattle.apt_cldata.specs.Files.{file_of, IsFile}
 use Rattle.apt_cldata.proofs.Lengths.{file_length}
 use Rattle.apt_meaning.specs.Situations.{first_situation}
-use Rattle.apt_meaning.specs.Records.{AreLegal}
 use Rattle.apt_meaning.specs.Compiled.{compilation}
+use Rattle.apt_meaning.proofs.Asked.{CutsLegally}
 use Rattle.apt_meaning.proofs.Walks.Kept.{first_situation-IsSituation}
 use Rattle.apt_meaning.proofs.Walks.Compiled.{compiled_follows}
 use Rattle.apt_meaning.proofs.Walks.Ends.{ends_once}
@@ -31,7 +31,7 @@ compiled_file statements steps written trace scalars executed ends compiled =
     let fit = compiled_fit 0 first_situation steps written (omega arith) executed compiled in
     let few = few_steps statements (record { steps = steps; fault = None }) trace in record {
       ranges = a.records;
-      last = fini_last false written (ends_once AreLegal false first_situation steps written a.behind a.follows ends);
+      last = fini_last false written (ends_once CutsLegally false first_situation steps written a.behind a.follows ends);
       short = fit.short;
       numbers = omega (arith, fit.number, few);
     }

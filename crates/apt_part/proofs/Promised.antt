@@ -22,13 +22,13 @@ use Rattle.apt_unroll.proofs.Steps.{are_scalars, are_executed, end_once}
 use Rattle.apt_cldata.specs.declared.record.Record.{Record}
 use Rattle.apt_cldata.specs.Ranges.{vertex_count}
 use Rattle.apt_meaning.specs.Situations.{first_situation}
-use Rattle.apt_meaning.specs.Records.{AreLegal}
 use Rattle.apt_meaning.specs.Compiled.{first_refused, compilation, most_points}
+use Rattle.apt_meaning.proofs.Asked.{CutsLegally}
 use Rattle.apt_meaning.proofs.Walks.Kept.{first_situation-IsSituation}
 use Rattle.apt_meaning.proofs.Walks.Compiled.{compiled_follows, compiled_passes}
 use Rattle.apt_meaning.proofs.Walks.Ends.{ends_once}
 use Rattle.apt_meaning.proofs.Walks.Files.{compiled_fit}
-use Rattle.apt_meaning.proofs.Walks.Stands.{stands}
+use Rattle.apt_meaning.proofs.Walks.Alone.{follows, legal_contours, own_contours}
 use Rattle.apt_machine.specs.declared.machine.Machine.{Machine}
 use Rattle.apt_machine.specs.Machines.{IsMachine}
 use Rattle.apt_post.specs.Limits.{limits}
@@ -173,14 +173,13 @@ promised machine text p is h =
     let can = compiled_written machine nothing_pending 0 first_situation p.steps p.records is (record { feed = refl; rapid = refl }) (record { most = omega (arith, ints) }) first_situation-IsSituation are.scalars are.sources q.passes.within q.compiled in record {
       passes = q.passes;
       compiled = q.compiled;
-      behind = follow.behind;
-      follow = follow.follows;
-      own = follow.own;
+      follow = follows CutsLegally p.steps p.records follow.behind follow.follows;
+      legal = legal_contours p.steps p.records follow.behind follow.follows;
+      own = own_contours p.steps p.records follow.behind follow.own;
       few = few_from_none (vertex_count p.records) fit.vertices;
-      stands = stands AreLegal first_situation p.steps p.records follow.behind follow.follows;
       file = compiled_file q.passes.statements p.steps p.records q.passes.unrolled are.scalars are.sources ends q.compiled;
       file_fits = file_fits p.steps p.records fit few (titles_short p.steps titled are.sources);
       reached = plan_reaches p.records;
-      program = planned_program p.records (ends_once AreLegal false first_situation p.steps p.records follow.behind follow.follows ends) can;
+      program = planned_program p.records (ends_once CutsLegally false first_situation p.steps p.records follow.behind follow.follows ends) can;
       tape_fits = tape_fits machine p.steps p.records fit few;
     }

@@ -8,10 +8,10 @@ use Rattle.apt_scalar.specs.StepScalars.{AreScalars}
 use Rattle.apt_unroll.specs.Trace.{IsTrace}
 use Rattle.apt_cldata.specs.Ranges.{vertex_count}
 use Rattle.apt_cldata.specs.Files.{file_of, IsFile}
-use Rattle.apt_meaning.specs.declared.situation.Situation.{Situation}
 use Rattle.apt_meaning.specs.Situations.{first_situation}
 use Rattle.apt_meaning.specs.Compiled.{first_refused, compilation, most_points}
-use Rattle.apt_meaning.specs.Records.{AreOwn, FollowsAs, FollowsLegally, stand_of}
+use Rattle.apt_meaning.specs.Paths.{EveryContour, IsLegalCut, contours_of}
+use Rattle.apt_meaning.specs.Records.{Follows, IsOwnCut}
 use Rattle.apt_machine.specs.declared.machine.Machine.{Machine}
 use Rattle.apt_post.specs.Limits.{limits}
 use Rattle.apt_post.specs.Plan.{plan, positions, points}
@@ -30,17 +30,16 @@ pub record Passes (machine : Machine) (text : List ℕ) (steps : List Step) : Ty
 abbrev pub file_limit : ℕ
 file_limit = 67108864
 
--- the records follow the steps; every contour is legal, and its vertices are the compiler's own, not too many in all; the records leave the
--- tool where the steps have it, and are those of a CL file; the acts that they ask for lead where they lead, and are a program of a control.
--- Neither the file nor the tape is too long to be read again
+-- the records follow the steps, and leave what holds behind them as they say; every contour that they say is legal, and its vertices are the compiler's
+-- own, not too many in all; they are those of a CL file, and the acts that they ask for are a program of a control, and lead where they lead. Neither the
+-- file nor the tape is too long to be read again
 pub record Promise (machine : Machine) (text : List ℕ) (p : Compiled) : Type 0 where
   pub passes : Passes machine text p.steps
   pub compiled : compilation first_situation p.steps ≡ Ok p.records
-  pub behind : Situation
-  pub follow : FollowsLegally first_situation p.steps p.records behind
-  pub own : FollowsAs AreOwn first_situation p.steps p.records behind
+  pub follow : Follows p.steps p.records
+  pub legal : EveryContour IsLegalCut (contours_of p.records)
+  pub own : EveryContour IsOwnCut (contours_of p.records)
   pub few : vertex_count p.records ≤ most_points
-  pub stands : stand_of None p.records ≡ behind.position
   pub file : IsFile p.records
   pub file_fits : length (file_of p.records) ≤ file_limit
   pub reached : positions (plan p.records) ≡ points p.records

@@ -10,12 +10,13 @@ use Rattle.apt_arc.specs.Made.{divided}
 use Rattle.apt_arc.proofs.Divided.{divides}
 use Rattle.apt_arc.proofs.Steps.{arc_steps}
 use Rattle.apt_certify.specs.Jobs.{ArePoints}
-use Rattle.apt_certify.specs.Legs.{IsSome, last_of}
+use Rattle.apt_certify.specs.Legal.{IsSome, last_of}
 use Rattle.apt_meaning.specs.declared.motion.Motion.{Motion}
 use Rattle.apt_meaning.specs.Motions.{track_of, course_of, contact, vertices_of}
 use Rattle.apt_meaning.specs.Refusals.{motion_cases}
 use Rattle.apt_meaning.specs.Ranges.{IsMotion}
-use Rattle.apt_meaning.specs.Records.{IsLegalCut, IsOwnOn}
+use Rattle.apt_meaning.specs.Paths.{IsLegalCut}
+use Rattle.apt_meaning.specs.Records.{IsOwnOn}
 use Rattle.apt_meaning.proofs.Contours.Legal.{line_legal}
 use Rattle.apt_meaning.proofs.Contours.Arcs.{radius_round, arc_round, arc_is, track_is}
 use Rattle.apt_meaning.proofs.Contours.Rounds.{round_legal, steps_last, steps_points}

@@ -36,7 +36,7 @@ use Rattle.apt_meaning.specs.declared.motion.Motion.{Motion}
 use Rattle.apt_meaning.specs.Motions.{track_of, stop_of, drive_side, check_side, starts_on_check, course_of, stop_side, contact, leg_of, has_track, has_bound, is_defined}
 use Rattle.apt_meaning.specs.Refusals.{motion_cases}
 use Rattle.apt_meaning.specs.Ranges.{IsMotion}
-use Rattle.apt_meaning.specs.Records.{IsLegalCut}
+use Rattle.apt_meaning.specs.Paths.{IsLegalCut}
 use Rattle.apt_meaning.proofs.Contours.Bands.{near_surface}
 use Rattle.apt_meaning.proofs.Contours.Edges.{kept_before}
 
@@ -153,7 +153,11 @@ line_legal m d is none =
       bounded = leg_bounded (along m d) (bound_there (course_of (along m d)) course none.1.1.1.1);
       legal = record {
         moves = tt;
-        hold = (rw (← heading_dot m.sense d.dir (displacement m.start.at (contact (along m d)))) ends.ahead, (in_band-between d band m.start.at (contact (along m d)) at_start at_end, (stop.before, (stop.stop, (stop.axis, tt)))));
+        order = (rw (← heading_dot m.sense d.dir (displacement m.start.at (contact (along m d)))) ends.ahead, tt);
+        band = (in_band-between d band m.start.at (contact (along m d)) at_start at_end, tt);
+        edge = (stop.before, tt);
+        stop = stop.stop;
+        axis = stop.axis;
       };
     }
 

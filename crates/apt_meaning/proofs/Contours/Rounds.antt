@@ -8,7 +8,7 @@ use Rattle.apt_plane.specs.declared.figures.Band.{Band}
 use Rattle.apt_plane.specs.declared.figures.Circ.{Circ}
 use Rattle.apt_plane.specs.declared.figures.Surface.TheVariants as surfaces
 use Rattle.apt_plane.specs.Ranges.{IsPoint}
-use Rattle.apt_plane.specs.Vectors.{scaled, displacement, length_squared}
+use Rattle.apt_plane.specs.Vectors.{Scaled, scaled, displacement, length_squared}
 use Rattle.apt_plane.specs.Distances.{InBand, EveryPoint, IsUnder, about}
 use Rattle.apt_plane.proofs.Heights.{one-times}
 use Rattle.apt_plane.proofs.RingLaws.{root_at_most}
@@ -26,12 +26,13 @@ use Rattle.apt_arc.specs.Stops.{EveryChord}
 use Rattle.apt_arc.proofs.Divided.{divides}
 use Rattle.apt_arc.proofs.Steps.{arc_steps, division_ends}
 use Rattle.apt_certify.specs.Jobs.{ArePoints}
-use Rattle.apt_certify.specs.Legs.{IsWithinEdge, IsSome, IsOnAxisOrNone, AllHold, tests_from, last_of}
+use Rattle.apt_certify.specs.Legs.{IsWithinEdge, IsOnAxisOrNone}
+use Rattle.apt_certify.specs.Legal.{IsSome, last_of, AreInOrder, EveryPointFrom}
 use Rattle.apt_meaning.specs.declared.motion.Motion.{Motion}
 use Rattle.apt_meaning.specs.Motions.{check_side, course_of, contact, leg_of, sag}
 use Rattle.apt_meaning.specs.Refusals.{motion_cases}
 use Rattle.apt_meaning.specs.Ranges.{IsMotion}
-use Rattle.apt_meaning.specs.Records.{IsLegalCut}
+use Rattle.apt_meaning.specs.Paths.{IsLegalCut}
 use Rattle.apt_meaning.proofs.Contours.Bands.{near_surface}
 use Rattle.apt_meaning.proofs.Contours.Legal.{course_is, leg_bounded, no_axis, on_axis}
 use Rattle.apt_meaning.proofs.Contours.Arcs.{round, radius_round, arc_round, arc_is, room_round, sag_within, ends_round}
@@ -54,7 +55,7 @@ ends_there m d q true e is ends =
       axis = on_axis (axis_of (course_of (round m d))) q at_stop.axis;
     }
 
--- ---- its tests hold
+-- ---- it is legal
 
 chord_in_band : (d : Circ) (t : Circ) (sag : ℤ) (band : Band) (a b : Pt) → t.c ≡ d.c → band.lo ≤ℤ (t.r -ℤ sag) → (t.r +ℤ pos 3) ≤ℤ band.hi → IsInside t sag a b → EveryPoint a b (InBand (surfaces.Circ d) band)
 chord_in_band d t sag band a b same lo hi inside =
@@ -64,14 +65,27 @@ chord_in_band d t sag band a b same lo hi inside =
       hi = every_under (surfaces.Circ d) (t.r +ℤ pos 3) band.hi a b hi (λ i l more. (there i l more).hi) j k some;
     }
 
-tests_hold : (m : Motion) (d : Circ) (s a e : Pt) (list : List Pt) → IsMotion (round m d) → AreSteps (circle_about d.c (radius_round m d)) (sag (round m d) (radius_round m d)) m.sense s a list e
-    → EveryChord a list (IsWithinEdge (leg_of (round m d)) (leg_of (round m d)).beyond) → EndsThere (round m d) e → AllHold (leg_of (round m d)) s (tests_from a list)
-tests_hold m d s a e [] is steps within ends = subst (λ (q : Pt). AllHold (leg_of (round m d)) s (tests_from q [])) (sym steps) (ends.stop, (ends.axis, tt))
-tests_hold m d s a e (x ∷ xs) is steps within ends =
+steps_order : (m : Motion) (d : Circ) (s a e : Pt) (list : List Pt) → AreSteps (circle_about d.c (radius_round m d)) (sag (round m d) (radius_round m d)) m.sense s a list e
+    → AreInOrder (leg_of (round m d)) s a list
+steps_order m d s a e [] steps = tt
+steps_order m d s a e (x ∷ xs) steps = (steps.0, steps_order m d s x e xs steps.2)
+
+steps_band : (m : Motion) (d : Circ) (s a e : Pt) (list : List Pt) → IsMotion (round m d) → AreSteps (circle_about d.c (radius_round m d)) (sag (round m d) (radius_round m d)) m.sense s a list e
+    → EveryPointFrom a list (InBand (surfaces.Circ d) (leg_of (round m d)).band)
+steps_band m d s a e [] is steps = tt
+steps_band m d s a e (x ∷ xs) is steps =
     let t = circle_about d.c (radius_round m d) in
     let band = (leg_of (round m d)).band in
     let hi : (radius_round m d +ℤ pos 3) ≤ℤ band.hi = omega (arith, ints, (room_round m d is).hi) in
-    (steps.0, (chord_in_band d t (sag (round m d) (radius_round m d)) band a x refl (sag_within m d) hi steps.1, (within.0, tests_hold m d s x e xs is steps.2 within.1 ends)))
+    (chord_in_band d t (sag (round m d) (radius_round m d)) band a x refl (sag_within m d) hi steps.1, steps_band m d s x e xs is steps.2)
+
+every_chord : (P : Scaled → Type 0) (a : Pt) (list : List Pt) → EveryChord a list P → EveryPointFrom a list P
+every_chord P a [] every = tt
+every_chord P a (x ∷ xs) every = (every.0, every_chord P x xs every.1)
+
+pub steps_last : (t : Circ) (sag sense : ℤ) (s a e : Pt) (list : List Pt) → AreSteps t sag sense s a list e → last_of a list ≡ e
+steps_last t sag sense s a e [] steps = steps
+steps_last t sag sense s a e (x ∷ xs) steps = steps_last t sag sense s x e xs steps.2
 
 last_some : (front : List Pt) (q : Pt) (list : List Pt) → list ≡ front ++ q ∷ [] → IsSome list
 last_some [] q list e = rw e tt
@@ -85,20 +99,22 @@ some_chord a arc =
 pub round_legal : (m : Motion) (d : Circ) → IsMotion (round m d) → NoneHolds (motion_cases (round m d)) → IsLegalCut (round m d) (divided (arc_round m d))
 round_legal m d is none =
     let arc = arc_is m d is none in
+    let list = divided (arc_round m d) in
     let steps = arc_steps (arc_round m d) arc in
-    let ends = ends_there m d (contact (round m d)) (is_tanto m.how) refl is (ends_round m d is none) in record {
+    let last = steps_last (circle_about d.c (radius_round m d)) (arc_round m d).sag m.sense m.start.at m.start.at (contact (round m d)) list steps in
+    let ends = subst (EndsThere (round m d)) (sym last) (ends_there m d (contact (round m d)) (is_tanto m.how) refl is (ends_round m d is none)) in record {
       bounded = leg_bounded (round m d) (bound_there (course_of (round m d)) (course_is (round m d) is none) none.1.1.1.1);
       legal = record {
         moves = some_chord (arc_round m d) arc;
-        hold = tests_hold m d m.start.at m.start.at (contact (round m d)) (divided (arc_round m d)) is steps (round_within m d is none) ends;
+        order = steps_order m d m.start.at m.start.at (contact (round m d)) list steps;
+        band = steps_band m d m.start.at m.start.at (contact (round m d)) list is steps;
+        edge = every_chord (IsWithinEdge (leg_of (round m d)) (leg_of (round m d)).beyond) m.start.at list (round_within m d is none);
+        stop = ends.stop;
+        axis = ends.axis;
       };
     }
 
 -- ---- its vertices are points, of which the last is its end
-
-pub steps_last : (t : Circ) (sag sense : ℤ) (s a e : Pt) (list : List Pt) → AreSteps t sag sense s a list e → last_of a list ≡ e
-steps_last t sag sense s a e [] steps = steps
-steps_last t sag sense s a e (x ∷ xs) steps = steps_last t sag sense s x e xs steps.2
 
 parts_small : (x y h : ℕ) → x * x + y * y ≤ h * h → (x ≤ h) × (y ≤ h)
 parts_small x y h long = (root_le x h (omega (arith, long)), root_le y h (omega (arith, long)))

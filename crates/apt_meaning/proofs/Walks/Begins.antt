@@ -68,6 +68,15 @@ met_no_departs (x ∷ xs) [] rest k met departs = met
 met_no_departs (x ∷ xs) (r ∷ rs) rest zero met departs = departs met.0
 met_no_departs (x ∷ xs) (r ∷ rs) rest (suc k) met departs = met_no_departs xs rs rest k met.1 departs.1
 
+-- a list departs at one record
+pub departs_once : (xs : List Expectation) (rs : List Record) (j k : ℕ) → Departs xs rs j → Departs xs rs k → j ≡ k
+departs_once [] rs j k d e = absurd d
+departs_once (x ∷ xs) [] j k d e = d ∙ sym e
+departs_once (x ∷ xs) (r ∷ rs) zero zero d e = refl
+departs_once (x ∷ xs) (r ∷ rs) zero (suc k) d e = absurd (d e.0)
+departs_once (x ∷ xs) (r ∷ rs) (suc j) zero d e = absurd (e d.0)
+departs_once (x ∷ xs) (r ∷ rs) (suc j) (suc k) d e = ap suc (departs_once xs rs j k d.1 e.1)
+
 pub both : (a b : Bool) → (a && b) ≡ true → (a ≡ true) × (b ≡ true)
 both true b e = (refl, e)
 both false b e = absurd (true≢false (sym e))

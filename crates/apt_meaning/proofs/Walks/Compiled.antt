@@ -14,12 +14,12 @@ use Rattle.apt_meaning.specs.declared.effect.Effect.{Effect}
 use Rattle.apt_meaning.specs.declared.effect.Effect.TheVariants as effects
 use Rattle.apt_meaning.specs.Effects.{effect_of}
 use Rattle.apt_meaning.specs.Refusals.{refusal_of}
-use Rattle.apt_meaning.specs.Records.{Begins, AreOwn, FollowsAs, FollowsLegally, records_of, after}
+use Rattle.apt_meaning.specs.Records.{Begins, FollowsAs, records_of, after}
 use Rattle.apt_meaning.specs.Compiled.{ends_of, points_of, most_points, asked_within, with_front, asked, or_first, first_refused, or_refused, compilation_behind}
 use Rattle.apt_meaning.specs.Ranges.{IsSituation}
 use Rattle.apt_words.specs.Sources.{AreExecuted}
 use Rattle.apt_scalar.specs.StepScalars.{AreScalars}
-use Rattle.apt_meaning.proofs.Asked.{EndsThere, IsFit, Asks, answered}
+use Rattle.apt_meaning.proofs.Asked.{CutsLegally, CutsOwn, EndsThere, IsFit, Asks, answered}
 use Rattle.apt_meaning.proofs.Walks.Kept.{kept, records_in, records-append}
 
 -- ---- a step that is done, and the records of those behind it
@@ -88,8 +88,8 @@ after_points at (effects.Cuts m) ends = ap (λ (q : Pt). after at (effects.Cuts 
 -- records follow steps legally and with the compiler's own vertices, and all that they lead to is in range
 pub record Arrives (at : Situation) (steps : List Step) (written : List Record) : Type 0 where
   pub behind : Situation
-  pub follows : FollowsLegally at steps written behind
-  pub own : FollowsAs AreOwn at steps written behind
+  pub follows : FollowsAs CutsLegally at steps written behind
+  pub own : FollowsAs CutsOwn at steps written behind
   pub situation : IsSituation behind
   pub records : AreRecords written
 

@@ -14,7 +14,7 @@ use Rattle.apt_offset.specs.Turns.{tangent}
 use Rattle.apt_stop.specs.Nearness.{heading}
 use Rattle.apt_stop.proofs.Headings.{kept as forwards, turned as backwards}
 use Rattle.apt_certify.specs.Jobs.{ArePoints}
-use Rattle.apt_certify.specs.Legs.{last_of}
+use Rattle.apt_certify.specs.Legal.{last_of}
 use Rattle.apt_cldata.specs.declared.record.Position.{Position}
 use Rattle.apt_cldata.specs.declared.record.Reach.{Reach}
 use Rattle.apt_cldata.specs.declared.record.Reach.TheVariants as reaches

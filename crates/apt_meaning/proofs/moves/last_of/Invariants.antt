@@ -1,5 +1,5 @@
 use Rattle.std.proofs.Common.{◌≡◌, drop}
-use Rattle.apt_certify.specs.Legs.{last_of}
+use Rattle.apt_certify.specs.Legal.{last_of}
 use Rattle.apt_meaning.proofs.moves.last_of.Given as goal
 
 abbrev pub invariant-loop-p : goal.invariant-loop-p

@@ -1,6 +1,6 @@
 use Rattle.std.proofs.Common.{drop}
 use Rattle.apt_job.proofs.Steps.{IsWalk}
-use Rattle.apt_job.proofs.walk.jobs.Given as goal
+use Rattle.apt_job.proofs.walk.jobs_of.Given as goal
 
 abbrev pub invariant-steps : goal.invariant-steps
 invariant-steps l = IsWalk l.fn.steps l.records l.at l.rest l.jobs.items (drop l.st-index l.steps)

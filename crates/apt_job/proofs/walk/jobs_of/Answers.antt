@@ -5,7 +5,7 @@ use Rattle.apt_job.specs.Answering.{IsEntry}
 use Rattle.apt_job.specs.Fronts.{points_at}
 use Rattle.apt_job.specs.Naming.{HasNamed}
 use Rattle.apt_job.proofs.Steps.{IsWalk, steps_in, walk_on, walk_named, walk_waits, walk_unrefused, walk_departs, walk_ends, walk_left, stands_first}
-use Rattle.apt_job.proofs.walk.jobs.Goals as goal
+use Rattle.apt_job.proofs.walk.jobs_of.Goals as goal
 
 pub gives_name-requires-clause-passes : goal.gives_name-requires-clause-passes
 gives_name-requires-clause-passes c =

@@ -1,0 +1,262 @@
+-- Records that follow steps say by themselves where they lead, and which contours they have.
+use Rattle.std.proofs.Common.{◌≡◌, ◌∙◌, ℕ, ◌+◌, ◌*◌, zero, suc, ℤ, pos, negsuc, unsigned_abs, int_le, int_lt, ◌==◌, Bool, true, false, List, [], ◌∷◌, ◌++◌, map, Option, Some, None, refl, sym, ap, subst, cond, arith}
+use Rattle.std.specs.Prelude.{◌&&◌, ◌-ℤ◌}
+use Rattle.std.specs.Ordering.{int_eq}
+use Rattle.std.proofs.lemmas.Int.{ints}
+use Rattle.apt_words.specs.declared.Side.{Side}
+use Rattle.apt_words.specs.declared.deed.Deed.{Deed}
+use Rattle.apt_words.specs.declared.deed.Step.{Step}
+use Rattle.apt_plane.specs.declared.figures.Pt.{Pt}
+use Rattle.apt_plane.specs.declared.figures.Dir.{Dir}
+use Rattle.apt_plane.specs.declared.figures.Surface.{Surface}
+use Rattle.apt_plane.specs.declared.figures.Surface.TheVariants as surfaces
+use Rattle.apt_plane.specs.Vectors.{displacement, length_squared}
+use Rattle.apt_offset.specs.Targets.{greater}
+use Rattle.apt_offset.specs.Turns.{tangent}
+use Rattle.apt_stop.specs.Nearness.{heading}
+use Rattle.apt_certify.specs.Legal.{last_of}
+use Rattle.apt_cldata.specs.declared.record.Note.{Note}
+use Rattle.apt_cldata.specs.declared.record.Note.TheVariants as notes
+use Rattle.apt_cldata.specs.declared.record.Position.{Position}
+use Rattle.apt_cldata.specs.declared.record.Reach.{Reach}
+use Rattle.apt_cldata.specs.declared.record.Reach.TheVariants as reaches
+use Rattle.apt_cldata.specs.declared.record.Record.{Record}
+use Rattle.apt_cldata.specs.declared.record.Record.TheVariants as records
+use Rattle.apt_meaning.specs.declared.situation.Situation.{Situation}
+use Rattle.apt_meaning.specs.declared.motion.Motion.{Motion}
+use Rattle.apt_meaning.specs.declared.effect.Change.TheVariants as changes
+use Rattle.apt_meaning.specs.declared.effect.Effect.{Effect}
+use Rattle.apt_meaning.specs.declared.effect.Effect.TheVariants as effects
+use Rattle.apt_meaning.specs.Situations.{first_situation, settings_with, forward_behind, at_height}
+use Rattle.apt_meaning.specs.Motions.{grid_step}
+use Rattle.apt_meaning.specs.Effects.{effect_of}
+use Rattle.apt_meaning.specs.Paths.{Drive, Check, Saying, nothing_said, way, is_nowhere, forward_to, forward_on, forward_there, with_point, counted, radius_by, Contour, at_points, last_position, motion_said, contour_said, with_note, with_record, said_behind, said_by, listed, contours_behind, contours_of, IsLegalCut, EveryContour}
+use Rattle.apt_meaning.specs.Records.{records_of, after, FollowsAs, HasAny, Tells, Follows, IsOwnCut}
+use Rattle.apt_meaning.proofs.Said.{IsMotionOf, said_by as effect_said}
+use Rattle.apt_meaning.proofs.Asked.{CutsLegally, CutsOwn}
+
+-- ---- notes
+
+pub nothing_tells : Tells nothing_said first_situation
+nothing_tells = record { units = refl; radius = refl; intol = refl; outtol = refl; feed = refl; rapid = refl; position = refl; forward = refl }
+
+note_tells : (s : Saying) (at : Situation) (note : Note) → Tells s at → Tells (with_note s note) (record at { settings = settings_with at.settings note })
+note_tells s at (notes.Partno text) t = t
+note_tells s at (notes.Units units) t = record { units = refl; radius = t.radius; intol = t.intol; outtol = t.outtol; feed = t.feed; rapid = t.rapid; position = t.position; forward = t.forward }
+note_tells s at (notes.Cutter d) t = record { units = t.units; radius = refl; intol = t.intol; outtol = t.outtol; feed = t.feed; rapid = t.rapid; position = t.position; forward = t.forward }
+note_tells s at (notes.Intol i) t = record { units = t.units; radius = t.radius; intol = refl; outtol = t.outtol; feed = t.feed; rapid = t.rapid; position = t.position; forward = t.forward }
+note_tells s at (notes.Outtol o) t = record { units = t.units; radius = t.radius; intol = t.intol; outtol = refl; feed = t.feed; rapid = t.rapid; position = t.position; forward = t.forward }
+note_tells s at (notes.Feed f) t = record { units = t.units; radius = t.radius; intol = t.intol; outtol = t.outtol; feed = refl; rapid = t.rapid; position = t.position; forward = t.forward }
+note_tells s at (notes.Spindle turn n) t = t
+note_tells s at (notes.Coolant c) t = t
+note_tells s at (notes.Tool n) t = t
+note_tells s at notes.Rapid t = record { units = t.units; radius = t.radius; intol = t.intol; outtol = t.outtol; feed = t.feed; rapid = refl; position = t.position; forward = t.forward }
+note_tells s at notes.Stop t = t
+note_tells s at notes.OptStop t = t
+note_tells s at notes.End t = t
+note_tells s at notes.Fini t = t
+
+-- ---- moves
+
+nowhere_by_length : (x y : ℤ) → ((unsigned_abs x * unsigned_abs x + unsigned_abs y * unsigned_abs y) == 0) ≡ (int_eq x (pos 0) && int_eq y (pos 0))
+nowhere_by_length (pos zero) (pos zero) = refl
+nowhere_by_length (pos zero) (pos (suc n)) = refl
+nowhere_by_length (pos zero) (negsuc n) = refl
+nowhere_by_length (pos (suc m)) y = refl
+nowhere_by_length (negsuc m) y = refl
+
+forward_same : (p : Option Position) (to : Pt) (forward : Dir) → forward_behind p to forward ≡ forward_to p to forward
+forward_same None to forward = refl
+forward_same (Some from) to forward =
+    ap (λ (none : Bool). cond none forward (displacement from.at to)) (nowhere_by_length (to.x -ℤ from.at.x) (to.y -ℤ from.at.y))
+
+forward_tells : (s : Saying) (at : Situation) (to : Pt) → Tells s at → forward_behind at.position to at.forward ≡ forward_to s.position to s.forward
+forward_tells s at to t = rw (t.position, t.forward) (forward_same s.position to s.forward)
+
+point_tells : (s : Saying) (at : Situation) (reach : Reach) (to : Position) → Tells s at → Tells (with_point s reach to) (after at (effects.Moves reach to) [])
+point_tells s at reaches.From to t =
+    record { units = t.units; radius = t.radius; intol = t.intol; outtol = t.outtol; feed = t.feed; rapid = t.rapid; position = refl; forward = forward_tells s at to.at t }
+point_tells s at reaches.Goto to t =
+    record { units = t.units; radius = t.radius; intol = t.intol; outtol = t.outtol; feed = t.feed; rapid = refl; position = refl; forward = forward_tells s at to.at t }
+point_tells s at reaches.Godlta to t =
+    record { units = t.units; radius = t.radius; intol = t.intol; outtol = t.outtol; feed = t.feed; rapid = refl; position = refl; forward = forward_tells s at to.at t }
+point_tells s at reaches.Start to t =
+    record { units = t.units; radius = t.radius; intol = t.intol; outtol = t.outtol; feed = t.feed; rapid = refl; position = refl; forward = forward_tells s at to.at t }
+
+-- ---- contours
+
+last-at_height : (z : ℤ) (p : Pt) (vertices : List Pt) → last_position (Some (at_height z p)) (map (at_height z) vertices) ≡ Some (at_height z (last_of p vertices))
+last-at_height z p [] = refl
+last-at_height z p (v ∷ vs) = last-at_height z v vs
+
+at_points-at_height : (z : ℤ) (vertices : List Pt) → at_points (map (at_height z) vertices) ≡ vertices
+at_points-at_height z [] = refl
+at_points-at_height z (v ∷ vs) = ap (λ (ps : List Pt). v ∷ ps) (at_points-at_height z vs)
+
+forward_by_tangent : (surface : Surface) (sense : ℤ) (p : Pt) → heading sense (tangent surface p) ≡ forward_on surface sense p
+forward_by_tangent (surfaces.Line l) sense p = refl
+forward_by_tangent (surfaces.Circ c) sense p = refl
+
+counted_by_greater : (t : ℤ) → greater t grid_step ≡ counted t
+counted_by_greater t = grind (arith, ints)
+
+-- the drive and the check record of a motion
+abbrev drive_of : Motion → Drive
+drive_of m = record { surface = m.drive; side = m.side; sense = m.sense }
+
+abbrev check_of : Motion → Check
+check_of m = record { surface = m.check; how = m.how }
+
+abbrev with_surfaces : Saying → Motion → Saying
+with_surfaces s m = record s { drive = Some (drive_of m); check = Some (check_of m) }
+
+-- where the tool stands behind the vertices of a motion
+stands_behind : (s : Saying) (at : Situation) (m : Motion) (vertices : List Pt) → Tells s at → IsMotionOf at m
+    → last_position s.position (map (at_height m.start.z) vertices) ≡ Some (at_height m.start.z (last_of m.start.at vertices))
+stands_behind s at m vertices t is =
+    ap (λ (p : Option Position). last_position p (map (at_height m.start.z) vertices)) (sym t.position ∙ is.start) ∙ last-at_height m.start.z m.start.at vertices
+
+contour_tells : (s : Saying) (at : Situation) (m : Motion) (vertices : List Pt) → Tells s at → IsMotionOf at m
+    → Tells (with_record (with_surfaces s m) (records.Contour (map (at_height m.start.z) vertices))) (after at (effects.Cuts m) vertices)
+contour_tells s at m vertices t is =
+    let there = stands_behind s at m vertices t is in record {
+      units = t.units;
+      radius = t.radius;
+      intol = t.intol;
+      outtol = t.outtol;
+      feed = t.feed;
+      rapid = t.rapid;
+      position = sym there;
+      forward =
+          forward_by_tangent m.drive m.sense (last_of m.start.at vertices)
+          ∙ ap (λ (p : Option Position). forward_there (Some (drive_of m)) p s.forward) (sym there);
+    }
+
+same_motion : (s : Saying) (at : Situation) (m : Motion) → Tells s at → IsMotionOf at m → motion_said (with_surfaces s m) m.start (drive_of m) (check_of m) ≡ m
+same_motion s at m t is =
+    let radius : radius_by s.diameter ≡ m.radius = sym t.radius ∙ sym is.radius in
+    let inner : counted s.intol ≡ m.inner = ap counted (sym t.intol) ∙ sym (counted_by_greater at.settings.intol) ∙ sym is.inner in
+    let outer : counted s.outtol ≡ m.outer = ap counted (sym t.outtol) ∙ sym (counted_by_greater at.settings.outtol) ∙ sym is.outer in
+    rw (radius, inner, outer) refl
+
+contour_is : (s : Saying) (at : Situation) (m : Motion) (vertices : List Pt) → Tells s at → IsMotionOf at m
+    → contour_said (with_surfaces s m) (map (at_height m.start.z) vertices) ≡ Some (record { motion = m; vertices = vertices })
+contour_is s at m vertices t is =
+    rw (sym t.position ∙ is.start, same_motion s at m t is, at_points-at_height m.start.z vertices) refl
+
+-- ---- the records of a step
+
+abbrev pub cuts_by : Effect → List Pt → List Contour
+cuts_by (effects.Defines n f) vertices = []
+cuts_by (effects.Sets change) vertices = []
+cuts_by (effects.Moves reach to) vertices = []
+cuts_by (effects.Cuts m) vertices = record { motion = m; vertices = vertices } ∷ []
+
+-- what the records of an effect say, and the contours among them
+pub record SaysOn (s : Saying) (at : Situation) (step : Step) (e : Effect) (vertices : List Pt) : Type 0 where
+  pub tells : Tells (said_behind s (records_of step e vertices)) (after at e vertices)
+  pub contours : (rest : List Record) → contours_behind s (records_of step e vertices ++ rest) ≡ cuts_by e vertices ++ contours_behind (said_behind s (records_of step e vertices)) rest
+
+still_tells : (s : Saying) (at now : Situation) → Tells s at → now.settings.units ≡ at.settings.units → now.settings.radius ≡ at.settings.radius → now.settings.intol ≡ at.settings.intol
+    → now.settings.outtol ≡ at.settings.outtol → now.settings.feed ≡ at.settings.feed → now.settings.rapid ≡ at.settings.rapid → now.position ≡ at.position → now.forward ≡ at.forward → Tells s now
+still_tells s at now t a b c d e f g h = record {
+  units = a ∙ t.units;
+  radius = b ∙ t.radius;
+  intol = c ∙ t.intol;
+  outtol = d ∙ t.outtol;
+  feed = e ∙ t.feed;
+  rapid = f ∙ t.rapid;
+  position = g ∙ t.position;
+  forward = h ∙ t.forward;
+}
+
+pub says_on : (s : Saying) (at : Situation) (step : Step) (e : Effect) (vertices : List Pt) → Tells s at → effect_of at step.deed ≡ Some e → SaysOn s at step e vertices
+says_on s at step (effects.Defines n f) vertices t asked =
+    record { tells = still_tells s at (after at (effects.Defines n f) vertices) t refl refl refl refl refl refl refl refl; contours = λ rest. refl }
+says_on s at step (effects.Sets (changes.Said note)) vertices t asked = record { tells = note_tells s at note t; contours = λ rest. refl }
+says_on s at step (effects.Sets (changes.Side side)) vertices t asked =
+    record { tells = still_tells s at (after at (effects.Sets (changes.Side side)) vertices) t refl refl refl refl refl refl refl refl; contours = λ rest. refl }
+says_on s at step (effects.Sets changes.Nothing) vertices t asked = record { tells = t; contours = λ rest. refl }
+says_on s at step (effects.Moves reach to) vertices t asked = record { tells = point_tells s at reach to t; contours = λ rest. refl }
+says_on s at step (effects.Cuts m) vertices t asked =
+    let is = (effect_said at step.deed (effects.Cuts m) asked).1 in record {
+      tells = contour_tells s at m vertices t is;
+      contours = λ rest. ap (λ (o : Option Contour). listed o ++ contours_behind (said_behind s (records_of step (effects.Cuts m) vertices)) rest) (contour_is s at m vertices t is);
+    }
+
+-- ---- the walk
+
+said_behind-append : (s : Saying) (xs ys : List Record) → said_behind s (xs ++ ys) ≡ said_behind (said_behind s xs) ys
+said_behind-append s [] ys = refl
+said_behind-append s (x ∷ xs) ys = said_behind-append (with_record s x) xs ys
+
+-- the situation behind records that follow steps is what they say
+told_behind : (Allowed : Effect → List Pt → Type 0) (s : Saying) (at : Situation) (steps : List Step) (written : List Record) (behind : Situation) → Tells s at
+    → FollowsAs Allowed at steps written behind → Tells (said_behind s written) behind
+told_behind Allowed s at [] written behind t f = rw (f.0, f.1) t
+told_behind Allowed s at (step ∷ steps) written behind t f =
+    let e = f.0 in
+    let due = records_of step e f.1 in
+    let on = says_on s at step e f.1 t f.3.asked in
+    rw (f.3.front, said_behind-append s due f.2) (told_behind Allowed (said_behind s due) (after at e f.1) steps f.2 behind on.tells f.5)
+
+-- and what is allowed to the effects is a fact of the contours
+pub contours_are : (Allowed : Effect → List Pt → Type 0) (P : Motion → List Pt → Type 0) → ((e : Effect) (vertices : List Pt) (more : List Contour) → Allowed e vertices → EveryContour P more → EveryContour P (cuts_by e vertices ++ more))
+    → (s : Saying) (at : Situation) (steps : List Step) (written : List Record) (behind : Situation) → Tells s at → FollowsAs Allowed at steps written behind → EveryContour P (contours_behind s written)
+contours_are Allowed P join s at [] written behind t f = rw f.0 tt
+contours_are Allowed P join s at (step ∷ steps) written behind t f =
+    let e = f.0 in
+    let due = records_of step e f.1 in
+    let on = says_on s at step e f.1 t f.3.asked in
+    rw (f.3.front, on.contours f.2) (join e f.1 (contours_behind (said_behind s due) f.2) f.4 (contours_are Allowed P join (said_behind s due) (after at e f.1) steps f.2 behind on.tells f.5))
+
+-- and the other way round
+pub contours_allow : (Allowed : Effect → List Pt → Type 0) (P : Motion → List Pt → Type 0) → ((e : Effect) (vertices : List Pt) (more : List Contour) → EveryContour P (cuts_by e vertices ++ more) → Allowed e vertices × EveryContour P more)
+    → (s : Saying) (at : Situation) (steps : List Step) (written : List Record) (behind : Situation) → Tells s at → FollowsAs HasAny at steps written behind
+    → EveryContour P (contours_behind s written) → FollowsAs Allowed at steps written behind
+contours_allow Allowed P split s at [] written behind t f every = f
+contours_allow Allowed P split s at (step ∷ steps) written behind t f every =
+    let e = f.0 in
+    let due = records_of step e f.1 in
+    let on = says_on s at step e f.1 t f.3.asked in
+    let parts = split e f.1 (contours_behind (said_behind s due) f.2) (rw (f.3.front, on.contours f.2) at every) in
+    (e, f.1, f.2, f.3, parts.0, contours_allow Allowed P split (said_behind s due) (after at e f.1) steps f.2 behind on.tells f.5 parts.1)
+
+pub any_follows : (Allowed : Effect → List Pt → Type 0) (at : Situation) (steps : List Step) (written : List Record) (behind : Situation) → FollowsAs Allowed at steps written behind
+    → FollowsAs HasAny at steps written behind
+any_follows Allowed at [] written behind f = f
+any_follows Allowed at (step ∷ steps) written behind f = (f.0, f.1, f.2, f.3, tt, any_follows Allowed (after at f.0 f.1) steps f.2 behind f.5)
+
+pub follows : (Allowed : Effect → List Pt → Type 0) (steps : List Step) (written : List Record) (behind : Situation) → FollowsAs Allowed first_situation steps written behind → Follows steps written
+follows Allowed steps written behind f =
+    record { behind = behind; follow = any_follows Allowed first_situation steps written behind f; tells = told_behind Allowed nothing_said first_situation steps written behind nothing_tells f }
+
+-- ---- legal, and the compiler's own
+
+join_legal : (e : Effect) (vertices : List Pt) (more : List Contour) → CutsLegally e vertices → EveryContour IsLegalCut more → EveryContour IsLegalCut (cuts_by e vertices ++ more)
+join_legal (effects.Defines n f) vertices more legal later = later
+join_legal (effects.Sets change) vertices more legal later = later
+join_legal (effects.Moves reach to) vertices more legal later = later
+join_legal (effects.Cuts m) vertices more legal later = (legal, later)
+
+split_legal : (e : Effect) (vertices : List Pt) (more : List Contour) → EveryContour IsLegalCut (cuts_by e vertices ++ more) → CutsLegally e vertices × EveryContour IsLegalCut more
+split_legal (effects.Defines n f) vertices more every = (tt, every)
+split_legal (effects.Sets change) vertices more every = (tt, every)
+split_legal (effects.Moves reach to) vertices more every = (tt, every)
+split_legal (effects.Cuts m) vertices more every = every
+
+join_own : (e : Effect) (vertices : List Pt) (more : List Contour) → CutsOwn e vertices → EveryContour IsOwnCut more → EveryContour IsOwnCut (cuts_by e vertices ++ more)
+join_own (effects.Defines n f) vertices more own later = later
+join_own (effects.Sets change) vertices more own later = later
+join_own (effects.Moves reach to) vertices more own later = later
+join_own (effects.Cuts m) vertices more own later = (own, later)
+
+-- records that follow steps legally follow them, and their contours are legal; and the other way round
+pub legal_contours : (steps : List Step) (written : List Record) (behind : Situation) → FollowsAs CutsLegally first_situation steps written behind → EveryContour IsLegalCut (contours_of written)
+legal_contours steps written behind f = contours_are CutsLegally IsLegalCut join_legal nothing_said first_situation steps written behind nothing_tells f
+
+pub contours_legal : (steps : List Step) (written : List Record) (f : Follows steps written) → EveryContour IsLegalCut (contours_of written) → FollowsAs CutsLegally first_situation steps written f.behind
+contours_legal steps written f every = contours_allow CutsLegally IsLegalCut split_legal nothing_said first_situation steps written f.behind nothing_tells f.follow every
+
+pub own_contours : (steps : List Step) (written : List Record) (behind : Situation) → FollowsAs CutsOwn first_situation steps written behind → EveryContour IsOwnCut (contours_of written)
+own_contours steps written behind f = contours_are CutsOwn IsOwnCut join_own nothing_said first_situation steps written behind nothing_tells f

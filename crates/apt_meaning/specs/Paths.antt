@@ -1,0 +1,218 @@
+-- The path that a CL file says, read off its records alone, from left to right, as an inspector reads them with the file in hand.
+use Rattle.std.specs.Prelude.{ℕ, ◌+◌, ◌/◌, ℤ, pos, neg_ℤ, ◌-ℤ◌, ◌*ℤ◌, unsigned_abs, int_lt, ◌&&◌, Bool, true, false, List, [], ◌∷◌, ◌++◌, map, Option, Some, None, if◌then◌else◌}
+use Rattle.std.specs.Ordering.{int_eq}
+use Rattle.apt_words.specs.declared.Side.{Side}
+use Rattle.apt_words.specs.declared.Stop.{Stop}
+use Rattle.apt_words.specs.declared.Units.{Units}
+use Rattle.apt_words.specs.declared.Units.TheVariants as the_units
+use Rattle.apt_words.specs.Options.{◌>>=◌}
+use Rattle.apt_plane.specs.declared.figures.Pt.{Pt}
+use Rattle.apt_plane.specs.declared.figures.Dir.{Dir}
+use Rattle.apt_plane.specs.declared.figures.Surface.{Surface}
+use Rattle.apt_plane.specs.declared.figures.Surface.TheVariants as surfaces
+use Rattle.apt_cldata.specs.declared.record.Note.{Note}
+use Rattle.apt_cldata.specs.declared.record.Note.TheVariants as notes
+use Rattle.apt_cldata.specs.declared.record.Position.{Position}
+use Rattle.apt_cldata.specs.declared.record.Reach.{Reach}
+use Rattle.apt_cldata.specs.declared.record.Reach.TheVariants as reaches
+use Rattle.apt_cldata.specs.declared.record.Record.{Record}
+use Rattle.apt_cldata.specs.declared.record.Record.TheVariants as records
+use Rattle.apt_certify.specs.Legs.{IsBounded}
+use Rattle.apt_certify.specs.Legal.{IsLegal}
+use Rattle.apt_meaning.specs.declared.motion.Motion.{Motion}
+use Rattle.apt_meaning.specs.Motions.{leg_of}
+
+-- ---- what the records say so far
+
+-- a drive surface, the side of the cutter, and the sense along it
+pub record Drive : Type 0 where
+  pub surface : Surface
+  pub side : Side
+  pub sense : ℤ
+
+-- a check surface, and how a contour stops at it
+pub record Check : Type 0 where
+  pub surface : Surface
+  pub how : Stop
+
+-- the units; the cutter's diameter, INTOL and OUTTOL in grid units, and the feed in tenths, as they were said last; whether a RAPID is pending; where
+-- the tool stands, and which way is forward; and the last drive and check surface
+pub record Saying : Type 0 where
+  pub units : Units
+  pub diameter : ℤ
+  pub intol : ℤ
+  pub outtol : ℤ
+  pub feed : ℤ
+  pub rapid : Bool
+  pub position : Option Position
+  pub forward : Dir
+  pub drive : Option Drive
+  pub check : Option Check
+
+-- before the first record: inches, a cutter without a diameter, INTOL 0, OUTTOL 50 units, no feed, no position and no way forward
+abbrev pub nothing_said : Saying
+nothing_said = record {
+  units = the_units.Inch;
+  diameter = pos 0;
+  intol = pos 0;
+  outtol = pos 50;
+  feed = pos 0;
+  rapid = false;
+  position = None;
+  forward = record { dx = pos 0; dy = pos 0 };
+  drive = None;
+  check = None;
+}
+
+-- ---- moves
+
+-- the way from a point to another
+abbrev pub way : Pt → Pt → Dir
+way a b = record { dx = b.x -ℤ a.x; dy = b.y -ℤ a.y }
+
+abbrev pub is_nowhere : Dir → Bool
+is_nowhere d = int_eq d.dx (pos 0) && int_eq d.dy (pos 0)
+
+-- forward behind a way in x and y: the way, unless it leads nowhere, as a plunge
+abbrev pub forward_along : Dir → Dir → Dir
+forward_along forward d = if is_nowhere d then forward else d
+
+-- a move from nowhere, as a GOTO without FROM, leaves forward as it was
+abbrev pub forward_to : Option Position → Pt → Dir → Dir
+forward_to None to forward = forward
+forward_to (Some from) to forward = forward_along forward (way from.at to)
+
+-- forward on a surface at a point: a line's direction, or a circle's tangent anticlockwise, in the sense
+abbrev pub forward_on : Surface → ℤ → Pt → Dir
+forward_on (surfaces.Line l) sense p = record { dx = sense *ℤ l.dir.dx; dy = sense *ℤ l.dir.dy }
+forward_on (surfaces.Circ c) sense p = record { dx = sense *ℤ neg_ℤ (p.y -ℤ c.c.y); dy = sense *ℤ (p.x -ℤ c.c.x) }
+
+abbrev pub moved : Saying → Position → Saying
+moved s to = record s { position = Some to; forward = forward_to s.position to.at s.forward }
+
+-- GOTO, GODLTA and GO spend a pending RAPID, which FROM leaves
+abbrev pub with_point : Saying → Reach → Position → Saying
+with_point s reaches.From to = moved s to
+with_point s reaches.Goto to = record (moved s to) { rapid = false }
+with_point s reaches.Godlta to = record (moved s to) { rapid = false }
+with_point s reaches.Start to = record (moved s to) { rapid = false }
+
+-- ---- contours
+
+-- a tolerance counts as at least one grid step of 8 units
+abbrev pub counted : ℤ → ℤ
+counted t = if int_lt t (pos 8) then pos 8 else t
+
+-- half a diameter, rounded up
+abbrev pub radius_by : ℤ → ℤ
+radius_by d = pos ((unsigned_abs d + 1) / 2)
+
+-- a contour: the motion that is said of it, and its vertices
+pub record Contour : Type 0 where
+  pub motion : Motion
+  pub vertices : List Pt
+
+abbrev pub at_points : List Position → List Pt
+at_points ps = map (λ p. p.at) ps
+
+-- from where the tool stands, along the last drive surface, to the last check surface
+abbrev pub motion_said : Saying → Position → Drive → Check → Motion
+motion_said s start drive check = record {
+  start = start;
+  drive = drive.surface;
+  side = drive.side;
+  sense = drive.sense;
+  check = check.surface;
+  how = check.how;
+  radius = radius_by s.diameter;
+  inner = counted s.intol;
+  outer = counted s.outtol;
+}
+
+abbrev pub contour_said : Saying → List Position → Option Contour
+contour_said s vertices = do
+  start ← s.position
+  drive ← s.drive
+  check ← s.check
+  Some (record { motion = motion_said s start drive check; vertices = at_points vertices })
+
+-- the last of some positions, behind one
+abbrev pub last_position : Option Position → List Position → Option Position
+last_position p [] = p
+last_position p (v ∷ vs) = last_position (Some v) vs
+
+abbrev pub forward_there : Option Drive → Option Position → Dir → Dir
+forward_there None p forward = forward
+forward_there (Some d) None forward = forward
+forward_there (Some d) (Some p) forward = forward_on d.surface d.sense p.at
+
+-- behind a contour the tool stands at its last vertex, and forward is that of its drive surface there
+abbrev pub with_contour : Saying → List Position → Saying
+with_contour s vertices =
+    record s { position = last_position s.position vertices; forward = forward_there s.drive (last_position s.position vertices) s.forward }
+
+-- ---- the walk over records
+
+abbrev pub with_note : Saying → Note → Saying
+with_note s (notes.Partno text) = s
+with_note s (notes.Units units) = record s { units = units }
+with_note s (notes.Cutter d) = record s { diameter = d }
+with_note s (notes.Intol t) = record s { intol = t }
+with_note s (notes.Outtol t) = record s { outtol = t }
+with_note s (notes.Feed f) = record s { feed = f }
+with_note s (notes.Spindle turn n) = s
+with_note s (notes.Coolant c) = s
+with_note s (notes.Tool n) = s
+with_note s notes.Rapid = record s { rapid = true }
+with_note s notes.Stop = s
+with_note s notes.OptStop = s
+with_note s notes.End = s
+with_note s notes.Fini = s
+
+abbrev pub with_record : Saying → Record → Saying
+with_record s (records.Statement line step) = s
+with_record s (records.Note note) = with_note s note
+with_record s (records.Drive surface side sense) = record s { drive = Some (record { surface = surface; side = side; sense = sense }) }
+with_record s (records.Check surface how) = record s { check = Some (record { surface = surface; how = how }) }
+with_record s (records.Point reach to) = with_point s reach to
+with_record s (records.Contour vertices) = with_contour s vertices
+
+-- what a list of records says, behind what was said before
+abbrev pub said_behind : Saying → List Record → Saying
+said_behind s [] = s
+said_behind s (r ∷ rs) = said_behind (with_record s r) rs
+
+abbrev pub said_by : List Record → Saying
+said_by rs = said_behind nothing_said rs
+
+abbrev pub listed : {A : Type 0} → Option A → List A
+listed None = []
+listed (Some a) = a ∷ []
+
+abbrev pub record_contours : Saying → Record → List Contour
+record_contours s (records.Statement line step) = []
+record_contours s (records.Note note) = []
+record_contours s (records.Drive surface side sense) = []
+record_contours s (records.Check surface how) = []
+record_contours s (records.Point reach to) = []
+record_contours s (records.Contour vertices) = listed (contour_said s vertices)
+
+abbrev pub contours_behind : Saying → List Record → List Contour
+contours_behind s [] = []
+contours_behind s (r ∷ rs) = record_contours s r ++ contours_behind (with_record s r) rs
+
+-- the contours of a CL file, each with its motion
+abbrev pub contours_of : List Record → List Contour
+contours_of rs = contours_behind nothing_said rs
+
+-- ---- legal contours
+
+-- a motion whose leg has an edge that it must not pass, or an axis on which it ends, and is legal through these vertices
+pub record IsLegalCut (m : Motion) (vertices : List Pt) : Type 0 where
+  pub bounded : IsBounded (leg_of m)
+  pub legal : IsLegal (leg_of m) m.start.at vertices
+
+-- a fact of the motion and the vertices of every contour
+abbrev pub EveryContour : (Motion → List Pt → Type 0) → List Contour → Type 0
+EveryContour P [] = Unit {0}
+EveryContour P (c ∷ cs) = P c.motion c.vertices × EveryContour P cs
