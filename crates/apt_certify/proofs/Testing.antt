@@ -4,7 +4,7 @@ use Rattle.apt_plane.specs.declared.figures.Pt.{Pt}
 use Rattle.apt_plane.specs.Vectors.{scaled}
 use Rattle.apt_plane.specs.Distances.{InBand}
 use Rattle.apt_certify.specs.declared.leg.Leg.{Leg}
-use Rattle.apt_certify.specs.Legs.{IsWithinEdge, IsOnAxisOrNone}
+use Rattle.apt_certify.specs.Legs.{IsWithinSlack, IsOnAxisOrNone}
 use Rattle.apt_certify.specs.Legal.{IsSome, last_of, AreInOrder, EveryPointFrom, IsLegal}
 use Rattle.apt_certify.specs.Tests.{tests_from, AllHold}
 
@@ -12,7 +12,7 @@ use Rattle.apt_certify.specs.Tests.{tests_from, AllHold}
 record Keeps (leg : Leg) (start a : Pt) (vertices : List Pt) : Type 0 where
   order : AreInOrder leg start a vertices
   band : EveryPointFrom a vertices (InBand leg.drive leg.band)
-  edge : EveryPointFrom a vertices (IsWithinEdge leg leg.beyond)
+  edge : EveryPointFrom a vertices (IsWithinSlack leg leg.beyond)
   stop : InBand leg.check leg.stop_band (scaled (last_of a vertices))
   axis : IsOnAxisOrNone leg.axis (last_of a vertices)
 

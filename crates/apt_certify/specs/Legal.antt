@@ -4,7 +4,7 @@ use Rattle.apt_plane.specs.declared.figures.Pt.{Pt}
 use Rattle.apt_plane.specs.Vectors.{Scaled, scaled}
 use Rattle.apt_plane.specs.Distances.{InBand, EveryPoint}
 use Rattle.apt_certify.specs.declared.leg.Leg.{Leg}
-use Rattle.apt_certify.specs.Legs.{IsStep, IsWithinEdge, IsOnAxisOrNone}
+use Rattle.apt_certify.specs.Legs.{IsStep, IsWithinSlack, IsOnAxisOrNone}
 
 abbrev pub IsSome : List Pt → Type 0
 IsSome [] = ⊥
@@ -31,6 +31,6 @@ pub record IsLegal (leg : Leg) (start : Pt) (vertices : List Pt) : Type 0 where
   pub moves : IsSome vertices
   pub order : AreInOrder leg start start vertices
   pub band : EveryPointFrom start vertices (InBand leg.drive leg.band)
-  pub edge : EveryPointFrom start vertices (IsWithinEdge leg leg.beyond)
+  pub edge : EveryPointFrom start vertices (IsWithinSlack leg leg.beyond)
   pub stop : InBand leg.check leg.stop_band (scaled (last_of start vertices))
   pub axis : IsOnAxisOrNone leg.axis (last_of start vertices)

@@ -4,7 +4,7 @@ use Rattle.apt_plane.specs.declared.figures.Pt.{Pt}
 use Rattle.apt_plane.specs.Vectors.{scaled}
 use Rattle.apt_plane.specs.Distances.{InBand, EveryPoint}
 use Rattle.apt_certify.specs.declared.leg.Leg.{Leg}
-use Rattle.apt_certify.specs.Legs.{IsStep, IsWithinEdge, IsOnAxisOrNone}
+use Rattle.apt_certify.specs.Legs.{IsStep, IsWithinSlack, IsOnAxisOrNone}
 
 -- a segment goes onwards, stays in the drive band, and does not pass the edge; the last vertex is in the stop band, and on the axis
 pub data Test : Type 0 where
@@ -18,7 +18,7 @@ pub data Test : Type 0 where
 abbrev pub Holds : Leg → Pt → Test → Type 0
 Holds leg start (OrderOf a b) = IsStep leg.drive leg.sense start a b
 Holds leg start (BandOf a b) = EveryPoint a b (InBand leg.drive leg.band)
-Holds leg start (OverrunOf a b) = EveryPoint a b (IsWithinEdge leg leg.beyond)
+Holds leg start (OverrunOf a b) = EveryPoint a b (IsWithinSlack leg leg.beyond)
 Holds leg start (StopAt q) = InBand leg.check leg.stop_band (scaled q)
 Holds leg start (AxisAt q) = IsOnAxisOrNone leg.axis q
 

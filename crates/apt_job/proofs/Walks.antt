@@ -10,7 +10,7 @@ use Rattle.apt_meaning.specs.declared.situation.Situation.{Situation}
 use Rattle.apt_meaning.specs.declared.effect.Effect.{Effect}
 use Rattle.apt_meaning.specs.declared.effect.Effect.TheVariants as effects
 use Rattle.apt_meaning.specs.Paths.{Saying, Contour, contours_behind, said_behind, nothing_said, EveryContour, IsLegalCut, contours_of}
-use Rattle.apt_meaning.specs.Records.{MayHave, FollowsAs, HasAny, Follows, Tells, records_of, after}
+use Rattle.apt_meaning.specs.Records.{MayHave, FollowsAs, HasAny, Follows, IsAsSaid, records_of, after}
 use Rattle.apt_meaning.specs.Expectations.{expected, FailsAt}
 use Rattle.apt_meaning.specs.Situations.{first_situation}
 use Rattle.apt_meaning.proofs.Asked.{CutsLegally}
@@ -140,7 +140,7 @@ jobs_joined (effects.Sets change) vertices more cs same = same
 jobs_joined (effects.Moves reach to) vertices more cs same = same
 jobs_joined (effects.Cuts m) vertices more cs same = ap (λ (js : List Job). job_of m vertices ∷ js) same
 
-said_of : (s : Saying) (at : Situation) (steps : List Step) (written : List Record) (jobs : List Job) → Tells s at → MakesJobs at steps written jobs
+said_of : (s : Saying) (at : Situation) (steps : List Step) (written : List Record) (jobs : List Job) → IsAsSaid s at → MakesJobs at steps written jobs
     → jobs ≡ map job_said (contours_behind s written)
 said_of s at [] written jobs t makes = rw (makes.0, makes.1) refl
 said_of s at (step ∷ steps) written jobs t makes =

@@ -51,7 +51,7 @@ use Rattle.apt_meaning.specs.declared.effect.Change.TheVariants as changes
 use Rattle.apt_meaning.specs.declared.effect.Effect.{Effect}
 use Rattle.apt_meaning.specs.declared.effect.Effect.TheVariants as effects
 use Rattle.apt_meaning.specs.Situations.{lacks_feed, with_side, at_height}
-use Rattle.apt_meaning.specs.Motions.{as_surface, surface_in, contact, vertices_of, turn_at, if_turned, motion, motion_at}
+use Rattle.apt_meaning.specs.Motions.{as_surface, surface_in, end_point, vertices_of, turn_at, if_turned, motion, motion_at}
 use Rattle.apt_meaning.specs.StartUps.{goal_in, second_in, start_up_at, start_position, start_position_at}
 use Rattle.apt_meaning.specs.Effects.{note_of, moves, cuts, as_position, place_at, names, defined, position_by, moved_by, goes, effect_by, effect_of}
 use Rattle.apt_meaning.specs.Refusals.{is_other_kind, is_no_place, refused, refused_form, position_cases, place_cases, move_cases, note_cases, route_cases, motion_cases, turned_cases, surface_cases, contour_cases, start_cases, go_cases, cases_by, cases_of, refusal_of}
@@ -72,7 +72,7 @@ abbrev pub EndsThere : Effect → Type 0
 EndsThere (effects.Defines n f) = Unit {0}
 EndsThere (effects.Sets change) = Unit {0}
 EndsThere (effects.Moves reach to) = Unit {0}
-EndsThere (effects.Cuts m) = last_of m.start.at (vertices_of m) ≡ contact m
+EndsThere (effects.Cuts m) = last_of m.start.at (vertices_of m) ≡ end_point m
 
 -- a contour is legal
 abbrev pub CutsLegally : Effect → List Pt → Type 0

@@ -9,7 +9,7 @@ use Rattle.apt_cldata.specs.declared.record.Record.{Record}
 use Rattle.apt_meaning.specs.declared.situation.Situation.{Situation}
 use Rattle.apt_meaning.specs.declared.effect.Effect.{Effect}
 use Rattle.apt_meaning.specs.declared.effect.Effect.TheVariants as effects
-use Rattle.apt_meaning.specs.Motions.{contact, vertices_of}
+use Rattle.apt_meaning.specs.Motions.{end_point, vertices_of}
 use Rattle.apt_meaning.specs.Effects.{effect_of}
 use Rattle.apt_meaning.specs.Refusals.{refusal_of}
 use Rattle.apt_meaning.specs.Records.{records_of, after}
@@ -18,7 +18,7 @@ abbrev pub ends_of : Effect → List Pt
 ends_of (effects.Defines n f) = []
 ends_of (effects.Sets change) = []
 ends_of (effects.Moves reach to) = []
-ends_of (effects.Cuts m) = contact m ∷ []
+ends_of (effects.Cuts m) = end_point m ∷ []
 
 -- the vertices that it writes
 abbrev pub points_of : Effect → List Pt

@@ -89,8 +89,8 @@ abbrev pub stop_side : Motion → Sign
 stop_side m = kept_side (course_of m)
 
 -- where it ends
-abbrev pub contact : Motion → Pt
-contact m = end_of (course_of m)
+abbrev pub end_point : Motion → Pt
+end_point m = end_of (course_of m)
 
 -- ---- the leg
 
@@ -131,7 +131,7 @@ abbrev pub sag : Motion → ℤ → ℤ
 sag m r = lesser (r -ℤ (leg_of m).band.lo) (pos (unsigned_abs r / 4))
 
 abbrev pub arc_on : Motion → Pt → ℤ → Arc
-arc_on m c r = record { track = circle_about c r; sense = m.sense; axis = axis_towards c m.check; sag = sag m r; start = m.start.at; end = contact m }
+arc_on m c r = record { track = circle_about c r; sense = m.sense; axis = axis_towards c m.check; sag = sag m r; start = m.start.at; end = end_point m }
 
 -- the arc along which it runs, none along a line
 abbrev pub arc_along : Motion → Target → Option Arc
@@ -143,7 +143,7 @@ arc_of m = arc_along m (track_of m)
 
 -- its end alone along a line, and round a circle those of the arc's division
 abbrev pub vertices_on : Motion → Target → List Pt
-vertices_on m (targets.Line b d h) = contact m ∷ []
+vertices_on m (targets.Line b d h) = end_point m ∷ []
 vertices_on m (targets.Circ c r) = divided (arc_on m c r)
 
 abbrev pub vertices_of : Motion → List Pt

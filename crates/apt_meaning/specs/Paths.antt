@@ -1,6 +1,7 @@
 -- The path that a CL file says, read off its records alone, from left to right, as an inspector reads them with the file in hand.
-use Rattle.std.specs.Prelude.{ℕ, ◌+◌, ◌/◌, ℤ, pos, neg_ℤ, ◌-ℤ◌, ◌*ℤ◌, unsigned_abs, int_lt, ◌&&◌, Bool, true, false, List, [], ◌∷◌, ◌++◌, map, Option, Some, None, if◌then◌else◌}
+use Rattle.std.specs.Prelude.{◌+◌, ◌/◌, ℤ, pos, neg_ℤ, ◌-ℤ◌, ◌*ℤ◌, unsigned_abs, int_lt, ◌&&◌, Bool, true, false, List, [], ◌∷◌, ◌++◌, map, Option, Some, None, if◌then◌else◌}
 use Rattle.std.specs.Ordering.{int_eq}
+use Rattle.apt_words.specs.Asks.{listed}
 use Rattle.apt_words.specs.declared.Side.{Side}
 use Rattle.apt_words.specs.declared.Stop.{Stop}
 use Rattle.apt_words.specs.declared.Units.{Units}
@@ -67,8 +68,8 @@ nothing_said = record {
 -- ---- moves
 
 -- the way from a point to another
-abbrev pub way : Pt → Pt → Dir
-way a b = record { dx = b.x -ℤ a.x; dy = b.y -ℤ a.y }
+abbrev pub way_from : Pt → Pt → Dir
+way_from a b = record { dx = b.x -ℤ a.x; dy = b.y -ℤ a.y }
 
 abbrev pub is_nowhere : Dir → Bool
 is_nowhere d = int_eq d.dx (pos 0) && int_eq d.dy (pos 0)
@@ -80,7 +81,7 @@ forward_along forward d = if is_nowhere d then forward else d
 -- a move from nowhere, as a GOTO without FROM, leaves forward as it was
 abbrev pub forward_to : Option Position → Pt → Dir → Dir
 forward_to None to forward = forward
-forward_to (Some from) to forward = forward_along forward (way from.at to)
+forward_to (Some from) to forward = forward_along forward (way_from from.at to)
 
 -- forward on a surface at a point: a line's direction, or a circle's tangent anticlockwise, in the sense
 abbrev pub forward_on : Surface → ℤ → Pt → Dir
@@ -182,12 +183,8 @@ abbrev pub said_behind : Saying → List Record → Saying
 said_behind s [] = s
 said_behind s (r ∷ rs) = said_behind (with_record s r) rs
 
-abbrev pub said_by : List Record → Saying
-said_by rs = said_behind nothing_said rs
-
-abbrev pub listed : {A : Type 0} → Option A → List A
-listed None = []
-listed (Some a) = a ∷ []
+abbrev pub said_of : List Record → Saying
+said_of rs = said_behind nothing_said rs
 
 abbrev pub record_contours : Saying → Record → List Contour
 record_contours s (records.Statement line step) = []

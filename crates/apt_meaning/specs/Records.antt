@@ -1,10 +1,9 @@
 -- Which records answer which steps: what an effect writes, what it leaves, and the walk over both.
-use Rattle.std.specs.Prelude.{◌≡◌, true, List, [], ◌∷◌, ◌++◌, map, Option, Some}
+use Rattle.std.specs.Prelude.{◌≡◌, true, List, [], ◌∷◌, ◌++◌, map, Some}
 use Rattle.apt_plane.specs.declared.figures.Pt.{Pt}
 use Rattle.apt_words.specs.declared.deed.Step.{Step}
 use Rattle.apt_cldata.specs.declared.record.Record.{Record}
 use Rattle.apt_cldata.specs.declared.record.Record.TheVariants as records
-use Rattle.apt_cldata.specs.declared.record.Position.{Position}
 use Rattle.apt_defs.specs.Figures.{table_with}
 use Rattle.apt_offset.specs.Turns.{tangent}
 use Rattle.apt_stop.specs.Nearness.{heading}
@@ -19,9 +18,9 @@ use Rattle.apt_meaning.specs.declared.effect.Change.TheVariants as changes
 use Rattle.apt_meaning.specs.declared.effect.Effect.{Effect}
 use Rattle.apt_meaning.specs.declared.effect.Effect.TheVariants as effects
 use Rattle.apt_meaning.specs.Situations.{first_situation, changed, settings_behind, forward_behind, at_height}
-use Rattle.apt_meaning.specs.Motions.{track_of, contact, arc_on, is_defined}
+use Rattle.apt_meaning.specs.Motions.{track_of, end_point, arc_on, is_defined}
 use Rattle.apt_meaning.specs.Effects.{effect_of}
-use Rattle.apt_meaning.specs.Paths.{Saying, radius_by, said_by}
+use Rattle.apt_meaning.specs.Paths.{Saying, radius_by, said_of}
 
 -- ---- what an effect writes and leaves; only a contour has vertices, those of its leg behind the start
 
@@ -88,7 +87,7 @@ FollowsAs Allowed at (step ∷ steps) written behind =
 
 -- its end alone along a line, and round a circle a division of its arc
 abbrev pub IsOwnOn : Motion → Target → List Pt → Type 0
-IsOwnOn m (targets.Line b d h) vertices = vertices ≡ contact m ∷ []
+IsOwnOn m (targets.Line b d h) vertices = vertices ≡ end_point m ∷ []
 IsOwnOn m (targets.Circ c r) vertices = IsDivision (arc_on m c r) vertices
 
 abbrev pub IsOwnCut : Motion → List Pt → Type 0
@@ -97,7 +96,7 @@ IsOwnCut m vertices = IsOwnOn m (track_of m) vertices
 -- ---- what holds behind records, beside what they say by themselves
 
 -- a situation has the settings, the position and the forward direction that records have said
-pub record Tells (s : Saying) (at : Situation) : Type 0 where
+pub record IsAsSaid (s : Saying) (at : Situation) : Type 0 where
   pub units : at.settings.units ≡ s.units
   pub radius : at.settings.radius ≡ radius_by s.diameter
   pub intol : at.settings.intol ≡ s.intol
@@ -115,4 +114,4 @@ HasAny e vertices = Unit {0}
 pub record Follows (steps : List Step) (written : List Record) : Type 0 where
   pub behind : Situation
   pub follow : FollowsAs HasAny first_situation steps written behind
-  pub tells : Tells (said_by written) behind
+  pub tells : IsAsSaid (said_of written) behind

@@ -146,7 +146,7 @@ impl Motion {
     pub fn arc(&self, end: Pt) -> Option<Arc>
         requires motion { IsMotion self.now }
         requires room { targets.lacks_room (motions.track_of self.now) ≡ false }
-        requires end { end ≡ motions.contact self.now }
+        requires end { end ≡ motions.end_point self.now }
         ensures value { result ≡ motions.arc_of self.now }
         ensures range { NoneHolds (refusals.motion_cases self.now) → IfSome result IsArc }
     {
@@ -156,7 +156,7 @@ impl Motion {
     fn arc_to(&self, end: Pt) -> Option<Arc>
         requires motion { IsMotion self.now }
         requires room { targets.lacks_room (motions.track_of self.now) ≡ false }
-        requires end { end ≡ motions.contact self.now }
+        requires end { end ≡ motions.end_point self.now }
         ensures { result ≡ motions.arc_of self.now }
     {
         match self.track() {
@@ -168,7 +168,7 @@ impl Motion {
     fn arc_about(&self, c: Pt, r: i64, end: Pt) -> Arc
         requires motion { IsMotion self.now }
         requires track { IsCircleTarget c r }
-        requires end { end ≡ motions.contact self.now }
+        requires end { end ≡ motions.end_point self.now }
         ensures { result ≡ motions.arc_on self.now c r }
     {
         Arc {

@@ -26,7 +26,7 @@ use Rattle.apt_meaning.specs.declared.situation.Situation.{Situation}
 use Rattle.apt_meaning.specs.declared.effect.Effect.{Effect}
 use Rattle.apt_meaning.specs.declared.effect.Effect.TheVariants as effects
 use Rattle.apt_meaning.specs.Situations.{has_feed, with_side}
-use Rattle.apt_meaning.specs.Motions.{surface_in, motion, motion_at, turn_at, contact, arc_of, vertices_of, is_too_fine, track_of, stop_of, starts_on_check, course_of}
+use Rattle.apt_meaning.specs.Motions.{surface_in, motion, motion_at, turn_at, end_point, arc_of, vertices_of, is_too_fine, track_of, stop_of, starts_on_check, course_of}
 use Rattle.apt_meaning.specs.Effects.{cuts, effect_of}
 use Rattle.apt_meaning.specs.Records.{records_of, after}
 use Rattle.apt_meaning.specs.Refusals.{name_cases, motion_cases, surface_cases, refusal_of}
@@ -59,8 +59,8 @@ pub on_and_off : (b : Bool) → b ≡ true → b ≡ false → ⊥
 on_and_off b e f = cc
 
 pub motion_end : (m : Motion) (r : Result Pt Case) → lacks_room (track_of m) ≡ false → starts_on_check m ≡ false → lacks_room (stop_of m) ≡ false
-    → is_near (track_of m) off_track m.start.at ≡ true → r ≡ unless (course_cases (course_of m)) (contact m) → r ≡ unless (motion_cases m) (contact m)
-motion_end m r track on stop near is = is ∙ ap (λ f. unless_case f (contact m)) (sym (none_before (lacks_room (track_of m)) (starts_on_check m) (lacks_room (stop_of m)) (is_near (track_of m) off_track m.start.at) (course_cases (course_of m)) track on stop near))
+    → is_near (track_of m) off_track m.start.at ≡ true → r ≡ unless (course_cases (course_of m)) (end_point m) → r ≡ unless (motion_cases m) (end_point m)
+motion_end m r track on stop near is = is ∙ ap (λ f. unless_case f (end_point m)) (sym (none_before (lacks_room (track_of m)) (starts_on_check m) (lacks_room (stop_of m)) (is_near (track_of m) off_track m.start.at) (course_cases (course_of m)) track on stop near))
   where
     none_before : (a b c d : Bool) (rows : List Row) → a ≡ false → b ≡ false → c ≡ false → d ≡ true
         → first_of ((a, cases.NoRoom) ∷ (not b && c, cases.NoRoom) ∷ (not d, cases.OffDrive) ∷ (b, cases.OnCheck) ∷ rows) ≡ first_of rows
@@ -132,27 +132,27 @@ stops (Some other) case q e = ap Some (same_err case other e)
     same_err case other e = cc
 
 -- what a step asks for whose motion ends
-end_asked : (f : Option Case) (o : Option Effect) (m : Motion) (end : Pt) → IsMotionBy f o (Ok m) → Ok end ≡ unless (motion_cases m) (contact m)
-    → (asked f o ≡ Ok (effects.Cuts m)) × (end ≡ contact m)
+end_asked : (f : Option Case) (o : Option Effect) (m : Motion) (end : Pt) → IsMotionBy f o (Ok m) → Ok end ≡ unless (motion_cases m) (end_point m)
+    → (asked f o ≡ Ok (effects.Cuts m)) × (end ≡ end_point m)
 end_asked f o m end by is =
-    let at_end = ends (first_of (motion_cases m)) end (contact m) is in
+    let at_end = ends (first_of (motion_cases m)) end (end_point m) is in
     (rw (by.0, by.1, at_end.0) refl, at_end.1)
 
 pub has_passed : (at : Situation) (step : Step) (m : Motion) (end : Pt) → IsMotionBy (refusal_of at step.deed) (effect_of at step.deed) (Ok m)
-    → Ok end ≡ unless (motion_cases m) (contact m) → HasPassed at step (Ok (after at (effects.Cuts m) (end ∷ [])))
+    → Ok end ≡ unless (motion_cases m) (end_point m) → HasPassed at step (Ok (after at (effects.Cuts m) (end ∷ [])))
 has_passed at step m end by is =
     let asks = end_asked (refusal_of at step.deed) (effect_of at step.deed) m end by is in
     (effects.Cuts m, record { asks = asks.0; after = ap (λ p. after at (effects.Cuts m) (p ∷ [])) asks.1 })
 
 -- a motion whose end is known: no case refuses it
-pub known_end : (m : Motion) (end : Pt) → Ok end ≡ unless (motion_cases m) (contact m) → NoneHolds (motion_cases m) × (end ≡ contact m)
+pub known_end : (m : Motion) (end : Pt) → Ok end ≡ unless (motion_cases m) (end_point m) → NoneHolds (motion_cases m) × (end ≡ end_point m)
 known_end m end is =
-    let at_end = ends (first_of (motion_cases m)) end (contact m) is in
+    let at_end = ends (first_of (motion_cases m)) end (end_point m) is in
     (first_none (motion_cases m) at_end.0, at_end.1)
 
 pub has_cut : (so_far later : ℕ) (at behind : Situation) (step : Step) (before now : List Record) (m : Motion) (end : Pt)
-    → IsMotionBy (refusal_of at step.deed) (effect_of at step.deed) (Ok m) → Ok end ≡ unless (motion_cases m) (contact m)
-    → behind ≡ after at (effects.Cuts m) (contact m ∷ []) → now ≡ before ++ records_of step (effects.Cuts m) (vertices_of m)
+    → IsMotionBy (refusal_of at step.deed) (effect_of at step.deed) (Ok m) → Ok end ≡ unless (motion_cases m) (end_point m)
+    → behind ≡ after at (effects.Cuts m) (end_point m ∷ []) → now ≡ before ++ records_of step (effects.Cuts m) (vertices_of m)
     → later ≡ so_far + length (vertices_of m) → later ≤ most_points → HasAdvanced so_far later at step before now (Ok behind)
 has_cut so_far later at behind step before now m end by is behind_is now_is later_is few =
     let asks = end_asked (refusal_of at step.deed) (effect_of at step.deed) m end by is in
@@ -160,21 +160,21 @@ has_cut so_far later at behind step before now m end by is behind_is now_is late
     (effects.Cuts m, record { asks = ap (asked_within so_far) asks.0 ∙ within; after = behind_is; records = now_is; count = later_is })
 
 pub has_too_many : (so_far : ℕ) (at : Situation) (step : Step) (m : Motion) (end : Pt) → IsMotionBy (refusal_of at step.deed) (effect_of at step.deed) (Ok m)
-    → Ok end ≡ unless (motion_cases m) (contact m) → most_points < so_far + length (vertices_of m)
+    → Ok end ≡ unless (motion_cases m) (end_point m) → most_points < so_far + length (vertices_of m)
     → IsRefusedBehind so_far at step (refused_at step cases.TooManyPoints) cases.TooManyPoints
 has_too_many so_far at step m end by is many =
     let asks = end_asked (refusal_of at step.deed) (effect_of at step.deed) m end by is in
     record { asks = ap (asked_within so_far) asks.0 ∙ many_asked so_far (effects.Cuts m) many; told = refl }
 
-stop_asked : (f : Option Case) (o : Option Effect) (m : Motion) (case : Case) → IsMotionBy f o (Ok m) → Err case ≡ unless (motion_cases m) (contact m) → asked f o ≡ Err case
-stop_asked f o m case by is = rw (by.1 ∙ stops (first_of (motion_cases m)) case (contact m) is) refl
+stop_asked : (f : Option Case) (o : Option Effect) (m : Motion) (case : Case) → IsMotionBy f o (Ok m) → Err case ≡ unless (motion_cases m) (end_point m) → asked f o ≡ Err case
+stop_asked f o m case by is = rw (by.1 ∙ stops (first_of (motion_cases m)) case (end_point m) is) refl
 
 pub is_stopped : (at : Situation) (step : Step) (m : Motion) (case : Case) → IsMotionBy (refusal_of at step.deed) (effect_of at step.deed) (Ok m)
-    → Err case ≡ unless (motion_cases m) (contact m) → HasPassed at step (Err (errors.Refused (refused_at step case)))
+    → Err case ≡ unless (motion_cases m) (end_point m) → HasPassed at step (Err (errors.Refused (refused_at step case)))
 is_stopped at step m case by is = (case, record { asks = stop_asked (refusal_of at step.deed) (effect_of at step.deed) m case by is; told = refl })
 
 pub is_stopped_again : (so_far later : ℕ) (at : Situation) (step : Step) (before now : List Record) (m : Motion) (case : Case)
-    → IsMotionBy (refusal_of at step.deed) (effect_of at step.deed) (Ok m) → Err case ≡ unless (motion_cases m) (contact m)
+    → IsMotionBy (refusal_of at step.deed) (effect_of at step.deed) (Ok m) → Err case ≡ unless (motion_cases m) (end_point m)
     → HasAdvanced so_far later at step before now (Err (errors.Refused (refused_at step case)))
 is_stopped_again so_far later at step before now m case by is =
     (case, record { asks = ap (asked_within so_far) (stop_asked (refusal_of at step.deed) (effect_of at step.deed) m case by is); told = refl })
@@ -182,4 +182,4 @@ is_stopped_again so_far later at step before now m case by is =
 -- ---- the vertices round a circle
 
 pub round_vertices : (m : Motion) (arc : Arc) → Some arc ≡ arc_of m → divided arc ≡ vertices_of m
-round_vertices m arc is = ap (vertices_by (contact m)) is ∙ sym (vertices-vertices_by m)
+round_vertices m arc is = ap (vertices_by (end_point m)) is ∙ sym (vertices-vertices_by m)

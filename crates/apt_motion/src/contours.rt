@@ -131,7 +131,7 @@ fn turned_motion(
 /// The first case that refuses it: `NoRoom`, `OffDrive`, `OnCheck`, or one that refuses its course.
 pub(crate) fn end_of(m: &Motion) -> Result<Pt, Case>
     requires { IsMotion m.now }
-    ensures value { result ≡ unless (refusals.motion_cases m.now) (motions.contact m.now) }
+    ensures value { result ≡ unless (refusals.motion_cases m.now) (motions.end_point m.now) }
     ensures range { IfOk result IsPoint }
 {
     let track = m.track();

@@ -5,7 +5,7 @@ ghost use Rattle.apt_words.specs.Rows.{NoneHolds};
 ghost use Rattle.apt_plane.specs.Ranges.{IsPoint};
 ghost use Rattle.apt_cldata.specs.declared.record.Record.TheVariants as lines;
 ghost use Rattle.apt_meaning.specs.Compiled.{ends_of, points_of, most_points};
-ghost use Rattle.apt_meaning.specs.Motions.{contact, vertices_of};
+ghost use Rattle.apt_meaning.specs.Motions.{end_point, vertices_of};
 ghost use Rattle.apt_meaning.specs.Ranges.{IsSituation, IsEffect, IsMotion};
 ghost use Rattle.apt_meaning.specs.Refusals.{motion_cases};
 ghost use Rattle.apt_meaning.specs.Records as writing;
@@ -139,10 +139,10 @@ pub(crate) fn take_cut(
 ) -> Result<(), ArcError>
     requires motion { IsMotion motion.now }
     requires none { NoneHolds (motion_cases motion.now) }
-    requires end { end ≡ contact motion.now }
+    requires end { end ≡ end_point motion.now }
     requires point { IsPoint end }
     requires few { written.old.points ≤ most_points }
-    ensures after { OnOk result (at.new ≡ writing.after at.old (effects.Cuts motion.now) (contact motion.now ∷ [])) }
+    ensures after { OnOk result (at.new ≡ writing.after at.old (effects.Cuts motion.now) (end_point motion.now ∷ [])) }
     ensures records { OnOk result (written.new.records.items ≡ written.old.records.items ++ writing.records_of step.now (effects.Cuts motion.now) (vertices_of motion.now)) }
     ensures count { OnOk result (written.new.points ≡ written.old.points + length (vertices_of motion.now)) }
     ensures few { OnOk result (written.new.points ≤ most_points) }

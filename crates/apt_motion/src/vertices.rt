@@ -4,7 +4,7 @@ ghost use Rattle.std.specs.Prelude.{◌≡◌, ◌<◌, ◌≤◌, ◌↔◌, []
 ghost use Rattle.apt_words.specs.Rows.{NoneHolds};
 ghost use Rattle.apt_arc.specs.Made.{divided};
 ghost use Rattle.apt_arc.specs.Ranges.{IsArc};
-ghost use Rattle.apt_meaning.specs.Motions.{contact, vertices_of};
+ghost use Rattle.apt_meaning.specs.Motions.{end_point, vertices_of};
 ghost use Rattle.apt_meaning.specs.Ranges.{IsMotion};
 ghost use Rattle.apt_meaning.specs.Refusals.{motion_cases};
 ghost use Rattle.apt_meaning.specs.Situations.{at_height};
@@ -32,7 +32,7 @@ pub(crate) fn vertices(
 ) -> Result<Vertices, ArcError>
     requires motion { IsMotion motion.now }
     requires none { NoneHolds (motion_cases motion.now) }
-    requires end { end ≡ contact motion.now }
+    requires end { end ≡ end_point motion.now }
     ensures ok { IfOk result (λ vs. vs ≡ map (at_height motion.now.start.z) (vertices_of motion.now)) }
     ensures few { OnOk result (length (vertices_of motion.now) ≤ room) }
     ensures too_many { IsErrOf result ArcError.TooManyPoints ↔ (room < length (vertices_of motion.now)) }

@@ -33,7 +33,7 @@ use Rattle.apt_arc.specs.Made.{divided}
 use Rattle.apt_arc.specs.Ranges.{IsTrack, IsSag, IsArc}
 use Rattle.apt_arc.proofs.Tracks.{near_track}
 use Rattle.apt_meaning.specs.declared.motion.Motion.{Motion}
-use Rattle.apt_meaning.specs.Motions.{drive_side, check_side, course_of, contact, leg_of, lesser, sag, arc_on, arc_along, arc_of, vertices_on, vertices_of, track_of}
+use Rattle.apt_meaning.specs.Motions.{drive_side, check_side, course_of, end_point, leg_of, lesser, sag, arc_on, arc_along, arc_of, vertices_on, vertices_of, track_of}
 use Rattle.apt_meaning.specs.Refusals.{motion_cases}
 use Rattle.apt_meaning.specs.Ranges.{IsMotion}
 use Rattle.apt_meaning.proofs.Contours.Legal.{course_is}
@@ -134,7 +134,7 @@ elsewhere m d true e none = touch_elsewhere d m.check (touches (course_of (round
 
 -- ---- all of it
 
-pub ends_round : (m : Motion) (d : Circ) → IsMotion (round m d) → NoneHolds (motion_cases (round m d)) → EndsOnCircle (course_of (round m d)) d.c (contact (round m d))
+pub ends_round : (m : Motion) (d : Circ) → IsMotion (round m d) → NoneHolds (motion_cases (round m d)) → EndsOnCircle (course_of (round m d)) d.c (end_point (round m d))
 ends_round m d is none = course_ends (course_of (round m d)) (course_is (round m d) is none) none.1.1.1.1
 
 pub arc_is : (m : Motion) (d : Circ) → IsMotion (round m d) → NoneHolds (motion_cases (round m d)) → IsArc (arc_round m d)
@@ -146,7 +146,7 @@ arc_is m d is none =
       axis = towards-IsDir d.c m.check is.drive.centre is.check (elsewhere m d (is_tanto m.how) refl none.1.1.1.1);
       sag = sag_fits d.c (radius_round m d) (leg_of (round m d)).band.lo track.least (room_round m d is).lo;
       start = near_start d.c (radius_round m d) m.start.at track (not-false _ none.1.1.0);
-      end = near_end d.c (radius_round m d) (contact (round m d)) track ends.track;
+      end = near_end d.c (radius_round m d) (end_point (round m d)) track ends.track;
       apart = ends.apart;
     }
 
@@ -163,9 +163,9 @@ abbrev pub vertices_by : Pt → Option Arc → List Pt
 vertices_by end None = end ∷ []
 vertices_by end (Some arc) = divided arc
 
-vertices_along : (m : Motion) (track : Target) → vertices_on m track ≡ vertices_by (contact m) (arc_along m track)
+vertices_along : (m : Motion) (track : Target) → vertices_on m track ≡ vertices_by (end_point m) (arc_along m track)
 vertices_along m (targets.Line b d h) = refl
 vertices_along m (targets.Circ c r) = refl
 
-pub vertices-vertices_by : (m : Motion) → vertices_of m ≡ vertices_by (contact m) (arc_of m)
+pub vertices-vertices_by : (m : Motion) → vertices_of m ≡ vertices_by (end_point m) (arc_of m)
 vertices-vertices_by m = vertices_along m (track_of m)

@@ -12,7 +12,7 @@ use Rattle.apt_arc.proofs.Steps.{arc_steps}
 use Rattle.apt_certify.specs.Jobs.{ArePoints}
 use Rattle.apt_certify.specs.Legal.{IsSome, last_of}
 use Rattle.apt_meaning.specs.declared.motion.Motion.{Motion}
-use Rattle.apt_meaning.specs.Motions.{track_of, course_of, contact, vertices_of}
+use Rattle.apt_meaning.specs.Motions.{track_of, course_of, end_point, vertices_of}
 use Rattle.apt_meaning.specs.Refusals.{motion_cases}
 use Rattle.apt_meaning.specs.Ranges.{IsMotion}
 use Rattle.apt_meaning.specs.Paths.{IsLegalCut}
@@ -26,7 +26,7 @@ pub record IsCut (m : Motion) : Type 0 where
   pub own : IsOwnOn m (track_of m) (vertices_of m)
   pub some : 1 ≤ length (vertices_of m)
   pub points : ArePoints (vertices_of m)
-  pub ends : last_of m.start.at (vertices_of m) ≡ contact m
+  pub ends : last_of m.start.at (vertices_of m) ≡ end_point m
 
 at_least_one : (list : List Pt) → IsSome list → 1 ≤ length list
 at_least_one [] some = absurd some

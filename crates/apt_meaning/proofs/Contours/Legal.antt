@@ -33,7 +33,7 @@ use Rattle.apt_stop.proofs.Ended.{course_ends}
 use Rattle.apt_certify.specs.declared.leg.Leg.{Leg}
 use Rattle.apt_certify.specs.Legs.{beyond_of, IsBounded, IsOnAxisOrNone}
 use Rattle.apt_meaning.specs.declared.motion.Motion.{Motion}
-use Rattle.apt_meaning.specs.Motions.{track_of, stop_of, drive_side, check_side, starts_on_check, course_of, stop_side, contact, leg_of, has_track, has_bound, is_defined}
+use Rattle.apt_meaning.specs.Motions.{track_of, stop_of, drive_side, check_side, starts_on_check, course_of, stop_side, end_point, leg_of, has_track, has_bound, is_defined}
 use Rattle.apt_meaning.specs.Refusals.{motion_cases}
 use Rattle.apt_meaning.specs.Ranges.{IsMotion}
 use Rattle.apt_meaning.specs.Paths.{IsLegalCut}
@@ -141,20 +141,20 @@ ends_at_stop : (m : Motion) (d : Line) (q : Pt) (tanto : Bool) → is_tanto m.ho
 ends_at_stop m d q false e is ends = meets m d q is e ends
 ends_at_stop m d q true e is ends = touches m d q is e ends
 
-pub line_legal : (m : Motion) (d : Line) → IsMotion (along m d) → NoneHolds (motion_cases (along m d)) → IsLegalCut (along m d) (contact (along m d) ∷ [])
+pub line_legal : (m : Motion) (d : Line) → IsMotion (along m d) → NoneHolds (motion_cases (along m d)) → IsLegalCut (along m d) (end_point (along m d) ∷ [])
 line_legal m d is none =
     let course = course_is (along m d) is none in
-    let ends : EndsOnLine (course_of (along m d)) d.dir (contact (along m d)) = course_ends (course_of (along m d)) course none.1.1.1.1 in
+    let ends : EndsOnLine (course_of (along m d)) d.dir (end_point (along m d)) = course_ends (course_of (along m d)) course none.1.1.1.1 in
     let start = near-OnLine d (signed (drive_side (along m d)) m.radius) off_track m.start.at (not-false _ none.1.1.0) in
     let band = (leg_of (along m d)).band in
     let at_start = near_surface (surfaces.Line d) (drive_side (along m d)) m.radius m.inner m.outer (pos 3) m.start.at is.inner.least is.outer.least (omega (arith, ints)) start in
-    let at_end = near_surface (surfaces.Line d) (drive_side (along m d)) m.radius m.inner m.outer (pos 1) (contact (along m d)) is.inner.least is.outer.least (omega (arith, ints)) ends.track in
-    let stop = ends_at_stop (along m d) d (contact (along m d)) (is_tanto m.how) refl is ends in record {
+    let at_end = near_surface (surfaces.Line d) (drive_side (along m d)) m.radius m.inner m.outer (pos 1) (end_point (along m d)) is.inner.least is.outer.least (omega (arith, ints)) ends.track in
+    let stop = ends_at_stop (along m d) d (end_point (along m d)) (is_tanto m.how) refl is ends in record {
       bounded = leg_bounded (along m d) (bound_there (course_of (along m d)) course none.1.1.1.1);
       legal = record {
         moves = tt;
-        order = (rw (← heading_dot m.sense d.dir (displacement m.start.at (contact (along m d)))) ends.ahead, tt);
-        band = (in_band-between d band m.start.at (contact (along m d)) at_start at_end, tt);
+        order = (rw (← heading_dot m.sense d.dir (displacement m.start.at (end_point (along m d)))) ends.ahead, tt);
+        band = (in_band-between d band m.start.at (end_point (along m d)) at_start at_end, tt);
         edge = (stop.before, tt);
         stop = stop.stop;
         axis = stop.axis;

@@ -26,10 +26,10 @@ use Rattle.apt_arc.specs.Stops.{EveryChord}
 use Rattle.apt_arc.proofs.Divided.{divides}
 use Rattle.apt_arc.proofs.Steps.{arc_steps, division_ends}
 use Rattle.apt_certify.specs.Jobs.{ArePoints}
-use Rattle.apt_certify.specs.Legs.{IsWithinEdge, IsOnAxisOrNone}
+use Rattle.apt_certify.specs.Legs.{IsWithinSlack, IsOnAxisOrNone}
 use Rattle.apt_certify.specs.Legal.{IsSome, last_of, AreInOrder, EveryPointFrom}
 use Rattle.apt_meaning.specs.declared.motion.Motion.{Motion}
-use Rattle.apt_meaning.specs.Motions.{check_side, course_of, contact, leg_of, sag}
+use Rattle.apt_meaning.specs.Motions.{check_side, course_of, end_point, leg_of, sag}
 use Rattle.apt_meaning.specs.Refusals.{motion_cases}
 use Rattle.apt_meaning.specs.Ranges.{IsMotion}
 use Rattle.apt_meaning.specs.Paths.{IsLegalCut}
@@ -101,14 +101,14 @@ round_legal m d is none =
     let arc = arc_is m d is none in
     let list = divided (arc_round m d) in
     let steps = arc_steps (arc_round m d) arc in
-    let last = steps_last (circle_about d.c (radius_round m d)) (arc_round m d).sag m.sense m.start.at m.start.at (contact (round m d)) list steps in
-    let ends = subst (EndsThere (round m d)) (sym last) (ends_there m d (contact (round m d)) (is_tanto m.how) refl is (ends_round m d is none)) in record {
+    let last = steps_last (circle_about d.c (radius_round m d)) (arc_round m d).sag m.sense m.start.at m.start.at (end_point (round m d)) list steps in
+    let ends = subst (EndsThere (round m d)) (sym last) (ends_there m d (end_point (round m d)) (is_tanto m.how) refl is (ends_round m d is none)) in record {
       bounded = leg_bounded (round m d) (bound_there (course_of (round m d)) (course_is (round m d) is none) none.1.1.1.1);
       legal = record {
         moves = some_chord (arc_round m d) arc;
-        order = steps_order m d m.start.at m.start.at (contact (round m d)) list steps;
-        band = steps_band m d m.start.at m.start.at (contact (round m d)) list is steps;
-        edge = every_chord (IsWithinEdge (leg_of (round m d)) (leg_of (round m d)).beyond) m.start.at list (round_within m d is none);
+        order = steps_order m d m.start.at m.start.at (end_point (round m d)) list steps;
+        band = steps_band m d m.start.at m.start.at (end_point (round m d)) list is steps;
+        edge = every_chord (IsWithinSlack (leg_of (round m d)) (leg_of (round m d)).beyond) m.start.at list (round_within m d is none);
         stop = ends.stop;
         axis = ends.axis;
       };

@@ -1,10 +1,10 @@
 -- Records that follow steps say by themselves where they lead, and which contours they have.
-use Rattle.std.proofs.Common.{◌≡◌, ◌∙◌, ℕ, ◌+◌, ◌*◌, zero, suc, ℤ, pos, negsuc, unsigned_abs, int_le, int_lt, ◌==◌, Bool, true, false, List, [], ◌∷◌, ◌++◌, map, Option, Some, None, refl, sym, ap, subst, cond, arith}
-use Rattle.std.specs.Prelude.{◌&&◌, ◌-ℤ◌}
+use Rattle.std.proofs.Common.{◌≡◌, ◌∙◌, ℕ, ◌+◌, ◌*◌, zero, suc, ℤ, pos, negsuc, unsigned_abs, ◌==◌, Bool, true, false, List, [], ◌∷◌, ◌++◌, map, Option, Some, None, refl, sym, ap, cond, arith}
+use Rattle.std.specs.Prelude.{◌&&◌}
 use Rattle.std.specs.Ordering.{int_eq}
+use Rattle.std.proofs.lemmas.Bool.Decides.{Decides-eqb, Decides-int_eq}
 use Rattle.std.proofs.lemmas.Int.{ints}
-use Rattle.apt_words.specs.declared.Side.{Side}
-use Rattle.apt_words.specs.declared.deed.Deed.{Deed}
+use Rattle.apt_words.specs.Asks.{listed}
 use Rattle.apt_words.specs.declared.deed.Step.{Step}
 use Rattle.apt_plane.specs.declared.figures.Pt.{Pt}
 use Rattle.apt_plane.specs.declared.figures.Dir.{Dir}
@@ -30,17 +30,18 @@ use Rattle.apt_meaning.specs.declared.effect.Effect.TheVariants as effects
 use Rattle.apt_meaning.specs.Situations.{first_situation, settings_with, forward_behind, at_height}
 use Rattle.apt_meaning.specs.Motions.{grid_step}
 use Rattle.apt_meaning.specs.Effects.{effect_of}
-use Rattle.apt_meaning.specs.Paths.{Drive, Check, Saying, nothing_said, way, is_nowhere, forward_to, forward_on, forward_there, with_point, counted, radius_by, Contour, at_points, last_position, motion_said, contour_said, with_note, with_record, said_behind, said_by, listed, contours_behind, contours_of, IsLegalCut, EveryContour}
-use Rattle.apt_meaning.specs.Records.{records_of, after, FollowsAs, HasAny, Tells, Follows, IsOwnCut}
+use Rattle.apt_meaning.specs.Paths.{Drive, Check, Saying, nothing_said, is_nowhere, forward_to, forward_on, forward_there, with_point, counted, radius_by, Contour, at_points, last_position, motion_said, contour_said, with_note, with_record, said_behind, contours_behind, contours_of, IsLegalCut, EveryContour}
+use Rattle.apt_meaning.specs.Records.{records_of, after, FollowsAs, HasAny, IsAsSaid, Follows, IsOwnCut}
 use Rattle.apt_meaning.proofs.Said.{IsMotionOf, said_by as effect_said}
 use Rattle.apt_meaning.proofs.Asked.{CutsLegally, CutsOwn}
+use Rattle.apt_meaning.proofs.Walks.Begins.{both}
 
 -- ---- notes
 
-pub nothing_tells : Tells nothing_said first_situation
+pub nothing_tells : IsAsSaid nothing_said first_situation
 nothing_tells = record { units = refl; radius = refl; intol = refl; outtol = refl; feed = refl; rapid = refl; position = refl; forward = refl }
 
-note_tells : (s : Saying) (at : Situation) (note : Note) → Tells s at → Tells (with_note s note) (record at { settings = settings_with at.settings note })
+note_tells : (s : Saying) (at : Situation) (note : Note) → IsAsSaid s at → IsAsSaid (with_note s note) (record at { settings = settings_with at.settings note })
 note_tells s at (notes.Partno text) t = t
 note_tells s at (notes.Units units) t = record { units = refl; radius = t.radius; intol = t.intol; outtol = t.outtol; feed = t.feed; rapid = t.rapid; position = t.position; forward = t.forward }
 note_tells s at (notes.Cutter d) t = record { units = t.units; radius = refl; intol = t.intol; outtol = t.outtol; feed = t.feed; rapid = t.rapid; position = t.position; forward = t.forward }
@@ -58,22 +59,40 @@ note_tells s at notes.Fini t = t
 
 -- ---- moves
 
-nowhere_by_length : (x y : ℤ) → ((unsigned_abs x * unsigned_abs x + unsigned_abs y * unsigned_abs y) == 0) ≡ (int_eq x (pos 0) && int_eq y (pos 0))
-nowhere_by_length (pos zero) (pos zero) = refl
-nowhere_by_length (pos zero) (pos (suc n)) = refl
-nowhere_by_length (pos zero) (negsuc n) = refl
-nowhere_by_length (pos (suc m)) y = refl
-nowhere_by_length (negsuc m) y = refl
+same_bool : (a b : Bool) → (a ≡ true → b ≡ true) → (b ≡ true → a ≡ true) → a ≡ b
+same_bool true true f g = refl
+same_bool true false f g = sym (f refl)
+same_bool false true f g = g refl
+same_bool false false f g = refl
+
+no_square : (x : ℤ) (n : ℕ) → unsigned_abs x * unsigned_abs x + n ≡ 0 → x ≡ pos 0
+no_square (pos zero) n e = refl
+no_square (pos (suc m)) n e = absurd (omega (arith, e))
+no_square (negsuc m) n e = absurd (omega (arith, e))
+
+both_hold : (a b : Bool) → a ≡ true → b ≡ true → (a && b) ≡ true
+both_hold a b e f = rw (e, f) refl
+
+-- a way leads nowhere where its length is 0
+nowhere_by_length : (d : Dir) → (length_squared d == 0) ≡ is_nowhere d
+nowhere_by_length d =
+    let n = unsigned_abs d.dx * unsigned_abs d.dx in
+    let m = unsigned_abs d.dy * unsigned_abs d.dy in
+    same_bool (length_squared d == 0) (is_nowhere d)
+    (λ short. let none : n + m ≡ 0 = (Decides-eqb (n + m) 0).0 short in
+    both_hold (int_eq d.dx (pos 0)) (int_eq d.dy (pos 0)) ((Decides-int_eq d.dx (pos 0)).1 (no_square d.dx m none)) ((Decides-int_eq d.dy (pos 0)).1 (no_square d.dy n (omega (arith, none)))))
+    (λ still. let parts = both (int_eq d.dx (pos 0)) (int_eq d.dy (pos 0)) still in
+    (Decides-eqb (n + m) 0).1 (rw ((Decides-int_eq d.dx (pos 0)).0 parts.0, (Decides-int_eq d.dy (pos 0)).0 parts.1) refl))
 
 forward_same : (p : Option Position) (to : Pt) (forward : Dir) → forward_behind p to forward ≡ forward_to p to forward
 forward_same None to forward = refl
 forward_same (Some from) to forward =
-    ap (λ (none : Bool). cond none forward (displacement from.at to)) (nowhere_by_length (to.x -ℤ from.at.x) (to.y -ℤ from.at.y))
+    ap (λ (none : Bool). cond none forward (displacement from.at to)) (nowhere_by_length (displacement from.at to))
 
-forward_tells : (s : Saying) (at : Situation) (to : Pt) → Tells s at → forward_behind at.position to at.forward ≡ forward_to s.position to s.forward
+forward_tells : (s : Saying) (at : Situation) (to : Pt) → IsAsSaid s at → forward_behind at.position to at.forward ≡ forward_to s.position to s.forward
 forward_tells s at to t = rw (t.position, t.forward) (forward_same s.position to s.forward)
 
-point_tells : (s : Saying) (at : Situation) (reach : Reach) (to : Position) → Tells s at → Tells (with_point s reach to) (after at (effects.Moves reach to) [])
+point_tells : (s : Saying) (at : Situation) (reach : Reach) (to : Position) → IsAsSaid s at → IsAsSaid (with_point s reach to) (after at (effects.Moves reach to) [])
 point_tells s at reaches.From to t =
     record { units = t.units; radius = t.radius; intol = t.intol; outtol = t.outtol; feed = t.feed; rapid = t.rapid; position = refl; forward = forward_tells s at to.at t }
 point_tells s at reaches.Goto to t =
@@ -111,13 +130,13 @@ abbrev with_surfaces : Saying → Motion → Saying
 with_surfaces s m = record s { drive = Some (drive_of m); check = Some (check_of m) }
 
 -- where the tool stands behind the vertices of a motion
-stands_behind : (s : Saying) (at : Situation) (m : Motion) (vertices : List Pt) → Tells s at → IsMotionOf at m
+stands_behind : (s : Saying) (at : Situation) (m : Motion) (vertices : List Pt) → IsAsSaid s at → IsMotionOf at m
     → last_position s.position (map (at_height m.start.z) vertices) ≡ Some (at_height m.start.z (last_of m.start.at vertices))
 stands_behind s at m vertices t is =
     ap (λ (p : Option Position). last_position p (map (at_height m.start.z) vertices)) (sym t.position ∙ is.start) ∙ last-at_height m.start.z m.start.at vertices
 
-contour_tells : (s : Saying) (at : Situation) (m : Motion) (vertices : List Pt) → Tells s at → IsMotionOf at m
-    → Tells (with_record (with_surfaces s m) (records.Contour (map (at_height m.start.z) vertices))) (after at (effects.Cuts m) vertices)
+contour_tells : (s : Saying) (at : Situation) (m : Motion) (vertices : List Pt) → IsAsSaid s at → IsMotionOf at m
+    → IsAsSaid (with_record (with_surfaces s m) (records.Contour (map (at_height m.start.z) vertices))) (after at (effects.Cuts m) vertices)
 contour_tells s at m vertices t is =
     let there = stands_behind s at m vertices t is in record {
       units = t.units;
@@ -132,14 +151,14 @@ contour_tells s at m vertices t is =
           ∙ ap (λ (p : Option Position). forward_there (Some (drive_of m)) p s.forward) (sym there);
     }
 
-same_motion : (s : Saying) (at : Situation) (m : Motion) → Tells s at → IsMotionOf at m → motion_said (with_surfaces s m) m.start (drive_of m) (check_of m) ≡ m
+same_motion : (s : Saying) (at : Situation) (m : Motion) → IsAsSaid s at → IsMotionOf at m → motion_said (with_surfaces s m) m.start (drive_of m) (check_of m) ≡ m
 same_motion s at m t is =
     let radius : radius_by s.diameter ≡ m.radius = sym t.radius ∙ sym is.radius in
     let inner : counted s.intol ≡ m.inner = ap counted (sym t.intol) ∙ sym (counted_by_greater at.settings.intol) ∙ sym is.inner in
     let outer : counted s.outtol ≡ m.outer = ap counted (sym t.outtol) ∙ sym (counted_by_greater at.settings.outtol) ∙ sym is.outer in
     rw (radius, inner, outer) refl
 
-contour_is : (s : Saying) (at : Situation) (m : Motion) (vertices : List Pt) → Tells s at → IsMotionOf at m
+contour_is : (s : Saying) (at : Situation) (m : Motion) (vertices : List Pt) → IsAsSaid s at → IsMotionOf at m
     → contour_said (with_surfaces s m) (map (at_height m.start.z) vertices) ≡ Some (record { motion = m; vertices = vertices })
 contour_is s at m vertices t is =
     rw (sym t.position ∙ is.start, same_motion s at m t is, at_points-at_height m.start.z vertices) refl
@@ -154,11 +173,11 @@ cuts_by (effects.Cuts m) vertices = record { motion = m; vertices = vertices } �
 
 -- what the records of an effect say, and the contours among them
 pub record SaysOn (s : Saying) (at : Situation) (step : Step) (e : Effect) (vertices : List Pt) : Type 0 where
-  pub tells : Tells (said_behind s (records_of step e vertices)) (after at e vertices)
+  pub tells : IsAsSaid (said_behind s (records_of step e vertices)) (after at e vertices)
   pub contours : (rest : List Record) → contours_behind s (records_of step e vertices ++ rest) ≡ cuts_by e vertices ++ contours_behind (said_behind s (records_of step e vertices)) rest
 
-still_tells : (s : Saying) (at now : Situation) → Tells s at → now.settings.units ≡ at.settings.units → now.settings.radius ≡ at.settings.radius → now.settings.intol ≡ at.settings.intol
-    → now.settings.outtol ≡ at.settings.outtol → now.settings.feed ≡ at.settings.feed → now.settings.rapid ≡ at.settings.rapid → now.position ≡ at.position → now.forward ≡ at.forward → Tells s now
+still_tells : (s : Saying) (at now : Situation) → IsAsSaid s at → now.settings.units ≡ at.settings.units → now.settings.radius ≡ at.settings.radius → now.settings.intol ≡ at.settings.intol
+    → now.settings.outtol ≡ at.settings.outtol → now.settings.feed ≡ at.settings.feed → now.settings.rapid ≡ at.settings.rapid → now.position ≡ at.position → now.forward ≡ at.forward → IsAsSaid s now
 still_tells s at now t a b c d e f g h = record {
   units = a ∙ t.units;
   radius = b ∙ t.radius;
@@ -170,7 +189,7 @@ still_tells s at now t a b c d e f g h = record {
   forward = h ∙ t.forward;
 }
 
-pub says_on : (s : Saying) (at : Situation) (step : Step) (e : Effect) (vertices : List Pt) → Tells s at → effect_of at step.deed ≡ Some e → SaysOn s at step e vertices
+pub says_on : (s : Saying) (at : Situation) (step : Step) (e : Effect) (vertices : List Pt) → IsAsSaid s at → effect_of at step.deed ≡ Some e → SaysOn s at step e vertices
 says_on s at step (effects.Defines n f) vertices t asked =
     record { tells = still_tells s at (after at (effects.Defines n f) vertices) t refl refl refl refl refl refl refl refl; contours = λ rest. refl }
 says_on s at step (effects.Sets (changes.Said note)) vertices t asked = record { tells = note_tells s at note t; contours = λ rest. refl }
@@ -191,8 +210,8 @@ said_behind-append s [] ys = refl
 said_behind-append s (x ∷ xs) ys = said_behind-append (with_record s x) xs ys
 
 -- the situation behind records that follow steps is what they say
-told_behind : (Allowed : Effect → List Pt → Type 0) (s : Saying) (at : Situation) (steps : List Step) (written : List Record) (behind : Situation) → Tells s at
-    → FollowsAs Allowed at steps written behind → Tells (said_behind s written) behind
+told_behind : (Allowed : Effect → List Pt → Type 0) (s : Saying) (at : Situation) (steps : List Step) (written : List Record) (behind : Situation) → IsAsSaid s at
+    → FollowsAs Allowed at steps written behind → IsAsSaid (said_behind s written) behind
 told_behind Allowed s at [] written behind t f = rw (f.0, f.1) t
 told_behind Allowed s at (step ∷ steps) written behind t f =
     let e = f.0 in
@@ -202,7 +221,7 @@ told_behind Allowed s at (step ∷ steps) written behind t f =
 
 -- and what is allowed to the effects is a fact of the contours
 pub contours_are : (Allowed : Effect → List Pt → Type 0) (P : Motion → List Pt → Type 0) → ((e : Effect) (vertices : List Pt) (more : List Contour) → Allowed e vertices → EveryContour P more → EveryContour P (cuts_by e vertices ++ more))
-    → (s : Saying) (at : Situation) (steps : List Step) (written : List Record) (behind : Situation) → Tells s at → FollowsAs Allowed at steps written behind → EveryContour P (contours_behind s written)
+    → (s : Saying) (at : Situation) (steps : List Step) (written : List Record) (behind : Situation) → IsAsSaid s at → FollowsAs Allowed at steps written behind → EveryContour P (contours_behind s written)
 contours_are Allowed P join s at [] written behind t f = rw f.0 tt
 contours_are Allowed P join s at (step ∷ steps) written behind t f =
     let e = f.0 in
@@ -212,7 +231,7 @@ contours_are Allowed P join s at (step ∷ steps) written behind t f =
 
 -- and the other way round
 pub contours_allow : (Allowed : Effect → List Pt → Type 0) (P : Motion → List Pt → Type 0) → ((e : Effect) (vertices : List Pt) (more : List Contour) → EveryContour P (cuts_by e vertices ++ more) → Allowed e vertices × EveryContour P more)
-    → (s : Saying) (at : Situation) (steps : List Step) (written : List Record) (behind : Situation) → Tells s at → FollowsAs HasAny at steps written behind
+    → (s : Saying) (at : Situation) (steps : List Step) (written : List Record) (behind : Situation) → IsAsSaid s at → FollowsAs HasAny at steps written behind
     → EveryContour P (contours_behind s written) → FollowsAs Allowed at steps written behind
 contours_allow Allowed P split s at [] written behind t f every = f
 contours_allow Allowed P split s at (step ∷ steps) written behind t f every =

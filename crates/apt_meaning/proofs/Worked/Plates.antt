@@ -20,7 +20,7 @@ use Rattle.apt_meaning.specs.declared.situation.Settings.{Settings}
 use Rattle.apt_meaning.specs.declared.situation.Situation.{Situation}
 use Rattle.apt_meaning.specs.declared.motion.Motion.{Motion}
 use Rattle.apt_meaning.specs.Situations.{first_settings, position_at}
-use Rattle.apt_meaning.specs.Motions.{motion_at, contact, leg_of}
+use Rattle.apt_meaning.specs.Motions.{motion_at, end_point, leg_of}
 use Rattle.apt_meaning.specs.StartUps.{start_up_at}
 use Rattle.apt_meaning.specs.Refusals.{refusal_of}
 
@@ -100,7 +100,7 @@ pub runs_along : motion_at at_corner None turns.Right (codes "L1") stops.Past (c
 unfolding motion_at
 runs_along = refl
 
-contact_is : contact along_lower ≡ point (pos 525000) (neg_ℤ (pos 25000))
+contact_is : end_point along_lower ≡ point (pos 525000) (neg_ℤ (pos 25000))
 unfolding root
 contact_is = refl
 

@@ -27,7 +27,7 @@ use Rattle.apt_meaning.specs.declared.motion.Motion.{Motion}
 use Rattle.apt_meaning.specs.declared.effect.Effect.{Effect}
 use Rattle.apt_meaning.specs.declared.effect.Effect.TheVariants as effects
 use Rattle.apt_meaning.specs.Situations.{first_settings, position_at}
-use Rattle.apt_meaning.specs.Motions.{motion_at, contact}
+use Rattle.apt_meaning.specs.Motions.{motion_at, end_point}
 use Rattle.apt_meaning.specs.StartUps.{start_up_at}
 use Rattle.apt_meaning.specs.Effects.{effect_of}
 use Rattle.apt_meaning.specs.Records.{effect_records, after}
@@ -175,19 +175,19 @@ unfolding root motion_at
 contour_on = refl
 
 -- under TLON the centre runs on the line, else beside it; it stops beside the check line, on it, or past it
-to_line : contact (stopping stops.To sides.On) ≡ record { x = pos 87500; y = pos 0 }
+to_line : end_point (stopping stops.To sides.On) ≡ record { x = pos 87500; y = pos 0 }
 unfolding root
 to_line = refl
 
-on_line : contact (stopping stops.On sides.On) ≡ record { x = pos 100000; y = pos 0 }
+on_line : end_point (stopping stops.On sides.On) ≡ record { x = pos 100000; y = pos 0 }
 unfolding root
 on_line = refl
 
-past_line : contact (stopping stops.Past sides.On) ≡ record { x = pos 112500; y = pos 0 }
+past_line : end_point (stopping stops.Past sides.On) ≡ record { x = pos 112500; y = pos 0 }
 unfolding root
 past_line = refl
 
-on_line_beside : contact (stopping stops.On sides.Left) ≡ record { x = pos 100000; y = pos 12500 }
+on_line_beside : end_point (stopping stops.On sides.Left) ≡ record { x = pos 100000; y = pos 12500 }
 unfolding root
 on_line_beside = refl
 
