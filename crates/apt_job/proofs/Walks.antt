@@ -15,7 +15,7 @@ use Rattle.apt_meaning.specs.Expectations.{expected, FailsAt}
 use Rattle.apt_meaning.specs.Situations.{first_situation}
 use Rattle.apt_meaning.proofs.Asked.{CutsLegally}
 use Rattle.apt_meaning.proofs.Contours.Legal.{defined_bounded}
-use Rattle.apt_meaning.proofs.Walks.Alone.{cuts_by, says_on, nothing_tells, follows, legal_contours, contours_legal}
+use Rattle.apt_meaning.proofs.Walks.Alone.{cuts_by, says_on, nothing_tells, follows, legal_contours}
 use Rattle.apt_meaning.proofs.Walks.Begins.{begins_once, begins_no_departs, departs_once}
 use Rattle.apt_job.specs.declared.error.JobError.{JobError}
 use Rattle.apt_job.specs.declared.error.JobError.TheVariants as errors

@@ -114,7 +114,7 @@ fn take(
 /// # Errors
 ///
 /// `Entry` has the number of the first record that does not answer the steps, from 1.
-#[tactic(auto, using(crate::proofs::Walks::jobs_follow, crate::proofs::Walks::jobs_are_said, crate::proofs::Walks::entry_told))]
+#[tactic(auto, using(crate::proofs::Walks::jobs_follow))]
 pub fn jobs(alloc: Global, steps: &[Step], records: &[Record]) -> Result<Vec<Job>, JobError>
     requires scalars { AreScalars steps.now }
     requires sources { AreExecuted steps.now }
