@@ -1,6 +1,6 @@
 -- The vocabulary: the words of the language, which are no names.
-use Rattle.std.specs.Prelude.{ℕ, List, [], ◌∷◌, Option, codes}
-use Rattle.std.specs.List.{find}
+use Rattle.std.specs.Prelude.{ℕ, ◌==◌, Bool, false, List, [], ◌∷◌, Option, codes}
+use Rattle.std.specs.List.{find, filter}
 use Rattle.std.proofs.Common.{bytes_eq}
 use Rattle.apt_words.specs.declared.word.Word.{Word}
 use Rattle.apt_words.specs.declared.word.Word.TheVariants as words
@@ -70,17 +70,27 @@ spelling words.If = codes "IF"
 spelling words.Sqrtf = codes "SQRTF"
 spelling words.Absf = codes "ABSF"
 
+-- in the order of first letters
 abbrev pub vocabulary : List Word
 vocabulary =
-    words.Partno ∷ words.Remark ∷ words.Units ∷ words.Inches ∷ words.Mm ∷ words.Clprnt ∷ words.Nopost ∷ words.Machin ∷
-    words.Point ∷ words.Intof ∷ words.Xlarge ∷ words.Xsmall ∷ words.Ylarge ∷ words.Ysmall ∷ words.Center ∷ words.Line ∷
-    words.Parlel ∷ words.Perpto ∷ words.Left ∷ words.Right ∷ words.Tanto ∷ words.Circle ∷ words.Radius ∷ words.Cutter ∷
-    words.Intol ∷ words.Outtol ∷ words.Tllft ∷ words.Tlrgt ∷ words.Tlon ∷ words.From ∷ words.Goto ∷ words.Godlta ∷ words.Go ∷
-    words.To ∷ words.On ∷ words.Past ∷ words.Golft ∷ words.Gorgt ∷ words.Gofwd ∷ words.Goback ∷ words.Rapid ∷ words.Stop ∷
-    words.Opstop ∷ words.End ∷ words.Fini ∷ words.Fedrat ∷ words.Spindl ∷ words.Clw ∷ words.Cclw ∷ words.Off ∷ words.Coolnt ∷
-    words.Flood ∷ words.Mist ∷ words.Loadtl ∷ words.Macro ∷ words.Termac ∷ words.Call ∷ words.Loopst ∷ words.Loopnd ∷
-    words.Jumpto ∷ words.If ∷ words.Sqrtf ∷ words.Absf ∷ []
+    words.Absf ∷ words.Clw ∷ words.Call ∷ words.Cclw ∷ words.Center ∷ words.Circle ∷ words.Clprnt ∷ words.Coolnt ∷
+    words.Cutter ∷ words.End ∷ words.Fini ∷ words.From ∷ words.Flood ∷ words.Fedrat ∷ words.Go ∷ words.Goto ∷ words.Gofwd ∷
+    words.Golft ∷ words.Gorgt ∷ words.Goback ∷ words.Godlta ∷ words.If ∷ words.Intof ∷ words.Intol ∷ words.Inches ∷
+    words.Jumpto ∷ words.Left ∷ words.Line ∷ words.Loadtl ∷ words.Loopnd ∷ words.Loopst ∷ words.Mm ∷ words.Mist ∷
+    words.Macro ∷ words.Machin ∷ words.Nopost ∷ words.On ∷ words.Off ∷ words.Opstop ∷ words.Outtol ∷ words.Past ∷
+    words.Point ∷ words.Parlel ∷ words.Partno ∷ words.Perpto ∷ words.Rapid ∷ words.Right ∷ words.Radius ∷ words.Remark ∷
+    words.Stop ∷ words.Sqrtf ∷ words.Spindl ∷ words.To ∷ words.Tlon ∷ words.Tanto ∷ words.Tllft ∷ words.Tlrgt ∷
+    words.Termac ∷ words.Units ∷ words.Xlarge ∷ words.Xsmall ∷ words.Ylarge ∷ words.Ysmall ∷ []
 
 -- the word that is spelled so, where there is one
 unfoldable pub word_of : List ℕ → Option Word
 word_of text = find (λ w. bytes_eq (spelling w) text) vocabulary
+
+-- ---- words by their first letter
+
+abbrev pub begins_with : ℕ → List ℕ → Bool
+begins_with letter [] = false
+begins_with letter (b ∷ bs) = b == letter
+
+abbrev pub beginning_with : ℕ → List Word
+beginning_with letter = filter (λ w. begins_with letter (spelling w)) vocabulary
