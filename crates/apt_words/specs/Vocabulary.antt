@@ -1,6 +1,6 @@
 -- The vocabulary: the words of the language, which are no names.
-use Rattle.std.specs.Prelude.{ℕ, ◌==◌, Bool, false, List, [], ◌∷◌, Option, codes}
-use Rattle.std.specs.List.{find, filter}
+use Rattle.std.specs.Prelude.{ℕ, List, [], ◌∷◌, Option, codes}
+use Rattle.std.specs.List.{find}
 use Rattle.std.proofs.Common.{bytes_eq}
 use Rattle.apt_words.specs.declared.word.Word.{Word}
 use Rattle.apt_words.specs.declared.word.Word.TheVariants as words
@@ -70,27 +70,18 @@ spelling words.If = codes "IF"
 spelling words.Sqrtf = codes "SQRTF"
 spelling words.Absf = codes "ABSF"
 
--- in the order of first letters
+-- in the order of lengths and of first letters
 abbrev pub vocabulary : List Word
 vocabulary =
-    words.Absf ∷ words.Clw ∷ words.Call ∷ words.Cclw ∷ words.Center ∷ words.Circle ∷ words.Clprnt ∷ words.Coolnt ∷
-    words.Cutter ∷ words.End ∷ words.Fini ∷ words.From ∷ words.Flood ∷ words.Fedrat ∷ words.Go ∷ words.Goto ∷ words.Gofwd ∷
-    words.Golft ∷ words.Gorgt ∷ words.Goback ∷ words.Godlta ∷ words.If ∷ words.Intof ∷ words.Intol ∷ words.Inches ∷
-    words.Jumpto ∷ words.Left ∷ words.Line ∷ words.Loadtl ∷ words.Loopnd ∷ words.Loopst ∷ words.Mm ∷ words.Mist ∷
-    words.Macro ∷ words.Machin ∷ words.Nopost ∷ words.On ∷ words.Off ∷ words.Opstop ∷ words.Outtol ∷ words.Past ∷
-    words.Point ∷ words.Parlel ∷ words.Partno ∷ words.Perpto ∷ words.Rapid ∷ words.Right ∷ words.Radius ∷ words.Remark ∷
-    words.Stop ∷ words.Sqrtf ∷ words.Spindl ∷ words.To ∷ words.Tlon ∷ words.Tanto ∷ words.Tllft ∷ words.Tlrgt ∷
-    words.Termac ∷ words.Units ∷ words.Xlarge ∷ words.Xsmall ∷ words.Ylarge ∷ words.Ysmall ∷ []
+    words.Go ∷ words.If ∷ words.Mm ∷ words.On ∷ words.To ∷ words.Clw ∷ words.End ∷ words.Off ∷ words.Absf ∷ words.Cclw ∷
+    words.Call ∷ words.From ∷ words.Fini ∷ words.Goto ∷ words.Line ∷ words.Left ∷ words.Mist ∷ words.Past ∷ words.Stop ∷
+    words.Tlon ∷ words.Flood ∷ words.Golft ∷ words.Gorgt ∷ words.Gofwd ∷ words.Intof ∷ words.Intol ∷ words.Macro ∷
+    words.Point ∷ words.Right ∷ words.Rapid ∷ words.Sqrtf ∷ words.Tanto ∷ words.Tllft ∷ words.Tlrgt ∷ words.Units ∷
+    words.Clprnt ∷ words.Center ∷ words.Circle ∷ words.Cutter ∷ words.Coolnt ∷ words.Fedrat ∷ words.Godlta ∷ words.Goback ∷
+    words.Inches ∷ words.Jumpto ∷ words.Loadtl ∷ words.Loopst ∷ words.Loopnd ∷ words.Machin ∷ words.Nopost ∷ words.Outtol ∷
+    words.Opstop ∷ words.Partno ∷ words.Parlel ∷ words.Perpto ∷ words.Remark ∷ words.Radius ∷ words.Spindl ∷ words.Termac ∷
+    words.Xlarge ∷ words.Xsmall ∷ words.Ylarge ∷ words.Ysmall ∷ []
 
 -- the word that is spelled so, where there is one
 unfoldable pub word_of : List ℕ → Option Word
 word_of text = find (λ w. bytes_eq (spelling w) text) vocabulary
-
--- ---- words by their first letter
-
-abbrev pub begins_with : ℕ → List ℕ → Bool
-begins_with letter [] = false
-begins_with letter (b ∷ bs) = b == letter
-
-abbrev pub beginning_with : ℕ → List Word
-beginning_with letter = filter (λ w. begins_with letter (spelling w)) vocabulary

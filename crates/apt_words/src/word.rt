@@ -1,8 +1,9 @@
 //! The vocabulary.
-ghost use Rattle.std.specs.Prelude.{◌≡◌, ◌↔◌, ◌≤◌, ◌-◌, Some, length, take, drop};
+ghost use Rattle.std.specs.Prelude.{◌≡◌, ◌↔◌, ◌<◌, ◌⊎◌, Some, IfSome, IsNone};
 ghost use Rattle.std.specs.List.{find};
 ghost use Rattle.std.proofs.Common.{bytes_eq};
 ghost use Rattle.apt_words.specs.declared.word.Word.{Word};
+ghost use Rattle.apt_words.specs.Lookup as lookup;
 ghost use Rattle.apt_words.specs.Vocabulary as vocabulary;
 
 use crate::Symbol;
@@ -75,21 +76,21 @@ pub enum Word {
     Absf,
 }
 
-/// The one table of the vocabulary: each word with its spelling, in the order of first letters, and short words first.
-/// What the lookup needs is made of it by the macros below.
+/// The one table of the vocabulary: each word with its spelling, in the order of lengths and of first letters.
+/// Whatever the lookup needs is made of it by the macros below.
 macro_rules! vocabulary {
-    ($make:ident $(, $with:expr)?) => {
-        $make! { $($with;)?
-            Absf b"ABSF", Clw b"CLW", Call b"CALL", Cclw b"CCLW", Center b"CENTER", Circle b"CIRCLE",
-            Clprnt b"CLPRNT", Coolnt b"COOLNT", Cutter b"CUTTER", End b"END", Fini b"FINI", From b"FROM",
-            Flood b"FLOOD", Fedrat b"FEDRAT", Go b"GO", Goto b"GOTO", Gofwd b"GOFWD", Golft b"GOLFT",
-            Gorgt b"GORGT", Goback b"GOBACK", Godlta b"GODLTA", If b"IF", Intof b"INTOF", Intol b"INTOL",
-            Inches b"INCHES", Jumpto b"JUMPTO", Left b"LEFT", Line b"LINE", Loadtl b"LOADTL", Loopnd b"LOOPND",
-            Loopst b"LOOPST", Mm b"MM", Mist b"MIST", Macro b"MACRO", Machin b"MACHIN", Nopost b"NOPOST",
-            On b"ON", Off b"OFF", Opstop b"OPSTOP", Outtol b"OUTTOL", Past b"PAST", Point b"POINT",
-            Parlel b"PARLEL", Partno b"PARTNO", Perpto b"PERPTO", Rapid b"RAPID", Right b"RIGHT",
-            Radius b"RADIUS", Remark b"REMARK", Stop b"STOP", Sqrtf b"SQRTF", Spindl b"SPINDL", To b"TO",
-            Tlon b"TLON", Tanto b"TANTO", Tllft b"TLLFT", Tlrgt b"TLRGT", Termac b"TERMAC", Units b"UNITS",
+    ($make:ident $($with:expr),*) => {
+        $make! { $($with;)*
+            Go b"GO", If b"IF", Mm b"MM", On b"ON", To b"TO", Clw b"CLW", End b"END", Off b"OFF", Absf b"ABSF",
+            Cclw b"CCLW", Call b"CALL", From b"FROM", Fini b"FINI", Goto b"GOTO", Line b"LINE", Left b"LEFT",
+            Mist b"MIST", Past b"PAST", Stop b"STOP", Tlon b"TLON", Flood b"FLOOD", Golft b"GOLFT",
+            Gorgt b"GORGT", Gofwd b"GOFWD", Intof b"INTOF", Intol b"INTOL", Macro b"MACRO", Point b"POINT",
+            Right b"RIGHT", Rapid b"RAPID", Sqrtf b"SQRTF", Tanto b"TANTO", Tllft b"TLLFT", Tlrgt b"TLRGT",
+            Units b"UNITS", Clprnt b"CLPRNT", Center b"CENTER", Circle b"CIRCLE", Cutter b"CUTTER",
+            Coolnt b"COOLNT", Fedrat b"FEDRAT", Godlta b"GODLTA", Goback b"GOBACK", Inches b"INCHES",
+            Jumpto b"JUMPTO", Loadtl b"LOADTL", Loopst b"LOOPST", Loopnd b"LOOPND", Machin b"MACHIN",
+            Nopost b"NOPOST", Outtol b"OUTTOL", Opstop b"OPSTOP", Partno b"PARTNO", Parlel b"PARLEL",
+            Perpto b"PERPTO", Remark b"REMARK", Radius b"RADIUS", Spindl b"SPINDL", Termac b"TERMAC",
             Xlarge b"XLARGE", Xsmall b"XSMALL", Ylarge b"YLARGE", Ysmall b"YSMALL"
         }
     };
@@ -103,22 +104,36 @@ macro_rules! spelling_of {
     ($of:expr; $($word:ident $spelling:literal),*) => { match $of { $(Word::$word => $spelling),* } };
 }
 
-/// How many words begin with a letter before this one.
+/// How many words are shorter, or as long and begin with a letter before this one.
 macro_rules! words_before {
-    ($letter:expr; $($word:ident $spelling:literal),*) => { $(($spelling[0] < $letter) as u8 +)* 0 };
+    ($length:expr; $letter:expr; $($word:ident $spelling:literal),*) => {
+        $(($spelling.len() < $length || $spelling.len() == $length && $spelling[0] < $letter) as u8 +)* 0
+    };
 }
 
-macro_rules! before_each {
-    ($($letter:literal)*) => { [$(vocabulary!(words_before, $letter)),*] };
+macro_rules! words_before_each {
+    ($length:expr; $($letter:literal)*) => { [$(vocabulary!(words_before $length, $letter)),*] };
+}
+
+/// Where the words of a length begin in the table that have one first letter, and where those of `Z` end.
+macro_rules! starts {
+    ($length:expr) => {
+        words_before_each!($length; b'A' b'B' b'C' b'D' b'E' b'F' b'G' b'H' b'I' b'J' b'K' b'L' b'M' b'N' b'O' b'P' b'Q'
+            b'R' b'S' b'T' b'U' b'V' b'W' b'X' b'Y' b'Z' b'[')
+    };
 }
 
 static WORDS: &[Word] = &vocabulary!(words);
 
-/// Where the words of each letter begin, and where those of `Z` end.
-static STARTS: [u8; 27] = before_each!(
-    b'A' b'B' b'C' b'D' b'E' b'F' b'G' b'H' b'I' b'J' b'K' b'L' b'M' b'N' b'O' b'P' b'Q' b'R' b'S' b'T' b'U' b'V' b'W'
-    b'X' b'Y' b'Z' b'['
-);
+static OF_TWO: [u8; 27] = starts!(2);
+
+static OF_THREE: [u8; 27] = starts!(3);
+
+static OF_FOUR: [u8; 27] = starts!(4);
+
+static OF_FIVE: [u8; 27] = starts!(5);
+
+static OF_SIX: [u8; 27] = starts!(6);
 
 impl Word {
     /// Its spelling, in capitals.
@@ -126,7 +141,7 @@ impl Word {
     pub fn spelling(&self) -> &'static [u8]
         ensures { result.now ≡ vocabulary.spelling self.now }
     {
-        vocabulary!(spelling_of, self)
+        vocabulary!(spelling_of self)
     }
 }
 
@@ -139,36 +154,43 @@ pub fn word_of(symbol: &Symbol) -> Option<Word>
     word_spelled(symbol.as_bytes())
 }
 
-#[tactic(auto, using(crate::proofs::Initials::found_initial, crate::proofs::Initials::empty_spells_none))]
+#[tactic(auto, using(crate::proofs::Alike::empty_spells_none))]
 fn word_spelled(text: &[u8]) -> Option<Word>
     ensures { result ≡ vocabulary.word_of text.now }
 {
     let (initial, _) = text.split_first()?;
-    word_in(beginning_with(*initial), text)
+    word_in(alike(text.len(), *initial), text)
 }
 
-/// Where the words that begin with a capital letter stand in the table.
-fn range_of(capital: u8) -> (usize, usize)
-    requires from { 65 ≤ capital }
-    requires to { capital ≤ 90 }
-    ensures order { result.0 ≤ result.1 }
-    ensures within { result.1 ≤ length vocabulary.vocabulary }
-    ensures words { take (result.1 - result.0) (drop result.0 vocabulary.vocabulary) ≡ vocabulary.beginning_with capital }
+/// Where the words of a length begin in the table that have one first letter, and where those of `Z` end; none where
+/// no word is as long.
+fn starts_of(length: usize) -> Option<&'static [u8]>
+    ensures some { IfSome result (λ starts. lookup.AreStarts length starts.now) }
+    ensures none { IsNone result → (length < 2) ⊎ (6 < length) }
 {
-    let at = (capital - b'A') as usize;
-    (STARTS[at] as usize, STARTS[at + 1] as usize)
+    match length {
+        2 => Some(&OF_TWO),
+        3 => Some(&OF_THREE),
+        4 => Some(&OF_FOUR),
+        5 => Some(&OF_FIVE),
+        6 => Some(&OF_SIX),
+        _ => None,
+    }
 }
 
-/// The words that begin with a letter, which none does but a capital.
-#[tactic(auto, using(crate::proofs::Initials::no_other))]
-fn beginning_with(letter: u8) -> &'static [Word]
-    ensures { result.now ≡ vocabulary.beginning_with letter }
+/// The words of a length that begin with a letter.
+#[tactic(auto, using(crate::proofs::Alike::no_other, crate::proofs::Alike::none_so_long))]
+fn alike(length: usize, letter: u8) -> &'static [Word]
+    ensures { result.now ≡ lookup.alike length letter }
 {
     if !letter.is_ascii_uppercase() {
         return &[];
     }
-    let (from, to) = range_of(letter);
-    &WORDS[from..to]
+    let Some(starts) = starts_of(length) else {
+        return &[];
+    };
+    let at = (letter - b'A') as usize;
+    &WORDS[starts[at] as usize..starts[at + 1] as usize]
 }
 
 fn word_in(words: &[Word], text: &[u8]) -> Option<Word>
