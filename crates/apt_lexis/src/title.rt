@@ -44,7 +44,7 @@ impl<'a> Model for Heading<'a> {
 fn spells(symbol: &Symbol, word: Word) -> bool
     ensures { result ≡ bytes_eq symbol.now (spelling word) }
 {
-    symbol.as_bytes() == word.spelling().as_bytes()
+    symbol.as_bytes() == word.spelling()
 }
 
 /// The letters and digits at the front of a line, and what stands behind them.

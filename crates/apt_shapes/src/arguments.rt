@@ -68,7 +68,7 @@ pub(crate) fn is_word(word: Word, tokens: &[Token]) -> bool
     ensures { result ≡ arguments.is_word word tokens.now }
 {
     match tokens {
-        [Token::Word(said)] => word.spelling().as_bytes() == said.spelling().as_bytes(),
+        [Token::Word(said)] => word.spelling() == said.spelling(),
         _ => false,
     }
 }

@@ -1,6 +1,7 @@
 pub mod Same
 pub mod Texts
 pub mod Words
+pub mod Alike
 pub mod Bytes
 pub mod Rows
 pub mod Titles

@@ -13,11 +13,11 @@ small b e = grind (arith, nat_tests)
 capital_small : (b : ℕ) → is_capital b ≡ true → b < 128
 capital_small b e = grind (arith, nat_tests)
 
-first_of_both : (a b : Bool) → (a && b) ≡ true → a ≡ true
+pub first_of_both : (a b : Bool) → (a && b) ≡ true → a ≡ true
 first_of_both true b e = refl
 first_of_both false b e = e
 
-second_of_both : (a b : Bool) → (a && b) ≡ true → b ≡ true
+pub second_of_both : (a b : Bool) → (a && b) ≡ true → b ≡ true
 second_of_both true b e = e
 second_of_both false b e = cc
 

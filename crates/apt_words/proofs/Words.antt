@@ -8,7 +8,6 @@ use Rattle.apt_words.specs.declared.word.Word.{Word}
 use Rattle.apt_words.specs.declared.word.Word.TheVariants as words
 use Rattle.apt_words.specs.Symbols.{is_symbol}
 use Rattle.apt_words.specs.Vocabulary.{spelling, vocabulary, word_of}
-use Rattle.apt_words.specs.Alike.{alike}
 
 -- the spelling of a word spells it
 word_of-spelling : (w : Word) → word_of (spelling w) ≡ Some w
@@ -36,7 +35,7 @@ unfolding word_of
 spelled text w = (spelling-find text vocabulary w, λ e. ap word_of e ∙ word_of-spelling w)
 
 -- each word is a symbol
-spelling_is_symbol : (w : Word) → is_symbol (spelling w) ≡ true
+pub spelling_is_symbol : (w : Word) → is_symbol (spelling w) ≡ true
 spelling_is_symbol words.Partno = refl
 spelling_is_symbol _ = refl
 
@@ -48,27 +47,3 @@ no_word_if text (Some w) e other =
 -- what is no symbol spells no word
 pub no_word : (text : List ℕ) → is_symbol text ≡ false → word_of text ≡ None
 no_word text other = no_word_if text (word_of text) refl other
-
--- the word that a text spells among the words that are like it
-abbrev found : List ℕ → Option Word
-found text = find (λ w. bytes_eq (spelling w) text) (alike text)
-
--- each word is among those that are like its spelling
-alike-spelling : (w : Word) → found (spelling w) ≡ Some w
-alike-spelling words.Partno = refl
-alike-spelling _ = refl
-
-both_none : (a b : Option Word) → ((w : Word) → a ≡ Some w → b ≡ Some w) → ((w : Word) → b ≡ Some w → a ≡ Some w) → a ≡ b
-both_none None None f g = refl
-both_none None (Some w) f g = g w refl
-both_none (Some w) b f g = sym (f w refl)
-
-found_is : (text : List ℕ) (w : Word) → found text ≡ Some w → word_of text ≡ Some w
-found_is text w e = (spelled text w).1 (spelling-find text (alike text) w e)
-
-is_found : (text : List ℕ) (w : Word) → word_of text ≡ Some w → found text ≡ Some w
-is_found text w e = ap found ((spelled text w).0 e) ∙ alike-spelling w
-
--- the words that are like a text are enough
-pub found_alike : (text : List ℕ) → find (λ w. bytes_eq (spelling w) text) (alike text) ≡ word_of text
-found_alike text = both_none (found text) (word_of text) (found_is text) (is_found text)

@@ -2,7 +2,7 @@ pub mod Chains
 pub mod Rows
 pub mod Options
 pub mod Vocabulary
-pub mod Alike
+pub mod Lookup
 pub mod Symbols
 pub mod Asks
 pub mod Names

@@ -70,16 +70,17 @@ spelling words.If = codes "IF"
 spelling words.Sqrtf = codes "SQRTF"
 spelling words.Absf = codes "ABSF"
 
+-- in the order of lengths and of first letters
 abbrev pub vocabulary : List Word
 vocabulary =
-    words.Partno ∷ words.Remark ∷ words.Units ∷ words.Inches ∷ words.Mm ∷ words.Clprnt ∷ words.Nopost ∷ words.Machin ∷
-    words.Point ∷ words.Intof ∷ words.Xlarge ∷ words.Xsmall ∷ words.Ylarge ∷ words.Ysmall ∷ words.Center ∷ words.Line ∷
-    words.Parlel ∷ words.Perpto ∷ words.Left ∷ words.Right ∷ words.Tanto ∷ words.Circle ∷ words.Radius ∷ words.Cutter ∷
-    words.Intol ∷ words.Outtol ∷ words.Tllft ∷ words.Tlrgt ∷ words.Tlon ∷ words.From ∷ words.Goto ∷ words.Godlta ∷ words.Go ∷
-    words.To ∷ words.On ∷ words.Past ∷ words.Golft ∷ words.Gorgt ∷ words.Gofwd ∷ words.Goback ∷ words.Rapid ∷ words.Stop ∷
-    words.Opstop ∷ words.End ∷ words.Fini ∷ words.Fedrat ∷ words.Spindl ∷ words.Clw ∷ words.Cclw ∷ words.Off ∷ words.Coolnt ∷
-    words.Flood ∷ words.Mist ∷ words.Loadtl ∷ words.Macro ∷ words.Termac ∷ words.Call ∷ words.Loopst ∷ words.Loopnd ∷
-    words.Jumpto ∷ words.If ∷ words.Sqrtf ∷ words.Absf ∷ []
+    words.Go ∷ words.If ∷ words.Mm ∷ words.On ∷ words.To ∷ words.Clw ∷ words.End ∷ words.Off ∷ words.Absf ∷ words.Cclw ∷
+    words.Call ∷ words.From ∷ words.Fini ∷ words.Goto ∷ words.Line ∷ words.Left ∷ words.Mist ∷ words.Past ∷ words.Stop ∷
+    words.Tlon ∷ words.Flood ∷ words.Golft ∷ words.Gorgt ∷ words.Gofwd ∷ words.Intof ∷ words.Intol ∷ words.Macro ∷
+    words.Point ∷ words.Right ∷ words.Rapid ∷ words.Sqrtf ∷ words.Tanto ∷ words.Tllft ∷ words.Tlrgt ∷ words.Units ∷
+    words.Clprnt ∷ words.Center ∷ words.Circle ∷ words.Cutter ∷ words.Coolnt ∷ words.Fedrat ∷ words.Godlta ∷ words.Goback ∷
+    words.Inches ∷ words.Jumpto ∷ words.Loadtl ∷ words.Loopst ∷ words.Loopnd ∷ words.Machin ∷ words.Nopost ∷ words.Outtol ∷
+    words.Opstop ∷ words.Partno ∷ words.Parlel ∷ words.Perpto ∷ words.Remark ∷ words.Radius ∷ words.Spindl ∷ words.Termac ∷
+    words.Xlarge ∷ words.Xsmall ∷ words.Ylarge ∷ words.Ysmall ∷ []
 
 -- the word that is spelled so, where there is one
 unfoldable pub word_of : List ℕ → Option Word

@@ -1,10 +1,10 @@
 //! The vocabulary.
-ghost use Rattle.std.specs.Prelude.{◌≡◌, ◌↔◌, Some};
+ghost use Rattle.std.specs.Prelude.{◌≡◌, ◌↔◌, ◌<◌, ◌⊎◌, Some, IfSome, IsNone};
 ghost use Rattle.std.specs.List.{find};
 ghost use Rattle.std.proofs.Common.{bytes_eq};
 ghost use Rattle.apt_words.specs.declared.word.Word.{Word};
+ghost use Rattle.apt_words.specs.Lookup as lookup;
 ghost use Rattle.apt_words.specs.Vocabulary as vocabulary;
-ghost use Rattle.apt_words.specs.Alike as likeness;
 
 use crate::Symbol;
 
@@ -76,77 +76,72 @@ pub enum Word {
     Absf,
 }
 
+/// The one table of the vocabulary: each word with its spelling, in the order of lengths and of first letters.
+/// Whatever the lookup needs is made of it by the macros below.
+macro_rules! vocabulary {
+    ($make:ident $($with:expr),*) => {
+        $make! { $($with;)*
+            Go b"GO", If b"IF", Mm b"MM", On b"ON", To b"TO", Clw b"CLW", End b"END", Off b"OFF", Absf b"ABSF",
+            Cclw b"CCLW", Call b"CALL", From b"FROM", Fini b"FINI", Goto b"GOTO", Line b"LINE", Left b"LEFT",
+            Mist b"MIST", Past b"PAST", Stop b"STOP", Tlon b"TLON", Flood b"FLOOD", Golft b"GOLFT",
+            Gorgt b"GORGT", Gofwd b"GOFWD", Intof b"INTOF", Intol b"INTOL", Macro b"MACRO", Point b"POINT",
+            Right b"RIGHT", Rapid b"RAPID", Sqrtf b"SQRTF", Tanto b"TANTO", Tllft b"TLLFT", Tlrgt b"TLRGT",
+            Units b"UNITS", Clprnt b"CLPRNT", Center b"CENTER", Circle b"CIRCLE", Cutter b"CUTTER",
+            Coolnt b"COOLNT", Fedrat b"FEDRAT", Godlta b"GODLTA", Goback b"GOBACK", Inches b"INCHES",
+            Jumpto b"JUMPTO", Loadtl b"LOADTL", Loopst b"LOOPST", Loopnd b"LOOPND", Machin b"MACHIN",
+            Nopost b"NOPOST", Outtol b"OUTTOL", Opstop b"OPSTOP", Partno b"PARTNO", Parlel b"PARLEL",
+            Perpto b"PERPTO", Remark b"REMARK", Radius b"RADIUS", Spindl b"SPINDL", Termac b"TERMAC",
+            Xlarge b"XLARGE", Xsmall b"XSMALL", Ylarge b"YLARGE", Ysmall b"YSMALL"
+        }
+    };
+}
+
+macro_rules! words {
+    ($($word:ident $spelling:literal),*) => { [$(Word::$word),*] };
+}
+
+macro_rules! spelling_of {
+    ($of:expr; $($word:ident $spelling:literal),*) => { match $of { $(Word::$word => $spelling),* } };
+}
+
+/// How many words are shorter, or as long and begin with a letter before this one.
+macro_rules! words_before {
+    ($length:expr; $letter:expr; $($word:ident $spelling:literal),*) => {
+        $(($spelling.len() < $length || $spelling.len() == $length && $spelling[0] < $letter) as u8 +)* 0
+    };
+}
+
+macro_rules! words_before_each {
+    ($length:expr; $($letter:literal)*) => { [$(vocabulary!(words_before $length, $letter)),*] };
+}
+
+/// Where the words of a length begin in the table that have one first letter, and where those of `Z` end.
+macro_rules! starts {
+    ($length:expr) => {
+        words_before_each!($length; b'A' b'B' b'C' b'D' b'E' b'F' b'G' b'H' b'I' b'J' b'K' b'L' b'M' b'N' b'O' b'P' b'Q'
+            b'R' b'S' b'T' b'U' b'V' b'W' b'X' b'Y' b'Z' b'[')
+    };
+}
+
+static WORDS: &[Word] = &vocabulary!(words);
+
+static OF_TWO: [u8; 27] = starts!(2);
+
+static OF_THREE: [u8; 27] = starts!(3);
+
+static OF_FOUR: [u8; 27] = starts!(4);
+
+static OF_FIVE: [u8; 27] = starts!(5);
+
+static OF_SIX: [u8; 27] = starts!(6);
+
 impl Word {
     /// Its spelling, in capitals.
     #[inline(always)]
-    pub fn spelling(&self) -> &'static str
+    pub fn spelling(&self) -> &'static [u8]
         ensures { result.now ≡ vocabulary.spelling self.now }
     {
-        match self {
-            Word::Partno => "PARTNO",
-            Word::Remark => "REMARK",
-            Word::Units => "UNITS",
-            Word::Inches => "INCHES",
-            Word::Mm => "MM",
-            Word::Clprnt => "CLPRNT",
-            Word::Nopost => "NOPOST",
-            Word::Machin => "MACHIN",
-            Word::Point => "POINT",
-            Word::Intof => "INTOF",
-            Word::Xlarge => "XLARGE",
-            Word::Xsmall => "XSMALL",
-            Word::Ylarge => "YLARGE",
-            Word::Ysmall => "YSMALL",
-            Word::Center => "CENTER",
-            Word::Line => "LINE",
-            Word::Parlel => "PARLEL",
-            Word::Perpto => "PERPTO",
-            Word::Left => "LEFT",
-            Word::Right => "RIGHT",
-            Word::Tanto => "TANTO",
-            Word::Circle => "CIRCLE",
-            Word::Radius => "RADIUS",
-            Word::Cutter => "CUTTER",
-            Word::Intol => "INTOL",
-            Word::Outtol => "OUTTOL",
-            Word::Tllft => "TLLFT",
-            Word::Tlrgt => "TLRGT",
-            Word::Tlon => "TLON",
-            Word::From => "FROM",
-            Word::Goto => "GOTO",
-            Word::Godlta => "GODLTA",
-            Word::Go => "GO",
-            Word::To => "TO",
-            Word::On => "ON",
-            Word::Past => "PAST",
-            Word::Golft => "GOLFT",
-            Word::Gorgt => "GORGT",
-            Word::Gofwd => "GOFWD",
-            Word::Goback => "GOBACK",
-            Word::Rapid => "RAPID",
-            Word::Stop => "STOP",
-            Word::Opstop => "OPSTOP",
-            Word::End => "END",
-            Word::Fini => "FINI",
-            Word::Fedrat => "FEDRAT",
-            Word::Spindl => "SPINDL",
-            Word::Clw => "CLW",
-            Word::Cclw => "CCLW",
-            Word::Off => "OFF",
-            Word::Coolnt => "COOLNT",
-            Word::Flood => "FLOOD",
-            Word::Mist => "MIST",
-            Word::Loadtl => "LOADTL",
-            Word::Macro => "MACRO",
-            Word::Termac => "TERMAC",
-            Word::Call => "CALL",
-            Word::Loopst => "LOOPST",
-            Word::Loopnd => "LOOPND",
-            Word::Jumpto => "JUMPTO",
-            Word::If => "IF",
-            Word::Sqrtf => "SQRTF",
-            Word::Absf => "ABSF",
-        }
+        vocabulary!(spelling_of self)
     }
 }
 
@@ -159,10 +154,43 @@ pub fn word_of(symbol: &Symbol) -> Option<Word>
     word_spelled(symbol.as_bytes())
 }
 
+#[tactic(auto, using(crate::proofs::Alike::empty_spells_none))]
 fn word_spelled(text: &[u8]) -> Option<Word>
     ensures { result ≡ vocabulary.word_of text.now }
 {
-    word_in(alike(text), text)
+    let (initial, _) = text.split_first()?;
+    word_in(alike(text.len(), *initial), text)
+}
+
+/// Where the words of a length begin in the table that have one first letter, and where those of `Z` end; none where
+/// no word is as long.
+fn starts_of(length: usize) -> Option<&'static [u8]>
+    ensures some { IfSome result (λ starts. lookup.AreStarts length starts.now) }
+    ensures none { IsNone result → (length < 2) ⊎ (6 < length) }
+{
+    match length {
+        2 => Some(&OF_TWO),
+        3 => Some(&OF_THREE),
+        4 => Some(&OF_FOUR),
+        5 => Some(&OF_FIVE),
+        6 => Some(&OF_SIX),
+        _ => None,
+    }
+}
+
+/// The words of a length that begin with a letter.
+#[tactic(auto, using(crate::proofs::Alike::no_other, crate::proofs::Alike::none_so_long))]
+fn alike(length: usize, letter: u8) -> &'static [Word]
+    ensures { result.now ≡ lookup.alike length letter }
+{
+    if !letter.is_ascii_uppercase() {
+        return &[];
+    }
+    let Some(starts) = starts_of(length) else {
+        return &[];
+    };
+    let at = (letter - b'A') as usize;
+    &WORDS[starts[at] as usize..starts[at + 1] as usize]
 }
 
 fn word_in(words: &[Word], text: &[u8]) -> Option<Word>
@@ -171,7 +199,7 @@ fn word_in(words: &[Word], text: &[u8]) -> Option<Word>
     words
         .iter()
         .copied()
-        .find(|word| is_same(word.spelling().as_bytes(), text))
+        .find(|word| is_same(word.spelling(), text))
 }
 
 /// Whether two short texts have the same bytes.
@@ -188,113 +216,4 @@ fn is_same(a: &[u8], b: &[u8]) -> bool
         }
     }
     true
-}
-
-/// The words of a text's first letter and length.
-fn alike(text: &[u8]) -> &'static [Word]
-    ensures { result.now ≡ likeness.alike text.now }
-{
-    let Some(first) = text.first() else {
-        return &[];
-    };
-    match text.len() {
-        2 => of_two(*first),
-        3 => of_three(*first),
-        4 => of_four(*first),
-        5 => of_five(*first),
-        6 => of_six(*first),
-        _ => &[],
-    }
-}
-
-/// The words of two letters that begin with a letter.
-fn of_two(first: u8) -> &'static [Word]
-    ensures { result.now ≡ likeness.of_two first }
-{
-    match first {
-        b'G' => &[Word::Go],
-        b'I' => &[Word::If],
-        b'M' => &[Word::Mm],
-        b'O' => &[Word::On],
-        b'T' => &[Word::To],
-        _ => &[],
-    }
-}
-
-/// The words of three letters that begin with a letter.
-fn of_three(first: u8) -> &'static [Word]
-    ensures { result.now ≡ likeness.of_three first }
-{
-    match first {
-        b'C' => &[Word::Clw],
-        b'E' => &[Word::End],
-        b'O' => &[Word::Off],
-        _ => &[],
-    }
-}
-
-/// The words of four letters that begin with a letter.
-fn of_four(first: u8) -> &'static [Word]
-    ensures { result.now ≡ likeness.of_four first }
-{
-    match first {
-        b'A' => &[Word::Absf],
-        b'C' => &[Word::Cclw, Word::Call],
-        b'F' => &[Word::From, Word::Fini],
-        b'G' => &[Word::Goto],
-        b'L' => &[Word::Line, Word::Left],
-        b'M' => &[Word::Mist],
-        b'P' => &[Word::Past],
-        b'S' => &[Word::Stop],
-        b'T' => &[Word::Tlon],
-        _ => &[],
-    }
-}
-
-/// The words of five letters that begin with a letter.
-fn of_five(first: u8) -> &'static [Word]
-    ensures { result.now ≡ likeness.of_five first }
-{
-    match first {
-        b'F' => &[Word::Flood],
-        b'G' => &[Word::Golft, Word::Gorgt, Word::Gofwd],
-        b'I' => &[Word::Intof, Word::Intol],
-        b'M' => &[Word::Macro],
-        b'P' => &[Word::Point],
-        b'R' => &[Word::Right, Word::Rapid],
-        b'S' => &[Word::Sqrtf],
-        b'T' => &[Word::Tanto, Word::Tllft, Word::Tlrgt],
-        b'U' => &[Word::Units],
-        _ => &[],
-    }
-}
-
-/// The words of six letters that begin with a letter.
-fn of_six(first: u8) -> &'static [Word]
-    ensures { result.now ≡ likeness.of_six first }
-{
-    match first {
-        b'C' => &[
-            Word::Clprnt,
-            Word::Center,
-            Word::Circle,
-            Word::Cutter,
-            Word::Coolnt,
-        ],
-        b'F' => &[Word::Fedrat],
-        b'G' => &[Word::Godlta, Word::Goback],
-        b'I' => &[Word::Inches],
-        b'J' => &[Word::Jumpto],
-        b'L' => &[Word::Loadtl, Word::Loopst, Word::Loopnd],
-        b'M' => &[Word::Machin],
-        b'N' => &[Word::Nopost],
-        b'O' => &[Word::Outtol, Word::Opstop],
-        b'P' => &[Word::Partno, Word::Parlel, Word::Perpto],
-        b'R' => &[Word::Remark, Word::Radius],
-        b'S' => &[Word::Spindl],
-        b'T' => &[Word::Termac],
-        b'X' => &[Word::Xlarge, Word::Xsmall],
-        b'Y' => &[Word::Ylarge, Word::Ysmall],
-        _ => &[],
-    }
 }
