@@ -5,7 +5,10 @@ use std::test::Fail;
 /// A token as it is printed here.
 fn shown(alloc: Global, token: &Token) -> Result<String, AllocError> {
     match token {
-        Token::Word(word) => format!(in alloc; " {}", std::str::from_utf8(word.spelling()).unwrap_or("?")),
+        Token::Word(word) => format!(in alloc;
+            " {}",
+            std::str::from_utf8(word.spelling()).unwrap_or("?")
+        ),
         Token::Name(name) => format!(in alloc; " {}", name.as_str()),
         Token::Number(size) => format!(in alloc; " {size}"),
         Token::Equals => format!(in alloc; " ="),
