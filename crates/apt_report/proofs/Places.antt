@@ -1,6 +1,6 @@
 -- What is read of a number is what was written.
-use Rattle.std.proofs.Common.{◌≡◌, ℕ, zero, suc, ◌+◌, ◌-◌, ◌*◌, ◌/◌, ◌%◌, ◌^◌, ◌≤◌, ◌<◌, Bool, true, false, ◌||◌, ◌&&◌, List, [], ◌∷◌, ◌++◌, length, refl, sym, ap, ◌∙◌, arith, append_assoc, length-append}
-use Rattle.std.specs.Prelude.{ℤ, pos, negsuc, neg_ℤ, unsigned_abs, ◌==◌, cond, codes}
+use Rattle.std.proofs.Common.{◌≡◌, ℕ, zero, suc, ◌+◌, ◌-◌, ◌*◌, ◌/◌, ◌%◌, ◌^◌, ◌≤◌, ◌<◌, Bool, true, false, List, [], ◌∷◌, ◌++◌, length, refl, sym, ap, ◌∙◌, arith, length-append}
+use Rattle.std.specs.Prelude.{ℤ, pos, negsuc, unsigned_abs, ◌==◌, cond, codes}
 use Rattle.std.specs.Fmt.{decimal}
 use Rattle.std.specs.Str.Parse.{AllDigits}
 use Rattle.std.proofs.lemmas.List.{length-replicate}
@@ -14,7 +14,6 @@ use Rattle.apt_block.specs.Block.{digits}
 use Rattle.apt_report.specs.Decimals.{pointed, signed_pointed, blanks, right_in}
 use Rattle.apt_report.specs.Listing.{decimals_in}
 use Rattle.apt_report.specs.Columns.{is_digit, number_behind, has_minus, decimals_of, grid_units, signed, length_in}
-use Rattle.apt_report.proofs.Decimals.{one_digit_off}
 
 abbrev pub AreDigits : List ℕ → Type 0
 AreDigits [] = Unit {0}

@@ -1,6 +1,6 @@
 -- A listing tells the points of its records.
-use Rattle.std.proofs.Common.{◌≡◌, ℕ, zero, suc, ◌+◌, ◌*◌, ◌^◌, ◌≤◌, ◌<◌, List, [], ◌∷◌, ◌++◌, map, length, take, drop, refl, sym, ap, ◌∙◌, arith, append_assoc, append-nil, length-append, drop-drop}
-use Rattle.std.specs.Prelude.{unsigned_abs, codes}
+use Rattle.std.proofs.Common.{◌≡◌, ℕ, suc, ◌+◌, ◌*◌, ◌^◌, ◌≤◌, ◌<◌, List, [], ◌∷◌, ◌++◌, map, length, take, drop, refl, sym, ap, ◌∙◌, arith, append_assoc, append-nil, length-append, drop-drop}
+use Rattle.std.specs.Prelude.{codes}
 use Rattle.std.specs.Fmt.{decimal}
 use Rattle.std.specs.List.{flat_map}
 use Rattle.std.proofs.lemmas.List.{take_at, drop_at, length-map}
@@ -16,7 +16,7 @@ use Rattle.apt_cldata.specs.Ranges.{IsPosition, ArePositions, IsRecord, AreRecor
 use Rattle.apt_post.specs.Plan.{units_of}
 use Rattle.apt_report.specs.Decimals.{right_in}
 use Rattle.apt_report.specs.Listing.{decimals_in, word_of, coordinate, point_line, record_lines, lines_from, record_count, point_count, end_line, listing}
-use Rattle.apt_report.specs.Columns.{Row, row, record_rows, rows_from, length_in, row_of, rows_in, Tells}
+use Rattle.apt_report.specs.Columns.{Row, row, record_rows, rows_from, row_of, rows_in, Tells}
 use Rattle.apt_report.proofs.Places.{length_again, count_again, length-coordinate, length-number}
 
 -- ---- five texts in a line
