@@ -8,10 +8,7 @@ use std::alloc::{AllocError, AllocGlobal, Global};
 use std::test::Fail;
 
 fn at(x: i64, y: i64, z: i64) -> Position {
-    Position {
-        at: Pt { x, y },
-        z,
-    }
+    Position { at: Pt { x, y }, z }
 }
 
 /// A contour of one vertex.
@@ -89,7 +86,10 @@ fn points_by_their_units(rt: HostRuntime) -> Result<(), Fail> {
         Record::Note(Note::Units(Units::Inch)),
     ];
     assert_eq!(rt; listing(alloc, &twice)?.as_slice(), MILLIMETRES.as_bytes());
-    assert_eq!(rt; listing(alloc, &[])?.as_slice(), b"END 0 POINTS\n".as_slice());
+    assert_eq!(rt;
+        listing(alloc, &[])?.as_slice(),
+        b"END 0 POINTS\n".as_slice()
+    );
     Ok(())
 }
 
