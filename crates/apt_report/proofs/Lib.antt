@@ -1,1 +1,8 @@
 pub mod Backwards
+pub mod Decimals
+pub mod PointCounts
+pub mod Places
+pub mod Told
+pub mod Circles
+pub mod DemoLines
+mod Worked

@@ -1,3 +1,7 @@
 pub mod StatusNumbers
 pub mod Lines
 pub mod Acts
+pub mod Decimals
+pub mod Listing
+pub mod Columns
+pub mod Demo

@@ -4,13 +4,10 @@ ghost use Rattle.std.specs.Prelude.{◌≡◌, ◌≤◌, ◌+◌, ◌++◌, len
 ghost use Rattle.std.specs.Fmt.{signed_decimal};
 ghost use Rattle.apt_report.specs.Acts as lines;
 
+use crate::room::{ROOM, push_from, whole_line, write_number, write_text};
 use apt_control::Act;
 use apt_words::{Cool, Turn, Units};
-use itoa::write_digits;
 use std::alloc::{AllocError, Global};
-
-/// The room of a line: four numbers, of at most twenty characters each, and some thirty others.
-const ROOM: usize = 192;
 
 /// A line for each act, with its line feed. Coordinates are in grid units, feeds in tenths of an inch or of
 /// a millimetre per minute, spindle speeds in turns per minute.
@@ -25,7 +22,7 @@ pub fn act_lines(alloc: Global, acts: &[Act]) -> Result<Vec<u8>, AllocError>
     let mut room = [0u8; ROOM];
     'acts: for act in acts {
         let start = act_line(&mut room, act);
-        text.extend_from_slice(&room[start..])?;
+        push_from(&mut text, &room, start)?;
     }
     Ok(text)
 }
@@ -98,42 +95,4 @@ fn write_place(room: &mut [u8], end: usize, x: i64, y: i64, z: i64) -> usize
     let at = write_number(room, at, y);
     let at = write_text(room, at, " ");
     write_number(room, at, x)
-}
-
-/// Writes a text that is a line, or the end of one.
-#[tactic(auto, using(crate::proofs::Backwards::none_behind))]
-fn whole_line(room: &mut [u8], text: &str) -> usize
-    requires room { length room.old ≡ 192 }
-    requires short { length text.now ≤ 192 }
-    ensures start { result + length text.now ≡ 192 }
-    ensures line { drop result room.new ≡ text.now }
-{
-    write_text(room, ROOM, text)
-}
-
-/// Writes a text in front of what starts at `end`, and answers where it starts.
-fn write_text(room: &mut [u8], end: usize, text: &str) -> usize
-    requires short { length text.now ≤ end }
-    requires end { end ≤ length room.old }
-    ensures start { result + length text.now ≡ end }
-    ensures written { drop result room.new ≡ text.now ++ drop end room.old }
-{
-    let start = end - text.len();
-    room[start..end].copy_from_slice(text.as_bytes());
-    start
-}
-
-/// Writes a number in front of what starts at `end`, and answers where it starts.
-fn write_number(room: &mut [u8], end: usize, n: i64) -> usize
-    requires room { 40 ≤ end }
-    requires end { end ≤ length room.old }
-    ensures start { (result ≤ end) × (end ≤ result + 40) }
-    ensures written { drop result room.new ≡ signed_decimal n ++ drop end room.old }
-{
-    let start = write_digits(n.unsigned_abs(), room, end);
-    if n >= 0 {
-        return start;
-    }
-    room[start - 1] = b'-';
-    start - 1
 }

@@ -2,7 +2,10 @@
 #![tactic(auto)]
 
 mod acts;
+mod demo;
 mod line;
+mod points;
+mod room;
 mod status;
 
 pub use acts::act_lines;
@@ -11,5 +14,7 @@ pub use apt_certify::{Bad, Reason, Verdict};
 pub use apt_cldata::ClCause;
 pub use apt_lexis::PartCause;
 pub use apt_machine::MachineCause;
+pub use demo::demo_part;
 pub use line::line_of;
+pub use points::listing;
 pub use status::{FileName, Miss, Status, Summary};

@@ -1,8 +1,10 @@
-//! Tests of the store over real files and in memory, of how often it is called, and of printed lines.
+//! Tests of the store over real files and in memory, of how often it is called, and of what is printed.
 #![tactic(auto)]
 
 #[cfg(test)]
 mod folder;
+#[cfg(test)]
+mod listing;
 #[cfg(test)]
 mod names;
 #[cfg(test)]

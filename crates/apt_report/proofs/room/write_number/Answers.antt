@@ -2,7 +2,7 @@ use Rattle.std.proofs.Common.{◌≡◌, ◌+◌, ◌-◌, ◌++◌, drop, ap, a
 use Rattle.std.proofs.lemmas.List.{drop-set}
 use Rattle.itoa.proofs.Decimal.{minus_first}
 use Rattle.apt_report.proofs.Backwards.{digits_fit}
-use Rattle.apt_report.proofs.acts.write_number.Goals as goal
+use Rattle.apt_report.proofs.room.write_number.Goals as goal
 
 pub write_digits-start-requires : goal.write_digits-start-requires
 write_digits-start-requires c = (omega (arith, digits_fit c.unsigned_abs.result (omega arith)), search rules)

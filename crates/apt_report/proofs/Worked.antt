@@ -1,0 +1,43 @@
+-- A part and a few listed points, which the checker works out.
+use Rattle.std.specs.Prelude.{◌≡◌, ℤ, pos, negsuc, [], ◌∷◌, codes}
+use Rattle.std.specs.Fmt.{digits}
+use Rattle.std.proofs.Common.{refl}
+use Rattle.apt_words.specs.declared.Units.TheVariants.{Inch, Mm}
+use Rattle.apt_cldata.specs.declared.record.Position.{Position}
+use Rattle.apt_cldata.specs.declared.record.Reach.TheVariants as reaches
+use Rattle.apt_cldata.specs.declared.record.Note.TheVariants as notes
+use Rattle.apt_cldata.specs.declared.record.Record.TheVariants as records
+use Rattle.apt_report.specs.Listing.{point_line, listing}
+use Rattle.apt_report.specs.Columns.{length_in}
+use Rattle.apt_report.specs.Demo.{circle_block, demo_part}
+
+abbrev at : ℤ → ℤ → ℤ → Position
+at x y z = record { at = record { x = x; y = y }; z = z }
+
+a_start : point_line 5 10 (codes "FROM") (at (negsuc 99999) (negsuc 99999) (pos 50000)) ≡ codes "      10 FROM   -1.00000   -1.00000    0.50000\n"
+unfolding digits
+a_start = refl
+
+-- the first UNITS record is behind a point, and the second does not count
+in_millimetres : listing (
+    records.Point reaches.Goto (at (pos 0) (negsuc 0) (pos 500000000)) ∷ records.Note (notes.Units Mm) ∷ records.Note (notes.Units Inch)
+    ∷ records.Contour (at (pos 10000) (negsuc 12344) (pos 5) ∷ at (pos 123456789) (pos 1) (negsuc 49999999) ∷ []) ∷ []
+    ) ≡ codes "       1 GOTO     0.0000    -0.0001 50000.0000\n       4 CONT     1.0000    -1.2345     0.0005\n       4 CONT 12345.6789     0.0001 -5000.0000\nEND 3 POINTS\n"
+unfolding digits
+in_millimetres = refl
+
+no_records : listing [] ≡ codes "END 0 POINTS\n"
+unfolding digits
+no_records = refl
+
+a_length : length_in Inch (codes "   -1.50000") ≡ negsuc 149999
+a_length = refl
+
+one_circle : demo_part 1 ≡ codes "PARTNO DEMO 1\nCUTTER/.5\nFEDRAT/10\nFROM/-450,-450,.5\nTLRGT\nC=CIRCLE/-400,-200,1.00\nL=LINE/-400,-200,-399,-200\nRAPID\nGOTO/-398.00,-200,.5\nGODLTA/0,0,-.5\nGO/TO,C\nGORGT/C,ON,L\nGOFWD/C,ON,L\nGODLTA/0,0,.5\nFINI\n"
+unfolding digits
+one_circle = refl
+
+-- the last circle of the greatest part
+last_circle : circle_block 799 ≡ codes "C=CIRCLE/380,180,2.75\nL=LINE/380,180,381,180\nRAPID\nGOTO/383.75,180,.5\nGODLTA/0,0,-.5\nGO/TO,C\nGORGT/C,ON,L\nGOFWD/C,ON,L\nGODLTA/0,0,.5\n"
+unfolding digits
+last_circle = refl

@@ -1,0 +1,14 @@
+use Rattle.std.proofs.Common.{◌≡◌, rules, arith}
+use Rattle.apt_report.proofs.Circles.{one_circle_more, all_circles}
+use Rattle.apt_report.proofs.demo.demo_part.Goals as goal
+
+pub circles-preserved : goal.circles-preserved
+circles-preserved c = record {
+  text = one_circle_more c.circles.text.items _ c.args.n c.circles.k c.circles.invariant.text c.in_ok-push_block.ensures;
+  room = search rules;
+}
+
+pub returns : goal.returns
+returns c =
+    let done : c.circles.k ≡ c.args.n = omega arith in
+    all_circles c.circles.text.items _ c.args.n (rw done at c.circles.invariant.text) c.in_ok-extend_from_slice.ensures.items
