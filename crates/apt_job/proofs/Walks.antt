@@ -151,6 +151,18 @@ said_of s at (step ∷ steps) written jobs t makes =
     (makes.5 ∙ jobs_joined e makes.1 makes.3 (contours_behind (said_behind s due) makes.2)
     (said_of (said_behind s due) (after at e makes.1) steps makes.2 makes.3 on.tells makes.6))
 
+follows_jobs : (at : Situation) (steps : List Step) (written : List Record) (behind : Situation) → FollowsAs HasAny at steps written behind → (jobs : List Job) × MakesJobs at steps written jobs
+follows_jobs at [] written behind f = ([], (f.0, refl))
+follows_jobs at (step ∷ steps) written behind f =
+    let later = follows_jobs (after at f.0 f.1) steps f.2 behind f.5 in
+    (jobs_by f.0 f.1 ++ later.0, (f.0, f.1, f.2, later.0, f.3, refl, later.1))
+
+-- records that follow steps make the jobs that they say
+pub makes_said : (steps : List Step) (written : List Record) → Follows steps written → MakesJobs first_situation steps written (jobs_said written)
+makes_said steps written f =
+    let some = follows_jobs first_situation steps written f.behind f.follow in
+    subst (λ (js : List Job). MakesJobs first_situation steps written js) (said_of nothing_said first_situation steps written some.0 nothing_tells some.1) some.1
+
 pub jobs_are_said : {A : Type 0} (steps : List Step) (written : List Record) (result : Result (Vec Job A) JobError)
     → IfOk result (λ js. MakesJobs first_situation steps written js.items) → IfOk result (λ js. js.items ≡ jobs_said written)
 jobs_are_said steps written (Ok js) makes = said_of nothing_said first_situation steps written js.items nothing_tells makes
