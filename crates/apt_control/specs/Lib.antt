@@ -2,3 +2,4 @@ pub mod Control
 pub mod Walk
 pub mod Answers
 pub mod Saying
+pub mod Pieces
