@@ -1,15 +1,16 @@
 -- The walk over the characters at the front of some bytes.
-use Rattle.std.proofs.Common.{◌≡◌, ℕ, suc, ◌+◌, ◌-◌, ◌<◌, ◌≤◌, Bool, true, false, List, [], ◌∷◌, length, drop, get_or, Option, Some, None, Result, Ok, Err, cond, refl, ap, ◌∙◌, sym, subst, arith}
-use Rattle.apt_tapecode.specs.declared.Code.{Code}
+use Rattle.std.proofs.Common.{◌≡◌, ℕ, ◌+◌, ◌-◌, ◌<◌, ◌≤◌, Bool, true, false, List, [], ◌∷◌, length, drop, get_or, None, Result, Ok, Err, IfOk, cond, refl, ap, ◌∙◌, sym, arith}
 use Rattle.apt_tapecode.specs.declared.Read.{Read}
 use Rattle.apt_tapecode.specs.declared.Read.TheVariants as reads
 use Rattle.apt_tapecode.specs.Tapecode.{reading}
 use Rattle.apt_block.specs.declared.block.BlockFault.{BlockFault}
-use Rattle.apt_block.specs.declared.block.Mark.{Mark}
 use Rattle.apt_block.specs.Block.{◌>>=◌}
 use Rattle.apt_block.specs.Machine.{FrontPart, step, is_whole, Taken, stopped, taken, behind}
 use Rattle.apt_block.proofs.Taking.{first_taken, taken_some}
 use Rattle.apt_control.specs.declared.walk.Phase.TheVariants as phases
+use Rattle.apt_control.specs.declared.error.ControlError.{ControlError}
+use Rattle.apt_control.specs.declared.error.ControlError.TheVariants as errors
+use Rattle.apt_control.specs.Answers.{IsStep, IsFront}
 use Rattle.apt_control.specs.Control.{MeaningOf}
 use Rattle.apt_control.specs.Walk.{Walk, words_step, character_step, block_step, character_as, character_of, reached, AtCharacter, byte_as, byte_step, byte_steps}
 
@@ -63,9 +64,9 @@ front_character means s byte ch bytes phase e goes =
     ∙ one_character means s ch bytes phase goes
     ∙ sym (ap (λ r. behind_taken means s (first_taken (character_of s.code) s.block s.count (byte ∷ bytes) bytes (character_as r))) e)
 
-goes_on : {H A : Type 0} (means : MeaningOf H A) (bytes : List ℕ) → Goes means bytes
-goes_on means [] s phase is = stays means s [] is
-goes_on {H = H} {A = A} means (byte ∷ bytes) s phase is = go (reading s.code byte) refl
+front_byte : {H A : Type 0} (means : MeaningOf H A) (s : Walk H A) (byte : ℕ) (bytes : List ℕ) → s.phase ≡ phases.InBlock → is_whole s.block ≡ false → Goes means bytes → (r : Read) → reading s.code byte ≡ r
+    → byte_steps means s (byte ∷ bytes) ≡ behind_taken means s (taken (character_of s.code) s.block s.count (byte ∷ bytes))
+front_byte {H = H} {A = A} means s byte bytes phase is goes = go
   where
     stop : (r : Read) → reading s.code byte ≡ r → character_as r ≡ None → byte_steps means s (byte ∷ bytes) ≡ behind_taken means s (taken (character_of s.code) s.block s.count (byte ∷ bytes))
     stop r e none =
@@ -73,10 +74,14 @@ goes_on {H = H} {A = A} means (byte ∷ bytes) s phase is = go (reading s.code b
         ∙ sym (ap (λ o. behind_taken means s (first_taken (character_of s.code) s.block s.count (byte ∷ bytes) bytes o)) (ap character_as e ∙ none))
 
     go : (r : Read) → reading s.code byte ≡ r → byte_steps means s (byte ∷ bytes) ≡ behind_taken means s (taken (character_of s.code) s.block s.count (byte ∷ bytes))
-    go (reads.Char ch) e = front_character means s byte ch bytes phase e (goes_on means bytes)
+    go (reads.Char ch) e = front_character means s byte ch bytes phase e goes
     go reads.Skip e = stop reads.Skip e refl
     go reads.BadParity e = stop reads.BadParity e refl
     go reads.BadCode e = stop reads.BadCode e refl
+
+goes_on : {H A : Type 0} (means : MeaningOf H A) (bytes : List ℕ) → Goes means bytes
+goes_on means [] s phase is = stays means s [] is
+goes_on means (byte ∷ bytes) s phase is = front_byte means s byte bytes phase is (goes_on means bytes) (reading s.code byte) refl
 
 -- ---- from a character on
 
@@ -85,17 +90,16 @@ is_front : {H A : Type 0} (means : MeaningOf H A) (s : Walk H A) (bytes : List �
 is_front means s [] is = absurd (omega (arith, is.some))
 is_front means s (byte ∷ bytes) is = front_character means s byte is.character.0 bytes is.phase is.character.1 (goes_on means bytes)
 
-pub front_on : {H A : Type 0} (means : MeaningOf H A) (s now : Walk H A) (bytes rest : List ℕ) (b : FrontPart) (at : ℕ) → AtCharacter s bytes
-    → taken (character_of s.code) s.block s.count bytes ≡ stopped b at rest → reached means (record s { block = b }) at ≡ Ok now
-    → byte_steps means now rest ≡ byte_steps means s bytes
-front_on means s now bytes rest b at is read end =
-    sym (is_front means s bytes is ∙ ap (behind_taken means s) read ∙ ap (λ r. r >>= λ s. byte_steps means s rest) end)
-
-pub front_meant : {H A : Type 0} (means : MeaningOf H A) (s : Walk H A) (bytes rest : List ℕ) (b : FrontPart) (at : ℕ) (f : BlockFault) → AtCharacter s bytes
-    → taken (character_of s.code) s.block s.count bytes ≡ stopped b at rest → reached means (record s { block = b }) at ≡ Err f
-    → byte_steps means s bytes ≡ Err f
-front_meant means s bytes rest b at f is read end =
-    is_front means s bytes is ∙ ap (behind_taken means s) read ∙ ap (λ r. r >>= λ s. byte_steps means s rest) end
+-- the walk goes on behind the characters that are taken, or the meaning of their block is refused
+pub front_reached : {H A : Type 0} (means : MeaningOf H A) (s now : Walk H A) (bytes : List ℕ) (b : FrontPart) (n : ℕ) (result : Result ℕ ControlError) → AtCharacter s bytes
+    → taken (character_of s.code) s.block s.count bytes ≡ stopped b (s.count + n) (drop n bytes) → IsStep (reached means (record s { block = b }) (s.count + n)) now result
+    → IfOk result (λ m. m ≡ n) → IsFront means (byte_steps means s bytes) now bytes result
+front_reached means s now bytes b n (Ok m) is read end same =
+    ap (λ m. byte_steps means now (drop m bytes)) same
+    ∙ sym (is_front means s bytes is ∙ ap (behind_taken means s) read ∙ ap (λ r. r >>= λ s. byte_steps means s (drop n bytes)) end)
+front_reached means s now bytes b n (Err errors.NoMemory) is read end same = tt
+front_reached means s now bytes b n (Err (errors.Bad place cause)) is read end same =
+    is_front means s bytes is ∙ ap (behind_taken means s) read ∙ ap (λ r. r >>= λ s. byte_steps means s (drop n bytes)) end
 
 pub front_fault : {H A : Type 0} (means : MeaningOf H A) (s : Walk H A) (bytes : List ℕ) (f : BlockFault) → AtCharacter s bytes
     → taken (character_of s.code) s.block s.count bytes ≡ Err f → byte_steps means s bytes ≡ Err f
@@ -105,3 +109,7 @@ front_fault means s bytes f is read = is_front means s bytes is ∙ ap (behind_t
 pub front_some : {H A : Type 0} (s : Walk H A) (bytes rest : List ℕ) (b : FrontPart) (n : ℕ) → AtCharacter s bytes
     → taken (character_of s.code) s.block s.count bytes ≡ stopped b (s.count + n) rest → 0 < n
 front_some s bytes rest b n is read = taken_some (character_of s.code) s.block s.count bytes is.character.0 n b rest is.some (ap character_as is.character.1) read
+
+pub some_within : (result : Result ℕ ControlError) (n most : ℕ) → IfOk result (λ m. m ≡ n) → 0 < n → n ≤ most → IfOk result (λ m. (0 < m) × (m ≤ most))
+some_within (Ok m) n most same some within = (omega (arith, same, some), omega (arith, same, within))
+some_within (Err e) n most same some within = tt

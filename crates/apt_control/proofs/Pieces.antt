@@ -15,15 +15,15 @@ use Rattle.apt_block.specs.declared.machine.OpenWord.{OpenWord}
 use Rattle.apt_block.specs.declared.machine.Want.{Want}
 use Rattle.apt_block.specs.declared.machine.Want.TheVariants as wants
 use Rattle.apt_block.specs.Block.{◌>>=◌, fault, bad_block, forms, letter_g, letter_m, plus_sign, minus_sign, line_feed, is_digit, is_same_group, is_g_again, code_fault, unless}
-use Rattle.apt_block.specs.Machine.{FrontPart, form_for, with_form, letter_step, with_word, value_of, word_end, with_digit, digit_step, sign_step, step_as, step, is_whole}
+use Rattle.apt_block.specs.Machine.{FrontPart, form_for, with_form, with_word, value_of, word_end, with_digit, digit_step, sign_step, step_as, step, is_whole}
 use Rattle.apt_control.specs.declared.error.ControlError.{ControlError}
 use Rattle.apt_control.specs.declared.error.ControlError.TheVariants as errors
 use Rattle.apt_control.specs.declared.walk.Phase.{Phase}
 use Rattle.apt_control.specs.declared.walk.Phase.TheVariants as phases
 use Rattle.apt_control.specs.Answers.{IsAnswer}
 use Rattle.apt_control.specs.Control.{Meaning, MeaningOf, is_rewind_stop, tape_run}
-use Rattle.apt_control.specs.Walk.{outcome, outcome_as, Walk, walk_start, start_step, past_byte, with_meaning, character_step, block_step, end_step, byte_as, byte_step, byte_steps}
-use Rattle.apt_control.specs.Pieces.{StandsFor, more_may_mend, HoldsFault, RefusesFault, RefusesAs}
+use Rattle.apt_control.specs.Walk.{outcome, outcome_as, Walk, walk_start, start_step, past_byte, with_meaning, block_step, end_step, byte_as, byte_step, byte_steps}
+use Rattle.apt_control.specs.Pieces.{StandsFor, more_may_mend, IsSettled, HoldsFault, RefusesFault, RefusesAs}
 use Rattle.apt_control.proofs.Walks.{run_is_walk}
 
 -- ---- one piece behind another
@@ -65,7 +65,7 @@ settled_code before letter c = go (letter == letter_g) (letter == letter_m) (is_
     go false false a b = tt
 
 settled_word : (b : FrontPart) (w : OpenWord) → Settled (word_end b w)
-settled_word b w = go (nat_le w.form.least w.size && nat_le w.size w.form.most) (code_fault b.words w.form.letter (unsigned_abs (value_of w))) (settled_code _ _ _)
+settled_word b w = go (nat_le w.form.least w.size && nat_le w.size w.form.most) (code_fault b.words w.form.letter (unsigned_abs (value_of w))) (settled_code b.words w.form.letter (unsigned_abs (value_of w)))
   where
     go : (t : Bool) (o : Option TapeCause) → SettledCause o → Settled (cond t (unless w.at o (with_word b w)) (Err (bad_block w.last)))
     go true None is = tt
@@ -101,10 +101,6 @@ settled_step b c = go b.want
 abbrev pub Steady : {H A : Type 0} → Code → Result (Walk H A) BlockFault → Type 0
 Steady code (Ok r) = r.code ≡ code
 Steady code (Err f) = more_may_mend f.cause ≡ false
-
--- a meaning with no fault that more bytes could mend
-abbrev pub IsSettled : {H A : Type 0} → MeaningOf H A → Type 0
-IsSettled {H = H} means = (held : H) (at : ℕ) (words : List TapeWord) (f : BlockFault) → means held at words ≡ Err f → more_may_mend f.cause ≡ false
 
 steady_byte : {H A : Type 0} (means : MeaningOf H A) → IsSettled means → (s : Walk H A) (byte : ℕ) → Steady s.code (byte_step means s byte)
 steady_byte {H = H} {A = A} means settled s byte = go s.phase
@@ -178,8 +174,9 @@ pub fed_whole : {H A : Type 0} (means : MeaningOf H A) (start : H) (s : Walk H A
 fed_whole means start s piece (Ok r) fed front more stands = tt
 fed_whole means start s piece (Err errors.NoMemory) fed front more stands = tt
 fed_whole means start s piece (Err (errors.Bad at cause)) fed front more stands =
-    run_on means start s front (piece ++ more) stands
-    ∙ ap (λ r. r >>= outcome) (byte_steps_append means s piece more ∙ ap (λ r. r >>= λ s. byte_steps means s more) fed)
+    run_is_walk means start s.code (front ++ piece ++ more)
+    ∙ ap (λ r. r >>= outcome)
+    (byte_steps_append means (walk_start start s.code) (front ++ piece) more ∙ ap (λ r. r >>= λ s. byte_steps means s more) (stands_on means start s front piece stands ∙ fed))
 
 abbrev NoFault : {A : Type 0} → Result (List A) BlockFault → Type 0
 NoFault run = ¬ HoldsFault run

@@ -3,3 +3,4 @@ pub mod Walk
 pub mod Answers
 pub mod Saying
 pub mod Pieces
+pub mod Settled

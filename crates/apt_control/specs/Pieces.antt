@@ -3,7 +3,7 @@ use Rattle.std.specs.Prelude.{◌≡◌, ℕ, Bool, true, false, List, Result, O
 use Rattle.apt_block.specs.declared.block.BlockFault.{BlockFault}
 use Rattle.apt_block.specs.declared.block.TapeCause.{TapeCause}
 use Rattle.apt_block.specs.declared.block.TapeCause.TheVariants as causes
-use Rattle.apt_tapecode.specs.declared.Code.{Code}
+use Rattle.apt_block.specs.declared.block.TapeWord.{TapeWord}
 use Rattle.apt_control.specs.declared.error.ControlError.{ControlError}
 use Rattle.apt_control.specs.declared.error.ControlError.TheVariants as errors
 use Rattle.apt_control.specs.Answers.{IsFault}
@@ -29,6 +29,10 @@ more_may_mend causes.NoFeed = false
 more_may_mend causes.NoPosition = false
 more_may_mend causes.Truncated = true
 more_may_mend causes.AfterEnd = false
+
+-- a block is whole before it means anything, so no bytes behind it mend a fault of its meaning
+abbrev pub IsSettled : {H A : Type 0} → MeaningOf H A → Type 0
+IsSettled {H = H} means = (held : H) (at : ℕ) (words : List TapeWord) (f : BlockFault) → means held at words ≡ Err f → more_may_mend f.cause ≡ false
 
 -- the bytes of a run hold a fault that no bytes behind them can mend
 abbrev pub HoldsFault : {A : Type 0} → Result (List A) BlockFault → Type 0

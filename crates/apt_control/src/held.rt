@@ -28,7 +28,7 @@ impl Control for Held {
     type Act = Act;
 
     ghost use Rattle.apt_control.specs.Control as spec;
-    ghost use Rattle.apt_control.proofs.Settled.{settled_meaning};
+    ghost use Rattle.apt_control.specs.Settled.{settled_meaning};
 
     ghost start = { spec.nothing_held };
 

@@ -1,7 +1,6 @@
 //! The run of a control over bytes that come in pieces, with any meaning of blocks.
 
 ghost use Rattle.std.specs.Prelude.{◌≡◌, ◌≢◌, ◌+◌, ◌-◌, ◌<◌, ◌≤◌, ◌^◌, ◌++◌, [], ℕ, List, Err, false, length, IfOk};
-ghost use Rattle.apt_block.specs.declared.block.BlockFault.{BlockFault};
 ghost use Rattle.apt_block.specs.Machine as machine;
 ghost use Rattle.apt_control.specs.Answers.{IsAnswer, IsFront, IsMeaning, IsStep};
 ghost use Rattle.apt_control.specs.Control.{MeaningOf};
@@ -45,8 +44,7 @@ pub trait Control: Drop {
     ) -> Result<bool, ControlError>
         ensures { IsMeaning (means self.old at words.now) self.new acts.old.items acts.new.items result };
 
-    /// A block is whole before it means anything, so its meaning has no fault that bytes behind it could mend.
-    ghost settled: { (held : Self) (at : ℕ) (words : List TapeWord) (f : BlockFault) → means held at words ≡ Err f → pieces.more_may_mend f.cause ≡ false };
+    ghost settled: { pieces.IsSettled means };
 }
 
 /// A tape whose bytes come in pieces.
@@ -86,7 +84,7 @@ impl<H: Control> ControlReader<H> {
 
     /// Takes a piece more. It refuses where the bytes so far hold a fault that no bytes behind them could mend, and
     /// the refusal is that of the whole tape.
-    #[tactic(auto, using(crate::proofs::Pieces::fed_stands, crate::proofs::Pieces::fed_whole, crate::proofs::Pieces::fed_fault))]
+    #[tactic(auto, using(crate::proofs::Pieces::fed_whole))]
     pub fn feed(self, piece: &[u8]) -> Result<ControlReader<H>, ControlError>
         requires { self.count + length piece.now < 2 ^ 64 }
         ensures walk { IsAnswer (λ r. r) result (walk.byte_steps H.means self piece.now) }
@@ -171,7 +169,7 @@ impl<H: Control> ControlReader<H> {
     }
 
     /// Takes the characters at the front of some bytes, up to the end of their block.
-    #[tactic(auto, using(crate::proofs::Bytes::front_on, crate::proofs::Bytes::front_meant, crate::proofs::Bytes::front_fault, crate::proofs::Bytes::front_some))]
+    #[tactic(auto, using(crate::proofs::Bytes::front_reached, crate::proofs::Bytes::front_fault, crate::proofs::Bytes::front_some))]
     fn characters(&mut self, bytes: &[u8]) -> Result<usize, ControlError>
         requires at { AtCharacter self.old bytes.now }
         requires count { self.old.count + length bytes.now < 2 ^ 64 }
@@ -180,8 +178,7 @@ impl<H: Control> ControlReader<H> {
         ensures count { IfOk result (λ n. self.new.count ≡ self.old.count + n) }
     {
         let count = self.take(bytes)?;
-        self.reach(self.count + count as u64)?;
-        Ok(count)
+        self.reach(count)
     }
 
     /// Takes them into the block that is begun.
@@ -197,17 +194,21 @@ impl<H: Control> ControlReader<H> {
         }
     }
 
-    /// The next byte is at a place: a block that is whole ended at the byte before it, and gets its meaning.
-    fn reach(&mut self, at: u64) -> Result<(), ControlError>
-        requires { 0 < at }
-        ensures step { IsStep (walk.reached H.means self.old at) self.new result }
-        ensures count { IfOk result (λ _. self.new.count ≡ at) }
+    /// So many characters are taken: a block that is whole ended at the last of them, and gets its meaning.
+    fn reach(&mut self, count: usize) -> Result<usize, ControlError>
+        requires some { 0 < count }
+        requires place { self.old.count + count < 2 ^ 64 }
+        ensures step { IsStep (walk.reached H.means self.old (self.old.count + count)) self.new result }
+        ensures same { IfOk result (λ n. n ≡ count) }
+        ensures count { IfOk result (λ _. self.new.count ≡ self.old.count + count) }
     {
+        let at = self.count + count as u64;
         if self.block.is_whole() {
-            return self.block_end(at - 1);
+            self.block_end(at - 1)?;
+            return Ok(count);
         }
         self.count = at;
-        Ok(())
+        Ok(count)
     }
 
     /// Gives the words of a block its meaning, whose end of block is at a place.
