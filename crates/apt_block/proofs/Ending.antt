@@ -95,12 +95,3 @@ step_ends b c = go b.want
     go (wants.Sign w) = sign_ends b w c
     go (wants.Digit w) = digit_ends b w c
     go wants.Nothing = tt
-
--- where a letter comes next, an end of block ends the block
-abbrev end_mark : ℕ → Mark
-end_mark at = record { at = at; ch = line_feed }
-
-pub end_step : (b : FrontPart) (at : ℕ) → b.want ≡ wants.Letter → step b (record { at = at; ch = line_feed }) ≡ Ok (record b { want = wants.Nothing })
-end_step b at is =
-    ap (step_as b (end_mark at)) is
-    ∙ ap (with_form b (end_mark at)) (none_at_end b.used (drop b.used forms) (no_end_drop b.used forms no_end))

@@ -1,6 +1,7 @@
 -- Read character by character, a text gives what the grammar reads.
-use Rattle.std.proofs.Common.{subst, ◌≡◌, ℕ, zero, suc, ◌+◌, ◌-◌, ◌*◌, ◌==◌, ◌&&◌, nat_le, true, false, Bool, List, [], ◌∷◌, ◌++◌, drop, length, Option, Some, None, Result, Ok, Err, cond, refl, ap, ◌∙◌, sym, pos, neg_ℤ, unsigned_abs, arith}
+use Rattle.std.proofs.Common.{subst, ◌≡◌, ℕ, zero, suc, ◌+◌, ◌-◌, ◌*◌, ◌<◌, ◌==◌, ◌&&◌, nat_le, true, false, Bool, List, [], ◌∷◌, ◌++◌, drop, length, Option, Some, None, Result, Ok, Err, cond, refl, ap, ◌∙◌, sym, pos, neg_ℤ, unsigned_abs, arith}
 use Rattle.std.proofs.lemmas.Bool.Decides.{nat_tests}
+use Rattle.std.proofs.lemmas.List.{length-drop}
 use Rattle.apt_block.specs.declared.block.Mark.{Mark}
 use Rattle.apt_block.specs.declared.block.BlockFault.{BlockFault}
 use Rattle.apt_block.specs.declared.block.TapeWord.{TapeWord}
@@ -12,7 +13,7 @@ use Rattle.apt_block.specs.declared.machine.OpenWord.{OpenWord}
 use Rattle.apt_block.specs.declared.machine.Want.{Want}
 use Rattle.apt_block.specs.declared.machine.Want.TheVariants as wants
 use Rattle.apt_block.specs.Block.{◌>>=◌, fault, bad_block, forms, plus_sign, minus_sign, line_feed, code_fault, is_digit, Digits, digits_at, in_range, size_at, Number, plus, minus, signed_at, number_at, unless, tape_word, nothing_at, words_at, block_of, marks, block_text}
-use Rattle.apt_block.specs.Machine.{FrontPart, block_start, form_for, new_word, with_form, letter_step, value_of, with_word, word_end, digit_step, sign_step, step_as, step, steps, words_as, words_of, is_nothing, is_whole, IsReading}
+use Rattle.apt_block.specs.Machine.{FrontPart, block_start, form_for, new_word, with_form, letter_step, value_of, with_word, word_end, digit_step, sign_step, step_as, step, steps, words_as, words_of, is_nothing, is_whole, Taken, stopped, taken, behind as behind_step, words_behind, IsReading}
 
 -- ---- what the grammar reads from a front part on
 
@@ -241,13 +242,70 @@ words_open end b is = go b.want is
 
 -- ---- a text by itself
 
-pub block_text_ok : (text : List ℕ) (b : FrontPart) (r : Result (List TapeWord) BlockError) → steps block_start (marks 0 text) ≡ Ok b
-    → IsReading (words_of (fault (length text) causes.Truncated) b) r → IsReading (block_text text) r
-block_text_ok text b r e is =
-    let end = fault (length text) causes.Truncated in
-    subst (λ read. IsReading read r) (sym (block_of_steps end (marks 0 text) ∙ ap (λ r. r >>= words_of end) e)) is
+abbrev and_left : Result Taken BlockFault → Result FrontPart BlockFault
+and_left r = r >>= λ t. steps t.part (marks t.at t.rest)
 
-pub block_text_err : (text : List ℕ) (f : BlockFault) → steps block_start (marks 0 text) ≡ Err f → block_text text ≡ Err f
+-- the steps that are taken, and those of what is left
+plain_steps : (b : FrontPart) (at : ℕ) (text : List ℕ) → steps b (marks at text) ≡ and_left (taken Some b at text)
+plain_steps b at [] = refl
+plain_steps b at (ch ∷ text) = each (step b (record { at = at; ch = ch })) (λ b. plain_steps b (at + 1) text)
+  where
+    whole : (b : FrontPart) (t : Bool) → steps b (marks (at + 1) text) ≡ and_left (taken Some b (at + 1) text)
+        → steps b (marks (at + 1) text) ≡ and_left (cond t (stopped b (at + 1) text) (taken Some b (at + 1) text))
+    whole b true same = refl
+    whole b false same = same
+
+    each : (r : Result FrontPart BlockFault) → ((b : FrontPart) → steps b (marks (at + 1) text) ≡ and_left (taken Some b (at + 1) text))
+        → (r >>= λ b. steps b (marks (at + 1) text)) ≡ and_left (r >>= λ b. behind_step Some b (at + 1) text)
+    each (Ok b) same = whole b (is_whole b) (same b)
+    each (Err e) same = refl
+
+abbrev AllTaken : Result Taken BlockFault → Type 0
+AllTaken (Ok t) = is_whole t.part ≡ false → t.rest ≡ []
+AllTaken (Err f) = Unit {0}
+
+plain_all : (b : FrontPart) (at : ℕ) (text : List ℕ) → AllTaken (taken Some b at text)
+plain_all b at [] = λ free. refl
+plain_all b at (ch ∷ text) = each (step b (record { at = at; ch = ch })) (λ b. plain_all b (at + 1) text)
+  where
+    whole : (b : FrontPart) (t : Bool) → is_whole b ≡ t → AllTaken (taken Some b (at + 1) text) → AllTaken (cond t (stopped b (at + 1) text) (taken Some b (at + 1) text))
+    whole b true is all = λ free. absurd (no_true (sym free ∙ is))
+    whole b false is all = all
+
+    each : (r : Result FrontPart BlockFault) → ((b : FrontPart) → AllTaken (taken Some b (at + 1) text)) → AllTaken (r >>= λ b. behind_step Some b (at + 1) text)
+    each (Ok b) all = whole b (is_whole b) refl (all b)
+    each (Err e) all = tt
+
+-- where no byte stops it, a block that is not whole takes all of a text
+pub plain_rest : (b now : FrontPart) (at place : ℕ) (text rest : List ℕ) → taken Some b at text ≡ stopped now place rest → is_whole now ≡ false → rest ≡ []
+plain_rest b now at place text rest e free = subst AllTaken e (plain_all b at text) free
+
+pub block_text_taken : (text rest : List ℕ) (at : ℕ) (b : FrontPart) (r : Result (List TapeWord) BlockError) → taken Some block_start 0 text ≡ stopped b at rest
+    → IsReading (words_behind (fault (length text) causes.Truncated) b at rest) r → IsReading (block_text text) r
+block_text_taken text rest at b r e is =
+    let end = fault (length text) causes.Truncated in
+    subst (λ read. IsReading read r) (sym (block_of_steps end (marks 0 text) ∙ ap (λ r. r >>= words_of end) (plain_steps block_start 0 text ∙ ap and_left e))) is
+
+pub block_text_err : (text : List ℕ) (f : BlockFault) → taken Some block_start 0 text ≡ Err f → block_text text ≡ Err f
 block_text_err text f e =
     let end = fault (length text) causes.Truncated in
-    block_of_steps end (marks 0 text) ∙ ap (λ r. r >>= words_of end) e
+    block_of_steps end (marks 0 text) ∙ ap (λ r. r >>= words_of end) (plain_steps block_start 0 text ∙ ap and_left e)
+
+-- behind the end of a block no character can stand
+no_more : (end : BlockFault) (b : FrontPart) (at ch : ℕ) (text : List ℕ) → is_whole b ≡ true → words_behind end b at (ch ∷ text) ≡ Err (bad_block at)
+no_more end b at ch text is = go b.want is
+  where
+    go : (want : Want) → is_nothing want ≡ true → (step_as b (record { at = at; ch = ch }) want >>= (λ b. steps b (marks (at + 1) text)) >>= words_of end) ≡ Err (bad_block at)
+    go wants.Letter is = absurd (no_true is)
+    go (wants.Sign w) is = absurd (no_true is)
+    go (wants.Digit w) is = absurd (no_true is)
+    go wants.Nothing is = refl
+
+pub left_over : (end : BlockFault) (b : FrontPart) (at n : ℕ) (text : List ℕ) → (is_whole b ≡ false → drop n text ≡ []) → n < length text
+    → words_behind end b at (drop n text) ≡ Err (bad_block at)
+left_over end b at n text all h = go (drop n text) (is_whole b) refl all (omega (arith, h, length-drop n text))
+  where
+    go : (rest : List ℕ) (t : Bool) → is_whole b ≡ t → (t ≡ false → rest ≡ []) → 0 < length rest → words_behind end b at rest ≡ Err (bad_block at)
+    go [] t is all some = absurd (omega (arith, some))
+    go (ch ∷ rest) true is all some = no_more end b at ch rest is
+    go (ch ∷ rest) false is all some = absurd (no_cons ch rest (all refl))

@@ -7,10 +7,8 @@ use Rattle.std.proofs.lemmas.List.{length-drop}
 use Rattle.apt_block.specs.declared.table.Form.{Form}
 use Rattle.apt_block.specs.declared.block.Mark.{Mark}
 use Rattle.apt_block.specs.declared.machine.OpenWord.{OpenWord}
-use Rattle.apt_block.specs.declared.machine.Want.{Want}
-use Rattle.apt_block.specs.declared.machine.Want.TheVariants as wants
 use Rattle.apt_block.specs.Block.{is_digit, forms}
-use Rattle.apt_block.specs.Machine.{FrontPart, form_for, new_word, first_want, with_digit, HasDigits, HasRoom, IsFrontPart}
+use Rattle.apt_block.specs.Machine.{form_for, with_digit, HasDigits}
 
 -- the size itself fits
 pub size_fits : (size n : ℕ) → (size + 1) * 10 ^ n ≤ 10 ^ 8 → size + 1 ≤ 10 ^ 8
@@ -87,18 +85,3 @@ room_step w c room digit later = go w.later later room
     go : (n : ℕ) → (n == 0) ≡ false → (w.size + 1) * 10 ^ (n + 1) ≤ 10 ^ 8 → (10 * w.size + (c.ch - 48) + 1) * 10 ^ (n - 1 + 1) ≤ 10 ^ 8
     go zero e h = absurd (no_true e)
     go (suc n) e h = subst (λ m. (10 * w.size + (c.ch - 48) + 1) * 10 ^ m ≤ 10 ^ 8) (one_less n) (room_more w.size (c.ch - 48) (n + 1) (omega (arith, digit_size c.ch digit)) (subst (λ m. (w.size + 1) * 10 ^ m ≤ 10 ^ 8) (one_later n) h))
-
-pub want_room : (b : FrontPart) (used at : ℕ) (form : Form) (want : Want) → length b.words < used → used ≤ 13 → form.digits ≤ 8 → want ≡ first_want form at
-    → IsFrontPart (record { words = b.words; used = used; want = want })
-want_room b used at form want h room small is = subst (λ want. IsFrontPart (record { words = b.words; used = used; want = want })) (sym is) (record { used = room; room = go form.signed })
-  where
-    go : (s : Bool) → HasRoom (record { words = b.words; used = used; want = cond s (wants.Sign (new_word form at)) (wants.Digit (new_word form at)) }) (cond s (wants.Sign (new_word form at)) (wants.Digit (new_word form at)))
-    go true = (h, room_new form.digits small)
-    go false = (h, room_new form.digits small)
-
-one_more : (n : ℕ) → n + 1 ≡ suc n
-one_more n = omega arith
-
--- the last digit leaves a size that fits
-pub last_room : (w : OpenWord) (c : Mark) → HasDigits w → is_digit c.ch ≡ true → (with_digit w c).size < 10 ^ 8
-last_room w c room digit = omega (arith, room_more w.size (c.ch - 48) w.later (omega (arith, digit_size c.ch digit)) (subst (λ m. (w.size + 1) * 10 ^ m ≤ 10 ^ 8) (one_more w.later) room), size_fits (10 * w.size + (c.ch - 48)) w.later (room_more w.size (c.ch - 48) w.later (omega (arith, digit_size c.ch digit)) (subst (λ m. (w.size + 1) * 10 ^ m ≤ 10 ^ 8) (one_more w.later) room)))

@@ -1,5 +1,6 @@
 -- A block read character by character: what may come next, and one character more.
-use Rattle.std.specs.Prelude.{◌≡◌, ℕ, ◌+◌, ◌-◌, ◌*◌, ◌^◌, ◌≤◌, ◌<◌, ℤ, pos, neg_ℤ, unsigned_abs, ◌==◌, ◌&&◌, nat_le, Bool, true, false, List, [], ◌∷◌, ◌++◌, length, drop, Option, Some, None, Result, Ok, Err, if◌then◌else◌}
+use Rattle.std.specs.Prelude.{◌≡◌, ℕ, ◌+◌, ◌-◌, ◌*◌, ◌^◌, ◌≤◌, ◌<◌, ℤ, pos, neg_ℤ, unsigned_abs, ◌==◌, ◌&&◌, nat_le, Bool, true, false, List, [], ◌∷◌, ◌++◌, length, drop, Option, Some, None, unwrap_or, Result, Ok, Err, if◌then◌else◌}
+use Rattle.std.proofs.Common.{option_map}
 use Rattle.apt_block.specs.declared.block.Mark.{Mark}
 use Rattle.apt_block.specs.declared.block.BlockFault.{BlockFault}
 use Rattle.apt_block.specs.declared.block.TapeWord.{TapeWord}
@@ -8,7 +9,7 @@ use Rattle.apt_block.specs.declared.table.Form.{Form}
 use Rattle.apt_block.specs.declared.machine.OpenWord.{OpenWord}
 use Rattle.apt_block.specs.declared.machine.Want.{Want}
 use Rattle.apt_block.specs.declared.machine.Want.TheVariants as wants
-use Rattle.apt_block.specs.Block.{◌>>=◌, fault, bad_block, plus_sign, minus_sign, line_feed, forms, is_digit, code_fault, unless, tape_word}
+use Rattle.apt_block.specs.Block.{◌>>=◌, fault, bad_block, plus_sign, minus_sign, line_feed, forms, is_digit, code_fault, unless, tape_word, marks}
 
 -- the front part of a block: its words, how many forms of the table are behind it, and what may come next
 pub record FrontPart : Type 0 where
@@ -102,7 +103,60 @@ is_nothing (wants.Digit w) = false
 abbrev pub is_whole : FrontPart → Bool
 is_whole b = is_nothing b.want
 
+-- ---- the characters at the front of some bytes, where some bytes stand for characters
+
+-- the front part of a block behind some bytes, the place of the next byte, and the bytes from there on
+pub record Taken : Type 0 where
+  pub part : FrontPart
+  pub at : ℕ
+  pub rest : List ℕ
+
+abbrev pub stopped : FrontPart → ℕ → List ℕ → Result Taken BlockFault
+stopped b at bytes = Ok (record { part = b; at = at; rest = bytes })
+
+-- the steps of the characters, up to the end of block or to a byte that is no character's
+abbrev pub taken : (ℕ → Option ℕ) → FrontPart → ℕ → List ℕ → Result Taken BlockFault
+taken character b at [] = stopped b at []
+taken character b at (byte ∷ bytes) =
+    unwrap_or
+    (option_map
+    (λ ch. step b (record { at = at; ch = ch }) >>= λ b. if is_whole b then stopped b (at + 1) bytes else taken character b (at + 1) bytes)
+    (character byte))
+    (stopped b at (byte ∷ bytes))
+
+-- what comes behind a step
+abbrev pub behind : (ℕ → Option ℕ) → FrontPart → ℕ → List ℕ → Result Taken BlockFault
+behind character b at bytes = if is_whole b then stopped b at bytes else taken character b at bytes
+
+abbrev pub wants_letter : Want → Bool
+wants_letter wants.Letter = true
+wants_letter (wants.Sign w) = false
+wants_letter (wants.Digit w) = false
+wants_letter wants.Nothing = false
+
+-- where a letter comes next the bytes are read on
+abbrev pub read_on : (ℕ → Option ℕ) → FrontPart → ℕ → List ℕ → Result Taken BlockFault
+read_on character b at bytes = if wants_letter b.want then taken character b at bytes else stopped b at bytes
+
+-- the same from a letter on
+abbrev pub letter_taken : (ℕ → Option ℕ) → FrontPart → Mark → List ℕ → Result Taken BlockFault
+letter_taken character b c bytes = letter_step b c >>= λ b. behind character b (c.at + 1) bytes
+
+-- the words of a block's front part and the characters behind it; end is met where the characters end
+abbrev pub words_behind : BlockFault → FrontPart → ℕ → List ℕ → Result (List TapeWord) BlockFault
+words_behind end b at text = steps b (marks at text) >>= words_of end
+
 -- ---- what calls return
+
+-- so many bytes are taken, with this front part then, or there is the fault
+abbrev pub IsTaken : Result Taken BlockFault → FrontPart → ℕ → List ℕ → Result ℕ BlockFault → Type 0
+IsTaken read now at bytes (Ok n) = read ≡ stopped now (at + n) (drop n bytes)
+IsTaken read now at bytes (Err f) = read ≡ Err f
+
+-- so many bytes are taken, behind which there may be another word, or there is the fault
+abbrev pub IsRead : (ℕ → Option ℕ) → Result Taken BlockFault → FrontPart → ℕ → List ℕ → Result ℕ BlockFault → Type 0
+IsRead character read now at bytes (Ok n) = read_on character now (at + n) (drop n bytes) ≡ read
+IsRead character read now at bytes (Err f) = read ≡ Err f
 
 -- a step of the code: the front part then, or the fault
 abbrev pub IsStep : {X : Type 0} → Result FrontPart BlockFault → FrontPart → Result X BlockFault → Type 0

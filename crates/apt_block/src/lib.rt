@@ -8,7 +8,6 @@ mod table;
 mod write;
 
 pub use block::{Block, BlockFault, Mark, TapeCause, TapeWord};
-pub use machine::{BlockReader, OpenWord};
+pub use machine::{Alphabet, BlockReader};
 pub use read::{BlockError, read_block};
-pub use table::Form;
 pub use write::write_block;

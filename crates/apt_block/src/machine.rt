@@ -1,13 +1,13 @@
-//! A block read character by character.
+//! A block read from the bytes of its characters, as they come.
 
-ghost use Rattle.std.specs.Prelude.{◌≡◌, ◌≢◌, ◌≤◌, ◌<◌, ◌^◌, ◌==◌, ℕ, length, drop, true, false, IsTrue, IfSome, IsNone, IsErr, None, Ok};
+ghost use Rattle.std.specs.Prelude.{◌≡◌, ◌≤◌, ◌<◌, ◌+◌, ◌^◌, ℕ, Option, Ok, length, true, IfOk, IfSome, IsNone};
 ghost use Rattle.apt_block.specs.Block as spec;
 ghost use Rattle.apt_block.specs.Machine as machine;
-ghost use Rattle.apt_block.specs.Machine.{IsStep, HasDigits};
+ghost use Rattle.apt_block.specs.Machine.{FrontPart, IsStep, IsTaken, IsRead, HasDigits};
 ghost use Rattle.apt_block.specs.declared.machine.Want.TheVariants as wants;
 
-use crate::table::{code_fault, form_for, is_bad_code};
-use crate::{Block, BlockFault, Form, Mark, TapeCause, TapeWord};
+use crate::table::{Form, code_fault, form_for};
+use crate::{Block, BlockFault, Mark, TapeCause, TapeWord};
 use std::marker::Model;
 
 /// A word that has no end yet: the place of its letter, how many digits must come behind the next one, and
@@ -31,7 +31,16 @@ pub enum Want {
     Nothing,
 }
 
-/// The front part of a block. It takes its characters one by one.
+/// Which bytes stand for characters.
+pub trait Alphabet {
+    ghost character: { ℕ → Option ℕ };
+
+    /// The character of a byte, none where the byte is no character's.
+    fn character(byte: u8) -> Option<u8>
+        ensures { result ≡ character byte };
+}
+
+/// The front part of a block. It takes its characters as they come.
 #[derive(Drop)]
 pub struct BlockReader {
     block: Block,
@@ -71,17 +80,6 @@ fn new_word(form: Form, at: u64) -> OpenWord
     }
 }
 
-fn first_want(form: Form, at: u64) -> Want
-    ensures { result ≡ machine.first_want form at }
-{
-    let word = new_word(form, at);
-    if form.signed {
-        Want::Sign(word)
-    } else {
-        Want::Digit(word)
-    }
-}
-
 fn value_of(word: &OpenWord) -> i64
     requires { word.now.size < 10 ^ 8 }
     ensures { result ≡ machine.value_of word.now }
@@ -94,6 +92,22 @@ fn is_digit(ch: u8) -> bool
     ensures { result ≡ spec.is_digit ch }
 {
     ch.is_ascii_digit()
+}
+
+/// The word with a sign, none where the character is no sign.
+fn with_sign(word: OpenWord, ch: u8) -> Option<OpenWord>
+    ensures step { IfSome result (λ signed. (b : FrontPart) (at : ℕ) → machine.sign_step b word (record { at = at; ch = ch }) ≡ Ok (record b { want = wants.Digit signed })) }
+    ensures room { HasDigits word → IfSome result HasDigits }
+    ensures none { IsNone result → (b : FrontPart) (at : ℕ) → machine.sign_step b word (record { at = at; ch = ch }) ≡ machine.digit_step b word (record { at = at; ch = ch }) }
+{
+    match ch {
+        b'+' => Some(word),
+        b'-' => Some(OpenWord {
+            minus: true,
+            ..word
+        }),
+        _ => None,
+    }
 }
 
 /// The word with one digit more.
@@ -109,38 +123,6 @@ fn with_digit(word: OpenWord, c: Mark) -> OpenWord
         last: c.at,
         ..word
     }
-}
-
-impl OpenWord {
-    /// Takes a character if it is a digit that more may follow, and answers whether it did.
-    #[tactic(auto, using(crate::proofs::Rooms::room_step))]
-    pub fn take(&mut self, c: Mark) -> bool
-        requires room { HasDigits self.old }
-        ensures digit { IsTrue result → spec.is_digit c.ch ≡ true }
-        ensures later { IsTrue result → (self.old.later == 0) ≡ false }
-        ensures taken { IsTrue result → self.new ≡ machine.with_digit self.old c }
-        ensures room { HasDigits self.new }
-        ensures refused { result ≡ false → spec.is_digit c.ch ≡ true → self.old.later ≡ 0 }
-        ensures left { result ≡ false → self.new ≡ self.old }
-    {
-        if self.later == 0 || !is_digit(c.ch) {
-            return false;
-        }
-        add_digit(self, c);
-        true
-    }
-}
-
-/// Adds a digit to a word.
-#[tactic(auto, using(crate::proofs::Rooms::size_fits, crate::proofs::Rooms::digit_size))]
-fn add_digit(word: &mut OpenWord, c: Mark)
-    requires room { HasDigits word.old }
-    requires digit { spec.is_digit c.ch ≡ true }
-    ensures { word.new ≡ machine.with_digit word.old c }
-{
-    word.later = word.later.saturating_sub(1);
-    word.size = 10 * word.size + (c.ch - b'0') as u64;
-    word.last = c.at;
 }
 
 impl BlockReader {
@@ -175,15 +157,6 @@ impl BlockReader {
         matches!(self.want, Want::Nothing)
     }
 
-    /// Whether a letter comes next, and so an end of block may come too.
-    #[tactic(auto, using(crate::proofs::Ending::end_step))]
-    pub fn can_end(&self) -> bool
-        ensures end { IsTrue result → (at : ℕ) → machine.step self.now (record { at = at; ch = spec.line_feed }) ≡ Ok (record self.now { want = wants.Nothing }) }
-        ensures none { result ≡ false → self.now.want ≢ wants.Letter }
-    {
-        matches!(self.want, Want::Letter)
-    }
-
     /// Takes all characters away.
     pub fn clear(&mut self)
         ensures { self.new ≡ machine.block_start }
@@ -193,134 +166,138 @@ impl BlockReader {
         self.want = Want::Letter;
     }
 
-    /// Takes one character more. After a fault the block can't be read on.
-    pub fn step(&mut self, c: Mark) -> Result<(), BlockFault>
-        ensures { IsStep (machine.step self.old c) self.new result }
+    /// Takes the characters at the front of some bytes, the first of which is at a place, up to the end of block or
+    /// to a byte that is no character's. Answers how many it took. After a fault the block can't be read on.
+    pub fn take<A: Alphabet>(&mut self, at: u64, bytes: &[u8]) -> Result<usize, BlockFault>
+        requires { at + length bytes.now < 2 ^ 64 }
+        ensures taken { IsTaken (machine.taken A.character self.old at bytes.now) self.new at bytes.now result }
+        ensures short { IfOk result (λ n. n ≤ length bytes.now) }
+    {
+        let count = self.word_rest::<A>(at, bytes)?;
+        if let Want::Letter = self.want {
+            let more = self.all_words::<A>(at + count as u64, &bytes[count..])?;
+            return Ok(count + more);
+        }
+        Ok(count)
+    }
+
+    /// Takes the characters of a word that is begun.
+    fn word_rest<A: Alphabet>(&mut self, at: u64, bytes: &[u8]) -> Result<usize, BlockFault>
+        requires { at + length bytes.now < 2 ^ 64 }
+        ensures read { IsRead A.character (machine.taken A.character self.old at bytes.now) self.new at bytes.now result }
+        ensures short { IfOk result (λ n. n ≤ length bytes.now) }
     {
         match self.want {
-            Want::Letter => self.letter_step(c),
-            Want::Sign(word) => self.sign_step(word, c),
-            Want::Digit(word) => self.digit_step(word, c),
-            Want::Nothing => Err(bad_block(c.at)),
+            Want::Letter => Ok(0),
+            Want::Sign(word) => self.sign::<A>(word, at, bytes),
+            Want::Digit(word) => self.digits::<A>(word, at, bytes),
+            Want::Nothing => self.nothing::<A>(at, bytes),
         }
     }
 
-    /// The word that a character begins where a letter comes next, and how many forms are behind it.
+    /// Takes the characters of words from a letter on.
+    #[tactic(auto, using(crate::proofs::Taking::taken_char, crate::proofs::Taking::taken_none))]
+    fn all_words<A: Alphabet>(&mut self, at: u64, bytes: &[u8]) -> Result<usize, BlockFault>
+        requires place { at + length bytes.now < 2 ^ 64 }
+        requires letter { self.old.want ≡ wants.Letter }
+        ensures taken { IsTaken (machine.taken A.character self.old at bytes.now) self.new at bytes.now result }
+        ensures short { IfOk result (λ n. n ≤ length bytes.now) }
+    {
+        let mut count = 0;
+        'words: while count < bytes.len() {
+            let Some(ch) = A::character(bytes[count]) else {
+                return Ok(count);
+            };
+            let place = at + count as u64;
+            count += 1;
+            count += self.letter::<A>(Mark { at: place, ch }, &bytes[count..])?;
+            let Want::Letter = self.want else {
+                return Ok(count);
+            };
+        }
+        Ok(count)
+    }
+
+    /// Takes the characters of a word whose letter is read, or an end of block.
     #[tactic(auto, using(crate::proofs::Rooms::room_new))]
-    pub fn letter(&self, c: Mark) -> Option<(OpenWord, u8)>
-        ensures begun { IfSome result (λ f. machine.step self.now c ≡ Ok (record self.now { used = f.1; want = machine.first_want f.0.form c.at })) }
-        ensures word { IfSome result (λ f. f.0 ≡ machine.new_word f.0.form c.at) }
-        ensures room { IfSome result (λ f. HasDigits f.0) }
-        ensures words { IfSome result (λ f. length self.now.words < f.1) }
-        ensures used { IfSome result (λ f. f.1 ≤ 13) }
-        ensures none { IsNone result → self.now.want ≡ wants.Letter → machine.form_for self.now.used (drop self.now.used spec.forms) c.ch ≡ None }
-    {
-        match self.want {
-            Want::Letter => match form_for(self.used, c.ch) {
-                Some((form, used)) => Some((new_word(form, c.at), used)),
-                None => None,
-            },
-            _ => None,
-        }
-    }
-
-    /// Adds a word, of the last one of so many forms, with its last digit if it can stand, and answers whether it can.
-    #[tactic(auto, using(crate::proofs::Rooms::last_room))]
-    pub fn last_digit(&mut self, used: u8, word: OpenWord, c: Mark) -> bool
-        requires words { length self.old.words < used }
-        requires used { used ≤ 13 }
-        requires room { HasDigits word }
-        ensures added { IsTrue result → machine.digit_step (record self.old { used = used }) word c ≡ Ok self.new }
-        ensures open { IsTrue result → machine.is_whole self.new ≡ false }
-        ensures refused { result ≡ false → spec.is_digit c.ch ≡ true → word.later ≡ 0 → IsErr (machine.digit_step (record self.old { used = used }) word c) }
-        ensures left { result ≡ false → self.new ≡ self.old }
-    {
-        if word.later > 0 || !is_digit(c.ch) {
-            return false;
-        }
-        self.add_word(used, with_digit(word, c))
-    }
-
-    fn add_word(&mut self, used: u8, word: OpenWord) -> bool
-        requires words { length self.old.words < used }
-        requires used { used ≤ 13 }
-        requires small { word.size < 10 ^ 8 }
-        ensures added { IsTrue result → machine.word_end (record self.old { used = used }) word ≡ Ok self.new }
-        ensures open { IsTrue result → machine.is_whole self.new ≡ false }
-        ensures refused { result ≡ false → IsErr (machine.word_end (record self.old { used = used }) word) }
-        ensures left { result ≡ false → self.new ≡ self.old }
-    {
-        if word.form.least <= word.size && word.size <= word.form.most {
-            let value = value_of(&word);
-            if is_bad_code(self.words(), word.form.letter, value.unsigned_abs()) {
-                return false;
-            }
-            self.block.push(TapeWord {
-                letter: word.form.letter,
-                value,
-            });
-            self.used = used;
-            self.want = Want::Letter;
-            true
-        } else {
-            false
-        }
-    }
-
-    #[tactic(auto, using(crate::proofs::Rooms::want_room))]
-    fn letter_step(&mut self, c: Mark) -> Result<(), BlockFault>
-        requires used { length self.old.words ≤ self.old.used }
-        ensures { IsStep (machine.letter_step self.old c) self.new result }
+    fn letter<A: Alphabet>(&mut self, c: Mark, more: &[u8]) -> Result<usize, BlockFault>
+        requires place { c.at + 1 + length more.now < 2 ^ 64 }
+        requires letter { self.old.want ≡ wants.Letter }
+        ensures read { IsRead A.character (machine.letter_taken A.character self.old c more.now) self.new (c.at + 1) more.now result }
+        ensures short { IfOk result (λ n. n ≤ length more.now) }
     {
         match form_for(self.used, c.ch) {
             Some((form, used)) => {
-                self.want = first_want(form, c.at);
                 self.used = used;
-                Ok(())
+                let word = new_word(form, c.at);
+                if form.signed {
+                    self.sign::<A>(word, c.at + 1, more)
+                } else {
+                    self.digits::<A>(word, c.at + 1, more)
+                }
             }
             None if c.ch == b'\n' => {
                 self.want = Want::Nothing;
-                Ok(())
+                Ok(0)
             }
             None => Err(bad_block(c.at)),
         }
     }
 
-    fn sign_step(&mut self, word: OpenWord, c: Mark) -> Result<(), BlockFault>
+    /// Takes the sign that a word may have, and its digits.
+    #[tactic(auto, using(crate::proofs::Taking::front_char, crate::proofs::Taking::front_none))]
+    fn sign<A: Alphabet>(&mut self, word: OpenWord, at: u64, bytes: &[u8]) -> Result<usize, BlockFault>
+        requires place { at + length bytes.now < 2 ^ 64 }
         requires used { length self.old.words < self.old.used }
         requires room { HasDigits word }
-        ensures { IsStep (machine.sign_step self.old word c) self.new result }
+        ensures read { IsRead A.character (machine.taken A.character (record self.old { want = wants.Sign word }) at bytes.now) self.new at bytes.now result }
+        ensures short { IfOk result (λ n. n ≤ length bytes.now) }
     {
-        if c.ch == b'+' {
-            self.want = Want::Digit(word);
-            Ok(())
-        } else if c.ch == b'-' {
-            self.want = Want::Digit(OpenWord {
-                minus: true,
-                ..word
-            });
-            Ok(())
-        } else {
-            self.digit_step(word, c)
+        let [byte, more @ ..] = bytes else {
+            self.want = Want::Sign(word);
+            return Ok(0);
+        };
+        let Some(ch) = A::character(*byte) else {
+            self.want = Want::Sign(word);
+            return Ok(0);
+        };
+        match with_sign(word, ch) {
+            Some(signed) => {
+                let count = self.digits::<A>(signed, at + 1, more)?;
+                Ok(1 + count)
+            }
+            None => self.digits::<A>(word, at, bytes),
         }
     }
 
-    #[tactic(auto, using(crate::proofs::Rooms::room_step, crate::proofs::Rooms::small))]
-    fn digit_step(&mut self, word: OpenWord, c: Mark) -> Result<(), BlockFault>
+    /// Takes the digits of a word.
+    #[tactic(auto, using(crate::proofs::Taking::taken_char, crate::proofs::Taking::taken_none, crate::proofs::Rooms::room_step, crate::proofs::Rooms::small))]
+    fn digits<A: Alphabet>(&mut self, begun: OpenWord, at: u64, bytes: &[u8]) -> Result<usize, BlockFault>
+        requires place { at + length bytes.now < 2 ^ 64 }
         requires used { length self.old.words < self.old.used }
-        requires room { HasDigits word }
-        ensures { IsStep (machine.digit_step self.old word c) self.new result }
+        requires room { HasDigits begun }
+        ensures read { IsRead A.character (machine.taken A.character (record self.old { want = wants.Digit begun }) at bytes.now) self.new at bytes.now result }
+        ensures short { IfOk result (λ n. n ≤ length bytes.now) }
     {
-        if !is_digit(c.ch) {
-            return Err(bad_block(c.at));
+        let mut word = begun;
+        'digits: for (count, byte) in bytes.iter().enumerate() {
+            let Some(ch) = A::character(*byte) else {
+                self.want = Want::Digit(word);
+                return Ok(count);
+            };
+            let place = at + count as u64;
+            if !is_digit(ch) {
+                return Err(bad_block(place));
+            }
+            let is_last = word.later == 0;
+            word = with_digit(word, Mark { at: place, ch });
+            if is_last {
+                self.word_end(word)?;
+                return Ok(count + 1);
+            }
         }
-        let longer = with_digit(word, c);
-        if word.later == 0 {
-            self.word_end(longer)
-        } else {
-            self.want = Want::Digit(longer);
-            Ok(())
-        }
+        self.want = Want::Digit(word);
+        Ok(bytes.len())
     }
 
     /// Adds a word that has its last digit.
@@ -329,21 +306,34 @@ impl BlockReader {
         requires small { word.size < 10 ^ 8 }
         ensures { IsStep (machine.word_end self.old word) self.new result }
     {
-        if word.form.least <= word.size && word.size <= word.form.most {
-            let value = value_of(&word);
-            match code_fault(self.words(), word.form.letter, value.unsigned_abs()) {
-                Some(cause) => Err(BlockFault { at: word.at, cause }),
-                None => {
-                    self.block.push(TapeWord {
-                        letter: word.form.letter,
-                        value,
-                    });
-                    self.want = Want::Letter;
-                    Ok(())
-                }
-            }
-        } else {
-            Err(bad_block(word.last))
+        if word.size < word.form.least || word.form.most < word.size {
+            return Err(bad_block(word.last));
+        }
+        let value = value_of(&word);
+        if let Some(cause) = code_fault(self.words(), word.form.letter, value.unsigned_abs()) {
+            return Err(BlockFault { at: word.at, cause });
+        }
+        self.block.push(TapeWord {
+            letter: word.form.letter,
+            value,
+        });
+        self.want = Want::Letter;
+        Ok(())
+    }
+
+    /// Behind an end of block no character can stand.
+    #[tactic(auto, using(crate::proofs::Taking::front_char, crate::proofs::Taking::front_none))]
+    fn nothing<A: Alphabet>(&self, at: u64, bytes: &[u8]) -> Result<usize, BlockFault>
+        requires { self.now.want ≡ wants.Nothing }
+        ensures read { IsRead A.character (machine.taken A.character self.now at bytes.now) self.now at bytes.now result }
+        ensures short { IfOk result (λ n. n ≤ length bytes.now) }
+    {
+        let [byte, ..] = bytes else {
+            return Ok(0);
+        };
+        match A::character(*byte) {
+            Some(_) => Err(bad_block(at)),
+            None => Ok(0),
         }
     }
 }

@@ -1,11 +1,12 @@
 //! A block read from its characters.
 
-ghost use Rattle.std.specs.Prelude.{◌≡◌};
+ghost use Rattle.std.specs.Prelude.{◌≡◌, ◌≤◌, [], IsTrue, Some, false, length, drop};
 ghost use Rattle.apt_block.specs.Block as spec;
 ghost use Rattle.apt_block.specs.Machine as machine;
 ghost use Rattle.apt_block.specs.Machine.{IsReading};
 
-use crate::{Block, BlockFault, BlockReader, Mark, TapeCause};
+use crate::machine::Alphabet;
+use crate::{Block, BlockReader, TapeCause};
 use thiserror::Error;
 
 /// Why characters are no block: the place of the first that can't stand, from 0, and the cause.
@@ -16,13 +17,27 @@ pub struct BlockError {
     pub cause: TapeCause,
 }
 
+/// Bytes that are characters themselves.
+struct Plain;
+
+impl Alphabet for Plain {
+    ghost use Rattle.std.specs.Prelude.{Some};
+
+    ghost character = { Some };
+
+    fn character(byte: u8) -> Option<u8> {
+        Some(byte)
+    }
+}
+
 /// The block of some characters, the last of which is its end of block. It takes no memory.
-#[tactic(auto, using(crate::proofs::Joining::block_text_ok, crate::proofs::Joining::block_text_err))]
+#[tactic(auto, using(crate::proofs::Joining::block_text_taken, crate::proofs::Joining::block_text_err, crate::proofs::Joining::plain_rest))]
 pub fn read_block(text: &[u8]) -> Result<Block, BlockError>
     ensures { IsReading (spec.block_text text.now) result }
 {
-    match all_of(text) {
-        Ok(reader) => block_end(reader, text.len()),
+    let mut reader = BlockReader::new();
+    match reader.take::<Plain>(0, text) {
+        Ok(count) => block_end(reader, text, count),
         Err(fault) => Err(BlockError {
             at: fault.at as usize,
             cause: fault.cause,
@@ -30,24 +45,19 @@ pub fn read_block(text: &[u8]) -> Result<Block, BlockError>
     }
 }
 
-fn all_of(text: &[u8]) -> Result<BlockReader, BlockFault>
-    ensures { result ≡ machine.steps machine.block_start (spec.marks 0 text.now) }
+/// The block, where it is whole and nothing is behind so many characters.
+#[tactic(auto, using(crate::proofs::Joining::left_over, crate::proofs::Joining::words_whole, crate::proofs::Joining::words_open))]
+fn block_end(reader: BlockReader, text: &[u8], count: usize) -> Result<Block, BlockError>
+    requires open { machine.is_whole reader ≡ false → drop count text.now ≡ [] }
+    requires short { count ≤ length text.now }
+    ensures { IsReading (machine.words_behind (spec.fault (length text.now) TapeCause.Truncated) reader count (drop count text.now)) result }
 {
-    let mut reader = BlockReader::new();
-    'text: for (at, ch) in text.iter().enumerate() {
-        reader.step(Mark {
-            at: at as u64,
-            ch: *ch,
-        })?;
+    if count < text.len() {
+        return Err(BlockError {
+            at: count,
+            cause: TapeCause::BadBlock,
+        });
     }
-    Ok(reader)
-}
-
-/// The block, where it is whole behind so many characters.
-#[tactic(auto, using(crate::proofs::Joining::words_whole, crate::proofs::Joining::words_open))]
-fn block_end(reader: BlockReader, count: usize) -> Result<Block, BlockError>
-    ensures { IsReading (machine.words_of (spec.fault count TapeCause.Truncated) reader) result }
-{
     if reader.is_whole() {
         Ok(reader.into_block())
     } else {

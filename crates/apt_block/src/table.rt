@@ -1,6 +1,6 @@
 //! The table of words, and the codes that can stand.
 
-ghost use Rattle.std.specs.Prelude.{◌≡◌, ◌≤◌, ◌<◌, ◌+◌, [], ◌∷◌, length, drop, is_some, IfSome};
+ghost use Rattle.std.specs.Prelude.{◌≡◌, ◌≤◌, ◌<◌, ◌+◌, [], ◌∷◌, length, drop, IfSome};
 ghost use Rattle.std.specs.List.{list_any};
 ghost use Rattle.apt_block.specs.Block as spec;
 ghost use Rattle.apt_block.specs.Machine as machine;
@@ -185,15 +185,4 @@ pub fn code_fault(before: &[TapeWord], letter: u8, c: u64) -> Option<TapeCause>
     } else {
         None
     }
-}
-
-/// Whether the code of a letter is wrong; most letters have none.
-#[inline(always)]
-pub fn is_bad_code(before: &[TapeWord], letter: u8, c: u64) -> bool
-    ensures { result ≡ is_some (spec.code_fault before.now letter c) }
-{
-    if letter != b'G' && letter != b'M' {
-        return false;
-    }
-    code_fault(before, letter, c).is_some()
 }

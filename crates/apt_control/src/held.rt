@@ -28,6 +28,7 @@ impl Control for Held {
     type Act = Act;
 
     ghost use Rattle.apt_control.specs.Control as spec;
+    ghost use Rattle.apt_control.specs.Settled.{settled_meaning};
 
     ghost start = { spec.nothing_held };
 
@@ -57,6 +58,8 @@ impl Control for Held {
         push_acts(acts, self, &said)?;
         Ok(is_end(said.code))
     }
+
+    ghost settled = { settled_meaning };
 }
 
 /// What the words of a block say that does not hold behind it: whether it is a move, and the units, the spindle

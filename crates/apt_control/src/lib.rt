@@ -1,4 +1,4 @@
-//! What a control does with a tape: its acts, and the meaning of blocks.
+//! What a control does with a tape: its acts, and the meaning of blocks. A tape is read whole or in pieces.
 #![tactic(auto)]
 
 ghost use Rattle.apt_control.specs.Answers.{IsAnswer};
@@ -11,9 +11,10 @@ mod walk;
 use apt_tapecode::Code;
 use apt_words::{Cool, Turn, Units};
 pub use error::ControlError;
-use held::Held;
+pub use held::Held;
 use std::alloc::Global;
 use walk::acts_of;
+pub use walk::{Control, ControlReader};
 
 /// An act of a control. Coordinates are in grid units, feeds in tenths of an inch or of a millimetre
 /// per minute, spindle speeds in turns per minute (0 with `Off`).
@@ -29,6 +30,9 @@ pub enum Act {
     OptStop,
     End,
 }
+
+/// A tape of acts whose bytes come in pieces.
+pub type TapeReader = ControlReader<Held>;
 
 /// The acts of a tape, which is read to the end and the last byte, or its fault of least place.
 pub fn read_tape(alloc: Global, code: Code, tape: &[u8]) -> Result<Vec<Act>, ControlError>

@@ -1,16 +1,17 @@
-//! The run of a control byte by byte, with any meaning of blocks.
+//! The run of a control over bytes that come in pieces, with any meaning of blocks.
 
-ghost use Rattle.std.specs.Prelude.{◌≡◌, ◌+◌, ◌-◌, ◌<◌, ◌≤◌, ◌^◌, length, IfOk, IfSome, IsTrue, Ok, false};
-ghost use Rattle.apt_block.specs.Machine.{HasDigits, first_want, new_word};
-ghost use Rattle.apt_block.specs.declared.machine.Want.TheVariants as wants;
-ghost use Rattle.apt_control.specs.Answers.{IsAnswer, IsMeaning, IsStep};
+ghost use Rattle.std.specs.Prelude.{◌≡◌, ◌≢◌, ◌+◌, ◌-◌, ◌<◌, ◌≤◌, ◌^◌, ◌++◌, [], ℕ, List, Err, false, length, IfOk};
+ghost use Rattle.apt_block.specs.Machine as machine;
+ghost use Rattle.apt_control.specs.Answers.{IsAnswer, IsFront, IsMeaning, IsStep};
 ghost use Rattle.apt_control.specs.Control.{MeaningOf};
 ghost use Rattle.apt_control.specs.Control as spec;
+ghost use Rattle.apt_control.specs.Pieces as pieces;
 ghost use Rattle.apt_control.specs.Walk as walk;
+ghost use Rattle.apt_control.specs.Walk.{AtCharacter};
 
 use crate::ControlError;
-use apt_block::{BlockReader, Mark, OpenWord, TapeCause, TapeWord};
-use apt_tapecode::{Code, Read, digit, letter, punch, sense};
+use apt_block::{Alphabet, BlockFault, BlockReader, TapeCause, TapeWord};
+use apt_tapecode::{Code, Read, punch, sense};
 use std::alloc::Global;
 use std::marker::Model;
 
@@ -42,11 +43,13 @@ pub trait Control: Drop {
         acts: &mut Vec<Self::Act>,
     ) -> Result<bool, ControlError>
         ensures { IsMeaning (means self.old at words.now) self.new acts.old.items acts.new.items result };
+
+    ghost settled: { pieces.IsSettled means };
 }
 
 /// A tape whose bytes come in pieces.
 #[derive(Drop)]
-pub struct TapeReader<H: Control> {
+pub struct ControlReader<H: Control> {
     code: Code,
     phase: Phase,
     held: H,
@@ -55,7 +58,7 @@ pub struct TapeReader<H: Control> {
     count: u64,
 }
 
-impl<H: Control> Model for TapeReader<H> {
+impl<H: Control> Model for ControlReader<H> {
     ghost use Rattle.apt_control.specs.Walk.{Walk};
 
     ghost Value = { Walk H H.Act };
@@ -63,11 +66,13 @@ impl<H: Control> Model for TapeReader<H> {
     ghost view = { λ r. record { code = r.code; phase = r.phase; held = r.held; acts = r.acts.items; block = r.block; count = r.count } };
 }
 
-impl<H: Control> TapeReader<H> {
-    pub fn new(alloc: Global, code: Code) -> TapeReader<H>
-        ensures { result ≡ walk.walk_start H.start code }
+impl<H: Control> ControlReader<H> {
+    /// A reader of no bytes. It keeps the allocator, and takes no memory.
+    pub fn new(alloc: Global, code: Code) -> ControlReader<H>
+        ensures start { result ≡ walk.walk_start H.start code }
+        ensures stands { pieces.StandsFor H.means H.start result [] }
     {
-        TapeReader {
+        ControlReader {
             code,
             phase: Phase::BeforeStart,
             held: H::new(),
@@ -77,172 +82,162 @@ impl<H: Control> TapeReader<H> {
         }
     }
 
-    /// Takes some bytes more.
-    pub fn feed(self, piece: &[u8]) -> Result<TapeReader<H>, ControlError>
+    /// Takes a piece more. It refuses where the bytes so far hold a fault that no bytes behind them could mend, and
+    /// the refusal is that of the whole tape.
+    #[tactic(auto, using(crate::proofs::Pieces::fed_whole))]
+    pub fn feed(self, piece: &[u8]) -> Result<ControlReader<H>, ControlError>
         requires { self.count + length piece.now < 2 ^ 64 }
-        ensures { IsAnswer (λ r. r) result (walk.byte_steps H.means self piece.now) }
+        ensures walk { IsAnswer (λ r. r) result (walk.byte_steps H.means self piece.now) }
+        ensures count { IfOk result (λ r. r.count ≡ self.count + length piece.now) }
+        ensures stands { (front : List ℕ) → pieces.StandsFor H.means H.start self front → IfOk result (λ r. pieces.StandsFor H.means H.start r (front ++ piece.now)) }
+        ensures whole { (front more : List ℕ) → pieces.StandsFor H.means H.start self front → pieces.RefusesAs result (spec.tape_run H.means H.start self.code (front ++ piece.now ++ more)) }
+        ensures fault { (front : List ℕ) → pieces.StandsFor H.means H.start self front → pieces.RefusesFault result (spec.tape_run H.means H.start self.code (front ++ piece.now)) }
+    {
+        self.all_bytes(piece)
+    }
+
+    fn all_bytes(self, piece: &[u8]) -> Result<ControlReader<H>, ControlError>
+        requires { self.count + length piece.now < 2 ^ 64 }
+        ensures walk { IsAnswer (λ r. r) result (walk.byte_steps H.means self piece.now) }
+        ensures count { IfOk result (λ r. r.count ≡ self.count + length piece.now) }
     {
         let mut reader = self;
-        let mut rest = reader.front(piece);
-        'bytes: while let [byte, more @ ..] = rest {
-            reader.byte(*byte)?;
-            rest = reader.front(more);
+        let mut count = 0;
+        'bytes: while count < piece.len() {
+            count += reader.front(&piece[count..])?;
         }
         Ok(reader)
     }
 
-    /// Takes the front of some bytes, as far as they are characters that can stand and end no block, and answers
-    /// what is behind it.
-    fn front<'a>(&mut self, piece: &'a [u8]) -> &'a [u8]
-        requires { self.old.count + length piece.now < 2 ^ 64 }
-        ensures same { walk.byte_steps H.means self.new result.now ≡ walk.byte_steps H.means self.old piece.now }
-        ensures count { self.new.count + length result.now ≡ self.old.count + length piece.now }
-        ensures short { length result.now ≤ length piece.now }
+    /// Takes the byte at the front of some bytes, and within a block the characters behind it up to its end, and
+    /// answers how many bytes it took.
+    #[tactic(auto, using(crate::proofs::Bytes::first_byte))]
+    fn front(&mut self, bytes: &[u8]) -> Result<usize, ControlError>
+        requires some { 0 < length bytes.now }
+        requires count { self.old.count + length bytes.now < 2 ^ 64 }
+        ensures walk { IsFront H.means (walk.byte_steps H.means self.old bytes.now) self.new bytes.now result }
+        ensures taken { IfOk result (λ n. (0 < n) × (n ≤ length bytes.now)) }
+        ensures count { IfOk result (λ n. self.new.count ≡ self.old.count + n) }
+    {
+        if let Phase::InBlock = self.phase {
+            return self.block_bytes(bytes);
+        }
+        self.byte(bytes[0])?;
+        Ok(1)
+    }
+
+    /// Takes one byte before the start or behind the end.
+    fn byte(&mut self, byte: u8) -> Result<(), ControlError>
+        requires phase { self.old.phase ≢ Phase.InBlock }
+        requires count { self.old.count < 2 ^ 64 - 1 }
+        ensures step { IsStep (walk.byte_step H.means self.old byte) self.new result }
+        ensures count { IfOk result (λ _. self.new.count ≡ self.old.count + 1) }
+    {
+        if let Phase::BehindEnd = self.phase {
+            match sense(self.code, byte) {
+                Read::Char(b'%') | Read::Skip => {}
+                Read::Char(_) => return Err(self.bad(TapeCause::AfterEnd)),
+                Read::BadParity => return Err(self.bad(TapeCause::BadParity)),
+                Read::BadCode => return Err(self.bad(TapeCause::BadCode)),
+            }
+        } else if is_rewind_stop(self.code, byte) {
+            self.phase = Phase::InBlock;
+        }
+        self.count += 1;
+        Ok(())
+    }
+
+    /// The same within a block.
+    #[tactic(auto, using(crate::proofs::Bytes::first_byte))]
+    fn block_bytes(&mut self, bytes: &[u8]) -> Result<usize, ControlError>
+        requires phase { self.old.phase ≡ Phase.InBlock }
+        requires some { 0 < length bytes.now }
+        requires count { self.old.count + length bytes.now < 2 ^ 64 }
+        ensures walk { IsFront H.means (walk.byte_steps H.means self.old bytes.now) self.new bytes.now result }
+        ensures taken { IfOk result (λ n. (0 < n) × (n ≤ length bytes.now)) }
+        ensures count { IfOk result (λ n. self.new.count ≡ self.old.count + n) }
+    {
+        match sense(self.code, bytes[0]) {
+            Read::Char(_) => self.characters(bytes),
+            Read::Skip => {
+                self.count += 1;
+                Ok(1)
+            }
+            Read::BadParity => Err(self.bad(TapeCause::BadParity)),
+            Read::BadCode => Err(self.bad(TapeCause::BadCode)),
+        }
+    }
+
+    /// Takes the characters at the front of some bytes, up to the end of their block.
+    #[tactic(auto, using(crate::proofs::Bytes::front_reached, crate::proofs::Bytes::front_fault, crate::proofs::Bytes::front_some))]
+    fn characters(&mut self, bytes: &[u8]) -> Result<usize, ControlError>
+        requires at { AtCharacter self.old bytes.now }
+        requires count { self.old.count + length bytes.now < 2 ^ 64 }
+        ensures walk { IsFront H.means (walk.byte_steps H.means self.old bytes.now) self.new bytes.now result }
+        ensures taken { IfOk result (λ n. (0 < n) × (n ≤ length bytes.now)) }
+        ensures count { IfOk result (λ n. self.new.count ≡ self.old.count + n) }
+    {
+        let count = self.take(bytes)?;
+        self.reach(count)
+    }
+
+    /// Takes them into the block that is begun.
+    fn take(&mut self, bytes: &[u8]) -> Result<usize, BlockFault>
+        requires { self.old.count + length bytes.now < 2 ^ 64 }
+        ensures taken { machine.IsTaken (machine.taken (walk.character_of self.old.code) self.old.block self.old.count bytes.now) self.new.block self.old.count bytes.now result }
+        ensures short { IfOk result (λ n. n ≤ length bytes.now) }
+        ensures others { self.new ≡ record self.old { block = self.new.block } }
     {
         match self.code {
-            Code::Rs244 => self.front_in(Code::Rs244, piece),
-            Code::Rs358 => self.front_in(Code::Rs358, piece),
+            Code::Rs244 => self.block.take::<Rs244>(self.count, bytes),
+            Code::Rs358 => self.block.take::<Rs358>(self.count, bytes),
         }
     }
 
-    /// The same with its code at hand, so that each code has a loop of its own.
-    #[inline(always)]
-    fn front_in<'a>(&mut self, code: Code, piece: &'a [u8]) -> &'a [u8]
-        requires code { self.old.code ≡ code }
-        requires count { self.old.count + length piece.now < 2 ^ 64 }
-        ensures same { walk.byte_steps H.means self.new result.now ≡ walk.byte_steps H.means self.old piece.now }
-        ensures count { self.new.count + length result.now ≡ self.old.count + length piece.now }
-        ensures short { length result.now ≤ length piece.now }
+    /// So many characters are taken: a block that is whole ended at the last of them, and gets its meaning.
+    fn reach(&mut self, count: usize) -> Result<usize, ControlError>
+        requires some { 0 < count }
+        requires place { self.old.count + count < 2 ^ 64 }
+        ensures step { IsStep (walk.reached H.means self.old (self.old.count + count)) self.new result }
+        ensures same { IfOk result (λ n. n ≡ count) }
+        ensures count { IfOk result (λ _. self.new.count ≡ self.old.count + count) }
     {
-        let Phase::InBlock = self.phase else {
-            return piece;
-        };
-        let mut rest = piece;
-        'front: while !rest.is_empty() {
-            let behind = self.word(code, rest);
-            if behind.len() == rest.len() {
-                return behind;
-            }
-            rest = behind;
+        let at = self.count + count as u64;
+        if self.block.is_whole() {
+            self.block_end(at - 1)?;
+            return Ok(count);
         }
-        rest
+        self.count = at;
+        Ok(count)
     }
 
-    /// Takes a word at the front of some bytes if it can stand and is whole, and answers what is behind it.
-    #[inline(always)]
-    fn word<'a>(&mut self, code: Code, piece: &'a [u8]) -> &'a [u8]
-        requires code { self.old.code ≡ code }
-        requires phase { self.old.phase ≡ Phase.InBlock }
-        requires count { self.old.count + length piece.now < 2 ^ 64 }
-        ensures same { walk.byte_steps H.means self.new result.now ≡ walk.byte_steps H.means self.old piece.now }
-        ensures count { self.new.count + length result.now ≡ self.old.count + length piece.now }
-        ensures short { length result.now ≤ length piece.now }
-        ensures code { self.new.code ≡ code }
-        ensures phase { self.new.phase ≡ Phase.InBlock }
+    /// Gives the words of a block its meaning, whose end of block is at a place.
+    fn block_end(&mut self, at: u64) -> Result<(), ControlError>
+        requires { at < 2 ^ 64 - 1 }
+        ensures step { IsStep (walk.words_step H.means (record self.old { count = at }) self.old.block.words) self.new result }
+        ensures count { IfOk result (λ _. self.new.count ≡ at + 1) }
     {
-        let [byte, more @ ..] = piece else {
-            return piece;
-        };
-        let Some(ch) = letter(code, *byte) else {
-            return piece;
-        };
-        let at = self.count;
-        let Some((word, used)) = self.block.letter(Mark { at, ch }) else {
-            return piece;
-        };
-        self.number(code, piece, used, word, more)
-    }
-
-    /// Takes a word whose letter is taken, with its sign and its digits, and answers what is behind it. Where it
-    /// isn't whole or can't stand, nothing of the piece is taken.
-    #[inline(always)]
-    #[tactic(auto, using(crate::proofs::Bytes::first_byte))]
-    fn number<'a>(
-        &mut self,
-        code: Code,
-        piece: &'a [u8],
-        used: u8,
-        begun: OpenWord,
-        after: &'a [u8],
-    ) -> &'a [u8]
-        requires code { self.old.code ≡ code }
-        requires phase { self.old.phase ≡ Phase.InBlock }
-        requires end { self.old.count + length piece.now < 2 ^ 64 }
-        requires words { length self.old.block.words < used }
-        requires used { used ≤ 13 }
-        requires room { HasDigits begun }
-        requires new { begun ≡ new_word begun.form begun.at }
-        requires same { walk.byte_steps H.means (record self.old { block = record self.old.block { used = used; want = first_want begun.form begun.at }; count = self.old.count + 1 }) after.now ≡ walk.byte_steps H.means self.old piece.now }
-        requires count { 1 + length after.now ≡ length piece.now }
-        ensures same { walk.byte_steps H.means self.new result.now ≡ walk.byte_steps H.means self.old piece.now }
-        ensures count { self.new.count + length result.now ≡ self.old.count + length piece.now }
-        ensures short { length result.now ≤ length piece.now }
-        ensures code { self.new.code ≡ code }
-        ensures phase { self.new.phase ≡ Phase.InBlock }
-    {
-        let mut word = begun;
-        let mut at = self.count + 1;
-        let mut rest = after;
-        if word.form.signed {
-            let [byte, more @ ..] = after else {
-                return piece;
-            };
-            let Read::Char(ch) = sense(code, *byte) else {
-                return piece;
-            };
-            if ch == b'-' {
-                word.minus = true;
-            } else if ch != b'+' {
-                return piece;
-            }
-            at += 1;
-            rest = more;
-        }
-        if rest.len() <= word.later as usize {
-            return piece;
-        }
-        'digits: while word.later > 0 {
-            let Some(ch) = digit(code, rest[0]) else {
-                return piece;
-            };
-            if !word.take(Mark { at, ch }) {
-                return piece;
-            }
-            at += 1;
-            rest = &rest[1..];
-        }
-        let Some(ch) = digit(code, rest[0]) else {
-            return piece;
-        };
-        if self.last_digit(used, word, at, ch) {
-            &rest[1..]
+        let ends = self.held.meaning(at, self.block.words(), &mut self.acts)?;
+        self.phase = if ends {
+            Phase::BehindEnd
         } else {
-            piece
-        }
-    }
-
-    /// Takes the last digit of a word if the word can stand, and answers whether it did.
-    #[inline(always)]
-    fn last_digit(&mut self, used: u8, word: OpenWord, at: u64, ch: u8) -> bool
-        requires count { at < 2 ^ 64 - 1 }
-        requires words { length self.old.block.words < used }
-        requires used { used ≤ 13 }
-        requires room { HasDigits word }
-        ensures taken { IsTrue result → walk.character_step H.means (record self.old { block = record self.old.block { used = used; want = wants.Digit word }; count = at }) ch ≡ Ok self.new }
-        ensures count { IsTrue result → self.new.count ≡ at + 1 }
-        ensures code { self.new.code ≡ self.old.code }
-        ensures phase { self.new.phase ≡ self.old.phase }
-        ensures left { result ≡ false → self.new ≡ self.old }
-    {
-        if !self.block.last_digit(used, word, Mark { at, ch }) {
-            return false;
-        }
+            Phase::InBlock
+        };
+        self.block.clear();
         self.count = at + 1;
-        true
+        Ok(())
     }
 
-    /// The acts of all bytes.
+    /// The acts of all bytes: a tape that has not started, or not ended, is refused.
+    #[tactic(auto, using(crate::proofs::Pieces::finished_run))]
     pub fn finish(self) -> Result<Vec<H::Act>, ControlError>
+        ensures outcome { IsAnswer (λ v. v.items) result (walk.outcome self) }
+        ensures run { (front : List ℕ) → pieces.StandsFor H.means H.start self front → IsAnswer (λ v. v.items) result (spec.tape_run H.means H.start self.code front) }
+    {
+        self.outcome()
+    }
+
+    fn outcome(self) -> Result<Vec<H::Act>, ControlError>
         ensures { IsAnswer (λ v. v.items) result (walk.outcome self) }
     {
         match self.phase {
@@ -261,76 +256,42 @@ impl<H: Control> TapeReader<H> {
             cause,
         }
     }
+}
 
-    /// Takes one byte more.
-    fn byte(&mut self, byte: u8) -> Result<(), ControlError>
-        requires { self.old.count < 2 ^ 64 - 1 }
-        ensures step { IsStep (walk.byte_step H.means self.old byte) self.new result }
-        ensures count { IfOk result (λ _. self.new.count ≡ self.old.count + 1) }
-    {
-        match self.phase {
-            Phase::BeforeStart => {
-                if is_rewind_stop(self.code, byte) {
-                    self.phase = Phase::InBlock;
-                }
-                self.count += 1;
-                Ok(())
-            }
-            Phase::InBlock => match sense(self.code, byte) {
-                Read::Char(ch) => self.character(ch),
-                Read::Skip => {
-                    self.count += 1;
-                    Ok(())
-                }
-                Read::BadParity => Err(self.bad(TapeCause::BadParity)),
-                Read::BadCode => Err(self.bad(TapeCause::BadCode)),
-            },
-            Phase::BehindEnd => match sense(self.code, byte) {
-                Read::Char(b'%') | Read::Skip => {
-                    self.count += 1;
-                    Ok(())
-                }
-                Read::Char(_) => Err(self.bad(TapeCause::AfterEnd)),
-                Read::BadParity => Err(self.bad(TapeCause::BadParity)),
-                Read::BadCode => Err(self.bad(TapeCause::BadCode)),
-            },
-        }
+/// The characters of RS-244.
+struct Rs244;
+
+impl Alphabet for Rs244 {
+    ghost use Rattle.apt_tapecode.specs.declared.Code.TheVariants as codes;
+    ghost use Rattle.apt_control.specs.Walk as walk;
+
+    ghost character = { walk.character_of codes.Rs244 };
+
+    fn character(byte: u8) -> Option<u8> {
+        character_of(Code::Rs244, byte)
     }
+}
 
-    #[tactic(auto, using(crate::proofs::Bytes::block_ends))]
-    fn character(&mut self, ch: u8) -> Result<(), ControlError>
-        requires { self.old.count < 2 ^ 64 - 1 }
-        ensures step { IsStep (walk.character_step H.means self.old ch) self.new result }
-        ensures count { IfOk result (λ _. self.new.count ≡ self.old.count + 1) }
-    {
-        if ch == b'\n' && self.block.can_end() {
-            return self.block_end();
-        }
-        let at = self.count;
-        self.block.step(Mark { at, ch })?;
-        if self.block.is_whole() {
-            return self.block_end();
-        }
-        self.count += 1;
-        Ok(())
+/// The characters of RS-358.
+struct Rs358;
+
+impl Alphabet for Rs358 {
+    ghost use Rattle.apt_tapecode.specs.declared.Code.TheVariants as codes;
+    ghost use Rattle.apt_control.specs.Walk as walk;
+
+    ghost character = { walk.character_of codes.Rs358 };
+
+    fn character(byte: u8) -> Option<u8> {
+        character_of(Code::Rs358, byte)
     }
+}
 
-    /// Takes the end of a block, whose words are all there.
-    fn block_end(&mut self) -> Result<(), ControlError>
-        requires { self.old.count < 2 ^ 64 - 1 }
-        ensures step { IsStep (walk.words_step H.means self.old self.old.block.words) self.new result }
-        ensures count { IfOk result (λ _. self.new.count ≡ self.old.count + 1) }
-    {
-        let at = self.count;
-        let ends = self.held.meaning(at, self.block.words(), &mut self.acts)?;
-        self.phase = if ends {
-            Phase::BehindEnd
-        } else {
-            Phase::InBlock
-        };
-        self.block.clear();
-        self.count = at + 1;
-        Ok(())
+fn character_of(code: Code, byte: u8) -> Option<u8>
+    ensures { result ≡ walk.character_of code byte }
+{
+    match sense(code, byte) {
+        Read::Char(ch) => Some(ch),
+        Read::Skip | Read::BadParity | Read::BadCode => None,
     }
 }
 
@@ -340,7 +301,7 @@ fn is_rewind_stop(code: Code, byte: u8) -> bool
     punch(code, b'%') == Some(byte)
 }
 
-/// The acts of a whole tape.
+/// The acts of a whole tape, which is one piece.
 #[tactic(auto, using(crate::proofs::Walks::run_is_walk))]
 pub fn acts_of<H: Control>(
     alloc: Global,
@@ -349,7 +310,7 @@ pub fn acts_of<H: Control>(
 ) -> Result<Vec<H::Act>, ControlError>
     ensures { IsAnswer (λ v. v.items) result (spec.tape_run H.means H.start code tape.now) }
 {
-    let reader: TapeReader<H> = TapeReader::new(alloc, code);
+    let reader: ControlReader<H> = ControlReader::new(alloc, code);
     let reader = reader.feed(tape)?;
     reader.finish()
 }

@@ -1,0 +1,140 @@
+use apt_control::{Act, ControlError, TapeReader, read_tape};
+use apt_tapecode::{Code, punch};
+use std::alloc::{AllocError, Global};
+use std::test::Fail;
+
+const TEXT: &str = "0%\nN0001G70G90G94\nG01X+00100000Y-00200000Z00300000F0100\nX+00000007T09M06\nS0700M03\nG00Z+00000000M08\n\nM02\n%";
+
+fn punched(alloc: Global, code: Code, text: &str) -> Result<Vec<u8>, AllocError> {
+    let mut bytes = Vec::new(alloc);
+    for ch in text.as_bytes() {
+        bytes.push(punch(code, *ch).unwrap_or(0))?;
+    }
+    Ok(bytes)
+}
+
+/// What a reader answers to a tape in pieces of so many bytes.
+fn read_by(
+    alloc: Global,
+    code: Code,
+    tape: &[u8],
+    size: usize,
+) -> Result<Vec<Act>, ControlError> {
+    let mut reader = TapeReader::new(alloc, code);
+    let mut rest = tape;
+    'pieces: while !rest.is_empty() {
+        let (piece, more) = rest.split_at(size.clamp(1, rest.len()));
+        reader = reader.feed(piece)?;
+        rest = more;
+    }
+    reader.finish()
+}
+
+/// What a reader answers to a tape in two pieces, the second from a place on.
+fn read_cut(
+    alloc: Global,
+    code: Code,
+    tape: &[u8],
+    place: usize,
+) -> Result<Vec<Act>, ControlError> {
+    let (front, rest) = tape.split_at(place.min(tape.len()));
+    let reader = TapeReader::new(alloc, code);
+    let reader = reader.feed(front)?;
+    let reader = reader.feed(rest)?;
+    reader.finish()
+}
+
+fn is_same(read: &Result<Vec<Act>, ControlError>, whole: &Result<Vec<Act>, ControlError>) -> bool {
+    match (read, whole) {
+        (Ok(acts), Ok(want)) => acts.as_slice() == want.as_slice(),
+        (Err(error), Err(want)) => error == want,
+        _ => false,
+    }
+}
+
+const SIZES: [usize; 5] = [1, 2, 3, 7, 4_096];
+
+/// Whether a tape has one answer, whole and in pieces of any size.
+fn reads_alike(alloc: Global, code: Code, tape: &[u8]) -> bool {
+    let whole = read_tape(alloc, code, tape);
+    for size in SIZES {
+        if !is_same(&read_by(alloc, code, tape, size), &whole) {
+            return false;
+        }
+    }
+    true
+}
+
+/// Whether a tape has one answer, cut at each place.
+fn cuts_alike(alloc: Global, code: Code, tape: &[u8]) -> bool {
+    let whole = read_tape(alloc, code, tape);
+    for place in 0..=tape.len() {
+        if !is_same(&read_cut(alloc, code, tape, place), &whole) {
+            return false;
+        }
+    }
+    true
+}
+
+#[test]
+fn reads_a_tape_in_pieces(rt: HostRuntime) -> Result<(), Fail> {
+    let alloc = rt.alloc();
+    for code in [Code::Rs244, Code::Rs358] {
+        let tape = punched(alloc, code, TEXT)?;
+        assert!(rt; read_tape(alloc, code, &tape).is_ok());
+        assert!(rt; reads_alike(alloc, code, &tape));
+        assert!(rt; cuts_alike(alloc, code, &tape));
+    }
+    Ok(())
+}
+
+/// Bytes that a damaged tape has in place of its own: characters of other kinds, a byte that is skipped, one of bad
+/// parity, and one of no character, in both codes.
+const DAMAGES: [u8; 12] = [
+    0x00, 0x0a, 0x0b, 0x21, 0x61, 0x80, 0x47, 0xa5, 0xb0, 0x30, 0x41, 0x4d,
+];
+
+#[test]
+fn reads_damaged_tapes_in_pieces(rt: HostRuntime) -> Result<(), Fail> {
+    let alloc = rt.alloc();
+    for code in [Code::Rs244, Code::Rs358] {
+        let tape = punched(alloc, code, TEXT)?;
+        for (place, _) in tape.iter().enumerate() {
+            for byte in DAMAGES {
+                let mut damaged = tape.clone()?;
+                if let Some(cell) = damaged.get_mut(place) {
+                    *cell = byte;
+                }
+                assert!(rt; reads_alike(alloc, code, &damaged));
+            }
+        }
+    }
+    Ok(())
+}
+
+#[test]
+fn reads_cut_off_tapes_in_pieces(rt: HostRuntime) -> Result<(), Fail> {
+    let alloc = rt.alloc();
+    for code in [Code::Rs244, Code::Rs358] {
+        let tape = punched(alloc, code, TEXT)?;
+        for (place, _) in tape.iter().enumerate() {
+            assert!(rt; reads_alike(alloc, code, &tape[..place]));
+        }
+    }
+    Ok(())
+}
+
+/// Where a piece is refused, and what the reader answers that takes all but its last byte.
+#[test]
+fn tells_an_end_to_finish_alone(rt: HostRuntime) -> Result<(), Fail> {
+    let alloc = rt.alloc();
+    for text in ["", "N0001", "%\nM0", "%\nM02", "%\nG70X+0000"] {
+        let tape = punched(alloc, Code::Rs358, text)?;
+        let reader = TapeReader::new(alloc, Code::Rs358);
+        match reader.feed(&tape) {
+            Ok(reader) => assert!(rt; reader.finish().is_err()),
+            Err(_) => assert!(rt; false),
+        }
+    }
+    Ok(())
+}
