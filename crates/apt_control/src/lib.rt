@@ -11,7 +11,7 @@ mod walk;
 use apt_tapecode::Code;
 use apt_words::{Cool, Turn, Units};
 pub use error::ControlError;
-use held::Held;
+pub use held::Held;
 use std::alloc::Global;
 use walk::acts_of;
 
