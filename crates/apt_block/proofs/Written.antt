@@ -8,8 +8,12 @@ pub as_they_are : (chs : List ℕ) → map (λ ch. ch) chs ≡ chs
 as_they_are [] = refl
 as_they_are (ch ∷ chs) = ap (λ more. ch ∷ more) (as_they_are chs)
 
-pub written_append : (hand : ℕ → ℕ) (done xs ys : List ℕ) → (done ++ map hand xs) ++ map hand ys ≡ done ++ map hand (xs ++ ys)
+written_append : (hand : ℕ → ℕ) (done xs ys : List ℕ) → (done ++ map hand xs) ++ map hand ys ≡ done ++ map hand (xs ++ ys)
 written_append hand done xs ys = append_assoc done (map hand xs) (map hand ys) ∙ ap (λ t. done ++ t) (sym (map-append hand xs ys))
+
+-- characters behind one
+pub written_behind : (hand : ℕ → ℕ) (done : List ℕ) (ch : ℕ) (xs : List ℕ) → (done ++ hand ch ∷ []) ++ map hand xs ≡ done ++ hand ch ∷ map hand xs
+written_behind hand done ch xs = append_assoc done (hand ch ∷ []) (map hand xs)
 
 two_digits : (n : ℕ) → n < 100 → (48 + n / 10) ∷ (48 + n % 10) ∷ [] ≡ digits 2 n
 two_digits n small =

@@ -54,21 +54,20 @@ pub fn write_block(_alloc: Global, b: &Block, out: &mut Vec<u8>) -> Result<(), A
     Ok(())
 }
 
-/// The characters of any block: at most ten for each word, and its end of block.
+/// The characters of a block: at most ten for each word, and its end of block.
 #[tactic(auto, using(crate::proofs::Written::as_they_are))]
 fn plain_text(b: &Block) -> ArrayVec<u8, 131>
     ensures { result.items ≡ spelling b.now }
 {
-    spell::<Plain, 131>(b)
+    spell::<Plain, 131>(b.words.as_slice())
 }
 
-/// The characters of a block, with its end of block, in a hand.
-pub fn spell<H: Hand, const CAP: usize>(b: &Block) -> ArrayVec<u8, CAP>
-    requires room { 10 * length b.now < CAP }
-    ensures { result.items ≡ map H.written (spelling b.now) }
+/// The characters of a block's words, with its end of block, in a hand.
+pub fn spell<H: Hand, const CAP: usize>(words: &[TapeWord]) -> ArrayVec<u8, CAP>
+    requires room { 10 * length words.now < CAP }
+    ensures { result.items ≡ map H.written (spelling words.now) }
 {
     let mut text = ArrayVec::new();
-    let words = b.words.as_slice();
     'words: for word in words {
         push_word::<H, CAP>(&mut text, *word);
     }
@@ -76,7 +75,7 @@ pub fn spell<H: Hand, const CAP: usize>(b: &Block) -> ArrayVec<u8, CAP>
     text
 }
 
-#[tactic(auto, using(crate::proofs::Written::written_append))]
+#[tactic(auto, using(crate::proofs::Written::written_behind))]
 fn push_word<H: Hand, const CAP: usize>(text: &mut ArrayVec<u8, CAP>, word: TapeWord)
     requires room { array_vec_len text.old + 10 ≤ CAP }
     ensures items { text.new.items ≡ text.old.items ++ map H.written (word_text word) }
@@ -93,21 +92,24 @@ fn push_number<H: Hand, const CAP: usize>(text: &mut ArrayVec<u8, CAP>, letter: 
     ensures len { array_vec_len text.new ≤ array_vec_len text.old + 9 }
 {
     match letter {
-        b'X' | b'Y' | b'Z' => push_coordinate::<H, CAP>(text, value),
+        b'X' | b'Y' | b'Z' => {
+            push_signed::<H, CAP>(text, sign(value), value.unsigned_abs());
+        }
         b'N' | b'F' | b'S' => push_last_four::<H, CAP>(text, value.unsigned_abs()),
         b'G' | b'T' | b'M' => push_last_two::<H, CAP>(text, value.unsigned_abs()),
         _ => {}
     }
 }
 
-#[tactic(auto, using(crate::proofs::Written::written_append))]
-fn push_coordinate<H: Hand, const CAP: usize>(text: &mut ArrayVec<u8, CAP>, value: i64)
+/// Appends a sign and the eight digits behind it.
+#[tactic(auto, using(crate::proofs::Written::written_behind))]
+fn push_signed<H: Hand, const CAP: usize>(text: &mut ArrayVec<u8, CAP>, sign: u8, size: u64)
     requires room { array_vec_len text.old + 9 ≤ CAP }
-    ensures items { text.new.items ≡ text.old.items ++ map H.written (spec.sign value ∷ spec.digits 8 (unsigned_abs value)) }
+    ensures items { text.new.items ≡ text.old.items ++ map H.written (sign ∷ spec.digits 8 size) }
     ensures len { array_vec_len text.new ≡ array_vec_len text.old + 9 }
 {
-    text.push(H::one(sign(value)));
-    push_last_eight::<H, CAP>(text, value.unsigned_abs());
+    text.push(H::one(sign));
+    push_last_eight::<H, CAP>(text, size);
 }
 
 fn sign(value: i64) -> u8

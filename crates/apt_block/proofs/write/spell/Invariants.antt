@@ -7,6 +7,5 @@ use Rattle.apt_block.proofs.write.spell.Given as goal
 abbrev pub invariant-words : goal.invariant-words
 invariant-words g l = record {
   written : l.text.items ≡ map g.H.Hand.written (flat_map word_text (take l.word-index l.words));
-  words : l.words ≡ l.b;
   room : array_vec_len l.text ≤ 10 * l.word-index;
 }
