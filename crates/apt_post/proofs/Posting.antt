@@ -1,17 +1,23 @@
 -- A writer stands for the acts whose blocks it has made.
-use Rattle.std.proofs.Common.{◌≡◌, ◌∙◌, ℕ, ◌+◌, ◌*◌, ◌%◌, List, [], ◌∷◌, ◌++◌, length, map, refl, ap, sym, arith, append_assoc, append-nil}
+use Rattle.std.proofs.Common.{◌≡◌, ◌∙◌, ℕ, zero, suc, ◌+◌, ◌*◌, ◌%◌, ◌<◌, get_or, take, List, [], ◌∷◌, ◌++◌, length, map, refl, ap, sym, arith, append_assoc, append-nil}
 use Rattle.std.specs.List.{flat_map}
-use Rattle.std.proofs.lemmas.List.{map-append, length-append}
+use Rattle.std.proofs.lemmas.List.{map-append, length-append, take_more}
 use Rattle.std.proofs.lemmas.Grind.{flat_map-append}
 use Rattle.apt_tapecode.specs.Tapecode.{byte_of, end_of_block, rewind_stop}
 use Rattle.apt_machine.specs.declared.machine.Machine.{Machine}
 use Rattle.apt_block.specs.declared.block.TapeWord.{TapeWord}
 use Rattle.apt_block.specs.Block.{spelling}
+use Rattle.apt_block.proofs.Written.{as_they_are}
 use Rattle.apt_control.specs.declared.Act.{Act}
 use Rattle.apt_control.specs.declared.held.Held.{Held}
 use Rattle.apt_control.specs.Control.{nothing_held}
-use Rattle.apt_post.specs.Blocks.{behind, behind_all, act_block, blocks_from, blocks_of, tape_text, tape_bytes}
+use Rattle.apt_post.specs.Writing.{CanWriteAll}
+use Rattle.apt_post.specs.Blocks.{CanWrite, behind, behind_all, act_block, blocks_from, blocks_of, tape_text, tape_bytes}
 use Rattle.apt_post.specs.Posting.{Posting, posting_behind, StandsFor, next_block, next}
+
+-- characters written as themselves
+pub as_themselves : (text chs : List ℕ) → text ≡ map (λ ch. ch) chs → text ≡ chs
+as_themselves text chs is = is ∙ as_they_are chs
 
 -- ---- one act more
 
@@ -70,3 +76,44 @@ bytes_next p act bytes is before stands =
     ap (map (byte_of p.machine.code)) (text_more p act before stands)
     ∙ map-append (byte_of p.machine.code) (tape_text p.machine before) (spelling (next_block p act))
     ∙ ap (λ t. tape_bytes p.machine before ++ t) (sym is)
+
+-- ---- over a list, an act at a time
+
+abbrev CameTo : Machine → List Act → ℕ → Posting → Type 0
+CameTo machine acts i p = p ≡ posting_behind machine (take i acts)
+
+stands_then : (machine : Machine) (acts : List Act) (i : ℕ) (p : Posting) → CameTo machine acts i p → StandsFor p (take i acts)
+stands_then machine acts i p is = is ∙ ap (λ m. posting_behind m (take i acts)) (sym (ap (λ q. q.machine) is))
+
+pub step_stands : (machine : Machine) (acts : List Act) (i : ℕ) (d : Act) (p : Posting) → i < length acts → CameTo machine acts i p → CameTo machine acts (i + 1) (next p (get_or acts i d))
+step_stands machine acts i d p h is =
+    ap (λ q. next q (get_or acts i d)) is ∙ behind_next machine (take i acts) (get_or acts i d) ∙ ap (posting_behind machine) (sym (take_more acts i d h))
+
+pub step_blocks : (machine : Machine) (acts : List Act) (i : ℕ) (d : Act) (p : Posting) (done : List (List TapeWord)) → i < length acts → CameTo machine acts i p
+    → done ≡ blocks_of machine (take i acts) → done ++ next_block p (get_or acts i d) ∷ [] ≡ blocks_of machine (take (i + 1) acts)
+step_blocks machine acts i d p done h is so_far =
+    let same = ap (λ q. q.machine) is in
+    let before = take i acts in
+    let act = get_or acts i d in
+    ap (λ bs. bs ++ next_block p act ∷ []) (so_far ∙ ap (λ m. blocks_of m before) (sym same))
+    ∙ sym (block_next p act before (stands_then machine acts i p is))
+    ∙ ap (λ m. blocks_of m (before ++ act ∷ [])) same
+    ∙ ap (blocks_of machine) (sym (take_more acts i d h))
+
+pub step_bytes : (machine : Machine) (acts : List Act) (i : ℕ) (d : Act) (p : Posting) (done bytes : List ℕ) → i < length acts → CameTo machine acts i p
+    → done ≡ tape_bytes machine (take i acts)
+    → ((before : List Act) → StandsFor p before → tape_bytes p.machine (before ++ get_or acts i d ∷ []) ≡ tape_bytes p.machine before ++ bytes)
+    → done ++ bytes ≡ tape_bytes machine (take (i + 1) acts)
+step_bytes machine acts i d p done bytes h is so_far more =
+    let same = ap (λ q. q.machine) is in
+    let before = take i acts in
+    let act = get_or acts i d in
+    ap (λ bs. bs ++ bytes) (so_far ∙ ap (λ m. tape_bytes m before) (sym same))
+    ∙ sym (more before (stands_then machine acts i p is))
+    ∙ ap (λ m. tape_bytes m (before ++ act ∷ [])) same
+    ∙ ap (tape_bytes machine) (sym (take_more acts i d h))
+
+pub member_CanWrite : (acts : List Act) → CanWriteAll acts → (i : ℕ) (d : Act) → i < length acts → CanWrite (get_or acts i d)
+member_CanWrite [] can i d h = absurd (omega (arith, h))
+member_CanWrite (act ∷ more) can zero d h = can.0
+member_CanWrite (act ∷ more) can (suc i) d h = member_CanWrite more can.1 i d (omega (arith, h))

@@ -25,7 +25,7 @@ use writing::tape_bytes;
 
 /// The bytes of the tape of acts: rewind stop, end of block, and a block for each act. A control
 /// runs them to just these acts. It fails only where memory does.
-#[tactic(auto, using(crate::proofs::Running::tape_runs, crate::proofs::Programs::program_acts))]
+#[tactic(auto, using(crate::proofs::Running::tape_runs, crate::proofs::Running::program_acts))]
 pub fn tape(alloc: Global, acts: &[Act], machine: &Machine) -> Result<Vec<u8>, AllocError>
     requires { spec.IsProgram acts.now }
     ensures bytes { IfOk result (λ v. v.items ≡ spec.tape_bytes machine.now acts.now) }

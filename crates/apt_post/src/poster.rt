@@ -62,7 +62,7 @@ impl Poster {
         self.characters(a)
     }
 
-    #[tactic(auto, using(crate::proofs::Posting::as_they_are))]
+    #[tactic(auto, using(crate::proofs::Posting::as_themselves))]
     fn characters(&mut self, act: &Act) -> ArrayVec<u8, 128>
         requires { spec.CanWrite act.now }
         ensures block { result.items ≡ spelling (posting.next_block self.old act.now) }
