@@ -1,5 +1,5 @@
 -- How many bytes a tape has: at most 44 a block, and a block for the units, each record and each vertex.
-use Rattle.std.proofs.Common.{ℕ, ◌+◌, ◌*◌, ◌≤◌, ◌==◌, pos, Bool, true, false, List, [], ◌∷◌, ◌++◌, length, ap, ◌∙◌, arith}
+use Rattle.std.proofs.Common.{◌≡◌, cond, ℕ, ◌+◌, ◌*◌, ◌≤◌, ◌==◌, pos, Bool, true, false, List, [], ◌∷◌, ◌++◌, length, ap, ◌∙◌, arith}
 use Rattle.std.specs.Prelude.{if◌then◌else◌, ◌%◌}
 use Rattle.std.specs.List.{filter, flat_map}
 use Rattle.std.proofs.lemmas.List.{length-map, length-append}
@@ -57,14 +57,15 @@ block_length false n acts.Stop = omega arith
 block_length false n acts.OptStop = omega arith
 block_length false n acts.End = omega arith
 
+with_word : (t : Bool) (w : TapeWord) (ws few : List TapeWord) → length (flat_map word_text few) ≤ length (flat_map word_text ws)
+    → length (flat_map word_text (cond t (w ∷ few) few)) ≤ length (flat_map word_text (w ∷ ws))
+with_word true w ws few h = omega (arith, length-append (word_text w) (flat_map word_text few), length-append (word_text w) (flat_map word_text ws), h)
+with_word false w ws few h = omega (arith, length-append (word_text w) (flat_map word_text ws), h)
+
 -- words that are left out make it no longer
 fewer_words : (p : TapeWord → Bool) (words : List TapeWord) → length (flat_map word_text (filter p words)) ≤ length (flat_map word_text words)
 fewer_words p [] = omega arith
-fewer_words p (w ∷ ws) = either (p w)
-  where
-    either : (t : Bool) → length (flat_map word_text (if t then w ∷ filter p ws else filter p ws)) ≤ length (flat_map word_text (w ∷ ws))
-    either true = omega (arith, length-append (word_text w) (flat_map word_text (filter p ws)), length-append (word_text w) (flat_map word_text ws), fewer_words p ws)
-    either false = omega (arith, length-append (word_text w) (flat_map word_text ws), fewer_words p ws)
+fewer_words p (w ∷ ws) = with_word (p w) w ws (filter p ws) (fewer_words p ws)
 
 spelling_length : (before words : List TapeWord) → length (spelling (before ++ words)) ≡ length (flat_map word_text before) + length (flat_map word_text words) + 1
 spelling_length before words =

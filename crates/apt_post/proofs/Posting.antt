@@ -55,7 +55,12 @@ stands_next p act before is = ap (λ q. next q act) is ∙ behind_next p.machine
 
 block_next : (p : Posting) (act : Act) (before : List Act) → StandsFor p before → blocks_of p.machine (before ++ act ∷ []) ≡ blocks_of p.machine before ++ next_block p act ∷ []
 block_next p act before is =
-    blocks_from-append p.machine 0 nothing_held before act ∙ ap (λ q. blocks_of p.machine before ++ next_block q act ∷ []) (sym is)
+    blocks_from-append p.machine 0 nothing_held before act
+    ∙ ap (λ k. blocks_of p.machine before ++ act_block p.machine k (behind_all nothing_held before) act ∷ []) (from_zero (length before))
+    ∙ ap (λ q. blocks_of p.machine before ++ next_block q act ∷ []) (sym is)
+  where
+    from_zero : (n : ℕ) → 0 + n ≡ n
+    from_zero n = omega arith
 
 spelled-append : (before : List (List TapeWord)) (block : List TapeWord) → flat_map spelling (before ++ block ∷ []) ≡ flat_map spelling before ++ spelling block
 spelled-append before block = flat_map-append spelling before (block ∷ []) ∙ ap (λ t. flat_map spelling before ++ t) (append-nil (spelling block))

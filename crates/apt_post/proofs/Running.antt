@@ -142,7 +142,7 @@ acts-run place machine (act ∷ more) is at k held known =
     elim (first_act act more is) [
       | inl end ↦ subst (λ done. run meaning held (cut_at place) (texts (acts_at machine at k held done)) ≡ Ok done) (sym end) (run-last place machine at k held known)
       | inr goes_on ↦
-        run-act place machine at k held act more goes_on.0 goes_on.1 (act_block-means machine k held act known goes_on.0) (units_behind held act known) (acts-run place machine more goes_on.2)
+          run-act place machine at k held act more goes_on.0 goes_on.1 (act_block-means machine k held act known goes_on.0) (units_behind held act known) (acts-run place machine more goes_on.2)
     ]
 
 units-run : (machine : Machine) (u : Units) (more : List Act) → ToTheEnd more

@@ -1,5 +1,5 @@
 -- Where all words are written, a block is its number and the words of its act.
-use Rattle.std.proofs.Common.{◌≡◌, ◌∙◌, ℕ, ◌+◌, Bool, true, false, not, List, [], ◌∷◌, ◌++◌, refl, ap, sym}
+use Rattle.std.proofs.Common.{◌≡◌, ◌∙◌, ℕ, ◌+◌, Bool, true, false, not, cond, List, [], ◌∷◌, ◌++◌, refl, ap, sym}
 use Rattle.std.specs.Prelude.{◌&&◌}
 use Rattle.std.specs.List.{filter}
 use Rattle.apt_machine.specs.declared.machine.Machine.{Machine}
@@ -10,13 +10,13 @@ use Rattle.apt_control.specs.Control.{nothing_held}
 use Rattle.apt_post.specs.Blocks.{act_words, numbered, is_written, says_held, act_block, behind, blocks_from, blocks_of}
 use Rattle.apt_post.specs.Writing.{whole_blocks}
 
+word_written : (t : Bool) (w : TapeWord) (ws : List TapeWord) → cond (not (t && false)) (w ∷ ws) ws ≡ w ∷ ws
+word_written true w ws = refl
+word_written false w ws = refl
+
 all_written : (held : Held) (words : List TapeWord) → filter (is_written false held) words ≡ words
 all_written held [] = refl
-all_written held (w ∷ ws) = either (says_held held w)
-  where
-    either : (t : Bool) → (if not (t && false) then w ∷ filter (is_written false held) ws else filter (is_written false held) ws) ≡ w ∷ ws
-    either true = ap (λ more. w ∷ more) (all_written held ws)
-    either false = ap (λ more. w ∷ more) (all_written held ws)
+all_written held (w ∷ ws) = word_written (says_held held w) w (filter (is_written false held) ws) ∙ ap (λ more. w ∷ more) (all_written held ws)
 
 whole_block : (machine : Machine) (k : ℕ) (held : Held) (act : Act) → machine.changed ≡ false → act_block machine k held act ≡ numbered machine.seq k ++ act_words act
 whole_block machine k held act all =

@@ -20,7 +20,7 @@ use std::marker::Model;
 
 /// Writes the blocks of acts, each when its act is given. It keeps the number of the next block and what holds,
 /// and stands for every list of acts that leaves these.
-#[derive(Clone, Copy, Drop)]
+#[derive(Drop)]
 pub struct Poster {
     machine: Machine,
     steps: u32,
@@ -100,7 +100,7 @@ impl Poster {
         ensures next { self.new ≡ posting.next self.old act.now }
     {
         let block = self.block(act);
-        spell::<H, 128>(&block)
+        spell::<H, 128>(block.words.as_slice())
     }
 
     /// The next block.

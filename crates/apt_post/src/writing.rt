@@ -33,6 +33,7 @@ fn all_blocks(alloc: Global, acts: &[Act], m: &Machine) -> Result<Vec<Block>, Al
     Ok(blocks)
 }
 
+#[tactic(auto, using(crate::proofs::Posting::step_bytes, crate::proofs::Posting::step_stands))]
 pub(crate) fn tape_bytes(alloc: Global, acts: &[Act], m: &Machine) -> Result<Vec<u8>, AllocError>
     requires { CanWriteAll acts.now }
     ensures { IfOk result (λ v. v.items ≡ spec.tape_bytes m.now acts.now) }

@@ -172,14 +172,20 @@ fn writes_a_block_at_a_time(rt: HostRuntime) {
     let units = poster.text(&Act::Units(Units::Mm));
     assert_eq!(rt; units.as_slice(), b"N0001G71G90G94\n".as_slice());
     let first = poster.text(&Act::Rapid { x: 1, y: -2, z: 0 });
-    assert_eq!(rt; first.as_slice(), b"N1000G00X+00000001Y-00000002Z+00000000\n".as_slice());
+    assert_eq!(rt;
+        first.as_slice(),
+        b"N1000G00X+00000001Y-00000002Z+00000000\n".as_slice()
+    );
     let cut = poster.text(&Act::Cut {
         x: 3,
         y: -2,
         z: 4,
         feed: 9999,
     });
-    assert_eq!(rt; cut.as_slice(), b"N1999G01X+00000003Z+00000004F9999\n".as_slice());
+    assert_eq!(rt;
+        cut.as_slice(),
+        b"N1999G01X+00000003Z+00000004F9999\n".as_slice()
+    );
     let rapid = poster.text(&Act::Rapid { x: 3, y: -2, z: 4 });
     assert_eq!(rt; rapid.as_slice(), b"N2998G00X+00000003\n".as_slice());
     let coolant = poster.text(&Act::Coolant(Cool::Flood));
@@ -190,7 +196,10 @@ fn writes_a_block_at_a_time(rt: HostRuntime) {
         z: 4,
         feed: 9999,
     });
-    assert_eq!(rt; again.as_slice(), b"N4996G01X+00000003Y+00000005\n".as_slice());
+    assert_eq!(rt;
+        again.as_slice(),
+        b"N4996G01X+00000003Y+00000005\n".as_slice()
+    );
     let slower = poster.text(&Act::Cut {
         x: 3,
         y: 5,
@@ -211,12 +220,7 @@ fn gives_the_blocks_of_any_acts(rt: HostRuntime) -> Result<(), Fail> {
         let all = blocks(rt.alloc(), &acts, &machine)?;
         assert_eq!(rt; all.len(), 2);
         let tool = [word(b'T', 7), word(b'M', 6)];
-        let rapid = [
-            word(b'G', 0),
-            word(b'X', 1),
-            word(b'Y', -2),
-            word(b'Z', 3),
-        ];
+        let rapid = [word(b'G', 0), word(b'X', 1), word(b'Y', -2), word(b'Z', 3)];
         for (block, want) in all.iter().zip([tool.as_slice(), rapid.as_slice()]) {
             assert!(rt; block.words.as_slice() == want);
         }
