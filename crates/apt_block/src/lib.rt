@@ -10,4 +10,5 @@ mod write;
 pub use block::{Block, BlockFault, Mark, TapeCause, TapeWord};
 pub use machine::{Alphabet, BlockReader};
 pub use read::{BlockError, read_block};
-pub use write::write_block;
+pub use table::Form;
+pub use write::{Hand, Plain, spell, write_block};

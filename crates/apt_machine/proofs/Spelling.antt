@@ -1,5 +1,5 @@
 -- A table that is spelled out is read as its machine.
-use Rattle.std.proofs.Common.{refl, ap, ◌∙◌, arith, rules, ◌≡◌, ℕ, ◌+◌, ◌<◌, ◌≤◌, ◌==◌, Bool, true, false, not, List, [], ◌∷◌, ◌++◌, length, take, get_or, Some, Result, Ok, inl, inr, lit≤}
+use Rattle.std.proofs.Common.{refl, ap, ◌∙◌, arith, rules, ◌≡◌, ℕ, ◌+◌, ◌<◌, ◌≤◌, ◌==◌, Bool, true, false, not, List, [], ◌∷◌, ◌++◌, length, take, get_or, Some, None, Result, Ok, inl, inr, lit≤}
 use Rattle.std.specs.Prelude.{◌&&◌, ◌||◌, nat_le, nat_lt, codes}
 use Rattle.std.specs.List.{list_all, list_any}
 use Rattle.std.specs.Fmt.{decimal}
@@ -23,7 +23,7 @@ use Rattle.apt_machine.specs.Machines.{IsMachine}
 use Rattle.apt_machine.specs.Numbers.{is_digit, digits_from, has_leading_zero, plain_number, number_within}
 use Rattle.apt_machine.specs.Keys.{blank_draft, has, key_named}
 use Rattle.apt_machine.specs.Tables.{is_readable, in_front, behind, keyed, behind_line, machine_from, machine_of_lines, table_of}
-use Rattle.apt_machine.specs.Spelling.{code_word, table_lines, text_of, spelled}
+use Rattle.apt_machine.specs.Spelling.{code_word, words_lines, table_lines, text_of, spelled}
 
 -- ---- numbers
 
@@ -150,6 +150,10 @@ code_shown : (code : Code) → list_all is_shown (codes "CODE " ++ code_word cod
 code_shown codings.Rs244 = refl
 code_shown codings.Rs358 = refl
 
+words_shown : (changed : Bool) → AreShown (words_lines changed)
+words_shown true = (refl, tt)
+words_shown false = tt
+
 lines_shown : (m : Machine) → IsMachine m → AreShown (table_lines m)
 lines_shown m is = (
   refl,
@@ -163,13 +167,20 @@ lines_shown m is = (
           shown_line (codes "SPINMAX ") m.spinmax refl is.spindle,
           (
             shown_line (codes "TOOLMAX ") m.toolmax refl (omega arith),
-            tt,
+            words_shown m.changed,
           ),
         ),
       ),
     ),
   ),
 )
+
+-- the words that are written are said last, or not at all
+words_again : (code : Code) (seq feedmax spinmax toolmax : ℕ) (changed : Bool)
+    → machine_from 7 (record { code = Some code; seq = Some seq; feedmax = Some feedmax; spinmax = Some spinmax; toolmax = Some toolmax; words = None }) (words_lines changed)
+    ≡ Ok (record { code = code; seq = seq; feedmax = feedmax; spinmax = spinmax; toolmax = toolmax; changed = changed })
+words_again code seq feedmax spinmax toolmax true = refl
+words_again code seq feedmax spinmax toolmax false = refl
 
 machine_again : (m : Machine) → IsMachine m → machine_of_lines (table_lines m) ≡ Ok m
 machine_again m is =
@@ -181,11 +192,13 @@ machine_again m is =
     let feed : List ℕ = codes "FEEDMAX " ++ decimal m.feedmax in
     let spindle : List ℕ = codes "SPINMAX " ++ decimal m.spinmax in
     let tool : List ℕ = codes "TOOLMAX " ++ decimal m.toolmax in
-    next_line 2 blank_draft a (codes "CODE " ++ code_word m.code) (seq ∷ feed ∷ spindle ∷ tool ∷ []) (code_line blank_draft m.code refl)
-    ∙ next_line 3 a b seq (feed ∷ spindle ∷ tool ∷ []) (seq_line a m.seq refl is.seq)
-    ∙ next_line 4 b c feed (spindle ∷ tool ∷ []) (feedmax_line b m.feedmax refl is.least_feed is.feed)
-    ∙ next_line 5 c d spindle (tool ∷ []) (spinmax_line c m.spinmax refl is.least_spindle is.spindle)
-    ∙ next_line 6 d (record d { toolmax = Some m.toolmax }) tool [] (toolmax_line d m.toolmax refl is.least_tool is.tool)
+    let words = words_lines m.changed in
+    next_line 2 blank_draft a (codes "CODE " ++ code_word m.code) (seq ∷ feed ∷ spindle ∷ tool ∷ words) (code_line blank_draft m.code refl)
+    ∙ next_line 3 a b seq (feed ∷ spindle ∷ tool ∷ words) (seq_line a m.seq refl is.seq)
+    ∙ next_line 4 b c feed (spindle ∷ tool ∷ words) (feedmax_line b m.feedmax refl is.least_feed is.feed)
+    ∙ next_line 5 c d spindle (tool ∷ words) (spinmax_line c m.spinmax refl is.least_spindle is.spindle)
+    ∙ next_line 6 d (record d { toolmax = Some m.toolmax }) tool words (toolmax_line d m.toolmax refl is.least_tool is.tool)
+    ∙ words_again m.code m.seq m.feedmax m.spinmax m.toolmax m.changed
 
 table_again : (m : Machine) → IsMachine m → table_of (spelled m) ≡ Ok m
 table_again m is = ap machine_of_lines (lines_again (table_lines m) (lines_shown m is)) ∙ machine_again m is

@@ -1,6 +1,6 @@
 //! What a table has said of a machine so far.
 
-ghost use Rattle.std.specs.Prelude.{◌≡◌, IfSome};
+ghost use Rattle.std.specs.Prelude.{◌≡◌, Some, IfSome};
 ghost use Rattle.apt_machine.specs.Keys as keys;
 ghost use Rattle.apt_machine.specs.Machines.{IsDraft, IsMachine};
 
@@ -9,7 +9,7 @@ use crate::key::Key;
 use crate::number::number_within;
 use apt_tapecode::Code;
 
-/// What a table has said of a machine so far, and whether WORDS stands.
+/// What a table has said of a machine so far; of WORDS, whether words that say what holds are left out.
 #[derive(Clone, Copy)]
 pub(crate) struct Draft {
     pub code: Option<Code>,
@@ -17,7 +17,7 @@ pub(crate) struct Draft {
     pub feedmax: Option<u16>,
     pub spinmax: Option<u16>,
     pub toolmax: Option<u8>,
-    pub words: bool,
+    pub words: Option<bool>,
 }
 
 impl Draft {
@@ -30,7 +30,7 @@ impl Draft {
             feedmax: None,
             spinmax: None,
             toolmax: None,
-            words: false,
+            words: None,
         }
     }
 
@@ -44,7 +44,7 @@ impl Draft {
             Key::Feedmax => self.feedmax.is_some(),
             Key::Spinmax => self.spinmax.is_some(),
             Key::Toolmax => self.toolmax.is_some(),
-            Key::Words => self.words,
+            Key::Words => self.words.is_some(),
         }
     }
 
@@ -91,19 +91,28 @@ impl Draft {
     }
 
     fn with_words(self, value: &[u8]) -> Option<Draft>
-        ensures value { result ≡ keys.with_value self Key.Words value.now }
+        ensures value { result ≡ keys.with_words self value.now }
         ensures within { IsDraft self → IfSome result IsDraft }
     {
-        match value {
-            b"ALL" => Some(Draft {
-                words: true,
-                ..self
-            }),
-            _ => None,
+        if value == b"ALL".as_slice() {
+            Some(self.saying(false))
+        } else if value == b"CHANGED".as_slice() {
+            Some(self.saying(true))
+        } else {
+            None
         }
     }
 
-    /// The machine, where every key but WORDS stands.
+    fn saying(self, changed: bool) -> Draft
+        ensures { result ≡ record self { words = Some changed } }
+    {
+        Draft {
+            words: Some(changed),
+            ..self
+        }
+    }
+
+    /// The machine, where every key but WORDS stands. Without WORDS all words are written.
     pub fn machine(self) -> Option<Machine>
         ensures value { result ≡ keys.machine_of self }
         ensures within { IsDraft self → IfSome result IsMachine }
@@ -114,6 +123,7 @@ impl Draft {
             feedmax: self.feedmax?,
             spinmax: self.spinmax?,
             toolmax: self.toolmax?,
+            changed: self.words.unwrap_or(false),
         })
     }
 }

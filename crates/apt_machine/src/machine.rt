@@ -2,8 +2,9 @@
 
 use apt_tapecode::Code;
 
-/// A machine: the step of its sequence numbers (0 for none) and its greatest feed (in tenths of an
-/// inch or of a millimetre per minute), spindle speed (in turns per minute) and tool number.
+/// A machine: the step of its sequence numbers (0 for none), its greatest feed (in tenths of an inch or of a
+/// millimetre per minute), spindle speed (in turns per minute) and tool number, and whether its blocks leave
+/// out what holds already.
 #[derive(Clone, Copy, PartialEq, Eq)]
 pub struct Machine {
     pub code: Code,
@@ -11,4 +12,5 @@ pub struct Machine {
     pub feedmax: u16,
     pub spinmax: u16,
     pub toolmax: u8,
+    pub changed: bool,
 }

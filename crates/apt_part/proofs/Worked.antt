@@ -1,5 +1,5 @@
 -- Small parts, which the checker reads and compiles.
-use Rattle.std.specs.Prelude.{◌≡◌, refl, ℕ, ℤ, pos, neg_ℤ, codes, List, [], ◌∷◌, ◌++◌, Result, Ok, Err}
+use Rattle.std.specs.Prelude.{◌≡◌, refl, false, ℕ, ℤ, pos, neg_ℤ, codes, List, [], ◌∷◌, ◌++◌, Result, Ok, Err}
 use Rattle.apt_num.specs.Root.{root}
 use Rattle.apt_words.specs.Vocabulary.{word_of}
 use Rattle.apt_words.specs.declared.Case.{Case}
@@ -41,7 +41,7 @@ use Rattle.apt_post.specs.Plan.{ActsAndSegments, planning}
 use Rattle.apt_part.specs.Compilation.{Compiled, records_by, part_of}
 
 abbrev largest : Machine
-largest = record { code = Rs358; seq = 1; feedmax = 9999; spinmax = 9999; toolmax = 99 }
+largest = record { code = Rs358; seq = 1; feedmax = 9999; spinmax = 9999; toolmax = 99; changed = false }
 
 abbrev recorded : Result (List Stmt) TextFault → Result (Result (List Record) Refusal) TextFault
 recorded (Ok statements) = Ok (records_by largest (trace_of statements))

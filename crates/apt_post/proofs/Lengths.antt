@@ -1,7 +1,9 @@
 -- How many bytes a tape has: at most 44 a block, and a block for the units, each record and each vertex.
-use Rattle.std.proofs.Common.{ℕ, ◌+◌, ◌*◌, ◌≤◌, ◌==◌, pos, Bool, true, false, List, [], ◌∷◌, ◌++◌, length, arith}
+use Rattle.std.proofs.Common.{◌≡◌, cond, ℕ, ◌+◌, ◌*◌, ◌≤◌, ◌==◌, pos, Bool, true, false, List, [], ◌∷◌, ◌++◌, length, ap, ◌∙◌, arith}
 use Rattle.std.specs.Prelude.{if◌then◌else◌, ◌%◌}
+use Rattle.std.specs.List.{filter, flat_map}
 use Rattle.std.proofs.lemmas.List.{length-map, length-append}
+use Rattle.std.proofs.lemmas.Grind.{flat_map-append}
 use Rattle.apt_words.specs.declared.Units.TheVariants.{Inch, Mm}
 use Rattle.apt_words.specs.declared.Turn.TheVariants as turns
 use Rattle.apt_words.specs.declared.Cool.TheVariants as coolants
@@ -13,12 +15,15 @@ use Rattle.apt_cldata.specs.declared.record.Record.{Record}
 use Rattle.apt_cldata.specs.declared.record.Record.TheVariants as records
 use Rattle.apt_cldata.specs.Ranges.{vertices_in, vertex_count}
 use Rattle.apt_machine.specs.declared.machine.Machine.{Machine}
-use Rattle.apt_block.specs.Block.{spelling, tape_word, letter_n}
+use Rattle.apt_block.specs.declared.block.TapeWord.{TapeWord}
+use Rattle.apt_block.specs.Block.{spelling, word_text, tape_word, letter_n, line_feed}
 use Rattle.apt_control.specs.declared.Act.{Act}
 use Rattle.apt_control.specs.declared.Act.TheVariants as acts
+use Rattle.apt_control.specs.declared.held.Held.{Held}
+use Rattle.apt_control.specs.Control.{nothing_held}
 use Rattle.apt_post.specs.declared.planning.Pending.{Pending}
 use Rattle.apt_post.specs.Plan.{cut_to, note_acts, record_acts, record_pending, acts_from, nothing_pending, plan}
-use Rattle.apt_post.specs.Blocks.{act_words, act_block, acts_text, tape_text, tape_bytes}
+use Rattle.apt_post.specs.Blocks.{act_words, numbered, is_written, behind, act_block, blocks_from, tape_text, tape_bytes}
 
 -- ---- a block
 
@@ -52,14 +57,34 @@ block_length false n acts.Stop = omega arith
 block_length false n acts.OptStop = omega arith
 block_length false n acts.End = omega arith
 
-text_length : (step k : ℕ) (acts : List Act) → length (acts_text step k acts) ≤ 44 * length acts
-text_length step k [] = omega arith
-text_length step k (act ∷ more) =
-    let block = spelling (act_block step k act) in
-    omega (arith, length-append block (acts_text step (k + 1) more), block_length (step == 0) (1 + (k * step) % 9999) act, text_length step (k + 1) more)
+with_word : (t : Bool) (w : TapeWord) (ws few : List TapeWord) → length (flat_map word_text few) ≤ length (flat_map word_text ws)
+    → length (flat_map word_text (cond t (w ∷ few) few)) ≤ length (flat_map word_text (w ∷ ws))
+with_word true w ws few h = omega (arith, length-append (word_text w) (flat_map word_text few), length-append (word_text w) (flat_map word_text ws), h)
+with_word false w ws few h = omega (arith, length-append (word_text w) (flat_map word_text ws), h)
+
+-- words that are left out make it no longer
+fewer_words : (p : TapeWord → Bool) (words : List TapeWord) → length (flat_map word_text (filter p words)) ≤ length (flat_map word_text words)
+fewer_words p [] = omega arith
+fewer_words p (w ∷ ws) = with_word (p w) w ws (filter p ws) (fewer_words p ws)
+
+spelling_length : (before words : List TapeWord) → length (spelling (before ++ words)) ≡ length (flat_map word_text before) + length (flat_map word_text words) + 1
+spelling_length before words =
+    length-append (flat_map word_text (before ++ words)) (line_feed ∷ [])
+    ∙ ap (λ n. n + 1) (ap length (flat_map-append word_text before words) ∙ length-append (flat_map word_text before) (flat_map word_text words))
+
+act_block_length : (m : Machine) (k : ℕ) (held : Held) (act : Act) → length (spelling (act_block m k held act)) ≤ 44
+act_block_length m k held act =
+    let p = is_written m.changed held in
+    omega (arith, spelling_length (numbered m.seq k) (filter p (act_words act)), spelling_length (numbered m.seq k) (act_words act), fewer_words p (act_words act), block_length (m.seq == 0) (1 + (k * m.seq) % 9999) act)
+
+text_length : (m : Machine) (k : ℕ) (held : Held) (acts : List Act) → length (flat_map spelling (blocks_from m k held acts)) ≤ 44 * length acts
+text_length m k held [] = omega arith
+text_length m k held (act ∷ more) =
+    let block = spelling (act_block m k held act) in
+    omega (arith, length-append block (flat_map spelling (blocks_from m (k + 1) (behind held act) more)), act_block_length m k held act, text_length m (k + 1) (behind held act) more)
 
 tape_length : (m : Machine) (acts : List Act) → length (tape_bytes m acts) ≤ 2 + 44 * length acts
-tape_length m acts = omega (arith, length-map (tape_text m.seq acts) (byte_of m.code), text_length m.seq 0 acts)
+tape_length m acts = omega (arith, length-map (tape_text m acts) (byte_of m.code), text_length m 0 nothing_held acts)
 
 -- ---- the acts of records
 

@@ -1,5 +1,5 @@
 -- A control runs the tape of acts to just these acts.
-use Rattle.std.specs.Prelude.{◌≡◌, ◌⊎◌, ℕ, ◌+◌, ◌&&◌, Bool, true, false, List, [], ◌∷◌, ◌++◌, length, Ok}
+use Rattle.std.specs.Prelude.{◌≡◌, ◌⊎◌, ℕ, ◌+◌, ◌&&◌, Bool, true, false, List, [], ◌∷◌, ◌++◌, length, Ok, IsSome}
 use Rattle.std.specs.List.{list_all, flat_map}
 use Rattle.std.proofs.Common.{ap, sym, subst, ◌∙◌, refl, arith, inl, inr, append_assoc}
 use Rattle.std.proofs.lemmas.Bool.{and_parts}
@@ -10,6 +10,7 @@ use Rattle.apt_machine.specs.declared.machine.Machine.{Machine}
 use Rattle.apt_block.specs.declared.block.TapeWord.{TapeWord}
 use Rattle.apt_block.specs.declared.block.TapeCause.TheVariants as causes
 use Rattle.apt_block.specs.declared.block.BlockFault.{BlockFault}
+use Rattle.apt_block.specs.declared.block.Mark.{Mark}
 use Rattle.apt_block.specs.Block.{fault, marks, spelling, word_text, line_feed, is_word_character, IsBlock}
 use Rattle.apt_block.proofs.Reading.{block_of-spelling, word_characters}
 use Rattle.apt_control.specs.declared.Act.{Act}
@@ -19,9 +20,10 @@ use Rattle.apt_control.specs.Control.{meaning, nothing_held, texts, run, control
 use Rattle.apt_tapecode.specs.Tapecode.{is_tape_character}
 use Rattle.apt_control.proofs.Punched.{is_within, texts-text}
 use Rattle.apt_control.proofs.Steps.{run-block, run-end, control_run-punched}
-use Rattle.apt_post.specs.Blocks.{act_block, acts_text, tape_bytes, CanWrite, ToTheEnd, IsProgram}
-use Rattle.apt_post.proofs.Standing.{act_block-IsBlock}
-use Rattle.apt_post.proofs.Meaning.{with_units, Means, IsNoEnd, act_block-means, units_block-means, end_block-ends}
+use Rattle.apt_post.specs.Blocks.{behind, act_block, blocks_from, blocks_of, tape_bytes, CanWrite, ToTheEnd, IsProgram}
+use Rattle.apt_post.specs.Writing.{CanWriteAll, AreBlocks}
+use Rattle.apt_post.proofs.Standing.{act_block-IsBlock, blocks_of_are}
+use Rattle.apt_post.proofs.Meaning.{is_end, MeansAct, units_behind, act_block-means, units_block-means}
 
 -- ---- characters of words
 
@@ -63,30 +65,42 @@ texts-block at words rest is =
 -- ---- acts to the end
 
 -- the first of acts to the end is the end itself, with nothing behind it, or another act that can be written
-pub first_act : (act : Act) (more : List Act) → ToTheEnd (act ∷ more) → ((act ∷ more) ≡ (acts.End ∷ [])) ⊎ (CanWrite act × IsNoEnd act × ToTheEnd more)
-first_act (acts.Units u) more is = inr (is.0, tt, is.1)
-first_act (acts.Rapid x y z) more is = inr (is.0, tt, is.1)
-first_act (acts.Cut x y z feed) more is = inr (is.0, tt, is.1)
-first_act (acts.Spindle turn n) more is = inr (is.0, tt, is.1)
-first_act (acts.Coolant c) more is = inr (is.0, tt, is.1)
-first_act (acts.Tool n) more is = inr (is.0, tt, is.1)
-first_act acts.Stop more is = inr (is.0, tt, is.1)
-first_act acts.OptStop more is = inr (is.0, tt, is.1)
+first_act : (act : Act) (more : List Act) → ToTheEnd (act ∷ more) → ((act ∷ more) ≡ (acts.End ∷ [])) ⊎ (CanWrite act × (is_end act ≡ false) × ToTheEnd more)
+first_act (acts.Units u) more is = inr (is.0, refl, is.1)
+first_act (acts.Rapid x y z) more is = inr (is.0, refl, is.1)
+first_act (acts.Cut x y z feed) more is = inr (is.0, refl, is.1)
+first_act (acts.Spindle turn n) more is = inr (is.0, refl, is.1)
+first_act (acts.Coolant c) more is = inr (is.0, refl, is.1)
+first_act (acts.Tool n) more is = inr (is.0, refl, is.1)
+first_act acts.Stop more is = inr (is.0, refl, is.1)
+first_act acts.OptStop more is = inr (is.0, refl, is.1)
 first_act acts.End [] is = inl refl
 first_act acts.End (act ∷ more) is = absurd is
 
-act-characters : (step k : ℕ) (act : Act) (more : List Act) → CanWrite act → list_all is_tape_character (acts_text step (k + 1) more) ≡ true
-    → list_all is_tape_character (acts_text step k (act ∷ more)) ≡ true
-act-characters step k act more can rest =
-    both-pass is_tape_character (spelling (act_block step k act)) (acts_text step (k + 1) more) (spelling-characters (act_block step k act) (act_block-IsBlock step k act can)) rest
-
-acts-characters : (step k : ℕ) (done : List Act) → ToTheEnd done → list_all is_tape_character (acts_text step k done) ≡ true
-acts-characters step k [] is = absurd is
-acts-characters step k (act ∷ more) is =
+to_the_end_acts : (done : List Act) → ToTheEnd done → CanWriteAll done
+to_the_end_acts [] is = absurd is
+to_the_end_acts (act ∷ more) is =
     elim (first_act act more is) [
-      | inl end ↦ subst (λ done. list_all is_tape_character (acts_text step k done) ≡ true) (sym end) (act-characters step k acts.End [] tt refl)
-      | inr goes_on ↦ act-characters step k act more goes_on.0 (acts-characters step (k + 1) more goes_on.2)
+      | inl end ↦ subst CanWriteAll (sym end) (tt, tt)
+      | inr goes_on ↦ (goes_on.0, to_the_end_acts more goes_on.2)
     ]
+
+-- each act of a program can be written
+pub program_acts : (done : List Act) → IsProgram done → CanWriteAll done
+program_acts [] is = absurd is
+program_acts (acts.Units u ∷ more) is = (tt, to_the_end_acts more is)
+program_acts (acts.Rapid x y z ∷ more) is = absurd is
+program_acts (acts.Cut x y z feed ∷ more) is = absurd is
+program_acts (acts.Spindle turn n ∷ more) is = absurd is
+program_acts (acts.Coolant c ∷ more) is = absurd is
+program_acts (acts.Tool n ∷ more) is = absurd is
+program_acts (acts.Stop ∷ more) is = absurd is
+program_acts (acts.OptStop ∷ more) is = absurd is
+program_acts (acts.End ∷ more) is = absurd is
+
+blocks-characters : (blocks : List (List TapeWord)) → AreBlocks blocks → list_all is_tape_character (flat_map spelling blocks) ≡ true
+blocks-characters [] are = refl
+blocks-characters (words ∷ more) are = both-pass is_tape_character (spelling words) (flat_map spelling more) (spelling-characters words are.0) (blocks-characters more are.1)
 
 -- ---- the run
 
@@ -94,44 +108,51 @@ acts-characters step k (act ∷ more) is =
 abbrev cut_at : ℕ → BlockFault
 cut_at place = fault place causes.Truncated
 
--- acts from anywhere on, where the units are known
-abbrev Runs : ℕ → ℕ → List Act → Type 0
-Runs place step more = (at k : ℕ) (held : Held) (u : Units) → run meaning (with_units held u) (cut_at place) (texts (marks at (acts_text step k more))) ≡ Ok more
+-- the characters of acts that k blocks precede, from a place on
+abbrev acts_at : Machine → ℕ → ℕ → Held → List Act → List Mark
+acts_at machine at k held done = marks at (flat_map spelling (blocks_from machine k held done))
 
-run-act : (place step at k : ℕ) (held : Held) (act : Act) (more : List Act) → CanWrite act → Means held (act_block step k act) act → Runs place step more
-    → run meaning held (cut_at place) (texts (marks at (acts_text step k (act ∷ more)))) ≡ Ok (act ∷ more)
-run-act place step at k held act more can means rest =
-    let words = act_block step k act in
-    let is : IsBlock words = act_block-IsBlock step k act can in
-    ap (run meaning held (cut_at place)) (texts-block at words (acts_text step (k + 1) more) is)
-    ∙ run-block meaning held (cut_at place) (marks at (spelling words)) (texts (marks (at + length (flat_map word_text words) + 1) (acts_text step (k + 1) more))) words
-    (record { held = with_units means.now means.units; acts = act ∷ []; ends = false }) more
-    (block_of-spelling (cut_at place) at words is) (means.means _) refl (rest _ (k + 1) means.now means.units)
+-- acts from anywhere on, where the control holds what the writer holds, and the units are known
+abbrev Runs : ℕ → Machine → List Act → Type 0
+Runs place machine more = (at k : ℕ) (held : Held) → IsSome held.units → run meaning held (cut_at place) (texts (acts_at machine at k held more)) ≡ Ok more
 
-run-last : (place step at k : ℕ) (held : Held) → run meaning held (cut_at place) (texts (marks at (acts_text step k (acts.End ∷ [])))) ≡ Ok (acts.End ∷ [])
-run-last place step at k held =
-    let words = act_block step k acts.End in
-    let is : IsBlock words = act_block-IsBlock step k acts.End tt in
-    let ends = end_block-ends held step k in
+run-act : (place : ℕ) (machine : Machine) (at k : ℕ) (held : Held) (act : Act) (more : List Act) → CanWrite act → is_end act ≡ false → MeansAct held (act_block machine k held act) act
+    → IsSome (behind held act).units → Runs place machine more
+    → run meaning held (cut_at place) (texts (acts_at machine at k held (act ∷ more))) ≡ Ok (act ∷ more)
+run-act place machine at k held act more can goes_on means known rest =
+    let words = act_block machine k held act in
+    let is : IsBlock words = act_block-IsBlock machine k held act can in
+    let later = flat_map spelling (blocks_from machine (k + 1) (behind held act) more) in
+    ap (run meaning held (cut_at place)) (texts-block at words later is)
+    ∙ run-block meaning held (cut_at place) (marks at (spelling words)) (texts (marks (at + length (flat_map word_text words) + 1) later)) words
+    (record { held = behind held act; acts = act ∷ []; ends = is_end act }) more
+    (block_of-spelling (cut_at place) at words is) (means _) goes_on (rest _ (k + 1) (behind held act) known)
+
+run-last : (place : ℕ) (machine : Machine) (at k : ℕ) (held : Held) → IsSome held.units → run meaning held (cut_at place) (texts (acts_at machine at k held (acts.End ∷ []))) ≡ Ok (acts.End ∷ [])
+run-last place machine at k held known =
+    let words = act_block machine k held acts.End in
+    let is : IsBlock words = act_block-IsBlock machine k held acts.End tt in
     ap (run meaning held (cut_at place)) (texts-block at words [] is)
-    ∙ run-end meaning held place (marks at (spelling words)) words (record { held = ends.now; acts = acts.End ∷ []; ends = true })
-    (block_of-spelling (cut_at place) at words is) (ends.means _) refl
+    ∙ run-end meaning held place (marks at (spelling words)) words (record { held = held; acts = acts.End ∷ []; ends = true })
+    (block_of-spelling (cut_at place) at words is) (act_block-means machine k held acts.End known tt _) refl
 
-acts-run : (place step : ℕ) (done : List Act) → ToTheEnd done → Runs place step done
-acts-run place step [] is at k held u = absurd is
-acts-run place step (act ∷ more) is at k held u =
+acts-run : (place : ℕ) (machine : Machine) (done : List Act) → ToTheEnd done → Runs place machine done
+acts-run place machine [] is at k held known = absurd is
+acts-run place machine (act ∷ more) is at k held known =
     elim (first_act act more is) [
-      | inl end ↦ subst (λ done. run meaning (with_units held u) (cut_at place) (texts (marks at (acts_text step k done))) ≡ Ok done) (sym end) (run-last place step at k (with_units held u))
-      | inr goes_on ↦ run-act place step at k (with_units held u) act more goes_on.0 (act_block-means held u step k act goes_on.0 goes_on.1) (acts-run place step more goes_on.2)
+      | inl end ↦ subst (λ done. run meaning held (cut_at place) (texts (acts_at machine at k held done)) ≡ Ok done) (sym end) (run-last place machine at k held known)
+      | inr goes_on ↦
+          run-act place machine at k held act more goes_on.0 goes_on.1 (act_block-means machine k held act known goes_on.0) (units_behind held act known) (acts-run place machine more goes_on.2)
     ]
 
 units-run : (machine : Machine) (u : Units) (more : List Act) → ToTheEnd more
     → control_run machine.code (tape_bytes machine (acts.Units u ∷ more)) ≡ Ok (acts.Units u ∷ more)
 units-run machine u more is =
-    let text = acts_text machine.seq 0 (acts.Units u ∷ more) in
-    control_run-punched machine.code text (acts.Units u ∷ more)
-    (act-characters machine.seq 0 (acts.Units u) more tt (acts-characters machine.seq 1 more is))
-    (run-act (2 + length text) machine.seq 2 0 nothing_held (acts.Units u) more tt (units_block-means nothing_held machine.seq 0 u) (acts-run (2 + length text) machine.seq more is))
+    let all = acts.Units u ∷ more in
+    let text = flat_map spelling (blocks_of machine all) in
+    control_run-punched machine.code text all
+    (blocks-characters (blocks_of machine all) (blocks_of_are machine all (tt, to_the_end_acts more is)))
+    (run-act (2 + length text) machine 2 0 nothing_held (acts.Units u) more tt refl (units_block-means machine 0 nothing_held u) refl (acts-run (2 + length text) machine more is))
 
 -- a control runs the tape of a program to just its acts
 pub tape_runs : (machine : Machine) (done : List Act) → IsProgram done → control_run machine.code (tape_bytes machine done) ≡ Ok done

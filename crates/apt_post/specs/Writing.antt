@@ -1,10 +1,12 @@
--- Records whose acts can be written.
-use Rattle.std.specs.Prelude.{List, [], ◌∷◌}
+-- Records whose acts can be written, and the blocks of acts.
+use Rattle.std.specs.Prelude.{ℕ, ◌+◌, List, [], ◌∷◌, ◌++◌}
 use Rattle.apt_cldata.specs.declared.record.Record.{Record}
 use Rattle.apt_control.specs.declared.Act.{Act}
 use Rattle.apt_post.specs.declared.planning.Pending.{Pending}
 use Rattle.apt_post.specs.Plan.{record_acts, record_pending}
-use Rattle.apt_post.specs.Blocks.{CanWrite}
+use Rattle.apt_block.specs.declared.block.TapeWord.{TapeWord}
+use Rattle.apt_block.specs.Block.{IsBlock}
+use Rattle.apt_post.specs.Blocks.{act_words, numbered, CanWrite}
 
 abbrev pub CanWriteAll : List Act → Type 0
 CanWriteAll [] = Unit {0}
@@ -19,3 +21,13 @@ AreWritten p (r ∷ rs) = CanWriteAll (record_acts p r) × AreWritten (record_pe
 abbrev pub pending_behind : Pending → List Record → Pending
 pending_behind p [] = p
 pending_behind p (r ∷ rs) = pending_behind (record_pending p r) rs
+
+-- blocks that can be read
+abbrev pub AreBlocks : List (List TapeWord) → Type 0
+AreBlocks [] = Unit {0}
+AreBlocks (words ∷ more) = IsBlock words × AreBlocks more
+
+-- the blocks of acts that k blocks precede, each with all words of its act
+abbrev pub whole_blocks : ℕ → ℕ → List Act → List (List TapeWord)
+whole_blocks step k [] = []
+whole_blocks step k (act ∷ more) = (numbered step k ++ act_words act) ∷ whole_blocks step (k + 1) more

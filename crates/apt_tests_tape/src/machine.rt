@@ -4,7 +4,7 @@ use std::alloc::{AllocError, Global};
 use std::test::Fail;
 
 /// Texts, and the line and the cause of each.
-const BAD: [(&[u8], u32, MachineCause); 29] = [
+const BAD: [(&[u8], u32, MachineCause); 32] = [
     (b"", 1, MachineCause::Header),
     (b"\n", 1, MachineCause::Header),
     (b"  \n", 1, MachineCause::Header),
@@ -22,6 +22,11 @@ const BAD: [(&[u8], u32, MachineCause); 29] = [
     (b"MACHINE 1\nCODE RS358\t\n", 2, MachineCause::Key),
     (b"MACHINE 1\nSEQ 1\n\nSEQ no\n", 4, MachineCause::Twice),
     (b"MACHINE 1\nWORDS ALL\nWORDS ALL\n", 3, MachineCause::Twice),
+    (
+        b"MACHINE 1\nWORDS CHANGED\nWORDS ALL\n",
+        3,
+        MachineCause::Twice,
+    ),
     (b"MACHINE 1\nCODE RS999\n", 2, MachineCause::Value),
     (b"MACHINE 1\nCODE\n", 2, MachineCause::Value),
     (b"MACHINE 1\nCODE \n", 2, MachineCause::Value),
@@ -32,7 +37,9 @@ const BAD: [(&[u8], u32, MachineCause); 29] = [
     (b"MACHINE 1\nFEEDMAX 0\n", 2, MachineCause::Value),
     (b"MACHINE 1\nFEEDMAX 10000\n", 2, MachineCause::Value),
     (b"MACHINE 1\nTOOLMAX 100\n", 2, MachineCause::Value),
-    (b"MACHINE 1\nWORDS CHANGED\n", 2, MachineCause::Value),
+    (b"MACHINE 1\nWORDS\n", 2, MachineCause::Value),
+    (b"MACHINE 1\nWORDS changed\n", 2, MachineCause::Value),
+    (b"MACHINE 1\nWORDS ALL CHANGED\n", 2, MachineCause::Value),
     (
         b"MACHINE 1\nTOOLMAX 9\nCODE RS244\n\nSEQ 5\nFEEDMAX 1\n",
         7,
@@ -60,17 +67,36 @@ const GOOD: [&[u8]; 4] = [
     b"MACHINE 1\nCODE RS244\n\n\nSEQ 0\nSPINMAX 9999\nTOOLMAX 10\nFEEDMAX 1\nWORDS ALL\n",
 ];
 
+/// The machine of these tables.
+fn small(changed: bool) -> Machine {
+    Machine {
+        code: Code::Rs244,
+        seq: 0,
+        feedmax: 1,
+        spinmax: 9999,
+        toolmax: 10,
+        changed,
+    }
+}
+
 #[test]
 fn reads_keys_in_any_order(rt: HostRuntime) {
     for &text in &GOOD {
-        let machine = Machine {
-            code: Code::Rs244,
-            seq: 0,
-            feedmax: 1,
-            spinmax: 9999,
-            toolmax: 10,
-        };
-        assert!(rt; table(text) == Ok(machine));
+        assert!(rt; table(text) == Ok(small(false)));
+    }
+}
+
+/// Texts, all of the same machine, whose blocks leave out what holds.
+const CHANGED: [&[u8]; 3] = [
+    b"MACHINE 1\nWORDS CHANGED\nCODE RS244\nSEQ 0\nFEEDMAX 1\nSPINMAX 9999\nTOOLMAX 10\n",
+    b"MACHINE 1\nCODE RS244\nSEQ 0\nFEEDMAX 1\n\nWORDS CHANGED\r\nSPINMAX 9999\nTOOLMAX 10\n",
+    b"MACHINE 1\nTOOLMAX 10\nCODE RS244\nSPINMAX 9999\nSEQ 0\nFEEDMAX 1\nWORDS CHANGED",
+];
+
+#[test]
+fn reads_words_anywhere(rt: HostRuntime) {
+    for &text in &CHANGED {
+        assert!(rt; table(text) == Ok(small(true)));
     }
 }
 

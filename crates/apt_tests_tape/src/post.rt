@@ -1,6 +1,7 @@
+use apt_block::TapeWord;
 use apt_control::Act;
 use apt_machine::Machine;
-use apt_post::tape;
+use apt_post::{Poster, blocks, tape};
 use apt_tapecode::Code;
 use apt_words::{Cool, Turn, Units};
 use std::test::Fail;
@@ -20,7 +21,20 @@ fn machine(code: Code, seq: u16) -> Machine {
         feedmax: 9999,
         spinmax: 9999,
         toolmax: 99,
+        changed: false,
     }
+}
+
+/// A machine whose blocks leave out the words that say what holds.
+fn changed(code: Code, seq: u16) -> Machine {
+    Machine {
+        changed: true,
+        ..machine(code, seq)
+    }
+}
+
+fn word(letter: u8, value: i64) -> TapeWord {
+    TapeWord { letter, value }
 }
 
 #[test]
@@ -98,5 +112,118 @@ fn writes_every_act(rt: HostRuntime) -> Result<(), Fail> {
         text.as_slice(),
         b"%\nG70G90G94\nG00X+00000001Y-00000002Z+00000000\nG01X-50000000Y+00000004Z+50000000F9999\nS0700M03\nS0008M04\nM05\nT09M06\nM07\nM08\nM09\nM00\nM01\nG71G90G94\nM02\n".as_slice()
     );
+    Ok(())
+}
+
+#[test]
+fn leaves_out_what_holds(rt: HostRuntime) -> Result<(), Fail> {
+    let (z, feed) = (50_000, 100);
+    let (near, far) = (-25_000, 525_000);
+    let acts = [
+        Act::Units(Units::Inch),
+        Act::Spindle {
+            turn: Turn::Cw,
+            n: 1200,
+        },
+        Act::Cut {
+            x: near,
+            y: near,
+            z,
+            feed,
+        },
+        Act::Cut {
+            x: far,
+            y: near,
+            z,
+            feed,
+        },
+        Act::Cut {
+            x: far,
+            y: far,
+            z,
+            feed,
+        },
+        Act::Cut {
+            x: near,
+            y: far,
+            z,
+            feed,
+        },
+        Act::Cut {
+            x: near,
+            y: near,
+            z,
+            feed,
+        },
+        Act::End,
+    ];
+    let text = characters(tape(rt.alloc(), &acts, &changed(Code::Rs358, 1))?);
+    assert_eq!(rt; text.len(), 168);
+    assert_eq!(rt;
+        text.as_slice(),
+        b"%\nN0001G70G90G94\nN0002S1200M03\nN0003G01X-00025000Y-00025000Z+00050000F0100\nN0004X+00525000\nN0005X+00525000Y+00525000\nN0006X-00025000\nN0007X-00025000Y-00025000\nN0008M02\n".as_slice()
+    );
+    Ok(())
+}
+
+#[test]
+fn writes_a_block_at_a_time(rt: HostRuntime) {
+    let mut poster = Poster::new(&changed(Code::Rs244, 999));
+    let units = poster.text(&Act::Units(Units::Mm));
+    assert_eq!(rt; units.as_slice(), b"N0001G71G90G94\n".as_slice());
+    let first = poster.text(&Act::Rapid { x: 1, y: -2, z: 0 });
+    assert_eq!(rt;
+        first.as_slice(),
+        b"N1000G00X+00000001Y-00000002Z+00000000\n".as_slice()
+    );
+    let cut = poster.text(&Act::Cut {
+        x: 3,
+        y: -2,
+        z: 4,
+        feed: 9999,
+    });
+    assert_eq!(rt;
+        cut.as_slice(),
+        b"N1999G01X+00000003Z+00000004F9999\n".as_slice()
+    );
+    let rapid = poster.text(&Act::Rapid { x: 3, y: -2, z: 4 });
+    assert_eq!(rt; rapid.as_slice(), b"N2998G00X+00000003\n".as_slice());
+    let coolant = poster.text(&Act::Coolant(Cool::Flood));
+    assert_eq!(rt; coolant.as_slice(), b"N3997M08\n".as_slice());
+    let again = poster.text(&Act::Cut {
+        x: 3,
+        y: 5,
+        z: 4,
+        feed: 9999,
+    });
+    assert_eq!(rt;
+        again.as_slice(),
+        b"N4996G01X+00000003Y+00000005\n".as_slice()
+    );
+    let slower = poster.text(&Act::Cut {
+        x: 3,
+        y: 5,
+        z: 4,
+        feed: 1,
+    });
+    assert_eq!(rt; slower.as_slice(), b"N5995X+00000003F0001\n".as_slice());
+}
+
+#[test]
+fn gives_the_blocks_of_any_acts(rt: HostRuntime) -> Result<(), Fail> {
+    let acts = [Act::Tool(7), Act::Rapid { x: 1, y: -2, z: 3 }];
+    for leaves_out in [false, true] {
+        let machine = Machine {
+            changed: leaves_out,
+            ..machine(Code::Rs358, 0)
+        };
+        let all = blocks(rt.alloc(), &acts, &machine)?;
+        assert_eq!(rt; all.len(), 2);
+        let tool = [word(b'T', 7), word(b'M', 6)];
+        let rapid = [word(b'G', 0), word(b'X', 1), word(b'Y', -2), word(b'Z', 3)];
+        for (block, want) in all.iter().zip([tool.as_slice(), rapid.as_slice()]) {
+            assert!(rt; block.words.as_slice() == want);
+        }
+    }
     Ok(())
 }

@@ -1,0 +1,49 @@
+//! The blocks of acts, and the bytes of their tape.
+
+ghost use Rattle.std.specs.Prelude.{◌≡◌, false, IfOk};
+ghost use Rattle.apt_post.specs.Blocks as spec;
+ghost use Rattle.apt_post.specs.Writing.{AreBlocks, CanWriteAll, whole_blocks};
+
+use crate::Poster;
+use crate::hands::byte_of;
+use apt_block::Block;
+use apt_control::Act;
+use apt_machine::Machine;
+use std::alloc::{AllocError, Global};
+
+/// The blocks of acts for a machine, one for each act.
+#[tactic(auto, using(crate::proofs::Whole::are_whole, crate::proofs::Standing::blocks_of_are))]
+pub fn blocks(alloc: Global, acts: &[Act], m: &Machine) -> Result<Vec<Block>, AllocError>
+    requires { CanWriteAll acts.now }
+    ensures value { IfOk result (λ v. v.items ≡ spec.blocks_of m.now acts.now) }
+    ensures are { IfOk result (λ v. AreBlocks v.items) }
+    ensures whole { m.now.changed ≡ false → IfOk result (λ v. v.items ≡ whole_blocks m.now.seq 0 acts.now) }
+{
+    all_blocks(alloc, acts, m)
+}
+
+fn all_blocks(alloc: Global, acts: &[Act], m: &Machine) -> Result<Vec<Block>, AllocError>
+    ensures { IfOk result (λ v. v.items ≡ spec.blocks_of m.now acts.now) }
+{
+    let mut poster = Poster::new(m);
+    let mut blocks = Vec::new(alloc);
+    'acts: for act in acts {
+        blocks.push(poster.block(act))?;
+    }
+    Ok(blocks)
+}
+
+#[tactic(auto, using(crate::proofs::Posting::step_bytes, crate::proofs::Posting::step_stands))]
+pub(crate) fn tape_bytes(alloc: Global, acts: &[Act], m: &Machine) -> Result<Vec<u8>, AllocError>
+    requires { CanWriteAll acts.now }
+    ensures { IfOk result (λ v. v.items ≡ spec.tape_bytes m.now acts.now) }
+{
+    let mut poster = Poster::new(m);
+    let mut bytes = Vec::new(alloc);
+    bytes.push(byte_of(m.code, b'%'))?;
+    bytes.push(byte_of(m.code, b'\n'))?;
+    'acts: for act in acts {
+        bytes.extend_from_slice(&poster.bytes(act))?;
+    }
+    Ok(bytes)
+}
