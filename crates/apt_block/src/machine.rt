@@ -246,7 +246,12 @@ impl BlockReader {
 
     /// Takes the sign that a word may have, and its digits.
     #[tactic(auto, using(crate::proofs::Taking::front_char, crate::proofs::Taking::front_none))]
-    fn sign<A: Alphabet>(&mut self, word: OpenWord, at: u64, bytes: &[u8]) -> Result<usize, BlockFault>
+    fn sign<A: Alphabet>(
+        &mut self,
+        word: OpenWord,
+        at: u64,
+        bytes: &[u8],
+    ) -> Result<usize, BlockFault>
         requires place { at + length bytes.now < 2 ^ 64 }
         requires used { length self.old.words < self.old.used }
         requires room { HasDigits word }
@@ -272,7 +277,12 @@ impl BlockReader {
 
     /// Takes the digits of a word.
     #[tactic(auto, using(crate::proofs::Taking::taken_char, crate::proofs::Taking::taken_none, crate::proofs::Rooms::room_step, crate::proofs::Rooms::small))]
-    fn digits<A: Alphabet>(&mut self, begun: OpenWord, at: u64, bytes: &[u8]) -> Result<usize, BlockFault>
+    fn digits<A: Alphabet>(
+        &mut self,
+        begun: OpenWord,
+        at: u64,
+        bytes: &[u8],
+    ) -> Result<usize, BlockFault>
         requires place { at + length bytes.now < 2 ^ 64 }
         requires used { length self.old.words < self.old.used }
         requires room { HasDigits begun }

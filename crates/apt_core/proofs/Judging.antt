@@ -8,14 +8,11 @@ use Rattle.apt_certify.specs.declared.verdict.Verdict.{Verdict}
 use Rattle.apt_certify.specs.Jobs.{AreLegal}
 use Rattle.apt_certify.specs.Verdicts.{IsVerdict, IsFirstBadOrNone}
 use Rattle.apt_meaning.specs.Situations.{first_situation}
-use Rattle.apt_meaning.specs.Records.{AreLegal as IsLegalEffect}
-use Rattle.apt_meaning.proofs.Walks.Stands.{stands}
-use Rattle.apt_job.proofs.Walks.{legal_follows}
+use Rattle.apt_job.proofs.Walks.{jobs_right}
 use Rattle.apt_machine.specs.declared.machine.Machine.{Machine}
 use Rattle.apt_machine.specs.Tables.{table_of}
 use Rattle.apt_control.specs.declared.Act.{Act}
 use Rattle.apt_control.specs.Control.{control_run}
-use Rattle.apt_post.proofs.Reaching.{plan_reaches}
 use Rattle.apt_part.specs.Compilation.{steps_of}
 use Rattle.apt_part.specs.Promise.{Passes}
 use Rattle.apt_report.specs.declared.status.Status.{Status}
@@ -33,17 +30,15 @@ all_legal jobs v is none = subst (IsFirstBadOrNone jobs) none is.first_bad
 pub good_is_right : (machine : Machine) (text cl tape : List ℕ) (steps : List Step) (written : List Record) (acts : List Act) (v : Verdict) → Passes machine text steps
     → read_of cl ≡ Ok written → control_run machine.code tape ≡ Ok acts → IsGood steps written acts v → IsCertified machine text cl tape v
 good_is_right machine text cl tape steps written acts v passes read run good =
-    let follow = legal_follows first_situation steps written good.jobs good.makes (all_legal good.jobs v good.verdict good.legal) in record {
+    let follow = jobs_right steps written good.jobs good.makes (all_legal good.jobs v good.verdict good.legal) in record {
       right = record {
         steps = steps;
         passes = passes;
         records = written;
         read = read;
-        behind = follow.0;
-        follow = follow.1;
-        stands = stands IsLegalEffect first_situation steps written follow.0 follow.1;
         acts = run ∙ ap Ok good.planned;
-        reached = plan_reaches written;
+        follow = follow.0;
+        legal = follow.1;
       };
       jobs = good.jobs;
       makes = good.makes;

@@ -21,10 +21,8 @@ output_is machine text p o comes promise exact read run = record {
     passes = promise.passes;
     records = p.records;
     read = subst (λ (q : Output). read_of q.cl ≡ Ok p.records) exact read;
-    behind = promise.behind;
     follow = promise.follow;
-    stands = promise.stands;
+    legal = promise.legal;
     acts = subst (λ (q : Output). control_run machine.code q.tape ≡ Ok (plan p.records)) exact run;
-    reached = promise.reached;
   };
 }

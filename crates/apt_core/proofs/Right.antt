@@ -9,6 +9,7 @@ use Rattle.apt_cldata.specs.Reading.{read_of}
 use Rattle.apt_certify.specs.declared.verdict.Verdict.{Verdict}
 use Rattle.apt_certify.proofs.Legality.{bad_not_legal}
 use Rattle.apt_meaning.specs.Situations.{first_situation}
+use Rattle.apt_meaning.proofs.Walks.Alone.{contours_legal}
 use Rattle.apt_job.proofs.Walks.{follows_legal, follows_makes, makes_no_fails}
 use Rattle.apt_machine.specs.declared.machine.Machine.{Machine}
 use Rattle.apt_machine.specs.Tables.{table_of}
@@ -70,10 +71,10 @@ no_difference xs ys at e d =
 no_miss : (machine : Machine) (text cl tape : List ℕ) (right : IsRight machine text cl tape) (acts : List Act) (miss : Miss) → acts ≡ plan right.records
     → IsMiss right.steps right.records acts miss → ⊥
 no_miss machine text cl tape right acts (misses.Entry seq) same is =
-    let jobs = follows_makes first_situation right.steps right.records right.behind right.follow in
+    let jobs = follows_makes first_situation right.steps right.records right.follow.behind (contours_legal right.steps right.records right.follow right.legal) in
     makes_no_fails first_situation right.steps right.records jobs.0 1 seq jobs.1 is
 no_miss machine text cl tape right acts (misses.Motion bad) same is =
-    bad_not_legal is.0 bad is.2 (follows_legal first_situation right.steps right.records is.0 right.behind is.1 right.follow)
+    bad_not_legal is.0 bad is.2 (follows_legal first_situation right.steps right.records is.0 right.follow.behind is.1 (contours_legal right.steps right.records right.follow right.legal))
 no_miss machine text cl tape right acts (misses.Act at) same is = no_difference acts (plan right.records) at same is.3
 
 judged_right : (machine : Machine) (text cl tape : List ℕ) (told : Status) → IsRight machine text cl tape → IsAnswerOn machine text cl tape told

@@ -1,5 +1,5 @@
 -- When a CL file and a tape are right for a part, and where they are not.
-use Rattle.std.specs.Prelude.{◌≡◌, ◌≢◌, ◌⊎◌, ℕ, ◌+◌, List, [], ◌∷◌, ◌++◌, length, None, Ok, Err}
+use Rattle.std.specs.Prelude.{◌≡◌, ◌≢◌, ◌⊎◌, ℕ, ◌+◌, List, [], ◌∷◌, ◌++◌, length, Ok, Err}
 use Rattle.apt_words.specs.declared.deed.Step.{Step}
 use Rattle.apt_cldata.specs.declared.record.Record.{Record}
 use Rattle.apt_cldata.specs.Reading.{read_of}
@@ -7,9 +7,9 @@ use Rattle.apt_certify.specs.declared.leg.Job.{Job}
 use Rattle.apt_certify.specs.declared.verdict.Verdict.{Verdict}
 use Rattle.apt_certify.specs.Jobs.{AreLegal}
 use Rattle.apt_certify.specs.Verdicts.{IsFirstBad, IsVerdict}
-use Rattle.apt_meaning.specs.declared.situation.Situation.{Situation}
 use Rattle.apt_meaning.specs.Situations.{first_situation}
-use Rattle.apt_meaning.specs.Records.{FollowsLegally, stand_of}
+use Rattle.apt_meaning.specs.Paths.{EveryContour, IsLegalCut, contours_of}
+use Rattle.apt_meaning.specs.Records.{Follows}
 use Rattle.apt_meaning.specs.Expectations.{FailsAt}
 use Rattle.apt_job.specs.Jobs.{MakesJobs}
 use Rattle.apt_machine.specs.declared.machine.Machine.{Machine}
@@ -17,7 +17,7 @@ use Rattle.apt_machine.specs.declared.cause.MachineError.{MachineError}
 use Rattle.apt_machine.specs.Tables.{table_of}
 use Rattle.apt_control.specs.declared.Act.{Act}
 use Rattle.apt_control.specs.Control.{control_run}
-use Rattle.apt_post.specs.Plan.{plan, segments, positions, points}
+use Rattle.apt_post.specs.Plan.{plan, segments}
 use Rattle.apt_part.specs.Compilation.{steps_of}
 use Rattle.apt_part.specs.Promise.{Passes}
 use Rattle.apt_report.specs.declared.status.Status.{Status}
@@ -26,19 +26,17 @@ use Rattle.apt_report.specs.declared.status.Summary.TheVariants as summaries
 use Rattle.apt_report.specs.declared.status.Miss.{Miss}
 use Rattle.apt_report.specs.declared.status.Miss.TheVariants as misses
 
--- the tape's bytes decode to the plan of the CL file's records; these follow the steps of the part's text, none of which is refused; every contour
--- is legal: all points of its segments are in the drive band, none is past its stop, and it ends in the stop band. The acts lead where the records
--- lead, and the records leave the tool where the steps have it
+-- a CL file and a tape are right for a part on a machine. The part's steps are those of its one trace, and none is refused; the CL file is just its records,
+-- and a control runs the tape, to the last byte, to just their plan, so that nothing else stands in either file; the records follow the steps, each contour
+-- with the drive, the check, the side and the turn that its statement names; and every contour that the CL file says is legal
 pub record IsRight (machine : Machine) (text cl tape : List ℕ) : Type 0 where
   pub steps : List Step
   pub passes : Passes machine text steps
   pub records : List Record
   pub read : read_of cl ≡ Ok records
-  pub behind : Situation
-  pub follow : FollowsLegally first_situation steps records behind
-  pub stands : stand_of None records ≡ behind.position
   pub acts : control_run machine.code tape ≡ Ok (plan records)
-  pub reached : positions (plan records) ≡ points records
+  pub follow : Follows steps records
+  pub legal : EveryContour IsLegalCut (contours_of records)
 
 -- ---- where they are not
 

@@ -3,7 +3,8 @@ use apt_tapecode::{Code, punch};
 use std::alloc::{AllocError, Global};
 use std::test::Fail;
 
-const TEXT: &str = "0%\nN0001G70G90G94\nG01X+00100000Y-00200000Z00300000F0100\nX+00000007T09M06\nS0700M03\nG00Z+00000000M08\n\nM02\n%";
+const TEXT: &str =
+    "0%\nN0001G70G90G94\nG01X+00100000Y-00200000Z00300000F0100\nX+00000007T09M06\nS0700M03\nG00Z+00000000M08\n\nM02\n%";
 
 fn punched(alloc: Global, code: Code, text: &str) -> Result<Vec<u8>, AllocError> {
     let mut bytes = Vec::new(alloc);
@@ -14,12 +15,7 @@ fn punched(alloc: Global, code: Code, text: &str) -> Result<Vec<u8>, AllocError>
 }
 
 /// What a reader answers to a tape in pieces of so many bytes.
-fn read_by(
-    alloc: Global,
-    code: Code,
-    tape: &[u8],
-    size: usize,
-) -> Result<Vec<Act>, ControlError> {
+fn read_by(alloc: Global, code: Code, tape: &[u8], size: usize) -> Result<Vec<Act>, ControlError> {
     let mut reader = TapeReader::new(alloc, code);
     let mut rest = tape;
     'pieces: while !rest.is_empty() {
