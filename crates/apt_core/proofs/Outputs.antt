@@ -1,5 +1,5 @@
 -- The files of a part are right for it.
-use Rattle.std.proofs.Common.{◌≡◌, ℕ, List, Ok, ap, ◌∙◌}
+use Rattle.std.proofs.Common.{◌≡◌, ℕ, List, Ok, ap, ◌∙◌, refl}
 use Rattle.apt_words.specs.Chains.{◌>>=◌}
 use Rattle.apt_cldata.specs.Reading.{read_of}
 use Rattle.apt_control.specs.Control.{control_run}

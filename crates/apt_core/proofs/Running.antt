@@ -93,7 +93,8 @@ runs_to n m table tape machine acts said reads tabled run runs =
     by_texts same =
         let t : runs.table ≡ table = cc in
         let u : runs.tape ≡ tape = cc in
-        ap (λ (s : Said). s.answer) (runs.due ∙ rw (t, u) (ap said_of due))
+        let here : said_due runs.table runs.tape ≡ Ok (acts_said acts) = rw (t, u) due in
+        ap (λ (s : Said). s.answer) (runs.due ∙ ap said_of here)
 
 told_acts : (n : TapeNames) (m : Contents) (table tape : List ℕ) (machine : Machine) (acts : List Act) (before after : Outside) (said : Said)
     → Decodes n before.files after.files said → before.files.told ≡ Some m → ReadsAll (Some m) (tape_inputs n) (table ∷ tape ∷ []) → table_of table ≡ Ok machine

@@ -43,7 +43,7 @@ use words::{Request, request_of};
 /// machine runs the tape, and no other line. It writes nothing.
 ///
 /// A table is judged when all that is read has been read, and before the part.
-#[tactic(auto, using(crate::proofs::Running::run_is, crate::proofs::Running::usage_asked, crate::proofs::Running::completes))]
+#[tactic(auto, using(crate::proofs::Running::run_is, crate::proofs::Running::completes))]
 pub fn apt<H: Shelf, K: Sink>(
     rt: &(impl Threads + Sync),
     alloc: Global,
