@@ -9,8 +9,7 @@ use Rattle.apt_certify.specs.declared.verdict.Verdict.{Verdict}
 use Rattle.apt_certify.specs.Jobs.{AreLegal}
 use Rattle.apt_certify.specs.Verdicts.{IsVerdict, IsFirstBadOrNone}
 use Rattle.apt_meaning.specs.Situations.{first_situation}
-use Rattle.apt_job.specs.Jobs.{jobs_said}
-use Rattle.apt_job.proofs.Walks.{jobs_right, makes_said}
+use Rattle.apt_job.proofs.Walks.{jobs_right}
 use Rattle.apt_machine.specs.declared.machine.Machine.{Machine}
 use Rattle.apt_machine.specs.Tables.{table_of}
 use Rattle.apt_control.specs.declared.Act.{Act}
@@ -105,8 +104,7 @@ missed_judged machine text table cl tape steps written acts answer are (inr shor
 good_is_right : (machine : Machine) (text cl tape : List ℕ) (steps : List Step) (written : List Record) (v : Verdict) → Passes machine text steps → read_of cl ≡ Ok written
     → control_run machine.code tape ≡ Ok (plan written) → HasVerdict steps written v → v.first_bad ≡ None → IsCertified machine text cl tape v
 good_is_right machine text cl tape steps written v passes read run has legal =
-    let makes = makes_said steps written has.follow in
-    let follow = jobs_right steps written (jobs_said written) makes (all_legal (jobs_said written) v has.verdict legal) in record {
+    let follow = jobs_right steps written has.jobs has.makes (all_legal has.jobs v has.verdict legal) in record {
       right = record {
         steps = steps;
         passes = passes;
@@ -116,8 +114,8 @@ good_is_right machine text cl tape steps written v passes read run has legal =
         follow = follow.0;
         legal = follow.1;
       };
-      verdict = has.verdict;
-      counted = has.verdict.segments ∙ makes_segments first_situation steps written (jobs_said written) makes;
+      verdict = has;
+      counted = has.verdict.segments ∙ makes_segments first_situation steps written has.jobs has.makes;
     }
 
 -- all is right

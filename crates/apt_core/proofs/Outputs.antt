@@ -26,9 +26,9 @@ output_is machine text table p o tabled comes promise exact read run = record {
     passes = promise.passes;
     records = p.records;
     read = read;
-    acts = run;
     follow = promise.follow;
     legal = promise.legal;
+    acts = run;
   };
 }
 
