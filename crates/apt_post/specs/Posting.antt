@@ -27,9 +27,13 @@ StandsFor p acts = p ≡ posting_behind p.machine acts
 abbrev pub next_number : Posting → List TapeWord
 next_number p = if p.machine.seq == 0 then [] else tape_word letter_n (pos (1 + p.steps)) ∷ []
 
+-- those of some words that are written
+abbrev pub told : Posting → List TapeWord → List TapeWord
+told p words = filter (is_written p.machine.changed p.held) words
+
 -- the block of an act that comes next
 abbrev pub next_block : Posting → Act → List TapeWord
-next_block p act = next_number p ++ filter (is_written p.machine.changed p.held) (act_words act)
+next_block p act = next_number p ++ told p (act_words act)
 
 -- where the writer stands then
 abbrev pub next : Posting → Act → Posting

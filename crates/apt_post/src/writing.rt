@@ -23,6 +23,7 @@ pub fn blocks(alloc: Global, acts: &[Act], m: &Machine) -> Result<Vec<Block>, Al
 }
 
 fn all_blocks(alloc: Global, acts: &[Act], m: &Machine) -> Result<Vec<Block>, AllocError>
+    requires { CanWriteAll acts.now }
     ensures { IfOk result (λ v. v.items ≡ spec.blocks_of m.now acts.now) }
 {
     let mut poster = Poster::new(m);
