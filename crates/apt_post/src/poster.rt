@@ -64,16 +64,19 @@ impl Poster {
         ensures stands { (before : List Act) → StandsFor self.old before → StandsFor self.new (before ++ a.now ∷ []) }
         ensures tape { (before : List Act) → StandsFor self.old before → spec.tape_text self.old.machine (before ++ a.now ∷ []) ≡ spec.tape_text self.old.machine before ++ result.items }
     {
-        self.characters(a)
+        let mut text = Text::new();
+        self.push_characters(&mut text, a);
+        text
     }
 
     #[tactic(auto, using(crate::proofs::Posting::as_themselves))]
-    fn characters(&mut self, act: &Act) -> Text
-        ensures block { result.items ≡ spelling (posting.next_block self.old act.now) }
+    fn push_characters(&mut self, text: &mut Text, act: &Act)
+        requires none { text.old.items ≡ [] }
+        ensures block { text.new.items ≡ spelling (posting.next_block self.old act.now) }
         ensures next { self.new ≡ posting.next self.old act.now }
         ensures few { self.old.steps < 9999 }
     {
-        self.write::<Plain>(act)
+        self.push_block::<Plain>(text, act);
     }
 
     /// The same as the bytes of the machine's code.
@@ -85,38 +88,34 @@ impl Poster {
         ensures stands { (before : List Act) → StandsFor self.old before → StandsFor self.new (before ++ a.now ∷ []) }
         ensures tape { (before : List Act) → StandsFor self.old before → spec.tape_bytes self.old.machine (before ++ a.now ∷ []) ≡ spec.tape_bytes self.old.machine before ++ result.items }
     {
-        self.punched(a)
+        let mut text = Text::new();
+        self.push_bytes(&mut text, a);
+        text
     }
 
-    fn punched(&mut self, act: &Act) -> Text
-        ensures block { result.items ≡ map (byte_of self.old.machine.code) (spelling (posting.next_block self.old act.now)) }
+    fn push_bytes(&mut self, text: &mut Text, act: &Act)
+        requires none { text.old.items ≡ [] }
+        ensures block { text.new.items ≡ map (byte_of self.old.machine.code) (spelling (posting.next_block self.old act.now)) }
         ensures next { self.new ≡ posting.next self.old act.now }
     {
         match self.machine.code {
-            Code::Rs244 => self.write::<Rs244>(act),
-            Code::Rs358 => self.write::<Rs358>(act),
+            Code::Rs244 => self.push_block::<Rs244>(text, act),
+            Code::Rs358 => self.push_block::<Rs358>(text, act),
         }
     }
 
-    fn write<H: Hand>(&mut self, act: &Act) -> Text
-        ensures block { result.items ≡ map H.written (spelling (posting.next_block self.old act.now)) }
+    /// Writes the next block in a hand.
+    #[tactic(auto, using(crate::proofs::Spelled::whole_block))]
+    fn push_block<H: Hand>(&mut self, text: &mut Text, act: &Act)
+        requires none { text.old.items ≡ [] }
+        ensures block { text.new.items ≡ map H.written (spelling (posting.next_block self.old act.now)) }
         ensures next { self.new ≡ posting.next self.old act.now }
         ensures few { self.old.steps < 9999 }
     {
-        let text = self.written::<H>(act);
-        self.pass(act);
-        text
-    }
-
-    #[tactic(auto, using(crate::proofs::Spelled::whole_block))]
-    fn written<H: Hand>(&self, act: &Act) -> Text
-        ensures { result.items ≡ map H.written (spelling (posting.next_block self.now act.now)) }
-    {
-        let mut text = Text::new();
-        self.push_number::<H>(&mut text);
-        self.push_words::<H>(&mut text, act);
+        self.push_number::<H>(text);
+        self.push_words::<H>(text, act);
         text.push(H::one(b'\n'));
-        text
+        self.pass(act);
     }
 
     /// The next block itself.
