@@ -219,6 +219,7 @@ impl BlockReader {
     }
 
     /// Takes the characters of a word whose letter is read, or an end of block.
+    #[inline(always)]
     #[tactic(auto, using(crate::proofs::Rooms::room_new))]
     fn letter<A: Alphabet>(&mut self, c: Mark, more: &[u8]) -> Result<usize, BlockFault>
         requires place { c.at + 1 + length more.now < 2 ^ 64 }
@@ -245,6 +246,7 @@ impl BlockReader {
     }
 
     /// Takes the sign that a word may have, and its digits.
+    #[inline(always)]
     #[tactic(auto, using(crate::proofs::Taking::front_char, crate::proofs::Taking::front_none))]
     fn sign<A: Alphabet>(&mut self, word: OpenWord, at: u64, bytes: &[u8]) -> Result<usize, BlockFault>
         requires place { at + length bytes.now < 2 ^ 64 }
@@ -271,6 +273,7 @@ impl BlockReader {
     }
 
     /// Takes the digits of a word.
+    #[inline(always)]
     #[tactic(auto, using(crate::proofs::Taking::taken_char, crate::proofs::Taking::taken_none, crate::proofs::Rooms::room_step, crate::proofs::Rooms::small))]
     fn digits<A: Alphabet>(&mut self, begun: OpenWord, at: u64, bytes: &[u8]) -> Result<usize, BlockFault>
         requires place { at + length bytes.now < 2 ^ 64 }
@@ -289,18 +292,18 @@ impl BlockReader {
             if !is_digit(ch) {
                 return Err(bad_block(place));
             }
-            let is_last = word.later == 0;
-            word = with_digit(word, Mark { at: place, ch });
-            if is_last {
-                self.word_end(word)?;
+            if word.later == 0 {
+                self.word_end(with_digit(word, Mark { at: place, ch }))?;
                 return Ok(count + 1);
             }
+            word = with_digit(word, Mark { at: place, ch });
         }
         self.want = Want::Digit(word);
         Ok(bytes.len())
     }
 
     /// Adds a word that has its last digit.
+    #[inline(always)]
     fn word_end(&mut self, word: OpenWord) -> Result<(), BlockFault>
         requires used { length self.old.words < self.old.used }
         requires small { word.size < 10 ^ 8 }
