@@ -1,5 +1,5 @@
 -- From the parts of the work to what a compile tells and leaves.
-use Rattle.std.proofs.Common.{◌≡◌, inl, inr, ℕ, ◌≤◌, List, [], ◌∷◌, Option, Some, None, Ok, ap, sym, ◌∙◌, refl, subst, arith}
+use Rattle.std.proofs.Common.{inl, inr, ℕ, ◌≤◌, List, [], ◌∷◌, Option, Some, None, Ok, ap, sym, ◌∙◌, refl, subst, arith}
 use Rattle.std.specs.Prelude.{◌≢◌}
 use Rattle.std.specs.FinMap.{insert}
 use Rattle.apt_shelf.specs.Told.{Contents, Steps}
@@ -12,7 +12,7 @@ use Rattle.apt_core.specs.Due.{ComesToNone}
 use Rattle.apt_core.specs.Inputs.{Files, AreRead, part_inputs, ReadsAll, IsShort, IsStopped}
 use Rattle.apt_core.specs.Outputs.{Output, output_due, IsOutput}
 use Rattle.apt_core.specs.Delivery.{with_output, WritesFront}
-use Rattle.apt_core.specs.Promise.{IsCompiled, Leaves, Delivers, Writes, Compiles}
+use Rattle.apt_core.specs.Promise.{IsCompiled, Leaves, Delivers, Compiles}
 use Rattle.apt_core.proofs.Outputs.{due_for}
 
 -- nothing is written

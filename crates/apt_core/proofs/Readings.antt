@@ -1,5 +1,5 @@
 -- Files that are read one after the other.
-use Rattle.std.proofs.Common.{◌≡◌, inl, inr, ℕ, ◌≤◌, List, [], ◌∷◌, Option, Some, None, ◌∙◌, subst, arith}
+use Rattle.std.proofs.Common.{inl, inr, ℕ, ◌≤◌, List, [], ◌∷◌, Option, Some, None, ◌∙◌, subst, arith}
 use Rattle.apt_shelf.specs.Told.{Contents, Rose, Lacks}
 use Rattle.apt_report.specs.declared.status.Status.{Status}
 use Rattle.apt_core.specs.Inputs.{Files, AreRead, Input, Reads, ReadsAll, IsUnread, IsFirstUnread, IsStopped}

@@ -1,5 +1,5 @@
 -- Where a CL file and a tape are right, nothing is missed.
-use Rattle.std.proofs.Common.{◌≡◌, inl, inr, ℕ, ◌≤◌, ◌<◌, List, [], ◌∷◌, length, Option, Some, None, Result, Ok, Err, ap, sym, ◌∙◌, refl, subst, arith}
+use Rattle.std.proofs.Common.{◌≡◌, inl, inr, ℕ, ◌≤◌, ◌<◌, List, [], ◌∷◌, length, Option, Some, None, Ok, sym, ◌∙◌, refl, subst, arith}
 use Rattle.std.proofs.lemmas.List.{append_cancel_left}
 use Rattle.std.specs.Prelude.{IsSomeAnd}
 use Rattle.std.specs.FinMap.{get}
@@ -21,7 +21,7 @@ use Rattle.apt_report.specs.declared.status.Miss.{Miss}
 use Rattle.apt_report.specs.declared.status.Miss.TheVariants as misses
 use Rattle.apt_core.specs.Words.{FourNames}
 use Rattle.apt_core.specs.Inputs.{Input, Reads, ReadsAll, IsUnread, IsFirstUnread, inputs}
-use Rattle.apt_core.specs.Certificates.{IsRight, HeadsDiffer, DifferAt, IsMiss, IsMissed, IsDone, Judged, judged, judged_due, IsJudgement}
+use Rattle.apt_core.specs.Certificates.{IsRight, HeadsDiffer, DifferAt, IsMiss, Judged, judged, judged_due, IsJudgement}
 use Rattle.apt_core.specs.Promise.{Judges}
 use Rattle.apt_core.proofs.Chains.{one_due}
 use Rattle.apt_core.proofs.Judging.{judged_for}

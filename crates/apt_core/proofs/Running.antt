@@ -1,18 +1,17 @@
 -- From the work and its line to the run, and where nothing outside fails.
-use Rattle.std.proofs.Common.{◌≡◌, inl, inr, ℕ, List, [], ◌∷◌, length, Option, Some, None, Result, Ok, Err, ap, sym, ◌∙◌, subst}
-use Rattle.apt_shelf.specs.Told.{Contents, Rose}
+use Rattle.std.proofs.Common.{◌≡◌, inl, inr, ℕ, List, [], ◌∷◌, length, Option, Some, None, Ok, ap, sym, ◌∙◌, subst}
+use Rattle.apt_shelf.specs.Told.{Contents}
 use Rattle.apt_certify.specs.declared.verdict.Verdict.{Verdict}
 use Rattle.apt_control.specs.declared.Act.{Act}
 use Rattle.apt_control.specs.Control.{control_run}
 use Rattle.apt_machine.specs.declared.machine.Machine.{Machine}
 use Rattle.apt_machine.specs.Tables.{table_of}
-use Rattle.apt_part.specs.Compilation.{Compiled, part_of}
 use Rattle.apt_report.specs.declared.status.Status.{Status}
 use Rattle.apt_report.specs.declared.status.Status.TheVariants as answers
 use Rattle.apt_report.specs.declared.status.Summary.TheVariants as summaries
 use Rattle.apt_core.specs.Words.{FourNames, TapeNames, Ask, Compile, Certify, Decode}
 use Rattle.apt_core.specs.Due.{OrNoMemory}
-use Rattle.apt_core.specs.Inputs.{Files, Input, part_inputs, inputs, tape_inputs, ReadsAll, IsFirstUnread, IsStopped}
+use Rattle.apt_core.specs.Inputs.{Input, part_inputs, inputs, tape_inputs, ReadsAll, IsFirstUnread, IsStopped}
 use Rattle.apt_core.specs.Outputs.{Output, output_of, output_due}
 use Rattle.apt_core.specs.Certificates.{IsRight}
 use Rattle.apt_core.specs.Decoding.{Said, said_of, acts_said, said_due}

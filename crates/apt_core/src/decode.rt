@@ -1,7 +1,6 @@
 //! The command `decode`.
 
 ghost use Rattle.std.specs.Prelude.{◌≤◌, length};
-ghost use Rattle.std.specs.Result.{result_map_both};
 ghost use Rattle.apt_core.specs.Decoding.{said_of, said_due, IsSaid};
 ghost use Rattle.apt_core.specs.Request.{tape_names};
 ghost use Rattle.apt_core.specs.Inputs.{files_on};
