@@ -18,7 +18,7 @@ fn cut(alloc: Global, x: i64, y: i64) -> Record {
 
 /// Records without points up to a number, and a record behind them.
 fn push_as(records: &mut Vec<Record>, seq: usize, record: Record) -> Result<(), AllocError> {
-    while records.len() + 1 < seq {
+    for _ in records.len() + 1..seq {
         records.push(Record::Statement { line: 1, step: 1 })?;
     }
     records.push(record)?;
