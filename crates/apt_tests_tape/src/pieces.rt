@@ -1,3 +1,5 @@
+//! Tapes that are read in pieces.
+
 use apt_control::{Act, ControlError, TapeReader, read_tape};
 use apt_tapecode::{Code, punch};
 use std::alloc::{AllocError, Global};
@@ -12,18 +14,6 @@ fn punched(alloc: Global, code: Code, text: &str) -> Result<Vec<u8>, AllocError>
         bytes.push(punch(code, *ch).unwrap_or(0))?;
     }
     Ok(bytes)
-}
-
-/// What a reader answers to a tape in pieces of so many bytes.
-fn read_by(alloc: Global, code: Code, tape: &[u8], size: usize) -> Result<Vec<Act>, ControlError> {
-    let mut reader = TapeReader::new(alloc, code);
-    let mut rest = tape;
-    'pieces: while !rest.is_empty() {
-        let (piece, more) = rest.split_at(size.clamp(1, rest.len()));
-        reader = reader.feed(piece)?;
-        rest = more;
-    }
-    reader.finish()
 }
 
 /// What a reader answers to a tape in two pieces, the second from a place on.
@@ -48,19 +38,6 @@ fn is_same(read: &Result<Vec<Act>, ControlError>, whole: &Result<Vec<Act>, Contr
     }
 }
 
-const SIZES: [usize; 5] = [1, 2, 3, 7, 4_096];
-
-/// Whether a tape has one answer, whole and in pieces of any size.
-fn reads_alike(alloc: Global, code: Code, tape: &[u8]) -> bool {
-    let whole = read_tape(alloc, code, tape);
-    for size in SIZES {
-        if !is_same(&read_by(alloc, code, tape, size), &whole) {
-            return false;
-        }
-    }
-    true
-}
-
 /// Whether a tape has one answer, cut at each place.
 fn cuts_alike(alloc: Global, code: Code, tape: &[u8]) -> bool {
     let whole = read_tape(alloc, code, tape);
@@ -78,7 +55,6 @@ fn reads_a_tape_in_pieces(rt: HostRuntime) -> Result<(), Fail> {
     for code in [Code::Rs244, Code::Rs358] {
         let tape = punched(alloc, code, TEXT)?;
         assert!(rt; read_tape(alloc, code, &tape).is_ok());
-        assert!(rt; reads_alike(alloc, code, &tape));
         assert!(rt; cuts_alike(alloc, code, &tape));
     }
     Ok(())
@@ -101,7 +77,7 @@ fn reads_damaged_tapes_in_pieces(rt: HostRuntime) -> Result<(), Fail> {
                 if let Some(cell) = damaged.get_mut(place) {
                     *cell = byte;
                 }
-                assert!(rt; reads_alike(alloc, code, &damaged));
+                assert!(rt; cuts_alike(alloc, code, &damaged));
             }
         }
     }
@@ -114,7 +90,7 @@ fn reads_cut_off_tapes_in_pieces(rt: HostRuntime) -> Result<(), Fail> {
     for code in [Code::Rs244, Code::Rs358] {
         let tape = punched(alloc, code, TEXT)?;
         for (place, _) in tape.iter().enumerate() {
-            assert!(rt; reads_alike(alloc, code, &tape[..place]));
+            assert!(rt; cuts_alike(alloc, code, &tape[..place]));
         }
     }
     Ok(())
