@@ -101,6 +101,38 @@ ask_of deeds.Loopnd = Nothing
 ask_of deeds.Jumpto = Nothing
 ask_of deeds.If = Nothing
 
+-- ---- what one asks of it
+
+-- what is said, where something is
+abbrev pub said_by : Ask → Option Saying
+said_by (Says saying) = Some saying
+said_by (Titles text) = None
+said_by (Sets side) = None
+said_by (Defines name form) = None
+said_by (Goes route) = None
+said_by (Cuts side go drive how check) = None
+said_by Nothing = None
+
+-- the name that is defined, and by what, where one is
+abbrev pub defined_by : Ask → Option (List ℕ × Form)
+defined_by (Defines name form) = Some (name, form)
+defined_by (Titles text) = None
+defined_by (Says saying) = None
+defined_by (Sets side) = None
+defined_by (Goes route) = None
+defined_by (Cuts side go drive how check) = None
+defined_by Nothing = None
+
+-- something is said, a name is defined, or nothing
+abbrev pub IsPlain : Ask → Type 0
+IsPlain (Says saying) = Unit {0}
+IsPlain (Defines name form) = Unit {0}
+IsPlain Nothing = Unit {0}
+IsPlain (Titles text) = ⊥
+IsPlain (Sets side) = ⊥
+IsPlain (Goes route) = ⊥
+IsPlain (Cuts side go drive how check) = ⊥
+
 -- ---- the numbers of an ask, in millionths, in their order
 
 abbrev pub listed : {A : Type 0} → Option A → List A

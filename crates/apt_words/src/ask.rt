@@ -1,7 +1,6 @@
 //! What steps ask for.
-ghost use Rattle.std.specs.Prelude.{◌≡◌};
-ghost use Rattle.apt_words.specs.Asks as asks;
-ghost use Rattle.apt_words.specs.Asks.{ask_of, seen};
+ghost use Rattle.std.specs.Prelude.{◌≡◌, Some};
+ghost use Rattle.apt_words.specs.Asks.{IsPlain, ask_of, defined_by, said_by, seen};
 
 use crate::{Cool, Deed, Go, Pick, Side, Stop, Symbol, Text, Turn, Units};
 
@@ -139,17 +138,40 @@ pub enum Ask<'a> {
 }
 
 impl Deed {
-    /// What the step asks for.
+    /// What the step has the CL file say, where it does.
     #[inline(always)]
     #[rattlefmt::skip]
-    pub fn ask(&self) -> Ask<'_>
-        ensures { seen result ≡ ask_of self.now }
+    pub fn saying(&self) -> Option<Saying>
+        ensures { result ≡ said_by (ask_of self.now) }
     {
         match self {
-            Deed::Partno(text) => Ask::Titles(text),
-            Deed::Remark(_) | Deed::Clprnt | Deed::Nopost | Deed::Machin => Ask::Nothing,
-            Deed::Units(units) => Ask::Says(Saying::Units(*units)),
-            Deed::Assign(n, v) => Ask::Defines(n.copied(), Form::Number(*v)),
+            Deed::Units(units) => Some(Saying::Units(*units)),
+            Deed::Cutter(v) => Some(Saying::Diameter(*v)),
+            Deed::Intol(v) => Some(Saying::Inward(*v)),
+            Deed::Outtol(v) => Some(Saying::Outward(*v)),
+            Deed::Rapid => Some(Saying::Rapid),
+            Deed::Halt => Some(Saying::Stop),
+            Deed::OptHalt => Some(Saying::OptStop),
+            Deed::EndWord => Some(Saying::End),
+            Deed::Fini => Some(Saying::Fini),
+            Deed::Fedrat(v) => Some(Saying::Feed(*v)),
+            Deed::Spindl(n, Turn::Cw) => Some(Saying::Clockwise(*n)),
+            Deed::Spindl(n, Turn::Ccw) => Some(Saying::Anticlockwise(*n)),
+            Deed::Spindl(_, Turn::Off) | Deed::SpindlOff => Some(Saying::SpindleOff),
+            Deed::Coolnt(cool) => Some(Saying::Coolant(*cool)),
+            Deed::Loadtl(n) => Some(Saying::Tool(*n)),
+            _ => None,
+        }
+    }
+
+    /// The name that the step defines, and by what, where it does.
+    #[inline(always)]
+    #[rattlefmt::skip]
+    pub fn definition(&self) -> Option<(Symbol, Form)>
+        ensures { result ≡ defined_by (ask_of self.now) }
+    {
+        match self {
+            Deed::Assign(n, v) => Some((n.copied(), Form::Number(*v))),
             Deed::PointXy(n, x, y, z) => point(n, PointForm::Xy(*x, *y, *z)),
             Deed::PointLines(n, a, b) => point(n, PointForm::Lines(a.copied(), b.copied())),
             Deed::PointPick(n, k, a, b) => point(n, PointForm::Picked(*k, a.copied(), b.copied())),
@@ -167,9 +189,18 @@ impl Deed {
             Deed::CircleTan(n, p, l) => circle(n, CircleForm::Along(p.copied(), l.copied())),
             Deed::CircleThrough(n, p, q) => circle(n, CircleForm::Through(p.copied(), q.copied())),
             Deed::CircleCorner(n, j, a, k, b, r) => circle(n, CircleForm::Corner(*j, a.copied(), *k, b.copied(), *r)),
-            Deed::Cutter(v) => Ask::Says(Saying::Diameter(*v)),
-            Deed::Intol(v) => Ask::Says(Saying::Inward(*v)),
-            Deed::Outtol(v) => Ask::Says(Saying::Outward(*v)),
+            _ => None,
+        }
+    }
+
+    /// What the step asks for.
+    #[inline(always)]
+    #[rattlefmt::skip]
+    pub fn ask(&self) -> Ask<'_>
+        ensures { seen result ≡ ask_of self.now }
+    {
+        match self {
+            Deed::Partno(text) => Ask::Titles(text),
             Deed::Tool(side) => Ask::Sets(*side),
             Deed::FromXy(x, y, z) => Ask::Goes(Route::From(Place::Xyz(*x, *y, *z))),
             Deed::FromPoint(p) => Ask::Goes(Route::From(Place::Named(p.copied()))),
@@ -178,39 +209,42 @@ impl Deed {
             Deed::Godlta(x, y, z) => Ask::Goes(Route::By(*x, *y, *z)),
             Deed::GoStart(how, s, other) => Ask::Goes(start(*how, s, other)),
             Deed::Contour(side, go, d, how, c) => Ask::Cuts(*side, *go, d.copied(), *how, c.copied()),
-            Deed::Rapid => Ask::Says(Saying::Rapid),
-            Deed::Halt => Ask::Says(Saying::Stop),
-            Deed::OptHalt => Ask::Says(Saying::OptStop),
-            Deed::EndWord => Ask::Says(Saying::End),
-            Deed::Fini => Ask::Says(Saying::Fini),
-            Deed::Fedrat(v) => Ask::Says(Saying::Feed(*v)),
-            Deed::Spindl(n, Turn::Cw) => Ask::Says(Saying::Clockwise(*n)),
-            Deed::Spindl(n, Turn::Ccw) => Ask::Says(Saying::Anticlockwise(*n)),
-            Deed::Spindl(_, Turn::Off) | Deed::SpindlOff => Ask::Says(Saying::SpindleOff),
-            Deed::Coolnt(cool) => Ask::Says(Saying::Coolant(*cool)),
-            Deed::Loadtl(n) => Ask::Says(Saying::Tool(*n)),
-            Deed::Macro | Deed::Termac | Deed::Call => Ask::Nothing,
-            Deed::Loopst | Deed::Loopnd | Deed::Jumpto | Deed::If => Ask::Nothing,
+            _ => self.plainly(),
+        }
+    }
+
+    /// What a step asks for that gives no title, sets no side, and neither goes nor cuts.
+    #[inline(always)]
+    fn plainly(&self) -> Ask<'_>
+        requires { IsPlain (ask_of self.now) }
+        ensures { seen result ≡ ask_of self.now }
+    {
+        if let Some(saying) = self.saying() {
+            return Ask::Says(saying);
+        }
+        match self.definition() {
+            Some((name, form)) => Ask::Defines(name, form),
+            None => Ask::Nothing,
         }
     }
 }
 
-fn point<'a>(name: &Symbol, form: PointForm) -> Ask<'a>
-    ensures { seen result ≡ asks.Defines name.now (Form.Point form) }
+fn point(name: &Symbol, form: PointForm) -> Option<(Symbol, Form)>
+    ensures { result ≡ Some (name.now, Form.Point form) }
 {
-    Ask::Defines(name.copied(), Form::Point(form))
+    Some((name.copied(), Form::Point(form)))
 }
 
-fn line<'a>(name: &Symbol, form: LineForm) -> Ask<'a>
-    ensures { seen result ≡ asks.Defines name.now (Form.Line form) }
+fn line(name: &Symbol, form: LineForm) -> Option<(Symbol, Form)>
+    ensures { result ≡ Some (name.now, Form.Line form) }
 {
-    Ask::Defines(name.copied(), Form::Line(form))
+    Some((name.copied(), Form::Line(form)))
 }
 
-fn circle<'a>(name: &Symbol, form: CircleForm) -> Ask<'a>
-    ensures { seen result ≡ asks.Defines name.now (Form.Circle form) }
+fn circle(name: &Symbol, form: CircleForm) -> Option<(Symbol, Form)>
+    ensures { result ≡ Some (name.now, Form.Circle form) }
 {
-    Ask::Defines(name.copied(), Form::Circle(form))
+    Some((name.copied(), Form::Circle(form)))
 }
 
 fn start(how: Stop, surface: &Symbol, other: &Option<(Stop, Symbol)>) -> Route
