@@ -68,7 +68,7 @@ fn job_verdict(job: &Job) -> Verdict
     ensures verdict { IsVerdict (job.now ∷ []) result }
     ensures motion { IfSome result.first_bad (λ bad. bad.motion ≡ 1) }
 {
-    path_verdict(&job.leg, job.out_sign, &job.points.at)
+    path_verdict(&job.leg, job.out_sign, &job.points.vertices)
 }
 
 #[tactic(auto, using(crate::proofs::Edges::track_fits))]

@@ -47,14 +47,14 @@ text_again i (b ∷ bs) h =
     let t = text_first b bs h in
     bind_again (text_byte i (pos b)) _ b _ (byte_again i b t.0) (bind_again (text_by (suc i) (map pos bs)) _ bs _ (text_again (suc i) bs t.1) refl)
 
-position_again : (i : ℕ) (p : Position) → IsPosition p → position_by i p.at.x p.at.y p.z ≡ Ok p
+position_again : (i : ℕ) (p : Position) → IsPosition p → position_by i p.xy.x p.xy.y p.z ≡ Ok p
 position_again i p h =
-    bind_again (point_at i p.at.x p.at.y) _ p.at _ (point_again i p.at h.at) (bind_again (coordinate (i + 2) p.z) _ p.z _ (coordinate_again (i + 2) p.z h.z) refl)
+    bind_again (point_at i p.xy.x p.xy.y) _ p.xy _ (point_again i p.xy h.xy) (bind_again (coordinate (i + 2) p.z) _ p.z _ (coordinate_again (i + 2) p.z h.z) refl)
 
 positions_again : (i : ℕ) (ps : List Position) → ArePositions ps → positions_by i (flat_map position_words ps) ≡ Ok ps
 positions_again i [] h = refl
 positions_again i (p ∷ ps) h =
-    bind_again (position_by i p.at.x p.at.y p.z) _ p _ (position_again i p h.0)
+    bind_again (position_by i p.xy.x p.xy.y p.z) _ p _ (position_again i p h.0)
     (bind_again (positions_by (i + 3) (flat_map position_words ps)) _ ps _ (positions_again (i + 3) ps h.1) refl)
 
 pub triples_length : (ps : List Position) → length (flat_map position_words ps) ≡ 3 * length ps
@@ -99,7 +99,7 @@ unfolding check_at
 check_again s kind a b c d how e = bind_again (surface_by kind a b c d) _ s _ e (check_on_again s how)
 
 reached_again : (reach : Reach) (p : Position) → IsPosition p → reached_by reach (position_words p) ≡ Ok (records.Point reach p)
-reached_again reach p h = bind_again (position_by 0 p.at.x p.at.y p.z) _ p _ (position_again 0 p h) refl
+reached_again reach p h = bind_again (position_by 0 p.xy.x p.xy.y p.z) _ p _ (position_again 0 p h) refl
 
 number_again : (least most n : ℤ) (note : ℤ → Note) → IsFromTo least most n → (number_alone least most (n ∷ []) >>= λ n. Ok (records.Note (note n))) ≡ Ok (records.Note (note n))
 number_again least most n note h = bind_again (from_to least most 0 n) _ n _ (from_to_again least most 0 n h) refl

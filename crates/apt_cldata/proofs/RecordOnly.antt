@@ -221,8 +221,8 @@ position_only i x y z p e =
     let b = bind_only (coordinate (i + 2) z) _ p a.2 in
     let h = point_only i x y a.0 a.1 in
     let k = coordinate_only (i + 2) z b.0 b.1 in
-    let same : record { at = a.0; z = b.0 } ≡ p = cc in
-    subst (λ p. (position_words p ≡ x ∷ y ∷ z ∷ []) × IsPosition p) same ((λ i. h.0 i ∷ h.1 i ∷ sym k.0 i ∷ []), record { at = h.2; z = subst (λ n. unsigned_abs n ≤ 50000000) k.0 k.1 })
+    let same : record { xy = a.0; z = b.0 } ≡ p = cc in
+    subst (λ p. (position_words p ≡ x ∷ y ∷ z ∷ []) × IsPosition p) same ((λ i. h.0 i ∷ h.1 i ∷ sym k.0 i ∷ []), record { xy = h.2; z = subst (λ n. unsigned_abs n ≤ 50000000) k.0 k.1 })
 
 reached_only : (reach : Reach) (ws : List ℤ) (r : Record) → reached_by reach ws ≡ Ok r → Says (pos 5000) (reach_word reach) ws r
 reached_only reach [] r e = absurd (cc)

@@ -51,7 +51,7 @@ text_fits (b ∷ bs) h = let t = text_first b bs h in (fits_pos b (text_byte_sma
 
 positions_fit : (ps : List Position) → ArePositions ps → AllFit (flat_map position_words ps)
 positions_fit [] h = tt
-positions_fit (p ∷ ps) h = (fits_sized p.at.x (omega (arith, h.0.at.x)), (fits_sized p.at.y (omega (arith, h.0.at.y)), (fits_sized p.z (omega (arith, h.0.z)), positions_fit ps h.1)))
+positions_fit (p ∷ ps) h = (fits_sized p.xy.x (omega (arith, h.0.xy.x)), (fits_sized p.xy.y (omega (arith, h.0.xy.y)), (fits_sized p.z (omega (arith, h.0.z)), positions_fit ps h.1)))
 
 units_fit : (u : Units) → FitsSigned w64 (units_word u)
 units_fit units.Inch = fits_pos 1 (lit≤ tt)
@@ -120,5 +120,5 @@ words_fit (records.Statement line step) h = (fits_pos 1000 (lit≤ tt), (fits_po
 words_fit (records.Note note) h = note_fits note h
 words_fit (records.Drive s side sense) h = (fits_pos 3000 (lit≤ tt), (fits_pos 1 (lit≤ tt), (surface_fits s (side_word side ∷ sense ∷ []) h.0 (side_fits side, (sense_fits sense h.1, tt)))))
 words_fit (records.Check s how) h = (fits_pos 3000 (lit≤ tt), (fits_pos 2 (lit≤ tt), (surface_fits s (stop_word how ∷ []) h (stop_fits how, tt))))
-words_fit (records.Point reach p) h = (fits_pos 5000 (lit≤ tt), (reach_fits reach, (fits_sized p.at.x (omega (arith, h.at.x)), (fits_sized p.at.y (omega (arith, h.at.y)), (fits_sized p.z (omega (arith, h.z)), tt)))))
+words_fit (records.Point reach p) h = (fits_pos 5000 (lit≤ tt), (reach_fits reach, (fits_sized p.xy.x (omega (arith, h.xy.x)), (fits_sized p.xy.y (omega (arith, h.xy.y)), (fits_sized p.z (omega (arith, h.z)), tt)))))
 words_fit (records.Contour ps) h = (fits_pos 5000 (lit≤ tt), (fits_pos 5 (lit≤ tt), (positions_fit ps h.1)))

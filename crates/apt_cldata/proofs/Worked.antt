@@ -88,7 +88,7 @@ abbrev circle : Surface
 circle = surfaces.Circ (record { c = record { x = pos 5; y = pos 6 }; r = pos 100 })
 
 abbrev at : ℤ → ℤ → ℤ → Position
-at x y z = record { at = record { x = x; y = y }; z = z }
+at x y z = record { xy = record { x = x; y = y }; z = z }
 
 notes_in_words :
     map note_words (notes.Partno (codes "AB") ∷ notes.Rapid ∷ notes.Stop ∷ notes.OptStop ∷ notes.End ∷ notes.Feed (pos 60) ∷ [])

@@ -12,7 +12,7 @@ use Rattle.apt_cldata.specs.declared.record.Record.TheVariants as records
 
 -- a position within the coordinate limit
 pub record IsPosition (p : Position) : Type 0 where
-  pub at : IsPoint p.at
+  pub xy : IsPoint p.xy
   pub z : unsigned_abs p.z ≤ 50000000
 
 -- from one number up to another

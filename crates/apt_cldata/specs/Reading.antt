@@ -107,7 +107,7 @@ behind_head at (h ∷ hs) (b ∷ bytes) = if b == h then behind_head (at + 1) hs
 unfoldable pub read_of : List ℕ → Result (List Record) ClFault
 read_of bytes = behind_head 0 head bytes >>= λ rest. records_from (length bytes) 1 (length head) rest
 
--- an error is the fault that is met, or memory ran out
-abbrev pub IsFault : {A : Type 0} → Result A ClFault → ClError → Type 0
-IsFault r errors.NoMemory = Unit {0}
-IsFault r (errors.Bad at cause) = r ≡ Err (fault at cause)
+-- the fault that an error tells
+abbrev pub told : ClError → Option ClFault
+told (errors.Bad at cause) = Some (fault at cause)
+told errors.NoMemory = None

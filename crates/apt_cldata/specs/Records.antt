@@ -136,7 +136,7 @@ surface_record_by sub ws =
 
 -- the position whose first word has an index
 abbrev pub position_by : ℕ → ℤ → ℤ → ℤ → Result Position Misfit
-position_by i x y z = point_at i x y >>= λ at. coordinate (i + 2) z >>= λ z. Ok (record { at = at; z = z })
+position_by i x y z = point_at i x y >>= λ xy. coordinate (i + 2) z >>= λ z. Ok (record { xy = xy; z = z })
 
 abbrev pub reached_by : Reach → List ℤ → Result Record Misfit
 reached_by reach (x ∷ y ∷ z ∷ []) = position_by 0 x y z >>= λ to. Ok (records.Point reach to)

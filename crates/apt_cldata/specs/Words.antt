@@ -53,7 +53,7 @@ reach_word reaches.Godlta = pos 3
 reach_word reaches.Start = pos 4
 
 abbrev pub position_words : Position → List ℤ
-position_words p = p.at.x ∷ p.at.y ∷ p.z ∷ []
+position_words p = p.xy.x ∷ p.xy.y ∷ p.z ∷ []
 
 -- a surface's kind and its four numbers
 abbrev pub surface_words : Surface → List ℤ

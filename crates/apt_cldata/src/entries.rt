@@ -265,7 +265,7 @@ fn position_by(i: u32, x: i64, y: i64, z: i64) -> Result<Position, Misfit>
 {
     let at = point_at(i, x, y)?;
     let z = coordinate(i + 2, z)?;
-    Ok(Position { at, z })
+    Ok(Position { xy, z })
 }
 
 fn reached_by(reach: Reach, words: &[i64]) -> Result<Record, Misfit>

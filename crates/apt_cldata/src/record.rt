@@ -11,7 +11,7 @@ use std::marker::Model;
 /// A point and its height, in grid units.
 #[derive(Clone, Copy, PartialEq, Eq)]
 pub struct Position {
-    pub at: Pt,
+    pub xy: Pt,
     pub z: i64,
 }
 
@@ -19,7 +19,7 @@ pub struct Position {
 impl Default for Position {
     fn default() -> Position {
         Position {
-            at: Pt { x: 0, y: 0 },
+            xy: Pt { x: 0, y: 0 },
             z: 0,
         }
     }

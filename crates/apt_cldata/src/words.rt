@@ -150,8 +150,8 @@ fn push_position(bytes: &mut Vec<u8>, p: Position)
     ensures len { vec_len bytes.new ≡ vec_len bytes.old + 24 }
     ensures capacity { vec_capacity bytes.new ≡ vec_capacity bytes.old }
 {
-    push_word(bytes, p.at.x);
-    push_word(bytes, p.at.y);
+    push_word(bytes, p.xy.x);
+    push_word(bytes, p.xy.y);
     push_word(bytes, p.z);
 }
 
@@ -172,7 +172,7 @@ fn surface_rows(surface: &Surface) -> [[u8; 8]; 5]
 fn position_rows(p: Position) -> [[u8; 8]; 3]
     ensures { result ≡ map files.word_bytes (spec.position_words p) }
 {
-    [row(p.at.x), row(p.at.y), row(p.z)]
+    [row(p.xy.x), row(p.xy.y), row(p.z)]
 }
 
 fn units_word(units: Units) -> i64

@@ -10,7 +10,8 @@ use Rattle.apt_block.proofs.Taking.{first_taken, taken_some}
 use Rattle.apt_control.specs.declared.walk.Phase.TheVariants as phases
 use Rattle.apt_control.specs.declared.error.ControlError.{ControlError}
 use Rattle.apt_control.specs.declared.error.ControlError.TheVariants as errors
-use Rattle.apt_control.specs.Answers.{IsStep, IsFront}
+use Rattle.apt_words.specs.Answers.{IsDueAs}
+use Rattle.apt_control.specs.Answers.{IsFront, told}
 use Rattle.apt_control.specs.Control.{MeaningOf}
 use Rattle.apt_control.specs.Walk.{Walk, words_step, character_step, block_step, character_as, character_of, reached, AtCharacter, byte_as, byte_step, byte_steps}
 
@@ -92,7 +93,7 @@ is_front means s (byte ∷ bytes) is = front_character means s byte is.character
 
 -- the walk goes on behind the characters that are taken, or the meaning of their block is refused
 pub front_reached : {H A : Type 0} (means : MeaningOf H A) (s now : Walk H A) (bytes : List ℕ) (b : FrontPart) (n : ℕ) (result : Result ℕ ControlError) → AtCharacter s bytes
-    → taken (character_of s.code) s.block s.count bytes ≡ stopped b (s.count + n) (drop n bytes) → IsStep (reached means (record s { block = b }) (s.count + n)) now result
+    → taken (character_of s.code) s.block s.count bytes ≡ stopped b (s.count + n) (drop n bytes) → IsDueAs (λ _. now) told (reached means (record s { block = b }) (s.count + n)) result
     → IfOk result (λ m. m ≡ n) → IsFront means (byte_steps means s bytes) now bytes result
 front_reached means s now bytes b n (Ok m) is read end same =
     ap (λ m. byte_steps means now (drop m bytes)) same

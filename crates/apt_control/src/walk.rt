@@ -2,7 +2,8 @@
 
 ghost use Rattle.std.specs.Prelude.{◌≡◌, ◌≢◌, ◌+◌, ◌-◌, ◌<◌, ◌≤◌, ◌^◌, ◌++◌, [], ℕ, List, Err, false, length, IfOk};
 ghost use Rattle.apt_block.specs.Machine as machine;
-ghost use Rattle.apt_control.specs.Answers.{IsAnswer, IsFront, IsMeaning, IsStep};
+ghost use Rattle.apt_words.specs.Answers.{IsDue, IsDueAs};
+ghost use Rattle.apt_control.specs.Answers.{IsFront, IsMeaning, told};
 ghost use Rattle.apt_control.specs.Control.{MeaningOf};
 ghost use Rattle.apt_control.specs.Control as spec;
 ghost use Rattle.apt_control.specs.Pieces as pieces;
@@ -87,7 +88,7 @@ impl<H: Control> ControlReader<H> {
     #[tactic(auto, using(crate::proofs::Pieces::fed_whole))]
     pub fn feed(self, piece: &[u8]) -> Result<ControlReader<H>, ControlError>
         requires { self.count + length piece.now < 2 ^ 64 }
-        ensures walk { IsAnswer (λ r. r) result (walk.byte_steps H.means self piece.now) }
+        ensures walk { IsDue told (walk.byte_steps H.means self piece.now) result }
         ensures count { IfOk result (λ r. r.count ≡ self.count + length piece.now) }
         ensures stands { (front : List ℕ) → pieces.StandsFor H.means H.start self front → IfOk result (λ r. pieces.StandsFor H.means H.start r (front ++ piece.now)) }
         ensures whole { (front more : List ℕ) → pieces.StandsFor H.means H.start self front → pieces.RefusesAs result (spec.tape_run H.means H.start self.code (front ++ piece.now ++ more)) }
@@ -98,7 +99,7 @@ impl<H: Control> ControlReader<H> {
 
     fn all_bytes(self, piece: &[u8]) -> Result<ControlReader<H>, ControlError>
         requires { self.count + length piece.now < 2 ^ 64 }
-        ensures walk { IsAnswer (λ r. r) result (walk.byte_steps H.means self piece.now) }
+        ensures walk { IsDue told (walk.byte_steps H.means self piece.now) result }
         ensures count { IfOk result (λ r. r.count ≡ self.count + length piece.now) }
     {
         let mut reader = self;
@@ -130,7 +131,7 @@ impl<H: Control> ControlReader<H> {
     fn byte(&mut self, byte: u8) -> Result<(), ControlError>
         requires phase { self.old.phase ≢ Phase.InBlock }
         requires count { self.old.count < 2 ^ 64 - 1 }
-        ensures step { IsStep (walk.byte_step H.means self.old byte) self.new result }
+        ensures step { IsDueAs (λ _. self.new) told (walk.byte_step H.means self.old byte) result }
         ensures count { IfOk result (λ _. self.new.count ≡ self.old.count + 1) }
     {
         if let Phase::BehindEnd = self.phase {
@@ -198,7 +199,7 @@ impl<H: Control> ControlReader<H> {
     fn reach(&mut self, count: usize) -> Result<usize, ControlError>
         requires some { 0 < count }
         requires place { self.old.count + count < 2 ^ 64 }
-        ensures step { IsStep (walk.reached H.means self.old (self.old.count + count)) self.new result }
+        ensures step { IsDueAs (λ _. self.new) told (walk.reached H.means self.old (self.old.count + count)) result }
         ensures same { IfOk result (λ n. n ≡ count) }
         ensures count { IfOk result (λ _. self.new.count ≡ self.old.count + count) }
     {
@@ -214,7 +215,7 @@ impl<H: Control> ControlReader<H> {
     /// Gives the words of a block its meaning, whose end of block is at a place.
     fn block_end(&mut self, at: u64) -> Result<(), ControlError>
         requires { at < 2 ^ 64 - 1 }
-        ensures step { IsStep (walk.words_step H.means (record self.old { count = at }) self.old.block.words) self.new result }
+        ensures step { IsDueAs (λ _. self.new) told (walk.words_step H.means (record self.old { count = at }) self.old.block.words) result }
         ensures count { IfOk result (λ _. self.new.count ≡ at + 1) }
     {
         let ends = self.held.meaning(at, self.block.words(), &mut self.acts)?;
@@ -231,14 +232,14 @@ impl<H: Control> ControlReader<H> {
     /// The acts of all bytes: a tape that has not started, or not ended, is refused.
     #[tactic(auto, using(crate::proofs::Pieces::finished_run))]
     pub fn finish(self) -> Result<Vec<H::Act>, ControlError>
-        ensures outcome { IsAnswer (λ v. v.items) result (walk.outcome self) }
-        ensures run { (front : List ℕ) → pieces.StandsFor H.means H.start self front → IsAnswer (λ v. v.items) result (spec.tape_run H.means H.start self.code front) }
+        ensures outcome { IsDueAs (λ v. v.items) told (walk.outcome self) result }
+        ensures run { (front : List ℕ) → pieces.StandsFor H.means H.start self front → IsDueAs (λ v. v.items) told (spec.tape_run H.means H.start self.code front) result }
     {
         self.outcome()
     }
 
     fn outcome(self) -> Result<Vec<H::Act>, ControlError>
-        ensures { IsAnswer (λ v. v.items) result (walk.outcome self) }
+        ensures { IsDueAs (λ v. v.items) told (walk.outcome self) result }
     {
         match self.phase {
             Phase::BeforeStart => Err(self.bad(TapeCause::NoStart)),
@@ -308,7 +309,7 @@ pub fn acts_of<H: Control>(
     code: Code,
     tape: &[u8],
 ) -> Result<Vec<H::Act>, ControlError>
-    ensures { IsAnswer (λ v. v.items) result (spec.tape_run H.means H.start code tape.now) }
+    ensures { IsDueAs (λ v. v.items) told (spec.tape_run H.means H.start code tape.now) result }
 {
     let reader: ControlReader<H> = ControlReader::new(alloc, code);
     let reader = reader.feed(tape)?;

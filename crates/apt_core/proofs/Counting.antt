@@ -33,16 +33,16 @@ job_segments (effects.Sets change) vertices more may = rw may (omega arith)
 job_segments (effects.Moves reach to) vertices more may = rw may (omega arith)
 job_segments (effects.Cuts m) vertices more may = omega arith
 
-pub makes_segments : (at : Situation) (steps : List Step) (written : List Record) (jobs : List Job) → MakesJobs at steps written jobs → segment_count jobs ≡ segments written
-makes_segments at [] written jobs makes = rw (makes.0, makes.1) refl
-makes_segments at (step ∷ steps) written jobs makes =
+pub makes_segments : (here : Situation) (steps : List Step) (written : List Record) (jobs : List Job) → MakesJobs here steps written jobs → segment_count jobs ≡ segments written
+makes_segments here [] written jobs makes = rw (makes.0, makes.1) refl
+makes_segments here (step ∷ steps) written jobs makes =
     let e = makes.0 in
     let vertices = makes.1 in
     let rest = makes.2 in
     let more = makes.3 in
     let begins = makes.4 in
-    let here = job_segments e vertices more begins.may in
+    let ours = job_segments e vertices more begins.may in
     let written_here = effect_segments step e vertices begins.may in
-    let later = makes_segments (after at e vertices) steps rest more makes.6 in
-    let both : segment_count (jobs_by e vertices ++ more) ≡ segments (records_of step e vertices ++ rest) = omega (arith, here, written_here, later, segments-append (records_of step e vertices) rest) in
+    let later = makes_segments (after here e vertices) steps rest more makes.6 in
+    let both : segment_count (jobs_by e vertices ++ more) ≡ segments (records_of step e vertices ++ rest) = omega (arith, ours, written_here, later, segments-append (records_of step e vertices) rest) in
     ap segment_count makes.5 ∙ both ∙ sym (ap segments begins.front)

@@ -71,26 +71,26 @@ circle_drawn P (Err e) more = tt
 
 place_of : (P : Pt → Type 0) (o : Option Figure) → IsOkAnd ((defined o >>= as_place) >>= λ p. Ok p.0) P → IsSomeAnd o (IsPlaceOf P)
 place_of P None h = absurd h
-place_of P (Some (figures.Point at z)) h = h
+place_of P (Some (figures.Point xy z)) h = h
 place_of P (Some (figures.Shape s)) h = absurd h
 place_of P (Some figures.Scalar) h = absurd h
 
 surface_of : (P : Surface → Type 0) (o : Option Figure) → IsOkAnd (defined o >>= as_surface) P → IsSomeAnd o (IsSurfaceOf P)
 surface_of P None h = absurd h
-surface_of P (Some (figures.Point at z)) h = absurd h
+surface_of P (Some (figures.Point xy z)) h = absurd h
 surface_of P (Some (figures.Shape s)) h = h
 surface_of P (Some figures.Scalar) h = absurd h
 
 line_of : (P : Line → Type 0) (o : Option Figure) → IsOkAnd ((defined o >>= as_surface) >>= as_line) P → IsSomeAnd o (IsLineOf P)
 line_of P None h = absurd h
-line_of P (Some (figures.Point at z)) h = absurd h
+line_of P (Some (figures.Point xy z)) h = absurd h
 line_of P (Some (figures.Shape (surfaces.Line l))) h = h
 line_of P (Some (figures.Shape (surfaces.Circ k))) h = absurd h
 line_of P (Some figures.Scalar) h = absurd h
 
 circle_of_name : (P : Circ → Type 0) (o : Option Figure) → IsOkAnd ((defined o >>= as_surface) >>= as_circle) P → IsSomeAnd o (IsCircleOf P)
 circle_of_name P None h = absurd h
-circle_of_name P (Some (figures.Point at z)) h = absurd h
+circle_of_name P (Some (figures.Point xy z)) h = absurd h
 circle_of_name P (Some (figures.Shape (surfaces.Line l))) h = absurd h
 circle_of_name P (Some (figures.Shape (surfaces.Circ k))) h = h
 circle_of_name P (Some figures.Scalar) h = absurd h

@@ -66,12 +66,12 @@ defined_in None is = tt
 defined_in (Some f) is = is
 
 as_place_in : (f : Figure) → IsFigure f → IfOk (as_place f) (λ p. IsPointAtHeight p.0 p.1)
-as_place_in (figures.Point at z) is = is
+as_place_in (figures.Point xy z) is = is
 as_place_in (figures.Shape s) is = tt
 as_place_in figures.Scalar is = tt
 
 as_surface_in : (f : Figure) → IsFigure f → IfOk (as_surface f) IsSurface
-as_surface_in (figures.Point at z) is = tt
+as_surface_in (figures.Point xy z) is = tt
 as_surface_in (figures.Shape s) is = is
 as_surface_in figures.Scalar is = tt
 
@@ -90,7 +90,7 @@ place_in : (t : Table) (n : List ℕ) → AreFigures t → IfOk (place_named t n
 place_in t n are = then_in IsFigure (λ p. IsPointAtHeight p.0 p.1) (defined (figure_named t n)) as_place (named_in t n are) as_place_in
 
 pub point_in : (t : Table) (n : List ℕ) → AreFigures t → IfOk (point_named t n) IsPoint
-point_in t n are = then_in (λ p. IsPointAtHeight p.0 p.1) IsPoint (place_named t n) (λ p. Ok p.0) (place_in t n are) (λ p is. is.at)
+point_in t n are = then_in (λ p. IsPointAtHeight p.0 p.1) IsPoint (place_named t n) (λ p. Ok p.0) (place_in t n are) (λ p is. is.xy)
 
 pub surface_in : (t : Table) (n : List ℕ) → AreFigures t → IfOk (surface_named t n) IsSurface
 surface_in t n are = then_in IsFigure IsSurface (defined (figure_named t n)) as_surface (named_in t n are) as_surface_in
@@ -189,7 +189,7 @@ corner_in l pick_a m pick_b r =
 -- ---- figures
 
 a_point_in : (p : Pt) → IsPoint p → IfOk (a_point p) IsFigure
-a_point_in p is = record { at = is; z = omega (arith, ints) }
+a_point_in p is = record { xy = is; z = omega (arith, ints) }
 
 both_in : (meeting : ℤ → Result Pt FormFault) → ((sigma : ℤ) → IfOk (meeting sigma) IsPoint) → IfOk (both_meetings meeting) (λ m. IsPoint m.0 × IsPoint m.1)
 both_in meeting is =
@@ -236,7 +236,7 @@ circle_formed (Err e) is = tt
 point_xy_in : (units : Units) (x y : ℤ) (z : Option ℤ) → IfOk (point_xy units x y z) IsFigure
 point_xy_in units x y z =
     then_in IsPoint IsFigure (point_by units x y) (λ p. height_by units z >>= λ h. Ok (figures.Point p h)) (point_by_in units x y)
-    (λ p is. then_in IsShort IsFigure (height_by units z) (λ h. Ok (figures.Point p h)) (height_in units z) (λ h is_h. record { at = is; z = is_h }))
+    (λ p is. then_in IsShort IsFigure (height_by units z) (λ h. Ok (figures.Point p h)) (height_in units z) (λ h is_h. record { xy = is; z = is_h }))
 
 point_lines_in : (t : Table) (a b : List ℕ) → IfOk (point_lines t a b) IsFigure
 point_lines_in t a b =

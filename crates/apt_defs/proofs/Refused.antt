@@ -32,26 +32,26 @@ refusal (Err c) = Some c
 
 as_point_case : (o : Option Figure) → refusal ((defined o >>= as_place) >>= λ p. Ok p.0) ≡ kind_case APoint o
 as_point_case None = refl
-as_point_case (Some (figures.Point at z)) = refl
+as_point_case (Some (figures.Point xy z)) = refl
 as_point_case (Some (figures.Shape s)) = refl
 as_point_case (Some figures.Scalar) = refl
 
 as_surface_case : (o : Option Figure) → refusal (defined o >>= as_surface) ≡ kind_case ASurface o
 as_surface_case None = refl
-as_surface_case (Some (figures.Point at z)) = refl
+as_surface_case (Some (figures.Point xy z)) = refl
 as_surface_case (Some (figures.Shape s)) = refl
 as_surface_case (Some figures.Scalar) = refl
 
 as_line_case : (o : Option Figure) → refusal ((defined o >>= as_surface) >>= as_line) ≡ kind_case ALine o
 as_line_case None = refl
-as_line_case (Some (figures.Point at z)) = refl
+as_line_case (Some (figures.Point xy z)) = refl
 as_line_case (Some (figures.Shape (surfaces.Line l))) = refl
 as_line_case (Some (figures.Shape (surfaces.Circ c))) = refl
 as_line_case (Some figures.Scalar) = refl
 
 as_circle_case : (o : Option Figure) → refusal ((defined o >>= as_surface) >>= as_circle) ≡ kind_case ACircle o
 as_circle_case None = refl
-as_circle_case (Some (figures.Point at z)) = refl
+as_circle_case (Some (figures.Point xy z)) = refl
 as_circle_case (Some (figures.Shape (surfaces.Line l))) = refl
 as_circle_case (Some (figures.Shape (surfaces.Circ c))) = refl
 as_circle_case (Some figures.Scalar) = refl

@@ -35,29 +35,29 @@ use Rattle.apt_defs.specs.Definitions.{IsNoDefinition}
 
 -- a point at any height
 abbrev pub IsPlaceOf : (Pt → Type 0) → Figure → Type 0
-IsPlaceOf P (figures.Point at z) = P at
+IsPlaceOf P (figures.Point xy z) = P xy
 IsPlaceOf P (figures.Shape s) = ⊥
 IsPlaceOf P figures.Scalar = ⊥
 
 -- a point at height 0
 abbrev pub IsPointOf : (Pt → Type 0) → Figure → Type 0
-IsPointOf P (figures.Point at z) = (z ≡ pos 0) × P at
+IsPointOf P (figures.Point xy z) = (z ≡ pos 0) × P xy
 IsPointOf P (figures.Shape s) = ⊥
 IsPointOf P figures.Scalar = ⊥
 
 abbrev pub IsSurfaceOf : (Surface → Type 0) → Figure → Type 0
-IsSurfaceOf P (figures.Point at z) = ⊥
+IsSurfaceOf P (figures.Point xy z) = ⊥
 IsSurfaceOf P (figures.Shape s) = P s
 IsSurfaceOf P figures.Scalar = ⊥
 
 abbrev pub IsLineOf : (Line → Type 0) → Figure → Type 0
-IsLineOf P (figures.Point at z) = ⊥
+IsLineOf P (figures.Point xy z) = ⊥
 IsLineOf P (figures.Shape (surfaces.Line l)) = P l
 IsLineOf P (figures.Shape (surfaces.Circ k)) = ⊥
 IsLineOf P figures.Scalar = ⊥
 
 abbrev pub IsCircleOf : (Circ → Type 0) → Figure → Type 0
-IsCircleOf P (figures.Point at z) = ⊥
+IsCircleOf P (figures.Point xy z) = ⊥
 IsCircleOf P (figures.Shape (surfaces.Line l)) = ⊥
 IsCircleOf P (figures.Shape (surfaces.Circ k)) = P k
 IsCircleOf P figures.Scalar = ⊥
@@ -92,7 +92,7 @@ IsHeight units (Some z) h = h ≡ grid_units units z
 
 -- a point where its numbers put it
 abbrev pub IsWritten : Units → ℤ → ℤ → Option ℤ → Figure → Type 0
-IsWritten units x y z (figures.Point at h) = IsAt units x y at × IsHeight units z h
+IsWritten units x y z (figures.Point xy h) = IsAt units x y xy × IsHeight units z h
 IsWritten units x y z (figures.Shape s) = ⊥
 IsWritten units x y z figures.Scalar = ⊥
 

@@ -34,12 +34,12 @@ defined (Some f) = Ok f
 
 -- a point with its height
 abbrev pub as_place : Figure → Result (Pt × ℤ) Case
-as_place (figures.Point at z) = Ok (at, z)
+as_place (figures.Point xy z) = Ok (xy, z)
 as_place (figures.Shape s) = Err cases.WrongKind
 as_place figures.Scalar = Err cases.WrongKind
 
 abbrev pub as_surface : Figure → Result Surface Case
-as_surface (figures.Point at z) = Err cases.WrongKind
+as_surface (figures.Point xy z) = Err cases.WrongKind
 as_surface (figures.Shape s) = Ok s
 as_surface figures.Scalar = Err cases.WrongKind
 
@@ -69,12 +69,12 @@ circle_named table name = surface_named table name >>= as_circle
 -- ---- ranges
 
 pub record IsPointAtHeight (p : Pt) (h : ℤ) : Type 0 where
-  pub at : IsPoint p
+  pub xy : IsPoint p
   pub z : unsigned_abs h ≤ 50000000
 
 -- a figure in its range, in grid units
 abbrev pub IsFigure : Figure → Type 0
-IsFigure (figures.Point at z) = IsPointAtHeight at z
+IsFigure (figures.Point xy z) = IsPointAtHeight xy z
 IsFigure (figures.Shape s) = IsSurface s
 IsFigure figures.Scalar = Unit {0}
 

@@ -27,18 +27,18 @@ pub data Kind : Type 0 where
 
 -- whether a figure is of a kind
 abbrev pub is_kind : Kind → Figure → Bool
-is_kind APoint (figures.Point at z) = true
+is_kind APoint (figures.Point xy z) = true
 is_kind APoint (figures.Shape s) = false
 is_kind APoint figures.Scalar = false
-is_kind ALine (figures.Point at z) = false
+is_kind ALine (figures.Point xy z) = false
 is_kind ALine (figures.Shape (surfaces.Line l)) = true
 is_kind ALine (figures.Shape (surfaces.Circ c)) = false
 is_kind ALine figures.Scalar = false
-is_kind ACircle (figures.Point at z) = false
+is_kind ACircle (figures.Point xy z) = false
 is_kind ACircle (figures.Shape (surfaces.Line l)) = false
 is_kind ACircle (figures.Shape (surfaces.Circ c)) = true
 is_kind ACircle figures.Scalar = false
-is_kind ASurface (figures.Point at z) = false
+is_kind ASurface (figures.Point xy z) = false
 is_kind ASurface (figures.Shape s) = true
 is_kind ASurface figures.Scalar = false
 

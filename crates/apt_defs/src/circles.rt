@@ -57,8 +57,8 @@ pub fn circle_by_point(table: &Table, p: &Symbol, q: &Symbol) -> Result<Figure, 
     ensures range { IfOk result IsFigure }
 {
     let centre = point_named(table, p)?;
-    let at = point_named(table, q)?;
-    circle_formed(circle_through(centre, at))
+    let through = point_named(table, q)?;
+    circle_formed(circle_through(centre, through))
 }
 
 pub fn circle_corner(

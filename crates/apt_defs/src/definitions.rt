@@ -20,7 +20,7 @@ use crate::lines::{
 };
 use crate::points::{centre_point, point_lines, point_pick, point_xy};
 use crate::table::Table;
-use apt_words::{Ask, Case, CircleForm, Form, LineForm, PointForm, Step, Symbol, Units};
+use apt_words::{Case, CircleForm, Form, LineForm, PointForm, Step, Symbol, Units};
 use std::alloc::AllocError;
 
 /// Why a definition is not made.
@@ -157,12 +157,11 @@ fn define_if_asked(step: &Step, units: Units, table: &mut Table) -> Result<bool,
     ensures refused { (case : Case) → IsErrOf result (DefError.Case case) ↔ IsRefusedBy units table.old step.now.deed case }
     ensures err { OnErr result (table.new ≡ table.old) }
 {
-    match step.deed.ask() {
-        Ask::Defines(name, form) => match define_as(name, &form, units, table) {
+    match step.deed.definition() {
+        Some((name, form)) => match define_as(name, &form, units, table) {
             Ok(()) => Ok(true),
             Err(error) => Err(error),
         },
-        Ask::Titles(_) | Ask::Says(_) | Ask::Sets(_) => Ok(false),
-        Ask::Goes(_) | Ask::Cuts(..) | Ask::Nothing => Ok(false),
+        None => Ok(false),
     }
 }

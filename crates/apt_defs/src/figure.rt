@@ -12,7 +12,7 @@ use apt_words::Case;
 /// What a name stands for: a point with its height, a line or a circle, or a number.
 #[derive(Clone, Copy, PartialEq, Eq)]
 pub enum Figure {
-    Point { at: Pt, z: i64 },
+    Point { xy: Pt, z: i64 },
     Shape(Surface),
     Scalar,
 }
@@ -42,12 +42,12 @@ pub(crate) fn in_case(point: Result<Pt, FormFault>) -> Result<Pt, Case>
 }
 
 /// A point at height 0.
-pub(crate) fn a_point(at: Pt) -> Result<Figure, Case>
-    requires { IsPoint at }
-    ensures value { result ≡ forms.a_point at }
+pub(crate) fn a_point(xy: Pt) -> Result<Figure, Case>
+    requires { IsPoint xy }
+    ensures value { result ≡ forms.a_point xy }
     ensures range { IfOk result IsFigure }
 {
-    Ok(Figure::Point { at, z: 0 })
+    Ok(Figure::Point { xy, z: 0 })
 }
 
 pub(crate) fn a_line(line: Line) -> Result<Figure, Case>

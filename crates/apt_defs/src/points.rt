@@ -24,9 +24,9 @@ pub fn point_xy(units: Units, x: i64, y: i64, z: Option<i64>) -> Result<Figure, 
     ensures value { result ≡ forms.point_xy units x y z }
     ensures range { IfOk result IsFigure }
 {
-    let at = point_by(units, x, y)?;
+    let xy = point_by(units, x, y)?;
     let z = height_by(units, z)?;
-    Ok(Figure::Point { at, z })
+    Ok(Figure::Point { xy, z })
 }
 
 pub fn point_lines(table: &Table, a: &Symbol, b: &Symbol) -> Result<Figure, Case>

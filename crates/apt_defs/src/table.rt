@@ -81,7 +81,7 @@ pub fn point(table: &Table, name: &Symbol) -> Result<(Pt, i64), Case>
 {
     match table.get(name) {
         None => Err(Case::Undefined),
-        Some(Figure::Point { at, z }) => Ok((at, z)),
+        Some(Figure::Point { xy, z }) => Ok((xy, z)),
         Some(Figure::Shape(_) | Figure::Scalar) => Err(Case::WrongKind),
     }
 }
@@ -90,8 +90,8 @@ pub(crate) fn point_named(table: &Table, name: &Symbol) -> Result<Pt, Case>
     ensures value { result ≡ figures.point_named table.now name.now }
     ensures range { IfOk result IsPoint }
 {
-    let (at, _) = point(table, name)?;
-    Ok(at)
+    let (xy, _) = point(table, name)?;
+    Ok(xy)
 }
 
 /// The surface that a name stands for: `Undefined` where it has no figure, `WrongKind` where that is none.

@@ -20,14 +20,14 @@ use Rattle.apt_meaning.proofs.Walks.Begins.{both}
 
 -- ---- heights
 
-same_position : (z : ℤ) (p : Position) → int_eq p.z z ≡ true → p ≡ at_height z p.at
-same_position z p e = ap (λ (n : ℤ). record { at = p.at; z = n }) ((Decides-int_eq p.z z).0 e)
+same_position : (z : ℤ) (p : Position) → int_eq p.z z ≡ true → p ≡ at_height z p.xy
+same_position z p e = ap (λ (n : ℤ). record { xy = p.xy; z = n }) ((Decides-int_eq p.z z).0 e)
 
 pub at_one_height : (z : ℤ) (ps : List Position) → are_at z ps ≡ true → ps ≡ map (at_height z) (points_at ps)
 at_one_height z [] e = refl
 at_one_height z (p ∷ ps) e =
     let h = both (int_eq p.z z) (are_at z ps) e in
-    ap (λ (q : Position). q ∷ ps) (same_position z p h.0) ∙ ap (λ (qs : List Position). at_height z p.at ∷ qs) (at_one_height z ps h.1)
+    ap (λ (q : Position). q ∷ ps) (same_position z p h.0) ∙ ap (λ (qs : List Position). at_height z p.xy ∷ qs) (at_one_height z ps h.1)
 
 are_at-map : (z : ℤ) (vs : List Pt) → are_at z (map (at_height z) vs) ≡ true
 are_at-map z [] = refl

@@ -14,21 +14,21 @@ use Rattle.apt_meaning.specs.Effects.{names, defined, effect_by, effect_of}
 use Rattle.apt_meaning.specs.Refusals.{refused, refused_form, cases_by, refusal_of}
 use Rattle.apt_job.specs.Naming.{HasNamed}
 
-form_effect : (at : Situation) (name : List ℕ) (form : Form) (f : Figure) → figure_of at.settings.units at.table form ≡ Ok f → defined at name form ≡ Some (effects.Defines name f)
+form_effect : (here : Situation) (name : List ℕ) (form : Form) (f : Figure) → figure_of here.settings.units here.table form ≡ Ok f → defined here name form ≡ Some (effects.Defines name f)
 unfolding defined
-form_effect at name form f is = ap (names name) is
+form_effect here name form f is = ap (names name) is
 
-pub has_named : (at : Situation) (deed : Deed) (table : Table) (gives : Bool) → HasOrNone at.settings.units at.table deed table gives
-    → HasNamed at deed (record at { table = table }) gives
-has_named at deed table true defined =
+pub has_named : (here : Situation) (deed : Deed) (table : Table) (gives : Bool) → HasOrNone here.settings.units here.table deed table gives
+    → HasNamed here deed (record here { table = table }) gives
+has_named here deed table true defined =
     let is = defined.3 in
-    let asks : effect_of at deed ≡ Some (effects.Defines defined.0 defined.2) = ap (λ (ask : Ask). effect_by at ask) is.asked ∙ form_effect at defined.0 defined.1 defined.2 is.figure in
-    (defined.0, defined.2, record { asks = asks; behind = ap (λ (t : Table). record at { table = t }) is.table })
-has_named at deed table false none = (none.0, ap (λ (t : Table). record at { table = t }) none.1)
+    let asks : effect_of here deed ≡ Some (effects.Defines defined.0 defined.2) = ap (λ (ask : Ask). effect_by here ask) is.asked ∙ form_effect here defined.0 defined.1 defined.2 is.figure in
+    (defined.0, defined.2, record { asks = asks; behind = ap (λ (t : Table). record here { table = t }) is.table })
+has_named here deed table false none = (none.0, ap (λ (t : Table). record here { table = t }) none.1)
 
-form_refusal : (at : Situation) (form : Form) (case : Case) → figure_of at.settings.units at.table form ≡ Err case → first_of (refused_form at form) ≡ Some case
+form_refusal : (here : Situation) (form : Form) (case : Case) → figure_of here.settings.units here.table form ≡ Err case → first_of (refused_form here form) ≡ Some case
 unfolding refused_form
-form_refusal at form case is = ap (λ r. first_of (refused r)) is
+form_refusal here form case is = ap (λ r. first_of (refused r)) is
 
-pub refused_name : (at : Situation) (deed : Deed) (case : Case) → IsRefusedBy at.settings.units at.table deed case → refusal_of at deed ≡ Some case
-refused_name at deed case is = ap (λ (ask : Ask). first_of (cases_by at ask)) is.2 ∙ form_refusal at is.1 case is.3
+pub refused_name : (here : Situation) (deed : Deed) (case : Case) → IsRefusedBy here.settings.units here.table deed case → refusal_of here deed ≡ Some case
+refused_name here deed case is = ap (λ (ask : Ask). first_of (cases_by here ask)) is.2 ∙ form_refusal here is.1 case is.3

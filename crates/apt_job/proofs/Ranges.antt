@@ -120,12 +120,12 @@ between_circles : (c d : Circ) (half : Sign) (one : Bool) → one ≡ are_concen
     → IsAxisOrNone (if one then None else Some (axis c.c (displacement c.c d.c) half))
 between_circles c d half true e is_c is_d = tt
 between_circles c d half false e is_c is_d =
-    record { at = is_c.centre; along = way_is_dir c.c d.c is_c.centre is_d.centre (apart (length_squared (displacement c.c d.c)) (sym e)) }
+    record { through = is_c.centre; along = way_is_dir c.c d.c is_c.centre is_d.centre (apart (length_squared (displacement c.c d.c)) (sym e)) }
 
 tangent_in : (s t : Surface) → IsSurface s → IsSurface t → IsAxisOrNone (tangent_axis s t)
 tangent_in (surfaces.Line l) (surfaces.Line k) is_s is_t = tt
-tangent_in (surfaces.Line l) (surfaces.Circ c) is_s is_t = record { at = is_t.centre; along = perp_dir l.dir is_s.dir }
-tangent_in (surfaces.Circ c) (surfaces.Line l) is_s is_t = record { at = is_s.centre; along = perp_dir l.dir is_t.dir }
+tangent_in (surfaces.Line l) (surfaces.Circ c) is_s is_t = record { through = is_t.centre; along = perp_dir l.dir is_s.dir }
+tangent_in (surfaces.Circ c) (surfaces.Line l) is_s is_t = record { through = is_s.centre; along = perp_dir l.dir is_t.dir }
 tangent_in (surfaces.Circ c) (surfaces.Circ d) is_s is_t = between_circles c d (touching_half c d) (are_concentric c d) refl is_s is_t
 
 axis_in : (drive check : Surface) (how : Stop) → IsSurface drive → IsSurface check → IsAxisOrNone (if is_tanto how then tangent_axis drive check else None)
@@ -152,8 +152,8 @@ job_in : (m : Motion) (vertices : List Pt) → IsMotion m → 1 ≤ length verti
 job_in m vertices is some are = record {
   leg = leg_in m is;
   out_sign = out_sign_is m.drive (drive_side m);
-  moves = more_than m.start.at vertices some;
-  points = (is.start.at, are);
+  moves = more_than m.start.xy vertices some;
+  points = (is.start.xy, are);
 }
 
 made_in : (e : Effect) (vertices : List Pt) → HasMotion e → HasIn e vertices → AreJobs (jobs_by e vertices)

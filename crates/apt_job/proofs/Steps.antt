@@ -65,14 +65,14 @@ number written rest = (length written - length rest) + 1
 
 -- ---- how far the walk has come
 
-pub record IsWalk (all : List Step) (written : List Record) (at : Situation) (rest : List Record) (jobs : List Job) (steps : List Step) : Type 0 where
-  pub keeps : KeepsUp at steps
+pub record IsWalk (all : List Step) (written : List Record) (here : Situation) (rest : List Record) (jobs : List Job) (steps : List Step) : Type 0 where
+  pub keeps : KeepsUp here steps
   pub scalars : AreScalars steps
   pub sources : AreExecuted steps
   pub records : AreRecords rest
   pub part : length rest ≤ length written
-  pub makes : (more : List Job) → MakesJobs at steps rest more → MakesJobs first_situation all written (jobs ++ more)
-  pub fails : (k : ℕ) → FailsAt at (number written rest) steps rest k → FailsAt first_situation 1 all written k
+  pub makes : (more : List Job) → MakesJobs here steps rest more → MakesJobs first_situation all written (jobs ++ more)
+  pub fails : (k : ℕ) → FailsAt here (number written rest) steps rest k → FailsAt first_situation 1 all written k
   pub range : AreJobs jobs
   pub points : point_count jobs + weight rest ≤ weight written
 
@@ -94,18 +94,18 @@ walk_first all written scalars sources passes are = record {
     first_number n = omega arith
 
 -- the step that is due, with its records in front
-pub steps_in : (all : List Step) (written : List Record) (at : Situation) (rest : List Record) (jobs : List Job) (step : Step) (steps : List Step) (e : Effect) (vertices : List Pt) (later : List Record)
-    → IsWalk all written at rest jobs (step ∷ steps) → effect_of at step.deed ≡ Some e → StandsFirst e (records_of step e vertices) rest vertices later → StepsOn at steps e vertices later
-steps_in all written at rest jobs step steps e vertices later walk asked stands =
-    steps_on at step steps rest e vertices later walk.keeps walk.scalars.0 walk.sources.0.text walk.records asked stands.split
+pub steps_in : (all : List Step) (written : List Record) (here : Situation) (rest : List Record) (jobs : List Job) (step : Step) (steps : List Step) (e : Effect) (vertices : List Pt) (later : List Record)
+    → IsWalk all written here rest jobs (step ∷ steps) → effect_of here step.deed ≡ Some e → StandsFirst e (records_of step e vertices) rest vertices later → StepsOn here steps e vertices later
+steps_in all written here rest jobs step steps e vertices later walk asked stands =
+    steps_on here step steps rest e vertices later walk.keeps walk.scalars.0 walk.sources.0.text walk.records asked stands.split
 
-pub walk_on : (all : List Step) (written : List Record) (at : Situation) (rest : List Record) (jobs : List Job) (step : Step) (steps : List Step) (e : Effect) (vertices : List Pt) (later : List Record)
-    → IsWalk all written at rest jobs (step ∷ steps) → effect_of at step.deed ≡ Some e → StandsFirst e (records_of step e vertices) rest vertices later
-    → IsWalk all written (after at e vertices) later (jobs ++ jobs_by e vertices) steps
-walk_on all written at rest jobs step steps e vertices later walk asked stands =
-    let on = steps_in all written at rest jobs step steps e vertices later walk asked stands in
+pub walk_on : (all : List Step) (written : List Record) (here : Situation) (rest : List Record) (jobs : List Job) (step : Step) (steps : List Step) (e : Effect) (vertices : List Pt) (later : List Record)
+    → IsWalk all written here rest jobs (step ∷ steps) → effect_of here step.deed ≡ Some e → StandsFirst e (records_of step e vertices) rest vertices later
+    → IsWalk all written (after here e vertices) later (jobs ++ jobs_by e vertices) steps
+walk_on all written here rest jobs step steps e vertices later walk asked stands =
+    let on = steps_in all written here rest jobs step steps e vertices later walk asked stands in
     let due = records_of step e vertices in
-    let begins : Begins at step rest e vertices later = record { asked = asked; front = stands.split; may = stands.may } in
+    let begins : Begins here step rest e vertices later = record { asked = asked; front = stands.split; may = stands.may } in
     let size : length rest ≡ length due + length later = ap length stands.split ∙ length-append due later in
     let load : weight rest ≡ weight due + weight later = ap weight stands.split ∙ weight-append due later in
     let further : number written rest + length due ≡ number written later = omega (arith, size, walk.part) in
@@ -117,66 +117,66 @@ walk_on all written at rest jobs step steps e vertices later walk asked stands =
       part = omega (arith, size, walk.part);
       makes = λ more makes. subst (λ (js : List Job). MakesJobs first_situation all written js) (sym (append_assoc jobs (jobs_by e vertices) more))
           (walk.makes (jobs_by e vertices ++ more) (e, vertices, later, more, begins, refl, makes));
-      fails = λ k fails. walk.fails k (inr (e, vertices, later, begins, subst (λ (n : ℕ). FailsAt (after at e vertices) n steps later k) (sym further) fails));
+      fails = λ k fails. walk.fails k (inr (e, vertices, later, begins, subst (λ (n : ℕ). FailsAt (after here e vertices) n steps later k) (sym further) fails));
       range = jobs_in jobs e vertices walk.range on.motion on.within;
       points = omega (arith, points-append jobs (jobs_by e vertices), light step e vertices, load, walk.points);
     }
 
 -- a step that defines a name has no records, and no case refuses it
-pub walk_named : (all : List Step) (written : List Record) (at : Situation) (rest : List Record) (jobs : List Job) (step : Step) (steps : List Step) (now : Situation)
-    → IsWalk all written at rest jobs (step ∷ steps) → HasNamed at step.deed now true → IsWalk all written now rest jobs steps
-walk_named all written at rest jobs step steps now walk named =
+pub walk_named : (all : List Step) (written : List Record) (here : Situation) (rest : List Record) (jobs : List Job) (step : Step) (steps : List Step) (now : Situation)
+    → IsWalk all written here rest jobs (step ∷ steps) → HasNamed here step.deed now true → IsWalk all written now rest jobs steps
+walk_named all written here rest jobs step steps now walk named =
     let e = effects.Defines named.0 named.1 in
-    let on = walk_on all written at rest jobs step steps e [] rest walk named.2.asks (record { split = refl; may = refl }) in
+    let on = walk_on all written here rest jobs step steps e [] rest walk named.2.asks (record { split = refl; may = refl }) in
     subst (λ (s : Situation). IsWalk all written s rest jobs steps) (sym named.2.behind)
-    (subst (λ (js : List Job). IsWalk all written (after at e []) rest js steps) (append-nil jobs) on)
+    (subst (λ (js : List Job). IsWalk all written (after here e []) rest js steps) (append-nil jobs) on)
 
 -- one that defines none leaves the walk where it is
-pub walk_waits : (all : List Step) (written : List Record) (at : Situation) (rest : List Record) (jobs : List Job) (deed : Deed) (steps : List Step) (now : Situation)
-    → IsWalk all written at rest jobs steps → HasNamed at deed now false → IsWalk all written now rest jobs steps
-walk_waits all written at rest jobs deed steps now walk named = subst (λ (s : Situation). IsWalk all written s rest jobs steps) (sym named.1) walk
+pub walk_waits : (all : List Step) (written : List Record) (here : Situation) (rest : List Record) (jobs : List Job) (deed : Deed) (steps : List Step) (now : Situation)
+    → IsWalk all written here rest jobs steps → HasNamed here deed now false → IsWalk all written now rest jobs steps
+walk_waits all written here rest jobs deed steps now walk named = subst (λ (s : Situation). IsWalk all written s rest jobs steps) (sym named.1) walk
 
 -- the situations agree on definitions
-refused_beside : (c at : Situation) (deed : Deed) (case : Case) → Agrees c at → IsRefusedBy at.settings.units at.table deed case → refusal_of c deed ≡ Some case
-refused_beside c at deed case agrees is =
-    let units = ap (λ (s : Settings). figure_of s.units at.table is.1) (sym agrees.settings) in
+refused_beside : (c here : Situation) (deed : Deed) (case : Case) → Agrees c here → IsRefusedBy here.settings.units here.table deed case → refusal_of c deed ≡ Some case
+refused_beside c here deed case agrees is =
+    let units = ap (λ (s : Settings). figure_of s.units here.table is.1) (sym agrees.settings) in
     let table = ap (λ (t : Table). figure_of c.settings.units t is.1) (sym agrees.table) in
     refused_name c deed case (is.0, is.1, is.2, table ∙ units ∙ is.3)
 
 no_case : (o : Option Case) (case : Case) → o ≡ None → o ≡ Some case → ⊥
 no_case o case none some = cc
 
-pub walk_unrefused : (all : List Step) (written : List Record) (at : Situation) (rest : List Record) (jobs : List Job) (step : Step) (steps : List Step) (case : Case)
-    → IsWalk all written at rest jobs (step ∷ steps) → IsRefusedBy at.settings.units at.table step.deed case → ⊥
-walk_unrefused all written at rest jobs step steps case walk is =
+pub walk_unrefused : (all : List Step) (written : List Record) (here : Situation) (rest : List Record) (jobs : List Job) (step : Step) (steps : List Step) (case : Case)
+    → IsWalk all written here rest jobs (step ∷ steps) → IsRefusedBy here.settings.units here.table step.deed case → ⊥
+walk_unrefused all written here rest jobs step steps case walk is =
     let beside = walk.keeps.beside in
     let c = beside.c in
     let does = passed step (refusal_of c step.deed) (effect_of c step.deed) (λ e. first_refused (after c e (ends_of e)) steps) beside.passes in
-    no_case (refusal_of c step.deed) case does.fine (refused_beside c at step.deed case beside.agrees is)
+    no_case (refusal_of c step.deed) case does.fine (refused_beside c here step.deed case beside.agrees is)
 
 -- ---- where it ends
 
 -- records that are not those of the step
-pub walk_departs : (all : List Step) (written : List Record) (at : Situation) (rest : List Record) (jobs : List Job) (step : Step) (steps : List Step) (o : Option Effect) (k : ℕ)
-    → IsWalk all written at rest jobs (step ∷ steps) → o ≡ effect_of at step.deed → Departs (behind_statement step (expected_of o)) rest k
+pub walk_departs : (all : List Step) (written : List Record) (here : Situation) (rest : List Record) (jobs : List Job) (step : Step) (steps : List Step) (o : Option Effect) (k : ℕ)
+    → IsWalk all written here rest jobs (step ∷ steps) → o ≡ effect_of here step.deed → Departs (behind_statement step (expected_of o)) rest k
     → FailsAt first_situation 1 all written (number written rest + k)
-walk_departs all written at rest jobs step steps o k walk asked departs =
+walk_departs all written here rest jobs step steps o k walk asked departs =
     walk.fails (number written rest + k) (inl (k, subst (λ (o : Option Effect). Departs (behind_statement step (expected_of o)) rest k) asked departs, refl))
 
 none_left : (rest : List Record) → (length rest == 0) ≡ true → rest ≡ []
 none_left [] e = refl
 none_left (r ∷ rs) e = absurd (omega (arith, eqb-true (length (r ∷ rs)) 0 e))
 
-pub walk_ends : (all : List Step) (written : List Record) (at : Situation) (rest : List Record) (jobs : List Job) → IsWalk all written at rest jobs []
+pub walk_ends : (all : List Step) (written : List Record) (here : Situation) (rest : List Record) (jobs : List Job) → IsWalk all written here rest jobs []
     → (length rest == 0) ≡ true → MakesJobs first_situation all written jobs
-walk_ends all written at rest jobs walk none =
+walk_ends all written here rest jobs walk none =
     subst (λ (js : List Job). MakesJobs first_situation all written js) (append-nil jobs) (walk.makes [] (none_left rest none, refl))
 
 -- records behind the last step
-pub walk_left : (all : List Step) (written : List Record) (at : Situation) (rest : List Record) (jobs : List Job) → IsWalk all written at rest jobs []
+pub walk_left : (all : List Step) (written : List Record) (here : Situation) (rest : List Record) (jobs : List Job) → IsWalk all written here rest jobs []
     → (length rest == 0) ≡ false → FailsAt first_situation 1 all written (number written rest + 0)
-walk_left all written at [] jobs walk some = absurd (true≢false some)
-walk_left all written at (r ∷ rs) jobs walk some =
+walk_left all written here [] jobs walk some = absurd (true≢false some)
+walk_left all written here (r ∷ rs) jobs walk some =
     let same : number written (r ∷ rs) + 0 ≡ number written (r ∷ rs) = omega arith in
     subst (λ (k : ℕ). FailsAt first_situation 1 all written k) (sym same) (walk.fails (number written (r ∷ rs)) refl)
 

@@ -36,25 +36,25 @@ jobs_legal (effects.Sets change) vertices more legal later = later
 jobs_legal (effects.Moves reach to) vertices more legal later = later
 jobs_legal (effects.Cuts m) vertices more legal later = (legal.legal, later)
 
-pub makes_follows : (at : Situation) (steps : List Step) (written : List Record) (jobs : List Job) → MakesJobs at steps written jobs
-    → (behind : Situation) × FollowsAs HasAny at steps written behind
-makes_follows at [] written jobs makes = (at, (makes.0, refl))
-makes_follows at (step ∷ steps) written jobs makes =
-    let later = makes_follows (after at makes.0 makes.1) steps makes.2 makes.3 makes.6 in
+pub makes_follows : (here : Situation) (steps : List Step) (written : List Record) (jobs : List Job) → MakesJobs here steps written jobs
+    → (behind : Situation) × FollowsAs HasAny here steps written behind
+makes_follows here [] written jobs makes = (here, (makes.0, refl))
+makes_follows here (step ∷ steps) written jobs makes =
+    let later = makes_follows (after here makes.0 makes.1) steps makes.2 makes.3 makes.6 in
     (later.0, (makes.0, makes.1, makes.2, makes.4, tt, later.1))
 
 -- records whose jobs are legal follow legally
-pub legal_follows : (at : Situation) (steps : List Step) (written : List Record) (jobs : List Job) → MakesJobs at steps written jobs → AreLegal jobs
-    → (behind : Situation) × FollowsAs CutsLegally at steps written behind
-legal_follows at [] written jobs makes legal = (at, (makes.0, refl))
-legal_follows at (step ∷ steps) written jobs makes legal =
+pub legal_follows : (here : Situation) (steps : List Step) (written : List Record) (jobs : List Job) → MakesJobs here steps written jobs → AreLegal jobs
+    → (behind : Situation) × FollowsAs CutsLegally here steps written behind
+legal_follows here [] written jobs makes legal = (here, (makes.0, refl))
+legal_follows here (step ∷ steps) written jobs makes legal =
     let e = makes.0 in
     let vertices = makes.1 in
     let rest = makes.2 in
     let more = makes.3 in
     let begins = makes.4 in
     let split = effect_legal e vertices more begins.may (subst AreLegal makes.5 legal) in
-    let later = legal_follows (after at e vertices) steps rest more makes.6 split.1 in
+    let later = legal_follows (after here e vertices) steps rest more makes.6 split.1 in
     (later.0, (e, vertices, rest, begins, split.0, later.1))
 
 -- the records follow the steps, and their contours are legal
@@ -65,64 +65,64 @@ jobs_right steps written jobs makes legal =
     (follows CutsLegally steps written f.0 f.1, legal_contours steps written f.0 f.1)
 
 -- and the jobs of records that follow legally are legal
-pub follows_legal : (at : Situation) (steps : List Step) (written : List Record) (jobs : List Job) (behind : Situation) → MakesJobs at steps written jobs
-    → FollowsAs CutsLegally at steps written behind → AreLegal jobs
-follows_legal at [] written jobs behind makes follows = rw makes.1 tt
-follows_legal at (step ∷ steps) written jobs behind makes follows =
+pub follows_legal : (here : Situation) (steps : List Step) (written : List Record) (jobs : List Job) (behind : Situation) → MakesJobs here steps written jobs
+    → FollowsAs CutsLegally here steps written behind → AreLegal jobs
+follows_legal here [] written jobs behind makes follows = rw makes.1 tt
+follows_legal here (step ∷ steps) written jobs behind makes follows =
     let e = makes.0 in
     let vertices = makes.1 in
     let rest = makes.2 in
     let more = makes.3 in
-    let same = begins_once at step written e follows.0 vertices follows.1 rest follows.2 makes.4 follows.3 in
+    let same = begins_once here step written e follows.0 vertices follows.1 rest follows.2 makes.4 follows.3 in
     let legal = subst (λ (x : Effect). CutsLegally x vertices) (sym same.effect) (subst (λ (ps : List Pt). CutsLegally follows.0 ps) (sym same.vertices) follows.4) in
-    let later = subst (λ (x : Effect). FollowsAs CutsLegally (after at x vertices) steps rest behind) (sym same.effect)
-    (subst (λ (ps : List Pt). FollowsAs CutsLegally (after at follows.0 ps) steps rest behind) (sym same.vertices)
-    (subst (λ (rs : List Record). FollowsAs CutsLegally (after at follows.0 follows.1) steps rs behind) (sym same.rest) follows.5)) in
-    rw makes.5 (jobs_legal e vertices more legal (follows_legal (after at e vertices) steps rest more behind makes.6 later))
+    let later = subst (λ (x : Effect). FollowsAs CutsLegally (after here x vertices) steps rest behind) (sym same.effect)
+    (subst (λ (ps : List Pt). FollowsAs CutsLegally (after here follows.0 ps) steps rest behind) (sym same.vertices)
+    (subst (λ (rs : List Record). FollowsAs CutsLegally (after here follows.0 follows.1) steps rs behind) (sym same.rest) follows.5)) in
+    rw makes.5 (jobs_legal e vertices more legal (follows_legal (after here e vertices) steps rest more behind makes.6 later))
 
 -- records that follow legally have jobs
-pub follows_makes : (at : Situation) (steps : List Step) (written : List Record) (behind : Situation) → FollowsAs CutsLegally at steps written behind
-    → (jobs : List Job) × MakesJobs at steps written jobs × AreLegal jobs
-follows_makes at [] written behind follows = ([], (follows.0, refl), tt)
-follows_makes at (step ∷ steps) written behind follows =
+pub follows_makes : (here : Situation) (steps : List Step) (written : List Record) (behind : Situation) → FollowsAs CutsLegally here steps written behind
+    → (jobs : List Job) × MakesJobs here steps written jobs × AreLegal jobs
+follows_makes here [] written behind follows = ([], (follows.0, refl), tt)
+follows_makes here (step ∷ steps) written behind follows =
     let e = follows.0 in
     let vertices = follows.1 in
-    let later = follows_makes (after at e vertices) steps follows.2 behind follows.5 in
+    let later = follows_makes (after here e vertices) steps follows.2 behind follows.5 in
     (jobs_by e vertices ++ later.0, (e, vertices, follows.2, later.0, follows.3, refl, later.1), jobs_legal e vertices later.0 follows.4 later.2)
 
 -- ---- records that make jobs don't fail
 
-pub makes_no_fails : (at : Situation) (steps : List Step) (written : List Record) (jobs : List Job) (seq k : ℕ) → MakesJobs at steps written jobs
-    → FailsAt at seq steps written k → ⊥
-makes_no_fails at [] written jobs seq k makes fails = subst (λ (rs : List Record). FailsAt at seq [] rs k) makes.0 fails
-makes_no_fails at (step ∷ steps) written jobs seq k makes (inl f) = begins_no_departs at step written makes.0 makes.1 makes.2 f.0 makes.4 f.1
-makes_no_fails at (step ∷ steps) written jobs seq k makes (inr f) =
+pub makes_no_fails : (here : Situation) (steps : List Step) (written : List Record) (jobs : List Job) (seq k : ℕ) → MakesJobs here steps written jobs
+    → FailsAt here seq steps written k → ⊥
+makes_no_fails here [] written jobs seq k makes fails = subst (λ (rs : List Record). FailsAt here seq [] rs k) makes.0 fails
+makes_no_fails here (step ∷ steps) written jobs seq k makes (inl f) = begins_no_departs here step written makes.0 makes.1 makes.2 f.0 makes.4 f.1
+makes_no_fails here (step ∷ steps) written jobs seq k makes (inr f) =
     let e = makes.0 in
     let vertices = makes.1 in
     let rest = makes.2 in
-    let same = begins_once at step written e f.0 vertices f.1 rest f.2 makes.4 f.3 in
+    let same = begins_once here step written e f.0 vertices f.1 rest f.2 makes.4 f.3 in
     let n = seq + length (records_of step f.0 f.1) in
-    let later = subst (λ (x : Effect). FailsAt (after at x vertices) n steps rest k) (sym same.effect)
-    (subst (λ (ps : List Pt). FailsAt (after at f.0 ps) n steps rest k) (sym same.vertices)
-    (subst (λ (rs : List Record). FailsAt (after at f.0 f.1) n steps rs k) (sym same.rest) f.4)) in
-    makes_no_fails (after at e vertices) steps rest makes.3 n k makes.6 later
+    let later = subst (λ (x : Effect). FailsAt (after here x vertices) n steps rest k) (sym same.effect)
+    (subst (λ (ps : List Pt). FailsAt (after here f.0 ps) n steps rest k) (sym same.vertices)
+    (subst (λ (rs : List Record). FailsAt (after here f.0 f.1) n steps rs k) (sym same.rest) f.4)) in
+    makes_no_fails (after here e vertices) steps rest makes.3 n k makes.6 later
 
 -- ---- records fail at one place
 
-pub fails_once : (at : Situation) (steps : List Step) (written : List Record) (seq j k : ℕ) → FailsAt at seq steps written j → FailsAt at seq steps written k → j ≡ k
-fails_once at [] [] seq j k f g = absurd f
-fails_once at [] (r ∷ rs) seq j k f g = f ∙ sym g
-fails_once at (step ∷ steps) written seq j k (inl f) (inl g) =
-    f.2 ∙ ap (λ (n : ℕ). seq + n) (departs_once (expected at step) written f.0 g.0 f.1 g.1) ∙ sym g.2
-fails_once at (step ∷ steps) written seq j k (inl f) (inr g) = absurd (begins_no_departs at step written g.0 g.1 g.2 f.0 g.3 f.1)
-fails_once at (step ∷ steps) written seq j k (inr f) (inl g) = absurd (begins_no_departs at step written f.0 f.1 f.2 g.0 f.3 g.1)
-fails_once at (step ∷ steps) written seq j k (inr f) (inr g) =
-    let same = begins_once at step written f.0 g.0 f.1 g.1 f.2 g.2 f.3 g.3 in
+pub fails_once : (here : Situation) (steps : List Step) (written : List Record) (seq j k : ℕ) → FailsAt here seq steps written j → FailsAt here seq steps written k → j ≡ k
+fails_once here [] [] seq j k f g = absurd f
+fails_once here [] (r ∷ rs) seq j k f g = f ∙ sym g
+fails_once here (step ∷ steps) written seq j k (inl f) (inl g) =
+    f.2 ∙ ap (λ (n : ℕ). seq + n) (departs_once (expected here step) written f.0 g.0 f.1 g.1) ∙ sym g.2
+fails_once here (step ∷ steps) written seq j k (inl f) (inr g) = absurd (begins_no_departs here step written g.0 g.1 g.2 f.0 g.3 f.1)
+fails_once here (step ∷ steps) written seq j k (inr f) (inl g) = absurd (begins_no_departs here step written f.0 f.1 f.2 g.0 f.3 g.1)
+fails_once here (step ∷ steps) written seq j k (inr f) (inr g) =
+    let same = begins_once here step written f.0 g.0 f.1 g.1 f.2 g.2 f.3 g.3 in
     let n = seq + length (records_of step g.0 g.1) in
-    let first = subst (λ (x : Effect). FailsAt (after at x g.1) (seq + length (records_of step x g.1)) steps g.2 j) same.effect
-    (subst (λ (ps : List Pt). FailsAt (after at f.0 ps) (seq + length (records_of step f.0 ps)) steps g.2 j) same.vertices
-    (subst (λ (rs : List Record). FailsAt (after at f.0 f.1) (seq + length (records_of step f.0 f.1)) steps rs j) same.rest f.4)) in
-    fails_once (after at g.0 g.1) steps g.2 n j k first g.4
+    let first = subst (λ (x : Effect). FailsAt (after here x g.1) (seq + length (records_of step x g.1)) steps g.2 j) same.effect
+    (subst (λ (ps : List Pt). FailsAt (after here f.0 ps) (seq + length (records_of step f.0 ps)) steps g.2 j) same.vertices
+    (subst (λ (rs : List Record). FailsAt (after here f.0 f.1) (seq + length (records_of step f.0 f.1)) steps rs j) same.rest f.4)) in
+    fails_once (after here g.0 g.1) steps g.2 n j k first g.4
 
 -- ---- what `jobs` answers
 
@@ -140,21 +140,21 @@ jobs_joined (effects.Sets change) vertices more cs same = same
 jobs_joined (effects.Moves reach to) vertices more cs same = same
 jobs_joined (effects.Cuts m) vertices more cs same = ap (λ (js : List Job). job_of m vertices ∷ js) same
 
-said_of : (s : Saying) (at : Situation) (steps : List Step) (written : List Record) (jobs : List Job) → IsAsSaid s at → MakesJobs at steps written jobs
+said_of : (s : Saying) (here : Situation) (steps : List Step) (written : List Record) (jobs : List Job) → IsAsSaid s here → MakesJobs here steps written jobs
     → jobs ≡ map job_said (contours_behind s written)
-said_of s at [] written jobs t makes = rw (makes.0, makes.1) refl
-said_of s at (step ∷ steps) written jobs t makes =
+said_of s here [] written jobs t makes = rw (makes.0, makes.1) refl
+said_of s here (step ∷ steps) written jobs t makes =
     let e = makes.0 in
     let due = records_of step e makes.1 in
-    let on = says_on s at step e makes.1 t makes.4.asked in
+    let on = says_on s here step e makes.1 t makes.4.asked in
     rw (makes.4.front, on.contours makes.2)
     (makes.5 ∙ jobs_joined e makes.1 makes.3 (contours_behind (said_behind s due) makes.2)
-    (said_of (said_behind s due) (after at e makes.1) steps makes.2 makes.3 on.tells makes.6))
+    (said_of (said_behind s due) (after here e makes.1) steps makes.2 makes.3 on.tells makes.6))
 
-follows_jobs : (at : Situation) (steps : List Step) (written : List Record) (behind : Situation) → FollowsAs HasAny at steps written behind → (jobs : List Job) × MakesJobs at steps written jobs
-follows_jobs at [] written behind f = ([], (f.0, refl))
-follows_jobs at (step ∷ steps) written behind f =
-    let later = follows_jobs (after at f.0 f.1) steps f.2 behind f.5 in
+follows_jobs : (here : Situation) (steps : List Step) (written : List Record) (behind : Situation) → FollowsAs HasAny here steps written behind → (jobs : List Job) × MakesJobs here steps written jobs
+follows_jobs here [] written behind f = ([], (f.0, refl))
+follows_jobs here (step ∷ steps) written behind f =
+    let later = follows_jobs (after here f.0 f.1) steps f.2 behind f.5 in
     (jobs_by f.0 f.1 ++ later.0, (f.0, f.1, f.2, later.0, f.3, refl, later.1))
 
 -- records that follow steps make the jobs that they say

@@ -1,5 +1,6 @@
 -- What `jobs` answers where there are none.
-use Rattle.std.specs.Prelude.{◌≡◌, ℕ, List, Result, Ok, Err}
+use Rattle.std.specs.Prelude.{◌≡◌, ℕ, List, Option, Some, None, Result}
+use Rattle.apt_words.specs.Answers.{Comes, Tells}
 use Rattle.apt_words.specs.declared.deed.Step.{Step}
 use Rattle.apt_cldata.specs.declared.record.Record.{Record}
 use Rattle.apt_meaning.specs.Situations.{first_situation}
@@ -7,13 +8,15 @@ use Rattle.apt_meaning.specs.Expectations.{FailsAt}
 use Rattle.apt_job.specs.declared.error.JobError.{JobError}
 use Rattle.apt_job.specs.declared.error.JobError.TheVariants as errors
 
+-- the number of the record that an error tells
+abbrev pub told : JobError → Option ℕ
+told (errors.Entry seq) = Some seq
+told errors.NoMemory = None
+
 -- the first record that does not answer the steps, or memory ran out
 abbrev pub IsEntry : List Step → List Record → JobError → Type 0
-IsEntry steps written (errors.Entry seq) = FailsAt first_situation 1 steps written seq
-IsEntry steps written errors.NoMemory = Unit {0}
+IsEntry steps written e = Tells (FailsAt first_situation 1 steps written) (told e)
 
 -- the answer is the record with this number, or memory ran out
 abbrev pub IsEntryAt : {A : Type 0} → ℕ → Result A JobError → Type 0
-IsEntryAt k (Ok jobs) = ⊥
-IsEntryAt k (Err (errors.Entry seq)) = seq ≡ k
-IsEntryAt k (Err errors.NoMemory) = Unit {0}
+IsEntryAt k = Comes told (λ jobs. ⊥) (λ seq. seq ≡ k)

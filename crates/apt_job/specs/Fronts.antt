@@ -14,7 +14,7 @@ use Rattle.apt_job.specs.declared.fronts.Front.{Front}
 
 abbrev pub points_at : List Position → List Pt
 points_at [] = []
-points_at (p ∷ ps) = p.at ∷ points_at ps
+points_at (p ∷ ps) = p.xy ∷ points_at ps
 
 -- whether positions are all at one height
 abbrev pub are_at : ℤ → List Position → Bool

@@ -31,7 +31,7 @@ out_sign_at (surfaces.Circ c) signs.Minus = pos 1
 
 -- the job of a contour: its leg, on which side of its track outside lies, and its points
 abbrev pub job_of : Motion → List Pt → Job
-job_of m vertices = record { leg = leg_of m; out_sign = out_sign_at m.drive (drive_side m); points = m.start.at ∷ vertices }
+job_of m vertices = record { leg = leg_of m; out_sign = out_sign_at m.drive (drive_side m); points = m.start.xy ∷ vertices }
 
 -- the jobs that records say by themselves: one for each of their contours
 abbrev pub job_said : Contour → Job
@@ -48,10 +48,10 @@ jobs_by (effects.Cuts m) vertices = job_of m vertices ∷ []
 
 -- records follow steps, and these are the jobs of their contours
 abbrev pub MakesJobs : Situation → List Step → List Record → List Job → Type 0
-MakesJobs at [] written jobs = (written ≡ []) × (jobs ≡ [])
-MakesJobs at (step ∷ steps) written jobs =
+MakesJobs here [] written jobs = (written ≡ []) × (jobs ≡ [])
+MakesJobs here (step ∷ steps) written jobs =
     (e : Effect) × (vertices : List Pt) × (rest : List Record) × (more : List Job)
-    × Begins at step written e vertices rest × (jobs ≡ jobs_by e vertices ++ more) × MakesJobs (after at e vertices) steps rest more
+    × Begins here step written e vertices rest × (jobs ≡ jobs_by e vertices ++ more) × MakesJobs (after here e vertices) steps rest more
 
 -- ---- what bounds a motion
 

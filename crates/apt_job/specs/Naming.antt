@@ -10,14 +10,14 @@ use Rattle.apt_meaning.specs.Effects.{effect_of}
 use Rattle.apt_meaning.specs.Records.{after}
 
 -- a step asks for a figure of a name, and the name has it
-pub record IsNamed (at : Situation) (deed : Deed) (now : Situation) (name : List ℕ) (f : Figure) : Type 0 where
-  pub asks : effect_of at deed ≡ Some (effects.Defines name f)
-  pub behind : now ≡ after at (effects.Defines name f) []
+pub record IsNamed (here : Situation) (deed : Deed) (now : Situation) (name : List ℕ) (f : Figure) : Type 0 where
+  pub asks : effect_of here deed ≡ Some (effects.Defines name f)
+  pub behind : now ≡ after here (effects.Defines name f) []
 
 -- a step that defines a name, or one that defines none and leaves what holds as it was
 abbrev pub HasNamed : Situation → Deed → Situation → Bool → Type 0
-HasNamed at deed now true = (name : List ℕ) × (f : Figure) × IsNamed at deed now name f
-HasNamed at deed now false = IsNoDefinition deed × (now ≡ at)
+HasNamed here deed now true = (name : List ℕ) × (f : Figure) × IsNamed here deed now name f
+HasNamed here deed now false = IsNoDefinition deed × (now ≡ here)
 
 -- an effect that defines nothing
 abbrev pub DefinesNothing : Effect → Type 0

@@ -138,15 +138,15 @@ fn out_sign_at(surface: &Surface, side: Sign) -> i8
 
 /// The start and the points of positions behind it.
 fn points(alloc: Global, start: Position, positions: &[Position]) -> Result<Points, AllocError>
-    ensures { IfOk result (λ ps. ps ≡ start.at ∷ points_at positions.now) }
+    ensures { IfOk result (λ ps. ps ≡ start.xy ∷ points_at positions.now) }
 {
     // Along a line there are two.
-    let mut at = Vec::with_capacity(alloc, 2)?;
-    at.push_reserved(start.at);
+    let mut vertices = Vec::with_capacity(alloc, 2)?;
+    vertices.push_reserved(start.xy);
     for p in positions {
-        at.push(p.at)?;
+        vertices.push(p.xy)?;
     }
-    Ok(Points { at })
+    Ok(Points { vertices })
 }
 
 /// The job of a contour.

@@ -65,7 +65,7 @@ pub(crate) fn is_point(reach: Reach, to: Position, r: &Record) -> bool
     ensures { IsTrue result ↔ (r.now ≡ Record.Point reach to) }
 {
     match r {
-        Record::Point(how, at) => is_same_reach(*how, reach) && is_same_position(*at, to),
+        Record::Point(how, p) => is_same_reach(*how, reach) && is_same_position(*p, to),
         _ => false,
     }
 }

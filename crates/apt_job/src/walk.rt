@@ -47,7 +47,7 @@ fn entry(records: &[Record], rest: &[Record], fitting: u64) -> JobError
 fn cut(
     alloc: Global,
     jobs: &mut Vec<Job>,
-    at: &mut Situation,
+    here: &mut Situation,
     motion: &Motion,
     sides: Sides,
     vertices: &[Position],
@@ -56,24 +56,24 @@ fn cut(
     requires defined { is_defined motion.now ≡ true }
     requires sides { AreSides motion.now sides }
     requires vertices { HasIn (effects.Cuts motion.now) (points_at vertices.now) }
-    ensures after { OnOk result (at.new ≡ written.after at.old (effects.Cuts motion.now) (points_at vertices.now)) }
+    ensures after { OnOk result (here.new ≡ written.after here.old (effects.Cuts motion.now) (points_at vertices.now)) }
     ensures jobs { OnOk result (jobs.new.items ≡ jobs.old.items ++ jobs_by (effects.Cuts motion.now) (points_at vertices.now)) }
 {
     let job = job_of(alloc, motion, sides, vertices)?;
-    at.cut_along(motion, &job.points.at[1..]);
+    here.cut_along(motion, &job.points.vertices[1..]);
     jobs.push(job)?;
     Ok(())
 }
 
 /// Gives the name that a step defines its figure. False where the step defines no name: what holds stays as it was.
 #[tactic(auto, using(crate::proofs::Named::has_named))]
-fn gives_name(step: &Step, at: &mut Situation) -> Result<bool, JobError>
+fn gives_name(step: &Step, here: &mut Situation) -> Result<bool, JobError>
     requires scalars { HasScalars step.now.deed }
-    requires passes { (case : Case) → IsRefusedBy at.old.settings.units at.old.table step.now.deed case → ⊥ }
-    ensures ok { IfOk result (HasNamed at.old step.now.deed at.new) }
+    requires passes { (case : Case) → IsRefusedBy here.old.settings.units here.old.table step.now.deed case → ⊥ }
+    ensures ok { IfOk result (HasNamed here.old step.now.deed here.new) }
     ensures err { IfErr result (λ e. e ≡ JobError.NoMemory) }
 {
-    match define(step, at.settings.units, &mut at.table) {
+    match define(step, here.settings.units, &mut here.table) {
         Ok(gives) => Ok(gives),
         Err(DefError::Case(_)) => unreachable!(),
         Err(DefError::NoMemory) => Err(JobError::NoMemory),
@@ -84,26 +84,26 @@ fn gives_name(step: &Step, at: &mut Situation) -> Result<bool, JobError>
 fn take(
     alloc: Global,
     jobs: &mut Vec<Job>,
-    at: &mut Situation,
+    here: &mut Situation,
     effect: &Effect,
     sides: Sides,
     vertices: &[Position],
 ) -> Result<(), AllocError>
-    requires situation { IsSituation at.old }
+    requires situation { IsSituation here.old }
     requires effect { IsEffect effect.now }
     requires defines_nothing { DefinesNothing effect.now }
     requires has_motion { HasMotion effect.now }
     requires sides { HasSides sides effect.now }
     requires vertices { HasIn effect.now (points_at vertices.now) }
     requires may { written.MayHave effect.now (points_at vertices.now) }
-    ensures after { OnOk result (at.new ≡ written.after at.old effect.now (points_at vertices.now)) }
+    ensures after { OnOk result (here.new ≡ written.after here.old effect.now (points_at vertices.now)) }
     ensures jobs { OnOk result (jobs.new.items ≡ jobs.old.items ++ jobs_by effect.now (points_at vertices.now)) }
 {
     match effect {
         Effect::Defines(..) => unreachable!(),
-        Effect::Sets(change) => at.settings.change(change),
-        Effect::Moves(reach, to) => at.go_to(*reach, *to),
-        Effect::Cuts(motion) => cut(alloc, jobs, at, motion, sides, vertices)?,
+        Effect::Sets(change) => here.settings.change(change),
+        Effect::Moves(reach, to) => here.go_to(*reach, *to),
+        Effect::Cuts(motion) => cut(alloc, jobs, here, motion, sides, vertices)?,
     }
     Ok(())
 }
@@ -143,21 +143,21 @@ fn jobs_of(alloc: Global, steps: &[Step], records: &[Record]) -> Result<Vec<Job>
     ensures few { IfOk result (λ js. point_count js.items < 2 ^ 63) }
     ensures entry { IfErr result (IsEntry steps.now records.now) }
 {
-    let mut at = Situation::first(alloc);
+    let mut here = Situation::first(alloc);
     let mut rest = records;
     let mut jobs = Vec::new(alloc);
     'steps: for st in steps {
-        if gives_name(st, &mut at)? {
+        if gives_name(st, &mut here)? {
             continue;
         }
-        let found = effect_of(&at, &st.deed)?;
+        let found = effect_of(&here, &st.deed)?;
         let sides = effect_sides(&found);
         let front = match taken(st, &found, sides, rest) {
             Ok(front) => front,
             Err(fitting) => return Err(entry(records, rest, fitting)),
         };
         let Some(found) = &found else { unreachable!() };
-        take(alloc, &mut jobs, &mut at, found, sides, front.vertices)?;
+        take(alloc, &mut jobs, &mut here, found, sides, front.vertices)?;
         rest = front.rest;
     }
     if rest.is_empty() {

@@ -1,6 +1,7 @@
 -- The statements of a text, each on one line or on several that a `$` joins.
 use Rattle.std.specs.Prelude.{◌≡◌, ℕ, ◌+◌, ◌==◌, not, Bool, true, false, List, [], ◌∷◌, ◌++◌, drop, Option, Some, None, Result, Ok, Err, if◌then◌else◌}
 use Rattle.std.specs.List.{take_while, prefix_len}
+use Rattle.apt_words.specs.Answers.{Comes}
 use Rattle.apt_lexis.specs.declared.cause.PartCause.{PartCause}
 use Rattle.apt_lexis.specs.declared.error.ParseError.{ParseError}
 use Rattle.apt_lexis.specs.declared.error.ParseError.TheVariants as errors
@@ -119,9 +120,17 @@ said_by u = said_from None u.line u.lines
 abbrev pub only_fault : ℕ → PartCause → Said
 only_fault line cause = record { phrases = []; fault = Some (line, cause) }
 
+-- the fault that an error tells, with its line
+abbrev pub told : ParseError → Option (ℕ × PartCause)
+told (errors.Bad line cause) = Some (line, cause)
+told errors.NoMemory = None
+
+-- the next statement, or none at the end of the lines
+abbrev pub GoesOn : Unread → Unread → Option Phrase → Type 0
+GoesOn before now (Some p) = said_by before ≡ with_first (Some p) (said_by now)
+GoesOn before now None = (said_by before ≡ record { phrases = []; fault = None }) × (now.lines ≡ [])
+
 -- a reader gives the next statement; none at the end of its lines; the first fault of a line, at which it then stands
 abbrev pub Gives : Unread → Unread → Result (Option Phrase) ParseError → Type 0
-Gives before now (Ok (Some p)) = said_by before ≡ with_first (Some p) (said_by now)
-Gives before now (Ok None) = (said_by before ≡ record { phrases = []; fault = None }) × (now.lines ≡ [])
-Gives before now (Err (errors.Bad line cause)) = (said_by before ≡ only_fault line cause) × (now.line ≡ line) × (said_by now ≡ only_fault line cause)
-Gives before now (Err errors.NoMemory) = Unit {0}
+Gives before now =
+    Comes told (GoesOn before now) (λ fault. (said_by before ≡ only_fault fault.0 fault.1) × (now.line ≡ fault.0) × (said_by now ≡ only_fault fault.0 fault.1))

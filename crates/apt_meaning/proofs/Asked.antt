@@ -72,7 +72,7 @@ abbrev pub EndsThere : Effect → Type 0
 EndsThere (effects.Defines n f) = Unit {0}
 EndsThere (effects.Sets change) = Unit {0}
 EndsThere (effects.Moves reach to) = Unit {0}
-EndsThere (effects.Cuts m) = last_of m.start.at (vertices_of m) ≡ end_point m
+EndsThere (effects.Cuts m) = last_of m.start.xy (vertices_of m) ≡ end_point m
 
 -- a contour is legal
 abbrev pub CutsLegally : Effect → List Pt → Type 0
@@ -125,10 +125,10 @@ figure_asks : (n : List ℕ) (r : Result Figure Case) → IfOk r IsFigure → No
 figure_asks n (Ok f) is none = defines n f is
 figure_asks n (Err case) is none = absurd (true≢false none.0)
 
-defined_asks : (at : Situation) (name : List ℕ) (form : Form) → IsSituation at → NoneHolds (refused_form at form) → Asks (defined at name form)
+defined_asks : (here : Situation) (name : List ℕ) (form : Form) → IsSituation here → NoneHolds (refused_form here form) → Asks (defined here name form)
 unfolding defined refused_form
-defined_asks at name form is none =
-    figure_asks name (figure_of at.settings.units at.table form) (figure_in at.settings.units at.table form is.table) none
+defined_asks here name form is none =
+    figure_asks name (figure_of here.settings.units here.table form) (figure_in here.settings.units here.table form is.table) none
 
 -- ---- moves
 
@@ -136,7 +136,7 @@ point_is : (p : Pt) → not (is_in_reach p.x) ≡ false → not (is_in_reach p.y
 point_is p x y = record { x = reach_in p.x x; y = reach_in p.y y }
 
 position_is : (to : Position) (more : List Row) → NoneHolds (position_cases to more) → IsPosition to
-position_is to more none = record { at = point_is to.at none.0 none.1.0; z = reach_in to.z none.1.1.0 }
+position_is to more none = record { xy = point_is to.xy none.0 none.1.0; z = reach_in to.z none.1.1.0 }
 
 move_asks : (reach : Reach) (s : Settings) (o : Option Position) → is_none o ≡ false → NoneHolds (move_cases s o) → Asks (moves reach o)
 move_asks reach s None there none = absurd (true≢false there)
@@ -150,13 +150,13 @@ still_there (Some x) f there = refl
 
 place_asks : (reach : Reach) (o : Option Figure) → IfSome o IsFigure → is_none o ≡ false → is_no_place o ≡ false → Asks (moves reach (o >>= as_position))
 place_asks reach None is there kind = absurd (true≢false there)
-place_asks reach (Some (figures.Point at z)) is there kind = moves_to reach (at_height z at) (record { at = is.at; z = is.z })
+place_asks reach (Some (figures.Point xy z)) is there kind = moves_to reach (at_height z xy) (record { xy = is.xy; z = is.z })
 place_asks reach (Some (figures.Shape s)) is there kind = absurd (true≢false kind)
 place_asks reach (Some figures.Scalar) is there kind = absurd (true≢false kind)
 
 surface_there : (o : Option Figure) → is_none o ≡ false → is_other_kind o ≡ false → is_none (o >>= as_surface) ≡ false
 surface_there None there kind = absurd (true≢false there)
-surface_there (Some (figures.Point at z)) there kind = absurd (true≢false kind)
+surface_there (Some (figures.Point xy z)) there kind = absurd (true≢false kind)
 surface_there (Some (figures.Shape s)) there kind = refl
 surface_there (Some figures.Scalar) there kind = absurd (true≢false kind)
 
@@ -169,7 +169,7 @@ started_there false to e is = absurd (true≢false (sym e))
 starts : (from : Position) (u : StartUp) → IsPosition from → NoneHolds (start_up_cases u) → Asks (moves reaches.Start (start_position from u))
 starts from u is none =
     started_there (is_none (first_of (start_up_cases u))) (at_height from.z (start_point u)) (ap is_none (none_first (start_up_cases u) none))
-    (record { at = start_point-is u none; z = is.z })
+    (record { xy = start_point-is u none; z = is.z })
 
 abbrev goal_at : Stop → Surface → Goal
 goal_at how s = record { how = how; surface = s }
@@ -177,33 +177,33 @@ goal_at how s = record { how = how; surface = s }
 goal_there : (o : Option Figure) (how : Stop) → is_none o ≡ false → is_other_kind o ≡ false
     → is_none ((o >>= as_surface) >>= λ s. Some (goal_at how s)) ≡ false
 goal_there None how there kind = absurd (true≢false there)
-goal_there (Some (figures.Point at z)) how there kind = absurd (true≢false kind)
+goal_there (Some (figures.Point xy z)) how there kind = absurd (true≢false kind)
 goal_there (Some (figures.Shape s)) how there kind = refl
 goal_there (Some figures.Scalar) how there kind = absurd (true≢false kind)
 
 abbrev start_up_on : Situation → Option Position → Option Goal → Option (Option Goal) → Option StartUp
-start_up_on at p first second =
-    p >>= λ start. first >>= λ a. second >>= λ b. Some (record { start = start.at; first = a; second = b; radius = at.settings.radius })
+start_up_on here p first second =
+    p >>= λ start. first >>= λ a. second >>= λ b. Some (record { start = start.xy; first = a; second = b; radius = here.settings.radius })
 
-start_asks : (at : Situation) (p : Option Position) (first : Option Goal) (second : Option (Option Goal)) → IsPositionOrNone p
-    → is_none p ≡ false → is_none first ≡ false → is_none second ≡ false → NoneHolds (start_cases (start_up_on at p first second))
-    → Asks (moves reaches.Start (p >>= λ from. start_up_on at p first second >>= λ u. start_position from u))
-start_asks at None first second is e f g none = absurd (true≢false e)
-start_asks at (Some from) None second is e f g none = absurd (true≢false f)
-start_asks at (Some from) (Some first) None is e f g none = absurd (true≢false g)
-start_asks at (Some from) (Some first) (Some second) is e f g none =
-    starts from (record { start = from.at; first = first; second = second; radius = at.settings.radius }) is none
+start_asks : (here : Situation) (p : Option Position) (first : Option Goal) (second : Option (Option Goal)) → IsPositionOrNone p
+    → is_none p ≡ false → is_none first ≡ false → is_none second ≡ false → NoneHolds (start_cases (start_up_on here p first second))
+    → Asks (moves reaches.Start (p >>= λ from. start_up_on here p first second >>= λ u. start_position from u))
+start_asks here None first second is e f g none = absurd (true≢false e)
+start_asks here (Some from) None second is e f g none = absurd (true≢false f)
+start_asks here (Some from) (Some first) None is e f g none = absurd (true≢false g)
+start_asks here (Some from) (Some first) (Some second) is e f g none =
+    starts from (record { start = from.xy; first = first; second = second; radius = here.settings.radius }) is none
 
-go_asks : (at : Situation) (how : Stop) (name : List ℕ) (other : Option (Stop × List ℕ)) → IsSituation at
-    → NoneHolds (go_cases at how name other) → Asks (moves reaches.Start (start_position_at at how name other))
+go_asks : (here : Situation) (how : Stop) (name : List ℕ) (other : Option (Stop × List ℕ)) → IsSituation here
+    → NoneHolds (go_cases here how name other) → Asks (moves reaches.Start (start_position_at here how name other))
 unfolding start_up_at
-go_asks at how name None is none =
-    start_asks at at.position (goal_in at.table how name) (Some None) is.position none.0
-    (goal_there (figure_named at.table name) how none.1.0 none.1.1.0) refl none.1.1.1.1
-go_asks at how name (Some other) is none =
-    start_asks at at.position (goal_in at.table how name) (second_in at.table (Some other)) is.position none.0
-    (goal_there (figure_named at.table name) how none.1.0 none.1.1.1.0)
-    (still_there (goal_in at.table other.0 other.1) (λ g. Some g) (goal_there (figure_named at.table other.1) other.0 none.1.1.0 none.1.1.1.1.0)) none.1.1.1.1.1.1
+go_asks here how name None is none =
+    start_asks here here.position (goal_in here.table how name) (Some None) is.position none.0
+    (goal_there (figure_named here.table name) how none.1.0 none.1.1.0) refl none.1.1.1.1
+go_asks here how name (Some other) is none =
+    start_asks here here.position (goal_in here.table how name) (second_in here.table (Some other)) is.position none.0
+    (goal_there (figure_named here.table name) how none.1.0 none.1.1.1.0)
+    (still_there (goal_in here.table other.0 other.1) (λ g. Some g) (goal_there (figure_named here.table other.1) other.0 none.1.1.0 none.1.1.1.1.0)) none.1.1.1.1.1.1
 
 -- ---- contours
 
@@ -219,38 +219,38 @@ turned_asks s start drive turned how check is from d c none =
     let m = motion s start drive turned how check in
     unless_asks (is_zero turned) (Some m) turns.0 (cuts_on m (motion_is s start drive turned how check is from d c turns.0) turns.1)
 
-surfaces_ask : (at : Situation) (side : Option Side) (go : Go) (how : Stop) (p : Option Position) (d c : Option Surface)
-    → AreSettings at.settings → IsPositionOrNone p → IfSome d IsSurface → IfSome c IsSurface
-    → is_none p ≡ false → is_none d ≡ false → is_none c ≡ false → NoneHolds (surface_cases at side go how p d c)
-    → Asks (cuts (p >>= λ start. d >>= λ drive. c >>= λ check. if_turned (with_side at.settings side) start drive (turn_at at start drive go) how check))
-surfaces_ask at side go how None d c is is_p is_d is_c e f g none = absurd (true≢false e)
-surfaces_ask at side go how (Some start) None c is is_p is_d is_c e f g none = absurd (true≢false f)
-surfaces_ask at side go how (Some start) (Some drive) None is is_p is_d is_c e f g none = absurd (true≢false g)
-surfaces_ask at side go how (Some start) (Some drive) (Some check) is is_p is_d is_c e f g none =
-    turned_asks (with_side at.settings side) start drive (turn_at at start drive go) how check (on_side_or_as_it_was at.settings side is) is_p is_d is_c none
+surfaces_ask : (here : Situation) (side : Option Side) (go : Go) (how : Stop) (p : Option Position) (d c : Option Surface)
+    → AreSettings here.settings → IsPositionOrNone p → IfSome d IsSurface → IfSome c IsSurface
+    → is_none p ≡ false → is_none d ≡ false → is_none c ≡ false → NoneHolds (surface_cases here side go how p d c)
+    → Asks (cuts (p >>= λ start. d >>= λ drive. c >>= λ check. if_turned (with_side here.settings side) start drive (turn_at here start drive go) how check))
+surfaces_ask here side go how None d c is is_p is_d is_c e f g none = absurd (true≢false e)
+surfaces_ask here side go how (Some start) None c is is_p is_d is_c e f g none = absurd (true≢false f)
+surfaces_ask here side go how (Some start) (Some drive) None is is_p is_d is_c e f g none = absurd (true≢false g)
+surfaces_ask here side go how (Some start) (Some drive) (Some check) is is_p is_d is_c e f g none =
+    turned_asks (with_side here.settings side) start drive (turn_at here start drive go) how check (on_side_or_as_it_was here.settings side is) is_p is_d is_c none
 
-contour_asks : (at : Situation) (side : Option Side) (go : Go) (drive : List ℕ) (how : Stop) (check : List ℕ) → IsSituation at
-    → NoneHolds (contour_cases at side go drive how check) → Asks (cuts (motion_at at side go drive how check))
+contour_asks : (here : Situation) (side : Option Side) (go : Go) (drive : List ℕ) (how : Stop) (check : List ℕ) → IsSituation here
+    → NoneHolds (contour_cases here side go drive how check) → Asks (cuts (motion_at here side go drive how check))
 unfolding motion_at
-contour_asks at side go drive how check is none =
+contour_asks here side go drive how check is none =
     let d = none.1 in
     let c = d.1.1 in
-    surfaces_ask at side go how at.position (surface_in at.table drive) (surface_in at.table check) is.settings is.position
-    (named_surface at.table drive is.table) (named_surface at.table check is.table)
-    none.0 (surface_there (figure_named at.table drive) d.0 d.1.0) (surface_there (figure_named at.table check) c.0 c.1.0) c.1.1
+    surfaces_ask here side go how here.position (surface_in here.table drive) (surface_in here.table check) is.settings is.position
+    (named_surface here.table drive is.table) (named_surface here.table check is.table)
+    none.0 (surface_there (figure_named here.table drive) d.0 d.1.0) (surface_there (figure_named here.table check) c.0 c.1.0) c.1.1
 
 -- ---- places
 
-place_asked : (reach : Reach) (at : Situation) (place : Place) (more : List Row) → IsSituation at → NoneHolds (place_cases at place more) → Asks (moves reach (place_at at place))
-place_asked reach at (places.Xyz x y z) more is none = moves_to reach (position_by at.settings.units x y z) (position_is (position_by at.settings.units x y z) more none)
-place_asked reach at (places.Named p) more is none = place_asks reach (figure_named at.table p) (looked_up at.table p is.table) none.0 none.1.0
+place_asked : (reach : Reach) (here : Situation) (place : Place) (more : List Row) → IsSituation here → NoneHolds (place_cases here place more) → Asks (moves reach (place_at here place))
+place_asked reach here (places.Xyz x y z) more is none = moves_to reach (position_by here.settings.units x y z) (position_is (position_by here.settings.units x y z) more none)
+place_asked reach here (places.Named p) more is none = place_asks reach (figure_named here.table p) (looked_up here.table p is.table) none.0 none.1.0
 
-route_asks : (at : Situation) (route : Route) → IsSituation at → NoneHolds (route_cases at route) → Asks (goes at route)
-route_asks at (routes.From place) is none = place_asked reaches.From at place [] is none.1
-route_asks at (routes.Goto place) is none = place_asked reaches.Goto at place ((lacks_feed at.settings, cases.NoFeed) ∷ []) is none
-route_asks at (routes.By x y z) is none =
-    move_asks reaches.Godlta at.settings (at.position >>= λ p. Some (moved_by at.settings.units x y z p)) (still_there at.position (moved_by at.settings.units x y z) none.0) none.1
-route_asks at (routes.Start how name other) is none = go_asks at how name other is none
+route_asks : (here : Situation) (route : Route) → IsSituation here → NoneHolds (route_cases here route) → Asks (goes here route)
+route_asks here (routes.From place) is none = place_asked reaches.From here place [] is none.1
+route_asks here (routes.Goto place) is none = place_asked reaches.Goto here place ((lacks_feed here.settings, cases.NoFeed) ∷ []) is none
+route_asks here (routes.By x y z) is none =
+    move_asks reaches.Godlta here.settings (here.position >>= λ p. Some (moved_by here.settings.units x y z p)) (still_there here.position (moved_by here.settings.units x y z) none.0) none.1
+route_asks here (routes.Start how name other) is none = go_asks here how name other is none
 
 -- ---- notes
 
@@ -268,27 +268,27 @@ saying_in units _ numbers none = tt
 
 -- ---- a line for each ask
 
-asks_by : (at : Situation) (ask : Ask) → IsSituation at → AllScalars (numbers_of ask) → AskHasText ask → NoneHolds (cases_by at ask) → Asks (effect_by at ask)
-asks_by at (Titles text) is numbers worded none = says (notes.Partno text) worded.0
-asks_by at (Says saying) is numbers worded none = says (note_of at.settings.units saying) (saying_in at.settings.units saying numbers none)
-asks_by at (Sets side) is numbers worded none = sets (changes.Side side) tt
-asks_by at (Defines name form) is numbers worded none = defined_asks at name form is none
-asks_by at (Goes route) is numbers worded none = route_asks at route is none
-asks_by at (Cuts side go drive how check) is numbers worded none = contour_asks at side go drive how check is none
-asks_by at Nothing is numbers worded none = sets changes.Nothing tt
+asks_by : (here : Situation) (ask : Ask) → IsSituation here → AllScalars (numbers_of ask) → AskHasText ask → NoneHolds (cases_by here ask) → Asks (effect_by here ask)
+asks_by here (Titles text) is numbers worded none = says (notes.Partno text) worded.0
+asks_by here (Says saying) is numbers worded none = says (note_of here.settings.units saying) (saying_in here.settings.units saying numbers none)
+asks_by here (Sets side) is numbers worded none = sets (changes.Side side) tt
+asks_by here (Defines name form) is numbers worded none = defined_asks here name form is none
+asks_by here (Goes route) is numbers worded none = route_asks here route is none
+asks_by here (Cuts side go drive how check) is numbers worded none = contour_asks here side go drive how check is none
+asks_by here Nothing is numbers worded none = sets changes.Nothing tt
 
-pub asks : (at : Situation) (deed : Deed) → IsSituation at → HasScalars deed → DeedHasText deed → NoneHolds (cases_of at deed) → Asks (effect_of at deed)
-asks at deed is numbers worded none = asks_by at (ask_of deed) is numbers worded none
+pub asks : (here : Situation) (deed : Deed) → IsSituation here → HasScalars deed → DeedHasText deed → NoneHolds (cases_of here deed) → Asks (effect_of here deed)
+asks here deed is numbers worded none = asks_by here (ask_of deed) is numbers worded none
 
 -- where no case refuses it, a step has an effect
-pub answered : (at : Situation) (deed : Deed) → IsSituation at → HasScalars deed → DeedHasText deed → refusal_of at deed ≡ None → Asks (effect_of at deed)
-answered at deed is numbers worded fine = asks at deed is numbers worded (first_none (cases_of at deed) fine)
+pub answered : (here : Situation) (deed : Deed) → IsSituation here → HasScalars deed → DeedHasText deed → refusal_of here deed ≡ None → Asks (effect_of here deed)
+answered here deed is numbers worded fine = asks here deed is numbers worded (first_none (cases_of here deed) fine)
 
 same : {A : Type 0} (x y : A) → Some x ≡ Some y → x ≡ y
 same x y e = cc
 
 -- and it is in range
-pub good : (at : Situation) (deed : Deed) (e : Effect) → effect_of at deed ≡ Some e → NoneHolds (cases_of at deed) → IsSituation at → HasScalars deed → DeedHasText deed → IsEffect e
-good at deed e asked none is numbers worded =
-    let a = asks at deed is numbers worded none in
+pub good : (here : Situation) (deed : Deed) (e : Effect) → effect_of here deed ≡ Some e → NoneHolds (cases_of here deed) → IsSituation here → HasScalars deed → DeedHasText deed → IsEffect e
+good here deed e asked none is numbers worded =
+    let a = asks here deed is numbers worded none in
     subst IsEffect (same a.e e (sym a.asked ∙ asked)) a.fit.good

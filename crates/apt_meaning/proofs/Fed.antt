@@ -45,9 +45,9 @@ figure_fed : (s : Settings) (n : List ℕ) (r : Result Figure Case) → IfSome (
 figure_fed s n (Ok f) = tt
 figure_fed s n (Err case) = tt
 
-defined_fed : (at : Situation) (name : List ℕ) (form : Form) → IfSome (defined at name form) (IsFed at.settings)
+defined_fed : (here : Situation) (name : List ℕ) (form : Form) → IfSome (defined here name form) (IsFed here.settings)
 unfolding defined
-defined_fed at name form = figure_fed at.settings name (figure_of at.settings.units at.table form)
+defined_fed here name form = figure_fed here.settings name (figure_of here.settings.units here.table form)
 
 move_fed : (s : Settings) (reach : Reach) (to : Position) → lacks_feed s ≡ false → IsFed s (effects.Moves reach to)
 move_fed s reaches.From to fed = tt
@@ -67,10 +67,10 @@ from_fed : (s : Settings) (o : Option Position) → IfSome (moves reaches.From o
 from_fed s None = tt
 from_fed s (Some to) = tt
 
-go_fed : (at : Situation) (how : Stop) (name : List ℕ) (other : Option (Stop × List ℕ)) → NoneHolds (go_cases at how name other)
-    → IfSome (moves reaches.Start (start_position_at at how name other)) (IsFed at.settings)
-go_fed at how name None none = point_fed at.settings reaches.Start (start_position_at at how name None) none.1.1.1.0
-go_fed at how name (Some other) none = point_fed at.settings reaches.Start (start_position_at at how name (Some other)) none.1.1.1.1.1.0
+go_fed : (here : Situation) (how : Stop) (name : List ℕ) (other : Option (Stop × List ℕ)) → NoneHolds (go_cases here how name other)
+    → IfSome (moves reaches.Start (start_position_at here how name other)) (IsFed here.settings)
+go_fed here how name None none = point_fed here.settings reaches.Start (start_position_at here how name None) none.1.1.1.0
+go_fed here how name (Some other) none = point_fed here.settings reaches.Start (start_position_at here how name (Some other)) none.1.1.1.1.1.0
 
 cuts_fed : (s : Settings) (o : Option Motion) → not (has_feed s) ≡ false → IfSome (cuts o) (IsFed s)
 cuts_fed s None fed = tt
@@ -81,34 +81,34 @@ without_side : (s : Settings) (side : Option Side) → not (has_feed (with_side 
 without_side s None fed = fed
 without_side s (Some side) fed = fed
 
-surfaces_fed : (at : Situation) (side : Option Side) (go : Go) (how : Stop) (p : Option Position) (d c : Option Surface) → NoneHolds (surface_cases at side go how p d c)
-    → IfSome (cuts (p >>= λ start. d >>= λ drive. c >>= λ check. if_turned (with_side at.settings side) start drive (turn_at at start drive go) how check)) (IsFed at.settings)
-surfaces_fed at side go how None d c none = tt
-surfaces_fed at side go how (Some start) None c none = tt
-surfaces_fed at side go how (Some start) (Some drive) None none = tt
-surfaces_fed at side go how (Some start) (Some drive) (Some check) none =
-    cuts_fed at.settings (if_turned (with_side at.settings side) start drive (turn_at at start drive go) how check) (without_side at.settings side none.1.0)
+surfaces_fed : (here : Situation) (side : Option Side) (go : Go) (how : Stop) (p : Option Position) (d c : Option Surface) → NoneHolds (surface_cases here side go how p d c)
+    → IfSome (cuts (p >>= λ start. d >>= λ drive. c >>= λ check. if_turned (with_side here.settings side) start drive (turn_at here start drive go) how check)) (IsFed here.settings)
+surfaces_fed here side go how None d c none = tt
+surfaces_fed here side go how (Some start) None c none = tt
+surfaces_fed here side go how (Some start) (Some drive) None none = tt
+surfaces_fed here side go how (Some start) (Some drive) (Some check) none =
+    cuts_fed here.settings (if_turned (with_side here.settings side) start drive (turn_at here start drive go) how check) (without_side here.settings side none.1.0)
 
-goto_fed : (at : Situation) (place : Place) → NoneHolds (place_cases at place ((lacks_feed at.settings, cases.NoFeed) ∷ [])) → IfSome (moves reaches.Goto (place_at at place)) (IsFed at.settings)
-goto_fed at (places.Xyz x y z) none = moves_fed at.settings reaches.Goto (Some (position_by at.settings.units x y z)) none
-goto_fed at (places.Named p) none = point_fed at.settings reaches.Goto (place_in at.table p) none.1.1.0
+goto_fed : (here : Situation) (place : Place) → NoneHolds (place_cases here place ((lacks_feed here.settings, cases.NoFeed) ∷ [])) → IfSome (moves reaches.Goto (place_at here place)) (IsFed here.settings)
+goto_fed here (places.Xyz x y z) none = moves_fed here.settings reaches.Goto (Some (position_by here.settings.units x y z)) none
+goto_fed here (places.Named p) none = point_fed here.settings reaches.Goto (place_in here.table p) none.1.1.0
 
-goes_fed : (at : Situation) (route : Route) → NoneHolds (route_cases at route) → IfSome (goes at route) (IsFed at.settings)
-goes_fed at (routes.From place) none = from_fed at.settings (place_at at place)
-goes_fed at (routes.Goto place) none = goto_fed at place none
-goes_fed at (routes.By x y z) none = moves_fed at.settings reaches.Godlta (moved_from at x y z) none.1
-goes_fed at (routes.Start how name other) none = go_fed at how name other none
+goes_fed : (here : Situation) (route : Route) → NoneHolds (route_cases here route) → IfSome (goes here route) (IsFed here.settings)
+goes_fed here (routes.From place) none = from_fed here.settings (place_at here place)
+goes_fed here (routes.Goto place) none = goto_fed here place none
+goes_fed here (routes.By x y z) none = moves_fed here.settings reaches.Godlta (moved_from here x y z) none.1
+goes_fed here (routes.Start how name other) none = go_fed here how name other none
 
-all_fed : (at : Situation) (ask : Ask) → NoneHolds (cases_by at ask) → IfSome (effect_by at ask) (IsFed at.settings)
+all_fed : (here : Situation) (ask : Ask) → NoneHolds (cases_by here ask) → IfSome (effect_by here ask) (IsFed here.settings)
 unfolding motion_at
-all_fed at (Titles text) none = tt
-all_fed at (Says saying) none = tt
-all_fed at (Sets side) none = tt
-all_fed at (Defines name form) none = defined_fed at name form
-all_fed at (Goes route) none = goes_fed at route none
-all_fed at (Cuts side go drive how check) none = surfaces_fed at side go how at.position (surface_in at.table drive) (surface_in at.table check) none.1.1.1.1.1
-all_fed at Nothing none = tt
+all_fed here (Titles text) none = tt
+all_fed here (Says saying) none = tt
+all_fed here (Sets side) none = tt
+all_fed here (Defines name form) none = defined_fed here name form
+all_fed here (Goes route) none = goes_fed here route none
+all_fed here (Cuts side go drive how check) none = surfaces_fed here side go how here.position (surface_in here.table drive) (surface_in here.table check) none.1.1.1.1.1
+all_fed here Nothing none = tt
 
 -- the effect of a step that no case refuses
-pub fed : (at : Situation) (deed : Deed) (e : Effect) → effect_of at deed ≡ Some e → NoneHolds (cases_of at deed) → IsFed at.settings e
-fed at deed e asked none = of_some (IsFed at.settings) (effect_of at deed) e asked (all_fed at (ask_of deed) none)
+pub fed : (here : Situation) (deed : Deed) (e : Effect) → effect_of here deed ≡ Some e → NoneHolds (cases_of here deed) → IsFed here.settings e
+fed here deed e asked none = of_some (IsFed here.settings) (effect_of here deed) e asked (all_fed here (ask_of deed) none)

@@ -53,74 +53,74 @@ IsSetBy units ask (changes.Side side) = asks_end ask ≡ false
 IsSetBy units ask changes.Nothing = asks_end ask ≡ false
 
 -- a contour starts at the position, with the cutter and the tolerances that are set
-pub record IsMotionOf (at : Situation) (m : Motion) : Type 0 where
-  pub start : at.position ≡ Some m.start
-  pub radius : m.radius ≡ at.settings.radius
-  pub inner : m.inner ≡ greater at.settings.intol grid_step
-  pub outer : m.outer ≡ greater at.settings.outtol grid_step
+pub record IsMotionOf (here : Situation) (m : Motion) : Type 0 where
+  pub start : here.position ≡ Some m.start
+  pub radius : m.radius ≡ here.settings.radius
+  pub inner : m.inner ≡ greater here.settings.intol grid_step
+  pub outer : m.outer ≡ greater here.settings.outtol grid_step
 
 abbrev pub IsSaidBy : Situation → Ask → Effect → Type 0
-IsSaidBy at ask (effects.Defines n f) = asks_end ask ≡ false
-IsSaidBy at ask (effects.Sets change) = IsSetBy at.settings.units ask change
-IsSaidBy at ask (effects.Moves reach to) = asks_end ask ≡ false
-IsSaidBy at ask (effects.Cuts m) = (asks_end ask ≡ false) × IsMotionOf at m
+IsSaidBy here ask (effects.Defines n f) = asks_end ask ≡ false
+IsSaidBy here ask (effects.Sets change) = IsSetBy here.settings.units ask change
+IsSaidBy here ask (effects.Moves reach to) = asks_end ask ≡ false
+IsSaidBy here ask (effects.Cuts m) = (asks_end ask ≡ false) × IsMotionOf here m
 
-figure_said : (at : Situation) (ask : Ask) (n : List ℕ) (r : Result Figure Case) → asks_end ask ≡ false → IfSome (names n r) (IsSaidBy at ask)
-figure_said at ask n (Ok f) on = on
-figure_said at ask n (Err case) on = tt
+figure_said : (here : Situation) (ask : Ask) (n : List ℕ) (r : Result Figure Case) → asks_end ask ≡ false → IfSome (names n r) (IsSaidBy here ask)
+figure_said here ask n (Ok f) on = on
+figure_said here ask n (Err case) on = tt
 
-defined_said : (at : Situation) (name : List ℕ) (form : Form) → IfSome (defined at name form) (IsSaidBy at (Defines name form))
+defined_said : (here : Situation) (name : List ℕ) (form : Form) → IfSome (defined here name form) (IsSaidBy here (Defines name form))
 unfolding defined
-defined_said at name form = figure_said at (Defines name form) name (figure_of at.settings.units at.table form) refl
+defined_said here name form = figure_said here (Defines name form) name (figure_of here.settings.units here.table form) refl
 
 -- ---- moves and contours, where what they need is there
 
-moves_said : (at : Situation) (ask : Ask) (reach : Reach) (o : Option Position) → asks_end ask ≡ false → IfSome (moves reach o) (IsSaidBy at ask)
-moves_said at ask reach None on = tt
-moves_said at ask reach (Some to) on = on
+moves_said : (here : Situation) (ask : Ask) (reach : Reach) (o : Option Position) → asks_end ask ≡ false → IfSome (moves reach o) (IsSaidBy here ask)
+moves_said here ask reach None on = tt
+moves_said here ask reach (Some to) on = on
 
-unless_said : (at : Situation) (ask : Ask) (b : Bool) (o : Option Motion) → IfSome (cuts o) (IsSaidBy at ask) → IfSome (cuts (cond b None o)) (IsSaidBy at ask)
-unless_said at ask true o said = tt
-unless_said at ask false o said = said
+unless_said : (here : Situation) (ask : Ask) (b : Bool) (o : Option Motion) → IfSome (cuts o) (IsSaidBy here ask) → IfSome (cuts (cond b None o)) (IsSaidBy here ask)
+unless_said here ask true o said = tt
+unless_said here ask false o said = said
 
-motion_of : (at : Situation) (side : Option Side) (start : Position) (drive : Surface) (turned : Sign) (how : Stop) (check : Surface) → at.position ≡ Some start
-    → IsMotionOf at (motion (with_side at.settings side) start drive turned how check)
-motion_of at None start drive turned how check here = record { start = here; radius = refl; inner = refl; outer = refl }
-motion_of at (Some side) start drive turned how check here = record { start = here; radius = refl; inner = refl; outer = refl }
+motion_of : (here : Situation) (side : Option Side) (start : Position) (drive : Surface) (turned : Sign) (how : Stop) (check : Surface) → here.position ≡ Some start
+    → IsMotionOf here (motion (with_side here.settings side) start drive turned how check)
+motion_of here None start drive turned how check is_start = record { start = is_start; radius = refl; inner = refl; outer = refl }
+motion_of here (Some side) start drive turned how check is_start = record { start = is_start; radius = refl; inner = refl; outer = refl }
 
-turned_said : (at : Situation) (ask : Ask) (side : Option Side) (start : Position) (drive : Surface) (turned : Sign) (how : Stop) (check : Surface)
-    → asks_end ask ≡ false → at.position ≡ Some start → IfSome (cuts (if_turned (with_side at.settings side) start drive turned how check)) (IsSaidBy at ask)
-turned_said at ask side start drive turned how check on here =
-    let m = motion (with_side at.settings side) start drive turned how check in
-    unless_said at ask (is_zero turned) (Some m) (on, motion_of at side start drive turned how check here)
+turned_said : (here : Situation) (ask : Ask) (side : Option Side) (start : Position) (drive : Surface) (turned : Sign) (how : Stop) (check : Surface)
+    → asks_end ask ≡ false → here.position ≡ Some start → IfSome (cuts (if_turned (with_side here.settings side) start drive turned how check)) (IsSaidBy here ask)
+turned_said here ask side start drive turned how check on is_start =
+    let m = motion (with_side here.settings side) start drive turned how check in
+    unless_said here ask (is_zero turned) (Some m) (on, motion_of here side start drive turned how check is_start)
 
-contour_said : (at : Situation) (ask : Ask) (side : Option Side) (go : Go) (how : Stop) (p : Option Position) (d c : Option Surface)
-    → asks_end ask ≡ false → at.position ≡ p
-    → IfSome (cuts (p >>= λ start. d >>= λ drive. c >>= λ check. if_turned (with_side at.settings side) start drive (turn_at at start drive go) how check)) (IsSaidBy at ask)
-contour_said at ask side go how None d c on here = tt
-contour_said at ask side go how (Some start) None c on here = tt
-contour_said at ask side go how (Some start) (Some drive) None on here = tt
-contour_said at ask side go how (Some start) (Some drive) (Some check) on here =
-    turned_said at ask side start drive (turn_at at start drive go) how check on here
+contour_said : (here : Situation) (ask : Ask) (side : Option Side) (go : Go) (how : Stop) (p : Option Position) (d c : Option Surface)
+    → asks_end ask ≡ false → here.position ≡ p
+    → IfSome (cuts (p >>= λ start. d >>= λ drive. c >>= λ check. if_turned (with_side here.settings side) start drive (turn_at here start drive go) how check)) (IsSaidBy here ask)
+contour_said here ask side go how None d c on is_start = tt
+contour_said here ask side go how (Some start) None c on is_start = tt
+contour_said here ask side go how (Some start) (Some drive) None on is_start = tt
+contour_said here ask side go how (Some start) (Some drive) (Some check) on is_start =
+    turned_said here ask side start drive (turn_at here start drive go) how check on is_start
 
-goes_said : (at : Situation) (route : Route) → IfSome (goes at route) (IsSaidBy at (Goes route))
-goes_said at (routes.From place) = moves_said at (Goes (routes.From place)) reaches.From (place_at at place) refl
-goes_said at (routes.Goto place) = moves_said at (Goes (routes.Goto place)) reaches.Goto (place_at at place) refl
-goes_said at (routes.By x y z) = moves_said at (Goes (routes.By x y z)) reaches.Godlta (moved_from at x y z) refl
-goes_said at (routes.Start how name other) = moves_said at (Goes (routes.Start how name other)) reaches.Start (start_position_at at how name other) refl
+goes_said : (here : Situation) (route : Route) → IfSome (goes here route) (IsSaidBy here (Goes route))
+goes_said here (routes.From place) = moves_said here (Goes (routes.From place)) reaches.From (place_at here place) refl
+goes_said here (routes.Goto place) = moves_said here (Goes (routes.Goto place)) reaches.Goto (place_at here place) refl
+goes_said here (routes.By x y z) = moves_said here (Goes (routes.By x y z)) reaches.Godlta (moved_from here x y z) refl
+goes_said here (routes.Start how name other) = moves_said here (Goes (routes.Start how name other)) reaches.Start (start_position_at here how name other) refl
 
 -- ---- a line for each ask
 
-said : (at : Situation) (ask : Ask) → IfSome (effect_by at ask) (IsSaidBy at ask)
+said : (here : Situation) (ask : Ask) → IfSome (effect_by here ask) (IsSaidBy here ask)
 unfolding motion_at
-said at (Titles text) = refl
-said at (Says saying) = refl
-said at (Sets side) = refl
-said at (Defines name form) = defined_said at name form
-said at (Goes route) = goes_said at route
-said at (Cuts side go drive how check) =
-    contour_said at (Cuts side go drive how check) side go how at.position (surface_in at.table drive) (surface_in at.table check) refl refl
-said at Nothing = refl
+said here (Titles text) = refl
+said here (Says saying) = refl
+said here (Sets side) = refl
+said here (Defines name form) = defined_said here name form
+said here (Goes route) = goes_said here route
+said here (Cuts side go drive how check) =
+    contour_said here (Cuts side go drive how check) side go how here.position (surface_in here.table drive) (surface_in here.table check) refl refl
+said here Nothing = refl
 
-pub said_by : (at : Situation) (deed : Deed) (e : Effect) → effect_of at deed ≡ Some e → IsSaidBy at (ask_of deed) e
-said_by at deed e asked = of_some (IsSaidBy at (ask_of deed)) (effect_of at deed) e asked (said at (ask_of deed))
+pub said_by : (here : Situation) (deed : Deed) (e : Effect) → effect_of here deed ≡ Some e → IsSaidBy here (ask_of deed) e
+said_by here deed e asked = of_some (IsSaidBy here (ask_of deed)) (effect_of here deed) e asked (said here (ask_of deed))

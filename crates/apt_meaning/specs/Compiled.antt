@@ -53,9 +53,9 @@ or_first step (Ok e) more = more e
 
 -- the first step that a case refuses
 abbrev pub first_refused : Situation → List Step → Option Refusal
-first_refused at [] = None
-first_refused at (step ∷ steps) =
-    or_first step (asked (refusal_of at step.deed) (effect_of at step.deed)) (λ e. first_refused (after at e (ends_of e)) steps)
+first_refused here [] = None
+first_refused here (step ∷ steps) =
+    or_first step (asked (refusal_of here step.deed) (effect_of here step.deed)) (λ e. first_refused (after here e (ends_of e)) steps)
 
 -- ---- their records
 
@@ -69,10 +69,10 @@ with_front front (Err refusal) = Err refusal
 
 -- the records of all steps behind so many vertices, or the first step that a case refuses, or that has too many
 abbrev pub compilation_behind : ℕ → Situation → List Step → Result (List Record) Refusal
-compilation_behind so_far at [] = Ok []
-compilation_behind so_far at (step ∷ steps) =
-    or_refused step (asked_within so_far (asked (refusal_of at step.deed) (effect_of at step.deed)))
-    (λ e. with_front (records_of step e (points_of e)) (compilation_behind (so_far + length (points_of e)) (after at e (ends_of e)) steps))
+compilation_behind so_far here [] = Ok []
+compilation_behind so_far here (step ∷ steps) =
+    or_refused step (asked_within so_far (asked (refusal_of here step.deed) (effect_of here step.deed)))
+    (λ e. with_front (records_of step e (points_of e)) (compilation_behind (so_far + length (points_of e)) (after here e (ends_of e)) steps))
 
 abbrev pub compilation : Situation → List Step → Result (List Record) Refusal
-compilation at steps = compilation_behind 0 at steps
+compilation here steps = compilation_behind 0 here steps

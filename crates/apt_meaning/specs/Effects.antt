@@ -74,14 +74,14 @@ position_by units x y z = position_at (grid_units units x) (grid_units units y) 
 
 -- a position moved by three scalars
 abbrev pub moved_by : Units → ℤ → ℤ → ℤ → Position → Position
-moved_by units x y z p = position_at (p.at.x +ℤ grid_units units x) (p.at.y +ℤ grid_units units y) (p.z +ℤ grid_units units z)
+moved_by units x y z p = position_at (p.xy.x +ℤ grid_units units x) (p.xy.y +ℤ grid_units units y) (p.z +ℤ grid_units units z)
 
 abbrev pub moved_from : Situation → ℤ → ℤ → ℤ → Option Position
-moved_from at x y z = at.position >>= λ p. Some (moved_by at.settings.units x y z p)
+moved_from here x y z = here.position >>= λ p. Some (moved_by here.settings.units x y z p)
 
 -- the point that a name stands for, with its height
 abbrev pub as_position : Figure → Option Position
-as_position (figures.Point at z) = Some (at_height z at)
+as_position (figures.Point xy z) = Some (at_height z xy)
 as_position (figures.Shape s) = None
 as_position figures.Scalar = None
 
@@ -89,14 +89,14 @@ abbrev pub place_in : Table → List ℕ → Option Position
 place_in table name = figure_named table name >>= as_position
 
 abbrev pub place_at : Situation → Place → Option Position
-place_at at (places.Xyz x y z) = Some (position_by at.settings.units x y z)
-place_at at (places.Named p) = place_in at.table p
+place_at here (places.Xyz x y z) = Some (position_by here.settings.units x y z)
+place_at here (places.Named p) = place_in here.table p
 
 abbrev pub goes : Situation → Route → Option Effect
-goes at (routes.From place) = moves reaches.From (place_at at place)
-goes at (routes.Goto place) = moves reaches.Goto (place_at at place)
-goes at (routes.By x y z) = moves reaches.Godlta (moved_from at x y z)
-goes at (routes.Start how name other) = moves reaches.Start (start_position_at at how name other)
+goes here (routes.From place) = moves reaches.From (place_at here place)
+goes here (routes.Goto place) = moves reaches.Goto (place_at here place)
+goes here (routes.By x y z) = moves reaches.Godlta (moved_from here x y z)
+goes here (routes.Start how name other) = moves reaches.Start (start_position_at here how name other)
 
 -- ---- definitions
 
@@ -106,18 +106,18 @@ names name (Err case) = None
 
 -- a definition gives its name a figure; a refused one asks for nothing
 unfoldable pub defined : Situation → List ℕ → Form → Option Effect
-defined at name form = names name (figure_of at.settings.units at.table form)
+defined here name form = names name (figure_of here.settings.units here.table form)
 
 -- ---- what a step asks for
 
 abbrev pub effect_by : Situation → Ask → Option Effect
-effect_by at (Titles text) = says (notes.Partno text)
-effect_by at (Says saying) = says (note_of at.settings.units saying)
-effect_by at (Sets side) = Some (effects.Sets (changes.Side side))
-effect_by at (Defines name form) = defined at name form
-effect_by at (Goes route) = goes at route
-effect_by at (Cuts side go drive how check) = cuts (motion_at at side go drive how check)
-effect_by at Nothing = Some (effects.Sets changes.Nothing)
+effect_by here (Titles text) = says (notes.Partno text)
+effect_by here (Says saying) = says (note_of here.settings.units saying)
+effect_by here (Sets side) = Some (effects.Sets (changes.Side side))
+effect_by here (Defines name form) = defined here name form
+effect_by here (Goes route) = goes here route
+effect_by here (Cuts side go drive how check) = cuts (motion_at here side go drive how check)
+effect_by here Nothing = Some (effects.Sets changes.Nothing)
 
 abbrev pub effect_of : Situation → Deed → Option Effect
-effect_of at deed = effect_by at (ask_of deed)
+effect_of here deed = effect_by here (ask_of deed)

@@ -39,7 +39,7 @@ behind_statement step (x ∷ xs) = Exactly (records.Statement step.line step.ste
 
 -- the records of a step where something holds
 abbrev pub expected : Situation → Step → List Expectation
-expected at step = behind_statement step (expected_of (effect_of at step.deed))
+expected here step = behind_statement step (expected_of (effect_of here step.deed))
 
 -- a record is as expected, with these vertices
 abbrev pub Meets : Expectation → Record → List Pt → Type 0
@@ -61,9 +61,9 @@ Departs (x ∷ xs) (r ∷ rs) (suc k) = ((vertices : List Pt) × Meets x r verti
 
 -- records cease to answer steps at the record with this number, where the first of them has the number seq
 abbrev pub FailsAt : Situation → ℕ → List Step → List Record → ℕ → Type 0
-FailsAt at seq [] [] k = ⊥
-FailsAt at seq [] (r ∷ rs) k = k ≡ seq
-FailsAt at seq (step ∷ steps) written k =
-    ((j : ℕ) × Departs (expected at step) written j × (k ≡ seq + j))
+FailsAt here seq [] [] k = ⊥
+FailsAt here seq [] (r ∷ rs) k = k ≡ seq
+FailsAt here seq (step ∷ steps) written k =
+    ((j : ℕ) × Departs (expected here step) written j × (k ≡ seq + j))
     ⊎ ((e : Effect) × (vertices : List Pt) × (rest : List Record)
-    × Begins at step written e vertices rest × FailsAt (after at e vertices) (seq + length (records_of step e vertices)) steps rest k)
+    × Begins here step written e vertices rest × FailsAt (after here e vertices) (seq + length (records_of step e vertices)) steps rest k)

@@ -39,7 +39,7 @@ abbrev pub is_too_fine : Settings → Bool
 is_too_fine s = int_lt s.intol grid_step && int_lt s.outtol grid_step
 
 abbrev pub as_surface : Figure → Option Surface
-as_surface (figures.Point at z) = None
+as_surface (figures.Point xy z) = None
 as_surface (figures.Shape s) = Some s
 as_surface figures.Scalar = None
 
@@ -66,7 +66,7 @@ abbrev pub drive_side : Motion → Sign
 drive_side m = side_at_drive m.side m.sense
 
 abbrev pub check_side : Motion → Sign
-check_side m = side_at_check m.check m.how m.start.at m.drive (drive_side m)
+check_side m = side_at_check m.check m.how m.start.xy m.drive (drive_side m)
 
 -- the targets: the curve of the cutter's centre, and the one at which it stops
 abbrev pub track_of : Motion → Target
@@ -82,7 +82,7 @@ starts_on_check m = is_on_check m.how (check_side m)
 -- ---- its course
 
 abbrev pub course_of : Motion → Course
-course_of m = record { start = m.start.at; drive = m.drive; track = track_of m; sense = m.sense; check = m.check; how = m.how; stop = stop_of m }
+course_of m = record { start = m.start.xy; drive = m.drive; track = track_of m; sense = m.sense; check = m.check; how = m.how; stop = stop_of m }
 
 -- the side of the stop on which it runs; a motion that touches its check surface has none
 abbrev pub stop_side : Motion → Sign
@@ -131,7 +131,7 @@ abbrev pub sag : Motion → ℤ → ℤ
 sag m r = lesser (r -ℤ (leg_of m).band.lo) (pos (unsigned_abs r / 4))
 
 abbrev pub arc_on : Motion → Pt → ℤ → Arc
-arc_on m c r = record { track = circle_about c r; sense = m.sense; axis = axis_towards c m.check; sag = sag m r; start = m.start.at; end = end_point m }
+arc_on m c r = record { track = circle_about c r; sense = m.sense; axis = axis_towards c m.check; sag = sag m r; start = m.start.xy; end = end_point m }
 
 -- the arc along which it runs, none along a line
 abbrev pub arc_along : Motion → Target → Option Arc
@@ -156,12 +156,12 @@ if_turned s start drive turned how check = if is_zero turned then None else Some
 
 -- how the drive surface runs at the start against forward
 abbrev pub turn_at : Situation → Position → Surface → Go → Sign
-turn_at at start drive go = turn at.forward (tangent drive start.at) go
+turn_at here start drive go = turn here.forward (tangent drive start.xy) go
 
 -- the motion that a contour statement asks for, where its names stand for surfaces and its sense is there
 unfoldable pub motion_at : Situation → Option Side → Go → List ℕ → Stop → List ℕ → Option Motion
-motion_at at side go drive how check = do
-  start ← at.position
-  drive ← surface_in at.table drive
-  check ← surface_in at.table check
-  if_turned (with_side at.settings side) start drive (turn_at at start drive go) how check
+motion_at here side go drive how check = do
+  start ← here.position
+  drive ← surface_in here.table drive
+  check ← surface_in here.table check
+  if_turned (with_side here.settings side) start drive (turn_at here start drive go) how check

@@ -81,7 +81,7 @@ forward_along forward d = if is_nowhere d then forward else d
 -- a move from nowhere, as a GOTO without FROM, leaves forward as it was
 abbrev pub forward_to : Option Position → Pt → Dir → Dir
 forward_to None to forward = forward
-forward_to (Some from) to forward = forward_along forward (way_from from.at to)
+forward_to (Some from) to forward = forward_along forward (way_from from.xy to)
 
 -- forward on a surface at a point: a line's direction, or a circle's tangent anticlockwise, in the sense
 abbrev pub forward_on : Surface → ℤ → Pt → Dir
@@ -89,7 +89,7 @@ forward_on (surfaces.Line l) sense p = record { dx = sense *ℤ l.dir.dx; dy = s
 forward_on (surfaces.Circ c) sense p = record { dx = sense *ℤ neg_ℤ (p.y -ℤ c.c.y); dy = sense *ℤ (p.x -ℤ c.c.x) }
 
 abbrev pub moved : Saying → Position → Saying
-moved s to = record s { position = Some to; forward = forward_to s.position to.at s.forward }
+moved s to = record s { position = Some to; forward = forward_to s.position to.xy s.forward }
 
 -- GOTO, GODLTA and GO spend a pending RAPID, which FROM leaves
 abbrev pub with_point : Saying → Reach → Position → Saying
@@ -114,7 +114,7 @@ pub record Contour : Type 0 where
   pub vertices : List Pt
 
 abbrev pub at_points : List Position → List Pt
-at_points ps = map (λ p. p.at) ps
+at_points ps = map (λ p. p.xy) ps
 
 -- from where the tool stands, along the last drive surface, to the last check surface
 abbrev pub motion_said : Saying → Position → Drive → Check → Motion
@@ -145,7 +145,7 @@ last_position p (v ∷ vs) = last_position (Some v) vs
 abbrev pub forward_there : Option Drive → Option Position → Dir → Dir
 forward_there None p forward = forward
 forward_there (Some d) None forward = forward
-forward_there (Some d) (Some p) forward = forward_on d.surface d.sense p.at
+forward_there (Some d) (Some p) forward = forward_on d.surface d.sense p.xy
 
 -- behind a contour the tool stands at its last vertex, and forward is that of its drive surface there
 abbrev pub with_contour : Saying → List Position → Saying
@@ -207,7 +207,7 @@ contours_of rs = contours_behind nothing_said rs
 -- a motion whose leg has an edge that it must not pass, or an axis on which it ends, and is legal through these vertices
 pub record IsLegalCut (m : Motion) (vertices : List Pt) : Type 0 where
   pub bounded : IsBounded (leg_of m)
-  pub legal : IsLegal (leg_of m) m.start.at vertices
+  pub legal : IsLegal (leg_of m) m.start.xy vertices
 
 -- a fact of the motion and the vertices of every contour
 abbrev pub EveryContour : (Motion → List Pt → Type 0) → List Contour → Type 0

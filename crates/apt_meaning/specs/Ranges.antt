@@ -33,11 +33,11 @@ pub record AreSettings (s : Settings) : Type 0 where
   pub outtol : IsTolerance s.outtol
   pub feed : IsFeed s.feed
 
-pub record IsSituation (at : Situation) : Type 0 where
-  pub settings : AreSettings at.settings
-  pub position : IsPositionOrNone at.position
-  pub forward : IsForward at.forward
-  pub table : AreFigures at.table
+pub record IsSituation (here : Situation) : Type 0 where
+  pub settings : AreSettings here.settings
+  pub position : IsPositionOrNone here.position
+  pub forward : IsForward here.forward
+  pub table : AreFigures here.table
 
 -- a tolerance that counts as at least a grid step
 pub record IsAllowance (t : ℤ) : Type 0 where

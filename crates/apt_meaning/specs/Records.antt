@@ -48,17 +48,17 @@ records_of step e vertices = with_statement step (effect_records e vertices)
 
 -- the situation behind an effect; behind a contour forward is the tangent of the drive surface, in its sense
 abbrev pub after : Situation → Effect → List Pt → Situation
-after at (effects.Defines n f) vertices = record at { table = table_with at.table n f }
-after at (effects.Sets change) vertices = record at { settings = changed at.settings change }
-after at (effects.Moves reach to) vertices = record at {
-  settings = settings_behind reach at.settings;
+after here (effects.Defines n f) vertices = record here { table = table_with here.table n f }
+after here (effects.Sets change) vertices = record here { settings = changed here.settings change }
+after here (effects.Moves reach to) vertices = record here {
+  settings = settings_behind reach here.settings;
   position = Some to;
-  forward = forward_behind at.position to.at at.forward;
+  forward = forward_behind here.position to.xy here.forward;
 }
-after at (effects.Cuts m) vertices = record at {
-  settings = record at.settings { side = m.side };
-  position = Some (at_height m.start.z (last_of m.start.at vertices));
-  forward = heading m.sense (tangent m.drive (last_of m.start.at vertices));
+after here (effects.Cuts m) vertices = record here {
+  settings = record here.settings { side = m.side };
+  position = Some (at_height m.start.z (last_of m.start.xy vertices));
+  forward = heading m.sense (tangent m.drive (last_of m.start.xy vertices));
 }
 
 -- ---- the walk
@@ -71,17 +71,17 @@ MayHave (effects.Moves reach to) vertices = vertices ≡ []
 MayHave (effects.Cuts m) vertices = is_defined m ≡ true
 
 -- the records begin with those of the step's effect, whose contour has these vertices, and rest is behind them
-pub record Begins (at : Situation) (step : Step) (written : List Record) (e : Effect) (vertices : List Pt) (rest : List Record) : Type 0 where
-  pub asked : effect_of at step.deed ≡ Some e
+pub record Begins (here : Situation) (step : Step) (written : List Record) (e : Effect) (vertices : List Pt) (rest : List Record) : Type 0 where
+  pub asked : effect_of here step.deed ≡ Some e
   pub front : written ≡ records_of step e vertices ++ rest
   pub may : MayHave e vertices
 
 -- records follow steps from the situation before them to the one behind, each contour with vertices as Allowed says
 abbrev pub FollowsAs : (Effect → List Pt → Type 0) → Situation → List Step → List Record → Situation → Type 0
-FollowsAs Allowed at [] written behind = (written ≡ []) × (behind ≡ at)
-FollowsAs Allowed at (step ∷ steps) written behind =
+FollowsAs Allowed here [] written behind = (written ≡ []) × (behind ≡ here)
+FollowsAs Allowed here (step ∷ steps) written behind =
     (e : Effect) × (vertices : List Pt) × (rest : List Record)
-    × Begins at step written e vertices rest × Allowed e vertices × FollowsAs Allowed (after at e vertices) steps rest behind
+    × Begins here step written e vertices rest × Allowed e vertices × FollowsAs Allowed (after here e vertices) steps rest behind
 
 -- ---- the compiler's own vertices
 
@@ -96,15 +96,15 @@ IsOwnCut m vertices = IsOwnOn m (track_of m) vertices
 -- ---- what holds behind records, beside what they say by themselves
 
 -- a situation has the settings, the position and the forward direction that records have said
-pub record IsAsSaid (s : Saying) (at : Situation) : Type 0 where
-  pub units : at.settings.units ≡ s.units
-  pub radius : at.settings.radius ≡ radius_by s.diameter
-  pub intol : at.settings.intol ≡ s.intol
-  pub outtol : at.settings.outtol ≡ s.outtol
-  pub feed : at.settings.feed ≡ s.feed
-  pub rapid : at.settings.rapid ≡ s.rapid
-  pub position : at.position ≡ s.position
-  pub forward : at.forward ≡ s.forward
+pub record IsAsSaid (s : Saying) (here : Situation) : Type 0 where
+  pub units : here.settings.units ≡ s.units
+  pub radius : here.settings.radius ≡ radius_by s.diameter
+  pub intol : here.settings.intol ≡ s.intol
+  pub outtol : here.settings.outtol ≡ s.outtol
+  pub feed : here.settings.feed ≡ s.feed
+  pub rapid : here.settings.rapid ≡ s.rapid
+  pub position : here.position ≡ s.position
+  pub forward : here.forward ≡ s.forward
 
 -- a contour may have any vertices
 abbrev pub HasAny : Effect → List Pt → Type 0

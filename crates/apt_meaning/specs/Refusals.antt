@@ -56,7 +56,7 @@ under_one n = (int_lt n (pos 1), cases.OutOfRange)
 
 -- a position is within the coordinate limit
 abbrev pub position_cases : Position → List Row → List Row
-position_cases p more = out_of_reach p.at.x ∷ out_of_reach p.at.y ∷ out_of_reach p.z ∷ more
+position_cases p more = out_of_reach p.xy.x ∷ out_of_reach p.xy.y ∷ out_of_reach p.z ∷ more
 
 -- a name stands for something
 abbrev pub is_undefined : Table → List ℕ → Bool
@@ -94,7 +94,7 @@ refused (Err case) = (true, case) ∷ []
 
 -- a definition is refused by its own first case
 unfoldable pub refused_form : Situation → Form → List Row
-refused_form at form = refused (figure_of at.settings.units at.table form)
+refused_form here form = refused (figure_of here.settings.units here.table form)
 
 -- ---- moves
 
@@ -118,11 +118,11 @@ each_name P case (n ∷ ns) = (P n, case) ∷ each_name P case ns
 
 -- GO: each name is there before the kind of one is tried
 abbrev pub go_cases : Situation → Stop → List ℕ → Option (Stop × List ℕ) → List Row
-go_cases at how name other =
-    (is_none at.position, cases.NoFrom)
-    ∷ each_name (is_undefined at.table) cases.Undefined (start_names name other)
-    ++ each_name (is_no_surface at.table) cases.WrongKind (start_names name other)
-    ++ (lacks_feed at.settings, cases.NoFeed) ∷ start_cases (start_up_at at how name other)
+go_cases here how name other =
+    (is_none here.position, cases.NoFrom)
+    ∷ each_name (is_undefined here.table) cases.Undefined (start_names name other)
+    ++ each_name (is_no_surface here.table) cases.WrongKind (start_names name other)
+    ++ (lacks_feed here.settings, cases.NoFeed) ∷ start_cases (start_up_at here how name other)
 
 -- ---- contours
 
@@ -130,7 +130,7 @@ abbrev pub motion_cases : Motion → List Row
 motion_cases m =
     (lacks_room (track_of m), cases.NoRoom)
     ∷ (not (starts_on_check m) && lacks_room (stop_of m), cases.NoRoom)
-    ∷ (not (is_near (track_of m) off_track m.start.at), cases.OffDrive)
+    ∷ (not (is_near (track_of m) off_track m.start.xy), cases.OffDrive)
     ∷ (starts_on_check m, cases.OnCheck) ∷ course_cases (course_of m)
 
 -- a contour whose drive surface runs so against forward
@@ -140,24 +140,24 @@ turned_cases s start drive turned how check =
     ∷ (is_zero turned, cases.NoTurn) ∷ motion_cases (motion s start drive turned how check)
 
 abbrev pub surface_cases : Situation → Option Side → Go → Stop → Option Position → Option Surface → Option Surface → List Row
-surface_cases at side go how (Some start) (Some drive) (Some check) =
-    turned_cases (with_side at.settings side) start drive (turn_at at start drive go) how check
-surface_cases at side go how (Some start) (Some drive) None = []
-surface_cases at side go how (Some start) None check = []
-surface_cases at side go how None drive check = []
+surface_cases here side go how (Some start) (Some drive) (Some check) =
+    turned_cases (with_side here.settings side) start drive (turn_at here start drive go) how check
+surface_cases here side go how (Some start) (Some drive) None = []
+surface_cases here side go how (Some start) None check = []
+surface_cases here side go how None drive check = []
 
 abbrev pub contour_cases : Situation → Option Side → Go → List ℕ → Stop → List ℕ → List Row
-contour_cases at side go drive how check =
-    (is_none at.position, cases.NoFrom)
-    ∷ name_cases at.table drive (name_cases at.table check
-    (surface_cases at side go how at.position (surface_in at.table drive) (surface_in at.table check)))
+contour_cases here side go drive how check =
+    (is_none here.position, cases.NoFrom)
+    ∷ name_cases here.table drive (name_cases here.table check
+    (surface_cases here side go how here.position (surface_in here.table drive) (surface_in here.table check)))
 
 abbrev pub godlta_cases : Situation → ℤ → ℤ → ℤ → List Row
-godlta_cases at x y z = (is_none at.position, cases.NoFrom) ∷ move_cases at.settings (at.position >>= λ p. Some (moved_by at.settings.units x y z p))
+godlta_cases here x y z = (is_none here.position, cases.NoFrom) ∷ move_cases here.settings (here.position >>= λ p. Some (moved_by here.settings.units x y z p))
 
 abbrev pub place_cases : Situation → Place → List Row → List Row
-place_cases at (places.Xyz x y z) more = position_cases (position_by at.settings.units x y z) more
-place_cases at (places.Named p) more = point_cases at.table p more
+place_cases here (places.Xyz x y z) more = position_cases (position_by here.settings.units x y z) more
+place_cases here (places.Named p) more = point_cases here.table p more
 
 -- ---- the table of what is asked
 
@@ -181,23 +181,23 @@ note_cases notes.End = []
 note_cases notes.Fini = []
 
 abbrev pub route_cases : Situation → Route → List Row
-route_cases at (routes.From place) = (is_some at.position, cases.FromAgain) ∷ place_cases at place []
-route_cases at (routes.Goto place) = place_cases at place ((lacks_feed at.settings, cases.NoFeed) ∷ [])
-route_cases at (routes.By x y z) = godlta_cases at x y z
-route_cases at (routes.Start how name other) = go_cases at how name other
+route_cases here (routes.From place) = (is_some here.position, cases.FromAgain) ∷ place_cases here place []
+route_cases here (routes.Goto place) = place_cases here place ((lacks_feed here.settings, cases.NoFeed) ∷ [])
+route_cases here (routes.By x y z) = godlta_cases here x y z
+route_cases here (routes.Start how name other) = go_cases here how name other
 
 abbrev pub cases_by : Situation → Ask → List Row
-cases_by at (Titles text) = []
-cases_by at (Says saying) = note_cases (note_of at.settings.units saying)
-cases_by at (Sets side) = []
-cases_by at (Defines name form) = refused_form at form
-cases_by at (Goes route) = route_cases at route
-cases_by at (Cuts side go drive how check) = contour_cases at side go drive how check
-cases_by at Nothing = []
+cases_by here (Titles text) = []
+cases_by here (Says saying) = note_cases (note_of here.settings.units saying)
+cases_by here (Sets side) = []
+cases_by here (Defines name form) = refused_form here form
+cases_by here (Goes route) = route_cases here route
+cases_by here (Cuts side go drive how check) = contour_cases here side go drive how check
+cases_by here Nothing = []
 
 abbrev pub cases_of : Situation → Deed → List Row
-cases_of at deed = cases_by at (ask_of deed)
+cases_of here deed = cases_by here (ask_of deed)
 
 -- the first case that refuses a step
 abbrev pub refusal_of : Situation → Deed → Option Case
-refusal_of at deed = first_of (cases_of at deed)
+refusal_of here deed = first_of (cases_of here deed)

@@ -85,11 +85,11 @@ settings_behind reach s = if is_move reach then record s { rapid = false } else 
 -- forward after a move is its way, and stays where it has none or where there was no position
 abbrev pub forward_behind : Option Position → Pt → Dir → Dir
 forward_behind None to forward = forward
-forward_behind (Some from) to forward = if length_squared (displacement from.at to) == 0 then forward else displacement from.at to
+forward_behind (Some from) to forward = if length_squared (displacement from.xy to) == 0 then forward else displacement from.xy to
 
 abbrev pub position_at : ℤ → ℤ → ℤ → Position
-position_at x y z = record { at = record { x = x; y = y }; z = z }
+position_at x y z = record { xy = record { x = x; y = y }; z = z }
 
 -- a point at a height
 abbrev pub at_height : ℤ → Pt → Position
-at_height z p = record { at = p; z = z }
+at_height z p = record { xy = p; z = z }

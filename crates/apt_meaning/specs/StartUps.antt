@@ -23,18 +23,18 @@ second_in table (Some other) = goal_in table other.0 other.1 >>= λ g. Some (Som
 
 -- the start-up that GO asks for, where the tool has a position and the names stand for surfaces
 unfoldable pub start_up_at : Situation → Stop → List ℕ → Option (Stop × List ℕ) → Option StartUp
-start_up_at at how name other = do
-  start ← at.position
-  first ← goal_in at.table how name
-  second ← second_in at.table other
-  Some (record { start = start.at; first = first; second = second; radius = at.settings.radius })
+start_up_at here how name other = do
+  start ← here.position
+  first ← goal_in here.table how name
+  second ← second_in here.table other
+  Some (record { start = start.xy; first = first; second = second; radius = here.settings.radius })
 
 -- where it leads, unless a case refuses it; it keeps the height
 abbrev pub start_position : Position → StartUp → Option Position
 start_position from u = only_if (is_none (first_of (start_up_cases u))) (at_height from.z (start_point u))
 
 abbrev pub start_position_at : Situation → Stop → List ℕ → Option (Stop × List ℕ) → Option Position
-start_position_at at how name other = do
-  from ← at.position
-  u ← start_up_at at how name other
+start_position_at here how name other = do
+  from ← here.position
+  u ← start_up_at here how name other
   start_position from u

@@ -55,27 +55,27 @@ pub fn note_of(units: Units, saying: &Saying) -> Note
 /// a GO or a contour has no position to start from, a name of GO or of a contour stands for no surface, a case refuses the
 /// point of GO, or a contour has no turn. Where a move leads may be out of range; a contour's motion is in range.
 #[tactic(auto, using(crate::proofs::Contours::Ranges::motion_in))]
-pub fn effect_of(at: &Situation, deed: &Deed) -> Result<Option<Effect>, AllocError>
-    requires situation { IsSituation at.now }
+pub fn effect_of(here: &Situation, deed: &Deed) -> Result<Option<Effect>, AllocError>
+    requires situation { IsSituation here.now }
     requires scalars { HasScalars deed.now }
-    ensures value { IfOk result (λ e. e ≡ asking.effect_of at.now deed.now) }
+    ensures value { IfOk result (λ e. e ≡ asking.effect_of here.now deed.now) }
     ensures motion { IfOk result (λ e. IfSome e HasMotion) }
 {
-    asked(at, deed)
+    asked(here, deed)
 }
 
-fn asked(at: &Situation, deed: &Deed) -> Result<Option<Effect>, AllocError>
-    requires situation { IsSituation at.now }
+fn asked(here: &Situation, deed: &Deed) -> Result<Option<Effect>, AllocError>
+    requires situation { IsSituation here.now }
     requires scalars { HasScalars deed.now }
-    ensures { IfOk result (λ e. e ≡ asking.effect_of at.now deed.now) }
+    ensures { IfOk result (λ e. e ≡ asking.effect_of here.now deed.now) }
 {
     match deed.ask() {
         Ask::Titles(text) => Ok(Some(says(Note::Partno(text.copied()?)))),
-        Ask::Says(saying) => Ok(Some(says(note_of(at.settings.units, &saying)))),
+        Ask::Says(saying) => Ok(Some(says(note_of(here.settings.units, &saying)))),
         Ask::Sets(side) => Ok(Some(Effect::Sets(Change::Side(side)))),
-        Ask::Defines(name, form) => Ok(defined(at, name, &form)),
-        Ask::Goes(route) => Ok(goes(at, &route)),
-        Ask::Cuts(side, go, drive, how, check) => Ok(contour(at, side, go, &drive, how, &check)),
+        Ask::Defines(name, form) => Ok(defined(here, name, &form)),
+        Ask::Goes(route) => Ok(goes(here, &route)),
+        Ask::Cuts(side, go, drive, how, check) => Ok(contour(here, side, go, &drive, how, &check)),
         Ask::Nothing => Ok(Some(Effect::Sets(Change::Nothing))),
     }
 }
@@ -89,67 +89,67 @@ fn says(note: Note) -> Effect
 
 /// The figure of a name, where no case refuses it.
 #[tactic(auto, unfolding(crate::specs::Effects::defined))]
-fn defined(at: &Situation, name: Symbol, form: &Form) -> Option<Effect>
+fn defined(here: &Situation, name: Symbol, form: &Form) -> Option<Effect>
     requires { AllScalars (form_numbers form.now) }
-    ensures { result ≡ asking.defined at.now name form.now }
+    ensures { result ≡ asking.defined here.now name form.now }
 {
-    match figure_of(form, at.settings.units, &at.table) {
+    match figure_of(form, here.settings.units, &here.table) {
         Ok(figure) => Some(Effect::Defines(name, figure)),
         Err(_) => None,
     }
 }
 
 /// The move to a place.
-fn goes(at: &Situation, route: &Route) -> Option<Effect>
-    requires situation { IsSituation at.now }
+fn goes(here: &Situation, route: &Route) -> Option<Effect>
+    requires situation { IsSituation here.now }
     requires scalars { AllScalars (route_numbers route.now) }
-    ensures { result ≡ asking.goes at.now route.now }
+    ensures { result ≡ asking.goes here.now route.now }
 {
     match route {
-        Route::From(place) => to_place(at, Reach::From, place),
-        Route::Goto(place) => to_place(at, Reach::Goto, place),
-        Route::By(x, y, z) => godlta(at, *x, *y, *z),
-        Route::Start(how, name, other) => go(at, *how, name, other),
+        Route::From(place) => to_place(here, Reach::From, place),
+        Route::Goto(place) => to_place(here, Reach::Goto, place),
+        Route::By(x, y, z) => godlta(here, *x, *y, *z),
+        Route::Start(how, name, other) => go(here, *how, name, other),
     }
 }
 
-fn to_place(at: &Situation, reach: Reach, place: &Place) -> Option<Effect>
+fn to_place(here: &Situation, reach: Reach, place: &Place) -> Option<Effect>
     requires { AllScalars (place_numbers place.now) }
-    ensures { result ≡ asking.moves reach (asking.place_at at.now place.now) }
+    ensures { result ≡ asking.moves reach (asking.place_at here.now place.now) }
 {
-    let to = place_at(at, place)?;
+    let to = place_at(here, place)?;
     Some(Effect::Moves(reach, to))
 }
 
-fn place_at(at: &Situation, place: &Place) -> Option<Position>
+fn place_at(here: &Situation, place: &Place) -> Option<Position>
     requires { AllScalars (place_numbers place.now) }
-    ensures { result ≡ asking.place_at at.now place.now }
+    ensures { result ≡ asking.place_at here.now place.now }
 {
     match place {
-        Place::Xyz(x, y, z) => Some(position_by(at.settings.units, *x, *y, *z)),
-        Place::Named(name) => place_in(&at.table, name),
+        Place::Xyz(x, y, z) => Some(position_by(here.settings.units, *x, *y, *z)),
+        Place::Named(name) => place_in(&here.table, name),
     }
 }
 
-fn godlta(at: &Situation, x: i64, y: i64, z: i64) -> Option<Effect>
-    requires situation { IsSituation at.now }
+fn godlta(here: &Situation, x: i64, y: i64, z: i64) -> Option<Effect>
+    requires situation { IsSituation here.now }
     requires x { IsScalar x }
     requires y { IsScalar y }
     requires z { IsScalar z }
-    ensures { result ≡ asking.moves Reach.Godlta (asking.moved_from at.now x y z) }
+    ensures { result ≡ asking.moves Reach.Godlta (asking.moved_from here.now x y z) }
 {
-    let from = at.position?;
-    let to = moved_by(at.settings.units, x, y, z, from);
+    let from = here.position?;
+    let to = moved_by(here.settings.units, x, y, z, from);
     Some(Effect::Moves(Reach::Godlta, to))
 }
 
 /// The move to the start-up point.
-fn go(at: &Situation, how: Stop, name: &Symbol, other: &Option<(Stop, Symbol)>) -> Option<Effect>
-    requires { IsSituation at.now }
-    ensures { result ≡ asking.moves Reach.Start (start_ups.start_position_at at.now how name.now other.now) }
+fn go(here: &Situation, how: Stop, name: &Symbol, other: &Option<(Stop, Symbol)>) -> Option<Effect>
+    requires { IsSituation here.now }
+    ensures { result ≡ asking.moves Reach.Start (start_ups.start_position_at here.now how name.now other.now) }
 {
-    let from = at.position?;
-    let start_up = start_up_at(at, how, name, other)?;
+    let from = here.position?;
+    let start_up = start_up_at(here, how, name, other)?;
     start_move(from, &start_up)
 }
 
@@ -159,34 +159,34 @@ fn start_move(from: Position, u: &StartUp) -> Option<Effect>
     ensures { result ≡ asking.moves Reach.Start (start_ups.start_position from u.now) }
 {
     match start(u) {
-        Ok(at) => Some(start_to(from, at)),
+        Ok(xy) => Some(start_to(from, xy)),
         Err(_) => None,
     }
 }
 
-fn start_to(from: Position, at: Pt) -> Effect
-    ensures { result ≡ Effect.Moves Reach.Start (situations.at_height from.z at) }
+fn start_to(from: Position, xy: Pt) -> Effect
+    ensures { result ≡ Effect.Moves Reach.Start (situations.at_height from.z xy) }
 {
-    Effect::Moves(Reach::Start, Position { at, z: from.z })
+    Effect::Moves(Reach::Start, Position { xy, z: from.z })
 }
 
 #[tactic(auto, unfolding(crate::specs::Motions::motion_at))]
 fn contour(
-    at: &Situation,
+    here: &Situation,
     side: Option<Side>,
     go: Go,
     drive: &Symbol,
     how: Stop,
     check: &Symbol,
 ) -> Option<Effect>
-    requires { IsSituation at.now }
-    ensures { result ≡ asking.cuts (motions.motion_at at.now side go drive.now how check.now) }
+    requires { IsSituation here.now }
+    ensures { result ≡ asking.cuts (motions.motion_at here.now side go drive.now how check.now) }
 {
-    let start = at.position?;
-    let drive = surface_in(&at.table, drive)?;
-    let check = surface_in(&at.table, check)?;
-    let settings = at.settings.with_side(side);
-    let turned = turn_at(at.forward, start, &drive, go);
+    let start = here.position?;
+    let drive = surface_in(&here.table, drive)?;
+    let check = surface_in(&here.table, check)?;
+    let settings = here.settings.with_side(side);
+    let turned = turn_at(here.forward, start, &drive, go);
     if is_zero(turned) {
         return None;
     }

@@ -87,7 +87,7 @@ impl Motion {
         side_at_check(
             &self.check,
             self.how,
-            self.start.at,
+            self.start.xy,
             &self.drive,
             self.drive_side(),
         )
@@ -130,7 +130,7 @@ impl Motion {
         ensures stop { IsTarget result.stop }
     {
         Course {
-            start: self.start.at,
+            start: self.start.xy,
             drive: self.drive,
             track,
             sense: self.sense,
@@ -176,7 +176,7 @@ impl Motion {
             sense: self.sense,
             axis: axis_towards(c, &self.check),
             sag: self.sag(r),
-            start: self.start.at,
+            start: self.start.xy,
             end,
         }
     }
@@ -222,9 +222,9 @@ pub fn turn_at(forward: Dir, start: Position, drive: &Surface, go: Go) -> Sign
     requires forward { IsForward forward }
     requires start { IsPosition start }
     requires drive { IsSurface drive.now }
-    ensures { result ≡ turns.turn forward (turns.tangent drive.now start.at) go }
+    ensures { result ≡ turns.turn forward (turns.tangent drive.now start.xy) go }
 {
-    let along = tangent(drive, start.at);
+    let along = tangent(drive, start.xy);
     turn(forward, along, go)
 }
 

@@ -31,7 +31,7 @@ pub fn position_by(units: Units, x: i64, y: i64, z: Option<i64>) -> Position
     ensures { result ≡ asking.position_by units x y z }
 {
     Position {
-        at: Pt {
+        xy: Pt {
             x: grid_units(units, x),
             y: grid_units(units, y),
         },
@@ -59,9 +59,9 @@ pub fn moved_by(units: Units, x: i64, y: i64, z: i64, from: Position) -> Positio
     ensures { result ≡ asking.moved_by units x y z from }
 {
     Position {
-        at: Pt {
-            x: coordinate_moved(units, x, from.at.x),
-            y: coordinate_moved(units, y, from.at.y),
+        xy: Pt {
+            x: coordinate_moved(units, x, from.xy.x),
+            y: coordinate_moved(units, y, from.xy.y),
         },
         z: coordinate_moved(units, z, from.z),
     }
@@ -83,7 +83,7 @@ impl Situation {
         requires to { IsPosition to }
         ensures { self.new ≡ written.after self.old (effects.Moves reach to) [] }
     {
-        self.forward = forward_behind(self.position, to.at, self.forward);
+        self.forward = forward_behind(self.position, to.xy, self.forward);
         self.settings.reach(reach);
         self.position = Some(to);
     }
@@ -94,11 +94,11 @@ impl Situation {
         requires vertices { ArePoints vertices.now }
         ensures { self.new ≡ written.after self.old (effects.Cuts motion.now) vertices.now }
     {
-        let end = end_of(motion.start.at, vertices);
+        let end = end_of(motion.start.xy, vertices);
         self.forward = heading(motion.sense, tangent(&motion.drive, end));
         self.settings.side = motion.side;
         self.position = Some(Position {
-            at: end,
+            xy: end,
             z: motion.start.z,
         });
     }
@@ -121,7 +121,7 @@ fn forward_from(from: Position, to: Pt, forward: Dir) -> Dir
     requires to { IsPoint to }
     ensures { result ≡ situations.forward_behind (Some from) to forward }
 {
-    let along = displacement(from.at, to);
+    let along = displacement(from.xy, to);
     if length_squared(along) == 0 {
         forward
     } else {

@@ -14,23 +14,23 @@ use apt_words::{Stop, Symbol};
 /// The start-up that GO asks for, where the tool has a position and each name stands for a surface.
 #[tactic(auto, unfolding(crate::specs::StartUps::start_up_at))]
 pub(crate) fn start_up_at(
-    at: &Situation,
+    here: &Situation,
     how: Stop,
     name: &Symbol,
     other: &Option<(Stop, Symbol)>,
 ) -> Option<StartUp>
-    requires { IsSituation at.now }
-    ensures value { result ≡ start_ups.start_up_at at.now how name.now other.now }
+    requires { IsSituation here.now }
+    ensures value { result ≡ start_ups.start_up_at here.now how name.now other.now }
     ensures range { IfSome result IsStartUp }
 {
-    let from = at.position?;
-    let first = goal_in(&at.table, how, name)?;
-    let second = second_in(&at.table, other)?;
+    let from = here.position?;
+    let first = goal_in(&here.table, how, name)?;
+    let second = second_in(&here.table, other)?;
     Some(StartUp {
-        start: from.at,
+        start: from.xy,
         first,
         second,
-        radius: at.settings.radius,
+        radius: here.settings.radius,
     })
 }
 

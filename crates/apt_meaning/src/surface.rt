@@ -42,7 +42,7 @@ pub fn position_of(figure: Figure) -> Option<Position>
     ensures range { IfSome result IsPosition }
 {
     match figure {
-        Figure::Point { at, z } => Some(Position { at, z }),
+        Figure::Point { xy, z } => Some(Position { xy, z }),
         Figure::Shape(_) | Figure::Scalar => None,
     }
 }

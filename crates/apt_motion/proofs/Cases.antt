@@ -62,7 +62,7 @@ position_of-is (Some figure) = refl
 
 known : (o : Option Figure) (s : Surface) → o >>= as_surface ≡ Some s → (is_none o ≡ false) × (is_other_kind o ≡ false)
 known None s e = absurd cc
-known (Some (figures.Point at z)) s e = absurd cc
+known (Some (figures.Point xy z)) s e = absurd cc
 known (Some (figures.Shape surface)) s e = (refl, refl)
 known (Some figures.Scalar) s e = absurd cc
 
@@ -76,7 +76,7 @@ goal_at how s = record { how = how; surface = s }
 
 known_goal : (o : Option Figure) (how : Stop) (g : Goal) → (o >>= as_surface) >>= (λ s. Some (goal_at how s)) ≡ Some g → (is_none o ≡ false) × (is_other_kind o ≡ false)
 known_goal None how g e = absurd cc
-known_goal (Some (figures.Point at z)) how g e = absurd cc
+known_goal (Some (figures.Point xy z)) how g e = absurd cc
 known_goal (Some (figures.Shape s)) how g e = (refl, refl)
 known_goal (Some figures.Scalar) how g e = absurd cc
 
@@ -106,29 +106,29 @@ names_stop table name (Some other) more case e = first_append (names_cases table
 
 -- ---- GO on known surfaces
 
-start_up_known : (at : Situation) (how : Stop) (name : List ℕ) (other : Option (Stop × List ℕ)) (from : Position) (first : Goal) (second : Option Goal)
-    → at.position ≡ Some from → goal_in at.table how name ≡ Some first → second_in at.table other ≡ Some second
-    → start_up_at at how name other ≡ Some (start_up_on at from first second)
+start_up_known : (here : Situation) (how : Stop) (name : List ℕ) (other : Option (Stop × List ℕ)) (from : Position) (first : Goal) (second : Option Goal)
+    → here.position ≡ Some from → goal_in here.table how name ≡ Some first → second_in here.table other ≡ Some second
+    → start_up_at here how name other ≡ Some (start_up_on here from first second)
 unfolding start_up_at
-start_up_known at how name other from first second here on_first on_second = rw (here, on_first, on_second) refl
+start_up_known here how name other from first second is_from on_first on_second = rw (is_from, on_first, on_second) refl
 
 -- the rows behind those of the names
 abbrev behind_names : Situation → Option StartUp → List Row
-behind_names at u = (lacks_feed at.settings, cases.NoFeed) ∷ start_cases u
+behind_names here u = (lacks_feed here.settings, cases.NoFeed) ∷ start_cases u
 
-from_there : (at : Situation) (from : Position) (rows : List Row) → at.position ≡ Some from → first_of ((is_none at.position, cases.NoFrom) ∷ rows) ≡ first_of rows
-from_there at from rows here = rw here refl
+from_there : (here : Situation) (from : Position) (rows : List Row) → here.position ≡ Some from → first_of ((is_none here.position, cases.NoFrom) ∷ rows) ≡ first_of rows
+from_there here from rows is_from = rw is_from refl
 
 -- the rows of the names and those behind
 abbrev from_names : Situation → List ℕ → Option (Stop × List ℕ) → Option StartUp → List Row
-from_names at name other u =
-    each_name (is_undefined at.table) cases.Undefined (start_names name other) ++ each_name (is_no_surface at.table) cases.WrongKind (start_names name other) ++ behind_names at u
+from_names here name other u =
+    each_name (is_undefined here.table) cases.Undefined (start_names name other) ++ each_name (is_no_surface here.table) cases.WrongKind (start_names name other) ++ behind_names here u
 
-pub go_refused : (at : Situation) (how : Stop) (name : List ℕ) (other : Option (Stop × List ℕ)) (from : Position) (case : Case)
-    → at.position ≡ Some from → first_of (names_cases at.table (start_names name other)) ≡ Some case → refusal_of at (deeds.GoStart how name other) ≡ Some case
-go_refused at how name other from case here refused =
-    let u = start_up_at at how name other in
-    from_there at from (from_names at name other u) here ∙ names_stop at.table name other (behind_names at u) case refused
+pub go_refused : (here : Situation) (how : Stop) (name : List ℕ) (other : Option (Stop × List ℕ)) (from : Position) (case : Case)
+    → here.position ≡ Some from → first_of (names_cases here.table (start_names name other)) ≡ Some case → refusal_of here (deeds.GoStart how name other) ≡ Some case
+go_refused here how name other from case is_from refused =
+    let u = start_up_at here how name other in
+    from_there here from (from_names here name other u) is_from ∙ names_stop here.table name other (behind_names here u) case refused
 
 asked_by : (lacks : Bool) (f : Option Case) (to : Position)
     → asked (cond lacks (Some cases.NoFeed) f) (moves reaches.Start (cond (is_none f) (Some to) None)) ≡ unless_case (cond lacks (Some cases.NoFeed) f) (effects.Moves reaches.Start to)
@@ -138,22 +138,22 @@ asked_by false (Some case) to = refl
 
 position_there : (p : Option Position) (from : Position) (o : Option StartUp) (u : StartUp) → p ≡ Some from → o ≡ Some u
     → (p >>= λ from. o >>= λ u. start_position from u) ≡ start_position from u
-position_there p from o u here there = rw (here, there) refl
+position_there p from o u is_from there = rw (is_from, there) refl
 
-pub go_asked : (at : Situation) (how : Stop) (name : List ℕ) (other : Option (Stop × List ℕ)) (from : Position) (first : Goal) (second : Option Goal) (r : Result Effect Case)
-    → at.position ≡ Some from → goal_in at.table how name ≡ Some first → second_in at.table other ≡ Some second
-    → r ≡ unless (go_cases_on at.settings (start_up_on at from first second)) (start_of from (start_up_on at from first second))
-    → r ≡ asked (refusal_of at (deeds.GoStart how name other)) (effect_of at (deeds.GoStart how name other))
-go_asked at how name other from first second r here on_first on_second same =
-    let u = start_up_on at from first second in
-    let v = start_up_at at how name other in
-    let there = start_up_known at how name other from first second here on_first on_second in
-    let refusal : refusal_of at (deeds.GoStart how name other) ≡ first_of (go_cases_on at.settings u) =
-    from_there at from (from_names at name other (start_up_at at how name other)) here
-    ∙ names_pass at.table how name other first second (behind_names at (start_up_at at how name other)) on_first on_second ∙ ap (λ o. first_of (behind_names at o)) there in
-    let position : start_position_at at how name other ≡ start_position from u = position_there at.position from (start_up_at at how name other) u here there in
-    let effect : effect_of at (deeds.GoStart how name other) ≡ moves reaches.Start (start_position from u) = ap (λ o. moves reaches.Start o) position in
-    rw (refusal, effect, same) (sym (asked_by (lacks_feed at.settings) (first_of (start_up_cases u)) (at_height from.z (start_point u))))
+pub go_asked : (here : Situation) (how : Stop) (name : List ℕ) (other : Option (Stop × List ℕ)) (from : Position) (first : Goal) (second : Option Goal) (r : Result Effect Case)
+    → here.position ≡ Some from → goal_in here.table how name ≡ Some first → second_in here.table other ≡ Some second
+    → r ≡ unless (go_cases_on here.settings (start_up_on here from first second)) (start_of from (start_up_on here from first second))
+    → r ≡ asked (refusal_of here (deeds.GoStart how name other)) (effect_of here (deeds.GoStart how name other))
+go_asked here how name other from first second r is_from on_first on_second same =
+    let u = start_up_on here from first second in
+    let v = start_up_at here how name other in
+    let there = start_up_known here how name other from first second is_from on_first on_second in
+    let refusal : refusal_of here (deeds.GoStart how name other) ≡ first_of (go_cases_on here.settings u) =
+    from_there here from (from_names here name other (start_up_at here how name other)) is_from
+    ∙ names_pass here.table how name other first second (behind_names here (start_up_at here how name other)) on_first on_second ∙ ap (λ o. first_of (behind_names here o)) there in
+    let position : start_position_at here how name other ≡ start_position from u = position_there here.position from (start_up_at here how name other) u is_from there in
+    let effect : effect_of here (deeds.GoStart how name other) ≡ moves reaches.Start (start_position from u) = ap (λ o. moves reaches.Start o) position in
+    rw (refusal, effect, same) (sym (asked_by (lacks_feed here.settings) (first_of (start_up_cases u)) (at_height from.z (start_point u))))
 
 -- ---- the move of a start-up, where it ends
 

@@ -59,8 +59,8 @@ pub on_and_off : (b : Bool) → b ≡ true → b ≡ false → ⊥
 on_and_off b e f = cc
 
 pub motion_end : (m : Motion) (r : Result Pt Case) → lacks_room (track_of m) ≡ false → starts_on_check m ≡ false → lacks_room (stop_of m) ≡ false
-    → is_near (track_of m) off_track m.start.at ≡ true → r ≡ unless (course_cases (course_of m)) (end_point m) → r ≡ unless (motion_cases m) (end_point m)
-motion_end m r track on stop near is = is ∙ ap (λ f. unless_case f (end_point m)) (sym (none_before (lacks_room (track_of m)) (starts_on_check m) (lacks_room (stop_of m)) (is_near (track_of m) off_track m.start.at) (course_cases (course_of m)) track on stop near))
+    → is_near (track_of m) off_track m.start.xy ≡ true → r ≡ unless (course_cases (course_of m)) (end_point m) → r ≡ unless (motion_cases m) (end_point m)
+motion_end m r track on stop near is = is ∙ ap (λ f. unless_case f (end_point m)) (sym (none_before (lacks_room (track_of m)) (starts_on_check m) (lacks_room (stop_of m)) (is_near (track_of m) off_track m.start.xy) (course_cases (course_of m)) track on stop near))
   where
     none_before : (a b c d : Bool) (rows : List Row) → a ≡ false → b ≡ false → c ≡ false → d ≡ true
         → first_of ((a, cases.NoRoom) ∷ (not b && c, cases.NoRoom) ∷ (not d, cases.OffDrive) ∷ (b, cases.OnCheck) ∷ rows) ≡ first_of rows
@@ -78,42 +78,42 @@ motion_by false false false true m = refl
 motion_by false false false false m = (refl, refl)
 
 -- on a drive surface that runs so against forward
-pub turned_by : (at : Situation) (side : Option Side) (go : Go) (how : Stop) (start : Position) (d e : Surface) (r : Result Motion Case)
-    → r ≡ unless (turn_cases (with_side at.settings side) (turn_at at start d go)) (motion (with_side at.settings side) start d (turn_at at start d go) how e)
-    → IsMotionBy (first_of (contour_cases_on at side go start d how e)) (cuts (motion_on at side go start d how e)) r
-turned_by at side go how start d e r same =
-    let s = with_side at.settings side in
-    let turned = turn_at at start d go in
+pub turned_by : (here : Situation) (side : Option Side) (go : Go) (how : Stop) (start : Position) (d e : Surface) (r : Result Motion Case)
+    → r ≡ unless (turn_cases (with_side here.settings side) (turn_at here start d go)) (motion (with_side here.settings side) start d (turn_at here start d go) how e)
+    → IsMotionBy (first_of (contour_cases_on here side go start d how e)) (cuts (motion_on here side go start d how e)) r
+turned_by here side go how start d e r same =
+    let s = with_side here.settings side in
+    let turned = turn_at here start d go in
     rw same (motion_by s.rapid (not (has_feed s)) (is_too_fine s) (is_zero turned) (motion s start d turned how e))
 
 -- on known surfaces
-pub contour_motion : (at : Situation) (side : Option Side) (go : Go) (drive : List ℕ) (how : Stop) (check : List ℕ) (start : Position) (d e : Surface) (r : Result Motion Case)
-    → at.position ≡ Some start → surface_in at.table drive ≡ Some d → surface_in at.table check ≡ Some e
-    → IsMotionBy (first_of (contour_cases_on at side go start d how e)) (cuts (motion_on at side go start d how e)) r
-    → IsMotionBy (refusal_of at (deeds.Contour side go drive how check)) (effect_of at (deeds.Contour side go drive how check)) r
+pub contour_motion : (here : Situation) (side : Option Side) (go : Go) (drive : List ℕ) (how : Stop) (check : List ℕ) (start : Position) (d e : Surface) (r : Result Motion Case)
+    → here.position ≡ Some start → surface_in here.table drive ≡ Some d → surface_in here.table check ≡ Some e
+    → IsMotionBy (first_of (contour_cases_on here side go start d how e)) (cuts (motion_on here side go start d how e)) r
+    → IsMotionBy (refusal_of here (deeds.Contour side go drive how check)) (effect_of here (deeds.Contour side go drive how check)) r
 unfolding motion_at
-contour_motion at side go drive how check start d e r here on_d on_e is =
-    let known_d = known_surface at.table drive d on_d in
-    let known_e = known_surface at.table check e on_e in
-    rw (here, known_d.0, known_d.1, known_e.0, known_e.1, on_d, on_e) is
+contour_motion here side go drive how check start d e r is_start on_d on_e is =
+    let known_d = known_surface here.table drive d on_d in
+    let known_e = known_surface here.table check e on_e in
+    rw (is_start, known_d.0, known_d.1, known_e.0, known_e.1, on_d, on_e) is
 
 -- ---- a contour with a name that stands for no surface
 
 -- the rows behind those of both names
 abbrev behind_names : Situation → Option Side → Go → List ℕ → Stop → List ℕ → Position → List Row
-behind_names at side go drive how check start = surface_cases at side go how (Some start) (surface_in at.table drive) (surface_in at.table check)
+behind_names here side go drive how check start = surface_cases here side go how (Some start) (surface_in here.table drive) (surface_in here.table check)
 
-pub drive_refused : (at : Situation) (side : Option Side) (go : Go) (drive : List ℕ) (how : Stop) (check : List ℕ) (start : Position) (case : Case)
-    → at.position ≡ Some start → first_of (name_cases at.table drive []) ≡ Some case → refusal_of at (deeds.Contour side go drive how check) ≡ Some case
-drive_refused at side go drive how check start case here refused =
-    rw here (name_refused at.table drive (name_cases at.table check (behind_names at side go drive how check start)) case refused)
+pub drive_refused : (here : Situation) (side : Option Side) (go : Go) (drive : List ℕ) (how : Stop) (check : List ℕ) (start : Position) (case : Case)
+    → here.position ≡ Some start → first_of (name_cases here.table drive []) ≡ Some case → refusal_of here (deeds.Contour side go drive how check) ≡ Some case
+drive_refused here side go drive how check start case is_start refused =
+    rw is_start (name_refused here.table drive (name_cases here.table check (behind_names here side go drive how check start)) case refused)
 
-pub check_refused : (at : Situation) (side : Option Side) (go : Go) (drive : List ℕ) (how : Stop) (check : List ℕ) (start : Position) (d : Surface) (case : Case)
-    → at.position ≡ Some start → surface_in at.table drive ≡ Some d → first_of (name_cases at.table check []) ≡ Some case
-    → refusal_of at (deeds.Contour side go drive how check) ≡ Some case
-check_refused at side go drive how check start d case here on_d refused =
-    let known = known_surface at.table drive d on_d in
-    rw (here, known.0, known.1) (name_refused at.table check (behind_names at side go drive how check start) case refused)
+pub check_refused : (here : Situation) (side : Option Side) (go : Go) (drive : List ℕ) (how : Stop) (check : List ℕ) (start : Position) (d : Surface) (case : Case)
+    → here.position ≡ Some start → surface_in here.table drive ≡ Some d → first_of (name_cases here.table check []) ≡ Some case
+    → refusal_of here (deeds.Contour side go drive how check) ≡ Some case
+check_refused here side go drive how check start d case is_start on_d refused =
+    let known = known_surface here.table drive d on_d in
+    rw (is_start, known.0, known.1) (name_refused here.table check (behind_names here side go drive how check start) case refused)
 
 -- ---- a motion that is run to its end
 
@@ -138,11 +138,11 @@ end_asked f o m end by is =
     let at_end = ends (first_of (motion_cases m)) end (end_point m) is in
     (rw (by.0, by.1, at_end.0) refl, at_end.1)
 
-pub has_passed : (at : Situation) (step : Step) (m : Motion) (end : Pt) → IsMotionBy (refusal_of at step.deed) (effect_of at step.deed) (Ok m)
-    → Ok end ≡ unless (motion_cases m) (end_point m) → HasPassed at step (Ok (after at (effects.Cuts m) (end ∷ [])))
-has_passed at step m end by is =
-    let asks = end_asked (refusal_of at step.deed) (effect_of at step.deed) m end by is in
-    (effects.Cuts m, record { asks = asks.0; after = ap (λ p. after at (effects.Cuts m) (p ∷ [])) asks.1 })
+pub has_passed : (here : Situation) (step : Step) (m : Motion) (end : Pt) → IsMotionBy (refusal_of here step.deed) (effect_of here step.deed) (Ok m)
+    → Ok end ≡ unless (motion_cases m) (end_point m) → HasPassed here step (Ok (after here (effects.Cuts m) (end ∷ [])))
+has_passed here step m end by is =
+    let asks = end_asked (refusal_of here step.deed) (effect_of here step.deed) m end by is in
+    (effects.Cuts m, record { asks = asks.0; after = ap (λ p. after here (effects.Cuts m) (p ∷ [])) asks.1 })
 
 -- a motion whose end is known: no case refuses it
 pub known_end : (m : Motion) (end : Pt) → Ok end ≡ unless (motion_cases m) (end_point m) → NoneHolds (motion_cases m) × (end ≡ end_point m)
@@ -150,34 +150,34 @@ known_end m end is =
     let at_end = ends (first_of (motion_cases m)) end (end_point m) is in
     (first_none (motion_cases m) at_end.0, at_end.1)
 
-pub has_cut : (so_far later : ℕ) (at behind : Situation) (step : Step) (before now : List Record) (m : Motion) (end : Pt)
-    → IsMotionBy (refusal_of at step.deed) (effect_of at step.deed) (Ok m) → Ok end ≡ unless (motion_cases m) (end_point m)
-    → behind ≡ after at (effects.Cuts m) (end_point m ∷ []) → now ≡ before ++ records_of step (effects.Cuts m) (vertices_of m)
-    → later ≡ so_far + length (vertices_of m) → later ≤ most_points → HasAdvanced so_far later at step before now (Ok behind)
-has_cut so_far later at behind step before now m end by is behind_is now_is later_is few =
-    let asks = end_asked (refusal_of at step.deed) (effect_of at step.deed) m end by is in
+pub has_cut : (so_far later : ℕ) (here behind : Situation) (step : Step) (before now : List Record) (m : Motion) (end : Pt)
+    → IsMotionBy (refusal_of here step.deed) (effect_of here step.deed) (Ok m) → Ok end ≡ unless (motion_cases m) (end_point m)
+    → behind ≡ after here (effects.Cuts m) (end_point m ∷ []) → now ≡ before ++ records_of step (effects.Cuts m) (vertices_of m)
+    → later ≡ so_far + length (vertices_of m) → later ≤ most_points → HasAdvanced so_far later here step before now (Ok behind)
+has_cut so_far later here behind step before now m end by is behind_is now_is later_is few =
+    let asks = end_asked (refusal_of here step.deed) (effect_of here step.deed) m end by is in
     let within = few_asked so_far (effects.Cuts m) (subst (λ (n : ℕ). n ≤ most_points) later_is few) in
     (effects.Cuts m, record { asks = ap (asked_within so_far) asks.0 ∙ within; after = behind_is; records = now_is; count = later_is })
 
-pub has_too_many : (so_far : ℕ) (at : Situation) (step : Step) (m : Motion) (end : Pt) → IsMotionBy (refusal_of at step.deed) (effect_of at step.deed) (Ok m)
+pub has_too_many : (so_far : ℕ) (here : Situation) (step : Step) (m : Motion) (end : Pt) → IsMotionBy (refusal_of here step.deed) (effect_of here step.deed) (Ok m)
     → Ok end ≡ unless (motion_cases m) (end_point m) → most_points < so_far + length (vertices_of m)
-    → IsRefusedBehind so_far at step (refused_at step cases.TooManyPoints) cases.TooManyPoints
-has_too_many so_far at step m end by is many =
-    let asks = end_asked (refusal_of at step.deed) (effect_of at step.deed) m end by is in
+    → IsRefusedBehind so_far here step (refused_at step cases.TooManyPoints) cases.TooManyPoints
+has_too_many so_far here step m end by is many =
+    let asks = end_asked (refusal_of here step.deed) (effect_of here step.deed) m end by is in
     record { asks = ap (asked_within so_far) asks.0 ∙ many_asked so_far (effects.Cuts m) many; told = refl }
 
 stop_asked : (f : Option Case) (o : Option Effect) (m : Motion) (case : Case) → IsMotionBy f o (Ok m) → Err case ≡ unless (motion_cases m) (end_point m) → asked f o ≡ Err case
 stop_asked f o m case by is = rw (by.1 ∙ stops (first_of (motion_cases m)) case (end_point m) is) refl
 
-pub is_stopped : (at : Situation) (step : Step) (m : Motion) (case : Case) → IsMotionBy (refusal_of at step.deed) (effect_of at step.deed) (Ok m)
-    → Err case ≡ unless (motion_cases m) (end_point m) → HasPassed at step (Err (errors.Refused (refused_at step case)))
-is_stopped at step m case by is = (case, record { asks = stop_asked (refusal_of at step.deed) (effect_of at step.deed) m case by is; told = refl })
+pub is_stopped : (here : Situation) (step : Step) (m : Motion) (case : Case) → IsMotionBy (refusal_of here step.deed) (effect_of here step.deed) (Ok m)
+    → Err case ≡ unless (motion_cases m) (end_point m) → HasPassed here step (Err (errors.Refused (refused_at step case)))
+is_stopped here step m case by is = (case, record { asks = stop_asked (refusal_of here step.deed) (effect_of here step.deed) m case by is; told = refl })
 
-pub is_stopped_again : (so_far later : ℕ) (at : Situation) (step : Step) (before now : List Record) (m : Motion) (case : Case)
-    → IsMotionBy (refusal_of at step.deed) (effect_of at step.deed) (Ok m) → Err case ≡ unless (motion_cases m) (end_point m)
-    → HasAdvanced so_far later at step before now (Err (errors.Refused (refused_at step case)))
-is_stopped_again so_far later at step before now m case by is =
-    (case, record { asks = ap (asked_within so_far) (stop_asked (refusal_of at step.deed) (effect_of at step.deed) m case by is); told = refl })
+pub is_stopped_again : (so_far later : ℕ) (here : Situation) (step : Step) (before now : List Record) (m : Motion) (case : Case)
+    → IsMotionBy (refusal_of here step.deed) (effect_of here step.deed) (Ok m) → Err case ≡ unless (motion_cases m) (end_point m)
+    → HasAdvanced so_far later here step before now (Err (errors.Refused (refused_at step case)))
+is_stopped_again so_far later here step before now m case by is =
+    (case, record { asks = ap (asked_within so_far) (stop_asked (refusal_of here step.deed) (effect_of here step.deed) m case by is); told = refl })
 
 -- ---- the vertices round a circle
 

@@ -28,49 +28,49 @@ named_found : (name : List ℕ) (r : Result Figure Case) → asked (first_of (re
 named_found name (Ok f) = refl
 named_found name (Err case) = refl
 
-form_given : (at : Situation) (name : List ℕ) (form : Form) → asked (first_of (refused_form at form)) (defined at name form) ≡ named name (figure_of at.settings.units at.table form)
+form_given : (here : Situation) (name : List ℕ) (form : Form) → asked (first_of (refused_form here form)) (defined here name form) ≡ named name (figure_of here.settings.units here.table form)
 unfolding defined refused_form
-form_given at name form = named_found name (figure_of at.settings.units at.table form)
+form_given here name form = named_found name (figure_of here.settings.units here.table form)
 
 -- what a definition asks for, or the case that refuses it
-definition_asked : (at : Situation) (deed : Deed) (name : List ℕ) (form : Form) (r : Result Figure Case) → IsDefinition deed name form → figure_of at.settings.units at.table form ≡ r
-    → asked (refusal_of at deed) (effect_of at deed) ≡ named name r
-definition_asked at deed name form r is figure =
-    ap (λ (ask : Ask). asked (first_of (cases_by at ask)) (effect_by at ask)) is ∙ form_given at name form ∙ ap (named name) figure
+definition_asked : (here : Situation) (deed : Deed) (name : List ℕ) (form : Form) (r : Result Figure Case) → IsDefinition deed name form → figure_of here.settings.units here.table form ≡ r
+    → asked (refusal_of here deed) (effect_of here deed) ≡ named name r
+definition_asked here deed name form r is figure =
+    ap (λ (ask : Ask). asked (first_of (cases_by here ask)) (effect_by here ask)) is ∙ form_given here name form ∙ ap (named name) figure
 
-pub has_given : (at : Situation) (step : Step) (table : Table) → HasDefined at.settings.units at.table step.deed table
-    → HasPassed at step (Ok (record at { table = table }))
-has_given at step table defined =
+pub has_given : (here : Situation) (step : Step) (table : Table) → HasDefined here.settings.units here.table step.deed table
+    → HasPassed here step (Ok (record here { table = table }))
+has_given here step table defined =
     let is = defined.3 in (
       effects.Defines defined.0 defined.2,
       record {
-        asks = definition_asked at step.deed defined.0 defined.1 (Ok defined.2) is.asked is.figure;
-        after = ap (λ (t : Table). record at { table = t }) is.table;
+        asks = definition_asked here step.deed defined.0 defined.1 (Ok defined.2) is.asked is.figure;
+        after = ap (λ (t : Table). record here { table = t }) is.table;
       },
     )
 
-pub is_refused : (at : Situation) (step : Step) (case : Case) → IsRefusedBy at.settings.units at.table step.deed case
-    → HasPassed at step (Err (errors.Refused (refused_at step case)))
-is_refused at step case is = (case, record { asks = definition_asked at step.deed is.0 is.1 (Err case) is.2 is.3; told = refl })
+pub is_refused : (here : Situation) (step : Step) (case : Case) → IsRefusedBy here.settings.units here.table step.deed case
+    → HasPassed here step (Err (errors.Refused (refused_at step case)))
+is_refused here step case is = (case, record { asks = definition_asked here step.deed is.0 is.1 (Err case) is.2 is.3; told = refl })
 
 -- ---- the same with records, of which a definition has none
 
-pub has_defined : (so_far : ℕ) (at : Situation) (step : Step) (records : List Record) (table : Table) → so_far ≤ most_points
-    → HasDefined at.settings.units at.table step.deed table → HasAdvanced so_far so_far at step records records (Ok (record at { table = table }))
-has_defined so_far at step records table few defined =
+pub has_defined : (so_far : ℕ) (here : Situation) (step : Step) (records : List Record) (table : Table) → so_far ≤ most_points
+    → HasDefined here.settings.units here.table step.deed table → HasAdvanced so_far so_far here step records records (Ok (record here { table = table }))
+has_defined so_far here step records table few defined =
     let is = defined.3 in
     let e = effects.Defines defined.0 defined.2 in
     let within : so_far + 0 ≤ most_points = omega (arith, few) in (
       e,
       record {
-        asks = ap (asked_within so_far) (definition_asked at step.deed defined.0 defined.1 (Ok defined.2) is.asked is.figure) ∙ few_asked so_far e within;
-        after = ap (λ (t : Table). record at { table = t }) is.table;
+        asks = ap (asked_within so_far) (definition_asked here step.deed defined.0 defined.1 (Ok defined.2) is.asked is.figure) ∙ few_asked so_far e within;
+        after = ap (λ (t : Table). record here { table = t }) is.table;
         records = sym (append-nil records);
         count = omega arith;
       },
     )
 
-pub refused_again : (so_far later : ℕ) (at : Situation) (step : Step) (before now : List Record) (case : Case) → IsRefusedBy at.settings.units at.table step.deed case
-    → HasAdvanced so_far later at step before now (Err (errors.Refused (refused_at step case)))
-refused_again so_far later at step before now case is =
-    (case, record { asks = ap (asked_within so_far) (definition_asked at step.deed is.0 is.1 (Err case) is.2 is.3); told = refl })
+pub refused_again : (so_far later : ℕ) (here : Situation) (step : Step) (before now : List Record) (case : Case) → IsRefusedBy here.settings.units here.table step.deed case
+    → HasAdvanced so_far later here step before now (Err (errors.Refused (refused_at step case)))
+refused_again so_far later here step before now case is =
+    (case, record { asks = ap (asked_within so_far) (definition_asked here step.deed is.0 is.1 (Err case) is.2 is.3); told = refl })

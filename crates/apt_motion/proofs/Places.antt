@@ -34,7 +34,7 @@ at_its_height (Err case) = Err case
 
 figure_placed : (o : Option Figure) → at_its_height (defined o >>= as_place) ≡ found_place (first_of ((is_none o, cases.Undefined) ∷ (is_no_place o, cases.WrongKind) ∷ [])) (position_of o)
 figure_placed None = refl
-figure_placed (Some (figures.Point at z)) = refl
+figure_placed (Some (figures.Point xy z)) = refl
 figure_placed (Some (figures.Shape s)) = refl
 figure_placed (Some figures.Scalar) = refl
 
@@ -59,9 +59,9 @@ once : (stands : Bool) (f : Option Case) (o : Option Position) → stands ≡ fa
 once true f o e = absurd cc
 once false f o e = place_moved reaches.From f o
 
-pub from_asked : (at : Situation) (place : Place) (r : Result Position Case) → is_some at.position ≡ false → r ≡ position_at_place at place
-    → moved reaches.From r ≡ asked (first_of (route_cases at (routes.From place))) (goes at (routes.From place))
-from_asked at place r first is = ap (moved reaches.From) is ∙ once (is_some at.position) (first_of (place_cases at place [])) (place_at at place) first
+pub from_asked : (here : Situation) (place : Place) (r : Result Position Case) → is_some here.position ≡ false → r ≡ position_at_place here place
+    → moved reaches.From r ≡ asked (first_of (route_cases here (routes.From place))) (goes here (routes.From place))
+from_asked here place r first is = ap (moved reaches.From) is ∙ once (is_some here.position) (first_of (place_cases here place [])) (place_at here place) first
 
 -- ---- which needs a feed
 
@@ -79,8 +79,8 @@ position_fed false None to = refl
 figure_fed : (lacks : Bool) (o : Option Figure) → fed lacks (found_place (first_of ((is_none o, cases.Undefined) ∷ (is_no_place o, cases.WrongKind) ∷ [])) (position_of o))
     ≡ asked (first_of ((is_none o, cases.Undefined) ∷ (is_no_place o, cases.WrongKind) ∷ (lacks, cases.NoFeed) ∷ [])) (moves reaches.Goto (position_of o))
 figure_fed lacks None = refl
-figure_fed true (Some (figures.Point at z)) = refl
-figure_fed false (Some (figures.Point at z)) = refl
+figure_fed true (Some (figures.Point xy z)) = refl
+figure_fed false (Some (figures.Point xy z)) = refl
 figure_fed lacks (Some (figures.Shape s)) = refl
 figure_fed lacks (Some figures.Scalar) = refl
 
@@ -88,13 +88,13 @@ point_fed : (lacks : Bool) (table : Table) (name : List ℕ) → fed lacks (foun
     ≡ asked (first_of (point_cases table name ((lacks, cases.NoFeed) ∷ []))) (moves reaches.Goto (place_in table name))
 point_fed lacks table name = rw (position_of-is (figure_named table name)) (figure_fed lacks (figure_named table name))
 
-place_fed : (at : Situation) (place : Place) → fed (lacks_feed at.settings) (position_at_place at place) ≡ asked (first_of (route_cases at (routes.Goto place))) (goes at (routes.Goto place))
-place_fed at (places.Xyz x y z) =
-    let to = position_by at.settings.units x y z in
-    position_fed (lacks_feed at.settings) (first_of (position_cases to [])) to
-    ∙ ap (λ (f : Option Case). asked f (moves reaches.Goto (Some to))) (sym (first_append (position_cases to []) ((lacks_feed at.settings, cases.NoFeed) ∷ [])))
-place_fed at (places.Named name) = point_fed (lacks_feed at.settings) at.table name
+place_fed : (here : Situation) (place : Place) → fed (lacks_feed here.settings) (position_at_place here place) ≡ asked (first_of (route_cases here (routes.Goto place))) (goes here (routes.Goto place))
+place_fed here (places.Xyz x y z) =
+    let to = position_by here.settings.units x y z in
+    position_fed (lacks_feed here.settings) (first_of (position_cases to [])) to
+    ∙ ap (λ (f : Option Case). asked f (moves reaches.Goto (Some to))) (sym (first_append (position_cases to []) ((lacks_feed here.settings, cases.NoFeed) ∷ [])))
+place_fed here (places.Named name) = point_fed (lacks_feed here.settings) here.table name
 
-pub goto_asked : (at : Situation) (place : Place) (r : Result Position Case) → r ≡ position_at_place at place
-    → fed (lacks_feed at.settings) r ≡ asked (first_of (route_cases at (routes.Goto place))) (goes at (routes.Goto place))
-goto_asked at place r is = ap (fed (lacks_feed at.settings)) is ∙ place_fed at place
+pub goto_asked : (here : Situation) (place : Place) (r : Result Position Case) → r ≡ position_at_place here place
+    → fed (lacks_feed here.settings) r ≡ asked (first_of (route_cases here (routes.Goto place))) (goes here (routes.Goto place))
+goto_asked here place r is = ap (fed (lacks_feed here.settings)) is ∙ place_fed here place

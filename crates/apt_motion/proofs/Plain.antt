@@ -43,24 +43,24 @@ figure_by : (name : List ℕ) (form : Form) (r : Result Figure Case) → IfSome 
 figure_by name form (Ok f) = λ none. none name form refl
 figure_by name form (Err case) = tt
 
-defined_by : (at : Situation) (name : List ℕ) (form : Form) → IfSome (defined at name form) (IsBy (Defines name form))
+defined_by : (here : Situation) (name : List ℕ) (form : Form) → IfSome (defined here name form) (IsBy (Defines name form))
 unfolding defined
-defined_by at name form = figure_by name form (figure_of at.settings.units at.table form)
+defined_by here name form = figure_by name form (figure_of here.settings.units here.table form)
 
-goes_by : (at : Situation) (route : Route) → IfSome (goes at route) (IsBy (Goes route))
-goes_by at (routes.From place) = moved_by (Goes (routes.From place)) reaches.From (place_at at place)
-goes_by at (routes.Goto place) = moved_by (Goes (routes.Goto place)) reaches.Goto (place_at at place)
-goes_by at (routes.By x y z) = moved_by (Goes (routes.By x y z)) reaches.Godlta (moved_from at x y z)
-goes_by at (routes.Start how name other) = moved_by (Goes (routes.Start how name other)) reaches.Start (start_position_at at how name other)
+goes_by : (here : Situation) (route : Route) → IfSome (goes here route) (IsBy (Goes route))
+goes_by here (routes.From place) = moved_by (Goes (routes.From place)) reaches.From (place_at here place)
+goes_by here (routes.Goto place) = moved_by (Goes (routes.Goto place)) reaches.Goto (place_at here place)
+goes_by here (routes.By x y z) = moved_by (Goes (routes.By x y z)) reaches.Godlta (moved_from here x y z)
+goes_by here (routes.Start how name other) = moved_by (Goes (routes.Start how name other)) reaches.Start (start_position_at here how name other)
 
-suits : (at : Situation) (ask : Ask) → IfSome (effect_by at ask) (IsBy ask)
-suits at (Titles text) = tt
-suits at (Says saying) = tt
-suits at (Sets side) = tt
-suits at (Defines name form) = defined_by at name form
-suits at (Goes route) = goes_by at route
-suits at (Cuts side go drive how check) = cut_by side go drive how check (motion_at at side go drive how check)
-suits at Nothing = tt
+suits : (here : Situation) (ask : Ask) → IfSome (effect_by here ask) (IsBy ask)
+suits here (Titles text) = tt
+suits here (Says saying) = tt
+suits here (Sets side) = tt
+suits here (Defines name form) = defined_by here name form
+suits here (Goes route) = goes_by here route
+suits here (Cuts side go drive how check) = cut_by side go drive how check (motion_at here side go drive how check)
+suits here Nothing = tt
 
 plain_by : (deed : Deed) (e : Effect) → IsNoContour deed → IsNoDefinition deed → IsBy (ask_of deed) e → IsPlain e
 plain_by deed (effects.Defines n f) plain none is = is none
@@ -68,5 +68,5 @@ plain_by deed (effects.Sets change) plain none is = tt
 plain_by deed (effects.Moves reach to) plain none is = tt
 plain_by deed (effects.Cuts m) plain none is = is plain
 
-pub is_plain : (at : Situation) (deed : Deed) (e : Effect) → IsNoContour deed → IsNoDefinition deed → effect_of at deed ≡ Some e → IsPlain e
-is_plain at deed e uncut none asks = plain_by deed e uncut none (of_some (IsBy (ask_of deed)) (effect_of at deed) e asks (suits at (ask_of deed)))
+pub is_plain : (here : Situation) (deed : Deed) (e : Effect) → IsNoContour deed → IsNoDefinition deed → effect_of here deed ≡ Some e → IsPlain e
+is_plain here deed e uncut none asks = plain_by deed e uncut none (of_some (IsBy (ask_of deed)) (effect_of here deed) e asks (suits here (ask_of deed)))

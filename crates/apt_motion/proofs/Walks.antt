@@ -24,7 +24,8 @@ use Rattle.apt_meaning.proofs.Walks.Kept.{kept, first_situation-IsSituation}
 use Rattle.apt_meaning.proofs.Walks.Compiled.{fit as fit_of, after_points, behind_step, compiled_follows}
 use Rattle.apt_meaning.proofs.Walks.Files.{compiled_fit}
 use Rattle.apt_motion.specs.declared.runs.RunError.{RunError}
-use Rattle.apt_motion.specs.Ends.{Ends}
+use Rattle.apt_motion.specs.Ends.{told}
+use Rattle.apt_words.specs.Answers.{IsDueAs}
 use Rattle.apt_defs.specs.Definitions.{IsNoDefinition}
 use Rattle.apt_motion.specs.Finding.{IsNoContour, IsPlain}
 use Rattle.apt_motion.proofs.Plain.{is_plain}
@@ -34,26 +35,26 @@ regroup front more (Ok rest) = ap (λ (x : List Record). Ok x) (sym (append_asso
 regroup front more (Err refusal) = refl
 
 -- one more step of the walk
-pub step_on : (so_far : ℕ) (front : List Record) (at : Situation) (step : Step) (steps : List Step) (e : Effect) (total : Result (List Record) Refusal)
-    → asked_within so_far (asked (refusal_of at step.deed) (effect_of at step.deed)) ≡ Ok e → with_front front (compilation_behind so_far at (step ∷ steps)) ≡ total
-    → with_front (front ++ records_of step e (points_of e)) (compilation_behind (so_far + length (points_of e)) (after at e (ends_of e)) steps) ≡ total
-step_on so_far front at step steps e total does now =
-    let one : compilation_behind so_far at (step ∷ steps) ≡ behind_step so_far at step steps e =
-    ap (λ (a : Result Effect Case). or_refused step a (behind_step so_far at step steps)) does in
-    sym (regroup front (records_of step e (points_of e)) (compilation_behind (so_far + length (points_of e)) (after at e (ends_of e)) steps)) ∙ sym (ap (with_front front) one) ∙ now
+pub step_on : (so_far : ℕ) (front : List Record) (here : Situation) (step : Step) (steps : List Step) (e : Effect) (total : Result (List Record) Refusal)
+    → asked_within so_far (asked (refusal_of here step.deed) (effect_of here step.deed)) ≡ Ok e → with_front front (compilation_behind so_far here (step ∷ steps)) ≡ total
+    → with_front (front ++ records_of step e (points_of e)) (compilation_behind (so_far + length (points_of e)) (after here e (ends_of e)) steps) ≡ total
+step_on so_far front here step steps e total does now =
+    let one : compilation_behind so_far here (step ∷ steps) ≡ behind_step so_far here step steps e =
+    ap (λ (a : Result Effect Case). or_refused step a (behind_step so_far here step steps)) does in
+    sym (regroup front (records_of step e (points_of e)) (compilation_behind (so_far + length (points_of e)) (after here e (ends_of e)) steps)) ∙ sym (ap (with_front front) one) ∙ now
 
 -- one more step that passes
-pub passes_on : (at : Situation) (step : Step) (steps : List Step) (e : Effect) (total : Option Refusal) → asked (refusal_of at step.deed) (effect_of at step.deed) ≡ Ok e
-    → first_refused at (step ∷ steps) ≡ total → first_refused (after at e (ends_of e)) steps ≡ total
-passes_on at step steps e total does so_far =
-    sym (ap (λ (a : Result Effect Case). or_first step a (λ e. first_refused (after at e (ends_of e)) steps)) does) ∙ so_far
+pub passes_on : (here : Situation) (step : Step) (steps : List Step) (e : Effect) (total : Option Refusal) → asked (refusal_of here step.deed) (effect_of here step.deed) ≡ Ok e
+    → first_refused here (step ∷ steps) ≡ total → first_refused (after here e (ends_of e)) steps ≡ total
+passes_on here step steps e total does so_far =
+    sym (ap (λ (a : Result Effect Case). or_first step a (λ e. first_refused (after here e (ends_of e)) steps)) does) ∙ so_far
 
 -- ---- what a step asks for is in range, and so is what holds behind it
 
 -- an effect of a step that no case refuses
-pub record FitsAt (at : Situation) (e : Effect) : Type 0 where
+pub record FitsAt (here : Situation) (e : Effect) : Type 0 where
   pub good : IsEffect e
-  pub behind : IsSituation (after at e (ends_of e))
+  pub behind : IsSituation (after here e (ends_of e))
 
 same_ok : (d e : Effect) → ◌≡◌ {A = Result Effect Case} (Ok d) (Ok e) → d ≡ e
 same_ok d e h = cc
@@ -66,55 +67,55 @@ asked_fine None None e h = absurd (no_ok _ e h)
 asked_fine None (Some d) e h = (refl, ap Some (same_ok d e h))
 asked_fine (Some case) o e h = absurd (no_ok case e h)
 
-pub fit : (at : Situation) (deed : Deed) (e : Effect) → IsSituation at → HasScalars deed → DeedHasText deed
-    → asked (refusal_of at deed) (effect_of at deed) ≡ Ok e → FitsAt at e
-fit at deed e is scalars worded does =
-    let h = asked_fine (refusal_of at deed) (effect_of at deed) e does in
-    let ok = fit_of (effect_of at deed) e h.1 (answered at deed is scalars worded h.0) in record {
+pub fit : (here : Situation) (deed : Deed) (e : Effect) → IsSituation here → HasScalars deed → DeedHasText deed
+    → asked (refusal_of here deed) (effect_of here deed) ≡ Ok e → FitsAt here e
+fit here deed e is scalars worded does =
+    let h = asked_fine (refusal_of here deed) (effect_of here deed) e does in
+    let ok = fit_of (effect_of here deed) e h.1 (answered here deed is scalars worded h.0) in record {
       good = ok.good;
-      behind = subst IsSituation (sym (after_points at e ok.ends)) (kept at e (points_of e) is ok.good ok.within);
+      behind = subst IsSituation (sym (after_points here e ok.ends)) (kept here e (points_of e) is ok.good ok.within);
     }
 
 -- what is found of a step that is neither a definition nor a contour
-found_is : (at : Situation) (deed : Deed) (e : Effect) → IsSituation at → HasScalars deed → DeedHasText deed → IsNoContour deed → IsNoDefinition deed
-    → asked (refusal_of at deed) (effect_of at deed) ≡ Ok e → IsPlain e × IsEffect e
-found_is at deed e is scalars worded uncut none does =
-    (is_plain at deed e uncut none (asked_fine (refusal_of at deed) (effect_of at deed) e does).1, (fit at deed e is scalars worded does).good)
+found_is : (here : Situation) (deed : Deed) (e : Effect) → IsSituation here → HasScalars deed → DeedHasText deed → IsNoContour deed → IsNoDefinition deed
+    → asked (refusal_of here deed) (effect_of here deed) ≡ Ok e → IsPlain e × IsEffect e
+found_is here deed e is scalars worded uncut none does =
+    (is_plain here deed e uncut none (asked_fine (refusal_of here deed) (effect_of here deed) e does).1, (fit here deed e is scalars worded does).good)
 
-pub found_plain : (at : Situation) (deed : Deed) (r : Result Effect Case) → IsSituation at → HasScalars deed → DeedHasText deed → IsNoContour deed → IsNoDefinition deed
-    → r ≡ asked (refusal_of at deed) (effect_of at deed) → IfOk r IsPlain × IfOk r IsEffect
-found_plain at deed (Ok e) is scalars worded uncut none same = found_is at deed e is scalars worded uncut none (sym same)
-found_plain at deed (Err case) is scalars worded uncut none same = (tt, tt)
+pub found_plain : (here : Situation) (deed : Deed) (r : Result Effect Case) → IsSituation here → HasScalars deed → DeedHasText deed → IsNoContour deed → IsNoDefinition deed
+    → r ≡ asked (refusal_of here deed) (effect_of here deed) → IfOk r IsPlain × IfOk r IsEffect
+found_plain here deed (Ok e) is scalars worded uncut none same = found_is here deed e is scalars worded uncut none (sym same)
+found_plain here deed (Err case) is scalars worded uncut none same = (tt, tt)
 
 -- ---- runs
 
-pub run_follows : {A : Type 0} (steps : List Step) (result : Result (Vec Record A) RunError) → AreScalars steps → AreExecuted steps → Ends (compilation first_situation steps) result
+pub run_follows : {A : Type 0} (steps : List Step) (result : Result (Vec Record A) RunError) → AreScalars steps → AreExecuted steps → IsDueAs (λ records. records.items) told (compilation first_situation steps) result
     → IfOk result (λ records. Follows steps records.items)
 run_follows steps (Ok records) scalars sources is =
     let a = compiled_follows 0 first_situation steps records.items first_situation-IsSituation scalars sources is in
     follows CutsLegally steps records.items a.behind a.follows
 run_follows steps (Err e) scalars sources is = tt
 
-pub run_legal : {A : Type 0} (steps : List Step) (result : Result (Vec Record A) RunError) → AreScalars steps → AreExecuted steps → Ends (compilation first_situation steps) result
+pub run_legal : {A : Type 0} (steps : List Step) (result : Result (Vec Record A) RunError) → AreScalars steps → AreExecuted steps → IsDueAs (λ records. records.items) told (compilation first_situation steps) result
     → IfOk result (λ records. EveryContour IsLegalCut (contours_of records.items))
 run_legal steps (Ok records) scalars sources is =
     let a = compiled_follows 0 first_situation steps records.items first_situation-IsSituation scalars sources is in
     legal_contours steps records.items a.behind a.follows
 run_legal steps (Err e) scalars sources is = tt
 
-pub run_own : {A : Type 0} (steps : List Step) (result : Result (Vec Record A) RunError) → AreScalars steps → AreExecuted steps → Ends (compilation first_situation steps) result
+pub run_own : {A : Type 0} (steps : List Step) (result : Result (Vec Record A) RunError) → AreScalars steps → AreExecuted steps → IsDueAs (λ records. records.items) told (compilation first_situation steps) result
     → IfOk result (λ records. EveryContour IsOwnCut (contours_of records.items))
 run_own steps (Ok records) scalars sources is =
     let a = compiled_follows 0 first_situation steps records.items first_situation-IsSituation scalars sources is in
     own_contours steps records.items a.behind a.own
 run_own steps (Err e) scalars sources is = tt
 
-pub run_in_range : {A : Type 0} (steps : List Step) (result : Result (Vec Record A) RunError) → AreScalars steps → AreExecuted steps → Ends (compilation first_situation steps) result
+pub run_in_range : {A : Type 0} (steps : List Step) (result : Result (Vec Record A) RunError) → AreScalars steps → AreExecuted steps → IsDueAs (λ records. records.items) told (compilation first_situation steps) result
     → IfOk result (λ records. AreRecords records.items)
 run_in_range steps (Ok records) scalars sources is = (compiled_follows 0 first_situation steps records.items first_situation-IsSituation scalars sources is).records
 run_in_range steps (Err e) scalars sources is = tt
 
-pub run_fits : {A : Type 0} (steps : List Step) (result : Result (Vec Record A) RunError) → AreExecuted steps → Ends (compilation first_situation steps) result
+pub run_fits : {A : Type 0} (steps : List Step) (result : Result (Vec Record A) RunError) → AreExecuted steps → IsDueAs (λ records. records.items) told (compilation first_situation steps) result
     → IfOk result (λ records. vertex_count records.items ≤ most_points)
 run_fits steps (Ok records) sources is = omega (arith, (compiled_fit 0 first_situation steps records.items (omega arith) sources is).vertices)
 run_fits steps (Err e) sources is = tt

@@ -52,7 +52,7 @@ found_place None None = Err cases.Undefined
 found_place None (Some to) = Ok to
 
 abbrev pub position_at_place : Situation → Place → Result Position Case
-position_at_place at place = found_place (first_of (place_cases at place [])) (place_at at place)
+position_at_place here place = found_place (first_of (place_cases here place [])) (place_at here place)
 
 -- ---- GO whose names stand for surfaces
 
@@ -61,7 +61,7 @@ abbrev pub names_cases : Table → List (List ℕ) → List Row
 names_cases table names = each_name (is_undefined table) cases.Undefined names ++ each_name (is_no_surface table) cases.WrongKind names
 
 abbrev pub start_up_on : Situation → Position → Goal → Option Goal → StartUp
-start_up_on at from first second = record { start = from.at; first = first; second = second; radius = at.settings.radius }
+start_up_on here from first second = record { start = from.xy; first = first; second = second; radius = here.settings.radius }
 
 abbrev pub go_cases_on : Settings → StartUp → List Row
 go_cases_on s u = (lacks_feed s, cases.NoFeed) ∷ start_up_cases u
@@ -73,10 +73,10 @@ start_of from u = effects.Moves reaches.Start (at_height from.z (start_point u))
 -- ---- contours whose names stand for surfaces
 
 abbrev pub motion_on : Situation → Option Side → Go → Position → Surface → Stop → Surface → Option Motion
-motion_on at side go start d how e = if_turned (with_side at.settings side) start d (turn_at at start d go) how e
+motion_on here side go start d how e = if_turned (with_side here.settings side) start d (turn_at here start d go) how e
 
 abbrev pub contour_cases_on : Situation → Option Side → Go → Position → Surface → Stop → Surface → List Row
-contour_cases_on at side go start d how e = turned_cases (with_side at.settings side) start d (turn_at at start d go) how e
+contour_cases_on here side go start d how e = turned_cases (with_side here.settings side) start d (turn_at here start d go) how e
 
 -- what refuses a contour before its motion is known
 abbrev pub turn_cases : Settings → Sign → List Row

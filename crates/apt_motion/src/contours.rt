@@ -50,29 +50,29 @@ pub(crate) fn surface_named(table: &Table, name: &Symbol) -> Result<Surface, Cas
 /// The first case that refuses it, where no motion is known yet.
 #[inline(always)]
 pub(crate) fn motion(
-    at: &Situation,
+    here: &Situation,
     side: Option<Side>,
     go: Go,
     drive: &Symbol,
     how: Stop,
     check: &Symbol,
 ) -> Result<Motion, Case>
-    requires { IsSituation at.now }
-    ensures motion { IsMotionBy (refusal_of at.now (deeds.Contour side go drive.now how check.now)) (effect_of at.now (deeds.Contour side go drive.now how check.now)) result }
+    requires { IsSituation here.now }
+    ensures motion { IsMotionBy (refusal_of here.now (deeds.Contour side go drive.now how check.now)) (effect_of here.now (deeds.Contour side go drive.now how check.now)) result }
     ensures range { IfOk result IsMotion }
 {
-    let Some(start) = at.position else {
+    let Some(start) = here.position else {
         return Err(Case::NoFrom);
     };
-    let drive = surface_named(&at.table, drive)?;
-    let check = surface_named(&at.table, check)?;
-    on_surfaces(at, side, go, start, drive, how, &check)
+    let drive = surface_named(&here.table, drive)?;
+    let check = surface_named(&here.table, check)?;
+    on_surfaces(here, side, go, start, drive, how, &check)
 }
 
 /// A contour on known surfaces.
 #[inline(always)]
 fn on_surfaces(
-    at: &Situation,
+    here: &Situation,
     side: Option<Side>,
     go: Go,
     start: Position,
@@ -80,15 +80,15 @@ fn on_surfaces(
     how: Stop,
     check: &Surface,
 ) -> Result<Motion, Case>
-    requires situation { IsSituation at.now }
+    requires situation { IsSituation here.now }
     requires start { IsPosition start }
     requires drive { IsSurface drive }
     requires check { IsSurface check.now }
-    ensures motion { IsMotionBy (first_of (finding.contour_cases_on at.now side go start drive how check.now)) (cuts (finding.motion_on at.now side go start drive how check.now)) result }
+    ensures motion { IsMotionBy (first_of (finding.contour_cases_on here.now side go start drive how check.now)) (cuts (finding.motion_on here.now side go start drive how check.now)) result }
     ensures range { IfOk result IsMotion }
 {
-    let settings = at.settings.with_side(side);
-    let turned = turn_at(at.forward, start, &drive, go);
+    let settings = here.settings.with_side(side);
+    let turned = turn_at(here.forward, start, &drive, go);
     turned_motion(&settings, start, &drive, turned, how, check)
 }
 
@@ -144,7 +144,7 @@ pub(crate) fn end_of(m: &Motion) -> Result<Pt, Case>
     if !on && lacks_room(&stop) {
         return Err(Case::NoRoom);
     }
-    if !is_near(&track, OFF_TRACK, m.start.at) {
+    if !is_near(&track, OFF_TRACK, m.start.xy) {
         return Err(Case::OffDrive);
     }
     if on {

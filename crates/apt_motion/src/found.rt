@@ -23,32 +23,32 @@ use std::alloc::AllocError;
 /// What a step asks for that is neither a definition nor a contour, or the first case that refuses it.
 #[inline(always)]
 #[tactic(auto, using(crate::proofs::Walks::found_plain))]
-pub(crate) fn find(at: &Situation, deed: &Deed) -> Result<Result<Effect, Case>, AllocError>
-    requires situation { IsSituation at.now }
+pub(crate) fn find(here: &Situation, deed: &Deed) -> Result<Result<Effect, Case>, AllocError>
+    requires situation { IsSituation here.now }
     requires scalars { HasScalars deed.now }
     requires text { DeedHasText deed.now }
     requires plain { IsNoContour deed.now }
     requires defines_nothing { IsNoDefinition deed.now }
-    ensures value { IfOk result (λ found. found ≡ asked (refusal_of at.now deed.now) (asking.effect_of at.now deed.now)) }
+    ensures value { IfOk result (λ found. found ≡ asked (refusal_of here.now deed.now) (asking.effect_of here.now deed.now)) }
     ensures plain { IfOk result (λ found. IfOk found IsPlain) }
     ensures range { IfOk result (λ found. IfOk found IsEffect) }
 {
-    found(at, deed)
+    found(here, deed)
 }
 
 #[inline(always)]
-fn found(at: &Situation, deed: &Deed) -> Result<Result<Effect, Case>, AllocError>
-    requires situation { IsSituation at.now }
+fn found(here: &Situation, deed: &Deed) -> Result<Result<Effect, Case>, AllocError>
+    requires situation { IsSituation here.now }
     requires scalars { HasScalars deed.now }
     requires plain { IsNoContour deed.now }
     requires defines_nothing { IsNoDefinition deed.now }
-    ensures { IfOk result (λ found. found ≡ asked (refusal_of at.now deed.now) (asking.effect_of at.now deed.now)) }
+    ensures { IfOk result (λ found. found ≡ asked (refusal_of here.now deed.now) (asking.effect_of here.now deed.now)) }
 {
     match deed.ask() {
         Ask::Titles(text) => Ok(Ok(note_effect(Note::Partno(text.copied()?)))),
-        Ask::Says(saying) => Ok(say(at, &saying)),
+        Ask::Says(saying) => Ok(say(here, &saying)),
         Ask::Sets(side) => Ok(Ok(Effect::Sets(Change::Side(side)))),
-        Ask::Goes(route) => Ok(goes(at, &route)),
+        Ask::Goes(route) => Ok(goes(here, &route)),
         Ask::Nothing => Ok(Ok(Effect::Sets(Change::Nothing))),
         Ask::Defines(..) | Ask::Cuts(..) => unreachable!(),
     }
@@ -61,11 +61,11 @@ fn note_effect(note: Note) -> Effect
 }
 
 /// What a note asks for that is in its range.
-fn say(at: &Situation, saying: &Saying) -> Result<Effect, Case>
+fn say(here: &Situation, saying: &Saying) -> Result<Effect, Case>
     requires { AllScalars (saying_numbers saying.now) }
-    ensures { let note = asking.note_of at.now.settings.units saying.now in result ≡ asked (first_of (refusals.note_cases note)) (asking.says note) }
+    ensures { let note = asking.note_of here.now.settings.units saying.now in result ≡ asked (first_of (refusals.note_cases note)) (asking.says note) }
 {
-    let note = note_of(at.settings.units, saying);
+    let note = note_of(here.settings.units, saying);
     match note_case(&note) {
         Some(case) => Err(case),
         None => Ok(note_effect(note)),
@@ -74,29 +74,29 @@ fn say(at: &Situation, saying: &Saying) -> Result<Effect, Case>
 
 /// What a move asks for.
 #[inline(always)]
-fn goes(at: &Situation, route: &Route) -> Result<Effect, Case>
-    requires situation { IsSituation at.now }
+fn goes(here: &Situation, route: &Route) -> Result<Effect, Case>
+    requires situation { IsSituation here.now }
     requires scalars { AllScalars (route_numbers route.now) }
-    ensures { result ≡ asked (first_of (refusals.route_cases at.now route.now)) (asking.goes at.now route.now) }
+    ensures { result ≡ asked (first_of (refusals.route_cases here.now route.now)) (asking.goes here.now route.now) }
 {
     match route {
-        Route::From(place) => from(at, place),
-        Route::Goto(place) => goto(at, place),
-        Route::By(x, y, z) => godlta(at, *x, *y, *z),
-        Route::Start(how, name, other) => go(at, *how, name, other),
+        Route::From(place) => from(here, place),
+        Route::Goto(place) => goto(here, place),
+        Route::By(x, y, z) => godlta(here, *x, *y, *z),
+        Route::Start(how, name, other) => go(here, *how, name, other),
     }
 }
 
 /// FROM comes once.
 #[tactic(auto, using(crate::proofs::Places::from_asked))]
-fn from(at: &Situation, place: &Place) -> Result<Effect, Case>
+fn from(here: &Situation, place: &Place) -> Result<Effect, Case>
     requires { AllScalars (place_numbers place.now) }
-    ensures { result ≡ asked (first_of (refusals.route_cases at.now (Route.From place.now))) (asking.goes at.now (Route.From place.now)) }
+    ensures { result ≡ asked (first_of (refusals.route_cases here.now (Route.From place.now))) (asking.goes here.now (Route.From place.now)) }
 {
-    if at.position.is_some() {
+    if here.position.is_some() {
         return Err(Case::FromAgain);
     }
-    match position_at_place(at, place) {
+    match position_at_place(here, place) {
         Ok(to) => Ok(Effect::Moves(Reach::From, to)),
         Err(case) => Err(case),
     }
@@ -105,12 +105,12 @@ fn from(at: &Situation, place: &Place) -> Result<Effect, Case>
 /// A place is found once, for its cases and for the move, which needs a feed.
 #[inline(always)]
 #[tactic(auto, using(crate::proofs::Places::goto_asked))]
-fn goto(at: &Situation, place: &Place) -> Result<Effect, Case>
+fn goto(here: &Situation, place: &Place) -> Result<Effect, Case>
     requires { AllScalars (place_numbers place.now) }
-    ensures { result ≡ asked (first_of (refusals.route_cases at.now (Route.Goto place.now))) (asking.goes at.now (Route.Goto place.now)) }
+    ensures { result ≡ asked (first_of (refusals.route_cases here.now (Route.Goto place.now))) (asking.goes here.now (Route.Goto place.now)) }
 {
-    match position_at_place(at, place) {
-        Ok(_) if at.settings.lacks_feed() => Err(Case::NoFeed),
+    match position_at_place(here, place) {
+        Ok(_) if here.settings.lacks_feed() => Err(Case::NoFeed),
         Ok(to) => Ok(Effect::Moves(Reach::Goto, to)),
         Err(case) => Err(case),
     }

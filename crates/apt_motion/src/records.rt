@@ -79,15 +79,15 @@ fn write_cut(records: &mut Vec<Record>, step: &Step, motion: &Motion, vertices: 
 }
 
 /// Then holds what holds behind what a step asks for that is neither a definition nor a contour.
-pub(crate) fn pass_by(at: &mut Situation, effect: Effect)
-    requires situation { IsSituation at.old }
+pub(crate) fn pass_by(here: &mut Situation, effect: Effect)
+    requires situation { IsSituation here.old }
     requires effect { IsEffect effect }
     requires plain { IsPlain effect }
-    ensures { at.new ≡ writing.after at.old effect (ends_of effect) }
+    ensures { here.new ≡ writing.after here.old effect (ends_of effect) }
 {
     match effect {
-        Effect::Sets(change) => at.settings.change(&change),
-        Effect::Moves(reach, to) => at.go_to(reach, to),
+        Effect::Sets(change) => here.settings.change(&change),
+        Effect::Moves(reach, to) => here.go_to(reach, to),
         Effect::Defines(..) | Effect::Cuts(_) => unreachable!(),
     }
 }
@@ -97,27 +97,27 @@ pub(crate) fn pass_by(at: &mut Situation, effect: Effect)
 #[inline(always)]
 pub(crate) fn take(
     records: &mut Vec<Record>,
-    at: &mut Situation,
+    here: &mut Situation,
     step: &Step,
     effect: Effect,
 ) -> Result<(), AllocError>
-    requires situation { IsSituation at.old }
+    requires situation { IsSituation here.old }
     requires effect { IsEffect effect }
     requires plain { IsPlain effect }
-    ensures after { OnOk result (at.new ≡ writing.after at.old effect (ends_of effect)) }
+    ensures after { OnOk result (here.new ≡ writing.after here.old effect (ends_of effect)) }
     ensures records { OnOk result (records.new.items ≡ records.old.items ++ writing.records_of step.now effect (points_of effect)) }
 {
     make_room(records)?;
     match effect {
         Effect::Sets(change) => {
-            at.settings.change(&change);
+            here.settings.change(&change);
             if let Change::Said(note) = change {
                 put(records, step, Record::Note(note));
             }
         }
         Effect::Moves(reach, to) => {
             put(records, step, Record::Point(reach, to));
-            at.go_to(reach, to);
+            here.go_to(reach, to);
         }
         Effect::Defines(..) | Effect::Cuts(_) => unreachable!(),
     }
@@ -132,7 +132,7 @@ pub(crate) fn take(
 pub(crate) fn take_cut(
     alloc: Global,
     written: &mut Written,
-    at: &mut Situation,
+    here: &mut Situation,
     step: &Step,
     motion: &Motion,
     end: Pt,
@@ -142,7 +142,7 @@ pub(crate) fn take_cut(
     requires end { end ≡ end_point motion.now }
     requires point { IsPoint end }
     requires few { written.old.points ≤ most_points }
-    ensures after { OnOk result (at.new ≡ writing.after at.old (effects.Cuts motion.now) (end_point motion.now ∷ [])) }
+    ensures after { OnOk result (here.new ≡ writing.after here.old (effects.Cuts motion.now) (end_point motion.now ∷ [])) }
     ensures records { OnOk result (written.new.records.items ≡ written.old.records.items ++ writing.records_of step.now (effects.Cuts motion.now) (vertices_of motion.now)) }
     ensures count { OnOk result (written.new.points ≡ written.old.points + length (vertices_of motion.now)) }
     ensures few { OnOk result (written.new.points ≤ most_points) }
@@ -154,6 +154,6 @@ pub(crate) fn take_cut(
     let vertices = vertices(alloc, motion, end, MOST_POINTS - written.points)?;
     written.points += vertices.as_slice().len() as u64;
     write_cut(&mut written.records, step, motion, vertices);
-    at.cut_along(motion, &[end]);
+    here.cut_along(motion, &[end]);
     Ok(())
 }

@@ -58,7 +58,7 @@ fn under_one(n: i64) -> Option<Case>
 fn position(p: Position) -> Option<Case>
     ensures { result ≡ first_of (refusals.position_cases p []) }
 {
-    if is_in_reach(p.at.x) && is_in_reach(p.at.y) && is_in_reach(p.z) {
+    if is_in_reach(p.xy.x) && is_in_reach(p.xy.y) && is_in_reach(p.z) {
         None
     } else {
         Some(Case::OutOfRange)
@@ -71,13 +71,13 @@ fn position(p: Position) -> Option<Case>
 ///
 /// The first case that refuses the place.
 #[inline(always)]
-pub(crate) fn position_at_place(at: &Situation, place: &Place) -> Result<Position, Case>
+pub(crate) fn position_at_place(here: &Situation, place: &Place) -> Result<Position, Case>
     requires { AllScalars (place_numbers place.now) }
-    ensures { result ≡ finding.position_at_place at.now place.now }
+    ensures { result ≡ finding.position_at_place here.now place.now }
 {
     match place {
-        Place::Xyz(x, y, z) => within(position_by(at.settings.units, *x, *y, *z)),
-        Place::Named(name) => point_in(&at.table, name),
+        Place::Xyz(x, y, z) => within(position_by(here.settings.units, *x, *y, *z)),
+        Place::Named(name) => point_in(&here.table, name),
     }
 }
 
@@ -97,7 +97,7 @@ fn point_in(table: &Table, name: &Symbol) -> Result<Position, Case>
     ensures { result ≡ finding.found_place (first_of (refusals.point_cases table.now name.now [])) (asking.place_in table.now name.now) }
 {
     match point(table, name) {
-        Ok((at, z)) => Ok(Position { at, z }),
+        Ok((here, z)) => Ok(Position { xy, z }),
         Err(case) => Err(case),
     }
 }
@@ -117,18 +117,18 @@ fn move_to(settings: &Settings, to: Position) -> Option<Case>
 }
 
 /// GODLTA starts from a position; only the new one has to be within the limit.
-pub(crate) fn godlta(at: &Situation, x: i64, y: i64, z: i64) -> Result<Effect, Case>
-    requires situation { IsSituation at.now }
+pub(crate) fn godlta(here: &Situation, x: i64, y: i64, z: i64) -> Result<Effect, Case>
+    requires situation { IsSituation here.now }
     requires x { IsScalar x }
     requires y { IsScalar y }
     requires z { IsScalar z }
-    ensures { result ≡ asked (first_of (refusals.godlta_cases at.now x y z)) (asking.moves Reach.Godlta (asking.moved_from at.now x y z)) }
+    ensures { result ≡ asked (first_of (refusals.godlta_cases here.now x y z)) (asking.moves Reach.Godlta (asking.moved_from here.now x y z)) }
 {
-    let Some(from) = at.position else {
+    let Some(from) = here.position else {
         return Err(Case::NoFrom);
     };
-    let to = moved_by(at.settings.units, x, y, z, from);
-    match move_to(&at.settings, to) {
+    let to = moved_by(here.settings.units, x, y, z, from);
+    match move_to(&here.settings, to) {
         Some(case) => Err(case),
         None => Ok(Effect::Moves(Reach::Godlta, to)),
     }

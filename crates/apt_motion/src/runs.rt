@@ -13,7 +13,8 @@ ghost use Rattle.apt_meaning.specs.Paths.{EveryContour, IsLegalCut, contours_of}
 ghost use Rattle.apt_meaning.specs.Records.{Follows, IsOwnCut};
 ghost use Rattle.apt_meaning.specs.Situations.{first_situation};
 ghost use Rattle.apt_meaning.specs.declared.situation.Situation.{Situation};
-ghost use Rattle.apt_motion.specs.Ends.{Ends, HasAdvanced, HasPassed, ArePassed};
+ghost use Rattle.apt_motion.specs.Ends.{HasAdvanced, HasPassed, ArePassed, told};
+ghost use Rattle.apt_words.specs.Answers.{IsDueAs};
 ghost use Rattle.apt_defs.specs.Definitions.{IsNoDefinition};
 ghost use Rattle.apt_motion.specs.Finding.{IsContour, IsMotionBy, IsNoContour};
 
@@ -59,18 +60,18 @@ fn refused(step: &Step, case: Case) -> RunError
 
 /// Passes a step: then holds what holds behind it, its contour run to its contact.
 #[tactic(auto, using(crate::proofs::Given::has_given, crate::proofs::Given::is_refused))]
-fn pass(at: &mut Situation, step: &Step) -> Result<(), RunError>
-    requires situation { IsSituation at.old }
+fn pass(here: &mut Situation, step: &Step) -> Result<(), RunError>
+    requires situation { IsSituation here.old }
     requires scalars { HasScalars step.now.deed }
     requires text { DeedHasText step.now.deed }
-    ensures { HasPassed at.old step.now (result_map_both (λ _. at.new) (λ e. e) result) }
+    ensures { HasPassed here.old step.now (result_map_both (λ _. here.new) (λ e. e) result) }
 {
     match &step.deed {
-        Deed::Contour(..) => pass_contour(at, step),
-        Deed::GotoXy(..) => go_on(at, step),
-        _ => match define(step, at.settings.units, &mut at.table) {
+        Deed::Contour(..) => pass_contour(here, step),
+        Deed::GotoXy(..) => go_on(here, step),
+        _ => match define(step, here.settings.units, &mut here.table) {
             Ok(true) => Ok(()),
-            Ok(false) => go_on(at, step),
+            Ok(false) => go_on(here, step),
             Err(DefError::Case(case)) => Err(refused(step, case)),
             Err(DefError::NoMemory) => Err(RunError::NoMemory),
         },
@@ -79,44 +80,44 @@ fn pass(at: &mut Situation, step: &Step) -> Result<(), RunError>
 
 /// Passes a step that is neither a definition nor a contour.
 #[inline(always)]
-fn go_on(at: &mut Situation, step: &Step) -> Result<(), RunError>
-    requires situation { IsSituation at.old }
+fn go_on(here: &mut Situation, step: &Step) -> Result<(), RunError>
+    requires situation { IsSituation here.old }
     requires scalars { HasScalars step.now.deed }
     requires text { DeedHasText step.now.deed }
     requires plain { IsNoContour step.now.deed }
     requires defines_nothing { IsNoDefinition step.now.deed }
-    ensures { HasPassed at.old step.now (result_map_both (λ _. at.new) (λ e. e) result) }
+    ensures { HasPassed here.old step.now (result_map_both (λ _. here.new) (λ e. e) result) }
 {
-    match find(at, &step.deed)? {
-        Ok(effect) => Ok(pass_by(at, effect)),
+    match find(here, &step.deed)? {
+        Ok(effect) => Ok(pass_by(here, effect)),
         Err(case) => Err(refused(step, case)),
     }
 }
 
 /// Passes a contour. Its motion stays where it is made.
-fn pass_contour(at: &mut Situation, step: &Step) -> Result<(), RunError>
-    requires situation { IsSituation at.old }
+fn pass_contour(here: &mut Situation, step: &Step) -> Result<(), RunError>
+    requires situation { IsSituation here.old }
     requires contour { IsContour step.now.deed }
-    ensures { HasPassed at.old step.now (result_map_both (λ _. at.new) (λ e. e) result) }
+    ensures { HasPassed here.old step.now (result_map_both (λ _. here.new) (λ e. e) result) }
 {
     let Deed::Contour(side, go, drive, how, check) = &step.deed else {
         unreachable!();
     };
-    match &motion(at, *side, *go, drive, *how, check) {
-        Ok(motion) => go_along(at, step, motion),
+    match &motion(here, *side, *go, drive, *how, check) {
+        Ok(motion) => go_along(here, step, motion),
         Err(case) => Err(refused(step, *case)),
     }
 }
 
 /// Passes a motion, run to its contact.
 #[tactic(auto, using(crate::proofs::Cuts::has_passed, crate::proofs::Cuts::is_stopped))]
-fn go_along(at: &mut Situation, step: &Step, motion: &Motion) -> Result<(), RunError>
+fn go_along(here: &mut Situation, step: &Step, motion: &Motion) -> Result<(), RunError>
     requires motion { IsMotion motion.now }
-    requires asks { IsMotionBy (refusal_of at.old step.now.deed) (effect_of at.old step.now.deed) (Ok motion.now) }
-    ensures { HasPassed at.old step.now (result_map_both (λ _. at.new) (λ e. e) result) }
+    requires asks { IsMotionBy (refusal_of here.old step.now.deed) (effect_of here.old step.now.deed) (Ok motion.now) }
+    ensures { HasPassed here.old step.now (result_map_both (λ _. here.new) (λ e. e) result) }
 {
     match end_of(motion) {
-        Ok(end) => Ok(at.cut_along(motion, &[end])),
+        Ok(end) => Ok(here.cut_along(motion, &[end])),
         Err(case) => Err(refused(step, case)),
     }
 }
@@ -126,21 +127,21 @@ fn go_along(at: &mut Situation, step: &Step, motion: &Motion) -> Result<(), RunE
 fn advance(
     alloc: Global,
     written: &mut Written,
-    at: &mut Situation,
+    here: &mut Situation,
     step: &Step,
 ) -> Result<(), RunError>
-    requires situation { IsSituation at.old }
+    requires situation { IsSituation here.old }
     requires scalars { HasScalars step.now.deed }
     requires text { DeedHasText step.now.deed }
     requires few { written.old.points ≤ most_points }
-    ensures { HasAdvanced written.old.points written.new.points at.old step.now written.old.records.items written.new.records.items (result_map_both (λ _. at.new) (λ e. e) result) }
+    ensures { HasAdvanced written.old.points written.new.points here.old step.now written.old.records.items written.new.records.items (result_map_both (λ _. here.new) (λ e. e) result) }
 {
     match &step.deed {
-        Deed::Contour(..) => contour(alloc, written, at, step),
-        Deed::GotoXy(..) => act(written, at, step),
-        _ => match define(step, at.settings.units, &mut at.table) {
+        Deed::Contour(..) => contour(alloc, written, here, step),
+        Deed::GotoXy(..) => act(written, here, step),
+        _ => match define(step, here.settings.units, &mut here.table) {
             Ok(true) => Ok(()),
-            Ok(false) => act(written, at, step),
+            Ok(false) => act(written, here, step),
             Err(DefError::Case(case)) => Err(refused(step, case)),
             Err(DefError::NoMemory) => Err(RunError::NoMemory),
         },
@@ -149,17 +150,17 @@ fn advance(
 
 /// Takes a step that is neither a definition nor a contour.
 #[inline(always)]
-fn act(written: &mut Written, at: &mut Situation, step: &Step) -> Result<(), RunError>
-    requires situation { IsSituation at.old }
+fn act(written: &mut Written, here: &mut Situation, step: &Step) -> Result<(), RunError>
+    requires situation { IsSituation here.old }
     requires scalars { HasScalars step.now.deed }
     requires text { DeedHasText step.now.deed }
     requires plain { IsNoContour step.now.deed }
     requires defines_nothing { IsNoDefinition step.now.deed }
     requires few { written.old.points ≤ most_points }
-    ensures { HasAdvanced written.old.points written.new.points at.old step.now written.old.records.items written.new.records.items (result_map_both (λ _. at.new) (λ e. e) result) }
+    ensures { HasAdvanced written.old.points written.new.points here.old step.now written.old.records.items written.new.records.items (result_map_both (λ _. here.new) (λ e. e) result) }
 {
-    match find(at, &step.deed)? {
-        Ok(effect) => Ok(take(&mut written.records, at, step, effect)?),
+    match find(here, &step.deed)? {
+        Ok(effect) => Ok(take(&mut written.records, here, step, effect)?),
         Err(case) => Err(refused(step, case)),
     }
 }
@@ -168,19 +169,19 @@ fn act(written: &mut Written, at: &mut Situation, step: &Step) -> Result<(), Run
 fn contour(
     alloc: Global,
     written: &mut Written,
-    at: &mut Situation,
+    here: &mut Situation,
     step: &Step,
 ) -> Result<(), RunError>
-    requires situation { IsSituation at.old }
+    requires situation { IsSituation here.old }
     requires contour { IsContour step.now.deed }
     requires few { written.old.points ≤ most_points }
-    ensures { HasAdvanced written.old.points written.new.points at.old step.now written.old.records.items written.new.records.items (result_map_both (λ _. at.new) (λ e. e) result) }
+    ensures { HasAdvanced written.old.points written.new.points here.old step.now written.old.records.items written.new.records.items (result_map_both (λ _. here.new) (λ e. e) result) }
 {
     let Deed::Contour(side, go, drive, how, check) = &step.deed else {
         unreachable!();
     };
-    match &motion(at, *side, *go, drive, *how, check) {
-        Ok(motion) => cut(alloc, written, at, step, motion),
+    match &motion(here, *side, *go, drive, *how, check) {
+        Ok(motion) => cut(alloc, written, here, step, motion),
         Err(case) => Err(refused(step, *case)),
     }
 }
@@ -190,17 +191,17 @@ fn contour(
 fn cut(
     alloc: Global,
     written: &mut Written,
-    at: &mut Situation,
+    here: &mut Situation,
     step: &Step,
     motion: &Motion,
 ) -> Result<(), RunError>
     requires motion { IsMotion motion.now }
-    requires asks { IsMotionBy (refusal_of at.old step.now.deed) (effect_of at.old step.now.deed) (Ok motion.now) }
+    requires asks { IsMotionBy (refusal_of here.old step.now.deed) (effect_of here.old step.now.deed) (Ok motion.now) }
     requires few { written.old.points ≤ most_points }
-    ensures { HasAdvanced written.old.points written.new.points at.old step.now written.old.records.items written.new.records.items (result_map_both (λ _. at.new) (λ e. e) result) }
+    ensures { HasAdvanced written.old.points written.new.points here.old step.now written.old.records.items written.new.records.items (result_map_both (λ _. here.new) (λ e. e) result) }
 {
     match end_of(motion) {
-        Ok(end) => match take_cut(alloc, written, at, step, motion, end) {
+        Ok(end) => match take_cut(alloc, written, here, step, motion, end) {
             Ok(()) => Ok(()),
             Err(ArcError::TooManyPoints) => Err(refused(step, Case::TooManyPoints)),
             Err(ArcError::NoMemory) => Err(RunError::NoMemory),
@@ -212,15 +213,15 @@ fn cut(
 fn run_all(alloc: Global, steps: &[Step]) -> Result<Vec<Record>, RunError>
     requires scalars { AreScalars steps.now }
     requires sources { AreExecuted steps.now }
-    ensures { Ends (compilation first_situation steps.now) result }
+    ensures { IsDueAs (λ records. records.items) told (compilation first_situation steps.now) result }
 {
-    let mut at = Situation::first(alloc);
+    let mut here = Situation::first(alloc);
     let mut written = Written {
         records: Vec::new(alloc),
         points: 0,
     };
     'steps: for st in steps {
-        advance(alloc, &mut written, &mut at, st)?;
+        advance(alloc, &mut written, &mut here, st)?;
     }
     let Written { mut records, .. } = written;
     records.shrink_to_fit();
@@ -232,9 +233,9 @@ fn pass_all(alloc: Global, steps: &[Step]) -> Result<(), RunError>
     requires sources { AreExecuted steps.now }
     ensures { ArePassed (first_refused first_situation steps.now) result }
 {
-    let mut at = Situation::first(alloc);
+    let mut here = Situation::first(alloc);
     'steps: for st in steps {
-        pass(&mut at, st)?;
+        pass(&mut here, st)?;
     }
     Ok(())
 }
@@ -261,7 +262,7 @@ pub fn ends(alloc: Global, steps: &[Step]) -> Result<Option<Refusal>, AllocError
 pub fn run(alloc: Global, steps: &[Step]) -> Result<Vec<Record>, RunError>
     requires scalars { AreScalars steps.now }
     requires sources { AreExecuted steps.now }
-    ensures value { Ends (compilation first_situation steps.now) result }
+    ensures value { IsDueAs (λ records. records.items) told (compilation first_situation steps.now) result }
     ensures follows { IfOk result (λ records. Follows steps.now records.items) }
     ensures legal { IfOk result (λ records. EveryContour IsLegalCut (contours_of records.items)) }
     ensures own { IfOk result (λ records. EveryContour IsOwnCut (contours_of records.items)) }

@@ -32,35 +32,35 @@ use apt_words::{Case, Stop, Symbol};
 /// The first case that refuses it.
 #[inline(always)]
 pub(crate) fn go(
-    at: &Situation,
+    here: &Situation,
     how: Stop,
     name: &Symbol,
     other: &Option<(Stop, Symbol)>,
 ) -> Result<Effect, Case>
-    requires { IsSituation at.now }
-    ensures { result ≡ asked (refusal_of at.now (deeds.GoStart how name.now other.now)) (effect_of at.now (deeds.GoStart how name.now other.now)) }
+    requires { IsSituation here.now }
+    ensures { result ≡ asked (refusal_of here.now (deeds.GoStart how name.now other.now)) (effect_of here.now (deeds.GoStart how name.now other.now)) }
 {
-    let Some(from) = at.position else {
+    let Some(from) = here.position else {
         return Err(Case::NoFrom);
     };
-    let (first, second) = goals(&at.table, how, name, other)?;
-    started(&at.settings, from, &start_up_on(at, from, first, second))
+    let (first, second) = goals(&here.table, how, name, other)?;
+    started(&here.settings, from, &start_up_on(here, from, first, second))
 }
 
 /// The start-up from a position to known surfaces.
-fn start_up_on(at: &Situation, from: Position, first: Goal, second: Option<Goal>) -> StartUp
-    requires situation { IsSituation at.now }
+fn start_up_on(here: &Situation, from: Position, first: Goal, second: Option<Goal>) -> StartUp
+    requires situation { IsSituation here.now }
     requires from { IsPosition from }
     requires first { IsGoal first }
     requires second { IfSome second IsGoal }
-    ensures value { result ≡ finding.start_up_on at.now from first second }
+    ensures value { result ≡ finding.start_up_on here.now from first second }
     ensures range { IsStartUp result }
 {
     StartUp {
-        start: from.at,
+        start: from.xy,
         first,
         second,
-        radius: at.settings.radius,
+        radius: here.settings.radius,
     }
 }
 
@@ -132,8 +132,8 @@ fn started(settings: &Settings, from: Position, u: &StartUp) -> Result<Effect, C
     }
 }
 
-fn start_to(from: Position, at: Pt) -> Effect
-    ensures { result ≡ effects.Moves Reach.Start (at_height from.z at) }
+fn start_to(from: Position, xy: Pt) -> Effect
+    ensures { result ≡ effects.Moves Reach.Start (at_height from.z xy) }
 {
-    Effect::Moves(Reach::Start, Position { at, z: from.z })
+    Effect::Moves(Reach::Start, Position { xy, z: from.z })
 }

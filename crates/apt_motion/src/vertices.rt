@@ -52,7 +52,7 @@ fn end_alone(alloc: Global, end: Pt, z: i64, room: u64) -> Result<Vertices, ArcE
     if room == 0 {
         return Err(ArcError::TooManyPoints);
     }
-    Ok(Vertices::one(alloc, Position { at: end, z }))
+    Ok(Vertices::one(alloc, Position { xy: end, z }))
 }
 
 /// The vertices round a circle.
@@ -65,7 +65,7 @@ fn ends_of_chords(alloc: Global, arc: &Arc, z: i64, room: u64) -> Result<Vertice
     let mut points = with_room(alloc);
     chords(arc, room, &mut points)?;
     match all_at(alloc, &points, z) {
-        Ok(at) => Ok(Vertices::from_vec(at)),
+        Ok(vertices) => Ok(Vertices::from_vec(vertices)),
         Err(_) => Err(ArcError::NoMemory),
     }
 }
@@ -82,11 +82,11 @@ fn with_room(alloc: Global) -> Vec<Pt>
 
 /// Points at a height.
 fn all_at(alloc: Global, points: &[Pt], z: i64) -> Result<Vec<Position>, AllocError>
-    ensures { IfOk result (λ at. at.items ≡ map (at_height z) points.now) }
+    ensures { IfOk result (λ vertices. vertices.items ≡ map (at_height z) points.now) }
 {
-    let mut at = Vec::with_capacity(alloc, points.len())?;
+    let mut vertices = Vec::with_capacity(alloc, points.len())?;
     'points: for p in points {
-        at.push_reserved(Position { at: *p, z });
+        vertices.push_reserved(Position { xy: *p, z });
     }
-    Ok(at)
+    Ok(vertices)
 }

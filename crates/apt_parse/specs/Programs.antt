@@ -83,10 +83,3 @@ last_line lines = max 1 (length lines)
 
 abbrev pub program_of : List ℕ → Result (List Stmt) TextFault
 program_of text = program_from [] (last_line (lines_of text)) (said_in text).fault (said_in text).phrases
-
--- ---- what the reader answers
-
-abbrev pub IsParsed : Result (List Stmt) TextFault → Result Program ParseError → Type 0
-IsParsed due (Ok program) = due ≡ Ok program
-IsParsed due (Err (errors.Bad line cause)) = due ≡ Err (line, cause)
-IsParsed due (Err errors.NoMemory) = Unit {0}

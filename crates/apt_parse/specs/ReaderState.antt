@@ -1,9 +1,10 @@
 -- What the reader keeps of the statements that it has read.
 use Rattle.std.specs.Prelude.{◌≡◌, ℕ, Result, Ok, Err}
+use Rattle.apt_words.specs.Answers.{Comes}
 use Rattle.apt_words.specs.declared.body.Stmt.{Stmt}
 use Rattle.apt_lexis.specs.declared.cause.PartCause.{PartCause}
 use Rattle.apt_lexis.specs.declared.error.ParseError.{ParseError}
-use Rattle.apt_lexis.specs.declared.error.ParseError.TheVariants as errors
+use Rattle.apt_lexis.specs.Sentences.{told}
 use Rattle.apt_parse.specs.declared.read.Read.{Read}
 use Rattle.apt_parse.specs.Statements.{labels_of, macros_of, open_macro, open_loop}
 
@@ -15,6 +16,4 @@ pub record IsRead (r : Read) : Type 0 where
 
 -- a statement as it is due, or its fault with the line on which it begins
 abbrev pub IsStated : ℕ → Result Stmt PartCause → Result Stmt ParseError → Type 0
-IsStated line due (Ok st) = due ≡ Ok st
-IsStated line due (Err (errors.Bad at cause)) = (at ≡ line) × (due ≡ Err cause)
-IsStated line due (Err errors.NoMemory) = Unit {0}
+IsStated line due = Comes told (λ st. due ≡ Ok st) (λ fault. (fault.0 ≡ line) × (due ≡ Err fault.1))

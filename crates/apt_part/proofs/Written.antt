@@ -70,7 +70,7 @@ up_to (pos (suc n)) some most = (refl, omega arith, omega (arith, ints, most))
 up_to (negsuc n) some most = absurd (true≢false some)
 
 written_cut : (p : Pending) (s : Settings) (to : Position) → Agrees p s → HasRoom s → IsPosition to → not (has_feed s) ≡ false → CanWrite (cut_to p to)
-written_cut p s to agrees room is some = ((is.at.x, is.at.y, is.z), subst (IsUpTo 9999) (sym agrees.feed) (up_to s.feed some room.most))
+written_cut p s to agrees room is some = ((is.xy.x, is.xy.y, is.z), subst (IsUpTo 9999) (sym agrees.feed) (up_to s.feed some room.most))
 
 written_cuts : (p : Pending) (s : Settings) (vs : List Position) → Agrees p s → HasRoom s → ArePositions vs → not (has_feed s) ≡ false → CanWriteAll (map (cut_to p) vs)
 written_cuts p s [] agrees room are some = tt
@@ -87,7 +87,7 @@ either_move false a b fast slow = slow refl
 
 written_move : (p : Pending) (s : Settings) (to : Position) → Agrees p s → HasRoom s → IsPosition to → lacks_feed s ≡ false → CanWrite (move_to p to)
 written_move p s to agrees room is on =
-    either_move p.rapid _ _ (λ _. (is.at.x, is.at.y, is.z)) (λ slow. written_cut p s to agrees room is (feed_or_rapid (has_feed s) s.rapid on (sym agrees.rapid ∙ slow)))
+    either_move p.rapid _ _ (λ _. (is.xy.x, is.xy.y, is.z)) (λ slow. written_cut p s to agrees room is (feed_or_rapid (has_feed s) s.rapid on (sym agrees.rapid ∙ slow)))
 
 -- ---- the records of an effect
 
@@ -174,14 +174,14 @@ change_written machine p s ask (changes.Said note) is agrees room takes says goo
 change_written machine p s ask (changes.Side side) is agrees room takes says good = nothing_written p s (record s { side = side }) agrees room refl refl
 change_written machine p s ask changes.Nothing is agrees room takes says good = nothing_written p s s agrees room refl refl
 
-said_written : (machine : Machine) (p : Pending) (at : Situation) (ask : Ask) (e : Effect) (vertices : List Pt) → IsMachine machine → Agrees p at.settings → HasRoom at.settings
-    → first_of (ask_limits machine ask) ≡ None → IsSaidBy at ask e → IsFed at.settings e → IsEffect e → AreRecords (effect_records e vertices)
-    → Leaves p (effect_records e vertices) (after at e vertices).settings
-said_written machine p at ask (effects.Defines n f) vertices is agrees room takes says on good in_range = nothing_written p at.settings at.settings agrees room refl refl
-said_written machine p at ask (effects.Sets change) vertices is agrees room takes says on good in_range = change_written machine p at.settings ask change is agrees room takes says good
-said_written machine p at ask (effects.Moves reach to) vertices is agrees room takes says on good in_range = moved p at.settings reach to agrees room in_range.0 on
-said_written machine p at ask (effects.Cuts m) vertices is agrees room takes says on good in_range =
-    record { can = (tt, (tt, (written_cuts p at.settings _ agrees room in_range.1.1.0.1 on, tt))); agrees = record { feed = agrees.feed; rapid = agrees.rapid }; room = record { most = room.most } }
+said_written : (machine : Machine) (p : Pending) (here : Situation) (ask : Ask) (e : Effect) (vertices : List Pt) → IsMachine machine → Agrees p here.settings → HasRoom here.settings
+    → first_of (ask_limits machine ask) ≡ None → IsSaidBy here ask e → IsFed here.settings e → IsEffect e → AreRecords (effect_records e vertices)
+    → Leaves p (effect_records e vertices) (after here e vertices).settings
+said_written machine p here ask (effects.Defines n f) vertices is agrees room takes says on good in_range = nothing_written p here.settings here.settings agrees room refl refl
+said_written machine p here ask (effects.Sets change) vertices is agrees room takes says on good in_range = change_written machine p here.settings ask change is agrees room takes says good
+said_written machine p here ask (effects.Moves reach to) vertices is agrees room takes says on good in_range = moved p here.settings reach to agrees room in_range.0 on
+said_written machine p here ask (effects.Cuts m) vertices is agrees room takes says on good in_range =
+    record { can = (tt, (tt, (written_cuts p here.settings _ agrees room in_range.1.1.0.1 on, tt))); agrees = record { feed = agrees.feed; rapid = agrees.rapid }; room = record { most = room.most } }
 
 statement_written : (p : Pending) (step : Step) (rs : List Record) (s : Settings) → Leaves p rs s → Leaves p (with_statement step rs) s
 statement_written p step [] s leaves = leaves
@@ -197,21 +197,21 @@ taken : (st : Step) (own : Option Case) (more : Option Refusal) → refused_by s
 taken st None more none = (refl, none)
 taken st (Some case) more none = absurd cc
 
-pub compiled_written : (machine : Machine) (p : Pending) (so_far : ℕ) (at : Situation) (steps : List Step) (written : List Record) → IsMachine machine → Agrees p at.settings → HasRoom at.settings
-    → IsSituation at → AreScalars steps → AreExecuted steps → limits machine steps ≡ None → compilation_behind so_far at steps ≡ Ok written → AreWritten p written
-compiled_written machine p so_far at [] written is agrees room good numbers sources within h = rw (nothing_left written h) tt
-compiled_written machine p so_far at (step ∷ steps) written is agrees room good numbers sources within h =
-    let d = done so_far step (refusal_of at step.deed) (effect_of at step.deed) (behind_step so_far at step steps) written h in
+pub compiled_written : (machine : Machine) (p : Pending) (so_far : ℕ) (here : Situation) (steps : List Step) (written : List Record) → IsMachine machine → Agrees p here.settings → HasRoom here.settings
+    → IsSituation here → AreScalars steps → AreExecuted steps → limits machine steps ≡ None → compilation_behind so_far here steps ≡ Ok written → AreWritten p written
+compiled_written machine p so_far here [] written is agrees room good numbers sources within h = rw (nothing_left written h) tt
+compiled_written machine p so_far here (step ∷ steps) written is agrees room good numbers sources within h =
+    let d = done so_far step (refusal_of here step.deed) (effect_of here step.deed) (behind_step so_far here step steps) written h in
     let e = d.e in
     let n = so_far + length (points_of e) in
     let rs = effect_records e (points_of e) in
     let takes = taken step (first_of (machine_cases machine step.deed)) (limits machine steps) within in
-    let ok = fit (effect_of at step.deed) e d.asked (answered at step.deed good numbers.0 sources.0.text d.fine) in
-    let f = front_ok (records_of step e (points_of e)) (compilation_behind n (after at e (ends_of e)) steps) written d.rest in
-    let same = sym (after_points at e ok.ends) in
-    let said = said_written machine p at (ask_of step.deed) e (points_of e) is agrees room takes.0 (said_by at step.deed e d.asked) (fed at step.deed e d.asked (first_none (cases_of at step.deed) d.fine)) ok.good
+    let ok = fit (effect_of here step.deed) e d.asked (answered here step.deed good numbers.0 sources.0.text d.fine) in
+    let f = front_ok (records_of step e (points_of e)) (compilation_behind n (after here e (ends_of e)) steps) written d.rest in
+    let same = sym (after_points here e ok.ends) in
+    let said = said_written machine p here (ask_of step.deed) e (points_of e) is agrees room takes.0 (said_by here step.deed e d.asked) (fed here step.deed e d.asked (first_none (cases_of here step.deed) d.fine)) ok.good
     (without_statement step rs (records_in step e (points_of e) sources.0 ok.good ok.within)) in
-    let leaves = subst (λ (x : Situation). Leaves p (records_of step e (points_of e)) x.settings) same (statement_written p step rs (after at e (points_of e)).settings said) in
-    let behind = subst IsSituation same (kept at e (points_of e) good ok.good ok.within) in
-    let more = compiled_written machine (pending_behind p (records_of step e (points_of e))) n (after at e (ends_of e)) steps f.0 is leaves.agrees leaves.room behind numbers.1 sources.1 takes.1 f.1 in
+    let leaves = subst (λ (x : Situation). Leaves p (records_of step e (points_of e)) x.settings) same (statement_written p step rs (after here e (points_of e)).settings said) in
+    let behind = subst IsSituation same (kept here e (points_of e) good ok.good ok.within) in
+    let more = compiled_written machine (pending_behind p (records_of step e (points_of e))) n (after here e (ends_of e)) steps f.0 is leaves.agrees leaves.room behind numbers.1 sources.1 takes.1 f.1 in
     rw f.2 (written-append p (records_of step e (points_of e)) f.0 leaves.can more)

@@ -7,12 +7,14 @@ ghost use Rattle.apt_words.specs.Sources.{AreStmts, AreExecuted};
 ghost use Rattle.apt_scalar.specs.StepScalars.{AreScalars};
 ghost use Rattle.apt_meaning.specs.Situations.{first_situation};
 ghost use Rattle.apt_meaning.specs.Compiled.{compilation, first_refused};
-ghost use Rattle.apt_motion.specs.Ends.{Ends};
+ghost use Rattle.apt_words.specs.Answers.{IsDue, IsDueAs};
+ghost use Rattle.apt_lexis.specs.Sentences as sentences;
+ghost use Rattle.apt_motion.specs.Ends.{told};
 ghost use Rattle.apt_machine.specs.Machines.{IsMachine};
 ghost use Rattle.apt_parse.specs.Programs.{program_of};
 ghost use Rattle.apt_post.specs.Limits as limiting;
 ghost use Rattle.apt_part.specs.Compilation as parts;
-ghost use Rattle.apt_part.specs.Answering.{IsPart, IsPartBy, IsProgramOf};
+ghost use Rattle.apt_part.specs.Answering.{IsPart};
 ghost use Rattle.apt_part.specs.Promise.{Passes, Promise, AreSteps};
 
 use apt_cldata::Record;
@@ -49,6 +51,20 @@ pub enum PartError {
     NoMemory,
 }
 
+impl From<ParseError> for PartError {
+    ghost use Rattle.std.specs.Prelude.{◌≡◌};
+    ghost use Rattle.apt_part.specs.Answering.{of_text};
+
+    ghost from_gives = { λ e told. told ≡ of_text e };
+
+    fn from(e: ParseError) -> PartError {
+        match e {
+            ParseError::Bad { line, cause } => PartError::Bad { line, cause },
+            ParseError::NoMemory => PartError::NoMemory,
+        }
+    }
+}
+
 /// The steps of a text on a machine, where none of them is refused; no record is made. The text goes as soon as it has
 /// been read.
 ///
@@ -76,23 +92,19 @@ fn whole_steps(alloc: Global, text: Vec<u8>, machine: &Machine) -> Result<Vec<St
 }
 
 /// The program of a text, or its first fault.
-fn program_in(alloc: Global, text: Vec<u8>) -> Result<Program, PartError>
-    ensures program { IsProgramOf (program_of text.items) result }
+fn program_in(alloc: Global, text: Vec<u8>) -> Result<Program, ParseError>
+    ensures program { IsDue sentences.told (program_of text.items) result }
     ensures sources { IfOk result (λ p. AreStmts p) }
     ensures nested { IfOk result (λ p. AreNested false p) }
 {
-    match parse(alloc, &text) {
-        Ok(program) => Ok(program),
-        Err(ParseError::Bad { line, cause }) => Err(PartError::Bad { line, cause }),
-        Err(ParseError::NoMemory) => Err(PartError::NoMemory),
-    }
+    parse(alloc, &text)
 }
 
 /// The steps of statements, or the first that is refused.
 fn steps_by(alloc: Global, program: Program, machine: &Machine) -> Result<Vec<Step>, RunError>
     requires sources { AreStmts program }
     requires nested { AreNested false program }
-    ensures { IsPartBy (parts.steps_by machine.now program) (result_map_both (λ steps. steps.items) (λ e. e) result) }
+    ensures { IsDueAs (λ steps. steps.items) told (parts.steps_by machine.now program) result }
 {
     let Ok(unrolled) = unroll(alloc, &program) else {
         return Err(RunError::NoMemory);
@@ -151,7 +163,7 @@ fn whole_part(alloc: Global, text: Vec<u8>, machine: &Machine) -> Result<Part, P
 fn part_by(alloc: Global, program: Program, machine: &Machine) -> Result<Part, RunError>
     requires sources { AreStmts program }
     requires nested { AreNested false program }
-    ensures { IsPartBy (parts.part_by machine.now program) result }
+    ensures { IsDue told (parts.part_by machine.now program) result }
 {
     let Ok(unrolled) = unroll(alloc, &program) else {
         return Err(RunError::NoMemory);
@@ -172,7 +184,7 @@ fn part_by(alloc: Global, program: Program, machine: &Machine) -> Result<Part, R
 fn records_of(alloc: Global, steps: &[Step], machine: &Machine) -> Result<Vec<Record>, RunError>
     requires scalars { AreScalars steps.now }
     requires sources { AreExecuted steps.now }
-    ensures { Ends (parts.earlier (limiting.limits machine.now steps.now) (compilation first_situation steps.now)) result }
+    ensures { IsDueAs (λ records. records.items) told (parts.earlier (limiting.limits machine.now steps.now) (compilation first_situation steps.now)) result }
 {
     let past = limits(steps, machine);
     match run(alloc, steps) {

@@ -14,4 +14,4 @@ IsOnHalf signs.Zero d = Unit {0}
 
 -- on the axis within 8 units, and on its half
 abbrev pub IsOnAxis : Axis → Pt → Type 0
-IsOnAxis axis q = OnLine (cross axis.along (displacement axis.at q)) (pos 0) (length_squared axis.along) (pos 8) × IsOnHalf axis.half (dot axis.along (displacement axis.at q))
+IsOnAxis axis q = OnLine (cross axis.along (displacement axis.through q)) (pos 0) (length_squared axis.along) (pos 8) × IsOnHalf axis.half (dot axis.along (displacement axis.through q))

@@ -55,7 +55,7 @@ pub struct Band {
 /// the motion ends, `Zero` where it has none.
 #[derive(Clone, Copy)]
 pub struct Axis {
-    pub at: Pt,
+    pub through: Pt,
     pub along: Dir,
     pub half: Sign,
 }

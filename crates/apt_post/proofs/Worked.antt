@@ -104,7 +104,7 @@ plate_runs = refl
 -- ---- records
 
 abbrev at : ℕ → ℕ → ℕ → Position
-at x y z = record { at = record { x = pos x; y = pos y }; z = pos z }
+at x y z = record { xy = record { x = pos x; y = pos y }; z = pos z }
 
 abbrev y_axis : Line
 y_axis = record { base = record { x = pos 0; y = pos 0 }; dir = record { dx = pos 0; dy = pos 1 } }

@@ -24,10 +24,10 @@ acts_by (Some act) = act ∷ []
 
 -- a cut with the feed that holds, or a rapid move
 abbrev pub cut_to : Pending → Position → Act
-cut_to p to = acts.Cut to.at.x to.at.y to.z p.feed
+cut_to p to = acts.Cut to.xy.x to.xy.y to.z p.feed
 
 abbrev pub move_to : Pending → Position → Act
-move_to p to = if p.rapid then acts.Rapid to.at.x to.at.y to.z else cut_to p to
+move_to p to = if p.rapid then acts.Rapid to.xy.x to.xy.y to.z else cut_to p to
 
 -- the end is given once
 abbrev pub end_of : Pending → List Act
@@ -166,8 +166,8 @@ planning rs = record { acts = plan rs; segments = segments rs }
 
 abbrev pub act_positions : Act → List Position
 act_positions (acts.Units units) = []
-act_positions (acts.Rapid x y z) = record { at = record { x = x; y = y }; z = z } ∷ []
-act_positions (acts.Cut x y z feed) = record { at = record { x = x; y = y }; z = z } ∷ []
+act_positions (acts.Rapid x y z) = record { xy = record { x = x; y = y }; z = z } ∷ []
+act_positions (acts.Cut x y z feed) = record { xy = record { x = x; y = y }; z = z } ∷ []
 act_positions (acts.Spindle turn n) = []
 act_positions (acts.Coolant c) = []
 act_positions (acts.Tool n) = []

@@ -38,8 +38,8 @@ fn cut_to(p: Pending, to: Position) -> Act
     ensures { result ≡ plans.cut_to p to }
 {
     Act::Cut {
-        x: to.at.x,
-        y: to.at.y,
+        x: to.xy.x,
+        y: to.xy.y,
         z: to.z,
         feed: p.feed,
     }
@@ -50,8 +50,8 @@ fn move_to(p: Pending, to: Position) -> Act
 {
     if p.rapid {
         Act::Rapid {
-            x: to.at.x,
-            y: to.at.y,
+            x: to.xy.x,
+            y: to.xy.y,
             z: to.z,
         }
     } else {

@@ -11,7 +11,7 @@ use Rattle.apt_report.specs.Listing.{coordinate, word_of, point_line, record_lin
 
 line_at_least : (decimals seq : ℕ) (word : List ℕ) (to : Position) → 1 ≤ length (point_line decimals seq word to)
 line_at_least decimals seq word to =
-    omega (arith, length-append (right_in 8 (decimal seq)) (codes " " ++ (word ++ (coordinate decimals to.at.x ++ (coordinate decimals to.at.y ++ (coordinate decimals to.z ++ codes "\n"))))))
+    omega (arith, length-append (right_in 8 (decimal seq)) (codes " " ++ (word ++ (coordinate decimals to.xy.x ++ (coordinate decimals to.xy.y ++ (coordinate decimals to.z ++ codes "\n"))))))
 
 contour_at_least : (decimals seq : ℕ) (vertices : List Position) → length vertices ≤ length (flat_map (point_line decimals seq (codes "CONT")) vertices)
 contour_at_least decimals seq [] = omega arith

@@ -86,10 +86,10 @@ module _ (units : Units) (r : Row) (fits : Fits r) where
   number = right_in 8 (decimal r.seq)
 
   abbrev x : List ℕ
-  x = coordinate (decimals_in units) r.to.at.x
+  x = coordinate (decimals_in units) r.to.xy.x
 
   abbrev y : List ℕ
-  y = coordinate (decimals_in units) r.to.at.y
+  y = coordinate (decimals_in units) r.to.xy.y
 
   abbrev z : List ℕ
   z = coordinate (decimals_in units) r.to.z
@@ -98,10 +98,10 @@ module _ (units : Units) (r : Row) (fits : Fits r) where
   eight = length-number r.seq fits.seq
 
   eleven_x : length x ≡ 11
-  eleven_x = length-coordinate units r.to.at.x fits.to.at.x
+  eleven_x = length-coordinate units r.to.xy.x fits.to.xy.x
 
   eleven_y : length y ≡ 11
-  eleven_y = length-coordinate units r.to.at.y fits.to.at.y
+  eleven_y = length-coordinate units r.to.xy.y fits.to.xy.y
 
   eleven_z : length z ≡ 11
   eleven_z = length-coordinate units r.to.z fits.to.z
@@ -118,8 +118,8 @@ module _ (units : Units) (r : Row) (fits : Fits r) where
         y_place number r.word x y z eight fits.word eleven_x eleven_y eleven_z,
         z_place number r.word x y z eight fits.word eleven_x eleven_y eleven_z,
         count_again 8 r.seq (omega (arith, fits.seq)),
-        length_again units r.to.at.x (omega (arith, fits.to.at.x)),
-        length_again units r.to.at.y (omega (arith, fits.to.at.y)),
+        length_again units r.to.xy.x (omega (arith, fits.to.xy.x)),
+        length_again units r.to.xy.y (omega (arith, fits.to.xy.y)),
         length_again units r.to.z (omega (arith, fits.to.z)),
       ) refl
 

@@ -12,7 +12,7 @@ use Rattle.apt_report.specs.Columns.{length_in}
 use Rattle.apt_report.specs.Demo.{circle_block, demo_part}
 
 abbrev at : ℤ → ℤ → ℤ → Position
-at x y z = record { at = record { x = x; y = y }; z = z }
+at x y z = record { xy = record { x = x; y = y }; z = z }
 
 a_start : point_line 5 10 (codes "FROM") (at (negsuc 99999) (negsuc 99999) (pos 50000)) ≡ codes "      10 FROM   -1.00000   -1.00000    0.50000\n"
 unfolding digits

@@ -31,7 +31,7 @@ coordinate decimals v = right_in 11 (signed_pointed decimals v)
 abbrev pub point_line : ℕ → ℕ → List ℕ → Position → List ℕ
 point_line decimals seq word to =
     right_in 8 (decimal seq)
-    ++ (codes " " ++ (word ++ (coordinate decimals to.at.x ++ (coordinate decimals to.at.y ++ (coordinate decimals to.z ++ codes "\n")))))
+    ++ (codes " " ++ (word ++ (coordinate decimals to.xy.x ++ (coordinate decimals to.xy.y ++ (coordinate decimals to.z ++ codes "\n")))))
 
 -- the lines of a record, by its number
 abbrev pub record_lines : ℕ → ℕ → Record → List ℕ

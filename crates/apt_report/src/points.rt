@@ -142,8 +142,8 @@ fn point_line(room: &mut [u8], decimals: usize, seq: usize, word: &str, to: Posi
 {
     let end = whole_line(room, "\n");
     let at = write_coordinate(room, end, decimals, to.z);
-    let at = write_coordinate(room, at, decimals, to.at.y);
-    let at = write_coordinate(room, at, decimals, to.at.x);
+    let at = write_coordinate(room, at, decimals, to.xy.y);
+    let at = write_coordinate(room, at, decimals, to.xy.x);
     let at = write_text(room, at, word);
     let at = write_text(room, at, " ");
     write_seq(room, at, seq)

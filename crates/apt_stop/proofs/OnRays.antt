@@ -57,9 +57,9 @@ on_half signs.Minus k some h = omega (arith, ints, h)
 by_axis : (k : ℤ) (n : ℕ) → 2 * square k ≤ n → OnLine k (pos 0) n (pos 8)
 by_axis k n h = record { right = within_eight k n h; left = within_eight (neg_ℤ k) n (rw (neg_square k) h) }
 
-pub ray_on_axis : (a : Axis) (q : Pt) → a.half ≢ signs.Zero → LiesOnAxis a.along a.half (displacement a.at q) → IsOnAxis a q
+pub ray_on_axis : (a : Axis) (q : Pt) → a.half ≢ signs.Zero → LiesOnAxis a.along a.half (displacement a.through q) → IsOnAxis a q
 ray_on_axis a q some is =
-    (by_axis (cross a.along (displacement a.at q)) (length_squared a.along) is.across, on_half a.half (dot a.along (displacement a.at q)) some is.onwards)
+    (by_axis (cross a.along (displacement a.through q)) (length_squared a.along) is.across, on_half a.half (dot a.along (displacement a.through q)) some is.onwards)
 
 -- ---- where the start lies in the direction of the end, it is on the same half
 back_way : (s e : Dir) → AreOneWay s e → AreOneWay e s

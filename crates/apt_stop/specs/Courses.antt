@@ -78,7 +78,7 @@ meets_at c side = contact_point c.track c.stop (sigma_of c.sense side c.track c.
 
 -- where it touches: on a line the foot of the axis, on a circle the point on the axis, on its half
 abbrev pub touches_on : Target → Axis → Pt
-touches_on (targets.Line b d h) a = foot_point a.at (line_on b d) h
+touches_on (targets.Line b d h) a = foot_point a.through (line_on b d) h
 touches_on (targets.Circ o r) a = ray_point (circle_about o r) (stretched (signed a.half (pos 1)) a.along)
 
 abbrev pub touches_at : Course → Option Axis → Pt
@@ -122,9 +122,9 @@ is_past c (targets.Circ o r) (targets.Circ q s) =
 
 -- against the axis on which it touches: a line is not 8 units before it; the start on a circle is within 8 units of it, on its half
 abbrev pub is_past_axis : Course → Target → Axis → Bool
-is_past_axis c (targets.Line b d h) a = is_not_ahead (way_on_to c d a.at) (length_squared d)
+is_past_axis c (targets.Line b d h) a = is_not_ahead (way_on_to c d a.through) (length_squared d)
 is_past_axis c (targets.Circ o r) a =
-    is_by_axis (cross a.along (displacement a.at c.start)) (length_squared a.along) && is_same a.half (sign_of (dot a.along (displacement a.at c.start)))
+    is_by_axis (cross a.along (displacement a.through c.start)) (length_squared a.along) && is_same a.half (sign_of (dot a.along (displacement a.through c.start)))
 
 abbrev pub is_past_or_none : Course → Option Axis → Bool
 is_past_or_none c None = true

@@ -31,7 +31,7 @@ pub record IsPlaced (c : Course) : Type 0 where
   pub stop : IsTarget c.stop
 
 pub record IsAxis (a : Axis) : Type 0 where
-  pub at : IsPoint a.at
+  pub through : IsPoint a.through
   pub along : IsDir a.along
 
 -- a circle is touched on a half

@@ -16,7 +16,7 @@ use Rattle.apt_offset.specs.Turns.{opposite}
 use Rattle.apt_offset.specs.Sides.{side_or_left, touch_outside}
 
 abbrev pub axis : Pt → Dir → Sign → Axis
-axis at along half = record { at = at; along = along; half = half }
+axis at along half = record { through = at; along = along; half = half }
 
 -- a circle touches a line on the half that lies towards it: to the line's right where the centre is left of it, or on it
 abbrev pub half_towards : Line → Circ → Sign

@@ -18,17 +18,17 @@ pub fn tangent_axis(drive: &Surface, check: &Surface) -> Option<Axis>
     requires check { IsSurface check.now }
     ensures value { result ≡ spec.tangent_axis drive.now check.now }
     ensures none { IsNone result ↔ spec.HaveNoAxis drive.now check.now }
-    ensures range { IfSome result (λ axis. IsPoint axis.at × IsDir axis.along) }
+    ensures range { IfSome result (λ axis. IsPoint axis.through × IsDir axis.along) }
 {
     match (drive, check) {
         (Surface::Line(_), Surface::Line(_)) => None,
         (Surface::Line(line), Surface::Circ(circle)) => Some(Axis {
-            at: circle.c,
+            through: circle.c,
             along: perp(line.dir),
             half: Sign::Zero,
         }),
         (Surface::Circ(circle), Surface::Line(line)) => Some(Axis {
-            at: circle.c,
+            through: circle.c,
             along: perp(line.dir),
             half: half_towards(line, circle),
         }),
@@ -77,7 +77,7 @@ fn axis_of_circles(first: &Circ, second: &Circ) -> Option<Axis>
         return None;
     }
     Some(Axis {
-        at: first.c,
+        through: first.c,
         along,
         half: touching_half(first, second),
     })

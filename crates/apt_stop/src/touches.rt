@@ -25,10 +25,10 @@ pub(crate) fn is_past_axis(c: &Course, axis: &Axis) -> bool
 {
     match &c.track {
         Target::Line { dir, .. } => {
-            is_not_ahead(way_on_to(c, *dir, axis.at), length_squared_of(*dir))
+            is_not_ahead(way_on_to(c, *dir, axis.through), length_squared_of(*dir))
         }
         Target::Circ { .. } => {
-            let way = displacement(axis.at, c.start);
+            let way = displacement(axis.through, c.start);
             is_by_axis(cross_short(axis.along, way), length_squared_of(axis.along))
                 && is_same(axis.half, sign_of(dot_short(axis.along, way)))
         }
@@ -49,7 +49,7 @@ pub(crate) fn touch_point(track: &Target, axis: &Axis) -> Result<Pt, Case>
     let point = match *track {
         Target::Line { base, dir, off } => {
             let line = Line { base, dir };
-            foot(axis.at, &Moved { line, off })
+            foot(axis.through, &Moved { line, off })
         }
         Target::Circ { c, r } => ray(&Circ { c, r }, half_of(axis)),
     };

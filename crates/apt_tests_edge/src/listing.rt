@@ -8,7 +8,7 @@ use std::alloc::{AllocError, AllocGlobal, Global};
 use std::test::Fail;
 
 fn at(x: i64, y: i64, z: i64) -> Position {
-    Position { at: Pt { x, y }, z }
+    Position { xy: Pt { x, y }, z }
 }
 
 /// A contour of one vertex.

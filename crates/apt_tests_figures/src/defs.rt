@@ -30,7 +30,7 @@ fn refused(case: Case) -> Result<bool, DefError> {
 }
 
 fn at(x: i64, y: i64, z: i64) -> Option<Figure> {
-    Some(Figure::Point { at: Pt { x, y }, z })
+    Some(Figure::Point { xy: Pt { x, y }, z })
 }
 
 fn line(x: i64, y: i64, dx: i64, dy: i64) -> Option<Figure> {

@@ -58,7 +58,7 @@ fn leg(half: Option<Sign>) -> Leg
         sense: 1,
         axis: match half {
             Some(half) => Some(Axis {
-                at: Pt { x: 905, y: 0 },
+                through: Pt { x: 905, y: 0 },
                 along: NORTH,
                 half,
             }),
@@ -136,12 +136,12 @@ fn job(alloc: Global, leg: Leg, out_sign: i8, points: &[Pt]) -> Result<Job, Allo
     requires points { ArePoints points.now }
     ensures { IfOk result IsJob }
 {
-    let mut at = Vec::new(alloc);
-    at.extend_from_slice(points)?;
+    let mut vertices = Vec::new(alloc);
+    vertices.extend_from_slice(points)?;
     Ok(Job {
         leg,
         out_sign,
-        points: Points { at },
+        points: Points { vertices },
     })
 }
 

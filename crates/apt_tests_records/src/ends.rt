@@ -67,7 +67,7 @@ fn on_axis(x: i64) -> Position
     ensures { IsPosition result }
 {
     Position {
-        at: Pt { x, y: 0 },
+        xy: Pt { x, y: 0 },
         z: 0,
     }
 }

@@ -53,7 +53,7 @@ fn position(x: i64, z: i64) -> Position
     ensures { IsPosition result }
 {
     Position {
-        at: Pt { x, y: -25_000 },
+        xy: Pt { x, y: -25_000 },
         z,
     }
 }
@@ -225,6 +225,6 @@ fn a_contour_is_a_job(rt: HostRuntime) -> Result<(), Fail> {
     };
     assert_eq!(rt; job.out_sign, -1);
     assert_eq!(rt; (job.leg.band.lo, job.leg.band.hi), (-25_050, -24_992));
-    assert_eq!(rt; job.points.at.len(), 3);
+    assert_eq!(rt; job.points.vertices.len(), 3);
     Ok(())
 }

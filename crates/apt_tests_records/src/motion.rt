@@ -59,7 +59,7 @@ fn contours_end_at_their_contact(rt: HostRuntime) -> Result<(), Fail> {
         assert!(rt; false, "no contour");
         return Ok(());
     };
-    assert_eq!(rt; (end.at.x, end.at.y, end.z), (525_000, -25_000, 100_000));
+    assert_eq!(rt; (end.xy.x, end.xy.y, end.z), (525_000, -25_000, 100_000));
     Ok(())
 }
 
@@ -90,7 +90,7 @@ fn end_at_circle(
         return None;
     };
     let end = records.last().and_then(end_of)?;
-    Some((end.at.x, end.at.y))
+    Some((end.xy.x, end.xy.y))
 }
 
 #[test]

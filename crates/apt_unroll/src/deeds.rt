@@ -7,7 +7,7 @@ ghost use Rattle.apt_unroll.specs.Deeds as deeds;
 use crate::figures::defined_name;
 use crate::statements::execution;
 use apt_scalar::{Env, Frame, Kind, Value, bind, bound_in};
-use apt_words::{Ask, Body, Case, Deed, Form, Symbol};
+use apt_words::{Body, Case, Deed, Form, Symbol};
 use std::alloc::{AllocError, Global};
 
 /// What a statement does, or its first refusal.
@@ -59,9 +59,9 @@ pub(crate) fn bind_behind(alloc: Global, env: &mut Env, deed: &Deed) -> Result<(
 fn definition_by(deed: &Deed) -> Option<(Symbol, Value)>
     ensures { result ≡ deeds.definition_by (ask_of deed.now) }
 {
-    match deed.ask() {
-        Ask::Defines(name, form) => Some((name, value_by(&form))),
-        _ => None,
+    match deed.definition() {
+        Some((name, form)) => Some((name, value_by(&form))),
+        None => None,
     }
 }
 

@@ -145,7 +145,7 @@ arc_is m d is none =
       sense = is.sense;
       axis = towards-IsDir d.c m.check is.drive.centre is.check (elsewhere m d (is_tanto m.how) refl none.1.1.1.1);
       sag = sag_fits d.c (radius_round m d) (leg_of (round m d)).band.lo track.least (room_round m d is).lo;
-      start = near_start d.c (radius_round m d) m.start.at track (not-false _ none.1.1.0);
+      start = near_start d.c (radius_round m d) m.start.xy track (not-false _ none.1.1.0);
       end = near_end d.c (radius_round m d) (end_point (round m d)) track ends.track;
       apart = ends.apart;
     }

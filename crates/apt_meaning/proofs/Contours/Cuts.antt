@@ -26,7 +26,7 @@ pub record IsCut (m : Motion) : Type 0 where
   pub own : IsOwnOn m (track_of m) (vertices_of m)
   pub some : 1 ≤ length (vertices_of m)
   pub points : ArePoints (vertices_of m)
-  pub ends : last_of m.start.at (vertices_of m) ≡ end_point m
+  pub ends : last_of m.start.xy (vertices_of m) ≡ end_point m
 
 at_least_one : (list : List Pt) → IsSome list → 1 ≤ length list
 at_least_one [] some = absurd some
@@ -48,8 +48,8 @@ cut_on m (surfaces.Circ d) is none =
       legal = legal;
       own = divides (arc_round m d) arc;
       some = at_least_one (divided (arc_round m d)) legal.legal.moves;
-      points = steps_points t (arc_round m d).sag m.sense m.start.at m.start.at (arc_round m d).end (divided (arc_round m d)) (track_is m d is none) steps;
-      ends = steps_last t (arc_round m d).sag m.sense m.start.at m.start.at (arc_round m d).end (divided (arc_round m d)) steps;
+      points = steps_points t (arc_round m d).sag m.sense m.start.xy m.start.xy (arc_round m d).end (divided (arc_round m d)) (track_is m d is none) steps;
+      ends = steps_last t (arc_round m d).sag m.sense m.start.xy m.start.xy (arc_round m d).end (divided (arc_round m d)) steps;
     }
 
 pub cut_is : (m : Motion) → IsMotion m → NoneHolds (motion_cases m) → IsCut m

@@ -52,9 +52,9 @@ second_false true lacks e f = absurd (true≢false e)
 pub stop_room : (m : Motion) → NoneHolds (motion_cases m) → lacks_room (stop_of m) ≡ false
 stop_room m none = second_false (starts_on_check m) (lacks_room (stop_of m)) none.1.1.1.0 none.1.0
 
-pub course_in_range : (m : Motion) → IsMotion m → lacks_room (track_of m) ≡ false → lacks_room (stop_of m) ≡ false → is_near (track_of m) off_track m.start.at ≡ true → IsCourse (course_of m)
+pub course_in_range : (m : Motion) → IsMotion m → lacks_room (track_of m) ≡ false → lacks_room (stop_of m) ≡ false → is_near (track_of m) off_track m.start.xy ≡ true → IsCourse (course_of m)
 course_in_range m is track stop near = record {
-  start = is.start.at;
+  start = is.start.xy;
   drive = is.drive;
   sense = is.sense;
   check = is.check;
@@ -117,14 +117,14 @@ along m d = record m { drive = surfaces.Line d }
 
 -- how it ends, by whether it touches
 pub record EndsAtStop (m : Motion) (q : Pt) : Type 0 where
-  pub before : EveryPoint m.start.at q (edges.IsWithinEdge m.check (widened (leg_of m).stop_band (pos 0)) (leg_of m).beyond)
+  pub before : EveryPoint m.start.xy q (edges.IsWithinEdge m.check (widened (leg_of m).stop_band (pos 0)) (leg_of m).beyond)
   pub stop : InBand m.check (leg_of m).stop_band (scaled q)
   pub axis : IsOnAxisOrNone (leg_of m).axis q
 
 meets : (m : Motion) (d : Line) (q : Pt) → IsMotion m → is_tanto m.how ≡ false → EndsOnLine (course_of m) d.dir q → EndsAtStop m q
 meets m d q is meeting ends =
     let at_stop = ends.meets meeting in record {
-      before = kept_before m.check (check_side m) (stop_side m) m.radius m.inner m.outer m.start.at q is.inner.least is.outer.least at_stop.kept;
+      before = kept_before m.check (check_side m) (stop_side m) m.radius m.inner m.outer m.start.xy q is.inner.least is.outer.least at_stop.kept;
       stop = near_surface m.check (check_side m) m.radius m.inner m.outer (pos 1) q is.inner.least is.outer.least (omega (arith, ints)) at_stop.stop;
       axis = rw (no_axis (course_of m) meeting) tt;
     }
@@ -132,7 +132,7 @@ meets m d q is meeting ends =
 touches : (m : Motion) (d : Line) (q : Pt) → IsMotion m → is_tanto m.how ≡ true → EndsOnLine (course_of m) d.dir q → EndsAtStop m q
 touches m d q is touching ends =
     let at_stop = ends.touches touching in record {
-      before = no_edge m.check (widened (leg_of m).stop_band (pos 0)) (stop_side m) m.start.at q (no_side (course_of m) touching);
+      before = no_edge m.check (widened (leg_of m).stop_band (pos 0)) (stop_side m) m.start.xy q (no_side (course_of m) touching);
       stop = near_surface m.check (check_side m) m.radius m.inner m.outer (pos 4) q is.inner.least is.outer.least (omega (arith, ints)) at_stop.stop;
       axis = on_axis (axis_of (course_of m)) q at_stop.axis;
     }
@@ -145,16 +145,16 @@ pub line_legal : (m : Motion) (d : Line) → IsMotion (along m d) → NoneHolds 
 line_legal m d is none =
     let course = course_is (along m d) is none in
     let ends : EndsOnLine (course_of (along m d)) d.dir (end_point (along m d)) = course_ends (course_of (along m d)) course none.1.1.1.1 in
-    let start = near-OnLine d (signed (drive_side (along m d)) m.radius) off_track m.start.at (not-false _ none.1.1.0) in
+    let start = near-OnLine d (signed (drive_side (along m d)) m.radius) off_track m.start.xy (not-false _ none.1.1.0) in
     let band = (leg_of (along m d)).band in
-    let at_start = near_surface (surfaces.Line d) (drive_side (along m d)) m.radius m.inner m.outer (pos 3) m.start.at is.inner.least is.outer.least (omega (arith, ints)) start in
+    let at_start = near_surface (surfaces.Line d) (drive_side (along m d)) m.radius m.inner m.outer (pos 3) m.start.xy is.inner.least is.outer.least (omega (arith, ints)) start in
     let at_end = near_surface (surfaces.Line d) (drive_side (along m d)) m.radius m.inner m.outer (pos 1) (end_point (along m d)) is.inner.least is.outer.least (omega (arith, ints)) ends.track in
     let stop = ends_at_stop (along m d) d (end_point (along m d)) (is_tanto m.how) refl is ends in record {
       bounded = leg_bounded (along m d) (bound_there (course_of (along m d)) course none.1.1.1.1);
       legal = record {
         moves = tt;
-        order = (rw (← heading_dot m.sense d.dir (displacement m.start.at (end_point (along m d)))) ends.ahead, tt);
-        band = (in_band-between d band m.start.at (end_point (along m d)) at_start at_end, tt);
+        order = (rw (← heading_dot m.sense d.dir (displacement m.start.xy (end_point (along m d)))) ends.ahead, tt);
+        band = (in_band-between d band m.start.xy (end_point (along m d)) at_start at_end, tt);
         edge = (stop.before, tt);
         stop = stop.stop;
         axis = stop.axis;

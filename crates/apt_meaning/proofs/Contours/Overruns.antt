@@ -66,7 +66,7 @@ abbrev to : Motion → Circ → Surface → Motion
 to m d check = record m { drive = surfaces.Circ d; check = check }
 
 abbrev AreWithin : Motion → Circ → Surface → Type 0
-AreWithin m d check = EveryChord m.start.at (divided (arc_round (to m d check) d)) (IsWithinSlack (leg_of (to m d check)) (leg_of (to m d check)).beyond)
+AreWithin m d check = EveryChord m.start.xy (divided (arc_round (to m d check) d)) (IsWithinSlack (leg_of (to m d check)) (leg_of (to m d check)).beyond)
 
 route : (m : Motion) (d : Circ) → IsMotion (round m d) → NoneHolds (motion_cases (round m d)) → IsRoute (arc_round m d)
 route m d is none =
@@ -101,7 +101,7 @@ to_line m d l signs.Plus is none meeting free e some =
     (divided a) (divides a (arc_is n d is none)) in
     let room = band_at-HasRoom l (check_side n) m.radius m.inner m.outer is.inner.least is.outer.least in
     let leg = leg_of n in
-    every_chord (IsAbove l (h -ℤ pos 12)) (IsWithinSlack leg leg.beyond) m.start.at (divided a)
+    every_chord (IsAbove l (h -ℤ pos 12)) (IsWithinSlack leg leg.beyond) m.start.xy (divided a)
     (λ p q all. at_edge leg signs.Minus (pos 4) p q (beyond_by n signs.Plus free e) refl (every_over (surfaces.Line l) (h -ℤ pos 12) (leg.stop_band.lo -ℤ pos 4) p q (omega (arith, ints, room.lo)) all)) kept
 to_line m d l signs.Minus is none meeting free e some =
     let n = to m d (surfaces.Line l) in
@@ -114,7 +114,7 @@ to_line m d l signs.Minus is none meeting free e some =
     (divided a) (divides a (arc_is n d is none)) in
     let room = band_at-HasRoom l (check_side n) m.radius m.inner m.outer is.inner.least is.outer.least in
     let leg = leg_of n in
-    every_chord (IsBelow l (h +ℤ pos 12)) (IsWithinSlack leg leg.beyond) m.start.at (divided a)
+    every_chord (IsBelow l (h +ℤ pos 12)) (IsWithinSlack leg leg.beyond) m.start.xy (divided a)
     (λ p q all. at_edge leg signs.Plus (pos 4) p q (beyond_by n signs.Minus free e) refl (every_under (surfaces.Line l) (h +ℤ pos 12) (leg.stop_band.hi +ℤ pos 4) p q (omega (arith, ints, room.hi)) all)) kept
 
 -- ---- to a circle
@@ -139,7 +139,7 @@ to_circle m d k signs.Plus is none meeting free e some =
     let room = circle_room k.r (check_side n) m.radius m.inner m.outer is.inner.least is.outer.least in
     let leg = leg_of n in
     let edge = beyond_by n signs.Plus free e in
-    every_chord (IsUnder (about k.c) (s +ℤ pos 12)) (IsWithinSlack leg leg.beyond) m.start.at (divided a)
+    every_chord (IsUnder (about k.c) (s +ℤ pos 12)) (IsWithinSlack leg leg.beyond) m.start.xy (divided a)
     (λ p q all. at_edge leg signs.Plus (pos 4) p q edge (ap (λ (b : Sign). slack leg.drive leg.check b leg.track leg.band) edge)
     (every_under (surfaces.Circ k) (s +ℤ pos 12) (leg.stop_band.hi +ℤ pos 4) p q (omega (arith, ints, room.hi)) all)) kept
 to_circle m d k signs.Minus is none meeting free e some =
@@ -158,7 +158,7 @@ to_circle m d k signs.Minus is none meeting free e some =
     let leg = leg_of n in
     let edge = beyond_by n signs.Minus free e in
     let loose = pos 4 +ℤ (radius_round n d -ℤ leg.band.lo) in
-    every_chord (IsOver (about k.c) ((s -ℤ pos 12) -ℤ a.sag)) (IsWithinSlack leg leg.beyond) m.start.at (divided a)
+    every_chord (IsOver (about k.c) ((s -ℤ pos 12) -ℤ a.sag)) (IsWithinSlack leg leg.beyond) m.start.xy (divided a)
     (λ p q all. at_edge leg signs.Minus loose p q edge (ap (λ (b : Sign). slack leg.drive leg.check b leg.track leg.band) edge)
     (every_over (surfaces.Circ k) ((s -ℤ pos 12) -ℤ a.sag) (leg.stop_band.lo -ℤ loose) p q (omega (arith, ints, room.lo, sag_within n d)) all)) kept
 
@@ -174,18 +174,18 @@ meets_within m d (surfaces.Circ k) is none meeting =
     let free = meets c meeting none.1.1.1.1 in
     to_circle m d k (stop_side c) is none meeting free refl (sided c (placed c (course_is (to m d (surfaces.Circ k)) is none)) free.past)
 
-touches_within : (m : Motion) (d : Circ) → is_tanto m.how ≡ true → EveryChord m.start.at (divided (arc_round m d)) (IsWithinSlack (leg_of (round m d)) (leg_of (round m d)).beyond)
+touches_within : (m : Motion) (d : Circ) → is_tanto m.how ≡ true → EveryChord m.start.xy (divided (arc_round m d)) (IsWithinSlack (leg_of (round m d)) (leg_of (round m d)).beyond)
 touches_within m d touching =
     let n = round m d in
     let leg = leg_of n in
-    all_chords (IsWithinSlack leg leg.beyond) m.start.at (divided (arc_round m d)) (λ p q. no_edge m.check (widened leg.stop_band (slack_of leg)) (kept_side (course_of n)) p q (no_side (course_of n) touching))
+    all_chords (IsWithinSlack leg leg.beyond) m.start.xy (divided (arc_round m d)) (λ p q. no_edge m.check (widened leg.stop_band (slack_of leg)) (kept_side (course_of n)) p q (no_side (course_of n) touching))
 
 by_touch : (m : Motion) (d : Circ) (tanto : Bool) → is_tanto m.how ≡ tanto → IsMotion (round m d) → NoneHolds (motion_cases (round m d))
-    → EveryChord m.start.at (divided (arc_round m d)) (IsWithinSlack (leg_of (round m d)) (leg_of (round m d)).beyond)
+    → EveryChord m.start.xy (divided (arc_round m d)) (IsWithinSlack (leg_of (round m d)) (leg_of (round m d)).beyond)
 by_touch m d false e is none = meets_within m d m.check is none e
 by_touch m d true e is none = touches_within m d e
 
 -- every point of every chord
 pub round_within : (m : Motion) (d : Circ) → IsMotion (round m d) → NoneHolds (motion_cases (round m d))
-    → EveryChord m.start.at (divided (arc_round m d)) (IsWithinSlack (leg_of (round m d)) (leg_of (round m d)).beyond)
+    → EveryChord m.start.xy (divided (arc_round m d)) (IsWithinSlack (leg_of (round m d)) (leg_of (round m d)).beyond)
 round_within m d is none = by_touch m d (is_tanto m.how) refl is none

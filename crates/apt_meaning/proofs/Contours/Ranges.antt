@@ -36,7 +36,7 @@ use Rattle.apt_meaning.proofs.EffectRanges.{on_side_or_as_it_was, motion_is}
 
 figure_surface : (o : Option Figure) → IfSome o IsFigure → IfSome (o >>= as_surface) IsSurface
 figure_surface None is = tt
-figure_surface (Some (figures.Point at z)) is = tt
+figure_surface (Some (figures.Point xy z)) is = tt
 figure_surface (Some (figures.Shape s)) is = is
 figure_surface (Some figures.Scalar) is = tt
 
@@ -55,42 +55,42 @@ turned_made false m is = is refl
 
 contour_made : (s : Settings) (forward : Dir) (go : Go) (how : Stop) (p : Option Position) (d c : Option Surface)
     → AreSettings s → IsPositionOrNone p → IfSome d IsSurface → IfSome c IsSurface
-    → IfSome (cuts (p >>= λ start. d >>= λ drive. c >>= λ check. if_turned s start drive (turn forward (tangent drive start.at) go) how check)) HasMotion
+    → IfSome (cuts (p >>= λ start. d >>= λ drive. c >>= λ check. if_turned s start drive (turn forward (tangent drive start.xy) go) how check)) HasMotion
 contour_made s forward go how None d c is is_p is_d is_c = tt
 contour_made s forward go how (Some start) None c is is_p is_d is_c = tt
 contour_made s forward go how (Some start) (Some drive) None is is_p is_d is_c = tt
 contour_made s forward go how (Some start) (Some drive) (Some check) is is_p is_d is_c =
-    let turned = turn forward (tangent drive start.at) go in
+    let turned = turn forward (tangent drive start.xy) go in
     turned_made (is_zero turned) (motion s start drive turned how check) (λ turns. motion_is s start drive turned how check is is_p is_d is_c turns)
 
 names_made : (name : List ℕ) (r : Result Figure Case) → IfSome (names name r) HasMotion
 names_made name (Ok f) = tt
 names_made name (Err case) = tt
 
-defined_made : (at : Situation) (name : List ℕ) (form : Form) → IfSome (defined at name form) HasMotion
+defined_made : (here : Situation) (name : List ℕ) (form : Form) → IfSome (defined here name form) HasMotion
 unfolding defined
-defined_made at name form = names_made name (figure_of at.settings.units at.table form)
+defined_made here name form = names_made name (figure_of here.settings.units here.table form)
 
-goes_made : (at : Situation) (route : Route) → IfSome (goes at route) HasMotion
-goes_made at (routes.From place) = moves_made reaches.From (place_at at place)
-goes_made at (routes.Goto place) = moves_made reaches.Goto (place_at at place)
-goes_made at (routes.By x y z) = moves_made reaches.Godlta (moved_from at x y z)
-goes_made at (routes.Start how name other) = moves_made reaches.Start (start_position_at at how name other)
+goes_made : (here : Situation) (route : Route) → IfSome (goes here route) HasMotion
+goes_made here (routes.From place) = moves_made reaches.From (place_at here place)
+goes_made here (routes.Goto place) = moves_made reaches.Goto (place_at here place)
+goes_made here (routes.By x y z) = moves_made reaches.Godlta (moved_from here x y z)
+goes_made here (routes.Start how name other) = moves_made reaches.Start (start_position_at here how name other)
 
-made_by : (at : Situation) (ask : Ask) → IsSituation at → IfSome (effect_by at ask) HasMotion
+made_by : (here : Situation) (ask : Ask) → IsSituation here → IfSome (effect_by here ask) HasMotion
 unfolding motion_at
-made_by at (Titles text) is = tt
-made_by at (Says saying) is = tt
-made_by at (Sets side) is = tt
-made_by at (Defines name form) is = defined_made at name form
-made_by at (Goes route) is = goes_made at route
-made_by at (Cuts side go drive how check) is =
-    contour_made (with_side at.settings side) at.forward go how at.position (surface_in at.table drive) (surface_in at.table check)
-    (on_side_or_as_it_was at.settings side is.settings) is.position (named_surface at.table drive is.table) (named_surface at.table check is.table)
-made_by at Nothing is = tt
+made_by here (Titles text) is = tt
+made_by here (Says saying) is = tt
+made_by here (Sets side) is = tt
+made_by here (Defines name form) is = defined_made here name form
+made_by here (Goes route) is = goes_made here route
+made_by here (Cuts side go drive how check) is =
+    contour_made (with_side here.settings side) here.forward go how here.position (surface_in here.table drive) (surface_in here.table check)
+    (on_side_or_as_it_was here.settings side is.settings) is.position (named_surface here.table drive is.table) (named_surface here.table check is.table)
+made_by here Nothing is = tt
 
-pub made : (at : Situation) (deed : Deed) → IsSituation at → IfSome (effect_of at deed) HasMotion
-made at deed is = made_by at (ask_of deed) is
+pub made : (here : Situation) (deed : Deed) → IsSituation here → IfSome (effect_of here deed) HasMotion
+made here deed is = made_by here (ask_of deed) is
 
-pub motion_in : (at : Situation) (deed : Deed) (e : Option Effect) → IsSituation at → e ≡ effect_of at deed → IfSome e HasMotion
-motion_in at deed e is same = subst (λ (o : Option Effect). IfSome o HasMotion) (sym same) (made at deed is)
+pub motion_in : (here : Situation) (deed : Deed) (e : Option Effect) → IsSituation here → e ≡ effect_of here deed → IfSome e HasMotion
+motion_in here deed e is same = subst (λ (o : Option Effect). IfSome o HasMotion) (sym same) (made here deed is)

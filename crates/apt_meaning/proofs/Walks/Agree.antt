@@ -30,10 +30,10 @@ use Rattle.apt_meaning.specs.Effects.{moves, cuts, place_at, names, defined, mov
 use Rattle.apt_meaning.specs.Records.{after}
 
 -- the same settings and names, and both or neither have a position
-pub record Agrees (c at : Situation) : Type 0 where
-  pub settings : at.settings ≡ c.settings
-  pub table : at.table ≡ c.table
-  pub position : is_none at.position ≡ is_none c.position
+pub record Agrees (c here : Situation) : Type 0 where
+  pub settings : here.settings ≡ c.settings
+  pub table : here.table ≡ c.table
+  pub position : is_none here.position ≡ is_none c.position
 
 -- a situation with the tool elsewhere
 abbrev elsewhere : Situation → Option Position → Dir → Situation
@@ -84,70 +84,70 @@ turned_like false true m o same = tt
 turned_like false false m o same = same
 
 contour_like : (s : Settings) (from to : Dir) (go : Go) (how : Stop) (p q : Option Position) (d c : Option Surface)
-    → AreLikeIfThere (cuts (p >>= λ start. d >>= λ drive. c >>= λ check. if_turned s start drive (turn from (tangent drive start.at) go) how check))
-    (cuts (q >>= λ start. d >>= λ drive. c >>= λ check. if_turned s start drive (turn to (tangent drive start.at) go) how check))
+    → AreLikeIfThere (cuts (p >>= λ start. d >>= λ drive. c >>= λ check. if_turned s start drive (turn from (tangent drive start.xy) go) how check))
+    (cuts (q >>= λ start. d >>= λ drive. c >>= λ check. if_turned s start drive (turn to (tangent drive start.xy) go) how check))
 contour_like s from to go how None q d c = tt
 contour_like s from to go how (Some start) None None c = tt
 contour_like s from to go how (Some start) None (Some drive) None = tt
-contour_like s from to go how (Some start) None (Some drive) (Some check) = nothing_like (cuts (if_turned s start drive (turn from (tangent drive start.at) go) how check))
+contour_like s from to go how (Some start) None (Some drive) (Some check) = nothing_like (cuts (if_turned s start drive (turn from (tangent drive start.xy) go) how check))
   where
     nothing_like : (o : Option Effect) → AreLikeIfThere o None
     nothing_like None = tt
     nothing_like (Some e) = tt
-contour_like s from to go how (Some start) (Some here) None c = tt
-contour_like s from to go how (Some start) (Some here) (Some drive) None = tt
-contour_like s from to go how (Some start) (Some here) (Some drive) (Some check) =
-    turned_like (is_zero (turn from (tangent drive start.at) go)) (is_zero (turn to (tangent drive here.at) go))
-    (motion s start drive (turn from (tangent drive start.at) go) how check) (motion s here drive (turn to (tangent drive here.at) go) how check) refl
+contour_like s from to go how (Some start) (Some other) None c = tt
+contour_like s from to go how (Some start) (Some other) (Some drive) None = tt
+contour_like s from to go how (Some start) (Some other) (Some drive) (Some check) =
+    turned_like (is_zero (turn from (tangent drive start.xy) go)) (is_zero (turn to (tangent drive other.xy) go))
+    (motion s start drive (turn from (tangent drive start.xy) go) how check) (motion s other drive (turn to (tangent drive other.xy) go) how check) refl
 
-goes_like : (at : Situation) (stand : Option Position) (forward : Dir) (route : Route) → AreLikeIfThere (goes at route) (goes (elsewhere at stand forward) route)
-goes_like at stand forward (routes.From place) = moves_like reaches.From (place_at at place) (place_at (elsewhere at stand forward) place)
-goes_like at stand forward (routes.Goto place) = moves_like reaches.Goto (place_at at place) (place_at (elsewhere at stand forward) place)
-goes_like at stand forward (routes.By x y z) = moves_like reaches.Godlta (moved_from at x y z) (moved_from (elsewhere at stand forward) x y z)
-goes_like at stand forward (routes.Start how name other) = moves_like reaches.Start (start_position_at at how name other) (start_position_at (elsewhere at stand forward) how name other)
+goes_like : (here : Situation) (stand : Option Position) (forward : Dir) (route : Route) → AreLikeIfThere (goes here route) (goes (elsewhere here stand forward) route)
+goes_like here stand forward (routes.From place) = moves_like reaches.From (place_at here place) (place_at (elsewhere here stand forward) place)
+goes_like here stand forward (routes.Goto place) = moves_like reaches.Goto (place_at here place) (place_at (elsewhere here stand forward) place)
+goes_like here stand forward (routes.By x y z) = moves_like reaches.Godlta (moved_from here x y z) (moved_from (elsewhere here stand forward) x y z)
+goes_like here stand forward (routes.Start how name other) = moves_like reaches.Start (start_position_at here how name other) (start_position_at (elsewhere here stand forward) how name other)
 
-like : (at : Situation) (stand : Option Position) (forward : Dir) (ask : Ask) → AreLikeIfThere (effect_by at ask) (effect_by (elsewhere at stand forward) ask)
+like : (here : Situation) (stand : Option Position) (forward : Dir) (ask : Ask) → AreLikeIfThere (effect_by here ask) (effect_by (elsewhere here stand forward) ask)
 unfolding motion_at
-like at stand forward (Titles text) = refl
-like at stand forward (Says saying) = refl
-like at stand forward (Sets side) = refl
-like at stand forward (Defines name form) = defined_like at stand forward name form
-like at stand forward (Goes route) = goes_like at stand forward route
-like at stand forward (Cuts side go drive how check) = contour_like (with_side at.settings side) at.forward forward go how at.position stand (surface_in at.table drive) (surface_in at.table check)
-like at stand forward Nothing = refl
+like here stand forward (Titles text) = refl
+like here stand forward (Says saying) = refl
+like here stand forward (Sets side) = refl
+like here stand forward (Defines name form) = defined_like here stand forward name form
+like here stand forward (Goes route) = goes_like here stand forward route
+like here stand forward (Cuts side go drive how check) = contour_like (with_side here.settings side) here.forward forward go how here.position stand (surface_in here.table drive) (surface_in here.table check)
+like here stand forward Nothing = refl
 
-is_elsewhere : (c at : Situation) → Agrees c at → at ≡ elsewhere c at.position at.forward
-is_elsewhere c at agrees = rw (sym agrees.settings, sym agrees.table) refl
+is_elsewhere : (c here : Situation) → Agrees c here → here ≡ elsewhere c here.position here.forward
+is_elsewhere c here agrees = rw (sym agrees.settings, sym agrees.table) refl
 
 -- what a step asks for at both
-pub alike : (c at : Situation) (deed : Deed) (e d : Effect) → Agrees c at → effect_of c deed ≡ Some e → effect_of at deed ≡ Some d → AreLike e d
-alike c at deed e d agrees ask asked =
-    let asked_there : effect_of (elsewhere c at.position at.forward) deed ≡ Some d = ap (λ (x : Situation). effect_of x deed) (sym (is_elsewhere c at agrees)) ∙ asked in
+pub alike : (c here : Situation) (deed : Deed) (e d : Effect) → Agrees c here → effect_of c deed ≡ Some e → effect_of here deed ≡ Some d → AreLike e d
+alike c here deed e d agrees ask asked =
+    let asked_there : effect_of (elsewhere c here.position here.forward) deed ≡ Some d = ap (λ (x : Situation). effect_of x deed) (sym (is_elsewhere c here agrees)) ∙ asked in
     subst (λ (o : Option Effect). AreLikeIfThere (Some e) o) asked_there
-    (subst (λ (o : Option Effect). AreLikeIfThere o (effect_of (elsewhere c at.position at.forward) deed)) ask (like c at.position at.forward (ask_of deed)))
+    (subst (λ (o : Option Effect). AreLikeIfThere o (effect_of (elsewhere c here.position here.forward) deed)) ask (like c here.position here.forward (ask_of deed)))
 
 -- and they agree behind it
-behind_like : (c at : Situation) (e d : Effect) (vs us : List Pt) → Agrees c at → AreLike e d → Agrees (after c e vs) (after at d us)
-behind_like c at (effects.Defines n f) (effects.Defines m g) vs us agrees same = record { settings = agrees.settings; table = rw (same.0, same.1, agrees.table) refl; position = agrees.position }
-behind_like c at (effects.Defines n f) (effects.Sets other) vs us agrees same = absurd same
-behind_like c at (effects.Defines n f) (effects.Moves reach to) vs us agrees same = absurd same
-behind_like c at (effects.Defines n f) (effects.Cuts o) vs us agrees same = absurd same
-behind_like c at (effects.Sets change) (effects.Defines m g) vs us agrees same = absurd same
-behind_like c at (effects.Sets change) (effects.Sets other) vs us agrees same = record { settings = rw (same, agrees.settings) refl; table = agrees.table; position = agrees.position }
-behind_like c at (effects.Sets change) (effects.Moves reach to) vs us agrees same = absurd same
-behind_like c at (effects.Sets change) (effects.Cuts o) vs us agrees same = absurd same
-behind_like c at (effects.Moves how from) (effects.Defines m g) vs us agrees same = absurd same
-behind_like c at (effects.Moves how from) (effects.Sets other) vs us agrees same = absurd same
-behind_like c at (effects.Moves how from) (effects.Moves reach to) vs us agrees same = record { settings = rw (same, agrees.settings) refl; table = agrees.table; position = refl }
-behind_like c at (effects.Moves how from) (effects.Cuts o) vs us agrees same = absurd same
-behind_like c at (effects.Cuts m) (effects.Defines n g) vs us agrees same = absurd same
-behind_like c at (effects.Cuts m) (effects.Sets other) vs us agrees same = absurd same
-behind_like c at (effects.Cuts m) (effects.Moves reach to) vs us agrees same = absurd same
-behind_like c at (effects.Cuts m) (effects.Cuts o) vs us agrees same = record { settings = rw (same, agrees.settings) refl; table = agrees.table; position = refl }
+behind_like : (c here : Situation) (e d : Effect) (vs us : List Pt) → Agrees c here → AreLike e d → Agrees (after c e vs) (after here d us)
+behind_like c here (effects.Defines n f) (effects.Defines m g) vs us agrees same = record { settings = agrees.settings; table = rw (same.0, same.1, agrees.table) refl; position = agrees.position }
+behind_like c here (effects.Defines n f) (effects.Sets other) vs us agrees same = absurd same
+behind_like c here (effects.Defines n f) (effects.Moves reach to) vs us agrees same = absurd same
+behind_like c here (effects.Defines n f) (effects.Cuts o) vs us agrees same = absurd same
+behind_like c here (effects.Sets change) (effects.Defines m g) vs us agrees same = absurd same
+behind_like c here (effects.Sets change) (effects.Sets other) vs us agrees same = record { settings = rw (same, agrees.settings) refl; table = agrees.table; position = agrees.position }
+behind_like c here (effects.Sets change) (effects.Moves reach to) vs us agrees same = absurd same
+behind_like c here (effects.Sets change) (effects.Cuts o) vs us agrees same = absurd same
+behind_like c here (effects.Moves how from) (effects.Defines m g) vs us agrees same = absurd same
+behind_like c here (effects.Moves how from) (effects.Sets other) vs us agrees same = absurd same
+behind_like c here (effects.Moves how from) (effects.Moves reach to) vs us agrees same = record { settings = rw (same, agrees.settings) refl; table = agrees.table; position = refl }
+behind_like c here (effects.Moves how from) (effects.Cuts o) vs us agrees same = absurd same
+behind_like c here (effects.Cuts m) (effects.Defines n g) vs us agrees same = absurd same
+behind_like c here (effects.Cuts m) (effects.Sets other) vs us agrees same = absurd same
+behind_like c here (effects.Cuts m) (effects.Moves reach to) vs us agrees same = absurd same
+behind_like c here (effects.Cuts m) (effects.Cuts o) vs us agrees same = record { settings = rw (same, agrees.settings) refl; table = agrees.table; position = refl }
 
-pub agrees_behind : (c at : Situation) (deed : Deed) (e d : Effect) (vs us : List Pt) → Agrees c at → effect_of c deed ≡ Some e → effect_of at deed ≡ Some d
-    → Agrees (after c e vs) (after at d us)
-agrees_behind c at deed e d vs us agrees ask asked = behind_like c at e d vs us agrees (alike c at deed e d agrees ask asked)
+pub agrees_behind : (c here : Situation) (deed : Deed) (e d : Effect) (vs us : List Pt) → Agrees c here → effect_of c deed ≡ Some e → effect_of here deed ≡ Some d
+    → Agrees (after c e vs) (after here d us)
+agrees_behind c here deed e d vs us agrees ask asked = behind_like c here e d vs us agrees (alike c here deed e d agrees ask asked)
 
 pub agrees_first : (c : Situation) → Agrees c c
 agrees_first c = record { settings = refl; table = refl; position = refl }

@@ -41,21 +41,21 @@ use Rattle.apt_meaning.proofs.Walks.Begins.{both}
 pub nothing_tells : IsAsSaid nothing_said first_situation
 nothing_tells = record { units = refl; radius = refl; intol = refl; outtol = refl; feed = refl; rapid = refl; position = refl; forward = refl }
 
-note_tells : (s : Saying) (at : Situation) (note : Note) → IsAsSaid s at → IsAsSaid (with_note s note) (record at { settings = settings_with at.settings note })
-note_tells s at (notes.Partno text) t = t
-note_tells s at (notes.Units units) t = record { units = refl; radius = t.radius; intol = t.intol; outtol = t.outtol; feed = t.feed; rapid = t.rapid; position = t.position; forward = t.forward }
-note_tells s at (notes.Cutter d) t = record { units = t.units; radius = refl; intol = t.intol; outtol = t.outtol; feed = t.feed; rapid = t.rapid; position = t.position; forward = t.forward }
-note_tells s at (notes.Intol i) t = record { units = t.units; radius = t.radius; intol = refl; outtol = t.outtol; feed = t.feed; rapid = t.rapid; position = t.position; forward = t.forward }
-note_tells s at (notes.Outtol o) t = record { units = t.units; radius = t.radius; intol = t.intol; outtol = refl; feed = t.feed; rapid = t.rapid; position = t.position; forward = t.forward }
-note_tells s at (notes.Feed f) t = record { units = t.units; radius = t.radius; intol = t.intol; outtol = t.outtol; feed = refl; rapid = t.rapid; position = t.position; forward = t.forward }
-note_tells s at (notes.Spindle turn n) t = t
-note_tells s at (notes.Coolant c) t = t
-note_tells s at (notes.Tool n) t = t
-note_tells s at notes.Rapid t = record { units = t.units; radius = t.radius; intol = t.intol; outtol = t.outtol; feed = t.feed; rapid = refl; position = t.position; forward = t.forward }
-note_tells s at notes.Stop t = t
-note_tells s at notes.OptStop t = t
-note_tells s at notes.End t = t
-note_tells s at notes.Fini t = t
+note_tells : (s : Saying) (here : Situation) (note : Note) → IsAsSaid s here → IsAsSaid (with_note s note) (record here { settings = settings_with here.settings note })
+note_tells s here (notes.Partno text) t = t
+note_tells s here (notes.Units units) t = record { units = refl; radius = t.radius; intol = t.intol; outtol = t.outtol; feed = t.feed; rapid = t.rapid; position = t.position; forward = t.forward }
+note_tells s here (notes.Cutter d) t = record { units = t.units; radius = refl; intol = t.intol; outtol = t.outtol; feed = t.feed; rapid = t.rapid; position = t.position; forward = t.forward }
+note_tells s here (notes.Intol i) t = record { units = t.units; radius = t.radius; intol = refl; outtol = t.outtol; feed = t.feed; rapid = t.rapid; position = t.position; forward = t.forward }
+note_tells s here (notes.Outtol o) t = record { units = t.units; radius = t.radius; intol = t.intol; outtol = refl; feed = t.feed; rapid = t.rapid; position = t.position; forward = t.forward }
+note_tells s here (notes.Feed f) t = record { units = t.units; radius = t.radius; intol = t.intol; outtol = t.outtol; feed = refl; rapid = t.rapid; position = t.position; forward = t.forward }
+note_tells s here (notes.Spindle turn n) t = t
+note_tells s here (notes.Coolant c) t = t
+note_tells s here (notes.Tool n) t = t
+note_tells s here notes.Rapid t = record { units = t.units; radius = t.radius; intol = t.intol; outtol = t.outtol; feed = t.feed; rapid = refl; position = t.position; forward = t.forward }
+note_tells s here notes.Stop t = t
+note_tells s here notes.OptStop t = t
+note_tells s here notes.End t = t
+note_tells s here notes.Fini t = t
 
 -- ---- moves
 
@@ -87,20 +87,20 @@ nowhere_by_length d =
 forward_same : (p : Option Position) (to : Pt) (forward : Dir) → forward_behind p to forward ≡ forward_to p to forward
 forward_same None to forward = refl
 forward_same (Some from) to forward =
-    ap (λ (none : Bool). cond none forward (displacement from.at to)) (nowhere_by_length (displacement from.at to))
+    ap (λ (none : Bool). cond none forward (displacement from.xy to)) (nowhere_by_length (displacement from.xy to))
 
-forward_tells : (s : Saying) (at : Situation) (to : Pt) → IsAsSaid s at → forward_behind at.position to at.forward ≡ forward_to s.position to s.forward
-forward_tells s at to t = rw (t.position, t.forward) (forward_same s.position to s.forward)
+forward_tells : (s : Saying) (here : Situation) (to : Pt) → IsAsSaid s here → forward_behind here.position to here.forward ≡ forward_to s.position to s.forward
+forward_tells s here to t = rw (t.position, t.forward) (forward_same s.position to s.forward)
 
-point_tells : (s : Saying) (at : Situation) (reach : Reach) (to : Position) → IsAsSaid s at → IsAsSaid (with_point s reach to) (after at (effects.Moves reach to) [])
-point_tells s at reaches.From to t =
-    record { units = t.units; radius = t.radius; intol = t.intol; outtol = t.outtol; feed = t.feed; rapid = t.rapid; position = refl; forward = forward_tells s at to.at t }
-point_tells s at reaches.Goto to t =
-    record { units = t.units; radius = t.radius; intol = t.intol; outtol = t.outtol; feed = t.feed; rapid = refl; position = refl; forward = forward_tells s at to.at t }
-point_tells s at reaches.Godlta to t =
-    record { units = t.units; radius = t.radius; intol = t.intol; outtol = t.outtol; feed = t.feed; rapid = refl; position = refl; forward = forward_tells s at to.at t }
-point_tells s at reaches.Start to t =
-    record { units = t.units; radius = t.radius; intol = t.intol; outtol = t.outtol; feed = t.feed; rapid = refl; position = refl; forward = forward_tells s at to.at t }
+point_tells : (s : Saying) (here : Situation) (reach : Reach) (to : Position) → IsAsSaid s here → IsAsSaid (with_point s reach to) (after here (effects.Moves reach to) [])
+point_tells s here reaches.From to t =
+    record { units = t.units; radius = t.radius; intol = t.intol; outtol = t.outtol; feed = t.feed; rapid = t.rapid; position = refl; forward = forward_tells s here to.xy t }
+point_tells s here reaches.Goto to t =
+    record { units = t.units; radius = t.radius; intol = t.intol; outtol = t.outtol; feed = t.feed; rapid = refl; position = refl; forward = forward_tells s here to.xy t }
+point_tells s here reaches.Godlta to t =
+    record { units = t.units; radius = t.radius; intol = t.intol; outtol = t.outtol; feed = t.feed; rapid = refl; position = refl; forward = forward_tells s here to.xy t }
+point_tells s here reaches.Start to t =
+    record { units = t.units; radius = t.radius; intol = t.intol; outtol = t.outtol; feed = t.feed; rapid = refl; position = refl; forward = forward_tells s here to.xy t }
 
 -- ---- contours
 
@@ -130,15 +130,15 @@ abbrev with_surfaces : Saying → Motion → Saying
 with_surfaces s m = record s { drive = Some (drive_of m); check = Some (check_of m) }
 
 -- where the tool stands behind the vertices of a motion
-stands_behind : (s : Saying) (at : Situation) (m : Motion) (vertices : List Pt) → IsAsSaid s at → IsMotionOf at m
-    → last_position s.position (map (at_height m.start.z) vertices) ≡ Some (at_height m.start.z (last_of m.start.at vertices))
-stands_behind s at m vertices t is =
-    ap (λ (p : Option Position). last_position p (map (at_height m.start.z) vertices)) (sym t.position ∙ is.start) ∙ last-at_height m.start.z m.start.at vertices
+stands_behind : (s : Saying) (here : Situation) (m : Motion) (vertices : List Pt) → IsAsSaid s here → IsMotionOf here m
+    → last_position s.position (map (at_height m.start.z) vertices) ≡ Some (at_height m.start.z (last_of m.start.xy vertices))
+stands_behind s here m vertices t is =
+    ap (λ (p : Option Position). last_position p (map (at_height m.start.z) vertices)) (sym t.position ∙ is.start) ∙ last-at_height m.start.z m.start.xy vertices
 
-contour_tells : (s : Saying) (at : Situation) (m : Motion) (vertices : List Pt) → IsAsSaid s at → IsMotionOf at m
-    → IsAsSaid (with_record (with_surfaces s m) (records.Contour (map (at_height m.start.z) vertices))) (after at (effects.Cuts m) vertices)
-contour_tells s at m vertices t is =
-    let there = stands_behind s at m vertices t is in record {
+contour_tells : (s : Saying) (here : Situation) (m : Motion) (vertices : List Pt) → IsAsSaid s here → IsMotionOf here m
+    → IsAsSaid (with_record (with_surfaces s m) (records.Contour (map (at_height m.start.z) vertices))) (after here (effects.Cuts m) vertices)
+contour_tells s here m vertices t is =
+    let there = stands_behind s here m vertices t is in record {
       units = t.units;
       radius = t.radius;
       intol = t.intol;
@@ -147,21 +147,21 @@ contour_tells s at m vertices t is =
       rapid = t.rapid;
       position = sym there;
       forward =
-          forward_by_tangent m.drive m.sense (last_of m.start.at vertices)
+          forward_by_tangent m.drive m.sense (last_of m.start.xy vertices)
           ∙ ap (λ (p : Option Position). forward_there (Some (drive_of m)) p s.forward) (sym there);
     }
 
-same_motion : (s : Saying) (at : Situation) (m : Motion) → IsAsSaid s at → IsMotionOf at m → motion_said (with_surfaces s m) m.start (drive_of m) (check_of m) ≡ m
-same_motion s at m t is =
+same_motion : (s : Saying) (here : Situation) (m : Motion) → IsAsSaid s here → IsMotionOf here m → motion_said (with_surfaces s m) m.start (drive_of m) (check_of m) ≡ m
+same_motion s here m t is =
     let radius : radius_by s.diameter ≡ m.radius = sym t.radius ∙ sym is.radius in
-    let inner : counted s.intol ≡ m.inner = ap counted (sym t.intol) ∙ sym (counted_by_greater at.settings.intol) ∙ sym is.inner in
-    let outer : counted s.outtol ≡ m.outer = ap counted (sym t.outtol) ∙ sym (counted_by_greater at.settings.outtol) ∙ sym is.outer in
+    let inner : counted s.intol ≡ m.inner = ap counted (sym t.intol) ∙ sym (counted_by_greater here.settings.intol) ∙ sym is.inner in
+    let outer : counted s.outtol ≡ m.outer = ap counted (sym t.outtol) ∙ sym (counted_by_greater here.settings.outtol) ∙ sym is.outer in
     rw (radius, inner, outer) refl
 
-contour_is : (s : Saying) (at : Situation) (m : Motion) (vertices : List Pt) → IsAsSaid s at → IsMotionOf at m
+contour_is : (s : Saying) (here : Situation) (m : Motion) (vertices : List Pt) → IsAsSaid s here → IsMotionOf here m
     → contour_said (with_surfaces s m) (map (at_height m.start.z) vertices) ≡ Some (record { motion = m; vertices = vertices })
-contour_is s at m vertices t is =
-    rw (sym t.position ∙ is.start, same_motion s at m t is, at_points-at_height m.start.z vertices) refl
+contour_is s here m vertices t is =
+    rw (sym t.position ∙ is.start, same_motion s here m t is, at_points-at_height m.start.z vertices) refl
 
 -- ---- the records of a step
 
@@ -172,13 +172,13 @@ cuts_by (effects.Moves reach to) vertices = []
 cuts_by (effects.Cuts m) vertices = record { motion = m; vertices = vertices } ∷ []
 
 -- what the records of an effect say, and the contours among them
-pub record SaysOn (s : Saying) (at : Situation) (step : Step) (e : Effect) (vertices : List Pt) : Type 0 where
-  pub tells : IsAsSaid (said_behind s (records_of step e vertices)) (after at e vertices)
+pub record SaysOn (s : Saying) (here : Situation) (step : Step) (e : Effect) (vertices : List Pt) : Type 0 where
+  pub tells : IsAsSaid (said_behind s (records_of step e vertices)) (after here e vertices)
   pub contours : (rest : List Record) → contours_behind s (records_of step e vertices ++ rest) ≡ cuts_by e vertices ++ contours_behind (said_behind s (records_of step e vertices)) rest
 
-still_tells : (s : Saying) (at now : Situation) → IsAsSaid s at → now.settings.units ≡ at.settings.units → now.settings.radius ≡ at.settings.radius → now.settings.intol ≡ at.settings.intol
-    → now.settings.outtol ≡ at.settings.outtol → now.settings.feed ≡ at.settings.feed → now.settings.rapid ≡ at.settings.rapid → now.position ≡ at.position → now.forward ≡ at.forward → IsAsSaid s now
-still_tells s at now t a b c d e f g h = record {
+still_tells : (s : Saying) (here now : Situation) → IsAsSaid s here → now.settings.units ≡ here.settings.units → now.settings.radius ≡ here.settings.radius → now.settings.intol ≡ here.settings.intol
+    → now.settings.outtol ≡ here.settings.outtol → now.settings.feed ≡ here.settings.feed → now.settings.rapid ≡ here.settings.rapid → now.position ≡ here.position → now.forward ≡ here.forward → IsAsSaid s now
+still_tells s here now t a b c d e f g h = record {
   units = a ∙ t.units;
   radius = b ∙ t.radius;
   intol = c ∙ t.intol;
@@ -189,18 +189,18 @@ still_tells s at now t a b c d e f g h = record {
   forward = h ∙ t.forward;
 }
 
-pub says_on : (s : Saying) (at : Situation) (step : Step) (e : Effect) (vertices : List Pt) → IsAsSaid s at → effect_of at step.deed ≡ Some e → SaysOn s at step e vertices
-says_on s at step (effects.Defines n f) vertices t asked =
-    record { tells = still_tells s at (after at (effects.Defines n f) vertices) t refl refl refl refl refl refl refl refl; contours = λ rest. refl }
-says_on s at step (effects.Sets (changes.Said note)) vertices t asked = record { tells = note_tells s at note t; contours = λ rest. refl }
-says_on s at step (effects.Sets (changes.Side side)) vertices t asked =
-    record { tells = still_tells s at (after at (effects.Sets (changes.Side side)) vertices) t refl refl refl refl refl refl refl refl; contours = λ rest. refl }
-says_on s at step (effects.Sets changes.Nothing) vertices t asked = record { tells = t; contours = λ rest. refl }
-says_on s at step (effects.Moves reach to) vertices t asked = record { tells = point_tells s at reach to t; contours = λ rest. refl }
-says_on s at step (effects.Cuts m) vertices t asked =
-    let is = (effect_said at step.deed (effects.Cuts m) asked).1 in record {
-      tells = contour_tells s at m vertices t is;
-      contours = λ rest. ap (λ (o : Option Contour). listed o ++ contours_behind (said_behind s (records_of step (effects.Cuts m) vertices)) rest) (contour_is s at m vertices t is);
+pub says_on : (s : Saying) (here : Situation) (step : Step) (e : Effect) (vertices : List Pt) → IsAsSaid s here → effect_of here step.deed ≡ Some e → SaysOn s here step e vertices
+says_on s here step (effects.Defines n f) vertices t asked =
+    record { tells = still_tells s here (after here (effects.Defines n f) vertices) t refl refl refl refl refl refl refl refl; contours = λ rest. refl }
+says_on s here step (effects.Sets (changes.Said note)) vertices t asked = record { tells = note_tells s here note t; contours = λ rest. refl }
+says_on s here step (effects.Sets (changes.Side side)) vertices t asked =
+    record { tells = still_tells s here (after here (effects.Sets (changes.Side side)) vertices) t refl refl refl refl refl refl refl refl; contours = λ rest. refl }
+says_on s here step (effects.Sets changes.Nothing) vertices t asked = record { tells = t; contours = λ rest. refl }
+says_on s here step (effects.Moves reach to) vertices t asked = record { tells = point_tells s here reach to t; contours = λ rest. refl }
+says_on s here step (effects.Cuts m) vertices t asked =
+    let is = (effect_said here step.deed (effects.Cuts m) asked).1 in record {
+      tells = contour_tells s here m vertices t is;
+      contours = λ rest. ap (λ (o : Option Contour). listed o ++ contours_behind (said_behind s (records_of step (effects.Cuts m) vertices)) rest) (contour_is s here m vertices t is);
     }
 
 -- ---- the walk
@@ -210,41 +210,41 @@ said_behind-append s [] ys = refl
 said_behind-append s (x ∷ xs) ys = said_behind-append (with_record s x) xs ys
 
 -- the situation behind records that follow steps is what they say
-told_behind : (Allowed : Effect → List Pt → Type 0) (s : Saying) (at : Situation) (steps : List Step) (written : List Record) (behind : Situation) → IsAsSaid s at
-    → FollowsAs Allowed at steps written behind → IsAsSaid (said_behind s written) behind
-told_behind Allowed s at [] written behind t f = rw (f.0, f.1) t
-told_behind Allowed s at (step ∷ steps) written behind t f =
+told_behind : (Allowed : Effect → List Pt → Type 0) (s : Saying) (here : Situation) (steps : List Step) (written : List Record) (behind : Situation) → IsAsSaid s here
+    → FollowsAs Allowed here steps written behind → IsAsSaid (said_behind s written) behind
+told_behind Allowed s here [] written behind t f = rw (f.0, f.1) t
+told_behind Allowed s here (step ∷ steps) written behind t f =
     let e = f.0 in
     let due = records_of step e f.1 in
-    let on = says_on s at step e f.1 t f.3.asked in
-    rw (f.3.front, said_behind-append s due f.2) (told_behind Allowed (said_behind s due) (after at e f.1) steps f.2 behind on.tells f.5)
+    let on = says_on s here step e f.1 t f.3.asked in
+    rw (f.3.front, said_behind-append s due f.2) (told_behind Allowed (said_behind s due) (after here e f.1) steps f.2 behind on.tells f.5)
 
 -- and what is allowed to the effects is a fact of the contours
 pub contours_are : (Allowed : Effect → List Pt → Type 0) (P : Motion → List Pt → Type 0) → ((e : Effect) (vertices : List Pt) (more : List Contour) → Allowed e vertices → EveryContour P more → EveryContour P (cuts_by e vertices ++ more))
-    → (s : Saying) (at : Situation) (steps : List Step) (written : List Record) (behind : Situation) → IsAsSaid s at → FollowsAs Allowed at steps written behind → EveryContour P (contours_behind s written)
-contours_are Allowed P join s at [] written behind t f = rw f.0 tt
-contours_are Allowed P join s at (step ∷ steps) written behind t f =
+    → (s : Saying) (here : Situation) (steps : List Step) (written : List Record) (behind : Situation) → IsAsSaid s here → FollowsAs Allowed here steps written behind → EveryContour P (contours_behind s written)
+contours_are Allowed P join s here [] written behind t f = rw f.0 tt
+contours_are Allowed P join s here (step ∷ steps) written behind t f =
     let e = f.0 in
     let due = records_of step e f.1 in
-    let on = says_on s at step e f.1 t f.3.asked in
-    rw (f.3.front, on.contours f.2) (join e f.1 (contours_behind (said_behind s due) f.2) f.4 (contours_are Allowed P join (said_behind s due) (after at e f.1) steps f.2 behind on.tells f.5))
+    let on = says_on s here step e f.1 t f.3.asked in
+    rw (f.3.front, on.contours f.2) (join e f.1 (contours_behind (said_behind s due) f.2) f.4 (contours_are Allowed P join (said_behind s due) (after here e f.1) steps f.2 behind on.tells f.5))
 
 -- and the other way round
 pub contours_allow : (Allowed : Effect → List Pt → Type 0) (P : Motion → List Pt → Type 0) → ((e : Effect) (vertices : List Pt) (more : List Contour) → EveryContour P (cuts_by e vertices ++ more) → Allowed e vertices × EveryContour P more)
-    → (s : Saying) (at : Situation) (steps : List Step) (written : List Record) (behind : Situation) → IsAsSaid s at → FollowsAs HasAny at steps written behind
-    → EveryContour P (contours_behind s written) → FollowsAs Allowed at steps written behind
-contours_allow Allowed P split s at [] written behind t f every = f
-contours_allow Allowed P split s at (step ∷ steps) written behind t f every =
+    → (s : Saying) (here : Situation) (steps : List Step) (written : List Record) (behind : Situation) → IsAsSaid s here → FollowsAs HasAny here steps written behind
+    → EveryContour P (contours_behind s written) → FollowsAs Allowed here steps written behind
+contours_allow Allowed P split s here [] written behind t f every = f
+contours_allow Allowed P split s here (step ∷ steps) written behind t f every =
     let e = f.0 in
     let due = records_of step e f.1 in
-    let on = says_on s at step e f.1 t f.3.asked in
-    let parts = split e f.1 (contours_behind (said_behind s due) f.2) (rw (f.3.front, on.contours f.2) at every) in
-    (e, f.1, f.2, f.3, parts.0, contours_allow Allowed P split (said_behind s due) (after at e f.1) steps f.2 behind on.tells f.5 parts.1)
+    let on = says_on s here step e f.1 t f.3.asked in
+    let parts = split e f.1 (contours_behind (said_behind s due) f.2) (rw (f.3.front, on.contours f.2) here every) in
+    (e, f.1, f.2, f.3, parts.0, contours_allow Allowed P split (said_behind s due) (after here e f.1) steps f.2 behind on.tells f.5 parts.1)
 
-pub any_follows : (Allowed : Effect → List Pt → Type 0) (at : Situation) (steps : List Step) (written : List Record) (behind : Situation) → FollowsAs Allowed at steps written behind
-    → FollowsAs HasAny at steps written behind
-any_follows Allowed at [] written behind f = f
-any_follows Allowed at (step ∷ steps) written behind f = (f.0, f.1, f.2, f.3, tt, any_follows Allowed (after at f.0 f.1) steps f.2 behind f.5)
+pub any_follows : (Allowed : Effect → List Pt → Type 0) (here : Situation) (steps : List Step) (written : List Record) (behind : Situation) → FollowsAs Allowed here steps written behind
+    → FollowsAs HasAny here steps written behind
+any_follows Allowed here [] written behind f = f
+any_follows Allowed here (step ∷ steps) written behind f = (f.0, f.1, f.2, f.3, tt, any_follows Allowed (after here f.0 f.1) steps f.2 behind f.5)
 
 pub follows : (Allowed : Effect → List Pt → Type 0) (steps : List Step) (written : List Record) (behind : Situation) → FollowsAs Allowed first_situation steps written behind → Follows steps written
 follows Allowed steps written behind f =

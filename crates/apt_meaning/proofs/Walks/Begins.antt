@@ -19,7 +19,7 @@ use Rattle.apt_meaning.proofs.Walks.Compiled.{same_some}
 -- ---- in one way only
 
 same_point : (z : ℤ) (p q : Pt) → at_height z p ≡ at_height z q → p ≡ q
-same_point z p q e = ap (λ (x : Position). x.at) e
+same_point z p q e = ap (λ (x : Position). x.xy) e
 
 heights_same : (z : ℤ) (ps qs : List Pt) → map (at_height z) ps ≡ map (at_height z) qs → ps ≡ qs
 heights_same z [] [] e = refl
@@ -44,9 +44,9 @@ pub record AreSame (e d : Effect) (vs us : List Pt) (xs ys : List Record) : Type
   pub vertices : vs ≡ us
   pub rest : xs ≡ ys
 
-pub begins_once : (at : Situation) (step : Step) (written : List Record) (e d : Effect) (vs us : List Pt) (xs ys : List Record)
-    → Begins at step written e vs xs → Begins at step written d us ys → AreSame e d vs us xs ys
-begins_once at step written e d vs us xs ys b c =
+pub begins_once : (here : Situation) (step : Step) (written : List Record) (e d : Effect) (vs us : List Pt) (xs ys : List Record)
+    → Begins here step written e vs xs → Begins here step written d us ys → AreSame e d vs us xs ys
+begins_once here step written e d vs us xs ys b c =
     let same : d ≡ e = same_some d e (sym c.asked ∙ b.asked) in
     let may = subst (λ (x : Effect). MayHave x us) same c.may in
     let front : records_of step e vs ++ xs ≡ records_of step e us ++ ys = sym b.front ∙ c.front ∙ ap (λ (x : Effect). records_of step x us ++ ys) same in
@@ -92,9 +92,9 @@ front_met step (effects.Cuts m) vertices may =
     rw (there.0, there.1) (([], (refl, refl)), (([], (refl, refl)), (([], (refl, refl)), ((vertices, refl), tt))))
 
 -- where the records of a step begin, they do not depart from what is expected
-pub begins_no_departs : (at : Situation) (step : Step) (written : List Record) (e : Effect) (vertices : List Pt) (rest : List Record) (k : ℕ)
-    → Begins at step written e vertices rest → Departs (expected at step) written k → ⊥
-begins_no_departs at step written e vertices rest k b departs =
+pub begins_no_departs : (here : Situation) (step : Step) (written : List Record) (e : Effect) (vertices : List Pt) (rest : List Record) (k : ℕ)
+    → Begins here step written e vertices rest → Departs (expected here step) written k → ⊥
+begins_no_departs here step written e vertices rest k b departs =
     let due = subst (λ (o : Option Effect). Departs (behind_statement step (expected_of o)) written k) b.asked departs in
     met_no_departs (behind_statement step (expected_of (Some e))) (records_of step e vertices) rest k (front_met step e vertices b.may)
     (subst (λ (rs : List Record). Departs (behind_statement step (expected_of (Some e))) rs k) b.front due)

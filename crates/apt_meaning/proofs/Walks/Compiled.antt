@@ -79,49 +79,49 @@ fit o e h asks = subst IsFit (same_some asks.e e (sym asks.asked ∙ h)) asks.fi
 -- ---- the walk
 
 -- behind its own vertices a contour leaves the tool at its contact
-pub after_points : (at : Situation) (e : Effect) → EndsThere e → after at e (ends_of e) ≡ after at e (points_of e)
-after_points at (effects.Defines n f) ends = refl
-after_points at (effects.Sets change) ends = refl
-after_points at (effects.Moves reach to) ends = refl
-after_points at (effects.Cuts m) ends = ap (λ (q : Pt). after at (effects.Cuts m) (q ∷ [])) (sym ends)
+pub after_points : (here : Situation) (e : Effect) → EndsThere e → after here e (ends_of e) ≡ after here e (points_of e)
+after_points here (effects.Defines n f) ends = refl
+after_points here (effects.Sets change) ends = refl
+after_points here (effects.Moves reach to) ends = refl
+after_points here (effects.Cuts m) ends = ap (λ (q : Pt). after here (effects.Cuts m) (q ∷ [])) (sym ends)
 
 -- records follow steps legally and with the compiler's own vertices, and all that they lead to is in range
-pub record Arrives (at : Situation) (steps : List Step) (written : List Record) : Type 0 where
+pub record Arrives (here : Situation) (steps : List Step) (written : List Record) : Type 0 where
   pub behind : Situation
-  pub follows : FollowsAs CutsLegally at steps written behind
-  pub own : FollowsAs CutsOwn at steps written behind
+  pub follows : FollowsAs CutsLegally here steps written behind
+  pub own : FollowsAs CutsOwn here steps written behind
   pub situation : IsSituation behind
   pub records : AreRecords written
 
 -- what is done behind a step, after so many vertices
 abbrev pub behind_step : ℕ → Situation → Step → List Step → Effect → Result (List Record) Refusal
-behind_step so_far at step steps e = with_front (records_of step e (points_of e)) (compilation_behind (so_far + length (points_of e)) (after at e (ends_of e)) steps)
+behind_step so_far here step steps e = with_front (records_of step e (points_of e)) (compilation_behind (so_far + length (points_of e)) (after here e (ends_of e)) steps)
 
 -- steps that have records pass
-pub compiled_passes : (so_far : ℕ) (at : Situation) (steps : List Step) (written : List Record) → compilation_behind so_far at steps ≡ Ok written → first_refused at steps ≡ None
-compiled_passes so_far at [] written h = refl
-compiled_passes so_far at (step ∷ steps) written h =
-    let d = done so_far step (refusal_of at step.deed) (effect_of at step.deed) (behind_step so_far at step steps) written h in
+pub compiled_passes : (so_far : ℕ) (here : Situation) (steps : List Step) (written : List Record) → compilation_behind so_far here steps ≡ Ok written → first_refused here steps ≡ None
+compiled_passes so_far here [] written h = refl
+compiled_passes so_far here (step ∷ steps) written h =
+    let d = done so_far step (refusal_of here step.deed) (effect_of here step.deed) (behind_step so_far here step steps) written h in
     let n = so_far + length (points_of d.e) in
-    let f = front_ok (records_of step d.e (points_of d.e)) (compilation_behind n (after at d.e (ends_of d.e)) steps) written d.rest in
-    rw (d.fine, d.asked) (compiled_passes n (after at d.e (ends_of d.e)) steps f.0 f.1)
+    let f = front_ok (records_of step d.e (points_of d.e)) (compilation_behind n (after here d.e (ends_of d.e)) steps) written d.rest in
+    rw (d.fine, d.asked) (compiled_passes n (after here d.e (ends_of d.e)) steps f.0 f.1)
 
-pub compiled_follows : (so_far : ℕ) (at : Situation) (steps : List Step) (written : List Record) → IsSituation at → AreScalars steps → AreExecuted steps
-    → compilation_behind so_far at steps ≡ Ok written → Arrives at steps written
-compiled_follows so_far at [] written is numbers sources h =
+pub compiled_follows : (so_far : ℕ) (here : Situation) (steps : List Step) (written : List Record) → IsSituation here → AreScalars steps → AreExecuted steps
+    → compilation_behind so_far here steps ≡ Ok written → Arrives here steps written
+compiled_follows so_far here [] written is numbers sources h =
     let none = nothing_left written h in
-    record { behind = at; follows = (none, refl); own = (none, refl); situation = is; records = rw none tt }
-compiled_follows so_far at (step ∷ steps) written is numbers sources h =
-    let d = done so_far step (refusal_of at step.deed) (effect_of at step.deed) (behind_step so_far at step steps) written h in
+    record { behind = here; follows = (none, refl); own = (none, refl); situation = is; records = rw none tt }
+compiled_follows so_far here (step ∷ steps) written is numbers sources h =
+    let d = done so_far step (refusal_of here step.deed) (effect_of here step.deed) (behind_step so_far here step steps) written h in
     let e = d.e in
     let n = so_far + length (points_of e) in
-    let ok = fit (effect_of at step.deed) e d.asked (answered at step.deed is numbers.0 sources.0.text d.fine) in
-    let f = front_ok (records_of step e (points_of e)) (compilation_behind n (after at e (ends_of e)) steps) written d.rest in
-    let same = after_points at e ok.ends in
-    let there = kept at e (points_of e) is ok.good ok.within in
+    let ok = fit (effect_of here step.deed) e d.asked (answered here step.deed is numbers.0 sources.0.text d.fine) in
+    let f = front_ok (records_of step e (points_of e)) (compilation_behind n (after here e (ends_of e)) steps) written d.rest in
+    let same = after_points here e ok.ends in
+    let there = kept here e (points_of e) is ok.good ok.within in
     let more = subst (λ (x : Situation). Arrives x steps f.0) same
-    (compiled_follows n (after at e (ends_of e)) steps f.0 (subst IsSituation (sym same) there) numbers.1 sources.1 f.1) in
-    let begins : Begins at step written e (points_of e) f.0 = record { asked = d.asked; front = f.2; may = ok.may } in record {
+    (compiled_follows n (after here e (ends_of e)) steps f.0 (subst IsSituation (sym same) there) numbers.1 sources.1 f.1) in
+    let begins : Begins here step written e (points_of e) f.0 = record { asked = d.asked; front = f.2; may = ok.may } in record {
       behind = more.behind;
       follows = (e, points_of e, f.0, begins, ok.legal, more.follows);
       own = (e, points_of e, f.0, begins, ok.own, more.own);

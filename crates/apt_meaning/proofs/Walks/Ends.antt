@@ -51,40 +51,40 @@ fini_asked (deeds.Spindl n turns.Ccw) e = absurd cc
 fini_asked (deeds.Spindl n turns.Off) e = absurd cc
 fini_asked _ e = absurd cc
 
-change_ends : (at : Situation) (ask : Ask) (step : Step) (change : Change) (vertices : List Pt) (rest : List Record) → IsSaidBy at ask (effects.Sets change)
+change_ends : (here : Situation) (ask : Ask) (step : Step) (change : Change) (vertices : List Pt) (rest : List Record) → IsSaidBy here ask (effects.Sets change)
     → ¬ (ask ≡ Says sayings.Fini) → EndsOnce (asks_end ask) rest → EndsOnce false (records_of step (effects.Sets change) vertices ++ rest)
-change_ends at ask step (changes.Said note) vertices rest said goes_on more = note_ends at.settings.units ask note rest said goes_on more
-change_ends at ask step (changes.Side side) vertices rest said goes_on more = still_on (asks_end ask) rest said more
-change_ends at ask step changes.Nothing vertices rest said goes_on more = still_on (asks_end ask) rest said more
+change_ends here ask step (changes.Said note) vertices rest said goes_on more = note_ends here.settings.units ask note rest said goes_on more
+change_ends here ask step (changes.Side side) vertices rest said goes_on more = still_on (asks_end ask) rest said more
+change_ends here ask step changes.Nothing vertices rest said goes_on more = still_on (asks_end ask) rest said more
 
-step_ends : (at : Situation) (ask : Ask) (step : Step) (e : Effect) (vertices : List Pt) (rest : List Record) → IsSaidBy at ask e → ¬ (ask ≡ Says sayings.Fini)
+step_ends : (here : Situation) (ask : Ask) (step : Step) (e : Effect) (vertices : List Pt) (rest : List Record) → IsSaidBy here ask e → ¬ (ask ≡ Says sayings.Fini)
     → EndsOnce (asks_end ask) rest → EndsOnce false (records_of step e vertices ++ rest)
-step_ends at ask step (effects.Defines n f) vertices rest said goes_on more = still_on (asks_end ask) rest said more
-step_ends at ask step (effects.Sets change) vertices rest said goes_on more = change_ends at ask step change vertices rest said goes_on more
-step_ends at ask step (effects.Moves reach to) vertices rest said goes_on more = still_on (asks_end ask) rest said more
-step_ends at ask step (effects.Cuts m) vertices rest said goes_on more = still_on (asks_end ask) rest said.0 more
+step_ends here ask step (effects.Defines n f) vertices rest said goes_on more = still_on (asks_end ask) rest said more
+step_ends here ask step (effects.Sets change) vertices rest said goes_on more = change_ends here ask step change vertices rest said goes_on more
+step_ends here ask step (effects.Moves reach to) vertices rest said goes_on more = still_on (asks_end ask) rest said more
+step_ends here ask step (effects.Cuts m) vertices rest said goes_on more = still_on (asks_end ask) rest said.0 more
 
 -- ---- the last step
 
 same_effect : (d e : Effect) → ◌≡◌ {A = Option Effect} (Some d) (Some e) → d ≡ e
 same_effect d e h = cc
 
-fini_ends : (ended : Bool) (at : Situation) (step : Step) (deed : Deed) (e : Effect) (vertices : List Pt) → deed ≡ deeds.Fini → effect_of at deed ≡ Some e
+fini_ends : (ended : Bool) (here : Situation) (step : Step) (deed : Deed) (e : Effect) (vertices : List Pt) → deed ≡ deeds.Fini → effect_of here deed ≡ Some e
     → EndsOnce ended (records_of step e vertices ++ [])
-fini_ends ended at step deed e vertices is asked =
+fini_ends ended here step deed e vertices is asked =
     let fini = effects.Sets (changes.Said notes.Fini) in
-    let same = same_effect fini e (subst (λ (d : Deed). effect_of at d ≡ Some e) is asked) in
+    let same = same_effect fini e (subst (λ (d : Deed). effect_of here d ≡ Some e) is asked) in
     subst (λ (x : Effect). EndsOnce ended (records_of step x vertices ++ [])) same tt
 
 -- ---- the walk
 
-pub ends_once : (Allowed : Effect → List Pt → Type 0) (ended : Bool) (at : Situation) (steps : List Step) (written : List Record) (behind : Situation)
-    → FollowsAs Allowed at steps written behind → StepsEnd ended steps → EndsOnce ended written
-ends_once Allowed ended at [] written behind f end = absurd end
-ends_once Allowed ended at (step ∷ []) written behind f end =
+pub ends_once : (Allowed : Effect → List Pt → Type 0) (ended : Bool) (here : Situation) (steps : List Step) (written : List Record) (behind : Situation)
+    → FollowsAs Allowed here steps written behind → StepsEnd ended steps → EndsOnce ended written
+ends_once Allowed ended here [] written behind f end = absurd end
+ends_once Allowed ended here (step ∷ []) written behind f end =
     let begins = f.3 in
-    rw (begins.front, f.5.0) (fini_ends ended at step step.deed f.0 f.1 end begins.asked)
-ends_once Allowed ended at (step ∷ next ∷ steps) written behind f end =
+    rw (begins.front, f.5.0) (fini_ends ended here step step.deed f.0 f.1 end begins.asked)
+ends_once Allowed ended here (step ∷ next ∷ steps) written behind f end =
     let begins = f.3 in
-    let more = ends_once Allowed (is_ended false step.deed) (after at f.0 f.1) (next ∷ steps) f.2 behind f.5 (subst (λ (b : Bool). StepsEnd (is_ended b step.deed) (next ∷ steps)) end.0 end.2) in
-    rw (end.0, begins.front) (step_ends at (ask_of step.deed) step f.0 f.1 f.2 (said_by at step.deed f.0 begins.asked) (λ fini. end.1 (fini_asked step.deed fini)) more)
+    let more = ends_once Allowed (is_ended false step.deed) (after here f.0 f.1) (next ∷ steps) f.2 behind f.5 (subst (λ (b : Bool). StepsEnd (is_ended b step.deed) (next ∷ steps)) end.0 end.2) in
+    rw (end.0, begins.front) (step_ends here (ask_of step.deed) step f.0 f.1 f.2 (said_by here step.deed f.0 begins.asked) (λ fini. end.1 (fini_asked step.deed fini)) more)

@@ -75,11 +75,11 @@ change_short units ask (changes.Said note) titled said = (note_short units ask n
 change_short units ask (changes.Side side) titled said = tt
 change_short units ask changes.Nothing titled said = tt
 
-effect_short : (at : Situation) (ask : Ask) (e : Effect) (vertices : List Pt) → AskHasText ask → IsSaidBy at ask e → length vertices ≤ most_points → AreShort (effect_records e vertices)
-effect_short at ask (effects.Defines n f) vertices titled said few = tt
-effect_short at ask (effects.Sets change) vertices titled said few = change_short at.settings.units ask change titled said
-effect_short at ask (effects.Moves reach to) vertices titled said few = (omega arith, tt)
-effect_short at ask (effects.Cuts m) vertices titled said few = (drive_short m.drive m.side m.sense, (check_short m.check m.how, (contour_short m.start.z vertices few, tt)))
+effect_short : (here : Situation) (ask : Ask) (e : Effect) (vertices : List Pt) → AskHasText ask → IsSaidBy here ask e → length vertices ≤ most_points → AreShort (effect_records e vertices)
+effect_short here ask (effects.Defines n f) vertices titled said few = tt
+effect_short here ask (effects.Sets change) vertices titled said few = change_short here.settings.units ask change titled said
+effect_short here ask (effects.Moves reach to) vertices titled said few = (omega arith, tt)
+effect_short here ask (effects.Cuts m) vertices titled said few = (drive_short m.drive m.side m.sense, (check_short m.check m.how, (contour_short m.start.z vertices few, tt)))
 
 with_statement-short : (step : Step) (rs : List Record) → AreShort rs → AreShort (with_statement step rs)
 with_statement-short step [] are = tt
@@ -132,18 +132,18 @@ change_bytes units ask (changes.Said note) said = omega (arith, note_bytes units
 change_bytes units ask (changes.Side side) said = omega arith
 change_bytes units ask changes.Nothing said = omega arith
 
-effect_bytes : (at : Situation) (ask : Ask) (e : Effect) (vertices : List Pt) → IsSaidBy at ask e → bytes_of (effect_records e vertices) ≤ 188 + 24 * length vertices + 8 * asked_title ask
-effect_bytes at ask (effects.Defines n f) vertices said = omega arith
-effect_bytes at ask (effects.Sets change) vertices said = omega (arith, change_bytes at.settings.units ask change said)
-effect_bytes at ask (effects.Moves reach to) vertices said = omega arith
-effect_bytes at ask (effects.Cuts m) vertices said = omega (arith, drive_bytes m.drive m.side m.sense, check_bytes m.check m.how, contour_bytes m.start.z vertices)
+effect_bytes : (here : Situation) (ask : Ask) (e : Effect) (vertices : List Pt) → IsSaidBy here ask e → bytes_of (effect_records e vertices) ≤ 188 + 24 * length vertices + 8 * asked_title ask
+effect_bytes here ask (effects.Defines n f) vertices said = omega arith
+effect_bytes here ask (effects.Sets change) vertices said = omega (arith, change_bytes here.settings.units ask change said)
+effect_bytes here ask (effects.Moves reach to) vertices said = omega arith
+effect_bytes here ask (effects.Cuts m) vertices said = omega (arith, drive_bytes m.drive m.side m.sense, check_bytes m.check m.how, contour_bytes m.start.z vertices)
 
 with_statement-bytes : (step : Step) (rs : List Record) → bytes_of (with_statement step rs) ≤ 44 + bytes_of rs
 with_statement-bytes step [] = omega arith
 with_statement-bytes step (r ∷ rs) = omega arith
 
-step_bytes : (at : Situation) (step : Step) (e : Effect) (vertices : List Pt) → IsSaidBy at (ask_of step.deed) e → bytes_of (records_of step e vertices) ≤ 232 + 24 * length vertices + 8 * title_length step.deed
-step_bytes at step e vertices said = omega (arith, effect_bytes at (ask_of step.deed) e vertices said, with_statement-bytes step (effect_records e vertices))
+step_bytes : (here : Situation) (step : Step) (e : Effect) (vertices : List Pt) → IsSaidBy here (ask_of step.deed) e → bytes_of (records_of step e vertices) ≤ 232 + 24 * length vertices + 8 * title_length step.deed
+step_bytes here step e vertices said = omega (arith, effect_bytes here (ask_of step.deed) e vertices said, with_statement-bytes step (effect_records e vertices))
 
 -- ---- the records of all steps
 
@@ -176,17 +176,17 @@ fit_behind so_far steps step e rest are bytes more =
 few_points : (so_far n : ℕ) → so_far + n ≤ most_points → n ≤ most_points
 few_points so_far n h = omega (arith, h)
 
-pub compiled_fit : (so_far : ℕ) (at : Situation) (steps : List Step) (written : List Record) → so_far ≤ most_points → AreExecuted steps → compilation_behind so_far at steps ≡ Ok written
+pub compiled_fit : (so_far : ℕ) (here : Situation) (steps : List Step) (written : List Record) → so_far ≤ most_points → AreExecuted steps → compilation_behind so_far here steps ≡ Ok written
     → Fit so_far steps written
-compiled_fit so_far at [] written few executed h = rw (nothing_left written h) (record { short = tt; number = omega arith; vertices = omega (arith, few); bytes = omega arith })
-compiled_fit so_far at (step ∷ steps) written few executed h =
-    let d = done so_far step (refusal_of at step.deed) (effect_of at step.deed) (behind_step so_far at step steps) written h in
+compiled_fit so_far here [] written few executed h = rw (nothing_left written h) (record { short = tt; number = omega arith; vertices = omega (arith, few); bytes = omega arith })
+compiled_fit so_far here (step ∷ steps) written few executed h =
+    let d = done so_far step (refusal_of here step.deed) (effect_of here step.deed) (behind_step so_far here step steps) written h in
     let e = d.e in
     let n = so_far + length (points_of e) in
-    let f = front_ok (records_of step e (points_of e)) (compilation_behind n (after at e (ends_of e)) steps) written d.rest in
-    let said = said_by at step.deed e d.asked in
-    let short = effect_short at (ask_of step.deed) e (points_of e) executed.0.text said (few_points so_far (length (points_of e)) d.few) in
-    rw f.2 (fit_behind so_far steps step e f.0 (with_statement-short step (effect_records e (points_of e)) short) (step_bytes at step e (points_of e) said) (compiled_fit n (after at e (ends_of e)) steps f.0 d.few executed.1 f.1))
+    let f = front_ok (records_of step e (points_of e)) (compilation_behind n (after here e (ends_of e)) steps) written d.rest in
+    let said = said_by here step.deed e d.asked in
+    let short = effect_short here (ask_of step.deed) e (points_of e) executed.0.text said (few_points so_far (length (points_of e)) d.few) in
+    rw f.2 (fit_behind so_far steps step e f.0 (with_statement-short step (effect_records e (points_of e)) short) (step_bytes here step e (points_of e) said) (compiled_fit n (after here e (ends_of e)) steps f.0 d.few executed.1 f.1))
 
 -- ---- the end
 

@@ -37,7 +37,7 @@ LeadsIn (effects.Cuts m) = Unit {0}
 
 points_in : (z : ℤ) (vertices : List Pt) → ArePositions (map (at_height z) vertices) → ArePoints vertices
 points_in z [] are = tt
-points_in z (v ∷ vs) are = (are.0.at, points_in z vs are.1)
+points_in z (v ∷ vs) are = (are.0.xy, points_in z vs are.1)
 
 some_points : (z : ℤ) (vertices : List Pt) → 1 ≤ length (map (at_height z) vertices) → 1 ≤ length vertices
 some_points z [] some = some
@@ -80,16 +80,16 @@ effect_in (effects.Cuts m) (effects.Cuts o) same good motion leads = motion
 -- ---- the walk beside the compiler's
 
 -- the compiler's situation at the same step, from which no step is refused
-pub record IsBeside (at : Situation) (steps : List Step) : Type 0 where
+pub record IsBeside (here : Situation) (steps : List Step) : Type 0 where
   pub c : Situation
   pub passes : first_refused c steps ≡ None
   pub situation : IsSituation c
-  pub agrees : Agrees c at
+  pub agrees : Agrees c here
 
 -- a situation in range beside the compiler's
-pub record KeepsUp (at : Situation) (steps : List Step) : Type 0 where
-  pub situation : IsSituation at
-  pub beside : IsBeside at steps
+pub record KeepsUp (here : Situation) (steps : List Step) : Type 0 where
+  pub situation : IsSituation here
+  pub beside : IsBeside here steps
 
 pub keeps_up_first : (steps : List Step) → first_refused first_situation steps ≡ None → KeepsUp first_situation steps
 keeps_up_first steps passes = record {
@@ -98,36 +98,36 @@ keeps_up_first steps passes = record {
 }
 
 -- a step whose effect, with these vertices, is in range, and what holds behind it
-pub record StepsOn (at : Situation) (steps : List Step) (e : Effect) (vertices : List Pt) (rest : List Record) : Type 0 where
+pub record StepsOn (here : Situation) (steps : List Step) (e : Effect) (vertices : List Pt) (rest : List Record) : Type 0 where
   pub good : IsEffect e
   pub motion : HasMotion e
   pub within : HasIn e vertices
-  pub behind : KeepsUp (after at e vertices) steps
+  pub behind : KeepsUp (after here e vertices) steps
   pub later : AreRecords rest
 
-pub steps_on : (at : Situation) (step : Step) (steps : List Step) (written : List Record) (d : Effect) (us : List Pt) (rest : List Record)
-    → KeepsUp at (step ∷ steps) → HasScalars step.deed → DeedHasText step.deed → AreRecords written
-    → effect_of at step.deed ≡ Some d → written ≡ records_of step d us ++ rest → StepsOn at steps d us rest
-steps_on at step steps written d us rest keeps numbers worded are asked front =
+pub steps_on : (here : Situation) (step : Step) (steps : List Step) (written : List Record) (d : Effect) (us : List Pt) (rest : List Record)
+    → KeepsUp here (step ∷ steps) → HasScalars step.deed → DeedHasText step.deed → AreRecords written
+    → effect_of here step.deed ≡ Some d → written ≡ records_of step d us ++ rest → StepsOn here steps d us rest
+steps_on here step steps written d us rest keeps numbers worded are asked front =
     let beside = keeps.beside in
     let c = beside.c in
     let does = passed step (refusal_of c step.deed) (effect_of c step.deed) (λ e. first_refused (after c e (ends_of e)) steps) beside.passes in
     let e = does.e in
     let fits = fit (effect_of c step.deed) e does.asked (answered c step.deed beside.situation numbers worded does.fine) in
-    let motion = of_some HasMotion (effect_of at step.deed) d asked (made at step.deed keeps.situation) in
+    let motion = of_some HasMotion (effect_of here step.deed) d asked (made here step.deed keeps.situation) in
     let says = says_in step d us rest (subst AreRecords front are) in
-    let good = effect_in e d (alike c at step.deed e d beside.agrees does.asked asked) fits.good motion says.leads in
+    let good = effect_in e d (alike c here step.deed e d beside.agrees does.asked asked) fits.good motion says.leads in
     record {
       good = good;
       motion = motion;
       within = says.within;
       behind = record {
-        situation = kept at d us keeps.situation good says.within;
+        situation = kept here d us keeps.situation good says.within;
         beside = record {
           c = after c e (ends_of e);
           passes = does.rest;
           situation = subst IsSituation (sym (after_points c e fits.ends)) (kept c e (points_of e) beside.situation fits.good fits.within);
-          agrees = agrees_behind c at step.deed e d (ends_of e) us beside.agrees does.asked asked;
+          agrees = agrees_behind c here step.deed e d (ends_of e) us beside.agrees does.asked asked;
         };
       };
       later = says.later;

@@ -48,7 +48,7 @@ either_forward false d e is_d is_e = is_e
 forward_kept : (p : Option Position) (to : Pt) (forward : Dir) → IsPositionOrNone p → IsPoint to → IsForward forward → IsForward (forward_behind p to forward)
 forward_kept None to forward is_p is_to is = is
 forward_kept (Some from) to forward is_p is_to is =
-    either_forward (length_squared (displacement from.at to) == 0) forward (displacement from.at to) is (displacement_short from.at to is_p.at is_to)
+    either_forward (length_squared (displacement from.xy to) == 0) forward (displacement from.xy to) is (displacement_short from.xy to is_p.xy is_to)
 
 turned_short : (d : Dir) → IsForward d → IsForward (perp d)
 turned_short d is = record { dx = rw (size_neg d.dy) is.dy; dy = is.dx }
@@ -76,26 +76,26 @@ settings_kept reaches.Goto s is = with_rapid s false is
 settings_kept reaches.Godlta s is = with_rapid s false is
 settings_kept reaches.Start s is = with_rapid s false is
 
-cut_kept : (at : Situation) (m : Motion) (last : Pt) → IsSituation at → IsMotion m → IsPoint last
-    → IsSituation (record at { settings = record at.settings { side = m.side }; position = Some (at_height m.start.z last); forward = heading m.sense (tangent m.drive last) })
-cut_kept at m last is good end = record {
-  settings = on_side at.settings m.side is.settings;
-  position = record { at = end; z = good.start.z };
+cut_kept : (here : Situation) (m : Motion) (last : Pt) → IsSituation here → IsMotion m → IsPoint last
+    → IsSituation (record here { settings = record here.settings { side = m.side }; position = Some (at_height m.start.z last); forward = heading m.sense (tangent m.drive last) })
+cut_kept here m last is good end = record {
+  settings = on_side here.settings m.side is.settings;
+  position = record { xy = end; z = good.start.z };
   forward = heading_short m.sense (tangent m.drive last) good.sense (tangent_short m.drive last good.drive end);
   table = is.table;
 }
 
-pub kept : (at : Situation) (e : Effect) (vertices : List Pt) → IsSituation at → IsEffect e → HasIn e vertices → IsSituation (after at e vertices)
-kept at (effects.Defines n f) vertices is good within =
-    record { settings = is.settings; position = is.position; forward = is.forward; table = still_figures at.table n f is.table good }
-kept at (effects.Sets change) vertices is good within = record { settings = change_kept at.settings change is.settings good; position = is.position; forward = is.forward; table = is.table }
-kept at (effects.Moves reach to) vertices is good within = record {
-  settings = settings_kept reach at.settings is.settings;
+pub kept : (here : Situation) (e : Effect) (vertices : List Pt) → IsSituation here → IsEffect e → HasIn e vertices → IsSituation (after here e vertices)
+kept here (effects.Defines n f) vertices is good within =
+    record { settings = is.settings; position = is.position; forward = is.forward; table = still_figures here.table n f is.table good }
+kept here (effects.Sets change) vertices is good within = record { settings = change_kept here.settings change is.settings good; position = is.position; forward = is.forward; table = is.table }
+kept here (effects.Moves reach to) vertices is good within = record {
+  settings = settings_kept reach here.settings is.settings;
   position = good;
-  forward = forward_kept at.position to.at at.forward is.position good.at is.forward;
+  forward = forward_kept here.position to.xy here.forward is.position good.xy is.forward;
   table = is.table;
 }
-kept at (effects.Cuts m) vertices is good within = cut_kept at m (last_of m.start.at vertices) is good (last_point m.start.at vertices good.start.at within.1)
+kept here (effects.Cuts m) vertices is good within = cut_kept here m (last_of m.start.xy vertices) is good (last_point m.start.xy vertices good.start.xy within.1)
 
 pub first_situation-IsSituation : IsSituation first_situation
 first_situation-IsSituation = record {
@@ -114,7 +114,7 @@ first_situation-IsSituation = record {
 
 positions_in : (z : ℤ) (vertices : List Pt) → unsigned_abs z ≤ 50000000 → ArePoints vertices → ArePositions (map (at_height z) vertices)
 positions_in z [] high are = tt
-positions_in z (v ∷ vs) high are = (record { at = are.0; z = high }, positions_in z vs high are.1)
+positions_in z (v ∷ vs) high are = (record { xy = are.0; z = high }, positions_in z vs high are.1)
 
 still_some : (z : ℤ) (vertices : List Pt) → 1 ≤ length vertices → 1 ≤ length (map (at_height z) vertices)
 still_some z [] h = h

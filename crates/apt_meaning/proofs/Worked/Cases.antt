@@ -35,8 +35,8 @@ table =
     ∷ (codes "P1", figures.Point (record { x = pos 1000; y = pos 2000 }) (pos 300)) ∷ (codes "A", figures.Scalar) ∷ []
 
 -- a cutter of radius 12500 on the left
-abbrev here : Settings
-here = record first_settings { radius = pos 12500; side = sides.Left; feed = pos 100 }
+abbrev held : Settings
+held = record first_settings { radius = pos 12500; side = sides.Left; feed = pos 100 }
 
 abbrev above : ℤ → ℤ → Position
 above x y = position_at x y (pos 300)
@@ -45,8 +45,8 @@ abbrev on_track : Option Position
 on_track = Some (above (pos 0) (pos 12500))
 
 -- at a position, heading to the right
-abbrev at : Settings → Option Position → Situation
-at settings position = record { settings = settings; position = position; forward = record { dx = pos 1; dy = pos 0 }; table = table }
+abbrev standing : Settings → Option Position → Situation
+standing settings position = record { settings = settings; position = position; forward = record { dx = pos 1; dy = pos 0 }; table = table }
 
 abbrev contour : Situation → Go → List ℕ → Stop → List ℕ → Option Case
 contour situation go drive how check = refusal_of situation (deeds.Contour None go drive how check)
@@ -60,221 +60,221 @@ whole n = pos (n * 1000000)
 
 -- ---- numbers
 
-great_cutter : refusal_of (at here on_track) (deeds.Cutter (pos 10000010)) ≡ Some cases.OutOfRange
+great_cutter : refusal_of (standing held on_track) (deeds.Cutter (pos 10000010)) ≡ Some cases.OutOfRange
 great_cutter = refl
 
-greatest_cutter : refusal_of (at here on_track) (deeds.Cutter (pos 10000000)) ≡ None
+greatest_cutter : refusal_of (standing held on_track) (deeds.Cutter (pos 10000000)) ≡ None
 greatest_cutter = refl
 
-negative_cutter : refusal_of (at here on_track) (deeds.Cutter (neg_ℤ (pos 10))) ≡ Some cases.OutOfRange
+negative_cutter : refusal_of (standing held on_track) (deeds.Cutter (neg_ℤ (pos 10))) ≡ Some cases.OutOfRange
 negative_cutter = refl
 
-great_tolerance : refusal_of (at here on_track) (deeds.Intol (pos 100010)) ≡ Some cases.OutOfRange
+great_tolerance : refusal_of (standing held on_track) (deeds.Intol (pos 100010)) ≡ Some cases.OutOfRange
 great_tolerance = refl
 
-negative_tolerance : refusal_of (at here on_track) (deeds.Outtol (neg_ℤ (pos 10))) ≡ Some cases.OutOfRange
+negative_tolerance : refusal_of (standing held on_track) (deeds.Outtol (neg_ℤ (pos 10))) ≡ Some cases.OutOfRange
 negative_tolerance = refl
 
 -- half of a tenth is rounded up
-least_feed : refusal_of (at here on_track) (deeds.Fedrat (pos 50000)) ≡ None
+least_feed : refusal_of (standing held on_track) (deeds.Fedrat (pos 50000)) ≡ None
 least_feed = refl
 
-no_feed_at_all : refusal_of (at here on_track) (deeds.Fedrat (pos 49999)) ≡ Some cases.OutOfRange
+no_feed_at_all : refusal_of (standing held on_track) (deeds.Fedrat (pos 49999)) ≡ Some cases.OutOfRange
 no_feed_at_all = refl
 
 -- half of a turn is rounded up, and so is half of a tool
-least_speed : refusal_of (at here on_track) (deeds.Spindl (pos 500000) spins.Ccw) ≡ None
+least_speed : refusal_of (standing held on_track) (deeds.Spindl (pos 500000) spins.Ccw) ≡ None
 least_speed = refl
 
-no_speed_at_all : refusal_of (at here on_track) (deeds.Spindl (pos 499999) spins.Cw) ≡ Some cases.OutOfRange
+no_speed_at_all : refusal_of (standing held on_track) (deeds.Spindl (pos 499999) spins.Cw) ≡ Some cases.OutOfRange
 no_speed_at_all = refl
 
-spindle_off : refusal_of (at here on_track) deeds.SpindlOff ≡ None
+spindle_off : refusal_of (standing held on_track) deeds.SpindlOff ≡ None
 spindle_off = refl
 
-coolant : refusal_of (at here on_track) (deeds.Coolnt cools.Mist) ≡ None
+coolant : refusal_of (standing held on_track) (deeds.Coolnt cools.Mist) ≡ None
 coolant = refl
 
-first_tool : refusal_of (at here on_track) (deeds.Loadtl (pos 500000)) ≡ None
+first_tool : refusal_of (standing held on_track) (deeds.Loadtl (pos 500000)) ≡ None
 first_tool = refl
 
-no_tool : refusal_of (at here on_track) (deeds.Loadtl (pos 499999)) ≡ Some cases.OutOfRange
+no_tool : refusal_of (standing held on_track) (deeds.Loadtl (pos 499999)) ≡ Some cases.OutOfRange
 no_tool = refl
 
 -- ---- moves
 
-from_again : refusal_of (at here on_track) (deeds.FromXy (whole 501) (pos 0) None) ≡ Some cases.FromAgain
+from_again : refusal_of (standing held on_track) (deeds.FromXy (whole 501) (pos 0) None) ≡ Some cases.FromAgain
 from_again = refl
 
-far_from : refusal_of (at here None) (deeds.FromXy (pos 0) (pos 0) (Some (whole 501))) ≡ Some cases.OutOfRange
+far_from : refusal_of (standing held None) (deeds.FromXy (pos 0) (pos 0) (Some (whole 501))) ≡ Some cases.OutOfRange
 far_from = refl
 
-from_point_again : refusal_of (at here on_track) (deeds.FromPoint (codes "B")) ≡ Some cases.FromAgain
+from_point_again : refusal_of (standing held on_track) (deeds.FromPoint (codes "B")) ≡ Some cases.FromAgain
 from_point_again = refl
 
-from_undefined : refusal_of (at here None) (deeds.FromPoint (codes "B")) ≡ Some cases.Undefined
+from_undefined : refusal_of (standing held None) (deeds.FromPoint (codes "B")) ≡ Some cases.Undefined
 from_undefined = refl
 
-from_number : refusal_of (at here None) (deeds.FromPoint (codes "A")) ≡ Some cases.WrongKind
+from_number : refusal_of (standing held None) (deeds.FromPoint (codes "A")) ≡ Some cases.WrongKind
 from_number = refl
 
 -- FROM needs no feed
-from_point : refusal_of (at (record here { feed = pos 0 }) None) (deeds.FromPoint (codes "P1")) ≡ None
+from_point : refusal_of (standing (record held { feed = pos 0 }) None) (deeds.FromPoint (codes "P1")) ≡ None
 from_point = refl
 
-far_goto : refusal_of (at (record here { feed = pos 0 }) None) (deeds.GotoXy (pos 0) (neg_ℤ (whole 501)) None) ≡ Some cases.OutOfRange
+far_goto : refusal_of (standing (record held { feed = pos 0 }) None) (deeds.GotoXy (pos 0) (neg_ℤ (whole 501)) None) ≡ Some cases.OutOfRange
 far_goto = refl
 
-goto_no_feed : refusal_of (at (record here { feed = pos 0 }) None) (deeds.GotoXy (pos 0) (pos 0) None) ≡ Some cases.NoFeed
+goto_no_feed : refusal_of (standing (record held { feed = pos 0 }) None) (deeds.GotoXy (pos 0) (pos 0) None) ≡ Some cases.NoFeed
 goto_no_feed = refl
 
 -- RAPID stands for a feed
-goto_rapid : refusal_of (at (record here { feed = pos 0; rapid = true }) None) (deeds.GotoXy (pos 0) (pos 0) None) ≡ None
+goto_rapid : refusal_of (standing (record held { feed = pos 0; rapid = true }) None) (deeds.GotoXy (pos 0) (pos 0) None) ≡ None
 goto_rapid = refl
 
-goto_undefined : refusal_of (at (record here { feed = pos 0 }) None) (deeds.GotoPoint (codes "B")) ≡ Some cases.Undefined
+goto_undefined : refusal_of (standing (record held { feed = pos 0 }) None) (deeds.GotoPoint (codes "B")) ≡ Some cases.Undefined
 goto_undefined = refl
 
-goto_line : refusal_of (at (record here { feed = pos 0 }) None) (deeds.GotoPoint (codes "L1")) ≡ Some cases.WrongKind
+goto_line : refusal_of (standing (record held { feed = pos 0 }) None) (deeds.GotoPoint (codes "L1")) ≡ Some cases.WrongKind
 goto_line = refl
 
-goto_point_no_feed : refusal_of (at (record here { feed = pos 0 }) None) (deeds.GotoPoint (codes "P1")) ≡ Some cases.NoFeed
+goto_point_no_feed : refusal_of (standing (record held { feed = pos 0 }) None) (deeds.GotoPoint (codes "P1")) ≡ Some cases.NoFeed
 goto_point_no_feed = refl
 
-goto_point_rapid : refusal_of (at (record here { feed = pos 0; rapid = true }) None) (deeds.GotoPoint (codes "P1")) ≡ None
+goto_point_rapid : refusal_of (standing (record held { feed = pos 0; rapid = true }) None) (deeds.GotoPoint (codes "P1")) ≡ None
 goto_point_rapid = refl
 
-godlta_no_from : refusal_of (at (record here { feed = pos 0 }) None) (deeds.Godlta (pos 0) (pos 0) (pos 0)) ≡ Some cases.NoFrom
+godlta_no_from : refusal_of (standing (record held { feed = pos 0 }) None) (deeds.Godlta (pos 0) (pos 0) (pos 0)) ≡ Some cases.NoFrom
 godlta_no_from = refl
 
 -- ---- start-up: one more condition is met at each step
 
-go_no_from : go (at (record here { feed = pos 0 }) None) (codes "B") (codes "A") ≡ Some cases.NoFrom
+go_no_from : go (standing (record held { feed = pos 0 }) None) (codes "B") (codes "A") ≡ Some cases.NoFrom
 go_no_from = refl
 
 -- an unknown name comes before a number, wherever it stands
-go_undefined : go (at (record here { feed = pos 0 }) on_track) (codes "A") (codes "B") ≡ Some cases.Undefined
+go_undefined : go (standing (record held { feed = pos 0 }) on_track) (codes "A") (codes "B") ≡ Some cases.Undefined
 go_undefined = refl
 
-go_wrong_kind : go (at (record here { feed = pos 0 }) on_track) (codes "C1") (codes "P1") ≡ Some cases.WrongKind
+go_wrong_kind : go (standing (record held { feed = pos 0 }) on_track) (codes "C1") (codes "P1") ≡ Some cases.WrongKind
 go_wrong_kind = refl
 
-go_no_feed : go (at (record here { feed = pos 0 }) on_track) (codes "C1") (codes "L1") ≡ Some cases.NoFeed
+go_no_feed : go (standing (record held { feed = pos 0 }) on_track) (codes "C1") (codes "L1") ≡ Some cases.NoFeed
 go_no_feed = refl
 
-go_on_check : go (at here (Some (above (pos 0) (pos 0)))) (codes "L1") (codes "L1") ≡ Some cases.OnCheck
+go_on_check : go (standing held (Some (above (pos 0) (pos 0)))) (codes "L1") (codes "L1") ≡ Some cases.OnCheck
 unfolding start_up_at
 go_on_check = refl
 
 -- ON needs no side
-go_on_both : refusal_of (at here (Some (above (pos 0) (pos 0)))) (deeds.GoStart stops.On (codes "L1") (Some (stops.On, codes "L2"))) ≡ None
+go_on_both : refusal_of (standing held (Some (above (pos 0) (pos 0)))) (deeds.GoStart stops.On (codes "L1") (Some (stops.On, codes "L2"))) ≡ None
 unfolding root start_up_at
 go_on_both = refl
 
-go_parallel : go (at here on_track) (codes "L1") (codes "L3") ≡ Some cases.Parallel
+go_parallel : go (standing held on_track) (codes "L1") (codes "L3") ≡ Some cases.Parallel
 unfolding start_up_at
 go_parallel = refl
 
-go_far : go (at here on_track) (codes "L1") (codes "L4") ≡ Some cases.OutOfRange
+go_far : go (standing held on_track) (codes "L1") (codes "L4") ≡ Some cases.OutOfRange
 unfolding root start_up_at
 go_far = refl
 
-go_fine : go (at here on_track) (codes "L1") (codes "L2") ≡ None
+go_fine : go (standing held on_track) (codes "L1") (codes "L2") ≡ None
 unfolding root start_up_at
 go_fine = refl
 
 -- ---- contours: one more condition is met at each step
 
-no_from : contour (at (record here { feed = pos 0; rapid = true; outtol = pos 7 }) None) turns.Left (codes "B") stops.To (codes "B") ≡ Some cases.NoFrom
+no_from : contour (standing (record held { feed = pos 0; rapid = true; outtol = pos 7 }) None) turns.Left (codes "B") stops.To (codes "B") ≡ Some cases.NoFrom
 no_from = refl
 
-undefined : contour (at (record here { feed = pos 0; rapid = true; outtol = pos 7 }) on_track) turns.Left (codes "B") stops.To (codes "A") ≡ Some cases.Undefined
+undefined : contour (standing (record held { feed = pos 0; rapid = true; outtol = pos 7 }) on_track) turns.Left (codes "B") stops.To (codes "A") ≡ Some cases.Undefined
 undefined = refl
 
 -- a number at the drive surface comes before an unknown check surface
-wrong_kind : contour (at (record here { feed = pos 0; rapid = true; outtol = pos 7 }) on_track) turns.Left (codes "A") stops.To (codes "B") ≡ Some cases.WrongKind
+wrong_kind : contour (standing (record held { feed = pos 0; rapid = true; outtol = pos 7 }) on_track) turns.Left (codes "A") stops.To (codes "B") ≡ Some cases.WrongKind
 wrong_kind = refl
 
-wrong_check : contour (at (record here { feed = pos 0; rapid = true; outtol = pos 7 }) on_track) turns.Left (codes "C1") stops.To (codes "A") ≡ Some cases.WrongKind
+wrong_check : contour (standing (record held { feed = pos 0; rapid = true; outtol = pos 7 }) on_track) turns.Left (codes "C1") stops.To (codes "A") ≡ Some cases.WrongKind
 wrong_check = refl
 
 -- a circle is one like a line, as the drive surface and as the check surface
-round_drive : contour (at (record here { feed = pos 0; rapid = true; outtol = pos 7 }) on_track) turns.Left (codes "C1") stops.To (codes "L2") ≡ Some cases.RapidContour
+round_drive : contour (standing (record held { feed = pos 0; rapid = true; outtol = pos 7 }) on_track) turns.Left (codes "C1") stops.To (codes "L2") ≡ Some cases.RapidContour
 round_drive = refl
 
-round_check : contour (at (record here { feed = pos 0; rapid = true; outtol = pos 7 }) on_track) turns.Left (codes "L1") stops.To (codes "C1") ≡ Some cases.RapidContour
+round_check : contour (standing (record held { feed = pos 0; rapid = true; outtol = pos 7 }) on_track) turns.Left (codes "L1") stops.To (codes "C1") ≡ Some cases.RapidContour
 round_check = refl
 
-rapid_contour : contour (at (record here { feed = pos 0; rapid = true; outtol = pos 7 }) on_track) turns.Left (codes "L1") stops.To (codes "L2") ≡ Some cases.RapidContour
+rapid_contour : contour (standing (record held { feed = pos 0; rapid = true; outtol = pos 7 }) on_track) turns.Left (codes "L1") stops.To (codes "L2") ≡ Some cases.RapidContour
 rapid_contour = refl
 
-no_feed : contour (at (record here { feed = pos 0; outtol = pos 7 }) on_track) turns.Left (codes "L1") stops.To (codes "L2") ≡ Some cases.NoFeed
+no_feed : contour (standing (record held { feed = pos 0; outtol = pos 7 }) on_track) turns.Left (codes "L1") stops.To (codes "L2") ≡ Some cases.NoFeed
 no_feed = refl
 
-too_fine : contour (at (record here { outtol = pos 7 }) on_track) turns.Left (codes "L1") stops.To (codes "L2") ≡ Some cases.TooFine
+too_fine : contour (standing (record held { outtol = pos 7 }) on_track) turns.Left (codes "L1") stops.To (codes "L2") ≡ Some cases.TooFine
 too_fine = refl
 
 -- a grid step on one side is enough
-inward : contour (at (record here { intol = pos 8; outtol = pos 7 }) on_track) turns.Forward (codes "L1") stops.To (codes "L2") ≡ None
+inward : contour (standing (record held { intol = pos 8; outtol = pos 7 }) on_track) turns.Forward (codes "L1") stops.To (codes "L2") ≡ None
 unfolding root
 inward = refl
 
-no_turn : contour (at here (Some (above (pos 0) (pos 0)))) turns.Left (codes "L1") stops.To (codes "L2") ≡ Some cases.NoTurn
+no_turn : contour (standing held (Some (above (pos 0) (pos 0)))) turns.Left (codes "L1") stops.To (codes "L2") ≡ Some cases.NoTurn
 no_turn = refl
 
-off_drive : contour (at here (Some (above (pos 100000) (pos 12504)))) turns.Forward (codes "L1") stops.To (codes "L2") ≡ Some cases.OffDrive
+off_drive : contour (standing held (Some (above (pos 100000) (pos 12504)))) turns.Forward (codes "L1") stops.To (codes "L2") ≡ Some cases.OffDrive
 unfolding root
 off_drive = refl
 
 -- a start may be so far off its track
-near_drive : contour (at here (Some (above (pos 0) (pos 12503)))) turns.Forward (codes "L1") stops.To (codes "L2") ≡ None
+near_drive : contour (standing held (Some (above (pos 0) (pos 12503)))) turns.Forward (codes "L1") stops.To (codes "L2") ≡ None
 unfolding root
 near_drive = refl
 
-on_check : contour (at here (Some (above (pos 100000) (pos 12500)))) turns.Forward (codes "L1") stops.To (codes "L2") ≡ Some cases.OnCheck
+on_check : contour (standing held (Some (above (pos 100000) (pos 12500)))) turns.Forward (codes "L1") stops.To (codes "L2") ≡ Some cases.OnCheck
 unfolding root
 on_check = refl
 
 -- ON asks for no side of the check surface: where the start is on it, the stop lies behind
-on_itself : contour (at here (Some (above (pos 100000) (pos 12500)))) turns.Forward (codes "L1") stops.On (codes "L2") ≡ Some cases.Behind
+on_itself : contour (standing held (Some (above (pos 100000) (pos 12500)))) turns.Forward (codes "L1") stops.On (codes "L2") ≡ Some cases.Behind
 unfolding root
 on_itself = refl
 
-stops_on : contour (at here on_track) turns.Forward (codes "L1") stops.On (codes "L2") ≡ None
+stops_on : contour (standing held on_track) turns.Forward (codes "L1") stops.On (codes "L2") ≡ None
 unfolding root
 stops_on = refl
 
 -- under TLON the start is on the drive surface, not beside it
-beside_drive : contour (at (record here { side = sides.On }) on_track) turns.Forward (codes "L1") stops.On (codes "L2") ≡ Some cases.OffDrive
+beside_drive : contour (standing (record held { side = sides.On }) on_track) turns.Forward (codes "L1") stops.On (codes "L2") ≡ Some cases.OffDrive
 unfolding root
 beside_drive = refl
 
-on_drive : contour (at (record here { side = sides.On }) (Some (above (pos 0) (pos 0)))) turns.Forward (codes "L1") stops.On (codes "L2") ≡ None
+on_drive : contour (standing (record held { side = sides.On }) (Some (above (pos 0) (pos 0)))) turns.Forward (codes "L1") stops.On (codes "L2") ≡ None
 unfolding root
 on_drive = refl
 
 -- no line touches a line
-touches : contour (at here on_track) turns.Forward (codes "L1") stops.Tanto (codes "L2") ≡ Some cases.Parallel
+touches : contour (standing held on_track) turns.Forward (codes "L1") stops.Tanto (codes "L2") ≡ Some cases.Parallel
 unfolding root
 touches = refl
 
-parallel : contour (at here on_track) turns.Forward (codes "L1") stops.To (codes "L3") ≡ Some cases.Parallel
+parallel : contour (standing held on_track) turns.Forward (codes "L1") stops.To (codes "L3") ≡ Some cases.Parallel
 unfolding root
 parallel = refl
 
-turned_back : contour (at here on_track) turns.Back (codes "L1") stops.To (codes "L2") ≡ Some cases.OffDrive
+turned_back : contour (standing held on_track) turns.Back (codes "L1") stops.To (codes "L2") ≡ Some cases.OffDrive
 turned_back = refl
 
-behind : contour (at here (Some (above (pos 200000) (pos 12500)))) turns.Forward (codes "L1") stops.To (codes "L2") ≡ Some cases.Behind
+behind : contour (standing held (Some (above (pos 200000) (pos 12500)))) turns.Forward (codes "L1") stops.To (codes "L2") ≡ Some cases.Behind
 unfolding root
 behind = refl
 
 -- the first line meets the fourth 50000 inches off
-far_contact : contour (at here on_track) turns.Forward (codes "L1") stops.To (codes "L4") ≡ Some cases.OutOfRange
+far_contact : contour (standing held on_track) turns.Forward (codes "L1") stops.To (codes "L4") ≡ Some cases.OutOfRange
 unfolding root
 far_contact = refl
 
-fine : contour (at here on_track) turns.Forward (codes "L1") stops.To (codes "L2") ≡ None
+fine : contour (standing held on_track) turns.Forward (codes "L1") stops.To (codes "L2") ≡ None
 unfolding root
 fine = refl
 
@@ -283,26 +283,26 @@ fine = refl
 abbrev on_circle : Option Position
 on_circle = Some (above (pos 10000) (pos 0))
 
-round_no_turn : contour (at (record here { side = sides.On }) on_circle) turns.Forward (codes "C1") stops.On (codes "L2") ≡ Some cases.NoTurn
+round_no_turn : contour (standing (record held { side = sides.On }) on_circle) turns.Forward (codes "C1") stops.On (codes "L2") ≡ Some cases.NoTurn
 round_no_turn = refl
 
 -- the cutter is wider than the circle
-round_no_room : contour (at here on_circle) turns.Left (codes "C1") stops.On (codes "L1") ≡ Some cases.NoRoom
+round_no_room : contour (standing held on_circle) turns.Left (codes "C1") stops.On (codes "L1") ≡ Some cases.NoRoom
 round_no_room = refl
 
-round_off_drive : contour (at (record here { side = sides.On }) (Some (above (pos 10004) (pos 0)))) turns.Left (codes "C1") stops.On (codes "L1") ≡ Some cases.OffDrive
+round_off_drive : contour (standing (record held { side = sides.On }) (Some (above (pos 10004) (pos 0)))) turns.Left (codes "C1") stops.On (codes "L1") ≡ Some cases.OffDrive
 round_off_drive = refl
 
 -- to circles about the same centre there is no contact
-round_itself : contour (at (record here { side = sides.On }) on_circle) turns.Left (codes "C1") stops.On (codes "C1") ≡ Some cases.Parallel
+round_itself : contour (standing (record held { side = sides.On }) on_circle) turns.Left (codes "C1") stops.On (codes "C1") ≡ Some cases.Parallel
 unfolding root
 round_itself = refl
 
-round_apart : contour (at (record here { side = sides.On }) on_circle) turns.Left (codes "C1") stops.On (codes "L2") ≡ Some cases.NoContact
+round_apart : contour (standing (record held { side = sides.On }) on_circle) turns.Left (codes "C1") stops.On (codes "L2") ≡ Some cases.NoContact
 unfolding root
 round_apart = refl
 
 -- half round, from the line through its centre to the same line
-round_fine : contour (at (record here { side = sides.On }) on_circle) turns.Left (codes "C1") stops.On (codes "L1") ≡ None
+round_fine : contour (standing (record held { side = sides.On }) on_circle) turns.Left (codes "C1") stops.On (codes "L1") ≡ None
 unfolding root
 round_fine = refl

@@ -41,8 +41,8 @@ cutting r = record first_settings { radius = r; feed = pos 100 }
 abbrev with : Settings → ℤ → ℤ → Situation
 with s x y = record { settings = s; position = Some (position_at x y (pos 300)); forward = record { dx = pos 1; dy = pos 0 }; table = table }
 
-abbrev at : ℤ → ℤ → ℤ → Situation
-at r x y = with (cutting r) x y
+abbrev standing : ℤ → ℤ → ℤ → Situation
+standing r x y = with (cutting r) x y
 
 abbrev starts_at : ℤ → ℤ → Option Effect
 starts_at x y = Some (effects.Moves reaches.Start (position_at x y (pos 300)))
@@ -61,64 +61,64 @@ two_refused situation how name stop other = refusal_of situation (deeds.GoStart 
 
 -- ---- one line: straight to it
 
-to_line : one (at (pos 500) (pos 700) (pos 3000)) stops.To (codes "L") ≡ starts_at (pos 700) (pos 500)
+to_line : one (standing (pos 500) (pos 700) (pos 3000)) stops.To (codes "L") ≡ starts_at (pos 700) (pos 500)
 unfolding root start_up_at
 to_line = refl
 
-on_line : one (at (pos 500) (pos 700) (pos 3000)) stops.On (codes "L") ≡ starts_at (pos 700) (pos 0)
+on_line : one (standing (pos 500) (pos 700) (pos 3000)) stops.On (codes "L") ≡ starts_at (pos 700) (pos 0)
 unfolding root start_up_at
 on_line = refl
 
-past_line : one (at (pos 500) (pos 700) (pos 3000)) stops.Past (codes "L") ≡ starts_at (pos 700) (neg_ℤ (pos 500))
+past_line : one (standing (pos 500) (pos 700) (pos 3000)) stops.Past (codes "L") ≡ starts_at (pos 700) (neg_ℤ (pos 500))
 unfolding root start_up_at
 past_line = refl
 
 -- ---- one circle: along the ray from its centre, from which the ray is taken to the right
 
-from_outside : one (at (pos 250) (pos 3000) (pos 4000)) stops.To (codes "C") ≡ starts_at (pos 750) (pos 1000)
+from_outside : one (standing (pos 250) (pos 3000) (pos 4000)) stops.To (codes "C") ≡ starts_at (pos 750) (pos 1000)
 unfolding root start_up_at
 from_outside = refl
 
-past_from_outside : one (at (pos 250) (pos 3000) (pos 4000)) stops.Past (codes "C") ≡ starts_at (pos 450) (pos 600)
+past_from_outside : one (standing (pos 250) (pos 3000) (pos 4000)) stops.Past (codes "C") ≡ starts_at (pos 450) (pos 600)
 unfolding root start_up_at
 past_from_outside = refl
 
-from_inside : one (at (pos 250) (pos 300) (pos 400)) stops.To (codes "C") ≡ starts_at (pos 450) (pos 600)
+from_inside : one (standing (pos 250) (pos 300) (pos 400)) stops.To (codes "C") ≡ starts_at (pos 450) (pos 600)
 unfolding root start_up_at
 from_inside = refl
 
-from_centre : one (at (pos 250) (pos 0) (pos 0)) stops.To (codes "C") ≡ starts_at (pos 750) (pos 0)
+from_centre : one (standing (pos 250) (pos 0) (pos 0)) stops.To (codes "C") ≡ starts_at (pos 750) (pos 0)
 unfolding root start_up_at
 from_centre = refl
 
-on_from_centre : one (at (pos 250) (pos 0) (pos 0)) stops.On (codes "C") ≡ starts_at (pos 1000) (pos 0)
+on_from_centre : one (standing (pos 250) (pos 0) (pos 0)) stops.On (codes "C") ≡ starts_at (pos 1000) (pos 0)
 unfolding root start_up_at
 on_from_centre = refl
 
 -- ---- two surfaces: the nearer contact
 
-line_and_circle : two (at (pos 250) (neg_ℤ (pos 10)) (pos 500)) stops.On (codes "L") stops.On (codes "C") ≡ starts_at (neg_ℤ (pos 1000)) (pos 0)
+line_and_circle : two (standing (pos 250) (neg_ℤ (pos 10)) (pos 500)) stops.On (codes "L") stops.On (codes "C") ≡ starts_at (neg_ℤ (pos 1000)) (pos 0)
 unfolding root start_up_at
 line_and_circle = refl
 
-circle_and_line : two (at (pos 250) (pos 10) (pos 500)) stops.On (codes "C") stops.On (codes "L") ≡ starts_at (pos 1000) (pos 0)
+circle_and_line : two (standing (pos 250) (pos 10) (pos 500)) stops.On (codes "C") stops.On (codes "L") ≡ starts_at (pos 1000) (pos 0)
 unfolding root start_up_at
 circle_and_line = refl
 
 -- both contacts are equally near: the one on the right of the way from the first circle to the second
-as_near : two (at (pos 0) (pos 1000) (pos 0)) stops.On (codes "IN") stops.On (codes "ACROSS") ≡ starts_at (pos 300) (neg_ℤ (pos 400))
+as_near : two (standing (pos 0) (pos 1000) (pos 0)) stops.On (codes "IN") stops.On (codes "ACROSS") ≡ starts_at (pos 300) (neg_ℤ (pos 400))
 unfolding root start_up_at
 as_near = refl
 
-exchanged : two (at (pos 0) (pos 1000) (pos 0)) stops.On (codes "ACROSS") stops.On (codes "IN") ≡ starts_at (pos 300) (pos 400)
+exchanged : two (standing (pos 0) (pos 1000) (pos 0)) stops.On (codes "ACROSS") stops.On (codes "IN") ≡ starts_at (pos 300) (pos 400)
 unfolding root start_up_at
 exchanged = refl
 
-nearer_above : two (at (pos 0) (pos 1000) (pos 1)) stops.On (codes "IN") stops.On (codes "ACROSS") ≡ starts_at (pos 300) (pos 400)
+nearer_above : two (standing (pos 0) (pos 1000) (pos 1)) stops.On (codes "IN") stops.On (codes "ACROSS") ≡ starts_at (pos 300) (pos 400)
 unfolding root start_up_at
 nearer_above = refl
 
-touching : two (at (pos 0) (pos 300) (pos 400)) stops.On (codes "IN") stops.On (codes "TOUCH") ≡ starts_at (pos 500) (pos 0)
+touching : two (standing (pos 0) (pos 300) (pos 400)) stops.On (codes "IN") stops.On (codes "TOUCH") ≡ starts_at (pos 500) (pos 0)
 unfolding root start_up_at
 touching = refl
 
@@ -134,41 +134,41 @@ no_feed : one_refused (with (record first_settings { radius = pos 901 }) (pos 30
 no_feed = refl
 
 -- 99 are left of the circle, and 100 are enough
-no_room : one_refused (at (pos 901) (pos 300) (pos 400)) stops.To (codes "C") ≡ Some cases.NoRoom
+no_room : one_refused (standing (pos 901) (pos 300) (pos 400)) stops.To (codes "C") ≡ Some cases.NoRoom
 unfolding start_up_at
 no_room = refl
 
-room : one_refused (at (pos 900) (pos 300) (pos 400)) stops.To (codes "C") ≡ None
+room : one_refused (standing (pos 900) (pos 300) (pos 400)) stops.To (codes "C") ≡ None
 unfolding root start_up_at
 room = refl
 
 -- the room at the second surface comes before the start on the first
-no_room_first : two_refused (at (pos 901) (pos 300) (pos 0)) stops.To (codes "L") stops.To (codes "C") ≡ Some cases.NoRoom
+no_room_first : two_refused (standing (pos 901) (pos 300) (pos 0)) stops.To (codes "L") stops.To (codes "C") ≡ Some cases.NoRoom
 unfolding start_up_at
 no_room_first = refl
 
-on_check : one_refused (at (pos 250) (pos 600) (pos 800)) stops.To (codes "C") ≡ Some cases.OnCheck
+on_check : one_refused (standing (pos 250) (pos 600) (pos 800)) stops.To (codes "C") ≡ Some cases.OnCheck
 unfolding start_up_at
 on_check = refl
 
-on_second : two_refused (at (pos 250) (pos 600) (pos 800)) stops.On (codes "L") stops.Past (codes "C") ≡ Some cases.OnCheck
+on_second : two_refused (standing (pos 250) (pos 600) (pos 800)) stops.On (codes "L") stops.Past (codes "C") ≡ Some cases.OnCheck
 unfolding start_up_at
 on_second = refl
 
 -- ON needs no side
-on_itself : one (at (pos 250) (pos 600) (pos 800)) stops.On (codes "C") ≡ starts_at (pos 600) (pos 800)
+on_itself : one (standing (pos 250) (pos 600) (pos 800)) stops.On (codes "C") ≡ starts_at (pos 600) (pos 800)
 unfolding root start_up_at
 on_itself = refl
 
-parallel : two_refused (at (pos 0) (pos 300) (pos 400)) stops.On (codes "C") stops.On (codes "IN") ≡ Some cases.Parallel
+parallel : two_refused (standing (pos 0) (pos 300) (pos 400)) stops.On (codes "C") stops.On (codes "IN") ≡ Some cases.Parallel
 unfolding root start_up_at
 parallel = refl
 
-no_contact : two_refused (at (pos 0) (pos 300) (pos 400)) stops.On (codes "IN") stops.On (codes "OFF") ≡ Some cases.NoContact
+no_contact : two_refused (standing (pos 0) (pos 300) (pos 400)) stops.On (codes "IN") stops.On (codes "OFF") ≡ Some cases.NoContact
 unfolding root start_up_at
 no_contact = refl
 
 -- straight on to the far line, and just over the coordinate limit
-out_of_range : one_refused (at (pos 0) (pos 50000000) (pos 50000000)) stops.On (codes "FAR") ≡ Some cases.OutOfRange
+out_of_range : one_refused (standing (pos 0) (pos 50000000) (pos 50000000)) stops.On (codes "FAR") ≡ Some cases.OutOfRange
 unfolding root start_up_at
 out_of_range = refl

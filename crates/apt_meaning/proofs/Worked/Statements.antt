@@ -43,12 +43,12 @@ across = line (pos 0) (pos 0) (pos 100000) (pos 0)
 abbrev up : Surface
 up = line (pos 100000) (pos 0) (pos 0) (pos 100000)
 
-abbrev here : Settings
-here = record first_settings { radius = pos 12500; side = sides.Left; feed = pos 100 }
+abbrev held : Settings
+held = record first_settings { radius = pos 12500; side = sides.Left; feed = pos 100 }
 
-abbrev at : Situation
-at = record {
-  settings = here;
+abbrev standing : Situation
+standing = record {
+  settings = held;
   position = Some (position_at (pos 0) (pos 12500) (pos 300));
   forward = record { dx = pos 1; dy = pos 0 };
   table = (codes "L1", figures.Shape across) ∷ (codes "L2", figures.Shape up) ∷ (codes "P1", figures.Point (record { x = pos 400000; y = pos 0 }) (pos 50)) ∷ [];
@@ -60,10 +60,10 @@ whole n = pos (n * 1000000)
 
 -- the settings and the records behind what a step asks for that has no vertices
 abbrev behind : Effect → Settings × List Record
-behind e = ((after at e []).settings, effect_records e [])
+behind e = ((after standing e []).settings, effect_records e [])
 
 abbrev told : Deed → Option (Settings × List Record)
-told deed = option_map behind (effect_of at deed)
+told deed = option_map behind (effect_of standing deed)
 
 abbrev sets : Settings → Option (Settings × List Record)
 sets s = Some (s, [])
@@ -76,70 +76,70 @@ moves reach to = Some (effects.Moves reach to)
 
 -- ---- the part and its settings
 
-partno : told (deeds.Partno (codes "A")) ≡ says here (notes.Partno (codes "A"))
+partno : told (deeds.Partno (codes "A")) ≡ says held (notes.Partno (codes "A"))
 partno = refl
 
-remark : told (deeds.Remark (codes "A")) ≡ sets here
+remark : told (deeds.Remark (codes "A")) ≡ sets held
 remark = refl
 
-units : told (deeds.Units the_units.Mm) ≡ says (record here { units = the_units.Mm }) (notes.Units the_units.Mm)
+units : told (deeds.Units the_units.Mm) ≡ says (record held { units = the_units.Mm }) (notes.Units the_units.Mm)
 units = refl
 
-clprnt : told deeds.Clprnt ≡ sets here
+clprnt : told deeds.Clprnt ≡ sets held
 clprnt = refl
 
-nopost : told deeds.Nopost ≡ sets here
+nopost : told deeds.Nopost ≡ sets held
 nopost = refl
 
-machin : told deeds.Machin ≡ sets here
+machin : told deeds.Machin ≡ sets held
 machin = refl
 
 -- the diameter is in grid units, and half of an odd one is rounded up
-cutter : told (deeds.Cutter (pos 70)) ≡ says (record here { radius = pos 4 }) (notes.Cutter (pos 7))
+cutter : told (deeds.Cutter (pos 70)) ≡ says (record held { radius = pos 4 }) (notes.Cutter (pos 7))
 cutter = refl
 
-intol : told (deeds.Intol (pos 1000)) ≡ says (record here { intol = pos 100 }) (notes.Intol (pos 100))
+intol : told (deeds.Intol (pos 1000)) ≡ says (record held { intol = pos 100 }) (notes.Intol (pos 100))
 intol = refl
 
-outtol : told (deeds.Outtol (pos 1000)) ≡ says (record here { outtol = pos 100 }) (notes.Outtol (pos 100))
+outtol : told (deeds.Outtol (pos 1000)) ≡ says (record held { outtol = pos 100 }) (notes.Outtol (pos 100))
 outtol = refl
 
-tool : told (deeds.Tool sides.Right) ≡ sets (record here { side = sides.Right })
+tool : told (deeds.Tool sides.Right) ≡ sets (record held { side = sides.Right })
 tool = refl
 
-tool_on : told (deeds.Tool sides.On) ≡ sets (record here { side = sides.On })
+tool_on : told (deeds.Tool sides.On) ≡ sets (record held { side = sides.On })
 tool_on = refl
 
 -- ---- moves
 
-from_xy : effect_of at (deeds.FromXy (whole 1) (whole 2) (Some (whole 3))) ≡ moves reaches.From (position_at (pos 100000) (pos 200000) (pos 300000))
+from_xy : effect_of standing (deeds.FromXy (whole 1) (whole 2) (Some (whole 3))) ≡ moves reaches.From (position_at (pos 100000) (pos 200000) (pos 300000))
 from_xy = refl
 
 -- the height is 0 where it is left out
-goto_xy : effect_of at (deeds.GotoXy (whole 1) (neg_ℤ (whole 2)) None) ≡ moves reaches.Goto (position_at (pos 100000) (neg_ℤ (pos 200000)) (pos 0))
+goto_xy : effect_of standing (deeds.GotoXy (whole 1) (neg_ℤ (whole 2)) None) ≡ moves reaches.Goto (position_at (pos 100000) (neg_ℤ (pos 200000)) (pos 0))
 goto_xy = refl
 
 -- at the height of the point
-from_point : effect_of at (deeds.FromPoint (codes "P1")) ≡ moves reaches.From (position_at (pos 400000) (pos 0) (pos 50))
+from_point : effect_of standing (deeds.FromPoint (codes "P1")) ≡ moves reaches.From (position_at (pos 400000) (pos 0) (pos 50))
 from_point = refl
 
-goto_point : effect_of at (deeds.GotoPoint (codes "P1")) ≡ moves reaches.Goto (position_at (pos 400000) (pos 0) (pos 50))
+goto_point : effect_of standing (deeds.GotoPoint (codes "P1")) ≡ moves reaches.Goto (position_at (pos 400000) (pos 0) (pos 50))
 goto_point = refl
 
-godlta : effect_of at (deeds.Godlta (whole 1) (pos 0) (neg_ℤ (pos 1000))) ≡ moves reaches.Godlta (position_at (pos 100000) (pos 12500) (pos 200))
+godlta : effect_of standing (deeds.Godlta (whole 1) (pos 0) (neg_ℤ (pos 1000))) ≡ moves reaches.Godlta (position_at (pos 100000) (pos 12500) (pos 200))
 godlta = refl
 
 -- to both lines on the side of the position, at its height
-go_start : effect_of at (deeds.GoStart stops.To (codes "L1") (Some (stops.Past, codes "L2"))) ≡ moves reaches.Start (position_at (pos 112500) (pos 12500) (pos 300))
+go_start : effect_of standing (deeds.GoStart stops.To (codes "L1") (Some (stops.Past, codes "L2"))) ≡ moves reaches.Start (position_at (pos 112500) (pos 12500) (pos 300))
 unfolding root start_up_at
 go_start = refl
 
 -- ON: to a line itself
-go_on_one : effect_of at (deeds.GoStart stops.On (codes "L1") (Some (stops.Past, codes "L2"))) ≡ moves reaches.Start (position_at (pos 112500) (pos 0) (pos 300))
+go_on_one : effect_of standing (deeds.GoStart stops.On (codes "L1") (Some (stops.Past, codes "L2"))) ≡ moves reaches.Start (position_at (pos 112500) (pos 0) (pos 300))
 unfolding root start_up_at
 go_on_one = refl
 
-go_on_both : effect_of at (deeds.GoStart stops.On (codes "L1") (Some (stops.On, codes "L2"))) ≡ moves reaches.Start (position_at (pos 100000) (pos 0) (pos 300))
+go_on_both : effect_of standing (deeds.GoStart stops.On (codes "L1") (Some (stops.On, codes "L2"))) ≡ moves reaches.Start (position_at (pos 100000) (pos 0) (pos 300))
 unfolding root start_up_at
 go_on_both = refl
 
@@ -158,19 +158,19 @@ along side = record {
   outer = pos 50;
 }
 
-contour : effect_of at (deeds.Contour None turns.Forward (codes "L1") stops.To (codes "L2")) ≡ Some (effects.Cuts (along sides.Left))
+contour : effect_of standing (deeds.Contour None turns.Forward (codes "L1") stops.To (codes "L2")) ≡ Some (effects.Cuts (along sides.Left))
 unfolding root motion_at
 contour = refl
 
 -- the side of the cutter may be given with the motion
-contour_right : effect_of at (deeds.Contour (Some sides.Right) turns.Forward (codes "L1") stops.To (codes "L2")) ≡ Some (effects.Cuts (along sides.Right))
+contour_right : effect_of standing (deeds.Contour (Some sides.Right) turns.Forward (codes "L1") stops.To (codes "L2")) ≡ Some (effects.Cuts (along sides.Right))
 unfolding root motion_at
 contour_right = refl
 
 abbrev stopping : Stop → Side → Motion
 stopping how side = record (along side) { how = how }
 
-contour_on : effect_of at (deeds.Contour (Some sides.On) turns.Forward (codes "L1") stops.On (codes "L2")) ≡ Some (effects.Cuts (stopping stops.On sides.On))
+contour_on : effect_of standing (deeds.Contour (Some sides.On) turns.Forward (codes "L1") stops.On (codes "L2")) ≡ Some (effects.Cuts (stopping stops.On sides.On))
 unfolding root motion_at
 contour_on = refl
 
@@ -193,64 +193,64 @@ on_line_beside = refl
 
 -- ---- commands
 
-rapid : told deeds.Rapid ≡ says (record here { rapid = true }) notes.Rapid
+rapid : told deeds.Rapid ≡ says (record held { rapid = true }) notes.Rapid
 rapid = refl
 
-halt : told deeds.Halt ≡ says here notes.Stop
+halt : told deeds.Halt ≡ says held notes.Stop
 halt = refl
 
-opt_halt : told deeds.OptHalt ≡ says here notes.OptStop
+opt_halt : told deeds.OptHalt ≡ says held notes.OptStop
 opt_halt = refl
 
-end_word : told deeds.EndWord ≡ says here notes.End
+end_word : told deeds.EndWord ≡ says held notes.End
 end_word = refl
 
-fini : told deeds.Fini ≡ says here notes.Fini
+fini : told deeds.Fini ≡ says held notes.Fini
 fini = refl
 
 -- in tenths of an inch per minute
-fedrat : told (deeds.Fedrat (pos 12350000)) ≡ says (record here { feed = pos 124 }) (notes.Feed (pos 124))
+fedrat : told (deeds.Fedrat (pos 12350000)) ≡ says (record held { feed = pos 124 }) (notes.Feed (pos 124))
 fedrat = refl
 
 -- in turns per minute, to the nearest
-spindl : told (deeds.Spindl (pos 1200500000) spins.Cw) ≡ says here (notes.Spindle spins.Cw (pos 1201))
+spindl : told (deeds.Spindl (pos 1200500000) spins.Cw) ≡ says held (notes.Spindle spins.Cw (pos 1201))
 spindl = refl
 
-spindl_counterclockwise : told (deeds.Spindl (pos 700499999) spins.Ccw) ≡ says here (notes.Spindle spins.Ccw (pos 700))
+spindl_counterclockwise : told (deeds.Spindl (pos 700499999) spins.Ccw) ≡ says held (notes.Spindle spins.Ccw (pos 700))
 spindl_counterclockwise = refl
 
-spindl_off : told deeds.SpindlOff ≡ says here (notes.Spindle spins.Off (pos 0))
+spindl_off : told deeds.SpindlOff ≡ says held (notes.Spindle spins.Off (pos 0))
 spindl_off = refl
 
-coolnt : told (deeds.Coolnt cools.Mist) ≡ says here (notes.Coolant cools.Mist)
+coolnt : told (deeds.Coolnt cools.Mist) ≡ says held (notes.Coolant cools.Mist)
 coolnt = refl
 
-loadtl : told (deeds.Loadtl (pos 7000000)) ≡ says here (notes.Tool (pos 7))
+loadtl : told (deeds.Loadtl (pos 7000000)) ≡ says held (notes.Tool (pos 7))
 loadtl = refl
 
 -- no text gives a number with a spindle that stands: it stands
-spindl_standing : told (deeds.Spindl (pos 7000000) spins.Off) ≡ says here (notes.Spindle spins.Off (pos 0))
+spindl_standing : told (deeds.Spindl (pos 7000000) spins.Off) ≡ says held (notes.Spindle spins.Off (pos 0))
 spindl_standing = refl
 
-macro : told deeds.Macro ≡ sets here
+macro : told deeds.Macro ≡ sets held
 macro = refl
 
 -- ---- macros, loops and jumps: they change nothing but where the run goes on
 
-termac : told deeds.Termac ≡ sets here
+termac : told deeds.Termac ≡ sets held
 termac = refl
 
-call : told deeds.Call ≡ sets here
+call : told deeds.Call ≡ sets held
 call = refl
 
-loopst : told deeds.Loopst ≡ sets here
+loopst : told deeds.Loopst ≡ sets held
 loopst = refl
 
-loopnd : told deeds.Loopnd ≡ sets here
+loopnd : told deeds.Loopnd ≡ sets held
 loopnd = refl
 
-jumpto : told deeds.Jumpto ≡ sets here
+jumpto : told deeds.Jumpto ≡ sets held
 jumpto = refl
 
-if_word : told deeds.If ≡ sets here
+if_word : told deeds.If ≡ sets held
 if_word = refl

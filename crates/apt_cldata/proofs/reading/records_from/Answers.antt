@@ -1,6 +1,7 @@
 use Rattle.std.proofs.Common.{◌≡◌, ◌+◌, ◌≤◌, length, drop, ◌==◌, true, false, [], ◌∷◌, ◌++◌, Ok, ap, sym, ◌∙◌, subst, arith}
 use Rattle.std.proofs.lemmas.List.{take_rest, length-drop}
 use Rattle.std.proofs.lemmas.Result.{err_from_is_err_and}
+use Rattle.apt_words.specs.Answers.{IsFault}
 use Rattle.apt_cldata.specs.Files.{is_fini}
 use Rattle.apt_cldata.specs.Reading as spec
 use Rattle.apt_cldata.proofs.Stands.{Stands, stands_first, stands_more, whole_is_done, whole_goes_on, whole_is_error}
@@ -56,4 +57,4 @@ returns-in_err-record c =
     let whole = spec.records_from (c.args.start + length c.args.bytes.now) 1 c.args.start c.args.bytes.now in
     let error = err_from_is_err_and c.from_residual.result c.from_residual.ensures.1 in
     let is = whole_is_error c.records.records.items c.records.seq c.records.at c.records.rest.now whole c.in_err-record.field-0.0 c.records.invariant.stands c.in_err-record.ensures.value in
-    rw (error.1) (subst (spec.IsFault whole) (sym error.2) is)
+    rw (error.1) (subst (IsFault spec.told whole) (sym error.2) is)

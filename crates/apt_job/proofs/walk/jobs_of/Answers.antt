@@ -13,62 +13,62 @@ gives_name-requires-clause-passes c =
     let i = c.steps.st-index in
     let st = c.st-item.result in
     let split : drop i xs ≡ st ∷ drop (i + 1) xs = drop_more xs i st c.steps-test.true ∙ ap (λ x. x ∷ drop (i + 1) xs) (sym c.st-item.is) in
-    let walk = subst (IsWalk xs c.args.records.now c.steps.at c.steps.rest.now c.steps.jobs.items) split c.steps.invariant in
-    λ case. walk_unrefused xs c.args.records.now c.steps.at c.steps.rest.now c.steps.jobs.items st (drop (i + 1) xs) case walk
+    let walk = subst (IsWalk xs c.args.records.now c.steps.here c.steps.rest.now c.steps.jobs.items) split c.steps.invariant in
+    λ case. walk_unrefused xs c.args.records.now c.steps.here c.steps.rest.now c.steps.jobs.items st (drop (i + 1) xs) case walk
 
 pub steps-preserved-then-branch : goal.steps-preserved-then-branch
 steps-preserved-then-branch c =
     let xs = c.args.steps.now in
     let i = c.steps.st-index in
     let st = c.st-item.result in
-    let at = c.gives_name.new.at in
+    let here = c.gives_name.new.here in
     let split : drop i xs ≡ st ∷ drop (i + 1) xs = drop_more xs i st c.steps-test.true ∙ ap (λ x. x ∷ drop (i + 1) xs) (sym c.st-item.is) in
-    let named = subst (HasNamed c.steps.at st.deed at) c.if-branch.true c.in_ok-gives_name.ensures.ok in
-    let walk = subst (IsWalk xs c.args.records.now c.steps.at c.steps.rest.now c.steps.jobs.items) split c.steps.invariant in
-    walk_named xs c.args.records.now c.steps.at c.steps.rest.now c.steps.jobs.items st (drop (i + 1) xs) at walk named
+    let named = subst (HasNamed c.steps.here st.deed here) c.if-branch.true c.in_ok-gives_name.ensures.ok in
+    let walk = subst (IsWalk xs c.args.records.now c.steps.here c.steps.rest.now c.steps.jobs.items) split c.steps.invariant in
+    walk_named xs c.args.records.now c.steps.here c.steps.rest.now c.steps.jobs.items st (drop (i + 1) xs) here walk named
 
 pub returns-in-Err-clause-entry : goal.returns-in-Err-clause-entry
 returns-in-Err-clause-entry c =
     let xs = c.args.steps.now in
     let i = c.steps.st-index in
     let st = c.st-item.result in
-    let at = c.gives_name.new.at in
+    let here = c.gives_name.new.here in
     let written = c.args.records.now in
     let split : drop i xs ≡ st ∷ drop (i + 1) xs = drop_more xs i st c.steps-test.true ∙ ap (λ x. x ∷ drop (i + 1) xs) (sym c.st-item.is) in
-    let named = subst (HasNamed c.steps.at st.deed at) c.if-branch.false c.in_ok-gives_name.ensures.ok in
-    let walk = walk_waits xs written c.steps.at c.steps.rest.now c.steps.jobs.items st.deed (st ∷ drop (i + 1) xs) at (subst (IsWalk xs written c.steps.at c.steps.rest.now c.steps.jobs.items) split c.steps.invariant) named in
+    let named = subst (HasNamed c.steps.here st.deed here) c.if-branch.false c.in_ok-gives_name.ensures.ok in
+    let walk = walk_waits xs written c.steps.here c.steps.rest.now c.steps.jobs.items st.deed (st ∷ drop (i + 1) xs) here (subst (IsWalk xs written c.steps.here c.steps.rest.now c.steps.jobs.items) split c.steps.invariant) named in
     subst (IsEntry xs written) (sym c.entry.ensures)
-    (walk_departs xs written at c.steps.rest.now c.steps.jobs.items st (drop (i + 1) xs) c.in_ok-found.found c.in-Err.fitting walk c.in_ok-found.ensures.value c.in-Err.ensures.taken)
+    (walk_departs xs written here c.steps.rest.now c.steps.jobs.items st (drop (i + 1) xs) c.in_ok-found.found c.in-Err.fitting walk c.in_ok-found.ensures.value c.in-Err.ensures.taken)
 
 pub take-requires-clause-effect : goal.take-requires-clause-effect
 take-requires-clause-effect c =
     let xs = c.args.steps.now in
     let i = c.steps.st-index in
     let st = c.st-item.result in
-    let at = c.gives_name.new.at in
+    let here = c.gives_name.new.here in
     let e = c.in-Some.found in
     let vertices = points_at c.in-Ok.front.vertices.now in
     let later = c.in-Ok.front.rest.now in
     let split : drop i xs ≡ st ∷ drop (i + 1) xs = drop_more xs i st c.steps-test.true ∙ ap (λ x. x ∷ drop (i + 1) xs) (sym c.st-item.is) in
-    let named = subst (HasNamed c.steps.at st.deed at) c.if-branch.false c.in_ok-gives_name.ensures.ok in
-    let walk = walk_waits xs c.args.records.now c.steps.at c.steps.rest.now c.steps.jobs.items st.deed (st ∷ drop (i + 1) xs) at (subst (IsWalk xs c.args.records.now c.steps.at c.steps.rest.now c.steps.jobs.items) split c.steps.invariant) named in
+    let named = subst (HasNamed c.steps.here st.deed here) c.if-branch.false c.in_ok-gives_name.ensures.ok in
+    let walk = walk_waits xs c.args.records.now c.steps.here c.steps.rest.now c.steps.jobs.items st.deed (st ∷ drop (i + 1) xs) here (subst (IsWalk xs c.args.records.now c.steps.here c.steps.rest.now c.steps.jobs.items) split c.steps.invariant) named in
     let stands = stands_first st c.in_ok-found.found e c.steps.rest.now vertices later c.in-Ok.ensures.taken c.in-Some.is in
-    (steps_in xs c.args.records.now at c.steps.rest.now c.steps.jobs.items st (drop (i + 1) xs) e vertices later walk (sym c.in_ok-found.ensures.value ∙ c.in-Some.is) stands).good
+    (steps_in xs c.args.records.now here c.steps.rest.now c.steps.jobs.items st (drop (i + 1) xs) e vertices later walk (sym c.in_ok-found.ensures.value ∙ c.in-Some.is) stands).good
 
 pub take-requires-clause-vertices : goal.take-requires-clause-vertices
 take-requires-clause-vertices c =
     let xs = c.args.steps.now in
     let i = c.steps.st-index in
     let st = c.st-item.result in
-    let at = c.gives_name.new.at in
+    let here = c.gives_name.new.here in
     let e = c.in-Some.found in
     let vertices = points_at c.in-Ok.front.vertices.now in
     let later = c.in-Ok.front.rest.now in
     let split : drop i xs ≡ st ∷ drop (i + 1) xs = drop_more xs i st c.steps-test.true ∙ ap (λ x. x ∷ drop (i + 1) xs) (sym c.st-item.is) in
-    let named = subst (HasNamed c.steps.at st.deed at) c.if-branch.false c.in_ok-gives_name.ensures.ok in
-    let walk = walk_waits xs c.args.records.now c.steps.at c.steps.rest.now c.steps.jobs.items st.deed (st ∷ drop (i + 1) xs) at (subst (IsWalk xs c.args.records.now c.steps.at c.steps.rest.now c.steps.jobs.items) split c.steps.invariant) named in
+    let named = subst (HasNamed c.steps.here st.deed here) c.if-branch.false c.in_ok-gives_name.ensures.ok in
+    let walk = walk_waits xs c.args.records.now c.steps.here c.steps.rest.now c.steps.jobs.items st.deed (st ∷ drop (i + 1) xs) here (subst (IsWalk xs c.args.records.now c.steps.here c.steps.rest.now c.steps.jobs.items) split c.steps.invariant) named in
     let stands = stands_first st c.in_ok-found.found e c.steps.rest.now vertices later c.in-Ok.ensures.taken c.in-Some.is in
-    (steps_in xs c.args.records.now at c.steps.rest.now c.steps.jobs.items st (drop (i + 1) xs) e vertices later walk (sym c.in_ok-found.ensures.value ∙ c.in-Some.is) stands).within
+    (steps_in xs c.args.records.now here c.steps.rest.now c.steps.jobs.items st (drop (i + 1) xs) e vertices later walk (sym c.in_ok-found.ensures.value ∙ c.in-Some.is) stands).within
 
 pub take-requires-clause-may : goal.take-requires-clause-may
 take-requires-clause-may c =
@@ -79,29 +79,29 @@ steps-preserved c =
     let xs = c.args.steps.now in
     let i = c.steps.st-index in
     let st = c.st-item.result in
-    let at = c.gives_name.new.at in
+    let here = c.gives_name.new.here in
     let written = c.args.records.now in
     let e = c.in-Some.found in
     let vertices = points_at c.in-Ok.front.vertices.now in
     let later = c.in-Ok.front.rest.now in
     let split : drop i xs ≡ st ∷ drop (i + 1) xs = drop_more xs i st c.steps-test.true ∙ ap (λ x. x ∷ drop (i + 1) xs) (sym c.st-item.is) in
-    let named = subst (HasNamed c.steps.at st.deed at) c.if-branch.false c.in_ok-gives_name.ensures.ok in
-    let walk = walk_waits xs written c.steps.at c.steps.rest.now c.steps.jobs.items st.deed (st ∷ drop (i + 1) xs) at (subst (IsWalk xs written c.steps.at c.steps.rest.now c.steps.jobs.items) split c.steps.invariant) named in
+    let named = subst (HasNamed c.steps.here st.deed here) c.if-branch.false c.in_ok-gives_name.ensures.ok in
+    let walk = walk_waits xs written c.steps.here c.steps.rest.now c.steps.jobs.items st.deed (st ∷ drop (i + 1) xs) here (subst (IsWalk xs written c.steps.here c.steps.rest.now c.steps.jobs.items) split c.steps.invariant) named in
     let stands = stands_first st c.in_ok-found.found e c.steps.rest.now vertices later c.in-Ok.ensures.taken c.in-Some.is in
-    let on = walk_on xs written at c.steps.rest.now c.steps.jobs.items st (drop (i + 1) xs) e vertices later walk (sym c.in_ok-found.ensures.value ∙ c.in-Some.is) stands in
+    let on = walk_on xs written here c.steps.rest.now c.steps.jobs.items st (drop (i + 1) xs) e vertices later walk (sym c.in_ok-found.ensures.value ∙ c.in-Some.is) stands in
     rw (c.in_ok-take.ensures.after, c.in_ok-take.ensures.jobs) on
 
 pub returns-then-is_empty-clause-jobs : goal.returns-then-is_empty-clause-jobs
 returns-then-is_empty-clause-jobs c =
     let xs = c.args.steps.now in
     let none : drop c.steps.st-index xs ≡ [] = drop_of_length-le xs c.steps-test.false in
-    let walk = subst (IsWalk xs c.args.records.now c.steps.at c.steps.rest.now c.steps.jobs.items) none c.steps.invariant in
-    walk_ends xs c.args.records.now c.steps.at c.steps.rest.now c.steps.jobs.items walk (sym c.is_empty.ensures ∙ c.if-is_empty.true)
+    let walk = subst (IsWalk xs c.args.records.now c.steps.here c.steps.rest.now c.steps.jobs.items) none c.steps.invariant in
+    walk_ends xs c.args.records.now c.steps.here c.steps.rest.now c.steps.jobs.items walk (sym c.is_empty.ensures ∙ c.if-is_empty.true)
 
 pub returns-clause-entry : goal.returns-clause-entry
 returns-clause-entry c =
     let xs = c.args.steps.now in
     let written = c.args.records.now in
     let none : drop c.steps.st-index xs ≡ [] = drop_of_length-le xs c.steps-test.false in
-    let walk = subst (IsWalk xs written c.steps.at c.steps.rest.now c.steps.jobs.items) none c.steps.invariant in
-    subst (IsEntry xs written) (sym c.entry-else-is_empty.ensures) (walk_left xs written c.steps.at c.steps.rest.now c.steps.jobs.items walk (sym c.is_empty.ensures ∙ c.if-is_empty.false))
+    let walk = subst (IsWalk xs written c.steps.here c.steps.rest.now c.steps.jobs.items) none c.steps.invariant in
+    subst (IsEntry xs written) (sym c.entry-else-is_empty.ensures) (walk_left xs written c.steps.here c.steps.rest.now c.steps.jobs.items walk (sym c.is_empty.ensures ∙ c.if-is_empty.false))

@@ -17,8 +17,8 @@ returns-clause-value c =
     let stop : c.stop-stop.result ≡ stop_of m = c.stop-stop.ensures.value in
     let on : starts_on_check m ≡ false = sym (c.is_on_check-on.ensures ∙ ap (is_on_check m.how) side) ∙ c.if-on.false in
     let room : lacks_room (track_of m) ≡ false = sym (c.lacks_room.ensures ∙ ap lacks_room track) ∙ c.if-lacks_room.false in
-    let near : is_near (track_of m) off_track m.start.at ≡ true =
-    sym (c.is_near.ensures ∙ ap (λ t. is_near t off_track m.start.at) track) ∙ c.if-not-is_near.false in
+    let near : is_near (track_of m) off_track m.start.xy ≡ true =
+    sym (c.is_near.ensures ∙ ap (λ t. is_near t off_track m.start.xy) track) ∙ c.if-not-is_near.false in
     let stop_room : lacks_room (stop_of m) ≡ false = elim c.else-not-on.branch [
       | else-not-on-via-then-not-on+else-lacks_room-2 w ↦ sym (w.lacks_room-then-not-on.ensures ∙ ap lacks_room stop) ∙ w.if-lacks_room-2.false
       | else-not-on-via-else-not-on w ↦ absurd (on_and_off c.is_on_check-on.result w.if-not-on.false c.if-on.false)

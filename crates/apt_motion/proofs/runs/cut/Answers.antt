@@ -17,15 +17,15 @@ returns-in-Ok-take_cut c =
     let before = c.args.written.now in
     let now = c.take_cut.new.written in
     let done = c.in-Ok-take_cut.ensures in
-    has_cut before.points now.points c.args.at.now c.take_cut.new.at c.args.step.now before.records.items now.records.items c.args.motion.now c.in-Ok.end
+    has_cut before.points now.points c.args.here.now c.take_cut.new.here c.args.step.now before.records.items now.records.items c.args.motion.now c.in-Ok.end
     c.requires.asks c.in-Ok.ensures.value done.after done.records done.count done.few
 
 pub returns-in-Err-TooManyPoints : goal.returns-in-Err-TooManyPoints
 returns-in-Err-TooManyPoints c =
-    let at = c.args.at.now in
+    let here = c.args.here.now in
     let step = c.args.step.now in
     let before = c.args.written.now in
     let now = c.take_cut.new.written in
     let many = c.in-Err-TooManyPoints.ensures.too_many (ap (λ (e : ArcError). Err e) c.in-Err-TooManyPoints.field-0-is) in
-    subst (λ (e : RunError). HasAdvanced before.points now.points at step before.records.items now.records.items (Err e)) (sym c.refused.ensures)
-    (cases.TooManyPoints, has_too_many before.points at step c.args.motion.now c.in-Ok.end c.requires.asks c.in-Ok.ensures.value many)
+    subst (λ (e : RunError). HasAdvanced before.points now.points here step before.records.items now.records.items (Err e)) (sym c.refused.ensures)
+    (cases.TooManyPoints, has_too_many before.points here step c.args.motion.now c.in-Ok.end c.requires.asks c.in-Ok.ensures.value many)

@@ -6,6 +6,6 @@ use Rattle.apt_motion.proofs.runs.go_along.Goals as goal
 
 pub returns-in-Ok : goal.returns-in-Ok
 returns-in-Ok c =
-    let at = c.args.at.now in
+    let here = c.args.here.now in
     let step = c.args.step.now in
-    subst (λ (s : Situation). HasPassed at step (Ok s)) (sym c.cut_along.ensures) (has_passed at step c.args.motion.now c.in-Ok.end c.requires.asks c.in-Ok.ensures.value)
+    subst (λ (s : Situation). HasPassed here step (Ok s)) (sym c.cut_along.ensures) (has_passed here step c.args.motion.now c.in-Ok.end c.requires.asks c.in-Ok.ensures.value)

@@ -9,8 +9,8 @@ use Rattle.apt_motion.proofs.runs.pass_all.Given as goal
 abbrev pub invariant-steps : goal.invariant-steps
 invariant-steps l =
     record {
-      so_far : first_refused l.at (drop l.st-index l.steps) ≡ first_refused first_situation l.fn.steps;
-      situation : IsSituation l.at;
+      so_far : first_refused l.here (drop l.st-index l.steps) ≡ first_refused first_situation l.fn.steps;
+      situation : IsSituation l.here;
       scalars : AreScalars (drop l.st-index l.steps);
       sources : AreExecuted (drop l.st-index l.steps);
     }

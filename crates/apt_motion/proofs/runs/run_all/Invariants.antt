@@ -9,9 +9,9 @@ use Rattle.apt_motion.proofs.runs.run_all.Given as goal
 abbrev pub invariant-steps : goal.invariant-steps
 invariant-steps l =
     record {
-      so_far : with_front l.written.records.items (compilation_behind l.written.points l.at (drop l.st-index l.steps)) ≡ compilation first_situation l.fn.steps;
+      so_far : with_front l.written.records.items (compilation_behind l.written.points l.here (drop l.st-index l.steps)) ≡ compilation first_situation l.fn.steps;
       few : l.written.points ≤ most_points;
-      situation : IsSituation l.at;
+      situation : IsSituation l.here;
       scalars : AreScalars (drop l.st-index l.steps);
       sources : AreExecuted (drop l.st-index l.steps);
     }

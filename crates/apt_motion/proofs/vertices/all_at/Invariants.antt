@@ -5,7 +5,7 @@ use Rattle.apt_motion.proofs.vertices.all_at.Given as goal
 abbrev pub invariant-points : goal.invariant-points
 invariant-points l =
     record {
-      all : l.at.items ++ map (at_height l.z) (drop l.p-index l.points) ≡ map (at_height l.z) l.fn.points;
-      count : l.at.len ≡ l.p-index;
-      room : length l.points ≤ l.at.cap;
+      all : l.vertices.items ++ map (at_height l.z) (drop l.p-index l.points) ≡ map (at_height l.z) l.fn.points;
+      count : l.vertices.len ≡ l.p-index;
+      room : length l.points ≤ l.vertices.cap;
     }
