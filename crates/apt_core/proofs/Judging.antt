@@ -1,5 +1,6 @@
 -- From what a judging finds to the answer, and to what is right.
-use Rattle.std.proofs.Common.{◌≡◌, inl, inr, ℕ, List, None, Ok, ap, ◌∙◌, refl, subst}
+use Rattle.std.proofs.Common.{◌≡◌, inl, inr, ℕ, List, [], ◌∷◌, None, Result, Ok, Err, ap, ◌∙◌, refl, subst}
+use Rattle.apt_words.specs.Chains.{◌>>=◌}
 use Rattle.apt_words.specs.declared.deed.Step.{Step}
 use Rattle.apt_cldata.specs.declared.record.Record.{Record}
 use Rattle.apt_cldata.specs.Reading.{read_of}
@@ -13,58 +14,131 @@ use Rattle.apt_machine.specs.declared.machine.Machine.{Machine}
 use Rattle.apt_machine.specs.Tables.{table_of}
 use Rattle.apt_control.specs.declared.Act.{Act}
 use Rattle.apt_control.specs.Control.{control_run}
+use Rattle.apt_post.specs.Plan.{plan}
 use Rattle.apt_part.specs.Compilation.{steps_of}
 use Rattle.apt_part.specs.Promise.{Passes}
 use Rattle.apt_report.specs.declared.status.Status.{Status}
 use Rattle.apt_report.specs.declared.status.Status.TheVariants as answers
 use Rattle.apt_report.specs.declared.status.Summary.TheVariants as summaries
-use Rattle.apt_core.specs.Certificates.{IsCertified, IsBadTable}
-use Rattle.apt_core.specs.Judging.{IsJudgedOn, IsJudged, IsGood, IsVerdictOn}
-use Rattle.apt_core.specs.Unread.{HasNoSteps}
+use Rattle.apt_core.specs.Words.{FourNames}
+use Rattle.apt_core.specs.Due.{OrNoMemory, ComesToNone, unless_refused, machine_due, steps_due, records_due, acts_due}
+use Rattle.apt_core.specs.Inputs.{Files, AreRead, inputs, ReadsAll, IsStopped}
+use Rattle.apt_core.specs.Certificates.{HasVerdict, IsCertified, Judged, judged, judged_due, IsMissed, IsJudgement}
+use Rattle.apt_core.specs.Promise.{Certifies}
 use Rattle.apt_core.proofs.Counting.{makes_segments}
+use Rattle.apt_core.proofs.Chains.{chain_on}
 
 -- a verdict without a bad motion finds all legal
 all_legal : (jobs : List Job) (v : Verdict) → IsVerdict jobs v → v.first_bad ≡ None → AreLegal jobs
 all_legal jobs v is none = subst (IsFirstBadOrNone jobs) none is.first_bad
 
-pub good_is_right : (machine : Machine) (text cl tape : List ℕ) (steps : List Step) (written : List Record) (acts : List Act) (v : Verdict) → Passes machine text steps
-    → read_of cl ≡ Ok written → control_run machine.code tape ≡ Ok acts → IsGood steps written acts v → IsCertified machine text cl tape v
-good_is_right machine text cl tape steps written acts v passes read run good =
-    let follow = jobs_right steps written good.jobs good.makes (all_legal good.jobs v good.verdict good.legal) in record {
+-- what texts come to
+pub record AreJudged (machine : Machine) (text table cl tape : List ℕ) (steps : List Step) (written : List Record) (acts : List Act) : Type 0 where
+  pub tabled : table_of table ≡ Ok machine
+  pub comes : steps_of machine text ≡ Ok (Ok steps)
+  pub read : read_of cl ≡ Ok written
+  pub run : control_run machine.code tape ≡ Ok acts
+
+-- behind the table, the steps and the records
+abbrev behind_records : Machine → List ℕ → List Step → List Record → Result Judged Status
+behind_records machine tape steps written = acts_due machine tape >>= λ acts. Ok (judged machine steps written acts)
+
+abbrev behind_steps : Machine → List ℕ → List ℕ → List Step → Result Judged Status
+behind_steps machine cl tape steps = records_due cl >>= λ written. behind_records machine tape steps written
+
+abbrev behind_table : List ℕ → List ℕ → List ℕ → Machine → Result Judged Status
+behind_table text cl tape machine = steps_due machine text >>= λ steps. behind_steps machine cl tape steps
+
+on_table : (machine : Machine) (text table cl tape : List ℕ) → table_of table ≡ Ok machine → judged_due text table cl tape ≡ behind_table text cl tape machine
+on_table machine text table cl tape tabled = chain_on (machine_due table) machine (behind_table text cl tape) (rw tabled refl)
+
+on_steps : (machine : Machine) (text table cl tape : List ℕ) (steps : List Step) → table_of table ≡ Ok machine → steps_of machine text ≡ Ok (Ok steps)
+    → judged_due text table cl tape ≡ behind_steps machine cl tape steps
+on_steps machine text table cl tape steps tabled comes =
+    on_table machine text table cl tape tabled ∙ chain_on (steps_due machine text) steps (behind_steps machine cl tape) (ap unless_refused comes)
+
+on_records : (machine : Machine) (text table cl tape : List ℕ) (steps : List Step) (written : List Record) → table_of table ≡ Ok machine → steps_of machine text ≡ Ok (Ok steps)
+    → read_of cl ≡ Ok written → judged_due text table cl tape ≡ behind_records machine tape steps written
+on_records machine text table cl tape steps written tabled comes read =
+    on_steps machine text table cl tape steps tabled comes ∙ chain_on (records_due cl) written (behind_records machine tape steps) (rw read refl)
+
+pub judged_for : (machine : Machine) (text table cl tape : List ℕ) (steps : List Step) (written : List Record) (acts : List Act)
+    → AreJudged machine text table cl tape steps written acts → judged_due text table cl tape ≡ Ok (judged machine steps written acts)
+judged_for machine text table cl tape steps written acts are =
+    on_records machine text table cl tape steps written are.tabled are.comes are.read
+    ∙ chain_on (acts_due machine tape) acts (λ acts. Ok (judged machine steps written acts)) (rw are.run refl)
+
+-- where a text comes to nothing
+none_judged : {A : Type 0} (text table cl tape : List ℕ) (due : Result A Status) (more : A → Result Judged Status) (answer : Status) → judged_due text table cl tape ≡ (due >>= more)
+    → ComesToNone due answer → OrNoMemory (IsJudgement text table cl tape answer) answer
+none_judged text table cl tape due more answer same (inl e) = inl (inl (same ∙ rw e refl))
+none_judged text table cl tape due more answer same (inr short) = inr short
+
+pub table_judged : (text table cl tape : List ℕ) (answer : Status) → machine_due table ≡ Err answer → OrNoMemory (IsJudgement text table cl tape answer) answer
+table_judged text table cl tape answer e = none_judged text table cl tape (machine_due table) (behind_table text cl tape) answer refl (inl e)
+
+pub part_judged : (machine : Machine) (text table cl tape : List ℕ) (answer : Status) → table_of table ≡ Ok machine → ComesToNone (steps_due machine text) answer
+    → OrNoMemory (IsJudgement text table cl tape answer) answer
+part_judged machine text table cl tape answer tabled none =
+    none_judged text table cl tape (steps_due machine text) (behind_steps machine cl tape) answer (on_table machine text table cl tape tabled) none
+
+pub cl_judged : (machine : Machine) (text table cl tape : List ℕ) (steps : List Step) (answer : Status) → table_of table ≡ Ok machine → steps_of machine text ≡ Ok (Ok steps)
+    → ComesToNone (records_due cl) answer → OrNoMemory (IsJudgement text table cl tape answer) answer
+cl_judged machine text table cl tape steps answer tabled comes none =
+    none_judged text table cl tape (records_due cl) (behind_records machine tape steps) answer (on_steps machine text table cl tape steps tabled comes) none
+
+pub tape_judged : (machine : Machine) (text table cl tape : List ℕ) (steps : List Step) (written : List Record) (answer : Status) → table_of table ≡ Ok machine
+    → steps_of machine text ≡ Ok (Ok steps) → read_of cl ≡ Ok written → ComesToNone (acts_due machine tape) answer → OrNoMemory (IsJudgement text table cl tape answer) answer
+tape_judged machine text table cl tape steps written answer tabled comes read none =
+    none_judged text table cl tape (acts_due machine tape) (λ acts. Ok (judged machine steps written acts)) answer
+    (on_records machine text table cl tape steps written tabled comes read) none
+
+-- something is missed
+pub missed_judged : (machine : Machine) (text table cl tape : List ℕ) (steps : List Step) (written : List Record) (acts : List Act) (answer : Status)
+    → AreJudged machine text table cl tape steps written acts → OrNoMemory (IsMissed steps written acts answer) answer → OrNoMemory (IsJudgement text table cl tape answer) answer
+missed_judged machine text table cl tape steps written acts answer are (inl missed) =
+    inl (inr (judged machine steps written acts, judged_for machine text table cl tape steps written acts are, inl missed))
+missed_judged machine text table cl tape steps written acts answer are (inr short) = inr short
+
+-- what follows legally is right
+good_is_right : (machine : Machine) (text cl tape : List ℕ) (steps : List Step) (written : List Record) (v : Verdict) → Passes machine text steps → read_of cl ≡ Ok written
+    → control_run machine.code tape ≡ Ok (plan written) → HasVerdict steps written v → v.first_bad ≡ None → IsCertified machine text cl tape v
+good_is_right machine text cl tape steps written v passes read run has legal =
+    let follow = jobs_right steps written has.jobs has.makes (all_legal has.jobs v has.verdict legal) in record {
       right = record {
         steps = steps;
         passes = passes;
         records = written;
         read = read;
-        acts = run ∙ ap Ok good.planned;
+        acts = run;
         follow = follow.0;
         legal = follow.1;
       };
-      jobs = good.jobs;
-      makes = good.makes;
-      verdict = good.verdict;
-      counted = good.verdict.segments ∙ makes_segments first_situation steps written good.jobs good.makes;
+      verdict = has;
+      counted = has.verdict.segments ∙ makes_segments first_situation steps written has.jobs has.makes;
     }
 
-pub on_verdict : (machine : Machine) (text cl tape : List ℕ) (steps : List Step) (written : List Record) (acts : List Act) (answer : Status) → steps_of machine text ≡ Ok (Ok steps) → Passes machine text steps
-    → read_of cl ≡ Ok written → control_run machine.code tape ≡ Ok acts → IsVerdictOn steps written acts answer → IsJudgedOn machine text cl tape answer
-on_verdict machine text cl tape steps written acts (answers.NotCertified miss) comes passes read run is = inl (steps, written, acts, comes, read, run, is)
-on_verdict machine text cl tape steps written acts (answers.Done (summaries.Certified v)) comes passes read run is = inl (good_is_right machine text cl tape steps written acts v passes read run is)
-on_verdict machine text cl tape steps written acts (answers.Done (summaries.Compiled r a s)) comes passes read run is = absurd is
-on_verdict machine text cl tape steps written acts answers.NoMemory comes passes read run is = inr refl
-on_verdict machine text cl tape steps written acts _ comes passes read run is = absurd is
+-- all is right
+pub good_judged : (machine : Machine) (text table cl tape : List ℕ) (steps : List Step) (written : List Record) (acts : List Act) (v : Verdict)
+    → AreJudged machine text table cl tape steps written acts → Passes machine text steps → HasVerdict steps written v → v.first_bad ≡ None → acts ≡ plan written
+    → OrNoMemory (IsJudgement text table cl tape (answers.Done (summaries.Certified v))) (answers.Done (summaries.Certified v))
+good_judged machine text table cl tape steps written acts v are passes has legal planned =
+    inl (inr (
+      judged machine steps written acts,
+      judged_for machine text table cl tape steps written acts are,
+      inr (v, refl, good_is_right machine text cl tape steps written v passes are.read (are.run ∙ ap Ok planned) has legal),
+    ))
 
-pub none_judged : (machine : Machine) (text cl tape : List ℕ) (answer : Status) → HasNoSteps machine text answer → IsJudgedOn machine text cl tape answer
-none_judged machine text cl tape (answers.BadPart line cause) is = inl is
-none_judged machine text cl tape (answers.Refused line step case) is = inl is
-none_judged machine text cl tape answers.NoMemory is = inr refl
-none_judged machine text cl tape _ is = absurd is
+-- ---- the work
 
--- ---- with the text of a table
+pub stopped_certifies : (n : FourNames) (before after : Files) (told : Status) → AreRead before after → IsStopped (inputs n) before after told → Certifies n before after told
+stopped_certifies n before after told read stopped = record { comes = inl stopped; read = read }
 
-pub table_judged : (text table cl tape : List ℕ) (answer : Status) → IsBadTable table answer → IsJudged text table cl tape answer
-table_judged text table cl tape answer bad = inl (inl bad)
-
-pub judged_by : (text table cl tape : List ℕ) (machine : Machine) (answer : Status) → table_of table ≡ Ok machine → IsJudgedOn machine text cl tape answer → IsJudged text table cl tape answer
-judged_by text table cl tape machine answer tabled (inl judgement) = inl (inr (record { machine = machine; comes = tabled; judgement = judgement }))
-judged_by text table cl tape machine answer tabled (inr e) = inr e
+-- all are read
+pub judged_certifies : (n : FourNames) (text table cl tape : List ℕ) (before after : Files) (told : Status) → AreRead before after
+    → ReadsAll before.told (inputs n) (text ∷ table ∷ cl ∷ tape ∷ []) → OrNoMemory (IsJudgement text table cl tape told) told → Certifies n before after told
+judged_certifies n text table cl tape before after told read reads (inl judgement) = record {
+  comes = inr (record { text = text; table = table; cl = cl; tape = tape; reads = reads; judgement = judgement });
+  read = read;
+}
+judged_certifies n text table cl tape before after told read reads (inr short) = stopped_certifies n before after told read (inr (inr short))

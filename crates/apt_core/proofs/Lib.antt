@@ -1,15 +1,14 @@
 pub mod Apart
-pub mod Tables
+pub mod Chains
 pub mod Outputs
 pub mod Deliveries
 pub mod Readings
 pub mod Compiling
 pub mod Counting
 pub mod Judging
-pub mod Certifying
 pub mod Decoding
 pub mod Right
 pub mod Differences
 pub mod Putting
+pub mod Usage
 pub mod Running
-pub mod Unread

@@ -1,29 +1,20 @@
 -- Files that are read one after the other.
-use Rattle.std.proofs.Common.{◌≡◌, ◌⊎◌, inl, inr, ℕ, ◌≤◌, List, [], ◌∷◌, ◌++◌, Option, Some, None, ◌∙◌, subst, arith}
+use Rattle.std.proofs.Common.{inl, inr, ℕ, ◌≤◌, List, [], ◌∷◌, Option, Some, None, ◌∙◌, subst, arith}
 use Rattle.apt_shelf.specs.Told.{Contents, Rose, Lacks}
 use Rattle.apt_report.specs.declared.status.Status.{Status}
-use Rattle.apt_report.specs.declared.status.Status.TheVariants as answers
-use Rattle.apt_core.specs.Inputs.{Input, Reads, IsUnread, IsFirstUnread, ReadsAll}
-use Rattle.apt_core.specs.Unread.{IsNotRead}
-use Rattle.apt_core.specs.Promise.{Files}
-
--- files as they were, but for a count of faults of reading
-pub record AreRead (before after : Files) : Type 0 where
-  pub told : after.told ≡ before.told
-  pub writing : after.writing ≡ before.writing
-  pub write_faults : after.write_faults ≡ before.write_faults
-  pub later : before.read_faults ≤ after.read_faults
+use Rattle.apt_core.specs.Inputs.{Files, AreRead, Input, Reads, ReadsAll, IsUnread, IsFirstUnread, IsStopped}
 
 pub read_on : (before middle after : Files) → AreRead before middle → AreRead middle after → AreRead before after
 read_on before middle after first second = record {
-  told = second.told ∙ first.told;
+  files = second.files ∙ first.files;
   writing = second.writing ∙ first.writing;
-  write_faults = second.write_faults ∙ first.write_faults;
+  unfailed = second.unfailed ∙ first.unfailed;
   later = omega (arith, first.later, second.later);
 }
 
-pub reads_on : (before middle : Files) (x : Input) (text : List ℕ) → AreRead before middle → Reads middle.told x text → Reads before.told x text
-reads_on before middle x text read reads = subst (λ t. Reads t x text) read.told reads
+pub reads_next : (before middle : Files) (x : Input) (text : List ℕ) (xs : List Input) (texts : List (List ℕ)) → AreRead before middle → Reads before.told x text
+    → ReadsAll middle.told xs texts → ReadsAll before.told (x ∷ xs) (text ∷ texts)
+reads_next before middle x text xs texts read first reads = (first, subst (λ t. ReadsAll t xs texts) read.files reads)
 
 -- ---- counts that rose in a later part
 
@@ -38,30 +29,30 @@ unread_from : (told : Option Contents) (x : Input) (before middle now : ℕ) (an
 unread_from told x before middle now answer h (inl missing) = inl (missing.0, lacks_from told x.name before middle now h missing.1)
 unread_from told x before middle now answer h (inr long) = inr long
 
-not_read_from : (told : Option Contents) (x : Input) (before middle now : ℕ) (answer : Status) → before ≤ middle → IsNotRead told x middle now answer → IsNotRead told x before now answer
-not_read_from told x before middle now answer h (inl unread) = inl (unread_from told x before middle now answer h unread)
-not_read_from told x before middle now answer h (inr (inl fault)) = inr (inl (fault.0, rose_from before middle now h fault.1))
-not_read_from told x before middle now answer h (inr (inr e)) = inr (inr e)
+first_from : (told : Option Contents) (xs : List Input) (before middle now : ℕ) (answer : Status) → before ≤ middle → IsFirstUnread told xs middle now answer
+    → IsFirstUnread told xs before now answer
+first_from told [] before middle now answer h is = is
+first_from told (x ∷ xs) before middle now answer h (inl unread) = inl (unread_from told x before middle now answer h unread)
+first_from told (x ∷ xs) before middle now answer h (inr behind) = inr (behind.0, behind.1, first_from told xs before middle now answer h behind.2)
 
-pub not_read_on : (before middle : Files) (x : Input) (now : ℕ) (answer : Status) → AreRead before middle → IsNotRead middle.told x middle.read_faults now answer
-    → IsNotRead before.told x before.read_faults now answer
-not_read_on before middle x now answer read is =
-    not_read_from before.told x before.read_faults middle.read_faults now answer read.later (subst (λ t. IsNotRead t x middle.read_faults now answer) read.told is)
+-- ---- where a work stops
 
--- ---- the first that is not read
+-- at the first file, whichever follow
+pub stopped_first : (x : Input) (more : List Input) (before after : Files) (answer : Status) → IsStopped (x ∷ []) before after answer → IsStopped (x ∷ more) before after answer
+stopped_first x more before after answer (inl (inl unread)) = inl (inl unread)
+stopped_first x more before after answer (inl (inr behind)) = absurd behind.2
+stopped_first x more before after answer (inr short) = inr short
 
-first_unread : (told : Option Contents) (xs : List Input) (texts : List (List ℕ)) (x : Input) (more : List Input) (before now : ℕ) (answer : Status) → ReadsAll told xs texts
-    → IsUnread told x before now answer → IsFirstUnread told (xs ++ (x ∷ more)) before now answer
-first_unread told [] [] x more before now answer reads unread = inl unread
-first_unread told [] (text ∷ texts) x more before now answer reads unread = absurd reads
-first_unread told (y ∷ xs) [] x more before now answer reads unread = absurd reads
-first_unread told (y ∷ xs) (text ∷ texts) x more before now answer reads unread = inr (text, reads.0, first_unread told xs texts x more before now answer reads.1 unread)
-
--- or reading failed, or memory ran out
-abbrev pub IsShort : ℕ → ℕ → Status → Type 0
-IsShort before now answer = ((answer ≡ answers.ReadFault) × Rose before now) ⊎ (answer ≡ answers.NoMemory)
-
-pub first_not_read : (told : Option Contents) (xs : List Input) (texts : List (List ℕ)) (x : Input) (more : List Input) (before now : ℕ) (answer : Status) → ReadsAll told xs texts
-    → IsNotRead told x before now answer → IsFirstUnread told (xs ++ (x ∷ more)) before now answer ⊎ IsShort before now answer
-first_not_read told xs texts x more before now answer reads (inl unread) = inl (first_unread told xs texts x more before now answer reads unread)
-first_not_read told xs texts x more before now answer reads (inr short) = inr short
+-- behind the first file
+pub stopped_next : (before middle after : Files) (x : Input) (text : List ℕ) (xs : List Input) (answer : Status) → AreRead before middle → Reads before.told x text
+    → IsStopped xs middle after answer → IsStopped (x ∷ xs) before after answer
+stopped_next before middle after x text xs answer read reads (inl first) =
+    inl (inr (
+      text,
+      reads,
+      first_from before.told xs before.read_faults middle.read_faults after.read_faults answer read.later
+          (subst (λ t. IsFirstUnread t xs middle.read_faults after.read_faults answer) read.files first),
+    ))
+stopped_next before middle after x text xs answer read reads (inr (inl fault)) =
+    inr (inl (fault.0, rose_from before.read_faults middle.read_faults after.read_faults read.later fault.1))
+stopped_next before middle after x text xs answer read reads (inr (inr short)) = inr (inr short)

@@ -1,5 +1,6 @@
 -- When a CL file and a tape are right for a part, and where they are not.
-use Rattle.std.specs.Prelude.{◌≡◌, ◌≢◌, ◌⊎◌, ℕ, ◌+◌, List, [], ◌∷◌, ◌++◌, length, Ok, Err}
+use Rattle.std.specs.Prelude.{◌≡◌, ◌≢◌, ◌⊎◌, ℕ, ◌+◌, List, [], ◌∷◌, ◌++◌, length, Result, Ok, Err}
+use Rattle.apt_words.specs.Chains.{◌>>=◌}
 use Rattle.apt_words.specs.declared.deed.Step.{Step}
 use Rattle.apt_cldata.specs.declared.record.Record.{Record}
 use Rattle.apt_cldata.specs.Reading.{read_of}
@@ -13,18 +14,16 @@ use Rattle.apt_meaning.specs.Records.{Follows}
 use Rattle.apt_meaning.specs.Expectations.{FailsAt}
 use Rattle.apt_job.specs.Jobs.{MakesJobs}
 use Rattle.apt_machine.specs.declared.machine.Machine.{Machine}
-use Rattle.apt_machine.specs.declared.cause.MachineError.{MachineError}
-use Rattle.apt_machine.specs.Tables.{table_of}
 use Rattle.apt_control.specs.declared.Act.{Act}
 use Rattle.apt_control.specs.Control.{control_run}
 use Rattle.apt_post.specs.Plan.{plan, segments}
-use Rattle.apt_part.specs.Compilation.{steps_of}
 use Rattle.apt_part.specs.Promise.{Passes}
 use Rattle.apt_report.specs.declared.status.Status.{Status}
 use Rattle.apt_report.specs.declared.status.Status.TheVariants as answers
 use Rattle.apt_report.specs.declared.status.Summary.TheVariants as summaries
 use Rattle.apt_report.specs.declared.status.Miss.{Miss}
 use Rattle.apt_report.specs.declared.status.Miss.TheVariants as misses
+use Rattle.apt_core.specs.Due.{machine_due, steps_due, records_due, acts_due}
 
 -- a CL file and a tape are right for a part on a machine. The part's steps are those of its one trace, and none is refused; the CL file is just its records,
 -- and a control runs the tape, to the last byte, to just their plan, so that nothing else stands in either file; the records follow the steps, each contour
@@ -63,47 +62,45 @@ IsMiss steps written acts (misses.Motion bad) = (jobs : List Job) × MakesJobs f
 IsMiss steps written acts (misses.Act at) =
     (jobs : List Job) × MakesJobs first_situation steps written jobs × AreLegal jobs × DifferAt acts (plan written) at
 
+-- the records answer the steps, and this is the verdict over their contours
+pub record HasVerdict (steps : List Step) (written : List Record) (v : Verdict) : Type 0 where
+  pub jobs : List Job
+  pub makes : MakesJobs first_situation steps written jobs
+  pub verdict : IsVerdict jobs v
+
 -- all is right, with the verdict over the contours
 pub record IsCertified (machine : Machine) (text cl tape : List ℕ) (v : Verdict) : Type 0 where
   pub right : IsRight machine text cl tape
-  pub jobs : List Job
-  pub makes : MakesJobs first_situation right.steps right.records jobs
-  pub verdict : IsVerdict jobs v
+  pub verdict : HasVerdict right.steps right.records v
   pub counted : v.segments ≡ segments right.records
 
--- the answer on a machine to the three texts, in the order in which they are judged
-abbrev pub IsAnswerOn : Machine → List ℕ → List ℕ → List ℕ → Status → Type 0
-IsAnswerOn machine text cl tape (answers.BadPart line cause) = steps_of machine text ≡ Err (line, cause)
-IsAnswerOn machine text cl tape (answers.Refused line step case) = steps_of machine text ≡ Ok (Err (record { line = line; step = step; case = case }))
-IsAnswerOn machine text cl tape (answers.BadCl at cause) = (steps : List Step) × (steps_of machine text ≡ Ok (Ok steps)) × (read_of cl ≡ Err (record { at = at; cause = cause }))
-IsAnswerOn machine text cl tape (answers.BadTape at cause) =
-    (steps : List Step) × (written : List Record) × (steps_of machine text ≡ Ok (Ok steps)) × (read_of cl ≡ Ok written) × (control_run machine.code tape ≡ Err (record { at = at; cause = cause }))
-IsAnswerOn machine text cl tape (answers.NotCertified miss) =
-    (steps : List Step) × (written : List Record) × (acts : List Act)
-    × (steps_of machine text ≡ Ok (Ok steps)) × (read_of cl ≡ Ok written) × (control_run machine.code tape ≡ Ok acts) × IsMiss steps written acts miss
-IsAnswerOn machine text cl tape (answers.Done (summaries.Certified verdict)) = IsCertified machine text cl tape verdict
-IsAnswerOn machine text cl tape (answers.Done (summaries.Compiled records acts segments)) = ⊥
-IsAnswerOn machine text cl tape (answers.Done (summaries.Decoded count)) = ⊥
-IsAnswerOn machine text cl tape answers.Usage = ⊥
-IsAnswerOn machine text cl tape (answers.Missing name) = ⊥
-IsAnswerOn machine text cl tape answers.ReadFault = ⊥
-IsAnswerOn machine text cl tape (answers.TooLong name) = ⊥
-IsAnswerOn machine text cl tape (answers.BadMachine line cause) = ⊥
-IsAnswerOn machine text cl tape answers.WriteFault = ⊥
-IsAnswerOn machine text cl tape answers.NoMemory = ⊥
+-- ---- the answer
 
--- the table has a fault, which is told
-pub record IsBadTable (table : List ℕ) (answer : Status) : Type 0 where
-  pub fault : MachineError
-  pub comes : table_of table ≡ Err fault
-  pub told : answer ≡ answers.BadMachine fault.line fault.cause
-
--- the table says a machine, and the answer is the one on it
-pub record IsJudgedBy (text table cl tape : List ℕ) (answer : Status) : Type 0 where
+-- what the four texts come to
+pub record Judged : Type 0 where
   pub machine : Machine
-  pub comes : table_of table ≡ Ok machine
-  pub judgement : IsAnswerOn machine text cl tape answer
+  pub steps : List Step
+  pub written : List Record
+  pub acts : List Act
 
--- the answer to the texts under PART, MACHINE, CL and TAPE: the table is judged first
+abbrev pub judged : Machine → List Step → List Record → List Act → Judged
+judged machine steps written acts = record { machine = machine; steps = steps; written = written; acts = acts }
+
+-- for the texts under PART, MACHINE, CL and TAPE: the table is judged first
+abbrev pub judged_due : List ℕ → List ℕ → List ℕ → List ℕ → Result Judged Status
+judged_due text table cl tape =
+    machine_due table >>= λ machine. steps_due machine text >>= λ steps. records_due cl >>= λ written. acts_due machine tape >>= λ acts.
+    Ok (judged machine steps written acts)
+
+-- something is missed, which is told
+abbrev pub IsMissed : List Step → List Record → List Act → Status → Type 0
+IsMissed steps written acts answer = (miss : Miss) × (answer ≡ answers.NotCertified miss) × IsMiss steps written acts miss
+
+abbrev pub IsDone : Machine → List ℕ → List ℕ → List ℕ → Status → Type 0
+IsDone machine text cl tape answer = (v : Verdict) × (answer ≡ answers.Done (summaries.Certified v)) × IsCertified machine text cl tape v
+
+-- the answer to the four texts: the first fault, else what is missed, else that all is right
 abbrev pub IsJudgement : List ℕ → List ℕ → List ℕ → List ℕ → Status → Type 0
-IsJudgement text table cl tape answer = IsBadTable table answer ⊎ IsJudgedBy text table cl tape answer
+IsJudgement text table cl tape answer =
+    (judged_due text table cl tape ≡ Err answer)
+    ⊎ ((j : Judged) × (judged_due text table cl tape ≡ Ok j) × (IsMissed j.steps j.written j.acts answer ⊎ IsDone j.machine text cl tape answer))

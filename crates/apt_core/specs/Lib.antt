@@ -1,11 +1,9 @@
 pub mod Words
 pub mod Request
+pub mod Due
+pub mod Inputs
 pub mod Outputs
 pub mod Delivery
-pub mod Inputs
 pub mod Certificates
-pub mod Unread
-pub mod OutputOf
-pub mod Judging
 pub mod Decoding
 pub mod Promise

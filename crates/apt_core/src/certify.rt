@@ -1,118 +1,101 @@
 //! The command `certify`.
 
-ghost use Rattle.std.specs.Prelude.{◌≡◌, ◌↔◌, ◌+◌, ◌<◌, ◌≤◌, ◌^◌, IsTrue, List, ◌∷◌, length, None, IfSome};
+ghost use Rattle.std.specs.Prelude.{◌≡◌, ◌↔◌, ◌+◌, ◌<◌, ◌≤◌, ◌^◌, IsTrue, List, ◌∷◌, length, None, IfOk, IfErr, IfSome};
 ghost use Rattle.apt_cldata.specs.Ranges.{AreRecords, vertex_count};
 ghost use Rattle.apt_meaning.specs.Situations.{first_situation};
 ghost use Rattle.apt_meaning.specs.Compiled.{first_refused};
 ghost use Rattle.apt_part.specs.Promise.{AreSteps};
-ghost use Rattle.apt_core.specs.Request.{four_names};
+ghost use Rattle.apt_post.specs.Plan as plans;
 ghost use Rattle.apt_control.specs.declared.Act.{Act};
-ghost use Rattle.apt_core.specs.Certificates.{DifferAt, HeadsDiffer};
-ghost use Rattle.apt_core.specs.Judging.{IsJudged, IsJudgedOn, IsVerdictOn};
-ghost use Rattle.apt_core.specs.Promise.{Certifies, files_on};
+ghost use Rattle.apt_core.specs.Due.{answer_of, OrNoMemory};
+ghost use Rattle.apt_core.specs.Request.{four_names};
+ghost use Rattle.apt_core.specs.Inputs.{files_on};
+ghost use Rattle.apt_core.specs.Certificates.{DifferAt, HeadsDiffer, HasVerdict, IsMissed, IsJudgement};
+ghost use Rattle.apt_core.specs.Promise.{Certifies};
 
-use crate::machine::machine_of;
-use crate::part::steps_on;
+use crate::due::{acts_on, machine_of, records_in, steps_on};
 use crate::reading::{FILE_LIMIT, MACHINE_LIMIT, PART_LIMIT, read_input};
 use crate::words::Names;
 use apt_certify::check_jobs;
-use apt_cldata::{ClError, Record, read};
-use apt_control::{Act, ControlError, read_tape};
+use apt_cldata::Record;
+use apt_control::Act;
 use apt_job::{JobError, jobs};
-use apt_machine::Machine;
 use apt_post::plan;
-use apt_report::{Miss, Status, Summary};
+use apt_report::{Miss, Status, Summary, Verdict};
 use apt_shelf::Shelf;
 use apt_words::Step;
 use std::alloc::Global;
 
 /// Reads the part, the machine table, the CL file and the tape, and judges the last two against the part.
-pub(crate) fn certify<H: Shelf>(alloc: Global, shelf: &mut H, names: Names<'_>) -> Status
-    ensures { Certifies (four_names names.entry) (files_on H.Shelf shelf.old) (files_on H.Shelf shelf.new) result }
+pub(crate) fn certify<H: Shelf>(
+    alloc: Global,
+    shelf: &mut H,
+    names: Names<'_>,
+) -> Result<Summary, Status>
+    ensures { Certifies (four_names names.entry) (files_on H.Shelf shelf.old) (files_on H.Shelf shelf.new) (answer_of result) }
 {
-    let text = match read_input(alloc, shelf, names.part, PART_LIMIT) {
-        Ok(text) => text,
-        Err(status) => return status,
-    };
-    let table = match read_input(alloc, shelf, names.machine, MACHINE_LIMIT) {
-        Ok(table) => table,
-        Err(status) => return status,
-    };
-    let cl = match read_input(alloc, shelf, names.cl, FILE_LIMIT) {
-        Ok(cl) => cl,
-        Err(status) => return status,
-    };
-    let tape = match read_input(alloc, shelf, names.tape, FILE_LIMIT) {
-        Ok(tape) => tape,
-        Err(status) => return status,
-    };
-    judged_by(alloc, text, &table, &cl, &tape)
+    let text = read_input(alloc, shelf, names.part, PART_LIMIT)?;
+    let table = read_input(alloc, shelf, names.machine, MACHINE_LIMIT)?;
+    let cl = read_input(alloc, shelf, names.cl, FILE_LIMIT)?;
+    let tape = read_input(alloc, shelf, names.tape, FILE_LIMIT)?;
+    judged(alloc, text, &table, &cl, &tape)
 }
 
-/// The answer to a part, a machine table, a CL file and a tape.
-#[tactic(auto, using(crate::proofs::Judging::table_judged, crate::proofs::Judging::judged_by))]
-fn judged_by(alloc: Global, text: Vec<u8>, table: &[u8], cl: &[u8], tape: &[u8]) -> Status
+/// What is found of a part, a machine table, a CL file and a tape.
+fn judged(
+    alloc: Global,
+    text: Vec<u8>,
+    table: &[u8],
+    cl: &[u8],
+    tape: &[u8],
+) -> Result<Summary, Status>
     requires table { length table.now ≤ 65536 }
     requires short { length cl.now ≤ 67108864 }
-    ensures { IsJudged text.items table.now cl.now tape.now result }
+    ensures { OrNoMemory (IsJudgement text.items table.now cl.now tape.now (answer_of result)) (answer_of result) }
 {
-    match machine_of(table) {
-        Ok(machine) => judged(alloc, &machine, text, cl, tape),
-        Err(status) => status,
-    }
+    let machine = machine_of(table)?;
+    let steps = steps_on(alloc, text, &machine)?;
+    let records = records_in(alloc, cl)?;
+    let acts = acts_on(alloc, &machine, tape)?;
+    let verdict = verdict_on(alloc, &steps, &records, &acts)?;
+    Ok(Summary::Certified(verdict))
 }
 
-/// The answer on a machine to a part, a CL file and a tape.
-fn judged(alloc: Global, machine: &Machine, text: Vec<u8>, cl: &[u8], tape: &[u8]) -> Status
-    requires short { length cl.now ≤ 67108864 }
-    ensures { IsJudgedOn machine.now text.items cl.now tape.now result }
-{
-    let steps = match steps_on(alloc, text, machine) {
-        Ok(steps) => steps,
-        Err(status) => return status,
-    };
-    let records = match read(alloc, cl) {
-        Ok(records) => records,
-        Err(ClError::Bad { at, cause }) => return Status::BadCl { at, cause },
-        Err(ClError::NoMemory) => return Status::NoMemory,
-    };
-    let acts = match read_tape(alloc, machine.code, tape) {
-        Ok(acts) => acts,
-        Err(ControlError::Bad { at, cause }) => return Status::BadTape { at, cause },
-        Err(ControlError::NoMemory) => return Status::NoMemory,
-    };
-    verdict_on(alloc, &steps, &records, &acts)
-}
-
-/// The answer to records and acts that were read.
-fn verdict_on(alloc: Global, steps: &[Step], records: &[Record], acts: &[Act]) -> Status
+/// The verdict over records that answer the steps and acts that are their plan, or what is missed.
+fn verdict_on(
+    alloc: Global,
+    steps: &[Step],
+    records: &[Record],
+    acts: &[Act],
+) -> Result<Verdict, Status>
     requires steps { AreSteps steps.now }
     requires passes { first_refused first_situation steps.now ≡ None }
     requires records { AreRecords records.now }
     requires few { vertex_count records.now + length records.now < 2 ^ 62 }
-    ensures { IsVerdictOn steps.now records.now acts.now result }
+    ensures verdict { IfOk result (HasVerdict steps.now records.now) }
+    ensures legal { IfOk result (λ v. v.first_bad ≡ None) }
+    ensures planned { IfOk result (λ _. acts.now ≡ plans.plan records.now) }
+    ensures missed { IfErr result (λ s. OrNoMemory (IsMissed steps.now records.now acts.now s) s) }
 {
     let jobs = match jobs(alloc, steps, records) {
         Ok(jobs) => jobs,
-        Err(JobError::Entry { seq }) => return Status::NotCertified {
+        Err(JobError::Entry { seq }) => return Err(Status::NotCertified {
             miss: Miss::Entry { seq },
-        },
-        Err(JobError::NoMemory) => return Status::NoMemory,
+        }),
+        Err(JobError::NoMemory) => return Err(Status::NoMemory),
     };
     let verdict = check_jobs(&jobs);
     if let Some(bad) = verdict.first_bad {
-        return Status::NotCertified {
+        return Err(Status::NotCertified {
             miss: Miss::Motion(bad),
-        };
+        });
     }
-    let Ok(planned) = plan(alloc, records) else {
-        return Status::NoMemory;
-    };
+    let planned = plan(alloc, records)?;
     match first_difference(acts, &planned.acts) {
-        Some(at) => Status::NotCertified {
+        Some(at) => Err(Status::NotCertified {
             miss: Miss::Act { at },
-        },
-        None => Status::Done(Summary::Certified(verdict)),
+        }),
+        None => Ok(verdict),
     }
 }
 

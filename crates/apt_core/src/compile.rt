@@ -1,22 +1,20 @@
 //! The command `compile`.
 
 ghost use Rattle.std.specs.Prelude.{◌≡◌, ◌≢◌, ◌≤◌, length, IfOk, IfErr, Ok};
-ghost use Rattle.apt_shelf.specs.Told.{Rose};
 ghost use Rattle.apt_cldata.specs.Files.{IsFile};
 ghost use Rattle.apt_cldata.specs.Reading.{read_of};
 ghost use Rattle.apt_control.specs.Control.{control_run};
-ghost use Rattle.apt_machine.specs.Machines.{IsMachine};
 ghost use Rattle.apt_post.specs.Plan as plans;
 ghost use Rattle.apt_post.specs.Blocks.{IsProgram};
+ghost use Rattle.apt_core.specs.Due.{answer_of, ComesToNone};
 ghost use Rattle.apt_core.specs.Request.{four_names};
+ghost use Rattle.apt_core.specs.Inputs.{files_on};
 ghost use Rattle.apt_core.specs.Outputs as outputs;
-ghost use Rattle.apt_core.specs.Unread.{HasNoPart, HasNoOutput};
-ghost use Rattle.apt_core.specs.OutputOf.{IsOutput, IsOutputBy};
-ghost use Rattle.apt_core.specs.Promise.{Compiles, files_on};
+ghost use Rattle.apt_core.specs.Outputs.{output_due, IsOutput};
+ghost use Rattle.apt_core.specs.Promise.{Compiles};
 
 use crate::delivery::deliver;
-use crate::machine::machine_of;
-use crate::part::part_on;
+use crate::due::{machine_of, part_on};
 use crate::reading::{MACHINE_LIMIT, PART_LIMIT, read_input};
 use crate::words::Names;
 use apt_cldata::ClBytes;
@@ -24,7 +22,7 @@ use apt_machine::Machine;
 use apt_part::Part;
 use apt_post::{Planning, plan, tape};
 use apt_report::{Status, Summary};
-use apt_shelf::Shelf;
+use apt_shelf::{Shelf, ShelfFault};
 use std::alloc::{AllocError, Global};
 use std::marker::Model;
 
@@ -46,51 +44,34 @@ impl Model for Output {
 }
 
 /// Reads the part and the machine table, and writes the part's CL file and then its tape.
-pub(crate) fn compile<H: Shelf>(alloc: Global, shelf: &mut H, names: Names<'_>) -> Status
+pub(crate) fn compile<H: Shelf>(
+    alloc: Global,
+    shelf: &mut H,
+    names: Names<'_>,
+) -> Result<Summary, Status>
     requires apart { names.cl.now ≢ names.tape.now }
-    ensures { Compiles (four_names names.entry) (files_on H.Shelf shelf.old) (files_on H.Shelf shelf.new) result }
+    ensures { Compiles (four_names names.entry) (files_on H.Shelf shelf.old) (files_on H.Shelf shelf.new) (answer_of result) }
 {
-    let text = match read_input(alloc, shelf, names.part, PART_LIMIT) {
-        Ok(text) => text,
-        Err(status) => return status,
-    };
-    let table = match read_input(alloc, shelf, names.machine, MACHINE_LIMIT) {
-        Ok(table) => table,
-        Err(status) => return status,
-    };
-    match output_by(alloc, text, &table) {
-        Ok(output) => deliver(alloc, shelf, output, names.cl, names.tape),
-        Err(status) => status,
+    let text = read_input(alloc, shelf, names.part, PART_LIMIT)?;
+    let table = read_input(alloc, shelf, names.machine, MACHINE_LIMIT)?;
+    let output = output_by(alloc, text, &table)?;
+    match deliver(alloc, shelf, output, names.cl, names.tape) {
+        Ok(summary) => Ok(summary),
+        Err(ShelfFault::Fault) => Err(Status::WriteFault),
+        Err(ShelfFault::NoMemory) => Err(Status::NoMemory),
     }
 }
 
-/// What a text is compiled to for the machine of a table, or the answer where it comes to none.
+/// What a text is compiled to for the machine of a table.
+#[tactic(auto, using(crate::proofs::Outputs::output_is))]
 fn output_by(alloc: Global, text: Vec<u8>, table: &[u8]) -> Result<Output, Status>
     requires short { length table.now ≤ 65536 }
-    ensures output { IfOk result (λ o. IsOutputBy text.items table.now o) }
-    ensures none { IfErr result (λ s. HasNoOutput text.items table.now s) }
+    ensures output { IfOk result (λ o. IsOutput text.items table.now o) }
+    ensures none { IfErr result (ComesToNone (output_due text.items table.now)) }
 {
-    match machine_of(table) {
-        Ok(machine) => output_on(alloc, text, &machine),
-        Err(status) => Err(status),
-    }
-}
-
-/// What a text is compiled to, or the answer where it comes to no part.
-#[tactic(auto, using(crate::proofs::Outputs::output_is))]
-fn output_on(alloc: Global, text: Vec<u8>, machine: &Machine) -> Result<Output, Status>
-    requires { IsMachine machine.now }
-    ensures output { IfOk result (λ o. IsOutput machine.now text.items o) }
-    ensures none { IfErr result (λ s. HasNoPart machine.now text.items s) }
-{
-    let part = match part_on(alloc, text, machine) {
-        Ok(part) => part,
-        Err(status) => return Err(status),
-    };
-    match output_of(alloc, part, machine) {
-        Ok(output) => Ok(output),
-        Err(_) => Err(Status::NoMemory),
-    }
+    let machine = machine_of(table)?;
+    let part = part_on(alloc, text, &machine)?;
+    Ok(output_of(alloc, part, &machine)?)
 }
 
 /// The files of the records of a part. Each list goes as soon as it has been used, to keep the peak of memory low.

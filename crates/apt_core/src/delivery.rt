@@ -1,14 +1,14 @@
 //! The writing of a CL file and of its tape.
 
-ghost use Rattle.std.specs.Prelude.{◌≡◌, ◌≤◌, OnOk, OnErr, IsErrOf};
+ghost use Rattle.std.specs.Prelude.{◌≡◌, ◌≤◌, IfOk, OnOk, OnErr, IsErrOf};
 ghost use Rattle.std.specs.FinMap.{insert};
 ghost use Rattle.apt_shelf.specs.Files.{WritesPrefix};
 ghost use Rattle.apt_shelf.specs.Told.{Rose, Steps};
-ghost use Rattle.apt_core.specs.Delivery.{IsDelivered};
+ghost use Rattle.apt_core.specs.Delivery.{with_output, WritesFront};
 
 use crate::compile::Output;
 use apt_cldata::ClBytes;
-use apt_report::Status;
+use apt_report::Summary;
 use apt_shelf::{Shelf, ShelfFault, append_all, append_full, write_all};
 use std::alloc::Global;
 
@@ -20,22 +20,17 @@ pub(crate) fn deliver<H: Shelf>(
     output: Output,
     cl: &str,
     tape: &str,
-) -> Status
-    ensures delivered { IsDelivered cl.now tape.now output (H.told shelf.old) (H.told shelf.new) result }
-    ensures write_fault { result ≡ Status.WriteFault → Rose (H.write_faults shelf.old) (H.write_faults shelf.new) }
+) -> Result<Summary, ShelfFault>
+    ensures told { IfOk result (λ summary. summary ≡ output.summary) }
+    ensures whole { OnOk result (Steps (with_output cl.now tape.now output) (H.told shelf.old) (H.told shelf.new)) }
+    ensures front { OnErr result (WritesFront cl.now tape.now output (H.told shelf.old) (H.told shelf.new)) }
+    ensures fault { IsErrOf result ShelfFault.Fault → Rose (H.write_faults shelf.old) (H.write_faults shelf.new) }
     ensures later { H.write_faults shelf.old ≤ H.write_faults shelf.new }
     ensures read_faults { H.read_faults shelf.new ≡ H.read_faults shelf.old }
 {
-    match write_cl(alloc, shelf, cl, output.cl) {
-        Ok(()) => {}
-        Err(ShelfFault::Fault) => return Status::WriteFault,
-        Err(ShelfFault::NoMemory) => return Status::NoMemory,
-    }
-    match write_all(shelf, tape, &output.tape) {
-        Ok(()) => Status::Done(output.summary),
-        Err(ShelfFault::Fault) => Status::WriteFault,
-        Err(ShelfFault::NoMemory) => Status::NoMemory,
-    }
+    write_cl(alloc, shelf, cl, output.cl)?;
+    write_all(shelf, tape, &output.tape)?;
+    Ok(output.summary)
 }
 
 /// Writes a CL file piece by piece, so that a long one is never in memory as a whole. After a refusal the name is as

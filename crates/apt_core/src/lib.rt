@@ -4,14 +4,14 @@
 ghost use Rattle.std.specs.Prelude.{◌≡◌, Some, None};
 ghost use Rattle.apt_core.specs.Words.{asked, texts};
 ghost use Rattle.apt_core.specs.Request.{ask_of, IsApart};
-ghost use Rattle.apt_core.specs.Promise.{IsRun, Completes, Works, files_on, outside};
+ghost use Rattle.apt_core.specs.Inputs.{files_on};
+ghost use Rattle.apt_core.specs.Promise.{IsRun, Completes, Works, outside};
 
 mod certify;
 mod compile;
 mod decode;
 mod delivery;
-mod machine;
-mod part;
+mod due;
 mod put;
 mod reading;
 mod words;
@@ -43,7 +43,7 @@ use words::{Request, request_of};
 /// machine runs the tape, and no other line. It writes nothing.
 ///
 /// A table is judged when all that is read has been read, and before the part.
-#[tactic(auto, using(crate::proofs::Running::run_is, crate::proofs::Running::usage_asked, crate::proofs::Running::completes))]
+#[tactic(auto, using(crate::proofs::Running::run_is, crate::proofs::Running::completes))]
 pub fn apt<H: Shelf, K: Sink>(
     rt: &(impl Threads + Sync),
     alloc: Global,
@@ -62,7 +62,7 @@ pub fn apt<H: Shelf, K: Sink>(
 
 /// The answer to the words.
 fn answer<H: Shelf>(alloc: Global, words: &[String], shelf: &mut H) -> Reply
-    ensures works { Works (asked (texts words.now)) (files_on H.Shelf shelf.old) (files_on H.Shelf shelf.new) result.answer result.text }
+    ensures works { Works (asked (texts words.now)) (files_on H.Shelf shelf.old) (files_on H.Shelf shelf.new) result }
     ensures untouched { asked (texts words.now) ≡ None → shelf.new ≡ shelf.old }
 {
     match request_of(words) {
@@ -74,11 +74,14 @@ fn answer<H: Shelf>(alloc: Global, words: &[String], shelf: &mut H) -> Reply
 /// The answer to a request.
 fn answer_to<H: Shelf>(alloc: Global, request: Request<'_>, shelf: &mut H) -> Reply
     requires { IsApart request }
-    ensures { Works (Some (ask_of request.entry)) (files_on H.Shelf shelf.old) (files_on H.Shelf shelf.new) result.answer result.text }
+    ensures { Works (Some (ask_of request.entry)) (files_on H.Shelf shelf.old) (files_on H.Shelf shelf.new) result }
 {
     match request {
-        Request::Compile(names) => Reply::lined(compile(alloc, shelf, names)),
-        Request::Certify(names) => Reply::lined(certify(alloc, shelf, names)),
-        Request::Decode(names) => decode(alloc, shelf, names),
+        Request::Compile(names) => Reply::of(compile(alloc, shelf, names)),
+        Request::Certify(names) => Reply::of(certify(alloc, shelf, names)),
+        Request::Decode(names) => match decode(alloc, shelf, names) {
+            Ok(reply) => reply,
+            Err(status) => Reply::lined(status),
+        },
     }
 }

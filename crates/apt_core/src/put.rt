@@ -1,10 +1,11 @@
 //! The text of an answer, put on a sink.
 
 ghost use Rattle.std.specs.Prelude.{◌≡◌};
+ghost use Rattle.apt_core.specs.Due.{answer_of};
 ghost use Rattle.apt_core.specs.Decoding.{lined};
 ghost use Rattle.apt_core.specs.Promise.{IsPut, lines_on};
 
-use apt_report::{Status, line_of};
+use apt_report::{Status, Summary, line_of};
 use apt_shelf::{ShelfFault, Sink};
 use std::alloc::Global;
 use std::marker::Model;
@@ -35,12 +36,22 @@ impl Reply {
             lines: None,
         }
     }
+
+    /// The answer of a work, with its own line.
+    pub(crate) fn of(work: Result<Summary, Status>) -> Reply
+        ensures { result ≡ lined (answer_of work) }
+    {
+        match work {
+            Ok(summary) => Reply::lined(Status::Done(summary)),
+            Err(status) => Reply::lined(status),
+        }
+    }
 }
 
 /// Puts the text of an answer, and gives the answer; `WriteFault` or `NoMemory` where that fails.
 #[tactic(auto, using(crate::proofs::Putting::short_put))]
 pub(crate) fn tell<K: Sink>(alloc: Global, out: &mut K, reply: Reply) -> Status
-    ensures { IsPut reply.answer reply.text (lines_on K.Sink out.old) (lines_on K.Sink out.new) result }
+    ensures { IsPut reply (lines_on K.Sink out.old) (lines_on K.Sink out.new) result }
 {
     let Reply { status, lines } = reply;
     if let Some(text) = lines {
@@ -55,7 +66,7 @@ pub(crate) fn tell<K: Sink>(alloc: Global, out: &mut K, reply: Reply) -> Status
 /// Puts a text, where it has a byte.
 #[tactic(auto, using(crate::proofs::Putting::silent_put, crate::proofs::Putting::text_put, crate::proofs::Putting::front_put, crate::proofs::Putting::front_put_short))]
 fn put_text<K: Sink>(out: &mut K, status: Status, text: &[u8]) -> Status
-    ensures { IsPut status text.now (lines_on K.Sink out.old) (lines_on K.Sink out.new) result }
+    ensures { IsPut (record { answer = status; text = text.now }) (lines_on K.Sink out.old) (lines_on K.Sink out.new) result }
 {
     if text.is_empty() {
         return status;

@@ -1,8 +1,7 @@
 //! The files that a command reads.
 
-ghost use Rattle.std.specs.Prelude.{◌≡◌, ◌≤◌, IfOk, IfErr};
-ghost use Rattle.apt_core.specs.Inputs.{Reads};
-ghost use Rattle.apt_core.specs.Unread.{IsNotRead, IsUnreadFor};
+ghost use Rattle.std.specs.Prelude.{◌≡◌, [], ◌∷◌, IfOk, IfErr};
+ghost use Rattle.apt_core.specs.Inputs.{input, files_on, AreRead, Reads, IsStopped};
 
 use apt_report::{FileName, Status};
 use apt_shelf::{ReadError, Shelf, read_all};
@@ -24,34 +23,20 @@ pub(crate) fn read_input<H: Shelf>(
     name: &str,
     limit: usize,
 ) -> Result<Vec<u8>, Status>
-    ensures text { IfOk result (λ v. Reads (H.told shelf.old) (record { name = name.now; limit = limit }) v.items) }
-    ensures unread { IfErr result (λ s. IsNotRead (H.told shelf.old) (record { name = name.now; limit = limit }) (H.read_faults shelf.old) (H.read_faults shelf.new) s) }
-    ensures later { H.read_faults shelf.old ≤ H.read_faults shelf.new }
-    ensures told { H.told shelf.new ≡ H.told shelf.old }
-    ensures writing { H.writing shelf.new ≡ H.writing shelf.old }
-    ensures write_faults { H.write_faults shelf.new ≡ H.write_faults shelf.old }
+    ensures text { IfOk result (λ v. Reads (H.told shelf.old) (input name.now limit) v.items) }
+    ensures stopped { IfErr result (IsStopped (input name.now limit ∷ []) (files_on H.Shelf shelf.old) (files_on H.Shelf shelf.new)) }
+    ensures read { AreRead (files_on H.Shelf shelf.old) (files_on H.Shelf shelf.new) }
 {
     match read_all(alloc, shelf, name, limit) {
         Ok(text) => Ok(text),
-        Err(error) => Err(unread(alloc, error, name)),
-    }
-}
-
-/// The answer where a name was not read.
-fn unread(alloc: Global, error: ReadError, name: &str) -> Status
-    ensures { IsUnreadFor error name.now result }
-{
-    match error {
-        ReadError::Missing => match file_name(alloc, name) {
-            Ok(name) => Status::Missing { name },
-            Err(_) => Status::NoMemory,
-        },
-        ReadError::Fault => Status::ReadFault,
-        ReadError::TooLong => match file_name(alloc, name) {
-            Ok(name) => Status::TooLong { name },
-            Err(_) => Status::NoMemory,
-        },
-        ReadError::NoMemory => Status::NoMemory,
+        Err(ReadError::Missing) => Err(Status::Missing {
+            name: file_name(alloc, name)?,
+        }),
+        Err(ReadError::Fault) => Err(Status::ReadFault),
+        Err(ReadError::TooLong) => Err(Status::TooLong {
+            name: file_name(alloc, name)?,
+        }),
+        Err(ReadError::NoMemory) => Err(Status::NoMemory),
     }
 }
 

@@ -8,6 +8,7 @@ use apt_cldata::ClCause;
 use apt_lexis::PartCause;
 use apt_machine::MachineCause;
 use apt_words::Case;
+use std::alloc::AllocError;
 use std::marker::Model;
 
 /// A name of the command line. Clauses see its bytes.
@@ -103,5 +104,15 @@ impl Status {
             Status::WriteFault => 11,
             Status::NoMemory => 12,
         }
+    }
+}
+
+impl From<AllocError> for Status {
+    ghost use Rattle.apt_report.specs.declared.status.Status.TheVariants as answers;
+
+    ghost from_gives = { λ _ s. s ≡ answers.NoMemory };
+
+    fn from(_: AllocError) -> Self {
+        Status::NoMemory
     }
 }

@@ -1,5 +1,11 @@
 use Rattle.std.proofs.Common.{refl}
 use Rattle.apt_core.proofs.answer_to.Goals as goal
 
+pub returns-in-Compile : goal.returns-in-Compile
+returns-in-Compile g c = rw (c.in-Compile.is, c.of.ensures) (refl, c.compile.ensures)
+
 pub returns-in-Certify : goal.returns-in-Certify
-returns-in-Certify g c = rw (c.in-Certify.is, c.lined-in-Certify.ensures) (refl, c.certify.ensures)
+returns-in-Certify g c = rw (c.in-Certify.is, c.of-in-Certify.ensures) (refl, c.certify.ensures)
+
+pub returns-in-Err : goal.returns-in-Err
+returns-in-Err g c = rw (c.in-Decode.is, c.lined.ensures) c.in-Err.ensures

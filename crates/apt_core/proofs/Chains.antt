@@ -1,0 +1,48 @@
+-- What is due, along a chain, and for a text that comes to none.
+use Rattle.std.proofs.Common.{◌≡◌, inl, inr, ℕ, List, Result, Ok, Err, sym, ◌∙◌, refl}
+use Rattle.apt_words.specs.Chains.{◌>>=◌}
+use Rattle.apt_words.specs.declared.Refusal.{Refusal}
+use Rattle.apt_parse.specs.Programs.{TextFault}
+use Rattle.apt_cldata.specs.declared.error.ClCause.{ClCause}
+use Rattle.apt_cldata.specs.Reading as reading
+use Rattle.apt_block.specs.declared.block.TapeCause.{TapeCause}
+use Rattle.apt_block.specs.Block as blocks
+use Rattle.apt_control.specs.Control.{control_run}
+use Rattle.apt_machine.specs.declared.machine.Machine.{Machine}
+use Rattle.apt_part.specs.Answering.{IsPart}
+use Rattle.apt_part.specs.declared.part.PartError.{PartError}
+use Rattle.apt_part.specs.declared.part.PartError.TheVariants as part_errors
+use Rattle.apt_report.specs.declared.status.Status.{Status}
+use Rattle.apt_report.specs.declared.status.Status.TheVariants as answers
+use Rattle.apt_core.specs.Due.{ComesToNone, part_told, unless_refused, records_due, acts_due}
+
+-- what is due and was not given is told
+pub none_told : {A : Type 0} (due : Result (Result A Refusal) TextFault) (error : PartError) → IsPart due (Err error) → ComesToNone (unless_refused due) (part_told error)
+none_told due (part_errors.Bad line cause) is = inl (rw is refl)
+none_told due (part_errors.Refused r) is = inl (rw is refl)
+none_told due part_errors.NoMemory is = inr refl
+
+pub bad_cl_told : (cl : List ℕ) (at : ℕ) (cause : ClCause) → reading.read_of cl ≡ Err (reading.fault at cause) → ComesToNone (records_due cl) (answers.BadCl at cause)
+bad_cl_told cl at cause e = inl (rw e refl)
+
+pub bad_tape_told : (machine : Machine) (tape : List ℕ) (at : ℕ) (cause : TapeCause) → control_run machine.code tape ≡ Err (blocks.fault at cause)
+    → ComesToNone (acts_due machine tape) (answers.BadTape at cause)
+bad_tape_told machine tape at cause e = inl (rw e refl)
+
+-- ---- along a chain
+
+pub one_due : {A : Type 0} (due : Result A Status) (a b : A) → due ≡ Ok a → due ≡ Ok b → a ≡ b
+one_due due a b e f = let same = sym e ∙ f in cc
+
+pub chain_on : {A B : Type 0} (due : Result A Status) (x : A) (more : A → Result B Status) → due ≡ Ok x → (due >>= more) ≡ more x
+chain_on due x more e = rw e refl
+
+-- the first that comes to none stands
+pub none_first : {A B : Type 0} (due : Result A Status) (more : A → Result B Status) (answer : Status) → ComesToNone due answer → ComesToNone (due >>= more) answer
+none_first due more answer (inl e) = inl (rw e refl)
+none_first due more answer (inr short) = inr short
+
+pub none_behind : {A B : Type 0} (due : Result A Status) (x : A) (more : A → Result B Status) (answer : Status) → due ≡ Ok x → ComesToNone (more x) answer
+    → ComesToNone (due >>= more) answer
+none_behind due x more answer e (inl is) = inl (chain_on due x more e ∙ is)
+none_behind due x more answer e (inr short) = inr short

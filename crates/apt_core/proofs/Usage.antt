@@ -1,0 +1,138 @@
+-- Usage is answered only where the words fit no command.
+use Rattle.std.proofs.Common.{◌≡◌, inl, inr, ℕ, List, [], ◌∷◌, Option, Some, None, Result, Ok, Err, ap, sym, ◌∙◌, refl}
+use Rattle.std.specs.Prelude.{◌≢◌}
+use Rattle.apt_words.specs.Chains.{◌>>=◌}
+use Rattle.apt_words.specs.declared.Refusal.{Refusal}
+use Rattle.apt_parse.specs.Programs.{TextFault}
+use Rattle.apt_shelf.specs.Told.{Contents}
+use Rattle.apt_machine.specs.declared.machine.Machine.{Machine}
+use Rattle.apt_machine.specs.Tables.{table_of}
+use Rattle.apt_cldata.specs.Reading.{read_of}
+use Rattle.apt_control.specs.declared.Act.{Act}
+use Rattle.apt_control.specs.Control.{control_run}
+use Rattle.apt_part.specs.Compilation.{steps_of, part_of}
+use Rattle.apt_report.specs.declared.status.Status.{Status}
+use Rattle.apt_report.specs.declared.status.Status.TheVariants as answers
+use Rattle.apt_report.specs.declared.status.Summary.TheVariants as summaries
+use Rattle.apt_core.specs.Words.{FourNames, TapeNames, Ask, Compile, Certify, Decode}
+use Rattle.apt_core.specs.Due.{told_by, bad_machine, bad_part, refused, bad_tape, unless_refused, machine_due, steps_due, records_due, acts_due}
+use Rattle.apt_core.specs.Inputs.{Input, Files, part_inputs, inputs, tape_inputs, IsUnread, IsFirstUnread, IsShort, IsStopped}
+use Rattle.apt_core.specs.Outputs.{output_due}
+use Rattle.apt_core.specs.Certificates.{judged_due, IsJudgement}
+use Rattle.apt_core.specs.Decoding.{Said, said_of, acts_said}
+use Rattle.apt_core.specs.Promise.{Lines, Outside, Compiles, Certifies, Decodes, Works, IsPut, IsRun}
+
+-- ---- what is due
+
+told_no_usage : {A E : Type 0} (due : Result A E) (tell : E → Status) → ((fault : E) → tell fault ≢ answers.Usage) → told_by due tell ≢ Err answers.Usage
+told_no_usage (Ok x) tell none e = let f : ⊥ = cc in f
+told_no_usage (Err fault) tell none e = none fault (let same : tell fault ≡ answers.Usage = cc in same)
+
+chain_no_usage : {A B : Type 0} (due : Result A Status) (more : A → Result B Status) → due ≢ Err answers.Usage → ((x : A) → more x ≢ Err answers.Usage)
+    → (due >>= more) ≢ Err answers.Usage
+chain_no_usage (Ok x) more none later = later x
+chain_no_usage (Err answer) more none later = λ e. none (let same : answer ≡ answers.Usage = cc in ap Err same)
+
+ok_no_usage : {A : Type 0} (x : A) → (Ok x) ≢ Err answers.Usage
+ok_no_usage x e = let f : ⊥ = cc in f
+
+machine_no_usage : (table : List ℕ) → machine_due table ≢ Err answers.Usage
+machine_no_usage table = told_no_usage (table_of table) bad_machine (λ fault e. let f : ⊥ = cc in f)
+
+part_no_usage : {A : Type 0} (due : Result (Result A Refusal) TextFault) → unless_refused due ≢ Err answers.Usage
+part_no_usage due =
+    chain_no_usage (told_by due bad_part) (λ r. told_by r refused) (told_no_usage due bad_part (λ fault e. let f : ⊥ = cc in f))
+    (λ r. told_no_usage r refused (λ fault e. let f : ⊥ = cc in f))
+
+records_no_usage : (cl : List ℕ) → records_due cl ≢ Err answers.Usage
+records_no_usage cl = told_no_usage (read_of cl) (λ fault. answers.BadCl fault.at fault.cause) (λ fault e. let f : ⊥ = cc in f)
+
+acts_no_usage : (machine : Machine) (tape : List ℕ) → acts_due machine tape ≢ Err answers.Usage
+acts_no_usage machine tape = told_no_usage (control_run machine.code tape) bad_tape (λ fault e. let f : ⊥ = cc in f)
+
+output_no_usage : (text table : List ℕ) → output_due text table ≢ Err answers.Usage
+output_no_usage text table =
+    chain_no_usage (machine_due table) _ (machine_no_usage table) (λ machine.
+    chain_no_usage (unless_refused (part_of machine text)) _ (part_no_usage (part_of machine text)) (λ p. ok_no_usage _))
+
+judged_no_usage : (text table cl tape : List ℕ) → judged_due text table cl tape ≢ Err answers.Usage
+judged_no_usage text table cl tape =
+    chain_no_usage (machine_due table) _ (machine_no_usage table) (λ machine.
+    chain_no_usage (steps_due machine text) _ (part_no_usage (steps_of machine text)) (λ steps.
+    chain_no_usage (records_due cl) _ (records_no_usage cl) (λ written.
+    chain_no_usage (acts_due machine tape) _ (acts_no_usage machine tape) (λ acts. ok_no_usage _))))
+
+acts_said_no_usage : (due : Result (List Act) Status) → due ≢ Err answers.Usage → (said_of (due >>= λ acts. Ok (acts_said acts))).answer ≢ answers.Usage
+acts_said_no_usage (Ok acts) none e = let f : ⊥ = cc in f
+acts_said_no_usage (Err answer) none e = none (ap Err e)
+
+said_no_usage : (tape : List ℕ) (due : Result Machine Status) → due ≢ Err answers.Usage
+    → (said_of (due >>= λ machine. acts_due machine tape >>= λ acts. Ok (acts_said acts))).answer ≢ answers.Usage
+said_no_usage tape (Ok machine) none = acts_said_no_usage (acts_due machine tape) (acts_no_usage machine tape)
+said_no_usage tape (Err answer) none = λ e. none (ap Err e)
+
+-- ---- what is told
+
+short_no_usage : (fault : Status) (before now : ℕ) (answer : Status) → fault ≢ answers.Usage → IsShort fault before now answer → answer ≢ answers.Usage
+short_no_usage fault before now answer none (inl failed) e = none (sym failed.0 ∙ e)
+short_no_usage fault before now answer none (inr short) e = let f : answers.NoMemory ≡ answers.Usage = sym short ∙ e in let g : ⊥ = cc in g
+
+unread_no_usage : (told : Option Contents) (x : Input) (before now : ℕ) (answer : Status) → IsUnread told x before now answer → answer ≢ answers.Usage
+unread_no_usage told x before now answer (inl missing) e = let f : answers.Missing x.name ≡ answers.Usage = sym missing.0 ∙ e in let g : ⊥ = cc in g
+unread_no_usage told x before now answer (inr long) e = let f : answers.TooLong x.name ≡ answers.Usage = sym long.0 ∙ e in let g : ⊥ = cc in g
+
+first_no_usage : (told : Option Contents) (xs : List Input) (before now : ℕ) (answer : Status) → IsFirstUnread told xs before now answer → answer ≢ answers.Usage
+first_no_usage told [] before now answer is e = is
+first_no_usage told (x ∷ xs) before now answer (inl unread) e = unread_no_usage told x before now answer unread e
+first_no_usage told (x ∷ xs) before now answer (inr later) e = first_no_usage told xs before now answer later.2 e
+
+stopped_no_usage : (xs : List Input) (before after : Files) (answer : Status) → IsStopped xs before after answer → answer ≢ answers.Usage
+stopped_no_usage xs before after answer (inl first) = first_no_usage before.told xs before.read_faults after.read_faults answer first
+stopped_no_usage xs before after answer (inr short) = short_no_usage answers.ReadFault before.read_faults after.read_faults answer (λ e. let f : ⊥ = cc in f) short
+
+judgement_no_usage : (text table cl tape : List ℕ) (answer : Status) → IsJudgement text table cl tape answer → answer ≢ answers.Usage
+judgement_no_usage text table cl tape answer (inl due) e = judged_no_usage text table cl tape (due ∙ ap Err e)
+judgement_no_usage text table cl tape answer (inr found) e = elim found.2 [
+  | inl missed ↦ (let f : answers.NotCertified missed.0 ≡ answers.Usage = sym missed.1 ∙ e in let g : ⊥ = cc in g)
+  | inr done ↦ (let f : answers.Done (summaries.Certified done.0) ≡ answers.Usage = sym done.1 ∙ e in let g : ⊥ = cc in g)
+]
+
+compiles_no_usage : (n : FourNames) (before after : Files) (told : Status) → Compiles n before after told → told ≢ answers.Usage
+compiles_no_usage n before after told works e = elim works.comes [
+  | inl stopped ↦ stopped_no_usage (part_inputs n) before after told stopped.0 e
+  | inr read ↦ elim read.3 [
+    | inl due ↦ output_no_usage read.0 read.1 (due.0 ∙ ap Err e)
+    | inr written ↦ elim written.2 [
+      | inl whole ↦ (let f : answers.Done written.0.summary ≡ answers.Usage = sym whole.0 ∙ e in let g : ⊥ = cc in g)
+      | inr cut ↦ short_no_usage answers.WriteFault before.write_faults after.write_faults told (λ e. let f : ⊥ = cc in f) cut.0 e
+    ]
+  ]
+]
+
+certifies_no_usage : (n : FourNames) (before after : Files) (told : Status) → Certifies n before after told → told ≢ answers.Usage
+certifies_no_usage n before after told works e = elim works.comes [
+  | inl stopped ↦ stopped_no_usage (inputs n) before after told stopped e
+  | inr judges ↦ judgement_no_usage judges.text judges.table judges.cl judges.tape told judges.judgement e
+]
+
+decodes_no_usage : (n : TapeNames) (before after : Files) (said : Said) → Decodes n before after said → said.answer ≢ answers.Usage
+decodes_no_usage n before after said works e = elim works.comes [
+  | inl stopped ↦ stopped_no_usage (tape_inputs n) before after said.answer stopped.0 e
+  | inr runs ↦ said_no_usage runs.tape (machine_due runs.table) (machine_no_usage runs.table) (sym (ap (λ (s : Said). s.answer) runs.due) ∙ e)
+]
+
+works_no_usage : (ask : Option Ask) (before after : Files) (said : Said) → Works ask before after said → said.answer ≡ answers.Usage → ask ≡ None
+works_no_usage None before after said works e = refl
+works_no_usage (Some (Compile n)) before after said works e = absurd (compiles_no_usage n before after said.answer works.1 e)
+works_no_usage (Some (Certify n)) before after said works e = absurd (certifies_no_usage n before after said.answer works.1 e)
+works_no_usage (Some (Decode n)) before after said works e = absurd (decodes_no_usage n before after said works e)
+
+put_no_usage : (said : Said) (answer : Status) (before after : Lines) → IsPut said before after answer → answer ≡ answers.Usage → said.answer ≡ answers.Usage
+put_no_usage said answer before after puts e = elim puts.shows [
+  | inl whole ↦ sym whole.0 ∙ e
+  | inr front ↦ absurd (short_no_usage answers.WriteFault before.put_faults after.put_faults answer (λ e. let f : ⊥ = cc in f) front.0 e)
+]
+
+pub usage_asked : (ask : Option Ask) (before after : Outside) (answer : Status) → IsRun ask before after answer → answer ≡ answers.Usage → ask ≡ None
+usage_asked ask before after answer run e =
+    works_no_usage ask before.files after.files run.said run.works (put_no_usage run.said answer before.lines after.lines run.puts e)

@@ -1,0 +1,107 @@
+//! What texts come to, or the answer where one has a fault.
+
+ghost use Rattle.std.specs.Prelude.{◌≡◌, ◌+◌, ◌≤◌, length, IfOk, IfErr, Ok, Err};
+ghost use Rattle.apt_cldata.specs.Ranges.{AreRecords, vertex_count};
+ghost use Rattle.apt_cldata.specs.Reading.{read_of};
+ghost use Rattle.apt_control.specs.Control.{control_run};
+ghost use Rattle.apt_machine.specs.Machines.{IsMachine};
+ghost use Rattle.apt_machine.specs.Tables as tables;
+ghost use Rattle.apt_part.specs.Compilation as parts;
+ghost use Rattle.apt_part.specs.Promise.{Passes, Promise, AreSteps};
+ghost use Rattle.apt_core.specs.Due.{ComesToNone, machine_due, part_due, steps_due, records_due, acts_due, part_told};
+
+use apt_cldata::{ClError, Record, read};
+use apt_control::{Act, ControlError, read_tape};
+use apt_machine::{Machine, table};
+use apt_part::{Part, PartError, part_of, steps_of};
+use apt_report::Status;
+use apt_words::Step;
+use std::alloc::Global;
+
+/// The machine of a table.
+pub(crate) fn machine_of(text: &[u8]) -> Result<Machine, Status>
+    requires short { length text.now ≤ 65536 }
+    ensures machine { IfOk result (λ m. tables.table_of text.now ≡ Ok m) }
+    ensures range { IfOk result IsMachine }
+    ensures none { IfErr result (λ s. machine_due text.now ≡ Err s) }
+{
+    match table(text) {
+        Ok(machine) => Ok(machine),
+        Err(error) => Err(Status::BadMachine {
+            line: error.line,
+            cause: error.cause,
+        }),
+    }
+}
+
+/// How a part that has a fault, or a refused step, is told.
+fn told(error: PartError) -> Status
+    ensures { result ≡ part_told error }
+{
+    match error {
+        PartError::Bad { line, cause } => Status::BadPart { line, cause },
+        PartError::Refused(r) => Status::Refused {
+            line: r.line,
+            step: r.step,
+            case: r.case,
+        },
+        PartError::NoMemory => Status::NoMemory,
+    }
+}
+
+/// The part of a text on a machine.
+#[tactic(auto, using(crate::proofs::Chains::none_told))]
+pub(crate) fn part_on(alloc: Global, text: Vec<u8>, machine: &Machine) -> Result<Part, Status>
+    requires { IsMachine machine.now }
+    ensures part { IfOk result (λ p. parts.part_of machine.now text.items ≡ Ok (Ok p)) }
+    ensures promise { IfOk result (λ p. Promise machine.now text.items p) }
+    ensures none { IfErr result (ComesToNone (part_due machine.now text.items)) }
+{
+    match part_of(alloc, text, machine) {
+        Ok(part) => Ok(part),
+        Err(error) => Err(told(error)),
+    }
+}
+
+/// The steps of a text on a machine.
+#[tactic(auto, using(crate::proofs::Chains::none_told))]
+pub(crate) fn steps_on(alloc: Global, text: Vec<u8>, machine: &Machine) -> Result<Vec<Step>, Status>
+    ensures comes { IfOk result (λ steps. parts.steps_of machine.now text.items ≡ Ok (Ok steps.items)) }
+    ensures passes { IfOk result (λ steps. Passes machine.now text.items steps.items) }
+    ensures steps { IfOk result (λ steps. AreSteps steps.items) }
+    ensures none { IfErr result (ComesToNone (steps_due machine.now text.items)) }
+{
+    match steps_of(alloc, text, machine) {
+        Ok(steps) => Ok(steps),
+        Err(error) => Err(told(error)),
+    }
+}
+
+/// The records of a CL file.
+#[tactic(auto, using(crate::proofs::Chains::bad_cl_told))]
+pub(crate) fn records_in(alloc: Global, cl: &[u8]) -> Result<Vec<Record>, Status>
+    requires short { length cl.now ≤ 67108864 }
+    ensures value { IfOk result (λ records. read_of cl.now ≡ Ok records.items) }
+    ensures range { IfOk result (λ records. AreRecords records.items) }
+    ensures few { IfOk result (λ records. vertex_count records.items + length records.items ≤ length cl.now) }
+    ensures none { IfErr result (ComesToNone (records_due cl.now)) }
+{
+    match read(alloc, cl) {
+        Ok(records) => Ok(records),
+        Err(ClError::Bad { at, cause }) => Err(Status::BadCl { at, cause }),
+        Err(ClError::NoMemory) => Err(Status::NoMemory),
+    }
+}
+
+/// The acts to which a control of a machine runs a tape.
+#[tactic(auto, using(crate::proofs::Chains::bad_tape_told))]
+pub(crate) fn acts_on(alloc: Global, machine: &Machine, tape: &[u8]) -> Result<Vec<Act>, Status>
+    ensures value { IfOk result (λ acts. control_run machine.now.code tape.now ≡ Ok acts.items) }
+    ensures none { IfErr result (ComesToNone (acts_due machine.now tape.now)) }
+{
+    match read_tape(alloc, machine.code, tape) {
+        Ok(acts) => Ok(acts),
+        Err(ControlError::Bad { at, cause }) => Err(Status::BadTape { at, cause }),
+        Err(ControlError::NoMemory) => Err(Status::NoMemory),
+    }
+}
