@@ -9,7 +9,9 @@ use Rattle.apt_certify.specs.declared.verdict.Verdict.{Verdict}
 use Rattle.apt_certify.specs.Jobs.{AreLegal}
 use Rattle.apt_certify.specs.Verdicts.{IsVerdict, IsFirstBadOrNone}
 use Rattle.apt_meaning.specs.Situations.{first_situation}
-use Rattle.apt_job.proofs.Walks.{jobs_right}
+use Rattle.apt_meaning.specs.Records.{Follows}
+use Rattle.apt_job.specs.Jobs.{jobs_said}
+use Rattle.apt_job.proofs.Walks.{jobs_right, makes_said}
 use Rattle.apt_machine.specs.declared.machine.Machine.{Machine}
 use Rattle.apt_machine.specs.Tables.{table_of}
 use Rattle.apt_control.specs.declared.Act.{Act}
@@ -23,7 +25,7 @@ use Rattle.apt_report.specs.declared.status.Summary.TheVariants as summaries
 use Rattle.apt_core.specs.Words.{FourNames}
 use Rattle.apt_core.specs.Due.{OrNoMemory, ComesToNone, unless_refused, machine_due, steps_due, records_due, acts_due}
 use Rattle.apt_core.specs.Inputs.{Files, AreRead, inputs, ReadsAll, IsStopped}
-use Rattle.apt_core.specs.Certificates.{HasVerdict, IsCertified, Judged, judged, judged_due, IsMissed, IsJudgement}
+use Rattle.apt_core.specs.Certificates.{IsCertified, Judged, judged, judged_due, IsMissed, IsJudgement}
 use Rattle.apt_core.specs.Promise.{Certifies}
 use Rattle.apt_core.proofs.Counting.{makes_segments}
 use Rattle.apt_core.proofs.Chains.{chain_on}
@@ -102,31 +104,32 @@ missed_judged machine text table cl tape steps written acts answer are (inr shor
 
 -- what follows legally is right
 good_is_right : (machine : Machine) (text cl tape : List ℕ) (steps : List Step) (written : List Record) (v : Verdict) → Passes machine text steps → read_of cl ≡ Ok written
-    → control_run machine.code tape ≡ Ok (plan written) → HasVerdict steps written v → v.first_bad ≡ None → IsCertified machine text cl tape v
-good_is_right machine text cl tape steps written v passes read run has legal =
-    let follow = jobs_right steps written has.jobs has.makes (all_legal has.jobs v has.verdict legal) in record {
+    → control_run machine.code tape ≡ Ok (plan written) → Follows steps written → IsVerdict (jobs_said written) v → v.first_bad ≡ None → IsCertified machine text cl tape v
+good_is_right machine text cl tape steps written v passes read run follow verdict none =
+    let makes = makes_said steps written follow in
+    let right = jobs_right steps written (jobs_said written) makes (all_legal (jobs_said written) v verdict none) in record {
       right = record {
         steps = steps;
         passes = passes;
         records = written;
         read = read;
         acts = run;
-        follow = follow.0;
-        legal = follow.1;
+        follow = right.0;
+        legal = right.1;
       };
-      verdict = has;
-      counted = has.verdict.segments ∙ makes_segments first_situation steps written has.jobs has.makes;
+      verdict = verdict;
+      counted = verdict.segments ∙ makes_segments first_situation steps written (jobs_said written) makes;
     }
 
 -- all is right
 pub good_judged : (machine : Machine) (text table cl tape : List ℕ) (steps : List Step) (written : List Record) (acts : List Act) (v : Verdict)
-    → AreJudged machine text table cl tape steps written acts → Passes machine text steps → HasVerdict steps written v → v.first_bad ≡ None → acts ≡ plan written
+    → AreJudged machine text table cl tape steps written acts → Passes machine text steps → Follows steps written → IsVerdict (jobs_said written) v → v.first_bad ≡ None → acts ≡ plan written
     → OrNoMemory (IsJudgement text table cl tape (answers.Done (summaries.Certified v))) (answers.Done (summaries.Certified v))
-good_judged machine text table cl tape steps written acts v are passes has legal planned =
+good_judged machine text table cl tape steps written acts v are passes follow verdict none planned =
     inl (inr (
       judged machine steps written acts,
       judged_for machine text table cl tape steps written acts are,
-      inr (v, refl, good_is_right machine text cl tape steps written v passes are.read (are.run ∙ ap Ok planned) has legal),
+      inr (v, refl, good_is_right machine text cl tape steps written v passes are.read (are.run ∙ ap Ok planned) follow verdict none),
     ))
 
 -- ---- the work

@@ -8,7 +8,8 @@ use Rattle.apt_certify.specs.declared.verdict.Verdict.{Verdict}
 use Rattle.apt_certify.proofs.Legality.{bad_not_legal}
 use Rattle.apt_meaning.specs.Situations.{first_situation}
 use Rattle.apt_meaning.proofs.Walks.Alone.{contours_legal}
-use Rattle.apt_job.proofs.Walks.{follows_legal, follows_makes, makes_no_fails}
+use Rattle.apt_job.specs.Jobs.{jobs_said}
+use Rattle.apt_job.proofs.Walks.{follows_legal, follows_makes, makes_no_fails, makes_said}
 use Rattle.apt_machine.specs.declared.machine.Machine.{Machine}
 use Rattle.apt_machine.specs.Tables.{table_of}
 use Rattle.apt_control.specs.declared.Act.{Act}
@@ -73,8 +74,10 @@ no_miss machine text cl tape right acts (misses.Entry seq) same is =
     let jobs = follows_makes first_situation right.steps right.records right.follow.behind (contours_legal right.steps right.records right.follow right.legal) in
     makes_no_fails first_situation right.steps right.records jobs.0 1 seq jobs.1 is
 no_miss machine text cl tape right acts (misses.Motion bad) same is =
-    bad_not_legal is.0 bad is.2 (follows_legal first_situation right.steps right.records is.0 right.follow.behind is.1 (contours_legal right.steps right.records right.follow right.legal))
-no_miss machine text cl tape right acts (misses.Act at) same is = no_difference acts (plan right.records) at same is.3
+    let makes = makes_said right.steps right.records is.0 in
+    let legal = contours_legal right.steps right.records right.follow right.legal in
+    bad_not_legal (jobs_said right.records) bad is.1 (follows_legal first_situation right.steps right.records (jobs_said right.records) right.follow.behind makes legal)
+no_miss machine text cl tape right acts (misses.Act at) same is = no_difference acts (plan right.records) at same is.2
 
 right_judged : (machine : Machine) (text table cl tape : List ℕ) (right : IsRight machine text cl tape) → table_of table ≡ Ok machine
     → judged_due text table cl tape ≡ Ok (judged machine right.steps right.records (plan right.records))

@@ -4,7 +4,6 @@ use Rattle.apt_words.specs.Chains.{◌>>=◌}
 use Rattle.apt_words.specs.declared.deed.Step.{Step}
 use Rattle.apt_cldata.specs.declared.record.Record.{Record}
 use Rattle.apt_cldata.specs.Reading.{read_of}
-use Rattle.apt_certify.specs.declared.leg.Job.{Job}
 use Rattle.apt_certify.specs.declared.verdict.Verdict.{Verdict}
 use Rattle.apt_certify.specs.Jobs.{AreLegal}
 use Rattle.apt_certify.specs.Verdicts.{IsFirstBad, IsVerdict}
@@ -12,7 +11,7 @@ use Rattle.apt_meaning.specs.Situations.{first_situation}
 use Rattle.apt_meaning.specs.Paths.{EveryContour, IsLegalCut, contours_of}
 use Rattle.apt_meaning.specs.Records.{Follows}
 use Rattle.apt_meaning.specs.Expectations.{FailsAt}
-use Rattle.apt_job.specs.Jobs.{MakesJobs}
+use Rattle.apt_job.specs.Jobs.{jobs_said}
 use Rattle.apt_machine.specs.declared.machine.Machine.{Machine}
 use Rattle.apt_control.specs.declared.Act.{Act}
 use Rattle.apt_control.specs.Control.{control_run}
@@ -55,23 +54,16 @@ pub record DifferAt (xs ys : List Act) (at : ℕ) : Type 0 where
   pub differ : HeadsDiffer left right
   pub number : at ≡ length same + 1
 
--- the first that fails: that the records answer the steps, that all contours are legal, that the acts are the plan
+-- the first that fails: that the records follow the steps, that every contour that they say is legal, that the acts are the plan
 abbrev pub IsMiss : List Step → List Record → List Act → Miss → Type 0
 IsMiss steps written acts (misses.Entry seq) = FailsAt first_situation 1 steps written seq
-IsMiss steps written acts (misses.Motion bad) = (jobs : List Job) × MakesJobs first_situation steps written jobs × IsFirstBad jobs bad
-IsMiss steps written acts (misses.Act at) =
-    (jobs : List Job) × MakesJobs first_situation steps written jobs × AreLegal jobs × DifferAt acts (plan written) at
-
--- the records answer the steps, and this is the verdict over their contours
-pub record HasVerdict (steps : List Step) (written : List Record) (v : Verdict) : Type 0 where
-  pub jobs : List Job
-  pub makes : MakesJobs first_situation steps written jobs
-  pub verdict : IsVerdict jobs v
+IsMiss steps written acts (misses.Motion bad) = Follows steps written × IsFirstBad (jobs_said written) bad
+IsMiss steps written acts (misses.Act at) = Follows steps written × AreLegal (jobs_said written) × DifferAt acts (plan written) at
 
 -- all is right, with the verdict over the contours
 pub record IsCertified (machine : Machine) (text cl tape : List ℕ) (v : Verdict) : Type 0 where
   pub right : IsRight machine text cl tape
-  pub verdict : HasVerdict right.steps right.records v
+  pub verdict : IsVerdict (jobs_said right.records) v
   pub counted : v.segments ≡ segments right.records
 
 -- ---- the answer

@@ -4,13 +4,16 @@ ghost use Rattle.std.specs.Prelude.{◌≡◌, ◌↔◌, ◌+◌, ◌<◌, ◌�
 ghost use Rattle.apt_cldata.specs.Ranges.{AreRecords, vertex_count};
 ghost use Rattle.apt_meaning.specs.Situations.{first_situation};
 ghost use Rattle.apt_meaning.specs.Compiled.{first_refused};
+ghost use Rattle.apt_meaning.specs.Records.{Follows};
+ghost use Rattle.apt_certify.specs.Verdicts.{IsVerdict};
+ghost use Rattle.apt_job.specs.Jobs.{jobs_said};
 ghost use Rattle.apt_part.specs.Promise.{AreSteps};
 ghost use Rattle.apt_post.specs.Plan as plans;
 ghost use Rattle.apt_control.specs.declared.Act.{Act};
 ghost use Rattle.apt_core.specs.Due.{answer_of, OrNoMemory};
 ghost use Rattle.apt_core.specs.Request.{four_names};
 ghost use Rattle.apt_core.specs.Inputs.{files_on};
-ghost use Rattle.apt_core.specs.Certificates.{DifferAt, HeadsDiffer, HasVerdict, IsMissed, IsJudgement};
+ghost use Rattle.apt_core.specs.Certificates.{DifferAt, HeadsDiffer, IsMissed, IsJudgement};
 ghost use Rattle.apt_core.specs.Promise.{Certifies};
 
 use crate::due::{acts_on, machine_of, records_in, steps_on};
@@ -72,7 +75,8 @@ fn verdict_on(
     requires passes { first_refused first_situation steps.now ≡ None }
     requires records { AreRecords records.now }
     requires few { vertex_count records.now + length records.now < 2 ^ 62 }
-    ensures verdict { IfOk result (HasVerdict steps.now records.now) }
+    ensures follows { IfOk result (λ _. Follows steps.now records.now) }
+    ensures verdict { IfOk result (IsVerdict (jobs_said records.now)) }
     ensures legal { IfOk result (λ v. v.first_bad ≡ None) }
     ensures planned { IfOk result (λ _. acts.now ≡ plans.plan records.now) }
     ensures missed { IfErr result (λ s. OrNoMemory (IsMissed steps.now records.now acts.now s) s) }

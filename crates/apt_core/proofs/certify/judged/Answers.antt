@@ -32,5 +32,5 @@ pub returns : goal.returns
 returns c =
     let verdict = c.in_ok-verdict.ensures in
     good_judged c.in_ok-machine.machine c.args.text.items c.args.table.now c.args.cl.now c.args.tape.now c.in_ok-steps.steps.items c.in_ok-records.records.items c.in_ok-acts.acts.items c.in_ok-verdict.verdict (record { tabled = c.in_ok-machine.ensures.machine; comes = c.in_ok-steps.ensures.comes; read = c.in_ok-records.ensures.value; run = c.in_ok-acts.ensures.value })
-    c.in_ok-steps.ensures.passes (rw (c.deref.ensures.value, c.deref-2.ensures.value) at verdict.verdict) verdict.legal
+    c.in_ok-steps.ensures.passes (rw (c.deref.ensures.value, c.deref-2.ensures.value) at verdict.follows) (rw (c.deref-2.ensures.value) at verdict.verdict) verdict.legal
     (rw (c.deref-2.ensures.value, c.deref-3.ensures.value) at verdict.planned)
