@@ -58,11 +58,11 @@ start _ = None
 
 -- ---- contours: a turn word, the drive surface, and the check surface with its modifier
 
-abbrev pub side_of : Word → Option Side
-side_of words.Tllft = Some sides.Left
-side_of words.Tlrgt = Some sides.Right
-side_of words.Tlon = Some sides.On
-side_of _ = None
+abbrev pub side_named : Word → Option Side
+side_named words.Tllft = Some sides.Left
+side_named words.Tlrgt = Some sides.Right
+side_named words.Tlon = Some sides.On
+side_named _ = None
 
 abbrev pub turn_of : Word → Option Go
 turn_of words.Golft = Some turns.Left

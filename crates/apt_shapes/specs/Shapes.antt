@@ -11,7 +11,7 @@ use Rattle.apt_lexis.specs.declared.token.Token.TheVariants as tokens
 use Rattle.apt_shapes.specs.declared.table.Labelled.{Labelled}
 use Rattle.apt_shapes.specs.Arguments.{arguments, or_else}
 use Rattle.apt_shapes.specs.Figures.{assign, point, line, circle}
-use Rattle.apt_shapes.specs.Motions.{from, goto, godlta, start, contour, contour_behind, side_of}
+use Rattle.apt_shapes.specs.Motions.{from, goto, godlta, start, contour, contour_behind, side_named}
 use Rattle.apt_shapes.specs.Settings.{titled, one, machin, units_in, spindl, coolnt}
 use Rattle.apt_shapes.specs.Flow.{macro, call, jumpto, if_in}
 
@@ -19,7 +19,7 @@ use Rattle.apt_shapes.specs.Flow.{macro, call, jumpto, if_in}
 
 -- TLLFT, TLRGT, TLON
 abbrev pub tool : Word → Option Body
-tool w = side_of w >>= λ side. Some (bodies.Tool side)
+tool w = side_named w >>= λ side. Some (bodies.Tool side)
 
 abbrev pub command : Word → Option Body
 command words.Clprnt = Some bodies.Clprnt
@@ -86,7 +86,7 @@ behind_equals n ts = or_else (defined n ts) (assign n ts)
 
 -- a tool word, a comma and a contour
 abbrev pub with_side : Word → List Token → Option Body
-with_side w ts = side_of w >>= λ side. contour_behind (Some side) ts
+with_side w ts = side_named w >>= λ side. contour_behind (Some side) ts
 
 abbrev pub if_word : Word → List Token → Option Body
 if_word words.If ts = if_in (arguments ts)

@@ -1,6 +1,8 @@
 //! The arguments of a statement.
 
 ghost use Rattle.std.specs.Prelude.{◌≡◌, ◌<◌, [], ◌∷◌, length, map, IfOk, IfSome, MatchOption};
+ghost use Rattle.std.proofs.Common.{bytes_eq};
+ghost use Rattle.apt_words.specs.Vocabulary.{spelling};
 ghost use Rattle.apt_shapes.specs.Arguments as arguments;
 
 use apt_expr::expression;
@@ -68,9 +70,16 @@ pub(crate) fn is_word(word: Word, tokens: &[Token]) -> bool
     ensures { result ≡ arguments.is_word word tokens.now }
 {
     match tokens {
-        [Token::Word(said)] => word.spelling() == said.spelling(),
+        [Token::Word(said)] => is_same(word, *said),
         _ => false,
     }
+}
+
+#[tactic(auto, using(crate::proofs::SameWords::same_word))]
+fn is_same(word: Word, said: Word) -> bool
+    ensures { result ≡ bytes_eq (spelling word) (spelling said) }
+{
+    word == said
 }
 
 pub(crate) fn pick(tokens: &[Token]) -> Option<Pick>

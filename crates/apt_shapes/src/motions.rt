@@ -110,8 +110,8 @@ pub(crate) fn start(args: &[&[Token]]) -> Result<Option<Body>, AllocError>
     }
 }
 
-pub(crate) fn side_of(word: Word) -> Option<Side>
-    ensures { result ≡ motions.side_of word }
+pub(crate) fn side_named(word: Word) -> Option<Side>
+    ensures { result ≡ motions.side_named word }
 {
     match word {
         Word::Tllft => Some(Side::Left),

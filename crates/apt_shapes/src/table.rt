@@ -9,7 +9,7 @@ ghost use Rattle.apt_shapes.specs.Shapes as shapes;
 use crate::arguments::{arguments, at_comma};
 use crate::figures::{assign, circle, line, point};
 use crate::flow::{call, if_in, jumpto, macro_of};
-use crate::motions::{contour_behind, from, godlta, goto, onward, side_of, start};
+use crate::motions::{contour_behind, from, godlta, goto, onward, side_named, start};
 use crate::settings::{
     coolnt, cutter, fedrat, intol, loadtl, machin, outtol, spindl, titled, units_in,
 };
@@ -46,7 +46,7 @@ fn command(word: Word) -> Option<Body>
 fn alone(word: Word) -> Option<Body>
     ensures { result ≡ shapes.alone word }
 {
-    match side_of(word) {
+    match side_named(word) {
         Some(side) => Some(Body::Tool(side)),
         None => command(word),
     }
@@ -153,7 +153,7 @@ fn behind_equals(alloc: Global, n: &Symbol, tokens: &[Token]) -> Result<Option<B
 fn with_side(alloc: Global, word: Word, tokens: &[Token]) -> Result<Option<Body>, AllocError>
     ensures { IfOk result (λ b. b ≡ shapes.with_side word tokens.now) }
 {
-    match side_of(word) {
+    match side_named(word) {
         Some(side) => contour_behind(alloc, Some(side), tokens),
         None => Ok(None),
     }
