@@ -16,7 +16,7 @@ use Rattle.apt_cldata.specs.Ranges.{IsPosition, ArePositions, IsRecord, AreRecor
 use Rattle.apt_post.specs.Plan.{units_of}
 use Rattle.apt_report.specs.Decimals.{right_in}
 use Rattle.apt_report.specs.Listing.{decimals_in, word_of, coordinate, point_line, record_lines, lines_from, record_count, point_count, end_line, listing}
-use Rattle.apt_report.specs.Columns.{Row, row, record_rows, rows_from, row_of, rows_in, Tells}
+use Rattle.apt_report.specs.Columns.{Row, row, record_rows, rows_from, row_of, rows_in, GivesBack}
 use Rattle.apt_report.proofs.Places.{length_again, count_again, length-coordinate, length-number}
 
 -- ---- five texts in a line
@@ -204,7 +204,7 @@ fit_records seq (r ∷ rs) few are =
     fit_both (record_rows seq r) (rows_from (seq + 1) rs) (fit_record seq r (omega arith) are.0) (fit_records (seq + 1) rs (omega arith) are.1)
 
 -- the listing of a CL file, read by its places, tells the points of its records, in order
-pub points_told : (rs : List Record) → AreRecords rs → length rs < 10 ^ 8 → Tells (units_of rs) (rows_from 1 rs) (listing rs)
+pub points_told : (rs : List Record) → AreRecords rs → length rs < 10 ^ 8 → GivesBack (units_of rs) (rows_from 1 rs) (listing rs)
 points_told rs are few =
     let units = units_of rs in
     let points = rows_from 1 rs in

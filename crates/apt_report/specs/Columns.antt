@@ -78,6 +78,6 @@ rows_in units zero text = []
 rows_in units (suc n) text = row_of units (take 47 text) ∷ rows_in units n (drop 47 text)
 
 -- a text tells points, each in a line of its own, and then how many they are
-pub record Tells (units : Units) (points : List Row) (text : List ℕ) : Type 0 where
+pub record GivesBack (units : Units) (points : List Row) (text : List ℕ) : Type 0 where
   pub rows : rows_in units (length points) text ≡ points
   pub last : drop (47 * length points) text ≡ end_line (length points)

@@ -5,7 +5,7 @@ ghost use Rattle.std.specs.Fmt.{decimal};
 ghost use Rattle.std.specs.List.{flat_map};
 ghost use Rattle.apt_post.specs.Plan.{units_of};
 ghost use Rattle.apt_cldata.specs.Ranges.{AreRecords};
-ghost use Rattle.apt_report.specs.Columns.{Tells, rows_from};
+ghost use Rattle.apt_report.specs.Columns.{GivesBack, rows_from};
 ghost use Rattle.apt_report.specs.Decimals.{right_in};
 ghost use Rattle.apt_report.specs.Listing as lines;
 
@@ -25,7 +25,7 @@ use std::alloc::{AllocError, Global};
 #[tactic(auto, using(crate::proofs::Told::points_told))]
 pub fn listing(alloc: Global, records: &[Record]) -> Result<Vec<u8>, AllocError>
     ensures value { IfOk result (λ v. v.items ≡ lines.listing records.now) }
-    ensures told { AreRecords records.now → length records.now < 10 ^ 8 → IfOk result (λ v. Tells (units_of records.now) (rows_from 1 records.now) v.items) }
+    ensures told { AreRecords records.now → length records.now < 10 ^ 8 → IfOk result (λ v. GivesBack (units_of records.now) (rows_from 1 records.now) v.items) }
 {
     list_points(alloc, records)
 }
