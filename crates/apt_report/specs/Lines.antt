@@ -1,4 +1,4 @@
--- The line that is printed for an answer, none where a tape was run or where reading, writing or memory failed.
+-- The line that is printed for an answer, none where a tape was run, points were listed, or reading, writing or memory failed.
 use Rattle.std.specs.Prelude.{ℕ, List, [], ◌++◌, codes}
 use Rattle.std.specs.Fmt.{decimal, signed_decimal}
 use Rattle.apt_words.specs.declared.Case.{Case}
@@ -37,6 +37,11 @@ abbrev pub certified_line : Verdict → List ℕ
 certified_line v =
     codes "YES " ++ (decimal v.segments ++ (codes " SEGMENTS IN " ++ (signed_decimal v.worst_in ++ (codes " OUT " ++ (signed_decimal v.worst_out ++ codes "\n")))))
 
+abbrev pub demo_line : ℕ → Verdict → List ℕ
+demo_line n v =
+    codes "DEMO " ++ (decimal n ++ (codes " SEGMENTS " ++ (decimal v.segments
+    ++ (codes " IN " ++ (signed_decimal v.worst_in ++ (codes " OUT " ++ (signed_decimal v.worst_out ++ codes "\n")))))))
+
 abbrev pub bad_cl_line : ℕ → ClCause → List ℕ
 bad_cl_line at cause = codes "BAD CL AT " ++ (decimal at ++ (codes " " ++ (cl_causes.name_of cause ++ codes "\n")))
 
@@ -57,6 +62,8 @@ abbrev pub line_of : Status → List ℕ
 line_of (answers.Done (summaries.Compiled records acts segments)) = compiled_line records acts segments
 line_of (answers.Done (summaries.Certified verdict)) = certified_line verdict
 line_of (answers.Done (summaries.Decoded acts)) = []
+line_of (answers.Done (summaries.Listed points)) = []
+line_of (answers.Done (summaries.Demo n verdict)) = demo_line n verdict
 line_of answers.Usage = codes "USAGE\n"
 line_of (answers.Missing name) = codes "MISSING " ++ name ++ codes "\n"
 line_of answers.ReadFault = []

@@ -8,8 +8,8 @@ use crate::{Bad, ClCause, MachineCause, Miss, PartCause, Status, Summary, TapeCa
 use apt_words::Case;
 use std::alloc::{AllocError, Global};
 
-/// The line of an answer with its line feed; no bytes where a tape was run, whose acts have lines of their
-/// own, and where reading, writing or memory failed.
+/// The line of an answer with its line feed; no bytes where a tape was run or points were listed, which have lines
+/// of their own, and where reading, writing or memory failed.
 pub fn line_of(alloc: Global, s: &Status) -> Result<Vec<u8>, AllocError>
     ensures { IfOk result (λ v. v.items ≡ lines.line_of s.now) }
 {
@@ -29,7 +29,8 @@ fn text_of(alloc: Global, s: &Status) -> Result<String, AllocError>
             },
         ) => compiled_line(alloc, *records, *acts, *segments),
         Status::Done(Summary::Certified(verdict)) => certified_line(alloc, verdict),
-        Status::Done(Summary::Decoded { .. }) => Ok(String::new(alloc)),
+        Status::Done(Summary::Decoded { .. } | Summary::Listed { .. }) => Ok(String::new(alloc)),
+        Status::Done(Summary::Demo { n, verdict }) => demo_line(alloc, *n, verdict),
         Status::Usage => String::from_str(alloc, "USAGE\n"),
         Status::Missing { name } => format!(in alloc; "MISSING {}\n", name.text),
         Status::TooLong { name } => format!(in alloc; "TOO LONG {}\n", name.text),
@@ -81,6 +82,15 @@ fn certified_line(alloc: Global, verdict: &Verdict) -> Result<String, AllocError
     format!(in alloc;
         "YES {} SEGMENTS IN {} OUT {}\n",
         verdict.segments, verdict.worst_in, verdict.worst_out
+    )
+}
+
+fn demo_line(alloc: Global, n: u32, verdict: &Verdict) -> Result<String, AllocError>
+    ensures { IfOk result (λ t. string_bytes t ≡ lines.demo_line n verdict.now) }
+{
+    format!(in alloc;
+        "DEMO {} SEGMENTS {} IN {} OUT {}\n",
+        n, verdict.segments, verdict.worst_in, verdict.worst_out
     )
 }
 

@@ -40,6 +40,15 @@ pub enum Summary {
     Decoded {
         acts: u64,
     },
+    /// The points of a CL file were listed, so many; their lines are printed in place of one of its own.
+    Listed {
+        points: u64,
+    },
+    /// The part of so many circles was compiled and certified, with this verdict over its contours.
+    Demo {
+        n: u32,
+        verdict: Verdict,
+    },
 }
 
 /// Where a CL file or a tape is not right.

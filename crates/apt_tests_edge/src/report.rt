@@ -14,7 +14,7 @@ const BAD: Bad = Bad {
     reason: Reason::Band,
 };
 
-const ANSWERS: [(Status, &str); 13] = [
+const ANSWERS: [(Status, &str); 15] = [
     (
         Status::Done(Summary::Compiled {
             records: 0,
@@ -87,6 +87,19 @@ const ANSWERS: [(Status, &str); 13] = [
         "BAD MACHINE LINE 2 Value\n",
     ),
     (Status::Done(Summary::Decoded { acts: 14 }), ""),
+    (Status::Done(Summary::Listed { points: 6 }), ""),
+    (
+        Status::Done(Summary::Demo {
+            n: 800,
+            verdict: Verdict {
+                segments: 409_600,
+                worst_in: 7,
+                worst_out: 1,
+                first_bad: None,
+            },
+        }),
+        "DEMO 800 SEGMENTS 409600 IN 7 OUT 1\n",
+    ),
     (Status::Usage, "USAGE\n"),
     (Status::WriteFault, ""),
 ];
