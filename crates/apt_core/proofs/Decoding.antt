@@ -18,12 +18,12 @@ use Rattle.apt_core.proofs.Chains.{chain_on, none_first}
 abbrev behind_table : List ℕ → Machine → Result Said Status
 behind_table tape machine = acts_due machine tape >>= λ acts. Ok (acts_said acts)
 
-none_said : (table tape : List ℕ) (answer : Status) → ComesToNone (said_due table tape) answer → IsSaid (said_of (said_due table tape)) (lined answer)
-none_said table tape answer (inl e) = inl (sym (ap said_of e))
-none_said table tape answer (inr short) = inr (ap lined short)
+pub none_said : (due : Result Said Status) (answer : Status) → ComesToNone due answer → IsSaid (said_of due) (lined answer)
+none_said due answer (inl e) = inl (sym (ap said_of e))
+none_said due answer (inr short) = inr (ap lined short)
 
 pub bad_table_said : (table tape : List ℕ) (answer : Status) → machine_due table ≡ Err answer → IsSaid (said_of (said_due table tape)) (lined answer)
-bad_table_said table tape answer e = none_said table tape answer (none_first (machine_due table) (behind_table tape) answer (inl e))
+bad_table_said table tape answer e = none_said (said_due table tape) answer (none_first (machine_due table) (behind_table tape) answer (inl e))
 
 on_table : (table tape : List ℕ) (machine : Machine) → table_of table ≡ Ok machine → said_due table tape ≡ behind_table tape machine
 on_table table tape machine tabled = chain_on (machine_due table) machine (behind_table tape) (rw tabled refl)
@@ -31,7 +31,7 @@ on_table table tape machine tabled = chain_on (machine_due table) machine (behin
 pub bad_tape_said : (table tape : List ℕ) (machine : Machine) (answer : Status) → table_of table ≡ Ok machine → ComesToNone (acts_due machine tape) answer
     → IsSaid (said_of (said_due table tape)) (lined answer)
 bad_tape_said table tape machine answer tabled none =
-    none_said table tape answer (subst (λ due. ComesToNone due answer) (sym (on_table table tape machine tabled))
+    none_said (said_due table tape) answer (subst (λ due. ComesToNone due answer) (sym (on_table table tape machine tabled))
     (none_first (acts_due machine tape) (λ acts. Ok (acts_said acts)) answer none))
 
 pub said_for : (table tape : List ℕ) (machine : Machine) (acts : List Act) → table_of table ≡ Ok machine → control_run machine.code tape ≡ Ok acts → said_due table tape ≡ Ok (acts_said acts)

@@ -7,6 +7,7 @@ pub mod Compiling
 pub mod Counting
 pub mod Judging
 pub mod Decoding
+pub mod Listing
 pub mod Right
 pub mod Differences
 pub mod Putting

@@ -9,16 +9,21 @@ use Rattle.apt_machine.specs.Tables.{table_of}
 use Rattle.apt_report.specs.declared.status.Status.{Status}
 use Rattle.apt_report.specs.declared.status.Status.TheVariants as answers
 use Rattle.apt_report.specs.declared.status.Summary.TheVariants as summaries
-use Rattle.apt_core.specs.Words.{FourNames, TapeNames, Ask, Compile, Certify, Decode}
+use Rattle.apt_cldata.specs.declared.record.Record.{Record}
+use Rattle.apt_cldata.specs.Reading.{read_of}
+use Rattle.apt_report.specs.Listing.{point_count}
+use Rattle.apt_core.specs.Words.{FourNames, TapeNames, Ask, Compile, Certify, Decode, Listing}
 use Rattle.apt_core.specs.Due.{OrNoMemory}
-use Rattle.apt_core.specs.Inputs.{Input, part_inputs, inputs, tape_inputs, ReadsAll, IsFirstUnread, IsStopped}
+use Rattle.apt_core.specs.Inputs.{Input, part_inputs, inputs, tape_inputs, list_inputs, ReadsAll, IsFirstUnread, IsStopped}
 use Rattle.apt_core.specs.Outputs.{Output, output_of, output_due}
 use Rattle.apt_core.specs.Certificates.{IsRight}
 use Rattle.apt_core.specs.Decoding.{Said, said_of, acts_said, said_due}
-use Rattle.apt_core.specs.Promise.{Outside, Compiles, Writes, Judges, Certifies, Runs, Decodes, Works, IsPut, IsRun, NoneRose, Completes}
+use Rattle.apt_core.specs.Listing.{points_said, listed_due}
+use Rattle.apt_core.specs.Promise.{Outside, Compiles, Writes, Judges, Certifies, Runs, Decodes, IsListed, Lists, Works, IsPut, IsRun, NoneRose, Completes}
 use Rattle.apt_core.proofs.Chains.{one_due}
 use Rattle.apt_core.proofs.Outputs.{due_for}
 use Rattle.apt_core.proofs.Decoding.{said_for}
+use Rattle.apt_core.proofs.Listing.{points_for}
 use Rattle.apt_core.proofs.Right.{same_texts, right_is_done, right_is_read}
 
 pub run_is : (ask : Option Ask) (before after : Outside) (said : Said) (answer : Status) → Works ask before.files after.files said → IsPut said before.lines after.lines answer
@@ -103,6 +108,27 @@ told_acts n m table tape machine acts before after said works there reads tabled
   | inr runs ↦ inl (runs_to n m table tape machine acts said reads tabled run (subst (λ t. Runs n t said) there runs))
 ]
 
+-- ---- `list`
+
+-- a CL file that has records
+lists_to : (name : List ℕ) (m : Contents) (cl : List ℕ) (rs : List Record) (said : Said) → ReadsAll (Some m) (list_inputs name) (cl ∷ []) → read_of cl ≡ Ok rs
+    → IsListed name (Some m) said → said.answer ≡ answers.Done (summaries.Listed (point_count rs))
+lists_to name m cl rs said reads read listed = by_text (same_texts m (list_inputs name) (listed.cl ∷ []) (cl ∷ []) listed.reads reads)
+  where
+    by_text : (listed.cl ∷ []) ≡ (cl ∷ []) → said.answer ≡ answers.Done (summaries.Listed (point_count rs))
+    by_text same =
+        let t : listed.cl ≡ cl = cc in
+        let here : listed_due listed.cl ≡ Ok (points_said rs) = rw t (points_for cl rs read) in
+        ap (λ (s : Said). s.answer) (listed.due ∙ ap said_of here)
+
+told_points : (name : List ℕ) (m : Contents) (cl : List ℕ) (rs : List Record) (before after : Outside) (said : Said) → Lists name before.files after.files said
+    → before.files.told ≡ Some m → ReadsAll (Some m) (list_inputs name) (cl ∷ []) → read_of cl ≡ Ok rs → NoneRose before after
+    → OrNoMemory (said.answer ≡ answers.Done (summaries.Listed (point_count rs))) said.answer
+told_points name m cl rs before after said works there reads read none = elim works.comes [
+  | inl stopped ↦ inr (stopped_short (list_inputs name) m (cl ∷ []) before after said.answer there reads none stopped.0)
+  | inr listed ↦ inl (lists_to name m cl rs said reads read (subst (λ t. IsListed name t said) there listed))
+]
+
 pub completes : (ask : Option Ask) (before after : Outside) (answer : Status) → IsRun ask before after answer → Completes ask before after answer
 completes None before after answer run = tt
 completes (Some (Compile n)) before after answer run = λ m there none text table machine p reads tabled comes.
@@ -114,3 +140,6 @@ completes (Some (Certify n)) before after answer run = λ m there none text tabl
 completes (Some (Decode n)) before after answer run = λ m there none table tape machine acts reads tabled runs.
     answered run.said answer (λ s. s ≡ answers.Done (summaries.Decoded (length acts))) before after none
     (told_acts n m table tape machine acts before after run.said run.works there reads tabled runs none) run.puts
+completes (Some (Listing name)) before after answer run = λ m there none cl rs reads read.
+    answered run.said answer (λ s. s ≡ answers.Done (summaries.Listed (point_count rs))) before after none
+    (told_points name m cl rs before after run.said run.works there reads read none) run.puts

@@ -7,6 +7,7 @@ use Rattle.apt_parse.specs.Programs.{TextFault}
 use Rattle.apt_shelf.specs.Told.{Contents}
 use Rattle.apt_machine.specs.declared.machine.Machine.{Machine}
 use Rattle.apt_machine.specs.Tables.{table_of}
+use Rattle.apt_cldata.specs.declared.record.Record.{Record}
 use Rattle.apt_cldata.specs.Reading.{read_of}
 use Rattle.apt_control.specs.declared.Act.{Act}
 use Rattle.apt_control.specs.Control.{control_run}
@@ -14,13 +15,14 @@ use Rattle.apt_part.specs.Compilation.{steps_of, part_of}
 use Rattle.apt_report.specs.declared.status.Status.{Status}
 use Rattle.apt_report.specs.declared.status.Status.TheVariants as answers
 use Rattle.apt_report.specs.declared.status.Summary.TheVariants as summaries
-use Rattle.apt_core.specs.Words.{FourNames, TapeNames, Ask, Compile, Certify, Decode}
+use Rattle.apt_core.specs.Words.{FourNames, TapeNames, Ask, Compile, Certify, Decode, Listing}
 use Rattle.apt_core.specs.Due.{told_by, bad_machine, bad_part, refused, bad_tape, unless_refused, machine_due, steps_due, records_due, acts_due}
-use Rattle.apt_core.specs.Inputs.{Input, Files, part_inputs, inputs, tape_inputs, IsUnread, IsFirstUnread, IsShort, IsStopped}
+use Rattle.apt_core.specs.Inputs.{Input, Files, part_inputs, inputs, tape_inputs, list_inputs, IsUnread, IsFirstUnread, IsShort, IsStopped}
 use Rattle.apt_core.specs.Outputs.{output_due}
 use Rattle.apt_core.specs.Certificates.{judged_due, IsJudgement}
 use Rattle.apt_core.specs.Decoding.{Said, said_of, acts_said}
-use Rattle.apt_core.specs.Promise.{Lines, Outside, Compiles, Certifies, Decodes, Works, IsPut, IsRun}
+use Rattle.apt_core.specs.Listing.{points_said}
+use Rattle.apt_core.specs.Promise.{Lines, Outside, Compiles, Certifies, Decodes, Lists, Works, IsPut, IsRun}
 
 -- ---- what is due
 
@@ -121,11 +123,22 @@ decodes_no_usage n before after said works e = elim works.comes [
   | inr runs ↦ said_no_usage runs.tape (machine_due runs.table) (machine_no_usage runs.table) (sym (ap (λ (s : Said). s.answer) runs.due) ∙ e)
 ]
 
+points_no_usage : (due : Result (List Record) Status) → due ≢ Err answers.Usage → (said_of (due >>= λ rs. Ok (points_said rs))).answer ≢ answers.Usage
+points_no_usage (Ok rs) none e = let f : ⊥ = cc in f
+points_no_usage (Err answer) none e = none (ap Err e)
+
+lists_no_usage : (name : List ℕ) (before after : Files) (said : Said) → Lists name before after said → said.answer ≢ answers.Usage
+lists_no_usage name before after said works e = elim works.comes [
+  | inl stopped ↦ stopped_no_usage (list_inputs name) before after said.answer stopped.0 e
+  | inr listed ↦ points_no_usage (records_due listed.cl) (records_no_usage listed.cl) (sym (ap (λ (s : Said). s.answer) listed.due) ∙ e)
+]
+
 works_no_usage : (ask : Option Ask) (before after : Files) (said : Said) → Works ask before after said → said.answer ≡ answers.Usage → ask ≡ None
 works_no_usage None before after said works e = refl
 works_no_usage (Some (Compile n)) before after said works e = absurd (compiles_no_usage n before after said.answer works.1 e)
 works_no_usage (Some (Certify n)) before after said works e = absurd (certifies_no_usage n before after said.answer works.1 e)
 works_no_usage (Some (Decode n)) before after said works e = absurd (decodes_no_usage n before after said works e)
+works_no_usage (Some (Listing name)) before after said works e = absurd (lists_no_usage name before after said works e)
 
 put_no_usage : (said : Said) (answer : Status) (before after : Lines) → IsPut said before after answer → answer ≡ answers.Usage → said.answer ≡ answers.Usage
 put_no_usage said answer before after puts e = elim puts.shows [

@@ -42,7 +42,7 @@ part_limit = 4194304
 abbrev pub machine_limit : ℕ
 machine_limit = 65536
 
--- what `compile`, `certify` and `decode` read, in this order
+-- what `compile`, `certify`, `decode` and `list` read, in this order
 abbrev pub part_inputs : FourNames → List Input
 part_inputs n = input n.part part_limit ∷ input n.machine machine_limit ∷ []
 
@@ -51,6 +51,9 @@ inputs n = input n.part part_limit ∷ input n.machine machine_limit ∷ input n
 
 abbrev pub tape_inputs : TapeNames → List Input
 tape_inputs n = input n.machine machine_limit ∷ input n.tape file_limit ∷ []
+
+abbrev pub list_inputs : List ℕ → List Input
+list_inputs name = input name file_limit ∷ []
 
 -- what it holds is read whole
 abbrev pub Reads : Option Contents → Input → List ℕ → Type 0

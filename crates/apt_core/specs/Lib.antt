@@ -6,4 +6,5 @@ pub mod Outputs
 pub mod Delivery
 pub mod Certificates
 pub mod Decoding
+pub mod Listing
 pub mod Promise

@@ -13,13 +13,17 @@ use Rattle.apt_part.specs.Compilation.{Compiled, part_of}
 use Rattle.apt_report.specs.declared.status.Status.{Status}
 use Rattle.apt_report.specs.declared.status.Status.TheVariants as answers
 use Rattle.apt_report.specs.declared.status.Summary.TheVariants as summaries
-use Rattle.apt_core.specs.Words.{FourNames, TapeNames, Ask, Compile, Certify, Decode}
+use Rattle.apt_core.specs.Words.{FourNames, TapeNames, Ask, Compile, Certify, Decode, Listing}
 use Rattle.apt_core.specs.Due.{OrNoMemory}
-use Rattle.apt_core.specs.Inputs.{Files, files_on, AreRead, part_inputs, inputs, tape_inputs, ReadsAll, IsShort, IsStopped}
+use Rattle.apt_core.specs.Inputs.{Files, files_on, AreRead, part_inputs, inputs, tape_inputs, list_inputs, ReadsAll, IsShort, IsStopped}
 use Rattle.apt_core.specs.Outputs.{Output, output_of, output_due, IsOutput}
 use Rattle.apt_core.specs.Delivery.{with_output, WritesFront}
 use Rattle.apt_core.specs.Certificates.{IsRight, IsJudgement}
 use Rattle.apt_core.specs.Decoding.{Said, lined, said_of, said_due}
+use Rattle.apt_core.specs.Listing.{listed_due}
+use Rattle.apt_report.specs.Listing.{point_count}
+use Rattle.apt_cldata.specs.declared.record.Record.{Record}
+use Rattle.apt_cldata.specs.Reading.{read_of}
 
 -- ---- what stands outside
 
@@ -106,6 +110,19 @@ pub record Decodes (n : TapeNames) (before after : Files) (said : Said) : Type 0
   pub comes : (IsStopped (tape_inputs n) before after said.answer × (said ≡ lined said.answer)) ⊎ Runs n before.told said
   pub read : AreRead before after
 
+-- ---- `list`
+
+-- the bytes of the CL file, and what is said for them
+pub record IsListed (name : List ℕ) (files : Option Contents) (said : Said) : Type 0 where
+  pub cl : List ℕ
+  pub reads : ReadsAll files (list_inputs name) (cl ∷ [])
+  pub due : said ≡ said_of (listed_due cl)
+
+-- the work of `list`: it stops, or it says what points the CL file has. Nothing is written
+pub record Lists (name : List ℕ) (before after : Files) (said : Said) : Type 0 where
+  pub comes : (IsStopped (list_inputs name) before after said.answer × (said ≡ lined said.answer)) ⊎ IsListed name before.told said
+  pub read : AreRead before after
+
 -- ---- a run
 
 -- the work that is asked for, none where the words fit no shape; it comes to what is told, and to the text that is put for it
@@ -114,6 +131,7 @@ Works None before after said = (said ≡ lined answers.Usage) × (after ≡ befo
 Works (Some (Compile n)) before after said = (said ≡ lined said.answer) × Compiles n before after said.answer
 Works (Some (Certify n)) before after said = (said ≡ lined said.answer) × Certifies n before after said.answer
 Works (Some (Decode n)) before after said = Decodes n before after said
+Works (Some (Listing name)) before after said = Lists name before after said
 
 -- all of the text stands behind what was shown; or a front part of it, where putting failed, or memory ran out
 abbrev pub Shows : Said → Lines → Lines → Status → Type 0
@@ -141,7 +159,7 @@ pub record NoneRose (before after : Outside) : Type 0 where
   pub putting : ¬ (Rose before.lines.put_faults after.lines.put_faults)
 
 -- for the machine of a table: a part without fault, of which no step is refused, is compiled; a CL file and a tape that are right for their part are
--- certified; a tape that a control runs is decoded
+-- certified; a tape that a control runs is decoded. A CL file is listed
 abbrev pub CompletesIn : Ask → Contents → Status → Type 0
 CompletesIn (Compile n) m answer =
     (text table : List ℕ) (machine : Machine) (p : Compiled) → ReadsAll (Some m) (part_inputs n) (text ∷ table ∷ []) → table_of table ≡ Ok machine → part_of machine text ≡ Ok (Ok p)
@@ -152,6 +170,9 @@ CompletesIn (Certify n) m answer =
 CompletesIn (Decode n) m answer =
     (table tape : List ℕ) (machine : Machine) (acts : List Act) → ReadsAll (Some m) (tape_inputs n) (table ∷ tape ∷ []) → table_of table ≡ Ok machine
     → control_run machine.code tape ≡ Ok acts → OrNoMemory (answer ≡ answers.Done (summaries.Decoded (length acts))) answer
+CompletesIn (Listing name) m answer =
+    (cl : List ℕ) (rs : List Record) → ReadsAll (Some m) (list_inputs name) (cl ∷ []) → read_of cl ≡ Ok rs
+    → OrNoMemory (answer ≡ answers.Done (summaries.Listed (point_count rs))) answer
 
 -- where no count rose, or memory ran out
 abbrev pub Completes : Option Ask → Outside → Outside → Status → Type 0

@@ -4,7 +4,7 @@ use Rattle.apt_core.specs.declared.words.Names.{Names}
 use Rattle.apt_core.specs.declared.words.TapeNames.{TapeNames as TapeWords}
 use Rattle.apt_core.specs.declared.words.Request.{Request}
 use Rattle.apt_core.specs.declared.words.Request.TheVariants as requests
-use Rattle.apt_core.specs.Words.{FourNames, names_of, TapeNames, tape_names_of, Ask, Compile, Certify, Decode}
+use Rattle.apt_core.specs.Words.{FourNames, names_of, TapeNames, tape_names_of, Ask, Compile, Certify, Decode, Listing}
 
 abbrev pub four_names : Names → FourNames
 four_names n = names_of n.part.now n.machine.now n.cl.now n.tape.now
@@ -16,9 +16,11 @@ abbrev pub ask_of : Request → Ask
 ask_of (requests.Compile n) = Compile (four_names n)
 ask_of (requests.Certify n) = Certify (four_names n)
 ask_of (requests.Decode n) = Decode (tape_names n)
+ask_of (requests.List name) = Listing name.now
 
 -- the two outputs of `compile` have names of their own
 abbrev pub IsApart : Request → Type 0
 IsApart (requests.Compile n) = n.cl.now ≢ n.tape.now
 IsApart (requests.Certify n) = Unit {0}
 IsApart (requests.Decode n) = Unit {0}
+IsApart (requests.List name) = Unit {0}

@@ -23,11 +23,13 @@ pub record TapeNames : Type 0 where
 abbrev pub tape_names_of : List ℕ → List ℕ → TapeNames
 tape_names_of machine tape = record { machine = machine; tape = tape }
 
--- to compile a part for a machine, to a CL file and a tape; to certify a CL file and a tape against them; or to decode a tape of the machine
+-- to compile a part for a machine, to a CL file and a tape; to certify a CL file and a tape against them; to decode a tape of the machine; or to list
+-- the points of the CL file of a name
 pub data Ask : Type 0 where
   Compile : FourNames → Ask
   Certify : FourNames → Ask
   Decode : TapeNames → Ask
+  Listing : List ℕ → Ask
 
 -- a name has at least one byte
 abbrev pub is_name : List ℕ → Bool
@@ -58,8 +60,12 @@ are_tape_names n = is_name n.machine && is_name n.tape
 abbrev pub decode_ask : List ℕ → TapeNames → Option Ask
 decode_ask word n = if bytes_eq word (codes "decode") && are_tape_names n then Some (Decode n) else None
 
+abbrev pub list_ask : List ℕ → List ℕ → Option Ask
+list_ask word name = if bytes_eq word (codes "list") && is_name name then Some (Listing name) else None
+
 -- what the words ask, by their shapes
 abbrev pub asked : List (List ℕ) → Option Ask
 asked (word ∷ part ∷ machine ∷ cl ∷ tape ∷ []) = command_ask word (names_of part machine cl tape)
 asked (word ∷ machine ∷ tape ∷ []) = decode_ask word (tape_names_of machine tape)
+asked (word ∷ name ∷ []) = list_ask word name
 asked _ = None

@@ -12,6 +12,7 @@ mod compile;
 mod decode;
 mod delivery;
 mod due;
+mod list;
 mod put;
 mod reading;
 mod words;
@@ -24,6 +25,7 @@ use apt_shelf::{Shelf, Sink};
 use certify::certify;
 use compile::compile;
 use decode::decode;
+use list::list;
 use put::{Reply, tell};
 use std::alloc::Global;
 use std::thread::Threads;
@@ -41,6 +43,9 @@ use words::{Request, request_of};
 ///
 /// `decode MACHINE TAPE` reads a machine table and a tape, and puts a line for each act to which a control of this
 /// machine runs the tape, and no other line. It writes nothing.
+///
+/// `list CL` reads a CL file (at most 64 MiB), and puts a line for each point of its records, then how many there are,
+/// and no other line. It writes nothing.
 ///
 /// A table is judged when all that is read has been read, and before the part.
 #[tactic(auto, using(crate::proofs::Running::run_is, crate::proofs::Running::completes))]
@@ -79,9 +84,7 @@ fn answer_to<H: Shelf>(alloc: Global, request: Request<'_>, shelf: &mut H) -> Re
     match request {
         Request::Compile(names) => Reply::of(compile(alloc, shelf, names)),
         Request::Certify(names) => Reply::of(certify(alloc, shelf, names)),
-        Request::Decode(names) => match decode(alloc, shelf, names) {
-            Ok(reply) => reply,
-            Err(status) => Reply::lined(status),
-        },
+        Request::Decode(names) => Reply::said(decode(alloc, shelf, names)),
+        Request::List(name) => Reply::said(list(alloc, shelf, name)),
     }
 }

@@ -2,7 +2,7 @@
 
 ghost use Rattle.std.specs.Prelude.{◌≡◌};
 ghost use Rattle.apt_core.specs.Due.{answer_of};
-ghost use Rattle.apt_core.specs.Decoding.{lined};
+ghost use Rattle.apt_core.specs.Decoding.{lined, said_of};
 ghost use Rattle.apt_core.specs.Promise.{IsPut, lines_on};
 
 use apt_report::{Status, Summary, line_of};
@@ -34,6 +34,16 @@ impl Reply {
         Reply {
             status,
             lines: None,
+        }
+    }
+
+    /// What a work says, or its answer with its own line.
+    pub(crate) fn said(work: Result<Reply, Status>) -> Reply
+        ensures { result ≡ said_of work }
+    {
+        match work {
+            Ok(reply) => reply,
+            Err(status) => Reply::lined(status),
         }
     }
 

@@ -27,6 +27,7 @@ pub(crate) enum Request<'a> {
     Compile(Names<'a>),
     Certify(Names<'a>),
     Decode(TapeNames<'a>),
+    List(&'a str),
 }
 
 /// The command that the words ask for.
@@ -45,6 +46,7 @@ pub(crate) fn request_of<'a>(words: &'a [String]) -> Option<Request<'a>>
             },
         ),
         [word, machine, tape] => decode_request(word, TapeNames { machine, tape }),
+        [word, name] => list_request(word, name),
         _ => None,
     }
 }
@@ -91,6 +93,17 @@ fn decode_request<'a>(word: &str, names: TapeNames<'a>) -> Option<Request<'a>>
 {
     if word == "decode" && are_tape_names(&names) {
         Some(Request::Decode(names))
+    } else {
+        None
+    }
+}
+
+fn list_request<'a>(word: &str, name: &'a str) -> Option<Request<'a>>
+    ensures ask { option_map ask_of result ≡ words.list_ask word.now name.now }
+    ensures apart { IfSome result IsApart }
+{
+    if word == "list" && !name.is_empty() {
+        Some(Request::List(name))
     } else {
         None
     }

@@ -16,6 +16,13 @@ use apt_cldata::{Note, Position, Reach, Record};
 use apt_words::Units;
 use std::alloc::{AllocError, Global};
 
+/// The lines of some records, and how many points they tell.
+#[derive(Drop)]
+pub struct Listing {
+    pub text: Vec<u8>,
+    pub points: u64,
+}
+
 /// A line for each point of the records, with the number of its record, from 1, and how many points there are.
 /// Coordinates are in inches with five decimals or in millimetres with four, as the first record of UNITS says.
 ///
@@ -23,15 +30,17 @@ use std::alloc::{AllocError, Global};
 ///
 /// Memory lacks.
 #[tactic(auto, using(crate::proofs::Told::points_told))]
-pub fn listing(alloc: Global, records: &[Record]) -> Result<Vec<u8>, AllocError>
-    ensures value { IfOk result (λ v. v.items ≡ lines.listing records.now) }
-    ensures told { AreRecords records.now → length records.now < 10 ^ 8 → IfOk result (λ v. GivesBack (units_of records.now) (rows_from 1 records.now) v.items) }
+pub fn listing(alloc: Global, records: &[Record]) -> Result<Listing, AllocError>
+    ensures value { IfOk result (λ l. l.text.items ≡ lines.listing records.now) }
+    ensures points { IfOk result (λ l. l.points ≡ lines.point_count records.now) }
+    ensures told { AreRecords records.now → length records.now < 10 ^ 8 → IfOk result (λ l. GivesBack (units_of records.now) (rows_from 1 records.now) l.text.items) }
 {
     list_points(alloc, records)
 }
 
-fn list_points(alloc: Global, records: &[Record]) -> Result<Vec<u8>, AllocError>
-    ensures { IfOk result (λ v. v.items ≡ lines.listing records.now) }
+fn list_points(alloc: Global, records: &[Record]) -> Result<Listing, AllocError>
+    ensures value { IfOk result (λ l. l.text.items ≡ lines.listing records.now) }
+    ensures points { IfOk result (λ l. l.points ≡ lines.point_count records.now) }
 {
     let decimals = decimals_in(units_of(records));
     let mut text = Vec::new(alloc);
@@ -45,7 +54,10 @@ fn list_points(alloc: Global, records: &[Record]) -> Result<Vec<u8>, AllocError>
     }
     let start = end_line(&mut room, points);
     push_from(&mut text, &room, start)?;
-    Ok(text)
+    Ok(Listing {
+        text,
+        points: points as u64,
+    })
 }
 
 /// The units of the first UNITS record, else inches.

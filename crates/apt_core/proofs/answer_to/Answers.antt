@@ -7,5 +7,8 @@ returns-in-Compile g c = rw (c.in-Compile.is, c.of.ensures) (refl, c.compile.ens
 pub returns-in-Certify : goal.returns-in-Certify
 returns-in-Certify g c = rw (c.in-Certify.is, c.of-in-Certify.ensures) (refl, c.certify.ensures)
 
-pub returns-in-Err : goal.returns-in-Err
-returns-in-Err g c = rw (c.in-Decode.is, c.lined.ensures) c.in-Err.ensures
+pub returns-in-Decode : goal.returns-in-Decode
+returns-in-Decode g c = rw (c.in-Decode.is, c.said.ensures) c.decode.ensures
+
+pub returns-in-List : goal.returns-in-List
+returns-in-List g c = rw (c.in-List.is, c.said-in-List.ensures) c.list.ensures
