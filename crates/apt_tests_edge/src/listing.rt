@@ -52,7 +52,9 @@ END 6 POINTS
 #[test]
 fn points_of_the_plate(rt: HostRuntime) -> Result<(), Fail> {
     let records = plate(rt.alloc())?;
-    assert_eq!(rt; listing(rt.alloc(), &records)?.as_slice(), PLATE.as_bytes());
+    let listed = listing(rt.alloc(), &records)?;
+    assert_eq!(rt; listed.text.as_slice(), PLATE.as_bytes());
+    assert_eq!(rt; listed.points, 6);
     Ok(())
 }
 
@@ -77,7 +79,7 @@ fn points_by_their_units(rt: HostRuntime) -> Result<(), Fail> {
         Record::Point(Reach::Goto, far),
         Record::Point(Reach::Godlta, near),
     ];
-    assert_eq!(rt; listing(alloc, &inches)?.as_slice(), INCHES.as_bytes());
+    assert_eq!(rt; listing(alloc, &inches)?.text.as_slice(), INCHES.as_bytes());
     let twice = [
         Record::Statement { line: 1, step: 1 },
         Record::Point(Reach::Goto, far),
@@ -85,9 +87,9 @@ fn points_by_their_units(rt: HostRuntime) -> Result<(), Fail> {
         Record::Note(Note::Units(Units::Mm)),
         Record::Note(Note::Units(Units::Inch)),
     ];
-    assert_eq!(rt; listing(alloc, &twice)?.as_slice(), MILLIMETRES.as_bytes());
+    assert_eq!(rt; listing(alloc, &twice)?.text.as_slice(), MILLIMETRES.as_bytes());
     assert_eq!(rt;
-        listing(alloc, &[])?.as_slice(),
+        listing(alloc, &[])?.text.as_slice(),
         b"END 0 POINTS\n".as_slice()
     );
     Ok(())
