@@ -10,7 +10,8 @@ use Rattle.apt_block.proofs.Taking.{first_taken, taken_some}
 use Rattle.apt_control.specs.declared.walk.Phase.TheVariants as phases
 use Rattle.apt_control.specs.declared.error.ControlError.{ControlError}
 use Rattle.apt_control.specs.declared.error.ControlError.TheVariants as errors
-use Rattle.apt_words.specs.Answers.{IsDueAs}
+use Rattle.apt_words.specs.Answers.{IsDueAs, IsFault}
+use Rattle.apt_words.proofs.Answers.{fault_of}
 use Rattle.apt_control.specs.Answers.{IsFront, told}
 use Rattle.apt_control.specs.Control.{MeaningOf}
 use Rattle.apt_control.specs.Walk.{Walk, words_step, character_step, block_step, character_as, character_of, reached, AtCharacter, byte_as, byte_step, byte_steps}
@@ -19,6 +20,12 @@ pub first_byte : {H A : Type 0} (means : MeaningOf H A) (s : Walk H A) (bytes : 
     → byte_steps means s bytes ≡ (byte_step means s (get_or bytes 0 d) >>= λ s. byte_steps means s (drop 1 bytes))
 first_byte means s [] d h = absurd (omega (arith, h))
 first_byte means s (byte ∷ bytes) d h = refl
+
+-- what the first byte is refused for is what the bytes are refused for
+pub first_fault : {H A : Type 0} (means : MeaningOf H A) (s : Walk H A) (bytes : List ℕ) (d : ℕ) (e : ControlError) → 0 < length bytes
+    → IsFault told (byte_step means s (get_or bytes 0 d)) e → IsFault told (byte_steps means s bytes) e
+first_fault means s bytes d e some is =
+    fault_of told (byte_step means s (get_or bytes 0 d)) (byte_steps means s bytes) e (λ f no. first_byte means s bytes d some ∙ ap (λ r. r >>= λ s. byte_steps means s (drop 1 bytes)) no) is
 
 -- what the walk comes to behind the characters that are taken
 abbrev behind_taken : {H A : Type 0} → MeaningOf H A → Walk H A → Result Taken BlockFault → Result (Walk H A) BlockFault
