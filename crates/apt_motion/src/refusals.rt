@@ -97,7 +97,7 @@ fn point_in(table: &Table, name: &Symbol) -> Result<Position, Case>
     ensures { result ≡ finding.found_place (first_of (refusals.point_cases table.now name.now [])) (asking.place_in table.now name.now) }
 {
     match point(table, name) {
-        Ok((here, z)) => Ok(Position { xy, z }),
+        Ok((xy, z)) => Ok(Position { xy, z }),
         Err(case) => Err(case),
     }
 }
