@@ -1,5 +1,5 @@
 -- The size of a word that is begun.
-use Rattle.std.proofs.Common.{◌≡◌, ℕ, zero, suc, ◌+◌, ◌-◌, ◌*◌, ◌^◌, ◌≤◌, ◌<◌, ◌==◌, true, false, Bool, List, [], ◌∷◌, length, drop, Option, Some, None, cond, arith, lit<, ap, sym, subst, IfSome}
+use Rattle.std.proofs.Common.{◌≡◌, ℕ, zero, suc, ◌+◌, ◌-◌, ◌*◌, ◌^◌, ◌≤◌, ◌<◌, ◌==◌, true, false, Bool, List, [], ◌∷◌, length, drop, Option, Some, None, cond, refl, pos, neg_ℤ, unsigned_abs, arith, lit<, ap, sym, subst, IfSome}
 use Rattle.std.proofs.lemmas.Bool.Decides.{nat_tests}
 use Rattle.std.proofs.Math.Nat.{pow-suc, one-le-pow, pow-le-pow_right}
 use Rattle.std.proofs.lemmas.Nat.{mul-le}
@@ -7,7 +7,7 @@ use Rattle.std.proofs.lemmas.List.{length-drop}
 use Rattle.apt_block.specs.declared.table.Form.{Form}
 use Rattle.apt_block.specs.declared.machine.OpenWord.{OpenWord}
 use Rattle.apt_block.specs.Block.{is_digit, forms}
-use Rattle.apt_block.specs.Machine.{form_for, HasDigits}
+use Rattle.apt_block.specs.Machine.{form_for, value_of, HasDigits}
 
 -- the size itself fits
 pub size_fits : (size n : ℕ) → (size + 1) * 10 ^ n ≤ 10 ^ 8 → size + 1 ≤ 10 ^ 8
@@ -87,3 +87,12 @@ room_left size later count h room = subst (λ n. (size + 1) * 10 ^ n ≤ 10 ^ 8)
   where
     same : later + 1 - count ≡ later - count + 1
     same = omega (arith, h)
+
+-- a word's size is that of its value
+pub unsigned_value : (w : OpenWord) → unsigned_abs (value_of w) ≡ w.size
+unsigned_value w = go w.minus w.size
+  where
+    go : (minus : Bool) (n : ℕ) → unsigned_abs (cond minus (neg_ℤ (pos n)) (pos n)) ≡ n
+    go true zero = refl
+    go true (suc n) = refl
+    go false n = refl

@@ -364,6 +364,7 @@ impl BlockReader {
 
     /// Adds a word that has its last digit.
     #[inline(always)]
+    #[tactic(auto, using(crate::proofs::Rooms::unsigned_value))]
     fn word_end(&mut self, word: OpenWord) -> Result<(), BlockFault>
         requires letter { self.old.want ≡ wants.Letter }
         requires used { length self.old.words < self.old.used }
@@ -373,13 +374,12 @@ impl BlockReader {
         if word.size < word.form.least || word.form.most < word.size {
             return Err(bad_block(word.last));
         }
-        let value = value_of(&word);
-        if let Some(cause) = code_fault(self.words(), word.form.letter, value.unsigned_abs()) {
+        if let Some(cause) = code_fault(self.words(), word.form.letter, word.size) {
             return Err(BlockFault { at: word.at, cause });
         }
         self.block.push(TapeWord {
             letter: word.form.letter,
-            value,
+            value: value_of(&word),
         });
         Ok(())
     }
