@@ -371,7 +371,7 @@ impl BlockReader {
         requires small { word.size < 10 ^ 8 }
         ensures { IsStep (machine.word_end self.old word) self.new result }
     {
-        if word.size < word.form.least || word.form.most < word.size {
+        if word.size < u64::from(word.form.least) || u64::from(word.form.most) < word.size {
             return Err(bad_block(word.last));
         }
         if let Some(cause) = code_fault(self.words(), word.form.letter, word.size) {

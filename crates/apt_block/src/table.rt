@@ -14,8 +14,8 @@ pub struct Form {
     pub letter: u8,
     pub digits: u8,
     pub signed: bool,
-    pub least: u64,
-    pub most: u64,
+    pub least: u32,
+    pub most: u32,
 }
 
 /// The table, in the order in which words stand.
