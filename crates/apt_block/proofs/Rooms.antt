@@ -1,14 +1,13 @@
 -- The size of a word that is begun.
-use Rattle.std.proofs.Common.{◌≡◌, ℕ, zero, suc, ◌+◌, ◌-◌, ◌*◌, ◌^◌, ◌≤◌, ◌<◌, ◌==◌, true, false, Bool, List, [], ◌∷◌, length, drop, Option, Some, None, cond, arith, lit<, ap, sym, subst, IfSome}
+use Rattle.std.proofs.Common.{◌≡◌, ℕ, zero, suc, ◌+◌, ◌-◌, ◌*◌, ◌^◌, ◌≤◌, ◌<◌, ◌==◌, true, false, Bool, List, [], ◌∷◌, length, drop, Option, Some, None, cond, refl, pos, neg_ℤ, unsigned_abs, arith, lit<, ap, sym, subst, IfSome}
 use Rattle.std.proofs.lemmas.Bool.Decides.{nat_tests}
 use Rattle.std.proofs.Math.Nat.{pow-suc, one-le-pow, pow-le-pow_right}
 use Rattle.std.proofs.lemmas.Nat.{mul-le}
 use Rattle.std.proofs.lemmas.List.{length-drop}
 use Rattle.apt_block.specs.declared.table.Form.{Form}
-use Rattle.apt_block.specs.declared.block.Mark.{Mark}
 use Rattle.apt_block.specs.declared.machine.OpenWord.{OpenWord}
 use Rattle.apt_block.specs.Block.{is_digit, forms}
-use Rattle.apt_block.specs.Machine.{form_for, with_digit, HasDigits}
+use Rattle.apt_block.specs.Machine.{form_for, value_of, HasDigits}
 
 -- the size itself fits
 pub size_fits : (size n : ℕ) → (size + 1) * 10 ^ n ≤ 10 ^ 8 → size + 1 ≤ 10 ^ 8
@@ -70,18 +69,30 @@ form_is_small used ch o h is = subst (λ o. IfSome o (λ f. (f.0.digits ≤ 8) �
 pub small : (w : OpenWord) → HasDigits w → w.size < 10 ^ 8
 small w room = omega (arith, size_fits w.size (w.later + 1) room)
 
-one_later : (n : ℕ) → suc n + 1 ≡ suc (n + 1)
-one_later n = omega arith
-
-one_less : (n : ℕ) → n + 1 ≡ suc n - 1 + 1
-one_less n = omega arith
-
-no_true : true ≡ false → ⊥
-no_true e = cc
-
-pub room_step : (w : OpenWord) (c : Mark) → HasDigits w → is_digit c.ch ≡ true → (w.later == 0) ≡ false → HasDigits (with_digit w c)
-room_step w c room digit later = go w.later later room
+pub room_step : (size ch later count : ℕ) → is_digit ch ≡ true → count ≤ later → (size + 1) * 10 ^ (later + 1 - count) ≤ 10 ^ 8
+    → (10 * size + (ch - 48) + 1) * 10 ^ (later + 1 - (count + 1)) ≤ 10 ^ 8
+room_step size ch later count digit h room =
+    subst (λ n. (10 * size + (ch - 48) + 1) * 10 ^ n ≤ 10 ^ 8) less
+    (room_more size (ch - 48) (later - count) (omega (arith, digit_size ch digit)) (subst (λ n. (size + 1) * 10 ^ n ≤ 10 ^ 8) more room))
   where
-    go : (n : ℕ) → (n == 0) ≡ false → (w.size + 1) * 10 ^ (n + 1) ≤ 10 ^ 8 → (10 * w.size + (c.ch - 48) + 1) * 10 ^ (n - 1 + 1) ≤ 10 ^ 8
-    go zero e h = absurd (no_true e)
-    go (suc n) e h = subst (λ m. (10 * w.size + (c.ch - 48) + 1) * 10 ^ m ≤ 10 ^ 8) (one_less n) (room_more w.size (c.ch - 48) (n + 1) (omega (arith, digit_size c.ch digit)) (subst (λ m. (w.size + 1) * 10 ^ m ≤ 10 ^ 8) (one_later n) h))
+    more : later + 1 - count ≡ suc (later - count)
+    more = omega (arith, h)
+
+    less : later - count ≡ later + 1 - (count + 1)
+    less = omega arith
+
+-- what is left for the digits that may still come
+pub room_left : (size later count : ℕ) → count ≤ later → (size + 1) * 10 ^ (later + 1 - count) ≤ 10 ^ 8 → (size + 1) * 10 ^ (later - count + 1) ≤ 10 ^ 8
+room_left size later count h room = subst (λ n. (size + 1) * 10 ^ n ≤ 10 ^ 8) same room
+  where
+    same : later + 1 - count ≡ later - count + 1
+    same = omega (arith, h)
+
+-- a word's size is that of its value
+pub unsigned_value : (w : OpenWord) → unsigned_abs (value_of w) ≡ w.size
+unsigned_value w = go w.minus w.size
+  where
+    go : (minus : Bool) (n : ℕ) → unsigned_abs (cond minus (neg_ℤ (pos n)) (pos n)) ≡ n
+    go true zero = refl
+    go true (suc n) = refl
+    go false n = refl

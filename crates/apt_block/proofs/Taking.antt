@@ -1,10 +1,11 @@
 -- The characters at the front of some bytes: the first of them, and where none stands.
-use Rattle.std.proofs.Common.{◌≡◌, ℕ, zero, suc, ◌+◌, ◌<◌, ◌≤◌, true, false, Bool, List, [], ◌∷◌, drop, length, get_or, Option, Some, None, unwrap_or, option_map, Result, Ok, Err, ◌==◌, cond, refl, ap, ◌∙◌, sym, subst, arith}
+use Rattle.std.proofs.Common.{◌≡◌, ℕ, zero, suc, ◌+◌, ◌-◌, ◌*◌, ◌<◌, ◌≤◌, true, false, Bool, List, [], ◌∷◌, drop, length, get_or, Option, Some, None, unwrap_or, option_map, Result, Ok, Err, ◌==◌, cond, refl, ap, ◌∙◌, sym, subst, arith}
+use Rattle.std.proofs.lemmas.Bool.Decides.{nat_tests}
 use Rattle.apt_block.specs.declared.block.BlockFault.{BlockFault}
 use Rattle.apt_block.specs.declared.machine.OpenWord.{OpenWord}
 use Rattle.apt_block.specs.declared.machine.Want.TheVariants as wants
 use Rattle.apt_block.specs.Block.{◌>>=◌, bad_block, is_digit}
-use Rattle.apt_block.specs.Machine.{FrontPart, step, is_whole, word_end, with_digit, sign_step, Taken, stopped, taken, behind, read_on}
+use Rattle.apt_block.specs.Machine.{FrontPart, step, is_whole, word_end, with_digit, with_digits, last_place, sign_step, Taken, stopped, taken, behind, read_on}
 
 abbrev pub first_taken : (ℕ → Option ℕ) → FrontPart → ℕ → List ℕ → List ℕ → Option ℕ → Result Taken BlockFault
 first_taken character b at bytes more o = unwrap_or (option_map (λ ch. step b (record { at = at; ch = ch }) >>= λ b. behind character b (at + 1) more) o) (stopped b at bytes)
@@ -38,7 +39,7 @@ pub front_none : (character : ℕ → Option ℕ) (b : FrontPart) (at : ℕ) (by
 front_none character b at bytes d h is = taken_none character b at bytes 0 d h is
 
 -- a word is read on behind a digit that is not its last
-pub one_digit : (character : ℕ → Option ℕ) (b : FrontPart) (w longer : OpenWord) (at : ℕ) (bytes : List ℕ) (n ch d : ℕ) (read : Result Taken BlockFault)
+one_digit : (character : ℕ → Option ℕ) (b : FrontPart) (w longer : OpenWord) (at : ℕ) (bytes : List ℕ) (n ch d : ℕ) (read : Result Taken BlockFault)
     → taken character (record b { want = wants.Digit w }) (at + n) (drop n bytes) ≡ read
     → n < length bytes → character (get_or bytes n d) ≡ Some ch → is_digit ch ≡ true → (w.later == 0) ≡ false → longer ≡ with_digit w (record { at = at + n; ch = ch })
     → taken character (record b { want = wants.Digit longer }) (at + (n + 1)) (drop (n + 1) bytes) ≡ read
@@ -58,6 +59,57 @@ one_digit character b w longer at bytes n ch d read e h is digit more long =
 
     goes : Result FrontPart BlockFault → Result Taken BlockFault
     goes r = r >>= λ b. behind character b (at + n + 1) (drop (n + 1) bytes)
+
+not_zero : (n : ℕ) → 1 ≤ n → (n == 0) ≡ false
+not_zero n h = grind (arith, nat_tests)
+
+zero_left : (n : ℕ) → n ≡ 0 → (n == 0) ≡ true
+zero_left n h = grind (arith, nat_tests)
+
+-- one digit more than some
+more_digits : (w : OpenWord) (at count size ch : ℕ) → with_digits w at (count + 1) (10 * size + (ch - 48)) ≡ with_digit (with_digits w at count size) (record { at = at + count; ch = ch })
+more_digits w at count size ch =
+    ap (λ last. record w { later = w.later - (count + 1); size = 10 * size + (ch - 48); last = last }) (place count)
+    ∙ ap (λ later. record w { later = later; size = 10 * size + (ch - 48); last = at + count }) one_less
+  where
+    before : (n : ℕ) → at + (n + 1) - 1 ≡ at + n
+    before n = omega arith
+
+    place : (n : ℕ) → last_place w.last at (n + 1) ≡ at + n
+    place n = ap (λ t. cond t w.last (at + (n + 1) - 1)) (not_zero (n + 1) (omega arith)) ∙ before n
+
+    one_less : w.later - (count + 1) ≡ w.later - count - 1
+    one_less = omega arith
+
+-- a word is read on behind a digit more that is not its last
+pub digit_more : (character : ℕ → Option ℕ) (b : FrontPart) (w : OpenWord) (at count size ch d : ℕ) (bytes : List ℕ) (read : Result Taken BlockFault)
+    → taken character (record b { want = wants.Digit (with_digits w at count size) }) (at + count) (drop count bytes) ≡ read
+    → count < length bytes → character (get_or bytes count d) ≡ Some ch → is_digit ch ≡ true → count + 1 ≤ w.later
+    → taken character (record b { want = wants.Digit (with_digits w at (count + 1) (10 * size + (ch - 48))) }) (at + (count + 1)) (drop (count + 1) bytes) ≡ read
+digit_more character b w at count size ch d bytes read e h is digit short =
+    one_digit character b (with_digits w at count size) _ at bytes count ch d read e h is digit (not_zero (w.later - count) (omega (arith, short))) (more_digits w at count size ch)
+
+-- a word ends behind its last digit
+pub digit_last : (character : ℕ → Option ℕ) (b : FrontPart) (w : OpenWord) (at count size ch d : ℕ) (bytes : List ℕ) (read : Result Taken BlockFault)
+    → taken character (record b { want = wants.Digit (with_digits w at count size) }) (at + count) (drop count bytes) ≡ read
+    → count < length bytes → character (get_or bytes count d) ≡ Some ch → is_digit ch ≡ true → count ≡ w.later
+    → (word_end b (with_digits w at (count + 1) (10 * size + (ch - 48))) >>= λ b. behind character b (at + (count + 1)) (drop (count + 1) bytes)) ≡ read
+digit_last character b w at count size ch d bytes read e h is digit whole =
+    ap (λ v. word_end b v >>= λ b. behind character b (at + (count + 1)) (drop (count + 1) bytes)) (more_digits w at count size ch)
+    ∙ ap (λ m. word_end b next >>= λ b. behind character b m (drop (count + 1) bytes)) place
+    ∙ sym (ap (λ t. goes (cond t (word_end b next) (Ok (record b { want = wants.Digit next })))) (zero_left (w.later - count) (omega (arith, whole))))
+    ∙ sym (ap (λ t. goes (cond t (cond (w.later - count == 0) (word_end b next) (Ok (record b { want = wants.Digit next }))) (Err (bad_block (at + count))))) digit)
+    ∙ sym (taken_char character (record b { want = wants.Digit (with_digits w at count size) }) (at + count) bytes count ch d h is)
+    ∙ e
+  where
+    next : OpenWord
+    next = with_digit (with_digits w at count size) (record { at = at + count; ch = ch })
+
+    place : at + (count + 1) ≡ at + count + 1
+    place = omega arith
+
+    goes : Result FrontPart BlockFault → Result Taken BlockFault
+    goes r = r >>= λ b. behind character b (at + count + 1) (drop (count + 1) bytes)
 
 -- ---- something is taken
 

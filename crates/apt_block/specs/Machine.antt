@@ -57,6 +57,14 @@ word_end b w =
 abbrev pub with_digit : OpenWord → Mark → OpenWord
 with_digit w c = record w { later = w.later - 1; size = 10 * w.size + (c.ch - 48); last = c.at }
 
+-- the place of the last of so many digits, the first of which is at a place
+abbrev pub last_place : ℕ → ℕ → ℕ → ℕ
+last_place before at count = if count == 0 then before else at + count - 1
+
+-- a word behind so many digits more, and its size there
+abbrev pub with_digits : OpenWord → ℕ → ℕ → ℕ → OpenWord
+with_digits w at count size = record w { later = w.later - count; size = size; last = last_place w.last at count }
+
 abbrev pub digit_step : FrontPart → OpenWord → Mark → Result FrontPart BlockFault
 digit_step b w c =
     if is_digit c.ch then (if w.later == 0 then word_end b (with_digit w c) else Ok (record b { want = wants.Digit (with_digit w c) }))

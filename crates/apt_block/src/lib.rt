@@ -11,4 +11,4 @@ pub use block::{Block, BlockFault, Mark, TapeCause, TapeWord};
 pub use machine::{Alphabet, BlockReader};
 pub use read::{BlockError, read_block};
 pub use table::Form;
-pub use write::{Hand, Plain, spell, write_block};
+pub use write::{Hand, Plain, push_word, write_block};

@@ -1,6 +1,6 @@
 //! A block read from the bytes of its characters, as they come.
 
-ghost use Rattle.std.specs.Prelude.{◌≡◌, ◌≤◌, ◌<◌, ◌+◌, ◌^◌, ℕ, Option, Ok, length, true, IfOk, IfSome, IsNone};
+ghost use Rattle.std.specs.Prelude.{◌≡◌, ◌≤◌, ◌<◌, ◌+◌, ◌^◌, ℕ, Option, Some, None, Ok, length, true, false, IfOk, IfErr, OnOk, IfSome, IsNone};
 ghost use Rattle.apt_block.specs.Block as spec;
 ghost use Rattle.apt_block.specs.Machine as machine;
 ghost use Rattle.apt_block.specs.Machine.{FrontPart, IsStep, IsTaken, IsRead, HasDigits};
@@ -110,18 +110,42 @@ fn with_sign(word: OpenWord, ch: u8) -> Option<OpenWord>
     }
 }
 
-/// The word with one digit more.
-#[tactic(auto, using(crate::proofs::Rooms::size_fits, crate::proofs::Rooms::digit_size))]
-fn with_digit(word: OpenWord, c: Mark) -> OpenWord
-    requires room { HasDigits word }
-    requires digit { spec.is_digit c.ch ≡ true }
-    ensures { result ≡ machine.with_digit word c }
+/// The digit that a byte stands for, as its character.
+#[inline(always)]
+fn digit_of<A: Alphabet>(byte: u8) -> Option<u8>
+    ensures some { IfSome result (λ ch. (A.character byte ≡ Some ch) × (spec.is_digit ch ≡ true)) }
+    ensures none { IsNone result → (ch : ℕ) → A.character byte ≡ Some ch → spec.is_digit ch ≡ false }
+{
+    match A::character(byte) {
+        Some(ch) if is_digit(ch) => Some(ch),
+        _ => None,
+    }
+}
+
+/// The word behind so many digits more, the first of which is at a place, and its size there.
+#[inline(always)]
+fn with_digits(word: OpenWord, at: u64, count: usize, size: u64) -> OpenWord
+    requires { at + count < 2 ^ 64 }
+    ensures { result ≡ machine.with_digits word at count size }
 {
     OpenWord {
-        later: word.later.saturating_sub(1),
-        size: 10 * word.size + (c.ch - b'0') as u64,
-        last: c.at,
+        later: (word.later as usize).saturating_sub(count) as u8,
+        size,
+        last: last_place(word.last, at, count),
         ..word
+    }
+}
+
+/// The place of the last of so many digits, the first of which is at a place.
+#[inline(always)]
+fn last_place(before: u64, at: u64, count: usize) -> u64
+    requires { at + count < 2 ^ 64 }
+    ensures { result ≡ machine.last_place before at count }
+{
+    if count == 0 {
+        before
+    } else {
+        at + count as u64 - 1
     }
 }
 
@@ -189,8 +213,14 @@ impl BlockReader {
     {
         match self.want {
             Want::Letter => Ok(0),
-            Want::Sign(word) => self.sign::<A>(word, at, bytes),
-            Want::Digit(word) => self.digits::<A>(word, at, bytes),
+            Want::Sign(word) => {
+                self.want = Want::Letter;
+                self.sign::<A>(word, at, bytes)
+            }
+            Want::Digit(word) => {
+                self.want = Want::Letter;
+                self.digits::<A>(word, at, bytes)
+            }
             Want::Nothing => self.nothing::<A>(at, bytes),
         }
     }
@@ -219,6 +249,7 @@ impl BlockReader {
     }
 
     /// Takes the characters of a word whose letter is read, or an end of block.
+    #[inline(always)]
     #[tactic(auto, using(crate::proofs::Rooms::room_new))]
     fn letter<A: Alphabet>(&mut self, c: Mark, more: &[u8]) -> Result<usize, BlockFault>
         requires place { c.at + 1 + length more.now < 2 ^ 64 }
@@ -245,6 +276,7 @@ impl BlockReader {
     }
 
     /// Takes the sign that a word may have, and its digits.
+    #[inline(always)]
     #[tactic(auto, using(crate::proofs::Taking::front_char, crate::proofs::Taking::front_none))]
     fn sign<A: Alphabet>(
         &mut self,
@@ -253,6 +285,7 @@ impl BlockReader {
         bytes: &[u8],
     ) -> Result<usize, BlockFault>
         requires place { at + length bytes.now < 2 ^ 64 }
+        requires letter { self.old.want ≡ wants.Letter }
         requires used { length self.old.words < self.old.used }
         requires room { HasDigits word }
         ensures read { IsRead A.character (machine.taken A.character (record self.old { want = wants.Sign word }) at bytes.now) self.new at bytes.now result }
@@ -276,7 +309,8 @@ impl BlockReader {
     }
 
     /// Takes the digits of a word.
-    #[tactic(auto, using(crate::proofs::Taking::taken_char, crate::proofs::Taking::taken_none, crate::proofs::Rooms::room_step, crate::proofs::Rooms::small))]
+    #[inline(always)]
+    #[tactic(auto, using(crate::proofs::Taking::taken_char, crate::proofs::Taking::taken_none, crate::proofs::Rooms::digit_size, crate::proofs::Rooms::size_fits, crate::proofs::Rooms::room_left))]
     fn digits<A: Alphabet>(
         &mut self,
         begun: OpenWord,
@@ -284,50 +318,69 @@ impl BlockReader {
         bytes: &[u8],
     ) -> Result<usize, BlockFault>
         requires place { at + length bytes.now < 2 ^ 64 }
+        requires letter { self.old.want ≡ wants.Letter }
         requires used { length self.old.words < self.old.used }
         requires room { HasDigits begun }
         ensures read { IsRead A.character (machine.taken A.character (record self.old { want = wants.Digit begun }) at bytes.now) self.new at bytes.now result }
         ensures short { IfOk result (λ n. n ≤ length bytes.now) }
     {
-        let mut word = begun;
-        'digits: for (count, byte) in bytes.iter().enumerate() {
-            let Some(ch) = A::character(*byte) else {
-                self.want = Want::Digit(word);
+        let later = begun.later as usize;
+        let most = bytes.len().min(later + 1);
+        let mut size = begun.size;
+        'digits: for (count, byte) in bytes[..most].iter().enumerate() {
+            let Some(ch) = digit_of::<A>(*byte) else {
+                self.stop::<A>(
+                    with_digits(begun, at, count, size),
+                    at + count as u64,
+                    *byte,
+                )?;
                 return Ok(count);
             };
-            let place = at + count as u64;
-            if !is_digit(ch) {
-                return Err(bad_block(place));
-            }
-            let is_last = word.later == 0;
-            word = with_digit(word, Mark { at: place, ch });
-            if is_last {
-                self.word_end(word)?;
-                return Ok(count + 1);
-            }
+            size = 10 * size + (ch - b'0') as u64;
+        }
+        let word = with_digits(begun, at, most, size);
+        if most <= later {
+            self.want = Want::Digit(word);
+        } else {
+            self.word_end(word)?;
+        }
+        Ok(most)
+    }
+
+    /// Keeps a word in front of a byte that is no digit's. Only one that is no character's can stand there.
+    #[inline(never)]
+    fn stop<A: Alphabet>(&mut self, word: OpenWord, at: u64, byte: u8) -> Result<(), BlockFault>
+        requires used { length self.old.words < self.old.used }
+        requires room { HasDigits word }
+        ensures ok { OnOk result ((A.character byte ≡ None) × (self.new ≡ record self.old { want = wants.Digit word })) }
+        ensures err { IfErr result (λ f. (f ≡ spec.bad_block at) × (ch : ℕ) × (A.character byte ≡ Some ch)) }
+    {
+        if A::character(byte).is_some() {
+            return Err(bad_block(at));
         }
         self.want = Want::Digit(word);
-        Ok(bytes.len())
+        Ok(())
     }
 
     /// Adds a word that has its last digit.
+    #[inline(always)]
+    #[tactic(auto, using(crate::proofs::Rooms::unsigned_value))]
     fn word_end(&mut self, word: OpenWord) -> Result<(), BlockFault>
+        requires letter { self.old.want ≡ wants.Letter }
         requires used { length self.old.words < self.old.used }
         requires small { word.size < 10 ^ 8 }
         ensures { IsStep (machine.word_end self.old word) self.new result }
     {
-        if word.size < word.form.least || word.form.most < word.size {
+        if word.size < u64::from(word.form.least) || u64::from(word.form.most) < word.size {
             return Err(bad_block(word.last));
         }
-        let value = value_of(&word);
-        if let Some(cause) = code_fault(self.words(), word.form.letter, value.unsigned_abs()) {
+        if let Some(cause) = code_fault(self.words(), word.form.letter, word.size) {
             return Err(BlockFault { at: word.at, cause });
         }
         self.block.push(TapeWord {
             letter: word.form.letter,
-            value,
+            value: value_of(&word),
         });
-        self.want = Want::Letter;
         Ok(())
     }
 

@@ -1,6 +1,6 @@
 //! The table of words, and the codes that can stand.
 
-ghost use Rattle.std.specs.Prelude.{◌≡◌, ◌≤◌, ◌<◌, ◌+◌, [], ◌∷◌, length, drop, IfSome};
+ghost use Rattle.std.specs.Prelude.{◌≡◌, ◌≤◌, ◌<◌, ◌+◌, ◌&&◌, not, [], ◌∷◌, length, drop, IfSome};
 ghost use Rattle.std.specs.List.{list_any};
 ghost use Rattle.apt_block.specs.Block as spec;
 ghost use Rattle.apt_block.specs.Machine as machine;
@@ -14,8 +14,8 @@ pub struct Form {
     pub letter: u8,
     pub digits: u8,
     pub signed: bool,
-    pub least: u64,
-    pub most: u64,
+    pub least: u32,
+    pub most: u32,
 }
 
 /// The table, in the order in which words stand.
@@ -170,12 +170,20 @@ fn has_again(before: &[TapeWord], c: u64) -> bool
     false
 }
 
-/// What is wrong with the code of a letter behind the words before it.
+/// Whether a G code has a group, and is the first of it.
+fn is_g_code(before: &[TapeWord], c: u64) -> bool
+    ensures { result ≡ (spec.is_same_group c c && not (list_any (spec.is_g_again c) before.now)) }
+{
+    is_same_group(c, c) && !has_again(before, c)
+}
+
+/// What is wrong with the code of a letter behind the words before it. Most letters have none.
+#[inline(always)]
 pub fn code_fault(before: &[TapeWord], letter: u8, c: u64) -> Option<TapeCause>
     ensures { result ≡ spec.code_fault before.now letter c }
 {
     if letter == b'G' {
-        if is_same_group(c, c) && !has_again(before, c) {
+        if is_g_code(before, c) {
             None
         } else {
             Some(TapeCause::BadG)

@@ -62,8 +62,8 @@ fn plain_text(b: &Block) -> ArrayVec<u8, 131>
     spell::<Plain, 131>(b.words.as_slice())
 }
 
-/// The characters of a block's words, with its end of block, in a hand.
-pub fn spell<H: Hand, const CAP: usize>(words: &[TapeWord]) -> ArrayVec<u8, CAP>
+/// The characters of a block's words, with its end of block.
+fn spell<H: Hand, const CAP: usize>(words: &[TapeWord]) -> ArrayVec<u8, CAP>
     requires room { 10 * length words.now < CAP }
     ensures { result.items ≡ map H.written (spelling words.now) }
 {
@@ -75,8 +75,10 @@ pub fn spell<H: Hand, const CAP: usize>(words: &[TapeWord]) -> ArrayVec<u8, CAP>
     text
 }
 
+/// Appends the characters of a word in a hand.
+#[inline(always)]
 #[tactic(auto, using(crate::proofs::Written::written_behind))]
-fn push_word<H: Hand, const CAP: usize>(text: &mut ArrayVec<u8, CAP>, word: TapeWord)
+pub fn push_word<H: Hand, const CAP: usize>(text: &mut ArrayVec<u8, CAP>, word: TapeWord)
     requires room { array_vec_len text.old + 10 ≤ CAP }
     ensures items { text.new.items ≡ text.old.items ++ map H.written (word_text word) }
     ensures len { array_vec_len text.new ≤ array_vec_len text.old + 10 }
@@ -86,6 +88,7 @@ fn push_word<H: Hand, const CAP: usize>(text: &mut ArrayVec<u8, CAP>, word: Tape
 }
 
 /// Appends the number behind a letter. Behind a letter that is not in the table nothing is written.
+#[inline(always)]
 fn push_number<H: Hand, const CAP: usize>(text: &mut ArrayVec<u8, CAP>, letter: u8, value: i64)
     requires room { array_vec_len text.old + 9 ≤ CAP }
     ensures items { text.new.items ≡ text.old.items ++ map H.written (number_text (form_in forms letter) value) }

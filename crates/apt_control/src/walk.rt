@@ -182,7 +182,8 @@ impl<H: Control> ControlReader<H> {
         self.reach(count)
     }
 
-    /// Takes them into the block that is begun.
+    /// Takes them into the block that is begun. Most of the work of a tape is done here, and alone it is done in registers.
+    #[inline(never)]
     fn take(&mut self, bytes: &[u8]) -> Result<usize, BlockFault>
         requires { self.old.count + length bytes.now < 2 ^ 64 }
         ensures taken { machine.IsTaken (machine.taken (walk.character_of self.old.code) self.old.block self.old.count bytes.now) self.new.block self.old.count bytes.now result }

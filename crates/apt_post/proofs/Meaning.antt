@@ -1,5 +1,5 @@
 -- What the block of an act means to a control that holds what the writer holds: the act, and what holds behind it.
-use Rattle.std.specs.Prelude.{◌≡◌, ◌==◌, ℕ, ℤ, pos, ◌&&◌, not, Bool, true, false, List, [], ◌∷◌, ◌++◌, Option, Some, None, Result, Ok, IsSome, cond}
+use Rattle.std.specs.Prelude.{◌≡◌, ◌==◌, ℕ, ℤ, ◌&&◌, not, Bool, true, false, List, [], ◌∷◌, ◌++◌, Option, Some, None, Ok, IsSome, cond}
 use Rattle.std.specs.Ordering.{int_eq}
 use Rattle.std.proofs.Common.{refl, sym, ap, subst, ◌∙◌, eqb-true}
 use Rattle.std.proofs.lemmas.Bool.{and_parts}
@@ -10,13 +10,12 @@ use Rattle.apt_words.specs.declared.Units.TheVariants.{Inch, Mm}
 use Rattle.apt_words.specs.declared.Turn.TheVariants as turns
 use Rattle.apt_words.specs.declared.Cool.TheVariants as coolants
 use Rattle.apt_machine.specs.declared.machine.Machine.{Machine}
-use Rattle.apt_block.specs.declared.block.BlockFault.{BlockFault}
 use Rattle.apt_block.specs.declared.block.TapeWord.{TapeWord}
 use Rattle.apt_block.specs.Block.{tape_word, letter_x, letter_y, letter_z, letter_f}
 use Rattle.apt_control.specs.declared.Act.{Act}
 use Rattle.apt_control.specs.declared.Act.TheVariants as acts
 use Rattle.apt_control.specs.declared.held.Held.{Held}
-use Rattle.apt_control.specs.Control.{Meaning, meaning}
+use Rattle.apt_control.specs.Control.{meaning}
 use Rattle.apt_post.specs.Blocks.{g, act_words, is_code, is_value, is_written, behind, act_block, CanWrite}
 use Rattle.apt_post.proofs.Numbers.{number_words, number_of, numbered-words}
 

@@ -1,5 +1,5 @@
 -- The block of an act that can be written is a block.
-use Rattle.std.specs.Prelude.{◌≡◌, ℕ, ◌+◌, ◌≤◌, ℤ, pos, ◌==◌, ◌&&◌, Bool, true, false, MatchBool, not, List, [], ◌∷◌, ◌++◌, drop, Option, Some, None, cond}
+use Rattle.std.specs.Prelude.{◌≡◌, ℕ, ◌+◌, ◌≤◌, ◌<◌, ℤ, pos, ◌==◌, ◌&&◌, Bool, true, false, MatchBool, not, List, [], ◌∷◌, ◌++◌, drop, Option, Some, None, cond}
 use Rattle.std.specs.List.{filter}
 use Rattle.std.proofs.Common.{refl, sym, subst, arith}
 use Rattle.apt_words.specs.declared.Units.TheVariants.{Inch, Mm}
@@ -15,6 +15,7 @@ use Rattle.apt_control.specs.declared.held.Held.{Held}
 use Rattle.apt_control.specs.Control.{nothing_held}
 use Rattle.apt_post.specs.Blocks.{g, act_words, is_code, is_value, is_written, behind, act_block, blocks_from, blocks_of, CanWrite, IsCoordinate, IsPosition, IsUpTo}
 use Rattle.apt_post.specs.Writing.{CanWriteAll, AreBlocks}
+use Rattle.apt_post.specs.Posting.{Posting, next_number, next_block}
 use Rattle.apt_post.proofs.Numbers.{number_words, number_of, IsNumber, numbered-words, number_of-IsNumber}
 
 -- the words of a block behind the sequence number
@@ -158,3 +159,24 @@ blocks_from-are machine k held (act ∷ more) can = (act_block-IsBlock machine k
 
 pub blocks_of_are : (machine : Machine) (acts : List Act) → CanWriteAll acts → AreBlocks (blocks_of machine acts)
 blocks_of_are machine acts can = blocks_from-are machine 0 nothing_held acts can
+
+next_number-IsNumber : (p : Posting) → p.steps < 9999 → IsNumber (cond (p.machine.seq == 0) None (Some (1 + p.steps)))
+next_number-IsNumber p few = at (p.machine.seq == 0)
+  where
+    at : (t : Bool) → IsNumber (cond t None (Some (1 + p.steps)))
+    at true = tt
+    at false = omega (arith, few)
+
+next_number-words : (p : Posting) → next_number p ≡ number_words (cond (p.machine.seq == 0) None (Some (1 + p.steps)))
+next_number-words p = at (p.machine.seq == 0)
+  where
+    at : (t : Bool) → cond t [] (tape_word letter_n (pos (1 + p.steps)) ∷ []) ≡ number_words (cond t None (Some (1 + p.steps)))
+    at true = refl
+    at false = refl
+
+pub next_block_IsBlock : (p : Posting) (act : Act) → p.steps < 9999 → CanWrite act → IsBlock (next_block p act)
+next_block_IsBlock p act few can =
+    let n = cond (p.machine.seq == 0) None (Some (1 + p.steps)) in
+    let words = written p.machine.changed p.held act in
+    subst (λ ns. IsBlock (ns ++ words)) (sym (next_number-words p))
+    (behind-IsBlock n words (next_number-IsNumber p few) (written-begins_behind p.machine.changed p.held act) (words-stand n p.machine.changed p.held act can))

@@ -1,5 +1,5 @@
 -- A writer that makes the block of one act after the other: where it stands, and for which acts it stands.
-use Rattle.std.specs.Prelude.{◌≡◌, ℕ, ◌+◌, ◌*◌, ◌%◌, ◌<◌, pos, ◌==◌, List, [], ◌∷◌, ◌++◌, length, if◌then◌else◌}
+use Rattle.std.specs.Prelude.{◌≡◌, ℕ, ◌+◌, ◌*◌, ◌%◌, pos, ◌==◌, List, [], ◌∷◌, ◌++◌, length, if◌then◌else◌}
 use Rattle.std.specs.List.{filter}
 use Rattle.apt_machine.specs.declared.machine.Machine.{Machine}
 use Rattle.apt_block.specs.declared.block.TapeWord.{TapeWord}
@@ -26,6 +26,10 @@ StandsFor p acts = p ≡ posting_behind p.machine acts
 -- the number of the next block
 abbrev pub next_number : Posting → List TapeWord
 next_number p = if p.machine.seq == 0 then [] else tape_word letter_n (pos (1 + p.steps)) ∷ []
+
+-- those of some words that are written
+abbrev pub told : Posting → List TapeWord → List TapeWord
+told p words = filter (is_written p.machine.changed p.held) words
 
 -- the block of an act that comes next
 abbrev pub next_block : Posting → Act → List TapeWord

@@ -1,8 +1,9 @@
 //! The writer of blocks, one act after the other.
 
-ghost use Rattle.std.specs.Prelude.{◌≡◌, ◌+◌, ◌*◌, ◌%◌, ◌≤◌, ◌++◌, ◌∷◌, [], List, length, map};
-ghost use Rattle.std.specs.List.{filter};
-ghost use Rattle.apt_block.specs.Block.{IsBlock, spelling};
+ghost use Rattle.std.specs.Prelude.{◌≡◌, ◌+◌, ◌*◌, ◌%◌, ◌<◌, ◌≤◌, ◌++◌, ◌∷◌, [], List, length, map};
+ghost use Rattle.std.specs.List.{flat_map};
+ghost use Rattle.arrayvec.specs.ArrayVec.{array_vec_len};
+ghost use Rattle.apt_block.specs.Block.{IsBlock, spelling, word_text};
 ghost use Rattle.apt_tapecode.specs.Tapecode.{byte_of};
 ghost use Rattle.apt_post.specs.Blocks as spec;
 ghost use Rattle.apt_post.specs.Posting as posting;
@@ -10,13 +11,16 @@ ghost use Rattle.apt_post.specs.Posting.{StandsFor};
 
 use crate::hands::{Rs244, Rs358};
 use crate::words::{behind, g, m, nothing_held, says_held, word};
-use apt_block::{Block, Hand, Plain, TapeWord, spell};
+use apt_block::{Block, Hand, Plain, TapeWord, push_word, read_block};
 use apt_control::{Act, Held};
 use apt_machine::Machine;
 use apt_tapecode::Code;
 use apt_words::{Cool, Turn, Units};
 use arrayvec::ArrayVec;
 use std::marker::Model;
+
+/// The characters or the bytes of one block.
+pub(crate) type Text = ArrayVec<u8, 128>;
 
 /// Writes the blocks of acts, each when its act is given. It keeps the number of the next block and what holds,
 /// and stands for every list of acts that leaves these.
@@ -52,138 +56,216 @@ impl Poster {
 
     /// The characters of the next block, which is the act's, with its line feed.
     #[tactic(auto, using(crate::proofs::Posting::stands_next, crate::proofs::Posting::text_next))]
-    pub fn text(&mut self, a: &Act) -> ArrayVec<u8, 128>
+    pub fn text(&mut self, a: &Act) -> Text
         requires { spec.CanWrite a.now }
         ensures block { result.items ≡ spelling (posting.next_block self.old a.now) }
+        ensures is { IsBlock (posting.next_block self.old a.now) }
         ensures next { self.new ≡ posting.next self.old a.now }
         ensures stands { (before : List Act) → StandsFor self.old before → StandsFor self.new (before ++ a.now ∷ []) }
         ensures tape { (before : List Act) → StandsFor self.old before → spec.tape_text self.old.machine (before ++ a.now ∷ []) ≡ spec.tape_text self.old.machine before ++ result.items }
     {
-        self.characters(a)
+        let mut text = Text::new();
+        self.push_characters(&mut text, a);
+        text
     }
 
     #[tactic(auto, using(crate::proofs::Posting::as_themselves))]
-    fn characters(&mut self, act: &Act) -> ArrayVec<u8, 128>
-        requires { spec.CanWrite act.now }
-        ensures block { result.items ≡ spelling (posting.next_block self.old act.now) }
+    fn push_characters(&mut self, text: &mut Text, act: &Act)
+        requires none { text.old.items ≡ [] }
+        ensures block { text.new.items ≡ spelling (posting.next_block self.old act.now) }
         ensures next { self.new ≡ posting.next self.old act.now }
+        ensures few { self.old.steps < 9999 }
     {
-        self.write::<Plain>(act)
+        self.push_block::<Plain>(text, act);
     }
 
     /// The same as the bytes of the machine's code.
     #[tactic(auto, using(crate::proofs::Posting::stands_next, crate::proofs::Posting::bytes_next))]
-    pub fn bytes(&mut self, a: &Act) -> ArrayVec<u8, 128>
+    pub fn bytes(&mut self, a: &Act) -> Text
         requires { spec.CanWrite a.now }
         ensures block { result.items ≡ map (byte_of self.old.machine.code) (spelling (posting.next_block self.old a.now)) }
         ensures next { self.new ≡ posting.next self.old a.now }
         ensures stands { (before : List Act) → StandsFor self.old before → StandsFor self.new (before ++ a.now ∷ []) }
         ensures tape { (before : List Act) → StandsFor self.old before → spec.tape_bytes self.old.machine (before ++ a.now ∷ []) ≡ spec.tape_bytes self.old.machine before ++ result.items }
     {
-        self.punched(a)
+        let mut text = Text::new();
+        self.push_bytes(&mut text, a);
+        text
     }
 
-    fn punched(&mut self, act: &Act) -> ArrayVec<u8, 128>
-        requires { spec.CanWrite act.now }
-        ensures block { result.items ≡ map (byte_of self.old.machine.code) (spelling (posting.next_block self.old act.now)) }
+    /// Writes the bytes of the next block, which is the act's.
+    #[tactic(auto, using(crate::proofs::Posting::bytes_next))]
+    pub(crate) fn push_bytes(&mut self, text: &mut Text, act: &Act)
+        requires none { text.old.items ≡ [] }
+        ensures block { text.new.items ≡ map (byte_of self.old.machine.code) (spelling (posting.next_block self.old act.now)) }
+        ensures next { self.new ≡ posting.next self.old act.now }
+        ensures tape { (before : List Act) → StandsFor self.old before → spec.tape_bytes self.old.machine (before ++ act.now ∷ []) ≡ spec.tape_bytes self.old.machine before ++ text.new.items }
+    {
+        self.punch_block(text, act);
+    }
+
+    fn punch_block(&mut self, text: &mut Text, act: &Act)
+        requires none { text.old.items ≡ [] }
+        ensures block { text.new.items ≡ map (byte_of self.old.machine.code) (spelling (posting.next_block self.old act.now)) }
         ensures next { self.new ≡ posting.next self.old act.now }
     {
         match self.machine.code {
-            Code::Rs244 => self.write::<Rs244>(act),
-            Code::Rs358 => self.write::<Rs358>(act),
+            Code::Rs244 => self.push_block::<Rs244>(text, act),
+            Code::Rs358 => self.push_block::<Rs358>(text, act),
         }
     }
 
-    fn write<H: Hand>(&mut self, act: &Act) -> ArrayVec<u8, 128>
-        requires { spec.CanWrite act.now }
-        ensures block { result.items ≡ map H.written (spelling (posting.next_block self.old act.now)) }
+    /// Writes the next block in a hand.
+    #[tactic(auto, using(crate::proofs::Spelled::whole_block))]
+    fn push_block<H: Hand>(&mut self, text: &mut Text, act: &Act)
+        requires none { text.old.items ≡ [] }
+        ensures block { text.new.items ≡ map H.written (spelling (posting.next_block self.old act.now)) }
         ensures next { self.new ≡ posting.next self.old act.now }
+        ensures few { self.old.steps < 9999 }
     {
-        let block = self.block(act);
-        spell::<H, 128>(block.words.as_slice())
+        self.push_number::<H>(text);
+        self.push_words::<H>(text, act);
+        text.push(H::one(b'\n'));
+        self.pass(act);
     }
 
-    /// The next block.
+    /// The next block itself.
     pub(crate) fn block(&mut self, act: &Act) -> Block
+        requires { spec.CanWrite act.now }
         ensures block { result ≡ posting.next_block self.old act.now }
-        ensures few { length result ≤ 6 }
         ensures next { self.new ≡ posting.next self.old act.now }
     {
-        let mut block = Block::new();
-        self.push_number(&mut block);
-        self.push_words(&mut block, act);
-        self.pass(act);
-        block
+        match read_block(&self.text(act)) {
+            Ok(block) => block,
+            Err(_) => unreachable!(),
+        }
     }
 
     /// Goes behind the block of an act.
     fn pass(&mut self, act: &Act)
-        ensures { self.new ≡ posting.next self.old act.now }
+        ensures next { self.new ≡ posting.next self.old act.now }
+        ensures few { self.old.steps < 9999 }
     {
         self.steps = (self.steps + u32::from(self.machine.seq)) % 9999;
         self.held = behind(self.held, act);
     }
 
-    fn push_number(&self, block: &mut Block)
-        requires none { block.old ≡ [] }
-        ensures number { block.new ≡ posting.next_number self.now }
-        ensures few { length block.new ≤ 1 }
+    fn push_number<H: Hand>(&self, text: &mut Text)
+        requires none { text.old.items ≡ [] }
+        ensures number { text.new.items ≡ map H.written (flat_map word_text (posting.next_number self.now)) }
+        ensures few { array_vec_len text.new ≤ 10 }
     {
         if self.machine.seq > 0 {
-            block.push(word(b'N', i64::from(1 + self.steps)));
+            push_word::<H, 128>(text, word(b'N', i64::from(1 + self.steps)));
         }
     }
 
-    fn push_words(&self, block: &mut Block, act: &Act)
-        requires room { length block.old ≤ 1 }
-        ensures words { block.new ≡ block.old ++ filter (spec.is_written self.now.machine.changed self.now.held) (spec.act_words act.now) }
-        ensures few { length block.new ≤ 6 }
+    fn push_words<H: Hand>(&self, text: &mut Text, act: &Act)
+        requires room { array_vec_len text.old ≤ 10 }
+        ensures words { text.new.items ≡ text.old.items ++ map H.written (flat_map word_text (posting.told self.now (spec.act_words act.now))) }
+        ensures few { array_vec_len text.new ≤ 60 }
     {
         match *act {
-            Act::Units(Units::Inch) => self.push_all(block, &[g(70), g(90), g(94)]),
-            Act::Units(Units::Mm) => self.push_all(block, &[g(71), g(90), g(94)]),
+            Act::Units(Units::Inch) => self.push_three::<H>(text, g(70), g(90), g(94)),
+            Act::Units(Units::Mm) => self.push_three::<H>(text, g(71), g(90), g(94)),
             Act::Rapid { x, y, z } => {
-                self.push_all(block, &[g(0), word(b'X', x), word(b'Y', y), word(b'Z', z)])
+                self.push_four::<H>(text, g(0), word(b'X', x), word(b'Y', y), word(b'Z', z))
             }
-            Act::Cut { x, y, z, feed } => self.push_all(
-                block,
-                &[
-                    g(1),
-                    word(b'X', x),
-                    word(b'Y', y),
-                    word(b'Z', z),
-                    word(b'F', feed),
-                ],
+            Act::Cut { x, y, z, feed } => self.push_five::<H>(
+                text,
+                g(1),
+                word(b'X', x),
+                word(b'Y', y),
+                word(b'Z', z),
+                word(b'F', feed),
             ),
-            Act::Spindle { turn: Turn::Cw, n } => self.push_all(block, &[word(b'S', n), m(3)]),
-            Act::Spindle { turn: Turn::Ccw, n } => self.push_all(block, &[word(b'S', n), m(4)]),
+            Act::Spindle { turn: Turn::Cw, n } => self.push_two::<H>(text, word(b'S', n), m(3)),
+            Act::Spindle { turn: Turn::Ccw, n } => self.push_two::<H>(text, word(b'S', n), m(4)),
             Act::Spindle {
                 turn: Turn::Off,
                 ..
-            } => self.push_all(block, &[m(5)]),
-            Act::Tool(n) => self.push_all(block, &[word(b'T', n), m(6)]),
-            Act::Coolant(Cool::Mist) => self.push_all(block, &[m(7)]),
-            Act::Coolant(Cool::Flood) => self.push_all(block, &[m(8)]),
-            Act::Coolant(Cool::Off) => self.push_all(block, &[m(9)]),
-            Act::Stop => self.push_all(block, &[m(0)]),
-            Act::OptStop => self.push_all(block, &[m(1)]),
-            Act::End => self.push_all(block, &[m(2)]),
+            } => self.push::<H>(text, m(5)),
+            Act::Tool(n) => self.push_two::<H>(text, word(b'T', n), m(6)),
+            Act::Coolant(Cool::Mist) => self.push::<H>(text, m(7)),
+            Act::Coolant(Cool::Flood) => self.push::<H>(text, m(8)),
+            Act::Coolant(Cool::Off) => self.push::<H>(text, m(9)),
+            Act::Stop => self.push::<H>(text, m(0)),
+            Act::OptStop => self.push::<H>(text, m(1)),
+            Act::End => self.push::<H>(text, m(2)),
         }
     }
 
-    /// Adds the words that are written: all, or those that change what holds.
-    fn push_all(&self, block: &mut Block, words: &[TapeWord])
-        requires room { length block.old + length words.now ≤ 13 }
-        ensures words { block.new ≡ block.old ++ filter (spec.is_written self.now.machine.changed self.now.held) words.now }
-        ensures few { length block.new ≤ length block.old + length words.now }
+    #[inline(always)]
+    fn push_five<H: Hand>(
+        &self,
+        text: &mut Text,
+        a: TapeWord,
+        b: TapeWord,
+        c: TapeWord,
+        d: TapeWord,
+        e: TapeWord,
+    )
+        requires room { array_vec_len text.old ≤ 10 }
+        ensures words { text.new.items ≡ text.old.items ++ map H.written (flat_map word_text (posting.told self.now (a ∷ b ∷ c ∷ d ∷ e ∷ []))) }
+        ensures few { array_vec_len text.new ≤ array_vec_len text.old + 50 }
     {
-        'words: for word in words {
-            if self.is_written(word) {
-                block.push(*word);
-            }
+        self.push_three::<H>(text, a, b, c);
+        self.push_two::<H>(text, d, e);
+    }
+
+    #[inline(always)]
+    fn push_four<H: Hand>(
+        &self,
+        text: &mut Text,
+        a: TapeWord,
+        b: TapeWord,
+        c: TapeWord,
+        d: TapeWord,
+    )
+        requires room { array_vec_len text.old ≤ 10 }
+        ensures words { text.new.items ≡ text.old.items ++ map H.written (flat_map word_text (posting.told self.now (a ∷ b ∷ c ∷ d ∷ []))) }
+        ensures few { array_vec_len text.new ≤ array_vec_len text.old + 40 }
+    {
+        self.push_two::<H>(text, a, b);
+        self.push_two::<H>(text, c, d);
+    }
+
+    #[inline(always)]
+    fn push_three<H: Hand>(&self, text: &mut Text, a: TapeWord, b: TapeWord, c: TapeWord)
+        requires room { array_vec_len text.old ≤ 80 }
+        ensures words { text.new.items ≡ text.old.items ++ map H.written (flat_map word_text (posting.told self.now (a ∷ b ∷ c ∷ []))) }
+        ensures few { array_vec_len text.new ≤ array_vec_len text.old + 30 }
+    {
+        self.push_two::<H>(text, a, b);
+        self.push::<H>(text, c);
+    }
+
+    #[inline(always)]
+    #[tactic(auto, using(crate::proofs::Spelled::words_more))]
+    fn push_two<H: Hand>(&self, text: &mut Text, a: TapeWord, b: TapeWord)
+        requires room { array_vec_len text.old ≤ 90 }
+        ensures words { text.new.items ≡ text.old.items ++ map H.written (flat_map word_text (posting.told self.now (a ∷ b ∷ []))) }
+        ensures few { array_vec_len text.new ≤ array_vec_len text.old + 20 }
+    {
+        self.push::<H>(text, a);
+        self.push::<H>(text, b);
+    }
+
+    /// Appends a word if it is written.
+    #[inline(always)]
+    #[tactic(auto, using(crate::proofs::Spelled::word_told, crate::proofs::Spelled::word_left_out))]
+    fn push<H: Hand>(&self, text: &mut Text, word: TapeWord)
+        requires room { array_vec_len text.old ≤ 100 }
+        ensures words { text.new.items ≡ text.old.items ++ map H.written (flat_map word_text (posting.told self.now (word ∷ []))) }
+        ensures few { array_vec_len text.new ≤ array_vec_len text.old + 10 }
+    {
+        if self.is_written(&word) {
+            push_word::<H, 128>(text, word);
         }
     }
 
+    /// Whether a word is written: every one, or those that change what holds.
+    #[inline(always)]
     fn is_written(&self, word: &TapeWord) -> bool
         ensures { result ≡ spec.is_written self.now.machine.changed self.now.held word.now }
     {

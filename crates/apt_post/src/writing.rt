@@ -6,6 +6,7 @@ ghost use Rattle.apt_post.specs.Writing.{AreBlocks, CanWriteAll, whole_blocks};
 
 use crate::Poster;
 use crate::hands::byte_of;
+use crate::poster::Text;
 use apt_block::Block;
 use apt_control::Act;
 use apt_machine::Machine;
@@ -23,6 +24,7 @@ pub fn blocks(alloc: Global, acts: &[Act], m: &Machine) -> Result<Vec<Block>, Al
 }
 
 fn all_blocks(alloc: Global, acts: &[Act], m: &Machine) -> Result<Vec<Block>, AllocError>
+    requires { CanWriteAll acts.now }
     ensures { IfOk result (λ v. v.items ≡ spec.blocks_of m.now acts.now) }
 {
     let mut poster = Poster::new(m);
@@ -33,7 +35,6 @@ fn all_blocks(alloc: Global, acts: &[Act], m: &Machine) -> Result<Vec<Block>, Al
     Ok(blocks)
 }
 
-#[tactic(auto, using(crate::proofs::Posting::step_bytes, crate::proofs::Posting::step_stands))]
 pub(crate) fn tape_bytes(alloc: Global, acts: &[Act], m: &Machine) -> Result<Vec<u8>, AllocError>
     requires { CanWriteAll acts.now }
     ensures { IfOk result (λ v. v.items ≡ spec.tape_bytes m.now acts.now) }
@@ -43,7 +44,9 @@ pub(crate) fn tape_bytes(alloc: Global, acts: &[Act], m: &Machine) -> Result<Vec
     bytes.push(byte_of(m.code, b'%'))?;
     bytes.push(byte_of(m.code, b'\n'))?;
     'acts: for act in acts {
-        bytes.extend_from_slice(&poster.bytes(act))?;
+        let mut text = Text::new();
+        poster.push_bytes(&mut text, act);
+        bytes.extend_from_slice(&text)?;
     }
     Ok(bytes)
 }

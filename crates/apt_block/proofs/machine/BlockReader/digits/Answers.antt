@@ -1,18 +1,22 @@
-use Rattle.std.proofs.Common.{rules, ◌≡◌, ◌<◌, ◌+◌, ◌==◌, length, true, false, sym, subst}
+use Rattle.std.proofs.Common.{rules, ◌≡◌, ◌≤◌, ◌<◌, length, get_or, Some, true, ap, ◌∙◌, sym, arith}
+use Rattle.std.proofs.lemmas.List.{get_or-take}
 use Rattle.apt_block.specs.Block.{is_digit}
-use Rattle.apt_block.specs.Machine.{with_digit, HasDigits}
 use Rattle.apt_block.proofs.Rooms.{room_step}
-use Rattle.apt_block.proofs.Taking.{one_digit}
+use Rattle.apt_block.proofs.Taking.{digit_more, digit_last}
 use Rattle.apt_block.proofs.machine.BlockReader.digits.Goals as goal
 
 pub digits-preserved : goal.digits-preserved
 digits-preserved g c =
+    let character = g.A.Alphabet.character in
+    let count = c.digits.count in
     let digit : is_digit c.in-Some.ch ≡ true = search rules in
-    let more : (c.digits.word.later == 0) ≡ false = search rules in
-    let within : c.digits.count < length c.args.bytes.now = search rules in
-    let long : c.with_digit-word.result ≡ with_digit c.digits.word (record { at = c.args.at + c.digits.count; ch = c.in-Some.ch }) = search rules in
+    let within : count < length c.args.bytes.now = search rules in
+    let front : count < c.min-most.result = search rules in
+    let short : count ≤ c.args.begun.later = search rules in
+    let is : character (get_or c.args.bytes.now count 0) ≡ Some c.in-Some.ch = ap character (sym (get_or-take c.min-most.result c.args.bytes.now count 0 front)) ∙ c.in-Some.ensures.some.0 in
     record {
-      same = one_digit g.A.Alphabet.character c.digits.self c.digits.word c.with_digit-word.result c.args.at c.args.bytes.now c.digits.count c.in-Some.ch _ _ c.digits.invariant.same within (sym c.in-Some.ensures) digit more long;
+      begun = λ h. digit_more character c.digits.self c.args.begun c.args.at count c.digits.size c.in-Some.ch 0 c.args.bytes.now _ (c.digits.invariant.begun short) within is digit h;
+      whole = λ h. digit_last character c.digits.self c.args.begun c.args.at count c.digits.size c.in-Some.ch 0 c.args.bytes.now _ (c.digits.invariant.begun short) within is digit (omega (arith, h));
       self = c.digits.invariant.self;
-      room = subst HasDigits (sym long) (room_step c.digits.word (record { at = c.args.at + c.digits.count; ch = c.in-Some.ch }) c.digits.invariant.room digit more);
+      room = room_step c.digits.size c.in-Some.ch c.args.begun.later count digit short c.digits.invariant.room;
     }
