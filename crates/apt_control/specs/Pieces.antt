@@ -5,7 +5,6 @@ use Rattle.apt_block.specs.declared.block.TapeCause.{TapeCause}
 use Rattle.apt_block.specs.declared.block.TapeCause.TheVariants as causes
 use Rattle.apt_block.specs.declared.block.TapeWord.{TapeWord}
 use Rattle.apt_control.specs.declared.error.ControlError.{ControlError}
-use Rattle.apt_control.specs.declared.error.ControlError.TheVariants as errors
 use Rattle.apt_words.specs.Answers.{Comes, IsFault}
 use Rattle.apt_control.specs.Answers.{told}
 use Rattle.apt_control.specs.Control.{MeaningOf}

@@ -1,6 +1,5 @@
 -- From the parts of the work to what `list` says.
 use Rattle.std.proofs.Common.{◌≡◌, inl, inr, ℕ, List, [], ◌∷◌, Ok, ap, sym, ◌∙◌, refl}
-use Rattle.apt_words.specs.Chains.{◌>>=◌}
 use Rattle.apt_cldata.specs.declared.record.Record.{Record}
 use Rattle.apt_cldata.specs.Reading.{read_of}
 use Rattle.apt_report.specs.declared.status.Status.{Status}

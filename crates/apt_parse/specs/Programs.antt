@@ -1,14 +1,11 @@
 -- The program of a text, or its first fault.
-use Rattle.std.specs.Prelude.{◌≡◌, ℕ, not, Bool, true, false, List, [], ◌∷◌, ◌++◌, length, Option, Some, None, Result, Ok, Err, max}
+use Rattle.std.specs.Prelude.{ℕ, not, Bool, true, false, List, [], ◌∷◌, ◌++◌, length, Option, Some, None, Result, Ok, Err, max}
 use Rattle.std.specs.List.{list_all, find}
 use Rattle.apt_words.specs.Composition.{flow_of, is_fini}
 use Rattle.apt_words.specs.Flow.{Flow, Onward, MacroBegins, MacroEnds, Calls, LoopBegins, LoopEnds, Jumps, Branches, ProgramEnds}
 use Rattle.apt_words.specs.declared.body.Stmt.{Stmt}
-use Rattle.apt_words.specs.declared.body.Program.{Program}
 use Rattle.apt_lexis.specs.declared.cause.PartCause.{PartCause}
 use Rattle.apt_lexis.specs.declared.cause.PartCause.TheVariants as causes
-use Rattle.apt_lexis.specs.declared.error.ParseError.{ParseError}
-use Rattle.apt_lexis.specs.declared.error.ParseError.TheVariants as errors
 use Rattle.apt_lexis.specs.Lines.{lines_of}
 use Rattle.apt_lexis.specs.Phrase.{Phrase}
 use Rattle.apt_lexis.specs.Sentences.{said_in}

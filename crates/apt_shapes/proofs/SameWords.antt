@@ -2,7 +2,7 @@
 use Rattle.std.proofs.Common.{◌≡◌, ◌↔◌, ◌∙◌, Bool, true, false, Some, refl, ap, sym, bytes_eq}
 use Rattle.std.proofs.lemmas.Slice.Eq.{bytes_eq-Decides}
 use Rattle.apt_words.specs.declared.word.Word.{Word}
-use Rattle.apt_words.specs.Vocabulary.{spelling, word_of}
+use Rattle.apt_words.specs.Vocabulary.{spelling}
 use Rattle.apt_words.proofs.Words.{spelled}
 
 spelled_alike : (v w : Word) → spelling v ≡ spelling w → v ≡ w
