@@ -8,7 +8,7 @@ use Rattle.apt_cldata.specs.declared.record.Record.{Record}
 use Rattle.apt_cldata.specs.Fields.{◌>>=◌}
 use Rattle.apt_cldata.specs.Files.{is_fini}
 use Rattle.apt_words.specs.Answers.{IsFault}
-use Rattle.apt_cldata.specs.Reading.{fault, told, Piece, first_of, last_of, records_from}
+use Rattle.apt_cldata.specs.Reading.{fault, fault_in, Piece, first_of, last_of, records_from}
 use Rattle.apt_cldata.proofs.Chains.{behind, behind_one}
 
 -- behind the front that was read, the records from here on are the rest of the whole
@@ -77,6 +77,6 @@ whole_goes_on front seq at rest whole p s is fini some =
     whole_is_last front seq at rest whole p s is fini ∙ ap (λ b. behind front (cond b (Ok (p.said ∷ [])) (Err (fault p.at causes.AfterFini)))) some
 
 -- an error of the first record is one of the whole
-pub whole_is_error : (front : List Record) (seq at : ℕ) (rest : List ℕ) (whole : Result (List Record) ClFault) (e : ClError) → Stands front seq at rest whole → IsFault told (first_of seq at rest) e → IsFault told whole e
+pub whole_is_error : (front : List Record) (seq at : ℕ) (rest : List ℕ) (whole : Result (List Record) ClFault) (e : ClError) → Stands front seq at rest whole → IsFault fault_in (first_of seq at rest) e → IsFault fault_in whole e
 whole_is_error front seq at rest whole errors.NoMemory s is = tt
 whole_is_error front seq at rest whole (errors.Bad place cause) s is = whole_is_fault front seq at rest whole (fault place cause) s is

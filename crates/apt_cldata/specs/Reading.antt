@@ -108,6 +108,6 @@ unfoldable pub read_of : List ℕ → Result (List Record) ClFault
 read_of bytes = behind_head 0 head bytes >>= λ rest. records_from (length bytes) 1 (length head) rest
 
 -- the fault that an error tells
-abbrev pub told : ClError → Option ClFault
-told (errors.Bad at cause) = Some (fault at cause)
-told errors.NoMemory = None
+abbrev pub fault_in : ClError → Option ClFault
+fault_in (errors.Bad at cause) = Some (fault at cause)
+fault_in errors.NoMemory = None

@@ -4,7 +4,7 @@ ghost use Rattle.apt_cldata.specs.Ranges.{vertex_count};
 ghost use Rattle.apt_cldata.specs.Files.{IsFile, file_of};
 ghost use Rattle.apt_cldata.specs.Files as files;
 ghost use Rattle.apt_words.specs.Answers.{IsDueAs};
-ghost use Rattle.apt_cldata.specs.Reading.{read_of, told};
+ghost use Rattle.apt_cldata.specs.Reading.{read_of, fault_in};
 ghost use Rattle.apt_cldata.specs.Reading as spec;
 
 use crate::bytes::{length_in, read_words, word_in};
@@ -138,7 +138,7 @@ fn first_of(
 ) -> Result<(Record, usize), ClError>
     requires number { seq < 2 ^ 63 }
     requires place { at + length bytes.now < 2 ^ 63 }
-    ensures value { IsDueAs (λ p. spec.piece p.0 (at + p.1) (drop p.1 bytes.now)) told (spec.first_of seq at bytes.now) result }
+    ensures value { IsDueAs (λ p. spec.piece p.0 (at + p.1) (drop p.1 bytes.now)) fault_in (spec.first_of seq at bytes.now) result }
     ensures there { IfOk result (λ p. p.1 ≤ length bytes.now) }
     ensures some { IfOk result (λ p. 28 ≤ p.1) }
 {
@@ -151,7 +151,7 @@ fn first_of(
 fn records_from(alloc: Global, start: u64, bytes: &[u8]) -> Result<Vec<Record>, ClError>
     requires some { 0 < start }
     requires place { start + length bytes.now < 2 ^ 63 }
-    ensures { IsDueAs (λ v. v.items) told (spec.records_from (start + length bytes.now) 1 start bytes.now) result }
+    ensures { IsDueAs (λ v. v.items) fault_in (spec.records_from (start + length bytes.now) 1 start bytes.now) result }
 {
     let mut records = Vec::new(alloc);
     let mut words = Vec::new(alloc);
@@ -206,7 +206,7 @@ fn behind_head<'a>(head: &[u8], bytes: &'a [u8]) -> Result<&'a [u8], ClFault>
 #[tactic(auto, using(crate::proofs::Laws::read_gives_bytes, crate::proofs::Laws::read_gives_file, crate::proofs::Laws::read_gives_few))]
 pub fn read(alloc: Global, bytes: &[u8]) -> Result<Vec<Record>, ClError>
     requires { length bytes.now < 2 ^ 63 }
-    ensures value { IsDueAs (λ v. v.items) told (read_of bytes.now) result }
+    ensures value { IsDueAs (λ v. v.items) fault_in (read_of bytes.now) result }
     ensures bytes { IfOk result (λ v. bytes.now ≡ file_of v.items) }
     ensures file { IfOk result (λ v. IsFile v.items) }
     ensures few { IfOk result (λ v. vertex_count v.items + length v.items ≤ length bytes.now) }
@@ -217,7 +217,7 @@ pub fn read(alloc: Global, bytes: &[u8]) -> Result<Vec<Record>, ClError>
 #[tactic(auto, unfolding(crate::specs::Reading::read_of))]
 fn read_exactly(alloc: Global, bytes: &[u8]) -> Result<Vec<Record>, ClError>
     requires { length bytes.now < 2 ^ 63 }
-    ensures { IsDueAs (λ v. v.items) told (read_of bytes.now) result }
+    ensures { IsDueAs (λ v. v.items) fault_in (read_of bytes.now) result }
 {
     let rest = behind_head(HEAD, bytes)?;
     records_from(alloc, HEAD.len() as u64, rest)

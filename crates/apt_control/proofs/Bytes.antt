@@ -12,7 +12,7 @@ use Rattle.apt_control.specs.declared.error.ControlError.{ControlError}
 use Rattle.apt_control.specs.declared.error.ControlError.TheVariants as errors
 use Rattle.apt_words.specs.Answers.{IsDueAs, IsFault}
 use Rattle.apt_words.proofs.Answers.{fault_of}
-use Rattle.apt_control.specs.Answers.{IsFront, told}
+use Rattle.apt_control.specs.Answers.{IsFront, fault_in}
 use Rattle.apt_control.specs.Control.{MeaningOf}
 use Rattle.apt_control.specs.Walk.{Walk, words_step, character_step, block_step, character_as, character_of, reached, AtCharacter, byte_as, byte_step, byte_steps}
 
@@ -23,9 +23,9 @@ first_byte means s (byte ∷ bytes) d h = refl
 
 -- what the first byte is refused for is what the bytes are refused for
 pub first_fault : {H A : Type 0} (means : MeaningOf H A) (s : Walk H A) (bytes : List ℕ) (d : ℕ) (e : ControlError) → 0 < length bytes
-    → IsFault told (byte_step means s (get_or bytes 0 d)) e → IsFault told (byte_steps means s bytes) e
+    → IsFault fault_in (byte_step means s (get_or bytes 0 d)) e → IsFault fault_in (byte_steps means s bytes) e
 first_fault means s bytes d e some is =
-    fault_of told (byte_step means s (get_or bytes 0 d)) (byte_steps means s bytes) e (λ f no. first_byte means s bytes d some ∙ ap (λ r. r >>= λ s. byte_steps means s (drop 1 bytes)) no) is
+    fault_of fault_in (byte_step means s (get_or bytes 0 d)) (byte_steps means s bytes) e (λ f no. first_byte means s bytes d some ∙ ap (λ r. r >>= λ s. byte_steps means s (drop 1 bytes)) no) is
 
 -- what the walk comes to behind the characters that are taken
 abbrev behind_taken : {H A : Type 0} → MeaningOf H A → Walk H A → Result Taken BlockFault → Result (Walk H A) BlockFault
@@ -100,7 +100,7 @@ is_front means s (byte ∷ bytes) is = front_character means s byte is.character
 
 -- the walk goes on behind the characters that are taken, or the meaning of their block is refused
 pub front_reached : {H A : Type 0} (means : MeaningOf H A) (s now : Walk H A) (bytes : List ℕ) (b : FrontPart) (n : ℕ) (result : Result ℕ ControlError) → AtCharacter s bytes
-    → taken (character_of s.code) s.block s.count bytes ≡ stopped b (s.count + n) (drop n bytes) → IsDueAs (λ _. now) told (reached means (record s { block = b }) (s.count + n)) result
+    → taken (character_of s.code) s.block s.count bytes ≡ stopped b (s.count + n) (drop n bytes) → IsDueAs (λ _. now) fault_in (reached means (record s { block = b }) (s.count + n)) result
     → IfOk result (λ m. m ≡ n) → IsFront means (byte_steps means s bytes) now bytes result
 front_reached means s now bytes b n (Ok m) is read end same =
     ap (λ m. byte_steps means now (drop m bytes)) same

@@ -21,7 +21,7 @@ use Rattle.apt_control.specs.declared.error.ControlError.TheVariants as errors
 use Rattle.apt_control.specs.declared.walk.Phase.{Phase}
 use Rattle.apt_control.specs.declared.walk.Phase.TheVariants as phases
 use Rattle.apt_words.specs.Answers.{IsDue, IsDueAs}
-use Rattle.apt_control.specs.Answers.{told}
+use Rattle.apt_control.specs.Answers.{fault_in}
 use Rattle.apt_control.specs.Control.{Meaning, MeaningOf, is_rewind_stop, tape_run}
 use Rattle.apt_control.specs.Walk.{outcome, outcome_as, Walk, walk_start, start_step, past_byte, with_meaning, block_step, end_step, byte_as, byte_step, byte_steps}
 use Rattle.apt_control.specs.Pieces.{StandsFor, more_may_mend, IsSettled, HoldsFault, RefusesFault, RefusesAs}
@@ -163,7 +163,7 @@ run_on means start s front piece stands = run_is_walk means start s.code (front 
 
 -- a piece that is taken
 pub fed_stands : {H A : Type 0} (means : MeaningOf H A) (start : H) → IsSettled means → (s : Walk H A) (piece : List ℕ) (result : Result (Walk H A) ControlError)
-    → IsDue told (byte_steps means s piece) result → (front : List ℕ) → StandsFor means start s front → IfOk result (λ r. StandsFor means start r (front ++ piece))
+    → IsDue fault_in (byte_steps means s piece) result → (front : List ℕ) → StandsFor means start s front → IfOk result (λ r. StandsFor means start r (front ++ piece))
 fed_stands means start settled s piece (Ok r) fed front stands =
     let same : r.code ≡ s.code = subst (Steady s.code) fed (steady means settled s piece) in
     subst (λ code. byte_steps means (walk_start start code) (front ++ piece) ≡ Ok r) (sym same) (stands_on means start s front piece stands ∙ fed)
@@ -171,7 +171,7 @@ fed_stands means start settled s piece (Err e) fed front stands = tt
 
 -- one that is refused, however the bytes go on
 pub fed_whole : {H A : Type 0} (means : MeaningOf H A) (start : H) (s : Walk H A) (piece : List ℕ) (result : Result (Walk H A) ControlError)
-    → IsDue told (byte_steps means s piece) result → (front more : List ℕ) → StandsFor means start s front → RefusesAs result (tape_run means start s.code (front ++ piece ++ more))
+    → IsDue fault_in (byte_steps means s piece) result → (front more : List ℕ) → StandsFor means start s front → RefusesAs result (tape_run means start s.code (front ++ piece ++ more))
 fed_whole means start s piece (Ok r) fed front more stands = tt
 fed_whole means start s piece (Err errors.NoMemory) fed front more stands = tt
 fed_whole means start s piece (Err (errors.Bad at cause)) fed front more stands =
@@ -194,7 +194,7 @@ no_fault s = go s.phase
     go phases.BehindEnd = λ is. is
 
 pub fed_fault : {H A : Type 0} (means : MeaningOf H A) (start : H) → IsSettled means → (s : Walk H A) (piece : List ℕ) (result : Result (Walk H A) ControlError)
-    → IsDue told (byte_steps means s piece) result → (front : List ℕ) → StandsFor means start s front → RefusesFault result (tape_run means start s.code (front ++ piece))
+    → IsDue fault_in (byte_steps means s piece) result → (front : List ℕ) → StandsFor means start s front → RefusesFault result (tape_run means start s.code (front ++ piece))
 fed_fault means start settled s piece (Ok r) fed front stands =
     subst NoFault (sym (run_on means start s front piece stands ∙ ap (λ r. r >>= outcome) fed)) (no_fault r)
 fed_fault means start settled s piece (Err errors.NoMemory) fed front stands = tt
@@ -203,5 +203,5 @@ fed_fault means start settled s piece (Err (errors.Bad at cause)) fed front stan
 
 -- the end of the pieces
 pub finished_run : {H A X : Type 0} (means : MeaningOf H A) (start : H) (s : Walk H A) (view : X → List A) (result : Result X ControlError)
-    → IsDueAs view told (outcome s) result → (front : List ℕ) → StandsFor means start s front → IsDueAs view told (tape_run means start s.code front) result
-finished_run means start s view result finished front stands = subst (λ due. IsDueAs view told due result) (sym (run_is_walk means start s.code front ∙ ap (λ r. r >>= outcome) stands)) finished
+    → IsDueAs view fault_in (outcome s) result → (front : List ℕ) → StandsFor means start s front → IsDueAs view fault_in (tape_run means start s.code front) result
+finished_run means start s view result finished front stands = subst (λ due. IsDueAs view fault_in due result) (sym (run_is_walk means start s.code front ∙ ap (λ r. r >>= outcome) stands)) finished

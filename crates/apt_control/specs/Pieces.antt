@@ -6,7 +6,7 @@ use Rattle.apt_block.specs.declared.block.TapeCause.TheVariants as causes
 use Rattle.apt_block.specs.declared.block.TapeWord.{TapeWord}
 use Rattle.apt_control.specs.declared.error.ControlError.{ControlError}
 use Rattle.apt_words.specs.Answers.{Comes, IsFault}
-use Rattle.apt_control.specs.Answers.{told}
+use Rattle.apt_control.specs.Answers.{fault_in}
 use Rattle.apt_control.specs.Control.{MeaningOf}
 use Rattle.apt_control.specs.Walk.{Walk, walk_start, byte_steps}
 
@@ -41,8 +41,8 @@ HoldsFault (Err f) = more_may_mend f.cause ≡ false
 
 -- a refusal comes exactly where the bytes of a run hold a fault
 abbrev pub RefusesFault : {X A : Type 0} → Result X ControlError → Result (List A) BlockFault → Type 0
-RefusesFault result run = Comes told (λ x. ¬ HoldsFault run) (λ fault. HoldsFault run) result
+RefusesFault result run = Comes fault_in (λ x. ¬ HoldsFault run) (λ fault. HoldsFault run) result
 
 -- a refusal is that of a run
 abbrev pub RefusesAs : {X A : Type 0} → Result X ControlError → Result (List A) BlockFault → Type 0
-RefusesAs result run = IfErr result (IsFault told run)
+RefusesAs result run = IfErr result (IsFault fault_in run)

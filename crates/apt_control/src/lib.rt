@@ -2,7 +2,7 @@
 #![tactic(auto)]
 
 ghost use Rattle.apt_words.specs.Answers.{IsDueAs};
-ghost use Rattle.apt_control.specs.Answers.{told};
+ghost use Rattle.apt_control.specs.Answers.{fault_in};
 ghost use Rattle.apt_control.specs.Control.{control_run};
 
 mod error;
@@ -37,7 +37,7 @@ pub type TapeReader = ControlReader<Held>;
 
 /// The acts of a tape, which is read to the end and the last byte, or its fault of least place.
 pub fn read_tape(alloc: Global, code: Code, tape: &[u8]) -> Result<Vec<Act>, ControlError>
-    ensures { IsDueAs (λ v. v.items) told (control_run code tape.now) result }
+    ensures { IsDueAs (λ v. v.items) fault_in (control_run code tape.now) result }
 {
     acts_of::<Held>(alloc, code, tape)
 }

@@ -3,7 +3,7 @@
 ghost use Rattle.std.specs.Prelude.{◌≡◌, ◌≢◌, ◌+◌, ◌-◌, ◌<◌, ◌≤◌, ◌^◌, ◌++◌, [], ℕ, List, Err, false, length, IfOk};
 ghost use Rattle.apt_block.specs.Machine as machine;
 ghost use Rattle.apt_words.specs.Answers.{IsDue, IsDueAs};
-ghost use Rattle.apt_control.specs.Answers.{IsFront, IsMeaning, told};
+ghost use Rattle.apt_control.specs.Answers.{IsFront, IsMeaning, fault_in};
 ghost use Rattle.apt_control.specs.Control.{MeaningOf};
 ghost use Rattle.apt_control.specs.Control as spec;
 ghost use Rattle.apt_control.specs.Pieces as pieces;
@@ -88,7 +88,7 @@ impl<H: Control> ControlReader<H> {
     #[tactic(auto, using(crate::proofs::Pieces::fed_whole))]
     pub fn feed(self, piece: &[u8]) -> Result<ControlReader<H>, ControlError>
         requires { self.count + length piece.now < 2 ^ 64 }
-        ensures walk { IsDue told (walk.byte_steps H.means self piece.now) result }
+        ensures walk { IsDue fault_in (walk.byte_steps H.means self piece.now) result }
         ensures count { IfOk result (λ r. r.count ≡ self.count + length piece.now) }
         ensures stands { (front : List ℕ) → pieces.StandsFor H.means H.start self front → IfOk result (λ r. pieces.StandsFor H.means H.start r (front ++ piece.now)) }
         ensures whole { (front more : List ℕ) → pieces.StandsFor H.means H.start self front → pieces.RefusesAs result (spec.tape_run H.means H.start self.code (front ++ piece.now ++ more)) }
@@ -99,7 +99,7 @@ impl<H: Control> ControlReader<H> {
 
     fn all_bytes(self, piece: &[u8]) -> Result<ControlReader<H>, ControlError>
         requires { self.count + length piece.now < 2 ^ 64 }
-        ensures walk { IsDue told (walk.byte_steps H.means self piece.now) result }
+        ensures walk { IsDue fault_in (walk.byte_steps H.means self piece.now) result }
         ensures count { IfOk result (λ r. r.count ≡ self.count + length piece.now) }
     {
         let mut reader = self;
@@ -131,7 +131,7 @@ impl<H: Control> ControlReader<H> {
     fn byte(&mut self, byte: u8) -> Result<(), ControlError>
         requires phase { self.old.phase ≢ Phase.InBlock }
         requires count { self.old.count < 2 ^ 64 - 1 }
-        ensures step { IsDueAs (λ _. self.new) told (walk.byte_step H.means self.old byte) result }
+        ensures step { IsDueAs (λ _. self.new) fault_in (walk.byte_step H.means self.old byte) result }
         ensures count { IfOk result (λ _. self.new.count ≡ self.old.count + 1) }
     {
         if let Phase::BehindEnd = self.phase {
@@ -200,7 +200,7 @@ impl<H: Control> ControlReader<H> {
     fn reach(&mut self, count: usize) -> Result<usize, ControlError>
         requires some { 0 < count }
         requires place { self.old.count + count < 2 ^ 64 }
-        ensures step { IsDueAs (λ _. self.new) told (walk.reached H.means self.old (self.old.count + count)) result }
+        ensures step { IsDueAs (λ _. self.new) fault_in (walk.reached H.means self.old (self.old.count + count)) result }
         ensures same { IfOk result (λ n. n ≡ count) }
         ensures count { IfOk result (λ _. self.new.count ≡ self.old.count + count) }
     {
@@ -216,7 +216,7 @@ impl<H: Control> ControlReader<H> {
     /// Gives the words of a block its meaning, whose end of block is at a place.
     fn block_end(&mut self, at: u64) -> Result<(), ControlError>
         requires { at < 2 ^ 64 - 1 }
-        ensures step { IsDueAs (λ _. self.new) told (walk.words_step H.means (record self.old { count = at }) self.old.block.words) result }
+        ensures step { IsDueAs (λ _. self.new) fault_in (walk.words_step H.means (record self.old { count = at }) self.old.block.words) result }
         ensures count { IfOk result (λ _. self.new.count ≡ at + 1) }
     {
         let ends = self.held.meaning(at, self.block.words(), &mut self.acts)?;
@@ -233,14 +233,14 @@ impl<H: Control> ControlReader<H> {
     /// The acts of all bytes: a tape that has not started, or not ended, is refused.
     #[tactic(auto, using(crate::proofs::Pieces::finished_run))]
     pub fn finish(self) -> Result<Vec<H::Act>, ControlError>
-        ensures outcome { IsDueAs (λ v. v.items) told (walk.outcome self) result }
-        ensures run { (front : List ℕ) → pieces.StandsFor H.means H.start self front → IsDueAs (λ v. v.items) told (spec.tape_run H.means H.start self.code front) result }
+        ensures outcome { IsDueAs (λ v. v.items) fault_in (walk.outcome self) result }
+        ensures run { (front : List ℕ) → pieces.StandsFor H.means H.start self front → IsDueAs (λ v. v.items) fault_in (spec.tape_run H.means H.start self.code front) result }
     {
         self.outcome()
     }
 
     fn outcome(self) -> Result<Vec<H::Act>, ControlError>
-        ensures { IsDueAs (λ v. v.items) told (walk.outcome self) result }
+        ensures { IsDueAs (λ v. v.items) fault_in (walk.outcome self) result }
     {
         match self.phase {
             Phase::BeforeStart => Err(self.bad(TapeCause::NoStart)),
@@ -310,7 +310,7 @@ pub fn acts_of<H: Control>(
     code: Code,
     tape: &[u8],
 ) -> Result<Vec<H::Act>, ControlError>
-    ensures { IsDueAs (λ v. v.items) told (spec.tape_run H.means H.start code tape.now) result }
+    ensures { IsDueAs (λ v. v.items) fault_in (spec.tape_run H.means H.start code tape.now) result }
 {
     let reader: ControlReader<H> = ControlReader::new(alloc, code);
     let reader = reader.feed(tape)?;

@@ -25,7 +25,7 @@ use Rattle.apt_report.specs.declared.status.Summary.TheVariants as summaries
 use Rattle.apt_core.specs.Words.{FourNames}
 use Rattle.apt_core.specs.Due.{OrNoMemory, ComesToNone, unless_refused, machine_due, steps_due, records_due, acts_due}
 use Rattle.apt_core.specs.Inputs.{Files, AreRead, inputs, ReadsAll, IsStopped}
-use Rattle.apt_core.specs.Certificates.{IsCertified, Judged, judged, judged_due, IsMissed, IsJudgement}
+use Rattle.apt_core.specs.Certificates.{IsCertified, Judged, judged_by, judged_due, IsMissed, IsJudgement}
 use Rattle.apt_core.specs.Promise.{Certifies}
 use Rattle.apt_core.proofs.Counting.{makes_segments}
 use Rattle.apt_core.proofs.Chains.{chain_on}
@@ -43,7 +43,7 @@ pub record AreJudged (machine : Machine) (text table cl tape : List ℕ) (steps 
 
 -- behind the table, the steps and the records
 abbrev behind_records : Machine → List ℕ → List Step → List Record → Result Judged Status
-behind_records machine tape steps written = acts_due machine tape >>= λ acts. Ok (judged machine steps written acts)
+behind_records machine tape steps written = acts_due machine tape >>= λ acts. Ok (judged_by machine steps written acts)
 
 abbrev behind_steps : Machine → List ℕ → List ℕ → List Step → Result Judged Status
 behind_steps machine cl tape steps = records_due cl >>= λ written. behind_records machine tape steps written
@@ -65,10 +65,10 @@ on_records machine text table cl tape steps written tabled comes read =
     on_steps machine text table cl tape steps tabled comes ∙ chain_on (records_due cl) written (behind_records machine tape steps) (rw read refl)
 
 pub judged_for : (machine : Machine) (text table cl tape : List ℕ) (steps : List Step) (written : List Record) (acts : List Act)
-    → AreJudged machine text table cl tape steps written acts → judged_due text table cl tape ≡ Ok (judged machine steps written acts)
+    → AreJudged machine text table cl tape steps written acts → judged_due text table cl tape ≡ Ok (judged_by machine steps written acts)
 judged_for machine text table cl tape steps written acts are =
     on_records machine text table cl tape steps written are.tabled are.comes are.read
-    ∙ chain_on (acts_due machine tape) acts (λ acts. Ok (judged machine steps written acts)) (rw are.run refl)
+    ∙ chain_on (acts_due machine tape) acts (λ acts. Ok (judged_by machine steps written acts)) (rw are.run refl)
 
 -- where a text comes to nothing
 none_judged : {A : Type 0} (text table cl tape : List ℕ) (due : Result A Status) (more : A → Result Judged Status) (answer : Status) → judged_due text table cl tape ≡ (due >>= more)
@@ -92,14 +92,14 @@ cl_judged machine text table cl tape steps answer tabled comes none =
 pub tape_judged : (machine : Machine) (text table cl tape : List ℕ) (steps : List Step) (written : List Record) (answer : Status) → table_of table ≡ Ok machine
     → steps_of machine text ≡ Ok (Ok steps) → read_of cl ≡ Ok written → ComesToNone (acts_due machine tape) answer → OrNoMemory (IsJudgement text table cl tape answer) answer
 tape_judged machine text table cl tape steps written answer tabled comes read none =
-    none_judged text table cl tape (acts_due machine tape) (λ acts. Ok (judged machine steps written acts)) answer
+    none_judged text table cl tape (acts_due machine tape) (λ acts. Ok (judged_by machine steps written acts)) answer
     (on_records machine text table cl tape steps written tabled comes read) none
 
 -- something is missed
 pub missed_judged : (machine : Machine) (text table cl tape : List ℕ) (steps : List Step) (written : List Record) (acts : List Act) (answer : Status)
     → AreJudged machine text table cl tape steps written acts → OrNoMemory (IsMissed steps written acts answer) answer → OrNoMemory (IsJudgement text table cl tape answer) answer
 missed_judged machine text table cl tape steps written acts answer are (inl missed) =
-    inl (inr (judged machine steps written acts, judged_for machine text table cl tape steps written acts are, inl missed))
+    inl (inr (judged_by machine steps written acts, judged_for machine text table cl tape steps written acts are, inl missed))
 missed_judged machine text table cl tape steps written acts answer are (inr short) = inr short
 
 -- what follows legally is right
@@ -127,7 +127,7 @@ pub good_judged : (machine : Machine) (text table cl tape : List ℕ) (steps : L
     → OrNoMemory (IsJudgement text table cl tape (answers.Done (summaries.Certified v))) (answers.Done (summaries.Certified v))
 good_judged machine text table cl tape steps written acts v are passes follow verdict none planned =
     inl (inr (
-      judged machine steps written acts,
+      judged_by machine steps written acts,
       judged_for machine text table cl tape steps written acts are,
       inr (v, refl, good_is_right machine text cl tape steps written v passes are.read (are.run ∙ ap Ok planned) follow verdict none),
     ))

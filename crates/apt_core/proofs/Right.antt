@@ -22,7 +22,7 @@ use Rattle.apt_report.specs.declared.status.Miss.{Miss}
 use Rattle.apt_report.specs.declared.status.Miss.TheVariants as misses
 use Rattle.apt_core.specs.Words.{FourNames}
 use Rattle.apt_core.specs.Inputs.{Input, Reads, ReadsAll, IsUnread, IsFirstUnread, inputs}
-use Rattle.apt_core.specs.Certificates.{IsRight, HeadsDiffer, DifferAt, IsMiss, Judged, judged, judged_due, IsJudgement}
+use Rattle.apt_core.specs.Certificates.{IsRight, HeadsDiffer, DifferAt, IsMiss, Judged, judged_by, judged_due, IsJudgement}
 use Rattle.apt_core.specs.Promise.{Judges}
 use Rattle.apt_core.proofs.Chains.{one_due}
 use Rattle.apt_core.proofs.Judging.{judged_for}
@@ -80,7 +80,7 @@ no_miss machine text cl tape right acts (misses.Motion bad) same is =
 no_miss machine text cl tape right acts (misses.Act at) same is = no_difference acts (plan right.records) at same is.2
 
 right_judged : (machine : Machine) (text table cl tape : List ℕ) (right : IsRight machine text cl tape) → table_of table ≡ Ok machine
-    → judged_due text table cl tape ≡ Ok (judged machine right.steps right.records (plan right.records))
+    → judged_due text table cl tape ≡ Ok (judged_by machine right.steps right.records (plan right.records))
 right_judged machine text table cl tape right tabled = judged_for machine text table cl tape right.steps right.records (plan right.records) (record {
   tabled = tabled;
   comes = passes_comes machine text right.steps right.passes;
@@ -97,8 +97,8 @@ judgement_right machine text table cl tape told tabled right (inr found) = elim 
   | inr done ↦ (done.0, done.1)
 ]
   where
-    same : found.0 ≡ judged machine right.steps right.records (plan right.records)
-    same = one_due (judged_due text table cl tape) found.0 (judged machine right.steps right.records (plan right.records)) found.1 (right_judged machine text table cl tape right tabled)
+    same : found.0 ≡ judged_by machine right.steps right.records (plan right.records)
+    same = one_due (judged_due text table cl tape) found.0 (judged_by machine right.steps right.records (plan right.records)) found.1 (right_judged machine text table cl tape right tabled)
 
 pub right_is_done : (machine : Machine) (n : FourNames) (m : Contents) (text table cl tape : List ℕ) (told : Status) → ReadsAll (Some m) (inputs n) (text ∷ table ∷ cl ∷ tape ∷ [])
     → table_of table ≡ Ok machine → IsRight machine text cl tape → Judges n (Some m) told → (verdict : Verdict) × (told ≡ answers.Done (summaries.Certified verdict))

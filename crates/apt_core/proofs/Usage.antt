@@ -16,7 +16,7 @@ use Rattle.apt_report.specs.declared.status.Status.{Status}
 use Rattle.apt_report.specs.declared.status.Status.TheVariants as answers
 use Rattle.apt_report.specs.declared.status.Summary.TheVariants as summaries
 use Rattle.apt_core.specs.Words.{FourNames, TapeNames, Ask, Compile, Certify, Decode, Listing}
-use Rattle.apt_core.specs.Due.{told_by, bad_machine, bad_part, refused, bad_tape, unless_refused, machine_due, steps_due, records_due, acts_due}
+use Rattle.apt_core.specs.Due.{told_by, bad_machine, bad_part, refused_step, bad_tape, unless_refused, machine_due, steps_due, records_due, acts_due}
 use Rattle.apt_core.specs.Inputs.{Input, Files, part_inputs, inputs, tape_inputs, list_inputs, IsUnread, IsFirstUnread, IsShort, IsStopped}
 use Rattle.apt_core.specs.Outputs.{output_due}
 use Rattle.apt_core.specs.Certificates.{judged_due, IsJudgement}
@@ -43,8 +43,8 @@ machine_no_usage table = told_no_usage (table_of table) bad_machine (λ fault e.
 
 part_no_usage : {A : Type 0} (due : Result (Result A Refusal) TextFault) → unless_refused due ≢ Err answers.Usage
 part_no_usage due =
-    chain_no_usage (told_by due bad_part) (λ r. told_by r refused) (told_no_usage due bad_part (λ fault e. let f : ⊥ = cc in f))
-    (λ r. told_no_usage r refused (λ fault e. let f : ⊥ = cc in f))
+    chain_no_usage (told_by due bad_part) (λ r. told_by r refused_step) (told_no_usage due bad_part (λ fault e. let f : ⊥ = cc in f))
+    (λ r. told_no_usage r refused_step (λ fault e. let f : ⊥ = cc in f))
 
 records_no_usage : (cl : List ℕ) → records_due cl ≢ Err answers.Usage
 records_no_usage cl = told_no_usage (read_of cl) (λ fault. answers.BadCl fault.at fault.cause) (λ fault e. let f : ⊥ = cc in f)

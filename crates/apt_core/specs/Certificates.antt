@@ -75,14 +75,14 @@ pub record Judged : Type 0 where
   pub written : List Record
   pub acts : List Act
 
-abbrev pub judged : Machine → List Step → List Record → List Act → Judged
-judged machine steps written acts = record { machine = machine; steps = steps; written = written; acts = acts }
+abbrev pub judged_by : Machine → List Step → List Record → List Act → Judged
+judged_by machine steps written acts = record { machine = machine; steps = steps; written = written; acts = acts }
 
 -- for the texts under PART, MACHINE, CL and TAPE: the table is judged first
 abbrev pub judged_due : List ℕ → List ℕ → List ℕ → List ℕ → Result Judged Status
 judged_due text table cl tape =
     machine_due table >>= λ machine. steps_due machine text >>= λ steps. records_due cl >>= λ written. acts_due machine tape >>= λ acts.
-    Ok (judged machine steps written acts)
+    Ok (judged_by machine steps written acts)
 
 -- something is missed, which is told
 abbrev pub IsMissed : List Step → List Record → List Act → Status → Type 0

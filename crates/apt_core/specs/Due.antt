@@ -41,8 +41,8 @@ bad_machine fault = answers.BadMachine fault.line fault.cause
 abbrev pub bad_part : TextFault → Status
 bad_part fault = answers.BadPart fault.0 fault.1
 
-abbrev pub refused : Refusal → Status
-refused r = answers.Refused r.line r.step r.case
+abbrev pub refused_step : Refusal → Status
+refused_step r = answers.Refused r.line r.step r.case
 
 abbrev pub bad_tape : BlockFault → Status
 bad_tape fault = answers.BadTape fault.at fault.cause
@@ -50,7 +50,7 @@ bad_tape fault = answers.BadTape fault.at fault.cause
 -- the same of what the crate of parts refuses
 abbrev pub part_told : PartError → Status
 part_told (part_errors.Bad line cause) = answers.BadPart line cause
-part_told (part_errors.Refused r) = refused r
+part_told (part_errors.Refused r) = refused_step r
 part_told part_errors.NoMemory = answers.NoMemory
 
 abbrev pub told_by : {A E : Type 0} → Result A E → (E → Status) → Result A Status
@@ -58,7 +58,7 @@ told_by due tell = result_map_both (λ x. x) tell due
 
 -- the first fault of a text, and else its first refused step
 abbrev pub unless_refused : {A : Type 0} → Result (Result A Refusal) TextFault → Result A Status
-unless_refused due = told_by due bad_part >>= λ r. told_by r refused
+unless_refused due = told_by due bad_part >>= λ r. told_by r refused_step
 
 -- ---- what is due
 

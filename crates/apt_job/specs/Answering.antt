@@ -9,14 +9,14 @@ use Rattle.apt_job.specs.declared.error.JobError.{JobError}
 use Rattle.apt_job.specs.declared.error.JobError.TheVariants as errors
 
 -- the number of the record that an error tells
-abbrev pub told : JobError → Option ℕ
-told (errors.Entry seq) = Some seq
-told errors.NoMemory = None
+abbrev pub entry_in : JobError → Option ℕ
+entry_in (errors.Entry seq) = Some seq
+entry_in errors.NoMemory = None
 
 -- the first record that does not answer the steps, or memory ran out
 abbrev pub IsEntry : List Step → List Record → JobError → Type 0
-IsEntry steps written e = Tells (FailsAt first_situation 1 steps written) (told e)
+IsEntry steps written e = Tells (FailsAt first_situation 1 steps written) (entry_in e)
 
 -- the answer is the record with this number, or memory ran out
 abbrev pub IsEntryAt : {A : Type 0} → ℕ → Result A JobError → Type 0
-IsEntryAt k = Comes told (λ jobs. ⊥) (λ seq. seq ≡ k)
+IsEntryAt k = Comes entry_in (λ jobs. ⊥) (λ seq. seq ≡ k)

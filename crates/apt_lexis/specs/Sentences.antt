@@ -121,9 +121,9 @@ abbrev pub only_fault : ℕ → PartCause → Said
 only_fault line cause = record { phrases = []; fault = Some (line, cause) }
 
 -- the fault that an error tells, with its line
-abbrev pub told : ParseError → Option (ℕ × PartCause)
-told (errors.Bad line cause) = Some (line, cause)
-told errors.NoMemory = None
+abbrev pub fault_in : ParseError → Option (ℕ × PartCause)
+fault_in (errors.Bad line cause) = Some (line, cause)
+fault_in errors.NoMemory = None
 
 -- the next statement, or none at the end of the lines
 abbrev pub GoesOn : Unread → Unread → Option Phrase → Type 0
@@ -133,4 +133,4 @@ GoesOn before now None = (said_by before ≡ record { phrases = []; fault = None
 -- a reader gives the next statement; none at the end of its lines; the first fault of a line, at which it then stands
 abbrev pub Gives : Unread → Unread → Result (Option Phrase) ParseError → Type 0
 Gives before now =
-    Comes told (GoesOn before now) (λ fault. (said_by before ≡ only_fault fault.0 fault.1) × (now.line ≡ fault.0) × (said_by now ≡ only_fault fault.0 fault.1))
+    Comes fault_in (GoesOn before now) (λ fault. (said_by before ≡ only_fault fault.0 fault.1) × (now.line ≡ fault.0) × (said_by now ≡ only_fault fault.0 fault.1))

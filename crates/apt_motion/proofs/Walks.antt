@@ -24,7 +24,7 @@ use Rattle.apt_meaning.proofs.Walks.Kept.{kept, first_situation-IsSituation}
 use Rattle.apt_meaning.proofs.Walks.Compiled.{fit as fit_of, after_points, behind_step, compiled_follows}
 use Rattle.apt_meaning.proofs.Walks.Files.{compiled_fit}
 use Rattle.apt_motion.specs.declared.runs.RunError.{RunError}
-use Rattle.apt_motion.specs.Ends.{told}
+use Rattle.apt_motion.specs.Ends.{refusal_in}
 use Rattle.apt_words.specs.Answers.{IsDueAs}
 use Rattle.apt_defs.specs.Definitions.{IsNoDefinition}
 use Rattle.apt_motion.specs.Finding.{IsNoContour, SetsOrMoves}
@@ -89,33 +89,33 @@ found_plain here deed (Err case) is scalars worded uncut none same = (tt, tt)
 
 -- ---- runs
 
-pub run_follows : {A : Type 0} (steps : List Step) (result : Result (Vec Record A) RunError) → AreScalars steps → AreExecuted steps → IsDueAs (λ records. records.items) told (compilation first_situation steps) result
+pub run_follows : {A : Type 0} (steps : List Step) (result : Result (Vec Record A) RunError) → AreScalars steps → AreExecuted steps → IsDueAs (λ records. records.items) refusal_in (compilation first_situation steps) result
     → IfOk result (λ records. Follows steps records.items)
 run_follows steps (Ok records) scalars sources is =
     let a = compiled_follows 0 first_situation steps records.items first_situation-IsSituation scalars sources is in
     follows CutsLegally steps records.items a.behind a.follows
 run_follows steps (Err e) scalars sources is = tt
 
-pub run_legal : {A : Type 0} (steps : List Step) (result : Result (Vec Record A) RunError) → AreScalars steps → AreExecuted steps → IsDueAs (λ records. records.items) told (compilation first_situation steps) result
+pub run_legal : {A : Type 0} (steps : List Step) (result : Result (Vec Record A) RunError) → AreScalars steps → AreExecuted steps → IsDueAs (λ records. records.items) refusal_in (compilation first_situation steps) result
     → IfOk result (λ records. EveryContour IsLegalCut (contours_of records.items))
 run_legal steps (Ok records) scalars sources is =
     let a = compiled_follows 0 first_situation steps records.items first_situation-IsSituation scalars sources is in
     legal_contours steps records.items a.behind a.follows
 run_legal steps (Err e) scalars sources is = tt
 
-pub run_own : {A : Type 0} (steps : List Step) (result : Result (Vec Record A) RunError) → AreScalars steps → AreExecuted steps → IsDueAs (λ records. records.items) told (compilation first_situation steps) result
+pub run_own : {A : Type 0} (steps : List Step) (result : Result (Vec Record A) RunError) → AreScalars steps → AreExecuted steps → IsDueAs (λ records. records.items) refusal_in (compilation first_situation steps) result
     → IfOk result (λ records. EveryContour IsOwnCut (contours_of records.items))
 run_own steps (Ok records) scalars sources is =
     let a = compiled_follows 0 first_situation steps records.items first_situation-IsSituation scalars sources is in
     own_contours steps records.items a.behind a.own
 run_own steps (Err e) scalars sources is = tt
 
-pub run_in_range : {A : Type 0} (steps : List Step) (result : Result (Vec Record A) RunError) → AreScalars steps → AreExecuted steps → IsDueAs (λ records. records.items) told (compilation first_situation steps) result
+pub run_in_range : {A : Type 0} (steps : List Step) (result : Result (Vec Record A) RunError) → AreScalars steps → AreExecuted steps → IsDueAs (λ records. records.items) refusal_in (compilation first_situation steps) result
     → IfOk result (λ records. AreRecords records.items)
 run_in_range steps (Ok records) scalars sources is = (compiled_follows 0 first_situation steps records.items first_situation-IsSituation scalars sources is).records
 run_in_range steps (Err e) scalars sources is = tt
 
-pub run_fits : {A : Type 0} (steps : List Step) (result : Result (Vec Record A) RunError) → AreExecuted steps → IsDueAs (λ records. records.items) told (compilation first_situation steps) result
+pub run_fits : {A : Type 0} (steps : List Step) (result : Result (Vec Record A) RunError) → AreExecuted steps → IsDueAs (λ records. records.items) refusal_in (compilation first_situation steps) result
     → IfOk result (λ records. vertex_count records.items ≤ most_points)
 run_fits steps (Ok records) sources is = omega (arith, (compiled_fit 0 first_situation steps records.items (omega arith) sources is).vertices)
 run_fits steps (Err e) sources is = tt

@@ -15,9 +15,9 @@ use Rattle.apt_motion.specs.declared.runs.RunError.{RunError}
 use Rattle.apt_motion.specs.declared.runs.RunError.TheVariants as errors
 
 -- the refusal that an error tells
-abbrev pub told : RunError → Option Refusal
-told (errors.Refused refusal) = Some refusal
-told errors.NoMemory = None
+abbrev pub refusal_in : RunError → Option Refusal
+refusal_in (errors.Refused refusal) = Some refusal
+refusal_in errors.NoMemory = None
 
 -- a step that asks for an effect, and what holds behind it
 pub record IsPassed (here : Situation) (step : Step) (behind : Situation) (e : Effect) : Type 0 where
@@ -42,13 +42,13 @@ pub record IsRefusedBehind (so_far : ℕ) (here : Situation) (step : Step) (refu
 
 -- a step is passed or refused, or memory was short
 abbrev pub HasPassed : Situation → Step → Result Situation RunError → Type 0
-HasPassed here step = Comes told (λ behind. (e : Effect) × IsPassed here step behind e) (λ refusal. (case : Case) × IsRefused here step refusal case)
+HasPassed here step = Comes refusal_in (λ behind. (e : Effect) × IsPassed here step behind e) (λ refusal. (case : Case) × IsRefused here step refusal case)
 
 -- a step is taken behind so many vertices, and there are so many then, or it is refused, or memory was short
 abbrev pub HasAdvanced : ℕ → ℕ → Situation → Step → List Record → List Record → Result Situation RunError → Type 0
 HasAdvanced so_far later here step before now =
-    Comes told (λ behind. (e : Effect) × IsTaken so_far later here step before now behind e) (λ refusal. (case : Case) × IsRefusedBehind so_far here step refusal case)
+    Comes refusal_in (λ behind. (e : Effect) × IsTaken so_far later here step before now behind e) (λ refusal. (case : Case) × IsRefusedBehind so_far here step refusal case)
 
 -- a pass over all steps ends, where no step is refused, or at the first that is, or memory was short
 abbrev pub ArePassed : {A : Type 0} → Option Refusal → Result A RunError → Type 0
-ArePassed due = Comes told (λ a. due ≡ None) (λ refusal. due ≡ Some refusal)
+ArePassed due = Comes refusal_in (λ a. due ≡ None) (λ refusal. due ≡ Some refusal)

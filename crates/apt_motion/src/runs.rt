@@ -13,7 +13,7 @@ ghost use Rattle.apt_meaning.specs.Paths.{EveryContour, IsLegalCut, contours_of}
 ghost use Rattle.apt_meaning.specs.Records.{Follows, IsOwnCut};
 ghost use Rattle.apt_meaning.specs.Situations.{first_situation};
 ghost use Rattle.apt_meaning.specs.declared.situation.Situation.{Situation};
-ghost use Rattle.apt_motion.specs.Ends.{HasAdvanced, HasPassed, ArePassed, told};
+ghost use Rattle.apt_motion.specs.Ends.{HasAdvanced, HasPassed, ArePassed, refusal_in};
 ghost use Rattle.apt_words.specs.Answers.{IsDueAs};
 ghost use Rattle.apt_defs.specs.Definitions.{IsNoDefinition};
 ghost use Rattle.apt_motion.specs.Finding.{IsContour, IsMotionBy, IsNoContour};
@@ -213,7 +213,7 @@ fn cut(
 fn run_all(alloc: Global, steps: &[Step]) -> Result<Vec<Record>, RunError>
     requires scalars { AreScalars steps.now }
     requires sources { AreExecuted steps.now }
-    ensures { IsDueAs (λ records. records.items) told (compilation first_situation steps.now) result }
+    ensures { IsDueAs (λ records. records.items) refusal_in (compilation first_situation steps.now) result }
 {
     let mut here = Situation::first(alloc);
     let mut written = Written {
@@ -262,7 +262,7 @@ pub fn ends(alloc: Global, steps: &[Step]) -> Result<Option<Refusal>, AllocError
 pub fn run(alloc: Global, steps: &[Step]) -> Result<Vec<Record>, RunError>
     requires scalars { AreScalars steps.now }
     requires sources { AreExecuted steps.now }
-    ensures value { IsDueAs (λ records. records.items) told (compilation first_situation steps.now) result }
+    ensures value { IsDueAs (λ records. records.items) refusal_in (compilation first_situation steps.now) result }
     ensures follows { IfOk result (λ records. Follows steps.now records.items) }
     ensures legal { IfOk result (λ records. EveryContour IsLegalCut (contours_of records.items)) }
     ensures own { IfOk result (λ records. EveryContour IsOwnCut (contours_of records.items)) }

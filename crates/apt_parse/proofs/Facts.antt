@@ -16,7 +16,7 @@ use Rattle.apt_shapes.specs.declared.table.Labelled.{Labelled}
 use Rattle.apt_shapes.specs.Shapes.{shape}
 use Rattle.apt_parse.specs.Statements.{statement, of_tokens, of_shape, unless_fault, first_fault, open_loop}
 use Rattle.apt_words.specs.Answers.{IsDue}
-use Rattle.apt_lexis.specs.Sentences.{told}
+use Rattle.apt_lexis.specs.Sentences.{fault_in}
 use Rattle.apt_parse.specs.Programs.{TextFault, missing, unless_missing, unless_open, without_fini, ends_with, or_fault, program_from, last_line, program_of}
 use Rattle.apt_parse.proofs.SaidTexts.{AreSaid, said_in-said}
 use Rattle.apt_parse.proofs.ShapeTexts.{HasTextSaid, shape-fits}
@@ -80,6 +80,6 @@ program_from-holds P before last fault (p ∷ ps) on holds said =
 pub program_of-holds : (P : Bool → List Stmt → Type 0) → GoesOn P → P false [] → (text : List ℕ) → IfOk (program_of text) (P true)
 program_of-holds P on none text = program_from-holds P [] (last_line (lines_of text)) (said_in text).fault (said_in text).phrases on none (said_in-said text)
 
-pub parsed_holds : (P : List Stmt → Type 0) (text : List ℕ) (read : Result Program ParseError) → IfOk (program_of text) P → IsDue told (program_of text) read → IfOk read (λ p. P p)
+pub parsed_holds : (P : List Stmt → Type 0) (text : List ℕ) (read : Result Program ParseError) → IfOk (program_of text) P → IsDue fault_in (program_of text) read → IfOk read (λ p. P p)
 parsed_holds P text (Ok p) holds is = IfOk-at_ok P is holds
 parsed_holds P text (Err e) holds is = tt

@@ -11,7 +11,7 @@ use Rattle.apt_words.specs.declared.body.Program.{Program}
 use Rattle.apt_lexis.specs.declared.error.ParseError.{ParseError}
 use Rattle.apt_parse.specs.Statements.{macro_behind, open_macro, is_out_of_place, is_in_macro}
 use Rattle.apt_words.specs.Answers.{IsDue}
-use Rattle.apt_lexis.specs.Sentences.{told}
+use Rattle.apt_lexis.specs.Sentences.{fault_in}
 use Rattle.apt_parse.specs.Programs.{program_of}
 use Rattle.apt_parse.proofs.Reading.{macro_from_behind, no_fault-placed, no_fault-outside}
 use Rattle.apt_parse.proofs.Facts.{IsNext, program_of-holds, parsed_holds}
@@ -57,5 +57,5 @@ goes_on before st false on next nested = λ sts behind.
 pub program_of-nested : (text : List ℕ) → IfOk (program_of text) (AreNested false)
 program_of-nested text = program_of-holds NestedUpTo (λ before st. goes_on before st (is_fini st.body) refl) (λ sts nested. nested) text
 
-pub parsed_nested : (text : List ℕ) (read : Result Program ParseError) → IsDue told (program_of text) read → IfOk read (λ p. AreNested false p)
+pub parsed_nested : (text : List ℕ) (read : Result Program ParseError) → IsDue fault_in (program_of text) read → IfOk read (λ p. AreNested false p)
 parsed_nested text read = parsed_holds (AreNested false) text read (program_of-nested text)

@@ -8,7 +8,7 @@ use Rattle.apt_lexis.specs.Lines.{lines_of}
 use Rattle.apt_lexis.specs.Spellings.{AreRespelled, SayTheSame, Itself, Onward, Backward}
 use Rattle.apt_lexis.proofs.Respelled.{respelled_said, respelled_lines}
 use Rattle.apt_words.specs.Answers.{IsDue}
-use Rattle.apt_lexis.specs.Sentences.{told}
+use Rattle.apt_lexis.specs.Sentences.{fault_in}
 use Rattle.apt_parse.specs.Programs.{last_line, program_from, program_of}
 
 -- one line in another spelling
@@ -23,5 +23,5 @@ program_of-same _ _ (Itself text) = refl
 program_of-same _ _ (Onward text next other are more) = program_of-respelled text next are ∙ program_of-same next other more
 program_of-same _ _ (Backward text next other are more) = sym (program_of-respelled next text are) ∙ program_of-same next other more
 
-pub parsed_same : (text other : List ℕ) (read : Result Program ParseError) → IsDue told (program_of text) read → SayTheSame text other → IsDue told (program_of other) read
-parsed_same text other read is same = subst (λ due. IsDue told due read) (program_of-same text other same) is
+pub parsed_same : (text other : List ℕ) (read : Result Program ParseError) → IsDue fault_in (program_of text) read → SayTheSame text other → IsDue fault_in (program_of other) read
+parsed_same text other read is same = subst (λ due. IsDue fault_in due read) (program_of-same text other same) is

@@ -6,7 +6,7 @@ ghost use Rattle.apt_words.specs.Answers.{IsDue};
 ghost use Rattle.apt_words.specs.Composition.{flow_of};
 ghost use Rattle.apt_words.specs.Nesting.{AreNested};
 ghost use Rattle.apt_words.specs.Sources.{AreStmts};
-ghost use Rattle.apt_lexis.specs.Sentences.{told};
+ghost use Rattle.apt_lexis.specs.Sentences.{fault_in};
 ghost use Rattle.apt_lexis.specs.Spellings.{SayTheSame};
 ghost use Rattle.apt_parse.specs.ReaderState as reading;
 ghost use Rattle.apt_parse.specs.ReaderState.{IsRead};
@@ -27,16 +27,16 @@ use std::alloc::Global;
 /// `Bad` is the first fault in the order of reading, with its line.
 #[tactic(auto, using(crate::proofs::Nesting::parsed_nested, crate::proofs::AllSources::parsed_stmts, crate::proofs::Respelled::parsed_same))]
 pub fn parse(alloc: Global, text: &[u8]) -> Result<Program, ParseError>
-    ensures program { IsDue told (programs.program_of text.now) result }
+    ensures program { IsDue fault_in (programs.program_of text.now) result }
     ensures nested { IfOk result (λ p. AreNested false p) }
     ensures sources { IfOk result (λ p. AreStmts p) }
-    ensures same { (other : List ℕ) → SayTheSame text.now other → IsDue told (programs.program_of other) result }
+    ensures same { (other : List ℕ) → SayTheSame text.now other → IsDue fault_in (programs.program_of other) result }
 {
     parse_all(alloc, text)
 }
 
 fn parse_all(alloc: Global, text: &[u8]) -> Result<Program, ParseError>
-    ensures { IsDue told (programs.program_of text.now) result }
+    ensures { IsDue fault_in (programs.program_of text.now) result }
 {
     let mut phrases = Phrases::new(text);
     let mut read = Read::new(alloc);
@@ -95,7 +95,7 @@ fn statement(
 /// The program of the statements up to FINI.
 fn whole(read: Read) -> Result<Program, ParseError>
     requires { IsRead read }
-    ensures { IsDue told (programs.whole read.stmts.items) result }
+    ensures { IsDue fault_in (programs.whole read.stmts.items) result }
 {
     if let Some(line) = read.open_loop {
         return Err(ParseError::Bad {

@@ -14,11 +14,11 @@ of_text (text_errors.Bad line cause) = errors.Bad line cause
 of_text text_errors.NoMemory = errors.NoMemory
 
 -- what an error tells of a text: its first fault, or the first refused step
-abbrev pub told : {A : Type 0} → PartError → Option (Result (Result A Refusal) TextFault)
-told (errors.Bad line cause) = Some (Err (line, cause))
-told (errors.Refused refusal) = Some (Ok (Err refusal))
-told errors.NoMemory = None
+abbrev pub outcome_in : {A : Type 0} → PartError → Option (Result (Result A Refusal) TextFault)
+outcome_in (errors.Bad line cause) = Some (Err (line, cause))
+outcome_in (errors.Refused refusal) = Some (Ok (Err refusal))
+outcome_in errors.NoMemory = None
 
 -- what a text comes to, its first fault, or the first refused step
 abbrev pub IsPart : {A : Type 0} → Result (Result A Refusal) TextFault → Result A PartError → Type 0
-IsPart due = Comes told (λ p. due ≡ Ok (Ok p)) (λ other. due ≡ other)
+IsPart due = Comes outcome_in (λ p. due ≡ Ok (Ok p)) (λ other. due ≡ other)

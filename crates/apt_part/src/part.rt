@@ -9,7 +9,7 @@ ghost use Rattle.apt_meaning.specs.Situations.{first_situation};
 ghost use Rattle.apt_meaning.specs.Compiled.{compilation, first_refused};
 ghost use Rattle.apt_words.specs.Answers.{IsDue, IsDueAs};
 ghost use Rattle.apt_lexis.specs.Sentences as sentences;
-ghost use Rattle.apt_motion.specs.Ends.{told};
+ghost use Rattle.apt_motion.specs.Ends.{refusal_in};
 ghost use Rattle.apt_machine.specs.Machines.{IsMachine};
 ghost use Rattle.apt_parse.specs.Programs.{program_of};
 ghost use Rattle.apt_post.specs.Limits as limiting;
@@ -93,7 +93,7 @@ fn whole_steps(alloc: Global, text: Vec<u8>, machine: &Machine) -> Result<Vec<St
 
 /// The program of a text, or its first fault.
 fn program_in(alloc: Global, text: Vec<u8>) -> Result<Program, ParseError>
-    ensures program { IsDue sentences.told (program_of text.items) result }
+    ensures program { IsDue sentences.fault_in (program_of text.items) result }
     ensures sources { IfOk result (λ p. AreStmts p) }
     ensures nested { IfOk result (λ p. AreNested false p) }
 {
@@ -104,7 +104,7 @@ fn program_in(alloc: Global, text: Vec<u8>) -> Result<Program, ParseError>
 fn steps_by(alloc: Global, program: Program, machine: &Machine) -> Result<Vec<Step>, RunError>
     requires sources { AreStmts program }
     requires nested { AreNested false program }
-    ensures { IsDueAs (λ steps. steps.items) told (parts.steps_by machine.now program) result }
+    ensures { IsDueAs (λ steps. steps.items) refusal_in (parts.steps_by machine.now program) result }
 {
     let Ok(unrolled) = unroll(alloc, &program) else {
         return Err(RunError::NoMemory);
@@ -163,7 +163,7 @@ fn whole_part(alloc: Global, text: Vec<u8>, machine: &Machine) -> Result<Part, P
 fn part_by(alloc: Global, program: Program, machine: &Machine) -> Result<Part, RunError>
     requires sources { AreStmts program }
     requires nested { AreNested false program }
-    ensures { IsDue told (parts.part_by machine.now program) result }
+    ensures { IsDue refusal_in (parts.part_by machine.now program) result }
 {
     let Ok(unrolled) = unroll(alloc, &program) else {
         return Err(RunError::NoMemory);
@@ -184,7 +184,7 @@ fn part_by(alloc: Global, program: Program, machine: &Machine) -> Result<Part, R
 fn records_of(alloc: Global, steps: &[Step], machine: &Machine) -> Result<Vec<Record>, RunError>
     requires scalars { AreScalars steps.now }
     requires sources { AreExecuted steps.now }
-    ensures { IsDueAs (λ records. records.items) told (parts.earlier (limiting.limits machine.now steps.now) (compilation first_situation steps.now)) result }
+    ensures { IsDueAs (λ records. records.items) refusal_in (parts.earlier (limiting.limits machine.now steps.now) (compilation first_situation steps.now)) result }
 {
     let past = limits(steps, machine);
     match run(alloc, steps) {

@@ -57,4 +57,4 @@ returns-in_err-record c =
     let whole = spec.records_from (c.args.start + length c.args.bytes.now) 1 c.args.start c.args.bytes.now in
     let error = err_from_is_err_and c.from_residual.result c.from_residual.ensures.1 in
     let is = whole_is_error c.records.records.items c.records.seq c.records.at c.records.rest.now whole c.in_err-record.field-0.0 c.records.invariant.stands c.in_err-record.ensures.value in
-    rw (error.1) (subst (IsFault spec.told whole) (sym error.2) is)
+    rw (error.1) (subst (IsFault spec.fault_in whole) (sym error.2) is)
