@@ -13,7 +13,7 @@ use Rattle.apt_block.specs.declared.machine.OpenWord.{OpenWord}
 use Rattle.apt_block.specs.declared.machine.Want.{Want}
 use Rattle.apt_block.specs.declared.machine.Want.TheVariants as wants
 use Rattle.apt_block.specs.Block.{◌>>=◌, fault, bad_block, forms, plus_sign, minus_sign, line_feed, code_fault, is_digit, Digits, digits_at, in_range, size_at, Number, plus, minus, signed_at, number_at, unless, tape_word, nothing_at, words_at, block_of, marks, block_text}
-use Rattle.apt_block.specs.Machine.{FrontPart, block_start, form_for, new_word, with_form, letter_step, value_of, with_word, word_end, digit_step, sign_step, step_as, step, steps, words_as, words_of, is_nothing, is_whole, Taken, stopped, taken, behind as behind_step, words_behind, IsReading}
+use Rattle.apt_block.specs.Machine.{FrontPart, block_start, form_for, new_word, with_form, letter_step, value_of, with_word, word_end, digit_step, sign_step, step_as, step, steps, words_as, words_of, is_nothing, is_whole, Taken, stops_at, taken, behind as behind_step, words_behind, IsReading}
 
 -- ---- what the grammar reads from a front part on
 
@@ -251,7 +251,7 @@ plain_steps b at [] = refl
 plain_steps b at (ch ∷ text) = each (step b (record { at = at; ch = ch })) (λ b. plain_steps b (at + 1) text)
   where
     whole : (b : FrontPart) (t : Bool) → steps b (marks (at + 1) text) ≡ and_left (taken Some b (at + 1) text)
-        → steps b (marks (at + 1) text) ≡ and_left (cond t (stopped b (at + 1) text) (taken Some b (at + 1) text))
+        → steps b (marks (at + 1) text) ≡ and_left (cond t (stops_at b (at + 1) text) (taken Some b (at + 1) text))
     whole b true same = refl
     whole b false same = same
 
@@ -268,7 +268,7 @@ plain_all : (b : FrontPart) (at : ℕ) (text : List ℕ) → AllTaken (taken Som
 plain_all b at [] = λ free. refl
 plain_all b at (ch ∷ text) = each (step b (record { at = at; ch = ch })) (λ b. plain_all b (at + 1) text)
   where
-    whole : (b : FrontPart) (t : Bool) → is_whole b ≡ t → AllTaken (taken Some b (at + 1) text) → AllTaken (cond t (stopped b (at + 1) text) (taken Some b (at + 1) text))
+    whole : (b : FrontPart) (t : Bool) → is_whole b ≡ t → AllTaken (taken Some b (at + 1) text) → AllTaken (cond t (stops_at b (at + 1) text) (taken Some b (at + 1) text))
     whole b true is all = λ free. absurd (no_true (sym free ∙ is))
     whole b false is all = all
 
@@ -277,10 +277,10 @@ plain_all b at (ch ∷ text) = each (step b (record { at = at; ch = ch })) (λ b
     each (Err e) all = tt
 
 -- where no byte stops it, a block that is not whole takes all of a text
-pub plain_rest : (b now : FrontPart) (at place : ℕ) (text rest : List ℕ) → taken Some b at text ≡ stopped now place rest → is_whole now ≡ false → rest ≡ []
+pub plain_rest : (b now : FrontPart) (at place : ℕ) (text rest : List ℕ) → taken Some b at text ≡ stops_at now place rest → is_whole now ≡ false → rest ≡ []
 plain_rest b now at place text rest e free = subst AllTaken e (plain_all b at text) free
 
-pub block_text_taken : (text rest : List ℕ) (at : ℕ) (b : FrontPart) (r : Result (List TapeWord) BlockError) → taken Some block_start 0 text ≡ stopped b at rest
+pub block_text_taken : (text rest : List ℕ) (at : ℕ) (b : FrontPart) (r : Result (List TapeWord) BlockError) → taken Some block_start 0 text ≡ stops_at b at rest
     → IsReading (words_behind (fault (length text) causes.Truncated) b at rest) r → IsReading (block_text text) r
 block_text_taken text rest at b r e is =
     let end = fault (length text) causes.Truncated in

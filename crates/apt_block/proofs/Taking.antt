@@ -5,10 +5,10 @@ use Rattle.apt_block.specs.declared.block.BlockFault.{BlockFault}
 use Rattle.apt_block.specs.declared.machine.OpenWord.{OpenWord}
 use Rattle.apt_block.specs.declared.machine.Want.TheVariants as wants
 use Rattle.apt_block.specs.Block.{◌>>=◌, bad_block, is_digit}
-use Rattle.apt_block.specs.Machine.{FrontPart, step, is_whole, word_end, with_digit, with_digits, last_place, sign_step, Taken, stopped, taken, behind, read_on}
+use Rattle.apt_block.specs.Machine.{FrontPart, step, is_whole, word_end, with_digit, with_digits, last_place, sign_step, Taken, stops_at, taken, behind, read_on}
 
 abbrev pub first_taken : (ℕ → Option ℕ) → FrontPart → ℕ → List ℕ → List ℕ → Option ℕ → Result Taken BlockFault
-first_taken character b at bytes more o = unwrap_or (option_map (λ ch. step b (record { at = at; ch = ch }) >>= λ b. behind character b (at + 1) more) o) (stopped b at bytes)
+first_taken character b at bytes more o = unwrap_or (option_map (λ ch. step b (record { at = at; ch = ch }) >>= λ b. behind character b (at + 1) more) o) (stops_at b at bytes)
 
 taken_first : (character : ℕ → Option ℕ) (b : FrontPart) (at : ℕ) (bytes : List ℕ) (n d : ℕ) → n < length bytes
     → taken character b at (drop n bytes) ≡ first_taken character b at (drop n bytes) (drop (n + 1) bytes) (character (get_or bytes n d))
@@ -27,7 +27,7 @@ taken_char character b at bytes n ch d h is = taken_first character b at bytes n
 
 -- at a byte that is no character's nothing is taken
 pub taken_none : (character : ℕ → Option ℕ) (b : FrontPart) (at : ℕ) (bytes : List ℕ) (n d : ℕ) → n < length bytes → character (get_or bytes n d) ≡ None
-    → taken character b at (drop n bytes) ≡ stopped b at (drop n bytes)
+    → taken character b at (drop n bytes) ≡ stops_at b at (drop n bytes)
 taken_none character b at bytes n d h is = taken_first character b at bytes n d h ∙ ap (first_taken character b at (drop n bytes) (drop (n + 1) bytes)) is
 
 pub front_char : (character : ℕ → Option ℕ) (b : FrontPart) (at : ℕ) (bytes : List ℕ) (ch d : ℕ) → 0 < length bytes → character (get_or bytes 0 d) ≡ Some ch
@@ -35,7 +35,7 @@ pub front_char : (character : ℕ → Option ℕ) (b : FrontPart) (at : ℕ) (by
 front_char character b at bytes ch d h is = taken_char character b at bytes 0 ch d h is
 
 pub front_none : (character : ℕ → Option ℕ) (b : FrontPart) (at : ℕ) (bytes : List ℕ) (d : ℕ) → 0 < length bytes → character (get_or bytes 0 d) ≡ None
-    → taken character b at bytes ≡ stopped b at bytes
+    → taken character b at bytes ≡ stops_at b at bytes
 front_none character b at bytes d h is = taken_none character b at bytes 0 d h is
 
 -- a word is read on behind a digit that is not its last
@@ -125,7 +125,7 @@ beyond_step : (character : ℕ → Option ℕ) (at : ℕ) (bytes : List ℕ) (r 
     → IsBeyond (at + 1) (r >>= λ b. behind character b (at + 1) bytes)
 beyond_step character at bytes (Ok b) all = go (is_whole b)
   where
-    go : (t : Bool) → IsBeyond (at + 1) (cond t (stopped b (at + 1) bytes) (taken character b (at + 1) bytes))
+    go : (t : Bool) → IsBeyond (at + 1) (cond t (stops_at b (at + 1) bytes) (taken character b (at + 1) bytes))
     go true = omega arith
     go false = all b
 beyond_step character at bytes (Err f) all = tt
@@ -140,10 +140,10 @@ beyond character b at [] = omega arith
 beyond character b at (byte ∷ bytes) = beyond_first character b at byte bytes (character byte) (λ b. beyond character b (at + 1) bytes)
 
 pub taken_some : (character : ℕ → Option ℕ) (b : FrontPart) (at : ℕ) (bytes : List ℕ) (ch n : ℕ) (now : FrontPart) (rest : List ℕ) → 0 < length bytes → character (get_or bytes 0 0) ≡ Some ch
-    → taken character b at bytes ≡ stopped now (at + n) rest → 0 < n
+    → taken character b at bytes ≡ stops_at now (at + n) rest → 0 < n
 taken_some character b at [] ch n now rest h is read = absurd (omega (arith, h))
 taken_some character b at (byte ∷ bytes) ch n now rest h is read =
-    let far : IsBeyond (at + 1) (stopped now (at + n) rest) =
+    let far : IsBeyond (at + 1) (stops_at now (at + n) rest) =
     subst (IsBeyond (at + 1)) (sym (ap (first_taken character b at (byte ∷ bytes) bytes) is) ∙ read) (beyond_step character at bytes (step b (record { at = at; ch = ch })) (λ b. beyond character b (at + 1) bytes)) in
     omega (arith, far)
 

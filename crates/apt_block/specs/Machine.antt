@@ -119,22 +119,22 @@ pub record Taken : Type 0 where
   pub at : ℕ
   pub rest : List ℕ
 
-abbrev pub stopped : FrontPart → ℕ → List ℕ → Result Taken BlockFault
-stopped b at bytes = Ok (record { part = b; at = at; rest = bytes })
+abbrev pub stops_at : FrontPart → ℕ → List ℕ → Result Taken BlockFault
+stops_at b at bytes = Ok (record { part = b; at = at; rest = bytes })
 
 -- the steps of the characters, up to the end of block or to a byte that is no character's
 abbrev pub taken : (ℕ → Option ℕ) → FrontPart → ℕ → List ℕ → Result Taken BlockFault
-taken character b at [] = stopped b at []
+taken character b at [] = stops_at b at []
 taken character b at (byte ∷ bytes) =
     unwrap_or
     (option_map
-    (λ ch. step b (record { at = at; ch = ch }) >>= λ b. if is_whole b then stopped b (at + 1) bytes else taken character b (at + 1) bytes)
+    (λ ch. step b (record { at = at; ch = ch }) >>= λ b. if is_whole b then stops_at b (at + 1) bytes else taken character b (at + 1) bytes)
     (character byte))
-    (stopped b at (byte ∷ bytes))
+    (stops_at b at (byte ∷ bytes))
 
 -- what comes behind a step
 abbrev pub behind : (ℕ → Option ℕ) → FrontPart → ℕ → List ℕ → Result Taken BlockFault
-behind character b at bytes = if is_whole b then stopped b at bytes else taken character b at bytes
+behind character b at bytes = if is_whole b then stops_at b at bytes else taken character b at bytes
 
 abbrev pub wants_letter : Want → Bool
 wants_letter wants.Letter = true
@@ -144,7 +144,7 @@ wants_letter wants.Nothing = false
 
 -- where a letter comes next the bytes are read on
 abbrev pub read_on : (ℕ → Option ℕ) → FrontPart → ℕ → List ℕ → Result Taken BlockFault
-read_on character b at bytes = if wants_letter b.want then taken character b at bytes else stopped b at bytes
+read_on character b at bytes = if wants_letter b.want then taken character b at bytes else stops_at b at bytes
 
 -- the same from a letter on
 abbrev pub letter_taken : (ℕ → Option ℕ) → FrontPart → Mark → List ℕ → Result Taken BlockFault
@@ -158,7 +158,7 @@ words_behind end b at text = steps b (marks at text) >>= words_of end
 
 -- so many bytes are taken, with this front part then, or there is the fault
 abbrev pub IsTaken : Result Taken BlockFault → FrontPart → ℕ → List ℕ → Result ℕ BlockFault → Type 0
-IsTaken read now at bytes (Ok n) = read ≡ stopped now (at + n) (drop n bytes)
+IsTaken read now at bytes (Ok n) = read ≡ stops_at now (at + n) (drop n bytes)
 IsTaken read now at bytes (Err f) = read ≡ Err f
 
 -- so many bytes are taken, behind which there may be another word, or there is the fault

@@ -5,7 +5,7 @@ use Rattle.apt_tapecode.specs.declared.Read.TheVariants as reads
 use Rattle.apt_tapecode.specs.Tapecode.{reading}
 use Rattle.apt_block.specs.declared.block.BlockFault.{BlockFault}
 use Rattle.apt_block.specs.Block.{◌>>=◌}
-use Rattle.apt_block.specs.Machine.{FrontPart, step, is_whole, Taken, stopped, taken, behind}
+use Rattle.apt_block.specs.Machine.{FrontPart, step, is_whole, Taken, stops_at, taken, behind}
 use Rattle.apt_block.proofs.Taking.{first_taken, taken_some}
 use Rattle.apt_control.specs.declared.walk.Phase.TheVariants as phases
 use Rattle.apt_control.specs.declared.error.ControlError.{ControlError}
@@ -51,7 +51,7 @@ one_character {H = H} {A = A} means s ch bytes phase goes = each (step s.block (
 
     whole : (b : FrontPart) (t : Bool) → is_whole b ≡ t
         → (cond t (words_step means s b.words) (Ok (record s { block = b; count = s.count + 1 })) >>= λ s. byte_steps means s bytes)
-        ≡ behind_taken means s (cond t (stopped b (s.count + 1) bytes) (taken (character_of s.code) b (s.count + 1) bytes))
+        ≡ behind_taken means s (cond t (stops_at b (s.count + 1) bytes) (taken (character_of s.code) b (s.count + 1) bytes))
     whole b true is = ap (λ n. words_step means (record s { count = n }) b.words >>= λ s. byte_steps means s bytes) (less_one s.count) ∙ ap (walked b (s.count + 1)) (sym is)
     whole b false is = goes (record s { block = b; count = s.count + 1 }) phase is
 
@@ -62,7 +62,7 @@ one_character {H = H} {A = A} means s ch bytes phase goes = each (step s.block (
     each (Err f) = refl
 
 -- where nothing is taken the walk stays
-stays : {H A : Type 0} (means : MeaningOf H A) (s : Walk H A) (bytes : List ℕ) → is_whole s.block ≡ false → byte_steps means s bytes ≡ behind_taken means s (stopped s.block s.count bytes)
+stays : {H A : Type 0} (means : MeaningOf H A) (s : Walk H A) (bytes : List ℕ) → is_whole s.block ≡ false → byte_steps means s bytes ≡ behind_taken means s (stops_at s.block s.count bytes)
 stays means s bytes is = ap (λ t. cond t (words_step means (record s { count = s.count - 1 }) s.block.words) (Ok s) >>= λ s. byte_steps means s bytes) (sym is)
 
 front_character : {H A : Type 0} (means : MeaningOf H A) (s : Walk H A) (byte ch : ℕ) (bytes : List ℕ) → s.phase ≡ phases.InBlock → reading s.code byte ≡ reads.Char ch → Goes means bytes
@@ -100,7 +100,7 @@ is_front means s (byte ∷ bytes) is = front_character means s byte is.character
 
 -- the walk goes on behind the characters that are taken, or the meaning of their block is refused
 pub front_reached : {H A : Type 0} (means : MeaningOf H A) (s now : Walk H A) (bytes : List ℕ) (b : FrontPart) (n : ℕ) (result : Result ℕ ControlError) → AtCharacter s bytes
-    → taken (character_of s.code) s.block s.count bytes ≡ stopped b (s.count + n) (drop n bytes) → IsDueAs (λ _. now) fault_in (reached means (record s { block = b }) (s.count + n)) result
+    → taken (character_of s.code) s.block s.count bytes ≡ stops_at b (s.count + n) (drop n bytes) → IsDueAs (λ _. now) fault_in (reached means (record s { block = b }) (s.count + n)) result
     → IfOk result (λ m. m ≡ n) → IsFront means (byte_steps means s bytes) now bytes result
 front_reached means s now bytes b n (Ok m) is read end same =
     ap (λ m. byte_steps means now (drop m bytes)) same
@@ -115,7 +115,7 @@ front_fault means s bytes f is read = is_front means s bytes is ∙ ap (behind_t
 
 -- something is taken
 pub front_some : {H A : Type 0} (s : Walk H A) (bytes rest : List ℕ) (b : FrontPart) (n : ℕ) → AtCharacter s bytes
-    → taken (character_of s.code) s.block s.count bytes ≡ stopped b (s.count + n) rest → 0 < n
+    → taken (character_of s.code) s.block s.count bytes ≡ stops_at b (s.count + n) rest → 0 < n
 front_some s bytes rest b n is read = taken_some (character_of s.code) s.block s.count bytes is.character.0 n b rest is.some (ap character_as is.character.1) read
 
 pub some_within : (result : Result ℕ ControlError) (n most : ℕ) → IfOk result (λ m. m ≡ n) → 0 < n → n ≤ most → IfOk result (λ m. (0 < m) × (m ≤ most))

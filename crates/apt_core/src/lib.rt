@@ -84,7 +84,7 @@ fn answer_to<H: Shelf>(alloc: Global, request: Request<'_>, shelf: &mut H) -> Re
     match request {
         Request::Compile(names) => Reply::of(compile(alloc, shelf, names)),
         Request::Certify(names) => Reply::of(certify(alloc, shelf, names)),
-        Request::Decode(names) => Reply::said(decode(alloc, shelf, names)),
-        Request::List(name) => Reply::said(list(alloc, shelf, name)),
+        Request::Decode(names) => Reply::from_work(decode(alloc, shelf, names)),
+        Request::List(name) => Reply::from_work(list(alloc, shelf, name)),
     }
 }

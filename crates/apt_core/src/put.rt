@@ -38,7 +38,7 @@ impl Reply {
     }
 
     /// What a work says, or its answer with its own line.
-    pub(crate) fn said(work: Result<Reply, Status>) -> Reply
+    pub(crate) fn from_work(work: Result<Reply, Status>) -> Reply
         ensures { result ≡ said_of work }
     {
         match work {

@@ -169,7 +169,7 @@ fn cut<'a>(m: &Motion, sides: Sides, records: &'a [Record]) -> Result<Front<'a>,
 }
 
 /// The records of an effect.
-fn said<'a>(effect: &Option<Effect>, sides: Sides, records: &'a [Record]) -> Result<Front<'a>, u64>
+fn effect_front<'a>(effect: &Option<Effect>, sides: Sides, records: &'a [Record]) -> Result<Front<'a>, u64>
     requires { IfSome effect.now (HasSides sides) }
     ensures said { MatchResult result (λ f. IsSomeAnd effect.now (λ e. (records.now ≡ effect_records e (points_at f.vertices.now) ++ f.rest.now) × MayHave e (points_at f.vertices.now))) (Departs (expected_of effect.now) records.now) }
     ensures few { IfErr result (λ k. k ≤ 2) }
@@ -214,7 +214,7 @@ pub(crate) fn taken<'a>(
     let Some(behind) = statement(step, records) else {
         return Err(0);
     };
-    match said(effect, sides, behind.rest) {
+    match effect_front(effect, sides, behind.rest) {
         Ok(front) => Ok(front),
         Err(fitting) => Err(fitting + 1),
     }

@@ -73,7 +73,7 @@ pub(crate) fn symbol(text: &[u8]) -> Option<Symbol>
 }
 
 /// A word of the vocabulary, or else a name.
-fn named(symbol: Symbol) -> Token
+fn name_token(symbol: Symbol) -> Token
     ensures { result ≡ spec.of_symbol symbol }
 {
     match word_of(&symbol) {
@@ -145,7 +145,7 @@ pub(crate) fn add_tokens(
             },
             _ => match symbol_first(rest) {
                 Some((symbol, behind)) => {
-                    push_token(tokens, named(symbol))?;
+                    push_token(tokens, name_token(symbol))?;
                     rest = behind;
                 }
                 None => return Ok(Some(PartCause::BadWord)),

@@ -8,7 +8,7 @@ pub returns-in-Certify : goal.returns-in-Certify
 returns-in-Certify g c = rw (c.in-Certify.is, c.of-in-Certify.ensures) (refl, c.certify.ensures)
 
 pub returns-in-Decode : goal.returns-in-Decode
-returns-in-Decode g c = rw (c.in-Decode.is, c.said.ensures) c.decode.ensures
+returns-in-Decode g c = rw (c.in-Decode.is, c.from_work.ensures) c.decode.ensures
 
 pub returns-in-List : goal.returns-in-List
-returns-in-List g c = rw (c.in-List.is, c.said-in-List.ensures) c.list.ensures
+returns-in-List g c = rw (c.in-List.is, c.from_work-in-List.ensures) c.list.ensures
