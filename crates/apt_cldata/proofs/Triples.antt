@@ -22,3 +22,11 @@ triples_more at i (x ∷ y ∷ z ∷ ws) d p long is =
 
 pub triples_left : (rest : List ℤ) → 3 ≤ length rest → length (take (length rest - 3) (drop 3 rest)) + 3 ≡ length rest
 triples_left rest long = omega (arith, ap length (take_rest rest 3), length-drop 3 rest)
+
+-- a single position
+pub one_triple : (ws : List ℤ) (d : ℤ) (p : Position) → 3 ≤ length ws → length ws ≤ 3 → Ok p ≡ position_by 0 (get_or ws 0 d) (get_or ws 1 d) (get_or ws 2 d) → Ok (p ∷ []) ≡ positions_by 0 ws
+one_triple [] d p long short is = absurd (omega arith)
+one_triple (x ∷ []) d p long short is = absurd (omega arith)
+one_triple (x ∷ y ∷ []) d p long short is = absurd (omega arith)
+one_triple (x ∷ y ∷ z ∷ []) d p long short is = ap (λ r. r >>= λ p. Ok (p ∷ [])) is
+one_triple (x ∷ y ∷ z ∷ w ∷ ws) d p long short is = absurd (omega arith)

@@ -278,8 +278,21 @@ fn reached_by(reach: Reach, words: &[i64]) -> Result<Record, Misfit>
     Ok(Record::Point(reach, to))
 }
 
-/// Positions of three words each, or the first bad word.
+/// Positions of three words each, or the first bad word. A single one takes no memory of its own.
 fn positions_by(alloc: Global, words: &[i64]) -> Result<Result<Vertices, Misfit>, AllocError>
+    requires { length words.now < 2 ^ 32 }
+    ensures { IfOk result (λ r. r ≡ spec.positions_by 0 words.now) }
+{
+    if let [x, y, z] = words {
+        return match position_by(0, *x, *y, *z) {
+            Ok(position) => Ok(Ok(Vertices::one(alloc, position))),
+            Err(misfit) => Ok(Err(misfit)),
+        };
+    }
+    many_positions(alloc, words)
+}
+
+fn many_positions(alloc: Global, words: &[i64]) -> Result<Result<Vertices, Misfit>, AllocError>
     requires { length words.now < 2 ^ 32 }
     ensures { IfOk result (λ r. r ≡ spec.positions_by 0 words.now) }
 {

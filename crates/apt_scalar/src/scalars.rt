@@ -1,5 +1,5 @@
 //! Rounding, and the operators on scalars.
-ghost use Rattle.std.specs.Prelude.{◌≡◌, ◌≤◌, ◌^◌, ◌*ℤ◌, ◌≢◌, pos, unsigned_abs, IfOk};
+ghost use Rattle.std.specs.Prelude.{◌≡◌, ◌≤◌, ◌<◌, ◌^◌, ◌*ℤ◌, ◌≢◌, pos, unsigned_abs, IfOk};
 ghost use Rattle.apt_num.specs.Near.{near};
 ghost use Rattle.apt_num.specs.Root as roots;
 ghost use Rattle.apt_scalar.specs.Scalars as scalars;
@@ -117,11 +117,22 @@ pub fn grid_units(units: Units, v: i64) -> i64
     requires { scalars.IsScalar v }
     ensures { result ≡ scalars.grid_units units v }
 {
-    let unit = match units {
-        Units::Inch => 10,
-        Units::Mm => 100,
-    };
-    div_near(i128::from(v), unit) as i64
+    match units {
+        Units::Inch => short_near(v, 10),
+        Units::Mm => short_near(v, 100),
+    }
+}
+
+/// The whole number nearest to a part of a scalar.
+#[inline(always)]
+fn short_near(v: i64, part: u64) -> i64
+    requires scalar { scalars.IsScalar v }
+    requires some { 0 < part }
+    requires few { part ≤ 100 }
+    ensures { result ≡ near v (pos part) }
+{
+    let size = ((2 * v.unsigned_abs() + part) / (2 * part)) as i64;
+    if v < 0 { -size } else { size }
 }
 
 /// A scalar in tenths.

@@ -1,7 +1,7 @@
 use Rattle.std.proofs.Common.{◌≡◌, ◌+◌, length}
 use Rattle.apt_cldata.specs.Records.{positions_by}
 use Rattle.apt_cldata.proofs.Chains.{behind}
-use Rattle.apt_cldata.proofs.entries.positions_by.Given as goal
+use Rattle.apt_cldata.proofs.entries.many_positions.Given as goal
 
 abbrev pub invariant-triples : goal.invariant-triples
 invariant-triples l = record {
