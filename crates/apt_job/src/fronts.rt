@@ -169,7 +169,11 @@ fn cut<'a>(m: &Motion, sides: Sides, records: &'a [Record]) -> Result<Front<'a>,
 }
 
 /// The records of an effect.
-fn effect_front<'a>(effect: &Option<Effect>, sides: Sides, records: &'a [Record]) -> Result<Front<'a>, u64>
+fn effect_front<'a>(
+    effect: &Option<Effect>,
+    sides: Sides,
+    records: &'a [Record],
+) -> Result<Front<'a>, u64>
     requires { IfSome effect.now (HasSides sides) }
     ensures said { MatchResult result (λ f. IsSomeAnd effect.now (λ e. (records.now ≡ effect_records e (points_at f.vertices.now) ++ f.rest.now) × MayHave e (points_at f.vertices.now))) (Departs (expected_of effect.now) records.now) }
     ensures few { IfErr result (λ k. k ≤ 2) }
