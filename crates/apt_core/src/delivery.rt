@@ -11,6 +11,7 @@ use apt_cldata::ClBytes;
 use apt_report::Summary;
 use apt_shelf::{Shelf, ShelfFault, append_all, append_full, write_all};
 use std::alloc::Global;
+use std::mem::swap;
 
 /// Writes the CL file whole, and then the tape.
 #[tactic(auto, using(crate::proofs::Deliveries::cl_cut, crate::proofs::Deliveries::both_whole))]
@@ -51,10 +52,13 @@ fn write_cl<H: Shelf>(
     let mut left = file;
     let mut piece = Vec::new(alloc);
     let mut held = Vec::new(alloc);
+    let mut rest = Vec::new(alloc);
     'pieces: while !left.is_empty() {
         left.take_piece(&mut piece)?;
         held.extend_from_slice(&piece)?;
-        held = Vec::from_slice(alloc, append_full(shelf, &held)?)?;
+        rest.clear();
+        rest.extend_from_slice(append_full(shelf, &held)?)?;
+        swap(&mut held, &mut rest);
     }
     append_all(shelf, &held)?;
     Ok(())

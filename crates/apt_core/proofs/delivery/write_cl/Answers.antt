@@ -19,8 +19,8 @@ returns-in_err-append_full-clause-err g c =
     let more = held_more _ _ _ _ _ _ _ inv.written.1 c.in_ok-take_piece.ensures.taken (rw c.deref.ensures.value at c.in_ok-extend_from_slice.ensures.items) in
     on_err _ _ (keeps_prefix _ _ _ _ _ _ _ _ _ inv.writing more inv.written.2 (rw c.deref-in-pieces.ensures.value at c.in_err-append_full.ensures.err))
 
-pub returns-in_err-held-clause-err : goal.returns-in_err-held-clause-err
-returns-in_err-held-clause-err g c =
+pub returns-in_err-extend_from_slice-2-clause-err : goal.returns-in_err-extend_from_slice-2-clause-err
+returns-in_err-extend_from_slice-2-clause-err g c =
     let inv = c.pieces.invariant in
     let added = c.in_ok-append_full.ensures.ok.1 in
     let more = held_more _ _ _ _ _ _ _ inv.written.1 c.in_ok-take_piece.ensures.taken (rw c.deref.ensures.value at c.in_ok-extend_from_slice.ensures.items) in
@@ -35,7 +35,7 @@ pieces-preserved g c =
       written = (
         inv.written.0 ++ added.0,
         (let more = held_more _ _ _ _ _ _ _ inv.written.1 c.in_ok-take_piece.ensures.taken (rw c.deref.ensures.value at c.in_ok-extend_from_slice.ensures.items) in
-            rw c.in_ok-held.ensures.items (held_less _ _ _ _ _ _ more (added.1 ∙ c.deref-in-pieces.ensures.value))),
+            rw (c.swap.ensures.x_after, c.in_ok-extend_from_slice-2.ensures.items, c.clear.ensures.items) (held_less _ _ _ _ _ _ more (added.1 ∙ c.deref-in-pieces.ensures.value))),
         adds_written _ _ _ _ _ _ _ inv.writing inv.written.2 added.2,
       );
       writing = c.in_ok-append_full.ensures.ok.0 ∙ inv.writing;
