@@ -263,7 +263,7 @@ fn position_by(i: u32, x: i64, y: i64, z: i64) -> Result<Position, Misfit>
     requires { i + 2 < 2 ^ 32 }
     ensures { result ≡ spec.position_by i x y z }
 {
-    let at = point_at(i, x, y)?;
+    let xy = point_at(i, x, y)?;
     let z = coordinate(i + 2, z)?;
     Ok(Position { xy, z })
 }
@@ -283,19 +283,19 @@ fn positions_by(alloc: Global, words: &[i64]) -> Result<Result<Vertices, Misfit>
     requires { length words.now < 2 ^ 32 }
     ensures { IfOk result (λ r. r ≡ spec.positions_by 0 words.now) }
 {
-    let mut at = Vec::with_capacity(alloc, words.len() / 3)?;
+    let mut list = Vec::with_capacity(alloc, words.len() / 3)?;
     let mut i = 0;
     let mut rest = words;
     'triples: while let [x, y, z, after @ ..] = rest {
         match position_by(i, *x, *y, *z) {
-            Ok(position) => at.push(position)?,
+            Ok(position) => list.push(position)?,
             Err(misfit) => return Ok(Err(misfit)),
         }
         i += 3;
         rest = after;
     }
     if rest.is_empty() {
-        Ok(Ok(Vertices::from_vec(at)))
+        Ok(Ok(Vertices::from_vec(list)))
     } else {
         Ok(Err(Misfit::Count))
     }

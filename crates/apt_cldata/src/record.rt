@@ -57,7 +57,7 @@ pub enum Note {
 /// The vertices of a contour behind its start; a single one takes no memory of its own. Clauses see their list.
 #[derive(Drop)]
 pub struct Vertices {
-    at: SmallVec<Position, 1>,
+    list: SmallVec<Position, 1>,
 }
 
 impl Model for Vertices {
@@ -66,7 +66,7 @@ impl Model for Vertices {
 
     ghost Value = { List Position };
 
-    ghost view = { λ v. v.at.items };
+    ghost view = { λ v. v.list.items };
 }
 
 impl Vertices {
@@ -75,7 +75,7 @@ impl Vertices {
         ensures { result ≡ vertex ∷ [] }
     {
         Vertices {
-            at: SmallVec::from_buf(alloc, [vertex]),
+            list: SmallVec::from_buf(alloc, [vertex]),
         }
     }
 
@@ -83,7 +83,7 @@ impl Vertices {
     pub fn as_slice(&self) -> &[Position]
         ensures { result.now ≡ self.now }
     {
-        self.at.as_slice()
+        self.list.as_slice()
     }
 
     /// Those of a list.
@@ -91,7 +91,7 @@ impl Vertices {
         ensures { result ≡ list.items }
     {
         Vertices {
-            at: SmallVec::from_vec(list),
+            list: SmallVec::from_vec(list),
         }
     }
 }

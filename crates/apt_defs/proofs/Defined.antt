@@ -1,7 +1,7 @@
 -- What a definition leaves behind, and why one is refused.
-use Rattle.std.proofs.Common.{◌≡◌, ◌↔◌, ℕ, List, ap, ◌∙◌, Ok, Err}
+use Rattle.std.proofs.Common.{◌≡◌, ◌↔◌, ℕ, List, Some, refl, ap, ◌∙◌, Ok, Err}
 use Rattle.std.specs.Prelude.{IsErrOf}
-use Rattle.apt_words.specs.Asks.{Ask, Defines, ask_of}
+use Rattle.apt_words.specs.Asks.{Ask, Titles, Says, Sets, Defines, Goes, Cuts, Nothing, ask_of, defined_by}
 use Rattle.apt_words.specs.declared.Case.{Case}
 use Rattle.apt_words.specs.declared.Units.{Units}
 use Rattle.apt_words.specs.declared.ask.Form.{Form}
@@ -44,3 +44,18 @@ refused_by {A} {B} units t deed name form case e x asked by = (
   λ h. (name, form, asked, by.0 (same_error {A = B} {B = A} e x h)),
   λ is. same_error {A = A} {B = B} e x (by.1 (ap (λ f. figure_of units t f) (same_form deed name is.0 form is.1 asked is.2).1 ∙ is.3)),
 )
+
+one_definition : (d e : List ℕ × Form) → Some d ≡ Some e → d ≡ e
+one_definition d e same = cc
+
+-- what is defined is asked for
+pub defined_asks : (ask : Ask) (name : List ℕ) (form : Form) → Some (name, form) ≡ defined_by ask → ask ≡ Defines name form
+defined_asks (Defines n f) name form e =
+    let same = one_definition (name, form) (n, f) e in
+    rw (ap (λ (d : List ℕ × Form). d.0) same, ap (λ (d : List ℕ × Form). d.1) same) refl
+defined_asks (Titles text) name form e = absurd (let f : ⊥ = cc in f)
+defined_asks (Says saying) name form e = absurd (let f : ⊥ = cc in f)
+defined_asks (Sets side) name form e = absurd (let f : ⊥ = cc in f)
+defined_asks (Goes route) name form e = absurd (let f : ⊥ = cc in f)
+defined_asks (Cuts side go drive how check) name form e = absurd (let f : ⊥ = cc in f)
+defined_asks Nothing name form e = absurd (let f : ⊥ = cc in f)

@@ -1,5 +1,5 @@
 -- Two words are one exactly where they are spelled alike.
-use Rattle.std.proofs.Common.{◌≡◌, ◌↔◌, ◌×◌, ◌,◌, ◌∙◌, Bool, true, false, Some, ap, sym, bytes_eq}
+use Rattle.std.proofs.Common.{◌≡◌, ◌↔◌, ◌∙◌, Bool, true, false, Some, refl, ap, sym, bytes_eq}
 use Rattle.std.proofs.lemmas.Slice.Eq.{bytes_eq-Decides}
 use Rattle.apt_words.specs.declared.word.Word.{Word}
 use Rattle.apt_words.specs.Vocabulary.{spelling, word_of}

@@ -75,7 +75,6 @@ pub(crate) fn is_word(word: Word, tokens: &[Token]) -> bool
     }
 }
 
-#[tactic(auto, using(crate::proofs::SameWords::same_word))]
 fn is_same(word: Word, said: Word) -> bool
     ensures { result ≡ bytes_eq (spelling word) (spelling said) }
 {

@@ -11,7 +11,7 @@ triples-preserved c =
     let y : FitsSigned w64 (get_or c.triples.rest.now 1 (pos 0)) = search rules in
     let z : FitsSigned w64 (get_or c.triples.rest.now 2 (pos 0)) = search rules in
     let e = simp to_z-of_z at c.position_by.ensures in
-    let more = triples_more c.triples.at.items c.triples.i c.triples.rest.now (pos 0) c.in-Ok.position (omega arith) (sym c.in-Ok.is ∙ e) in
+    let more = triples_more c.triples.list.items c.triples.i c.triples.rest.now (pos 0) c.in-Ok.position (omega arith) (sym c.in-Ok.is ∙ e) in
     record {
       read = rw (c.in_ok-push-in-Ok.ensures.items) (more ∙ c.triples.invariant.read);
       place = omega (arith, triples_left c.triples.rest.now (omega arith));

@@ -5,7 +5,7 @@ use Rattle.apt_cldata.proofs.entries.positions_by.Given as goal
 
 abbrev pub invariant-triples : goal.invariant-triples
 invariant-triples l = record {
-  read : behind l.at.items (positions_by l.i l.rest) ≡ positions_by 0 l.fn.words;
+  read : behind l.list.items (positions_by l.i l.rest) ≡ positions_by 0 l.fn.words;
   place : l.i + length l.rest ≡ length l.fn.words;
 }
 
