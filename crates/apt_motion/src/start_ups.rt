@@ -44,7 +44,11 @@ pub(crate) fn go(
         return Err(Case::NoFrom);
     };
     let (first, second) = goals(&here.table, how, name, other)?;
-    started(&here.settings, from, &start_up_on(here, from, first, second))
+    started(
+        &here.settings,
+        from,
+        &start_up_on(here, from, first, second),
+    )
 }
 
 /// The start-up from a position to known surfaces.

@@ -87,7 +87,10 @@ fn points_by_their_units(rt: HostRuntime) -> Result<(), Fail> {
         Record::Note(Note::Units(Units::Mm)),
         Record::Note(Note::Units(Units::Inch)),
     ];
-    assert_eq!(rt; listing(alloc, &twice)?.text.as_slice(), MILLIMETRES.as_bytes());
+    assert_eq!(rt;
+        listing(alloc, &twice)?.text.as_slice(),
+        MILLIMETRES.as_bytes()
+    );
     assert_eq!(rt;
         listing(alloc, &[])?.text.as_slice(),
         b"END 0 POINTS\n".as_slice()
