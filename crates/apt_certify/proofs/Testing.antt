@@ -1,5 +1,5 @@
 -- A leg is legal exactly where all its tests hold.
-use Rattle.std.proofs.Common.{List, [], ◌∷◌}
+use Rattle.std.proofs.Common.{◌<◌, List, [], ◌∷◌, length, arith}
 use Rattle.apt_plane.specs.declared.figures.Pt.{Pt}
 use Rattle.apt_plane.specs.Vectors.{scaled}
 use Rattle.apt_plane.specs.Distances.{InBand}
@@ -31,10 +31,14 @@ pub legal_tests : (leg : Leg) (start : Pt) (vertices : List Pt) → IsLegal leg 
 legal_tests leg start vertices legal =
     kept_tests leg start start vertices (record { order = legal.order; band = legal.band; edge = legal.edge; stop = legal.stop; axis = legal.axis })
 
-pub tests_legal : (leg : Leg) (start : Pt) (vertices : List Pt) → IsSome vertices → AllHold leg start (tests_from start vertices) → IsLegal leg start vertices
+moving : (vertices : List Pt) → 0 < length vertices → IsSome vertices
+moving [] moves = absurd (omega (arith, moves))
+moving (p ∷ ps) moves = tt
+
+pub tests_legal : (leg : Leg) (start : Pt) (vertices : List Pt) → 0 < length vertices → AllHold leg start (tests_from start vertices) → IsLegal leg start vertices
 tests_legal leg start vertices moves hold =
     let k = tests_kept leg start start vertices hold in record {
-      moves = moves;
+      moves = moving vertices moves;
       order = k.order;
       band = k.band;
       edge = k.edge;

@@ -1,12 +1,12 @@
 //! The judge of jobs.
 
-ghost use Rattle.std.specs.Prelude.{◌≡◌, ◌↔◌, ◌≤◌, ◌<◌, ◌+◌, ◌^◌, [], ◌∷◌, length, IsNone, IfSome};
+ghost use Rattle.std.specs.Prelude.{◌≡◌, ◌↔◌, ◌≤◌, ◌<◌, ◌+◌, ◌^◌, [], ◌∷◌, length, IsNone, IfSome, MatchOption};
 ghost use Rattle.apt_plane.specs.Ranges.{IsPoint, IsSense};
 ghost use Rattle.apt_certify.specs.declared.verdict.Verdict.{Verdict};
+ghost use Rattle.apt_certify.specs.Legal.{IsLegal};
 ghost use Rattle.apt_certify.specs.Tests.{tests_from};
-ghost use Rattle.apt_certify.specs.Jobs.{ArePoints, IsLeg, IsJob, AreJobs, point_count, AreLegal};
-ghost use Rattle.apt_certify.specs.Faults.{IsFirstFault, IsFirstFaultOfPath};
-ghost use Rattle.apt_certify.specs.Verdicts.{IsVerdict};
+ghost use Rattle.apt_certify.specs.Jobs.{ArePoints, IsLeg, IsJob, AreJobs, point_count, IsLegalPath, AreLegal};
+ghost use Rattle.apt_certify.specs.Verdicts.{IsFailure, IsFailureOfPath, IsVerdict};
 ghost use Rattle.apt_certify.specs.Verdicts as verdicts;
 
 use crate::deviations::{greater, worst};
@@ -93,7 +93,7 @@ fn path_fault(leg: &Leg, points: &[Pt]) -> Option<Bad>
     requires leg { IsLeg leg.now }
     requires moves { 2 ≤ length points.now }
     requires points { ArePoints points.now }
-    ensures { IsFirstFaultOfPath leg.now points.now result }
+    ensures { MatchOption result (IsLegalPath leg.now points.now) (λ bad. (bad.motion ≡ 1) × IsFailureOfPath leg.now points.now bad.segment bad.reason bad.spot) }
 {
     match points {
         [start, vertices @ ..] => leg_fault(leg, *start, vertices),
@@ -104,8 +104,9 @@ fn path_fault(leg: &Leg, points: &[Pt]) -> Option<Bad>
 fn leg_fault(leg: &Leg, start: Pt, vertices: &[Pt]) -> Option<Bad>
     requires leg { IsLeg leg.now }
     requires start { IsPoint start }
+    requires moves { 0 < length vertices.now }
     requires vertices { ArePoints vertices.now }
-    ensures { IsFirstFault leg.now start (tests_from start vertices.now) result }
+    ensures { MatchOption result (IsLegal leg.now start vertices.now) (λ bad. (bad.motion ≡ 1) × IsFailure leg.now start (tests_from start vertices.now) bad.segment bad.reason bad.spot) }
 {
     let mut at = start;
     'vertices: for (i, q) in vertices.iter().enumerate() {

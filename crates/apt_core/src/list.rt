@@ -9,7 +9,7 @@ ghost use Rattle.apt_core.specs.Promise.{Lists};
 use crate::due::records_in;
 use crate::put::Reply;
 use crate::reading::{FILE_LIMIT, read_input};
-use apt_report::{Listing, Status, Summary, listing};
+use apt_report::{PointLines, Status, Summary, listing};
 use apt_shelf::Shelf;
 use std::alloc::Global;
 
@@ -27,7 +27,7 @@ fn listed(alloc: Global, cl: &[u8]) -> Result<Reply, Status>
     ensures { IsSaid (said_of (listed_due cl.now)) (said_of result) }
 {
     let records = records_in(alloc, cl)?;
-    let Listing { text, points } = listing(alloc, &records)?;
+    let PointLines { text, points } = listing(alloc, &records)?;
     Ok(Reply {
         status: Status::Done(Summary::Listed { points }),
         lines: Some(text),

@@ -1,5 +1,5 @@
 -- What a definition asks for, what is behind it, and what refuses it.
-use Rattle.std.proofs.Common.{◌≡◌, ◌∙◌, ℕ, Bool, true, false, List, Some, Ok, Err, ap}
+use Rattle.std.proofs.Common.{◌≡◌, ◌∙◌, ℕ, true, false, List, [], Some, Ok, Err, ap}
 use Rattle.apt_words.specs.Asks.{Ask}
 use Rattle.apt_words.specs.declared.Case.{Case}
 use Rattle.apt_words.specs.declared.ask.Form.{Form}
@@ -11,20 +11,24 @@ use Rattle.apt_defs.specs.Definitions.{figure_of, HasOrNone, IsRefusedBy}
 use Rattle.apt_meaning.specs.declared.situation.Situation.{Situation}
 use Rattle.apt_meaning.specs.declared.effect.Effect.TheVariants as effects
 use Rattle.apt_meaning.specs.Effects.{names, defined, effect_by, effect_of}
+use Rattle.apt_meaning.specs.Records.{after}
 use Rattle.apt_meaning.specs.Refusals.{refused, refused_form, cases_by, refusal_of}
-use Rattle.apt_job.specs.Naming.{HasNamed}
 
 form_effect : (here : Situation) (name : List ℕ) (form : Form) (f : Figure) → figure_of here.settings.units here.table form ≡ Ok f → defined here name form ≡ Some (effects.Defines name f)
 unfolding defined
 form_effect here name form f is = ap (names name) is
 
-pub has_named : (here : Situation) (deed : Deed) (table : Table) (gives : Bool) → HasOrNone here.settings.units here.table deed table gives
-    → HasNamed here deed (record here { table = table }) gives
-has_named here deed table true defined =
+-- what a step asks for that has defined a name, and what holds behind it
+pub is_named : (here : Situation) (deed : Deed) (now : Situation) → HasOrNone here.settings.units here.table deed now.table true → now ≡ record here { table = now.table }
+    → (name : List ℕ) × (f : Figure) × (effect_of here deed ≡ Some (effects.Defines name f)) × (now ≡ after here (effects.Defines name f) [])
+is_named here deed now defined others =
     let is = defined.3 in
     let asks : effect_of here deed ≡ Some (effects.Defines defined.0 defined.2) = ap (λ (ask : Ask). effect_by here ask) is.asked ∙ form_effect here defined.0 defined.1 defined.2 is.figure in
-    (defined.0, defined.2, record { asks = asks; behind = ap (λ (t : Table). record here { table = t }) is.table })
-has_named here deed table false none = (none.0, ap (λ (t : Table). record here { table = t }) none.1)
+    (defined.0, defined.2, asks, others ∙ ap (λ (t : Table). record here { table = t }) is.table)
+
+-- behind one that defines none all is as before
+pub is_unnamed : (here : Situation) (deed : Deed) (now : Situation) → HasOrNone here.settings.units here.table deed now.table false → now ≡ record here { table = now.table } → now ≡ here
+is_unnamed here deed now none others = others ∙ ap (λ (t : Table). record here { table = t }) none.1
 
 form_refusal : (here : Situation) (form : Form) (case : Case) → figure_of here.settings.units here.table form ≡ Err case → first_of (refused_form here form) ≡ Some case
 unfolding refused_form

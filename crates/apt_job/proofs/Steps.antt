@@ -13,7 +13,7 @@ use Rattle.apt_certify.specs.Jobs.{AreJobs, point_count}
 use Rattle.apt_cldata.specs.declared.record.Record.{Record}
 use Rattle.apt_cldata.specs.Ranges.{vertex_count, AreRecords}
 use Rattle.apt_defs.specs.Figures.{Table}
-use Rattle.apt_defs.specs.Definitions.{figure_of, IsRefusedBy}
+use Rattle.apt_defs.specs.Definitions.{figure_of, HasOrNone, IsRefusedBy}
 use Rattle.apt_meaning.specs.declared.situation.Settings.{Settings}
 use Rattle.apt_meaning.specs.declared.situation.Situation.{Situation}
 use Rattle.apt_meaning.specs.declared.effect.Change.TheVariants as changes
@@ -24,14 +24,12 @@ use Rattle.apt_meaning.specs.Effects.{effect_of}
 use Rattle.apt_meaning.specs.Refusals.{refusal_of}
 use Rattle.apt_meaning.specs.Compiled.{ends_of, first_refused}
 use Rattle.apt_meaning.specs.Records.{Begins, records_of, after}
-use Rattle.apt_meaning.specs.Expectations.{expected_of, behind_statement, Departs, FailsAt}
+use Rattle.apt_meaning.specs.Expectations.{expected, Departs, FailsAt}
 use Rattle.apt_meaning.proofs.Walks.Follower.{KeepsUp, keeps_up_first, StepsOn, steps_on}
 use Rattle.apt_meaning.proofs.Walks.Agree.{Agrees}
-use Rattle.apt_meaning.proofs.Walks.Compiled.{same_some, passed}
-use Rattle.apt_job.specs.Fronts.{StandsFirst}
+use Rattle.apt_meaning.proofs.Walks.Compiled.{passed}
 use Rattle.apt_job.specs.Jobs.{jobs_by, MakesJobs}
-use Rattle.apt_job.specs.Naming.{HasNamed}
-use Rattle.apt_job.proofs.Named.{refused_name}
+use Rattle.apt_job.proofs.Named.{is_named, is_unnamed, refused_name}
 use Rattle.apt_job.proofs.Ranges.{jobs_in, points-append}
 
 -- ---- lengths
@@ -95,19 +93,17 @@ walk_first all written scalars sources passes are = record {
 
 -- the step that is due, with its records in front
 pub steps_in : (all : List Step) (written : List Record) (here : Situation) (rest : List Record) (jobs : List Job) (step : Step) (steps : List Step) (e : Effect) (vertices : List Pt) (later : List Record)
-    → IsWalk all written here rest jobs (step ∷ steps) → effect_of here step.deed ≡ Some e → StandsFirst e (records_of step e vertices) rest vertices later → StepsOn here steps e vertices later
-steps_in all written here rest jobs step steps e vertices later walk asked stands =
-    steps_on here step steps rest e vertices later walk.keeps walk.scalars.0 walk.sources.0.text walk.records asked stands.split
+    → IsWalk all written here rest jobs (step ∷ steps) → Begins here step rest e vertices later → StepsOn here steps e vertices later
+steps_in all written here rest jobs step steps e vertices later walk begins =
+    steps_on here step steps rest e vertices later walk.keeps walk.scalars.0 walk.sources.0.text walk.records begins.asked begins.front
 
 pub walk_on : (all : List Step) (written : List Record) (here : Situation) (rest : List Record) (jobs : List Job) (step : Step) (steps : List Step) (e : Effect) (vertices : List Pt) (later : List Record)
-    → IsWalk all written here rest jobs (step ∷ steps) → effect_of here step.deed ≡ Some e → StandsFirst e (records_of step e vertices) rest vertices later
-    → IsWalk all written (after here e vertices) later (jobs ++ jobs_by e vertices) steps
-walk_on all written here rest jobs step steps e vertices later walk asked stands =
-    let on = steps_in all written here rest jobs step steps e vertices later walk asked stands in
+    → IsWalk all written here rest jobs (step ∷ steps) → Begins here step rest e vertices later → IsWalk all written (after here e vertices) later (jobs ++ jobs_by e vertices) steps
+walk_on all written here rest jobs step steps e vertices later walk begins =
+    let on = steps_in all written here rest jobs step steps e vertices later walk begins in
     let due = records_of step e vertices in
-    let begins : Begins here step rest e vertices later = record { asked = asked; front = stands.split; may = stands.may } in
-    let size : length rest ≡ length due + length later = ap length stands.split ∙ length-append due later in
-    let load : weight rest ≡ weight due + weight later = ap weight stands.split ∙ weight-append due later in
+    let size : length rest ≡ length due + length later = ap length begins.front ∙ length-append due later in
+    let load : weight rest ≡ weight due + weight later = ap weight begins.front ∙ weight-append due later in
     let further : number written rest + length due ≡ number written later = omega (arith, size, walk.part) in
     record {
       keeps = on.behind;
@@ -124,17 +120,21 @@ walk_on all written here rest jobs step steps e vertices later walk asked stands
 
 -- a step that defines a name has no records, and no case refuses it
 pub walk_named : (all : List Step) (written : List Record) (here : Situation) (rest : List Record) (jobs : List Job) (step : Step) (steps : List Step) (now : Situation)
-    → IsWalk all written here rest jobs (step ∷ steps) → HasNamed here step.deed now true → IsWalk all written now rest jobs steps
-walk_named all written here rest jobs step steps now walk named =
+    → IsWalk all written here rest jobs (step ∷ steps) → HasOrNone here.settings.units here.table step.deed now.table true → now ≡ record here { table = now.table }
+    → IsWalk all written now rest jobs steps
+walk_named all written here rest jobs step steps now walk defined others =
+    let named = is_named here step.deed now defined others in
     let e = effects.Defines named.0 named.1 in
-    let on = walk_on all written here rest jobs step steps e [] rest walk named.2.asks (record { split = refl; may = refl }) in
-    subst (λ (s : Situation). IsWalk all written s rest jobs steps) (sym named.2.behind)
+    let on = walk_on all written here rest jobs step steps e [] rest walk (record { asked = named.2; front = refl; may = refl }) in
+    subst (λ (s : Situation). IsWalk all written s rest jobs steps) (sym named.3)
     (subst (λ (js : List Job). IsWalk all written (after here e []) rest js steps) (append-nil jobs) on)
 
 -- one that defines none leaves the walk where it is
 pub walk_waits : (all : List Step) (written : List Record) (here : Situation) (rest : List Record) (jobs : List Job) (deed : Deed) (steps : List Step) (now : Situation)
-    → IsWalk all written here rest jobs steps → HasNamed here deed now false → IsWalk all written now rest jobs steps
-walk_waits all written here rest jobs deed steps now walk named = subst (λ (s : Situation). IsWalk all written s rest jobs steps) (sym named.1) walk
+    → IsWalk all written here rest jobs steps → HasOrNone here.settings.units here.table deed now.table false → now ≡ record here { table = now.table }
+    → IsWalk all written now rest jobs steps
+walk_waits all written here rest jobs deed steps now walk none others =
+    subst (λ (s : Situation). IsWalk all written s rest jobs steps) (sym (is_unnamed here deed now none others)) walk
 
 -- the situations agree on definitions
 refused_beside : (c here : Situation) (deed : Deed) (case : Case) → Agrees c here → IsRefusedBy here.settings.units here.table deed case → refusal_of c deed ≡ Some case
@@ -157,11 +157,9 @@ walk_unrefused all written here rest jobs step steps case walk is =
 -- ---- where it ends
 
 -- records that are not those of the step
-pub walk_departs : (all : List Step) (written : List Record) (here : Situation) (rest : List Record) (jobs : List Job) (step : Step) (steps : List Step) (o : Option Effect) (k : ℕ)
-    → IsWalk all written here rest jobs (step ∷ steps) → o ≡ effect_of here step.deed → Departs (behind_statement step (expected_of o)) rest k
-    → FailsAt first_situation 1 all written (number written rest + k)
-walk_departs all written here rest jobs step steps o k walk asked departs =
-    walk.fails (number written rest + k) (inl (k, subst (λ (o : Option Effect). Departs (behind_statement step (expected_of o)) rest k) asked departs, refl))
+pub walk_departs : (all : List Step) (written : List Record) (here : Situation) (rest : List Record) (jobs : List Job) (step : Step) (steps : List Step) (k : ℕ)
+    → IsWalk all written here rest jobs (step ∷ steps) → Departs (expected here step) rest k → FailsAt first_situation 1 all written (number written rest + k)
+walk_departs all written here rest jobs step steps k walk departs = walk.fails (number written rest + k) (inl (k, departs, refl))
 
 none_left : (rest : List Record) → (length rest == 0) ≡ true → rest ≡ []
 none_left [] e = refl
@@ -179,11 +177,3 @@ walk_left all written here [] jobs walk some = absurd (true≢false some)
 walk_left all written here (r ∷ rs) jobs walk some =
     let same : number written (r ∷ rs) + 0 ≡ number written (r ∷ rs) = omega arith in
     subst (λ (k : ℕ). FailsAt first_situation 1 all written k) (sym same) (walk.fails (number written (r ∷ rs)) refl)
-
--- ---- what is in front, by the effect that was asked for
-
-pub stands_first : (step : Step) (o : Option Effect) (d : Effect) (written : List Record) (vertices : List Pt) (rest : List Record)
-    → ((e : Effect) × (o ≡ Some e) × StandsFirst e (records_of step e vertices) written vertices rest) → o ≡ Some d
-    → StandsFirst d (records_of step d vertices) written vertices rest
-stands_first step o d written vertices rest taken some =
-    subst (λ (x : Effect). StandsFirst x (records_of step x vertices) written vertices rest) (same_some taken.0 d (sym taken.1 ∙ some)) taken.2

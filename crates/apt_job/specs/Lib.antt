@@ -1,4 +1,3 @@
 pub mod Jobs
 pub mod Fronts
 pub mod Answering
-pub mod Naming

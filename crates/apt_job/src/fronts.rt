@@ -1,11 +1,15 @@
 //! The records in front of a list: whether they are those of a step.
 
-ghost use Rattle.std.specs.Prelude.{◌≡◌, ◌≤◌, true, [], List, Some, IfSome, IfErr, MatchOption};
+ghost use Rattle.std.specs.Prelude.{◌≡◌, ◌↔◌, ◌≤◌, ◌++◌, true, [], List, Some, IfSome, IfErr, IsSomeAnd, IsTrue, MatchOption, MatchResult};
 ghost use Rattle.apt_plane.specs.declared.figures.Pt.{Pt};
+ghost use Rattle.apt_meaning.specs.Effects.{effect_of};
 ghost use Rattle.apt_meaning.specs.Expectations as expectations;
+ghost use Rattle.apt_meaning.specs.Expectations.{Departs, expected, expected_of};
 ghost use Rattle.apt_meaning.specs.Motions as motions;
+ghost use Rattle.apt_meaning.specs.Records.{Begins, MayHave, effect_records};
 ghost use Rattle.apt_meaning.specs.declared.effect.Effect.TheVariants as effects;
-ghost use Rattle.apt_job.specs.Fronts.{points_at, is_silent, IsBehind, AreSaid, AreTaken};
+ghost use Rattle.apt_meaning.specs.declared.situation.Situation.{Situation};
+ghost use Rattle.apt_job.specs.Fronts.{points_at, IsBehind};
 ghost use Rattle.apt_job.specs.Jobs.{AreSides, HasSides};
 
 use crate::legs::Sides;
@@ -149,7 +153,7 @@ fn contour(start: Position, records: &[Record]) -> Option<Front<'_>>
 #[tactic(auto, using(crate::proofs::InFront::cut_said, crate::proofs::InFront::cut_departs))]
 fn cut<'a>(m: &Motion, sides: Sides, records: &'a [Record]) -> Result<Front<'a>, u64>
     requires { AreSides m.now sides }
-    ensures said { AreSaid (Some (effects.Cuts m.now)) records.now result }
+    ensures said { MatchResult result (λ f. (records.now ≡ effect_records (effects.Cuts m.now) (points_at f.vertices.now) ++ f.rest.now) × MayHave (effects.Cuts m.now) (points_at f.vertices.now)) (Departs (expected_of (Some (effects.Cuts m.now))) records.now) }
     ensures few { IfErr result (λ k. k ≤ 2) }
 {
     let Some(behind_drive) = drive(m, sides, records) else {
@@ -167,7 +171,7 @@ fn cut<'a>(m: &Motion, sides: Sides, records: &'a [Record]) -> Result<Front<'a>,
 /// The records of an effect.
 fn said<'a>(effect: &Option<Effect>, sides: Sides, records: &'a [Record]) -> Result<Front<'a>, u64>
     requires { IfSome effect.now (HasSides sides) }
-    ensures said { AreSaid effect.now records.now result }
+    ensures said { MatchResult result (λ f. IsSomeAnd effect.now (λ e. (records.now ≡ effect_records e (points_at f.vertices.now) ++ f.rest.now) × MayHave e (points_at f.vertices.now))) (Departs (expected_of effect.now) records.now) }
     ensures few { IfErr result (λ k. k ≤ 2) }
 {
     match effect {
@@ -182,7 +186,7 @@ fn said<'a>(effect: &Option<Effect>, sides: Sides, records: &'a [Record]) -> Res
 
 /// Whether an effect has no record.
 fn is_silent(effect: &Option<Effect>) -> bool
-    ensures { result ≡ is_silent effect.now }
+    ensures { IsTrue result ↔ (expected_of effect.now ≡ []) }
 {
     matches!(
         effect,
@@ -191,7 +195,6 @@ fn is_silent(effect: &Option<Effect>) -> bool
 }
 
 /// The records of a step, which begin with its statement; else how many records in front are as they are due.
-#[tactic(auto, using(crate::proofs::InFront::statement_amiss, crate::proofs::InFront::departs_later))]
 pub(crate) fn taken<'a>(
     step: &Step,
     effect: &Option<Effect>,
@@ -199,7 +202,7 @@ pub(crate) fn taken<'a>(
     records: &'a [Record],
 ) -> Result<Front<'a>, u64>
     requires { IfSome effect.now (HasSides sides) }
-    ensures taken { AreTaken step.now effect.now records.now result }
+    ensures taken { (here : Situation) → effect_of here step.now.deed ≡ effect.now → MatchResult result (λ f. IsSomeAnd effect.now (λ e. Begins here step.now records.now e (points_at f.vertices.now) f.rest.now)) (Departs (expected here step.now) records.now) }
     ensures few { IfErr result (λ k. k ≤ 3) }
 {
     if is_silent(effect) {

@@ -1,7 +1,8 @@
 //! Whether a record is the one that is due.
 
 ghost use Rattle.std.specs.Prelude.{◌≡◌, ◌↔◌, IsTrue};
-ghost use Rattle.apt_job.specs.Fronts as fronts;
+ghost use Rattle.std.specs.List.{list_all};
+ghost use Rattle.std.specs.Ordering.{int_eq};
 
 use apt_cldata::{Note, Position, Reach, Record};
 use apt_meaning::Motion;
@@ -144,7 +145,7 @@ pub(crate) fn is_check(m: &Motion, r: &Record) -> bool
 
 /// Whether positions are all at the height of a start.
 pub(crate) fn are_at(start: Position, positions: &[Position]) -> bool
-    ensures { result ≡ fronts.are_at start.z positions.now }
+    ensures { result ≡ list_all (λ p. int_eq p.z start.z) positions.now }
 {
     for p in positions {
         if p.z != start.z {

@@ -1,13 +1,14 @@
 //! The walk over steps and records.
 
-ghost use Rattle.std.specs.Prelude.{true, ◌≡◌, ◌+◌, ◌-◌, ◌<◌, ◌≤◌, ◌^◌, ◌++◌, ℕ, List, length, Ok, IfOk, IfErr, OnOk};
+ghost use Rattle.std.specs.Prelude.{true, ◌≡◌, ◌≢◌, ◌+◌, ◌-◌, ◌<◌, ◌≤◌, ◌^◌, ◌++◌, ℕ, List, length, Ok, IfOk, IfErr, OnOk};
 ghost use Rattle.apt_words.specs.Sources.{AreExecuted};
 ghost use Rattle.apt_words.specs.declared.Case.{Case};
 ghost use Rattle.apt_scalar.specs.StepScalars.{AreScalars, HasScalars};
 ghost use Rattle.apt_certify.specs.Jobs.{AreJobs, point_count};
 ghost use Rattle.apt_cldata.specs.Ranges.{AreRecords, vertex_count};
 ghost use Rattle.apt_cldata.specs.declared.record.Record.{Record};
-ghost use Rattle.apt_defs.specs.Definitions.{IsRefusedBy};
+ghost use Rattle.apt_defs.specs.Definitions.{HasOrNone, IsRefusedBy};
+ghost use Rattle.apt_defs.specs.declared.figure.Figure.{Figure};
 ghost use Rattle.apt_meaning.specs.Compiled.{first_refused};
 ghost use Rattle.apt_meaning.specs.Ranges.{IsSituation, IsMotion, IsEffect, HasMotion};
 ghost use Rattle.apt_meaning.specs.Motions.{is_defined};
@@ -20,7 +21,6 @@ ghost use Rattle.apt_meaning.specs.Records.{Follows};
 ghost use Rattle.apt_job.specs.Answering.{IsEntry, IsEntryAt};
 ghost use Rattle.apt_job.specs.Fronts.{points_at};
 ghost use Rattle.apt_job.specs.Jobs.{AreSides, HasSides, jobs_by, jobs_said, MakesJobs};
-ghost use Rattle.apt_job.specs.Naming.{DefinesNothing, HasNamed};
 
 use crate::JobError;
 use crate::fronts::taken;
@@ -66,11 +66,11 @@ fn cut(
 }
 
 /// Gives the name that a step defines its figure. False where the step defines no name: what holds stays as it was.
-#[tactic(auto, using(crate::proofs::Named::has_named))]
 fn gives_name(step: &Step, here: &mut Situation) -> Result<bool, JobError>
     requires scalars { HasScalars step.now.deed }
     requires passes { (case : Case) → IsRefusedBy here.old.settings.units here.old.table step.now.deed case → ⊥ }
-    ensures ok { IfOk result (HasNamed here.old step.now.deed here.new) }
+    ensures table { IfOk result (HasOrNone here.old.settings.units here.old.table step.now.deed here.new.table) }
+    ensures others { here.new ≡ record here.old { table = here.new.table } }
     ensures err { IfErr result (λ e. e ≡ JobError.NoMemory) }
 {
     match define(step, here.settings.units, &mut here.table) {
@@ -91,7 +91,7 @@ fn take(
 ) -> Result<(), AllocError>
     requires situation { IsSituation here.old }
     requires effect { IsEffect effect.now }
-    requires defines_nothing { DefinesNothing effect.now }
+    requires defines_nothing { (n : List ℕ) (f : Figure) → effect.now ≢ effects.Defines n f }
     requires has_motion { HasMotion effect.now }
     requires sides { HasSides sides effect.now }
     requires vertices { HasIn effect.now (points_at vertices.now) }

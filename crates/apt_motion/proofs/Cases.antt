@@ -17,6 +17,7 @@ use Rattle.apt_cldata.specs.declared.record.Reach.TheVariants as reaches
 use Rattle.apt_defs.specs.declared.figure.Figure.{Figure}
 use Rattle.apt_defs.specs.declared.figure.Figure.TheVariants as figures
 use Rattle.apt_defs.specs.Figures.{Table, figure_named}
+use Rattle.apt_meaning.specs.declared.situation.Settings.{Settings}
 use Rattle.apt_meaning.specs.declared.situation.Situation.{Situation}
 use Rattle.apt_meaning.specs.declared.effect.Effect.{Effect}
 use Rattle.apt_meaning.specs.declared.effect.Effect.TheVariants as effects
@@ -26,7 +27,6 @@ use Rattle.apt_meaning.specs.StartUps.{goal_in, second_in, start_up_at, start_po
 use Rattle.apt_meaning.specs.Effects.{moves, as_position, effect_of}
 use Rattle.apt_meaning.specs.Refusals.{position_cases, is_undefined, is_other_kind, is_no_surface, name_cases, each_name, start_names, start_cases, refusal_of}
 use Rattle.apt_meaning.specs.Compiled.{asked}
-use Rattle.apt_motion.specs.Finding.{names_cases, start_up_on, go_cases_on, start_of}
 
 -- ---- rows behind rows
 
@@ -97,6 +97,10 @@ names_pass table how name (Some other) first second more e f =
     let b = known_goal (figure_named table other.1) other.0 there.0 there.1 in
     rw (a.0, b.0, a.1, b.1) refl
 
+-- the rows of the names alone
+abbrev pub names_cases : Table → List (List ℕ) → List Row
+names_cases table names = each_name (is_undefined table) cases.Undefined names ++ each_name (is_no_surface table) cases.WrongKind names
+
 names_stop : (table : Table) (name : List ℕ) (other : Option (Stop × List ℕ)) (more : List Row) (case : Case)
     → first_of (names_cases table (start_names name other)) ≡ Some case
     → first_of (each_name (is_undefined table) cases.Undefined (start_names name other) ++ each_name (is_no_surface table) cases.WrongKind (start_names name other) ++ more)
@@ -105,6 +109,9 @@ names_stop table name None more case e = first_append (names_cases table (start_
 names_stop table name (Some other) more case e = first_append (names_cases table (start_names name (Some other))) more ∙ ap (λ (f : Option Case). option_or f (first_of more)) e
 
 -- ---- GO on known surfaces
+
+abbrev pub start_up_on : Situation → Position → Goal → Option Goal → StartUp
+start_up_on here from first second = record { start = from.xy; first = first; second = second; radius = here.settings.radius }
 
 start_up_known : (here : Situation) (how : Stop) (name : List ℕ) (other : Option (Stop × List ℕ)) (from : Position) (first : Goal) (second : Option Goal)
     → here.position ≡ Some from → goal_in here.table how name ≡ Some first → second_in here.table other ≡ Some second
@@ -129,6 +136,13 @@ pub go_refused : (here : Situation) (how : Stop) (name : List ℕ) (other : Opti
 go_refused here how name other from case is_from refused =
     let u = start_up_at here how name other in
     from_there here from (from_names here name other u) is_from ∙ names_stop here.table name other (behind_names here u) case refused
+
+abbrev pub go_cases_on : Settings → StartUp → List Row
+go_cases_on s u = (lacks_feed s, cases.NoFeed) ∷ start_up_cases u
+
+-- the move to where a start-up ends
+abbrev pub start_of : Position → StartUp → Effect
+start_of from u = effects.Moves reaches.Start (at_height from.z (start_point u))
 
 asked_by : (lacks : Bool) (f : Option Case) (to : Position)
     → asked (cond lacks (Some cases.NoFeed) f) (moves reaches.Start (cond (is_none f) (Some to) None)) ≡ unless_case (cond lacks (Some cases.NoFeed) f) (effects.Moves reaches.Start to)

@@ -1,5 +1,5 @@
 -- The motions that contours ask for, and where they end.
-use Rattle.std.proofs.Common.{◌≡◌, ◌∙◌, ℕ, ◌+◌, ◌≤◌, ◌<◌, Bool, true, false, List, [], ◌∷◌, ◌++◌, length, Option, Some, None, Result, Ok, Err, refl, sym, ap, subst, cond}
+use Rattle.std.proofs.Common.{◌≡◌, ◌∙◌, ℕ, ◌+◌, ◌≤◌, ◌<◌, Bool, true, false, List, [], ◌∷◌, ◌++◌, length, Option, Some, None, Result, Ok, Err, refl, sym, ap, subst}
 use Rattle.std.specs.Prelude.{not, ◌&&◌}
 use Rattle.apt_words.specs.declared.Case.{Case}
 use Rattle.apt_words.specs.declared.Case.TheVariants as cases
@@ -11,7 +11,6 @@ use Rattle.apt_words.specs.declared.deed.Step.{Step}
 use Rattle.apt_words.specs.Rows.{Row, NoneHolds, first_of, unless, unless_case}
 use Rattle.apt_plane.specs.declared.figures.Pt.{Pt}
 use Rattle.apt_plane.specs.declared.figures.Surface.{Surface}
-use Rattle.apt_offset.specs.Turns.{is_zero}
 use Rattle.apt_offset.specs.Targets.{lacks_room}
 use Rattle.apt_stop.specs.Nearness.{is_near, off_track}
 use Rattle.apt_stop.specs.declared.course.Choice.{Choice}
@@ -25,17 +24,17 @@ use Rattle.apt_meaning.specs.declared.motion.Motion.{Motion}
 use Rattle.apt_meaning.specs.declared.situation.Situation.{Situation}
 use Rattle.apt_meaning.specs.declared.effect.Effect.{Effect}
 use Rattle.apt_meaning.specs.declared.effect.Effect.TheVariants as effects
-use Rattle.apt_meaning.specs.Situations.{has_feed, with_side}
-use Rattle.apt_meaning.specs.Motions.{surface_in, motion, motion_at, turn_at, end_point, arc_of, vertices_of, is_too_fine, track_of, stop_of, starts_on_check, course_of}
+use Rattle.apt_meaning.specs.Situations.{with_side}
+use Rattle.apt_meaning.specs.Motions.{surface_in, motion_at, if_turned, turn_at, end_point, arc_of, vertices_of, track_of, stop_of, starts_on_check, course_of}
 use Rattle.apt_meaning.specs.Effects.{cuts, effect_of}
 use Rattle.apt_meaning.specs.Records.{records_of, after}
-use Rattle.apt_meaning.specs.Refusals.{name_cases, motion_cases, surface_cases, refusal_of}
+use Rattle.apt_meaning.specs.Refusals.{name_cases, motion_cases, turned_cases, surface_cases, refusal_of}
 use Rattle.apt_meaning.specs.Compiled.{most_points, asked, asked_within, refused_at}
 use Rattle.apt_words.proofs.Rows.{first_none}
 use Rattle.apt_meaning.proofs.Contours.Arcs.{vertices_by, vertices-vertices_by}
 use Rattle.apt_motion.specs.declared.runs.RunError.TheVariants as errors
 use Rattle.apt_motion.specs.Ends.{IsRefusedBehind, HasPassed, HasAdvanced}
-use Rattle.apt_motion.specs.Finding.{IsMotionBy, motion_on, contour_cases_on, turn_cases}
+use Rattle.apt_motion.specs.Finding.{IsMotionBy}
 use Rattle.apt_motion.proofs.Counts.{few_asked, many_asked}
 use Rattle.apt_motion.proofs.Cases.{name_refused, known_surface}
 
@@ -68,28 +67,10 @@ motion_end m r track on stop near is = is ∙ ap (λ f. unless_case f (end_point
 
 -- ---- the motion that a contour asks for
 
-motion_by : (rapid unfed fine straight : Bool) (m : Motion)
-    → IsMotionBy (first_of ((rapid, cases.RapidContour) ∷ (unfed, cases.NoFeed) ∷ (fine, cases.TooFine) ∷ (straight, cases.NoTurn) ∷ motion_cases m)) (cuts (cond straight None (Some m)))
-    (unless ((rapid, cases.RapidContour) ∷ (unfed, cases.NoFeed) ∷ (fine, cases.TooFine) ∷ (straight, cases.NoTurn) ∷ []) m)
-motion_by true unfed fine straight m = refl
-motion_by false true fine straight m = refl
-motion_by false false true straight m = refl
-motion_by false false false true m = refl
-motion_by false false false false m = (refl, refl)
-
--- on a drive surface that runs so against forward
-pub turned_by : (here : Situation) (side : Option Side) (go : Go) (how : Stop) (start : Position) (d e : Surface) (r : Result Motion Case)
-    → r ≡ unless (turn_cases (with_side here.settings side) (turn_at here start d go)) (motion (with_side here.settings side) start d (turn_at here start d go) how e)
-    → IsMotionBy (first_of (contour_cases_on here side go start d how e)) (cuts (motion_on here side go start d how e)) r
-turned_by here side go how start d e r same =
-    let s = with_side here.settings side in
-    let turned = turn_at here start d go in
-    rw same (motion_by s.rapid (not (has_feed s)) (is_too_fine s) (is_zero turned) (motion s start d turned how e))
-
 -- on known surfaces
 pub contour_motion : (here : Situation) (side : Option Side) (go : Go) (drive : List ℕ) (how : Stop) (check : List ℕ) (start : Position) (d e : Surface) (r : Result Motion Case)
     → here.position ≡ Some start → surface_in here.table drive ≡ Some d → surface_in here.table check ≡ Some e
-    → IsMotionBy (first_of (contour_cases_on here side go start d how e)) (cuts (motion_on here side go start d how e)) r
+    → IsMotionBy (first_of (turned_cases (with_side here.settings side) start d (turn_at here start d go) how e)) (cuts (if_turned (with_side here.settings side) start d (turn_at here start d go) how e)) r
     → IsMotionBy (refusal_of here (deeds.Contour side go drive how check)) (effect_of here (deeds.Contour side go drive how check)) r
 unfolding motion_at
 contour_motion here side go drive how check start d e r is_start on_d on_e is =

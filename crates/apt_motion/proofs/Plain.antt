@@ -22,7 +22,7 @@ use Rattle.apt_meaning.specs.Motions.{motion_at}
 use Rattle.apt_meaning.specs.StartUps.{start_position_at}
 use Rattle.apt_meaning.specs.Effects.{moves, cuts, place_at, names, defined, moved_from, goes, effect_by, effect_of}
 use Rattle.apt_meaning.proofs.Said.{of_some}
-use Rattle.apt_motion.specs.Finding.{IsNoContour, IsPlain}
+use Rattle.apt_motion.specs.Finding.{IsNoContour, SetsOrMoves}
 
 -- only a definition defines, and only a contour cuts
 abbrev IsBy : Ask → Effect → Type 0
@@ -62,11 +62,11 @@ suits here (Goes route) = goes_by here route
 suits here (Cuts side go drive how check) = cut_by side go drive how check (motion_at here side go drive how check)
 suits here Nothing = tt
 
-plain_by : (deed : Deed) (e : Effect) → IsNoContour deed → IsNoDefinition deed → IsBy (ask_of deed) e → IsPlain e
+plain_by : (deed : Deed) (e : Effect) → IsNoContour deed → IsNoDefinition deed → IsBy (ask_of deed) e → SetsOrMoves e
 plain_by deed (effects.Defines n f) plain none is = is none
 plain_by deed (effects.Sets change) plain none is = tt
 plain_by deed (effects.Moves reach to) plain none is = tt
 plain_by deed (effects.Cuts m) plain none is = is plain
 
-pub is_plain : (here : Situation) (deed : Deed) (e : Effect) → IsNoContour deed → IsNoDefinition deed → effect_of here deed ≡ Some e → IsPlain e
+pub is_plain : (here : Situation) (deed : Deed) (e : Effect) → IsNoContour deed → IsNoDefinition deed → effect_of here deed ≡ Some e → SetsOrMoves e
 is_plain here deed e uncut none asks = plain_by deed e uncut none (of_some (IsBy (ask_of deed)) (effect_of here deed) e asks (suits here (ask_of deed)))

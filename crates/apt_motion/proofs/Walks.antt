@@ -27,7 +27,7 @@ use Rattle.apt_motion.specs.declared.runs.RunError.{RunError}
 use Rattle.apt_motion.specs.Ends.{told}
 use Rattle.apt_words.specs.Answers.{IsDueAs}
 use Rattle.apt_defs.specs.Definitions.{IsNoDefinition}
-use Rattle.apt_motion.specs.Finding.{IsNoContour, IsPlain}
+use Rattle.apt_motion.specs.Finding.{IsNoContour, SetsOrMoves}
 use Rattle.apt_motion.proofs.Plain.{is_plain}
 
 regroup : (front more : List Record) (r : Result (List Record) Refusal) → with_front front (with_front more r) ≡ with_front (front ++ more) r
@@ -78,12 +78,12 @@ fit here deed e is scalars worded does =
 
 -- what is found of a step that is neither a definition nor a contour
 found_is : (here : Situation) (deed : Deed) (e : Effect) → IsSituation here → HasScalars deed → DeedHasText deed → IsNoContour deed → IsNoDefinition deed
-    → asked (refusal_of here deed) (effect_of here deed) ≡ Ok e → IsPlain e × IsEffect e
+    → asked (refusal_of here deed) (effect_of here deed) ≡ Ok e → SetsOrMoves e × IsEffect e
 found_is here deed e is scalars worded uncut none does =
     (is_plain here deed e uncut none (asked_fine (refusal_of here deed) (effect_of here deed) e does).1, (fit here deed e is scalars worded does).good)
 
 pub found_plain : (here : Situation) (deed : Deed) (r : Result Effect Case) → IsSituation here → HasScalars deed → DeedHasText deed → IsNoContour deed → IsNoDefinition deed
-    → r ≡ asked (refusal_of here deed) (effect_of here deed) → IfOk r IsPlain × IfOk r IsEffect
+    → r ≡ asked (refusal_of here deed) (effect_of here deed) → IfOk r SetsOrMoves × IfOk r IsEffect
 found_plain here deed (Ok e) is scalars worded uncut none same = found_is here deed e is scalars worded uncut none (sym same)
 found_plain here deed (Err case) is scalars worded uncut none same = (tt, tt)
 

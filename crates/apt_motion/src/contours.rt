@@ -11,8 +11,8 @@ ghost use Rattle.apt_meaning.specs.Effects.{cuts, effect_of};
 ghost use Rattle.apt_meaning.specs.Motions as motions;
 ghost use Rattle.apt_meaning.specs.Ranges.{IsSituation, AreSettings, IsMotion};
 ghost use Rattle.apt_meaning.specs.Refusals as refusals;
-ghost use Rattle.apt_meaning.specs.Refusals.{refusal_of};
-ghost use Rattle.apt_motion.specs.Finding as finding;
+ghost use Rattle.apt_meaning.specs.Refusals.{refusal_of, turned_cases};
+ghost use Rattle.apt_meaning.specs.Situations.{with_side};
 ghost use Rattle.apt_motion.specs.Finding.{IsMotionBy};
 
 use apt_cldata::Position;
@@ -84,7 +84,7 @@ fn on_surfaces(
     requires start { IsPosition start }
     requires drive { IsSurface drive }
     requires check { IsSurface check.now }
-    ensures motion { IsMotionBy (first_of (finding.contour_cases_on here.now side go start drive how check.now)) (cuts (finding.motion_on here.now side go start drive how check.now)) result }
+    ensures motion { let s = with_side here.now.settings side in let turned = motions.turn_at here.now start drive go in IsMotionBy (first_of (turned_cases s start drive turned how check.now)) (cuts (motions.if_turned s start drive turned how check.now)) result }
     ensures range { IfOk result IsMotion }
 {
     let settings = here.settings.with_side(side);
@@ -106,7 +106,7 @@ fn turned_motion(
     requires start { IsPosition start }
     requires drive { IsSurface drive.now }
     requires check { IsSurface check.now }
-    ensures value { result ≡ unless (finding.turn_cases settings.now turned) (motions.motion settings.now start drive.now turned how check.now) }
+    ensures motion { IsMotionBy (first_of (turned_cases settings.now start drive.now turned how check.now)) (cuts (motions.if_turned settings.now start drive.now turned how check.now)) result }
     ensures range { IfOk result IsMotion }
 {
     if settings.rapid {

@@ -11,7 +11,7 @@ ghost use Rattle.apt_meaning.specs.Effects as asking;
 ghost use Rattle.apt_meaning.specs.Ranges.{IsSituation, IsEffect};
 ghost use Rattle.apt_meaning.specs.Refusals as refusals;
 ghost use Rattle.apt_meaning.specs.Refusals.{refusal_of};
-ghost use Rattle.apt_motion.specs.Finding.{IsNoContour, IsPlain};
+ghost use Rattle.apt_motion.specs.Finding.{IsNoContour, SetsOrMoves};
 
 use crate::refusals::{godlta, note_case, position_at_place};
 use crate::start_ups::go;
@@ -30,7 +30,7 @@ pub(crate) fn find(here: &Situation, deed: &Deed) -> Result<Result<Effect, Case>
     requires plain { IsNoContour deed.now }
     requires defines_nothing { IsNoDefinition deed.now }
     ensures value { IfOk result (λ found. found ≡ asked (refusal_of here.now deed.now) (asking.effect_of here.now deed.now)) }
-    ensures plain { IfOk result (λ found. IfOk found IsPlain) }
+    ensures plain { IfOk result (λ found. IfOk found SetsOrMoves) }
     ensures range { IfOk result (λ found. IfOk found IsEffect) }
 {
     found(here, deed)
@@ -88,7 +88,6 @@ fn goes(here: &Situation, route: &Route) -> Result<Effect, Case>
 }
 
 /// FROM comes once.
-#[tactic(auto, using(crate::proofs::Places::from_asked))]
 fn from(here: &Situation, place: &Place) -> Result<Effect, Case>
     requires { AllScalars (place_numbers place.now) }
     ensures { result ≡ asked (first_of (refusals.route_cases here.now (Route.From place.now))) (asking.goes here.now (Route.From place.now)) }
@@ -104,7 +103,7 @@ fn from(here: &Situation, place: &Place) -> Result<Effect, Case>
 
 /// A place is found once, for its cases and for the move, which needs a feed.
 #[inline(always)]
-#[tactic(auto, using(crate::proofs::Places::goto_asked))]
+#[tactic(auto, using(crate::proofs::Places::place_refused, crate::proofs::Places::place_passed))]
 fn goto(here: &Situation, place: &Place) -> Result<Effect, Case>
     requires { AllScalars (place_numbers place.now) }
     ensures { result ≡ asked (first_of (refusals.route_cases here.now (Route.Goto place.now))) (asking.goes here.now (Route.Goto place.now)) }

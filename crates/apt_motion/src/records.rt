@@ -11,7 +11,7 @@ ghost use Rattle.apt_meaning.specs.Refusals.{motion_cases};
 ghost use Rattle.apt_meaning.specs.Records as writing;
 ghost use Rattle.apt_meaning.specs.Situations.{at_height};
 ghost use Rattle.apt_meaning.specs.declared.effect.Effect.TheVariants as effects;
-ghost use Rattle.apt_motion.specs.Finding.{IsPlain};
+ghost use Rattle.apt_motion.specs.Finding.{SetsOrMoves};
 
 use crate::vertices::vertices;
 use apt_arc::ArcError;
@@ -82,7 +82,7 @@ fn write_cut(records: &mut Vec<Record>, step: &Step, motion: &Motion, vertices: 
 pub(crate) fn pass_by(here: &mut Situation, effect: Effect)
     requires situation { IsSituation here.old }
     requires effect { IsEffect effect }
-    requires plain { IsPlain effect }
+    requires plain { SetsOrMoves effect }
     ensures { here.new ≡ writing.after here.old effect (ends_of effect) }
 {
     match effect {
@@ -103,7 +103,7 @@ pub(crate) fn take(
 ) -> Result<(), AllocError>
     requires situation { IsSituation here.old }
     requires effect { IsEffect effect }
-    requires plain { IsPlain effect }
+    requires plain { SetsOrMoves effect }
     ensures after { OnOk result (here.new ≡ writing.after here.old effect (ends_of effect)) }
     ensures records { OnOk result (records.new.items ≡ records.old.items ++ writing.records_of step.now effect (points_of effect)) }
 {

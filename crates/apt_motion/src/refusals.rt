@@ -1,15 +1,14 @@
 //! The cases that refuse notes, and moves to a place.
 
-ghost use Rattle.std.specs.Prelude.{◌≡◌, [], ◌∷◌, Some};
+ghost use Rattle.std.specs.Prelude.{◌≡◌, [], ◌∷◌, Some, None, MatchResult};
 ghost use Rattle.apt_words.specs.Asks.{place_numbers};
-ghost use Rattle.apt_words.specs.Rows.{first_of};
+ghost use Rattle.apt_words.specs.Rows.{first_of, unless};
 ghost use Rattle.apt_scalar.specs.Scalars.{IsScalar};
 ghost use Rattle.apt_scalar.specs.StepScalars.{AllScalars};
 ghost use Rattle.apt_meaning.specs.Compiled.{asked};
 ghost use Rattle.apt_meaning.specs.Effects as asking;
 ghost use Rattle.apt_meaning.specs.Ranges.{IsSituation};
 ghost use Rattle.apt_meaning.specs.Refusals as refusals;
-ghost use Rattle.apt_motion.specs.Finding as finding;
 
 use apt_cldata::{Note, Position, Reach};
 use apt_defs::{Table, is_in_reach, point};
@@ -73,7 +72,7 @@ fn position(p: Position) -> Option<Case>
 #[inline(always)]
 pub(crate) fn position_at_place(here: &Situation, place: &Place) -> Result<Position, Case>
     requires { AllScalars (place_numbers place.now) }
-    ensures { result ≡ finding.position_at_place here.now place.now }
+    ensures { MatchResult result (λ to. (asking.place_at here.now place.now ≡ Some to) × (first_of (refusals.place_cases here.now place.now []) ≡ None)) (λ case. first_of (refusals.place_cases here.now place.now []) ≡ Some case) }
 {
     match place {
         Place::Xyz(x, y, z) => within(position_by(here.settings.units, *x, *y, *z)),
@@ -83,7 +82,7 @@ pub(crate) fn position_at_place(here: &Situation, place: &Place) -> Result<Posit
 
 #[inline(always)]
 fn within(to: Position) -> Result<Position, Case>
-    ensures { result ≡ finding.found_place (first_of (refusals.position_cases to [])) (Some to) }
+    ensures { result ≡ unless (refusals.position_cases to []) to }
 {
     match position(to) {
         None => Ok(to),
@@ -92,12 +91,12 @@ fn within(to: Position) -> Result<Position, Case>
 }
 
 /// The point for which a name stands.
-#[tactic(auto, using(crate::proofs::Places::point_placed))]
+#[tactic(auto, using(crate::proofs::Places::point_found))]
 fn point_in(table: &Table, name: &Symbol) -> Result<Position, Case>
-    ensures { result ≡ finding.found_place (first_of (refusals.point_cases table.now name.now [])) (asking.place_in table.now name.now) }
+    ensures { MatchResult result (λ to. (asking.place_in table.now name.now ≡ Some to) × (first_of (refusals.point_cases table.now name.now []) ≡ None)) (λ case. first_of (refusals.point_cases table.now name.now []) ≡ Some case) }
 {
     match point(table, name) {
-        Ok((here, z)) => Ok(Position { xy, z }),
+        Ok((xy, z)) => Ok(Position { xy, z }),
         Err(case) => Err(case),
     }
 }

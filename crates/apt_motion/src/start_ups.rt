@@ -1,21 +1,21 @@
 //! What GO asks for.
 
-ghost use Rattle.std.specs.Prelude.{◌≡◌, ◌∷◌, [], Some, IfOk, IfSome};
+ghost use Rattle.std.specs.Prelude.{◌≡◌, ◌∷◌, ◌++◌, [], Some, IfOk, IfSome};
 ghost use Rattle.std.specs.Result.{IfErr};
 ghost use Rattle.apt_words.specs.Rows.{first_of, unless};
 ghost use Rattle.apt_words.specs.declared.deed.Deed.TheVariants as deeds;
 ghost use Rattle.apt_plane.specs.Ranges.{IsSurface};
 ghost use Rattle.apt_startup.specs.Ranges.{IsGoal, IsStartUp};
+ghost use Rattle.apt_startup.specs.StartUps.{start_up_cases, start_point};
 ghost use Rattle.apt_cldata.specs.Ranges.{IsPosition};
 ghost use Rattle.apt_meaning.specs.Compiled.{asked};
 ghost use Rattle.apt_meaning.specs.Effects.{effect_of};
 ghost use Rattle.apt_meaning.specs.Motions as motions;
 ghost use Rattle.apt_meaning.specs.Ranges.{IsSituation};
-ghost use Rattle.apt_meaning.specs.Refusals.{refusal_of, start_names};
-ghost use Rattle.apt_meaning.specs.Situations.{at_height};
+ghost use Rattle.apt_meaning.specs.Refusals.{each_name, is_no_surface, is_undefined, refusal_of, start_names};
+ghost use Rattle.apt_meaning.specs.Situations.{at_height, lacks_feed};
 ghost use Rattle.apt_meaning.specs.StartUps as start_ups;
 ghost use Rattle.apt_meaning.specs.declared.effect.Effect.TheVariants as effects;
-ghost use Rattle.apt_motion.specs.Finding as finding;
 
 use crate::contours::surface_named;
 use apt_cldata::{Position, Reach};
@@ -57,7 +57,7 @@ fn start_up_on(here: &Situation, from: Position, first: Goal, second: Option<Goa
     requires from { IsPosition from }
     requires first { IsGoal first }
     requires second { IfSome second IsGoal }
-    ensures value { result ≡ finding.start_up_on here.now from first second }
+    ensures value { result ≡ record { start = from.xy; first = first; second = second; radius = here.now.settings.radius } }
     ensures range { IsStartUp result }
 {
     StartUp {
@@ -82,7 +82,7 @@ fn goals(
     ensures first { IfOk result (λ goals. start_ups.goal_in table.now how name.now ≡ Some goals.0) }
     ensures second { IfOk result (λ goals. start_ups.second_in table.now other.now ≡ Some goals.1) }
     ensures range { IfOk result (λ goals. IsGoal goals.0 × IfSome goals.1 IsGoal) }
-    ensures refused { IfErr result (λ case. first_of (finding.names_cases table.now (start_names name.now other.now)) ≡ Some case) }
+    ensures refused { let names = start_names name.now other.now in IfErr result (λ case. first_of (each_name (is_undefined table.now) Case.Undefined names ++ each_name (is_no_surface table.now) Case.WrongKind names) ≡ Some case) }
 {
     match other {
         None => {
@@ -106,7 +106,7 @@ fn two_surfaces(table: &Table, a: &Symbol, b: &Symbol) -> Result<(Surface, Surfa
     ensures first { IfOk result (λ surfaces. motions.surface_in table.now a.now ≡ Some surfaces.0) }
     ensures second { IfOk result (λ surfaces. motions.surface_in table.now b.now ≡ Some surfaces.1) }
     ensures range { IfOk result (λ surfaces. IsSurface surfaces.0 × IsSurface surfaces.1) }
-    ensures refused { IfErr result (λ case. first_of (finding.names_cases table.now (a.now ∷ b.now ∷ [])) ≡ Some case) }
+    ensures refused { let names = a.now ∷ b.now ∷ [] in IfErr result (λ case. first_of (each_name (is_undefined table.now) Case.Undefined names ++ each_name (is_no_surface table.now) Case.WrongKind names) ≡ Some case) }
 {
     let (Some(a), Some(b)) = (table.get(a), table.get(b)) else {
         return Err(Case::Undefined);
@@ -125,7 +125,7 @@ fn two_surfaces(table: &Table, a: &Symbol, b: &Symbol) -> Result<(Surface, Surfa
 #[tactic(auto, using(crate::proofs::Cases::start_unless))]
 fn started(settings: &Settings, from: Position, u: &StartUp) -> Result<Effect, Case>
     requires { IsStartUp u.now }
-    ensures { result ≡ unless (finding.go_cases_on settings.now u.now) (finding.start_of from u.now) }
+    ensures { result ≡ unless ((lacks_feed settings.now, Case.NoFeed) ∷ start_up_cases u.now) (effects.Moves Reach.Start (at_height from.z (start_point u.now))) }
 {
     if settings.lacks_feed() {
         return Err(Case::NoFeed);

@@ -17,7 +17,7 @@ use Rattle.apt_expr.specs.Expressions.{expression}
 use Rattle.apt_shapes.specs.declared.table.Labelled.{Labelled}
 use Rattle.apt_shapes.specs.Arguments.{arguments, name, word, pick, is_left, says, or_else}
 use Rattle.apt_shapes.specs.Figures.{assign, point_xy, point_xyz, point_center, point_lines, point, line_par, line_perp, line_xy, line_at, line_tan, line, circle_three, circle_through, circle_radius, circle_tan, circle}
-use Rattle.apt_shapes.specs.Motions.{from, goto, godlta, surface, start_one, start_two, start, side_of, turn_of, check_stop, contour, contour_behind}
+use Rattle.apt_shapes.specs.Motions.{from, goto, godlta, surface, start_one, start_two, start, side_named, turn_of, check_stop, contour, contour_behind}
 use Rattle.apt_shapes.specs.Settings.{titled, one, expressions, units_of, units_in, spindle_turn, spindl_off, spindl_on, spindl, cool_of, coolnt}
 use Rattle.apt_shapes.specs.Flow.{parameters, differ, names_of, macro, arguments_in, call, jumpto, condition, if_in}
 use Rattle.apt_shapes.specs.Shapes.{tool, command, alone, with_arguments, figure, macro_alone, defined, behind_equals, if_word, untitled, with_text, body, labelled, shape}
@@ -213,13 +213,13 @@ if_word-fits words.If ts = if_in-fits (arguments ts)
 if_word-fits _ ts = tt
 
 alone-fits : (w : Word) → FitsText (alone w)
-alone-fits w = either (tool w) (command w) (by (side_of w) _ (λ side. tt)) (command-fits w)
+alone-fits w = either (tool w) (command w) (by (side_named w) _ (λ side. tt)) (command-fits w)
 
 untitled-fits : (ts : List Token) → FitsText (untitled ts)
 untitled-fits (tokens.Word w ∷ []) = alone-fits w
 untitled-fits (tokens.Word w ∷ tokens.Slash ∷ ts) = with_arguments-fits w (arguments ts)
 untitled-fits (tokens.Name n ∷ tokens.Equals ∷ ts) = behind_equals-fits n ts
-untitled-fits (tokens.Word w ∷ tokens.Comma ∷ ts) = by (side_of w) _ (λ side. contour_behind-fits (Some side) ts)
+untitled-fits (tokens.Word w ∷ tokens.Comma ∷ ts) = by (side_named w) _ (λ side. contour_behind-fits (Some side) ts)
 untitled-fits (tokens.Word w ∷ tokens.Open ∷ ts) = if_word-fits w ts
 untitled-fits _ = tt
 

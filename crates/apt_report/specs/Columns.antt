@@ -68,7 +68,7 @@ length_in units text = signed (has_minus text) (number_behind 0 text * grid_unit
 abbrev pub row_of : Units → List ℕ → Row
 row_of units line =
     row (number_behind 0 (take 8 line)) (take 4 (drop 9 line)) (record {
-      at = record { x = length_in units (take 11 (drop 13 line)); y = length_in units (take 11 (drop 24 line)) };
+      xy = record { x = length_in units (take 11 (drop 13 line)); y = length_in units (take 11 (drop 24 line)) };
       z = length_in units (take 11 (drop 35 line));
     })
 

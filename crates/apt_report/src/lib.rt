@@ -16,5 +16,5 @@ pub use apt_lexis::PartCause;
 pub use apt_machine::MachineCause;
 pub use demo::demo_part;
 pub use line::line_of;
-pub use points::{Listing, listing};
+pub use points::{PointLines, listing};
 pub use status::{FileName, Miss, Status, Summary};

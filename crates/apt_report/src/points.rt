@@ -18,7 +18,7 @@ use std::alloc::{AllocError, Global};
 
 /// The lines of some records, and how many points they tell.
 #[derive(Drop)]
-pub struct Listing {
+pub struct PointLines {
     pub text: Vec<u8>,
     pub points: u64,
 }
@@ -30,7 +30,7 @@ pub struct Listing {
 ///
 /// Memory lacks.
 #[tactic(auto, using(crate::proofs::Told::points_told))]
-pub fn listing(alloc: Global, records: &[Record]) -> Result<Listing, AllocError>
+pub fn listing(alloc: Global, records: &[Record]) -> Result<PointLines, AllocError>
     ensures value { IfOk result (λ l. l.text.items ≡ lines.listing records.now) }
     ensures points { IfOk result (λ l. l.points ≡ lines.point_count records.now) }
     ensures told { AreRecords records.now → length records.now < 10 ^ 8 → IfOk result (λ l. GivesBack (units_of records.now) (rows_from 1 records.now) l.text.items) }
@@ -38,7 +38,7 @@ pub fn listing(alloc: Global, records: &[Record]) -> Result<Listing, AllocError>
     list_points(alloc, records)
 }
 
-fn list_points(alloc: Global, records: &[Record]) -> Result<Listing, AllocError>
+fn list_points(alloc: Global, records: &[Record]) -> Result<PointLines, AllocError>
     ensures value { IfOk result (λ l. l.text.items ≡ lines.listing records.now) }
     ensures points { IfOk result (λ l. l.points ≡ lines.point_count records.now) }
 {
@@ -54,7 +54,7 @@ fn list_points(alloc: Global, records: &[Record]) -> Result<Listing, AllocError>
     }
     let start = end_line(&mut room, points);
     push_from(&mut text, &room, start)?;
-    Ok(Listing {
+    Ok(PointLines {
         text,
         points: points as u64,
     })

@@ -1,6 +1,6 @@
 -- What a statement does where it is executed: its expressions by their values, its names by what they stand for.
-use Rattle.std.specs.Prelude.{ℕ, zero, suc, ℤ, pos, Bool, false, List, [], ◌∷◌, Option, Some, None, is_some, Result, Ok, Err, if◌then◌else◌}
-use Rattle.apt_words.specs.Asks.{Ask, Titles, Says, Sets, Defines, Goes, Cuts, Nothing, ask_of, listed}
+use Rattle.std.specs.Prelude.{ℕ, zero, suc, ℤ, pos, Bool, false, List, [], ◌∷◌, Option, Some, None, is_some, option_map, Result, Ok, Err, if◌then◌else◌}
+use Rattle.apt_words.specs.Asks.{Ask, ask_of, defined_by, listed}
 use Rattle.apt_words.specs.Chains.{◌>>=◌}
 use Rattle.apt_words.specs.Composition.{Composition, Meanings, names_with, composition}
 use Rattle.apt_words.specs.Trees.{Tree, Num, Name, Neg, Bin, Root, Abs}
@@ -136,13 +136,7 @@ value_by (forms.Circle form) = values.Shape kinds.Circle
 
 -- the name that a step defines, with its value
 abbrev pub definition_by : Ask → Option (List ℕ × Value)
-definition_by (Titles text) = None
-definition_by (Says saying) = None
-definition_by (Sets side) = None
-definition_by (Defines n form) = Some (n, value_by form)
-definition_by (Goes route) = None
-definition_by (Cuts side go drive how check) = None
-definition_by Nothing = None
+definition_by ask = option_map (λ d. (d.0, value_by d.1)) (defined_by ask)
 
 abbrev pub names_after : Names → Option (List ℕ × Value) → Names
 names_after names None = names

@@ -238,7 +238,7 @@ contours_allow Allowed P split s here (step ∷ steps) written behind t f every 
     let e = f.0 in
     let due = records_of step e f.1 in
     let on = says_on s here step e f.1 t f.3.asked in
-    let parts = split e f.1 (contours_behind (said_behind s due) f.2) (rw (f.3.front, on.contours f.2) here every) in
+    let parts = split e f.1 (contours_behind (said_behind s due) f.2) (rw (f.3.front, on.contours f.2) at every) in
     (e, f.1, f.2, f.3, parts.0, contours_allow Allowed P split (said_behind s due) (after here e f.1) steps f.2 behind on.tells f.5 parts.1)
 
 pub any_follows : (Allowed : Effect → List Pt → Type 0) (here : Situation) (steps : List Step) (written : List Record) (behind : Situation) → FollowsAs Allowed here steps written behind

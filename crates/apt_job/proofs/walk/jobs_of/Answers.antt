@@ -1,10 +1,13 @@
-use Rattle.std.proofs.Common.{◌≡◌, ◌∙◌, ◌∷◌, ◌+◌, [], drop, ap, sym, subst}
+use Rattle.std.proofs.Common.{◌≡◌, ◌∙◌, ◌∷◌, ◌+◌, [], Option, drop, ap, sym, subst}
+use Rattle.std.specs.Prelude.{IsSomeAnd}
 use Rattle.std.proofs.Math.ListN.{drop_of_length-le}
 use Rattle.std.proofs.lemmas.List.{drop_more}
+use Rattle.apt_defs.specs.Definitions.{HasOrNone}
+use Rattle.apt_meaning.specs.declared.effect.Effect.{Effect}
+use Rattle.apt_meaning.specs.Records.{Begins}
 use Rattle.apt_job.specs.Answering.{IsEntry}
 use Rattle.apt_job.specs.Fronts.{points_at}
-use Rattle.apt_job.specs.Naming.{HasNamed}
-use Rattle.apt_job.proofs.Steps.{IsWalk, steps_in, walk_on, walk_named, walk_waits, walk_unrefused, walk_departs, walk_ends, walk_left, stands_first}
+use Rattle.apt_job.proofs.Steps.{IsWalk, steps_in, walk_on, walk_named, walk_waits, walk_unrefused, walk_departs, walk_ends, walk_left}
 use Rattle.apt_job.proofs.walk.jobs_of.Goals as goal
 
 pub gives_name-requires-clause-passes : goal.gives_name-requires-clause-passes
@@ -23,9 +26,9 @@ steps-preserved-then-branch c =
     let st = c.st-item.result in
     let here = c.gives_name.new.here in
     let split : drop i xs ≡ st ∷ drop (i + 1) xs = drop_more xs i st c.steps-test.true ∙ ap (λ x. x ∷ drop (i + 1) xs) (sym c.st-item.is) in
-    let named = subst (HasNamed c.steps.here st.deed here) c.if-branch.true c.in_ok-gives_name.ensures.ok in
+    let named = subst (HasOrNone c.steps.here.settings.units c.steps.here.table st.deed here.table) c.if-branch.true c.in_ok-gives_name.ensures.table in
     let walk = subst (IsWalk xs c.args.records.now c.steps.here c.steps.rest.now c.steps.jobs.items) split c.steps.invariant in
-    walk_named xs c.args.records.now c.steps.here c.steps.rest.now c.steps.jobs.items st (drop (i + 1) xs) here walk named
+    walk_named xs c.args.records.now c.steps.here c.steps.rest.now c.steps.jobs.items st (drop (i + 1) xs) here walk named c.gives_name.ensures.others
 
 pub returns-in-Err-clause-entry : goal.returns-in-Err-clause-entry
 returns-in-Err-clause-entry c =
@@ -35,10 +38,10 @@ returns-in-Err-clause-entry c =
     let here = c.gives_name.new.here in
     let written = c.args.records.now in
     let split : drop i xs ≡ st ∷ drop (i + 1) xs = drop_more xs i st c.steps-test.true ∙ ap (λ x. x ∷ drop (i + 1) xs) (sym c.st-item.is) in
-    let named = subst (HasNamed c.steps.here st.deed here) c.if-branch.false c.in_ok-gives_name.ensures.ok in
-    let walk = walk_waits xs written c.steps.here c.steps.rest.now c.steps.jobs.items st.deed (st ∷ drop (i + 1) xs) here (subst (IsWalk xs written c.steps.here c.steps.rest.now c.steps.jobs.items) split c.steps.invariant) named in
+    let named = subst (HasOrNone c.steps.here.settings.units c.steps.here.table st.deed here.table) c.if-branch.false c.in_ok-gives_name.ensures.table in
+    let walk = walk_waits xs written c.steps.here c.steps.rest.now c.steps.jobs.items st.deed (st ∷ drop (i + 1) xs) here (subst (IsWalk xs written c.steps.here c.steps.rest.now c.steps.jobs.items) split c.steps.invariant) named c.gives_name.ensures.others in
     subst (IsEntry xs written) (sym c.entry.ensures)
-    (walk_departs xs written here c.steps.rest.now c.steps.jobs.items st (drop (i + 1) xs) c.in_ok-found.found c.in-Err.fitting walk c.in_ok-found.ensures.value c.in-Err.ensures.taken)
+    (walk_departs xs written here c.steps.rest.now c.steps.jobs.items st (drop (i + 1) xs) c.in-Err.fitting walk (c.in-Err.ensures.taken here (sym c.in_ok-found.ensures.value)))
 
 pub take-requires-clause-effect : goal.take-requires-clause-effect
 take-requires-clause-effect c =
@@ -50,10 +53,10 @@ take-requires-clause-effect c =
     let vertices = points_at c.in-Ok.front.vertices.now in
     let later = c.in-Ok.front.rest.now in
     let split : drop i xs ≡ st ∷ drop (i + 1) xs = drop_more xs i st c.steps-test.true ∙ ap (λ x. x ∷ drop (i + 1) xs) (sym c.st-item.is) in
-    let named = subst (HasNamed c.steps.here st.deed here) c.if-branch.false c.in_ok-gives_name.ensures.ok in
-    let walk = walk_waits xs c.args.records.now c.steps.here c.steps.rest.now c.steps.jobs.items st.deed (st ∷ drop (i + 1) xs) here (subst (IsWalk xs c.args.records.now c.steps.here c.steps.rest.now c.steps.jobs.items) split c.steps.invariant) named in
-    let stands = stands_first st c.in_ok-found.found e c.steps.rest.now vertices later c.in-Ok.ensures.taken c.in-Some.is in
-    (steps_in xs c.args.records.now here c.steps.rest.now c.steps.jobs.items st (drop (i + 1) xs) e vertices later walk (sym c.in_ok-found.ensures.value ∙ c.in-Some.is) stands).good
+    let named = subst (HasOrNone c.steps.here.settings.units c.steps.here.table st.deed here.table) c.if-branch.false c.in_ok-gives_name.ensures.table in
+    let walk = walk_waits xs c.args.records.now c.steps.here c.steps.rest.now c.steps.jobs.items st.deed (st ∷ drop (i + 1) xs) here (subst (IsWalk xs c.args.records.now c.steps.here c.steps.rest.now c.steps.jobs.items) split c.steps.invariant) named c.gives_name.ensures.others in
+    let begins = subst (λ (o : Option Effect). IsSomeAnd o (λ e. Begins here st c.steps.rest.now e vertices later)) c.in-Some.is (c.in-Ok.ensures.taken here (sym c.in_ok-found.ensures.value)) in
+    (steps_in xs c.args.records.now here c.steps.rest.now c.steps.jobs.items st (drop (i + 1) xs) e vertices later walk begins).good
 
 pub take-requires-clause-vertices : goal.take-requires-clause-vertices
 take-requires-clause-vertices c =
@@ -65,14 +68,17 @@ take-requires-clause-vertices c =
     let vertices = points_at c.in-Ok.front.vertices.now in
     let later = c.in-Ok.front.rest.now in
     let split : drop i xs ≡ st ∷ drop (i + 1) xs = drop_more xs i st c.steps-test.true ∙ ap (λ x. x ∷ drop (i + 1) xs) (sym c.st-item.is) in
-    let named = subst (HasNamed c.steps.here st.deed here) c.if-branch.false c.in_ok-gives_name.ensures.ok in
-    let walk = walk_waits xs c.args.records.now c.steps.here c.steps.rest.now c.steps.jobs.items st.deed (st ∷ drop (i + 1) xs) here (subst (IsWalk xs c.args.records.now c.steps.here c.steps.rest.now c.steps.jobs.items) split c.steps.invariant) named in
-    let stands = stands_first st c.in_ok-found.found e c.steps.rest.now vertices later c.in-Ok.ensures.taken c.in-Some.is in
-    (steps_in xs c.args.records.now here c.steps.rest.now c.steps.jobs.items st (drop (i + 1) xs) e vertices later walk (sym c.in_ok-found.ensures.value ∙ c.in-Some.is) stands).within
+    let named = subst (HasOrNone c.steps.here.settings.units c.steps.here.table st.deed here.table) c.if-branch.false c.in_ok-gives_name.ensures.table in
+    let walk = walk_waits xs c.args.records.now c.steps.here c.steps.rest.now c.steps.jobs.items st.deed (st ∷ drop (i + 1) xs) here (subst (IsWalk xs c.args.records.now c.steps.here c.steps.rest.now c.steps.jobs.items) split c.steps.invariant) named c.gives_name.ensures.others in
+    let begins = subst (λ (o : Option Effect). IsSomeAnd o (λ e. Begins here st c.steps.rest.now e vertices later)) c.in-Some.is (c.in-Ok.ensures.taken here (sym c.in_ok-found.ensures.value)) in
+    (steps_in xs c.args.records.now here c.steps.rest.now c.steps.jobs.items st (drop (i + 1) xs) e vertices later walk begins).within
 
 pub take-requires-clause-may : goal.take-requires-clause-may
 take-requires-clause-may c =
-    (stands_first c.st-item.result c.in_ok-found.found c.in-Some.found c.steps.rest.now (points_at c.in-Ok.front.vertices.now) c.in-Ok.front.rest.now c.in-Ok.ensures.taken c.in-Some.is).may
+    let here = c.gives_name.new.here in
+    let vertices = points_at c.in-Ok.front.vertices.now in
+    let taken = c.in-Ok.ensures.taken here (sym c.in_ok-found.ensures.value) in
+    (subst (λ (o : Option Effect). IsSomeAnd o (λ e. Begins here c.st-item.result c.steps.rest.now e vertices c.in-Ok.front.rest.now)) c.in-Some.is taken).may
 
 pub steps-preserved : goal.steps-preserved
 steps-preserved c =
@@ -85,10 +91,10 @@ steps-preserved c =
     let vertices = points_at c.in-Ok.front.vertices.now in
     let later = c.in-Ok.front.rest.now in
     let split : drop i xs ≡ st ∷ drop (i + 1) xs = drop_more xs i st c.steps-test.true ∙ ap (λ x. x ∷ drop (i + 1) xs) (sym c.st-item.is) in
-    let named = subst (HasNamed c.steps.here st.deed here) c.if-branch.false c.in_ok-gives_name.ensures.ok in
-    let walk = walk_waits xs written c.steps.here c.steps.rest.now c.steps.jobs.items st.deed (st ∷ drop (i + 1) xs) here (subst (IsWalk xs written c.steps.here c.steps.rest.now c.steps.jobs.items) split c.steps.invariant) named in
-    let stands = stands_first st c.in_ok-found.found e c.steps.rest.now vertices later c.in-Ok.ensures.taken c.in-Some.is in
-    let on = walk_on xs written here c.steps.rest.now c.steps.jobs.items st (drop (i + 1) xs) e vertices later walk (sym c.in_ok-found.ensures.value ∙ c.in-Some.is) stands in
+    let named = subst (HasOrNone c.steps.here.settings.units c.steps.here.table st.deed here.table) c.if-branch.false c.in_ok-gives_name.ensures.table in
+    let walk = walk_waits xs written c.steps.here c.steps.rest.now c.steps.jobs.items st.deed (st ∷ drop (i + 1) xs) here (subst (IsWalk xs written c.steps.here c.steps.rest.now c.steps.jobs.items) split c.steps.invariant) named c.gives_name.ensures.others in
+    let begins = subst (λ (o : Option Effect). IsSomeAnd o (λ e. Begins here st c.steps.rest.now e vertices later)) c.in-Some.is (c.in-Ok.ensures.taken here (sym c.in_ok-found.ensures.value)) in
+    let on = walk_on xs written here c.steps.rest.now c.steps.jobs.items st (drop (i + 1) xs) e vertices later walk begins in
     rw (c.in_ok-take.ensures.after, c.in_ok-take.ensures.jobs) on
 
 pub returns-then-is_empty-clause-jobs : goal.returns-then-is_empty-clause-jobs

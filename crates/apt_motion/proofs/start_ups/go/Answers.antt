@@ -1,8 +1,7 @@
 use Rattle.std.proofs.Common.{rules, ◌≡◌, ◌∙◌, ap}
 use Rattle.apt_words.specs.Rows.{unless}
 use Rattle.apt_startup.specs.declared.StartUp.{StartUp}
-use Rattle.apt_motion.specs.Finding.{start_up_on, go_cases_on, start_of}
-use Rattle.apt_motion.proofs.Cases.{go_refused, go_asked}
+use Rattle.apt_motion.proofs.Cases.{start_up_on, go_cases_on, start_of, go_refused, go_asked}
 use Rattle.apt_motion.proofs.start_ups.go.Goals as goal
 
 pub returns-in_err-first : goal.returns-in_err-first
