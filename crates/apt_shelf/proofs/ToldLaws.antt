@@ -141,6 +141,10 @@ pub keeps_behind : (t₀ t₁ t₂ : Option Contents) (w : Option (List ℕ)) (p
 keeps_behind t₀ t₁ t₂ w [] piece after whole e a b = rw (sym e) (longer t₀ t₂ w piece after (subst (λ t. KeepsPrefix w piece t t₂) a b))
 keeps_behind t₀ t₁ t₂ w (c ∷ part) piece after whole e a b = behind t₀ t₁ t₂ w (c ∷ part) piece after whole e a b
 
+-- a piece that is held takes the front of what is behind it
+pub held_more : (part held front after rest now whole : List ℕ) → part ++ (held ++ rest) ≡ whole → front ++ after ≡ rest → now ≡ held ++ front → part ++ (now ++ after) ≡ whole
+held_more part held front after rest now whole e f n = rw (n, append_assoc, f) e
+
 pub on_err : {T E : Type 0} (r : Result T E) (P : Type 0) → P → OnErr r P
 on_err (Ok x) P h = tt
 on_err (Err e) P h = h

@@ -1,5 +1,5 @@
 -- Whole files, read and written.
-use Rattle.std.specs.Prelude.{◌≡◌, ◌⊎◌, ℕ, ◌≤◌, ◌<◌, List, [], ◌∷◌, ◌++◌, length, take, Option, Some, None, IsSomeAnd}
+use Rattle.std.specs.Prelude.{◌≡◌, ◌⊎◌, ℕ, ◌+◌, ◌≤◌, ◌<◌, List, [], ◌∷◌, ◌++◌, length, take, Option, Some, None, IsSomeAnd}
 use Rattle.std.specs.FinMap.{get, insert}
 use Rattle.apt_shelf.specs.Told.{Contents, Adds}
 
@@ -12,6 +12,11 @@ HoldsAt (Some m) name bytes = get m name ≡ Some bytes
 abbrev pub IsLongerAt : Option Contents → List ℕ → ℕ → Type 0
 IsLongerAt None name limit = Unit {0}
 IsLongerAt (Some m) name limit = IsSomeAnd (get m name) (λ bytes. limit < length bytes)
+
+-- behind so many bytes that were read more are left than the limit allows, where that is told
+abbrev pub HasMore : Option (List ℕ) → ℕ → ℕ → Type 0
+HasMore None so_far limit = Unit {0}
+HasMore (Some left) so_far limit = limit < so_far + length left
 
 -- what was read so far, and what is left
 abbrev pub HasRead : Option Contents → List ℕ → Option (List ℕ) → List ℕ → Type 0

@@ -1,14 +1,13 @@
-//! Whole files, read and written over any shelf.
-ghost use Rattle.std.specs.Prelude.{◌≡◌, ◌<◌, ◌≤◌, length, IsSome, IfOk, OnOk, OnErr, IsErrOf};
-ghost use Rattle.std.specs.FinMap.{insert};
-ghost use Rattle.apt_shelf.specs.Told.{Steps, Lacks, Rose, KeepsPrefix, FaultCause};
-ghost use Rattle.apt_shelf.specs.Files.{HoldsAt, IsLongerAt, AddsAny, AddsFront, WritesPrefix};
+//! Files that are read piece by piece over any shelf.
+ghost use Rattle.std.specs.Prelude.{◌≡◌, ◌+◌, ◌<◌, ◌≤◌, true, length, IfOk, IsErrOf};
+ghost use Rattle.apt_shelf.specs.Told.{Lacks, Rose, Takes};
+ghost use Rattle.apt_shelf.specs.Files.{HoldsAt, IsLongerAt, HasMore};
 
 use crate::shelf::{ReadStart, Shelf, ShelfFault};
 use std::alloc::{AllocError, Global};
 
 /// How many bytes are read, or written, at a time.
-const PIECE: usize = 4096;
+pub(crate) const PIECE: usize = 4096;
 
 /// Why a file was not read.
 #[derive(Clone, Copy, Debug, PartialEq, Eq)]
@@ -60,6 +59,35 @@ impl From<AllocError> for ReadError {
     }
 }
 
+/// Reads the next bytes of a file of which so many are read, which is not more than `limit`; none only at its end, and
+/// `TooLong` where they come to more than `limit`.
+pub fn read_piece<H: Shelf>(
+    shelf: &mut H,
+    buf: &mut [u8],
+    so_far: usize,
+    limit: usize,
+) -> Result<usize, ReadError>
+    requires started { H.reading shelf.old ≡ true }
+    requires room { 0 < length buf.old }
+    requires within { so_far ≤ limit }
+    ensures within { IfOk result (λ n. (n ≤ length buf.new) × (so_far + n ≤ limit)) }
+    ensures taken { IfOk result (λ n. Takes (H.left shelf.old) (H.left shelf.new) n buf.new) }
+    ensures missing { ¬ (IsErrOf result ReadError.Missing) }
+    ensures fault { IsErrOf result ReadError.Fault → Rose (H.read_faults shelf.old) (H.read_faults shelf.new) }
+    ensures too_long { IsErrOf result ReadError.TooLong → HasMore (H.left shelf.old) so_far limit }
+    ensures reading { H.reading shelf.new ≡ true }
+    ensures later { H.read_faults shelf.old ≤ H.read_faults shelf.new }
+    ensures told { H.told shelf.new ≡ H.told shelf.old }
+    ensures writing { H.writing shelf.new ≡ H.writing shelf.old }
+    ensures write_faults { H.write_faults shelf.new ≡ H.write_faults shelf.old }
+{
+    let n = shelf.read(buf)?;
+    if n > limit - so_far {
+        return Err(ReadError::TooLong);
+    }
+    Ok(n)
+}
+
 /// All bytes of a name, if they are at most `limit`; `TooLong` if they are more.
 pub fn read_all<H: Shelf>(
     alloc: Global,
@@ -80,67 +108,11 @@ pub fn read_all<H: Shelf>(
     shelf.start_read(name)?;
     let mut bytes = Vec::new(alloc);
     let mut buf = [0u8; PIECE];
-    'pieces: while bytes.len() <= limit {
-        let n = shelf.read(&mut buf)?;
+    'pieces: loop {
+        let n = read_piece(shelf, &mut buf, bytes.len(), limit)?;
         if n == 0 {
             return Ok(bytes);
         }
         bytes.extend_from_slice(&buf[..n])?;
     }
-    Err(ReadError::TooLong)
-}
-
-/// Appends the pieces of 4,096 bytes that stand at the front, and answers what is behind them, which is shorter than a
-/// piece. After a refusal a front part of the bytes may have been added.
-pub fn append_full<'a, H: Shelf>(shelf: &mut H, bytes: &'a [u8]) -> Result<&'a [u8], ShelfFault>
-    requires started { IsSome (H.writing shelf.old) }
-    ensures ok { IfOk result (λ rest. (H.writing shelf.new ≡ H.writing shelf.old) × AddsFront (H.writing shelf.old) bytes.now rest.now (H.told shelf.old) (H.told shelf.new)) }
-    ensures short { IfOk result (λ rest. length rest.now < 4096) }
-    ensures err { OnErr result (KeepsPrefix (H.writing shelf.old) bytes.now (H.told shelf.old) (H.told shelf.new)) }
-    ensures cause { FaultCause (H.write_faults shelf.old) (H.write_faults shelf.new) result }
-    ensures reading { H.reading shelf.new ≡ H.reading shelf.old }
-    ensures left { H.left shelf.new ≡ H.left shelf.old }
-    ensures read_faults { H.read_faults shelf.new ≡ H.read_faults shelf.old }
-{
-    let mut rest = bytes;
-    'pieces: while rest.len() >= PIECE {
-        let (piece, after) = rest.split_at(PIECE);
-        shelf.append(piece)?;
-        rest = after;
-    }
-    Ok(rest)
-}
-
-/// Appends bytes in pieces of 4,096, the last of them as long as what is left. After a refusal a front part of them may
-/// have been added.
-pub fn append_all<H: Shelf>(shelf: &mut H, bytes: &[u8]) -> Result<(), ShelfFault>
-    requires started { IsSome (H.writing shelf.old) }
-    ensures ok { OnOk result ((H.writing shelf.new ≡ H.writing shelf.old) × AddsAny (H.writing shelf.old) bytes.now (H.told shelf.old) (H.told shelf.new)) }
-    ensures err { OnErr result (KeepsPrefix (H.writing shelf.old) bytes.now (H.told shelf.old) (H.told shelf.new)) }
-    ensures cause { FaultCause (H.write_faults shelf.old) (H.write_faults shelf.new) result }
-    ensures reading { H.reading shelf.new ≡ H.reading shelf.old }
-    ensures left { H.left shelf.new ≡ H.left shelf.old }
-    ensures read_faults { H.read_faults shelf.new ≡ H.read_faults shelf.old }
-{
-    let rest = append_full(shelf, bytes)?;
-    if !rest.is_empty() {
-        shelf.append(rest)?;
-    }
-    Ok(())
-}
-
-/// Writes a whole file, piece by piece. After a refusal the name is as before, or holds a front part
-/// of the bytes.
-pub fn write_all<H: Shelf>(shelf: &mut H, name: &str, bytes: &[u8]) -> Result<(), ShelfFault>
-    ensures ok { OnOk result (Steps (λ m. insert m name.now bytes.now) (H.told shelf.old) (H.told shelf.new)) }
-    ensures err { OnErr result (WritesPrefix name.now bytes.now (H.told shelf.old) (H.told shelf.new)) }
-    ensures fault { IsErrOf result ShelfFault.Fault → Rose (H.write_faults shelf.old) (H.write_faults shelf.new) }
-    ensures later { H.write_faults shelf.old ≤ H.write_faults shelf.new }
-    ensures reading { H.reading shelf.new ≡ H.reading shelf.old }
-    ensures left { H.left shelf.new ≡ H.left shelf.old }
-    ensures read_faults { H.read_faults shelf.new ≡ H.read_faults shelf.old }
-{
-    shelf.start_write(name)?;
-    append_all(shelf, bytes)?;
-    Ok(())
 }

@@ -4,6 +4,7 @@
 pub mod files;
 pub mod folder;
 pub mod memory;
+pub mod pieces;
 mod reading;
 pub mod shelf;
 pub mod sink;
@@ -11,9 +12,10 @@ mod store;
 pub mod sure;
 pub mod tally;
 
-pub use files::{ReadError, append_all, append_full, read_all, write_all};
+pub use files::{ReadError, read_all, read_piece};
 pub use folder::FolderShelf;
 pub use memory::{FailList, MemShelf, ShelfCalls};
+pub use pieces::{Pieces, write_all};
 pub use shelf::{ReadStart, Shelf, ShelfFault, Sink};
 pub use sink::{MemSink, StdSink};
 pub use sure::SureShelf;

@@ -7,6 +7,7 @@ invariant-pieces g l =
     let H = g.H.Shelf in
     record {
       read : HasRead (H.told l.fn.shelf) l.fn.name (H.left l.shelf) l.bytes.items;
+      short : vec_len l.bytes ≤ l.limit;
       reading : H.reading l.shelf ≡ true;
       told : H.told l.shelf ≡ H.told l.fn.shelf;
       writing : H.writing l.shelf ≡ H.writing l.fn.shelf;

@@ -1,12 +1,12 @@
-use Rattle.std.proofs.Common.{◌≡◌, ◌≤◌, length}
+use Rattle.std.proofs.Common.{◌≡◌, ◌≤◌, ◌+◌, ◌++◌, length}
 use Rattle.apt_shelf.specs.Files.{AddsFront}
-use Rattle.apt_shelf.proofs.files.append_full.Given as goal
+use Rattle.apt_shelf.proofs.pieces.Pieces.push.Given as goal
 
 abbrev pub invariant-pieces : goal.invariant-pieces
 invariant-pieces g l =
     let H = g.H.Shelf in
     record {
-      added : AddsFront (H.writing l.fn.shelf) l.fn.bytes l.rest (H.told l.fn.shelf) (H.told l.shelf);
+      added : AddsFront (H.writing l.fn.shelf) (l.fn.self ++ l.fn.bytes) (l.self ++ l.rest) (H.told l.fn.shelf) (H.told l.shelf);
       writing : H.writing l.shelf ≡ H.writing l.fn.shelf;
       reading : H.reading l.shelf ≡ H.reading l.fn.shelf;
       left : H.left l.shelf ≡ H.left l.fn.shelf;
@@ -15,4 +15,4 @@ invariant-pieces g l =
     }
 
 abbrev pub decreases-pieces : goal.decreases-pieces
-decreases-pieces g l = length l.rest
+decreases-pieces g l = length l.self + length l.rest
