@@ -37,38 +37,37 @@ fn write_exactly(alloc: Global, records: &[Record]) -> Result<Vec<u8>, AllocErro
 
 /// A CL file whose bytes are taken piece by piece, from the first. Clauses see those that are left.
 #[derive(Drop)]
-pub struct ClBytes {
-    records: Vec<Record>,
+pub struct ClBytes<'a> {
+    records: &'a [Record],
+    first: u64,
     begun: bool,
-    taken: usize,
-    ghost short: { AreShort (drop taken records.items) } by { short_prop (drop taken records.items) },
-    ghost within: { taken ≤ length records.items },
-    ghost numbers: { length records.items < 2 ^ 63 },
+    ghost short: { AreShort records.now } by { short_prop records.now },
+    ghost numbers: { first + length records.now ≤ 2 ^ 63 },
 }
 
-impl Model for ClBytes {
-    ghost use Rattle.std.specs.Prelude.{ℕ, List, [], ◌+◌, ◌++◌, drop, if◌then◌else◌};
+impl<'a> Model for ClBytes<'a> {
+    ghost use Rattle.std.specs.Prelude.{ℕ, List, [], ◌++◌, if◌then◌else◌};
     ghost use Rattle.apt_cldata.specs.Files.{head, records_bytes};
 
     ghost Value = { List ℕ };
 
-    ghost view = { λ b. (if b.begun then [] else head) ++ records_bytes (b.taken + 1) (drop b.taken b.records.items) };
+    ghost view = { λ b. (if b.begun then [] else head) ++ records_bytes b.first b.records.now };
 }
 
-impl ClBytes {
+impl<'a> ClBytes<'a> {
     /// The bytes of a CL file of these records, which are read as them again; where a record begins, no other
     /// record's bytes begin.
     #[tactic(auto, using(crate::proofs::Laws::file_again, crate::proofs::Laws::file_apart))]
-    pub fn of(records: Vec<Record>) -> ClBytes
-        requires { IsFile records.items }
-        ensures bytes { result ≡ file_of records.items }
-        ensures again { read_of result ≡ Ok records.items }
-        ensures apart { StandApart 1 records.items (drop (length head) result) }
+    pub fn of(records: &'a [Record]) -> ClBytes<'a>
+        requires { IsFile records.now }
+        ensures bytes { result ≡ file_of records.now }
+        ensures again { read_of result ≡ Ok records.now }
+        ensures apart { StandApart 1 records.now (drop (length head) result) }
     {
         ClBytes {
             records,
+            first: 1,
             begun: false,
-            taken: 0,
         }
     }
 
@@ -77,12 +76,11 @@ impl ClBytes {
     pub fn is_empty(&self) -> bool
         ensures { MatchBool result (self.now ≡ []) (self.now ≢ []) }
     {
-        self.begun && self.records.split_at(self.taken).1.is_empty()
+        self.begun && self.records.is_empty()
     }
 
     /// Takes the next bytes in the place of a piece before: whole records, and the head before the first. After a
     /// refusal all that were left still are.
-    #[tactic(auto, using(crate::proofs::Left::short_behind))]
     pub fn take_piece(&mut self, piece: &mut Vec<u8>) -> Result<(), AllocError>
         ensures taken { OnOk result (self.old ≡ piece.new.items ++ self.new) }
         ensures shorter { OnOk result (self.old ≢ [] → length self.new < length self.old) }
@@ -92,10 +90,10 @@ impl ClBytes {
         if !self.begun {
             piece.extend_from_slice(HEAD)?;
         }
-        let (_, rest) = self.records.split_at(self.taken);
-        let count = push_records(piece, PIECE, self.taken as u64 + 1, rest)?;
+        let count = push_records(piece, PIECE, self.first, self.records)?;
         self.begun = true;
-        self.taken += count;
+        self.first += count as u64;
+        self.records = self.records.split_at(count).1;
         Ok(())
     }
 }
