@@ -161,12 +161,16 @@ run_on : {H A : Type 0} (means : MeaningOf H A) (start : H) (s : Walk H A) (fron
     → tape_run means start s.code (front ++ piece) ≡ (byte_steps means s piece >>= outcome)
 run_on means start s front piece stands = run_is_walk means start s.code (front ++ piece) ∙ ap (λ r. r >>= outcome) (stands_on means start s front piece stands)
 
--- a piece that is taken
+-- a piece that is taken, in the same code
+pub fed_code : {H A : Type 0} (means : MeaningOf H A) → IsSettled means → (s : Walk H A) (piece : List ℕ) (result : Result (Walk H A) ControlError)
+    → IsDue fault_in (byte_steps means s piece) result → IfOk result (λ r. r.code ≡ s.code)
+fed_code means settled s piece (Ok r) fed = subst (Steady s.code) fed (steady means settled s piece)
+fed_code means settled s piece (Err e) fed = tt
+
 pub fed_stands : {H A : Type 0} (means : MeaningOf H A) (start : H) → IsSettled means → (s : Walk H A) (piece : List ℕ) (result : Result (Walk H A) ControlError)
     → IsDue fault_in (byte_steps means s piece) result → (front : List ℕ) → StandsFor means start s front → IfOk result (λ r. StandsFor means start r (front ++ piece))
 fed_stands means start settled s piece (Ok r) fed front stands =
-    let same : r.code ≡ s.code = subst (Steady s.code) fed (steady means settled s piece) in
-    subst (λ code. byte_steps means (walk_start start code) (front ++ piece) ≡ Ok r) (sym same) (stands_on means start s front piece stands ∙ fed)
+    subst (λ code. byte_steps means (walk_start start code) (front ++ piece) ≡ Ok r) (sym (fed_code means settled s piece (Ok r) fed)) (stands_on means start s front piece stands ∙ fed)
 fed_stands means start settled s piece (Err e) fed front stands = tt
 
 -- one that is refused, however the bytes go on

@@ -89,6 +89,7 @@ impl<H: Control> ControlReader<H> {
     pub fn feed(self, piece: &[u8]) -> Result<ControlReader<H>, ControlError>
         requires { self.count + length piece.now < 2 ^ 64 }
         ensures walk { IsDue fault_in (walk.byte_steps H.means self piece.now) result }
+        ensures code { IfOk result (λ r. r.code ≡ self.code) }
         ensures count { IfOk result (λ r. r.count ≡ self.count + length piece.now) }
         ensures stands { (front : List ℕ) → pieces.StandsFor H.means H.start self front → IfOk result (λ r. pieces.StandsFor H.means H.start r (front ++ piece.now)) }
         ensures whole { (front more : List ℕ) → pieces.StandsFor H.means H.start self front → pieces.RefusesAs result (spec.tape_run H.means H.start self.code (front ++ piece.now ++ more)) }

@@ -5,16 +5,18 @@ use Rattle.apt_words.specs.declared.Refusal.{Refusal}
 use Rattle.apt_parse.specs.Programs.{TextFault}
 use Rattle.apt_cldata.specs.declared.error.ClCause.{ClCause}
 use Rattle.apt_cldata.specs.Reading as reading
-use Rattle.apt_block.specs.declared.block.TapeCause.{TapeCause}
-use Rattle.apt_block.specs.Block as blocks
+use Rattle.apt_tapecode.specs.declared.Code.{Code}
+use Rattle.apt_words.specs.Answers.{IsFault}
+use Rattle.apt_control.specs.declared.error.ControlError.{ControlError}
+use Rattle.apt_control.specs.declared.error.ControlError.TheVariants as tape_errors
+use Rattle.apt_control.specs.Answers.{fault_in}
 use Rattle.apt_control.specs.Control.{control_run}
-use Rattle.apt_machine.specs.declared.machine.Machine.{Machine}
 use Rattle.apt_part.specs.Answering.{IsPart}
 use Rattle.apt_part.specs.declared.part.PartError.{PartError}
 use Rattle.apt_part.specs.declared.part.PartError.TheVariants as part_errors
 use Rattle.apt_report.specs.declared.status.Status.{Status}
 use Rattle.apt_report.specs.declared.status.Status.TheVariants as answers
-use Rattle.apt_core.specs.Due.{ComesToNone, part_told, unless_refused, records_due, acts_due}
+use Rattle.apt_core.specs.Due.{ComesToNone, part_told, unless_refused, records_due, acts_due, tape_told}
 
 -- what is due and was not given is told
 pub none_told : {A : Type 0} (due : Result (Result A Refusal) TextFault) (error : PartError) → IsPart due (Err error) → ComesToNone (unless_refused due) (part_told error)
@@ -25,9 +27,9 @@ none_told due part_errors.NoMemory is = inr refl
 pub bad_cl_told : (cl : List ℕ) (at : ℕ) (cause : ClCause) → reading.read_of cl ≡ Err (reading.fault at cause) → ComesToNone (records_due cl) (answers.BadCl at cause)
 bad_cl_told cl at cause e = inl (rw e refl)
 
-pub bad_tape_told : (machine : Machine) (tape : List ℕ) (at : ℕ) (cause : TapeCause) → control_run machine.code tape ≡ Err (blocks.fault at cause)
-    → ComesToNone (acts_due machine tape) (answers.BadTape at cause)
-bad_tape_told machine tape at cause e = inl (rw e refl)
+pub bad_tape_told : (code : Code) (tape : List ℕ) (error : ControlError) → IsFault fault_in (control_run code tape) error → ComesToNone (acts_due code tape) (tape_told error)
+bad_tape_told code tape (tape_errors.Bad at cause) e = inl (rw e refl)
+bad_tape_told code tape tape_errors.NoMemory e = inr refl
 
 -- ---- along a chain
 

@@ -43,7 +43,7 @@ pub record AreJudged (machine : Machine) (text table cl tape : List ℕ) (steps 
 
 -- behind the table, the steps and the records
 abbrev behind_records : Machine → List ℕ → List Step → List Record → Result Judged Status
-behind_records machine tape steps written = acts_due machine tape >>= λ acts. Ok (judged_by machine steps written acts)
+behind_records machine tape steps written = acts_due machine.code tape >>= λ acts. Ok (judged_by machine steps written acts)
 
 abbrev behind_steps : Machine → List ℕ → List ℕ → List Step → Result Judged Status
 behind_steps machine cl tape steps = records_due cl >>= λ written. behind_records machine tape steps written
@@ -68,7 +68,7 @@ pub judged_for : (machine : Machine) (text table cl tape : List ℕ) (steps : Li
     → AreJudged machine text table cl tape steps written acts → judged_due text table cl tape ≡ Ok (judged_by machine steps written acts)
 judged_for machine text table cl tape steps written acts are =
     on_records machine text table cl tape steps written are.tabled are.comes are.read
-    ∙ chain_on (acts_due machine tape) acts (λ acts. Ok (judged_by machine steps written acts)) (rw are.run refl)
+    ∙ chain_on (acts_due machine.code tape) acts (λ acts. Ok (judged_by machine steps written acts)) (rw are.run refl)
 
 -- where a text comes to nothing
 none_judged : {A : Type 0} (text table cl tape : List ℕ) (due : Result A Status) (more : A → Result Judged Status) (answer : Status) → judged_due text table cl tape ≡ (due >>= more)
@@ -90,9 +90,9 @@ cl_judged machine text table cl tape steps answer tabled comes none =
     none_judged text table cl tape (records_due cl) (behind_records machine tape steps) answer (on_steps machine text table cl tape steps tabled comes) none
 
 pub tape_judged : (machine : Machine) (text table cl tape : List ℕ) (steps : List Step) (written : List Record) (answer : Status) → table_of table ≡ Ok machine
-    → steps_of machine text ≡ Ok (Ok steps) → read_of cl ≡ Ok written → ComesToNone (acts_due machine tape) answer → OrNoMemory (IsJudgement text table cl tape answer) answer
+    → steps_of machine text ≡ Ok (Ok steps) → read_of cl ≡ Ok written → ComesToNone (acts_due machine.code tape) answer → OrNoMemory (IsJudgement text table cl tape answer) answer
 tape_judged machine text table cl tape steps written answer tabled comes read none =
-    none_judged text table cl tape (acts_due machine tape) (λ acts. Ok (judged_by machine steps written acts)) answer
+    none_judged text table cl tape (acts_due machine.code tape) (λ acts. Ok (judged_by machine steps written acts)) answer
     (on_records machine text table cl tape steps written tabled comes read) none
 
 -- something is missed

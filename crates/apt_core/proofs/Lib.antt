@@ -3,6 +3,7 @@ pub mod Chains
 pub mod Outputs
 pub mod Deliveries
 pub mod Readings
+pub mod TapeRuns
 pub mod Compiling
 pub mod Counting
 pub mod Judging

@@ -1,8 +1,11 @@
 -- Files that are read one after the other.
-use Rattle.std.proofs.Common.{inl, inr, ℕ, ◌≤◌, List, [], ◌∷◌, Option, Some, None, ◌∙◌, subst, arith}
+use Rattle.std.proofs.Common.{◌≡◌, inl, inr, ℕ, ◌≤◌, List, [], ◌∷◌, Option, Some, None, ◌∙◌, refl, subst, arith}
 use Rattle.apt_shelf.specs.Told.{Contents, Rose, Lacks}
+use Rattle.apt_shelf.specs.Files.{IsLongerAt}
+use Rattle.apt_shelf.specs.declared.files.ReadError.{ReadError}
+use Rattle.apt_shelf.specs.declared.files.ReadError.TheVariants as errors
 use Rattle.apt_report.specs.declared.status.Status.{Status}
-use Rattle.apt_core.specs.Inputs.{Files, AreRead, Input, Reads, ReadsAll, IsUnread, IsFirstUnread, IsStopped}
+use Rattle.apt_core.specs.Inputs.{Files, AreRead, Input, Reads, ReadsAll, IsUnread, IsFirstUnread, IsStopped, IsToldFor}
 
 pub read_on : (before middle after : Files) → AreRead before middle → AreRead middle after → AreRead before after
 read_on before middle after first second = record {
@@ -56,3 +59,14 @@ stopped_next before middle after x text xs answer read reads (inl first) =
 stopped_next before middle after x text xs answer read reads (inr (inl fault)) =
     inr (inl (fault.0, rose_from before.read_faults middle.read_faults after.read_faults read.later fault.1))
 stopped_next before middle after x text xs answer read reads (inr (inr short)) = inr (inr short)
+
+-- at a file that can't be read, by its error
+pub stopped_by : (x : Input) (before after : Files) (error : ReadError) (answer : Status) → IsToldFor x.name error answer
+    → (error ≡ errors.Missing → Lacks before.told x.name before.read_faults after.read_faults) → (error ≡ errors.Fault → Rose before.read_faults after.read_faults)
+    → (error ≡ errors.TooLong → IsLongerAt before.told x.name x.limit) → IsStopped (x ∷ []) before after answer
+stopped_by x before after errors.Missing answer (inl told) missing fault long = inl (inl (inl (told, missing refl)))
+stopped_by x before after errors.Missing answer (inr short) missing fault long = inr (inr short)
+stopped_by x before after errors.Fault answer told missing fault long = inr (inl (told, fault refl))
+stopped_by x before after errors.TooLong answer (inl told) missing fault long = inl (inl (inr (told, long refl)))
+stopped_by x before after errors.TooLong answer (inr short) missing fault long = inr (inr short)
+stopped_by x before after errors.NoMemory answer told missing fault long = inr (inr told)

@@ -49,7 +49,7 @@ part_no_usage due =
 records_no_usage : (cl : List ℕ) → records_due cl ≢ Err answers.Usage
 records_no_usage cl = told_no_usage (read_of cl) (λ fault. answers.BadCl fault.at fault.cause) (λ fault e. let f : ⊥ = cc in f)
 
-acts_no_usage : (machine : Machine) (tape : List ℕ) → acts_due machine tape ≢ Err answers.Usage
+acts_no_usage : (machine : Machine) (tape : List ℕ) → acts_due machine.code tape ≢ Err answers.Usage
 acts_no_usage machine tape = told_no_usage (control_run machine.code tape) bad_tape (λ fault e. let f : ⊥ = cc in f)
 
 output_no_usage : (text table : List ℕ) → output_due text table ≢ Err answers.Usage
@@ -62,15 +62,15 @@ judged_no_usage text table cl tape =
     chain_no_usage (machine_due table) _ (machine_no_usage table) (λ machine.
     chain_no_usage (steps_due machine text) _ (part_no_usage (steps_of machine text)) (λ steps.
     chain_no_usage (records_due cl) _ (records_no_usage cl) (λ written.
-    chain_no_usage (acts_due machine tape) _ (acts_no_usage machine tape) (λ acts. ok_no_usage _))))
+    chain_no_usage (acts_due machine.code tape) _ (acts_no_usage machine tape) (λ acts. ok_no_usage _))))
 
 acts_said_no_usage : (due : Result (List Act) Status) → due ≢ Err answers.Usage → (said_of (due >>= λ acts. Ok (acts_said acts))).answer ≢ answers.Usage
 acts_said_no_usage (Ok acts) none e = let f : ⊥ = cc in f
 acts_said_no_usage (Err answer) none e = none (ap Err e)
 
 said_no_usage : (tape : List ℕ) (due : Result Machine Status) → due ≢ Err answers.Usage
-    → (said_of (due >>= λ machine. acts_due machine tape >>= λ acts. Ok (acts_said acts))).answer ≢ answers.Usage
-said_no_usage tape (Ok machine) none = acts_said_no_usage (acts_due machine tape) (acts_no_usage machine tape)
+    → (said_of (due >>= λ machine. acts_due machine.code tape >>= λ acts. Ok (acts_said acts))).answer ≢ answers.Usage
+said_no_usage tape (Ok machine) none = acts_said_no_usage (acts_due machine.code tape) (acts_no_usage machine tape)
 said_no_usage tape (Err answer) none = λ e. none (ap Err e)
 
 -- ---- what is told

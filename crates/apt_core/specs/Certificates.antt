@@ -81,7 +81,7 @@ judged_by machine steps written acts = record { machine = machine; steps = steps
 -- for the texts under PART, MACHINE, CL and TAPE: the table is judged first
 abbrev pub judged_due : List ℕ → List ℕ → List ℕ → List ℕ → Result Judged Status
 judged_due text table cl tape =
-    machine_due table >>= λ machine. steps_due machine text >>= λ steps. records_due cl >>= λ written. acts_due machine tape >>= λ acts.
+    machine_due table >>= λ machine. steps_due machine text >>= λ steps. records_due cl >>= λ written. acts_due machine.code tape >>= λ acts.
     Ok (judged_by machine steps written acts)
 
 -- something is missed, which is told

@@ -33,7 +33,7 @@ acts_said acts = record { answer = answers.Done (summaries.Decoded (length acts)
 
 -- for the texts of a table and of a tape, which is in the code of its machine
 abbrev pub said_due : List ℕ → List ℕ → Result Said Status
-said_due table tape = machine_due table >>= λ machine. acts_due machine tape >>= λ acts. Ok (acts_said acts)
+said_due table tape = machine_due table >>= λ machine. acts_due machine.code tape >>= λ acts. Ok (acts_said acts)
 
 -- or memory runs out
 abbrev pub IsSaid : Said → Said → Type 0

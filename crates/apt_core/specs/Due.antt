@@ -7,8 +7,11 @@ use Rattle.apt_words.specs.declared.deed.Step.{Step}
 use Rattle.apt_parse.specs.Programs.{TextFault}
 use Rattle.apt_cldata.specs.declared.record.Record.{Record}
 use Rattle.apt_cldata.specs.Reading.{read_of}
+use Rattle.apt_tapecode.specs.declared.Code.{Code}
 use Rattle.apt_block.specs.declared.block.BlockFault.{BlockFault}
 use Rattle.apt_control.specs.declared.Act.{Act}
+use Rattle.apt_control.specs.declared.error.ControlError.{ControlError}
+use Rattle.apt_control.specs.declared.error.ControlError.TheVariants as tape_errors
 use Rattle.apt_control.specs.Control.{control_run}
 use Rattle.apt_machine.specs.declared.machine.Machine.{Machine}
 use Rattle.apt_machine.specs.declared.cause.MachineError.{MachineError}
@@ -47,6 +50,11 @@ refused_step r = answers.Refused r.line r.step r.case
 abbrev pub bad_tape : BlockFault → Status
 bad_tape fault = answers.BadTape fault.at fault.cause
 
+-- the same of what a reader of tapes refuses
+abbrev pub tape_told : ControlError → Status
+tape_told (tape_errors.Bad at cause) = answers.BadTape at cause
+tape_told tape_errors.NoMemory = answers.NoMemory
+
 -- the same of what the crate of parts refuses
 abbrev pub part_told : PartError → Status
 part_told (part_errors.Bad line cause) = answers.BadPart line cause
@@ -74,5 +82,5 @@ steps_due machine text = unless_refused (steps_of machine text)
 abbrev pub records_due : List ℕ → Result (List Record) Status
 records_due cl = told_by (read_of cl) (λ fault. answers.BadCl fault.at fault.cause)
 
-abbrev pub acts_due : Machine → List ℕ → Result (List Act) Status
-acts_due machine tape = told_by (control_run machine.code tape) bad_tape
+abbrev pub acts_due : Code → List ℕ → Result (List Act) Status
+acts_due code tape = told_by (control_run code tape) bad_tape

@@ -3,6 +3,8 @@ use Rattle.std.specs.Prelude.{◌≡◌, ◌⊎◌, ℕ, ◌≤◌, List, [], �
 use Rattle.apt_shelf.specs.declared.shelf.Shelf as shelves
 use Rattle.apt_shelf.specs.Told.{Contents, Rose, Lacks}
 use Rattle.apt_shelf.specs.Files.{HoldsAt, IsLongerAt}
+use Rattle.apt_shelf.specs.declared.files.ReadError.{ReadError}
+use Rattle.apt_shelf.specs.declared.files.ReadError.TheVariants as errors
 use Rattle.apt_part.specs.Promise.{file_limit}
 use Rattle.apt_report.specs.declared.status.Status.{Status}
 use Rattle.apt_report.specs.declared.status.Status.TheVariants as answers
@@ -76,6 +78,13 @@ abbrev pub IsFirstUnread : Option Contents → List Input → ℕ → ℕ → St
 IsFirstUnread told [] before now answer = ⊥
 IsFirstUnread told (x ∷ xs) before now answer =
     IsUnread told x before now answer ⊎ ((text : List ℕ) × Reads told x text × IsFirstUnread told xs before now answer)
+
+-- how it is told that a name can't be read
+abbrev pub IsToldFor : List ℕ → ReadError → Status → Type 0
+IsToldFor name errors.Missing answer = OrNoMemory (answer ≡ answers.Missing name) answer
+IsToldFor name errors.Fault answer = answer ≡ answers.ReadFault
+IsToldFor name errors.TooLong answer = OrNoMemory (answer ≡ answers.TooLong name) answer
+IsToldFor name errors.NoMemory answer = answer ≡ answers.NoMemory
 
 -- the answer where a count of faults rose, or memory ran out
 abbrev pub IsShort : Status → ℕ → ℕ → Status → Type 0

@@ -1,10 +1,20 @@
 //! The files that a command reads.
 
-ghost use Rattle.std.specs.Prelude.{◌≡◌, [], ◌∷◌, IfOk, IfErr};
-ghost use Rattle.apt_core.specs.Inputs.{input, files_on, AreRead, Reads, IsStopped};
+ghost use Rattle.std.specs.Prelude.{◌≡◌, ◌+◌, ◌<◌, ◌^◌, ◌++◌, ℕ, List, [], ◌∷◌, length, IfOk, IfErr, IsErrOf};
+ghost use Rattle.apt_words.specs.Answers.{IsDueAs};
+ghost use Rattle.apt_shelf.specs.Told.{Lacks, Rose};
+ghost use Rattle.apt_shelf.specs.Files.{IsLongerAt};
+ghost use Rattle.apt_tapecode.specs.declared.Code.{Code};
+ghost use Rattle.apt_control.specs.Answers.{fault_in};
+ghost use Rattle.apt_control.specs.Control.{control_run};
+ghost use Rattle.apt_part.specs.Promise.{file_limit};
+ghost use Rattle.apt_core.specs.Inputs.{input, files_on, AreRead, Reads, IsStopped, IsToldFor};
+ghost use Rattle.apt_core.specs.TapeRuns.{HasRun};
 
+use apt_control::{Act, ControlError, TapeReader};
 use apt_report::{FileName, Status};
-use apt_shelf::{ReadError, Shelf, read_all};
+use apt_shelf::{ReadError, Shelf, read_all, read_piece};
+use apt_tapecode::Code;
 use std::alloc::{AllocError, Global};
 
 /// The longest part program, in bytes.
@@ -15,6 +25,9 @@ pub(crate) const MACHINE_LIMIT: usize = 65_536;
 
 /// The longest CL file and the longest tape, in bytes.
 pub(crate) const FILE_LIMIT: usize = 67_108_864;
+
+/// How many bytes of a tape are read at a time.
+const PIECE: usize = 4096;
 
 /// All bytes of a name, or the answer where it can't be read.
 pub(crate) fn read_input<H: Shelf>(
@@ -29,14 +42,25 @@ pub(crate) fn read_input<H: Shelf>(
 {
     match read_all(alloc, shelf, name, limit) {
         Ok(text) => Ok(text),
-        Err(ReadError::Missing) => Err(Status::Missing {
-            name: file_name(alloc, name)?,
-        }),
-        Err(ReadError::Fault) => Err(Status::ReadFault),
-        Err(ReadError::TooLong) => Err(Status::TooLong {
-            name: file_name(alloc, name)?,
-        }),
-        Err(ReadError::NoMemory) => Err(Status::NoMemory),
+        Err(error) => Err(unread(alloc, name, error)),
+    }
+}
+
+/// The answer where a name can't be read.
+fn unread(alloc: Global, name: &str, error: ReadError) -> Status
+    ensures { IsToldFor name.now error result }
+{
+    match error {
+        ReadError::Missing => match file_name(alloc, name) {
+            Ok(name) => Status::Missing { name },
+            Err(_) => Status::NoMemory,
+        },
+        ReadError::Fault => Status::ReadFault,
+        ReadError::TooLong => match file_name(alloc, name) {
+            Ok(name) => Status::TooLong { name },
+            Err(_) => Status::NoMemory,
+        },
+        ReadError::NoMemory => Status::NoMemory,
     }
 }
 
@@ -46,4 +70,63 @@ fn file_name(alloc: Global, name: &str) -> Result<FileName, AllocError>
     Ok(FileName {
         text: String::from_str(alloc, name)?,
     })
+}
+
+/// The run of a tape in a code, which is read piece by piece, or the answer where it can't be read.
+pub(crate) fn run_input<H: Shelf>(
+    alloc: Global,
+    shelf: &mut H,
+    name: &str,
+    code: Code,
+) -> Result<Result<Vec<Act>, ControlError>, Status>
+    ensures run { IfOk result (λ run. (tape : List ℕ) × Reads (H.told shelf.old) (input name.now file_limit) tape × IsDueAs (λ v. v.items) fault_in (control_run code tape) run) }
+    ensures stopped { IfErr result (IsStopped (input name.now file_limit ∷ []) (files_on H.Shelf shelf.old) (files_on H.Shelf shelf.new)) }
+    ensures read { AreRead (files_on H.Shelf shelf.old) (files_on H.Shelf shelf.new) }
+{
+    match run_pieces(alloc, shelf, name, code) {
+        Ok(run) => Ok(run),
+        Err(error) => Err(unread(alloc, name, error)),
+    }
+}
+
+/// The same. The tape is read to its end also behind a fault, so that one that is too long is told as such.
+fn run_pieces<H: Shelf>(
+    alloc: Global,
+    shelf: &mut H,
+    name: &str,
+    code: Code,
+) -> Result<Result<Vec<Act>, ControlError>, ReadError>
+    ensures run { IfOk result (λ run. (tape : List ℕ) × Reads (H.told shelf.old) (input name.now file_limit) tape × IsDueAs (λ v. v.items) fault_in (control_run code tape) run) }
+    ensures missing { IsErrOf result ReadError.Missing → Lacks (H.told shelf.old) name.now (H.read_faults shelf.old) (H.read_faults shelf.new) }
+    ensures fault { IsErrOf result ReadError.Fault → Rose (H.read_faults shelf.old) (H.read_faults shelf.new) }
+    ensures too_long { IsErrOf result ReadError.TooLong → IsLongerAt (H.told shelf.old) name.now file_limit }
+    ensures read { AreRead (files_on H.Shelf shelf.old) (files_on H.Shelf shelf.new) }
+{
+    shelf.start_read(name)?;
+    let mut run = Ok(TapeReader::new(alloc, code));
+    let mut count = 0;
+    let mut buf = [0u8; PIECE];
+    'pieces: loop {
+        let n = read_piece(shelf, &mut buf, count, FILE_LIMIT)?;
+        if n == 0 {
+            return Ok(finished(run));
+        }
+        run = fed(run, &buf[..n]);
+        count += n;
+    }
+}
+
+/// A run goes on with a piece, where nothing was refused.
+fn fed(run: Result<TapeReader, ControlError>, piece: &[u8]) -> Result<TapeReader, ControlError>
+    requires { IfOk run (λ reader. reader.count + length piece.now < 2 ^ 64) }
+    ensures { (code : Code) (front : List ℕ) → HasRun code front run → HasRun code (front ++ piece.now) result }
+{
+    run?.feed(piece)
+}
+
+/// The acts of a run that has come to its end.
+fn finished(run: Result<TapeReader, ControlError>) -> Result<Vec<Act>, ControlError>
+    ensures { (code : Code) (front : List ℕ) → HasRun code front run → IsDueAs (λ v. v.items) fault_in (control_run code front) result }
+{
+    run?.finish()
 }
