@@ -1,7 +1,6 @@
 -- Where two lists of acts differ, one of which was gone through so far.
-use Rattle.std.proofs.Common.{◌≡◌, ◌==◌, false, ◌<◌, ◌≤◌, ◌+◌, ℕ, zero, suc, List, [], ◌∷◌, ◌++◌, length, take, drop, get_or, sym, ap, ◌∙◌, refl, subst, arith}
+use Rattle.std.proofs.Common.{◌≡◌, ◌<◌, ◌≤◌, ◌+◌, ℕ, zero, suc, List, [], ◌∷◌, ◌++◌, length, take, drop, get_or, sym, ap, ◌∙◌, refl, subst, arith}
 use Rattle.std.proofs.lemmas.List.{take-append-drop, take_all, length-take-le, append-nil}
-use Rattle.std.proofs.lemmas.Bool.Decides.{nat_tests}
 use Rattle.apt_control.specs.declared.Act.{Act}
 use Rattle.apt_core.specs.Certificates.{HeadsDiffer, DifferAt}
 
@@ -39,14 +38,10 @@ ends_differ xs ys left at same number h = record {
   number = number;
 }
 
-pub same_lists : (xs ys left : List Act) → ys ≡ xs ++ left → length left ≡ 0 → xs ≡ ys
-same_lists xs ys [] same none = sym (same ∙ append-nil xs)
-same_lists xs ys (x ∷ left) same none = absurd (omega (arith, none))
-
-positive : (n : ℕ) → (n == 0) ≡ false → 0 < n
-positive n e = grind (arith, nat_tests)
+pub same_lists : (xs ys left : List Act) → ys ≡ xs ++ left → left ≡ [] → xs ≡ ys
+same_lists xs ys left same none = sym (same ∙ ap (λ (l : List Act). xs ++ l) none ∙ append-nil xs)
 
 -- the first list was gone through
-pub ended : (xs ys left : List Act) (i at : ℕ) → length xs ≤ i → i ≤ length xs → ys ≡ take i xs ++ left → at ≡ i + 1 → (length left == 0) ≡ false → DifferAt xs ys at
+pub ended : (xs ys left : List Act) (i at : ℕ) → length xs ≤ i → i ≤ length xs → ys ≡ take i xs ++ left → at ≡ i + 1 → 0 < length left → DifferAt xs ys at
 ended xs ys left i at h g same number more =
-    ends_differ xs ys left at (same ∙ ap (λ (zs : List Act). zs ++ left) (take_all i xs h)) (omega (arith, number, h, g)) (positive (length left) more)
+    ends_differ xs ys left at (same ∙ ap (λ (zs : List Act). zs ++ left) (take_all i xs h)) (omega (arith, number, h, g)) more

@@ -1,6 +1,7 @@
 //! The command `certify`.
 
-ghost use Rattle.std.specs.Prelude.{◌≡◌, ◌↔◌, ◌+◌, ◌<◌, ◌≤◌, ◌^◌, IsTrue, List, ◌∷◌, length, None, IfOk, IfErr, IfSome};
+ghost use Rattle.std.specs.Prelude.{◌≡◌, ◌↔◌, ◌+◌, ◌<◌, ◌≤◌, ◌^◌, false, IsTrue, ℕ, List, ◌∷◌, length, None, Ok, IfOk, IfErr, IfSome};
+ghost use Rattle.apt_words.specs.Answers.{IsDueAs};
 ghost use Rattle.apt_cldata.specs.Ranges.{AreRecords, vertex_count};
 ghost use Rattle.apt_meaning.specs.Situations.{first_situation};
 ghost use Rattle.apt_meaning.specs.Compiled.{first_refused};
@@ -10,22 +11,28 @@ ghost use Rattle.apt_job.specs.Jobs.{jobs_said};
 ghost use Rattle.apt_part.specs.Promise.{AreSteps};
 ghost use Rattle.apt_post.specs.Plan as plans;
 ghost use Rattle.apt_control.specs.declared.Act.{Act};
+ghost use Rattle.apt_control.specs.Answers.{fault_in};
+ghost use Rattle.apt_control.specs.Control.{control_run};
+ghost use Rattle.apt_machine.specs.Machines.{IsMachine};
+ghost use Rattle.apt_machine.specs.Tables.{table_of};
 ghost use Rattle.apt_core.specs.Due.{answer_of, OrNoMemory};
 ghost use Rattle.apt_core.specs.Request.{four_names};
 ghost use Rattle.apt_core.specs.Inputs.{files_on};
 ghost use Rattle.apt_core.specs.Certificates.{DifferAt, HeadsDiffer, IsMissed, IsJudgement};
 ghost use Rattle.apt_core.specs.Promise.{Certifies};
 
-use crate::due::{acts_on, machine_of, records_in, steps_on};
-use crate::reading::{FILE_LIMIT, MACHINE_LIMIT, PART_LIMIT, read_input};
+use crate::due::{acts_of, machine_of, records_in, steps_on};
+use crate::reading::{FILE_LIMIT, MACHINE_LIMIT, PART_LIMIT, read_input, run_input};
 use crate::words::Names;
 use apt_certify::check_jobs;
 use apt_cldata::Record;
-use apt_control::Act;
+use apt_control::{Act, ControlError};
 use apt_job::{JobError, jobs};
-use apt_post::plan;
+use apt_machine::Machine;
+use apt_post::Plan;
 use apt_report::{Miss, Status, Summary, Verdict};
 use apt_shelf::Shelf;
+use apt_tapecode::Code;
 use apt_words::Step;
 use std::alloc::Global;
 
@@ -40,26 +47,34 @@ pub(crate) fn certify<H: Shelf>(
     let text = read_input(alloc, shelf, names.part, PART_LIMIT)?;
     let table = read_input(alloc, shelf, names.machine, MACHINE_LIMIT)?;
     let cl = read_input(alloc, shelf, names.cl, FILE_LIMIT)?;
-    let tape = read_input(alloc, shelf, names.tape, FILE_LIMIT)?;
-    judged(alloc, text, &table, &cl, &tape)
+    match machine_of(&table) {
+        Ok(machine) => {
+            let run = run_input(alloc, shelf, names.tape, machine.code)?;
+            judged(alloc, &machine, text, &cl, run)
+        }
+        Err(answer) => {
+            // a tape that can't be read is told before the table's fault
+            run_input(alloc, shelf, names.tape, Code::Rs358)?;
+            Err(answer)
+        }
+    }
 }
 
-/// What is found of a part, a machine table, a CL file and a tape.
+/// What is found of a part and a CL file, and of a tape by its run, on a machine.
 fn judged(
     alloc: Global,
+    machine: &Machine,
     text: Vec<u8>,
-    table: &[u8],
     cl: &[u8],
-    tape: &[u8],
+    run: Result<Vec<Act>, ControlError>,
 ) -> Result<Summary, Status>
-    requires table { length table.now ≤ 65536 }
+    requires machine { IsMachine machine.now }
     requires short { length cl.now ≤ 67108864 }
-    ensures { OrNoMemory (IsJudgement text.items table.now cl.now tape.now (answer_of result)) (answer_of result) }
+    ensures { (table tape : List ℕ) → table_of table ≡ Ok machine.now → IsDueAs (λ v. v.items) fault_in (control_run machine.now.code tape) run → OrNoMemory (IsJudgement text.items table cl.now tape (answer_of result)) (answer_of result) }
 {
-    let machine = machine_of(table)?;
-    let steps = steps_on(alloc, text, &machine)?;
+    let steps = steps_on(alloc, text, machine)?;
     let records = records_in(alloc, cl)?;
-    let acts = acts_on(alloc, &machine, tape)?;
+    let acts = acts_of(run)?;
     let verdict = verdict_on(alloc, &steps, &records, &acts)?;
     Ok(Summary::Certified(verdict))
 }
@@ -94,8 +109,7 @@ fn verdict_on(
             miss: Miss::Motion(bad),
         });
     }
-    let planned = plan(alloc, records)?;
-    match first_difference(acts, &planned.acts) {
+    match first_difference(acts, Plan::of(records)) {
         Some(at) => Err(Status::NotCertified {
             miss: Miss::Act { at },
         }),
@@ -103,32 +117,35 @@ fn verdict_on(
     }
 }
 
-/// The first place, from 1, at which two lists of acts differ.
+/// The first place, from 1, at which acts and a plan differ.
 #[tactic(auto, using(crate::proofs::Differences::same_lists))]
-fn first_difference(xs: &[Act], ys: &[Act]) -> Option<u64>
-    ensures differ { IfSome result (λ at. DifferAt xs.now ys.now at) }
-    ensures same { result ≡ None → xs.now ≡ ys.now }
+fn first_difference(acts: &[Act], plan: Plan<'_>) -> Option<u64>
+    ensures differ { IfSome result (λ at. DifferAt acts.now plan at) }
+    ensures same { result ≡ None → acts.now ≡ plan }
 {
     let mut at = 1;
-    let mut left = ys;
-    'acts: for x in xs {
-        match behind_same(*x, left) {
-            Some(rest) => left = rest,
-            None => return Some(at),
+    let mut left = plan;
+    'acts: for x in acts {
+        if !begins_with(&mut left, *x) {
+            return Some(at);
         }
         at += 1;
     }
-    if left.is_empty() { None } else { Some(at) }
+    if left.next().is_some() {
+        Some(at)
+    } else {
+        None
+    }
 }
 
-/// The acts behind the first, where it is this one.
-fn behind_same(x: Act, ys: &[Act]) -> Option<&[Act]>
-    ensures same { IfSome result (λ rest. ys.now ≡ x ∷ rest.now) }
-    ensures differ { result ≡ None → (xs : List Act) → HeadsDiffer (x ∷ xs) ys.now }
+/// Whether an act is the first of those that are left, which is taken.
+fn begins_with(plan: &mut Plan<'_>, x: Act) -> bool
+    ensures same { IsTrue result → plan.old ≡ x ∷ plan.new }
+    ensures differ { result ≡ false → (xs : List Act) → HeadsDiffer (x ∷ xs) plan.old }
 {
-    match ys.split_first() {
-        Some((y, rest)) if is_same(x, *y) => Some(rest),
-        _ => None,
+    match plan.next() {
+        Some(y) => is_same(x, y),
+        None => false,
     }
 }
 

@@ -1,17 +1,24 @@
 //! The command `decode`.
 
-ghost use Rattle.std.specs.Prelude.{◌≤◌, length};
+ghost use Rattle.std.specs.Prelude.{◌≡◌, ℕ, List, Ok};
+ghost use Rattle.apt_words.specs.Answers.{IsDueAs};
+ghost use Rattle.apt_control.specs.Answers.{fault_in};
+ghost use Rattle.apt_control.specs.Control.{control_run};
+ghost use Rattle.apt_machine.specs.declared.machine.Machine.{Machine};
+ghost use Rattle.apt_machine.specs.Tables.{table_of};
 ghost use Rattle.apt_core.specs.Decoding.{said_of, said_due, IsSaid};
 ghost use Rattle.apt_core.specs.Request.{tape_names};
 ghost use Rattle.apt_core.specs.Inputs.{files_on};
 ghost use Rattle.apt_core.specs.Promise.{Decodes};
 
-use crate::due::{acts_on, machine_of};
+use crate::due::{acts_of, machine_of};
 use crate::put::Reply;
-use crate::reading::{FILE_LIMIT, MACHINE_LIMIT, read_input};
+use crate::reading::{MACHINE_LIMIT, read_input, run_input};
 use crate::words::TapeNames;
+use apt_control::{Act, ControlError};
 use apt_report::{Status, Summary, act_lines};
 use apt_shelf::Shelf;
+use apt_tapecode::Code;
 use std::alloc::Global;
 
 /// Reads the machine table and the tape, and gives the acts to which a control runs the tape.
@@ -23,17 +30,24 @@ pub(crate) fn decode<H: Shelf>(
     ensures { Decodes (tape_names names.entry) (files_on H.Shelf shelf.old) (files_on H.Shelf shelf.new) (said_of result) }
 {
     let table = read_input(alloc, shelf, names.machine, MACHINE_LIMIT)?;
-    let tape = read_input(alloc, shelf, names.tape, FILE_LIMIT)?;
-    decoded(alloc, &table, &tape)
+    match machine_of(&table) {
+        Ok(machine) => {
+            let run = run_input(alloc, shelf, names.tape, machine.code)?;
+            decoded(alloc, run)
+        }
+        Err(answer) => {
+            // a tape that can't be read is told before the table's fault
+            run_input(alloc, shelf, names.tape, Code::Rs358)?;
+            Err(answer)
+        }
+    }
 }
 
-/// The acts of a tape in the code of a table's machine, each with its line.
-fn decoded(alloc: Global, table: &[u8], tape: &[u8]) -> Result<Reply, Status>
-    requires short { length table.now ≤ 65536 }
-    ensures { IsSaid (said_of (said_due table.now tape.now)) (said_of result) }
+/// The acts to which a control ran a tape, each with its line.
+fn decoded(alloc: Global, run: Result<Vec<Act>, ControlError>) -> Result<Reply, Status>
+    ensures { (machine : Machine) (table tape : List ℕ) → table_of table ≡ Ok machine → IsDueAs (λ v. v.items) fault_in (control_run machine.code tape) run → IsSaid (said_of (said_due table tape)) (said_of result) }
 {
-    let machine = machine_of(table)?;
-    let acts = acts_on(alloc, &machine, tape)?;
+    let acts = acts_of(run)?;
     let lines = act_lines(alloc, &acts)?;
     Ok(Reply {
         status: Status::Done(Summary::Decoded {

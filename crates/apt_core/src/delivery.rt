@@ -1,37 +1,61 @@
 //! The writing of a CL file and of its tape.
 
-ghost use Rattle.std.specs.Prelude.{◌≡◌, ◌≤◌, IfOk, OnOk, OnErr, IsErrOf};
+ghost use Rattle.std.specs.Prelude.{◌≡◌, ◌+◌, ◌≤◌, length, IfOk, OnOk, OnErr, IsErrOf};
 ghost use Rattle.std.specs.FinMap.{insert};
 ghost use Rattle.apt_shelf.specs.Files.{WritesPrefix};
 ghost use Rattle.apt_shelf.specs.Told.{Rose, Steps};
+ghost use Rattle.apt_cldata.specs.Files.{IsFile};
+ghost use Rattle.apt_cldata.specs.Ranges.{vertex_count};
+ghost use Rattle.apt_post.specs.Blocks.{IsProgram};
+ghost use Rattle.apt_post.specs.Plan.{plan};
 ghost use Rattle.apt_core.specs.Delivery.{with_output, WritesFront};
+ghost use Rattle.apt_core.specs.Outputs.{output_of};
 
-use crate::compile::Output;
-use apt_cldata::ClBytes;
+use apt_cldata::{ClBytes, Record};
+use apt_machine::Machine;
+use apt_post::{Counts, TapeBytes, counts};
 use apt_report::Summary;
-use apt_shelf::{Shelf, ShelfFault, append_all, append_full, write_all};
+use apt_shelf::{Pieces, Shelf, ShelfFault};
 use std::alloc::Global;
-use std::mem::swap;
+
+/// The room for the records of a CL file that are written next, in bytes. More is taken only for a record that is longer.
+const RECORDS: usize = 8192;
+
+/// The records of a part, and the machine for which its tape is.
+#[derive(Drop)]
+pub(crate) struct Output {
+    pub records: Vec<Record>,
+    pub machine: Machine,
+}
 
 /// Writes the CL file whole, and then the tape.
-#[tactic(auto, using(crate::proofs::Deliveries::cl_cut, crate::proofs::Deliveries::both_whole))]
+#[tactic(auto, using(crate::proofs::Deliveries::cl_cut, crate::proofs::Deliveries::tape_cut, crate::proofs::Deliveries::both_whole))]
 pub(crate) fn deliver<H: Shelf>(
     alloc: Global,
     shelf: &mut H,
-    output: Output,
+    output: &Output,
     cl: &str,
     tape: &str,
 ) -> Result<Summary, ShelfFault>
-    ensures told { IfOk result (λ summary. summary ≡ output.summary) }
-    ensures whole { OnOk result (Steps (with_output cl.now tape.now output) (H.told shelf.old) (H.told shelf.new)) }
-    ensures front { OnErr result (WritesFront cl.now tape.now output (H.told shelf.old) (H.told shelf.new)) }
+    requires file { IsFile output.now.records.items }
+    requires program { IsProgram (plan output.now.records.items) }
+    requires few { vertex_count output.now.records.items + length output.now.records.items ≤ 67108864 }
+    ensures told { IfOk result (λ summary. summary ≡ (output_of output.now.machine output.now.records.items).summary) }
+    ensures whole { OnOk result (Steps (with_output cl.now tape.now (output_of output.now.machine output.now.records.items)) (H.told shelf.old) (H.told shelf.new)) }
+    ensures front { OnErr result (WritesFront cl.now tape.now (output_of output.now.machine output.now.records.items) (H.told shelf.old) (H.told shelf.new)) }
     ensures fault { IsErrOf result ShelfFault.Fault → Rose (H.write_faults shelf.old) (H.write_faults shelf.new) }
     ensures later { H.write_faults shelf.old ≤ H.write_faults shelf.new }
     ensures read_faults { H.read_faults shelf.new ≡ H.read_faults shelf.old }
 {
-    write_cl(alloc, shelf, cl, output.cl)?;
-    write_all(shelf, tape, &output.tape)?;
-    Ok(output.summary)
+    let records = output.records.as_slice();
+    let Counts { acts, segments } = counts(records);
+    write_cl(alloc, shelf, cl, ClBytes::of(records))?;
+    write_tape(shelf, tape, TapeBytes::of(records, &output.machine))?;
+    Ok(Summary::Compiled {
+        records: records.len() as u64,
+        acts,
+        segments,
+    })
 }
 
 /// Writes a CL file piece by piece, so that a long one is never in memory as a whole. After a refusal the name is as
@@ -40,7 +64,7 @@ fn write_cl<H: Shelf>(
     alloc: Global,
     shelf: &mut H,
     name: &str,
-    file: ClBytes,
+    file: ClBytes<'_>,
 ) -> Result<(), ShelfFault>
     ensures ok { OnOk result (Steps (λ m. insert m name.now file) (H.told shelf.old) (H.told shelf.new)) }
     ensures err { OnErr result (WritesPrefix name.now file (H.told shelf.old) (H.told shelf.new)) }
@@ -48,18 +72,36 @@ fn write_cl<H: Shelf>(
     ensures later { H.write_faults shelf.old ≤ H.write_faults shelf.new }
     ensures read_faults { H.read_faults shelf.new ≡ H.read_faults shelf.old }
 {
-    shelf.start_write(name)?;
+    let mut records = Vec::with_capacity(alloc, RECORDS)?;
+    let mut pieces = Pieces::new();
     let mut left = file;
-    let mut piece = Vec::new(alloc);
-    let mut held = Vec::new(alloc);
-    let mut rest = Vec::new(alloc);
+    shelf.start_write(name)?;
     'pieces: while !left.is_empty() {
-        left.take_piece(&mut piece)?;
-        held.extend_from_slice(&piece)?;
-        rest.clear();
-        rest.extend_from_slice(append_full(shelf, &held)?)?;
-        swap(&mut held, &mut rest);
+        left.take_piece(&mut records)?;
+        pieces.push(shelf, &records)?;
     }
-    append_all(shelf, &held)?;
+    pieces.finish(shelf)?;
+    Ok(())
+}
+
+/// Writes a tape block by block, in the same way. It takes no memory.
+fn write_tape<H: Shelf>(
+    shelf: &mut H,
+    name: &str,
+    tape: TapeBytes<'_>,
+) -> Result<(), ShelfFault>
+    ensures ok { OnOk result (Steps (λ m. insert m name.now tape) (H.told shelf.old) (H.told shelf.new)) }
+    ensures err { OnErr result (WritesPrefix name.now tape (H.told shelf.old) (H.told shelf.new)) }
+    ensures fault { IsErrOf result ShelfFault.Fault → Rose (H.write_faults shelf.old) (H.write_faults shelf.new) }
+    ensures later { H.write_faults shelf.old ≤ H.write_faults shelf.new }
+    ensures read_faults { H.read_faults shelf.new ≡ H.read_faults shelf.old }
+{
+    let mut pieces = Pieces::new();
+    let mut left = tape;
+    shelf.start_write(name)?;
+    'blocks: while let Some(block) = left.next() {
+        pieces.push(shelf, &block)?;
+    }
+    pieces.finish(shelf)?;
     Ok(())
 }
