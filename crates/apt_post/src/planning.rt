@@ -1,6 +1,6 @@
 //! The acts that records ask for.
 
-ghost use Rattle.std.specs.Prelude.{◌≡◌, ◌++◌, ◌∷◌, [], None, map, IfSome, MatchOption};
+ghost use Rattle.std.specs.Prelude.{◌≡◌, ◌∷◌, [], None, map, IfSome, MatchOption};
 ghost use Rattle.apt_post.specs.Plan as plans;
 
 use apt_cldata::{Note, Position, Reach, Record};
