@@ -1,3 +1,5 @@
+ghost use Rattle.std.specs.Prelude.{◌≡◌, pos};
+
 use apt_block::TapeWord;
 use apt_cldata::{Note, Position, Reach, Record, Vertices};
 use apt_control::Act;
@@ -230,7 +232,9 @@ fn gives_the_blocks_of_any_acts(rt: HostRuntime) -> Result<(), Fail> {
     Ok(())
 }
 
-fn place(x: i64, y: i64) -> Position {
+fn place(x: i64, y: i64) -> Position
+    ensures { result ≡ record { xy = record { x = x; y = y }; z = pos 5 } }
+{
     Position {
         xy: Pt { x, y },
         z: 5,
