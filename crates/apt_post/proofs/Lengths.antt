@@ -119,7 +119,7 @@ record_few p (records.Point reaches.Godlta to) = omega arith
 record_few p (records.Point reaches.Start to) = omega arith
 record_few p (records.Contour vertices) = omega (arith, length-map vertices (cut_to p))
 
-acts_few : (p : Pending) (rs : List Record) → length (acts_from p rs) ≤ length rs + vertex_count rs
+pub acts_few : (p : Pending) (rs : List Record) → length (acts_from p rs) ≤ length rs + vertex_count rs
 acts_few p [] = omega arith
 acts_few p (r ∷ rs) =
     omega (arith, length-append (record_acts p r) (acts_from (record_pending p r) rs), record_few p r, acts_few (record_pending p r) rs)

@@ -1,9 +1,10 @@
 -- A writer that makes the block of one act after the other: where it stands, and for which acts it stands.
-use Rattle.std.specs.Prelude.{◌≡◌, ℕ, ◌+◌, ◌*◌, ◌%◌, pos, ◌==◌, List, [], ◌∷◌, ◌++◌, length, if◌then◌else◌}
+use Rattle.std.specs.Prelude.{◌≡◌, ℕ, ◌+◌, ◌*◌, ◌%◌, pos, ◌==◌, List, [], ◌∷◌, ◌++◌, length, map, if◌then◌else◌}
 use Rattle.std.specs.List.{filter}
+use Rattle.apt_tapecode.specs.Tapecode.{byte_of}
 use Rattle.apt_machine.specs.declared.machine.Machine.{Machine}
 use Rattle.apt_block.specs.declared.block.TapeWord.{TapeWord}
-use Rattle.apt_block.specs.Block.{tape_word, letter_n}
+use Rattle.apt_block.specs.Block.{spelling, tape_word, letter_n}
 use Rattle.apt_control.specs.declared.Act.{Act}
 use Rattle.apt_control.specs.declared.held.Held.{Held}
 use Rattle.apt_control.specs.Control.{nothing_held}
@@ -38,3 +39,12 @@ next_block p act = next_number p ++ filter (is_written p.machine.changed p.held)
 -- where the writer stands then
 abbrev pub next : Posting → Act → Posting
 next p act = record p { steps = (p.steps + p.machine.seq) % 9999; held = behind p.held act }
+
+-- the bytes of the block of an act that comes next
+abbrev pub block_bytes : Posting → Act → List ℕ
+block_bytes p act = map (byte_of p.machine.code) (spelling (next_block p act))
+
+-- the bytes of the blocks of acts that come next
+abbrev pub posted : Posting → List Act → List ℕ
+posted p [] = []
+posted p (act ∷ more) = block_bytes p act ++ posted (next p act) more

@@ -6,7 +6,9 @@ ghost use Rattle.std.specs.Prelude.{◌≡◌, IfOk, Ok};
 ghost use Rattle.apt_control.specs.Control.{control_run};
 ghost use Rattle.apt_post.specs.Blocks as spec;
 
+mod counting;
 mod hands;
+mod left;
 mod limiting;
 mod planning;
 mod poster;
@@ -16,8 +18,10 @@ mod writing;
 
 use apt_control::Act;
 use apt_machine::Machine;
+pub use counting::{counts, plan};
+pub use left::TapeBytes;
 pub use limiting::limits;
-pub use planning::{Pending, Planning, plan};
+pub use planning::{Counts, Pending, Plan};
 pub use poster::Poster;
 use std::alloc::{AllocError, Global};
 pub use writing::blocks;

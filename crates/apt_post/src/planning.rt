@@ -1,29 +1,12 @@
 //! The acts that records ask for.
 
-ghost use Rattle.std.specs.Prelude.{◌≡◌, ◌++◌, map, IfOk, OnOk};
+ghost use Rattle.std.specs.Prelude.{◌≡◌, ◌∷◌, [], None, map, IfSome, MatchOption};
 ghost use Rattle.apt_post.specs.Plan as plans;
 
 use apt_cldata::{Note, Position, Reach, Record};
 use apt_control::Act;
 use apt_words::Units;
-use std::alloc::{AllocError, Global};
 use std::marker::Model;
-
-/// The acts of records, and the number of contour segments among them. Clauses see the list of the acts, and
-/// the number.
-#[derive(Drop)]
-pub struct Planning {
-    pub acts: Vec<Act>,
-    pub segments: u64,
-}
-
-impl Model for Planning {
-    ghost use Rattle.apt_post.specs.Plan as plans;
-
-    ghost Value = { plans.ActsAndSegments };
-
-    ghost view = { λ p. record { acts = p.acts.items; segments = p.segments } };
-}
 
 /// What holds for the records to come: the feed of the last FEDRAT, whether RAPID is pending, and whether the end
 /// was given.
@@ -32,6 +15,26 @@ pub struct Pending {
     pub feed: i64,
     pub rapid: bool,
     pub ended: bool,
+}
+
+/// How many acts records ask for, and how many contour segments they have.
+#[derive(Clone, Copy)]
+pub struct Counts {
+    pub acts: u64,
+    pub segments: u64,
+}
+
+impl Pending {
+    /// What holds before the first record.
+    pub(crate) fn nothing() -> Pending
+        ensures { result ≡ plans.nothing_pending }
+    {
+        Pending {
+            feed: 0,
+            rapid: false,
+            ended: false,
+        }
+    }
 }
 
 fn cut_to(p: Pending, to: Position) -> Act
@@ -71,7 +74,7 @@ fn note_pending(p: Pending, note: &Note) -> Pending
 }
 
 /// What holds behind a record.
-fn record_pending(p: Pending, r: &Record) -> Pending
+pub(crate) fn record_pending(p: Pending, r: &Record) -> Pending
     ensures { result ≡ plans.record_pending p r.now }
 {
     match r {
@@ -119,71 +122,80 @@ fn point_act(p: Pending, reach: Reach, to: Position) -> Option<Act>
     }
 }
 
-fn push_act(acts: &mut Vec<Act>, act: Option<Act>) -> Result<(), AllocError>
-    ensures { OnOk result (acts.new.items ≡ acts.old.items ++ plans.acts_by act) }
-{
-    if let Some(act) = act {
-        acts.push(act)?;
-    }
-    Ok(())
-}
-
-fn push_cuts(acts: &mut Vec<Act>, p: Pending, vertices: &[Position]) -> Result<(), AllocError>
-    ensures { OnOk result (acts.new.items ≡ acts.old.items ++ map (plans.cut_to p) vertices.now) }
-{
-    'vertices: for to in vertices {
-        acts.push(cut_to(p, *to))?;
-    }
-    Ok(())
-}
-
-fn push_acts(acts: &mut Vec<Act>, p: Pending, r: &Record) -> Result<(), AllocError>
-    ensures { OnOk result (acts.new.items ≡ acts.old.items ++ plans.record_acts p r.now) }
+/// The first act of a record, and the vertices to which it cuts then; none where it has no act.
+#[inline(always)]
+pub(crate) fn begun<'a>(p: Pending, r: &'a Record) -> Option<(Act, &'a [Position])>
+    ensures { MatchOption result (plans.record_acts p r.now ≡ []) (λ b. plans.record_acts p r.now ≡ b.0 ∷ map (plans.cut_to (plans.record_pending p r.now)) b.1.now) }
 {
     match r {
-        Record::Note(note) => push_act(acts, note_act(p, note)),
-        Record::Point(reach, to) => push_act(acts, point_act(p, *reach, *to)),
-        Record::Contour(vertices) => push_cuts(acts, p, vertices.as_slice()),
-        _ => Ok(()),
+        Record::Note(note) => Some((note_act(p, note)?, &[])),
+        Record::Point(reach, to) => Some((point_act(p, *reach, *to)?, &[])),
+        Record::Contour(vertices) => {
+            let (to, behind) = vertices.as_slice().split_first()?;
+            Some((cut_to(p, *to), behind))
+        }
+        _ => None,
     }
 }
 
-fn segments_of(r: &Record) -> usize
-    ensures { result ≡ plans.record_segments r.now }
-{
-    match r {
-        Record::Contour(vertices) => vertices.as_slice().len(),
-        _ => 0,
-    }
+/// The acts that records ask for, one after the other. Clauses see those that are left.
+#[derive(Drop)]
+pub struct Plan<'a> {
+    vertices: &'a [Position],
+    units: Option<Units>,
+    pending: Pending,
+    records: &'a [Record],
 }
 
-/// The units, and the acts that records ask for; they lead where the records lead.
-#[tactic(auto, using(crate::proofs::Reaching::plan_reaches))]
-pub fn plan(alloc: Global, records: &[Record]) -> Result<Planning, AllocError>
-    ensures value { IfOk result (λ p. p ≡ plans.planning records.now) }
-    ensures reached { IfOk result (λ p. plans.positions p.acts ≡ plans.points records.now) }
-{
-    plan_all(alloc, records)
+impl<'a> Model for Plan<'a> {
+    ghost use Rattle.std.specs.Prelude.{List, ◌++◌, map};
+    ghost use Rattle.apt_control.specs.declared.Act.{Act};
+    ghost use Rattle.apt_post.specs.Plan as plans;
+
+    ghost Value = { List Act };
+
+    ghost view = { λ p. map (plans.cut_to p.pending) p.vertices.now ++ plans.units_acts p.units ++ plans.acts_from p.pending p.records.now };
 }
 
-fn plan_all(alloc: Global, records: &[Record]) -> Result<Planning, AllocError>
-    ensures { IfOk result (λ p. p ≡ plans.planning records.now) }
-{
-    let mut acts = Vec::new(alloc);
-    acts.push(Act::Units(units_of(records)))?;
-    let mut pending = Pending {
-        feed: 0,
-        rapid: false,
-        ended: false,
-    };
-    let mut segments = 0;
-    'records: for record in records {
-        push_acts(&mut acts, pending, record)?;
-        segments += segments_of(record);
-        pending = record_pending(pending, record);
+impl<'a> Plan<'a> {
+    /// The units, and the acts that records ask for; they lead where the records lead.
+    #[tactic(auto, using(crate::proofs::Reaching::plan_reaches))]
+    pub fn of(records: &'a [Record]) -> Plan<'a>
+        ensures acts { result ≡ plans.plan records.now }
+        ensures reached { plans.positions result ≡ plans.points records.now }
+    {
+        Plan {
+            vertices: &[],
+            units: Some(units_of(records)),
+            pending: Pending::nothing(),
+            records,
+        }
     }
-    Ok(Planning {
-        acts,
-        segments: segments as u64,
-    })
+
+    /// The next act, none at the end.
+    #[inline(always)]
+    pub fn next(&mut self) -> Option<Act>
+        ensures taken { IfSome result (λ act. self.old ≡ act ∷ self.new) }
+        ensures end { result ≡ None → self.old ≡ [] }
+        ensures stays { result ≡ None → self.new ≡ [] }
+    {
+        if let Some((to, behind)) = self.vertices.split_first() {
+            self.vertices = behind;
+            return Some(cut_to(self.pending, *to));
+        }
+        if let Some(units) = self.units {
+            self.units = None;
+            return Some(Act::Units(units));
+        }
+        'records: while let Some((record, behind)) = self.records.split_first() {
+            let first = begun(self.pending, record);
+            self.pending = record_pending(self.pending, record);
+            self.records = behind;
+            if let Some((act, vertices)) = first {
+                self.vertices = vertices;
+                return Some(act);
+            }
+        }
+        None
+    }
 }

@@ -9,7 +9,7 @@ ghost use Rattle.apt_post.specs.Blocks as spec;
 ghost use Rattle.apt_post.specs.Posting as posting;
 ghost use Rattle.apt_post.specs.Posting.{StandsFor};
 
-use crate::hands::{Rs244, Rs358};
+use crate::hands::{Rs244, Rs358, byte_of};
 use crate::words::{behind, g, m, nothing_held, says_held, word};
 use apt_block::{Block, Hand, Plain, TapeWord, push_word, read_block};
 use apt_control::{Act, Held};
@@ -91,6 +91,15 @@ impl Poster {
         let mut text = Text::new();
         self.push_bytes(&mut text, a);
         text
+    }
+
+    /// Writes the bytes that stand before the first block: rewind stop and end of block.
+    pub(crate) fn push_start(&self, text: &mut Text)
+        requires none { text.old.items ≡ [] }
+        ensures { text.new.items ≡ spec.tape_bytes self.now.machine [] }
+    {
+        text.push(byte_of(self.machine.code, b'%'));
+        text.push(byte_of(self.machine.code, b'\n'));
     }
 
     /// Writes the bytes of the next block, which is the act's.

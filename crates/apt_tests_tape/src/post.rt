@@ -1,7 +1,11 @@
+ghost use Rattle.std.specs.Prelude.{◌≡◌, pos};
+
 use apt_block::TapeWord;
+use apt_cldata::{Note, Position, Reach, Record, Vertices};
 use apt_control::Act;
 use apt_machine::Machine;
-use apt_post::{Poster, blocks, tape};
+use apt_plane::Pt;
+use apt_post::{Poster, TapeBytes, blocks, counts, plan, tape};
 use apt_tapecode::Code;
 use apt_words::{Cool, Turn, Units};
 use std::test::Fail;
@@ -223,6 +227,48 @@ fn gives_the_blocks_of_any_acts(rt: HostRuntime) -> Result<(), Fail> {
         let rapid = [word(b'G', 0), word(b'X', 1), word(b'Y', -2), word(b'Z', 3)];
         for (block, want) in all.iter().zip([tool.as_slice(), rapid.as_slice()]) {
             assert!(rt; block.words.as_slice() == want);
+        }
+    }
+    Ok(())
+}
+
+fn place(x: i64, y: i64) -> Position
+    ensures { result ≡ record { xy = record { x = x; y = y }; z = pos 5 } }
+{
+    Position {
+        xy: Pt { x, y },
+        z: 5,
+    }
+}
+
+#[test]
+fn writes_records_block_by_block(rt: HostRuntime) -> Result<(), Fail> {
+    let vertices = vec![in rt.alloc(); place(3, 2), place(3, 4)]?;
+    let records = [
+        Record::Note(Note::Units(Units::Mm)),
+        Record::Note(Note::Feed(100)),
+        Record::Note(Note::Rapid),
+        Record::Point(Reach::Goto, place(1, 2)),
+        Record::Contour(Vertices::from_vec(vertices)),
+        Record::Note(Note::Coolant(Cool::Flood)),
+        Record::Note(Note::Fini),
+    ];
+    let acts = plan(rt.alloc(), &records)?;
+    let counted = counts(&records);
+    assert_eq!(rt; (counted.acts, counted.segments), (6, 2));
+    assert_eq!(rt; acts.len(), 6);
+    for code in [Code::Rs244, Code::Rs358] {
+        for machine in [machine(code, 1), changed(code, 1)] {
+            let mut left = TapeBytes::of(&records, &machine);
+            let mut bytes = Vec::new(rt.alloc());
+            for _ in 0..7 {
+                if let Some(text) = left.next() {
+                    bytes.extend_from_slice(&text)?;
+                }
+            }
+            assert!(rt; left.next().is_none());
+            let whole = tape(rt.alloc(), &acts, &machine)?;
+            assert_eq!(rt; bytes.as_slice(), whole.as_slice());
         }
     }
     Ok(())
