@@ -7,4 +7,5 @@ pub mod Delivery
 pub mod Certificates
 pub mod Decoding
 pub mod Listing
+pub mod Demo
 pub mod Promise
