@@ -32,6 +32,11 @@ IsDemo n answer =
     (demo_due n ≡ Err answer)
     ⊎ ((o : Output) × (v : Verdict) × (demo_due n ≡ Ok o) × IsShown n o v × (answer ≡ answers.Done (summaries.Demo n v)))
 
+-- the answer of a certificate, as it is shown
+abbrev pub shown_for : ℕ → Status → Status
+shown_for n (answers.Done (summaries.Certified v)) = answers.Done (summaries.Demo n v)
+shown_for n answer = answer
+
 -- the store that the command makes for itself has the part and the table
 abbrev pub HoldsDemo : ℕ → Option Contents → Type 0
 HoldsDemo n told = HoldsAt told (codes "PART") (demo_part n) × HoldsAt told (codes "MACHINE") demo_table

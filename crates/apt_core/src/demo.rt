@@ -1,16 +1,16 @@
 //! The command `demo`.
 
-ghost use Rattle.std.specs.Prelude.{◌≡◌, ◌≤◌, IfOk};
-ghost use Rattle.std.specs.FinMap.{get};
+ghost use Rattle.std.specs.Prelude.{◌≡◌, ◌≤◌, length, IfOk};
 ghost use Rattle.apt_report.specs.Demo.{demo_part};
-ghost use Rattle.apt_core.specs.Demo.{demo_table, IsDemo, HoldsDemo};
+ghost use Rattle.apt_core.specs.Demo.{shown_for, IsDemo, HoldsDemo};
 ghost use Rattle.apt_core.specs.Due.{answer_of, OrNoMemory};
 
 use crate::certify::certify;
 use crate::compile::compile;
+use crate::put::status_of;
 use crate::words::Names;
 use apt_report::{Status, Summary, demo_part};
-use apt_shelf::SureShelf;
+use apt_shelf::{Shelf, SureShelf};
 use std::alloc::{AllocError, Global};
 
 /// The table of the machine with the greatest limits.
@@ -30,23 +30,35 @@ pub(crate) fn demo(alloc: Global, n: u32) -> Result<Summary, Status>
     ensures { OrNoMemory (IsDemo n (answer_of result)) (answer_of result) }
 {
     let mut store = store_of(alloc, n)?;
-    compile(alloc, &mut store, NAMES)?;
-    match certify(alloc, &mut store, NAMES)? {
-        Summary::Certified(verdict) => Ok(Summary::Demo { n, verdict }),
-        other => Ok(other),
+    match status_of(compile(alloc, &mut store, NAMES)) {
+        Status::Done(_) => shown(n, status_of(certify(alloc, &mut store, NAMES))),
+        fault => Err(fault),
     }
 }
 
 /// A store with the part and the table.
 fn store_of(alloc: Global, n: u32) -> Result<SureShelf, AllocError>
     requires { (1 ≤ n) × (n ≤ 800) }
-    ensures { IfOk result (λ store. HoldsDemo n (⟦<SureShelf as Shelf>⟧.told store)) }
+    ensures holds { IfOk result (λ store. HoldsDemo n (⟦<SureShelf as Shelf>⟧.told store)) }
+    ensures short { IfOk result (λ _. length (demo_part n) ≤ 4194304) }
 {
-    let mut files = Vec::with_capacity(alloc, 2)?;
-    files.push_reserved((String::from_str(alloc, NAMES.part)?, demo_part(alloc, n)?));
-    files.push_reserved((
+    let part = (String::from_str(alloc, NAMES.part)?, demo_part(alloc, n)?);
+    let table = (
         String::from_str(alloc, NAMES.machine)?,
         Vec::from_slice(alloc, TABLE.as_bytes())?,
-    ));
+    );
+    let mut files = Vec::new(alloc);
+    files.push(part)?;
+    files.push(table)?;
     SureShelf::new(alloc, files)
+}
+
+/// The answer of a certificate, as it is shown.
+fn shown(n: u32, answer: Status) -> Result<Summary, Status>
+    ensures { answer_of result ≡ shown_for n answer }
+{
+    match answer {
+        Status::Done(Summary::Certified(verdict)) => Ok(Summary::Demo { n, verdict }),
+        other => Err(other),
+    }
 }
