@@ -5,18 +5,16 @@ use Rattle.std.specs.FinMap.{get, insert}
 use Rattle.apt_shelf.specs.Told.{Contents, Rose}
 use Rattle.apt_shelf.specs.Entries.{entries, contents, name_at, IsFirstIndex}
 use Rattle.apt_shelf.proofs.EntriesLaws.{get_other, held_at_index}
-use Rattle.apt_certify.specs.declared.verdict.Verdict.{Verdict}
 use Rattle.apt_machine.specs.declared.machine.Machine.{Machine}
 use Rattle.apt_machine.specs.Tables.{table_of}
 use Rattle.apt_part.specs.Promise.{file_limit}
 use Rattle.apt_report.specs.declared.status.Status.{Status}
 use Rattle.apt_report.specs.declared.status.Status.TheVariants as answers
 use Rattle.apt_report.specs.declared.status.Summary.{Summary}
-use Rattle.apt_report.specs.declared.status.Summary.TheVariants as summaries
 use Rattle.apt_report.specs.Demo.{demo_part}
 use Rattle.apt_core.specs.Words.{FourNames, names_of}
 use Rattle.apt_core.specs.Due.{OrNoMemory}
-use Rattle.apt_core.specs.Inputs.{Files, part_limit, machine_limit, part_inputs, inputs, ReadsAll}
+use Rattle.apt_core.specs.Inputs.{Files, part_limit, part_inputs, inputs, ReadsAll}
 use Rattle.apt_core.specs.Outputs.{Output, output_of, IsOutput}
 use Rattle.apt_core.specs.Delivery.{with_output}
 use Rattle.apt_core.specs.Certificates.{IsDone}

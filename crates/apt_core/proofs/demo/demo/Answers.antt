@@ -1,11 +1,8 @@
-use Rattle.std.proofs.Common.{◌≡◌, sym, ◌∙◌, subst}
+use Rattle.std.proofs.Common.{◌≡◌, sym, ◌∙◌}
 use Rattle.apt_shelf.specs.Sure.{files_of}
-use Rattle.apt_report.specs.declared.status.Status.{Status}
 use Rattle.apt_report.specs.declared.status.Status.TheVariants as answers
 use Rattle.apt_core.specs.Due.{answer_of}
-use Rattle.apt_core.specs.Inputs.{Files}
-use Rattle.apt_core.specs.Promise.{Compiles}
-use Rattle.apt_core.proofs.Shown.{demo_names, sure_files, verdict_shown, fault_shown}
+use Rattle.apt_core.proofs.Shown.{verdict_shown, fault_shown}
 use Rattle.apt_core.proofs.demo.demo.Goals as goal
 
 pub returns-in-Done : goal.returns-in-Done

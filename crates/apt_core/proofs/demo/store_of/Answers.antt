@@ -1,4 +1,4 @@
-use Rattle.std.proofs.Common.{◌≡◌, ◌∙◌, refl, Some}
+use Rattle.std.proofs.Common.{◌∙◌, Some}
 use Rattle.apt_shelf.specs.Entries.{contents}
 use Rattle.apt_shelf.specs.Sure.{files_of}
 use Rattle.apt_core.proofs.Shown.{two_files, told_holds}
