@@ -11,8 +11,8 @@ third true true false d e h = h
 third true false c d e h = absurd (true≢false (sym h))
 third false b c d e h = absurd (true≢false (sym h))
 
+pub differs : (a b : List ℕ) → differ a b ≡ true → a ≢ b
+differs a b h e = true≢false (sym h ∙ ap not ((bytes_eq-Decides a b).1 e))
+
 pub outputs_differ : (n : FourNames) → are_apart n ≡ true → n.cl ≢ n.tape
-outputs_differ n h same = differs n.cl n.tape (third (differ n.cl n.part) (differ n.cl n.machine) (differ n.cl n.tape) (differ n.tape n.part) (differ n.tape n.machine) h) same
-  where
-    differs : (a b : List ℕ) → differ a b ≡ true → a ≢ b
-    differs a b h e = true≢false (sym h ∙ ap not ((bytes_eq-Decides a b).1 e))
+outputs_differ n h = differs n.cl n.tape (third (differ n.cl n.part) (differ n.cl n.machine) (differ n.cl n.tape) (differ n.tape n.part) (differ n.tape n.machine) h)

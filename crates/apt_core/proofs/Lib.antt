@@ -1,4 +1,5 @@
 pub mod Apart
+pub mod Asked
 pub mod Chains
 pub mod Outputs
 pub mod Deliveries
@@ -10,7 +11,9 @@ pub mod Judging
 pub mod Decoding
 pub mod Listing
 pub mod Right
+pub mod Unfailed
 pub mod Differences
 pub mod Putting
 pub mod Usage
+pub mod Shown
 pub mod Running

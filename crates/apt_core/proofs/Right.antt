@@ -4,7 +4,6 @@ use Rattle.std.proofs.lemmas.List.{append_cancel_left}
 use Rattle.std.specs.Prelude.{IsSomeAnd}
 use Rattle.std.specs.FinMap.{get}
 use Rattle.apt_shelf.specs.Told.{Contents}
-use Rattle.apt_certify.specs.declared.verdict.Verdict.{Verdict}
 use Rattle.apt_certify.proofs.Legality.{bad_not_legal}
 use Rattle.apt_meaning.specs.Situations.{first_situation}
 use Rattle.apt_meaning.proofs.Walks.Alone.{contours_legal}
@@ -16,13 +15,11 @@ use Rattle.apt_control.specs.declared.Act.{Act}
 use Rattle.apt_post.specs.Plan.{plan}
 use Rattle.apt_part.proofs.Promised.{passes_comes}
 use Rattle.apt_report.specs.declared.status.Status.{Status}
-use Rattle.apt_report.specs.declared.status.Status.TheVariants as answers
-use Rattle.apt_report.specs.declared.status.Summary.TheVariants as summaries
 use Rattle.apt_report.specs.declared.status.Miss.{Miss}
 use Rattle.apt_report.specs.declared.status.Miss.TheVariants as misses
 use Rattle.apt_core.specs.Words.{FourNames}
 use Rattle.apt_core.specs.Inputs.{Input, Reads, ReadsAll, IsUnread, IsFirstUnread, inputs}
-use Rattle.apt_core.specs.Certificates.{IsRight, HeadsDiffer, DifferAt, IsMiss, Judged, judged_by, judged_due, IsJudgement}
+use Rattle.apt_core.specs.Certificates.{IsRight, HeadsDiffer, DifferAt, IsMiss, Judged, judged_by, judged_due, IsDone, IsJudgement}
 use Rattle.apt_core.specs.Promise.{Judges}
 use Rattle.apt_core.proofs.Chains.{one_due}
 use Rattle.apt_core.proofs.Judging.{judged_for}
@@ -90,22 +87,22 @@ right_judged machine text table cl tape right tabled = judged_for machine text t
 
 -- the answer
 judgement_right : (machine : Machine) (text table cl tape : List ℕ) (told : Status) → table_of table ≡ Ok machine → IsRight machine text cl tape → IsJudgement text table cl tape told
-    → (verdict : Verdict) × (told ≡ answers.Done (summaries.Certified verdict))
+    → IsDone machine text cl tape told
 judgement_right machine text table cl tape told tabled right (inl none) = absurd (let f = sym none ∙ right_judged machine text table cl tape right tabled in let g : ⊥ = cc in g)
 judgement_right machine text table cl tape told tabled right (inr found) = elim found.2 [
   | inl missed ↦ absurd (no_miss machine text cl tape right (plan right.records) missed.0 refl (subst (λ (k : Judged). IsMiss k.steps k.written k.acts missed.0) same missed.2))
-  | inr done ↦ (done.0, done.1)
+  | inr done ↦ subst (λ (k : Judged). IsDone k.machine text cl tape told) same done
 ]
   where
     same : found.0 ≡ judged_by machine right.steps right.records (plan right.records)
     same = one_due (judged_due text table cl tape) found.0 (judged_by machine right.steps right.records (plan right.records)) found.1 (right_judged machine text table cl tape right tabled)
 
 pub right_is_done : (machine : Machine) (n : FourNames) (m : Contents) (text table cl tape : List ℕ) (told : Status) → ReadsAll (Some m) (inputs n) (text ∷ table ∷ cl ∷ tape ∷ [])
-    → table_of table ≡ Ok machine → IsRight machine text cl tape → Judges n (Some m) told → (verdict : Verdict) × (told ≡ answers.Done (summaries.Certified verdict))
+    → table_of table ≡ Ok machine → IsRight machine text cl tape → Judges n (Some m) told → IsDone machine text cl tape told
 right_is_done machine n m text table cl tape told reads tabled right is =
     by_texts (same_texts m (inputs n) (is.text ∷ is.table ∷ is.cl ∷ is.tape ∷ []) (text ∷ table ∷ cl ∷ tape ∷ []) is.reads reads)
   where
-    by_texts : (is.text ∷ is.table ∷ is.cl ∷ is.tape ∷ []) ≡ (text ∷ table ∷ cl ∷ tape ∷ []) → (verdict : Verdict) × (told ≡ answers.Done (summaries.Certified verdict))
+    by_texts : (is.text ∷ is.table ∷ is.cl ∷ is.tape ∷ []) ≡ (text ∷ table ∷ cl ∷ tape ∷ []) → IsDone machine text cl tape told
     by_texts same =
         let t : is.text ≡ text = cc in
         let b : is.table ≡ table = cc in

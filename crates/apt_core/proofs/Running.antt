@@ -12,19 +12,21 @@ use Rattle.apt_report.specs.declared.status.Summary.TheVariants as summaries
 use Rattle.apt_cldata.specs.declared.record.Record.{Record}
 use Rattle.apt_cldata.specs.Reading.{read_of}
 use Rattle.apt_report.specs.Listing.{point_count}
-use Rattle.apt_core.specs.Words.{FourNames, TapeNames, Ask, Compile, Certify, Decode, Listing}
+use Rattle.apt_core.specs.Words.{FourNames, TapeNames, Ask, Compile, Certify, Decode, Listing, Demo}
 use Rattle.apt_core.specs.Due.{OrNoMemory}
-use Rattle.apt_core.specs.Inputs.{Input, part_inputs, inputs, tape_inputs, list_inputs, ReadsAll, IsFirstUnread, IsStopped}
+use Rattle.apt_core.specs.Inputs.{part_inputs, inputs, tape_inputs, list_inputs, ReadsAll}
 use Rattle.apt_core.specs.Outputs.{Output, output_of, output_due}
-use Rattle.apt_core.specs.Certificates.{IsRight}
+use Rattle.apt_core.specs.Certificates.{IsRight, IsDone}
 use Rattle.apt_core.specs.Decoding.{Said, said_of, acts_said, said_due}
 use Rattle.apt_core.specs.Listing.{points_said, listed_due}
-use Rattle.apt_core.specs.Promise.{Outside, Compiles, Writes, Judges, Certifies, Runs, Decodes, IsListed, Lists, Works, IsPut, IsRun, NoneRose, Completes}
+use Rattle.apt_core.specs.Demo.{demo_due, IsDemo}
+use Rattle.apt_core.specs.Promise.{Outside, Compiles, Certifies, Runs, Decodes, IsListed, Lists, Works, IsPut, IsRun, NoneRose, Completes}
 use Rattle.apt_core.proofs.Chains.{one_due}
 use Rattle.apt_core.proofs.Outputs.{due_for}
 use Rattle.apt_core.proofs.Decoding.{said_for}
 use Rattle.apt_core.proofs.Listing.{points_for}
-use Rattle.apt_core.proofs.Right.{same_texts, right_is_done, right_is_read}
+use Rattle.apt_core.proofs.Right.{same_texts}
+use Rattle.apt_core.proofs.Unfailed.{AreUnfailed, stopped_short, FaultOrWritten, compiles_whole, certifies_right}
 
 pub run_is : (ask : Option Ask) (before after : Outside) (said : Said) (answer : Status) → Works ask before.files after.files said → IsPut said before.lines after.lines answer
     → IsRun ask before after answer
@@ -38,49 +40,39 @@ answered said answer Done before after none is puts = elim puts.shows [
   | inr front ↦ elim front.0 [ inl failed ↦ absurd (none.putting failed.1) | inr short ↦ inr short ]
 ]
 
--- where all files are there and nothing failed, only memory stops a work
-stopped_short : (xs : List Input) (m : Contents) (texts : List (List ℕ)) (before after : Outside) (told : Status) → before.files.told ≡ Some m → ReadsAll (Some m) xs texts
-    → NoneRose before after → IsStopped xs before.files after.files told → told ≡ answers.NoMemory
-stopped_short xs m texts before after told there reads none (inl first) =
-    absurd (right_is_read xs m texts before.files.read_faults after.files.read_faults told reads
-    (subst (λ t. IsFirstUnread t xs before.files.read_faults after.files.read_faults told) there first))
-stopped_short xs m texts before after told there reads none (inr (inl failed)) = absurd (none.reading failed.1)
-stopped_short xs m texts before after told there reads none (inr (inr short)) = short
+files_unfailed : (before after : Outside) → NoneRose before after → AreUnfailed before.files after.files
+files_unfailed before after none = record { reading = none.reading; writing = none.writing }
 
 -- ---- `compile`
 
-written_whole : (n : FourNames) (text table : List ℕ) (o : Output) (before after : Outside) (told : Status) → output_due text table ≡ Ok o → NoneRose before after
-    → Writes n text table before.files after.files told → OrNoMemory (told ≡ answers.Done o.summary) told
-written_whole n text table o before after told due none (inl fault) = absurd (let f = sym fault.0 ∙ due in let g : ⊥ = cc in g)
-written_whole n text table o before after told due none (inr written) = elim written.2 [
-  | inl whole ↦ inl (whole.0 ∙ ap (λ (r : Output). answers.Done r.summary) (one_due (output_due text table) written.0 o written.1 due))
-  | inr cut ↦ elim cut.0 [ inl failed ↦ absurd (none.writing failed.1) | inr short ↦ inr short ]
-]
+-- what is written is the output that is due
+written_due : (n : FourNames) (text table : List ℕ) (o : Output) (before after : Option Contents) (told : Status) → output_due text table ≡ Ok o
+    → OrNoMemory (FaultOrWritten n text table before after told) told → OrNoMemory (told ≡ answers.Done o.summary) told
+written_due n text table o before after told due (inl (inl fault)) = absurd (let f = sym fault ∙ due in let g : ⊥ = cc in g)
+written_due n text table o before after told due (inl (inr is)) =
+    inl (is.done ∙ ap (λ (r : Output). answers.Done r.summary) (one_due (output_due text table) is.output o is.due due))
+written_due n text table o before after told due (inr short) = inr short
 
 told_whole : (n : FourNames) (m : Contents) (text table : List ℕ) (o : Output) (before after : Outside) (told : Status) → Compiles n before.files after.files told
     → before.files.told ≡ Some m → ReadsAll (Some m) (part_inputs n) (text ∷ table ∷ []) → output_due text table ≡ Ok o → NoneRose before after
     → OrNoMemory (told ≡ answers.Done o.summary) told
-told_whole n m text table o before after told works there reads due none = elim works.comes [
-  | inl stopped ↦ inr (stopped_short (part_inputs n) m (text ∷ table ∷ []) before after told there reads none stopped.0)
-  | inr read ↦ by_texts read.0 read.1 read.3
-      (same_texts m (part_inputs n) (read.0 ∷ read.1 ∷ []) (text ∷ table ∷ []) (subst (λ t. ReadsAll t (part_inputs n) (read.0 ∷ read.1 ∷ [])) there read.2) reads)
-]
-  where
-    by_texts : (a b : List ℕ) → Writes n a b before.files after.files told → (a ∷ b ∷ []) ≡ (text ∷ table ∷ []) → OrNoMemory (told ≡ answers.Done o.summary) told
-    by_texts a b is same =
-        let t : text ≡ a = cc in
-        let u : table ≡ b = cc in
-        written_whole n text table o before after told due none (rw (t, u) is)
+told_whole n m text table o before after told works there reads due none =
+    written_due n text table o before.files.told after.files.told told due
+    (compiles_whole n m text table before.files after.files told there reads (files_unfailed before after none) works)
 
 -- ---- `certify`
+
+verdict_told : (machine : Machine) (text cl tape : List ℕ) (told : Status) → OrNoMemory (IsDone machine text cl tape told) told
+    → OrNoMemory ((verdict : Verdict) × (told ≡ answers.Done (summaries.Certified verdict))) told
+verdict_told machine text cl tape told (inl done) = inl (done.0, done.1)
+verdict_told machine text cl tape told (inr short) = inr short
 
 told_right : (machine : Machine) (n : FourNames) (m : Contents) (text table cl tape : List ℕ) (before after : Outside) (told : Status) → Certifies n before.files after.files told
     → before.files.told ≡ Some m → ReadsAll (Some m) (inputs n) (text ∷ table ∷ cl ∷ tape ∷ []) → table_of table ≡ Ok machine → IsRight machine text cl tape → NoneRose before after
     → OrNoMemory ((verdict : Verdict) × (told ≡ answers.Done (summaries.Certified verdict))) told
-told_right machine n m text table cl tape before after told works there reads tabled right none = elim works.comes [
-  | inl stopped ↦ inr (stopped_short (inputs n) m (text ∷ table ∷ cl ∷ tape ∷ []) before after told there reads none stopped)
-  | inr judges ↦ inl (right_is_done machine n m text table cl tape told reads tabled right (subst (λ t. Judges n t told) there judges))
-]
+told_right machine n m text table cl tape before after told works there reads tabled right none =
+    verdict_told machine text cl tape told
+    (certifies_right machine n m text table cl tape before.files after.files told there reads tabled right (files_unfailed before after none) works)
 
 -- ---- `decode`
 
@@ -104,7 +96,7 @@ told_acts : (n : TapeNames) (m : Contents) (table tape : List ℕ) (machine : Ma
     → Decodes n before.files after.files said → before.files.told ≡ Some m → ReadsAll (Some m) (tape_inputs n) (table ∷ tape ∷ []) → table_of table ≡ Ok machine
     → control_run machine.code tape ≡ Ok acts → NoneRose before after → OrNoMemory (said.answer ≡ answers.Done (summaries.Decoded (length acts))) said.answer
 told_acts n m table tape machine acts before after said works there reads tabled run none = elim works.comes [
-  | inl stopped ↦ inr (stopped_short (tape_inputs n) m (table ∷ tape ∷ []) before after said.answer there reads none stopped.0)
+  | inl stopped ↦ inr (stopped_short (tape_inputs n) m (table ∷ tape ∷ []) before.files after.files said.answer there reads (files_unfailed before after none) stopped.0)
   | inr runs ↦ inl (runs_to n m table tape machine acts said reads tabled run (subst (λ t. Runs n t said) there runs))
 ]
 
@@ -125,9 +117,18 @@ told_points : (name : List ℕ) (m : Contents) (cl : List ℕ) (rs : List Record
     → before.files.told ≡ Some m → ReadsAll (Some m) (list_inputs name) (cl ∷ []) → read_of cl ≡ Ok rs → NoneRose before after
     → OrNoMemory (said.answer ≡ answers.Done (summaries.Listed (point_count rs))) said.answer
 told_points name m cl rs before after said works there reads read none = elim works.comes [
-  | inl stopped ↦ inr (stopped_short (list_inputs name) m (cl ∷ []) before after said.answer there reads none stopped.0)
+  | inl stopped ↦ inr (stopped_short (list_inputs name) m (cl ∷ []) before.files after.files said.answer there reads (files_unfailed before after none) stopped.0)
   | inr listed ↦ inl (lists_to name m cl rs said reads read (subst (λ t. IsListed name t said) there listed))
 ]
+
+-- ---- `demo`
+
+-- a part that comes to an output
+told_demo : (n : ℕ) (o : Output) (told : Status) → demo_due n ≡ Ok o → OrNoMemory (IsDemo n told) told
+    → OrNoMemory ((verdict : Verdict) × (told ≡ answers.Done (summaries.Demo n verdict))) told
+told_demo n o told due (inl (inl fault)) = absurd (let f = sym fault ∙ due in let g : ⊥ = cc in g)
+told_demo n o told due (inl (inr shown)) = inl (shown.1, shown.4)
+told_demo n o told due (inr short) = inr short
 
 pub completes : (ask : Option Ask) (before after : Outside) (answer : Status) → IsRun ask before after answer → Completes ask before after answer
 completes None before after answer run = tt
@@ -143,3 +144,6 @@ completes (Some (Decode n)) before after answer run = λ m there none table tape
 completes (Some (Listing name)) before after answer run = λ m there none cl rs reads read.
     answered run.said answer (λ s. s ≡ answers.Done (summaries.Listed (point_count rs))) before after none
     (told_points name m cl rs before after run.said run.works there reads read none) run.puts
+completes (Some (Demo n)) before after answer run = λ m there none o due.
+    answered run.said answer (λ s. (verdict : Verdict) × (s ≡ answers.Done (summaries.Demo n verdict))) before after none
+    (told_demo n o run.said.answer due run.works.1.comes) run.puts

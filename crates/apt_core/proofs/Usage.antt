@@ -6,6 +6,7 @@ use Rattle.apt_words.specs.declared.Refusal.{Refusal}
 use Rattle.apt_parse.specs.Programs.{TextFault}
 use Rattle.apt_shelf.specs.Told.{Contents}
 use Rattle.apt_machine.specs.declared.machine.Machine.{Machine}
+use Rattle.apt_machine.specs.declared.cause.MachineError.{MachineError}
 use Rattle.apt_machine.specs.Tables.{table_of}
 use Rattle.apt_cldata.specs.declared.record.Record.{Record}
 use Rattle.apt_cldata.specs.Reading.{read_of}
@@ -15,54 +16,63 @@ use Rattle.apt_part.specs.Compilation.{steps_of, part_of}
 use Rattle.apt_report.specs.declared.status.Status.{Status}
 use Rattle.apt_report.specs.declared.status.Status.TheVariants as answers
 use Rattle.apt_report.specs.declared.status.Summary.TheVariants as summaries
-use Rattle.apt_core.specs.Words.{FourNames, TapeNames, Ask, Compile, Certify, Decode, Listing}
-use Rattle.apt_core.specs.Due.{told_by, bad_machine, bad_part, refused_step, bad_tape, unless_refused, machine_due, steps_due, records_due, acts_due}
+use Rattle.apt_report.specs.Demo.{demo_part}
+use Rattle.apt_core.specs.Words.{FourNames, TapeNames, Ask, Compile, Certify, Decode, Listing, Demo}
+use Rattle.apt_core.specs.Due.{OrNoMemory, told_by, bad_machine, bad_part, refused_step, bad_tape, unless_refused, machine_due, steps_due, records_due, acts_due}
 use Rattle.apt_core.specs.Inputs.{Input, Files, part_inputs, inputs, tape_inputs, list_inputs, IsUnread, IsFirstUnread, IsShort, IsStopped}
 use Rattle.apt_core.specs.Outputs.{output_due}
 use Rattle.apt_core.specs.Certificates.{judged_due, IsJudgement}
 use Rattle.apt_core.specs.Decoding.{Said, said_of, acts_said}
 use Rattle.apt_core.specs.Listing.{points_said}
+use Rattle.apt_core.specs.Demo.{demo_table, IsDemo}
 use Rattle.apt_core.specs.Promise.{Lines, Outside, Compiles, Certifies, Decodes, Lists, Works, IsPut, IsRun}
 
 -- ---- what is due
 
-told_no_usage : {A E : Type 0} (due : Result A E) (tell : E → Status) → ((fault : E) → tell fault ≢ answers.Usage) → told_by due tell ≢ Err answers.Usage
-told_no_usage (Ok x) tell none e = let f : ⊥ = cc in f
-told_no_usage (Err fault) tell none e = none fault (let same : tell fault ≡ answers.Usage = cc in same)
+told_never : {A E : Type 0} (s : Status) (due : Result A E) (tell : E → Status) → ((fault : E) → tell fault ≢ s) → told_by due tell ≢ Err s
+told_never s (Ok x) tell none e = let f : ⊥ = cc in f
+told_never s (Err fault) tell none e = none fault (let same : tell fault ≡ s = cc in same)
 
-chain_no_usage : {A B : Type 0} (due : Result A Status) (more : A → Result B Status) → due ≢ Err answers.Usage → ((x : A) → more x ≢ Err answers.Usage)
-    → (due >>= more) ≢ Err answers.Usage
-chain_no_usage (Ok x) more none later = later x
-chain_no_usage (Err answer) more none later = λ e. none (let same : answer ≡ answers.Usage = cc in ap Err same)
+chain_never : {A B : Type 0} (s : Status) (due : Result A Status) (more : A → Result B Status) → due ≢ Err s → ((x : A) → more x ≢ Err s) → (due >>= more) ≢ Err s
+chain_never s (Ok x) more none later = later x
+chain_never s (Err answer) more none later = λ e. none (let same : answer ≡ s = cc in ap Err same)
 
-ok_no_usage : {A : Type 0} (x : A) → (Ok x) ≢ Err answers.Usage
-ok_no_usage x e = let f : ⊥ = cc in f
+ok_never : {A : Type 0} (s : Status) (x : A) → (Ok x) ≢ Err s
+ok_never s x e = let f : ⊥ = cc in f
 
-machine_no_usage : (table : List ℕ) → machine_due table ≢ Err answers.Usage
-machine_no_usage table = told_no_usage (table_of table) bad_machine (λ fault e. let f : ⊥ = cc in f)
+-- an answer that tells no fault of a table, and no fault and no refused step of a part
+pub record TellsNoFault (s : Status) : Type 0 where
+  pub table : (fault : MachineError) → bad_machine fault ≢ s
+  pub text : (fault : TextFault) → bad_part fault ≢ s
+  pub step : (r : Refusal) → refused_step r ≢ s
 
-part_no_usage : {A : Type 0} (due : Result (Result A Refusal) TextFault) → unless_refused due ≢ Err answers.Usage
-part_no_usage due =
-    chain_no_usage (told_by due bad_part) (λ r. told_by r refused_step) (told_no_usage due bad_part (λ fault e. let f : ⊥ = cc in f))
-    (λ r. told_no_usage r refused_step (λ fault e. let f : ⊥ = cc in f))
+usage_tells_none : TellsNoFault answers.Usage
+usage_tells_none = record { table = λ fault e. let f : ⊥ = cc in f; text = λ fault e. let f : ⊥ = cc in f; step = λ r e. let f : ⊥ = cc in f }
+
+machine_never : (s : Status) (table : List ℕ) → TellsNoFault s → machine_due table ≢ Err s
+machine_never s table tells = told_never s (table_of table) bad_machine tells.table
+
+part_never : {A : Type 0} (s : Status) (due : Result (Result A Refusal) TextFault) → TellsNoFault s → unless_refused due ≢ Err s
+part_never s due tells =
+    chain_never s (told_by due bad_part) (λ r. told_by r refused_step) (told_never s due bad_part tells.text) (λ r. told_never s r refused_step tells.step)
+
+pub output_never : (s : Status) (text table : List ℕ) → TellsNoFault s → output_due text table ≢ Err s
+output_never s text table tells =
+    chain_never s (machine_due table) _ (machine_never s table tells) (λ machine.
+    chain_never s (unless_refused (part_of machine text)) _ (part_never s (part_of machine text) tells) (λ p. ok_never s _))
 
 records_no_usage : (cl : List ℕ) → records_due cl ≢ Err answers.Usage
-records_no_usage cl = told_no_usage (read_of cl) (λ fault. answers.BadCl fault.at fault.cause) (λ fault e. let f : ⊥ = cc in f)
+records_no_usage cl = told_never answers.Usage (read_of cl) (λ fault. answers.BadCl fault.at fault.cause) (λ fault e. let f : ⊥ = cc in f)
 
 acts_no_usage : (machine : Machine) (tape : List ℕ) → acts_due machine.code tape ≢ Err answers.Usage
-acts_no_usage machine tape = told_no_usage (control_run machine.code tape) bad_tape (λ fault e. let f : ⊥ = cc in f)
-
-output_no_usage : (text table : List ℕ) → output_due text table ≢ Err answers.Usage
-output_no_usage text table =
-    chain_no_usage (machine_due table) _ (machine_no_usage table) (λ machine.
-    chain_no_usage (unless_refused (part_of machine text)) _ (part_no_usage (part_of machine text)) (λ p. ok_no_usage _))
+acts_no_usage machine tape = told_never answers.Usage (control_run machine.code tape) bad_tape (λ fault e. let f : ⊥ = cc in f)
 
 judged_no_usage : (text table cl tape : List ℕ) → judged_due text table cl tape ≢ Err answers.Usage
 judged_no_usage text table cl tape =
-    chain_no_usage (machine_due table) _ (machine_no_usage table) (λ machine.
-    chain_no_usage (steps_due machine text) _ (part_no_usage (steps_of machine text)) (λ steps.
-    chain_no_usage (records_due cl) _ (records_no_usage cl) (λ written.
-    chain_no_usage (acts_due machine.code tape) _ (acts_no_usage machine tape) (λ acts. ok_no_usage _))))
+    chain_never answers.Usage (machine_due table) _ (machine_never answers.Usage table usage_tells_none) (λ machine.
+    chain_never answers.Usage (steps_due machine text) _ (part_never answers.Usage (steps_of machine text) usage_tells_none) (λ steps.
+    chain_never answers.Usage (records_due cl) _ (records_no_usage cl) (λ written.
+    chain_never answers.Usage (acts_due machine.code tape) _ (acts_no_usage machine tape) (λ acts. ok_never answers.Usage _))))
 
 acts_said_no_usage : (due : Result (List Act) Status) → due ≢ Err answers.Usage → (said_of (due >>= λ acts. Ok (acts_said acts))).answer ≢ answers.Usage
 acts_said_no_usage (Ok acts) none e = let f : ⊥ = cc in f
@@ -103,7 +113,7 @@ compiles_no_usage : (n : FourNames) (before after : Files) (told : Status) → C
 compiles_no_usage n before after told works e = elim works.comes [
   | inl stopped ↦ stopped_no_usage (part_inputs n) before after told stopped.0 e
   | inr read ↦ elim read.3 [
-    | inl due ↦ output_no_usage read.0 read.1 (due.0 ∙ ap Err e)
+    | inl due ↦ output_never answers.Usage read.0 read.1 usage_tells_none (due.0 ∙ ap Err e)
     | inr written ↦ elim written.2 [
       | inl whole ↦ (let f : answers.Done written.0.summary ≡ answers.Usage = sym whole.0 ∙ e in let g : ⊥ = cc in g)
       | inr cut ↦ short_no_usage answers.WriteFault before.write_faults after.write_faults told (λ e. let f : ⊥ = cc in f) cut.0 e
@@ -120,7 +130,7 @@ certifies_no_usage n before after told works e = elim works.comes [
 decodes_no_usage : (n : TapeNames) (before after : Files) (said : Said) → Decodes n before after said → said.answer ≢ answers.Usage
 decodes_no_usage n before after said works e = elim works.comes [
   | inl stopped ↦ stopped_no_usage (tape_inputs n) before after said.answer stopped.0 e
-  | inr runs ↦ said_no_usage runs.tape (machine_due runs.table) (machine_no_usage runs.table) (sym (ap (λ (s : Said). s.answer) runs.due) ∙ e)
+  | inr runs ↦ said_no_usage runs.tape (machine_due runs.table) (machine_never answers.Usage runs.table usage_tells_none) (sym (ap (λ (s : Said). s.answer) runs.due) ∙ e)
 ]
 
 points_no_usage : (due : Result (List Record) Status) → due ≢ Err answers.Usage → (said_of (due >>= λ rs. Ok (points_said rs))).answer ≢ answers.Usage
@@ -133,12 +143,18 @@ lists_no_usage name before after said works e = elim works.comes [
   | inr listed ↦ points_no_usage (records_due listed.cl) (records_no_usage listed.cl) (sym (ap (λ (s : Said). s.answer) listed.due) ∙ e)
 ]
 
+demo_no_usage : (n : ℕ) (told : Status) → OrNoMemory (IsDemo n told) told → told ≢ answers.Usage
+demo_no_usage n told (inl (inl due)) e = output_never answers.Usage (demo_part n) demo_table usage_tells_none (due ∙ ap Err e)
+demo_no_usage n told (inl (inr shown)) e = let f : answers.Done (summaries.Demo n shown.1) ≡ answers.Usage = sym shown.4 ∙ e in let g : ⊥ = cc in g
+demo_no_usage n told (inr short) e = let f : answers.NoMemory ≡ answers.Usage = sym short ∙ e in let g : ⊥ = cc in g
+
 works_no_usage : (ask : Option Ask) (before after : Files) (said : Said) → Works ask before after said → said.answer ≡ answers.Usage → ask ≡ None
 works_no_usage None before after said works e = refl
 works_no_usage (Some (Compile n)) before after said works e = absurd (compiles_no_usage n before after said.answer works.1 e)
 works_no_usage (Some (Certify n)) before after said works e = absurd (certifies_no_usage n before after said.answer works.1 e)
 works_no_usage (Some (Decode n)) before after said works e = absurd (decodes_no_usage n before after said works e)
 works_no_usage (Some (Listing name)) before after said works e = absurd (lists_no_usage name before after said works e)
+works_no_usage (Some (Demo n)) before after said works e = absurd (demo_no_usage n said.answer works.1.comes e)
 
 put_no_usage : (said : Said) (answer : Status) (before after : Lines) → IsPut said before after answer → answer ≡ answers.Usage → said.answer ≡ answers.Usage
 put_no_usage said answer before after puts e = elim puts.shows [

@@ -8,4 +8,5 @@ pub mod Delivery
 pub mod Certificates
 pub mod Decoding
 pub mod Listing
+pub mod Demo
 pub mod Promise

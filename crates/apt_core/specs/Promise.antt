@@ -13,7 +13,7 @@ use Rattle.apt_part.specs.Compilation.{Compiled, part_of}
 use Rattle.apt_report.specs.declared.status.Status.{Status}
 use Rattle.apt_report.specs.declared.status.Status.TheVariants as answers
 use Rattle.apt_report.specs.declared.status.Summary.TheVariants as summaries
-use Rattle.apt_core.specs.Words.{FourNames, TapeNames, Ask, Compile, Certify, Decode, Listing}
+use Rattle.apt_core.specs.Words.{FourNames, TapeNames, Ask, Compile, Certify, Decode, Listing, Demo}
 use Rattle.apt_core.specs.Due.{OrNoMemory}
 use Rattle.apt_core.specs.Inputs.{Files, files_on, AreRead, part_inputs, inputs, tape_inputs, list_inputs, ReadsAll, IsShort, IsStopped}
 use Rattle.apt_core.specs.Outputs.{Output, output_of, output_due, IsOutput}
@@ -21,6 +21,7 @@ use Rattle.apt_core.specs.Delivery.{with_output, WritesFront}
 use Rattle.apt_core.specs.Certificates.{IsRight, IsJudgement}
 use Rattle.apt_core.specs.Decoding.{Said, lined, said_of, said_due}
 use Rattle.apt_core.specs.Listing.{listed_due}
+use Rattle.apt_core.specs.Demo.{demo_due, IsDemo}
 use Rattle.apt_report.specs.Listing.{point_count}
 use Rattle.apt_cldata.specs.declared.record.Record.{Record}
 use Rattle.apt_cldata.specs.Reading.{read_of}
@@ -123,6 +124,13 @@ pub record Lists (name : List ℕ) (before after : Files) (said : Said) : Type 0
   pub comes : (IsStopped (list_inputs name) before after said.answer × (said ≡ lined said.answer)) ⊎ IsListed name before.told said
   pub read : AreRead before after
 
+-- ---- `demo`
+
+-- the work of `demo`: its part is shown, or memory ran out. Nothing outside is read or written
+pub record Demonstrates (n : ℕ) (before after : Files) (told : Status) : Type 0 where
+  pub comes : OrNoMemory (IsDemo n told) told
+  pub untouched : after ≡ before
+
 -- ---- a run
 
 -- the work that is asked for, none where the words fit no shape; it comes to what is told, and to the text that is put for it
@@ -132,6 +140,7 @@ Works (Some (Compile n)) before after said = (said ≡ lined said.answer) × Com
 Works (Some (Certify n)) before after said = (said ≡ lined said.answer) × Certifies n before after said.answer
 Works (Some (Decode n)) before after said = Decodes n before after said
 Works (Some (Listing name)) before after said = Lists name before after said
+Works (Some (Demo n)) before after said = (said ≡ lined said.answer) × Demonstrates n before after said.answer
 
 -- all of the text stands behind what was shown; or a front part of it, where putting failed, or memory ran out
 abbrev pub Shows : Said → Lines → Lines → Status → Type 0
@@ -159,7 +168,7 @@ pub record NoneRose (before after : Outside) : Type 0 where
   pub putting : ¬ (Rose before.lines.put_faults after.lines.put_faults)
 
 -- for the machine of a table: a part without fault, of which no step is refused, is compiled; a CL file and a tape that are right for their part are
--- certified; a tape that a control runs is decoded. A CL file is listed
+-- certified; a tape that a control runs is decoded. A CL file is listed, and the part of `demo` is certified where it comes to an output
 abbrev pub CompletesIn : Ask → Contents → Status → Type 0
 CompletesIn (Compile n) m answer =
     (text table : List ℕ) (machine : Machine) (p : Compiled) → ReadsAll (Some m) (part_inputs n) (text ∷ table ∷ []) → table_of table ≡ Ok machine → part_of machine text ≡ Ok (Ok p)
@@ -173,6 +182,7 @@ CompletesIn (Decode n) m answer =
 CompletesIn (Listing name) m answer =
     (cl : List ℕ) (rs : List Record) → ReadsAll (Some m) (list_inputs name) (cl ∷ []) → read_of cl ≡ Ok rs
     → OrNoMemory (answer ≡ answers.Done (summaries.Listed (point_count rs))) answer
+CompletesIn (Demo n) m answer = (o : Output) → demo_due n ≡ Ok o → OrNoMemory ((verdict : Verdict) × (answer ≡ answers.Done (summaries.Demo n verdict))) answer
 
 -- where no count rose, or memory ran out
 abbrev pub Completes : Option Ask → Outside → Outside → Status → Type 0

@@ -1,10 +1,10 @@
 -- What a request of the code asks.
-use Rattle.std.specs.Prelude.{◌≢◌}
+use Rattle.std.specs.Prelude.{◌≢◌, ◌≤◌}
 use Rattle.apt_core.specs.declared.words.Names.{Names}
 use Rattle.apt_core.specs.declared.words.TapeNames.{TapeNames as TapeWords}
 use Rattle.apt_core.specs.declared.words.Request.{Request}
 use Rattle.apt_core.specs.declared.words.Request.TheVariants as requests
-use Rattle.apt_core.specs.Words.{FourNames, names_of, TapeNames, tape_names_of, Ask, Compile, Certify, Decode, Listing}
+use Rattle.apt_core.specs.Words.{FourNames, names_of, TapeNames, tape_names_of, Ask, Compile, Certify, Decode, Listing, Demo}
 
 abbrev pub four_names : Names → FourNames
 four_names n = names_of n.part.now n.machine.now n.cl.now n.tape.now
@@ -17,10 +17,12 @@ ask_of (requests.Compile n) = Compile (four_names n)
 ask_of (requests.Certify n) = Certify (four_names n)
 ask_of (requests.Decode n) = Decode (tape_names n)
 ask_of (requests.List name) = Listing name.now
+ask_of (requests.Demo n) = Demo n
 
--- the two outputs of `compile` have names of their own
-abbrev pub IsApart : Request → Type 0
-IsApart (requests.Compile n) = n.cl.now ≢ n.tape.now
-IsApart (requests.Certify n) = Unit {0}
-IsApart (requests.Decode n) = Unit {0}
-IsApart (requests.List name) = Unit {0}
+-- the two outputs of `compile` have names of their own, and `demo` has from 1 to 800 circles
+abbrev pub IsSound : Request → Type 0
+IsSound (requests.Compile n) = n.cl.now ≢ n.tape.now
+IsSound (requests.Certify n) = Unit {0}
+IsSound (requests.Decode n) = Unit {0}
+IsSound (requests.List name) = Unit {0}
+IsSound (requests.Demo n) = (1 ≤ n) × (n ≤ 800)

@@ -1,6 +1,7 @@
 -- The words of the command line.
-use Rattle.std.specs.Prelude.{ℕ, ◌&&◌, Bool, not, List, [], ◌∷◌, map, length, ◌==◌, Option, Some, None, codes, if◌then◌else◌}
+use Rattle.std.specs.Prelude.{ℕ, ◌&&◌, Bool, not, List, [], ◌∷◌, map, length, ◌==◌, Option, Some, None, option_map, codes, if◌then◌else◌}
 use Rattle.std.proofs.Common.{String, string_bytes, bytes_eq}
+use Rattle.apt_machine.specs.Numbers.{number_within}
 
 abbrev pub texts : {A : Type 0} → List (String A) → List (List ℕ)
 texts words = map string_bytes words
@@ -23,13 +24,14 @@ pub record TapeNames : Type 0 where
 abbrev pub tape_names_of : List ℕ → List ℕ → TapeNames
 tape_names_of machine tape = record { machine = machine; tape = tape }
 
--- to compile a part for a machine, to a CL file and a tape; to certify a CL file and a tape against them; to decode a tape of the machine; or to list
--- the points of the CL file of a name
+-- to compile a part for a machine, to a CL file and a tape; to certify a CL file and a tape against them; to decode a tape of the machine; to list the
+-- points of the CL file of a name; or to show the part of so many circles
 pub data Ask : Type 0 where
   Compile : FourNames → Ask
   Certify : FourNames → Ask
   Decode : TapeNames → Ask
   Listing : List ℕ → Ask
+  Demo : ℕ → Ask
 
 -- a name has at least one byte
 abbrev pub is_name : List ℕ → Bool
@@ -60,12 +62,19 @@ are_tape_names n = is_name n.machine && is_name n.tape
 abbrev pub decode_ask : List ℕ → TapeNames → Option Ask
 decode_ask word n = if bytes_eq word (codes "decode") && are_tape_names n then Some (Decode n) else None
 
-abbrev pub list_ask : List ℕ → List ℕ → Option Ask
-list_ask word name = if bytes_eq word (codes "list") && is_name name then Some (Listing name) else None
+abbrev pub list_ask : List ℕ → Option Ask
+list_ask name = if is_name name then Some (Listing name) else None
+
+-- a number from 1 to 800, in plain digits
+abbrev pub demo_ask : List ℕ → Option Ask
+demo_ask text = option_map Demo (number_within 1 800 text)
+
+abbrev pub word_ask : List ℕ → List ℕ → Option Ask
+word_ask word text = if bytes_eq word (codes "list") then list_ask text else if bytes_eq word (codes "demo") then demo_ask text else None
 
 -- what the words ask, by their shapes
 abbrev pub asked : List (List ℕ) → Option Ask
 asked (word ∷ part ∷ machine ∷ cl ∷ tape ∷ []) = command_ask word (names_of part machine cl tape)
 asked (word ∷ machine ∷ tape ∷ []) = decode_ask word (tape_names_of machine tape)
-asked (word ∷ name ∷ []) = list_ask word name
+asked (word ∷ text ∷ []) = word_ask word text
 asked _ = None

@@ -3,7 +3,7 @@
 
 ghost use Rattle.std.specs.Prelude.{◌≡◌, Some, None};
 ghost use Rattle.apt_core.specs.Words.{asked, texts};
-ghost use Rattle.apt_core.specs.Request.{ask_of, IsApart};
+ghost use Rattle.apt_core.specs.Request.{ask_of, IsSound};
 ghost use Rattle.apt_core.specs.Inputs.{files_on};
 ghost use Rattle.apt_core.specs.Promise.{IsRun, Completes, Works, outside};
 
@@ -11,6 +11,7 @@ mod certify;
 mod compile;
 mod decode;
 mod delivery;
+mod demo;
 mod due;
 mod list;
 mod put;
@@ -25,6 +26,7 @@ use apt_shelf::{Shelf, Sink};
 use certify::certify;
 use compile::compile;
 use decode::decode;
+use demo::demo;
 use list::list;
 use put::{Reply, tell};
 use std::alloc::Global;
@@ -46,6 +48,9 @@ use words::{Request, request_of};
 ///
 /// `list CL` reads a CL file (at most 64 MiB), and puts a line for each point of its records, then how many there are,
 /// and no other line. It writes nothing.
+///
+/// `demo N`, N from 1 to 800, makes the part of N circles and the table of the machine with the greatest limits, compiles
+/// and certifies them over a store in memory of its own, and answers with the verdict. It neither reads nor writes.
 ///
 /// A table is judged when all that is read has been read, and before the part.
 #[tactic(auto, using(crate::proofs::Running::run_is, crate::proofs::Running::completes))]
@@ -78,7 +83,7 @@ fn answer<H: Shelf>(alloc: Global, words: &[String], shelf: &mut H) -> Reply
 
 /// The answer to a request.
 fn answer_to<H: Shelf>(alloc: Global, request: Request<'_>, shelf: &mut H) -> Reply
-    requires { IsApart request }
+    requires { IsSound request }
     ensures { Works (Some (ask_of request.entry)) (files_on H.Shelf shelf.old) (files_on H.Shelf shelf.new) result }
 {
     match request {
@@ -86,5 +91,6 @@ fn answer_to<H: Shelf>(alloc: Global, request: Request<'_>, shelf: &mut H) -> Re
         Request::Certify(names) => Reply::of(certify(alloc, shelf, names)),
         Request::Decode(names) => Reply::from_work(decode(alloc, shelf, names)),
         Request::List(name) => Reply::from_work(list(alloc, shelf, name)),
+        Request::Demo(n) => Reply::of(demo(alloc, n)),
     }
 }

@@ -51,10 +51,17 @@ impl Reply {
     pub(crate) fn of(work: Result<Summary, Status>) -> Reply
         ensures { result ≡ lined (answer_of work) }
     {
-        match work {
-            Ok(summary) => Reply::lined(Status::Done(summary)),
-            Err(status) => Reply::lined(status),
-        }
+        Reply::lined(status_of(work))
+    }
+}
+
+/// The answer of a work.
+pub(crate) fn status_of(work: Result<Summary, Status>) -> Status
+    ensures { result ≡ answer_of work }
+{
+    match work {
+        Ok(summary) => Status::Done(summary),
+        Err(status) => status,
     }
 }
 

@@ -3,7 +3,12 @@
 ghost use Rattle.std.specs.Prelude.{◌≡◌, option_map, IfSome};
 ghost use Rattle.apt_core.specs.Words as words;
 ghost use Rattle.apt_core.specs.Words.{asked, texts};
-ghost use Rattle.apt_core.specs.Request.{ask_of, four_names, tape_names, IsApart};
+ghost use Rattle.apt_core.specs.Request.{ask_of, four_names, tape_names, IsSound};
+
+use apt_machine::number_within;
+
+/// The most circles of `demo`.
+const MOST_CIRCLES: u16 = 800;
 
 /// The names PART, MACHINE, CL and TAPE.
 #[derive(Clone, Copy)]
@@ -28,12 +33,13 @@ pub(crate) enum Request<'a> {
     Certify(Names<'a>),
     Decode(TapeNames<'a>),
     List(&'a str),
+    Demo(u32),
 }
 
 /// The command that the words ask for.
 pub(crate) fn request_of<'a>(words: &'a [String]) -> Option<Request<'a>>
     ensures ask { option_map ask_of result ≡ asked (texts words.now) }
-    ensures apart { IfSome result IsApart }
+    ensures sound { IfSome result IsSound }
 {
     match words {
         [word, part, machine, cl, tape] => command_request(
@@ -46,14 +52,14 @@ pub(crate) fn request_of<'a>(words: &'a [String]) -> Option<Request<'a>>
             },
         ),
         [word, machine, tape] => decode_request(word, TapeNames { machine, tape }),
-        [word, name] => list_request(word, name),
+        [word, text] => word_request(word, text),
         _ => None,
     }
 }
 
 fn command_request<'a>(word: &str, names: Names<'a>) -> Option<Request<'a>>
     ensures ask { option_map ask_of result ≡ words.command_ask word.now (four_names names.entry) }
-    ensures apart { IfSome result IsApart }
+    ensures sound { IfSome result IsSound }
 {
     if word == "compile" {
         compile_request(names)
@@ -67,7 +73,7 @@ fn command_request<'a>(word: &str, names: Names<'a>) -> Option<Request<'a>>
 #[tactic(auto, using(crate::proofs::Apart::outputs_differ))]
 fn compile_request<'a>(names: Names<'a>) -> Option<Request<'a>>
     ensures ask { option_map ask_of result ≡ words.compile_ask (four_names names.entry) }
-    ensures apart { IfSome result IsApart }
+    ensures sound { IfSome result IsSound }
 {
     if are_names(&names) && are_apart(&names) {
         Some(Request::Compile(names))
@@ -78,7 +84,7 @@ fn compile_request<'a>(names: Names<'a>) -> Option<Request<'a>>
 
 fn certify_request<'a>(names: Names<'a>) -> Option<Request<'a>>
     ensures ask { option_map ask_of result ≡ words.certify_ask (four_names names.entry) }
-    ensures apart { IfSome result IsApart }
+    ensures sound { IfSome result IsSound }
 {
     if are_names(&names) {
         Some(Request::Certify(names))
@@ -89,7 +95,7 @@ fn certify_request<'a>(names: Names<'a>) -> Option<Request<'a>>
 
 fn decode_request<'a>(word: &str, names: TapeNames<'a>) -> Option<Request<'a>>
     ensures ask { option_map ask_of result ≡ words.decode_ask word.now (tape_names names.entry) }
-    ensures apart { IfSome result IsApart }
+    ensures sound { IfSome result IsSound }
 {
     if word == "decode" && are_tape_names(&names) {
         Some(Request::Decode(names))
@@ -98,15 +104,36 @@ fn decode_request<'a>(word: &str, names: TapeNames<'a>) -> Option<Request<'a>>
     }
 }
 
-fn list_request<'a>(word: &str, name: &'a str) -> Option<Request<'a>>
-    ensures ask { option_map ask_of result ≡ words.list_ask word.now name.now }
-    ensures apart { IfSome result IsApart }
+fn word_request<'a>(word: &str, text: &'a str) -> Option<Request<'a>>
+    ensures ask { option_map ask_of result ≡ words.word_ask word.now text.now }
+    ensures sound { IfSome result IsSound }
 {
-    if word == "list" && !name.is_empty() {
-        Some(Request::List(name))
+    if word == "list" {
+        list_request(text)
+    } else if word == "demo" {
+        demo_request(text)
     } else {
         None
     }
+}
+
+fn list_request<'a>(name: &'a str) -> Option<Request<'a>>
+    ensures ask { option_map ask_of result ≡ words.list_ask name.now }
+    ensures sound { IfSome result IsSound }
+{
+    if name.is_empty() {
+        None
+    } else {
+        Some(Request::List(name))
+    }
+}
+
+fn demo_request<'a>(text: &str) -> Option<Request<'a>>
+    ensures ask { option_map ask_of result ≡ words.demo_ask text.now }
+    ensures sound { IfSome result IsSound }
+{
+    let n = number_within(1, MOST_CIRCLES, text.as_bytes())?;
+    Some(Request::Demo(u32::from(n)))
 }
 
 fn are_names(n: &Names<'_>) -> bool

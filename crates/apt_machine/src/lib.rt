@@ -11,4 +11,5 @@ mod reader;
 
 pub use cause::{MachineCause, MachineError};
 pub use machine::Machine;
+pub use number::number_within;
 pub use reader::table;

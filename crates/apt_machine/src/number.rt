@@ -8,7 +8,7 @@ ghost use Rattle.apt_machine.specs.Numbers as numbers;
 const MOST_DIGITS: usize = 4;
 
 /// The number of plain digits, from a least one to a greatest one.
-pub(crate) fn number_within(least: u16, most: u16, text: &[u8]) -> Option<u16>
+pub fn number_within(least: u16, most: u16, text: &[u8]) -> Option<u16>
     ensures value { result ≡ numbers.number_within least most text.now }
     ensures least { IfSome result (λ n. least ≤ n) }
     ensures most { IfSome result (λ n. n ≤ most) }

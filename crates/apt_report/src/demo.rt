@@ -1,6 +1,6 @@
 //! The part that `demo` compiles.
 
-ghost use Rattle.std.specs.Prelude.{◌≡◌, ◌≤◌, ◌+◌, ◌++◌, pos, ◌≤ℤ◌, length, drop, IfOk, OnOk};
+ghost use Rattle.std.specs.Prelude.{◌≡◌, ◌≤◌, ◌+◌, ◌*◌, ◌++◌, pos, ◌≤ℤ◌, length, drop, IfOk, OnOk};
 ghost use Rattle.apt_report.specs.Demo as demo;
 
 use crate::room::{
@@ -16,7 +16,8 @@ use std::alloc::{AllocError, Global};
 /// Memory lacks.
 pub fn demo_part(alloc: Global, n: u32) -> Result<Vec<u8>, AllocError>
     requires { (1 ≤ n) × (n ≤ 800) }
-    ensures { IfOk result (λ v. v.items ≡ demo.demo_part n) }
+    ensures text { IfOk result (λ v. v.items ≡ demo.demo_part n) }
+    ensures short { IfOk result (λ v. length v.items ≤ 576 * n + 512) }
 {
     let mut text = Vec::new(alloc);
     let mut room = [0u8; ROOM];
@@ -73,7 +74,8 @@ fn clear_x(k: u32) -> i64
 fn push_block(text: &mut Vec<u8>, room: &mut [u8], k: u32) -> Result<(), AllocError>
     requires room { length room.old ≡ 192 }
     requires k { k ≤ 800 }
-    ensures { OnOk result (text.new.items ≡ text.old.items ++ demo.circle_block k) }
+    ensures text { OnOk result (text.new.items ≡ text.old.items ++ demo.circle_block k) }
+    ensures short { OnOk result (length text.new.items ≤ length text.old.items + 576) }
 {
     let x = centre_x(k);
     let y = centre_y(k);

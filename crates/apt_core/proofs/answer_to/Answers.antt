@@ -12,3 +12,6 @@ returns-in-Decode g c = rw (c.in-Decode.is, c.from_work.ensures) c.decode.ensure
 
 pub returns-in-List : goal.returns-in-List
 returns-in-List g c = rw (c.in-List.is, c.from_work-in-List.ensures) c.list.ensures
+
+pub returns-in-Demo : goal.returns-in-Demo
+returns-in-Demo g c = rw (c.in-Demo.is, c.of-in-Demo.ensures) (refl, record { comes = c.demo.ensures; untouched = refl })

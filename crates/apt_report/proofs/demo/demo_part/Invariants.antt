@@ -1,9 +1,10 @@
-use Rattle.std.proofs.Common.{◌≡◌, ◌++◌, length}
+use Rattle.std.proofs.Common.{◌≡◌, ◌++◌, ◌+◌, ◌*◌, ◌≤◌, length}
 use Rattle.apt_report.specs.Demo.{head, circle_blocks}
 use Rattle.apt_report.proofs.demo.demo_part.Given as goal
 
 abbrev pub invariant-circles : goal.invariant-circles
 invariant-circles l = record {
   text : l.text.items ≡ head l.n ++ circle_blocks l.k;
+  short : length l.text.items ≤ 576 * l.k + 192;
   room : length l.room ≡ 192;
 }

@@ -3,8 +3,8 @@ use Rattle.std.proofs.lemmas.Int.{to_z-of_z}
 use Rattle.apt_report.proofs.Circles.{one_circle}
 use Rattle.apt_report.proofs.demo.push_block.Goals as goal
 
-pub returns : goal.returns
-returns c =
+pub returns-clause-text : goal.returns-clause-text
+returns-clause-text c =
     let fits_x : FitsSigned w64 c.centre_x-x.result = search rules in
     let fits_y : FitsSigned w64 c.centre_y-y.result = search rules in
     let fits_clear : FitsSigned w64 c.clear_x.result = search rules in
