@@ -37,7 +37,7 @@ pub(crate) fn decode<H: Shelf>(
         }
         Err(answer) => {
             // a tape that can't be read is told before the table's fault
-            run_input(alloc, shelf, names.tape, Code::Rs358)?;
+            let _ = run_input(alloc, shelf, names.tape, Code::Rs358)?;
             Err(answer)
         }
     }

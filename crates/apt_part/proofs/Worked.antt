@@ -36,8 +36,9 @@ use Rattle.apt_meaning.specs.Effects.{defined}
 use Rattle.apt_meaning.specs.Refusals.{refused_form}
 use Rattle.apt_tapecode.specs.declared.Code.TheVariants.{Rs358}
 use Rattle.apt_machine.specs.declared.machine.Machine.{Machine}
+use Rattle.apt_control.specs.declared.Act.{Act}
 use Rattle.apt_control.specs.declared.Act.TheVariants as acts
-use Rattle.apt_post.specs.Plan.{ActsAndSegments, planning}
+use Rattle.apt_post.specs.Plan.{plan, segments}
 use Rattle.apt_part.specs.Compilation.{Compiled, records_by, part_of}
 
 abbrev largest : Machine
@@ -54,8 +55,13 @@ records_of text = recorded (program_of text)
 abbrev written : List Record → Result (Result (List Record) Refusal) TextFault
 written rs = Ok (Ok rs)
 
+-- the acts of records, and how many segments their contours have
+record ActsAndSegments : Type 0 where
+  acts : List Act
+  segments : ℕ
+
 abbrev planned : Result (Result Compiled Refusal) TextFault → Result (Result ActsAndSegments Refusal) TextFault
-planned (Ok (Ok p)) = Ok (Ok (planning p.records))
+planned (Ok (Ok p)) = Ok (Ok (record { acts = plan p.records; segments = segments p.records }))
 planned (Ok (Err refusal)) = Ok (Err refusal)
 planned (Err fault) = Err fault
 
