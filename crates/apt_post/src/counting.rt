@@ -4,7 +4,7 @@ ghost use Rattle.std.specs.Prelude.{◌≡◌, ◌+◌, ◌<◌, ◌^◌, length
 ghost use Rattle.apt_cldata.specs.Ranges.{vertex_count};
 ghost use Rattle.apt_post.specs.Plan as plans;
 
-use crate::planning::{Counts, Pending, Plan, begun, record_pending};
+use crate::planning::{Counts, Pending, Plan, first_act, record_pending};
 use apt_cldata::Record;
 use apt_control::Act;
 use std::alloc::{AllocError, Global};
@@ -26,7 +26,7 @@ pub fn plan(alloc: Global, records: &[Record]) -> Result<Vec<Act>, AllocError>
 fn act_count(p: Pending, r: &Record) -> usize
     ensures { result ≡ length (plans.record_acts p r.now) }
 {
-    match begun(p, r) {
+    match first_act(p, r) {
         Some((_, vertices)) => 1 + vertices.len(),
         None => 0,
     }

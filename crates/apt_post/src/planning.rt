@@ -124,7 +124,7 @@ fn point_act(p: Pending, reach: Reach, to: Position) -> Option<Act>
 
 /// The first act of a record, and the vertices to which it cuts then; none where it has no act.
 #[inline(always)]
-pub(crate) fn begun<'a>(p: Pending, r: &'a Record) -> Option<(Act, &'a [Position])>
+pub(crate) fn first_act<'a>(p: Pending, r: &'a Record) -> Option<(Act, &'a [Position])>
     ensures { MatchOption result (plans.record_acts p r.now ≡ []) (λ b. plans.record_acts p r.now ≡ b.0 ∷ map (plans.cut_to (plans.record_pending p r.now)) b.1.now) }
 {
     match r {
@@ -188,7 +188,7 @@ impl<'a> Plan<'a> {
             return Some(Act::Units(units));
         }
         'records: while let Some((record, behind)) = self.records.split_first() {
-            let first = begun(self.pending, record);
+            let first = first_act(self.pending, record);
             self.pending = record_pending(self.pending, record);
             self.records = behind;
             if let Some((act, vertices)) = first {
