@@ -15,11 +15,6 @@ front_written None t₁ name done left whole e s = tt
 front_written (Some m) t₁ name done left whole e s =
     inr (length done, omega (arith, length-append done left, ap length e), s ∙ ap (λ d. Some (insert m name d)) (sym (take-append_seam done left) ∙ ap (take (length done)) e))
 
--- nothing was written
-pub unwritten : (t : Option Contents) (name whole : List ℕ) → WritesPrefix name whole t t
-unwritten None name whole = tt
-unwritten (Some m) name whole = inl refl
-
 -- ---- a file that is being written: behind what stands under the name come the bytes that are held, and then those that are left
 
 abbrev pub IsWriting : List ℕ → List ℕ → List ℕ → List ℕ → Option Contents → Option Contents → Type 0

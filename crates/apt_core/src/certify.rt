@@ -120,8 +120,8 @@ fn verdict_on(
 /// The first place, from 1, at which acts and a plan differ.
 #[tactic(auto, using(crate::proofs::Differences::same_lists))]
 fn first_difference(acts: &[Act], plan: Plan<'_>) -> Option<u64>
-    ensures differ { IfSome result (λ at. DifferAt acts.now plan at) }
-    ensures same { result ≡ None → acts.now ≡ plan }
+    ensures differ { IfSome result (λ at. DifferAt acts.now plan.entry at) }
+    ensures same { result ≡ None → acts.now ≡ plan.entry }
 {
     let mut at = 1;
     let mut left = plan;

@@ -66,8 +66,8 @@ fn write_cl<H: Shelf>(
     name: &str,
     file: ClBytes<'_>,
 ) -> Result<(), ShelfFault>
-    ensures ok { OnOk result (Steps (λ m. insert m name.now file) (H.told shelf.old) (H.told shelf.new)) }
-    ensures err { OnErr result (WritesPrefix name.now file (H.told shelf.old) (H.told shelf.new)) }
+    ensures ok { OnOk result (Steps (λ m. insert m name.now file.entry) (H.told shelf.old) (H.told shelf.new)) }
+    ensures err { OnErr result (WritesPrefix name.now file.entry (H.told shelf.old) (H.told shelf.new)) }
     ensures fault { IsErrOf result ShelfFault.Fault → Rose (H.write_faults shelf.old) (H.write_faults shelf.new) }
     ensures later { H.write_faults shelf.old ≤ H.write_faults shelf.new }
     ensures read_faults { H.read_faults shelf.new ≡ H.read_faults shelf.old }
@@ -90,8 +90,8 @@ fn write_tape<H: Shelf>(
     name: &str,
     tape: TapeBytes<'_>,
 ) -> Result<(), ShelfFault>
-    ensures ok { OnOk result (Steps (λ m. insert m name.now tape) (H.told shelf.old) (H.told shelf.new)) }
-    ensures err { OnErr result (WritesPrefix name.now tape (H.told shelf.old) (H.told shelf.new)) }
+    ensures ok { OnOk result (Steps (λ m. insert m name.now tape.entry) (H.told shelf.old) (H.told shelf.new)) }
+    ensures err { OnErr result (WritesPrefix name.now tape.entry (H.told shelf.old) (H.told shelf.new)) }
     ensures fault { IsErrOf result ShelfFault.Fault → Rose (H.write_faults shelf.old) (H.write_faults shelf.new) }
     ensures later { H.write_faults shelf.old ≤ H.write_faults shelf.new }
     ensures read_faults { H.read_faults shelf.new ≡ H.read_faults shelf.old }
