@@ -1,5 +1,5 @@
 -- Where two lists of acts differ, one of which was gone through so far.
-use Rattle.std.proofs.Common.{◌≡◌, ◌<◌, ◌≤◌, ◌+◌, ℕ, zero, suc, List, [], ◌∷◌, ◌++◌, length, take, drop, get_or, sym, ap, ◌∙◌, refl, subst, arith}
+use Rattle.std.proofs.Common.{◌≡◌, ◌<◌, ◌≤◌, ◌+◌, ℕ, zero, suc, List, [], ◌∷◌, ◌++◌, Option, Some, None, is_some, IfSome, true, length, take, drop, get_or, sym, ap, ◌∙◌, refl, subst, arith}
 use Rattle.std.proofs.lemmas.List.{take-append-drop, take_all, length-take-le, append-nil}
 use Rattle.apt_control.specs.declared.Act.{Act}
 use Rattle.apt_core.specs.Certificates.{HeadsDiffer, DifferAt}
@@ -40,6 +40,11 @@ ends_differ xs ys left at same number h = record {
 
 pub same_lists : (xs ys left : List Act) → ys ≡ xs ++ left → left ≡ [] → xs ≡ ys
 same_lists xs ys left same none = sym (same ∙ ap (λ (l : List Act). xs ++ l) none ∙ append-nil xs)
+
+-- one more was taken
+pub some_left : (left more : List Act) (first : Option Act) → is_some first ≡ true → IfSome first (λ act. left ≡ act ∷ more) → 0 < length left
+some_left left more None is taken = absurd (let f : ⊥ = cc in f)
+some_left left more (Some act) is taken = omega (arith, ap length taken)
 
 -- the first list was gone through
 pub ended : (xs ys left : List Act) (i at : ℕ) → length xs ≤ i → i ≤ length xs → ys ≡ take i xs ++ left → at ≡ i + 1 → 0 < length left → DifferAt xs ys at

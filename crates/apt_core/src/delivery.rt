@@ -99,7 +99,7 @@ fn write_tape<H: Shelf>(
     let mut pieces = Pieces::new();
     let mut left = tape;
     shelf.start_write(name)?;
-    'blocks: while let Some(block) = left.next() {
+    'pieces: while let Some(block) = left.next() {
         pieces.push(shelf, &block)?;
     }
     pieces.finish(shelf)?;

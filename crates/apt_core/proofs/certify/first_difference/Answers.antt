@@ -1,12 +1,12 @@
-use Rattle.std.proofs.Common.{◌∙◌, sym}
-use Rattle.apt_core.proofs.Differences.{difference, ended}
+use Rattle.std.proofs.Common.{◌∙◌, refl, sym}
+use Rattle.apt_core.proofs.Differences.{difference, some_left, ended}
 use Rattle.apt_core.proofs.certify.first_difference.Goals as goal
 
-pub returns-in-None-clause-differ : goal.returns-in-None-clause-differ
-returns-in-None-clause-differ c =
-    difference c.args.xs.now c.args.ys.now c.acts.left.now c.acts.x-index c.acts.at _ c.acts-test.true c.acts.invariant.same c.acts.invariant.number (c.behind_same.ensures.differ c.in-None.is)
+pub returns-then-not-begins_with-clause-differ : goal.returns-then-not-begins_with-clause-differ
+returns-then-not-begins_with-clause-differ c =
+    difference c.args.acts.now c.args.plan c.acts.left c.acts.x-index c.acts.at _ c.acts-test.true c.acts.invariant.same c.acts.invariant.number (c.if-not-begins_with.ensures.differ refl)
 
-pub returns-else-is_empty-clause-differ : goal.returns-else-is_empty-clause-differ
-returns-else-is_empty-clause-differ c =
-    ended c.args.xs.now c.args.ys.now c.acts.left.now c.acts.x-index c.acts.at c.acts-test.false c.acts.auto.x-index-end c.acts.invariant.same c.acts.invariant.number
-    (sym c.is_empty.ensures ∙ c.if-is_empty.false)
+pub returns-then-is_some-clause-differ : goal.returns-then-is_some-clause-differ
+returns-then-is_some-clause-differ c =
+    ended c.args.acts.now c.args.plan c.acts.left c.acts.x-index c.acts.at c.acts-test.false c.acts.auto.x-index-end c.acts.invariant.same c.acts.invariant.number
+    (some_left c.acts.left c.next.new.self c.next.result (sym c.is_some.ensures ∙ c.if-is_some.true) c.next.ensures.taken)

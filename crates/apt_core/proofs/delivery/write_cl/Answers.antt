@@ -4,7 +4,7 @@ use Rattle.apt_core.proofs.Deliveries.{writing_stopped, piece_refused, piece_tak
 use Rattle.apt_core.proofs.delivery.write_cl.Goals as goal
 
 pub returns-in_err-take_piece-clause-err : goal.returns-in_err-take_piece-clause-err
-returns-in_err-take_piece-clause-err g c = on_err _ _ (writing_stopped _ _ _ _ _ _ c.pieces.invariant.written)
+returns-in_err-take_piece-clause-err g c = on_err _ _ (writing_stopped _ _ _ _ c.pieces.pieces c.pieces.left c.pieces.invariant.written)
 
 pub pieces-preserved : goal.pieces-preserved
 pieces-preserved g c =

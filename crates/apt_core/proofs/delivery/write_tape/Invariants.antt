@@ -2,8 +2,8 @@ use Rattle.std.proofs.Common.{◌≡◌, ◌≤◌, Some, length}
 use Rattle.apt_core.proofs.Deliveries.{IsWriting}
 use Rattle.apt_core.proofs.delivery.write_tape.Given as goal
 
-abbrev pub invariant-blocks : goal.invariant-blocks
-invariant-blocks g l =
+abbrev pub invariant-pieces : goal.invariant-pieces
+invariant-pieces g l =
     let H = g.H.Shelf in
     record {
       written : IsWriting l.fn.name l.fn.tape l.pieces l.left (H.told l.fn.shelf) (H.told l.shelf);
@@ -12,5 +12,5 @@ invariant-blocks g l =
       later : H.write_faults l.fn.shelf ≤ H.write_faults l.shelf;
     }
 
-abbrev pub decreases-blocks : goal.decreases-blocks
-decreases-blocks g l = length l.left
+abbrev pub decreases-pieces : goal.decreases-pieces
+decreases-pieces g l = length l.left
