@@ -41,7 +41,7 @@ pub(crate) fn compile<H: Shelf>(
 
 /// What a text is compiled to for the machine of a table. The steps go as soon as the records stand, to keep the peak of
 /// memory low.
-#[tactic(auto, using(crate::proofs::Outputs::output_is))]
+#[tactic(auto, using(crate::proofs::Outputs::output_is, crate::proofs::Outputs::few_records))]
 fn output_by(alloc: Global, text: Vec<u8>, table: &[u8]) -> Result<Output, Status>
     requires short { length table.now ≤ 65536 }
     ensures output { IfOk result (λ o. IsOutput text.items table.now (output_of o.machine o.records.items)) }

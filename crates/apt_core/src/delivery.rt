@@ -100,7 +100,7 @@ fn write_tape<H: Shelf>(
     let mut left = tape;
     shelf.start_write(name)?;
     'pieces: while let Some(block) = left.next() {
-        pieces.push(shelf, &block)?;
+        pieces.push(shelf, block.as_slice())?;
     }
     pieces.finish(shelf)?;
     Ok(())

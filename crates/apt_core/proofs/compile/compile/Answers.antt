@@ -2,7 +2,7 @@ use Rattle.std.proofs.Common.{[], ◌∷◌, inl, inr, refl, arith, rules}
 use Rattle.std.proofs.lemmas.Result.{err_from_is_err_and}
 use Rattle.apt_core.specs.Request.{four_names}
 use Rattle.apt_core.specs.Inputs.{Files, files_on, AreRead, input, part_limit, machine_limit, part_inputs, ReadsAll}
-use Rattle.apt_core.specs.Outputs.{IsOutput}
+use Rattle.apt_core.specs.Outputs.{output_of, IsOutput}
 use Rattle.apt_core.proofs.Readings.{read_on, reads_next, stopped_first, stopped_next}
 use Rattle.apt_core.proofs.Compiling.{AreWritten, stopped_compiles, none_compiles, whole_compiles, cut_compiles}
 use Rattle.apt_core.proofs.compile.compile.Goals as goal
@@ -64,7 +64,7 @@ returns-in-Ok g c =
     let read : AreRead before two = read_on before one two a.read b.read in
     let reads : ReadsAll before.told (part_inputs n) (text ∷ table ∷ []) = reads_next before one part text (machine ∷ []) (table ∷ []) a.read a.text (b.text, tt) in
     let last : Files = files_on g.H.Shelf c.deliver.new.shelf in
-    let output = c.in_ok-output.output in
+    let output = output_of c.in_ok-output.output.machine c.in_ok-output.output.records.items in
     let is : IsOutput text table output = rw c.deref.ensures.value at c.in_ok-output.ensures.output in
     let w = c.in-Ok.ensures in
     let counts : AreWritten before last = record { reads_later = omega (arith, read.later, w.read_faults); writes_later = omega (arith, read.unfailed, w.later) } in
@@ -85,7 +85,7 @@ returns-in-Err-Fault g c =
     let read : AreRead before two = read_on before one two a.read b.read in
     let reads : ReadsAll before.told (part_inputs n) (text ∷ table ∷ []) = reads_next before one part text (machine ∷ []) (table ∷ []) a.read a.text (b.text, tt) in
     let last : Files = files_on g.H.Shelf c.deliver.new.shelf in
-    let output = c.in_ok-output.output in
+    let output = output_of c.in_ok-output.output.machine c.in_ok-output.output.records.items in
     let is : IsOutput text table output = rw c.deref.ensures.value at c.in_ok-output.ensures.output in
     let w = c.in-Err-Fault.ensures in
     let counts : AreWritten before last = record { reads_later = omega (arith, read.later, w.read_faults); writes_later = omega (arith, read.unfailed, w.later) } in
@@ -106,7 +106,7 @@ returns g c =
     let read : AreRead before two = read_on before one two a.read b.read in
     let reads : ReadsAll before.told (part_inputs n) (text ∷ table ∷ []) = reads_next before one part text (machine ∷ []) (table ∷ []) a.read a.text (b.text, tt) in
     let last : Files = files_on g.H.Shelf c.deliver.new.shelf in
-    let output = c.in_ok-output.output in
+    let output = output_of c.in_ok-output.output.machine c.in_ok-output.output.records.items in
     let is : IsOutput text table output = rw c.deref.ensures.value at c.in_ok-output.ensures.output in
     let w = c.in-Err-NoMemory.ensures in
     let counts : AreWritten before last = record { reads_later = omega (arith, read.later, w.read_faults); writes_later = omega (arith, read.unfailed, w.later) } in
