@@ -1,6 +1,6 @@
 use apt_shelf::{
-    FailList, FolderShelf, MemShelf, MemSink, ReadError, Shelf, ShelfFault, Sink, StdSink,
-    SureShelf, append_all, append_full, read_all, write_all,
+    FailList, FolderShelf, MemShelf, MemSink, Pieces, ReadError, Shelf, ShelfFault, Sink, StdSink,
+    SureShelf, read_all, write_all,
 };
 use std::alloc::{AllocGlobal, Global};
 use std::fs;
@@ -100,12 +100,15 @@ fn bytes_are_appended_in_pieces(rt: HostRuntime) -> Result<(), Fail> {
     fail.appends.push(3)?;
     let mut shelf = MemShelf::new(alloc, Vec::new(alloc), fail)?;
     shelf.start_write("a")?;
-    // two pieces are full, nothing is no call, and the third call keeps half of what was left
+    // two pieces are full, nothing is no call, and the third call keeps half of what was held
     let long = [7u8; 10_000];
-    let rest = append_full(&mut shelf, &long)?;
-    assert_eq!(rt; rest.len(), 1808);
-    append_all(&mut shelf, b"")?;
-    assert_eq!(rt; append_all(&mut shelf, rest), Err(ShelfFault::Fault));
+    let mut pieces = Pieces::new();
+    pieces.push(&mut shelf, &long[..4000])?;
+    assert_eq!(rt; shelf.file("a"), Some(b"".as_slice()));
+    pieces.push(&mut shelf, &long[4000..])?;
+    pieces.push(&mut shelf, b"")?;
+    assert_eq!(rt; shelf.file("a"), Some(&long[..8192]));
+    assert_eq!(rt; pieces.finish(&mut shelf), Err(ShelfFault::Fault));
     assert_eq!(rt; shelf.file("a"), Some(&long[..8192 + 904]));
     Ok(())
 }

@@ -89,7 +89,7 @@ fn file(alloc: Global, records: &[&[i64]]) -> Result<Vec<u8>, AllocError> {
 }
 
 /// A small file, which is taken in one piece.
-fn taken(alloc: Global, file: ClBytes) -> Result<Vec<u8>, AllocError> {
+fn taken(alloc: Global, file: ClBytes<'_>) -> Result<Vec<u8>, AllocError> {
     let mut file = file;
     let mut piece = Vec::new(alloc);
     file.take_piece(&mut piece)?;
@@ -106,7 +106,7 @@ fn the_sample_is_read_and_written_again(rt: HostRuntime) -> Result<(), Fail> {
     assert!(rt; is_sample(&records));
     assert_eq!(rt; write(alloc, &records)?.as_slice(), SAMPLE.as_slice());
     assert_eq!(rt;
-        taken(alloc, ClBytes::of(records))?.as_slice(),
+        taken(alloc, ClBytes::of(&records))?.as_slice(),
         SAMPLE.as_slice()
     );
     Ok(())

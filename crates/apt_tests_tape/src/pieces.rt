@@ -1,5 +1,7 @@
 //! Tapes that are read in pieces.
 
+ghost use Rattle.std.specs.Prelude.{◌<◌};
+
 use apt_control::{Act, ControlError, TapeReader, read_tape};
 use apt_tapecode::{Code, punch};
 use std::alloc::{AllocError, Global};
@@ -30,6 +32,25 @@ fn read_cut(
     reader.finish()
 }
 
+/// What a reader answers to a tape in pieces of a length.
+fn read_pieces(
+    alloc: Global,
+    code: Code,
+    tape: &[u8],
+    length: usize,
+) -> Result<Vec<Act>, ControlError>
+    requires { 0 < length }
+{
+    let mut reader = TapeReader::new(alloc, code);
+    let mut rest = tape;
+    'pieces: while !rest.is_empty() {
+        let (piece, behind) = rest.split_at(length.min(rest.len()));
+        reader = reader.feed(piece)?;
+        rest = behind;
+    }
+    reader.finish()
+}
+
 fn is_same(read: &Result<Vec<Act>, ControlError>, whole: &Result<Vec<Act>, ControlError>) -> bool {
     match (read, whole) {
         (Ok(acts), Ok(want)) => acts.as_slice() == want.as_slice(),
@@ -38,11 +59,16 @@ fn is_same(read: &Result<Vec<Act>, ControlError>, whole: &Result<Vec<Act>, Contr
     }
 }
 
-/// Whether a tape has one answer, cut at each place.
+/// Whether a tape has one answer, cut at each place, and into pieces of several lengths.
 fn cuts_alike(alloc: Global, code: Code, tape: &[u8]) -> bool {
     let whole = read_tape(alloc, code, tape);
     for place in 0..=tape.len() {
         if !is_same(&read_cut(alloc, code, tape, place), &whole) {
+            return false;
+        }
+    }
+    for length in [1, 2, 3, 7, 4096] {
+        if !is_same(&read_pieces(alloc, code, tape, length), &whole) {
             return false;
         }
     }
