@@ -1,4 +1,4 @@
-use Rattle.std.proofs.Common.{rules, ◌≡◌, ◌≤◌, ◌++◌, length, take, arith}
+use Rattle.std.proofs.Common.{rules, ◌≤◌, ◌++◌, length, take, arith}
 use Rattle.apt_part.specs.Promise.{file_limit}
 use Rattle.apt_core.proofs.TapeRuns.{all_read, read_more, counted_more}
 use Rattle.apt_core.proofs.reading.run_pieces.Goals as goal
