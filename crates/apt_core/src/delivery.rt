@@ -18,8 +18,8 @@ use apt_report::Summary;
 use apt_shelf::{Pieces, Shelf, ShelfFault};
 use std::alloc::Global;
 
-/// The room for the records of a CL file that are written next, in bytes. More is taken only for a record that is longer.
-const RECORDS: usize = 8192;
+/// The room for the records or the blocks that are written next, in bytes. More is taken only for a record that is longer.
+const ROOM: usize = 8192;
 
 /// The records of a part, and the machine for which its tape is.
 #[derive(Drop)]
@@ -50,7 +50,7 @@ pub(crate) fn deliver<H: Shelf>(
     let records = output.records.as_slice();
     let Counts { acts, segments } = counts(records);
     write_cl(alloc, shelf, cl, ClBytes::of(records))?;
-    write_tape(shelf, tape, TapeBytes::of(records, &output.machine))?;
+    write_tape(alloc, shelf, tape, TapeBytes::of(records, &output.machine))?;
     Ok(Summary::Compiled {
         records: records.len() as u64,
         acts,
@@ -72,7 +72,7 @@ fn write_cl<H: Shelf>(
     ensures later { H.write_faults shelf.old ≤ H.write_faults shelf.new }
     ensures read_faults { H.read_faults shelf.new ≡ H.read_faults shelf.old }
 {
-    let mut records = Vec::with_capacity(alloc, RECORDS)?;
+    let mut records = Vec::with_capacity(alloc, ROOM)?;
     let mut pieces = Pieces::new();
     let mut left = file;
     shelf.start_write(name)?;
@@ -84,19 +84,25 @@ fn write_cl<H: Shelf>(
     Ok(())
 }
 
-/// Writes a tape block by block, in the same way. It takes no memory.
-fn write_tape<H: Shelf>(shelf: &mut H, name: &str, tape: TapeBytes<'_>) -> Result<(), ShelfFault>
+/// Writes a tape in the same way.
+fn write_tape<H: Shelf>(
+    alloc: Global,
+    shelf: &mut H,
+    name: &str,
+    tape: TapeBytes<'_>,
+) -> Result<(), ShelfFault>
     ensures ok { OnOk result (Steps (λ m. insert m name.now tape.entry) (H.told shelf.old) (H.told shelf.new)) }
     ensures err { OnErr result (WritesPrefix name.now tape.entry (H.told shelf.old) (H.told shelf.new)) }
     ensures fault { IsErrOf result ShelfFault.Fault → Rose (H.write_faults shelf.old) (H.write_faults shelf.new) }
     ensures later { H.write_faults shelf.old ≤ H.write_faults shelf.new }
     ensures read_faults { H.read_faults shelf.new ≡ H.read_faults shelf.old }
 {
+    let mut blocks = Vec::with_capacity(alloc, ROOM)?;
     let mut pieces = Pieces::new();
     let mut left = tape;
     shelf.start_write(name)?;
-    'pieces: while let Some(block) = left.next() {
-        pieces.push(shelf, block.as_slice())?;
+    'pieces: while left.take_piece(&mut blocks)? {
+        pieces.push(shelf, &blocks)?;
     }
     pieces.finish(shelf)?;
     Ok(())

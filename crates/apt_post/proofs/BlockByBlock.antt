@@ -29,3 +29,14 @@ pub some_bytes : (p : Posting) (act : Act) (more : List ℕ) → length more < l
 some_bytes p act more =
     let block = next_block p act in
     omega (arith, length-append (block_bytes p act) more, length-map (spelling block) (byte_of p.machine.code), length-append (flat_map word_text block) (line_feed ∷ []))
+
+-- ---- a piece of what is left
+
+-- one that has bytes leaves fewer
+pub fewer_left : (piece left whole : List ℕ) → piece ++ left ≡ whole → 0 < length piece → length left < length whole
+fewer_left piece left whole e some = omega (arith, length-append piece left, ap length e, some)
+
+-- none where none are left
+pub none_left : (piece left whole : List ℕ) → piece ++ left ≡ whole → length piece ≡ 0 → left ≡ [] → whole ≡ []
+none_left [] left whole e none end = sym e ∙ end
+none_left (b ∷ piece) left whole e none end = absurd (omega (arith, none))

@@ -1,6 +1,6 @@
-//! The bytes of a tape, block by block.
+//! The bytes of a tape, piece by piece.
 
-ghost use Rattle.std.specs.Prelude.{◌≡◌, ◌<◌, ◌++◌, [], None, Ok, length, IfSome};
+ghost use Rattle.std.specs.Prelude.{◌≡◌, ◌<◌, ◌++◌, [], true, false, Ok, length, vec_len, IfOk};
 ghost use Rattle.apt_control.specs.Control.{control_run};
 ghost use Rattle.apt_post.specs.Blocks as spec;
 ghost use Rattle.apt_post.specs.Plan as plans;
@@ -9,9 +9,13 @@ use crate::planning::Plan;
 use crate::poster::{Poster, Text};
 use apt_cldata::Record;
 use apt_machine::Machine;
+use std::alloc::AllocError;
 use std::marker::Model;
 
-/// The tape of records, whose bytes are taken block by block, from the first. Clauses see those that are left.
+/// A piece ends with the block with which it has so many bytes.
+const PIECE: usize = 4096;
+
+/// The tape of records, whose bytes are taken piece by piece, from the first. Clauses see those that are left.
 #[derive(Drop)]
 pub struct TapeBytes<'a> {
     plan: Plan<'a>,
@@ -44,22 +48,42 @@ impl<'a> TapeBytes<'a> {
         }
     }
 
-    /// The bytes of the next block, or of what stands before the first; none at the end.
+    /// Takes the next bytes in the place of a piece before, whole blocks up to the one with which it has 4,096 bytes, and
+    /// says whether any were left.
+    #[tactic(auto, using(crate::proofs::BlockByBlock::fewer_left, crate::proofs::BlockByBlock::none_left))]
+    pub fn take_piece(&mut self, piece: &mut Vec<u8>) -> Result<bool, AllocError>
+        ensures taken { IfOk result (λ _. self.old ≡ piece.new.items ++ self.new) }
+        ensures shorter { IfOk result (λ more. more ≡ true → length self.new < length self.old) }
+        ensures end { IfOk result (λ more. more ≡ false → self.old ≡ []) }
+    {
+        piece.clear();
+        'left: while piece.len() < PIECE {
+            if !self.push_next(piece)? {
+                return Ok(!piece.is_empty());
+            }
+        }
+        Ok(true)
+    }
+
+    /// Appends the bytes of the next block, or of what stands before the first, and says whether any were left.
+    #[inline(always)]
     #[tactic(auto, using(crate::proofs::BlockByBlock::some_bytes))]
-    pub fn next(&mut self) -> Option<Text>
-        ensures taken { IfSome result (λ text. self.old ≡ text.items ++ self.new) }
-        ensures shorter { IfSome result (λ _. length self.new < length self.old) }
-        ensures end { result ≡ None → self.old ≡ [] }
-        ensures stays { result ≡ None → self.new ≡ [] }
+    fn push_next(&mut self, piece: &mut Vec<u8>) -> Result<bool, AllocError>
+        ensures taken { IfOk result (λ _. piece.old.items ++ self.old ≡ piece.new.items ++ self.new) }
+        ensures more { IfOk result (λ more. more ≡ true → vec_len piece.old < vec_len piece.new) }
+        ensures end { IfOk result (λ more. more ≡ false → self.new ≡ []) }
     {
         let mut text = Text::new();
         if self.begun {
-            let act = self.plan.next()?;
+            let Some(act) = self.plan.next() else {
+                return Ok(false);
+            };
             self.poster.push_bytes(&mut text, &act);
         } else {
             self.begun = true;
             self.poster.push_start(&mut text);
         }
-        Some(text)
+        piece.extend_from_slice(text.as_slice())?;
+        Ok(true)
     }
 }

@@ -242,7 +242,7 @@ fn place(x: i64, y: i64) -> Position
 }
 
 #[test]
-fn writes_records_block_by_block(rt: HostRuntime) -> Result<(), Fail> {
+fn writes_records_piece_by_piece(rt: HostRuntime) -> Result<(), Fail> {
     let vertices = vec![in rt.alloc(); place(3, 2), place(3, 4)]?;
     let records = [
         Record::Note(Note::Units(Units::Mm)),
@@ -260,15 +260,11 @@ fn writes_records_block_by_block(rt: HostRuntime) -> Result<(), Fail> {
     for code in [Code::Rs244, Code::Rs358] {
         for machine in [machine(code, 1), changed(code, 1)] {
             let mut left = TapeBytes::of(&records, &machine);
-            let mut bytes = Vec::new(rt.alloc());
-            for _ in 0..7 {
-                if let Some(text) = left.next() {
-                    bytes.extend_from_slice(&text)?;
-                }
-            }
-            assert!(rt; left.next().is_none());
+            let mut piece = Vec::new(rt.alloc());
             let whole = tape(rt.alloc(), &acts, &machine)?;
-            assert_eq!(rt; bytes.as_slice(), whole.as_slice());
+            assert!(rt; left.take_piece(&mut piece)?);
+            assert_eq!(rt; piece.as_slice(), whole.as_slice());
+            assert!(rt; !left.take_piece(&mut piece)?);
         }
     }
     Ok(())
