@@ -94,6 +94,22 @@ pub(crate) fn append_piece(arc: &Arc, a: Pt, b: Pt, depth: u8, out: &mut Vec<Pt>
     append_piece(arc, a, m, depth - 1, out) + append_piece(arc, m, b, depth - 1, out)
 }
 
+/// Counts the vertices of a piece behind its start, halved at most so deep.
+#[tactic(auto, using(crate::proofs::Halved::one_long, crate::proofs::Halved::power_half))]
+pub(crate) fn count_piece(arc: &Arc, a: Pt, b: Pt, depth: u8) -> u64
+    requires arc { IsArc arc.now }
+    requires piece { IsPiece arc.now.track arc.now.sense a b }
+    requires depth { depth ≤ 24 }
+    ensures count { result ≡ length (spec.pieces depth arc.now.track arc.now.sag a b) }
+    ensures small { result ≤ 2 ^ depth }
+{
+    if is_whole(arc, a, b, depth) {
+        return 1;
+    }
+    let m = halve(arc, a, b);
+    count_piece(arc, a, m, depth - 1) + count_piece(arc, m, b, depth - 1)
+}
+
 /// Appends a point if there is room for it.
 #[tactic(auto, using(crate::proofs::Rooms::one_more, crate::proofs::Rooms::none_more))]
 fn push_if_room(out: &mut Vec<Pt>, point: Pt)

@@ -9,7 +9,7 @@ ghost use Rattle.apt_arc.specs.Made.{divided};
 ghost use Rattle.apt_arc.specs.Made as spec;
 
 use crate::arc::Arc;
-use crate::cuts::append_piece;
+use crate::cuts::{append_piece, count_piece};
 use crate::quarters::{first_past, next_point, onward};
 use apt_plane::{Dir, Pt};
 use std::alloc::AllocError;
@@ -41,6 +41,33 @@ pub fn chords(arc: &Arc, room: u64, out: &mut Vec<Pt>) -> Result<(), ArcError>
     ensures short { (k : ℕ) → unsigned_abs arc.now.track.r ≤ 3 ^ k * unsigned_abs arc.now.sag → length (divided arc.now) ≤ 5 * 2 ^ k }
 {
     append_all(arc, room, out)
+}
+
+/// The number of vertices of an arc behind its start, which [`chords`] appends.
+#[tactic(auto, using(crate::proofs::Divided::divides))]
+pub fn count(arc: &Arc) -> u64
+    requires { IsArc arc.now }
+    ensures count { result ≡ length (divided arc.now) }
+    ensures division { IsDivision arc.now (divided arc.now) }
+    ensures only { (list : List Pt) → IsDivision arc.now list → list ≡ divided arc.now }
+{
+    count_from(arc, arc.start, first_past(arc, arc.axis, 3), 4)
+}
+
+/// The number of those from a point through the quarter points from a direction on.
+fn count_from(arc: &Arc, from: Pt, u: Dir, left: u8) -> u64
+    requires arc { IsArc arc.now }
+    requires dir { IsDir u }
+    requires pieces { ArePieces arc.now.track arc.now.sense from (spec.stations left arc.now u) }
+    requires few { left ≤ 4 }
+    ensures count { result ≡ length (spec.vertices left arc.now from u) }
+    ensures small { result ≤ (left + 1) * 2 ^ 24 }
+{
+    match next_point(arc, u, left) {
+        Some(point) => count_piece(arc, from, point, DEPTH)
+            + count_from(arc, point, onward(arc.sense, u), left - 1),
+        None => count_piece(arc, from, arc.end, DEPTH),
+    }
 }
 
 /// The vertices are made once, where there is room for them already; else twice, behind room for them all.

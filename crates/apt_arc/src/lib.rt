@@ -7,7 +7,7 @@
 //! the track than the sag. Each list of vertices that is such a division is the one that [`chords`] appends.
 //!
 //! [`chords`] fails with [`ArcError::TooManyPoints`] exactly where the vertices are more than there is room for,
-//! and with [`ArcError::NoMemory`] where memory runs out.
+//! and with [`ArcError::NoMemory`] where memory runs out. [`count`] counts them, and takes no memory.
 #![tactic(auto)]
 
 mod arc;
@@ -16,4 +16,4 @@ mod division;
 mod quarters;
 
 pub use arc::Arc;
-pub use division::{ArcError, chords};
+pub use division::{ArcError, chords, count};

@@ -10,18 +10,30 @@ ghost use Rattle.apt_certify.specs.Verdicts.{IsFailure, IsFailureOfPath, IsVerdi
 ghost use Rattle.apt_certify.specs.Verdicts as verdicts;
 
 use crate::deviations::{greater, worst};
+use crate::gate::{Gate, OpenGate};
 use crate::leg::{Job, Leg};
 use crate::segments::{Failure, end_fault, segment_fault};
 use crate::verdict::{Bad, Verdict};
 use apt_plane::Pt;
 
 /// The verdict over jobs, of less than 2^63 points together.
+#[tactic(auto, using(crate::proofs::Single::only_verdict, crate::proofs::Halves::none_where_legal))]
 pub fn check_jobs(jobs: &[Job]) -> Verdict
     requires jobs { AreJobs jobs.now }
     requires few { point_count jobs.now < 2 ^ 63 }
     ensures verdict { IsVerdict jobs.now result }
     ensures only { (v : Verdict) → IsVerdict jobs.now v → v ≡ result }
     ensures legal { IsNone result.first_bad ↔ AreLegal jobs.now }
+{
+    check_from(jobs, 1, &OpenGate)
+}
+
+/// The verdict over jobs of which the first has this number. The gate is told of each before it is judged.
+pub(crate) fn check_from<G: Gate>(jobs: &[Job], first: u64, gate: &G) -> Verdict
+    requires jobs { AreJobs jobs.now }
+    requires few { point_count jobs.now < 2 ^ 63 }
+    requires numbers { first + length jobs.now < 2 ^ 64 }
+    ensures { IsVerdict jobs.now result }
 {
     let mut verdict = Verdict {
         segments: 0,
@@ -30,6 +42,7 @@ pub fn check_jobs(jobs: &[Job]) -> Verdict
         first_bad: None,
     };
     'jobs: for (i, job) in jobs.iter().enumerate() {
+        gate.enter(first + i as u64);
         verdict = merged(verdict, i as u64, job_verdict(job));
     }
     verdict
