@@ -6,22 +6,24 @@ ghost use Rattle.apt_shelf.specs.Files.{AddsAny, AddsFront, WritesPrefix};
 
 use crate::files::PIECE;
 use crate::shelf::{Shelf, ShelfFault};
-use arrayvec::ArrayVec;
 use std::marker::Model;
 
 /// Holds bytes back until they are a piece of 4,096, which is appended whole; it takes no memory. Clauses see the bytes
 /// that are held. Behind a refusal it holds no part of a file.
 #[derive(Drop)]
 pub struct Pieces {
-    held: ArrayVec<u8, PIECE>,
+    buffer: [u8; PIECE],
+    /// How many bytes at the front of the buffer are held.
+    held: usize,
+    ghost within: { held ≤ 4096 },
 }
 
 impl Model for Pieces {
-    ghost use Rattle.std.specs.Prelude.{ℕ, List};
+    ghost use Rattle.std.specs.Prelude.{ℕ, List, take};
 
     ghost Value = { List ℕ };
 
-    ghost view = { λ p. p.held.items };
+    ghost view = { λ p. take p.held p.buffer };
 }
 
 impl Pieces {
@@ -29,7 +31,8 @@ impl Pieces {
         ensures { result ≡ [] }
     {
         Pieces {
-            held: ArrayVec::new(),
+            buffer: [0; PIECE],
+            held: 0,
         }
     }
 
@@ -65,8 +68,8 @@ impl Pieces {
         ensures left { H.left shelf.new ≡ H.left shelf.old }
         ensures read_faults { H.read_faults shelf.new ≡ H.read_faults shelf.old }
     {
-        if !self.held.is_empty() {
-            shelf.append(&self.held)?;
+        if self.held > 0 {
+            shelf.append(&self.buffer[..self.held])?;
         }
         Ok(())
     }
@@ -82,8 +85,8 @@ impl Pieces {
         ensures left { H.left shelf.new ≡ H.left shelf.old }
         ensures read_faults { H.read_faults shelf.new ≡ H.read_faults shelf.old }
     {
-        shelf.append(&self.held)?;
-        self.held.clear();
+        shelf.append(&self.buffer[..self.held])?;
+        self.held = 0;
         Ok(())
     }
 
@@ -91,7 +94,7 @@ impl Pieces {
     fn room(&self) -> usize
         ensures { result + length self.now ≡ 4096 }
     {
-        PIECE - self.held.len()
+        PIECE - self.held
     }
 
     /// Takes bytes for which there is room.
@@ -99,9 +102,9 @@ impl Pieces {
         requires { length self.old + length bytes.now ≤ 4096 }
         ensures { self.new ≡ self.old ++ bytes.now }
     {
-        if self.held.try_extend_from_slice(bytes).is_err() {
-            unreachable!();
-        }
+        let end = self.held + bytes.len();
+        self.buffer[self.held..end].copy_from_slice(bytes);
+        self.held = end;
     }
 }
 
