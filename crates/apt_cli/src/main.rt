@@ -1,7 +1,7 @@
 //! The program `apt`, over the files of the current folder and standard output.
 #![tactic(auto)]
 
-use apt_core::apt;
+use apt_core::{OpenGate, apt};
 use apt_shelf::{FolderShelf, StdSink};
 use std::env;
 use std::io::ErrorKind;
@@ -30,7 +30,7 @@ fn main(rt: HostRuntime) -> ExitCode {
         return ExitCode::from(NO_MEMORY);
     };
     let mut out = StdSink::new(&rt);
-    let status = apt(&rt, alloc, &words, &mut shelf, &mut out);
+    let status = apt(&rt, alloc, &words, &mut shelf, &mut out, &OpenGate);
     ExitCode::from(status.number())
 }
 

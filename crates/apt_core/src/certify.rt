@@ -24,7 +24,7 @@ ghost use Rattle.apt_core.specs.Promise.{Certifies};
 use crate::due::{acts_of, machine_of, records_in, steps_on};
 use crate::reading::{FILE_LIMIT, MACHINE_LIMIT, PART_LIMIT, read_input, run_input};
 use crate::words::Names;
-use apt_certify::check_jobs;
+use apt_certify::{Gate, check_jobs_split};
 use apt_cldata::Record;
 use apt_control::{Act, ControlError};
 use apt_job::{JobError, jobs};
@@ -35,12 +35,15 @@ use apt_shelf::Shelf;
 use apt_tapecode::Code;
 use apt_words::Step;
 use std::alloc::Global;
+use std::thread::Threads;
 
 /// Reads the part, the machine table, the CL file and the tape, and judges the last two against the part.
-pub(crate) fn certify<H: Shelf>(
+pub(crate) fn certify<H: Shelf, G: Gate>(
+    rt: &(impl Threads + Sync),
     alloc: Global,
     shelf: &mut H,
     names: Names<'_>,
+    gate: &G,
 ) -> Result<Summary, Status>
     ensures { Certifies (four_names names.entry) (files_on H.Shelf shelf.old) (files_on H.Shelf shelf.new) (answer_of result) }
 {
@@ -50,7 +53,7 @@ pub(crate) fn certify<H: Shelf>(
     match machine_of(&table) {
         Ok(machine) => {
             let run = run_input(alloc, shelf, names.tape, machine.code)?;
-            judged(alloc, &machine, text, &cl, run)
+            judged(rt, alloc, &machine, text, &cl, run, gate)
         }
         Err(answer) => {
             // a tape that can't be read is told before the table's fault
@@ -61,12 +64,14 @@ pub(crate) fn certify<H: Shelf>(
 }
 
 /// What is found of a part and a CL file, and of a tape by its run, on a machine.
-fn judged(
+fn judged<G: Gate>(
+    rt: &(impl Threads + Sync),
     alloc: Global,
     machine: &Machine,
     text: Vec<u8>,
     cl: &[u8],
     run: Result<Vec<Act>, ControlError>,
+    gate: &G,
 ) -> Result<Summary, Status>
     requires machine { IsMachine machine.now }
     requires short { length cl.now ≤ 67108864 }
@@ -75,16 +80,18 @@ fn judged(
     let steps = steps_on(alloc, text, machine)?;
     let records = records_in(alloc, cl)?;
     let acts = acts_of(run)?;
-    let verdict = verdict_on(alloc, &steps, &records, &acts)?;
+    let verdict = verdict_on(rt, alloc, &steps, &records, &acts, gate)?;
     Ok(Summary::Certified(verdict))
 }
 
 /// The verdict over records that answer the steps and acts that are their plan, or what is missed.
-fn verdict_on(
+fn verdict_on<G: Gate>(
+    rt: &(impl Threads + Sync),
     alloc: Global,
     steps: &[Step],
     records: &[Record],
     acts: &[Act],
+    gate: &G,
 ) -> Result<Verdict, Status>
     requires steps { AreSteps steps.now }
     requires passes { first_refused first_situation steps.now ≡ None }
@@ -103,7 +110,7 @@ fn verdict_on(
         }),
         Err(JobError::NoMemory) => return Err(Status::NoMemory),
     };
-    let verdict = check_jobs(&jobs);
+    let verdict = check_jobs_split(rt, &jobs, gate);
     if let Some(bad) = verdict.first_bad {
         return Err(Status::NotCertified {
             miss: Miss::Motion(bad),

@@ -9,9 +9,11 @@ use crate::certify::certify;
 use crate::compile::compile;
 use crate::put::status_of;
 use crate::words::Names;
+use apt_certify::Gate;
 use apt_report::{Status, Summary, demo_part};
 use apt_shelf::{Shelf, SureShelf};
 use std::alloc::{AllocError, Global};
+use std::thread::Threads;
 
 /// The table of the machine with the greatest limits.
 const TABLE: &str = "MACHINE 1\nCODE RS358\nSEQ 1\nFEEDMAX 9999\nSPINMAX 9999\nTOOLMAX 99\n";
@@ -25,13 +27,18 @@ const NAMES: Names<'static> = Names {
 };
 
 /// Compiles the part of so many circles, and judges what came of it, over a store in memory.
-pub(crate) fn demo(alloc: Global, n: u32) -> Result<Summary, Status>
+pub(crate) fn demo<G: Gate>(
+    rt: &(impl Threads + Sync),
+    alloc: Global,
+    n: u32,
+    gate: &G,
+) -> Result<Summary, Status>
     requires { (1 ≤ n) × (n ≤ 800) }
     ensures { OrNoMemory (IsDemo n (answer_of result)) (answer_of result) }
 {
     let mut store = store_of(alloc, n)?;
     match status_of(compile(alloc, &mut store, NAMES)) {
-        Status::Done(_) => shown(n, status_of(certify(alloc, &mut store, NAMES))),
+        Status::Done(_) => shown(n, status_of(certify(rt, alloc, &mut store, NAMES, gate))),
         fault => Err(fault),
     }
 }

@@ -18,6 +18,7 @@ mod put;
 mod reading;
 mod words;
 
+pub use apt_certify::{Gate, OpenGate};
 pub use apt_report::{
     Bad, ClCause, FileName, MachineCause, Miss, PartCause, Reason, Status, Summary, TapeCause,
     Verdict,
@@ -52,45 +53,61 @@ use words::{Request, request_of};
 /// `demo N`, N from 1 to 800, makes the part of N circles and the table of the machine with the greatest limits, compiles
 /// and certifies them over a store in memory of its own, and answers with the verdict. It neither reads nor writes.
 ///
+/// The gate is told of each contour that `certify` or `demo` judges, by its number from 1, before it is judged; they are
+/// judged by several threads.
+///
 /// A table is judged when all that is read has been read, and before the part.
 #[tactic(auto, using(crate::proofs::Running::run_is, crate::proofs::Running::completes))]
-pub fn apt<H: Shelf, K: Sink>(
+pub fn apt<H: Shelf, K: Sink, G: Gate>(
     rt: &(impl Threads + Sync),
     alloc: Global,
     words: &[String],
     shelf: &mut H,
     out: &mut K,
+    gate: &G,
 ) -> Status
     ensures runs { IsRun (asked (texts words.now)) (outside H.Shelf K.Sink shelf.old out.old) (outside H.Shelf K.Sink shelf.new out.new) result }
     ensures usage { result ≡ Status.Usage → asked (texts words.now) ≡ None }
     ensures untouched { asked (texts words.now) ≡ None → shelf.new ≡ shelf.old }
     ensures complete { Completes (asked (texts words.now)) (outside H.Shelf K.Sink shelf.old out.old) (outside H.Shelf K.Sink shelf.new out.new) result }
 {
-    let reply = answer(alloc, words, shelf);
+    let reply = answer(rt, alloc, words, shelf, gate);
     tell(alloc, out, reply)
 }
 
 /// The answer to the words.
-fn answer<H: Shelf>(alloc: Global, words: &[String], shelf: &mut H) -> Reply
+fn answer<H: Shelf, G: Gate>(
+    rt: &(impl Threads + Sync),
+    alloc: Global,
+    words: &[String],
+    shelf: &mut H,
+    gate: &G,
+) -> Reply
     ensures works { Works (asked (texts words.now)) (files_on H.Shelf shelf.old) (files_on H.Shelf shelf.new) result }
     ensures untouched { asked (texts words.now) ≡ None → shelf.new ≡ shelf.old }
 {
     match request_of(words) {
-        Some(request) => answer_to(alloc, request, shelf),
+        Some(request) => answer_to(rt, alloc, request, shelf, gate),
         None => Reply::lined(Status::Usage),
     }
 }
 
 /// The answer to a request.
-fn answer_to<H: Shelf>(alloc: Global, request: Request<'_>, shelf: &mut H) -> Reply
+fn answer_to<H: Shelf, G: Gate>(
+    rt: &(impl Threads + Sync),
+    alloc: Global,
+    request: Request<'_>,
+    shelf: &mut H,
+    gate: &G,
+) -> Reply
     requires { IsSound request }
     ensures { Works (Some (ask_of request.entry)) (files_on H.Shelf shelf.old) (files_on H.Shelf shelf.new) result }
 {
     match request {
         Request::Compile(names) => Reply::of(compile(alloc, shelf, names)),
-        Request::Certify(names) => Reply::of(certify(alloc, shelf, names)),
+        Request::Certify(names) => Reply::of(certify(rt, alloc, shelf, names, gate)),
         Request::Decode(names) => Reply::from_work(decode(alloc, shelf, names)),
         Request::List(name) => Reply::from_work(list(alloc, shelf, name)),
-        Request::Demo(n) => Reply::of(demo(alloc, n)),
+        Request::Demo(n) => Reply::of(demo(rt, alloc, n, gate)),
     }
 }

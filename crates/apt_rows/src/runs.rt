@@ -3,7 +3,7 @@
 use crate::contents::record_count;
 use crate::rows::{Call, Fail, File, Row, Run, Want};
 use anyhow::{Context, Result};
-use apt_core::apt;
+use apt_core::{OpenGate, apt};
 use apt_shelf::{FailList, MemShelf, MemSink};
 use std::alloc::Global;
 use std::fmt::Display;
@@ -117,7 +117,7 @@ fn make_run(
     let words = owned(alloc, &run.words)?;
     let before = held_now(alloc, shelf, names)?;
     let start = sink.bytes().len();
-    let status = apt(rt, alloc, &words, shelf, sink).number();
+    let status = apt(rt, alloc, &words, shelf, sink, &OpenGate).number();
     if run.status != Some(status) {
         tell(rt, place, format_args!("status {status}"))?;
     }

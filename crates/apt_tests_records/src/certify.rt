@@ -5,7 +5,7 @@ ghost use Rattle.std.specs.Prelude.{◌≡◌, ◌≤◌, length, unsigned_abs, 
 ghost use Rattle.apt_plane.specs.Ranges.{IsPoint, IsSense};
 ghost use Rattle.apt_certify.specs.Jobs.{ArePoints, IsLeg, IsJob};
 
-use apt_certify::{Bad, Job, Leg, Points, Reason, Verdict, check_jobs};
+use apt_certify::{Bad, Job, Leg, OpenGate, Points, Reason, Verdict, check_jobs, check_jobs_split};
 use apt_num::Sign;
 use apt_offset::Target;
 use apt_plane::{Axis, Band, Circ, Dir, Line, Pt, Spot, Surface};
@@ -548,5 +548,36 @@ fn deviations_are_rounded_up(rt: HostRuntime) -> Result<(), Fail> {
             "at {p:?}, {q:?}"
         );
     }
+    Ok(())
+}
+
+/// The second motion leaves its band, and so does the fourth: the second is told, also where they are in two halves.
+#[test]
+fn the_first_fault_of_halves_is_told(rt: HostRuntime) -> Result<(), Fail> {
+    let alloc = rt.alloc();
+    let start = Pt { x: 0, y: 100 };
+    let end = Pt { x: 900, y: 100 };
+    let good = [start, Pt { x: 500, y: 100 }, end];
+    let wide = [start, Pt { x: 500, y: 109 }, end];
+    let wider = [start, Pt { x: 500, y: 120 }, end];
+    let jobs = [
+        job(alloc, leg(None), 1, &good)?,
+        job(alloc, leg(None), 1, &wide)?,
+        job(alloc, leg(None), 1, &good)?,
+        job(alloc, leg(None), 1, &wider)?,
+    ];
+    let want = Verdict {
+        segments: 8,
+        worst_in: 0,
+        worst_out: 20,
+        first_bad: Some(Bad {
+            motion: 2,
+            segment: 1,
+            spot: END,
+            reason: Reason::Band,
+        }),
+    };
+    assert_eq!(rt; check_jobs(&jobs), want);
+    assert_eq!(rt; check_jobs_split(&rt, &jobs, &OpenGate), want);
     Ok(())
 }

@@ -6,7 +6,7 @@ use Rattle.apt_core.proofs.Shown.{verdict_shown, fault_shown}
 use Rattle.apt_core.proofs.demo.demo.Goals as goal
 
 pub returns-in-Done : goal.returns-in-Done
-returns-in-Done c =
+returns-in-Done g c =
     let s = c.in-Done.field-0 in
     let store = c.in_ok-store.store in
     let middle = c.compile.new.shelf in
@@ -16,7 +16,7 @@ returns-in-Done c =
     (rw done at c.compile.ensures) c.certify.ensures)
 
 pub returns : goal.returns
-returns c =
+returns g c =
     let store = c.in_ok-store.store in
     rw c.status_of.ensures
     (fault_shown c.args.n (files_of store) (files_of c.compile.new.shelf) _ _ (answer_of c.compile.result) c.in_ok-store.ensures.holds c.in_ok-store.ensures.short c.compile.ensures

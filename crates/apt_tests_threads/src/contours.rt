@@ -1,0 +1,92 @@
+//! Contours that are judged at one time.
+
+ghost use Rattle.std.specs.Prelude.{◌≡◌, ◌<◌, ◌^◌, IfOk};
+ghost use Rattle.apt_certify.specs.Jobs.{AreJobs, point_count};
+
+use crate::gates::{Counts, Meeting};
+use crate::runs::{MACHINE, PLATE, answer, plate};
+use apt_certify::{Job, check_jobs, check_jobs_split};
+use apt_cldata::read;
+use apt_job::jobs;
+use apt_machine::table;
+use apt_part::steps_of;
+use std::alloc::Global;
+use std::test::Fail;
+
+const CERTIFY: &str = "certify PART MACHINE CL TAPE";
+
+/// The longest CL file that is read, in bytes.
+const LIMIT: usize = 67_108_864;
+
+/// The jobs of the plate's CL file; none where something does not come out as it should.
+fn plate_jobs(alloc: Global, cl: &[u8]) -> Option<Vec<Job>>
+    ensures jobs { IfSome result (λ js. AreJobs js.items) }
+    ensures few { IfSome result (λ js. point_count js.items < 2 ^ 63) }
+{
+    if cl.len() > LIMIT {
+        return None;
+    }
+    let machine = table(MACHINE.as_bytes()).ok()?;
+    let text = Vec::from_slice(alloc, PLATE.as_bytes()).ok()?;
+    let steps = steps_of(alloc, text, &machine).ok()?;
+    let records = read(alloc, cl).ok()?;
+    jobs(alloc, &steps, &records).ok()
+}
+
+#[test]
+fn the_plates_jobs_are_judged_at_one_time(rt: HostRuntime) -> Result<(), Fail> {
+    let shelf = plate(&rt)?;
+    let jobs = plate_jobs(rt.alloc(), shelf.file("CL").unwrap_or(&[]));
+    if let Some(jobs) = &jobs {
+        let gate = Meeting::new();
+        let verdict = check_jobs_split(&rt, jobs, &gate);
+        assert_eq!(rt; verdict, check_jobs(jobs));
+        assert_eq!(rt; (verdict.segments, verdict.first_bad), (4, None));
+        assert_eq!(rt; gate.told(), [1, 1, 0]);
+    }
+    assert!(rt; jobs.is_some());
+    Ok(())
+}
+
+#[test]
+fn each_of_the_plates_jobs_is_told_once(rt: HostRuntime) -> Result<(), Fail> {
+    let shelf = plate(&rt)?;
+    let jobs = plate_jobs(rt.alloc(), shelf.file("CL").unwrap_or(&[]));
+    if let Some(jobs) = &jobs {
+        let gate = Counts::new();
+        check_jobs_split(&rt, jobs, &gate);
+        assert_eq!(rt; gate.told(), 1_010_101);
+    }
+    assert!(rt; jobs.is_some());
+    Ok(())
+}
+
+#[test]
+fn certify_judges_contours_at_one_time(rt: HostRuntime) -> Result<(), Fail> {
+    let mut shelf = plate(&rt)?;
+    let gate = Meeting::new();
+    let status = answer(&rt, &mut shelf, CERTIFY, &gate)?;
+    assert_eq!(rt; status.number(), 0);
+    assert_eq!(rt; gate.told(), [1, 1, 0]);
+    Ok(())
+}
+
+#[test]
+fn certify_tells_of_each_contour_once(rt: HostRuntime) -> Result<(), Fail> {
+    let mut shelf = plate(&rt)?;
+    let gate = Counts::new();
+    let status = answer(&rt, &mut shelf, CERTIFY, &gate)?;
+    assert_eq!(rt; status.number(), 0);
+    assert_eq!(rt; gate.told(), 1_010_101);
+    Ok(())
+}
+
+#[test]
+fn demo_judges_contours_at_one_time(rt: HostRuntime) -> Result<(), Fail> {
+    let mut shelf = plate(&rt)?;
+    let gate = Meeting::new();
+    let status = answer(&rt, &mut shelf, "demo 2", &gate)?;
+    assert_eq!(rt; status.number(), 0);
+    assert_eq!(rt; gate.told(), [1, 1, 0]);
+    Ok(())
+}

@@ -1,0 +1,9 @@
+//! Tests of what several threads do at one time, and of what a gate is told.
+#![tactic(auto)]
+
+#[cfg(test)]
+mod contours;
+#[cfg(test)]
+mod gates;
+#[cfg(test)]
+mod runs;
