@@ -1,9 +1,9 @@
 //! Answers worked out by hand, of motions along the x axis that stop before a line up through (1000, 0), and of
 //! motions round the origin that stop on a line through it or at a circle.
 
-ghost use Rattle.std.specs.Prelude.{◌≡◌, ◌≤◌, length, unsigned_abs, IfOk, IsTrue};
+ghost use Rattle.std.specs.Prelude.{◌≡◌, ◌≤◌, ◌<◌, ◌^◌, length, unsigned_abs, IfOk, IsTrue};
 ghost use Rattle.apt_plane.specs.Ranges.{IsPoint, IsSense};
-ghost use Rattle.apt_certify.specs.Jobs.{ArePoints, IsLeg, IsJob};
+ghost use Rattle.apt_certify.specs.Jobs.{ArePoints, IsLeg, IsJob, AreJobs, point_count};
 
 use apt_certify::{Bad, Job, Leg, OpenGate, Points, Reason, Verdict, check_jobs, check_jobs_split};
 use apt_num::Sign;
@@ -11,6 +11,7 @@ use apt_offset::Target;
 use apt_plane::{Axis, Band, Circ, Dir, Line, Pt, Spot, Surface};
 use std::alloc::{AllocError, Global};
 use std::test::Fail;
+use std::thread::Threads;
 
 const EAST: Dir = Dir { dx: 1, dy: 0 };
 
@@ -551,20 +552,32 @@ fn deviations_are_rounded_up(rt: HostRuntime) -> Result<(), Fail> {
     Ok(())
 }
 
+/// Along the x axis over a point so far to the left.
+fn motion_over(alloc: Global, y: i64) -> Result<Job, AllocError>
+    requires { unsigned_abs y ≤ 200 }
+    ensures { IfOk result IsJob }
+{
+    let points = [Pt { x: 0, y: 100 }, Pt { x: 500, y }, Pt { x: 900, y: 100 }];
+    job(alloc, leg(None), 1, &points)
+}
+
+/// The verdict over jobs, one after the other and by halves.
+fn both_verdicts(rt: &(impl Threads + Sync), jobs: &[Job]) -> [Verdict; 2]
+    requires jobs { AreJobs jobs.now }
+    requires few { point_count jobs.now < 2 ^ 63 }
+{
+    [check_jobs(jobs), check_jobs_split(rt, jobs, &OpenGate)]
+}
+
 /// The second motion leaves its band, and so does the fourth: the second is told, also where they are in two halves.
 #[test]
 fn the_first_fault_of_halves_is_told(rt: HostRuntime) -> Result<(), Fail> {
     let alloc = rt.alloc();
-    let start = Pt { x: 0, y: 100 };
-    let end = Pt { x: 900, y: 100 };
-    let good = [start, Pt { x: 500, y: 100 }, end];
-    let wide = [start, Pt { x: 500, y: 109 }, end];
-    let wider = [start, Pt { x: 500, y: 120 }, end];
     let jobs = [
-        job(alloc, leg(None), 1, &good)?,
-        job(alloc, leg(None), 1, &wide)?,
-        job(alloc, leg(None), 1, &good)?,
-        job(alloc, leg(None), 1, &wider)?,
+        motion_over(alloc, 100)?,
+        motion_over(alloc, 109)?,
+        motion_over(alloc, 100)?,
+        motion_over(alloc, 120)?,
     ];
     let want = Verdict {
         segments: 8,
@@ -577,7 +590,6 @@ fn the_first_fault_of_halves_is_told(rt: HostRuntime) -> Result<(), Fail> {
             reason: Reason::Band,
         }),
     };
-    assert_eq!(rt; check_jobs(&jobs), want);
-    assert_eq!(rt; check_jobs_split(&rt, &jobs, &OpenGate), want);
+    assert_eq!(rt; both_verdicts(&rt, &jobs), [want; 2]);
     Ok(())
 }
