@@ -20,3 +20,4 @@ pub mod Arrivals
 pub mod LineStops
 pub mod InsideStops
 pub mod OutsideStops
+pub mod Moved
