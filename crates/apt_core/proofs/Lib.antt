@@ -17,3 +17,4 @@ pub mod Putting
 pub mod Usage
 pub mod Shown
 pub mod Running
+pub mod Circles

@@ -1,0 +1,10 @@
+-- No step of the demo is refused, and so its circles are compiled.
+pub mod Deeds
+pub mod Walks
+pub mod Numbers
+pub mod Scenes
+pub mod Moving
+pub mod Chords
+pub mod HalfTurns
+pub mod Rounds
+pub mod Whole
