@@ -81,7 +81,7 @@ number_by a q e = ap (λ (l : List Pt). length (chain 24 a.track a.sag a.start l
 
 -- ---- the halves of a circle about the origin
 
--- the arc round a centre from a to b, right of it
+-- the arc of radius r round (x, y) from the point a to its right to the point b to its right
 abbrev pub half_arc : ℤ → ℤ → ℕ → ℤ → ℤ → Arc
 half_arc x y r a b = record {
   track = circle_about (point x y) (pos r);
@@ -110,40 +110,9 @@ record AreCounted (r : ℕ) : Type 0 where
   left_number : chords_by (to_left r) (above r) ≡ 256
   right_number : chords_by (to_right r) (below r) ≡ 256
 
-counted_125 : AreCounted 125000
-unfolding root is_clear first_past quarters_from stations count
-counted_125 = record { left_stations = refl; right_stations = refl; left_number = refl; right_number = refl }
-
-counted_150 : AreCounted 150000
-unfolding root is_clear first_past quarters_from stations count
-counted_150 = record { left_stations = refl; right_stations = refl; left_number = refl; right_number = refl }
-
-counted_175 : AreCounted 175000
-unfolding root is_clear first_past quarters_from stations count
-counted_175 = record { left_stations = refl; right_stations = refl; left_number = refl; right_number = refl }
-
-counted_200 : AreCounted 200000
-unfolding root is_clear first_past quarters_from stations count
-counted_200 = record { left_stations = refl; right_stations = refl; left_number = refl; right_number = refl }
-
-counted_225 : AreCounted 225000
-unfolding root is_clear first_past quarters_from stations count
-counted_225 = record { left_stations = refl; right_stations = refl; left_number = refl; right_number = refl }
-
-counted_250 : AreCounted 250000
-unfolding root is_clear first_past quarters_from stations count
-counted_250 = record { left_stations = refl; right_stations = refl; left_number = refl; right_number = refl }
-
-counted_275 : AreCounted 275000
-unfolding root is_clear first_past quarters_from stations count
-counted_275 = record { left_stations = refl; right_stations = refl; left_number = refl; right_number = refl }
-
-counted_300 : AreCounted 300000
-unfolding root is_clear first_past quarters_from stations count
-counted_300 = record { left_stations = refl; right_stations = refl; left_number = refl; right_number = refl }
-
 all_counted : (i : ℕ) → i < 8 → AreCounted (track_radius i)
-all_counted = eight (λ i. AreCounted (track_radius i)) counted_125 counted_150 counted_175 counted_200 counted_225 counted_250 counted_275 counted_300
+unfolding root is_clear first_past quarters_from stations count
+all_counted = eight (λ i. AreCounted (track_radius i)) (search) (search) (search) (search) (search) (search) (search) (search)
 
 -- ---- about any centre
 zero_on : (x : ℤ) → pos 0 +ℤ x ≡ x

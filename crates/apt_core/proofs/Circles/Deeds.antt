@@ -16,19 +16,24 @@ inches x = x *ℤ pos 1000000
 abbrev pub hundredths : ℤ → ℤ
 hundredths x = x *ℤ pos 10000
 
--- what the nine statements of a circle with this centre, this radius and this point to the right of it ask for
-abbrev pub deeds_about : ℤ → ℤ → ℕ → ℤ → List Deed
-deeds_about x y r clear =
-    deeds.CircleXyr (codes "C") (inches x) (inches y) (hundredths (pos r))
-    ∷ deeds.LineXy (codes "L") (inches x) (inches y) (inches (x +ℤ pos 1)) (inches y)
-    ∷ deeds.Rapid
-    ∷ deeds.GotoXy (hundredths clear) (inches y) (Some (pos 500000))
+-- over the place to the right of the circle, down, up to the circle, round it in two halves, and up
+abbrev pub cut_deeds : ℤ → ℤ → List Deed
+cut_deeds vx vy =
+    deeds.Rapid
+    ∷ deeds.GotoXy vx vy (Some (pos 500000))
     ∷ deeds.Godlta (pos 0) (pos 0) (neg_ℤ (pos 500000))
     ∷ deeds.GoStart stops.To (codes "C") None
     ∷ deeds.Contour None turns.Right (codes "C") stops.On (codes "L")
     ∷ deeds.Contour None turns.Forward (codes "C") stops.On (codes "L")
     ∷ deeds.Godlta (pos 0) (pos 0) (pos 500000)
     ∷ []
+
+-- what the nine statements of a circle with this centre, this radius and this place to the right of it ask for
+abbrev pub deeds_about : ℤ → ℤ → ℕ → ℤ → List Deed
+deeds_about x y r clear =
+    deeds.CircleXyr (codes "C") (inches x) (inches y) (hundredths (pos r))
+    ∷ deeds.LineXy (codes "L") (inches x) (inches y) (inches (x +ℤ pos 1)) (inches y)
+    ∷ cut_deeds (hundredths clear) (inches y)
 
 abbrev pub circle_deeds : ℕ → List Deed
 circle_deeds k = deeds_about (centre_x k) (centre_y k) (radius k) (clear_x k)

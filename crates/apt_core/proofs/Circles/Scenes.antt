@@ -81,7 +81,7 @@ le_true a b h = grind (arith, nat_tests)
 pub lt_false : (a b : ℕ) → b ≤ a → nat_lt a b ≡ false
 lt_false a b h = grind (arith, nat_tests)
 
-pub away : (x a : ℤ) → (x +ℤ a) -ℤ x ≡ a
+away : (x a : ℤ) → (x +ℤ a) -ℤ x ≡ a
 away x a = omega (arith, ints)
 
 pub self : (x : ℤ) → x -ℤ x ≡ pos 0
@@ -94,7 +94,7 @@ plus_zero x = omega (arith, ints)
 pub beside : (x y a : ℤ) → displacement (point x y) (point (x +ℤ a) y) ≡ way a (pos 0)
 beside x y a i = way (away x a i) (self y i)
 
-pub within_is : (limit : ℕ) (g : ℤ) → unsigned_abs g ≤ limit → within limit g ≡ Ok g
+within_is : (limit : ℕ) (g : ℤ) → unsigned_abs g ≤ limit → within limit g ≡ Ok g
 within_is limit g h i = cond (le_true (unsigned_abs g) limit h i) (Ok g) (Err cases.OutOfRange)
 
 -- ---- definitions

@@ -28,17 +28,21 @@ Compiles so_far here steps = (rs : List Record) × (compilation_behind so_far he
 not_more : (n : ℕ) → n ≤ 500000 → nat_lt 500000 n ≡ false
 not_more n h = grind (arith, nat_tests)
 
+passed_on : (so_far n : ℕ) (here behind : Situation) (step : Step) (steps : List Step) (p : Passes here step.deed n behind) → so_far + length (points_of p.effect) ≤ 500000
+    → compilation_behind so_far here (step ∷ steps) ≡ with_front (records_of step p.effect (points_of p.effect)) (compilation_behind (so_far + n) behind steps)
+passed_on so_far n here behind step steps p few =
+    let e = p.effect in
+    let more : Effect → Result (List Record) _ = λ e. with_front (records_of step e (points_of e)) (compilation_behind (so_far + length (points_of e)) (after here e (ends_of e)) steps) in
+    (λ i. or_refused step (asked_within so_far (asked (p.fine i) (p.asked i))) more)
+    ∙ (λ i. or_refused step (cond (not_more _ few i) (Err cases.TooManyPoints) (Ok e)) more)
+    ∙ (λ i. with_front (records_of step e (points_of e)) (compilation_behind (so_far + p.count i) (p.leaves i) steps))
+
 passed : (so_far n : ℕ) (here behind : Situation) (step : Step) (steps : List Step) → Passes here step.deed n behind → so_far + n ≤ 500000
     → Compiles (so_far + n) behind steps → Compiles so_far here (step ∷ steps)
 passed so_far n here behind step steps p few rest =
-    let e = p.effect in
-    let more : Effect → Result (List Record) _ = λ e. with_front (records_of step e (points_of e)) (compilation_behind (so_far + length (points_of e)) (after here e (ends_of e)) steps) in
-    let few' : so_far + length (points_of e) ≤ 500000 = rw p.count few in
-    (records_of step e (points_of e) ++ rest.0,
-      (λ i. or_refused step (asked_within so_far (asked (p.fine i) (p.asked i))) more)
-      ∙ (λ i. or_refused step (cond (not_more _ few' i) (Err cases.TooManyPoints) (Ok e)) more)
-      ∙ (λ i. with_front (records_of step e (points_of e)) (compilation_behind (so_far + p.count i) (p.leaves i) steps))
-      ∙ (λ i. with_front (records_of step e (points_of e)) (rest.1 i)))
+    let front = records_of step p.effect (points_of p.effect) in
+    let few_points : so_far + length (points_of p.effect) ≤ 500000 = rw p.count few in
+    (front ++ rest.0, passed_on so_far n here behind step steps p few_points ∙ (λ i. with_front front (rest.1 i)))
 
 -- however the steps are numbered
 pub record Goes (so_far : ℕ) (here : Situation) (deeds : List Deed) : Type 0 where
