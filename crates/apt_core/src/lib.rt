@@ -111,10 +111,3 @@ fn answer_to<H: Shelf, G: Gate>(
         Request::Demo(n) => Reply::of(demo(rt, alloc, n, gate)),
     }
 }
-
-#[tactic(auto, using(crate::proofs::Circles::Whole::compiles))]
-pub fn scratch_probe(n: u64) -> u64
-    ensures { result ≡ n }
-{
-    n
-}
