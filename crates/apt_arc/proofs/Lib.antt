@@ -20,3 +20,5 @@ pub mod Arrivals
 pub mod LineStops
 pub mod InsideStops
 pub mod OutsideStops
+pub mod Shorter
+pub mod Bounds

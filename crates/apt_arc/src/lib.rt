@@ -17,3 +17,9 @@ mod quarters;
 
 pub use arc::Arc;
 pub use division::{ArcError, chords, count};
+
+/// Scratch.
+#[tactic(auto, using(crate::proofs::Shorter::halves_short, crate::proofs::Bounds::piece_few))]
+pub fn scratch_probe(x: u8) -> u8 {
+    x
+}
