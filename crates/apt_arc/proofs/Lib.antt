@@ -21,4 +21,4 @@ pub mod LineStops
 pub mod InsideStops
 pub mod OutsideStops
 pub mod Shorter
-pub mod Bounds
+pub mod Numbers

@@ -11,15 +11,16 @@
 #![tactic(auto)]
 
 mod arc;
+mod bounds;
 mod cuts;
 mod division;
 mod quarters;
 
 pub use arc::Arc;
-pub use division::{ArcError, chords, count};
+pub use division::{ArcError, bound, chords, count};
 
 /// Scratch.
-#[tactic(auto, using(crate::proofs::Shorter::halves_short, crate::proofs::Bounds::piece_few))]
+#[tactic(auto, using(crate::proofs::Shorter::halves_short, crate::proofs::Numbers::piece_few))]
 pub fn scratch_probe(x: u8) -> u8 {
     x
 }

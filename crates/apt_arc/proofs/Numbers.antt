@@ -4,22 +4,24 @@ use Rattle.std.specs.Prelude.{nat_le}
 use Rattle.std.proofs.Math.Nat.{mul-le-mul_left, two-pow-succ}
 use Rattle.std.proofs.lemmas.Nat.{mul-le}
 use Rattle.std.proofs.lemmas.List.{length-append}
-use Rattle.std.proofs.lemmas.Bool.{cases_Bool, cases_lt, lt-leb}
+use Rattle.std.proofs.lemmas.Bool.{cases_Bool, cases_lt, lt-leb, le-leb}
 use Rattle.apt_num.proofs.Squares.{four_le}
 use Rattle.apt_plane.specs.declared.figures.Pt.{Pt}
+use Rattle.apt_plane.specs.declared.figures.Dir.{Dir}
 use Rattle.apt_plane.specs.declared.figures.Circ.{Circ}
 use Rattle.apt_plane.specs.Vectors.{between, displacement, displacement_to, length_squared}
-use Rattle.apt_plane.specs.Ranges.{IsSense}
+use Rattle.apt_plane.specs.Ranges.{IsPoint, IsSense}
 use Rattle.apt_plane.proofs.Displacements.{stewart}
-use Rattle.apt_plane.proofs.Lengths.{plus, chord}
+use Rattle.apt_plane.proofs.Lengths.{plus, chord, displacement_short}
 use Rattle.apt_canon.specs.Scale.{sum}
+use Rattle.apt_arc.specs.declared.arc.Arc.{Arc}
 use Rattle.apt_arc.specs.Ranges.{IsTrack, IsSag, IsPiece}
 use Rattle.apt_arc.specs.Cuts.{middle}
-use Rattle.apt_arc.specs.Made.{is_clear, is_over, pieces}
+use Rattle.apt_arc.specs.Made.{is_clear, is_over, pieces, first_past, vertices, divided}
 use Rattle.apt_arc.specs.Bounds.{shorter, number, nearest, clear_length}
 use Rattle.apt_arc.proofs.Clear.{near_point}
-use Rattle.apt_arc.proofs.Lists.{pieces_none, pieces_clear, pieces_cut}
-use Rattle.apt_arc.proofs.Spans.{IsAimed}
+use Rattle.apt_arc.proofs.Lists.{one_less, pieces_none, pieces_clear, pieces_cut}
+use Rattle.apt_arc.proofs.Halved.{power_half, whole_is}
 use Rattle.apt_arc.proofs.Shorter.{IsHalfOf, halves_short, half_shorter}
 use Rattle.apt_arc.proofs.Tracks.{within, radius_is, within_large, size_of_radius, nearby, span, middle_dir, aimed, sag_parts, far_ends, open_over, is_long, half_pieces, half_lengths, chord_of, chord_length, far_chord, wide, sag_least}
 
@@ -148,3 +150,42 @@ piece_few n t sag sense a b is fits turn parts =
     let far = lowest (length_squared (displacement t.c a)) (length_squared (displacement t.c b)) ((r - 1) * (r - 1)) l refl in
     let base : r - 1 ≡ within t + 2 = radius_less r (within t) (size_of_radius t is) in
     pieces_few n t sag sense a b l (length_squared (displacement a b)) is fits turn parts far.0 far.1 (subst (λ n. l ≤ n * n) base far.2) (omega arith)
+
+-- ---- what the code tells of it
+pub number_none : (n r c d : ℕ) → n ≡ 0 → 1 ≡ number n r c d
+unfolding number
+number_none zero r c d e = refl
+number_none (suc n) r c d e = absurd (omega (arith, e))
+
+pub number_clear : (n r c d : ℕ) → d ≤ c → 1 ≡ number n r c d
+unfolding number
+number_clear zero r c d h = refl
+number_clear (suc n) r c d h = rw (le-leb d c h) refl
+
+pub number_halved : (n r c d x y : ℕ) → 0 < n → c < d → y ≡ shorter r d → x ≡ number (n - 1) r c y → 2 * x ≡ number n r c d
+number_halved zero r c d x y some h e f = absurd (omega (arith, some))
+number_halved (suc n) r c d x y some h e f = rw (f, e, one_less n) (sym (number_open n r c d h))
+
+pub double_small : (n x : ℕ) → 0 < n → x ≤ 2 ^ (n - 1) → 2 * x ≤ 2 ^ n
+double_small n x some h = omega (arith, power_half n x x some h h)
+
+pub chord_small : (a b : Pt) → IsPoint a → IsPoint b → length_squared (displacement a b) ≤ 2 * 10 ^ 16
+chord_small a b at_a at_b = displacement_short a b at_a at_b
+
+same_number : (n r s c e d f k m : ℕ) → r ≡ s → c ≡ e → d ≡ f → k ≡ number n r c d → m ≤ number n s e f → m ≤ k
+same_number n r s c e d f k m p q o h g = rw (h, p, q, o) g
+
+pub number_bound : (n : ℕ) (t : Circ) (sag sense : ℤ) (a b : Pt) (r c d k : ℕ) → IsTrack t → IsSag t sag → IsSense sense → IsPiece t sense a b
+    → r ≡ unsigned_abs t.r → c ≡ clear_length t sag a b → d ≡ length_squared (displacement a b) → k ≡ number n r c d → length (pieces n t sag a b) ≤ k
+number_bound n t sag sense a b r c d k is fits turn parts e f g h =
+    same_number n r (unsigned_abs t.r) c (clear_length t sag a b) d (length_squared (displacement a b)) k (length (pieces n t sag a b)) e f g h (piece_few n t sag sense a b is fits turn parts)
+
+-- ---- of an arc, from a point through the next
+pub sum_few : (x y l k n : ℕ) → l ≤ x → k ≤ y → n ≡ l + k → n ≤ x + y
+sum_few x y l k n h g e = omega (arith, h, g, e)
+
+pub last_few : (x l n : ℕ) → l ≤ x → n ≡ l → n ≤ x
+last_few x l n h e = omega (arith, h, e)
+
+pub whole_few : (arc : Arc) (u : Dir) (n : ℕ) → u ≡ first_past 3 arc.track arc.sense arc.start arc.axis → length (vertices 4 arc arc.start u) ≤ n → length (divided arc) ≤ n
+whole_few arc u n turn h = last_few n (length (vertices 4 arc arc.start u)) (length (divided arc)) h (ap length (whole_is arc u turn))
