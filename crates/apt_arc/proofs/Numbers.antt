@@ -1,8 +1,7 @@
 -- A piece has no more vertices than the length of its chord tells.
-use Rattle.std.proofs.Common.{refl, ◌≡◌, inl, inr, ℕ, zero, suc, ◌+◌, ◌-◌, ◌*◌, ◌^◌, ◌≤◌, ◌<◌, ◌∙◌, ap, sym, subst, arith, min, true, false, List, ◌++◌, length, ℤ, pos, ◌-ℤ◌, unsigned_abs}
+use Rattle.std.proofs.Common.{refl, ◌≡◌, inl, inr, ℕ, zero, suc, ◌+◌, ◌-◌, ◌*◌, ◌^◌, ◌≤◌, ◌<◌, ap, sym, subst, arith, min, false, List, ◌++◌, length, ℤ, ◌-ℤ◌, unsigned_abs}
 use Rattle.std.specs.Prelude.{nat_le}
-use Rattle.std.proofs.Math.Nat.{mul-le-mul_left, two-pow-succ}
-use Rattle.std.proofs.lemmas.Nat.{mul-le}
+use Rattle.std.proofs.Math.Nat.{mul-le-mul_left}
 use Rattle.std.proofs.lemmas.List.{length-append}
 use Rattle.std.proofs.lemmas.Bool.{cases_Bool, cases_lt, lt-leb, le-leb}
 use Rattle.apt_num.proofs.Squares.{four_le}
@@ -12,7 +11,7 @@ use Rattle.apt_plane.specs.declared.figures.Circ.{Circ}
 use Rattle.apt_plane.specs.Vectors.{between, displacement, displacement_to, length_squared}
 use Rattle.apt_plane.specs.Ranges.{IsPoint, IsSense}
 use Rattle.apt_plane.proofs.Displacements.{stewart}
-use Rattle.apt_plane.proofs.Lengths.{plus, chord, displacement_short}
+use Rattle.apt_plane.proofs.Lengths.{chord, displacement_short}
 use Rattle.apt_canon.specs.Scale.{sum}
 use Rattle.apt_arc.specs.declared.arc.Arc.{Arc}
 use Rattle.apt_arc.specs.Ranges.{IsTrack, IsSag, IsPiece}
@@ -23,7 +22,7 @@ use Rattle.apt_arc.proofs.Clear.{near_point}
 use Rattle.apt_arc.proofs.Lists.{one_less, pieces_none, pieces_clear, pieces_cut}
 use Rattle.apt_arc.proofs.Halved.{power_half, whole_is}
 use Rattle.apt_arc.proofs.Shorter.{IsHalfOf, halves_short, half_shorter}
-use Rattle.apt_arc.proofs.Tracks.{within, radius_is, within_large, size_of_radius, nearby, span, middle_dir, aimed, sag_parts, far_ends, open_over, is_long, half_pieces, half_lengths, chord_of, chord_length, far_chord, wide, sag_least}
+use Rattle.apt_arc.proofs.Tracks.{within, radius_is, within_large, size_of_radius, nearby, span, middle_dir, aimed, sag_parts, far_ends, open_over, is_long, half_pieces, half_lengths, chord_length, far_chord, wide, sag_least}
 
 -- ---- what is not clear is long
 open_core : (D A B X j k q e : ℕ) → j * k * D + X ≡ (j + k) * (k * A + j * B) → q * q + e ≤ A → q * q + e ≤ B → X < (j + k) * (j + k) * (q * q) → 4 * e < D
@@ -82,9 +81,9 @@ halves_less t sag sense a b d is fits parts off less =
     let thirds = half_lengths t sag sense a b is fits parts off in
     let both = halves_short p sense va vb vm (within_large t is) (span t sense a b is parts) (far_chord t sag sense a b is fits parts off) (aimed t (sum va vb) is (middle_dir t sense a b is parts)) in (
       half_shorter p (unsigned_abs t.r) D d (length_squared (displacement a m)) (size_of_radius t is) (within_large t is) less (third_less (length_squared (displacement a m)) D (p + 3) thirds.0 far)
-      (same_half p (length_squared (chord va vm)) (length_squared (displacement a m)) (length_squared (chord va vb)) D (chord_length t.c a m) whole both.0),
+          (same_half p (length_squared (chord va vm)) (length_squared (displacement a m)) (length_squared (chord va vb)) D (chord_length t.c a m) whole both.0),
       half_shorter p (unsigned_abs t.r) D d (length_squared (displacement m b)) (size_of_radius t is) (within_large t is) less (third_less (length_squared (displacement m b)) D (p + 3) thirds.1 far)
-      (same_half p (length_squared (chord vm vb)) (length_squared (displacement m b)) (length_squared (chord va vb)) D (chord_length t.c m b) whole both.1),
+          (same_half p (length_squared (chord vm vb)) (length_squared (displacement m b)) (length_squared (chord va vb)) D (chord_length t.c m b) whole both.1),
     )
 
 -- ---- the number

@@ -74,7 +74,9 @@ fn nearest(track: &Circ, a: Pt, b: Pt) -> u128
     ensures small { result ≤ 2 * 10 ^ 16 }
 {
     let half_way = u128::from(track.r.unsigned_abs()) - 1;
-    chord_length(track.c, a).min(chord_length(track.c, b)).min(half_way * half_way)
+    chord_length(track.c, a)
+        .min(chord_length(track.c, b))
+        .min(half_way * half_way)
 }
 
 /// The square of the distance of two points.

@@ -8,6 +8,7 @@
 //!
 //! [`chords`] fails with [`ArcError::TooManyPoints`] exactly where the vertices are more than there is room for,
 //! and with [`ArcError::NoMemory`] where memory runs out. [`count`] counts them, and takes no memory.
+//! [`bound`] finds a number that they are not more than, from the ends of the pieces alone.
 #![tactic(auto)]
 
 mod arc;
@@ -18,9 +19,3 @@ mod quarters;
 
 pub use arc::Arc;
 pub use division::{ArcError, bound, chords, count};
-
-/// Scratch.
-#[tactic(auto, using(crate::proofs::Shorter::halves_short, crate::proofs::Numbers::piece_few))]
-pub fn scratch_probe(x: u8) -> u8 {
-    x
-}
