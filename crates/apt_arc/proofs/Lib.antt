@@ -21,3 +21,5 @@ pub mod LineStops
 pub mod InsideStops
 pub mod OutsideStops
 pub mod Moved
+pub mod Shorter
+pub mod Numbers

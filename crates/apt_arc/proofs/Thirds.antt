@@ -25,24 +25,24 @@ third_core z U E Y Q r H D V W h v w g y1 y2 q s u = elim (cases_lt (D + 48 * r)
 ]
 
 -- a span in numbers: the squares of the lengths of the ends, of their sum, of the chord, and of the point half way, X along the sum and Y across it
-record InNumbers (p A B U D M X Y Q E h : ℕ) : Type 0 where
-  least : 97 ≤ p
-  low_a : p * p ≤ A
-  low_b : p * p ≤ B
-  high_a : A ≤ (p + 6) * (p + 6)
-  high_b : B ≤ (p + 6) * (p + 6)
-  sum : U ≡ A + B + 2 * h
-  step : D + 2 * h ≡ A + B
-  far : 32 * (p + 3) < D
-  middle : U * M ≡ X * X + Y * Y
-  across : 2 * (Y * Y) ≤ U
-  low : 2 * ((p + 3) * (p + 3)) ≤ 2 * M + 3 * (p + 3)
-  high : 2 * M ≤ 2 * ((p + 3) * (p + 3)) + 3 * (p + 3)
-  turn : 2 * Q ≤ A + B
-  gap : E ≤ 12 * (p + 3)
+pub record InNumbers (p A B U D M X Y Q E h : ℕ) : Type 0 where
+  pub least : 97 ≤ p
+  pub low_a : p * p ≤ A
+  pub low_b : p * p ≤ B
+  pub high_a : A ≤ (p + 6) * (p + 6)
+  pub high_b : B ≤ (p + 6) * (p + 6)
+  pub sum : U ≡ A + B + 2 * h
+  pub step : D + 2 * h ≡ A + B
+  pub far : 32 * (p + 3) < D
+  pub middle : U * M ≡ X * X + Y * Y
+  pub across : 2 * (Y * Y) ≤ U
+  pub low : 2 * ((p + 3) * (p + 3)) ≤ 2 * M + 3 * (p + 3)
+  pub high : 2 * M ≤ 2 * ((p + 3) * (p + 3)) + 3 * (p + 3)
+  pub turn : 2 * Q ≤ A + B
+  pub gap : E ≤ 12 * (p + 3)
 
 -- the point half way lies beyond the middle of the chord
-beyond_half : (p A B U D M X Y Q E h : ℕ) → InNumbers p A B U D M X Y Q E h → U < 2 * X
+pub beyond_half : (p A B U D M X Y Q E h : ℕ) → InNumbers p A B U D M X Y Q E h → U < 2 * X
 beyond_half p A B U D M X Y Q E h is = elim (cases_lt U (2 * X)) [
   | inl fine ↦ fine
   | inr past ↦
@@ -75,26 +75,26 @@ third p A B U D M X Y Q E h V W is e f g =
     (omega (arith, whole, under, is.gap, is.sum, is.low_a, is.low_b, mul-le-mul_left p least, least)) (omega (arith, is.sum, is.low_a, mul-le-mul_left p least, least))
 
 -- ---- the ways: twice that half way, less the sum
-abbrev twice_off : Dir → Dir → Dir
+abbrev pub twice_off : Dir → Dir → Dir
 twice_off u m = to ((pos 2 *ℤ m.dx) -ℤ u.dx) ((pos 2 *ℤ m.dy) -ℤ u.dy)
 
 off_parts : (a b e f : ℤ) → ((((pos 2 *ℤ e) -ℤ a) *ℤ ((pos 2 *ℤ e) -ℤ a)) +ℤ (((pos 2 *ℤ f) -ℤ b) *ℤ ((pos 2 *ℤ f) -ℤ b))) +ℤ (pos 4 *ℤ ((a *ℤ e) +ℤ (b *ℤ f)))
     ≡ (pos 4 *ℤ ((e *ℤ e) +ℤ (f *ℤ f))) +ℤ ((a *ℤ a) +ℤ (b *ℤ b))
 off_parts a b e f = rw (as_diff a, as_diff b, as_diff e, as_diff f, diff-pos 2, diff-pos 4) (simp differences (diff-same _ _ _ _ (omega arith)))
 
-off_long : (u m : Dir) → pos (length_squared (twice_off u m)) +ℤ (pos 4 *ℤ dot u m) ≡ (pos 4 *ℤ pos (length_squared m)) +ℤ pos (length_squared u)
+pub off_long : (u m : Dir) → pos (length_squared (twice_off u m)) +ℤ (pos 4 *ℤ dot u m) ≡ (pos 4 *ℤ pos (length_squared m)) +ℤ pos (length_squared u)
 off_long u m = rw (← square_length_squared (twice_off u m), ← square_length_squared m, ← square_length_squared u) at (off_parts u.dx u.dy m.dx m.dy)
 
 dot_off_parts : (a b e f : ℤ) → (a *ℤ ((pos 2 *ℤ e) -ℤ a)) +ℤ (b *ℤ ((pos 2 *ℤ f) -ℤ b)) ≡ (pos 2 *ℤ ((a *ℤ e) +ℤ (b *ℤ f))) -ℤ ((a *ℤ a) +ℤ (b *ℤ b))
 dot_off_parts a b e f = rw (as_diff a, as_diff b, as_diff e, as_diff f, diff-pos 2) (simp differences (diff-same _ _ _ _ (omega arith)))
 
-dot_off : (u m : Dir) → dot u (twice_off u m) ≡ (pos 2 *ℤ dot u m) -ℤ pos (length_squared u)
+pub dot_off : (u m : Dir) → dot u (twice_off u m) ≡ (pos 2 *ℤ dot u m) -ℤ pos (length_squared u)
 dot_off u m = rw (square_length_squared u) (dot_off_parts u.dx u.dy m.dx m.dy)
 
 cross_off_parts : (a b e f : ℤ) → (a *ℤ ((pos 2 *ℤ f) -ℤ b)) -ℤ (b *ℤ ((pos 2 *ℤ e) -ℤ a)) ≡ pos 2 *ℤ ((a *ℤ f) -ℤ (b *ℤ e))
 cross_off_parts a b e f = rw (as_diff a, as_diff b, as_diff e, as_diff f, diff-pos 2) (simp differences (diff-same _ _ _ _ (omega arith)))
 
-cross_off : (u m : Dir) → cross u (twice_off u m) ≡ pos 2 *ℤ cross u m
+pub cross_off : (u m : Dir) → cross u (twice_off u m) ≡ pos 2 *ℤ cross u m
 cross_off u m = cross_off_parts u.dx u.dy m.dx m.dy
 
 -- twice the way from the first end to the point half way, and from it to the second
@@ -104,7 +104,7 @@ first_parts : (a b c d e f : ℤ) → pos 4 *ℤ (((e -ℤ a) *ℤ (e -ℤ a)) +
     +ℤ (((c -ℤ a) *ℤ (c -ℤ a)) +ℤ ((d -ℤ b) *ℤ (d -ℤ b)))
 first_parts a b c d e f = rw (as_diff a, as_diff b, as_diff c, as_diff d, as_diff e, as_diff f, diff-pos 2, diff-pos 4) (simp differences (diff-same _ _ _ _ (omega arith)))
 
-first_half : (a b m : Dir) → pos 4 *ℤ pos (length_squared (chord a m))
+pub first_half : (a b m : Dir) → pos 4 *ℤ pos (length_squared (chord a m))
     ≡ (pos (length_squared (twice_off (plus a b) m)) +ℤ (pos 2 *ℤ dot (twice_off (plus a b) m) (chord a b))) +ℤ pos (length_squared (chord a b))
 first_half a b m =
     rw (← square_length_squared (chord a m), ← square_length_squared (twice_off (plus a b) m), ← square_length_squared (chord a b)) at (first_parts a.dx a.dy b.dx b.dy m.dx m.dy)
@@ -115,22 +115,22 @@ second_parts : (a b c d e f : ℤ) → pos 4 *ℤ (((c -ℤ e) *ℤ (c -ℤ e)) 
     +ℤ (((c -ℤ a) *ℤ (c -ℤ a)) +ℤ ((d -ℤ b) *ℤ (d -ℤ b)))
 second_parts a b c d e f = rw (as_diff a, as_diff b, as_diff c, as_diff d, as_diff e, as_diff f, diff-pos 2, diff-pos 4) (simp differences (diff-same _ _ _ _ (omega arith)))
 
-second_half : (a b m : Dir) → pos 4 *ℤ pos (length_squared (chord m b))
+pub second_half : (a b m : Dir) → pos 4 *ℤ pos (length_squared (chord m b))
     ≡ (pos (length_squared (twice_off (plus a b) m)) -ℤ (pos 2 *ℤ dot (twice_off (plus a b) m) (chord a b))) +ℤ pos (length_squared (chord a b))
 second_half a b m =
     rw (← square_length_squared (chord m b), ← square_length_squared (twice_off (plus a b) m), ← square_length_squared (chord a b)) at (second_parts a.dx a.dy b.dx b.dy m.dx m.dy)
 
 -- ---- put together
-off_in_numbers : (V M U X : ℕ) (x : ℤ) → pos V +ℤ (pos 4 *ℤ x) ≡ (pos 4 *ℤ pos M) +ℤ pos U → x ≡ pos X → V + 4 * X ≡ 4 * M + U
+pub off_in_numbers : (V M U X : ℕ) (x : ℤ) → pos V +ℤ (pos 4 *ℤ x) ≡ (pos 4 *ℤ pos M) +ℤ pos U → x ≡ pos X → V + 4 * X ≡ 4 * M + U
 off_in_numbers V M U X x e f = omega (arith, ints, rw f at e)
 
-size_along : (U X : ℕ) (x : ℤ) → x ≡ pos X → U ≤ 2 * X → unsigned_abs ((pos 2 *ℤ x) -ℤ pos U) ≡ 2 * X - U
+pub size_along : (U X : ℕ) (x : ℤ) → x ≡ pos X → U ≤ 2 * X → unsigned_abs ((pos 2 *ℤ x) -ℤ pos U) ≡ 2 * X - U
 size_along U X x e h = rw e (omega (arith, ints, h))
 
-square_core : (n d c z y : ℕ) → n ≡ d * d + c * c → d ≡ z → c ≡ 2 * y → n ≡ z * z + 4 * (y * y)
+pub square_core : (n d c z y : ℕ) → n ≡ d * d + c * c → d ≡ z → c ≡ 2 * y → n ≡ z * z + 4 * (y * y)
 square_core n d c z y whole f g = omega (arith, rw (f, g) at whole)
 
-dot_core : (U : ℕ) (w s t x y : ℤ) (a b c d : ℕ) → pos U *ℤ w ≡ (s *ℤ t) +ℤ (x *ℤ y) → unsigned_abs s ≡ a → unsigned_abs t ≡ b → unsigned_abs x ≡ 2 * c → unsigned_abs y ≡ 2 * d
+pub dot_core : (U : ℕ) (w s t x y : ℤ) (a b c d : ℕ) → pos U *ℤ w ≡ (s *ℤ t) +ℤ (x *ℤ y) → unsigned_abs s ≡ a → unsigned_abs t ≡ b → unsigned_abs x ≡ 2 * c → unsigned_abs y ≡ 2 * d
     → U * unsigned_abs w ≤ a * b + 4 * (c * d)
 dot_core U w s t x y a b c d e f g h k =
     let whole : U * unsigned_abs w ≡ unsigned_abs ((s *ℤ t) +ℤ (x *ℤ y)) = sym (size_mul (pos U) w) ∙ ap unsigned_abs e in

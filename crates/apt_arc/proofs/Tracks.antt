@@ -147,7 +147,7 @@ pub sag_parts : (r sag : ℤ) (p : ℕ) → r ≡ pos (p + 3) → pos 8 ≤ℤ s
 sag_parts r (pos sag) p e least most = ((p + 3) - sag, sag - 3, omega (arith, ints, e, least, most), omega (arith, ints, least), omega (arith, ints, e, least, most), omega (arith, ints, least), omega (arith, ints, e, least, most))
 sag_parts r (negsuc sag) p e least most = absurd (omega (arith, ints, least))
 
-far_ends : (p q v n : ℕ) → q + v ≡ p → p * p ≤ n → q * q ≤ n
+pub far_ends : (p q v n : ℕ) → q + v ≡ p → p * p ≤ n → q * q ≤ n
 far_ends p q v n e h = omega (arith, h, mul-le q q p p (omega (arith, e)) (omega (arith, e)))
 
 long_core : (p q v D A B X j k : ℕ) → q + v ≡ p → j * k * D + X ≡ (j + k) * (k * A + j * B) → p * p ≤ A → p * p ≤ B → X < (j + k) * (j + k) * (q * q) → 5 ≤ v → 3 * v + 9 ≤ q
@@ -156,7 +156,7 @@ long_core p q v D A B X j k e stewart a b near low high =
     subst (λ n. 4 * ((v + 3) * (n + 3)) < D) e
     (near_piece D A B X j k q v stewart (subst (λ n. n * n ≤ A) (sym e) a) (subst (λ n. n * n ≤ B) (sym e) b) near low high)
 
-open_over : (t : Circ) (sag : ℤ) (a b : Pt) → is_clear t sag a b ≡ false → is_over t.c (t.r -ℤ sag) a b ≡ false
+pub open_over : (t : Circ) (sag : ℤ) (a b : Pt) → is_clear t sag a b ≡ false → is_over t.c (t.r -ℤ sag) a b ≡ false
 unfolding is_clear
 open_over t sag a b e = e
 
@@ -182,13 +182,13 @@ step_part c p q = omega (arith, ints)
 pub chord_of : (c a b : Pt) → chord (displacement c a) (displacement c b) ≡ displacement a b
 chord_of c a b = rw (step_part c.x a.x b.x, step_part c.y a.y b.y) refl
 
-wide : (sag r d : ℕ) → 8 ≤ sag → 4 * (sag * r) < d → 32 * r < d
+pub wide : (sag r d : ℕ) → 8 ≤ sag → 4 * (sag * r) < d → 32 * r < d
 wide sag r d h g = omega (arith, g, mul-le-mul_left r h)
 
 pub sag_least : (sag : ℤ) → pos 8 ≤ℤ sag → 8 ≤ unsigned_abs sag
 sag_least sag h = omega (arith, ints)
 
-far_chord : (t : Circ) (sag sense : ℤ) (a b : Pt) → IsTrack t → IsSag t sag → IsPiece t sense a b → is_clear t sag a b ≡ false
+pub far_chord : (t : Circ) (sag sense : ℤ) (a b : Pt) → IsTrack t → IsSag t sag → IsPiece t sense a b → is_clear t sag a b ≡ false
     → 32 * (within t + 3) < length_squared (chord (displacement t.c a) (displacement t.c b))
 far_chord t sag sense a b is fits parts off =
     subst (λ (d : Dir). 32 * (within t + 3) < length_squared d) (sym (chord_of t.c a b))

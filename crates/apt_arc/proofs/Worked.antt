@@ -1,10 +1,12 @@
 -- Divisions worked out by hand, which the definitions compute, cut by cut.
-use Rattle.std.proofs.Common.{refl, ◌≡◌, true, false, ℤ, pos, neg_ℤ, [], ◌∷◌}
+use Rattle.std.proofs.Common.{refl, ◌≡◌, true, false, ℕ, ℤ, pos, neg_ℤ, [], ◌∷◌}
 use Rattle.apt_num.specs.Root.{root}
 use Rattle.apt_plane.specs.declared.figures.Pt.{Pt}
 use Rattle.apt_plane.specs.declared.figures.Dir.{Dir}
 use Rattle.apt_plane.specs.declared.figures.Circ.{Circ}
+use Rattle.apt_plane.specs.Vectors.{displacement, length_squared}
 use Rattle.apt_arc.specs.Cuts.{middle}
+use Rattle.apt_arc.specs.Bounds.{number, clear_length}
 use Rattle.apt_arc.specs.Made.{is_clear, pieces, first_past, quarters_from, quarters}
 
 abbrev pt : ℤ → ℤ → Pt
@@ -62,3 +64,39 @@ half_quarters = refl
 half_middle : middle half (pt (pos 0) (pos 225000)) (pt (pos 225000) (pos 0)) ≡ pt (pos 159099) (pos 159099)
 unfolding root
 half_middle = refl
+
+-- the bound on the number of vertices of a quarter of a circle, between quarter points
+abbrev quarter_bound : ℕ → ℕ
+quarter_bound r = number 24 r (clear_length (record { c = pt (pos 0) (pos 0); r = pos r }) (pos 8) (pt (pos r) (pos 0)) (pt (pos 0) (pos r))) (length_squared (displacement (pt (pos r) (pos 0)) (pt (pos 0) (pos r))))
+
+quarter_125000 : quarter_bound 125000 ≡ 128
+unfolding number
+quarter_125000 = refl
+
+quarter_150000 : quarter_bound 150000 ≡ 128
+unfolding number
+quarter_150000 = refl
+
+quarter_175000 : quarter_bound 175000 ≡ 128
+unfolding number
+quarter_175000 = refl
+
+quarter_200000 : quarter_bound 200000 ≡ 128
+unfolding number
+quarter_200000 = refl
+
+quarter_225000 : quarter_bound 225000 ≡ 128
+unfolding number
+quarter_225000 = refl
+
+quarter_250000 : quarter_bound 250000 ≡ 128
+unfolding number
+quarter_250000 = refl
+
+quarter_275000 : quarter_bound 275000 ≡ 128
+unfolding number
+quarter_275000 = refl
+
+quarter_300000 : quarter_bound 300000 ≡ 128
+unfolding number
+quarter_300000 = refl

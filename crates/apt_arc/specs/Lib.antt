@@ -6,3 +6,4 @@ pub mod Divisions
 pub mod Made
 pub mod Halves
 pub mod Stops
+pub mod Bounds

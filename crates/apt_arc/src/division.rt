@@ -9,6 +9,7 @@ ghost use Rattle.apt_arc.specs.Made.{divided};
 ghost use Rattle.apt_arc.specs.Made as spec;
 
 use crate::arc::Arc;
+use crate::bounds::piece_bound;
 use crate::cuts::{append_piece, count_piece};
 use crate::quarters::{first_past, next_point, onward};
 use apt_plane::{Dir, Pt};
@@ -67,6 +68,31 @@ fn count_from(arc: &Arc, from: Pt, u: Dir, left: u8) -> u64
         Some(point) => count_piece(arc, from, point, DEPTH)
             + count_from(arc, point, onward(arc.sense, u), left - 1),
         None => count_piece(arc, from, arc.end, DEPTH),
+    }
+}
+
+/// A number that the vertices of an arc are not more than, found without dividing it.
+pub fn bound(arc: &Arc) -> u64
+    requires { IsArc arc.now }
+    ensures bound { length (divided arc.now) ≤ result }
+    ensures small { result ≤ 5 * 2 ^ 24 }
+{
+    bound_from(arc, arc.start, first_past(arc, arc.axis, 3), 4)
+}
+
+/// The same from a point through the quarter points from a direction on.
+fn bound_from(arc: &Arc, from: Pt, u: Dir, left: u8) -> u64
+    requires arc { IsArc arc.now }
+    requires dir { IsDir u }
+    requires pieces { ArePieces arc.now.track arc.now.sense from (spec.stations left arc.now u) }
+    requires few { left ≤ 4 }
+    ensures bound { length (spec.vertices left arc.now from u) ≤ result }
+    ensures small { result ≤ (left + 1) * 2 ^ 24 }
+{
+    match next_point(arc, u, left) {
+        Some(point) => piece_bound(arc, from, point, DEPTH)
+            + bound_from(arc, point, onward(arc.sense, u), left - 1),
+        None => piece_bound(arc, from, arc.end, DEPTH),
     }
 }
 

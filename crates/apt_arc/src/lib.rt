@@ -8,12 +8,14 @@
 //!
 //! [`chords`] fails with [`ArcError::TooManyPoints`] exactly where the vertices are more than there is room for,
 //! and with [`ArcError::NoMemory`] where memory runs out. [`count`] counts them, and takes no memory.
+//! [`bound`] finds a number that they are not more than, from the ends of the pieces alone.
 #![tactic(auto)]
 
 mod arc;
+mod bounds;
 mod cuts;
 mod division;
 mod quarters;
 
 pub use arc::Arc;
-pub use division::{ArcError, chords, count};
+pub use division::{ArcError, bound, chords, count};
