@@ -33,9 +33,9 @@ use Rattle.apt_meaning.specs.Compiled.{most_points, asked, asked_within, refused
 use Rattle.apt_words.proofs.Rows.{first_none}
 use Rattle.apt_meaning.proofs.Contours.Arcs.{vertices_by, vertices-vertices_by}
 use Rattle.apt_motion.specs.declared.runs.RunError.TheVariants as errors
-use Rattle.apt_motion.specs.Ends.{IsRefusedBehind, HasPassed, HasAdvanced}
+use Rattle.apt_motion.specs.Drafts.{ArcAt, drawn, rounds_of}
+use Rattle.apt_motion.specs.Ends.{HasPassed, HasDrawn}
 use Rattle.apt_motion.specs.Finding.{IsMotionBy}
-use Rattle.apt_motion.proofs.Counts.{few_asked, many_asked}
 use Rattle.apt_motion.proofs.Cases.{name_refused, known_surface}
 
 -- ---- the end of a course
@@ -131,21 +131,12 @@ known_end m end is =
     let at_end = ends (first_of (motion_cases m)) end (end_point m) is in
     (first_none (motion_cases m) at_end.0, at_end.1)
 
-pub has_cut : (so_far later : ℕ) (here behind : Situation) (step : Step) (before now : List Record) (m : Motion) (end : Pt)
+pub has_cut : (here behind : Situation) (step : Step) (before now : List Record) (first later : List ArcAt) (m : Motion) (end : Pt)
     → IsMotionBy (refusal_of here step.deed) (effect_of here step.deed) (Ok m) → Ok end ≡ unless (motion_cases m) (end_point m)
-    → behind ≡ after here (effects.Cuts m) (end_point m ∷ []) → now ≡ before ++ records_of step (effects.Cuts m) (vertices_of m)
-    → later ≡ so_far + length (vertices_of m) → later ≤ most_points → HasAdvanced so_far later here step before now (Ok behind)
-has_cut so_far later here behind step before now m end by is behind_is now_is later_is few =
-    let asks = end_asked (refusal_of here step.deed) (effect_of here step.deed) m end by is in
-    let within = few_asked so_far (effects.Cuts m) (subst (λ (n : ℕ). n ≤ most_points) later_is few) in
-    (effects.Cuts m, record { asks = ap (asked_within so_far) asks.0 ∙ within; after = behind_is; records = now_is; count = later_is })
-
-pub has_too_many : (so_far : ℕ) (here : Situation) (step : Step) (m : Motion) (end : Pt) → IsMotionBy (refusal_of here step.deed) (effect_of here step.deed) (Ok m)
-    → Ok end ≡ unless (motion_cases m) (end_point m) → most_points < so_far + length (vertices_of m)
-    → IsRefusedBehind so_far here step (refused_at step cases.TooManyPoints) cases.TooManyPoints
-has_too_many so_far here step m end by is many =
-    let asks = end_asked (refusal_of here step.deed) (effect_of here step.deed) m end by is in
-    record { asks = ap (asked_within so_far) asks.0 ∙ many_asked so_far (effects.Cuts m) many; told = refl }
+    → behind ≡ after here (effects.Cuts m) (end_point m ∷ []) → now ≡ before ++ records_of step (effects.Cuts m) (drawn (effects.Cuts m))
+    → later ≡ first ++ rounds_of (effects.Cuts m) → HasDrawn here step before now first later (Ok behind)
+has_cut here behind step before now first later m end by is behind_is now_is later_is =
+    (effects.Cuts m, record { asks = (end_asked (refusal_of here step.deed) (effect_of here step.deed) m end by is).0; after = behind_is; records = now_is; rounds = later_is })
 
 stop_asked : (f : Option Case) (o : Option Effect) (m : Motion) (case : Case) → IsMotionBy f o (Ok m) → Err case ≡ unless (motion_cases m) (end_point m) → asked f o ≡ Err case
 stop_asked f o m case by is = rw (by.1 ∙ stops (first_of (motion_cases m)) case (end_point m) is) refl
@@ -154,13 +145,8 @@ pub is_stopped : (here : Situation) (step : Step) (m : Motion) (case : Case) →
     → Err case ≡ unless (motion_cases m) (end_point m) → HasPassed here step (Err (errors.Refused (refused_at step case)))
 is_stopped here step m case by is = (case, record { asks = stop_asked (refusal_of here step.deed) (effect_of here step.deed) m case by is; told = refl })
 
-pub is_stopped_again : (so_far later : ℕ) (here : Situation) (step : Step) (before now : List Record) (m : Motion) (case : Case)
+pub is_stopped_again : (here : Situation) (step : Step) (records : List Record) (rounds : List ArcAt) (m : Motion) (case : Case)
     → IsMotionBy (refusal_of here step.deed) (effect_of here step.deed) (Ok m) → Err case ≡ unless (motion_cases m) (end_point m)
-    → HasAdvanced so_far later here step before now (Err (errors.Refused (refused_at step case)))
-is_stopped_again so_far later here step before now m case by is =
-    (case, record { asks = ap (asked_within so_far) (stop_asked (refusal_of here step.deed) (effect_of here step.deed) m case by is); told = refl })
-
--- ---- the vertices round a circle
-
-pub round_vertices : (m : Motion) (arc : Arc) → Some arc ≡ arc_of m → divided arc ≡ vertices_of m
-round_vertices m arc is = ap (vertices_by (end_point m)) is ∙ sym (vertices-vertices_by m)
+    → HasDrawn here step records records rounds rounds (Err (errors.Refused (refused_at step case)))
+is_stopped_again here step records rounds m case by is =
+    (case, record { asks = stop_asked (refusal_of here step.deed) (effect_of here step.deed) m case by is; told = refl; records = refl; rounds = refl })

@@ -15,10 +15,10 @@ use Rattle.apt_meaning.specs.declared.effect.Effect.{Effect}
 use Rattle.apt_meaning.specs.declared.effect.Effect.TheVariants as effects
 use Rattle.apt_meaning.specs.Effects.{names, defined, effect_by, effect_of}
 use Rattle.apt_meaning.specs.Refusals.{refused, refused_form, cases_by, refusal_of}
-use Rattle.apt_meaning.specs.Compiled.{most_points, asked, asked_within, refused_at}
+use Rattle.apt_meaning.specs.Compiled.{asked, refused_at}
 use Rattle.apt_motion.specs.declared.runs.RunError.TheVariants as errors
-use Rattle.apt_motion.specs.Ends.{HasPassed, HasAdvanced}
-use Rattle.apt_motion.proofs.Counts.{few_asked}
+use Rattle.apt_motion.specs.Drafts.{ArcAt}
+use Rattle.apt_motion.specs.Ends.{HasPassed, HasDrawn}
 
 abbrev named : List ℕ → Result Figure Case → Result Effect Case
 named name (Ok f) = Ok (effects.Defines name f)
@@ -53,24 +53,22 @@ pub is_refused : (here : Situation) (step : Step) (case : Case) → IsRefusedBy 
     → HasPassed here step (Err (errors.Refused (refused_at step case)))
 is_refused here step case is = (case, record { asks = definition_asked here step.deed is.0 is.1 (Err case) is.2 is.3; told = refl })
 
--- ---- the same with records, of which a definition has none
+-- ---- the same with records and arcs, of which a definition has none
 
-pub has_defined : (so_far : ℕ) (here : Situation) (step : Step) (records : List Record) (table : Table) → so_far ≤ most_points
-    → HasDefined here.settings.units here.table step.deed table → HasAdvanced so_far so_far here step records records (Ok (record here { table = table }))
-has_defined so_far here step records table few defined =
-    let is = defined.3 in
-    let e = effects.Defines defined.0 defined.2 in
-    let within : so_far + 0 ≤ most_points = omega (arith, few) in (
-      e,
+pub has_defined : (here : Situation) (step : Step) (records : List Record) (rounds : List ArcAt) (table : Table)
+    → HasDefined here.settings.units here.table step.deed table → HasDrawn here step records records rounds rounds (Ok (record here { table = table }))
+has_defined here step records rounds table defined =
+    let is = defined.3 in (
+      effects.Defines defined.0 defined.2,
       record {
-        asks = ap (asked_within so_far) (definition_asked here step.deed defined.0 defined.1 (Ok defined.2) is.asked is.figure) ∙ few_asked so_far e within;
+        asks = definition_asked here step.deed defined.0 defined.1 (Ok defined.2) is.asked is.figure;
         after = ap (λ (t : Table). record here { table = t }) is.table;
         records = sym (append-nil records);
-        count = omega arith;
+        rounds = sym (append-nil rounds);
       },
     )
 
-pub refused_again : (so_far later : ℕ) (here : Situation) (step : Step) (before now : List Record) (case : Case) → IsRefusedBy here.settings.units here.table step.deed case
-    → HasAdvanced so_far later here step before now (Err (errors.Refused (refused_at step case)))
-refused_again so_far later here step before now case is =
-    (case, record { asks = ap (asked_within so_far) (definition_asked here step.deed is.0 is.1 (Err case) is.2 is.3); told = refl })
+pub refused_again : (here : Situation) (step : Step) (records : List Record) (rounds : List ArcAt) (case : Case) → IsRefusedBy here.settings.units here.table step.deed case
+    → HasDrawn here step records records rounds rounds (Err (errors.Refused (refused_at step case)))
+refused_again here step records rounds case is =
+    (case, record { asks = definition_asked here step.deed is.0 is.1 (Err case) is.2 is.3; told = refl; records = refl; rounds = refl })

@@ -30,19 +30,6 @@ use Rattle.apt_defs.specs.Definitions.{IsNoDefinition}
 use Rattle.apt_motion.specs.Finding.{IsNoContour, SetsOrMoves}
 use Rattle.apt_motion.proofs.Plain.{is_plain}
 
-regroup : (front more : List Record) (r : Result (List Record) Refusal) → with_front front (with_front more r) ≡ with_front (front ++ more) r
-regroup front more (Ok rest) = ap (λ (x : List Record). Ok x) (sym (append_assoc front more rest))
-regroup front more (Err refusal) = refl
-
--- one more step of the walk
-pub step_on : (so_far : ℕ) (front : List Record) (here : Situation) (step : Step) (steps : List Step) (e : Effect) (total : Result (List Record) Refusal)
-    → asked_within so_far (asked (refusal_of here step.deed) (effect_of here step.deed)) ≡ Ok e → with_front front (compilation_behind so_far here (step ∷ steps)) ≡ total
-    → with_front (front ++ records_of step e (points_of e)) (compilation_behind (so_far + length (points_of e)) (after here e (ends_of e)) steps) ≡ total
-step_on so_far front here step steps e total does now =
-    let one : compilation_behind so_far here (step ∷ steps) ≡ behind_step so_far here step steps e =
-    ap (λ (a : Result Effect Case). or_refused step a (behind_step so_far here step steps)) does in
-    sym (regroup front (records_of step e (points_of e)) (compilation_behind (so_far + length (points_of e)) (after here e (ends_of e)) steps)) ∙ sym (ap (with_front front) one) ∙ now
-
 -- one more step that passes
 pub passes_on : (here : Situation) (step : Step) (steps : List Step) (e : Effect) (total : Option Refusal) → asked (refusal_of here step.deed) (effect_of here step.deed) ≡ Ok e
     → first_refused here (step ∷ steps) ≡ total → first_refused (after here e (ends_of e)) steps ≡ total

@@ -1,5 +1,5 @@
 -- How steps are passed and taken, and how runs end.
-use Rattle.std.specs.Prelude.{◌≡◌, ◌+◌, ◌++◌, ℕ, List, length, Option, Some, None, Result, Ok, Err}
+use Rattle.std.specs.Prelude.{◌≡◌, ◌++◌, List, Option, Some, None, Result, Ok, Err}
 use Rattle.apt_words.specs.Answers.{Comes}
 use Rattle.apt_words.specs.declared.Case.{Case}
 use Rattle.apt_words.specs.declared.Refusal.{Refusal}
@@ -10,7 +10,8 @@ use Rattle.apt_meaning.specs.declared.effect.Effect.{Effect}
 use Rattle.apt_meaning.specs.Effects.{effect_of}
 use Rattle.apt_meaning.specs.Refusals.{refusal_of}
 use Rattle.apt_meaning.specs.Records.{records_of, after}
-use Rattle.apt_meaning.specs.Compiled.{ends_of, points_of, asked, asked_within, refused_at}
+use Rattle.apt_meaning.specs.Compiled.{ends_of, asked, refused_at}
+use Rattle.apt_motion.specs.Drafts.{ArcAt, drawn, rounds_of}
 use Rattle.apt_motion.specs.declared.runs.RunError.{RunError}
 use Rattle.apt_motion.specs.declared.runs.RunError.TheVariants as errors
 
@@ -24,30 +25,33 @@ pub record IsPassed (here : Situation) (step : Step) (behind : Situation) (e : E
   pub asks : asked (refusal_of here step.deed) (effect_of here step.deed) ≡ Ok e
   pub after : behind ≡ after here e (ends_of e)
 
--- the same behind so many vertices, with its records behind those before, and its vertices counted
-pub record IsTaken (so_far later : ℕ) (here : Situation) (step : Step) (before now : List Record) (behind : Situation) (e : Effect) : Type 0 where
-  pub asks : asked_within so_far (asked (refusal_of here step.deed) (effect_of here step.deed)) ≡ Ok e
+-- the same with its records behind those before, and the arc of its contour
+pub record IsDrawn (here : Situation) (step : Step) (before now : List Record) (first later : List ArcAt) (behind : Situation) (e : Effect) : Type 0 where
+  pub asks : asked (refusal_of here step.deed) (effect_of here step.deed) ≡ Ok e
   pub after : behind ≡ after here e (ends_of e)
-  pub records : now ≡ before ++ records_of step e (points_of e)
-  pub count : later ≡ so_far + length (points_of e)
+  pub records : now ≡ before ++ records_of step e (drawn e)
+  pub rounds : later ≡ first ++ rounds_of e
 
 pub record IsRefused (here : Situation) (step : Step) (refusal : Refusal) (case : Case) : Type 0 where
   pub asks : asked (refusal_of here step.deed) (effect_of here step.deed) ≡ Err case
   pub told : refusal ≡ refused_at step case
 
--- the same behind so many vertices
-pub record IsRefusedBehind (so_far : ℕ) (here : Situation) (step : Step) (refusal : Refusal) (case : Case) : Type 0 where
-  pub asks : asked_within so_far (asked (refusal_of here step.deed) (effect_of here step.deed)) ≡ Err case
+-- the same, and nothing is drawn
+pub record IsStopped (here : Situation) (step : Step) (before now : List Record) (first later : List ArcAt) (refusal : Refusal) (case : Case) : Type 0 where
+  pub asks : asked (refusal_of here step.deed) (effect_of here step.deed) ≡ Err case
   pub told : refusal ≡ refused_at step case
+  pub records : now ≡ before
+  pub rounds : later ≡ first
 
 -- a step is passed or refused, or memory was short
 abbrev pub HasPassed : Situation → Step → Result Situation RunError → Type 0
 HasPassed here step = Comes refusal_in (λ behind. (e : Effect) × IsPassed here step behind e) (λ refusal. (case : Case) × IsRefused here step refusal case)
 
--- a step is taken behind so many vertices, and there are so many then, or it is refused, or memory was short
-abbrev pub HasAdvanced : ℕ → ℕ → Situation → Step → List Record → List Record → Result Situation RunError → Type 0
-HasAdvanced so_far later here step before now =
-    Comes refusal_in (λ behind. (e : Effect) × IsTaken so_far later here step before now behind e) (λ refusal. (case : Case) × IsRefusedBehind so_far here step refusal case)
+-- a step is drawn or refused, or memory was short
+abbrev pub HasDrawn : Situation → Step → List Record → List Record → List ArcAt → List ArcAt → Result Situation RunError → Type 0
+HasDrawn here step before now first later =
+    Comes refusal_in (λ behind. (e : Effect) × IsDrawn here step before now first later behind e)
+    (λ refusal. (case : Case) × IsStopped here step before now first later refusal case)
 
 -- a pass over all steps ends, where no step is refused, or at the first that is, or memory was short
 abbrev pub ArePassed : {A : Type 0} → Option Refusal → Result A RunError → Type 0

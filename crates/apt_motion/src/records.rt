@@ -1,20 +1,20 @@
 //! The records of effects that define nothing, and what holds behind them.
 
-ghost use Rattle.std.specs.Prelude.{◌≡◌, ◌<◌, ◌≤◌, ◌+◌, ◌++◌, [], ◌∷◌, length, map, vec_len, vec_capacity, OnOk, IsErrOf};
+ghost use Rattle.std.specs.Prelude.{◌≡◌, ◌≤◌, ◌+◌, ◌++◌, [], ◌∷◌, map, vec_len, vec_capacity, OnOk};
 ghost use Rattle.apt_words.specs.Rows.{NoneHolds};
 ghost use Rattle.apt_plane.specs.Ranges.{IsPoint};
 ghost use Rattle.apt_cldata.specs.declared.record.Record.TheVariants as lines;
-ghost use Rattle.apt_meaning.specs.Compiled.{ends_of, points_of, most_points};
-ghost use Rattle.apt_meaning.specs.Motions.{end_point, vertices_of};
+ghost use Rattle.apt_meaning.specs.Compiled.{ends_of};
+ghost use Rattle.apt_meaning.specs.Motions.{end_point};
 ghost use Rattle.apt_meaning.specs.Ranges.{IsSituation, IsEffect, IsMotion};
 ghost use Rattle.apt_meaning.specs.Refusals.{motion_cases};
 ghost use Rattle.apt_meaning.specs.Records as writing;
 ghost use Rattle.apt_meaning.specs.Situations.{at_height};
 ghost use Rattle.apt_meaning.specs.declared.effect.Effect.TheVariants as effects;
+ghost use Rattle.apt_motion.specs.Drafts.{drawn, rounds_of};
 ghost use Rattle.apt_motion.specs.Finding.{SetsOrMoves};
 
-use crate::vertices::vertices;
-use apt_arc::ArcError;
+use crate::drafts::{Draft, draw};
 use apt_cldata::{Record, Vertices};
 use apt_meaning::{Change, Effect, Motion, Situation};
 use apt_plane::Pt;
@@ -23,16 +23,6 @@ use std::alloc::{AllocError, Global};
 
 /// A contour has so many records, and no step has more.
 const MOST_RECORDS: usize = 4;
-
-/// The contours of a program have so many vertices at most.
-const MOST_POINTS: u64 = 500_000;
-
-/// Records, and how many vertices their contours have.
-#[derive(Drop)]
-pub(crate) struct Written {
-    pub records: Vec<Record>,
-    pub points: u64,
-}
 
 /// Makes room for the records of a step.
 fn make_room(records: &mut Vec<Record>) -> Result<(), AllocError>
@@ -59,11 +49,11 @@ fn put(records: &mut Vec<Record>, step: &Step, line: Record)
     records.push_reserved(line);
 }
 
-/// The records of a contour with its vertices.
+/// The records of a contour with the vertices that are known at once.
 fn write_cut(records: &mut Vec<Record>, step: &Step, motion: &Motion, vertices: Vertices)
     requires room { vec_len records.old + 4 ≤ vec_capacity records.old }
-    requires vertices { vertices ≡ map (at_height motion.now.start.z) (vertices_of motion.now) }
-    ensures { records.new.items ≡ records.old.items ++ writing.records_of step.now (effects.Cuts motion.now) (vertices_of motion.now) }
+    requires vertices { vertices ≡ map (at_height motion.now.start.z) (drawn (effects.Cuts motion.now)) }
+    ensures { records.new.items ≡ records.old.items ++ writing.records_of step.now (effects.Cuts motion.now) (drawn (effects.Cuts motion.now)) }
 {
     let drive = Record::Drive {
         surface: motion.drive,
@@ -105,7 +95,7 @@ pub(crate) fn take(
     requires effect { IsEffect effect }
     requires plain { SetsOrMoves effect }
     ensures after { OnOk result (here.new ≡ writing.after here.old effect (ends_of effect)) }
-    ensures records { OnOk result (records.new.items ≡ records.old.items ++ writing.records_of step.now effect (points_of effect)) }
+    ensures records { OnOk result (records.new.items ≡ records.old.items ++ writing.records_of step.now effect (drawn effect)) }
 {
     make_room(records)?;
     match effect {
@@ -124,36 +114,26 @@ pub(crate) fn take(
     Ok(())
 }
 
-/// The records of a contour that no case of its own refuses; then holds what holds behind it.
-///
-/// # Errors
-///
-/// `TooManyPoints` where the contours have more vertices with it than a program may have.
+/// Draws a contour that no case refuses; then holds what holds behind it.
 pub(crate) fn take_cut(
     alloc: Global,
-    written: &mut Written,
+    draft: &mut Draft,
     here: &mut Situation,
     step: &Step,
     motion: &Motion,
     end: Pt,
-) -> Result<(), ArcError>
+) -> Result<(), AllocError>
     requires motion { IsMotion motion.now }
     requires none { NoneHolds (motion_cases motion.now) }
     requires end { end ≡ end_point motion.now }
     requires point { IsPoint end }
-    requires few { written.old.points ≤ most_points }
     ensures after { OnOk result (here.new ≡ writing.after here.old (effects.Cuts motion.now) (end_point motion.now ∷ [])) }
-    ensures records { OnOk result (written.new.records.items ≡ written.old.records.items ++ writing.records_of step.now (effects.Cuts motion.now) (vertices_of motion.now)) }
-    ensures count { OnOk result (written.new.points ≡ written.old.points + length (vertices_of motion.now)) }
-    ensures few { OnOk result (written.new.points ≤ most_points) }
-    ensures too_many { IsErrOf result ArcError.TooManyPoints → most_points < written.old.points + length (vertices_of motion.now) }
+    ensures records { OnOk result (draft.new.records.items ≡ draft.old.records.items ++ writing.records_of step.now (effects.Cuts motion.now) (drawn (effects.Cuts motion.now))) }
+    ensures rounds { OnOk result (draft.new.rounds.items ≡ draft.old.rounds.items ++ rounds_of (effects.Cuts motion.now)) }
 {
-    if make_room(&mut written.records).is_err() {
-        return Err(ArcError::NoMemory);
-    }
-    let vertices = vertices(alloc, motion, end, MOST_POINTS - written.points)?;
-    written.points += vertices.as_slice().len() as u64;
-    write_cut(&mut written.records, step, motion, vertices);
+    make_room(&mut draft.records)?;
+    let vertices = draw(alloc, &mut draft.rounds, motion, end)?;
+    write_cut(&mut draft.records, step, motion, vertices);
     here.cut_along(motion, &[end]);
     Ok(())
 }

@@ -13,20 +13,26 @@ ghost use Rattle.apt_meaning.specs.Paths.{EveryContour, IsLegalCut, contours_of}
 ghost use Rattle.apt_meaning.specs.Records.{Follows, IsOwnCut};
 ghost use Rattle.apt_meaning.specs.Situations.{first_situation};
 ghost use Rattle.apt_meaning.specs.declared.situation.Situation.{Situation};
-ghost use Rattle.apt_motion.specs.Ends.{HasAdvanced, HasPassed, ArePassed, refusal_in};
+ghost use Rattle.apt_motion.specs.Drafts as drafts;
+ghost use Rattle.apt_motion.specs.Ends.{HasDrawn, HasPassed, ArePassed, refusal_in};
 ghost use Rattle.apt_words.specs.Answers.{IsDueAs};
 ghost use Rattle.apt_defs.specs.Definitions.{IsNoDefinition};
 ghost use Rattle.apt_motion.specs.Finding.{IsContour, IsMotionBy, IsNoContour};
 
 use crate::contours::{end_of, motion};
 use crate::found::find;
-use crate::records::{Written, pass_by, take, take_cut};
-use apt_arc::ArcError;
+use crate::counting::past_limit;
+use crate::dividing::cut_all;
+use crate::drafts::Draft;
+use crate::filling::fill;
+use crate::records::{pass_by, take, take_cut};
+use apt_certify::Gate;
 use apt_cldata::Record;
 use apt_defs::{DefError, define};
 use apt_meaning::{Motion, Situation};
 use apt_words::{Case, Deed, Refusal, Step};
 use std::alloc::{AllocError, Global};
+use std::thread::Threads;
 
 /// Why there are no records.
 #[derive(Clone, Copy)]
@@ -122,108 +128,129 @@ fn go_along(here: &mut Situation, step: &Step, motion: &Motion) -> Result<(), Ru
     }
 }
 
-/// Takes a step: its records go behind those before, and its vertices are counted.
+/// Draws a step: its records go behind those before, and the arc of its contour behind those before.
 #[tactic(auto, using(crate::proofs::Given::has_defined, crate::proofs::Given::refused_again))]
 fn advance(
     alloc: Global,
-    written: &mut Written,
+    draft: &mut Draft,
     here: &mut Situation,
     step: &Step,
 ) -> Result<(), RunError>
     requires situation { IsSituation here.old }
     requires scalars { HasScalars step.now.deed }
     requires text { DeedHasText step.now.deed }
-    requires few { written.old.points ≤ most_points }
-    ensures { HasAdvanced written.old.points written.new.points here.old step.now written.old.records.items written.new.records.items (result_map_both (λ _. here.new) (λ e. e) result) }
+    ensures { HasDrawn here.old step.now draft.old.records.items draft.new.records.items draft.old.rounds.items draft.new.rounds.items (result_map_both (λ _. here.new) (λ e. e) result) }
 {
     match &step.deed {
-        Deed::Contour(..) => contour(alloc, written, here, step),
-        Deed::GotoXy(..) => act(written, here, step),
+        Deed::Contour(..) => contour(alloc, draft, here, step),
+        Deed::GotoXy(..) => act(draft, here, step),
         _ => match define(step, here.settings.units, &mut here.table) {
             Ok(true) => Ok(()),
-            Ok(false) => act(written, here, step),
+            Ok(false) => act(draft, here, step),
             Err(DefError::Case(case)) => Err(refused(step, case)),
             Err(DefError::NoMemory) => Err(RunError::NoMemory),
         },
     }
 }
 
-/// Takes a step that is neither a definition nor a contour.
+/// Draws a step that is neither a definition nor a contour.
 #[inline(always)]
-fn act(written: &mut Written, here: &mut Situation, step: &Step) -> Result<(), RunError>
+fn act(draft: &mut Draft, here: &mut Situation, step: &Step) -> Result<(), RunError>
     requires situation { IsSituation here.old }
     requires scalars { HasScalars step.now.deed }
     requires text { DeedHasText step.now.deed }
     requires plain { IsNoContour step.now.deed }
     requires defines_nothing { IsNoDefinition step.now.deed }
-    requires few { written.old.points ≤ most_points }
-    ensures { HasAdvanced written.old.points written.new.points here.old step.now written.old.records.items written.new.records.items (result_map_both (λ _. here.new) (λ e. e) result) }
+    ensures { HasDrawn here.old step.now draft.old.records.items draft.new.records.items draft.old.rounds.items draft.new.rounds.items (result_map_both (λ _. here.new) (λ e. e) result) }
 {
     match find(here, &step.deed)? {
-        Ok(effect) => Ok(take(&mut written.records, here, step, effect)?),
+        Ok(effect) => Ok(take(&mut draft.records, here, step, effect)?),
         Err(case) => Err(refused(step, case)),
     }
 }
 
-/// Takes a contour. Its motion stays where it is made.
+/// Draws a contour. Its motion stays where it is made.
 fn contour(
     alloc: Global,
-    written: &mut Written,
+    draft: &mut Draft,
     here: &mut Situation,
     step: &Step,
 ) -> Result<(), RunError>
     requires situation { IsSituation here.old }
     requires contour { IsContour step.now.deed }
-    requires few { written.old.points ≤ most_points }
-    ensures { HasAdvanced written.old.points written.new.points here.old step.now written.old.records.items written.new.records.items (result_map_both (λ _. here.new) (λ e. e) result) }
+    ensures { HasDrawn here.old step.now draft.old.records.items draft.new.records.items draft.old.rounds.items draft.new.rounds.items (result_map_both (λ _. here.new) (λ e. e) result) }
 {
     let Deed::Contour(side, go, drive, how, check) = &step.deed else {
         unreachable!();
     };
     match &motion(here, *side, *go, drive, *how, check) {
-        Ok(motion) => cut(alloc, written, here, step, motion),
+        Ok(motion) => cut(alloc, draft, here, step, motion),
         Err(case) => Err(refused(step, *case)),
     }
 }
 
-/// Takes a motion, run to its contact.
+/// Draws a motion, run to its contact.
 #[tactic(auto, using(crate::proofs::Cuts::is_stopped_again))]
 fn cut(
     alloc: Global,
-    written: &mut Written,
+    draft: &mut Draft,
     here: &mut Situation,
     step: &Step,
     motion: &Motion,
 ) -> Result<(), RunError>
     requires motion { IsMotion motion.now }
     requires asks { IsMotionBy (refusal_of here.old step.now.deed) (effect_of here.old step.now.deed) (Ok motion.now) }
-    requires few { written.old.points ≤ most_points }
-    ensures { HasAdvanced written.old.points written.new.points here.old step.now written.old.records.items written.new.records.items (result_map_both (λ _. here.new) (λ e. e) result) }
+    ensures { HasDrawn here.old step.now draft.old.records.items draft.new.records.items draft.old.rounds.items draft.new.rounds.items (result_map_both (λ _. here.new) (λ e. e) result) }
 {
     match end_of(motion) {
-        Ok(end) => match take_cut(alloc, written, here, step, motion, end) {
-            Ok(()) => Ok(()),
-            Err(ArcError::TooManyPoints) => Err(refused(step, Case::TooManyPoints)),
-            Err(ArcError::NoMemory) => Err(RunError::NoMemory),
-        },
+        Ok(end) => Ok(take_cut(alloc, draft, here, step, motion, end)?),
         Err(case) => Err(refused(step, case)),
     }
 }
 
-fn run_all(alloc: Global, steps: &[Step]) -> Result<Vec<Record>, RunError>
+/// The draft of steps up to the first that a case refuses, and that refusal.
+fn draft_of(alloc: Global, steps: &[Step]) -> Result<(Draft, Option<Refusal>), AllocError>
+    requires scalars { AreScalars steps.now }
+    requires sources { AreExecuted steps.now }
+    ensures { IfOk result (λ d. drafts.draft_from first_situation steps.now ≡ record { records = d.0.records.items; rounds = d.0.rounds.items; refusal = d.1 }) }
+{
+    let mut here = Situation::first(alloc);
+    let mut draft = Draft::blank(alloc);
+    'steps: for st in steps {
+        match advance(alloc, &mut draft, &mut here, st) {
+            Ok(()) => {}
+            Err(RunError::Refused(refusal)) => return Ok((draft, Some(refusal))),
+            Err(RunError::NoMemory) => return Err(AllocError),
+        }
+    }
+    Ok((draft, None))
+}
+
+/// The records of steps: all are drawn, the vertices of their arcs counted, and then the arcs divided.
+#[tactic(auto, using(crate::proofs::Drafted::compiled))]
+fn run_all<G: Gate>(
+    rt: &(impl Threads + Sync),
+    alloc: Global,
+    steps: &[Step],
+    gate: &G,
+) -> Result<Vec<Record>, RunError>
     requires scalars { AreScalars steps.now }
     requires sources { AreExecuted steps.now }
     ensures { IsDueAs (λ records. records.items) refusal_in (compilation first_situation steps.now) result }
 {
-    let mut here = Situation::first(alloc);
-    let mut written = Written {
-        records: Vec::new(alloc),
-        points: 0,
-    };
-    'steps: for st in steps {
-        advance(alloc, &mut written, &mut here, st)?;
+    let (draft, refusal) = draft_of(alloc, steps)?;
+    if let Some(past) = past_limit(rt, alloc, &draft)? {
+        return Err(RunError::Refused(past));
     }
-    let Written { mut records, .. } = written;
+    if let Some(refusal) = refusal {
+        return Err(RunError::Refused(refusal));
+    }
+    let Draft {
+        mut records,
+        rounds,
+    } = draft;
+    let cuts = cut_all(rt, alloc, &rounds, gate)?;
+    fill(&mut records, cuts);
     records.shrink_to_fit();
     Ok(records)
 }
@@ -254,12 +281,18 @@ pub fn ends(alloc: Global, steps: &[Step]) -> Result<Option<Refusal>, AllocError
     }
 }
 
-/// The records of steps. A contour along a line has one vertex, the point at which it stops; round a circle it has those
+/// The records of steps, whose arcs are divided by several threads; the gate is told of each arc, by its number from 1
+/// over all steps, before it is divided. A contour along a line has one vertex, the point at which it stops; round a circle it has those
 /// of its arc's division into chords, each within the inward tolerance. A program has up to 500,000 vertices. `Refused`
 /// has the first step that a case refuses, or that has too many vertices. The records follow the steps, every contour
 /// is legal, and all numbers are in range.
 #[tactic(auto, using(crate::proofs::Walks::run_follows, crate::proofs::Walks::run_legal, crate::proofs::Walks::run_own, crate::proofs::Walks::run_in_range, crate::proofs::Walks::run_fits))]
-pub fn run(alloc: Global, steps: &[Step]) -> Result<Vec<Record>, RunError>
+pub fn run<G: Gate>(
+    rt: &(impl Threads + Sync),
+    alloc: Global,
+    steps: &[Step],
+    gate: &G,
+) -> Result<Vec<Record>, RunError>
     requires scalars { AreScalars steps.now }
     requires sources { AreExecuted steps.now }
     ensures value { IsDueAs (λ records. records.items) refusal_in (compilation first_situation steps.now) result }
@@ -269,5 +302,5 @@ pub fn run(alloc: Global, steps: &[Step]) -> Result<Vec<Record>, RunError>
     ensures range { IfOk result (λ records. AreRecords records.items) }
     ensures points { IfOk result (λ records. vertex_count records.items ≤ most_points) }
 {
-    run_all(alloc, steps)
+    run_all(rt, alloc, steps, gate)
 }

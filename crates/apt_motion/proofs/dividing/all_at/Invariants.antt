@@ -1,6 +1,6 @@
 use Rattle.std.proofs.Common.{◌≡◌, ◌≤◌, ◌++◌, drop, length, map}
 use Rattle.apt_meaning.specs.Situations.{at_height}
-use Rattle.apt_motion.proofs.vertices.all_at.Given as goal
+use Rattle.apt_motion.proofs.dividing.all_at.Given as goal
 
 abbrev pub invariant-points : goal.invariant-points
 invariant-points l =

@@ -1,0 +1,58 @@
+//! What steps leave to be divided: the arcs of contours round circles.
+
+ghost use Rattle.std.specs.Prelude.{◌≡◌, ◌++◌, [], map, OnOk, IfOk};
+ghost use Rattle.apt_words.specs.Rows.{NoneHolds};
+ghost use Rattle.apt_meaning.specs.Motions.{arc_of, end_point};
+ghost use Rattle.apt_meaning.specs.Ranges.{IsMotion};
+ghost use Rattle.apt_meaning.specs.Refusals.{motion_cases};
+ghost use Rattle.apt_meaning.specs.Situations.{at_height};
+ghost use Rattle.apt_motion.specs.Drafts as drafts;
+
+use crate::arcs::Round;
+use apt_cldata::{Position, Record, Vertices};
+use apt_meaning::Motion;
+use apt_plane::Pt;
+use std::alloc::{AllocError, Global};
+
+/// The records of steps, in which a contour round a circle has no vertices yet, and the arcs of these contours, in order.
+#[derive(Drop)]
+pub(crate) struct Draft {
+    pub records: Vec<Record>,
+    pub rounds: Vec<Round>,
+}
+
+impl Draft {
+    pub fn blank(alloc: Global) -> Draft
+        ensures records { result.records.items ≡ [] }
+        ensures rounds { result.rounds.items ≡ [] }
+    {
+        Draft {
+            records: Vec::new(alloc),
+            rounds: Vec::new(alloc),
+        }
+    }
+}
+
+/// The vertices of a contour that are known at once: its end along a line, and none round a circle, whose arc goes behind
+/// the others.
+pub(crate) fn draw(
+    alloc: Global,
+    rounds: &mut Vec<Round>,
+    motion: &Motion,
+    end: Pt,
+) -> Result<Vertices, AllocError>
+    requires motion { IsMotion motion.now }
+    requires none { NoneHolds (motion_cases motion.now) }
+    requires end { end ≡ end_point motion.now }
+    ensures vertices { IfOk result (λ vs. vs ≡ map (at_height motion.now.start.z) (drafts.drawn_by (end_point motion.now) (arc_of motion.now))) }
+    ensures rounds { OnOk result (rounds.new.items ≡ rounds.old.items ++ drafts.rounds_by motion.now.start.z (arc_of motion.now)) }
+{
+    let z = motion.start.z;
+    match motion.arc(end) {
+        None => Ok(Vertices::one(alloc, Position { xy: end, z })),
+        Some(arc) => {
+            rounds.push(Round { arc, z })?;
+            Ok(Vertices::from_vec(Vec::new(alloc)))
+        }
+    }
+}
