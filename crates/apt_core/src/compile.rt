@@ -15,23 +15,27 @@ use crate::delivery::{Output, deliver};
 use crate::due::{machine_of, part_on};
 use crate::reading::{MACHINE_LIMIT, PART_LIMIT, read_input};
 use crate::words::Names;
+use apt_certify::Gate;
 use apt_part::Part;
 use apt_report::{Status, Summary};
 use apt_shelf::{Shelf, ShelfFault};
 use std::alloc::Global;
+use std::thread::Threads;
 
 /// Reads the part and the machine table, and writes the part's CL file and then its tape.
-pub(crate) fn compile<H: Shelf>(
+pub(crate) fn compile<H: Shelf, G: Gate>(
+    rt: &(impl Threads + Sync),
     alloc: Global,
     shelf: &mut H,
     names: Names<'_>,
+    gate: &G,
 ) -> Result<Summary, Status>
     requires apart { names.cl.now ≢ names.tape.now }
     ensures { Compiles (four_names names.entry) (files_on H.Shelf shelf.old) (files_on H.Shelf shelf.new) (answer_of result) }
 {
     let text = read_input(alloc, shelf, names.part, PART_LIMIT)?;
     let table = read_input(alloc, shelf, names.machine, MACHINE_LIMIT)?;
-    let output = output_by(alloc, text, &table)?;
+    let output = output_by(rt, alloc, text, &table, gate)?;
     match deliver(alloc, shelf, &output, names.cl, names.tape) {
         Ok(summary) => Ok(summary),
         Err(ShelfFault::Fault) => Err(Status::WriteFault),
@@ -42,7 +46,13 @@ pub(crate) fn compile<H: Shelf>(
 /// What a text is compiled to for the machine of a table. The steps go as soon as the records stand, to keep the peak of
 /// memory low.
 #[tactic(auto, using(crate::proofs::Outputs::output_is, crate::proofs::Outputs::few_records))]
-fn output_by(alloc: Global, text: Vec<u8>, table: &[u8]) -> Result<Output, Status>
+fn output_by<G: Gate>(
+    rt: &(impl Threads + Sync),
+    alloc: Global,
+    text: Vec<u8>,
+    table: &[u8],
+    gate: &G,
+) -> Result<Output, Status>
     requires short { length table.now ≤ 65536 }
     ensures output { IfOk result (λ o. IsOutput text.items table.now (output_of o.machine o.records.items)) }
     ensures file { IfOk result (λ o. IsFile o.records.items) }
@@ -51,7 +61,7 @@ fn output_by(alloc: Global, text: Vec<u8>, table: &[u8]) -> Result<Output, Statu
     ensures none { IfErr result (ComesToNone (output_due text.items table.now)) }
 {
     let machine = machine_of(table)?;
-    let Part { steps, records } = part_on(alloc, text, &machine)?;
+    let Part { steps, records } = part_on(rt, alloc, text, &machine, gate)?;
     drop(steps);
     Ok(Output { records, machine })
 }

@@ -37,7 +37,7 @@ pub(crate) fn demo<G: Gate>(
     ensures { OrNoMemory (IsDemo n (answer_of result)) (answer_of result) }
 {
     let mut store = store_of(alloc, n)?;
-    match status_of(compile(alloc, &mut store, NAMES)) {
+    match status_of(compile(rt, alloc, &mut store, NAMES, gate)) {
         Status::Done(_) => shown(n, status_of(certify(rt, alloc, &mut store, NAMES, gate))),
         fault => Err(fault),
     }

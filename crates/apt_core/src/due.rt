@@ -13,6 +13,7 @@ ghost use Rattle.apt_part.specs.Compilation as parts;
 ghost use Rattle.apt_part.specs.Promise.{Passes, Promise, AreSteps};
 ghost use Rattle.apt_core.specs.Due.{ComesToNone, machine_due, part_due, steps_due, records_due, acts_due, part_told, tape_told};
 
+use apt_certify::Gate;
 use apt_cldata::{ClError, Record, read};
 use apt_control::{Act, ControlError};
 use apt_machine::{Machine, table};
@@ -20,6 +21,7 @@ use apt_part::{Part, PartError, part_of, steps_of};
 use apt_report::Status;
 use apt_words::Step;
 use std::alloc::Global;
+use std::thread::Threads;
 
 /// The machine of a table.
 pub(crate) fn machine_of(text: &[u8]) -> Result<Machine, Status>
@@ -54,13 +56,19 @@ fn told(error: PartError) -> Status
 
 /// The part of a text on a machine.
 #[tactic(auto, using(crate::proofs::Chains::none_told))]
-pub(crate) fn part_on(alloc: Global, text: Vec<u8>, machine: &Machine) -> Result<Part, Status>
+pub(crate) fn part_on<G: Gate>(
+    rt: &(impl Threads + Sync),
+    alloc: Global,
+    text: Vec<u8>,
+    machine: &Machine,
+    gate: &G,
+) -> Result<Part, Status>
     requires { IsMachine machine.now }
     ensures part { IfOk result (λ p. parts.part_of machine.now text.items ≡ Ok (Ok p)) }
     ensures promise { IfOk result (λ p. Promise machine.now text.items p) }
     ensures none { IfErr result (ComesToNone (part_due machine.now text.items)) }
 {
-    match part_of(alloc, text, machine) {
+    match part_of(rt, alloc, text, machine, gate) {
         Ok(part) => Ok(part),
         Err(error) => Err(told(error)),
     }

@@ -53,8 +53,8 @@ use words::{Request, request_of};
 /// `demo N`, N from 1 to 800, makes the part of N circles and the table of the machine with the greatest limits, compiles
 /// and certifies them over a store in memory of its own, and answers with the verdict. It neither reads nor writes.
 ///
-/// The gate is told of each contour that `certify` or `demo` judges, by its number from 1, before it is judged; they are
-/// judged by several threads.
+/// The gate is told of each arc that `compile` or `demo` divides, by its number from 1, before it is divided, and of each
+/// contour that `certify` or `demo` judges, by its number from 1, before it is judged. Both are done by several threads.
 ///
 /// A table is judged when all that is read has been read, and before the part.
 #[tactic(auto, using(crate::proofs::Running::run_is, crate::proofs::Running::completes))]
@@ -104,7 +104,7 @@ fn answer_to<H: Shelf, G: Gate>(
     ensures { Works (Some (ask_of request.entry)) (files_on H.Shelf shelf.old) (files_on H.Shelf shelf.new) result }
 {
     match request {
-        Request::Compile(names) => Reply::of(compile(alloc, shelf, names)),
+        Request::Compile(names) => Reply::of(compile(rt, alloc, shelf, names, gate)),
         Request::Certify(names) => Reply::of(certify(rt, alloc, shelf, names, gate)),
         Request::Decode(names) => Reply::from_work(decode(alloc, shelf, names)),
         Request::List(name) => Reply::from_work(list(alloc, shelf, name)),

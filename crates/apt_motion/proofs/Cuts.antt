@@ -1,5 +1,5 @@
 -- The motions that contours ask for, and where they end.
-use Rattle.std.proofs.Common.{◌≡◌, ◌∙◌, ℕ, ◌+◌, ◌≤◌, ◌<◌, Bool, true, false, List, [], ◌∷◌, ◌++◌, length, Option, Some, None, Result, Ok, Err, refl, sym, ap, subst}
+use Rattle.std.proofs.Common.{◌≡◌, ◌∙◌, ℕ, Bool, true, false, List, [], ◌∷◌, ◌++◌, Option, Some, None, Result, Ok, Err, refl, sym, ap}
 use Rattle.std.specs.Prelude.{not, ◌&&◌}
 use Rattle.apt_words.specs.declared.Case.{Case}
 use Rattle.apt_words.specs.declared.Case.TheVariants as cases
@@ -16,8 +16,6 @@ use Rattle.apt_stop.specs.Nearness.{is_near, off_track}
 use Rattle.apt_stop.specs.declared.course.Choice.{Choice}
 use Rattle.apt_stop.specs.declared.course.Course.{Course}
 use Rattle.apt_stop.specs.Courses.{choice_of, end_of, course_cases}
-use Rattle.apt_arc.specs.declared.arc.Arc.{Arc}
-use Rattle.apt_arc.specs.Made.{divided}
 use Rattle.apt_cldata.specs.declared.record.Position.{Position}
 use Rattle.apt_cldata.specs.declared.record.Record.{Record}
 use Rattle.apt_meaning.specs.declared.motion.Motion.{Motion}
@@ -25,13 +23,12 @@ use Rattle.apt_meaning.specs.declared.situation.Situation.{Situation}
 use Rattle.apt_meaning.specs.declared.effect.Effect.{Effect}
 use Rattle.apt_meaning.specs.declared.effect.Effect.TheVariants as effects
 use Rattle.apt_meaning.specs.Situations.{with_side}
-use Rattle.apt_meaning.specs.Motions.{surface_in, motion_at, if_turned, turn_at, end_point, arc_of, vertices_of, track_of, stop_of, starts_on_check, course_of}
+use Rattle.apt_meaning.specs.Motions.{surface_in, motion_at, if_turned, turn_at, end_point, track_of, stop_of, starts_on_check, course_of}
 use Rattle.apt_meaning.specs.Effects.{cuts, effect_of}
 use Rattle.apt_meaning.specs.Records.{records_of, after}
 use Rattle.apt_meaning.specs.Refusals.{name_cases, motion_cases, turned_cases, surface_cases, refusal_of}
-use Rattle.apt_meaning.specs.Compiled.{most_points, asked, asked_within, refused_at}
+use Rattle.apt_meaning.specs.Compiled.{asked, refused_at}
 use Rattle.apt_words.proofs.Rows.{first_none}
-use Rattle.apt_meaning.proofs.Contours.Arcs.{vertices_by, vertices-vertices_by}
 use Rattle.apt_motion.specs.declared.runs.RunError.TheVariants as errors
 use Rattle.apt_motion.specs.Drafts.{ArcAt, drawn, rounds_of}
 use Rattle.apt_motion.specs.Ends.{HasPassed, HasDrawn}

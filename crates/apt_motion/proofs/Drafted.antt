@@ -1,5 +1,5 @@
 -- The draft of steps, with its vertices counted and its arcs divided, is what the steps come to.
-use Rattle.std.proofs.Common.{inl, inr, ◌≡◌, ◌∙◌, ℕ, ℤ, ◌+◌, ◌-◌, ◌≤◌, ◌<◌, Bool, true, false, List, [], ◌∷◌, ◌++◌, length, map, Option, Some, None, Result, Ok, Err, refl, sym, ap, subst, append_assoc, append-nil, arith}
+use Rattle.std.proofs.Common.{inl, inr, ◌≡◌, ◌∙◌, ℕ, ℤ, ◌+◌, ◌-◌, ◌≤◌, Bool, true, false, List, [], ◌∷◌, ◌++◌, length, map, Option, Some, None, Result, Ok, Err, refl, sym, ap, subst, append_assoc, append-nil, arith}
 use Rattle.std.specs.Prelude.{nat_lt, if◌then◌else◌}
 use Rattle.std.proofs.lemmas.Bool.{ltb-false, le-ltb, lt-ltb, cases_lt}
 use Rattle.apt_words.specs.declared.Case.{Case}
@@ -8,7 +8,6 @@ use Rattle.apt_words.specs.declared.Refusal.{Refusal}
 use Rattle.apt_words.specs.declared.deed.Step.{Step}
 use Rattle.apt_plane.specs.declared.figures.Pt.{Pt}
 use Rattle.apt_arc.specs.declared.arc.Arc.{Arc}
-use Rattle.apt_arc.specs.Made.{divided}
 use Rattle.apt_cldata.specs.declared.record.Position.{Position}
 use Rattle.apt_cldata.specs.declared.record.Record.{Record}
 use Rattle.apt_cldata.specs.declared.record.Record.TheVariants as lines
@@ -28,7 +27,7 @@ use Rattle.apt_words.specs.Answers.{Tells}
 use Rattle.apt_motion.specs.declared.runs.RunError.{RunError}
 use Rattle.apt_motion.specs.declared.runs.RunError.TheVariants as errors
 use Rattle.apt_motion.specs.Ends.{refusal_in, IsStopped}
-use Rattle.apt_motion.specs.Drafts.{ArcAt, drawn, drawn_by, rounds_of, rounds_by, round_at, Draft, blank, behind, or_stopped, draft_from, vertices_at, chords_of, is_open, known, weight, left_behind, Mark, mark_at, overfull, too_many, nowhere, given, cuts_behind, filled, or_refusal, finished}
+use Rattle.apt_motion.specs.Drafts.{ArcAt, drawn, drawn_by, rounds_of, rounds_by, round_at, Draft, behind, or_stopped, draft_from, vertices_at, chords_of, is_open, known, Mark, mark_at, overfull, too_many, nowhere, filled, or_refusal, finished}
 
 -- ---- the draft, step by step
 

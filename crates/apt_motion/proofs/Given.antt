@@ -1,5 +1,5 @@
 -- What a definition asks for, and what is behind it.
-use Rattle.std.proofs.Common.{◌≡◌, ◌∙◌, ℕ, ◌+◌, ◌≤◌, List, Result, Ok, Err, refl, sym, ap, append-nil, arith}
+use Rattle.std.proofs.Common.{◌≡◌, ◌∙◌, ℕ, List, Result, Ok, Err, refl, sym, ap, append-nil}
 use Rattle.apt_words.specs.declared.Case.{Case}
 use Rattle.apt_words.specs.Asks.{Ask}
 use Rattle.apt_words.specs.declared.ask.Form.{Form}

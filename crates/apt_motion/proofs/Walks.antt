@@ -1,5 +1,5 @@
 -- The walk of the compiling pass over steps, and what its records are.
-use Rattle.std.proofs.Common.{◌≡◌, ◌∙◌, ℕ, ◌+◌, ◌≤◌, List, ◌∷◌, ◌++◌, length, Vec, Option, Some, None, Result, Ok, Err, IfOk, refl, sym, ap, subst, append_assoc, arith}
+use Rattle.std.proofs.Common.{◌≡◌, ◌∙◌, ◌≤◌, List, ◌∷◌, Vec, Option, Some, None, Result, Ok, Err, IfOk, refl, sym, ap, subst, arith}
 use Rattle.apt_words.specs.declared.Case.{Case}
 use Rattle.apt_words.specs.declared.Refusal.{Refusal}
 use Rattle.apt_words.specs.declared.deed.Deed.{Deed}
@@ -14,14 +14,14 @@ use Rattle.apt_meaning.specs.Effects.{effect_of}
 use Rattle.apt_meaning.specs.Refusals.{refusal_of}
 use Rattle.apt_meaning.specs.Situations.{first_situation}
 use Rattle.apt_meaning.specs.Paths.{EveryContour, IsLegalCut, contours_of}
-use Rattle.apt_meaning.specs.Records.{Follows, IsOwnCut, records_of, after}
+use Rattle.apt_meaning.specs.Records.{Follows, IsOwnCut, after}
 use Rattle.apt_meaning.proofs.Asked.{CutsLegally}
 use Rattle.apt_meaning.proofs.Walks.Alone.{follows, legal_contours, own_contours}
-use Rattle.apt_meaning.specs.Compiled.{ends_of, points_of, most_points, with_front, asked, asked_within, or_first, first_refused, or_refused, compilation_behind, compilation}
+use Rattle.apt_meaning.specs.Compiled.{ends_of, points_of, most_points, asked, or_first, first_refused, compilation}
 use Rattle.apt_meaning.specs.Ranges.{IsSituation, IsEffect}
 use Rattle.apt_meaning.proofs.Asked.{answered}
 use Rattle.apt_meaning.proofs.Walks.Kept.{kept, first_situation-IsSituation}
-use Rattle.apt_meaning.proofs.Walks.Compiled.{fit as fit_of, after_points, behind_step, compiled_follows}
+use Rattle.apt_meaning.proofs.Walks.Compiled.{fit as fit_of, after_points, compiled_follows}
 use Rattle.apt_meaning.proofs.Walks.Files.{compiled_fit}
 use Rattle.apt_motion.specs.declared.runs.RunError.{RunError}
 use Rattle.apt_motion.specs.Ends.{refusal_in}

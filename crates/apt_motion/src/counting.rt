@@ -1,12 +1,13 @@
 //! The vertices of all contours, counted before an arc is divided.
 
-ghost use Rattle.std.specs.Prelude.{◌≡◌, ◌++◌, [], map, IfOk};
+ghost use Rattle.std.specs.Prelude.{◌≡◌, ◌≤◌, ◌+◌, ◌++◌, [], map, sum_by, None, IsTrue, IfOk, IfSome};
+ghost use Rattle.apt_meaning.specs.Compiled.{most_points};
 ghost use Rattle.apt_motion.specs.Drafts as drafts;
 
 use crate::arcs::Round;
 use crate::drafts::Draft;
 use crate::filling::is_open;
-use apt_arc::count;
+use apt_arc::{bound, count};
 use apt_cldata::Record;
 use apt_words::{Case, Refusal};
 use rayon::prelude::*;
@@ -29,6 +30,9 @@ pub(crate) fn past_limit(
 ) -> Result<Option<Refusal>, AllocError>
     ensures { IfOk result (λ past. past ≡ drafts.past_limit draft.now.records.items draft.now.rounds.items) }
 {
+    if are_few(draft) {
+        return Ok(None);
+    }
     let mut sizes = Sizes::of(alloc, &draft.rounds);
     let mut left = MOST_POINTS;
     let mut mark = (0, 0);
@@ -41,6 +45,44 @@ pub(crate) fn past_limit(
         left -= weight;
     }
     Ok(None)
+}
+
+/// Whether there is room for all vertices, also if each arc had as many as its bound: then no arc is to be counted.
+
+fn are_few(draft: &Draft) -> bool
+    ensures { IsTrue result → drafts.past_limit draft.now.records.items draft.now.rounds.items ≡ None }
+{
+    match room_beside(&draft.records) {
+        Some(room) => have_room(&draft.rounds, room),
+        None => false,
+    }
+}
+
+/// How many vertices more a program may have than those that its records have.
+fn room_beside(records: &[Record]) -> Option<u64>
+    ensures { IfSome result (λ room. sum_by drafts.known records.now + room ≡ most_points) }
+{
+    let mut room = MOST_POINTS;
+    'records: for record in records {
+        room = room.checked_sub(known(record))?;
+    }
+    Some(room)
+}
+
+/// Whether the bounds of arcs are together at most so many.
+
+fn have_room(rounds: &[Round], room: u64) -> bool
+    ensures { IsTrue result → sum_by drafts.chords_of rounds.now ≤ room }
+{
+    let mut left = room;
+    'rounds: for round in rounds {
+        let most = bound(&round.arc);
+        if left < most {
+            return false;
+        }
+        left -= most;
+    }
+    true
 }
 
 /// The line and the number of the step to which a record belongs.
@@ -147,7 +189,11 @@ fn known(record: &Record) -> u64
 }
 
 /// The numbers of the vertices of arcs, counted by as many threads as there are processors.
-fn count_each(rt: &(impl Threads + Sync), alloc: Global, rounds: &[Round]) -> Result<Vec<u64>, AllocError>
+fn count_each(
+    rt: &(impl Threads + Sync),
+    alloc: Global,
+    rounds: &[Round],
+) -> Result<Vec<u64>, AllocError>
     ensures { IfOk result (λ counts. counts.items ≡ map drafts.chords_of rounds.now) }
 {
     rounds

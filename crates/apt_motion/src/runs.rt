@@ -20,11 +20,11 @@ ghost use Rattle.apt_defs.specs.Definitions.{IsNoDefinition};
 ghost use Rattle.apt_motion.specs.Finding.{IsContour, IsMotionBy, IsNoContour};
 
 use crate::contours::{end_of, motion};
-use crate::found::find;
 use crate::counting::past_limit;
 use crate::dividing::cut_all;
 use crate::drafts::Draft;
 use crate::filling::fill;
+use crate::found::find;
 use crate::records::{pass_by, take, take_cut};
 use apt_certify::Gate;
 use apt_cldata::Record;

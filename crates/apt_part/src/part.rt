@@ -17,6 +17,7 @@ ghost use Rattle.apt_part.specs.Compilation as parts;
 ghost use Rattle.apt_part.specs.Answering.{IsPart};
 ghost use Rattle.apt_part.specs.Promise.{Passes, Promise, AreSteps};
 
+use apt_certify::Gate;
 use apt_cldata::Record;
 use apt_lexis::{ParseError, PartCause};
 use apt_machine::Machine;
@@ -27,6 +28,7 @@ use apt_unroll::unroll;
 use apt_words::{Program, Refusal, Step};
 use std::alloc::{AllocError, Global};
 use std::marker::Model;
+use std::thread::Threads;
 
 /// The steps of a part program, and the records that they ask for. Clauses see the two lists.
 #[derive(Drop)]
@@ -133,26 +135,39 @@ fn refused_in(
     }
 }
 
-/// The part of a text on a machine: its steps, and their records. The text goes as soon as it has been read.
+/// The part of a text on a machine: its steps, and their records, whose arcs are divided by several threads. The gate is
+/// told of each arc, by its number from 1, before it is divided. The text goes as soon as it has been read.
 ///
 /// # Errors
 ///
 /// `Bad` is the first fault of the text, and else `Refused` the first step that is refused.
 #[tactic(auto, using(crate::proofs::Promised::promised, crate::proofs::Promised::part_steps))]
-pub fn part_of(alloc: Global, text: Vec<u8>, machine: &Machine) -> Result<Part, PartError>
+pub fn part_of<G: Gate>(
+    rt: &(impl Threads + Sync),
+    alloc: Global,
+    text: Vec<u8>,
+    machine: &Machine,
+    gate: &G,
+) -> Result<Part, PartError>
     requires { IsMachine machine.now }
     ensures value { IsPart (parts.part_of machine.now text.items) result }
     ensures promise { IfOk result (λ p. Promise machine.now text.items p) }
     ensures steps { IfOk result (λ p. AreSteps p.steps) }
 {
-    whole_part(alloc, text, machine)
+    whole_part(rt, alloc, text, machine, gate)
 }
 
-fn whole_part(alloc: Global, text: Vec<u8>, machine: &Machine) -> Result<Part, PartError>
+fn whole_part<G: Gate>(
+    rt: &(impl Threads + Sync),
+    alloc: Global,
+    text: Vec<u8>,
+    machine: &Machine,
+    gate: &G,
+) -> Result<Part, PartError>
     ensures { IsPart (parts.part_of machine.now text.items) result }
 {
     let program = program_in(alloc, text)?;
-    match part_by(alloc, program, machine) {
+    match part_by(rt, alloc, program, machine, gate) {
         Ok(part) => Ok(part),
         Err(RunError::Refused(refusal)) => Err(PartError::Refused(refusal)),
         Err(RunError::NoMemory) => Err(PartError::NoMemory),
@@ -160,7 +175,13 @@ fn whole_part(alloc: Global, text: Vec<u8>, machine: &Machine) -> Result<Part, P
 }
 
 /// What statements come to, or the first refused step.
-fn part_by(alloc: Global, program: Program, machine: &Machine) -> Result<Part, RunError>
+fn part_by<G: Gate>(
+    rt: &(impl Threads + Sync),
+    alloc: Global,
+    program: Program,
+    machine: &Machine,
+    gate: &G,
+) -> Result<Part, RunError>
     requires sources { AreStmts program }
     requires nested { AreNested false program }
     ensures { IsDue refusal_in (parts.part_by machine.now program) result }
@@ -170,7 +191,7 @@ fn part_by(alloc: Global, program: Program, machine: &Machine) -> Result<Part, R
     };
     // The statements' memory is free for the records.
     drop(program);
-    let records = records_of(alloc, &unrolled.steps, machine)?;
+    let records = records_of(rt, alloc, &unrolled.steps, machine, gate)?;
     match unrolled.fault {
         None => Ok(Part {
             steps: unrolled.steps,
@@ -181,13 +202,19 @@ fn part_by(alloc: Global, program: Program, machine: &Machine) -> Result<Part, R
 }
 
 /// The records of steps, or the first that its own cases or the machine refuse.
-fn records_of(alloc: Global, steps: &[Step], machine: &Machine) -> Result<Vec<Record>, RunError>
+fn records_of<G: Gate>(
+    rt: &(impl Threads + Sync),
+    alloc: Global,
+    steps: &[Step],
+    machine: &Machine,
+    gate: &G,
+) -> Result<Vec<Record>, RunError>
     requires scalars { AreScalars steps.now }
     requires sources { AreExecuted steps.now }
     ensures { IsDueAs (λ records. records.items) refusal_in (parts.earlier (limiting.limits machine.now steps.now) (compilation first_situation steps.now)) result }
 {
     let past = limits(steps, machine);
-    match run(alloc, steps) {
+    match run(rt, alloc, steps, gate) {
         Ok(records) => match past {
             None => Ok(records),
             Some(past) => Err(RunError::Refused(past)),

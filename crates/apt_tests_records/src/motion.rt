@@ -1,11 +1,13 @@
 ghost use Rattle.std.specs.Prelude.{◌≡◌};
 
+use apt_certify::OpenGate;
 use apt_cldata::{Position, Record};
 use apt_motion::{RunError, run};
 use apt_words::{Case, Deed, Go, Refusal, Side, Step, Stop, Symbol};
 use std::alloc::Global;
 use std::process::Abort;
 use std::test::Fail;
+use std::thread::Threads;
 
 fn symbol(rt: &impl Abort, text: &str) -> Symbol {
     Symbol::new(text).expect(rt, "a symbol")
@@ -50,7 +52,7 @@ fn contours_end_at_their_contact(rt: HostRuntime) -> Result<(), Fail> {
             Deed::Contour(Some(Side::Right), Go::Forward, one, Stop::Past, two),
         ),
     ];
-    let Ok(records) = run(rt.alloc(), &steps) else {
+    let Ok(records) = run(&rt, rt.alloc(), &steps, &OpenGate) else {
         assert!(rt; false, "a step is refused");
         return Ok(());
     };
@@ -66,7 +68,7 @@ fn contours_end_at_their_contact(rt: HostRuntime) -> Result<(), Fail> {
 /// Where a motion along the x axis from x = -1 ends at a circle about (5, b) with radius 1, in grid units: the cutter
 /// has a radius of a quarter, on this side, and starts so many quarters below the axis.
 fn end_at_circle(
-    rt: &impl Abort,
+    rt: &(impl Abort + Threads + Sync),
     alloc: Global,
     side: Side,
     quarters: u8,
@@ -86,7 +88,7 @@ fn end_at_circle(
         step(6, Deed::Godlta(1_000_000, 0, 0)),
         step(7, Deed::Contour(Some(side), Go::Forward, line, how, circle)),
     ];
-    let Ok(records) = run(alloc, &steps) else {
+    let Ok(records) = run(rt, alloc, &steps, &OpenGate) else {
         return None;
     };
     let end = records.last().and_then(end_of)?;
@@ -123,7 +125,7 @@ fn the_first_refused_step_is_told(rt: HostRuntime) {
         step(4, Deed::GotoXy(2_000_000, 0, None)),
         step(5, Deed::FromXy(0, 0, None)),
     ];
-    let Err(RunError::Refused(refusal)) = run(rt.alloc(), &steps) else {
+    let Err(RunError::Refused(refusal)) = run(&rt, rt.alloc(), &steps, &OpenGate) else {
         assert!(rt; false, "no step is refused");
         return;
     };
