@@ -81,12 +81,13 @@ fn certify_tells_of_each_contour_once(rt: HostRuntime) -> Result<(), Fail> {
     Ok(())
 }
 
+/// `demo` divides its four arcs first, and then judges its four contours.
 #[test]
-fn demo_judges_contours_at_one_time(rt: HostRuntime) -> Result<(), Fail> {
+fn demo_tells_of_arcs_and_contours(rt: HostRuntime) -> Result<(), Fail> {
     let mut shelf = plate(&rt)?;
-    let gate = Meeting::new();
+    let gate = Counts::new();
     let status = answer(&rt, &mut shelf, "demo 2", &gate)?;
     assert_eq!(rt; status.number(), 0);
-    assert_eq!(rt; gate.told(), [1, 1, 0]);
+    assert_eq!(rt; gate.told(), 2_020_202);
     Ok(())
 }

@@ -13,6 +13,8 @@ pub const PLATE: &str =
 
 pub const MACHINE: &str = "MACHINE 1\nCODE RS358\nSEQ 1\nFEEDMAX 9999\nSPINMAX 9999\nTOOLMAX 99\n";
 
+pub const COMPILE: &str = "compile PART MACHINE CL TAPE";
+
 /// The answer to words, through a gate.
 pub fn answer<R: Threads + Sync + Abort + AllocGlobal, G: Gate>(
     rt: &R,
@@ -29,22 +31,22 @@ pub fn answer<R: Threads + Sync + Abort + AllocGlobal, G: Gate>(
     Ok(apt(rt, alloc, &list, shelf, &mut out, gate))
 }
 
-/// A file in memory, with its name.
-fn named(alloc: Global, name: &str, text: &str) -> Result<(String, Vec<u8>), Fail> {
-    Ok((
-        String::from_str(alloc, name)?,
-        Vec::from_slice(alloc, text.as_bytes())?,
-    ))
+/// A store with a part and a machine table.
+pub fn stored(alloc: Global, text: Vec<u8>) -> Result<MemShelf, Fail> {
+    let mut files = Vec::new(alloc);
+    files.push((String::from_str(alloc, "PART")?, text))?;
+    files.push((
+        String::from_str(alloc, "MACHINE")?,
+        Vec::from_slice(alloc, MACHINE.as_bytes())?,
+    ))?;
+    Ok(MemShelf::new(alloc, files, FailList::none(alloc))?)
 }
 
 /// A store with the plate as it was compiled: its part, its machine table, its CL file and its tape.
 pub fn plate<R: Threads + Sync + Abort + AllocGlobal>(rt: &R) -> Result<MemShelf, Fail> {
     let alloc = rt.alloc();
-    let mut files = Vec::new(alloc);
-    files.push(named(alloc, "PART", PLATE)?)?;
-    files.push(named(alloc, "MACHINE", MACHINE)?)?;
-    let mut shelf = MemShelf::new(alloc, files, FailList::none(alloc))?;
-    let status = answer(rt, &mut shelf, "compile PART MACHINE CL TAPE", &OpenGate)?;
+    let mut shelf = stored(alloc, Vec::from_slice(alloc, PLATE.as_bytes())?)?;
+    let status = answer(rt, &mut shelf, COMPILE, &OpenGate)?;
     assert_eq!(rt; status.number(), 0);
     Ok(shelf)
 }
