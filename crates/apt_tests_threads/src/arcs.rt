@@ -192,11 +192,22 @@ fn has_too_many<R: Threads + Sync + Abort + AllocGlobal>(
     Ok(over)
 }
 
-/// One contour along a line is in front of all: so there are 499,999, then 500,000, and then 500,000 by a line.
+// One contour along a line is in front of all.
+
+#[test]
+fn a_program_may_have_499_999_vertices(rt: HostRuntime) -> Result<(), Fail> {
+    assert!(rt; !has_too_many(&rt, 30, 0, false)?);
+    Ok(())
+}
+
 #[test]
 fn a_program_may_have_500_000_vertices(rt: HostRuntime) -> Result<(), Fail> {
-    assert!(rt; !has_too_many(&rt, 30, 0, false)?);
     assert!(rt; !has_too_many(&rt, 31, 0, false)?);
+    Ok(())
+}
+
+#[test]
+fn the_last_of_500_000_vertices_may_be_on_a_line(rt: HostRuntime) -> Result<(), Fail> {
     assert!(rt; !has_too_many(&rt, 30, 0, true)?);
     Ok(())
 }
