@@ -8,3 +8,8 @@ pub mod Chords
 pub mod HalfTurns
 pub mod Rounds
 pub mod Whole
+pub mod Readings
+pub mod Texts
+pub mod Programs
+pub mod Limits
+pub mod Output
