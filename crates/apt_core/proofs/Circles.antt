@@ -1,4 +1,4 @@
--- No step of the demo is refused, and so its circles are compiled.
+-- The part of the demo is read, none of its steps is refused, and so it comes to a CL file and a tape.
 pub mod Deeds
 pub mod Walks
 pub mod Numbers

@@ -45,8 +45,8 @@ demo_compiled n low high =
     let read = reads n low high in
     let records = compiles n high in
     let part : Compiled = record { steps = demo_steps n; records = records.0 } in
-    (part, text_part demo_machine (demo_part n) read.0 part read.1
-    (are_part demo_machine read.0 (demo_steps n) records.0 read.2 (have_records demo_machine (demo_steps n) records.0 (within n) records.1)))
+    let recorded = have_records demo_machine (demo_steps n) records.0 (within n) records.1 in
+    (part, text_part demo_machine (demo_part n) read.0 part read.1 (are_part demo_machine read.0 (demo_steps n) records.0 read.2 recorded))
 
 -- and what it comes to
 pub demo_comes : (n : ℕ) → 1 ≤ n → n ≤ 800 → (o : Output) × (demo_due n ≡ Ok o)

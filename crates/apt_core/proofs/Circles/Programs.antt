@@ -38,10 +38,10 @@ use Rattle.apt_core.proofs.Circles.Texts.{IsReadAs, read_as, fit_line, demo_line
 
 -- ---- what is said in the lines
 
-abbrev pub phrase : ℕ → List ℕ → Phrase
+abbrev phrase : ℕ → List ℕ → Phrase
 phrase n l = record { line = n; tokens = tokens_of (said_on l); text = None }
 
-abbrev pub phrases_at : ℕ → List (List ℕ) → List Phrase
+abbrev phrases_at : ℕ → List (List ℕ) → List Phrase
 phrases_at n [] = []
 phrases_at n (l ∷ ls) = phrase n l ∷ phrases_at (n + 1) ls
 
@@ -95,14 +95,14 @@ demo_said n low high =
 
 -- ---- the statements
 
-abbrev pub stmt : ℕ → Body → Stmt
+abbrev stmt : ℕ → Body → Stmt
 stmt n b = record { line = n; label = None; body = b }
 
-abbrev pub stmts_at : ℕ → List Body → List Stmt
+abbrev stmts_at : ℕ → List Body → List Stmt
 stmts_at n [] = []
 stmts_at n (b ∷ bs) = stmt n b ∷ stmts_at (n + 1) bs
 
-abbrev pub demo_stmts : ℕ → List Stmt
+abbrev demo_stmts : ℕ → List Stmt
 demo_stmts n = stmt 1 (bodies.Partno (title_text n)) ∷ stmts_at 2 (inner_bodies n ++ bodies.Fini ∷ [])
 
 abbrev unlabelled : Body → Labelled
@@ -183,7 +183,7 @@ title_stated : (text : List ℕ) → statement [] (record { line = 1; tokens = O
 unfolding shape
 title_stated text = refl
 
-pub demo_program : (n : ℕ) → 1 ≤ n → n ≤ 800 → program_of (demo_part n) ≡ Ok (demo_stmts n)
+demo_program : (n : ℕ) → 1 ≤ n → n ≤ 800 → program_of (demo_part n) ≡ Ok (demo_stmts n)
 demo_program n low high =
     let last = last_number (lines_of (demo_part n)) in
     ap (λ (s : Said). program_from [] last s.fault s.phrases) (demo_said n low high)
@@ -229,7 +229,7 @@ demo_in_order n few =
     (trace_on 2 [] (inner_bodies n) (first_deeds ++ deeds_from 0 n) (inner_done n few)
     (omega (arith, inner_length n, as_many (inner_lines n) (inner_bodies n) (inner_read n few), few)))
 
-pub demo_trace : (n : ℕ) → n ≤ 800 → trace_of (demo_stmts n) ≡ steps_only (demo_steps n)
+demo_trace : (n : ℕ) → n ≤ 800 → trace_of (demo_stmts n) ≡ steps_only (demo_steps n)
 demo_trace n few = straight_in_order (demo_stmts n) (trace_of (demo_stmts n)) (all_straight 2 (inner_bodies n) (inner_onward n)) refl ∙ demo_in_order n few
 
 -- the text of the part is read as statements, whose steps are those of the part

@@ -35,13 +35,13 @@ use Rattle.apt_core.proofs.Circles.Deeds.{deeds_about, circle_deeds, deeds_from}
 
 -- ---- lines, without their line feeds
 
-abbrev pub circle_text : ℤ → ℤ → ℕ → List ℕ
+abbrev circle_text : ℤ → ℤ → ℕ → List ℕ
 circle_text x y r = codes "C=CIRCLE/" ++ (pair x y ++ (codes "," ++ pointed 2 r))
 
-abbrev pub line_text : ℤ → ℤ → List ℕ
+abbrev line_text : ℤ → ℤ → List ℕ
 line_text x y = codes "L=LINE/" ++ (pair x y ++ (codes "," ++ pair (x +ℤ pos 1) y))
 
-abbrev pub goto_text : ℤ → ℤ → List ℕ
+abbrev goto_text : ℤ → ℤ → List ℕ
 goto_text x y = codes "GOTO/" ++ (signed_pointed 2 x ++ (codes "," ++ (signed_decimal y ++ codes ",.5")))
 
 -- the lines of a circle with this centre, this radius and this point to the right of it
@@ -70,7 +70,7 @@ abbrev pub title_line : ℕ → List ℕ
 title_line n = codes "PARTNO DEMO " ++ decimal n
 
 -- the lines in front of the circles, behind the title
-abbrev pub first_lines : List (List ℕ)
+abbrev first_lines : List (List ℕ)
 first_lines = codes "CUTTER/.5" ∷ codes "FEDRAT/10" ∷ codes "FROM/-450,-450,.5" ∷ codes "TLRGT" ∷ []
 
 -- all lines but the title and FINI
@@ -86,11 +86,11 @@ demo_lines n = title_line n ∷ (inner_lines n ++ last_line ∷ [])
 -- ---- statements
 
 -- a whole number of so many millionths
-abbrev pub tree : ℕ → ℤ → Tree
+abbrev tree : ℕ → ℤ → Tree
 tree scale (pos n) = Num (pos (n * scale))
 tree scale (negsuc n) = Neg (Num (pos ((n + 1) * scale)))
 
-abbrev pub bodies_about : ℤ → ℤ → ℕ → ℤ → List Body
+abbrev bodies_about : ℤ → ℤ → ℕ → ℤ → List Body
 bodies_about x y r clear =
     bodies.CircleThree (codes "C") (tree 1000000 x) (tree 1000000 y) (tree 10000 (pos r))
     ∷ bodies.LineXy (codes "L") (tree 1000000 x) (tree 1000000 y) (tree 1000000 (x +ℤ pos 1)) (tree 1000000 y)
@@ -103,14 +103,14 @@ bodies_about x y r clear =
     ∷ bodies.Godlta (Num (pos 0)) (Num (pos 0)) (Num (pos 500000))
     ∷ []
 
-abbrev pub circle_bodies : ℕ → List Body
+abbrev circle_bodies : ℕ → List Body
 circle_bodies k = bodies_about (centre_x k) (centre_y k) (radius k) (clear_x k)
 
-abbrev pub bodies_from : ℕ → ℕ → List Body
+abbrev bodies_from : ℕ → ℕ → List Body
 bodies_from k zero = []
 bodies_from k (suc m) = circle_bodies k ++ bodies_from (k + 1) m
 
-abbrev pub first_bodies : List Body
+abbrev first_bodies : List Body
 first_bodies =
     bodies.Cutter (Num (pos 500000))
     ∷ bodies.Fedrat (Num (pos 10000000))
@@ -147,7 +147,7 @@ read line = if is_usual line then of_tokens (tokens_of (said_on line)) else None
 -- ---- tables
 
 -- so many numbers from one on
-abbrev pub counted : ℕ → ℕ → List ℕ
+abbrev counted : ℕ → ℕ → List ℕ
 counted a zero = []
 counted a (suc n) = a ∷ counted (a + 1) n
 

@@ -17,7 +17,7 @@ use Rattle.apt_report.specs.Demo.{centre_x, centre_y, radius, clear_x, circle_li
 use Rattle.apt_core.proofs.Circles.Readings.{lines_about, circle_lines, lines_from, title_line, inner_lines, last_line, demo_lines, inner_bodies, of_tokens, is_fit, is_usual, read, AreRead, title_fit, inner_read}
 
 -- lines, each with its line feed
-abbrev pub text_of : List (List ℕ) → List ℕ
+abbrev text_of : List (List ℕ) → List ℕ
 text_of [] = []
 text_of (line ∷ lines) = line ++ line_feed ∷ text_of lines
 
@@ -56,7 +56,7 @@ head_then : (d rest : List ℕ)
 head_then d rest = simp append_assoc refl
 
 -- the text is its lines
-pub demo_text : (n : ℕ) → demo_part n ≡ text_of (demo_lines n)
+demo_text : (n : ℕ) → demo_part n ≡ text_of (demo_lines n)
 demo_text n =
     ap (λ t. head n ++ t) (blocks_then n (codes "FINI\n") ∙ sym (text_both (lines_from 0 n) (last_line ∷ [])))
     ∙ head_then (decimal n) (text_of (lines_from 0 n ++ last_line ∷ []))
@@ -109,7 +109,7 @@ read_as l b e =
     let rest = both_hold (not (is_some (title_or_labelled l))) (not (goes_on l)) usual.1 in
     record { fit = usual.0; no_title = none_of (title_or_labelled l) rest.0; ends = not_so (goes_on l) rest.1; told = parts.1 }
 
-pub fit_plain : (l : List ℕ) → is_fit l ≡ true → list_all is_plain l ≡ true
+fit_plain : (l : List ℕ) → is_fit l ≡ true → list_all is_plain l ≡ true
 fit_plain l e = (both_hold (list_all is_plain l) (not (nat_lt 256 (length l))) e).0
 
 -- a line that is fit has no fault, where it is no line too many
