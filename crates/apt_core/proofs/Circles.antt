@@ -1,4 +1,4 @@
--- No step of the demo is refused, and so its circles are compiled.
+-- The part of the demo is read, none of its steps is refused, and so it comes to a CL file and a tape.
 pub mod Deeds
 pub mod Walks
 pub mod Numbers
@@ -8,3 +8,8 @@ pub mod Chords
 pub mod HalfTurns
 pub mod Rounds
 pub mod Whole
+pub mod Readings
+pub mod Texts
+pub mod Programs
+pub mod Limits
+pub mod Output

@@ -19,7 +19,7 @@ use Rattle.apt_core.specs.Outputs.{Output, output_of, output_due}
 use Rattle.apt_core.specs.Certificates.{IsRight, IsDone}
 use Rattle.apt_core.specs.Decoding.{Said, said_of, acts_said, said_due}
 use Rattle.apt_core.specs.Listing.{points_said, listed_due}
-use Rattle.apt_core.specs.Demo.{demo_due, IsDemo}
+use Rattle.apt_core.specs.Demo.{IsDemo}
 use Rattle.apt_core.specs.Promise.{Outside, Compiles, Certifies, Runs, Decodes, IsListed, Lists, Works, IsPut, IsRun, NoneRose, Completes}
 use Rattle.apt_core.proofs.Chains.{one_due}
 use Rattle.apt_core.proofs.Outputs.{due_for}
@@ -123,12 +123,10 @@ told_points name m cl rs before after said works there reads read none = elim wo
 
 -- ---- `demo`
 
--- a part that comes to an output
-told_demo : (n : ℕ) (o : Output) (told : Status) → demo_due n ≡ Ok o → OrNoMemory (IsDemo n told) told
-    → OrNoMemory ((verdict : Verdict) × (told ≡ answers.Done (summaries.Demo n verdict))) told
-told_demo n o told due (inl (inl fault)) = absurd (let f = sym fault ∙ due in let g : ⊥ = cc in g)
-told_demo n o told due (inl (inr shown)) = inl (shown.1, shown.4)
-told_demo n o told due (inr short) = inr short
+-- the verdict is told
+told_demo : (n : ℕ) (told : Status) → OrNoMemory (IsDemo n told) told → OrNoMemory ((verdict : Verdict) × (told ≡ answers.Done (summaries.Demo n verdict))) told
+told_demo n told (inl shown) = inl (shown.1, shown.4)
+told_demo n told (inr short) = inr short
 
 pub completes : (ask : Option Ask) (before after : Outside) (answer : Status) → IsRun ask before after answer → Completes ask before after answer
 completes None before after answer run = tt
@@ -144,6 +142,6 @@ completes (Some (Decode n)) before after answer run = λ m there none table tape
 completes (Some (Listing name)) before after answer run = λ m there none cl rs reads read.
     answered run.said answer (λ s. s ≡ answers.Done (summaries.Listed (point_count rs))) before after none
     (told_points name m cl rs before after run.said run.works there reads read none) run.puts
-completes (Some (Demo n)) before after answer run = λ m there none o due.
+completes (Some (Demo n)) before after answer run = λ m there none.
     answered run.said answer (λ s. (verdict : Verdict) × (s ≡ answers.Done (summaries.Demo n verdict))) before after none
-    (told_demo n o run.said.answer due run.works.1.comes) run.puts
+    (told_demo n run.said.answer run.works.1.comes) run.puts

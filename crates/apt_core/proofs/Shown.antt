@@ -23,6 +23,7 @@ use Rattle.apt_core.specs.Promise.{IsCompiled, Compiles, Certifies}
 use Rattle.apt_core.proofs.Apart.{differs}
 use Rattle.apt_core.proofs.Unfailed.{AreUnfailed, FaultOrWritten, compiles_whole, certifies_right}
 use Rattle.apt_core.proofs.Usage.{TellsNoFault, output_never}
+use Rattle.apt_core.proofs.Circles.Output.{demo_comes}
 
 -- ---- the store
 
@@ -113,7 +114,7 @@ compiled_reads n m after text table o own reads is =
 certified_shown : (n : ℕ) (machine : Machine) (o : Output) (told : Status) → demo_due n ≡ Ok o → table_of demo_table ≡ Ok machine
     → OrNoMemory (IsDone machine (demo_part n) o.cl o.tape told) told → OrNoMemory (IsDemo n (shown_for n told)) (shown_for n told)
 certified_shown n machine o told due tabled (inl done) =
-    inl (inr (o, done.0, due, record { machine = machine; tabled = tabled; certified = done.2 }, ap (shown_for n) done.1))
+    inl (o, done.0, due, record { machine = machine; tabled = tabled; certified = done.2 }, ap (shown_for n) done.1)
 certified_shown n machine o told due tabled (inr short) = inr (ap (shown_for n) short)
 
 -- what is compiled is certified
@@ -131,14 +132,18 @@ done_tells_none s = record { table = λ fault e. let f : ⊥ = cc in f; text = �
 
 -- ---- the two works
 
--- where the compile is not done, its fault is told
-pub fault_shown : (n : ℕ) (m middle : Contents) (w x : Option (List ℕ)) (told : Status) → HoldsDemo n (Some m) → length (demo_part n) ≤ part_limit
+-- the part has neither a fault nor a refused step
+no_fault : (n : ℕ) (answer : Status) → 1 ≤ n → n ≤ 800 → demo_due n ≢ Err answer
+no_fault n answer low high fault = let due = sym fault ∙ (demo_comes n low high).1 in let f : ⊥ = cc in f
+
+-- where the compile is not done, memory ran out
+pub fault_shown : (n : ℕ) (m middle : Contents) (w x : Option (List ℕ)) (told : Status) → 1 ≤ n → n ≤ 800 → HoldsDemo n (Some m) → length (demo_part n) ≤ part_limit
     → Compiles demo_names (sure_files m w) (sure_files middle x) told → ((s : Summary) → told ≢ answers.Done s) → OrNoMemory (IsDemo n told) told
-fault_shown n m middle w x told holds short works undone =
+fault_shown n m middle w x told low high holds short works undone =
     told_fault (compiles_whole demo_names m (demo_part n) demo_table (sure_files m w) (sure_files middle x) told refl (demo_reads n m holds short) (sure_unfailed m middle w x) works)
   where
     told_fault : OrNoMemory (FaultOrWritten demo_names (demo_part n) demo_table (Some m) (Some middle) told) told → OrNoMemory (IsDemo n told) told
-    told_fault (inl (inl fault)) = inl (inl fault)
+    told_fault (inl (inl fault)) = absurd (no_fault n told low high fault)
     told_fault (inl (inr is)) = absurd (undone is.output.summary is.done)
     told_fault (inr lacks) = inr lacks
 

@@ -16,7 +16,6 @@ use Rattle.apt_part.specs.Compilation.{steps_of, part_of}
 use Rattle.apt_report.specs.declared.status.Status.{Status}
 use Rattle.apt_report.specs.declared.status.Status.TheVariants as answers
 use Rattle.apt_report.specs.declared.status.Summary.TheVariants as summaries
-use Rattle.apt_report.specs.Demo.{demo_part}
 use Rattle.apt_core.specs.Words.{FourNames, TapeNames, Ask, Compile, Certify, Decode, Listing, Demo}
 use Rattle.apt_core.specs.Due.{OrNoMemory, told_by, bad_machine, bad_part, refused_step, bad_tape, unless_refused, machine_due, steps_due, records_due, acts_due}
 use Rattle.apt_core.specs.Inputs.{Input, Files, part_inputs, inputs, tape_inputs, list_inputs, IsUnread, IsFirstUnread, IsShort, IsStopped}
@@ -24,7 +23,7 @@ use Rattle.apt_core.specs.Outputs.{output_due}
 use Rattle.apt_core.specs.Certificates.{judged_due, IsJudgement}
 use Rattle.apt_core.specs.Decoding.{Said, said_of, acts_said}
 use Rattle.apt_core.specs.Listing.{points_said}
-use Rattle.apt_core.specs.Demo.{demo_table, IsDemo}
+use Rattle.apt_core.specs.Demo.{IsDemo}
 use Rattle.apt_core.specs.Promise.{Lines, Outside, Compiles, Certifies, Decodes, Lists, Works, IsPut, IsRun}
 
 -- ---- what is due
@@ -144,8 +143,7 @@ lists_no_usage name before after said works e = elim works.comes [
 ]
 
 demo_no_usage : (n : ℕ) (told : Status) → OrNoMemory (IsDemo n told) told → told ≢ answers.Usage
-demo_no_usage n told (inl (inl due)) e = output_never answers.Usage (demo_part n) demo_table usage_tells_none (due ∙ ap Err e)
-demo_no_usage n told (inl (inr shown)) e = let f : answers.Done (summaries.Demo n shown.1) ≡ answers.Usage = sym shown.4 ∙ e in let g : ⊥ = cc in g
+demo_no_usage n told (inl shown) e = let f : answers.Done (summaries.Demo n shown.1) ≡ answers.Usage = sym shown.4 ∙ e in let g : ⊥ = cc in g
 demo_no_usage n told (inr short) e = let f : answers.NoMemory ≡ answers.Usage = sym short ∙ e in let g : ⊥ = cc in g
 
 works_no_usage : (ask : Option Ask) (before after : Files) (said : Said) → Works ask before after said → said.answer ≡ answers.Usage → ask ≡ None

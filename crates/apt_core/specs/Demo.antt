@@ -1,5 +1,5 @@
 -- What `demo` shows: the part of so many circles, for the machine with the greatest limits, compiled and judged.
-use Rattle.std.specs.Prelude.{◌≡◌, ◌⊎◌, ℕ, List, Option, Result, Ok, Err, codes}
+use Rattle.std.specs.Prelude.{◌≡◌, ℕ, List, Option, Result, Ok, codes}
 use Rattle.apt_shelf.specs.Told.{Contents}
 use Rattle.apt_shelf.specs.Files.{HoldsAt}
 use Rattle.apt_certify.specs.declared.verdict.Verdict.{Verdict}
@@ -26,11 +26,9 @@ pub record IsShown (n : ℕ) (o : Output) (v : Verdict) : Type 0 where
   pub tabled : table_of demo_table ≡ Ok machine
   pub certified : IsCertified machine (demo_part n) o.cl o.tape v
 
--- the part has a fault, or a step is refused, which is told; or its CL file and its tape are certified, and the verdict is told
+-- the part comes to a CL file and a tape, which are certified, and the verdict is told
 abbrev pub IsDemo : ℕ → Status → Type 0
-IsDemo n answer =
-    (demo_due n ≡ Err answer)
-    ⊎ ((o : Output) × (v : Verdict) × (demo_due n ≡ Ok o) × IsShown n o v × (answer ≡ answers.Done (summaries.Demo n v)))
+IsDemo n answer = (o : Output) × (v : Verdict) × (demo_due n ≡ Ok o) × IsShown n o v × (answer ≡ answers.Done (summaries.Demo n v))
 
 -- the answer of a certificate, as it is shown
 abbrev pub shown_for : ℕ → Status → Status

@@ -21,7 +21,7 @@ use Rattle.apt_core.specs.Delivery.{with_output, WritesFront}
 use Rattle.apt_core.specs.Certificates.{IsRight, IsJudgement}
 use Rattle.apt_core.specs.Decoding.{Said, lined, said_of, said_due}
 use Rattle.apt_core.specs.Listing.{listed_due}
-use Rattle.apt_core.specs.Demo.{demo_due, IsDemo}
+use Rattle.apt_core.specs.Demo.{IsDemo}
 use Rattle.apt_report.specs.Listing.{point_count}
 use Rattle.apt_cldata.specs.declared.record.Record.{Record}
 use Rattle.apt_cldata.specs.Reading.{read_of}
@@ -182,7 +182,7 @@ CompletesIn (Decode n) m answer =
 CompletesIn (Listing name) m answer =
     (cl : List ℕ) (rs : List Record) → ReadsAll (Some m) (list_inputs name) (cl ∷ []) → read_of cl ≡ Ok rs
     → OrNoMemory (answer ≡ answers.Done (summaries.Listed (point_count rs))) answer
-CompletesIn (Demo n) m answer = (o : Output) → demo_due n ≡ Ok o → OrNoMemory ((verdict : Verdict) × (answer ≡ answers.Done (summaries.Demo n verdict))) answer
+CompletesIn (Demo n) m answer = OrNoMemory ((verdict : Verdict) × (answer ≡ answers.Done (summaries.Demo n verdict))) answer
 
 -- where no count rose, or memory ran out
 abbrev pub Completes : Option Ask → Outside → Outside → Status → Type 0
