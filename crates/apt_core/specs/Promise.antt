@@ -168,7 +168,7 @@ pub record NoneRose (before after : Outside) : Type 0 where
   pub putting : ¬ (Rose before.lines.put_faults after.lines.put_faults)
 
 -- for the machine of a table: a part without fault, of which no step is refused, is compiled; a CL file and a tape that are right for their part are
--- certified; a tape that a control runs is decoded. A CL file is listed, and the part of `demo` is certified where it comes to an output
+-- certified; a tape that a control runs is decoded. A CL file is listed, and the part of `demo` is certified
 abbrev pub CompletesIn : Ask → Contents → Status → Type 0
 CompletesIn (Compile n) m answer =
     (text table : List ℕ) (machine : Machine) (p : Compiled) → ReadsAll (Some m) (part_inputs n) (text ∷ table ∷ []) → table_of table ≡ Ok machine → part_of machine text ≡ Ok (Ok p)
