@@ -5,7 +5,7 @@ ghost use Rattle.apt_certify.specs.Jobs.{AreJobs, point_count};
 
 use crate::gates::{Counts, Meeting};
 use crate::runs::{MACHINE, PLATE, answer, plate};
-use apt_certify::{Job, check_jobs, check_jobs_split};
+use apt_certify::{Bad, Job, OpenGate, check_jobs, check_jobs_split};
 use apt_cldata::read;
 use apt_job::jobs;
 use apt_machine::table;
@@ -43,6 +43,45 @@ fn the_plates_jobs_are_judged_at_one_time(rt: HostRuntime) -> Result<(), Fail> {
         assert_eq!(rt; verdict, check_jobs(jobs));
         assert_eq!(rt; (verdict.segments, verdict.first_bad), (4, None));
         assert_eq!(rt; gate.told(), [1, 1, 0]);
+    }
+    assert!(rt; jobs.is_some());
+    Ok(())
+}
+
+/// The class and the subtype of a contour's record.
+const CONTOUR: [u8; 16] = [0, 0, 0, 0, 0, 0, 0x13, 0x88, 0, 0, 0, 0, 0, 0, 0, 5];
+
+/// Moves the vertex of a contour, by its number, to where x is 60 units less.
+fn spoil(cl: &mut [u8], contour: usize) {
+    let mut seen: usize = 0;
+    let mut place = None;
+    for (i, words) in cl.windows(16).enumerate() {
+        if words == CONTOUR.as_slice() {
+            seen = seen.saturating_add(1);
+            if seen == contour {
+                place = Some(i);
+            }
+        }
+    }
+    if let Some(i) = place {
+        if let Some(byte) = cl.get_mut(i.saturating_add(23)) {
+            *byte = byte.wrapping_sub(60);
+        }
+    }
+}
+
+#[test]
+fn the_first_of_the_plates_bad_contours_is_told(rt: HostRuntime) -> Result<(), Fail> {
+    let shelf = plate(&rt)?;
+    let mut cl = Vec::from_slice(rt.alloc(), shelf.file("CL").unwrap_or(&[]))?;
+    spoil(&mut cl, 2);
+    spoil(&mut cl, 4);
+    let jobs = plate_jobs(rt.alloc(), &cl);
+    if let Some(jobs) = &jobs {
+        let verdict = check_jobs_split(&rt, jobs, &OpenGate);
+        assert_eq!(rt; verdict, check_jobs(jobs));
+        let bad = verdict.first_bad.map(|bad: Bad| bad.motion);
+        assert_eq!(rt; (verdict.segments, bad), (4, Some(2)));
     }
     assert!(rt; jobs.is_some());
     Ok(())
