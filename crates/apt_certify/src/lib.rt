@@ -9,6 +9,7 @@ mod leg;
 mod segments;
 mod split;
 mod verdict;
+mod within;
 
 pub use gate::{Gate, OpenGate};
 pub use judge::{check_jobs, merged};

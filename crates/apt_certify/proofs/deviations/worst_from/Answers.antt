@@ -13,7 +13,7 @@ pub vertices-preserved : goal.vertices-preserved
 vertices-preserved c =
     let a = c.args in
     let walked = rw (drop_more a.vertices.now c.vertices.q-index (record { x = pos 0; y = pos 0 }) c.vertices-test.true) at c.vertices.invariant in
-    walk_on a.track.now _ a.start a.vertices.now c.vertices.at _ _ _ c.past_onwards.result _ c.greater-worst-in-vertices.result _ (omega (arith, ints)) c.greater-worst-in-vertices.ensures (omega (arith, ints)) c.past_onwards.ensures walked
+    walk_on a.track.now _ a.start a.vertices.now c.vertices.at _ _ _ c.past_beyond.result _ c.greater-worst-in-vertices.result _ (omega (arith, ints)) c.greater-worst-in-vertices.ensures (omega (arith, ints)) c.past_beyond.ensures walked
 
 pub returns-clause-bounds : goal.returns-clause-bounds
 returns-clause-bounds c =
