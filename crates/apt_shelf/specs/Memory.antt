@@ -3,6 +3,7 @@ use Rattle.std.specs.Prelude.{ℕ, Bool, List, Option, Some, is_some}
 use Rattle.apt_shelf.specs.Told.{Contents}
 use Rattle.apt_shelf.specs.Store as store
 use Rattle.apt_shelf.specs.Tally.{FailLists, uncalled}
+use Rattle.apt_shelf.specs.declared.memory.Calls.{Calls}
 use Rattle.apt_shelf.specs.declared.memory.ShelfCalls.{ShelfCalls}
 use Rattle.apt_shelf.specs.declared.memory.MemShelf.{MemShelf}
 
@@ -46,3 +47,16 @@ none_called fail = record {
   write_starts = uncalled fail.write_starts;
   appends = uncalled fail.appends;
 }
+
+-- how many calls of each kind were made
+abbrev pub made_of : ShelfCalls → Calls
+made_of calls = record {
+  read_starts = calls.read_starts.made;
+  reads = calls.reads.made;
+  write_starts = calls.write_starts.made;
+  appends = calls.appends.made;
+}
+
+-- how many bytes a read gives at most
+abbrev pub step_of : MemShelf → ℕ
+step_of shelf = shelf.step.bytes

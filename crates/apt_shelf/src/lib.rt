@@ -8,13 +8,14 @@ pub mod pieces;
 mod reading;
 pub mod shelf;
 pub mod sink;
+mod step;
 mod store;
 pub mod sure;
 pub mod tally;
 
 pub use files::{ReadError, read_all, read_piece};
 pub use folder::FolderShelf;
-pub use memory::{FailList, MemShelf, ShelfCalls};
+pub use memory::{Calls, FailList, MemShelf, ShelfCalls};
 pub use pieces::{Pieces, write_all};
 pub use shelf::{ReadStart, Shelf, ShelfFault, Sink};
 pub use sink::{MemSink, StdSink};

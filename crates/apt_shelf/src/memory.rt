@@ -1,12 +1,13 @@
 //! Files in memory.
-ghost use Rattle.std.specs.Prelude.{◌≡◌, ◌↔◌, ◌<◌, ◌≤◌, ◌/◌, [], min, length, take, true, false, option_map, Some, None, IsSome, IsSomeAnd, IfOk, OnOk, OnErr, IsErr, IsErrOf, IsOkAnd};
+ghost use Rattle.std.specs.Prelude.{◌≡◌, ◌↔◌, ◌<◌, ◌≤◌, ◌-◌, ◌/◌, ◌^◌, [], min, length, take, true, false, option_map, Some, None, IsSome, IsSomeAnd, IfOk, OnOk, OnErr, IsErr, IsErrOf, IsOkAnd};
 ghost use Rattle.std.specs.FinMap.{insert};
 ghost use Rattle.apt_shelf.specs.Told.{appended, Steps, StartsAt, Lacks, Takes, MayBeEmptied, KeepsPrefix, Adds, StartCause, FaultCause};
 ghost use Rattle.apt_shelf.specs.Tally.{no_fails, fails_next, counted, faults_after};
-ghost use Rattle.apt_shelf.specs.Memory.{files_of, told_of, reading_of, left_of, writing_of, read_faults_of, write_faults_of, calls_of, none_called};
+ghost use Rattle.apt_shelf.specs.Memory.{files_of, told_of, reading_of, left_of, writing_of, read_faults_of, write_faults_of, calls_of, none_called, step_of, made_of};
 ghost use Rattle.apt_shelf.specs.Entries.{contents, held};
 
 use crate::shelf::{ReadStart, Shelf, ShelfFault};
+use crate::step::Step;
 use crate::store::Store;
 use crate::tally::Tally;
 use std::alloc::{AllocError, Global};
@@ -52,6 +53,15 @@ pub struct ShelfCalls {
     appends: Tally,
 }
 
+/// How many calls on a shelf were made so far, of each kind. One that failed counts too.
+#[derive(Clone, Copy, Debug, PartialEq, Eq)]
+pub struct Calls {
+    pub read_starts: u64,
+    pub reads: u64,
+    pub write_starts: u64,
+    pub appends: u64,
+}
+
 /// Files in memory, with calls that fail by their numbers. At a name that stands twice among its
 /// first files the first counts.
 #[derive(Drop)]
@@ -60,6 +70,8 @@ pub struct MemShelf {
     calls: ShelfCalls,
     read_faults: u64,
     write_faults: u64,
+    /// How many bytes a read gives at most.
+    step: Step,
 }
 
 impl MemShelf {
@@ -75,6 +87,26 @@ impl MemShelf {
         ensures read_faults { IsOkAnd result (λ shelf. ⟦<MemShelf as Shelf>⟧.read_faults shelf ≡ 0) }
         ensures write_faults { IsOkAnd result (λ shelf. ⟦<MemShelf as Shelf>⟧.write_faults shelf ≡ 0) }
         ensures calls { IsOkAnd result (λ shelf. calls_of shelf ≡ none_called fail) }
+        ensures step { IsOkAnd result (λ shelf. step_of shelf ≡ 2 ^ 64 - 1) }
+    {
+        MemShelf::slow(alloc, files, fail, usize::MAX)
+    }
+
+    /// The same shelf, of which a read gives at most so many bytes.
+    pub fn slow(
+        alloc: Global,
+        files: Vec<(String, Vec<u8>)>,
+        fail: FailList,
+        step: usize,
+    ) -> Result<MemShelf, AllocError>
+        requires step { 1 ≤ step }
+        ensures told { IsOkAnd result (λ shelf. ⟦<MemShelf as Shelf>⟧.told shelf ≡ Some (contents files.items)) }
+        ensures reading { IsOkAnd result (λ shelf. ⟦<MemShelf as Shelf>⟧.reading shelf ≡ false) }
+        ensures writing { IsOkAnd result (λ shelf. ⟦<MemShelf as Shelf>⟧.writing shelf ≡ None) }
+        ensures read_faults { IsOkAnd result (λ shelf. ⟦<MemShelf as Shelf>⟧.read_faults shelf ≡ 0) }
+        ensures write_faults { IsOkAnd result (λ shelf. ⟦<MemShelf as Shelf>⟧.write_faults shelf ≡ 0) }
+        ensures calls { IsOkAnd result (λ shelf. calls_of shelf ≡ none_called fail) }
+        ensures step { IsOkAnd result (λ shelf. step_of shelf ≡ step) }
     {
         Ok(MemShelf {
             store: Store::new(alloc, files),
@@ -86,6 +118,7 @@ impl MemShelf {
             },
             read_faults: 0,
             write_faults: 0,
+            step: Step::new(step),
         })
     }
 
@@ -94,6 +127,18 @@ impl MemShelf {
         ensures { option_map (λ bytes. bytes.now) result ≡ held (files_of self.now) name.now }
     {
         self.store.file(name)
+    }
+
+    /// The calls that were made so far. It takes no memory.
+    pub fn calls(&self) -> Calls
+        ensures { result ≡ made_of (calls_of self.now) }
+    {
+        Calls {
+            read_starts: self.calls.read_starts.made(),
+            reads: self.calls.reads.made(),
+            write_starts: self.calls.write_starts.made(),
+            appends: self.calls.appends.made(),
+        }
     }
 }
 
@@ -122,6 +167,7 @@ impl Shelf for MemShelf {
         ensures fails { IsErrOf result ReadStart.Fault ↔ (fails_next (calls_of self.old).read_starts ≡ true) }
         ensures lacks { IsErrOf result ReadStart.Missing ↔ ((fails_next (calls_of self.old).read_starts ≡ false) × (held (files_of self.old) name.now ≡ None)) }
         ensures counted { read_faults_of self.new ≡ faults_after (calls_of self.old).read_starts (read_faults_of self.old) }
+        ensures step { step_of self.new ≡ step_of self.old }
     {
         self.store.stop_reading();
         if self.calls.read_starts.next_fails(&mut self.read_faults) {
@@ -144,13 +190,15 @@ impl Shelf for MemShelf {
         ensures calls { calls_of self.new ≡ record (calls_of self.old) { reads = counted (calls_of self.old).reads } }
         ensures fails { IsErr result ↔ (fails_next (calls_of self.old).reads ≡ true) }
         ensures fault { OnErr result (IsErrOf result ShelfFault.Fault) }
-        ensures most { IfOk result (λ n. IsSomeAnd (left_of self.old) (λ left. n ≡ min (length left) (length buf.new))) }
+        ensures most { IfOk result (λ n. IsSomeAnd (left_of self.old) (λ left. n ≡ min (step_of self.old) (min (length left) (length buf.new)))) }
         ensures counted { read_faults_of self.new ≡ faults_after (calls_of self.old).reads (read_faults_of self.old) }
+        ensures step { step_of self.new ≡ step_of self.old }
     {
         if self.calls.reads.next_fails(&mut self.read_faults) {
             return Err(ShelfFault::Fault);
         }
-        Ok(self.store.read(buf))
+        let n = self.step.within(buf.len());
+        Ok(self.store.read(&mut buf[..n]))
     }
 
     fn start_write(&mut self, name: &str) -> Result<(), ShelfFault>
@@ -163,6 +211,7 @@ impl Shelf for MemShelf {
         ensures calls { calls_of self.new ≡ record (calls_of self.old) { write_starts = counted (calls_of self.old).write_starts } }
         ensures fails { IsErrOf result ShelfFault.Fault ↔ (fails_next (calls_of self.old).write_starts ≡ true) }
         ensures counted { write_faults_of self.new ≡ faults_after (calls_of self.old).write_starts (write_faults_of self.old) }
+        ensures step { step_of self.new ≡ step_of self.old }
     {
         self.store.stop_writing();
         if self.calls.write_starts.next_fails(&mut self.write_faults) {
@@ -187,6 +236,7 @@ impl Shelf for MemShelf {
         ensures half { IsErrOf result ShelfFault.Fault → IsSomeAnd (writing_of self.old) (λ name. files_of self.new ≡ appended (files_of self.old) name (take (length bytes.now / 2) bytes.now)) }
         ensures no_memory { IsErrOf result ShelfFault.NoMemory → files_of self.new ≡ files_of self.old }
         ensures counted { write_faults_of self.new ≡ faults_after (calls_of self.old).appends (write_faults_of self.old) }
+        ensures step { step_of self.new ≡ step_of self.old }
     {
         if self.calls.appends.next_fails(&mut self.write_faults) {
             self.store.append(&bytes[..bytes.len() / 2])?;

@@ -27,6 +27,13 @@ impl Tally {
         Tally { failing, made: 0 }
     }
 
+    /// How many calls were made.
+    pub(crate) fn made(&self) -> u64
+        ensures { result ≡ self.now.made }
+    {
+        self.made
+    }
+
     /// Counts a call, and a fault where the call is one that fails, and says whether it is.
     pub(crate) fn next_fails(&mut self, faults: &mut u64) -> bool
         ensures result { result ≡ fails_next self.old }

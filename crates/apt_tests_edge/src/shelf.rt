@@ -1,6 +1,8 @@
+ghost use Rattle.std.specs.Prelude.{◌≤◌};
+
 use apt_shelf::{
-    FailList, FolderShelf, MemShelf, MemSink, Pieces, ReadError, Shelf, ShelfFault, Sink, StdSink,
-    SureShelf, read_all, write_all,
+    Calls, FailList, FolderShelf, MemShelf, MemSink, Pieces, ReadError, Shelf, ShelfFault, Sink,
+    StdSink, SureShelf, read_all, write_all,
 };
 use std::alloc::{AllocGlobal, Global};
 use std::fs;
@@ -51,6 +53,17 @@ fn assert_writes<R: Abort, H: Shelf>(
     assert_eq!(rt; write_all(shelf, name, bytes), want, "write {name}");
 }
 
+/// The calls so far: starts of reading, reads, starts of writing and appends.
+fn made(shelf: &MemShelf) -> [u64; 4] {
+    let Calls {
+        read_starts,
+        reads,
+        write_starts,
+        appends,
+    } = shelf.calls();
+    [read_starts, reads, write_starts, appends]
+}
+
 #[test]
 fn memory_keeps_files(rt: HostRuntime) -> Result<(), Fail> {
     let alloc = rt.alloc();
@@ -90,6 +103,59 @@ fn listed_calls_fail_once(rt: HostRuntime) -> Result<(), Fail> {
     assert_reads(&rt, &mut shelf, "b", 9, b"67");
     assert_writes(&rt, &mut shelf, "b", b"67890", Ok(()));
     assert_eq!(rt; shelf.file("b"), Some(b"67890".as_slice()));
+    Ok(())
+}
+
+/// A file of seven bytes is read whole by so many at a time, in so many reads, of which the last finds its end.
+fn assert_reads_slowly<R: Abort + AllocGlobal>(rt: &R, step: usize, reads: u64) -> Result<(), Fail>
+    requires { 1 ≤ step }
+{
+    let alloc = rt.alloc();
+    let files = one_file(alloc, "a", b"1234567")?;
+    let mut shelf = MemShelf::slow(alloc, files, FailList::none(alloc), step)?;
+    assert_reads(rt, &mut shelf, "a", 7, b"1234567");
+    assert_eq!(rt; made(&shelf), [1, reads, 0, 0], "by {step}");
+    assert_refuses(rt, &mut shelf, "a", 6, ReadError::TooLong);
+    Ok(())
+}
+
+#[test]
+fn slow_reads_give_the_whole_file(rt: HostRuntime) -> Result<(), Fail> {
+    assert_reads_slowly(&rt, 1, 8)?;
+    assert_reads_slowly(&rt, 2, 5)?;
+    assert_reads_slowly(&rt, 3, 4)?;
+    assert_reads_slowly(&rt, 7, 2)?;
+    assert_reads_slowly(&rt, usize::MAX, 2)?;
+    Ok(())
+}
+
+#[test]
+fn calls_are_counted(rt: HostRuntime) -> Result<(), Fail> {
+    let alloc = rt.alloc();
+    let fail = FailList {
+        read_starts: vec![in alloc; 2]?,
+        reads: vec![in alloc; 2]?,
+        write_starts: vec![in alloc; 2]?,
+        appends: vec![in alloc; 2]?,
+    };
+    let mut shelf = MemShelf::new(alloc, one_file(alloc, "a", b"hello")?, fail)?;
+    assert_eq!(rt; made(&shelf), [0, 0, 0, 0]);
+    // the second of each kind fails, and counts
+    assert_refuses(&rt, &mut shelf, "a", 9, ReadError::Fault);
+    assert_eq!(rt; made(&shelf), [1, 2, 0, 0]);
+    assert_refuses(&rt, &mut shelf, "a", 9, ReadError::Fault);
+    assert_eq!(rt; made(&shelf), [2, 2, 0, 0]);
+    // so does the start of a name that is missing
+    assert_refuses(&rt, &mut shelf, "c", 9, ReadError::Missing);
+    assert_eq!(rt; made(&shelf), [3, 2, 0, 0]);
+    assert_writes(&rt, &mut shelf, "b", b"12345", Ok(()));
+    assert_eq!(rt; made(&shelf), [3, 2, 1, 1]);
+    assert_writes(&rt, &mut shelf, "b", b"678", Err(ShelfFault::Fault));
+    assert_eq!(rt; made(&shelf), [3, 2, 2, 1]);
+    assert_writes(&rt, &mut shelf, "b", b"678", Err(ShelfFault::Fault));
+    assert_eq!(rt; made(&shelf), [3, 2, 3, 2]);
+    assert_reads(&rt, &mut shelf, "b", 9, b"6");
+    assert_eq!(rt; made(&shelf), [4, 4, 3, 2]);
     Ok(())
 }
 

@@ -1,0 +1,166 @@
+//! Each call that a command makes, failing in turn.
+
+use crate::runs::{
+    CERTIFY, COMPILE, DECODE, LIST, MACHINE, PLATE, answer, compiled, files_of, held, number_of,
+};
+use apt_shelf::{Calls, FailList, MemShelf, MemSink};
+use std::alloc::{AllocError, AllocGlobal, Global};
+use std::process::Abort;
+use std::test::Fail;
+use std::thread::Threads;
+
+/// The kinds of calls on a shelf.
+#[derive(Clone, Copy, Debug, PartialEq, Eq)]
+enum Kind {
+    ReadStart,
+    Read,
+    WriteStart,
+    Append,
+}
+
+const KINDS: [Kind; 4] = [Kind::ReadStart, Kind::Read, Kind::WriteStart, Kind::Append];
+
+impl Kind {
+    fn count_in(self, calls: &Calls) -> u64 {
+        match self {
+            Kind::ReadStart => calls.read_starts,
+            Kind::Read => calls.reads,
+            Kind::WriteStart => calls.write_starts,
+            Kind::Append => calls.appends,
+        }
+    }
+
+    fn is_of_reading(self) -> bool {
+        match self {
+            Kind::ReadStart | Kind::Read => true,
+            Kind::WriteStart | Kind::Append => false,
+        }
+    }
+
+    /// The call of this number fails.
+    fn failing(self, alloc: Global, number: u64) -> Result<FailList, AllocError> {
+        let mut list = FailList::none(alloc);
+        let numbers = match self {
+            Kind::ReadStart => &mut list.read_starts,
+            Kind::Read => &mut list.reads,
+            Kind::WriteStart => &mut list.write_starts,
+            Kind::Append => &mut list.appends,
+        };
+        numbers.push(number)?;
+        Ok(list)
+    }
+}
+
+const OLD_CL: &[u8] = b"an old CL file";
+
+const OLD_TAPE: &[u8] = b"an old tape";
+
+/// A shelf with the plate's part and its machine table, and with these under the names CL and TAPE.
+fn shelf_with(alloc: Global, cl: &[u8], tape: &[u8], fail: FailList) -> Result<MemShelf, Fail> {
+    let files = [
+        ("PART", PLATE.as_bytes()),
+        ("MACHINE", MACHINE.as_bytes()),
+        ("CL", cl),
+        ("TAPE", tape),
+    ];
+    let list = files_of(alloc, &files)?;
+    Ok(MemShelf::new(alloc, list, fail)?)
+}
+
+fn is_as_before(shelf: &MemShelf) -> bool {
+    held(shelf, "CL") == OLD_CL && held(shelf, "TAPE") == OLD_TAPE
+}
+
+/// CL holds a front part of the good CL file, and TAPE is as before; or CL is whole, and TAPE is as before or a front
+/// part of the good tape.
+fn is_front_of(shelf: &MemShelf, good: &MemShelf) -> bool {
+    let cl = held(shelf, "CL");
+    let tape = held(shelf, "TAPE");
+    if tape == OLD_TAPE {
+        return held(good, "CL").starts_with(cl);
+    }
+    cl == held(good, "CL") && held(good, "TAPE").starts_with(tape)
+}
+
+/// A call of `compile` fails. Where it is the first start of a write, nothing is begun.
+fn assert_compile_fails<R: Threads + Sync + Abort + AllocGlobal>(
+    rt: &R,
+    good: &MemShelf,
+    kind: Kind,
+    number: u64,
+) -> Result<(), Fail> {
+    let fail = kind.failing(rt.alloc(), number)?;
+    let mut shelf = shelf_with(rt.alloc(), OLD_CL, OLD_TAPE, fail)?;
+    let reply = answer(rt, &mut shelf, COMPILE)?;
+    let status = if kind.is_of_reading() { 3 } else { 11 };
+    assert_eq!(rt; reply.number, status, "{kind:?} {number}");
+    let stands = if kind.is_of_reading() || kind == Kind::WriteStart && number == 1 {
+        is_as_before(&shelf)
+    } else {
+        is_front_of(&shelf, good)
+    };
+    assert!(rt; stands, "{kind:?} {number}");
+    Ok(())
+}
+
+#[test]
+fn each_call_of_compile_fails(rt: HostRuntime) -> Result<(), Fail> {
+    let good = compiled(&rt, PLATE)?;
+    let calls = good.calls();
+    // a read for the one piece of each file, and one more
+    let due = Calls {
+        read_starts: 2,
+        reads: 4,
+        write_starts: 2,
+        appends: 2,
+    };
+    assert_eq!(rt; calls, due);
+    for kind in KINDS {
+        for number in 1..=kind.count_in(&calls) {
+            assert_compile_fails(&rt, &good, kind, number)?;
+        }
+    }
+    Ok(())
+}
+
+#[test]
+fn each_call_of_certify_fails(rt: HostRuntime) -> Result<(), Fail> {
+    let alloc = rt.alloc();
+    let good = compiled(&rt, PLATE)?;
+    let (cl, tape) = (held(&good, "CL"), held(&good, "TAPE"));
+    let mut certified = shelf_with(alloc, cl, tape, FailList::none(alloc))?;
+    assert_eq!(rt; answer(&rt, &mut certified, CERTIFY)?.number, 0);
+    let calls = certified.calls();
+    let due = Calls {
+        read_starts: 4,
+        reads: 8,
+        write_starts: 0,
+        appends: 0,
+    };
+    assert_eq!(rt; calls, due);
+    for kind in KINDS {
+        for number in 1..=kind.count_in(&calls) {
+            let fail = kind.failing(alloc, number)?;
+            let mut shelf = shelf_with(alloc, cl, tape, fail)?;
+            let reply = answer(&rt, &mut shelf, CERTIFY)?;
+            assert_eq!(rt; reply.number, 3, "{kind:?} {number}");
+            let held = (held(&shelf, "CL"), held(&shelf, "TAPE"));
+            assert_eq!(rt; held, (cl, tape), "{kind:?} {number}");
+        }
+    }
+    Ok(())
+}
+
+/// The one put of a command fails, by a sink on which the first put does.
+#[test]
+fn the_put_of_each_command_fails(rt: HostRuntime) -> Result<(), Fail> {
+    let alloc = rt.alloc();
+    let mut shelf = compiled(&rt, PLATE)?;
+    for words in [COMPILE, CERTIFY, DECODE, LIST, "demo 1"] {
+        assert_eq!(rt; answer(&rt, &mut shelf, words)?.number, 0, "{words}");
+        let mut out = MemSink::new(alloc, vec![in alloc; 1]?);
+        let number = number_of(&rt, &mut shelf, words, &mut out)?;
+        assert_eq!(rt; number, 11, "{words}");
+    }
+    Ok(())
+}
