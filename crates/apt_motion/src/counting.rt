@@ -86,10 +86,10 @@ fn have_room(rounds: &[Round], room: u64) -> bool
 }
 
 /// The line and the number of the step to which a record belongs.
-fn mark_at(record: &Record, mark: (u32, u32)) -> (u32, u32)
-    ensures { result ≡ drafts.mark_at record.now mark }
+fn mark_at(r: &Record, mark: (u32, u32)) -> (u32, u32)
+    ensures { result ≡ drafts.mark_at r.now mark }
 {
-    match record {
+    match r {
         Record::Statement { line, step } => (*line, *step),
         _ => mark,
     }
@@ -137,15 +137,15 @@ impl<'a> Sizes<'a> {
         &mut self,
         rt: &(impl Threads + Sync),
         alloc: Global,
-        record: &Record,
+        r: &Record,
     ) -> Result<u64, AllocError>
-        ensures weight { IfOk result (λ n. n ≡ drafts.weight record.now self.old) }
-        ensures left { IfOk result (λ _. self.new ≡ drafts.left_behind record.now self.old) }
+        ensures weight { IfOk result (λ n. n ≡ drafts.weight r.now self.old) }
+        ensures left { IfOk result (λ _. self.new ≡ drafts.left_behind r.now self.old) }
     {
-        if is_open(record) {
+        if is_open(r) {
             self.take(rt, alloc)
         } else {
-            Ok(known(record))
+            Ok(known(r))
         }
     }
 
@@ -179,10 +179,10 @@ fn counted<'a>(
 }
 
 /// The vertices that a record has.
-fn known(record: &Record) -> u64
-    ensures { result ≡ drafts.known record.now }
+fn known(r: &Record) -> u64
+    ensures { result ≡ drafts.known r.now }
 {
-    match record {
+    match r {
         Record::Contour(vertices) => vertices.as_slice().len() as u64,
         _ => 0,
     }

@@ -7,10 +7,10 @@ use apt_cldata::{Record, Vertices};
 use std::collections::VecDeque;
 
 /// Whether a record is a contour that is still to be divided.
-pub(crate) fn is_open(record: &Record) -> bool
-    ensures { result ≡ drafts.is_open record.now }
+pub(crate) fn is_open(r: &Record) -> bool
+    ensures { result ≡ drafts.is_open r.now }
 {
-    match record {
+    match r {
         Record::Contour(vertices) => vertices.as_slice().is_empty(),
         _ => false,
     }
@@ -27,13 +27,13 @@ pub(crate) fn fill(records: &mut Vec<Record>, cuts: Vec<Vertices>)
 }
 
 /// Gives a contour that is to be divided the first of the vertices that are left.
-fn give(record: &mut Record, left: &mut VecDeque<Vertices>)
-    ensures record { record.new ≡ drafts.given record.old left.old.items }
-    ensures left { left.new.items ≡ drafts.cuts_behind record.old left.old.items }
+fn give(r: &mut Record, left: &mut VecDeque<Vertices>)
+    ensures given { r.new ≡ drafts.given r.old left.old.items }
+    ensures left { left.new.items ≡ drafts.cuts_behind r.old left.old.items }
 {
-    if is_open(record) {
+    if is_open(r) {
         if let Some(vertices) = left.pop_front() {
-            *record = Record::Contour(vertices);
+            *r = Record::Contour(vertices);
         }
     }
 }
