@@ -56,7 +56,12 @@ const OLD_CL: &[u8] = b"an old CL file";
 const OLD_TAPE: &[u8] = b"an old tape";
 
 /// A shelf with the plate's part and its machine table, and with these under the names CL and TAPE.
-fn shelf_with(alloc: Global, cl: &[u8], tape: &[u8], fail: FailList) -> Result<MemShelf, Fail> {
+fn shelf_with<'a>(
+    alloc: Global,
+    cl: &'a [u8],
+    tape: &'a [u8],
+    fail: FailList,
+) -> Result<MemShelf, Fail> {
     let files = [
         ("PART", PLATE.as_bytes()),
         ("MACHINE", MACHINE.as_bytes()),
