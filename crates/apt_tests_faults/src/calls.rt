@@ -10,7 +10,7 @@ use std::test::Fail;
 use std::thread::Threads;
 
 /// The kinds of calls on a shelf.
-#[derive(Clone, Copy, Debug, PartialEq, Eq)]
+#[derive(Clone, Copy)]
 enum Kind {
     ReadStart,
     Read,
@@ -30,10 +30,29 @@ impl Kind {
         }
     }
 
-    fn is_of_reading(self) -> bool {
+    fn name(self) -> &'static str {
+        match self {
+            Kind::ReadStart => "start of a read",
+            Kind::Read => "read",
+            Kind::WriteStart => "start of a write",
+            Kind::Append => "append",
+        }
+    }
+
+    /// The number of the answer where such a call fails.
+    fn status(self) -> u8 {
+        match self {
+            Kind::ReadStart | Kind::Read => 3,
+            Kind::WriteStart | Kind::Append => 11,
+        }
+    }
+
+    /// Whether nothing is written before the call of this number.
+    fn is_before_writing(self, number: u64) -> bool {
         match self {
             Kind::ReadStart | Kind::Read => true,
-            Kind::WriteStart | Kind::Append => false,
+            Kind::WriteStart => number == 1,
+            Kind::Append => false,
         }
     }
 
@@ -87,7 +106,20 @@ fn is_front_of(shelf: &MemShelf, good: &MemShelf) -> bool {
     cl == held(good, "CL") && held(good, "TAPE").starts_with(tape)
 }
 
-/// A call of `compile` fails. Where it is the first start of a write, nothing is begun.
+/// CL and TAPE are the good ones.
+fn is_same(shelf: &MemShelf, good: &MemShelf) -> bool {
+    held(shelf, "CL") == held(good, "CL") && held(shelf, "TAPE") == held(good, "TAPE")
+}
+
+/// Whether CL and TAPE are as they are due behind a call of `compile` that failed.
+fn stands(shelf: &MemShelf, good: &MemShelf, kind: Kind, number: u64) -> bool {
+    if kind.is_before_writing(number) {
+        return is_as_before(shelf);
+    }
+    is_front_of(shelf, good)
+}
+
+/// A call of `compile` fails.
 fn assert_compile_fails<R: Threads + Sync + Abort + AllocGlobal>(
     rt: &R,
     good: &MemShelf,
@@ -97,14 +129,9 @@ fn assert_compile_fails<R: Threads + Sync + Abort + AllocGlobal>(
     let fail = kind.failing(rt.alloc(), number)?;
     let mut shelf = shelf_with(rt.alloc(), OLD_CL, OLD_TAPE, fail)?;
     let reply = answer(rt, &mut shelf, COMPILE)?;
-    let status = if kind.is_of_reading() { 3 } else { 11 };
-    assert_eq!(rt; reply.number, status, "{kind:?} {number}");
-    let stands = if kind.is_of_reading() || kind == Kind::WriteStart && number == 1 {
-        is_as_before(&shelf)
-    } else {
-        is_front_of(&shelf, good)
-    };
-    assert!(rt; stands, "{kind:?} {number}");
+    let name = kind.name();
+    assert_eq!(rt; reply.number, kind.status(), "{name} {number}");
+    assert!(rt; stands(&shelf, good, kind, number), "{name} {number}");
     Ok(())
 }
 
@@ -128,14 +155,38 @@ fn each_call_of_compile_fails(rt: HostRuntime) -> Result<(), Fail> {
     Ok(())
 }
 
+/// A call of `certify` fails, and CL and TAPE hold what they held.
+fn assert_certify_fails<R: Threads + Sync + Abort + AllocGlobal>(
+    rt: &R,
+    good: &MemShelf,
+    kind: Kind,
+    number: u64,
+) -> Result<(), Fail> {
+    let fail = kind.failing(rt.alloc(), number)?;
+    let mut shelf = shelf_with(rt.alloc(), held(good, "CL"), held(good, "TAPE"), fail)?;
+    let reply = answer(rt, &mut shelf, CERTIFY)?;
+    let name = kind.name();
+    assert_eq!(rt; reply.number, 3, "{name} {number}");
+    assert!(rt; is_same(&shelf, good), "{name} {number}");
+    Ok(())
+}
+
+/// The calls of a good run of `certify`.
+fn certify_calls<R: Threads + Sync + Abort + AllocGlobal>(
+    rt: &R,
+    good: &MemShelf,
+) -> Result<Calls, Fail> {
+    let fail = FailList::none(rt.alloc());
+    let mut shelf = shelf_with(rt.alloc(), held(good, "CL"), held(good, "TAPE"), fail)?;
+    let reply = answer(rt, &mut shelf, CERTIFY)?;
+    assert_eq!(rt; reply.number, 0);
+    Ok(shelf.calls())
+}
+
 #[test]
 fn each_call_of_certify_fails(rt: HostRuntime) -> Result<(), Fail> {
-    let alloc = rt.alloc();
     let good = compiled(&rt, PLATE)?;
-    let (cl, tape) = (held(&good, "CL"), held(&good, "TAPE"));
-    let mut certified = shelf_with(alloc, cl, tape, FailList::none(alloc))?;
-    assert_eq!(rt; answer(&rt, &mut certified, CERTIFY)?.number, 0);
-    let calls = certified.calls();
+    let calls = certify_calls(&rt, &good)?;
     let due = Calls {
         read_starts: 4,
         reads: 8,
@@ -145,12 +196,7 @@ fn each_call_of_certify_fails(rt: HostRuntime) -> Result<(), Fail> {
     assert_eq!(rt; calls, due);
     for kind in KINDS {
         for number in 1..=kind.count_in(&calls) {
-            let fail = kind.failing(alloc, number)?;
-            let mut shelf = shelf_with(alloc, cl, tape, fail)?;
-            let reply = answer(&rt, &mut shelf, CERTIFY)?;
-            assert_eq!(rt; reply.number, 3, "{kind:?} {number}");
-            let held = (held(&shelf, "CL"), held(&shelf, "TAPE"));
-            assert_eq!(rt; held, (cl, tape), "{kind:?} {number}");
+            assert_certify_fails(&rt, &good, kind, number)?;
         }
     }
     Ok(())
