@@ -1,4 +1,6 @@
 ghost use Rattle.std.specs.Prelude.{◌≡◌};
+ghost use Rattle.apt_words.specs.Sources.{AreExecuted};
+ghost use Rattle.apt_scalar.specs.StepScalars.{AreScalars};
 
 use apt_certify::OpenGate;
 use apt_cldata::{Position, Record};
@@ -65,21 +67,17 @@ fn contours_end_at_their_contact(rt: HostRuntime) -> Result<(), Fail> {
     Ok(())
 }
 
-/// Where a motion along the x axis from x = -1 ends at a circle about (5, b) with radius 1, in grid units: the cutter
-/// has a radius of a quarter, on this side, and starts so many quarters below the axis.
-fn end_at_circle(
-    rt: &(impl Abort + Threads + Sync),
-    alloc: Global,
-    side: Side,
-    quarters: u8,
-    how: Stop,
-    b: u8,
-) -> Option<(i64, i64)> {
+/// The steps of a motion along the x axis from x = -1 to a circle about (5, b) with radius 1: the cutter has a radius of
+/// a quarter, on this side, and starts so many quarters below the axis.
+fn steps_to_circle(rt: &impl Abort, side: Side, quarters: u8, how: Stop, b: u8) -> [Step; 7]
+    ensures scalars { AreScalars result }
+    ensures sources { AreExecuted result }
+{
     let line = symbol(rt, "L1");
     let circle = symbol(rt, "C1");
     let below = -250_000 * i64::from(quarters);
     let b = 1_000_000 * i64::from(b);
-    let steps = [
+    [
         step(1, Deed::Cutter(500_000)),
         step(2, Deed::Fedrat(10_000_000)),
         step(3, Deed::LineXy(line.copied(), 0, 0, 5_000_000, 0)),
@@ -87,10 +85,15 @@ fn end_at_circle(
         step(5, Deed::FromXy(-2_000_000, below, None)),
         step(6, Deed::Godlta(1_000_000, 0, 0)),
         step(7, Deed::Contour(Some(side), Go::Forward, line, how, circle)),
-    ];
-    let Ok(records) = run(rt, alloc, &steps, &OpenGate) else {
-        return None;
-    };
+    ]
+}
+
+/// Where steps end with a contour, in grid units.
+fn last_end(rt: &(impl Threads + Sync), alloc: Global, steps: &[Step]) -> Option<(i64, i64)>
+    requires scalars { AreScalars steps.now }
+    requires sources { AreExecuted steps.now }
+{
+    let records = run(rt, alloc, steps, &OpenGate).ok()?;
     let end = records.last().and_then(end_of)?;
     Some((end.xy.x, end.xy.y))
 }
@@ -108,7 +111,8 @@ fn contours_end_at_circles(rt: HostRuntime) {
         (Side::On, 0, Stop::Tanto, 1, (500_000, 0)),
     ];
     for (side, quarters, how, b, want) in table {
-        let Some(end) = end_at_circle(&rt, rt.alloc(), side, quarters, how, b) else {
+        let steps = steps_to_circle(&rt, side, quarters, how, b);
+        let Some(end) = last_end(&rt, rt.alloc(), &steps) else {
             assert!(rt; false, "a step is refused");
             return;
         };
