@@ -1,0 +1,124 @@
+"""What the scripts in Python share: where the program lies, its statuses, and the bytes of tapes and CL files."""
+
+import os
+import struct
+import sys
+
+TOP = os.path.dirname(os.path.dirname(os.path.abspath(__file__)))
+SAMPLES = os.path.join(TOP, "docs", "samples")
+
+# every exit status that the program may have, by README.md
+STATUSES = {
+    0: "Done",
+    1: "Usage",
+    2: "Missing",
+    3: "ReadFault",
+    4: "TooLong",
+    5: "BadMachine",
+    6: "BadPart",
+    7: "Refused",
+    8: "BadCl",
+    9: "BadTape",
+    10: "NotCertified",
+    11: "WriteFault",
+    12: "NoMemory",
+    15: "words unreadable",
+}
+
+# the characters of a tape in both codes, by docs/TAPE.md; a line feed is the end of block, % the rewind stop
+CHARACTERS = "0123456789FGMNSTXYZ+-\n%"
+CODES = {
+    "RS358": {c: ord(c) | 0x80 * (ord(c).bit_count() % 2) for c in CHARACTERS},
+    "RS244": dict(zip(CHARACTERS, bytes.fromhex("20010213041516070819" "76675445322337382970" "40800b"))),
+}
+
+CL_HEAD = b"APTCL 1\n"
+
+
+def program_of(path):
+    """The built program: this path, else that of APT, else where `rt` leaves it."""
+    path = os.path.abspath(path or os.environ.get("APT") or os.path.join(TOP, "crates/apt_cli/out/apt_cli"))
+    if not (os.path.isfile(path) and os.access(path, os.X_OK)):
+        print(f"there is no program {path}", file=sys.stderr)
+        sys.exit(2)
+    return path
+
+
+def status_name(status):
+    """An exit status in words; below 0 it is the signal that ended the program."""
+    return f"signal {-status}" if status < 0 else f"{status} {STATUSES.get(status, '(no status of the program)')}"
+
+
+def bytes_of(path):
+    """What a name holds, or None where there is nothing."""
+    try:
+        with open(path, "rb") as file:
+            return file.read()
+    except FileNotFoundError:
+        return None
+
+
+def put(path, content):
+    """Writes a file anew; None removes it."""
+    if content is None:
+        if os.path.lexists(path):
+            os.remove(path)
+    else:
+        with open(path, "wb") as file:
+            file.write(content)
+
+
+def punch(text, code):
+    """A tape of these characters."""
+    row = CODES[code]
+    return bytes(row[c] for c in text)
+
+
+def cl_file(records):
+    """The CL file of these records, each a list of its words from the sequence number on."""
+    return CL_HEAD + b"".join(struct.pack(">I", 8 * len(words)) + struct.pack(f">{len(words)}q", *words) for words in records)
+
+
+def cl_records(content):
+    """The whole records at the front of a CL file."""
+    records, at = [], len(CL_HEAD)
+    while at + 4 <= len(content):
+        (length,) = struct.unpack_from(">I", content, at)
+        at += 4 + length
+        if length % 8 or at > len(content):
+            break
+        records.append(list(struct.unpack_from(f">{length // 8}q", content, at - length)))
+    return records
+
+
+def row_files(rows, title):
+    """The files of a row of crates/apt_rows/data, by name (docs/ROWS.md); of the writings those without edits."""
+    kept, files, here = {}, {}, False
+    with open(os.path.join(TOP, "crates/apt_rows/data", rows), encoding="ascii") as file:
+        parts = ("\n" + file.read()).split("\n:")
+    for part in parts[1:]:
+        mark, *lines = part.split("\n")
+        words = mark.split()
+        if words[0] == "row":
+            here = mark == f"row {title}"
+        elif words[0] == "keep":
+            kept[words[1]] = written(lines, words[2:], kept)
+        elif words[0] == "file" and here:
+            files[words[1]] = written(lines, words[2:], kept)
+    if not files:
+        sys.exit(f"there is no row '{title}' in {rows}")
+    return files
+
+
+def written(lines, writing, kept):
+    """The content of a mark of a row."""
+    match writing:
+        case []:
+            return "".join(f"{line}\n" for line in lines).encode("ascii")
+        case ["as", name]:
+            return kept[name]
+        case ["records"]:
+            return cl_file([number, *map(int, line.split())] for number, line in enumerate(lines, 1))
+        case [("rs358" | "rs244") as code]:
+            return punch("".join(f"{line}\n" for line in lines), code.upper())
+    sys.exit(f"this writing is not read here: {writing}")
