@@ -32,6 +32,10 @@ CODES = {
     "RS244": dict(zip(CHARACTERS, bytes.fromhex("20010213041516070819" "76675445322337382970" "40800b"))),
 }
 
+# the same as tables over all bytes: which byte is punched, and which character is sensed
+PUNCHED = {code: bytes.maketrans(CHARACTERS.encode(), bytes(row.values())) for code, row in CODES.items()}
+SENSED = {code: bytes.maketrans(bytes(row.values()), CHARACTERS.encode()) for code, row in CODES.items()}
+
 CL_HEAD = b"APTCL 1\n"
 
 
@@ -70,8 +74,13 @@ def put(path, content):
 
 def punch(text, code):
     """A tape of these characters."""
-    row = CODES[code]
-    return bytes(row[c] for c in text)
+    return text.encode("ascii").translate(PUNCHED[code])
+
+
+def sense(tape, code):
+    """The characters of a tape; every other byte is dropped."""
+    others = bytes(set(range(256)) - set(CODES[code].values()))
+    return tape.translate(SENSED[code], others).decode("ascii")
 
 
 def cl_file(records):
