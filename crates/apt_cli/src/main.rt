@@ -4,6 +4,7 @@
 use apt_core::{OpenGate, apt};
 use apt_shelf::{FolderShelf, StdSink};
 use std::env;
+use std::fs;
 use std::io::ErrorKind;
 use std::process::ExitCode;
 use std::rt::Env;
@@ -20,6 +21,8 @@ enum WordsError {
 }
 
 fn main(rt: HostRuntime) -> ExitCode {
+    // a standard stream that is closed must not be taken by a file that is opened later
+    let _streams = [(); 3].map(|()| fs::open(&rt, "/dev/null"));
     let alloc = rt.alloc();
     let words = match words_of(&rt) {
         Ok(words) => words,
