@@ -171,17 +171,17 @@ fn is_refused_at(status: &Status, at: u32) -> bool {
     }
 }
 
-/// A part of 3,906 halves of 128 chords and more behind so many contours along a line, and perhaps with one behind them:
+/// A part of so many halves of 128 chords, with contours along a line in front of them and perhaps one behind them:
 /// whether its last contour has too many vertices, and else it is compiled.
 fn has_too_many<R: Threads + Sync + Abort + AllocGlobal>(
     rt: &R,
     front: u32,
-    more: u32,
+    halves: u32,
     behind: bool,
 ) -> Result<bool, Fail> {
     let mut part = Many::new(rt.alloc())?;
     part.straight(front)?;
-    part.wide(3906 + more)?;
+    part.wide(halves)?;
     if behind {
         part.say("GORGT/L,ON,W")?;
     }
@@ -196,28 +196,28 @@ fn has_too_many<R: Threads + Sync + Abort + AllocGlobal>(
 
 #[test]
 fn a_program_may_have_499_999_vertices(rt: HostRuntime) -> Result<(), Fail> {
-    assert!(rt; !has_too_many(&rt, 30, 0, false)?);
+    assert!(rt; !has_too_many(&rt, 30, 3906, false)?);
     Ok(())
 }
 
 #[test]
 fn a_program_may_have_500_000_vertices(rt: HostRuntime) -> Result<(), Fail> {
-    assert!(rt; !has_too_many(&rt, 31, 0, false)?);
+    assert!(rt; !has_too_many(&rt, 31, 3906, false)?);
     Ok(())
 }
 
 #[test]
 fn the_last_of_500_000_vertices_may_be_on_a_line(rt: HostRuntime) -> Result<(), Fail> {
-    assert!(rt; !has_too_many(&rt, 30, 0, true)?);
+    assert!(rt; !has_too_many(&rt, 30, 3906, true)?);
     Ok(())
 }
 
 /// One more by the last chord of an arc, by a line, and by the first chord of an arc.
 #[test]
 fn a_program_has_no_more_vertices(rt: HostRuntime) -> Result<(), Fail> {
-    assert!(rt; has_too_many(&rt, 32, 0, false)?);
-    assert!(rt; has_too_many(&rt, 31, 0, true)?);
-    assert!(rt; has_too_many(&rt, 31, 1, false)?);
+    assert!(rt; has_too_many(&rt, 32, 3906, false)?);
+    assert!(rt; has_too_many(&rt, 31, 3906, true)?);
+    assert!(rt; has_too_many(&rt, 31, 3907, false)?);
     Ok(())
 }
 

@@ -1,6 +1,6 @@
 //! Contours that are judged at one time.
 
-ghost use Rattle.std.specs.Prelude.{◌≡◌, ◌<◌, ◌^◌, IfOk};
+ghost use Rattle.std.specs.Prelude.{◌≡◌, ◌<◌, ◌^◌, IfSome};
 ghost use Rattle.apt_certify.specs.Jobs.{AreJobs, point_count};
 
 use crate::gates::{Counts, Meeting};
