@@ -3,11 +3,10 @@
 
 use apt_core::{OpenGate, apt};
 use apt_shelf::{FolderShelf, StdSink};
-use std::env;
-use std::fs;
 use std::io::ErrorKind;
 use std::process::ExitCode;
 use std::rt::Env;
+use std::{env, fs};
 
 /// The exit status where the words of the command line can't be read.
 const WORDS_UNREADABLE: u8 = 15;
