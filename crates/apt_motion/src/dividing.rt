@@ -13,8 +13,8 @@ use apt_plane::Pt;
 use std::alloc::{AllocError, Global};
 use std::thread::{Threads, join};
 
-/// How often a list is halved at most, so there are at most 64 threads.
-const HALVINGS: u8 = 6;
+/// How often a list is halved at most, so there are at most 16 threads.
+const HALVINGS: u8 = 4;
 
 /// Few arcs have more chords.
 const MANY_CHORDS: usize = 512;

@@ -13,9 +13,9 @@ use std::rt::Files;
 /// The files of a folder; a name that begins with `/` is taken as it is. Each error of the system
 /// counts as a fault, a missing file too.
 ///
-/// A file that was opened to be read is never written: where a name leads to one, by any path or
-/// link, `start_write` answers `Fault`, the count of writing faults rises, and the file stays as it
-/// is. Files are told apart by device and inode number.
+/// A file that was opened to be read is never written, nor is one to which standard output leads:
+/// where a name leads to such a file, by any path or link, `start_write` answers `Fault`, the count of
+/// writing faults rises, and the file stays as it is. Files are told apart by device and inode number.
 #[derive(Drop)]
 pub struct FolderShelf<'a, R: Files> {
     rt: &'a R,
@@ -54,13 +54,17 @@ impl<'a, R: Files> FolderShelf<'a, R> {
         ensures read_faults { IfOk result (λ shelf. ⟦<FolderShelf<'a, R> as Shelf>⟧.read_faults shelf ≡ 0) }
         ensures write_faults { IfOk result (λ shelf. ⟦<FolderShelf<'a, R> as Shelf>⟧.write_faults shelf ≡ 0) }
     {
+        let mut opened = Vec::new(alloc);
+        if let Some(id) = standard_output(rt) {
+            opened.push(id)?;
+        }
         Ok(FolderShelf {
             rt,
             alloc,
             folder: String::from_str(alloc, folder)?,
             read_faults: 0,
             write_faults: 0,
-            opened: Vec::new(alloc),
+            opened,
             input: None,
             output: None,
             writing: None,
@@ -90,6 +94,16 @@ fn path_of(alloc: Global, folder: &str, name: &str) -> Result<String, AllocError
         String::from_str(alloc, name)
     } else {
         format!(in alloc; "{folder}/{name}")
+    }
+}
+
+/// The regular file to which standard output leads, if it leads to one: what is printed lies there.
+fn standard_output<R: Files>(rt: &R) -> Option<FileId> {
+    let found = fs::metadata(rt, "/dev/stdout").ok()?;
+    if found.is_file() {
+        Some(FileId::of(&found))
+    } else {
+        None
     }
 }
 
