@@ -1,17 +1,16 @@
 -- A chord is clear exactly where its ends and the foot of the centre tell so.
 use Rattle.std.proofs.Common.{refl, ◌≡◌, ◌↔◌, ◌⊎◌, inl, inr, ℕ, ◌+◌, ◌*◌, ◌≤◌, ◌<◌, ◌∙◌, ap, sym, arith, Bool, true, false, true≢false, not, IsTrue, ℤ, pos, negsuc, ◌-ℤ◌, ◌<ℤ◌, ◌≤ℤ◌, int_lt, unsigned_abs}
-use Rattle.std.specs.Prelude.{◌&&◌, nat_le, nat_lt, int_le}
+use Rattle.std.specs.Prelude.{◌&&◌, nat_le, nat_lt, int_le, Option, None, Some, IsNone, IfSome, is_some}
 use Rattle.std.proofs.lemmas.Int.{ints}
 use Rattle.std.proofs.lemmas.Bool.{cases_Bool, cases_lt, leb-true, le-leb, ltb-true, ltb-false, and_parts}
 use Rattle.apt_plane.specs.declared.figures.Pt.{Pt}
 use Rattle.apt_plane.specs.declared.figures.Circ.{Circ}
-use Rattle.apt_plane.specs.Vectors.{scaled, between, displacement, displacement_to, cross, dot, length_squared}
-use Rattle.apt_plane.specs.Distances.{IsOver, IsUnder, InBand, EveryPoint, about}
-use Rattle.apt_plane.specs.Ranges.{IsPoint}
-use Rattle.apt_plane.proofs.Heights.{one-times}
-use Rattle.apt_plane.proofs.Lengths.{displacement_short}
-use Rattle.apt_plane.proofs.SegmentLaws.{at_start, at_end}
-use Rattle.apt_plane.proofs.RingLaws.{length_at_most, root_at_most, over_from, over_to, over-between, under-between, negative_over, IsFootFar, IsFootNear, foot_off}
+use Rattle.apt_plane.specs.declared.figures.Spot.{Spot}
+use Rattle.apt_plane.specs.Vectors.{between, displacement, displacement_to, cross, dot, length_squared}
+use Rattle.apt_plane.specs.Distances.{IsOver, EveryPoint, about}
+use Rattle.apt_plane.specs.Segments.{IsFirstFoot}
+use Rattle.apt_plane.proofs.SegmentLaws.{at_start, at_end, not_all}
+use Rattle.apt_plane.proofs.RingLaws.{length_at_most, over_from, over_to, over-between, negative_over, IsFootFar, IsFootNear, foot_off}
 use Rattle.apt_arc.specs.Cuts.{IsClear}
 use Rattle.apt_arc.specs.Made.{is_clear, is_over, is_foot_near}
 
@@ -106,29 +105,19 @@ pub clear_tells : (track : Circ) (sag : ℤ) (a b : Pt) → IsTrue (is_clear tra
 unfolding is_clear
 clear_tells track sag a b = over_tells track.c (track.r -ℤ sag) a b
 
--- ---- by a band whose outer edge is out of reach
-under_far : (c p : Pt) → IsPoint c → IsPoint p → IsUnder (about c) (pos 200000000) (scaled p)
-under_far c p at_c at_p =
-    rw (one-times c.x, one-times c.y) ((root_at_most 1 200000000 (length_squared (displacement c p))).1 (omega (arith, displacement_short c p at_c at_p)))
-
-pub band_tells : (c p q : Pt) (lo : ℤ) → IsPoint c → IsPoint p → IsPoint q
-    → EveryPoint p q (InBand (about c) (record { lo = lo; hi = pos 200000000 })) ↔ EveryPoint p q (IsOver (about c) lo)
-band_tells c p q lo at_c at_p at_q = (
-  λ every. λ j k some. (every j k some).lo,
-  λ every. λ j k some. record { lo = every j k some; hi = under-between c p q (pos 200000000) (under_far c p at_c at_p) (under_far c q at_c at_q) j k some },
-)
-
+-- ---- by the foot of the centre alone, where the ends are known to be far enough
 same_answer : (a b : Bool) → (a ≡ true → b ≡ true) → (b ≡ true → a ≡ true) → a ≡ b
 same_answer true b f g = sym (f refl)
 same_answer false true f g = g refl
 same_answer false false f g = refl
 
--- the answer of the code, from what the band tells
-pub answer_tells : (track : Circ) (sag : ℤ) (a b : Pt) (r : Bool) → IsPoint track.c → IsPoint a → IsPoint b
-    → IsTrue r ↔ EveryPoint a b (InBand (about track.c) (record { lo = track.r -ℤ sag; hi = pos 200000000 })) → IsTrue r ↔ IsClear track sag a b
-answer_tells track sag a b r at_c at_a at_b tells =
-    let band = band_tells track.c a b (track.r -ℤ sag) at_c at_a at_b in
-    (λ t. band.0 (tells.0 t), λ clear. tells.1 (band.1 clear))
+-- no foot is too near exactly where the chord is clear
+pub none_tells : (track : Circ) (sag : ℤ) (a b : Pt) (foot : Option Spot) (r : Bool) → is_some foot ≡ not r → (IsNone foot → IsClear track sag a b)
+    → IfSome foot (λ s. IsFirstFoot track.c (IsOver (about track.c) (track.r -ℤ sag)) a b s) → IsTrue r ↔ IsClear track sag a b
+none_tells track sag a b None true e none some = (λ t. none refl, λ clear. refl)
+none_tells track sag a b (Some s) false e none some = not_all (about track.c) (IsOver (about track.c) (track.r -ℤ sag)) a b s (inr some)
+none_tells track sag a b None false e none some = absurd (true≢false (sym e))
+none_tells track sag a b (Some s) true e none some = absurd (true≢false e)
 
 pub answer_is : (track : Circ) (sag : ℤ) (a b : Pt) (r : Bool) → IsTrue r ↔ IsClear track sag a b → r ≡ is_clear track sag a b
 answer_is track sag a b r tells =

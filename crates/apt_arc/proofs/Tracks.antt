@@ -1,5 +1,5 @@
 -- Points near a track, the point half way between two, and the halves of a piece.
-use Rattle.std.proofs.Common.{refl, ◌≡◌, ◌↔◌, ℕ, ◌+◌, ◌-◌, ◌*◌, ◌^◌, ◌≤◌, ◌<◌, ap, sym, subst, arith, false, ℤ, pos, negsuc, ◌+ℤ◌, ◌-ℤ◌, ◌*ℤ◌, ◌≤ℤ◌, unsigned_abs}
+use Rattle.std.proofs.Common.{refl, ◌≡◌, ◌↔◌, ℕ, ◌+◌, ◌-◌, ◌*◌, ◌^◌, ◌≤◌, ◌<◌, ap, sym, subst, arith, false, ℤ, pos, negsuc, ◌+ℤ◌, ◌-ℤ◌, ◌*ℤ◌, ◌≤ℤ◌, unsigned_abs, FitsSigned, w64}
 use Rattle.std.proofs.Math.Nat.{mul-le-mul_left}
 use Rattle.std.proofs.lemmas.Nat.{mul-le}
 use Rattle.std.proofs.lemmas.Int.{ints}
@@ -7,13 +7,13 @@ use Rattle.apt_num.proofs.Squares.{root_le}
 use Rattle.apt_plane.specs.declared.figures.Pt.{Pt}
 use Rattle.apt_plane.specs.declared.figures.Dir.{Dir}
 use Rattle.apt_plane.specs.declared.figures.Circ.{Circ}
-use Rattle.apt_plane.specs.Vectors.{between, displacement, displacement_to, dot, length_squared}
-use Rattle.apt_plane.specs.Distances.{IsLengthAtMost, IsRootAtMost}
+use Rattle.apt_plane.specs.Vectors.{scaled, between, displacement, displacement_to, dot, length_squared}
+use Rattle.apt_plane.specs.Distances.{IsLengthAtMost, IsRootAtMost, IsOver, about}
 use Rattle.apt_plane.specs.Ranges.{IsPoint, IsDir, IsRound, IsSense}
 use Rattle.apt_plane.proofs.Displacements.{stewart}
 use Rattle.apt_plane.proofs.Lengths.{plus, chord}
 use Rattle.apt_plane.proofs.Heights.{one-times}
-use Rattle.apt_plane.proofs.RingLaws.{length_at_most, root_at_most}
+use Rattle.apt_plane.proofs.RingLaws.{length_at_most, root_at_most, over_to}
 use Rattle.apt_canon.specs.Scale.{IsNearCircle, sum}
 use Rattle.apt_canon.specs.Feet.{ray_point}
 use Rattle.apt_canon.proofs.FootPoints.Sharp.{ray_across, ray_forward, ray_radius}
@@ -41,6 +41,12 @@ within_small t is = omega (arith, ints, is.least, is.x)
 
 pub is_round : (t : Circ) → IsTrack t → IsRound t
 is_round t is = record { centre = record { x = omega (arith, is.x); y = omega (arith, is.y) }; least = omega (arith, ints, is.least); most = omega (arith, ints, is.least, is.x) }
+
+pub radius_fits : (t : Circ) → IsTrack t → FitsSigned w64 t.r
+radius_fits t is = omega (arith, ints, is.least, is.x)
+
+pub inner_fits : (t : Circ) (sag : ℤ) → IsTrack t → IsSag t sag → FitsSigned w64 (t.r -ℤ sag)
+inner_fits t sag is fits = omega (arith, ints, is.least, is.x, fits.least, fits.most)
 
 -- ---- near the track
 pub length_tells : (h n : ℕ) → IsLengthAtMost (pos h) n ↔ (h * h ≤ n)
@@ -149,6 +155,14 @@ sag_parts r (negsuc sag) p e least most = absurd (omega (arith, ints, least))
 
 pub far_ends : (p q v n : ℕ) → q + v ≡ p → p * p ≤ n → q * q ≤ n
 far_ends p q v n e h = omega (arith, h, mul-le q q p p (omega (arith, e)) (omega (arith, e)))
+
+-- a point near a track lies no further inside of it than the sag
+pub ends_over : (t : Circ) (sag : ℤ) (a : Pt) → IsTrack t → IsSag t sag → IsNearCircle t (pos 3) a → IsOver (about t.c) (t.r -ℤ sag) (scaled a)
+ends_over t sag a is fits near =
+    let p = within t in
+    let split = sag_parts t.r sag p (radius_is t is) fits.least fits.most in
+    let far = far_ends p split.0 split.1 (length_squared (displacement t.c a)) split.4 (nearby t a is near).low in
+    subst (λ (z : ℤ). IsOver (about t.c) z (scaled a)) (sym split.2) (over_to t.c a split.0 far)
 
 long_core : (p q v D A B X j k : ℕ) → q + v ≡ p → j * k * D + X ≡ (j + k) * (k * A + j * B) → p * p ≤ A → p * p ≤ B → X < (j + k) * (j + k) * (q * q) → 5 ≤ v → 3 * v + 9 ≤ q
     → 4 * ((v + 3) * (p + 3)) < D

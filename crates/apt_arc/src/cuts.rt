@@ -1,9 +1,9 @@
 //! A piece of an arc, halved until its chords are clear.
 
-ghost use Rattle.std.specs.Prelude.{◌≡◌, ◌≤◌, ◌+◌, ◌^◌, ◌++◌, ◌∷◌, [], ◌↔◌, IsTrue, IsFalse, false, length, take, vec_len, vec_capacity};
+ghost use Rattle.std.specs.Prelude.{◌≡◌, ◌≤◌, ◌+◌, ◌^◌, ◌++◌, ◌∷◌, [], ◌↔◌, IsTrue, IsFalse, false, pos, length, take, vec_len, vec_capacity};
 ghost use Rattle.apt_plane.specs.Vectors.{displacement};
 ghost use Rattle.apt_plane.specs.Ranges.{IsPoint, IsDir};
-ghost use Rattle.apt_canon.specs.Scale.{sum};
+ghost use Rattle.apt_canon.specs.Scale.{IsNearCircle, sum};
 ghost use Rattle.apt_arc.specs.Ranges.{IsTrack, IsSag, IsPiece, IsArc};
 ghost use Rattle.apt_arc.specs.Cuts.{IsClear};
 ghost use Rattle.apt_arc.specs.Cuts as cuts;
@@ -13,25 +13,19 @@ ghost use Rattle.apt_arc.specs.Halves.{IsHalved};
 use crate::arc::Arc;
 use apt_canon::ray_point;
 use apt_plane::vectors::displacement;
-use apt_plane::{Band, Circ, Dir, Pt, segment_in_ring};
-
-/// Further away than every point in range.
-const FAR: i64 = 200_000_000;
+use apt_plane::{Circ, Dir, Pt, nearer_foot};
 
 /// Whether no point of a chord lies further inside of a track than the sag.
 fn is_clear(track: &Circ, sag: i64, a: Pt, b: Pt) -> bool
     requires track { IsTrack track.now }
     requires sag { IsSag track.now sag }
-    requires start { IsPoint a }
-    requires end { IsPoint b }
+    requires start { IsNearCircle track.now (pos 3) a }
+    requires end { IsNearCircle track.now (pos 3) b }
     ensures value { result ≡ spec.is_clear track.now sag a b }
     ensures clear { IsTrue result ↔ IsClear track.now sag a b }
 {
-    let band = Band {
-        lo: track.r - sag,
-        hi: FAR,
-    };
-    segment_in_ring(a, b, track.c, band).is_ok()
+    // The ends are near the track, so only the foot of the centre can be too far inside.
+    nearer_foot(a, b, track.c, track.r - sag).is_none()
 }
 
 /// The point of a track half way between two.

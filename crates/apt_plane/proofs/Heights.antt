@@ -7,7 +7,7 @@ use Rattle.apt_num.proofs.Squares.{size_mul, size_minus}
 use Rattle.apt_plane.specs.declared.figures.Pt.{Pt}
 use Rattle.apt_plane.specs.declared.figures.Dir.{Dir}
 use Rattle.apt_plane.specs.declared.figures.Line.{Line}
-use Rattle.apt_plane.specs.Vectors.{displacement, cross, length_squared, scaled, between, height}
+use Rattle.apt_plane.specs.Vectors.{displacement, cross, dot, length_squared, scaled, between, height}
 use Rattle.apt_plane.specs.Ranges.{IsPoint, IsDir, IsShort}
 
 pub one-times : (z : ℤ) → pos 1 *ℤ z ≡ z
@@ -16,6 +16,13 @@ one-times z = omega (arith, ints)
 -- the height of a point is that of the way to it
 pub height_of_point : (l : Line) (p : Pt) → height l (scaled p) ≡ cross l.dir (displacement l.base p)
 height_of_point l p = rw (one-times l.base.x, one-times l.base.y) refl
+
+sum_small : (a b c d : ℤ) → unsigned_abs a ≤ 10 ^ 8 → unsigned_abs b ≤ 10 ^ 8 → unsigned_abs c ≤ 10 ^ 8 → unsigned_abs d ≤ 10 ^ 8
+    → unsigned_abs ((a *ℤ b) +ℤ (c *ℤ d)) ≤ 2 * 10 ^ 16
+sum_small a b c d p q r s =
+    let first : unsigned_abs (a *ℤ b) ≤ 10 ^ 16 = rw (size_mul a b) (omega (arith, mul-le _ _ (10 ^ 8) (10 ^ 8) p q)) in
+    let second : unsigned_abs (c *ℤ d) ≤ 10 ^ 16 = rw (size_mul c d) (omega (arith, mul-le _ _ (10 ^ 8) (10 ^ 8) r s)) in
+    omega (arith, ints)
 
 difference_small : (a b c d : ℤ) → unsigned_abs a ≤ 10 ^ 8 → unsigned_abs b ≤ 10 ^ 8 → unsigned_abs c ≤ 10 ^ 8 → unsigned_abs d ≤ 10 ^ 8
     → unsigned_abs ((a *ℤ b) -ℤ (c *ℤ d)) ≤ 2 * 10 ^ 16
@@ -36,6 +43,9 @@ length_squared_small d is = omega (arith, mul-le _ _ (10 ^ 8) (10 ^ 8) is.dx is.
 
 pub short_cross_small : (u v : Dir) → IsShort u → IsShort v → unsigned_abs (cross u v) ≤ 2 * 10 ^ 16
 short_cross_small u v p q = difference_small u.dx v.dy u.dy v.dx p.dx q.dy p.dy q.dx
+
+pub short_dot_small : (u v : Dir) → IsShort u → IsShort v → unsigned_abs (dot u v) ≤ 2 * 10 ^ 16
+short_dot_small u v p q = sum_small u.dx v.dx u.dy v.dy p.dx q.dx p.dy q.dy
 
 pub short_square_small : (d : Dir) → IsShort d → length_squared d ≤ 2 * 10 ^ 16
 short_square_small d is = omega (arith, mul-le _ _ (10 ^ 8) (10 ^ 8) is.dx is.dx, mul-le _ _ (10 ^ 8) (10 ^ 8) is.dy is.dy)

@@ -37,8 +37,11 @@ pub fn segment_in_ring(p: Pt, q: Pt, c: Pt, band: Band) -> Result<(), Spot>
     }
 }
 
-/// The point between P and Q that is nearest to `c`, where it is nearer than `lo` and the ends are not.
-pub(crate) fn nearer_foot(p: Pt, q: Pt, c: Pt, lo: i64) -> Option<Spot>
+/// The point of the segment PQ that is nearest to `c`, if it is nearer than `lo`, where the ends are known not to be.
+///
+/// It lies between the ends, and is the (j, m) that [`segment_in_ring`] gives. `None` tells that every point of the
+/// segment is at least `lo` from `c`, as it is where `lo` is below 0.
+pub fn nearer_foot(p: Pt, q: Pt, c: Pt, lo: i64) -> Option<Spot>
     requires start { IsPoint p }
     requires end { IsPoint q }
     requires centre { IsPoint c }
@@ -48,14 +51,15 @@ pub(crate) fn nearer_foot(p: Pt, q: Pt, c: Pt, lo: i64) -> Option<Spot>
     ensures none { IsNone result → EveryPoint p q (IsOver (about c) lo) }
     ensures some { IfSome result (λ s. IsFirstFoot c (IsOver (about c) lo) p q s) }
 {
+    // Ways between points are short: their products fit in 64 bits, and only the products of those need more.
     let segment = displacement(p, q);
     let way = displacement(p, c);
-    let along = dot(segment, way);
+    let along = along_of(segment, way);
     let whole = square_of(segment);
     if is_between(along, whole) && is_nearer(area_of(segment, way), lo, whole) {
         Some(Spot {
-            j: along,
-            m: whole as i128,
+            j: i128::from(along),
+            m: i128::from(whole),
         })
     } else {
         None
@@ -103,38 +107,48 @@ fn is_root_at_most(n: u128, length: i64) -> bool
     length >= 0 && n <= size * size
 }
 
-fn is_between(along: i128, whole: u128) -> bool
+fn is_between(along: i64, whole: u64) -> bool
     ensures { IsTrue result ↔ ((pos 0 <ℤ along) × (along <ℤ pos whole)) }
 {
     along > 0 && along.unsigned_abs() < whole
 }
 
 /// Whether `lo` is not below 0, and the area over the root of `whole` below it.
-fn is_nearer(area: u128, lo: i64, whole: u128) -> bool
+fn is_nearer(area: u64, lo: i64, whole: u64) -> bool
     requires area { area ≤ 2 * 10 ^ 16 }
     requires length { unsigned_abs lo ≤ 4 * 10 ^ 8 }
     requires whole { whole ≤ 2 * 10 ^ 16 }
     ensures { IsTrue result ↔ ((pos 0 ≤ℤ lo) × (area * area < unsigned_abs lo * unsigned_abs lo * whole)) }
 {
-    let size = u128::from(lo.unsigned_abs());
-    lo >= 0 && area * area < size * size * whole
+    let size = lo.unsigned_abs();
+    let square = u128::from(area) * u128::from(area);
+    lo >= 0 && square < u128::from(size * size) * u128::from(whole)
+}
+
+#[tactic(auto, using(crate::proofs::Heights::short_dot_small))]
+fn along_of(first: Dir, second: Dir) -> i64
+    requires first { IsShort first }
+    requires second { IsShort second }
+    ensures { result ≡ spec.dot first second }
+{
+    dot(first, second) as i64
 }
 
 #[tactic(auto, using(crate::proofs::Heights::short_cross_small))]
-fn area_of(first: Dir, second: Dir) -> u128
+fn area_of(first: Dir, second: Dir) -> u64
     requires first { IsShort first }
     requires second { IsShort second }
     ensures value { result ≡ unsigned_abs (spec.cross first second) }
     ensures small { result ≤ 2 * 10 ^ 16 }
 {
-    cross(first, second).unsigned_abs()
+    (cross(first, second) as i64).unsigned_abs()
 }
 
 #[tactic(auto, using(crate::proofs::Heights::short_square_small))]
-fn square_of(way: Dir) -> u128
+fn square_of(way: Dir) -> u64
     requires { IsShort way }
     ensures value { result ≡ spec.length_squared way }
     ensures small { result ≤ 2 * 10 ^ 16 }
 {
-    length_squared(way)
+    length_squared(way) as u64
 }

@@ -2,14 +2,7 @@ use Rattle.std.proofs.Common.{arith, sym, ◌∙◌, ◌<◌, FitsSigned, w64}
 use Rattle.std.proofs.lemmas.Int.{ints, to_z-of_z}
 use Rattle.apt_arc.proofs.Lists.{pieces_clear}
 use Rattle.apt_arc.proofs.Halved.{is_halved}
-use Rattle.apt_arc.proofs.Tracks.{point_near}
 use Rattle.apt_arc.proofs.cuts.is_whole.Goals as goal
-
-pub is_clear-requires-clause-start : goal.is_clear-requires-clause-start
-is_clear-requires-clause-start c = point_near c.args.arc.now.track c.args.a c.requires.arc.track c.requires.piece.start
-
-pub is_clear-requires-clause-end : goal.is_clear-requires-clause-end
-is_clear-requires-clause-end c = point_near c.args.arc.now.track c.args.b c.requires.arc.track c.requires.piece.end
 
 pub returns-else-depth-eq0-clause-whole : goal.returns-else-depth-eq0-clause-whole
 returns-else-depth-eq0-clause-whole c =
