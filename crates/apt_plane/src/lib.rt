@@ -9,5 +9,5 @@ pub mod vectors;
 
 pub use figures::{Axis, Band, Circ, Dir, Line, Moved, Pt, Spot, Surface};
 pub use order::{before, by_sense};
-pub use rings::segment_in_ring;
+pub use rings::{nearer_foot, segment_in_ring};
 pub use segments::{segment_in_line_band, segment_over, segment_under};

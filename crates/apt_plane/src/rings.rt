@@ -38,7 +38,7 @@ pub fn segment_in_ring(p: Pt, q: Pt, c: Pt, band: Band) -> Result<(), Spot>
 }
 
 /// The point between P and Q that is nearest to `c`, where it is nearer than `lo` and the ends are not.
-pub(crate) fn nearer_foot(p: Pt, q: Pt, c: Pt, lo: i64) -> Option<Spot>
+pub fn nearer_foot(p: Pt, q: Pt, c: Pt, lo: i64) -> Option<Spot>
     requires start { IsPoint p }
     requires end { IsPoint q }
     requires centre { IsPoint c }
