@@ -1,19 +1,28 @@
--- What the code tells of a segment and of a track.
-use Rattle.std.specs.Prelude.{ℕ, ◌+◌, ◌*◌, ◌≤◌, ◌<◌, ◌^◌, ◌↔◌, unsigned_abs, Option, Some, None}
+-- What the code tells of a segment, of a leg's edge and of a track.
+use Rattle.std.specs.Prelude.{◌≡◌, ℕ, ◌+◌, ◌*◌, ◌≤◌, ◌<◌, ◌^◌, ◌↔◌, unsigned_abs, Option, Some, None}
 use Rattle.apt_plane.specs.declared.figures.Pt.{Pt}
 use Rattle.apt_plane.specs.declared.figures.Surface.{Surface}
+use Rattle.apt_plane.specs.declared.figures.Band.{Band}
 use Rattle.apt_plane.specs.declared.figures.Spot.{Spot}
 use Rattle.apt_plane.specs.Vectors.{Scaled}
 use Rattle.apt_plane.specs.Distances.{EveryPoint}
 use Rattle.apt_plane.specs.Segments.{IsFirstOff}
-use Rattle.apt_plane.specs.Ranges.{IsPoint, IsDir}
+use Rattle.apt_plane.specs.Ranges.{IsPoint, IsDir, IsBand}
 use Rattle.apt_offset.specs.declared.Target.{Target}
 use Rattle.apt_offset.specs.declared.Target.TheVariants as targets
+use Rattle.apt_offset.specs.Edges.{widened}
+use Rattle.apt_certify.specs.declared.leg.Leg.{Leg}
+use Rattle.apt_certify.specs.Legs.{slack_of}
 
 -- a fact about a surface is true of every point of a segment, or not of one of its ends or of the foot of a circle's centre
 abbrev pub IsEveryOrOff : Surface → (Scaled → Type 0) → Pt → Pt → Option Spot → Type 0
 IsEveryOrOff surface P a b None = EveryPoint a b P
 IsEveryOrOff surface P a b (Some spot) = IsFirstOff surface P a b spot
+
+-- the band of a leg's stop with its slack, in range
+pub record IsEdge (leg : Leg) (edge : Band) : Type 0 where
+  pub value : edge ≡ widened leg.stop_band (slack_of leg)
+  pub fits : IsBand edge
 
 -- a track in range
 abbrev pub IsTrack : Target → Type 0

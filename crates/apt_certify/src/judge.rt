@@ -4,17 +4,18 @@ ghost use Rattle.std.specs.Prelude.{◌≡◌, ◌↔◌, ◌≤◌, ◌<◌, �
 ghost use Rattle.apt_plane.specs.Ranges.{IsPoint, IsSense};
 ghost use Rattle.apt_certify.specs.declared.verdict.Verdict.{Verdict};
 ghost use Rattle.apt_certify.specs.Legal.{IsLegal};
-ghost use Rattle.apt_certify.specs.Tests.{tests_from};
+ghost use Rattle.apt_certify.specs.Tests.{AllHold, segment_tests, tests_from};
 ghost use Rattle.apt_certify.specs.Jobs.{ArePoints, IsLeg, IsJob, AreJobs, point_count, IsLegalPath, AreLegal};
+ghost use Rattle.apt_certify.specs.Tracks.{IsEdge};
 ghost use Rattle.apt_certify.specs.Verdicts.{IsFailure, IsFailureOfPath, IsVerdict};
 ghost use Rattle.apt_certify.specs.Verdicts as verdicts;
 
 use crate::deviations::{greater, worst};
 use crate::gate::{Gate, OpenGate};
 use crate::leg::{Job, Leg};
-use crate::segments::{Failure, end_fault, segment_fault};
+use crate::segments::{Failure, edge_of, end_fault, onward_fault, segment_fault};
 use crate::verdict::{Bad, Verdict};
-use apt_plane::Pt;
+use apt_plane::{Band, Pt};
 
 /// The verdict over jobs, of less than 2^63 points together.
 #[tactic(auto, using(crate::proofs::Single::only_verdict, crate::proofs::Halves::none_where_legal))]
@@ -109,27 +110,45 @@ fn path_fault(leg: &Leg, points: &[Pt]) -> Option<Bad>
     ensures { MatchOption result (IsLegalPath leg.now points.now) (λ bad. (bad.motion ≡ 1) × IsFailureOfPath leg.now points.now bad.segment bad.reason bad.spot) }
 {
     match points {
-        [start, vertices @ ..] => leg_fault(leg, *start, vertices),
-        [] => unreachable!(),
+        [start, first, vertices @ ..] => leg_fault(leg, *start, *first, vertices),
+        _ => unreachable!(),
     }
 }
 
-fn leg_fault(leg: &Leg, start: Pt, vertices: &[Pt]) -> Option<Bad>
+fn leg_fault(leg: &Leg, start: Pt, first: Pt, vertices: &[Pt]) -> Option<Bad>
     requires leg { IsLeg leg.now }
     requires start { IsPoint start }
-    requires moves { 0 < length vertices.now }
+    requires first { IsPoint first }
     requires vertices { ArePoints vertices.now }
-    ensures { MatchOption result (IsLegal leg.now start vertices.now) (λ bad. (bad.motion ≡ 1) × IsFailure leg.now start (tests_from start vertices.now) bad.segment bad.reason bad.spot) }
+    ensures { MatchOption result (IsLegal leg.now start (first ∷ vertices.now)) (λ bad. (bad.motion ≡ 1) × IsFailure leg.now start (tests_from start (first ∷ vertices.now)) bad.segment bad.reason bad.spot) }
 {
-    let mut at = start;
+    let edge = edge_of(leg);
+    match segment_fault(leg, edge, start, start, first) {
+        Some(fault) => Some(first_motion(1, fault)),
+        None => further_fault(leg, edge, start, first, vertices),
+    }
+}
+
+/// The same where the tests of the first segment hold.
+fn further_fault(leg: &Leg, edge: Band, start: Pt, first: Pt, vertices: &[Pt]) -> Option<Bad>
+    requires leg { IsLeg leg.now }
+    requires edge { IsEdge leg.now edge }
+    requires start { IsPoint start }
+    requires first { IsPoint first }
+    requires vertices { ArePoints vertices.now }
+    requires hold { AllHold leg.now start (segment_tests start first) }
+    ensures { MatchOption result (IsLegal leg.now start (first ∷ vertices.now)) (λ bad. (bad.motion ≡ 1) × IsFailure leg.now start (tests_from start (first ∷ vertices.now)) bad.segment bad.reason bad.spot) }
+{
+    // Where a segment ends, the tests that it passed tell of the start of the next.
+    let mut at = first;
     'vertices: for (i, q) in vertices.iter().enumerate() {
-        if let Some(fault) = segment_fault(leg, start, at, *q) {
-            return Some(first_motion(i as u64 + 1, fault));
+        if let Some(fault) = onward_fault(leg, edge, start, at, *q) {
+            return Some(first_motion(i as u64 + 2, fault));
         }
         at = *q;
     }
     match end_fault(leg, at) {
-        Some(fault) => Some(first_motion(vertices.len() as u64, fault)),
+        Some(fault) => Some(first_motion(vertices.len() as u64 + 1, fault)),
         None => None,
     }
 }

@@ -6,6 +6,7 @@ mod distances;
 mod gate;
 mod judge;
 mod leg;
+mod onwards;
 mod segments;
 mod split;
 mod verdict;
