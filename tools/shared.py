@@ -32,9 +32,10 @@ CODES = {
     "RS244": dict(zip(CHARACTERS, bytes.fromhex("20010213041516070819" "76675445322337382970" "40800b"))),
 }
 
-# the same as tables over all bytes: which byte is punched, and which character is sensed
+# the same as tables over all bytes: which byte is punched, which character is sensed, and which bytes are none
 PUNCHED = {code: bytes.maketrans(CHARACTERS.encode(), bytes(row.values())) for code, row in CODES.items()}
 SENSED = {code: bytes.maketrans(bytes(row.values()), CHARACTERS.encode()) for code, row in CODES.items()}
+DROPPED = {code: bytes(set(range(256)) - set(row.values())) for code, row in CODES.items()}
 
 CL_HEAD = b"APTCL 1\n"
 
@@ -79,25 +80,12 @@ def punch(text, code):
 
 def sense(tape, code):
     """The characters of a tape; every other byte is dropped."""
-    others = bytes(set(range(256)) - set(CODES[code].values()))
-    return tape.translate(SENSED[code], others).decode("ascii")
+    return tape.translate(SENSED[code], DROPPED[code]).decode("ascii")
 
 
 def cl_file(records):
     """The CL file of these records, each a list of its words from the sequence number on."""
     return CL_HEAD + b"".join(struct.pack(">I", 8 * len(words)) + struct.pack(f">{len(words)}q", *words) for words in records)
-
-
-def cl_records(content):
-    """The whole records at the front of a CL file."""
-    records, at = [], len(CL_HEAD)
-    while at + 4 <= len(content):
-        (length,) = struct.unpack_from(">I", content, at)
-        at += 4 + length
-        if length % 8 or at > len(content):
-            break
-        records.append(list(struct.unpack_from(f">{length // 8}q", content, at - length)))
-    return records
 
 
 def row_files(rows, title):
