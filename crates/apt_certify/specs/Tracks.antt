@@ -1,5 +1,5 @@
 -- What the code tells of a segment, of a leg's edge and of a track.
-use Rattle.std.specs.Prelude.{◌≡◌, ℕ, ◌+◌, ◌*◌, ◌≤◌, ◌<◌, ◌^◌, ◌↔◌, unsigned_abs, Option, Some, None}
+use Rattle.std.specs.Prelude.{◌≡◌, ◌≢◌, ℕ, zero, suc, ℤ, pos, negsuc, ◌<ℤ◌, ◌+◌, ◌*◌, ◌≤◌, ◌<◌, ◌^◌, ◌↔◌, unsigned_abs, Option, Some, None}
 use Rattle.apt_plane.specs.declared.figures.Pt.{Pt}
 use Rattle.apt_plane.specs.declared.figures.Surface.{Surface}
 use Rattle.apt_plane.specs.declared.figures.Band.{Band}
@@ -18,6 +18,12 @@ use Rattle.apt_certify.specs.Legs.{slack_of}
 abbrev pub IsEveryOrOff : Surface → (Scaled → Type 0) → Pt → Pt → Option Spot → Type 0
 IsEveryOrOff surface P a b None = EveryPoint a b P
 IsEveryOrOff surface P a b (Some spot) = IsFirstOff surface P a b spot
+
+-- a step onwards, of less than a half turn, ends before the whole turn does, by how far its ends lie to the side of the turn's start
+abbrev pub StaysBefore : ℤ → ℤ → Type 0
+StaysBefore (pos zero) y = y ≢ pos 0
+StaysBefore (pos (suc x)) y = Unit {0}
+StaysBefore (negsuc x) y = y <ℤ pos 0
 
 -- the band of a leg's stop with its slack, in range
 pub record IsEdge (leg : Leg) (edge : Band) : Type 0 where
