@@ -1,5 +1,5 @@
 -- A tape that comes in pieces: the run of all bytes goes on where that of the bytes so far stands.
-use Rattle.std.proofs.Common.{◌≡◌, ℕ, ◌+◌, ◌==◌, ◌&&◌, nat_le, Bool, true, false, not, List, [], ◌∷◌, ◌++◌, drop, Option, Some, None, Result, Ok, Err, IfOk, cond, refl, ap, ◌∙◌, sym, subst, unsigned_abs}
+use Rattle.std.proofs.Common.{◌≡◌, ℕ, ◌+◌, ◌==◌, ◌&&◌, nat_le, Bool, true, false, not, List, [], ◌∷◌, ◌++◌, append_assoc, drop, Option, Some, None, Result, Ok, Err, IfOk, cond, refl, ap, ◌∙◌, sym, subst, unsigned_abs}
 use Rattle.std.specs.List.{list_any}
 use Rattle.apt_tapecode.specs.declared.Code.{Code}
 use Rattle.apt_tapecode.specs.declared.Read.{Read}
@@ -21,11 +21,12 @@ use Rattle.apt_control.specs.declared.error.ControlError.TheVariants as errors
 use Rattle.apt_control.specs.declared.walk.Phase.{Phase}
 use Rattle.apt_control.specs.declared.walk.Phase.TheVariants as phases
 use Rattle.apt_words.specs.Answers.{IsDue, IsDueAs}
+use Rattle.apt_words.proofs.Answers.{comes_more}
 use Rattle.apt_control.specs.Answers.{fault_in}
-use Rattle.apt_control.specs.Control.{Meaning, MeaningOf, is_rewind_stop, tape_run}
+use Rattle.apt_control.specs.Control.{Meaning, MeaningOf, is_rewind_stop, acts_and, tape_run}
 use Rattle.apt_control.specs.Walk.{outcome, outcome_as, Walk, walk_start, start_step, past_byte, with_meaning, block_step, end_step, byte_as, byte_step, byte_steps}
-use Rattle.apt_control.specs.Pieces.{StandsFor, more_may_mend, IsSettled, HoldsFault, RefusesFault, RefusesAs}
-use Rattle.apt_control.proofs.Walks.{run_is_walk}
+use Rattle.apt_control.specs.Pieces.{StandsBehind, more_may_mend, IsSettled, HoldsFault, RefusesFault, RefusesAs}
+use Rattle.apt_control.proofs.Walks.{step_by_end, run_is_walk}
 
 -- ---- one piece behind another
 pub byte_steps_append : {H A : Type 0} (means : MeaningOf H A) (s : Walk H A) (front piece : List ℕ)
@@ -152,14 +153,80 @@ steady {H = H} {A = A} means settled s (byte ∷ bytes) = each (byte_step means 
     each (Ok r) same all = subst (λ code. Steady code (byte_steps means r bytes)) same (all r)
     each (Err f) same all = same
 
--- ---- what feed and finish tell
-stands_on : {H A : Type 0} (means : MeaningOf H A) (start : H) (s : Walk H A) (front piece : List ℕ) → StandsFor means start s front
-    → byte_steps means (walk_start start s.code) (front ++ piece) ≡ byte_steps means s piece
-stands_on means start s front piece stands = byte_steps_append means (walk_start start s.code) front piece ∙ ap (λ r. r >>= λ s. byte_steps means s piece) stands
+-- ---- acts in front change nothing else
+abbrev behind : {H A : Type 0} → List A → Walk H A → Walk H A
+behind acts s = record s { acts = acts ++ s.acts }
 
-run_on : {H A : Type 0} (means : MeaningOf H A) (start : H) (s : Walk H A) (front piece : List ℕ) → StandsFor means start s front
-    → tape_run means start s.code (front ++ piece) ≡ (byte_steps means s piece >>= outcome)
-run_on means start s front piece stands = run_is_walk means start s.code (front ++ piece) ∙ ap (λ r. r >>= outcome) (stands_on means start s front piece stands)
+abbrev all_behind : {H A : Type 0} → List A → Result (Walk H A) BlockFault → Result (Walk H A) BlockFault
+all_behind acts r = r >>= λ s. Ok (behind acts s)
+
+byte_behind : {H A : Type 0} (means : MeaningOf H A) (acts : List A) (s : Walk H A) (byte : ℕ) → byte_step means (behind acts s) byte ≡ all_behind acts (byte_step means s byte)
+byte_behind {H = H} {A = A} means acts s byte = go s.phase
+  where
+    meant : (q : Result (Meaning H A) BlockFault) → (q >>= λ m. Ok (with_meaning (behind acts s) m)) ≡ all_behind acts (q >>= λ m. Ok (with_meaning s m))
+    meant (Ok m) = ap (λ all. Ok (record (with_meaning s m) { acts = all })) (append_assoc acts s.acts m.acts)
+    meant (Err f) = refl
+
+    ended : (b : FrontPart) (t : Bool) → step_by_end means (behind acts s) b t ≡ all_behind acts (step_by_end means s b t)
+    ended b true = meant (means s.held s.count b.words)
+    ended b false = refl
+
+    character : (r : Result FrontPart BlockFault) → (r >>= λ b. step_by_end means (behind acts s) b (is_whole b)) ≡ all_behind acts (r >>= λ b. step_by_end means s b (is_whole b))
+    character (Ok b) = ended b (is_whole b)
+    character (Err f) = refl
+
+    block : (r : Read) → block_step means (behind acts s) r ≡ all_behind acts (block_step means s r)
+    block (reads.Char ch) = character (step s.block (record { at = s.count; ch = ch }))
+    block reads.Skip = refl
+    block reads.BadParity = refl
+    block reads.BadCode = refl
+
+    past : (r : Read) → end_step (behind acts s) r ≡ all_behind acts (end_step s r)
+    past (reads.Char ch) = stop (ch == rewind_stop)
+      where
+        stop : (t : Bool) → cond t (Ok (past_byte (behind acts s))) (Err (fault s.count causes.AfterEnd)) ≡ all_behind acts (cond t (Ok (past_byte s)) (Err (fault s.count causes.AfterEnd)))
+        stop true = refl
+        stop false = refl
+    past reads.Skip = refl
+    past reads.BadParity = refl
+    past reads.BadCode = refl
+
+    start : (t : Bool) → start_step t (behind acts s) ≡ behind acts (start_step t s)
+    start true = refl
+    start false = refl
+
+    go : (p : Phase) → byte_as means (behind acts s) byte p ≡ all_behind acts (byte_as means s byte p)
+    go phases.BeforeStart = ap Ok (start (is_rewind_stop s.code byte))
+    go phases.InBlock = block (reading s.code byte)
+    go phases.BehindEnd = past (reading s.code byte)
+
+steps_behind : {H A : Type 0} (means : MeaningOf H A) (acts : List A) (s : Walk H A) (bytes : List ℕ) → byte_steps means (behind acts s) bytes ≡ all_behind acts (byte_steps means s bytes)
+steps_behind means acts s [] = refl
+steps_behind {H = H} {A = A} means acts s (byte ∷ bytes) =
+    ap (λ r. r >>= λ s. byte_steps means s bytes) (byte_behind means acts s byte) ∙ each (byte_step means s byte) (λ s. steps_behind means acts s bytes)
+  where
+    each : (r : Result (Walk H A) BlockFault) → ((s : Walk H A) → byte_steps means (behind acts s) bytes ≡ all_behind acts (byte_steps means s bytes))
+        → (all_behind acts r >>= λ s. byte_steps means s bytes) ≡ all_behind acts (r >>= λ s. byte_steps means s bytes)
+    each (Ok s) same = same s
+    each (Err f) same = refl
+
+outcome_behind : {H A : Type 0} (acts : List A) (s : Walk H A) → outcome (behind acts s) ≡ acts_and acts (outcome s)
+outcome_behind acts s = go s.phase
+  where
+    go : (p : Phase) → outcome_as (behind acts s) p ≡ acts_and acts (outcome_as s p)
+    go phases.BeforeStart = refl
+    go phases.InBlock = refl
+    go phases.BehindEnd = refl
+
+-- ---- what feed and finish tell, also of a reader from which acts were dropped
+stands_on : {H A : Type 0} (means : MeaningOf H A) (start : H) (acts : List A) (s : Walk H A) (front piece : List ℕ) → StandsBehind means start acts s front
+    → byte_steps means (walk_start start s.code) (front ++ piece) ≡ all_behind acts (byte_steps means s piece)
+stands_on means start acts s front piece stands =
+    byte_steps_append means (walk_start start s.code) front piece ∙ ap (λ r. r >>= λ s. byte_steps means s piece) stands ∙ steps_behind means acts s piece
+
+run_on : {H A : Type 0} (means : MeaningOf H A) (start : H) (acts : List A) (s : Walk H A) (front piece : List ℕ) → StandsBehind means start acts s front
+    → tape_run means start s.code (front ++ piece) ≡ (all_behind acts (byte_steps means s piece) >>= outcome)
+run_on means start acts s front piece stands = run_is_walk means start s.code (front ++ piece) ∙ ap (λ r. r >>= outcome) (stands_on means start acts s front piece stands)
 
 -- a piece that is taken, in the same code
 pub fed_code : {H A : Type 0} (means : MeaningOf H A) → IsSettled means → (s : Walk H A) (piece : List ℕ) (result : Result (Walk H A) ControlError)
@@ -168,20 +235,24 @@ fed_code means settled s piece (Ok r) fed = subst (Steady s.code) fed (steady me
 fed_code means settled s piece (Err e) fed = tt
 
 pub fed_stands : {H A : Type 0} (means : MeaningOf H A) (start : H) → IsSettled means → (s : Walk H A) (piece : List ℕ) (result : Result (Walk H A) ControlError)
-    → IsDue fault_in (byte_steps means s piece) result → (front : List ℕ) → StandsFor means start s front → IfOk result (λ r. StandsFor means start r (front ++ piece))
-fed_stands means start settled s piece (Ok r) fed front stands =
-    subst (λ code. byte_steps means (walk_start start code) (front ++ piece) ≡ Ok r) (sym (fed_code means settled s piece (Ok r) fed)) (stands_on means start s front piece stands ∙ fed)
-fed_stands means start settled s piece (Err e) fed front stands = tt
+    → IsDue fault_in (byte_steps means s piece) result → (acts : List A) (front : List ℕ) → StandsBehind means start acts s front
+    → IfOk result (λ r. StandsBehind means start acts r (front ++ piece))
+fed_stands means start settled s piece (Ok r) fed acts front stands =
+    subst (λ code. byte_steps means (walk_start start code) (front ++ piece) ≡ Ok (behind acts r)) (sym (fed_code means settled s piece (Ok r) fed))
+    (stands_on means start acts s front piece stands ∙ ap (all_behind acts) fed)
+fed_stands means start settled s piece (Err e) fed acts front stands = tt
 
 -- one that is refused, however the bytes go on
 pub fed_whole : {H A : Type 0} (means : MeaningOf H A) (start : H) (s : Walk H A) (piece : List ℕ) (result : Result (Walk H A) ControlError)
-    → IsDue fault_in (byte_steps means s piece) result → (front more : List ℕ) → StandsFor means start s front → RefusesAs result (tape_run means start s.code (front ++ piece ++ more))
-fed_whole means start s piece (Ok r) fed front more stands = tt
-fed_whole means start s piece (Err errors.NoMemory) fed front more stands = tt
-fed_whole means start s piece (Err (errors.Bad at cause)) fed front more stands =
+    → IsDue fault_in (byte_steps means s piece) result → (acts : List A) (front more : List ℕ) → StandsBehind means start acts s front
+    → RefusesAs result (tape_run means start s.code (front ++ piece ++ more))
+fed_whole means start s piece (Ok r) fed acts front more stands = tt
+fed_whole means start s piece (Err errors.NoMemory) fed acts front more stands = tt
+fed_whole means start s piece (Err (errors.Bad at cause)) fed acts front more stands =
     run_is_walk means start s.code (front ++ piece ++ more)
     ∙ ap (λ r. r >>= outcome)
-    (byte_steps_append means (walk_start start s.code) (front ++ piece) more ∙ ap (λ r. r >>= λ s. byte_steps means s more) (stands_on means start s front piece stands ∙ fed))
+    (byte_steps_append means (walk_start start s.code) (front ++ piece) more
+    ∙ ap (λ r. r >>= λ s. byte_steps means s more) (stands_on means start acts s front piece stands ∙ ap (all_behind acts) fed))
 
 abbrev NoFault : {A : Type 0} → Result (List A) BlockFault → Type 0
 NoFault run = ¬ HoldsFault run
@@ -198,14 +269,18 @@ no_fault s = go s.phase
     go phases.BehindEnd = λ is. is
 
 pub fed_fault : {H A : Type 0} (means : MeaningOf H A) (start : H) → IsSettled means → (s : Walk H A) (piece : List ℕ) (result : Result (Walk H A) ControlError)
-    → IsDue fault_in (byte_steps means s piece) result → (front : List ℕ) → StandsFor means start s front → RefusesFault result (tape_run means start s.code (front ++ piece))
-fed_fault means start settled s piece (Ok r) fed front stands =
-    subst NoFault (sym (run_on means start s front piece stands ∙ ap (λ r. r >>= outcome) fed)) (no_fault r)
-fed_fault means start settled s piece (Err errors.NoMemory) fed front stands = tt
-fed_fault means start settled s piece (Err (errors.Bad at cause)) fed front stands =
-    subst HoldsFault (sym (run_on means start s front piece stands ∙ ap (λ r. r >>= outcome) fed)) (subst (Steady s.code) fed (steady means settled s piece))
+    → IsDue fault_in (byte_steps means s piece) result → (acts : List A) (front : List ℕ) → StandsBehind means start acts s front
+    → RefusesFault result (tape_run means start s.code (front ++ piece))
+fed_fault means start settled s piece (Ok r) fed acts front stands =
+    subst NoFault (sym (run_on means start acts s front piece stands ∙ ap (λ r. all_behind acts r >>= outcome) fed)) (no_fault (behind acts r))
+fed_fault means start settled s piece (Err errors.NoMemory) fed acts front stands = tt
+fed_fault means start settled s piece (Err (errors.Bad at cause)) fed acts front stands =
+    subst HoldsFault (sym (run_on means start acts s front piece stands ∙ ap (λ r. all_behind acts r >>= outcome) fed)) (subst (Steady s.code) fed (steady means settled s piece))
 
 -- the end of the pieces
 pub finished_run : {H A X : Type 0} (means : MeaningOf H A) (start : H) (s : Walk H A) (view : X → List A) (result : Result X ControlError)
-    → IsDueAs view fault_in (outcome s) result → (front : List ℕ) → StandsFor means start s front → IsDueAs view fault_in (tape_run means start s.code front) result
-finished_run means start s view result finished front stands = subst (λ due. IsDueAs view fault_in due result) (sym (run_is_walk means start s.code front ∙ ap (λ r. r >>= outcome) stands)) finished
+    → IsDueAs view fault_in (outcome s) result → (acts : List A) (front : List ℕ) → StandsBehind means start acts s front
+    → IsDueAs (λ x. acts ++ view x) fault_in (tape_run means start s.code front) result
+finished_run means start s view result finished acts front stands =
+    let run = run_is_walk means start s.code front ∙ ap (λ r. r >>= outcome) stands ∙ outcome_behind acts s in
+    comes_more fault_in _ _ _ _ result (λ x due. run ∙ ap (acts_and acts) due) (λ f due. run ∙ ap (acts_and acts) due) finished

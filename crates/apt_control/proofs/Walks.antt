@@ -154,7 +154,7 @@ meaning_step {H = H} {A = A} means s bytes (Ok m) = go m.ends
         acts_and_again s.acts m.acts _
         ∙ ap (acts_and (s.acts ++ m.acts)) (run_is_from means m.held (ahead s bytes).end (texts (ahead s bytes).marks))
 
-abbrev step_by_end : {H A : Type 0} → MeaningOf H A → Walk H A → FrontPart → Bool → Result (Walk H A) BlockFault
+abbrev pub step_by_end : {H A : Type 0} → MeaningOf H A → Walk H A → FrontPart → Bool → Result (Walk H A) BlockFault
 step_by_end means s b t = cond t (means s.held s.count b.words >>= λ m. Ok (with_meaning s m)) (Ok (record s { block = b; count = s.count + 1 }))
 
 closed_step : {H A : Type 0} (means : MeaningOf H A) (s : Walk H A) (bytes : List ℕ) (r : Result FrontPart BlockFault) → Ends true r

@@ -1,5 +1,5 @@
 -- A tape that comes in pieces: what a reader stands for, and when it refuses.
-use Rattle.std.specs.Prelude.{◌≡◌, ℕ, Bool, true, false, List, Result, Ok, Err, IfErr}
+use Rattle.std.specs.Prelude.{◌≡◌, ℕ, Bool, true, false, List, ◌++◌, Result, Ok, Err, IfErr}
 use Rattle.apt_block.specs.declared.block.BlockFault.{BlockFault}
 use Rattle.apt_block.specs.declared.block.TapeCause.{TapeCause}
 use Rattle.apt_block.specs.declared.block.TapeCause.TheVariants as causes
@@ -13,6 +13,10 @@ use Rattle.apt_control.specs.Walk.{Walk, walk_start, byte_steps}
 -- a reader stands for all bytes whose run gives just what it keeps
 abbrev pub StandsFor : {H A : Type 0} → MeaningOf H A → H → Walk H A → List ℕ → Type 0
 StandsFor means start s bytes = byte_steps means (walk_start start s.code) bytes ≡ Ok s
+
+-- the same of a reader from which these acts were dropped
+abbrev pub StandsBehind : {H A : Type 0} → MeaningOf H A → H → List A → Walk H A → List ℕ → Type 0
+StandsBehind means start acts s bytes = StandsFor means start (record s { acts = acts ++ s.acts }) bytes
 
 -- the causes that bytes behind may mend: the tape has not started yet, or has not ended
 abbrev pub more_may_mend : TapeCause → Bool

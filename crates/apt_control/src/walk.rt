@@ -85,7 +85,6 @@ impl<H: Control> ControlReader<H> {
 
     /// Takes a piece more. It refuses where the bytes so far hold a fault that no bytes behind them could mend, and
     /// the refusal is that of the whole tape.
-    #[tactic(auto, using(crate::proofs::Pieces::fed_whole))]
     pub fn feed(self, piece: &[u8]) -> Result<ControlReader<H>, ControlError>
         requires { self.count + length piece.now < 2 ^ 64 }
         ensures walk { IsDue fault_in (walk.byte_steps H.means self piece.now) result }
@@ -94,6 +93,8 @@ impl<H: Control> ControlReader<H> {
         ensures stands { (front : List ℕ) → pieces.StandsFor H.means H.start self front → IfOk result (λ r. pieces.StandsFor H.means H.start r (front ++ piece.now)) }
         ensures whole { (front more : List ℕ) → pieces.StandsFor H.means H.start self front → pieces.RefusesAs result (spec.tape_run H.means H.start self.code (front ++ piece.now ++ more)) }
         ensures fault { (front : List ℕ) → pieces.StandsFor H.means H.start self front → pieces.RefusesFault result (spec.tape_run H.means H.start self.code (front ++ piece.now)) }
+        ensures behind { (acts : List H.Act) (front : List ℕ) → pieces.StandsBehind H.means H.start acts self front → IfOk result (λ r. pieces.StandsBehind H.means H.start acts r (front ++ piece.now)) }
+        ensures whole_behind { (acts : List H.Act) (front more : List ℕ) → pieces.StandsBehind H.means H.start acts self front → pieces.RefusesAs result (spec.tape_run H.means H.start self.code (front ++ piece.now ++ more)) }
     {
         self.all_bytes(piece)
     }
@@ -231,11 +232,26 @@ impl<H: Control> ControlReader<H> {
         Ok(())
     }
 
-    /// The acts of all bytes: a tape that has not started, or not ended, is refused.
-    #[tactic(auto, using(crate::proofs::Pieces::finished_run))]
+    /// The acts so far, but for those that were dropped.
+    pub fn acts(&self) -> &[H::Act]
+        ensures { result.now ≡ self.now.acts }
+    {
+        self.acts.as_slice()
+    }
+
+    /// Drops the acts so far, and goes on without them.
+    pub fn drop_acts(&mut self)
+        ensures dropped { self.new ≡ record self.old { acts = [] } }
+        ensures behind { (acts : List H.Act) (front : List ℕ) → pieces.StandsBehind H.means H.start acts self.old front → pieces.StandsBehind H.means H.start (acts ++ self.old.acts) self.new front }
+    {
+        self.acts.clear();
+    }
+
+    /// The acts of all bytes, but for those that were dropped: a tape that has not started, or not ended, is refused.
     pub fn finish(self) -> Result<Vec<H::Act>, ControlError>
         ensures outcome { IsDueAs (λ v. v.items) fault_in (walk.outcome self) result }
         ensures run { (front : List ℕ) → pieces.StandsFor H.means H.start self front → IsDueAs (λ v. v.items) fault_in (spec.tape_run H.means H.start self.code front) result }
+        ensures run_behind { (acts : List H.Act) (front : List ℕ) → pieces.StandsBehind H.means H.start acts self front → IsDueAs (λ v. acts ++ v.items) fault_in (spec.tape_run H.means H.start self.code front) result }
     {
         self.outcome()
     }

@@ -1,6 +1,6 @@
 //! The lines of a tape's acts.
 
-ghost use Rattle.std.specs.Prelude.{◌≡◌, ◌≤◌, ◌+◌, ◌++◌, length, drop, codes, IfOk};
+ghost use Rattle.std.specs.Prelude.{◌≡◌, ◌≤◌, ◌+◌, ◌++◌, length, drop, codes, IfOk, OnOk};
 ghost use Rattle.std.specs.Fmt.{signed_decimal};
 ghost use Rattle.apt_report.specs.Acts as lines;
 
@@ -19,12 +19,24 @@ pub fn act_lines(alloc: Global, acts: &[Act]) -> Result<Vec<u8>, AllocError>
     ensures value { IfOk result (λ v. v.items ≡ lines.act_lines acts.now) }
 {
     let mut text = Vec::new(alloc);
+    push_act_lines(&mut text, acts)?;
+    Ok(text)
+}
+
+/// Appends the same lines to a text.
+///
+/// # Errors
+///
+/// Memory lacks.
+pub fn push_act_lines(text: &mut Vec<u8>, acts: &[Act]) -> Result<(), AllocError>
+    ensures { OnOk result (text.new.items ≡ text.old.items ++ lines.act_lines acts.now) }
+{
     let mut room = [0u8; ROOM];
     'acts: for act in acts {
         let start = act_line(&mut room, act);
-        push_from(&mut text, &room, start)?;
+        push_from(text, &room, start)?;
     }
-    Ok(text)
+    Ok(())
 }
 
 /// Writes the line of an act from its last character to its first, so that it ends where the room ends, and answers
