@@ -1,5 +1,6 @@
 -- What is due, along a chain, and for a text that comes to none.
 use Rattle.std.proofs.Common.{◌≡◌, inl, inr, ℕ, List, Result, Ok, Err, sym, ◌∙◌, refl}
+use Rattle.std.specs.Prelude.{IfOk, IfErr, MatchResult}
 use Rattle.apt_words.specs.Chains.{◌>>=◌}
 use Rattle.apt_words.specs.declared.Refusal.{Refusal}
 use Rattle.apt_parse.specs.Programs.{TextFault}
@@ -30,6 +31,10 @@ bad_cl_told cl at cause e = inl (rw e refl)
 pub bad_tape_told : (code : Code) (tape : List ℕ) (error : ControlError) → IsFault fault_in (control_run code tape) error → ComesToNone (acts_due code tape) (tape_told error)
 bad_tape_told code tape (tape_errors.Bad at cause) e = inl (rw e refl)
 bad_tape_told code tape tape_errors.NoMemory e = inr refl
+
+pub told_both : {A E : Type 0} (result : Result A E) (P : A → Type 0) (Q : E → Type 0) → IfOk result P → IfErr result Q → MatchResult result P Q
+told_both (Ok x) P Q good bad = good
+told_both (Err e) P Q good bad = bad
 
 -- ---- along a chain
 

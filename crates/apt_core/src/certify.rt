@@ -1,23 +1,24 @@
 //! The command `certify`.
 
-ghost use Rattle.std.specs.Prelude.{◌≡◌, ◌↔◌, ◌+◌, ◌<◌, ◌≤◌, ◌^◌, false, IsTrue, ℕ, List, ◌∷◌, length, None, Ok, IfOk, IfErr, IfSome};
+ghost use Rattle.std.specs.Prelude.{◌≡◌, ◌↔◌, ◌+◌, ◌<◌, ◌^◌, false, IsTrue, ℕ, List, [], ◌∷◌, length, None, Ok, IfOk, IfErr, IfSome, MatchResult};
 ghost use Rattle.apt_words.specs.Answers.{IsDueAs};
 ghost use Rattle.apt_cldata.specs.Ranges.{AreRecords, vertex_count};
+ghost use Rattle.apt_cldata.specs.Reading.{read_of};
 ghost use Rattle.apt_meaning.specs.Situations.{first_situation};
 ghost use Rattle.apt_meaning.specs.Compiled.{first_refused};
 ghost use Rattle.apt_meaning.specs.Records.{Follows};
 ghost use Rattle.apt_certify.specs.Verdicts.{IsVerdict};
 ghost use Rattle.apt_job.specs.Jobs.{jobs_said};
-ghost use Rattle.apt_part.specs.Promise.{AreSteps};
+ghost use Rattle.apt_part.specs.Promise.{AreSteps, file_limit};
 ghost use Rattle.apt_post.specs.Plan as plans;
 ghost use Rattle.apt_control.specs.declared.Act.{Act};
 ghost use Rattle.apt_control.specs.Answers.{fault_in};
 ghost use Rattle.apt_control.specs.Control.{control_run};
 ghost use Rattle.apt_machine.specs.Machines.{IsMachine};
 ghost use Rattle.apt_machine.specs.Tables.{table_of};
-ghost use Rattle.apt_core.specs.Due.{answer_of, OrNoMemory};
+ghost use Rattle.apt_core.specs.Due.{answer_of, records_due, ComesToNone, OrNoMemory};
 ghost use Rattle.apt_core.specs.Request.{four_names};
-ghost use Rattle.apt_core.specs.Inputs.{files_on};
+ghost use Rattle.apt_core.specs.Inputs.{input, files_on, AreRead, Reads, IsStopped};
 ghost use Rattle.apt_core.specs.Certificates.{DifferAt, HeadsDiffer, IsMissed, IsJudgement};
 ghost use Rattle.apt_core.specs.Promise.{Certifies};
 
@@ -49,11 +50,11 @@ pub(crate) fn certify<H: Shelf, G: Gate>(
 {
     let text = read_input(alloc, shelf, names.part, PART_LIMIT)?;
     let table = read_input(alloc, shelf, names.machine, MACHINE_LIMIT)?;
-    let cl = read_input(alloc, shelf, names.cl, FILE_LIMIT)?;
+    let records = records_input(alloc, shelf, names.cl)?;
     match machine_of(&table) {
         Ok(machine) => {
             let run = run_input(alloc, shelf, names.tape, machine.code)?;
-            judged(rt, alloc, &machine, text, &cl, run, gate)
+            judged(rt, alloc, &machine, text, records, run, gate)
         }
         Err(answer) => {
             // a tape that can't be read is told before the table's fault
@@ -63,22 +64,38 @@ pub(crate) fn certify<H: Shelf, G: Gate>(
     }
 }
 
-/// What is found of a part and a CL file, and of a tape by its run, on a machine.
+/// The records of a CL file, or the answer where it is none, and else the one where it can't be read. The file's bytes go
+/// before the tape is read, to keep the peak of memory low.
+fn records_input<H: Shelf>(
+    alloc: Global,
+    shelf: &mut H,
+    name: &str,
+) -> Result<Result<Vec<Record>, Status>, Status>
+    ensures records { IfOk result (λ records. (cl : List ℕ) × Reads (H.told shelf.old) (input name.now file_limit) cl × MatchResult records (λ r. read_of cl ≡ Ok r.items) (ComesToNone (records_due cl))) }
+    ensures range { IfOk result (λ records. IfOk records (λ r. AreRecords r.items × (vertex_count r.items + length r.items < 2 ^ 62))) }
+    ensures stopped { IfErr result (IsStopped (input name.now file_limit ∷ []) (files_on H.Shelf shelf.old) (files_on H.Shelf shelf.new)) }
+    ensures read { AreRead (files_on H.Shelf shelf.old) (files_on H.Shelf shelf.new) }
+{
+    let cl = read_input(alloc, shelf, name, FILE_LIMIT)?;
+    Ok(records_in(alloc, &cl))
+}
+
+/// What is found of a part, of a CL file by its records, and of a tape by its run, on a machine.
 fn judged<G: Gate>(
     rt: &(impl Threads + Sync),
     alloc: Global,
     machine: &Machine,
     text: Vec<u8>,
-    cl: &[u8],
+    records: Result<Vec<Record>, Status>,
     run: Result<Vec<Act>, ControlError>,
     gate: &G,
 ) -> Result<Summary, Status>
     requires machine { IsMachine machine.now }
-    requires short { length cl.now ≤ 67108864 }
-    ensures { (table tape : List ℕ) → table_of table ≡ Ok machine.now → IsDueAs (λ v. v.items) fault_in (control_run machine.now.code tape) run → OrNoMemory (IsJudgement text.items table cl.now tape (answer_of result)) (answer_of result) }
+    requires range { IfOk records (λ r. AreRecords r.items × (vertex_count r.items + length r.items < 2 ^ 62)) }
+    ensures { (table cl tape : List ℕ) → table_of table ≡ Ok machine.now → MatchResult records (λ r. read_of cl ≡ Ok r.items) (ComesToNone (records_due cl)) → IsDueAs (λ v. v.items) fault_in (control_run machine.now.code tape) run → OrNoMemory (IsJudgement text.items table cl tape (answer_of result)) (answer_of result) }
 {
     let steps = steps_on(alloc, text, machine)?;
-    let records = records_in(alloc, cl)?;
+    let records = records?;
     let acts = acts_of(run)?;
     let verdict = verdict_on(rt, alloc, &steps, &records, &acts, gate)?;
     Ok(Summary::Certified(verdict))
