@@ -1,5 +1,5 @@
 -- The size of a word that is begun.
-use Rattle.std.proofs.Common.{◌≡◌, ℕ, zero, suc, ◌+◌, ◌-◌, ◌*◌, ◌^◌, ◌≤◌, ◌<◌, ◌==◌, true, false, Bool, List, [], ◌∷◌, length, drop, Option, Some, None, cond, refl, pos, neg_ℤ, unsigned_abs, arith, lit<, ap, sym, subst, IfSome}
+use Rattle.std.proofs.Common.{◌≡◌, ℕ, zero, suc, ◌+◌, ◌-◌, ◌*◌, ◌^◌, ◌≤◌, ◌<◌, ◌==◌, true, false, Bool, List, [], ◌∷◌, length, drop, Option, Some, None, option_map, cond, refl, pos, neg_ℤ, unsigned_abs, arith, lit<, ap, sym, subst, IfSome}
 use Rattle.std.proofs.lemmas.Bool.Decides.{nat_tests}
 use Rattle.std.proofs.Math.Nat.{pow-suc, one-le-pow, pow-le-pow_right}
 use Rattle.std.proofs.lemmas.Nat.{mul-le}
@@ -16,6 +16,10 @@ size_fits size n h = omega (arith, mul-le (size + 1) 1 (size + 1) (10 ^ n) (omeg
 -- one digit more
 pub room_more : (size d n : ℕ) → d ≤ 9 → (size + 1) * 10 ^ (suc n) ≤ 10 ^ 8 → (10 * size + d + 1) * 10 ^ n ≤ 10 ^ 8
 room_more size d n h room = omega (arith, ap (λ p. (size + 1) * p) (pow-suc 10 n), mul-le (10 * size + d + 1) (10 ^ n) (10 * size + 10) (10 ^ n) (omega arith) (omega arith))
+
+-- so many digits have room
+pub room_for : (n : ℕ) → n ≤ 8 → (0 + 1) * 10 ^ n ≤ 10 ^ 8
+room_for n h = omega (arith, pow-le-pow_right {n = 10} (lit< tt) {i = n} {j = 8} h)
 
 -- a new word has room
 pub room_new : (n : ℕ) → n ≤ 8 → (0 + 1) * 10 ^ (n - 1 + 1) ≤ 10 ^ 8
@@ -59,27 +63,21 @@ forms_small = (lit< tt, (lit< tt, (lit< tt, (lit< tt, (lit< tt, (lit< tt, (lit< 
 length_behind : (n : ℕ) (fs : List Form) → n ≤ length fs → n + length (drop n fs) ≤ length fs
 length_behind n fs h = omega (arith, length-drop n fs)
 
-if_found : (o : Option (Form × ℕ)) (used : ℕ) → IsFound used 13 o → IfSome o (λ f. (f.0.digits ≤ 8) × (used < f.1) × (f.1 ≤ 13))
-if_found None used is = tt
-if_found (Some f) used is = is
-
-pub form_is_small : (used ch : ℕ) (o : Option (Form × ℕ)) → used ≤ 13 → o ≡ form_for used (drop used forms) ch → IfSome o (λ f. (f.0.digits ≤ 8) × (used < f.1) × (f.1 ≤ 13))
-form_is_small used ch o h is = subst (λ o. IfSome o (λ f. (f.0.digits ≤ 8) × (used < f.1) × (f.1 ≤ 13))) (sym is) (if_found _ used (found_in used (drop used forms) ch 13 (length_behind used forms h) (small_drop used forms forms_small)))
+pub form_is_small : {X : Type 0} (used ch : ℕ) (f : X → Form × ℕ) (o : Option X) → used ≤ 13 → option_map f o ≡ form_for used (drop used forms) ch → IfSome o (λ x. ((f x).0.digits ≤ 8) × (used < (f x).1) × ((f x).1 ≤ 13))
+form_is_small used ch f None h is = tt
+form_is_small used ch f (Some x) h is = subst (IsFound used 13) (sym is) (found_in used (drop used forms) ch 13 (length_behind used forms h) (small_drop used forms forms_small))
 
 pub small : (w : OpenWord) → HasDigits w → w.size < 10 ^ 8
 small w room = omega (arith, size_fits w.size (w.later + 1) room)
 
-pub room_step : (size ch later count : ℕ) → is_digit ch ≡ true → count ≤ later → (size + 1) * 10 ^ (later + 1 - count) ≤ 10 ^ 8
-    → (10 * size + (ch - 48) + 1) * 10 ^ (later + 1 - (count + 1)) ≤ 10 ^ 8
-room_step size ch later count digit h room =
-    subst (λ n. (10 * size + (ch - 48) + 1) * 10 ^ n ≤ 10 ^ 8) less
-    (room_more size (ch - 48) (later - count) (omega (arith, digit_size ch digit)) (subst (λ n. (size + 1) * 10 ^ n ≤ 10 ^ 8) more room))
+-- one digit more of so many
+pub room_step : (size ch n count : ℕ) → is_digit ch ≡ true → count < n → (size + 1) * 10 ^ (n - count) ≤ 10 ^ 8
+    → (10 * size + (ch - 48) + 1) * 10 ^ (n - (count + 1)) ≤ 10 ^ 8
+room_step size ch n count digit h room =
+    room_more size (ch - 48) (n - (count + 1)) (omega (arith, digit_size ch digit)) (subst (λ n. (size + 1) * 10 ^ n ≤ 10 ^ 8) one_more room)
   where
-    more : later + 1 - count ≡ suc (later - count)
-    more = omega (arith, h)
-
-    less : later - count ≡ later + 1 - (count + 1)
-    less = omega arith
+    one_more : n - count ≡ suc (n - (count + 1))
+    one_more = omega (arith, h)
 
 -- what is left for the digits that may still come
 pub room_left : (size later count : ℕ) → count ≤ later → (size + 1) * 10 ^ (later + 1 - count) ≤ 10 ^ 8 → (size + 1) * 10 ^ (later - count + 1) ≤ 10 ^ 8

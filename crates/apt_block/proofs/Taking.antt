@@ -60,10 +60,10 @@ one_digit character b w longer at bytes n ch d read e h is digit more long =
     goes : Result FrontPart BlockFault → Result Taken BlockFault
     goes r = r >>= λ b. behind character b (at + n + 1) (drop (n + 1) bytes)
 
-not_zero : (n : ℕ) → 1 ≤ n → (n == 0) ≡ false
+pub not_zero : (n : ℕ) → 1 ≤ n → (n == 0) ≡ false
 not_zero n h = grind (arith, nat_tests)
 
-zero_left : (n : ℕ) → n ≡ 0 → (n == 0) ≡ true
+pub zero_left : (n : ℕ) → n ≡ 0 → (n == 0) ≡ true
 zero_left n h = grind (arith, nat_tests)
 
 -- one digit more than some

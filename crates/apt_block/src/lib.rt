@@ -2,6 +2,7 @@
 #![tactic(auto)]
 
 mod block;
+mod fast;
 mod machine;
 mod read;
 mod table;

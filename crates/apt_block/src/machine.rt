@@ -44,7 +44,7 @@ pub trait Alphabet {
 #[derive(Drop)]
 pub struct BlockReader {
     block: Block,
-    used: u8,
+    pub(crate) used: u8,
     want: Want,
 }
 
@@ -67,7 +67,7 @@ fn bad_block(at: u64) -> BlockFault
     }
 }
 
-fn new_word(form: Form, at: u64) -> OpenWord
+pub(crate) fn new_word(form: Form, at: u64) -> OpenWord
     ensures { result ≡ machine.new_word form at }
 {
     OpenWord {
@@ -112,7 +112,7 @@ fn with_sign(word: OpenWord, ch: u8) -> Option<OpenWord>
 
 /// The digit that a byte stands for, as its character.
 #[inline(always)]
-fn digit_of<A: Alphabet>(byte: u8) -> Option<u8>
+pub(crate) fn digit_of<A: Alphabet>(byte: u8) -> Option<u8>
     ensures some { IfSome result (λ ch. (A.character byte ≡ Some ch) × (spec.is_digit ch ≡ true)) }
     ensures none { IsNone result → (ch : ℕ) → A.character byte ≡ Some ch → spec.is_digit ch ≡ false }
 {
@@ -235,6 +235,10 @@ impl BlockReader {
     {
         let mut count = 0;
         'words: while count < bytes.len() {
+            count += self.whole_words::<A>(&bytes[count..]);
+            if count == bytes.len() {
+                return Ok(count);
+            }
             let Some(ch) = A::character(bytes[count]) else {
                 return Ok(count);
             };
@@ -260,7 +264,7 @@ impl BlockReader {
         match form_for(self.used, c.ch) {
             Some((form, used)) => {
                 self.used = used;
-                let word = new_word(form, c.at);
+                let word = new_word(*form, c.at);
                 if form.signed {
                     self.sign::<A>(word, c.at + 1, more)
                 } else {
@@ -377,11 +381,22 @@ impl BlockReader {
         if let Some(cause) = code_fault(self.words(), word.form.letter, word.size) {
             return Err(BlockFault { at: word.at, cause });
         }
+        self.add_word(&word);
+        Ok(())
+    }
+
+    /// Adds a word.
+    #[inline(always)]
+    pub(crate) fn add_word(&mut self, word: &OpenWord)
+        requires letter { self.old.want ≡ wants.Letter }
+        requires used { length self.old.words < self.old.used }
+        requires small { word.now.size < 10 ^ 8 }
+        ensures { self.new ≡ machine.with_word self.old word.now }
+    {
         self.block.push(TapeWord {
             letter: word.form.letter,
-            value: value_of(&word),
+            value: value_of(word),
         });
-        Ok(())
     }
 
     /// Behind an end of block no character can stand.

@@ -1,6 +1,7 @@
 //! The table of words, and the codes that can stand.
 
 ghost use Rattle.std.specs.Prelude.{◌≡◌, ◌≤◌, ◌<◌, ◌+◌, ◌&&◌, not, [], ◌∷◌, length, drop, IfSome};
+ghost use Rattle.std.specs.Option.{option_map};
 ghost use Rattle.std.specs.List.{list_any};
 ghost use Rattle.apt_block.specs.Block as spec;
 ghost use Rattle.apt_block.specs.Machine as machine;
@@ -115,24 +116,24 @@ static FORMS: [Form; 13] = [
 
 /// The form of a letter behind so many forms of the table, and how many forms are behind it.
 #[tactic(auto, using(crate::proofs::Rooms::form_is_small))]
-pub fn form_for(used: u8, letter: u8) -> Option<(Form, u8)>
+pub fn form_for(used: u8, letter: u8) -> Option<(&'static Form, u8)>
     requires { used ≤ 13 }
-    ensures found { result ≡ machine.form_for used (drop used spec.forms) letter }
-    ensures later { IfSome result (λ f. (f.0.digits ≤ 8) × (used < f.1) × (f.1 ≤ 13)) }
+    ensures found { option_map (λ f. (f.0.now, f.1)) result ≡ machine.form_for used (drop used spec.forms) letter }
+    ensures later { IfSome result (λ f. (f.0.now.digits ≤ 8) × (used < f.1) × (f.1 ≤ 13)) }
 {
     find_form(&FORMS[used as usize..], used, letter)
 }
 
 /// The first of some forms that has a letter.
-fn find_form(forms: &[Form], used: u8, letter: u8) -> Option<(Form, u8)>
+fn find_form(forms: &[Form], used: u8, letter: u8) -> Option<(&Form, u8)>
     requires { used + length forms.now ≤ 13 }
-    ensures { result ≡ machine.form_for used forms.now letter }
+    ensures { option_map (λ f. (f.0.now, f.1)) result ≡ machine.form_for used forms.now letter }
 {
     let mut at = used;
     'forms: for form in forms {
         at += 1;
         if form.letter == letter {
-            return Some((*form, at));
+            return Some((form, at));
         }
     }
     None

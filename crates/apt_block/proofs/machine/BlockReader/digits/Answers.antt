@@ -1,4 +1,4 @@
-use Rattle.std.proofs.Common.{rules, ◌≡◌, ◌≤◌, ◌<◌, length, get_or, Some, true, ap, ◌∙◌, sym, arith}
+use Rattle.std.proofs.Common.{rules, ◌≡◌, ◌+◌, ◌≤◌, ◌<◌, length, get_or, Some, true, ap, ◌∙◌, sym, arith}
 use Rattle.std.proofs.lemmas.List.{get_or-take}
 use Rattle.apt_block.specs.Block.{is_digit}
 use Rattle.apt_block.proofs.Rooms.{room_step}
@@ -18,5 +18,5 @@ digits-preserved g c =
       begun = λ h. digit_more character c.digits.self c.args.begun c.args.at count c.digits.size c.in-Some.ch 0 c.args.bytes.now _ (c.digits.invariant.begun short) within is digit h;
       whole = λ h. digit_last character c.digits.self c.args.begun c.args.at count c.digits.size c.in-Some.ch 0 c.args.bytes.now _ (c.digits.invariant.begun short) within is digit (omega (arith, h));
       self = c.digits.invariant.self;
-      room = room_step c.digits.size c.in-Some.ch c.args.begun.later count digit short c.digits.invariant.room;
+      room = room_step c.digits.size c.in-Some.ch (c.args.begun.later + 1) count digit (omega (arith, short)) c.digits.invariant.room;
     }
