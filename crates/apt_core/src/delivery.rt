@@ -13,12 +13,12 @@ ghost use Rattle.apt_core.specs.Outputs.{output_of};
 
 use apt_cldata::{ClBytes, Record};
 use apt_machine::Machine;
-use apt_post::{Counts, TapeBytes, counts};
+use apt_post::{Counts, Piece, TapeBytes, counts};
 use apt_report::Summary;
 use apt_shelf::{Pieces, Shelf, ShelfFault};
 use std::alloc::Global;
 
-/// The room for the records or the blocks that are written next, in bytes. More is taken only for a record that is longer.
+/// The room for the records that are written next, in bytes. More is taken only for a record that is longer.
 const ROOM: usize = 8192;
 
 /// The records of a part, and the machine for which its tape is.
@@ -50,7 +50,7 @@ pub(crate) fn deliver<H: Shelf>(
     let records = output.records.as_slice();
     let Counts { acts, segments } = counts(records);
     write_cl(alloc, shelf, cl, ClBytes::of(records))?;
-    write_tape(alloc, shelf, tape, TapeBytes::of(records, &output.machine))?;
+    write_tape(shelf, tape, TapeBytes::of(records, &output.machine))?;
     Ok(Summary::Compiled {
         records: records.len() as u64,
         acts,
@@ -85,23 +85,18 @@ fn write_cl<H: Shelf>(
 }
 
 /// Writes a tape in the same way.
-fn write_tape<H: Shelf>(
-    alloc: Global,
-    shelf: &mut H,
-    name: &str,
-    tape: TapeBytes<'_>,
-) -> Result<(), ShelfFault>
+fn write_tape<H: Shelf>(shelf: &mut H, name: &str, tape: TapeBytes<'_>) -> Result<(), ShelfFault>
     ensures ok { OnOk result (Steps (λ m. insert m name.now tape.entry) (H.told shelf.old) (H.told shelf.new)) }
     ensures err { OnErr result (WritesPrefix name.now tape.entry (H.told shelf.old) (H.told shelf.new)) }
     ensures fault { IsErrOf result ShelfFault.Fault → Rose (H.write_faults shelf.old) (H.write_faults shelf.new) }
     ensures later { H.write_faults shelf.old ≤ H.write_faults shelf.new }
     ensures read_faults { H.read_faults shelf.new ≡ H.read_faults shelf.old }
 {
-    let mut blocks = Vec::with_capacity(alloc, ROOM)?;
+    let mut blocks = Piece::new();
     let mut pieces = Pieces::new();
     let mut left = tape;
     shelf.start_write(name)?;
-    'pieces: while left.take_piece(&mut blocks)? {
+    'pieces: while left.take_piece(&mut blocks) {
         pieces.push(shelf, &blocks)?;
     }
     pieces.finish(shelf)?;

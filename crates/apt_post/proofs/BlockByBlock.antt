@@ -25,10 +25,10 @@ pub all_left : (m : Machine) (acts : List Act) → tape_bytes m [] ++ posted (po
 all_left m acts = sym (goes_on (posting_behind m []) [] acts refl)
 
 -- a block has bytes: it ends with its line feed
-pub some_bytes : (p : Posting) (act : Act) (more : List ℕ) → length more < length (block_bytes p act ++ more)
-some_bytes p act more =
+pub some_bytes : (p : Posting) (act : Act) (done : List ℕ) → length done < length (done ++ block_bytes p act)
+some_bytes p act done =
     let block = next_block p act in
-    omega (arith, length-append (block_bytes p act) more, length-map (spelling block) (byte_of p.machine.code), length-append (flat_map word_text block) (line_feed ∷ []))
+    omega (arith, length-append done (block_bytes p act), length-map (spelling block) (byte_of p.machine.code), length-append (flat_map word_text block) (line_feed ∷ []))
 
 -- ---- a piece of what is left
 

@@ -16,8 +16,8 @@ use Rattle.apt_post.specs.Blocks.{CanWrite, behind, behind_all, act_block, block
 use Rattle.apt_post.specs.Posting.{Posting, posting_behind, StandsFor, next_block, next}
 
 -- characters written as themselves
-pub as_themselves : (text chs : List ℕ) → text ≡ map (λ ch. ch) chs → text ≡ chs
-as_themselves text chs is = is ∙ as_they_are chs
+pub as_themselves : (text done chs : List ℕ) → text ≡ done ++ map (λ ch. ch) chs → text ≡ done ++ chs
+as_themselves text done chs is = is ∙ ap (λ t. done ++ t) (as_they_are chs)
 
 -- ---- one act more
 

@@ -44,14 +44,24 @@ pub word_left_out : (hand : ℕ → ℕ) (p : Posting) (done : List ℕ) (w : Ta
 word_left_out hand p done w is = sym (append-nil done) ∙ ap (λ t. done ++ t) (no_word (is_written p.machine.changed p.held w) hand w is)
 
 -- the number, the words and the end of block
-pub whole_block : (hand : ℕ → ℕ) (p : Posting) (act : Act)
+written_block : (hand : ℕ → ℕ) (p : Posting) (act : Act)
     → (map hand (flat_map word_text (next_number p)) ++ said hand p (act_words act)) ++ hand line_feed ∷ [] ≡ map hand (spelling (next_block p act))
-whole_block hand p act =
+written_block hand p act =
     let number = flat_map word_text (next_number p) in
     let words = flat_map word_text (told p (act_words act)) in
     ap (λ t. t ++ hand line_feed ∷ []) (sym (map-append hand number words))
     ∙ sym (map-append hand (number ++ words) (line_feed ∷ []))
     ∙ ap (λ t. map hand (t ++ line_feed ∷ [])) (sym (flat_map-append word_text (next_number p) (told p (act_words act))))
+
+-- behind what stands there
+pub whole_block : (hand : ℕ → ℕ) (p : Posting) (act : Act) (done : List ℕ)
+    → ((done ++ map hand (flat_map word_text (next_number p))) ++ said hand p (act_words act)) ++ hand line_feed ∷ [] ≡ done ++ map hand (spelling (next_block p act))
+whole_block hand p act done =
+    let number = map hand (flat_map word_text (next_number p)) in
+    let words = said hand p (act_words act) in
+    ap (λ t. t ++ hand line_feed ∷ []) (append_assoc done number words)
+    ∙ append_assoc done (number ++ words) (hand line_feed ∷ [])
+    ∙ ap (λ t. done ++ t) (written_block hand p act)
 
 -- ---- a block that is written is read as its words
 

@@ -70,13 +70,13 @@ impl Poster {
     }
 
     #[tactic(auto, using(crate::proofs::Posting::as_themselves))]
-    fn push_characters(&mut self, text: &mut Text, act: &Act)
-        requires none { text.old.items ≡ [] }
-        ensures block { text.new.items ≡ spelling (posting.next_block self.old act.now) }
+    fn push_characters<const CAP: usize>(&mut self, text: &mut ArrayVec<u8, CAP>, act: &Act)
+        requires room { array_vec_len text.old + 128 ≤ CAP }
+        ensures block { text.new.items ≡ text.old.items ++ spelling (posting.next_block self.old act.now) }
         ensures next { self.new ≡ posting.next self.old act.now }
         ensures few { self.old.steps < 9999 }
     {
-        self.push_block::<Plain>(text, act);
+        self.push_block::<Plain, CAP>(text, act);
     }
 
     /// The same as the bytes of the machine's code.
@@ -93,47 +93,37 @@ impl Poster {
         text
     }
 
-    /// Writes the bytes that stand before the first block: rewind stop and end of block.
-    pub(crate) fn push_start(&self, text: &mut Text)
-        requires none { text.old.items ≡ [] }
-        ensures { text.new.items ≡ spec.tape_bytes self.now.machine [] }
+    /// Appends the bytes that stand before the first block: rewind stop and end of block.
+    pub(crate) fn push_start<const CAP: usize>(&self, text: &mut ArrayVec<u8, CAP>)
+        requires room { array_vec_len text.old + 2 ≤ CAP }
+        ensures { text.new.items ≡ text.old.items ++ spec.tape_bytes self.now.machine [] }
     {
         text.push(byte_of(self.machine.code, b'%'));
         text.push(byte_of(self.machine.code, b'\n'));
     }
 
-    /// Writes the bytes of the next block, which is the act's.
-    #[tactic(auto, using(crate::proofs::Posting::bytes_next))]
-    pub(crate) fn push_bytes(&mut self, text: &mut Text, act: &Act)
-        requires none { text.old.items ≡ [] }
-        ensures block { text.new.items ≡ map (byte_of self.old.machine.code) (spelling (posting.next_block self.old act.now)) }
-        ensures next { self.new ≡ posting.next self.old act.now }
-        ensures tape { (before : List Act) → StandsFor self.old before → spec.tape_bytes self.old.machine (before ++ act.now ∷ []) ≡ spec.tape_bytes self.old.machine before ++ text.new.items }
-    {
-        self.punch_block(text, act);
-    }
-
-    fn punch_block(&mut self, text: &mut Text, act: &Act)
-        requires none { text.old.items ≡ [] }
-        ensures block { text.new.items ≡ map (byte_of self.old.machine.code) (spelling (posting.next_block self.old act.now)) }
+    /// Appends the bytes of the next block, which is the act's.
+    pub(crate) fn push_bytes<const CAP: usize>(&mut self, text: &mut ArrayVec<u8, CAP>, act: &Act)
+        requires room { array_vec_len text.old + 128 ≤ CAP }
+        ensures block { text.new.items ≡ text.old.items ++ posting.block_bytes self.old act.now }
         ensures next { self.new ≡ posting.next self.old act.now }
     {
         match self.machine.code {
-            Code::Rs244 => self.push_block::<Rs244>(text, act),
-            Code::Rs358 => self.push_block::<Rs358>(text, act),
+            Code::Rs244 => self.push_block::<Rs244, CAP>(text, act),
+            Code::Rs358 => self.push_block::<Rs358, CAP>(text, act),
         }
     }
 
-    /// Writes the next block in a hand.
+    /// Appends the next block in a hand.
     #[tactic(auto, using(crate::proofs::Spelled::whole_block))]
-    fn push_block<H: Hand>(&mut self, text: &mut Text, act: &Act)
-        requires none { text.old.items ≡ [] }
-        ensures block { text.new.items ≡ map H.written (spelling (posting.next_block self.old act.now)) }
+    fn push_block<H: Hand, const CAP: usize>(&mut self, text: &mut ArrayVec<u8, CAP>, act: &Act)
+        requires room { array_vec_len text.old + 128 ≤ CAP }
+        ensures block { text.new.items ≡ text.old.items ++ map H.written (spelling (posting.next_block self.old act.now)) }
         ensures next { self.new ≡ posting.next self.old act.now }
         ensures few { self.old.steps < 9999 }
     {
-        self.push_number::<H>(text);
-        self.push_words::<H>(text, act);
+        self.push_number::<H, CAP>(text);
+        self.push_words::<H, CAP>(text, act);
         text.push(H::one(b'\n'));
         self.pass(act);
     }
@@ -159,28 +149,28 @@ impl Poster {
         self.held = behind(self.held, act);
     }
 
-    fn push_number<H: Hand>(&self, text: &mut Text)
-        requires none { text.old.items ≡ [] }
-        ensures number { text.new.items ≡ map H.written (flat_map word_text (posting.next_number self.now)) }
-        ensures few { array_vec_len text.new ≤ 10 }
+    fn push_number<H: Hand, const CAP: usize>(&self, text: &mut ArrayVec<u8, CAP>)
+        requires room { array_vec_len text.old + 10 ≤ CAP }
+        ensures number { text.new.items ≡ text.old.items ++ map H.written (flat_map word_text (posting.next_number self.now)) }
+        ensures few { array_vec_len text.new ≤ array_vec_len text.old + 10 }
     {
         if self.machine.seq > 0 {
-            push_word::<H, 128>(text, word(b'N', i64::from(1 + self.steps)));
+            push_word::<H, CAP>(text, word(b'N', i64::from(1 + self.steps)));
         }
     }
 
-    fn push_words<H: Hand>(&self, text: &mut Text, act: &Act)
-        requires room { array_vec_len text.old ≤ 10 }
+    fn push_words<H: Hand, const CAP: usize>(&self, text: &mut ArrayVec<u8, CAP>, act: &Act)
+        requires room { array_vec_len text.old + 50 ≤ CAP }
         ensures words { text.new.items ≡ text.old.items ++ map H.written (flat_map word_text (posting.told self.now (spec.act_words act.now))) }
-        ensures few { array_vec_len text.new ≤ 60 }
+        ensures few { array_vec_len text.new ≤ array_vec_len text.old + 50 }
     {
         match *act {
-            Act::Units(Units::Inch) => self.push_three::<H>(text, g(70), g(90), g(94)),
-            Act::Units(Units::Mm) => self.push_three::<H>(text, g(71), g(90), g(94)),
+            Act::Units(Units::Inch) => self.push_three::<H, CAP>(text, g(70), g(90), g(94)),
+            Act::Units(Units::Mm) => self.push_three::<H, CAP>(text, g(71), g(90), g(94)),
             Act::Rapid { x, y, z } => {
-                self.push_four::<H>(text, g(0), word(b'X', x), word(b'Y', y), word(b'Z', z))
+                self.push_four::<H, CAP>(text, g(0), word(b'X', x), word(b'Y', y), word(b'Z', z))
             }
-            Act::Cut { x, y, z, feed } => self.push_five::<H>(
+            Act::Cut { x, y, z, feed } => self.push_five::<H, CAP>(
                 text,
                 g(1),
                 word(b'X', x),
@@ -188,88 +178,106 @@ impl Poster {
                 word(b'Z', z),
                 word(b'F', feed),
             ),
-            Act::Spindle { turn: Turn::Cw, n } => self.push_two::<H>(text, word(b'S', n), m(3)),
-            Act::Spindle { turn: Turn::Ccw, n } => self.push_two::<H>(text, word(b'S', n), m(4)),
+            Act::Spindle { turn: Turn::Cw, n } => self.push_two::<H, CAP>(
+                text,
+                word(b'S', n),
+                m(3),
+            ),
+            Act::Spindle { turn: Turn::Ccw, n } => self.push_two::<H, CAP>(
+                text,
+                word(b'S', n),
+                m(4),
+            ),
             Act::Spindle {
                 turn: Turn::Off,
                 ..
-            } => self.push::<H>(text, m(5)),
-            Act::Tool(n) => self.push_two::<H>(text, word(b'T', n), m(6)),
-            Act::Coolant(Cool::Mist) => self.push::<H>(text, m(7)),
-            Act::Coolant(Cool::Flood) => self.push::<H>(text, m(8)),
-            Act::Coolant(Cool::Off) => self.push::<H>(text, m(9)),
-            Act::Stop => self.push::<H>(text, m(0)),
-            Act::OptStop => self.push::<H>(text, m(1)),
-            Act::End => self.push::<H>(text, m(2)),
+            } => self.push::<H, CAP>(text, m(5)),
+            Act::Tool(n) => self.push_two::<H, CAP>(text, word(b'T', n), m(6)),
+            Act::Coolant(Cool::Mist) => self.push::<H, CAP>(text, m(7)),
+            Act::Coolant(Cool::Flood) => self.push::<H, CAP>(text, m(8)),
+            Act::Coolant(Cool::Off) => self.push::<H, CAP>(text, m(9)),
+            Act::Stop => self.push::<H, CAP>(text, m(0)),
+            Act::OptStop => self.push::<H, CAP>(text, m(1)),
+            Act::End => self.push::<H, CAP>(text, m(2)),
         }
     }
 
     #[inline(always)]
-    fn push_five<H: Hand>(
+    fn push_five<H: Hand, const CAP: usize>(
         &self,
-        text: &mut Text,
+        text: &mut ArrayVec<u8, CAP>,
         a: TapeWord,
         b: TapeWord,
         c: TapeWord,
         d: TapeWord,
         e: TapeWord,
     )
-        requires room { array_vec_len text.old ≤ 10 }
+        requires room { array_vec_len text.old + 50 ≤ CAP }
         ensures words { text.new.items ≡ text.old.items ++ map H.written (flat_map word_text (posting.told self.now (a ∷ b ∷ c ∷ d ∷ e ∷ []))) }
         ensures few { array_vec_len text.new ≤ array_vec_len text.old + 50 }
     {
-        self.push_three::<H>(text, a, b, c);
-        self.push_two::<H>(text, d, e);
+        self.push_three::<H, CAP>(text, a, b, c);
+        self.push_two::<H, CAP>(text, d, e);
     }
 
     #[inline(always)]
-    fn push_four<H: Hand>(
+    fn push_four<H: Hand, const CAP: usize>(
         &self,
-        text: &mut Text,
+        text: &mut ArrayVec<u8, CAP>,
         a: TapeWord,
         b: TapeWord,
         c: TapeWord,
         d: TapeWord,
     )
-        requires room { array_vec_len text.old ≤ 10 }
+        requires room { array_vec_len text.old + 40 ≤ CAP }
         ensures words { text.new.items ≡ text.old.items ++ map H.written (flat_map word_text (posting.told self.now (a ∷ b ∷ c ∷ d ∷ []))) }
         ensures few { array_vec_len text.new ≤ array_vec_len text.old + 40 }
     {
-        self.push_two::<H>(text, a, b);
-        self.push_two::<H>(text, c, d);
+        self.push_two::<H, CAP>(text, a, b);
+        self.push_two::<H, CAP>(text, c, d);
     }
 
     #[inline(always)]
-    fn push_three<H: Hand>(&self, text: &mut Text, a: TapeWord, b: TapeWord, c: TapeWord)
-        requires room { array_vec_len text.old ≤ 80 }
+    fn push_three<H: Hand, const CAP: usize>(
+        &self,
+        text: &mut ArrayVec<u8, CAP>,
+        a: TapeWord,
+        b: TapeWord,
+        c: TapeWord,
+    )
+        requires room { array_vec_len text.old + 30 ≤ CAP }
         ensures words { text.new.items ≡ text.old.items ++ map H.written (flat_map word_text (posting.told self.now (a ∷ b ∷ c ∷ []))) }
         ensures few { array_vec_len text.new ≤ array_vec_len text.old + 30 }
     {
-        self.push_two::<H>(text, a, b);
-        self.push::<H>(text, c);
+        self.push_two::<H, CAP>(text, a, b);
+        self.push::<H, CAP>(text, c);
     }
 
     #[inline(always)]
-    #[tactic(auto, using(crate::proofs::Spelled::words_more))]
-    fn push_two<H: Hand>(&self, text: &mut Text, a: TapeWord, b: TapeWord)
-        requires room { array_vec_len text.old ≤ 90 }
+    fn push_two<H: Hand, const CAP: usize>(
+        &self,
+        text: &mut ArrayVec<u8, CAP>,
+        a: TapeWord,
+        b: TapeWord,
+    )
+        requires room { array_vec_len text.old + 20 ≤ CAP }
         ensures words { text.new.items ≡ text.old.items ++ map H.written (flat_map word_text (posting.told self.now (a ∷ b ∷ []))) }
         ensures few { array_vec_len text.new ≤ array_vec_len text.old + 20 }
     {
-        self.push::<H>(text, a);
-        self.push::<H>(text, b);
+        self.push::<H, CAP>(text, a);
+        self.push::<H, CAP>(text, b);
     }
 
     /// Appends a word if it is written.
     #[inline(always)]
     #[tactic(auto, using(crate::proofs::Spelled::word_told, crate::proofs::Spelled::word_left_out))]
-    fn push<H: Hand>(&self, text: &mut Text, word: TapeWord)
-        requires room { array_vec_len text.old ≤ 100 }
+    fn push<H: Hand, const CAP: usize>(&self, text: &mut ArrayVec<u8, CAP>, word: TapeWord)
+        requires room { array_vec_len text.old + 10 ≤ CAP }
         ensures words { text.new.items ≡ text.old.items ++ map H.written (flat_map word_text (posting.told self.now (word ∷ []))) }
         ensures few { array_vec_len text.new ≤ array_vec_len text.old + 10 }
     {
         if self.is_written(&word) {
-            push_word::<H, 128>(text, word);
+            push_word::<H, CAP>(text, word);
         }
     }
 

@@ -5,7 +5,7 @@ use apt_cldata::{Note, Position, Reach, Record, Vertices};
 use apt_control::Act;
 use apt_machine::Machine;
 use apt_plane::Pt;
-use apt_post::{Poster, TapeBytes, blocks, counts, plan, tape};
+use apt_post::{Piece, Poster, TapeBytes, blocks, counts, plan, tape};
 use apt_tapecode::Code;
 use apt_words::{Cool, Turn, Units};
 use std::test::Fail;
@@ -260,11 +260,11 @@ fn writes_records_piece_by_piece(rt: HostRuntime) -> Result<(), Fail> {
     for code in [Code::Rs244, Code::Rs358] {
         for machine in [machine(code, 1), changed(code, 1)] {
             let mut left = TapeBytes::of(&records, &machine);
-            let mut piece = Vec::new(rt.alloc());
+            let mut piece = Piece::new();
             let whole = tape(rt.alloc(), &acts, &machine)?;
-            assert!(rt; left.take_piece(&mut piece)?);
+            assert!(rt; left.take_piece(&mut piece));
             assert_eq!(rt; piece.as_slice(), whole.as_slice());
-            assert!(rt; !left.take_piece(&mut piece)?);
+            assert!(rt; !left.take_piece(&mut piece));
         }
     }
     Ok(())

@@ -1,16 +1,13 @@
 use Rattle.std.proofs.Common.{rules, ◌∙◌}
 use Rattle.apt_shelf.proofs.ToldLaws.{on_err}
-use Rattle.apt_core.proofs.Deliveries.{writing_stopped, piece_refused, piece_taken, last_refused, last_written}
+use Rattle.apt_core.proofs.Deliveries.{piece_refused, piece_taken, last_refused, last_written}
 use Rattle.apt_core.proofs.delivery.write_tape.Goals as goal
-
-pub returns-in_err-take_piece-clause-err : goal.returns-in_err-take_piece-clause-err
-returns-in_err-take_piece-clause-err g c = on_err _ _ (writing_stopped _ _ _ _ c.pieces.pieces c.pieces.left c.pieces.invariant.written)
 
 pub pieces-preserved : goal.pieces-preserved
 pieces-preserved g c =
     let inv = c.pieces.invariant in
     record {
-      written = piece_taken _ _ _ _ _ _ _ _ _ _ _ inv.writing inv.written c.in_ok-take_piece.ensures.taken (rw c.deref.ensures.value at c.in_ok-push.ensures.ok.1);
+      written = piece_taken _ _ _ _ _ _ _ _ _ _ _ inv.writing inv.written c.take_piece.ensures.taken (rw c.deref.ensures.0 at c.in_ok-push.ensures.ok.1);
       writing = c.in_ok-push.ensures.ok.0 ∙ inv.writing;
       read_faults = search rules;
       later = search rules;
@@ -19,7 +16,7 @@ pieces-preserved g c =
 pub returns-in_err-push-clause-err : goal.returns-in_err-push-clause-err
 returns-in_err-push-clause-err g c =
     let inv = c.pieces.invariant in
-    on_err _ _ (piece_refused _ _ _ _ _ _ _ _ _ _ inv.writing inv.written c.in_ok-take_piece.ensures.taken (rw c.deref.ensures.value at c.in_err-push.ensures.err))
+    on_err _ _ (piece_refused _ _ _ _ _ _ _ _ _ _ inv.writing inv.written c.take_piece.ensures.taken (rw c.deref.ensures.0 at c.in_err-push.ensures.err))
 
 pub returns-in_err-finish-clause-err : goal.returns-in_err-finish-clause-err
 returns-in_err-finish-clause-err g c =
