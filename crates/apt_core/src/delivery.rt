@@ -85,11 +85,7 @@ fn write_cl<H: Shelf>(
 }
 
 /// Writes a tape in the same way.
-fn write_tape<H: Shelf>(
-    shelf: &mut H,
-    name: &str,
-    tape: TapeBytes<'_>,
-) -> Result<(), ShelfFault>
+fn write_tape<H: Shelf>(shelf: &mut H, name: &str, tape: TapeBytes<'_>) -> Result<(), ShelfFault>
     ensures ok { OnOk result (Steps (λ m. insert m name.now tape.entry) (H.told shelf.old) (H.told shelf.new)) }
     ensures err { OnErr result (WritesPrefix name.now tape.entry (H.told shelf.old) (H.told shelf.new)) }
     ensures fault { IsErrOf result ShelfFault.Fault → Rose (H.write_faults shelf.old) (H.write_faults shelf.new) }
