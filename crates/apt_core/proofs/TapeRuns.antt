@@ -1,50 +1,52 @@
 -- A run of a tape goes on piece by piece.
-use Rattle.std.proofs.Common.{◌≡◌, ◌∙◌, ℕ, List, [], ◌++◌, ◌+◌, ◌^◌, ◌<◌, ◌≤◌, length, take, drop, Option, Some, None, Result, Ok, Err, IfOk, ap, sym, subst, arith, append_assoc}
+use Rattle.std.proofs.Common.{◌≡◌, ◌∙◌, ℕ, List, [], ◌++◌, ◌+◌, ◌≤◌, length, take, drop, Option, Some, None, Result, Ok, Err, ap, sym, subst, arith, append_assoc}
 use Rattle.std.proofs.lemmas.List.{append-nil, length-append, take-append-drop, length-take-le}
 use Rattle.apt_words.specs.Answers.{IsFault, IsDueAs}
 use Rattle.apt_shelf.specs.Told.{Contents, Takes}
 use Rattle.apt_shelf.specs.Files.{HoldsAt, HasRead}
 use Rattle.apt_tapecode.specs.declared.Code.{Code}
+use Rattle.apt_block.specs.declared.block.BlockFault.{BlockFault}
 use Rattle.apt_control.specs.declared.Act.{Act}
 use Rattle.apt_control.specs.declared.error.ControlError.{ControlError}
 use Rattle.apt_control.specs.declared.held.Held.{Held}
 use Rattle.apt_control.specs.Answers.{fault_in}
 use Rattle.apt_control.specs.Control.{meaning, nothing_held, control_run}
 use Rattle.apt_control.specs.Walk.{Walk}
-use Rattle.apt_control.specs.Pieces.{StandsFor, RefusesAs}
-use Rattle.apt_core.specs.TapeRuns.{HasRun}
+use Rattle.apt_control.specs.Pieces.{StandsBehind}
+use Rattle.apt_core.specs.declared.reading.TapeRun.{TapeRun}
+use Rattle.apt_core.specs.TapeRuns.{HasRun, IsTaken}
 
--- what a reader tells of a piece that it is fed
-pub record IsFed (reader : Walk Held Act) (piece : List ℕ) (result : Result (Walk Held Act) ControlError) : Type 0 where
-  pub code : IfOk result (λ r. r.code ≡ reader.code)
-  pub count : IfOk result (λ r. r.count ≡ reader.count + length piece)
-  pub stands : (front : List ℕ) → StandsFor meaning nothing_held reader front → IfOk result (λ r. StandsFor meaning nothing_held r (front ++ piece))
-  pub whole : (front more : List ℕ) → StandsFor meaning nothing_held reader front → RefusesAs result (control_run reader.code (front ++ piece ++ more))
+-- a piece is taken, and its acts are dropped
+pub run_fed : {T : Type 0} (has : T → List Act → Type 0) (code : Code) (front piece : List ℕ) (run : TapeRun T) (fed now : Walk Held Act) (taken : T) → HasRun has code front (Ok run)
+    → fed.code ≡ run.reader.code → fed.count ≡ run.reader.count + length piece → now ≡ record fed { acts = [] }
+    → ((acts : List Act) → StandsBehind meaning nothing_held acts run.reader front → StandsBehind meaning nothing_held (acts ++ fed.acts) now (front ++ piece))
+    → ((before : List Act) → has run.taken before → has taken (before ++ fed.acts)) → HasRun has code (front ++ piece) (Ok (record { reader = now; taken = taken }))
+run_fed has code front piece run fed now taken so same counted dropped behind takes = (
+  ap (λ (s : Walk Held Act). s.code) dropped ∙ same ∙ so.0,
+  ap (λ (s : Walk Held Act). s.count) dropped ∙ counted ∙ ap (λ n. n + length piece) so.1 ∙ sym (length-append front piece),
+  (so.2.0 ++ fed.acts, takes so.2.0 so.2.1, behind so.2.0 so.2.2),
+)
 
-pub run_fed : (code : Code) (front piece : List ℕ) (reader : Walk Held Act) (result : Result (Walk Held Act) ControlError) → HasRun code front (Ok reader) → IsFed reader piece result
-    → HasRun code (front ++ piece) result
-run_fed code front piece reader (Ok r) run fed =
-    (fed.code ∙ run.0, fed.stands front run.1, fed.count ∙ ap (λ n. n + length piece) run.2 ∙ sym (length-append front piece))
-run_fed code front piece reader (Err error) run fed = λ more.
-    subst (λ c. IsFault fault_in (control_run c (front ++ piece ++ more)) error) run.0 (fed.whole front more run.1)
+-- a piece is refused
+pub run_refused : {T : Type 0} (has : T → List Act → Type 0) (code : Code) (front piece : List ℕ) (run : TapeRun T) (error : ControlError) → HasRun has code front (Ok run)
+    → ((acts : List Act) (front more : List ℕ) → StandsBehind meaning nothing_held acts run.reader front → IsFault fault_in (control_run run.reader.code (front ++ piece ++ more)) error)
+    → HasRun has code (front ++ piece) (Err error)
+run_refused has code front piece run error so whole = λ more.
+    subst (λ c. IsFault fault_in (control_run c (front ++ piece ++ more)) error) so.0 (whole so.2.0 front more so.2.2)
 
 -- a refusal stays
-pub refused_stays : (code : Code) (front piece : List ℕ) (error : ControlError) → HasRun code front (Err error) → HasRun code (front ++ piece) (Err error)
-refused_stays code front piece error run = λ more. subst (λ tape. IsFault fault_in (control_run code tape) error) (sym (append_assoc front piece more)) (run (piece ++ more))
+pub refused_stays : (code : Code) (front piece : List ℕ) (error : ControlError) → ((more : List ℕ) → IsFault fault_in (control_run code (front ++ more)) error)
+    → (more : List ℕ) → IsFault fault_in (control_run code (front ++ piece ++ more)) error
+refused_stays code front piece error refused more = subst (λ tape. IsFault fault_in (control_run code tape) error) (sym (append_assoc front piece more)) (refused (piece ++ more))
 
-pub refused_whole : (code : Code) (front : List ℕ) (error : ControlError) → HasRun code front (Err error) → IsFault fault_in (control_run code front) error
-refused_whole code front error run = subst (λ tape. IsFault fault_in (control_run code tape) error) (append-nil front) (run [])
+pub refused_whole : (code : Code) (front : List ℕ) (error : ControlError) → ((more : List ℕ) → IsFault fault_in (control_run code (front ++ more)) error) → IsFault fault_in (control_run code front) error
+refused_whole code front error refused = subst (λ tape. IsFault fault_in (control_run code tape) error) (append-nil front) (refused [])
 
-pub run_ended : {X : Type 0} (view : X → List Act) (code : Code) (front : List ℕ) (reader : Walk Held Act) (result : Result X ControlError) → HasRun code front (Ok reader)
-    → ((front : List ℕ) → StandsFor meaning nothing_held reader front → IsDueAs view fault_in (control_run reader.code front) result)
-    → IsDueAs view fault_in (control_run code front) result
-run_ended view code front reader result run ended = subst (λ c. IsDueAs view fault_in (control_run c front) result) run.0 (ended front run.1)
-
--- a reader has counted what was read
-pub few_counted : (code : Code) (front piece : List ℕ) (run : Result (Walk Held Act) ControlError) → HasRun code front run → length front + length piece < 2 ^ 64
-    → IfOk run (λ reader. reader.count + length piece < 2 ^ 64)
-few_counted code front piece (Ok reader) run few = omega (arith, run.2, few)
-few_counted code front piece (Err error) run few = tt
+-- where all acts are taken they are those of the run
+pub acts_taken : {X : Type 0} (view : X → List Act) (due : Result (List Act) BlockFault) (result : Result X ControlError) → IsTaken (λ x acts. view x ≡ acts) due result
+    → IsDueAs view fault_in due result
+acts_taken view due (Ok x) taken = taken.2 ∙ ap Ok (sym taken.1)
+acts_taken view due (Err error) taken = taken
 
 -- ---- a file that is read piece by piece
 

@@ -1,16 +1,21 @@
 -- A run of a tape that is read piece by piece.
 use Rattle.std.specs.Prelude.{◌≡◌, ℕ, List, ◌++◌, length, Result, Ok, Err}
-use Rattle.apt_words.specs.Answers.{IsFault}
+use Rattle.apt_words.specs.Answers.{Comes, IsFault}
 use Rattle.apt_tapecode.specs.declared.Code.{Code}
 use Rattle.apt_control.specs.declared.Act.{Act}
 use Rattle.apt_control.specs.declared.error.ControlError.{ControlError}
-use Rattle.apt_control.specs.declared.held.Held.{Held}
+use Rattle.apt_block.specs.declared.block.BlockFault.{BlockFault}
 use Rattle.apt_control.specs.Answers.{fault_in}
 use Rattle.apt_control.specs.Control.{meaning, nothing_held, control_run}
-use Rattle.apt_control.specs.Walk.{Walk}
-use Rattle.apt_control.specs.Pieces.{StandsFor}
+use Rattle.apt_control.specs.Pieces.{StandsBehind}
+use Rattle.apt_core.specs.declared.reading.TapeRun.{TapeRun}
 
--- the reader stands for the front part of a tape that was read, or its refusal is that of the tape however it goes on
-abbrev pub HasRun : Code → List ℕ → Result (Walk Held Act) ControlError → Type 0
-HasRun code front (Ok reader) = (reader.code ≡ code) × StandsFor meaning nothing_held reader front × (reader.count ≡ length front)
-HasRun code front (Err error) = (more : List ℕ) → IsFault fault_in (control_run code (front ++ more)) error
+-- the reader stands for the front part of a tape that was read, behind the acts that were taken, or the refusal is that of the tape however it goes on
+abbrev pub HasRun : {T : Type 0} → (T → List Act → Type 0) → Code → List ℕ → Result (TapeRun T) ControlError → Type 0
+HasRun has code front (Ok run) =
+    (run.reader.code ≡ code) × (run.reader.count ≡ length front) × ((acts : List Act) × has run.taken acts × StandsBehind meaning nothing_held acts run.reader front)
+HasRun has code front (Err error) = (more : List ℕ) → IsFault fault_in (control_run code (front ++ more)) error
+
+-- what was taken is of the acts of a run, or the error tells its fault
+abbrev pub IsTaken : {T : Type 0} → (T → List Act → Type 0) → Result (List Act) BlockFault → Result T ControlError → Type 0
+IsTaken has due = Comes fault_in (λ taken. (acts : List Act) × has taken acts × (due ≡ Ok acts)) (λ fault. due ≡ Err fault)

@@ -57,7 +57,7 @@ pub(crate) fn certify<H: Shelf, G: Gate>(
         }
         Err(answer) => {
             // a tape that can't be read is told before the table's fault
-            let _ = run_input(alloc, shelf, names.tape, Code::Rs358)?;
+            let _ = run_input::<H, ()>(alloc, shelf, names.tape, Code::Rs358)?;
             Err(answer)
         }
     }

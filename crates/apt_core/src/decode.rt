@@ -1,22 +1,22 @@
 //! The command `decode`.
 
 ghost use Rattle.std.specs.Prelude.{◌≡◌, ℕ, List, Ok};
-ghost use Rattle.apt_words.specs.Answers.{IsDueAs};
-ghost use Rattle.apt_control.specs.Answers.{fault_in};
 ghost use Rattle.apt_control.specs.Control.{control_run};
 ghost use Rattle.apt_machine.specs.declared.machine.Machine.{Machine};
 ghost use Rattle.apt_machine.specs.Tables.{table_of};
 ghost use Rattle.apt_core.specs.Decoding.{said_of, said_due, IsSaid};
 ghost use Rattle.apt_core.specs.Request.{tape_names};
 ghost use Rattle.apt_core.specs.Inputs.{files_on};
+ghost use Rattle.apt_core.specs.TapeRuns.{IsTaken};
 ghost use Rattle.apt_core.specs.Promise.{Decodes};
 
-use crate::due::{acts_of, machine_of};
+use crate::due::{machine_of, tape_answer};
 use crate::put::Reply;
 use crate::reading::{MACHINE_LIMIT, read_input, run_input};
+use crate::taker::{ActLines, Taker};
 use crate::words::TapeNames;
-use apt_control::{Act, ControlError};
-use apt_report::{Status, Summary, act_lines};
+use apt_control::ControlError;
+use apt_report::{Status, Summary};
 use apt_shelf::Shelf;
 use apt_tapecode::Code;
 use std::alloc::Global;
@@ -33,26 +33,25 @@ pub(crate) fn decode<H: Shelf>(
     match machine_of(&table) {
         Ok(machine) => {
             let run = run_input(alloc, shelf, names.tape, machine.code)?;
-            decoded(alloc, run)
+            decoded(run)
         }
         Err(answer) => {
             // a tape that can't be read is told before the table's fault
-            let _ = run_input(alloc, shelf, names.tape, Code::Rs358)?;
+            let _ = run_input::<H, ()>(alloc, shelf, names.tape, Code::Rs358)?;
             Err(answer)
         }
     }
 }
 
-/// The acts to which a control ran a tape, each with its line.
-fn decoded(alloc: Global, run: Result<Vec<Act>, ControlError>) -> Result<Reply, Status>
-    ensures { (machine : Machine) (table tape : List ℕ) → table_of table ≡ Ok machine → IsDueAs (λ v. v.items) fault_in (control_run machine.code tape) run → IsSaid (said_of (said_due table tape)) (said_of result) }
+/// The lines of the acts to which a control ran a tape.
+fn decoded(run: Result<ActLines, ControlError>) -> Result<Reply, Status>
+    ensures { (machine : Machine) (table tape : List ℕ) → table_of table ≡ Ok machine → IsTaken ⟦<ActLines as Taker>⟧.has (control_run machine.code tape) run → IsSaid (said_of (said_due table tape)) (said_of result) }
 {
-    let acts = acts_of(run)?;
-    let lines = act_lines(alloc, &acts)?;
-    Ok(Reply {
-        status: Status::Done(Summary::Decoded {
-            acts: acts.len() as u64,
+    match run {
+        Ok(ActLines { text, acts }) => Ok(Reply {
+            status: Status::Done(Summary::Decoded { acts }),
+            lines: Some(text),
         }),
-        lines: Some(lines),
-    })
+        Err(error) => Err(tape_answer(error)),
+    }
 }

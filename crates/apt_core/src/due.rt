@@ -105,7 +105,7 @@ pub(crate) fn records_in(alloc: Global, cl: &[u8]) -> Result<Vec<Record>, Status
 }
 
 /// How a tape that has a fault is told.
-fn tape_answer(error: ControlError) -> Status
+pub(crate) fn tape_answer(error: ControlError) -> Status
     ensures { result ≡ tape_told error }
 {
     match error {

@@ -16,6 +16,7 @@ mod due;
 mod list;
 mod put;
 mod reading;
+mod taker;
 mod words;
 
 pub use apt_certify::{Gate, OpenGate};

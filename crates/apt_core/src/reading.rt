@@ -1,17 +1,16 @@
 //! The files that a command reads.
 
 ghost use Rattle.std.specs.Prelude.{◌≡◌, ◌+◌, ◌<◌, ◌^◌, ◌++◌, ℕ, List, [], ◌∷◌, length, IfOk, IfErr, IsErrOf};
-ghost use Rattle.apt_words.specs.Answers.{IsDueAs};
 ghost use Rattle.apt_shelf.specs.Told.{Lacks, Rose};
 ghost use Rattle.apt_shelf.specs.Files.{IsLongerAt};
 ghost use Rattle.apt_tapecode.specs.declared.Code.{Code};
-ghost use Rattle.apt_control.specs.Answers.{fault_in};
 ghost use Rattle.apt_control.specs.Control.{control_run};
 ghost use Rattle.apt_part.specs.Promise.{file_limit};
 ghost use Rattle.apt_core.specs.Inputs.{input, files_on, AreRead, Reads, IsStopped, IsToldFor};
-ghost use Rattle.apt_core.specs.TapeRuns.{HasRun};
+ghost use Rattle.apt_core.specs.TapeRuns.{HasRun, IsTaken};
 
-use apt_control::{Act, ControlError, TapeReader};
+use crate::taker::Taker;
+use apt_control::{ControlError, TapeReader};
 use apt_report::{FileName, Status};
 use apt_shelf::{ReadError, Shelf, read_all, read_piece};
 use apt_tapecode::Code;
@@ -72,14 +71,14 @@ fn file_name(alloc: Global, name: &str) -> Result<FileName, AllocError>
     })
 }
 
-/// The run of a tape in a code, which is read piece by piece, or the answer where it can't be read.
-pub(crate) fn run_input<H: Shelf>(
+/// What is taken of the acts of a tape in a code, which is read piece by piece, or the answer where it can't be read.
+pub(crate) fn run_input<H: Shelf, T: Taker>(
     alloc: Global,
     shelf: &mut H,
     name: &str,
     code: Code,
-) -> Result<Result<Vec<Act>, ControlError>, Status>
-    ensures run { IfOk result (λ run. (tape : List ℕ) × Reads (H.told shelf.old) (input name.now file_limit) tape × IsDueAs (λ v. v.items) fault_in (control_run code tape) run) }
+) -> Result<Result<T, ControlError>, Status>
+    ensures run { IfOk result (λ run. (tape : List ℕ) × Reads (H.told shelf.old) (input name.now file_limit) tape × IsTaken T.has (control_run code tape) run) }
     ensures stopped { IfErr result (IsStopped (input name.now file_limit ∷ []) (files_on H.Shelf shelf.old) (files_on H.Shelf shelf.new)) }
     ensures read { AreRead (files_on H.Shelf shelf.old) (files_on H.Shelf shelf.new) }
 {
@@ -90,20 +89,23 @@ pub(crate) fn run_input<H: Shelf>(
 }
 
 /// The same. The tape is read to its end also behind a fault, so that one that is too long is told as such.
-fn run_pieces<H: Shelf>(
+fn run_pieces<H: Shelf, T: Taker>(
     alloc: Global,
     shelf: &mut H,
     name: &str,
     code: Code,
-) -> Result<Result<Vec<Act>, ControlError>, ReadError>
-    ensures run { IfOk result (λ run. (tape : List ℕ) × Reads (H.told shelf.old) (input name.now file_limit) tape × IsDueAs (λ v. v.items) fault_in (control_run code tape) run) }
+) -> Result<Result<T, ControlError>, ReadError>
+    ensures run { IfOk result (λ run. (tape : List ℕ) × Reads (H.told shelf.old) (input name.now file_limit) tape × IsTaken T.has (control_run code tape) run) }
     ensures missing { IsErrOf result ReadError.Missing → Lacks (H.told shelf.old) name.now (H.read_faults shelf.old) (H.read_faults shelf.new) }
     ensures fault { IsErrOf result ReadError.Fault → Rose (H.read_faults shelf.old) (H.read_faults shelf.new) }
     ensures too_long { IsErrOf result ReadError.TooLong → IsLongerAt (H.told shelf.old) name.now file_limit }
     ensures read { AreRead (files_on H.Shelf shelf.old) (files_on H.Shelf shelf.new) }
 {
     shelf.start_read(name)?;
-    let mut run = Ok(TapeReader::new(alloc, code));
+    let mut run = Ok(TapeRun {
+        reader: TapeReader::new(alloc, code),
+        taken: T::none(alloc),
+    });
     let mut count = 0;
     let mut buf = [0u8; PIECE];
     'pieces: loop {
@@ -116,17 +118,34 @@ fn run_pieces<H: Shelf>(
     }
 }
 
-/// A run goes on with a piece, where nothing was refused.
-fn fed(run: Result<TapeReader, ControlError>, piece: &[u8]) -> Result<TapeReader, ControlError>
-    requires { IfOk run (λ reader. reader.count + length piece.now < 2 ^ 64) }
-    ensures { (code : Code) (front : List ℕ) → HasRun code front run → HasRun code (front ++ piece.now) result }
-{
-    run?.feed(piece)
+/// A tape so far, and what was taken of the acts that its reader no longer keeps.
+#[derive(Drop)]
+struct TapeRun<T: Drop> {
+    reader: TapeReader,
+    taken: T,
 }
 
-/// The acts of a run that has come to its end.
-fn finished(run: Result<TapeReader, ControlError>) -> Result<Vec<Act>, ControlError>
-    ensures { (code : Code) (front : List ℕ) → HasRun code front run → IsDueAs (λ v. v.items) fault_in (control_run code front) result }
+/// A run goes on with a piece, where nothing was refused, and its acts are taken.
+fn fed<T: Taker>(
+    run: Result<TapeRun<T>, ControlError>,
+    piece: &[u8],
+) -> Result<TapeRun<T>, ControlError>
+    requires { IfOk run (λ run. run.reader.count + length piece.now < 2 ^ 64) }
+    ensures { (code : Code) (front : List ℕ) → HasRun T.has code front run → HasRun T.has code (front ++ piece.now) result }
 {
-    run?.finish()
+    let TapeRun { reader, taken } = run?;
+    let mut reader = reader.feed(piece)?;
+    let taken = taken.with(reader.acts())?;
+    reader.drop_acts();
+    Ok(TapeRun { reader, taken })
+}
+
+/// What was taken of a run that has come to its end.
+fn finished<T: Taker>(run: Result<TapeRun<T>, ControlError>) -> Result<T, ControlError>
+    ensures { (code : Code) (front : List ℕ) → HasRun T.has code front run → IsTaken T.has (control_run code front) result }
+{
+    let TapeRun { reader, taken } = run?;
+    let rest = reader.finish()?;
+    let taken = taken.with(&rest)?;
+    Ok(taken)
 }

@@ -6,6 +6,7 @@ use Rattle.apt_core.specs.Due.{machine_due}
 use Rattle.apt_core.specs.Request.{four_names}
 use Rattle.apt_core.specs.Inputs.{Files, files_on, AreRead, input, part_limit, machine_limit, inputs, ReadsAll}
 use Rattle.apt_core.proofs.Readings.{read_on, reads_next, stopped_first, stopped_next}
+use Rattle.apt_core.proofs.TapeRuns.{acts_taken}
 use Rattle.apt_core.proofs.Judging.{table_judged, stopped_certifies, judged_certifies}
 use Rattle.apt_core.proofs.certify.certify.Goals as goal
 
@@ -81,7 +82,7 @@ returns-in_ok-run-in-Ok g c =
     (reads_next one two (input n.machine machine_limit) table (input n.cl file_limit ∷ input n.tape file_limit ∷ []) (cl ∷ tape ∷ []) b.read b.text
     (reads_next two three (input n.cl file_limit) cl (input n.tape file_limit ∷ []) (tape ∷ []) d.read d.text (e.run.1, tt))) in
     let tabled : table_of table ≡ Ok c.in-Ok.machine = rw c.deref.ensures.value at c.in-Ok.ensures.machine in
-    let judged = c.judged.ensures table tape tabled e.run.2 in
+    let judged = c.judged.ensures table tape tabled (acts_taken (λ v. v.items) _ _ e.run.2) in
     judged_certifies n text table cl tape before four _ read reads (rw c.deref-in-Ok.ensures.value at judged)
 
 pub returns-in_ok-run_input-in-Err : goal.returns-in_ok-run_input-in-Err
