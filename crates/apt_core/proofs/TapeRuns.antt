@@ -1,5 +1,5 @@
 -- A run of a tape goes on piece by piece.
-use Rattle.std.proofs.Common.{◌≡◌, ◌∙◌, ℕ, List, [], ◌++◌, ◌+◌, ◌^◌, ◌<◌, ◌≤◌, length, take, drop, Option, Some, None, Result, Ok, Err, IfOk, ap, sym, subst, arith, append_assoc}
+use Rattle.std.proofs.Common.{◌≡◌, ◌∙◌, ℕ, List, [], ◌++◌, ◌+◌, ◌≤◌, length, take, drop, Option, Some, None, Result, Ok, Err, ap, sym, subst, arith, append_assoc}
 use Rattle.std.proofs.lemmas.List.{append-nil, length-append, take-append-drop, length-take-le}
 use Rattle.apt_words.specs.Answers.{IsFault, IsDueAs}
 use Rattle.apt_shelf.specs.Told.{Contents, Takes}
@@ -11,15 +11,10 @@ use Rattle.apt_control.specs.declared.error.ControlError.{ControlError}
 use Rattle.apt_control.specs.declared.held.Held.{Held}
 use Rattle.apt_control.specs.Answers.{fault_in}
 use Rattle.apt_control.specs.Control.{meaning, nothing_held, control_run}
-use Rattle.apt_control.specs.Walk.{Walk, walk_start}
-use Rattle.apt_control.specs.Pieces.{StandsFor, StandsBehind}
+use Rattle.apt_control.specs.Walk.{Walk}
+use Rattle.apt_control.specs.Pieces.{StandsBehind}
 use Rattle.apt_core.specs.declared.reading.TapeRun.{TapeRun}
 use Rattle.apt_core.specs.TapeRuns.{HasRun, IsTaken}
-
--- of no bytes
-pub run_begun : {T : Type 0} (has : T → List Act → Type 0) (code : Code) (reader : Walk Held Act) (taken : T) → reader ≡ walk_start nothing_held code → StandsFor meaning nothing_held reader []
-    → has taken [] → HasRun has code [] (Ok (record { reader = reader; taken = taken }))
-run_begun has code reader taken start stands none = (ap (λ (s : Walk Held Act). s.code) start, ap (λ (s : Walk Held Act). s.count) start, ([], none, stands))
 
 -- a piece is taken, and its acts are dropped
 pub run_fed : {T : Type 0} (has : T → List Act → Type 0) (code : Code) (front piece : List ℕ) (run : TapeRun T) (fed now : Walk Held Act) (taken : T) → HasRun has code front (Ok run)
@@ -47,30 +42,11 @@ refused_stays code front piece error refused more = subst (λ tape. IsFault faul
 pub refused_whole : (code : Code) (front : List ℕ) (error : ControlError) → ((more : List ℕ) → IsFault fault_in (control_run code (front ++ more)) error) → IsFault fault_in (control_run code front) error
 refused_whole code front error refused = subst (λ tape. IsFault fault_in (control_run code tape) error) (append-nil front) (refused [])
 
--- the end is taken
-pub run_ended : {T : Type 0} (has : T → List Act → Type 0) (code : Code) (front : List ℕ) (run : TapeRun T) (rest : List Act) (taken : T) → HasRun has code front (Ok run)
-    → ((acts : List Act) (front : List ℕ) → StandsBehind meaning nothing_held acts run.reader front → control_run run.reader.code front ≡ Ok (acts ++ rest))
-    → ((before : List Act) → has run.taken before → has taken (before ++ rest)) → IsTaken has (control_run code front) (Ok taken)
-run_ended has code front run rest taken so ended takes =
-    (so.2.0 ++ rest, takes so.2.0 so.2.1, subst (λ c. control_run c front ≡ Ok (so.2.0 ++ rest)) so.0 (ended so.2.0 front so.2.2))
-
--- the end is refused
-pub end_refused : {T : Type 0} (has : T → List Act → Type 0) (code : Code) (front : List ℕ) (run : TapeRun T) (error : ControlError) → HasRun has code front (Ok run)
-    → ((acts : List Act) (front : List ℕ) → StandsBehind meaning nothing_held acts run.reader front → IsFault fault_in (control_run run.reader.code front) error)
-    → IsFault fault_in (control_run code front) error
-end_refused has code front run error so ended = subst (λ c. IsFault fault_in (control_run c front) error) so.0 (ended so.2.0 front so.2.2)
-
 -- where all acts are taken they are those of the run
 pub acts_taken : {X : Type 0} (view : X → List Act) (due : Result (List Act) BlockFault) (result : Result X ControlError) → IsTaken (λ x acts. view x ≡ acts) due result
     → IsDueAs view fault_in due result
 acts_taken view due (Ok x) taken = taken.2 ∙ ap Ok (sym taken.1)
 acts_taken view due (Err error) taken = taken
-
--- a reader has counted what was read
-pub few_counted : {T : Type 0} (has : T → List Act → Type 0) (code : Code) (front piece : List ℕ) (run : Result (TapeRun T) ControlError) → HasRun has code front run → length front + length piece < 2 ^ 64
-    → IfOk run (λ run. run.reader.count + length piece < 2 ^ 64)
-few_counted has code front piece (Ok run) so few = omega (arith, so.1, few)
-few_counted has code front piece (Err error) so few = tt
 
 -- ---- a file that is read piece by piece
 
