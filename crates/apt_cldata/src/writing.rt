@@ -12,7 +12,7 @@ use std::alloc::{AllocError, Global};
 use std::marker::Model;
 
 /// A piece ends with the record with which it has so many bytes.
-const PIECE: usize = 1024;
+const PIECE: usize = 16_384;
 
 /// The bytes of a CL file of these records, which are read as them again; where a record begins, no other
 /// record's bytes begin.

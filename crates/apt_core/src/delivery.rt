@@ -19,7 +19,7 @@ use apt_shelf::{Pieces, Shelf, ShelfFault};
 use std::alloc::Global;
 
 /// The room for the records that are written next, in bytes. More is taken only for a record that is longer.
-const ROOM: usize = 8192;
+const ROOM: usize = 20_480;
 
 /// The records of a part, and the machine for which its tape is.
 #[derive(Drop)]
