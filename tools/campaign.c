@@ -9,6 +9,7 @@
 #include <dlfcn.h>
 #include <errno.h>
 #include <fcntl.h>
+#include <pthread.h>
 #include <setjmp.h>
 #include <stdarg.h>
 #include <stdint.h>
@@ -207,6 +208,12 @@ static void run_times(int times, int words, char **word, char **env) {
         run(words, word, env);
         head->is_same &= head->status == status && head->changed == changed && is_kept();
     }
+}
+
+/* No thread is given: starting one takes longer than what a short part has to do. */
+int pthread_create(pthread_t *thread, const pthread_attr_t *how, void *(*work)(void *), void *what) {
+    (void)thread, (void)how, (void)work, (void)what;
+    return EAGAIN;
 }
 
 static int serve(int words, char **word, char **env) {
