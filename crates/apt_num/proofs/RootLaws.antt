@@ -1,8 +1,9 @@
 -- root n is the one root of n, and root_near n is nearest to it.
-use Rattle.std.proofs.Common.{◌≡◌, ℕ, zero, suc, ◌+◌, ◌-◌, ◌*◌, ◌/◌, ◌^◌, ◌≤◌, ◌<◌, arith, inl, inr}
+use Rattle.std.proofs.Common.{◌≡◌, ℕ, zero, suc, min, ◌+◌, ◌-◌, ◌*◌, ◌/◌, ◌^◌, ◌≤◌, ◌<◌, arith, inl, inr}
+use Rattle.std.specs.Int.Bits.{bit_or}
 use Rattle.std.specs.Int.Count.{count_leading_zeros}
-use Rattle.std.proofs.Math.Nat.{two-pow-succ, lt-mul-div-succ, div-lt_iff_lt-mul, pow-le-pow_right}
-use Rattle.std.proofs.lemmas.Nat.{mul-le, pow_pos, leading_length}
+use Rattle.std.proofs.Math.Nat.{two-pow-succ, lt-mul-div-succ, le-div_iff_mul-le, min-eq_left, min-eq_right, pow-le-pow_right}
+use Rattle.std.proofs.lemmas.Nat.{mul-le, pow_pos, le_or_r, or_lt, leading_top}
 use Rattle.std.proofs.lemmas.Bool.{cases_lt}
 use Rattle.std.proofs.lemmas.Bool.Decides.{leb_tells}
 use Rattle.apt_num.specs.Root.{IsRoot, IsNearestRoot, root_bit, root_bits, root}
@@ -81,17 +82,30 @@ newton_by n r q s h up = omega (arith, h, four_products r (q + 1), mul-le (r + q
 pub newton_high : (n r : ℕ) → 0 < r → n < ((r + n / r) / 2 + 1) * ((r + n / r) / 2 + 1)
 newton_high n r h = newton_by n r (n / r) ((r + n / r) / 2) (lt-mul-div-succ n h) (omega arith)
 
-below_shifted : (n k m : ℕ) → k ≤ m → n < 2 ^ k * 2 ^ 64 → n / 2 ^ m < 2 ^ 64
-below_shifted n k m le h =
-    (div-lt_iff_lt-mul (pow_pos m)).1 (omega (arith, h, mul-le (2 ^ k) (2 ^ 64) (2 ^ m) (2 ^ 64) (pow-le-pow_right (omega arith) le) (omega arith)))
+-- a number past the root may be cut down to the greatest of 64 bits
+pub cut_high : (n m : ℕ) → n < 2 ^ 128 → n < (m + 1) * (m + 1) → n < (min m (2 ^ 64 - 1) + 1) * (min m (2 ^ 64 - 1) + 1)
+cut_high n m fits h = elim (cases_lt m (2 ^ 64 - 1)) [
+  | inl less ↦ rw (min-eq_left {n = m} {m = 2 ^ 64 - 1} (omega (arith, less))) h
+  | inr most ↦ rw (min-eq_right {n = 2 ^ 64 - 1} {m = m} most) (omega (arith, fits))
+]
 
-upper_below : (n : ℕ) → n < 2 ^ 128 → n / 2 ^ 64 < 2 ^ 64
-upper_below n h = (div-lt_iff_lt-mul (pow_pos 64)).1 (omega (arith, h))
+pub step_high : (n r : ℕ) → n < 2 ^ 128 → 0 < r → n < (min ((r + n / r) / 2) (2 ^ 64 - 1) + 1) * (min ((r + n / r) / 2) (2 ^ 64 - 1) + 1)
+step_high n r fits h = cut_high n ((r + n / r) / 2) fits (newton_high n r h)
 
--- without so many bits as its upper half has, a number has at most 64
-pub upper_fits : (n m : ℕ) → n < 2 ^ 128 → 64 - count_leading_zeros 64 (n / 2 ^ 64) ≤ m → n / 2 ^ m < 2 ^ 64
-upper_fits n m h le =
-    let top = leading_length 64 (n / 2 ^ 64) (upper_below n h) in
-    below_shifted n top.0 m (omega (arith, le, top.1)) ((div-lt_iff_lt-mul (pow_pos 64)).0 top.2)
+-- with the third bit set, a number has at most 125 zeros before its leading bit
+pub zeros_most : (n : ℕ) → n < 2 ^ 128 → count_leading_zeros 128 (bit_or n 4) ≤ 125
+zeros_most n fits =
+    let least : 4 ≤ bit_or n 4 = le_or_r n 4 in
+    let top = leading_top 128 (bit_or n 4) (omega (arith, least)) (or_lt 128 n 4 fits (omega arith)) in
+    elim (cases_lt top.0 2) [
+      | inl small ↦
+          let two : 2 ^ suc top.0 ≤ 2 ^ 2 = pow-le-pow_right {n = 2} (omega arith) small in
+          absurd (omega (arith, least, two, top.3))
+      | inr enough ↦ omega (arith, enough, top.1)
+    ]
+
+-- digits from 2^63 on, without at most 62 of them
+pub still_two : (d k : ℕ) → 2 ^ 63 ≤ d → k ≤ 62 → 2 ≤ d / 2 ^ k
+still_two d k h le = (le-div_iff_mul-le (pow_pos k)).1 (omega (arith, h, pow-le-pow_right {n = 2} (omega arith) le))
 
 pub ruleset root_laws = (root-unique)

@@ -8,6 +8,8 @@ ghost use Rattle.apt_num.specs.Root as roots;
 ghost use Rattle.apt_num.specs.Sign.{root_sign_of, AtLeast};
 ghost use Rattle.apt_num.specs.Sign as signs;
 
+use std::num::f64_to_bits_with_nan;
+
 /// The sign of a number.
 #[derive(Clone, Copy, Debug, PartialEq, Eq)]
 pub enum Sign {
@@ -22,48 +24,48 @@ pub fn isqrt(n: u128) -> u128
     ensures root { IsRoot n result }
     ensures value { result ≡ roots.root n }
 {
-    down_to_root(n, above_root(n))
+    u128::from(down_to_root(n, above_root(n)))
 }
 
 /// Newton's steps from a number that is not below the root, each of which is smaller and not below it either.
 #[tactic(auto, using(crate::proofs::RootLaws::newton_high))]
-fn down_to_root(n: u128, above: u64) -> u128
+fn down_to_root(n: u128, above: u64) -> u64
     requires { n < (above + 1) * (above + 1) }
     ensures { IsRoot n result }
 {
-    let mut root = u128::from(above);
-    'steps: while n < root * root {
-        root = (root + n / root) / 2;
+    let mut root = above;
+    'steps: while n < u128::from(root) * u128::from(root) {
+        root = ((u128::from(root) + n / u128::from(root)) / 2) as u64;
     }
     root
 }
 
-/// A number that is not below the root, and near it: for a large number by the root of its upper bits.
+/// A number that is not below the root, and near it: a step of Newton's from any number comes out there.
+#[tactic(auto, using(crate::proofs::RootLaws::step_high))]
 fn above_root(n: u128) -> u64
     ensures { n < (result + 1) * (result + 1) }
 {
-    let upper = 64 - ((n >> 64) as u64).leading_zeros();
-    let half = upper.div_ceil(2);
-    let guess = (root_of_bits((n >> (2 * half)) as u64) + 1) << half;
-    if n < u128::from(guess) * u128::from(guess) {
-        guess
-    } else {
-        u64::MAX
-    }
+    let near = u128::from(near_root(n));
+    ((near + n / near) / 2).min(u128::from(u64::MAX)) as u64
 }
 
-/// The root of a number, rounded down, by Newton's steps from a power of two past it.
-fn root_of_bits(n: u64) -> u64
-    ensures { result ≤ 2 ^ 32 }
+/// A number near the root, and at least 2: the root of the upper 52 bits as a float. It only says where Newton's
+/// steps begin, and they find the root from anywhere. The `4` leaves the smallest numbers the two bits of a 2.
+#[tactic(auto, using(crate::proofs::RootLaws::still_two, crate::proofs::RootLaws::zeros_most))]
+fn near_root(n: u128) -> u64
+    ensures { 2 ≤ result }
 {
-    if n == 0 {
-        return 0;
-    }
-    let mut root = 1 << (64 - n.leading_zeros()).div_ceil(2);
-    'steps: while n / root < root {
-        root = (root + n / root) / 2;
-    }
-    root
+    let half = (n | 4).leading_zeros() / 2;
+    let upper = ((n << (2 * half)) >> 76) as u64;
+    digits_of((upper as f64).sqrt()) >> half
+}
+
+/// The binary digits of a float from its leading one on, wherever its point stands: its bits have them behind the
+/// sign and the exponent, without the leading one.
+fn digits_of(x: f64) -> u64
+    ensures { 2 ^ 63 ≤ result }
+{
+    (1 << 63) | (f64_to_bits_with_nan(x) << 11)
 }
 
 /// The whole number nearest to the root of `n`, for `n` below `2^126`. There is no tie: no odd square
