@@ -4,6 +4,7 @@ use Rattle.std.specs.Int.{w128}
 use Rattle.std.proofs.Math.Nat.{mul-le-mul_left, mul-le-mul_right}
 use Rattle.std.proofs.lemmas.Int.{to_z-of_z, ints, unsigned_abs-mul}
 use Rattle.apt_num.specs.Near.{near, IsNear}
+use Rattle.apt_num.proofs.Ring.{as_diff, diff-same, differences}
 use Rattle.apt_num.proofs.Squares.{size_mul}
 use Rattle.apt_num.proofs.Nearest.{near_bound}
 
@@ -13,6 +14,12 @@ kept z h = to_z-of_z w128 z (omega (arith, ints))
 
 pub size_times : (a b : ℤ) → unsigned_abs a ≤ 10 ^ 8 → unsigned_abs (a *ℤ b) ≤ 10 ^ 8 * unsigned_abs b
 size_times a b h = rw unsigned_abs-mul (mul-le-mul_right (unsigned_abs b) h)
+
+pub product_small : (a b : ℤ) → unsigned_abs a ≤ 10 ^ 8 → unsigned_abs b ≤ 10 ^ 8 → unsigned_abs (a *ℤ b) ≤ 10 ^ 16
+product_small a b p q = omega (arith, size_times a b p, mul-le-mul_left (10 ^ 8) q)
+
+pub last_first : (a b c : ℤ) → (a *ℤ b) *ℤ c ≡ (a *ℤ c) *ℤ b
+last_first a b c = rw (as_diff a, as_diff b, as_diff c) (simp differences (diff-same _ _ _ _ (omega arith)))
 
 pub difference_fits : (x y : ℤ) → unsigned_abs x < 2 ^ 126 → unsigned_abs y < 2 ^ 126 → FitsSigned w128 (to_z w128 (of_z w128 x) -ℤ to_z w128 (of_z w128 y))
 difference_fits x y p q = rw (kept x (omega arith), kept y (omega arith)) (omega (arith, ints))

@@ -2,6 +2,7 @@
 
 ghost use Rattle.std.specs.Prelude.{◌≡◌, ◌↔◌, ◌⊎◌, ◌^◌, ◌≤◌, ◌<◌, ◌*◌, ◌<ℤ◌, ◌≤ℤ◌, pos, ◌-ℤ◌, ◌*ℤ◌, unsigned_abs, IfOk, IsErrOf, false};
 ghost use Rattle.apt_num.specs.declared.Sign.TheVariants as signs;
+ghost use Rattle.apt_num.specs.Near.{near, half_up};
 ghost use Rattle.apt_num.specs.Sign.{square};
 ghost use Rattle.apt_plane.specs.Vectors as vectors;
 ghost use Rattle.apt_plane.specs.Ranges.{IsPoint, IsDir, IsLine, IsMoved, IsRound};
@@ -12,7 +13,7 @@ ghost use Rattle.apt_canon.specs.Feet as feet;
 
 use crate::FormFault;
 use crate::picks::{offset_picked, side_picked};
-use crate::scale::{UNIT, depth, framed, length_of, opposite, placed, times, within};
+use crate::scale::{depth, framed, measure, opposite, within};
 use apt_plane::vectors::perp;
 use apt_plane::{Circ, Dir, Line, Moved, Pt};
 use apt_words::Pick;
@@ -46,7 +47,7 @@ pub fn ray_point(c: &Circ, u: Dir) -> Pt
     ensures onwards { (pos 0 <ℤ c.now.r) → pos 0 <ℤ vectors.dot u (vectors.displacement c.now.c result) }
     ensures radius { (pos 100 ≤ℤ c.now.r) → 2 * unsigned_abs (pos (vectors.length_squared (vectors.displacement c.now.c result)) -ℤ (c.now.r *ℤ c.now.r)) ≤ 3 * unsigned_abs c.now.r }
 {
-    along(c.c, u, c.r, length_of(u))
+    along(c.c, u, c.r, measure(u))
 }
 
 /// The foot, rounded to the grid, of a point on a moved line.
@@ -115,31 +116,50 @@ fn parallel_point(l: &Line, h: i64) -> Pt
     requires offset { unsigned_abs h ≤ 10 ^ 8 }
     ensures { result ≡ feet.parallel_point l.now h }
 {
-    along(l.base, perp(l.dir), h, length_of(l.dir))
+    along(l.base, perp(l.dir), h, measure(l.dir))
 }
 
 /// The point at a distance along a direction from another: the direction's length is given.
-fn along(c: Pt, u: Dir, distance: i64, length: i128) -> Pt
+fn along(c: Pt, u: Dir, distance: i64, length: u64) -> Pt
     requires point { IsPoint c }
     requires x { unsigned_abs u.dx ≤ 10 ^ 8 }
     requires y { unsigned_abs u.dy ≤ 10 ^ 8 }
     requires distance { unsigned_abs distance ≤ 10 ^ 8 }
-    requires large { 2 ^ 35 ≤ unsigned_abs length }
-    requires small { unsigned_abs length < 2 ^ 63 }
-    ensures { result ≡ scale.from c (scale.nearest (scale.times (distance *ℤ scale.unit) u) length) }
+    requires large { 2 ^ 35 ≤ length }
+    ensures { result ≡ scale.from c (scale.nearest (scale.times (distance *ℤ scale.unit) u) (pos length)) }
 {
     Pt {
-        x: placed(c.x, in_units(u.dx, distance), length),
-        y: placed(c.y, in_units(u.dy, distance), length),
+        x: c.x + units_over(product(distance, u.dx), length),
+        y: c.y + units_over(product(distance, u.dy), length),
     }
 }
 
-/// A part of a direction, times a distance in units.
-fn in_units(part: i64, distance: i64) -> i128
-    requires part { unsigned_abs part ≤ 10 ^ 8 }
-    requires distance { unsigned_abs distance ≤ 10 ^ 8 }
-    ensures value { result ≡ (distance *ℤ scale.unit) *ℤ part }
-    ensures small { unsigned_abs result ≤ 2 ^ 91 }
+fn product(a: i64, b: i64) -> i64
+    requires a { unsigned_abs a ≤ 10 ^ 8 }
+    requires b { unsigned_abs b ≤ 10 ^ 8 }
+    ensures value { result ≡ a *ℤ b }
+    ensures small { unsigned_abs result ≤ 10 ^ 16 }
 {
-    times(part, times(distance, UNIT))
+    a * b
+}
+
+/// A number times a unit over a length, to the nearest whole number.
+fn units_over(n: i64, length: u64) -> i64
+    requires n { unsigned_abs n ≤ 10 ^ 16 }
+    requires large { 2 ^ 35 ≤ length }
+    ensures value { result ≡ near (n *ℤ scale.unit) (pos length) }
+    ensures small { unsigned_abs result ≤ 10 ^ 16 }
+{
+    let size = size_over(n.unsigned_abs(), length) as i64;
+    if n < 0 { -size } else { size }
+}
+
+/// The same of a size: half a length is added, and the quotient rounded down.
+fn size_over(n: u64, length: u64) -> u64
+    requires n { n ≤ 10 ^ 16 }
+    requires large { 2 ^ 35 ≤ length }
+    ensures value { result ≡ half_up (n * 2 ^ 35) length }
+    ensures small { result ≤ 10 ^ 16 }
+{
+    ((u128::from(n) * (1 << 35) + u128::from(length / 2)) / u128::from(length)) as u64
 }

@@ -27,11 +27,11 @@ pub struct Wide {
 
 /// The length of a direction, in units, rounded down. Along an axis it is exact.
 #[tactic(auto, using(crate::proofs::Axes::upright, crate::proofs::Axes::level, crate::proofs::Axes::not_none))]
-pub(crate) fn length_of(dir: Dir) -> i128
+pub(crate) fn measure(dir: Dir) -> u64
     requires { IsDir dir }
-    ensures value { result ≡ scale.length_of dir }
-    ensures small { unsigned_abs result < 2 ^ 63 }
-    ensures large { 2 ^ 35 ≤ unsigned_abs result }
+    ensures value { pos result ≡ scale.length_of dir }
+    ensures small { result < 2 ^ 63 }
+    ensures large { 2 ^ 35 ≤ result }
 {
     if dir.dx == 0 {
         units(dir.dy)
@@ -42,24 +42,34 @@ pub(crate) fn length_of(dir: Dir) -> i128
     }
 }
 
-/// A size, in units.
-fn units(size: i64) -> i128
-    requires least { 1 ≤ unsigned_abs size }
-    requires most { unsigned_abs size ≤ 10 ^ 8 }
-    ensures value { result ≡ pos (unsigned_abs size * 2 ^ 35) }
-    ensures small { unsigned_abs result < 2 ^ 63 }
-    ensures large { 2 ^ 35 ≤ unsigned_abs result }
-{
-    i128::from(size.unsigned_abs()) * UNIT
-}
-
-fn root_of(dir: Dir) -> i128
+/// The same as a signed number.
+pub(crate) fn length_of(dir: Dir) -> i128
     requires { IsDir dir }
     ensures value { result ≡ scale.length_of dir }
     ensures small { unsigned_abs result < 2 ^ 63 }
     ensures large { 2 ^ 35 ≤ unsigned_abs result }
 {
-    isqrt(length_squared_of(dir) * (1 << 70)) as i128
+    i128::from(measure(dir))
+}
+
+/// A size, in units.
+fn units(size: i64) -> u64
+    requires least { 1 ≤ unsigned_abs size }
+    requires most { unsigned_abs size ≤ 10 ^ 8 }
+    ensures value { result ≡ unsigned_abs size * 2 ^ 35 }
+    ensures small { result < 2 ^ 63 }
+    ensures large { 2 ^ 35 ≤ result }
+{
+    size.unsigned_abs() * (1 << 35)
+}
+
+fn root_of(dir: Dir) -> u64
+    requires { IsDir dir }
+    ensures value { pos result ≡ scale.length_of dir }
+    ensures small { result < 2 ^ 63 }
+    ensures large { 2 ^ 35 ≤ result }
+{
+    isqrt(length_squared_of(dir) * (1 << 70)) as u64
 }
 
 pub(crate) fn times(a: i64, b: i128) -> i128

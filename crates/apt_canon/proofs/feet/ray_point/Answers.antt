@@ -1,5 +1,4 @@
-use Rattle.std.proofs.Common.{rules, ◌≡◌, ◌∙◌, ◌*◌, ◌^◌, ◌≤◌, ap, sym, subst, arith, pos, ◌*ℤ◌, ◌-ℤ◌, ◌<ℤ◌, unsigned_abs, FitsSigned, w64}
-use Rattle.std.specs.Int.{w128}
+use Rattle.std.proofs.Common.{◌≡◌, ◌∙◌, ◌*◌, ◌^◌, ◌≤◌, ap, sym, subst, arith, pos, ◌*ℤ◌, ◌-ℤ◌, ◌<ℤ◌, unsigned_abs, FitsSigned, w64}
 use Rattle.std.proofs.lemmas.Int.{to_z-of_z, ints}
 use Rattle.apt_num.specs.Sign.{square}
 use Rattle.apt_plane.specs.declared.figures.Pt.{Pt}
@@ -15,9 +14,8 @@ point c =
     let round = c.args.c.now in
     let u = c.args.u in
     let fits_r : FitsSigned w64 round.r = omega (arith, ints) in
-    let fits_length : FitsSigned w128 c.length_of.result = search rules in
-    let value : c.along.result ≡ from round.c (nearest (times (round.r *ℤ pos (2 ^ 35)) u) c.length_of.result) = simp to_z-of_z at c.along.ensures in
-    value ∙ ap (λ z. from round.c (nearest (times (round.r *ℤ unit) u) z)) c.length_of.ensures.value
+    let value : c.along.result ≡ from round.c (nearest (times (round.r *ℤ pos (2 ^ 35)) u) (pos c.measure.result)) = simp to_z-of_z at c.along.ensures in
+    value ∙ ap (λ z. from round.c (nearest (times (round.r *ℤ unit) u) z)) c.measure.ensures.value
 
 pub returns-clause-on_circle : goal.returns-clause-on_circle
 returns-clause-on_circle c =
