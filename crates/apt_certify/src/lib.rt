@@ -10,7 +10,7 @@ mod onwards;
 mod segments;
 mod split;
 mod verdict;
-mod within;
+mod ways;
 
 pub use gate::{Gate, OpenGate};
 pub use judge::{check_jobs, merged};

@@ -6,4 +6,4 @@ use Rattle.apt_certify.proofs.distances.is_from_centre.Goals as goal
 pub returns : goal.returns
 returns c =
     let fits : FitsSigned w64 c.args.lo = c.ranges.lo in
-    tells_over _ c.args.c c.args.p c.args.lo _ _ c.displacement.ensures.value c.length_squared.ensures (simp to_z-of_z at c.is_length_at_most.ensures)
+    tells_over _ c.args.c c.args.p c.args.lo _ _ c.displacement.ensures.value c.square_of.ensures.value (simp to_z-of_z at c.is_length_at_most.ensures)
