@@ -1,11 +1,13 @@
 -- The walk over the characters at the front of some bytes.
 use Rattle.std.proofs.Common.{◌≡◌, ℕ, ◌+◌, ◌-◌, ◌<◌, ◌≤◌, Bool, true, false, List, [], ◌∷◌, length, drop, get_or, None, Result, Ok, Err, IfOk, cond, refl, ap, ◌∙◌, sym, arith}
+use Rattle.apt_tapecode.specs.declared.Code.{Code}
 use Rattle.apt_tapecode.specs.declared.Read.{Read}
 use Rattle.apt_tapecode.specs.declared.Read.TheVariants as reads
-use Rattle.apt_tapecode.specs.Tapecode.{reading}
+use Rattle.apt_tapecode.specs.Tapecode.{reading, digit_read, digit_of}
 use Rattle.apt_block.specs.declared.block.BlockFault.{BlockFault}
 use Rattle.apt_block.specs.Block.{◌>>=◌}
 use Rattle.apt_block.specs.Machine.{FrontPart, step, is_whole, Taken, stops_at, taken, behind}
+use Rattle.apt_block.specs.Whole.{digit_as}
 use Rattle.apt_block.proofs.Taking.{first_taken, taken_some}
 use Rattle.apt_control.specs.declared.walk.Phase.TheVariants as phases
 use Rattle.apt_control.specs.declared.error.ControlError.{ControlError}
@@ -15,6 +17,16 @@ use Rattle.apt_words.proofs.Answers.{fault_of}
 use Rattle.apt_control.specs.Answers.{IsFront, fault_in}
 use Rattle.apt_control.specs.Control.{MeaningOf}
 use Rattle.apt_control.specs.Walk.{Walk, words_step, character_step, block_step, character_as, character_of, reached, AtCharacter, byte_as, byte_step, byte_steps}
+
+-- the digit of a byte is the one of its character
+pub digit_character : (code : Code) (byte : ℕ) → digit_of code byte ≡ digit_as (character_of code byte)
+digit_character code byte = go (reading code byte)
+  where
+    go : (r : Read) → digit_read r ≡ digit_as (character_as r)
+    go (reads.Char ch) = refl
+    go reads.Skip = refl
+    go reads.BadParity = refl
+    go reads.BadCode = refl
 
 pub first_byte : {H A : Type 0} (means : MeaningOf H A) (s : Walk H A) (bytes : List ℕ) (d : ℕ) → 0 < length bytes
     → byte_steps means s bytes ≡ (byte_step means s (get_or bytes 0 d) >>= λ s. byte_steps means s (drop 1 bytes))

@@ -2,6 +2,7 @@
 
 ghost use Rattle.std.specs.Prelude.{◌≡◌, ◌≢◌, ◌+◌, ◌-◌, ◌<◌, ◌≤◌, ◌^◌, ◌++◌, [], ℕ, List, Err, false, length, IfOk};
 ghost use Rattle.apt_block.specs.Machine as machine;
+ghost use Rattle.apt_block.specs.Whole.{digit_as};
 ghost use Rattle.apt_words.specs.Answers.{IsDue, IsDueAs};
 ghost use Rattle.apt_control.specs.Answers.{IsFront, IsMeaning, fault_in};
 ghost use Rattle.apt_control.specs.Control.{MeaningOf};
@@ -12,7 +13,7 @@ ghost use Rattle.apt_control.specs.Walk.{AtCharacter};
 
 use crate::ControlError;
 use apt_block::{Alphabet, BlockFault, BlockReader, TapeCause, TapeWord};
-use apt_tapecode::{Code, Read, punch, sense};
+use apt_tapecode::{Code, Read, digit, punch, sense};
 use std::alloc::Global;
 use std::marker::Model;
 
@@ -289,6 +290,10 @@ impl Alphabet for Rs244 {
     fn character(byte: u8) -> Option<u8> {
         character_of(Code::Rs244, byte)
     }
+
+    fn digit(byte: u8) -> u8 {
+        digit_of(Code::Rs244, byte)
+    }
 }
 
 /// The characters of RS-358.
@@ -303,6 +308,10 @@ impl Alphabet for Rs358 {
     fn character(byte: u8) -> Option<u8> {
         character_of(Code::Rs358, byte)
     }
+
+    fn digit(byte: u8) -> u8 {
+        digit_of(Code::Rs358, byte)
+    }
 }
 
 fn character_of(code: Code, byte: u8) -> Option<u8>
@@ -312,6 +321,13 @@ fn character_of(code: Code, byte: u8) -> Option<u8>
         Read::Char(ch) => Some(ch),
         Read::Skip | Read::BadParity | Read::BadCode => None,
     }
+}
+
+#[tactic(auto, using(crate::proofs::Bytes::digit_character))]
+fn digit_of(code: Code, byte: u8) -> u8
+    ensures { result ≡ digit_as (walk.character_of code byte) }
+{
+    digit(code, byte)
 }
 
 fn is_rewind_stop(code: Code, byte: u8) -> bool
