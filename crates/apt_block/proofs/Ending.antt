@@ -8,8 +8,8 @@ use Rattle.apt_block.specs.declared.block.TapeCause.{TapeCause}
 use Rattle.apt_block.specs.declared.machine.OpenWord.{OpenWord}
 use Rattle.apt_block.specs.declared.machine.Want.{Want}
 use Rattle.apt_block.specs.declared.machine.Want.TheVariants as wants
-use Rattle.apt_block.specs.Block.{bad_block, forms, plus_sign, minus_sign, line_feed, code_fault, is_digit, unless}
-use Rattle.apt_block.specs.Machine.{FrontPart, form_for, new_word, with_form, letter_step, with_word, value_of, word_end, with_digit, digit_step, sign_step, step_as, step, is_nothing, is_whole}
+use Rattle.apt_block.specs.Block.{◌>>=◌, bad_block, forms, plus_sign, minus_sign, line_feed, code_fault, is_digit, unless}
+use Rattle.apt_block.specs.Machine.{FrontPart, form_for, new_word, with_form, letter_step, with_word, value_of, word_end, with_digit, digit_step, sign_step, step_as, step, is_nothing, is_whole, Taken, stops_at, behind, letter_taken}
 
 -- whether the block is words_of behind a character
 abbrev pub Ends : Bool → Result FrontPart BlockFault → Type 0
@@ -33,6 +33,9 @@ none_at_end used (f ∷ fs) free = ap (λ t. cond t (Some (f, used + 1)) (form_f
 no_end : NoEnd forms
 no_end = (refl, (refl, (refl, (refl, (refl, (refl, (refl, (refl, (refl, (refl, (refl, (refl, (refl, tt)))))))))))))
 
+no_form_ends : (used ch : ℕ) → ch ≡ line_feed → form_for used (drop used forms) ch ≡ None
+no_form_ends used ch is = ap (form_for used (drop used forms)) is ∙ none_at_end used (drop used forms) (no_end_drop used forms no_end)
+
 first_open : (b : FrontPart) (used : ℕ) (form : Form) (at : ℕ) (s : Bool) → is_nothing (cond s (wants.Sign (new_word form at)) (wants.Digit (new_word form at))) ≡ false
 first_open b used form at true = refl
 first_open b used form at false = refl
@@ -50,8 +53,7 @@ is_same : (ch : ℕ) → (ch == line_feed) ≡ true → line_feed ≡ ch
 is_same ch e = grind (arith, nat_tests)
 
 letter_ends : (b : FrontPart) (c : Mark) → Ends (c.ch == line_feed) (letter_step b c)
-letter_ends b c = with_ends b c (form_for b.used (drop b.used forms) c.ch) (c.ch == line_feed) refl
-    (λ e. ap (form_for b.used (drop b.used forms)) (sym (is_same c.ch e)) ∙ none_at_end b.used (drop b.used forms) (no_end_drop b.used forms no_end))
+letter_ends b c = with_ends b c (form_for b.used (drop b.used forms) c.ch) (c.ch == line_feed) refl (λ e. no_form_ends b.used c.ch (sym (is_same c.ch e)))
 
 no_digit : (ch : ℕ) → is_digit ch ≡ true → false ≡ (ch == line_feed)
 no_digit ch e = grind (arith, nat_tests)
@@ -95,3 +97,18 @@ step_ends b c = go b.want
     go (wants.Sign w) = sign_ends b w c
     go (wants.Digit w) = digit_ends b w c
     go wants.Nothing = tt
+
+-- behind a letter's place the end of block is taken
+pub end_taken : (character : ℕ → Option ℕ) (b : FrontPart) (c : Mark) (bytes : List ℕ) → c.ch ≡ 10 → stops_at (record b { want = wants.Nothing }) (c.at + 1 + 0) bytes ≡ letter_taken character b c bytes
+end_taken character b c bytes is =
+    ap (λ at. stops_at (record b { want = wants.Nothing }) at bytes) (none_more (c.at + 1))
+    ∙ sym (ap (λ o. goes (with_form b c o)) (no_form_ends b.used c.ch is) ∙ ap (λ t. goes (cond t (Ok (record b { want = wants.Nothing })) (Err (bad_block c.at)))) (is_end c.ch is))
+  where
+    goes : Result FrontPart BlockFault → Result Taken BlockFault
+    goes r = r >>= λ b. behind character b (c.at + 1) bytes
+
+    none_more : (n : ℕ) → n + 0 ≡ n
+    none_more n = omega arith
+
+    is_end : (ch : ℕ) → ch ≡ 10 → (ch == line_feed) ≡ true
+    is_end ch is = grind (arith, nat_tests)

@@ -1,5 +1,5 @@
 -- Words that stand whole: each is taken up to its end.
-use Rattle.std.proofs.Common.{◌≡◌, ℕ, zero, suc, ◌+◌, ◌-◌, ◌*◌, ◌≤◌, ◌<◌, Bool, true, false, List, [], ◌∷◌, take, drop, length, Option, Some, None, Ok, Err, ◌==◌, ◌&&◌, nat_le, cond, refl, ap, ◌∙◌, sym, subst, arith, get_or, drop-cons, add-one, unsigned_abs}
+use Rattle.std.proofs.Common.{◌≡◌, ℕ, zero, suc, ◌+◌, ◌-◌, ◌*◌, ◌≤◌, ◌<◌, Bool, true, false, List, [], ◌∷◌, take, drop, length, Option, Some, None, Ok, Err, ◌==◌, ◌&&◌, nat_le, cond, refl, ap, ◌∙◌, sym, subst, arith, unsigned_abs}
 use Rattle.std.proofs.lemmas.Bool.Decides.{nat_tests}
 use Rattle.std.proofs.lemmas.Option.{none-some, option_and_then_some, same_Some}
 use Rattle.apt_block.specs.declared.block.TapeWord.{TapeWord}
@@ -35,17 +35,12 @@ pub record IsFirst (character : ℕ → Option ℕ) (size byte : ℕ) (bytes : L
   pub digit : is_digit ch ≡ true
   pub more : number_from character (10 * size + (ch - 48)) bytes ≡ Some number
 
-first : (character : ℕ → Option ℕ) (size byte : ℕ) (bytes : List ℕ) (number : ℕ) → number_from character size (byte ∷ bytes) ≡ Some number → IsFirst character size byte bytes number
+pub first : (character : ℕ → Option ℕ) (size byte : ℕ) (bytes : List ℕ) (number : ℕ) → number_from character size (byte ∷ bytes) ≡ Some number → IsFirst character size byte bytes number
 first character size byte bytes number e = option_and_then_some _ (character byte) number e (λ ch is e. by_test ch (is_digit ch) is refl e)
   where
     by_test : (ch : ℕ) (t : Bool) → character byte ≡ Some ch → is_digit ch ≡ t → cond t (number_from character (10 * size + (ch - 48)) bytes) None ≡ Some number → IsFirst character size byte bytes number
     by_test ch true is digit e = record { ch = ch; is = is; digit = digit; more = e }
     by_test ch false is digit e = absurd (none-some number e)
-
--- a number behind one digit more
-pub number_more : (character : ℕ → Option ℕ) (size n ch d : ℕ) (bytes : List ℕ) → n < length bytes → character (get_or bytes n d) ≡ Some ch → is_digit ch ≡ true
-    → number_from character (10 * size + (ch - 48)) (drop (n + 1) bytes) ≡ number_from character size (drop n bytes)
-number_more character size n ch d bytes h is digit = rw (drop-cons bytes n d, is, digit, add-one) refl
 
 -- a digit of a word is taken
 digit_taken : (character : ℕ → Option ℕ) (b : FrontPart) (w : OpenWord) (at byte ch : ℕ) (bytes : List ℕ) (last : Bool) → character byte ≡ Some ch → is_digit ch ≡ true → (w.later == 0) ≡ last

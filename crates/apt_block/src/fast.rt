@@ -7,23 +7,30 @@ ghost use Rattle.apt_block.specs.Whole as spec;
 ghost use Rattle.apt_block.specs.declared.table.Form.{Form};
 ghost use Rattle.apt_block.specs.declared.machine.Want.TheVariants as wants;
 
-use crate::machine::{Alphabet, BlockReader, OpenWord, digit_of, new_word};
+use crate::machine::{Alphabet, BlockReader, NO_DIGIT, OpenWord, new_word};
 use crate::table::{Form, code_fault, form_for};
 
-/// The number of some digits, none where a byte is no digit's.
+/// The number of some digits, none where a byte is no digit's. The digits are added up, so that one test of their sum
+/// finds a byte that is none's: digits alone come to less than `NO_DIGIT`.
 #[inline(always)]
-#[tactic(auto, using(crate::proofs::Rooms::digit_size, crate::proofs::Rooms::size_fits))]
+#[tactic(auto, using(crate::proofs::Sums::number_small, crate::proofs::Sums::plain_fits))]
 fn number<A: Alphabet, const N: usize>(bytes: &[u8; N]) -> Option<u64>
     requires { N ≤ 8 }
     ensures value { result ≡ spec.number_from A.character 0 bytes.now }
     ensures small { IfSome result (λ size. size < 10 ^ 8) }
 {
     let mut size = 0;
+    let mut sum = 0;
     'digits: for byte in bytes {
-        let ch = digit_of::<A>(*byte)?;
-        size = 10 * size + ch as u64 - b'0' as u64;
+        let digit = u64::from(A::digit(*byte));
+        size = 10 * size + digit;
+        sum += digit;
     }
-    Some(size)
+    if sum < NO_DIGIT as u64 {
+        Some(size)
+    } else {
+        None
+    }
 }
 
 // a function for each number of digits, so that it keeps its table in a register
@@ -106,7 +113,12 @@ impl BlockReader {
         ensures none { IsNone result → self.new ≡ self.old }
     {
         let (letter, more) = bytes.split_first()?;
-        let (form, used) = form_for(self.used, A::character(*letter)?)?;
+        let ch = A::character(*letter)?;
+        // no form has it, so the table need not be searched
+        if ch == b'\n' {
+            return None;
+        }
+        let (form, used) = form_for(self.used, ch)?;
         let count = self.word_behind::<A>(form, used, more)?;
         Some(1 + count)
     }

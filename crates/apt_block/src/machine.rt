@@ -4,6 +4,7 @@ ghost use Rattle.std.specs.Prelude.{◌≡◌, ◌≤◌, ◌<◌, ◌+◌, ◌^
 ghost use Rattle.apt_block.specs.Block as spec;
 ghost use Rattle.apt_block.specs.Machine as machine;
 ghost use Rattle.apt_block.specs.Machine.{FrontPart, IsStep, IsTaken, IsRead, HasDigits};
+ghost use Rattle.apt_block.specs.Whole.{digit_as};
 ghost use Rattle.apt_block.specs.declared.machine.Want.TheVariants as wants;
 
 use crate::table::{Form, code_fault, form_for};
@@ -31,6 +32,10 @@ pub enum Want {
     Nothing,
 }
 
+/// What stands for the digit of a byte that is no digit's. It is so far from the digits that the sum of the digits of
+/// a word tells whether it is among them.
+pub const NO_DIGIT: u8 = 255;
+
 /// Which bytes stand for characters.
 pub trait Alphabet {
     ghost character: { ℕ → Option ℕ };
@@ -38,6 +43,10 @@ pub trait Alphabet {
     /// The character of a byte, none where the byte is no character's.
     fn character(byte: u8) -> Option<u8>
         ensures { result ≡ character byte };
+
+    /// The digit of a byte, `NO_DIGIT` where the byte is no digit's.
+    fn digit(byte: u8) -> u8
+        ensures { result ≡ digit_as (character byte) };
 }
 
 /// The front part of a block. It takes its characters as they come.
@@ -254,13 +263,18 @@ impl BlockReader {
 
     /// Takes the characters of a word whose letter is read, or an end of block.
     #[inline(always)]
-    #[tactic(auto, using(crate::proofs::Rooms::room_new))]
+    #[tactic(auto, using(crate::proofs::Rooms::room_new, crate::proofs::Ending::end_taken))]
     fn letter<A: Alphabet>(&mut self, c: Mark, more: &[u8]) -> Result<usize, BlockFault>
         requires place { c.at + 1 + length more.now < 2 ^ 64 }
         requires letter { self.old.want ≡ wants.Letter }
         ensures read { IsRead A.character (machine.letter_taken A.character self.old c more.now) self.new (c.at + 1) more.now result }
         ensures short { IfOk result (λ n. n ≤ length more.now) }
     {
+        // no form has it, so the table need not be searched
+        if c.ch == b'\n' {
+            self.want = Want::Nothing;
+            return Ok(0);
+        }
         match form_for(self.used, c.ch) {
             Some((form, used)) => {
                 self.used = used;
@@ -270,10 +284,6 @@ impl BlockReader {
                 } else {
                     self.digits::<A>(word, c.at + 1, more)
                 }
-            }
-            None if c.ch == b'\n' => {
-                self.want = Want::Nothing;
-                Ok(0)
             }
             None => Err(bad_block(c.at)),
         }

@@ -1,12 +1,14 @@
 -- The walk over the characters at the front of some bytes.
-use Rattle.std.proofs.Common.{◌≡◌, ℕ, ◌+◌, ◌-◌, ◌<◌, ◌≤◌, Bool, true, false, List, [], ◌∷◌, length, drop, get_or, None, Result, Ok, Err, IfOk, cond, refl, ap, ◌∙◌, sym, arith}
+use Rattle.std.proofs.Common.{◌≡◌, ◌≢◌, ℕ, ◌+◌, ◌-◌, ◌<◌, ◌≤◌, Bool, true, false, List, [], ◌∷◌, length, drop, get_or, Option, Some, None, Result, Ok, Err, IfOk, cond, refl, ap, ◌∙◌, sym, arith}
+use Rattle.apt_tapecode.specs.declared.Code.{Code}
 use Rattle.apt_tapecode.specs.declared.Read.{Read}
 use Rattle.apt_tapecode.specs.declared.Read.TheVariants as reads
-use Rattle.apt_tapecode.specs.Tapecode.{reading}
+use Rattle.apt_tapecode.specs.Tapecode.{reading, digit_read, digit_of}
 use Rattle.apt_block.specs.declared.block.BlockFault.{BlockFault}
 use Rattle.apt_block.specs.Block.{◌>>=◌}
 use Rattle.apt_block.specs.Machine.{FrontPart, step, is_whole, Taken, stops_at, taken, behind}
-use Rattle.apt_block.proofs.Taking.{first_taken, taken_some}
+use Rattle.apt_block.specs.Whole.{digit_as}
+use Rattle.apt_block.proofs.Taking.{first_taken, front_none, taken_some}
 use Rattle.apt_control.specs.declared.walk.Phase.TheVariants as phases
 use Rattle.apt_control.specs.declared.error.ControlError.{ControlError}
 use Rattle.apt_control.specs.declared.error.ControlError.TheVariants as errors
@@ -14,7 +16,23 @@ use Rattle.apt_words.specs.Answers.{IsDueAs, IsFault}
 use Rattle.apt_words.proofs.Answers.{fault_of}
 use Rattle.apt_control.specs.Answers.{IsFront, fault_in}
 use Rattle.apt_control.specs.Control.{MeaningOf}
-use Rattle.apt_control.specs.Walk.{Walk, words_step, character_step, block_step, character_as, character_of, reached, AtCharacter, byte_as, byte_step, byte_steps}
+use Rattle.apt_control.specs.Walk.{Walk, words_step, character_step, block_step, character_as, character_of, reached, byte_as, byte_step, byte_steps}
+
+-- bytes within a block, a character's first
+pub record AtCharacter {H A : Type 0} (s : Walk H A) (bytes : List ℕ) : Type 0 where
+  pub phase : s.phase ≡ phases.InBlock
+  pub some : 0 < length bytes
+  pub character : (ch : ℕ) × (reading s.code (get_or bytes 0 0) ≡ reads.Char ch)
+
+-- the digit of a byte is the one of its character
+pub digit_character : (code : Code) (byte : ℕ) → digit_of code byte ≡ digit_as (character_of code byte)
+digit_character code byte = go (reading code byte)
+  where
+    go : (r : Read) → digit_read r ≡ digit_as (character_as r)
+    go (reads.Char ch) = refl
+    go reads.Skip = refl
+    go reads.BadParity = refl
+    go reads.BadCode = refl
 
 pub first_byte : {H A : Type 0} (means : MeaningOf H A) (s : Walk H A) (bytes : List ℕ) (d : ℕ) → 0 < length bytes
     → byte_steps means s bytes ≡ (byte_step means s (get_or bytes 0 d) >>= λ s. byte_steps means s (drop 1 bytes))
@@ -109,14 +127,69 @@ front_reached means s now bytes b n (Err errors.NoMemory) is read end same = tt
 front_reached means s now bytes b n (Err (errors.Bad place cause)) is read end same =
     is_front means s bytes is ∙ ap (behind_taken means s) read ∙ ap (λ r. r >>= λ s. byte_steps means s (drop n bytes)) end
 
-pub front_fault : {H A : Type 0} (means : MeaningOf H A) (s : Walk H A) (bytes : List ℕ) (f : BlockFault) → AtCharacter s bytes
-    → taken (character_of s.code) s.block s.count bytes ≡ Err f → byte_steps means s bytes ≡ Err f
-front_fault means s bytes f is read = is_front means s bytes is ∙ ap (behind_taken means s) read
+-- ---- whether a character is first
 
--- something is taken
-pub front_some : {H A : Type 0} (s : Walk H A) (bytes rest : List ℕ) (b : FrontPart) (n : ℕ) → AtCharacter s bytes
-    → taken (character_of s.code) s.block s.count bytes ≡ stops_at b (s.count + n) rest → 0 < n
-front_some s bytes rest b n is read = taken_some (character_of s.code) s.block s.count bytes is.character.0 n b rest is.some (ap character_as is.character.1) read
+at_character : {H A : Type 0} (s : Walk H A) (bytes : List ℕ) → s.phase ≡ phases.InBlock → 0 < length bytes → (taken (character_of s.code) s.block s.count bytes ≡ stops_at s.block s.count bytes → ⊥) → AtCharacter s bytes
+at_character s bytes phase some moves = go (reading s.code (get_or bytes 0 0)) refl
+  where
+    stays : (r : Read) → reading s.code (get_or bytes 0 0) ≡ r → character_as r ≡ None → AtCharacter s bytes
+    stays r e none = absurd (moves (front_none (character_of s.code) s.block s.count bytes 0 some (ap character_as e ∙ none)))
+
+    go : (r : Read) → reading s.code (get_or bytes 0 0) ≡ r → AtCharacter s bytes
+    go (reads.Char ch) e = record { phase = phase; some = some; character = (ch, e) }
+    go reads.Skip e = stays reads.Skip e refl
+    go reads.BadParity e = stays reads.BadParity e refl
+    go reads.BadCode e = stays reads.BadCode e refl
+
+abbrev place_of : Result Taken BlockFault → ℕ
+place_of (Ok t) = t.at
+place_of (Err f) = 0
+
+-- where something is taken it is, and where there is a fault
+pub front_some : {H A : Type 0} (s : Walk H A) (bytes rest : List ℕ) (b : FrontPart) (n : ℕ) → s.phase ≡ phases.InBlock → 0 < length bytes → n ≢ 0
+    → taken (character_of s.code) s.block s.count bytes ≡ stops_at b (s.count + n) rest → AtCharacter s bytes
+front_some s bytes rest b n phase some more read = at_character s bytes phase some (λ still. more (none_more s.count n (ap place_of (sym still ∙ read))))
+  where
+    none_more : (at n : ℕ) → at ≡ at + n → n ≡ 0
+    none_more at n e = omega (arith, e)
+
+pub front_fault : {H A : Type 0} (means : MeaningOf H A) (s : Walk H A) (bytes : List ℕ) (f : BlockFault) → s.phase ≡ phases.InBlock → 0 < length bytes
+    → taken (character_of s.code) s.block s.count bytes ≡ Err f → byte_steps means s bytes ≡ Err f
+front_fault means s bytes f phase some read =
+    is_front means s bytes (at_character s bytes phase some (λ still. no_stop (sym read ∙ still))) ∙ ap (behind_taken means s) read
+  where
+    no_stop : {t : Taken} → Err f ≡ Ok t → ⊥
+    no_stop e = cc
+
+-- where nothing is taken it isn't, and the block is as before
+pub still_none : {H A : Type 0} (s : Walk H A) (bytes rest : List ℕ) (b : FrontPart) (n d : ℕ) → 0 < length bytes → n ≡ 0
+    → taken (character_of s.code) s.block s.count bytes ≡ stops_at b (s.count + n) rest → character_of s.code (get_or bytes 0 d) ≡ None
+still_none s [] rest b n d some none read = absurd (omega (arith, some))
+still_none s (byte ∷ bytes) rest b n d some none read = go (character_of s.code byte) refl
+  where
+    go : (o : Option ℕ) → character_of s.code byte ≡ o → o ≡ None
+    go None e = refl
+    go (Some ch) e = absurd (omega (arith, taken_some (character_of s.code) s.block s.count (byte ∷ bytes) ch n b rest some e read, none))
+
+abbrev part_of : FrontPart → Result Taken BlockFault → FrontPart
+part_of b (Ok t) = t.part
+part_of b (Err f) = b
+
+pub still : {H A : Type 0} (s : Walk H A) (bytes rest : List ℕ) (b : FrontPart) (n : ℕ) → 0 < length bytes → n ≡ 0
+    → taken (character_of s.code) s.block s.count bytes ≡ stops_at b (s.count + n) rest → record s { block = b } ≡ s
+still s bytes rest b n some none read =
+    ap (λ b. record s { block = b })
+    (ap (part_of b) (sym read ∙ front_none (character_of s.code) s.block s.count bytes 0 some (still_none s bytes rest b n 0 some none read)))
+
+-- the walk goes on behind the byte, or the byte is refused
+pub front_still : {H A : Type 0} (means : MeaningOf H A) (s before now : Walk H A) (bytes : List ℕ) (d : ℕ) (result : Result ℕ ControlError) → 0 < length bytes → before ≡ s
+    → IsDueAs (λ _. now) fault_in (byte_step means before (get_or bytes 0 d)) result → IfOk result (λ n. n ≡ 1) → IsFront means (byte_steps means s bytes) now bytes result
+front_still means s before now bytes d (Ok n) some same step one =
+    ap (λ n. byte_steps means now (drop n bytes)) one
+    ∙ sym (first_byte means s bytes d some ∙ ap (λ r. r >>= λ s. byte_steps means s (drop 1 bytes)) (ap (λ s. byte_step means s (get_or bytes 0 d)) (sym same) ∙ step))
+front_still means s before now bytes d (Err errors.NoMemory) some same step one = tt
+front_still means s before now bytes d (Err (errors.Bad place cause)) some same step one =
+    first_byte means s bytes d some ∙ ap (λ r. r >>= λ s. byte_steps means s (drop 1 bytes)) (ap (λ s. byte_step means s (get_or bytes 0 d)) (sym same) ∙ step)
 
 pub some_within : (result : Result ℕ ControlError) (n most : ℕ) → IfOk result (λ m. m ≡ n) → 0 < n → n ≤ most → IfOk result (λ m. (0 < m) × (m ≤ most))
 some_within (Ok m) n most same some within = (omega (arith, same, some), omega (arith, same, within))

@@ -1,5 +1,5 @@
 -- The same run byte by byte: where it stands behind some bytes, and one byte more.
-use Rattle.std.specs.Prelude.{◌≡◌, ℕ, ◌+◌, ◌-◌, ◌<◌, ◌==◌, Bool, true, false, List, [], ◌∷◌, ◌++◌, length, get_or, Option, Some, None, Result, Ok, Err, if◌then◌else◌}
+use Rattle.std.specs.Prelude.{ℕ, ◌+◌, ◌-◌, ◌==◌, Bool, true, false, List, [], ◌∷◌, ◌++◌, Option, Some, None, Result, Ok, Err, if◌then◌else◌}
 use Rattle.apt_tapecode.specs.declared.Code.{Code}
 use Rattle.apt_tapecode.specs.declared.Read.{Read}
 use Rattle.apt_tapecode.specs.declared.Read.TheVariants as reads
@@ -86,12 +86,6 @@ character_of code byte = character_as (reading code byte)
 -- characters of a block are taken, and the next byte is at a place: a block that is whole ended at the byte before it
 abbrev pub reached : {H A : Type 0} → MeaningOf H A → Walk H A → ℕ → Result (Walk H A) BlockFault
 reached means s at = if is_whole s.block then words_step means (record s { count = at - 1 }) s.block.words else Ok (record s { count = at })
-
--- bytes within a block, a character's first
-pub record AtCharacter {H A : Type 0} (s : Walk H A) (bytes : List ℕ) : Type 0 where
-  pub phase : s.phase ≡ phases.InBlock
-  pub some : 0 < length bytes
-  pub character : (ch : ℕ) × (reading s.code (get_or bytes 0 0) ≡ reads.Char ch)
 
 -- one byte more
 abbrev pub byte_step : {H A : Type 0} → MeaningOf H A → Walk H A → ℕ → Result (Walk H A) BlockFault

@@ -1,18 +1,18 @@
 //! The run of a control over bytes that come in pieces, with any meaning of blocks.
 
-ghost use Rattle.std.specs.Prelude.{◌≡◌, ◌≢◌, ◌+◌, ◌-◌, ◌<◌, ◌≤◌, ◌^◌, ◌++◌, [], ℕ, List, Err, false, length, IfOk};
+ghost use Rattle.std.specs.Prelude.{◌≡◌, ◌≢◌, ◌+◌, ◌-◌, ◌<◌, ◌≤◌, ◌^◌, ◌++◌, [], ℕ, List, None, Err, false, length, IfOk};
 ghost use Rattle.apt_block.specs.Machine as machine;
+ghost use Rattle.apt_block.specs.Whole.{digit_as};
 ghost use Rattle.apt_words.specs.Answers.{IsDue, IsDueAs};
 ghost use Rattle.apt_control.specs.Answers.{IsFront, IsMeaning, fault_in};
 ghost use Rattle.apt_control.specs.Control.{MeaningOf};
 ghost use Rattle.apt_control.specs.Control as spec;
 ghost use Rattle.apt_control.specs.Pieces as pieces;
 ghost use Rattle.apt_control.specs.Walk as walk;
-ghost use Rattle.apt_control.specs.Walk.{AtCharacter};
 
 use crate::ControlError;
 use apt_block::{Alphabet, BlockFault, BlockReader, TapeCause, TapeWord};
-use apt_tapecode::{Code, Read, punch, sense};
+use apt_tapecode::{Code, Read, digit, punch, sense};
 use std::alloc::Global;
 use std::marker::Model;
 
@@ -150,8 +150,8 @@ impl<H: Control> ControlReader<H> {
         Ok(())
     }
 
-    /// The same within a block.
-    #[tactic(auto, using(crate::proofs::Bytes::first_byte))]
+    /// The same within a block. Nearly all bytes are characters: only where none is taken it is asked what the byte is.
+    #[tactic(auto, using(crate::proofs::Bytes::front_fault))]
     fn block_bytes(&mut self, bytes: &[u8]) -> Result<usize, ControlError>
         requires phase { self.old.phase ≡ Phase.InBlock }
         requires some { 0 < length bytes.now }
@@ -160,8 +160,24 @@ impl<H: Control> ControlReader<H> {
         ensures taken { IfOk result (λ n. (0 < n) × (n ≤ length bytes.now)) }
         ensures count { IfOk result (λ n. self.new.count ≡ self.old.count + n) }
     {
-        match sense(self.code, bytes[0]) {
-            Read::Char(_) => self.characters(bytes),
+        let count = self.take(bytes)?;
+        if count == 0 {
+            return self.no_character(bytes[0]);
+        }
+        self.reach(count)
+    }
+
+    /// Takes a byte within a block that is no character's.
+    fn no_character(&mut self, byte: u8) -> Result<usize, ControlError>
+        requires phase { self.old.phase ≡ Phase.InBlock }
+        requires none { walk.character_of self.old.code byte ≡ None }
+        requires count { self.old.count < 2 ^ 64 - 1 }
+        ensures step { IsDueAs (λ _. self.new) fault_in (walk.byte_step H.means self.old byte) result }
+        ensures one { IfOk result (λ n. n ≡ 1) }
+        ensures count { IfOk result (λ _. self.new.count ≡ self.old.count + 1) }
+    {
+        match sense(self.code, byte) {
+            Read::Char(_) => unreachable!(),
             Read::Skip => {
                 self.count += 1;
                 Ok(1)
@@ -171,20 +187,7 @@ impl<H: Control> ControlReader<H> {
         }
     }
 
-    /// Takes the characters at the front of some bytes, up to the end of their block.
-    #[tactic(auto, using(crate::proofs::Bytes::front_reached, crate::proofs::Bytes::front_fault, crate::proofs::Bytes::front_some))]
-    fn characters(&mut self, bytes: &[u8]) -> Result<usize, ControlError>
-        requires at { AtCharacter self.old bytes.now }
-        requires count { self.old.count + length bytes.now < 2 ^ 64 }
-        ensures walk { IsFront H.means (walk.byte_steps H.means self.old bytes.now) self.new bytes.now result }
-        ensures taken { IfOk result (λ n. (0 < n) × (n ≤ length bytes.now)) }
-        ensures count { IfOk result (λ n. self.new.count ≡ self.old.count + n) }
-    {
-        let count = self.take(bytes)?;
-        self.reach(count)
-    }
-
-    /// Takes them into the block that is begun. Most of the work of a tape is done here, and alone it is done in registers.
+    /// Takes the characters at the front of some bytes into the block that is begun, up to its end. Most of the work of a tape is done here, and alone it is done in registers.
     #[inline(never)]
     fn take(&mut self, bytes: &[u8]) -> Result<usize, BlockFault>
         requires { self.old.count + length bytes.now < 2 ^ 64 }
@@ -289,6 +292,10 @@ impl Alphabet for Rs244 {
     fn character(byte: u8) -> Option<u8> {
         character_of(Code::Rs244, byte)
     }
+
+    fn digit(byte: u8) -> u8 {
+        digit_of(Code::Rs244, byte)
+    }
 }
 
 /// The characters of RS-358.
@@ -303,6 +310,10 @@ impl Alphabet for Rs358 {
     fn character(byte: u8) -> Option<u8> {
         character_of(Code::Rs358, byte)
     }
+
+    fn digit(byte: u8) -> u8 {
+        digit_of(Code::Rs358, byte)
+    }
 }
 
 fn character_of(code: Code, byte: u8) -> Option<u8>
@@ -312,6 +323,13 @@ fn character_of(code: Code, byte: u8) -> Option<u8>
         Read::Char(ch) => Some(ch),
         Read::Skip | Read::BadParity | Read::BadCode => None,
     }
+}
+
+#[tactic(auto, using(crate::proofs::Bytes::digit_character))]
+fn digit_of(code: Code, byte: u8) -> u8
+    ensures { result ≡ digit_as (walk.character_of code byte) }
+{
+    digit(code, byte)
 }
 
 fn is_rewind_stop(code: Code, byte: u8) -> bool

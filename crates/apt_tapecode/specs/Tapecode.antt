@@ -1,10 +1,11 @@
 -- The characters of a tape, and the byte of each in the two tape codes.
-use Rattle.std.specs.Prelude.{◌≢◌, ℕ, ◌+◌, ◌%◌, ◌==◌, List, [], ◌∷◌, ◌++◌, Bool, true, false, not, Option, Some, None, unwrap_or, codes, count_ones, if◌then◌else◌}
+use Rattle.std.specs.Prelude.{◌≢◌, ℕ, ◌+◌, ◌%◌, ◌==◌, List, [], ◌∷◌, ◌++◌, Bool, true, false, not, ◌&&◌, nat_le, ◌-◌, Option, Some, None, unwrap_or, codes, count_ones, if◌then◌else◌}
 use Rattle.std.specs.List.{list_any, Contains}
 use Rattle.apt_tapecode.specs.declared.Code.{Code}
 use Rattle.apt_tapecode.specs.declared.Code.TheVariants.{Rs244, Rs358}
 use Rattle.apt_tapecode.specs.declared.Read.{Read}
 use Rattle.apt_tapecode.specs.declared.Read.TheVariants.{Char, Skip, BadParity, BadCode}
+use Rattle.apt_tapecode.specs.declared.TheConstants.{NO_DIGIT}
 
 -- the character that ends a block: LF
 abbrev pub end_of_block : ℕ
@@ -99,3 +100,14 @@ read_as false None = BadParity
 -- what a byte is read as
 abbrev pub reading : Code → ℕ → Read
 reading code byte = if is_skipped code byte then Skip else read_as (has_parity code byte) (character_in (table code) byte)
+
+-- the digit that is read, if there is one
+abbrev pub digit_read : Read → ℕ
+digit_read (Char ch) = if nat_le 48 ch && nat_le ch 57 then ch - 48 else NO_DIGIT
+digit_read Skip = NO_DIGIT
+digit_read BadParity = NO_DIGIT
+digit_read BadCode = NO_DIGIT
+
+-- the digit that a byte is punched for, if there is one
+abbrev pub digit_of : Code → ℕ → ℕ
+digit_of code byte = digit_read (reading code byte)

@@ -1,4 +1,4 @@
-use apt_tapecode::{Code, Read, digit, letter, punch, sense};
+use apt_tapecode::{Code, NO_DIGIT, Read, digit, punch, sense};
 
 /// The head of a tape, "%\nN0001G70G90G94\n", with its rows in RS-244 and in RS-358.
 const HEAD: [(u8, u8, u8); 17] = [
@@ -32,25 +32,18 @@ fn punches_and_senses_a_head(rt: HostRuntime) {
 }
 
 #[test]
-fn knows_digits_and_letters(rt: HostRuntime) {
+fn knows_digits(rt: HostRuntime) {
     for &(ch, rs244, rs358) in &HEAD {
         let number = if ch >= b'0' && ch <= b'9' {
-            Some(ch)
+            ch - b'0'
         } else {
-            None
+            NO_DIGIT
         };
         let digits = [digit(Code::Rs244, rs244), digit(Code::Rs358, rs358)];
         assert_eq!(rt; digits, [number, number]);
-        let word = if ch >= b'A' && ch <= b'Z' {
-            Some(ch)
-        } else {
-            None
-        };
-        let letters = [letter(Code::Rs244, rs244), letter(Code::Rs358, rs358)];
-        assert_eq!(rt; letters, [word, word]);
     }
     let even = [digit(Code::Rs244, 0x55), digit(Code::Rs358, 0x31)];
-    assert_eq!(rt; even, [None, None]);
+    assert_eq!(rt; even, [NO_DIGIT, NO_DIGIT]);
 }
 
 const OTHERS: [(Code, u8, Read); 12] = [
