@@ -1,6 +1,6 @@
 -- A word is read as what was written, and only as that.
 use Rattle.std.proofs.Common.{◌≡◌, ℕ, zero, suc, ◌+◌, ◌*◌, ◌≤◌, ℤ, pos, negsuc, unsigned_abs, nat_le, ◌==◌, ◌⊎◌, List, ◌∷◌, ◌&&◌, ◌||◌, not, Bool, true, false, cond, Result, Ok, Err, refl, ap, sym, ◌∙◌, subst, inl, inr, arith}
-use Rattle.std.specs.Prelude.{◌≤ℤ◌, int_le}
+use Rattle.std.specs.Prelude.{◌-ℤ◌, ◌≤ℤ◌, int_le}
 use Rattle.std.specs.List.{list_all}
 use Rattle.std.specs.Ordering.{int_eq}
 use Rattle.std.proofs.lemmas.Int.{ints}
@@ -87,6 +87,22 @@ sized_again most n h = grind (arith, nat_tests)
 
 sized_only : (most : ℕ) (n : ℤ) → is_sized most n ≡ true → unsigned_abs n ≤ most
 sized_only most n h = grind (arith, nat_tests)
+
+same_test : (a b : Bool) → (a ≡ true → b ≡ true) → (b ≡ true → a ≡ true) → a ≡ b
+same_test true b f g = sym (f refl)
+same_test false true f g = g refl
+same_test false false f g = refl
+
+-- a size by both ends
+pub sized_by_ends : (most : ℕ) (n : ℤ) → is_from_to (pos 0 -ℤ pos most) (pos most) n ≡ is_sized most n
+sized_by_ends most n =
+    same_test (is_from_to (pos 0 -ℤ pos most) (pos most) n) (is_sized most n)
+    (λ h. let b = both_only (int_le (pos 0 -ℤ pos most) n) (int_le n (pos most)) h in
+    let low = le_only (pos 0 -ℤ pos most) n b.0 in
+    let high = le_only n (pos most) b.1 in
+    sized_again most n (omega (arith, ints)))
+    (λ h. let size = sized_only most n h in
+    both_again (int_le (pos 0 -ℤ pos most) n) (int_le n (pos most)) (le_again (pos 0 -ℤ pos most) n (omega (arith, ints))) (le_again n (pos most) (omega (arith, ints))))
 
 pub coordinate_again : (i : ℕ) (n : ℤ) → unsigned_abs n ≤ 50000000 → coordinate i n ≡ Ok n
 coordinate_again i n h = at_if_again (is_sized 50000000 n) i n (sized_again 50000000 n h)

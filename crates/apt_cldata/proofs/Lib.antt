@@ -1,6 +1,7 @@
 pub mod Chains
 pub mod Triples
 pub mod Surfaces
+pub mod Counts
 pub mod WordByWord
 pub mod Stands
 pub mod Heads

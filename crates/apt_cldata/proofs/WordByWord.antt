@@ -1,18 +1,33 @@
--- Words are read one by one.
-use Rattle.std.proofs.Common.{◌≡◌, ℕ, zero, suc, ◌+◌, ◌-◌, ◌≤◌, ◌<◌, ℤ, List, [], ◌∷◌, ◌++◌, length, take, drop, ap, sym, ◌∙◌, arith, append_assoc}
-use Rattle.std.proofs.lemmas.List.{take_rest, length-drop}
-use Rattle.apt_cldata.specs.Reading.{word_in, words_in}
+-- The words of a record, each in its eight bytes.
+use Rattle.std.proofs.Common.{◌≡◌, ℕ, zero, suc, ◌+◌, ◌-◌, ◌*◌, ◌/◌, ◌≤◌, List, [], ◌∷◌, length, take, drop, refl, ap, ◌∙◌, arith}
+use Rattle.std.specs.Simd.{first_chunks}
+use Rattle.std.proofs.lemmas.List.{take-take, drop-take, length-take, length-drop}
+use Rattle.apt_cldata.specs.Reading.{number_of, numbers_of, word_in, words_in}
 
-words_next : (n left : ℕ) (bytes : List ℕ) → n + 1 ≡ left → words_in left bytes ≡ word_in bytes ∷ words_in n (drop 8 bytes)
-words_next n zero bytes is = absurd (omega arith)
-words_next n (suc m) bytes is = let e : m ≡ n = omega arith in ap (λ k. word_in bytes ∷ words_in k (drop 8 bytes)) e
+number_is : (bytes : List ℕ) → number_of (take 8 bytes) ≡ word_in bytes
+unfolding number_of word_in
+number_is bytes = refl
 
-pub words_more : (front : List ℤ) (left : ℕ) (rest : List ℕ) → 0 < left
-    → (front ++ word_in rest ∷ []) ++ words_in (left - 1) (take (length rest - 8) (drop 8 rest)) ≡ front ++ words_in left rest
-words_more front left rest some =
-    append_assoc front (word_in rest ∷ []) (words_in (left - 1) (take (length rest - 8) (drop 8 rest)))
-    ∙ ap (λ bytes. front ++ word_in rest ∷ words_in (left - 1) bytes) (take_rest rest 8)
-    ∙ ap (λ ws. front ++ ws) (sym (words_next (left - 1) left rest (omega arith)))
+behind_eight : (m : ℕ) (bytes : List ℕ) → 8 ≤ m → drop 8 (take m bytes) ≡ take (m - 8) (drop 8 bytes)
+behind_eight m bytes some = let e : m ≡ 8 + (m - 8) = omega arith in ap (λ n. drop 8 (take n bytes)) e ∙ drop-take 8 (m - 8) bytes
 
-pub bytes_left : (rest : List ℕ) → 8 ≤ length rest → length (take (length rest - 8) (drop 8 rest)) + 8 ≡ length rest
-bytes_left rest long = omega (arith, ap length (take_rest rest 8), length-drop 8 rest)
+-- the words of some bytes, and their numbers
+pub numbers_are : (k m : ℕ) (bytes : List ℕ) → 8 * k ≤ m → numbers_of (first_chunks 8 k (take m bytes)) ≡ words_in k bytes
+numbers_are zero m bytes there = refl
+numbers_are (suc k) m bytes there =
+    let one : number_of (take 8 (take m bytes)) ≡ word_in bytes = ap number_of (take-take 8 m bytes (omega arith)) ∙ number_is bytes in
+    let more : numbers_of (first_chunks 8 k (drop 8 (take m bytes))) ≡ words_in k (drop 8 bytes)
+    = ap (λ bs. numbers_of (first_chunks 8 k bs)) (behind_eight m bytes (omega arith)) ∙ numbers_are k (m - 8) (drop 8 bytes) (omega arith) in
+    λ i. one i ∷ more i
+
+-- the words behind the subtype, of a record of so many bytes
+pub chunks_are : (n : ℕ) (bytes : List ℕ) → 24 ≤ n → 4 + n ≤ length bytes
+    → numbers_of (first_chunks 8 (length (take (4 + n - 28) (drop 28 bytes)) / 8) (take (4 + n - 28) (drop 28 bytes))) ≡ words_in (n / 8 - 3) (drop 28 bytes)
+chunks_are n bytes least there =
+    let size : length (take (4 + n - 28) (drop 28 bytes)) ≡ n - 24 = omega (arith, length-take (4 + n - 28) (drop 28 bytes), length-drop 28 bytes) in
+    let count : length (take (4 + n - 28) (drop 28 bytes)) / 8 ≡ n / 8 - 3 = ap (λ k. k / 8) size ∙ omega arith in
+    ap (λ k. numbers_of (first_chunks 8 k (take (4 + n - 28) (drop 28 bytes)))) count ∙ numbers_are (n / 8 - 3) (4 + n - 28) (drop 28 bytes) (omega arith)
+
+pub numbers_length : (words : List (List ℕ)) → length (numbers_of words) ≡ length words
+numbers_length [] = refl
+numbers_length (word ∷ words) = ap suc (numbers_length words)

@@ -27,6 +27,15 @@ length_in bytes = from_be_bytes w32 (take 4 bytes)
 unfoldable pub word_in : List ℕ → ℤ
 word_in bytes = cast_signed w64 (from_be_bytes w64 (take 8 bytes))
 
+-- the number that the eight bytes of a word say
+unfoldable pub number_of : List ℕ → ℤ
+number_of word = cast_signed w64 (from_be_bytes w64 word)
+
+-- the numbers that words say, each of its eight bytes
+abbrev pub numbers_of : List (List ℕ) → List ℤ
+numbers_of [] = []
+numbers_of (word ∷ words) = number_of word ∷ numbers_of words
+
 -- so many words from the front
 abbrev pub words_in : ℕ → List ℕ → List ℤ
 words_in zero bytes = []

@@ -1,9 +1,10 @@
 //! Lengths and words by their bytes, the highest first.
-ghost use Rattle.std.specs.Prelude.{◌≡◌, ◌*◌, ◌^◌, ◌<◌, ◌≤◌, ◌+◌, ◌++◌, length, vec_len, vec_capacity, OnOk};
+ghost use Rattle.std.specs.Prelude.{◌≡◌, ◌^◌, ◌<◌, ◌≤◌, ◌+◌, ◌++◌, length, vec_len, vec_capacity};
 ghost use Rattle.apt_cldata.specs.Files as files;
 ghost use Rattle.apt_cldata.specs.Reading as spec;
 
-use std::alloc::AllocError;
+/// A word as it stands in a file.
+pub(crate) type Word = [u8; 8];
 
 /// The word in the first eight bytes.
 #[tactic(auto, unfolding(crate::specs::Reading::word_in))]
@@ -14,22 +15,12 @@ pub(crate) fn word_in(bytes: &[u8]) -> i64
     i64::from_be_bytes(*bytes.first_chunk().unwrap())
 }
 
-/// Takes so many words from the front, in the place of those before.
-pub(crate) fn read_words(words: &mut Vec<i64>, count: usize, bytes: &[u8]) -> Result<(), AllocError>
-    requires { 8 * count ≤ length bytes.now }
-    ensures value { OnOk result (words.new.items ≡ spec.words_in count bytes.now) }
-    ensures count { OnOk result (vec_len words.new ≡ count) }
+/// The number that a word says.
+#[tactic(auto, unfolding(crate::specs::Reading::number_of))]
+pub(crate) fn number(word: &Word) -> i64
+    ensures { result ≡ spec.number_of word.now }
 {
-    words.clear();
-    words.reserve(count)?;
-    let mut rest = bytes;
-    let mut left = count;
-    'words: while left > 0 {
-        words.push(word_in(rest))?;
-        rest = &rest[8..];
-        left -= 1;
-    }
-    Ok(())
+    i64::from_be_bytes(*word)
 }
 
 /// The length in the first four bytes.

@@ -1,7 +1,9 @@
 //! The record that words say.
 ghost use Rattle.std.specs.Prelude.{◌≡◌, ◌+◌, ◌<◌, ◌^◌, length, IfOk};
+ghost use Rattle.apt_cldata.specs.Reading.{numbers_of};
 ghost use Rattle.apt_cldata.specs.Records as spec;
 
+use crate::bytes::{Word, number};
 use crate::fields::{
     GREATEST, Misfit, circle_at, cool_at, coordinate, count_at, dir_at, from_to, point_at,
     sense_at, side_at, stop_at, text_byte, turn_at, units_at, zero_at,
@@ -17,10 +19,10 @@ pub(crate) fn record_of(
     alloc: Global,
     class: i64,
     sub: i64,
-    words: &[i64],
+    words: &[Word],
 ) -> Result<Result<Record, Misfit>, AllocError>
     requires { length words.now < 2 ^ 32 }
-    ensures { IfOk result (λ r. r ≡ spec.record_of class sub words.now) }
+    ensures { IfOk result (λ r. r ≡ spec.record_of class sub (numbers_of words.now)) }
 {
     match class {
         1000 if sub == 0 => Ok(statement_by(words)),
@@ -34,25 +36,25 @@ pub(crate) fn record_of(
     }
 }
 
-fn statement_by(words: &[i64]) -> Result<Record, Misfit>
-    ensures { result ≡ spec.statement_by words.now }
+fn statement_by(words: &[Word]) -> Result<Record, Misfit>
+    ensures { result ≡ spec.statement_by (numbers_of words.now) }
 {
     let [line, step] = words else {
         return Err(Misfit::Count);
     };
-    let line = count_at(0, *line)?;
-    let step = count_at(1, *step)?;
+    let line = count_at(0, number(line))?;
+    let step = count_at(1, number(step))?;
     Ok(Record::Statement { line, step })
 }
 
 /// A text, or its first bad word.
-fn text_by(alloc: Global, words: &[i64]) -> Result<Result<Text, Misfit>, AllocError>
+fn text_by(alloc: Global, words: &[Word]) -> Result<Result<Text, Misfit>, AllocError>
     requires { length words.now < 2 ^ 32 }
-    ensures { IfOk result (λ r. r ≡ spec.text_by 0 words.now) }
+    ensures { IfOk result (λ r. r ≡ spec.text_by 0 (numbers_of words.now)) }
 {
     let mut bytes = Vec::new(alloc);
     'words: for (i, word) in words.iter().enumerate() {
-        match text_byte(i as u32, *word) {
+        match text_byte(i as u32, number(word)) {
             Ok(byte) => bytes.push(byte)?,
             Err(misfit) => return Ok(Err(misfit)),
         }
@@ -60,9 +62,9 @@ fn text_by(alloc: Global, words: &[i64]) -> Result<Result<Text, Misfit>, AllocEr
     Ok(Ok(Text { bytes }))
 }
 
-fn partno_by(alloc: Global, words: &[i64]) -> Result<Result<Record, Misfit>, AllocError>
+fn partno_by(alloc: Global, words: &[Word]) -> Result<Result<Record, Misfit>, AllocError>
     requires { length words.now < 2 ^ 32 }
-    ensures { IfOk result (λ r. r ≡ spec.partno_by words.now) }
+    ensures { IfOk result (λ r. r ≡ spec.partno_by (numbers_of words.now)) }
 {
     match text_by(alloc, words)? {
         Ok(text) => Ok(Ok(Record::Note(Note::Partno(text)))),
@@ -71,8 +73,8 @@ fn partno_by(alloc: Global, words: &[i64]) -> Result<Result<Record, Misfit>, All
 }
 
 /// A note of no words.
-fn note_alone(note: Note, words: &[i64]) -> Result<Record, Misfit>
-    ensures { result ≡ spec.note_alone note words.now }
+fn note_alone(note: Note, words: &[Word]) -> Result<Record, Misfit>
+    ensures { result ≡ spec.note_alone note (numbers_of words.now) }
 {
     if words.is_empty() {
         Ok(Record::Note(note))
@@ -82,11 +84,11 @@ fn note_alone(note: Note, words: &[i64]) -> Result<Record, Misfit>
 }
 
 /// The number of a note of one word.
-fn number_alone(least: i64, most: i64, words: &[i64]) -> Result<i64, Misfit>
-    ensures { result ≡ spec.number_alone least most words.now }
+fn number_alone(least: i64, most: i64, words: &[Word]) -> Result<i64, Misfit>
+    ensures { result ≡ spec.number_alone least most (numbers_of words.now) }
 {
     match words {
-        [n] => from_to(least, most, 0, *n),
+        [n] => from_to(least, most, 0, number(n)),
         _ => Err(Misfit::Count),
     }
 }
@@ -99,27 +101,27 @@ fn spindl_at(n: i64, turn: i64) -> Result<Record, Misfit>
     Ok(Record::Note(Note::Spindle(turn, n)))
 }
 
-fn spindl_by(words: &[i64]) -> Result<Record, Misfit>
-    ensures { result ≡ spec.spindl_by words.now }
+fn spindl_by(words: &[Word]) -> Result<Record, Misfit>
+    ensures { result ≡ spec.spindl_by (numbers_of words.now) }
 {
     match words {
-        [n, turn] => spindl_at(*n, *turn),
+        [n, turn] => spindl_at(number(n), number(turn)),
         _ => Err(Misfit::Count),
     }
 }
 
-fn coolnt_by(words: &[i64]) -> Result<Record, Misfit>
-    ensures { result ≡ spec.coolnt_by words.now }
+fn coolnt_by(words: &[Word]) -> Result<Record, Misfit>
+    ensures { result ≡ spec.coolnt_by (numbers_of words.now) }
 {
     let [c] = words else {
         return Err(Misfit::Count);
     };
-    Ok(Record::Note(Note::Coolant(cool_at(0, *c)?)))
+    Ok(Record::Note(Note::Coolant(cool_at(0, number(c))?)))
 }
 
-fn command_by(alloc: Global, sub: i64, words: &[i64]) -> Result<Result<Record, Misfit>, AllocError>
+fn command_by(alloc: Global, sub: i64, words: &[Word]) -> Result<Result<Record, Misfit>, AllocError>
     requires { length words.now < 2 ^ 32 }
-    ensures { IfOk result (λ r. r ≡ spec.command_by sub words.now) }
+    ensures { IfOk result (λ r. r ≡ spec.command_by sub (numbers_of words.now)) }
 {
     match sub {
         1 => partno_by(alloc, words),
@@ -135,20 +137,20 @@ fn command_by(alloc: Global, sub: i64, words: &[i64]) -> Result<Result<Record, M
     }
 }
 
-fn fedrat_by(words: &[i64]) -> Result<Record, Misfit>
-    ensures { result ≡ spec.fedrat_by words.now }
+fn fedrat_by(words: &[Word]) -> Result<Record, Misfit>
+    ensures { result ≡ spec.fedrat_by (numbers_of words.now) }
 {
     Ok(Record::Note(Note::Feed(number_alone(1, GREATEST, words)?)))
 }
 
-fn loadtl_by(words: &[i64]) -> Result<Record, Misfit>
-    ensures { result ≡ spec.loadtl_by words.now }
+fn loadtl_by(words: &[Word]) -> Result<Record, Misfit>
+    ensures { result ≡ spec.loadtl_by (numbers_of words.now) }
 {
     Ok(Record::Note(Note::Tool(number_alone(1, GREATEST, words)?)))
 }
 
-fn setting_by(sub: i64, words: &[i64]) -> Result<Record, Misfit>
-    ensures { result ≡ spec.setting_by sub words.now }
+fn setting_by(sub: i64, words: &[Word]) -> Result<Record, Misfit>
+    ensures { result ≡ spec.setting_by sub (numbers_of words.now) }
 {
     match sub {
         1 => Ok(Record::Note(Note::Cutter(number_alone(0, 1_000_000, words)?))),
@@ -158,7 +160,7 @@ fn setting_by(sub: i64, words: &[i64]) -> Result<Record, Misfit>
             let [u] = words else {
                 return Err(Misfit::Count);
             };
-            Ok(Record::Note(Note::Units(units_at(0, *u)?)))
+            Ok(Record::Note(Note::Units(units_at(0, number(u))?)))
         }
         _ => Err(Misfit::Subtype),
     }
@@ -221,11 +223,20 @@ fn drive_at(
     drive_on(surface, side, sense)
 }
 
-fn drive_by(words: &[i64]) -> Result<Record, Misfit>
-    ensures { result ≡ spec.drive_by words.now }
+#[tactic(auto, using(crate::proofs::Counts::drive_few, crate::proofs::Counts::drive_many))]
+fn drive_by(words: &[Word]) -> Result<Record, Misfit>
+    ensures { result ≡ spec.drive_by (numbers_of words.now) }
 {
     match words {
-        [kind, a, b, c, d, side, sense] => drive_at(*kind, *a, *b, *c, *d, *side, *sense),
+        [kind, a, b, c, d, side, sense] => drive_at(
+            number(kind),
+            number(a),
+            number(b),
+            number(c),
+            number(d),
+            number(side),
+            number(sense),
+        ),
         _ => Err(Misfit::Count),
     }
 }
@@ -239,17 +250,25 @@ fn check_at(kind: i64, a: i64, b: i64, c: i64, d: i64, how: i64) -> Result<Recor
     Ok(Record::Check { surface, how })
 }
 
-fn check_by(words: &[i64]) -> Result<Record, Misfit>
-    ensures { result ≡ spec.check_by words.now }
+#[tactic(auto, using(crate::proofs::Counts::check_few, crate::proofs::Counts::check_many))]
+fn check_by(words: &[Word]) -> Result<Record, Misfit>
+    ensures { result ≡ spec.check_by (numbers_of words.now) }
 {
     match words {
-        [kind, a, b, c, d, how] => check_at(*kind, *a, *b, *c, *d, *how),
+        [kind, a, b, c, d, how] => check_at(
+            number(kind),
+            number(a),
+            number(b),
+            number(c),
+            number(d),
+            number(how),
+        ),
         _ => Err(Misfit::Count),
     }
 }
 
-fn surface_record_by(sub: i64, words: &[i64]) -> Result<Record, Misfit>
-    ensures { result ≡ spec.surface_record_by sub words.now }
+fn surface_record_by(sub: i64, words: &[Word]) -> Result<Record, Misfit>
+    ensures { result ≡ spec.surface_record_by sub (numbers_of words.now) }
 {
     match sub {
         1 => drive_by(words),
@@ -268,23 +287,23 @@ fn position_by(i: u32, x: i64, y: i64, z: i64) -> Result<Position, Misfit>
     Ok(Position { xy, z })
 }
 
-fn reached_by(reach: Reach, words: &[i64]) -> Result<Record, Misfit>
-    ensures { result ≡ spec.reached_by reach words.now }
+fn reached_by(reach: Reach, words: &[Word]) -> Result<Record, Misfit>
+    ensures { result ≡ spec.reached_by reach (numbers_of words.now) }
 {
     let [x, y, z] = words else {
         return Err(Misfit::Count);
     };
-    let to = position_by(0, *x, *y, *z)?;
+    let to = position_by(0, number(x), number(y), number(z))?;
     Ok(Record::Point(reach, to))
 }
 
 /// Positions of three words each, or the first bad word. A single one takes no memory of its own.
-fn positions_by(alloc: Global, words: &[i64]) -> Result<Result<Vertices, Misfit>, AllocError>
+fn positions_by(alloc: Global, words: &[Word]) -> Result<Result<Vertices, Misfit>, AllocError>
     requires { length words.now < 2 ^ 32 }
-    ensures { IfOk result (λ r. r ≡ spec.positions_by 0 words.now) }
+    ensures { IfOk result (λ r. r ≡ spec.positions_by 0 (numbers_of words.now)) }
 {
     if let [x, y, z] = words {
-        return match position_by(0, *x, *y, *z) {
+        return match position_by(0, number(x), number(y), number(z)) {
             Ok(position) => Ok(Ok(Vertices::one(alloc, position))),
             Err(misfit) => Ok(Err(misfit)),
         };
@@ -292,16 +311,16 @@ fn positions_by(alloc: Global, words: &[i64]) -> Result<Result<Vertices, Misfit>
     many_positions(alloc, words)
 }
 
-fn many_positions(alloc: Global, words: &[i64]) -> Result<Result<Vertices, Misfit>, AllocError>
+fn many_positions(alloc: Global, words: &[Word]) -> Result<Result<Vertices, Misfit>, AllocError>
     requires { length words.now < 2 ^ 32 }
-    ensures { IfOk result (λ r. r ≡ spec.positions_by 0 words.now) }
+    ensures { IfOk result (λ r. r ≡ spec.positions_by 0 (numbers_of words.now)) }
 {
     let mut list = Vec::with_capacity(alloc, words.len() / 3)?;
     let mut i = 0;
     let mut rest = words;
     'triples: while let [x, y, z, after @ ..] = rest {
-        match position_by(i, *x, *y, *z) {
-            Ok(position) => list.push(position)?,
+        match position_by(i, number(x), number(y), number(z)) {
+            Ok(position) => list.push_reserved(position),
             Err(misfit) => return Ok(Err(misfit)),
         }
         i += 3;
@@ -314,9 +333,10 @@ fn many_positions(alloc: Global, words: &[i64]) -> Result<Result<Vertices, Misfi
     }
 }
 
-fn contour_by(alloc: Global, words: &[i64]) -> Result<Result<Record, Misfit>, AllocError>
+#[tactic(auto, using(crate::proofs::WordByWord::numbers_length))]
+fn contour_by(alloc: Global, words: &[Word]) -> Result<Result<Record, Misfit>, AllocError>
     requires { length words.now < 2 ^ 32 }
-    ensures { IfOk result (λ r. r ≡ spec.contour_by words.now) }
+    ensures { IfOk result (λ r. r ≡ spec.contour_by (numbers_of words.now)) }
 {
     if words.is_empty() || words.len() % 3 != 0 {
         return Ok(Err(Misfit::Count));
@@ -327,9 +347,9 @@ fn contour_by(alloc: Global, words: &[i64]) -> Result<Result<Record, Misfit>, Al
     }
 }
 
-fn motion_by(alloc: Global, sub: i64, words: &[i64]) -> Result<Result<Record, Misfit>, AllocError>
+fn motion_by(alloc: Global, sub: i64, words: &[Word]) -> Result<Result<Record, Misfit>, AllocError>
     requires { length words.now < 2 ^ 32 }
-    ensures { IfOk result (λ r. r ≡ spec.motion_by sub words.now) }
+    ensures { IfOk result (λ r. r ≡ spec.motion_by sub (numbers_of words.now)) }
 {
     match sub {
         1 => Ok(reached_by(Reach::From, words)),

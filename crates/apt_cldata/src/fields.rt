@@ -53,10 +53,13 @@ pub(crate) fn count_at(i: u32, n: i64) -> Result<u32, Misfit>
     Ok(n.unsigned_abs() as u32)
 }
 
-fn is_sized(most: u64, n: i64) -> bool
+/// Whether a number has at most some size, by its two ends, which are constants where this is called.
+#[tactic(auto, using(crate::proofs::FieldLaws::sized_by_ends))]
+fn is_sized(most: u32, n: i64) -> bool
     ensures { result ≡ spec.is_sized most n }
 {
-    n.unsigned_abs() <= most
+    let most = i64::from(most);
+    is_from_to(-most, most, n)
 }
 
 pub(crate) fn coordinate(i: u32, n: i64) -> Result<i64, Misfit>

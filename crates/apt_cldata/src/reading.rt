@@ -7,7 +7,7 @@ ghost use Rattle.apt_words.specs.Answers.{IsDueAs};
 ghost use Rattle.apt_cldata.specs.Reading.{read_of, fault_in};
 ghost use Rattle.apt_cldata.specs.Reading as spec;
 
-use crate::bytes::{length_in, read_words, word_in};
+use crate::bytes::{length_in, word_in};
 use crate::entries::record_of;
 use crate::error::ClFault;
 use crate::fields::Misfit;
@@ -80,13 +80,8 @@ fn located(at: u64, said: Result<Record, Misfit>) -> Result<Record, ClFault>
     }
 }
 
-/// The record of so many bytes behind their length. The words only lend their room.
-fn record_in(
-    alloc: Global,
-    words: &mut Vec<i64>,
-    n: usize,
-    bytes: &[u8],
-) -> Result<Result<Record, Misfit>, AllocError>
+/// The record of so many bytes behind their length.
+fn record_in(alloc: Global, n: usize, bytes: &[u8]) -> Result<Result<Record, Misfit>, AllocError>
     requires least { 24 ≤ n }
     requires most { n < 2 ^ 32 }
     requires there { 4 + n ≤ length bytes.now }
@@ -94,7 +89,7 @@ fn record_in(
 {
     let class = word_in(&bytes[12..]);
     let sub = word_in(&bytes[20..]);
-    read_words(words, n / 8 - 3, &bytes[28..])?;
+    let (words, _) = bytes[28..4 + n].as_chunks::<8>();
     record_of(alloc, class, sub, words)
 }
 
@@ -102,7 +97,6 @@ fn record_in(
 #[tactic(auto, unfolding(crate::specs::Reading::said_by))]
 fn said_by(
     alloc: Global,
-    words: &mut Vec<i64>,
     seq: i64,
     at: u64,
     n: usize,
@@ -115,7 +109,7 @@ fn said_by(
     ensures { IfOk result (λ r. r ≡ spec.said_by seq at n bytes.now) }
 {
     if word_in(&bytes[4..]) == seq {
-        Ok(located(at, record_in(alloc, words, n, bytes)?))
+        Ok(located(at, record_in(alloc, n, bytes)?))
     } else {
         Ok(Err(ClFault::new(at + 4, ClCause::Seq)))
     }
@@ -129,13 +123,7 @@ fn is_fini(record: &Record) -> bool
 
 /// The first record, which has the number that is due, and how many bytes it has.
 #[tactic(auto, unfolding(crate::specs::Reading::first_of))]
-fn first_of(
-    alloc: Global,
-    words: &mut Vec<i64>,
-    seq: u64,
-    at: u64,
-    bytes: &[u8],
-) -> Result<(Record, usize), ClError>
+fn first_of(alloc: Global, seq: u64, at: u64, bytes: &[u8]) -> Result<(Record, usize), ClError>
     requires number { seq < 2 ^ 63 }
     requires place { at + length bytes.now < 2 ^ 63 }
     ensures value { IsDueAs (λ p. spec.piece p.0 (at + p.1) (drop p.1 bytes.now)) fault_in (spec.first_of seq at bytes.now) result }
@@ -143,7 +131,7 @@ fn first_of(
     ensures some { IfOk result (λ p. 28 ≤ p.1) }
 {
     let n = length_of(at, bytes)?;
-    let record = said_by(alloc, words, seq as i64, at, n, bytes)??;
+    let record = said_by(alloc, seq as i64, at, n, bytes)??;
     Ok((record, 4 + n))
 }
 
@@ -154,12 +142,11 @@ fn records_from(alloc: Global, start: u64, bytes: &[u8]) -> Result<Vec<Record>, 
     ensures { IsDueAs (λ v. v.items) fault_in (spec.records_from (start + length bytes.now) 1 start bytes.now) result }
 {
     let mut records = Vec::new(alloc);
-    let mut words = Vec::new(alloc);
     let mut seq = 1;
     let mut at = start;
     let mut rest = bytes;
     'records: loop {
-        let (record, size) = first_of(alloc, &mut words, seq, at, rest)?;
+        let (record, size) = first_of(alloc, seq, at, rest)?;
         let is_last = is_fini(&record);
         records.push(record)?;
         at += size as u64;
