@@ -14,6 +14,9 @@ use apt_meaning::Motion;
 use apt_plane::Pt;
 use std::alloc::{AllocError, Global};
 
+/// No step has more records.
+const MOST_RECORDS: usize = 4;
+
 /// The records of steps, in which a contour round a circle has no vertices yet, and the arcs of these contours, in order.
 #[derive(Drop)]
 pub(crate) struct Draft {
@@ -22,14 +25,15 @@ pub(crate) struct Draft {
 }
 
 impl Draft {
-    pub fn blank(alloc: Global) -> Draft
-        ensures records { result.records.items ≡ [] }
-        ensures rounds { result.rounds.items ≡ [] }
+    /// No records yet, and room for those of so many steps.
+    pub fn blank(alloc: Global, steps: usize) -> Result<Draft, AllocError>
+        ensures records { IfOk result (λ draft. draft.records.items ≡ []) }
+        ensures rounds { IfOk result (λ draft. draft.rounds.items ≡ []) }
     {
-        Draft {
-            records: Vec::new(alloc),
+        Ok(Draft {
+            records: Vec::with_capacity(alloc, steps.saturating_mul(MOST_RECORDS))?,
             rounds: Vec::new(alloc),
-        }
+        })
     }
 }
 

@@ -215,7 +215,7 @@ fn draft_of(alloc: Global, steps: &[Step]) -> Result<(Draft, Option<Refusal>), A
     ensures { IfOk result (λ d. drafts.draft_from first_situation steps.now ≡ record { records = d.0.records.items; rounds = d.0.rounds.items; refusal = d.1 }) }
 {
     let mut here = Situation::first(alloc);
-    let mut draft = Draft::blank(alloc);
+    let mut draft = Draft::blank(alloc, steps.len())?;
     'steps: for st in steps {
         match advance(alloc, &mut draft, &mut here, st) {
             Ok(()) => {}
