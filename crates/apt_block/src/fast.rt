@@ -33,32 +33,6 @@ fn number<A: Alphabet, const N: usize>(bytes: &[u8; N]) -> Option<u64>
     }
 }
 
-// a function for each number of digits, so that it keeps its table in a register
-
-#[inline(never)]
-fn eight<A: Alphabet>(bytes: &[u8; 8]) -> Option<u64>
-    ensures value { result ≡ spec.number_from A.character 0 bytes.now }
-    ensures small { IfSome result (λ size. size < 10 ^ 8) }
-{
-    number::<A, 8>(bytes)
-}
-
-#[inline(never)]
-fn four<A: Alphabet>(bytes: &[u8; 4]) -> Option<u64>
-    ensures value { result ≡ spec.number_from A.character 0 bytes.now }
-    ensures small { IfSome result (λ size. size < 10 ^ 8) }
-{
-    number::<A, 4>(bytes)
-}
-
-#[inline(never)]
-fn two<A: Alphabet>(bytes: &[u8; 2]) -> Option<u64>
-    ensures value { result ≡ spec.number_from A.character 0 bytes.now }
-    ensures small { IfSome result (λ size. size < 10 ^ 8) }
-{
-    number::<A, 2>(bytes)
-}
-
 /// The number of a word's digits, where all of them stand at the front of some bytes.
 #[inline(always)]
 fn number_at<A: Alphabet>(digits: u8, bytes: &[u8]) -> Option<u64>
@@ -68,9 +42,9 @@ fn number_at<A: Alphabet>(digits: u8, bytes: &[u8]) -> Option<u64>
     ensures short { IsSome result → digits ≤ length bytes.now }
 {
     match digits {
-        8 => eight::<A>(bytes.first_chunk::<8>()?),
-        4 => four::<A>(bytes.first_chunk::<4>()?),
-        2 => two::<A>(bytes.first_chunk::<2>()?),
+        8 => number::<A, 8>(bytes.first_chunk::<8>()?),
+        4 => number::<A, 4>(bytes.first_chunk::<4>()?),
+        2 => number::<A, 2>(bytes.first_chunk::<2>()?),
         _ => None,
     }
 }
