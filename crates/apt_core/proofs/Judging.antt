@@ -18,17 +18,18 @@ use Rattle.apt_control.specs.declared.Act.{Act}
 use Rattle.apt_control.specs.Control.{control_run}
 use Rattle.apt_post.specs.Plan.{plan}
 use Rattle.apt_part.specs.Compilation.{steps_of}
-use Rattle.apt_part.specs.Promise.{Passes}
+use Rattle.apt_part.specs.Promise.{Passes, file_limit}
 use Rattle.apt_report.specs.declared.status.Status.{Status}
 use Rattle.apt_report.specs.declared.status.Status.TheVariants as answers
 use Rattle.apt_report.specs.declared.status.Summary.TheVariants as summaries
 use Rattle.apt_core.specs.Words.{FourNames}
 use Rattle.apt_core.specs.Due.{OrNoMemory, ComesToNone, unless_refused, machine_due, steps_due, records_due, acts_due}
-use Rattle.apt_core.specs.Inputs.{Files, AreRead, inputs, ReadsAll, IsStopped}
+use Rattle.apt_core.specs.Inputs.{Files, AreRead, input, part_limit, machine_limit, inputs, Reads, ReadsAll, IsStopped}
 use Rattle.apt_core.specs.Certificates.{IsCertified, Judged, judged_by, judged_due, IsMissed, IsJudgement}
 use Rattle.apt_core.specs.Promise.{Certifies}
 use Rattle.apt_core.proofs.Counting.{makes_segments}
 use Rattle.apt_core.proofs.Chains.{chain_on}
+use Rattle.apt_core.proofs.Readings.{read_on, reads_next, stopped_next}
 
 -- a verdict without a bad motion finds all legal
 all_legal : (jobs : List Job) (v : Verdict) → IsVerdict jobs v → v.first_bad ≡ None → AreLegal jobs
@@ -83,11 +84,6 @@ pub part_judged : (machine : Machine) (text table cl tape : List ℕ) (answer : 
     → OrNoMemory (IsJudgement text table cl tape answer) answer
 part_judged machine text table cl tape answer tabled none =
     none_judged text table cl tape (steps_due machine text) (behind_steps machine cl tape) answer (on_table machine text table cl tape tabled) none
-
-pub cl_judged : (machine : Machine) (text table cl tape : List ℕ) (steps : List Step) (answer : Status) → table_of table ≡ Ok machine → steps_of machine text ≡ Ok (Ok steps)
-    → ComesToNone (records_due cl) answer → OrNoMemory (IsJudgement text table cl tape answer) answer
-cl_judged machine text table cl tape steps answer tabled comes none =
-    none_judged text table cl tape (records_due cl) (behind_records machine tape steps) answer (on_steps machine text table cl tape steps tabled comes) none
 
 pub tape_judged : (machine : Machine) (text table cl tape : List ℕ) (steps : List Step) (written : List Record) (answer : Status) → table_of table ≡ Ok machine
     → steps_of machine text ≡ Ok (Ok steps) → read_of cl ≡ Ok written → ComesToNone (acts_due machine.code tape) answer → OrNoMemory (IsJudgement text table cl tape answer) answer
@@ -145,3 +141,24 @@ judged_certifies n text table cl tape before after told read reads (inl judgemen
   read = read;
 }
 judged_certifies n text table cl tape before after told read reads (inr short) = stopped_certifies n before after told read (inr (inr short))
+
+-- the table, the part and the CL file are read, and the tape can't be
+pub tape_unread : (n : FourNames) (before one two three four : Files) (text table cl : List ℕ) (told : Status) → AreRead before one → Reads before.told (input n.part part_limit) text
+    → AreRead one two → Reads one.told (input n.machine machine_limit) table → AreRead two three → Reads two.told (input n.cl file_limit) cl → AreRead three four
+    → IsStopped (input n.tape file_limit ∷ []) three four told → Certifies n before four told
+tape_unread n before one two three four text table cl told a part b machine c file d stopped =
+    stopped_certifies n before four told (read_on before one four a (read_on one two four b (read_on two three four c d)))
+    (stopped_next before one four (input n.part part_limit) text (input n.machine machine_limit ∷ input n.cl file_limit ∷ input n.tape file_limit ∷ []) told a part
+    (stopped_next one two four (input n.machine machine_limit) table (input n.cl file_limit ∷ input n.tape file_limit ∷ []) told b machine
+    (stopped_next two three four (input n.cl file_limit) cl (input n.tape file_limit ∷ []) told c file stopped)))
+
+-- and all four are read
+pub four_read : (n : FourNames) (before one two three four : Files) (text table cl tape : List ℕ) (told : Status) → AreRead before one → Reads before.told (input n.part part_limit) text
+    → AreRead one two → Reads one.told (input n.machine machine_limit) table → AreRead two three → Reads two.told (input n.cl file_limit) cl → AreRead three four
+    → Reads three.told (input n.tape file_limit) tape → OrNoMemory (IsJudgement text table cl tape told) told → Certifies n before four told
+four_read n before one two three four text table cl tape told a part b machine c file d last judgement =
+    judged_certifies n text table cl tape before four told (read_on before one four a (read_on one two four b (read_on two three four c d)))
+    (reads_next before one (input n.part part_limit) text (input n.machine machine_limit ∷ input n.cl file_limit ∷ input n.tape file_limit ∷ []) (table ∷ cl ∷ tape ∷ []) a part
+    (reads_next one two (input n.machine machine_limit) table (input n.cl file_limit ∷ input n.tape file_limit ∷ []) (cl ∷ tape ∷ []) b machine
+    (reads_next two three (input n.cl file_limit) cl (input n.tape file_limit ∷ []) (tape ∷ []) c file (last, tt))))
+    judgement

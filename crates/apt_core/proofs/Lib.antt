@@ -12,7 +12,7 @@ pub mod Decoding
 pub mod Listing
 pub mod Right
 pub mod Unfailed
-pub mod Differences
+pub mod Comparing
 pub mod Putting
 pub mod Usage
 pub mod Shown

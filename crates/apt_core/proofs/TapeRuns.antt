@@ -1,11 +1,10 @@
 -- A run of a tape goes on piece by piece.
-use Rattle.std.proofs.Common.{◌≡◌, ◌∙◌, ℕ, List, [], ◌++◌, ◌+◌, ◌≤◌, length, take, drop, Option, Some, None, Result, Ok, Err, ap, sym, subst, arith, append_assoc}
+use Rattle.std.proofs.Common.{◌≡◌, ◌∙◌, ℕ, List, [], ◌++◌, ◌+◌, ◌≤◌, length, take, drop, Option, Some, None, Ok, Err, ap, sym, subst, arith, append_assoc}
 use Rattle.std.proofs.lemmas.List.{append-nil, length-append, take-append-drop, length-take-le}
-use Rattle.apt_words.specs.Answers.{IsFault, IsDueAs}
+use Rattle.apt_words.specs.Answers.{IsFault}
 use Rattle.apt_shelf.specs.Told.{Contents, Takes}
 use Rattle.apt_shelf.specs.Files.{HoldsAt, HasRead}
 use Rattle.apt_tapecode.specs.declared.Code.{Code}
-use Rattle.apt_block.specs.declared.block.BlockFault.{BlockFault}
 use Rattle.apt_control.specs.declared.Act.{Act}
 use Rattle.apt_control.specs.declared.error.ControlError.{ControlError}
 use Rattle.apt_control.specs.declared.held.Held.{Held}
@@ -14,7 +13,7 @@ use Rattle.apt_control.specs.Control.{meaning, nothing_held, control_run}
 use Rattle.apt_control.specs.Walk.{Walk}
 use Rattle.apt_control.specs.Pieces.{StandsBehind}
 use Rattle.apt_core.specs.declared.reading.TapeRun.{TapeRun}
-use Rattle.apt_core.specs.TapeRuns.{HasRun, IsTaken}
+use Rattle.apt_core.specs.TapeRuns.{HasRun}
 
 -- a piece is taken, and its acts are dropped
 pub run_fed : {T : Type 0} (has : T → List Act → Type 0) (code : Code) (front piece : List ℕ) (run : TapeRun T) (fed now : Walk Held Act) (taken : T) → HasRun has code front (Ok run)
@@ -41,12 +40,6 @@ refused_stays code front piece error refused more = subst (λ tape. IsFault faul
 
 pub refused_whole : (code : Code) (front : List ℕ) (error : ControlError) → ((more : List ℕ) → IsFault fault_in (control_run code (front ++ more)) error) → IsFault fault_in (control_run code front) error
 refused_whole code front error refused = subst (λ tape. IsFault fault_in (control_run code tape) error) (append-nil front) (refused [])
-
--- where all acts are taken they are those of the run
-pub acts_taken : {X : Type 0} (view : X → List Act) (due : Result (List Act) BlockFault) (result : Result X ControlError) → IsTaken (λ x acts. view x ≡ acts) due result
-    → IsDueAs view fault_in due result
-acts_taken view due (Ok x) taken = taken.2 ∙ ap Ok (sym taken.1)
-acts_taken view due (Err error) taken = taken
 
 -- ---- a file that is read piece by piece
 

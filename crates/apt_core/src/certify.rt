@@ -1,7 +1,6 @@
 //! The command `certify`.
 
-ghost use Rattle.std.specs.Prelude.{◌≡◌, ◌↔◌, ◌+◌, ◌<◌, ◌^◌, false, IsTrue, ℕ, List, [], ◌∷◌, length, None, Ok, IfOk, IfErr, IfSome, MatchResult};
-ghost use Rattle.apt_words.specs.Answers.{IsDueAs};
+ghost use Rattle.std.specs.Prelude.{◌≡◌, ◌+◌, ◌<◌, ◌^◌, ℕ, List, [], ◌∷◌, length, None, Ok, IfOk, IfErr, MatchResult};
 ghost use Rattle.apt_cldata.specs.Ranges.{AreRecords, vertex_count};
 ghost use Rattle.apt_cldata.specs.Reading.{read_of};
 ghost use Rattle.apt_meaning.specs.Situations.{first_situation};
@@ -11,26 +10,29 @@ ghost use Rattle.apt_certify.specs.Verdicts.{IsVerdict};
 ghost use Rattle.apt_job.specs.Jobs.{jobs_said};
 ghost use Rattle.apt_part.specs.Promise.{AreSteps, file_limit};
 ghost use Rattle.apt_post.specs.Plan as plans;
+ghost use Rattle.apt_tapecode.specs.declared.Code.{Code};
 ghost use Rattle.apt_control.specs.declared.Act.{Act};
-ghost use Rattle.apt_control.specs.Answers.{fault_in};
 ghost use Rattle.apt_control.specs.Control.{control_run};
 ghost use Rattle.apt_machine.specs.Machines.{IsMachine};
 ghost use Rattle.apt_machine.specs.Tables.{table_of};
-ghost use Rattle.apt_core.specs.Due.{answer_of, records_due, ComesToNone, OrNoMemory};
+ghost use Rattle.apt_core.specs.Comparisons.{AreCompared};
+ghost use Rattle.apt_core.specs.declared.comparison.Comparison.{Comparison};
+ghost use Rattle.apt_core.specs.Due.{answer_of, records_due, acts_due, ComesToNone, OrNoMemory};
 ghost use Rattle.apt_core.specs.Request.{four_names};
 ghost use Rattle.apt_core.specs.Inputs.{input, files_on, AreRead, Reads, IsStopped};
-ghost use Rattle.apt_core.specs.Certificates.{DifferAt, HeadsDiffer, IsMissed, IsJudgement};
+ghost use Rattle.apt_core.specs.TapeRuns.{IsTaken};
+ghost use Rattle.apt_core.specs.Certificates.{IsMissed, IsJudgement};
 ghost use Rattle.apt_core.specs.Promise.{Certifies};
 
-use crate::due::{acts_of, machine_of, records_in, steps_on};
+use crate::comparison::Comparison;
+use crate::due::{machine_of, records_in, steps_on, tape_answer};
 use crate::reading::{FILE_LIMIT, MACHINE_LIMIT, PART_LIMIT, read_input, run_input};
 use crate::words::Names;
 use apt_certify::{Gate, check_jobs_split};
 use apt_cldata::Record;
-use apt_control::{Act, ControlError};
+use apt_control::ControlError;
 use apt_job::{JobError, jobs};
 use apt_machine::Machine;
-use apt_post::Plan;
 use apt_report::{Miss, Status, Summary, Verdict};
 use apt_shelf::Shelf;
 use apt_tapecode::Code;
@@ -52,13 +54,21 @@ pub(crate) fn certify<H: Shelf, G: Gate>(
     let table = read_input(alloc, shelf, names.machine, MACHINE_LIMIT)?;
     let records = records_input(alloc, shelf, names.cl)?;
     match machine_of(&table) {
-        Ok(machine) => {
-            let run = run_input(alloc, shelf, names.tape, machine.code)?;
-            judged(rt, alloc, &machine, text, records, run, gate)
-        }
+        Ok(machine) => match records {
+            Ok(records) => {
+                let none = Comparison::with_plan(&records);
+                let run = run_input(alloc, shelf, names.tape, machine.code, none)?;
+                judged(rt, alloc, &machine, text, &records, run, gate)
+            }
+            Err(fault) => {
+                // a tape that can't be read is told before the fault of the CL file
+                let _ = run_input(alloc, shelf, names.tape, machine.code, ())?;
+                Err(without_records(alloc, &machine, text, fault))
+            }
+        },
         Err(answer) => {
-            // a tape that can't be read is told before the table's fault
-            let _ = run_input::<H, ()>(alloc, shelf, names.tape, Code::Rs358)?;
+            // and before the table's fault
+            let _ = run_input(alloc, shelf, names.tape, Code::Rs358, ())?;
             Err(answer)
         }
     }
@@ -80,34 +90,56 @@ fn records_input<H: Shelf>(
     Ok(records_in(alloc, &cl))
 }
 
-/// What is found of a part, of a CL file by its records, and of a tape by its run, on a machine.
+/// The answer where the CL file has a fault: what is wrong with the part is told before it.
+fn without_records(alloc: Global, machine: &Machine, text: Vec<u8>, fault: Status) -> Status
+    ensures { (table cl tape : List ℕ) → table_of table ≡ Ok machine.now → ComesToNone (records_due cl) fault → OrNoMemory (IsJudgement text.items table cl tape result) result }
+{
+    match steps_on(alloc, text, machine) {
+        Ok(_) => fault,
+        Err(answer) => answer,
+    }
+}
+
+/// What is found of a part, and of a tape by its run beside the plan of a CL file's records, on a machine.
 fn judged<G: Gate>(
     rt: &(impl Threads + Sync),
     alloc: Global,
     machine: &Machine,
     text: Vec<u8>,
-    records: Result<Vec<Record>, Status>,
-    run: Result<Vec<Act>, ControlError>,
+    records: &[Record],
+    run: Result<Comparison<'_>, ControlError>,
     gate: &G,
 ) -> Result<Summary, Status>
     requires machine { IsMachine machine.now }
-    requires range { IfOk records (λ r. AreRecords r.items × (vertex_count r.items + length r.items < 2 ^ 62)) }
-    ensures { (table cl tape : List ℕ) → table_of table ≡ Ok machine.now → MatchResult records (λ r. read_of cl ≡ Ok r.items) (ComesToNone (records_due cl)) → IsDueAs (λ v. v.items) fault_in (control_run machine.now.code tape) run → OrNoMemory (IsJudgement text.items table cl tape (answer_of result)) (answer_of result) }
+    requires records { AreRecords records.now }
+    requires few { vertex_count records.now + length records.now < 2 ^ 62 }
+    ensures { (table cl tape : List ℕ) (begun : Comparison) → table_of table ≡ Ok machine.now → read_of cl ≡ Ok records.now → begun.records.now ≡ records.now → IsTaken (AreCompared begun) (control_run machine.now.code tape) run.entry → OrNoMemory (IsJudgement text.items table cl tape (answer_of result)) (answer_of result) }
 {
     let steps = steps_on(alloc, text, machine)?;
-    let records = records?;
-    let acts = acts_of(run)?;
-    let verdict = verdict_on(rt, alloc, &steps, &records, &acts, gate)?;
+    let compared = compared_in(run)?;
+    let verdict = verdict_on(rt, alloc, &steps, records, compared, gate)?;
     Ok(Summary::Certified(verdict))
 }
 
-/// The verdict over records that answer the steps and acts that are their plan, or what is missed.
+/// What was compared of a tape, or how its fault is told.
+#[tactic(auto, using(crate::proofs::Comparing::bad_tape_compared))]
+fn compared_in(run: Result<Comparison<'_>, ControlError>) -> Result<Comparison<'_>, Status>
+    ensures compared { (begun : Comparison) (code : Code) (tape : List ℕ) → IsTaken (AreCompared begun) (control_run code tape) run.entry → IfOk result (λ c. (acts : List Act) × AreCompared begun c acts × (control_run code tape ≡ Ok acts)) }
+    ensures none { (begun : Comparison) (code : Code) (tape : List ℕ) → IsTaken (AreCompared begun) (control_run code tape) run.entry → IfErr result (ComesToNone (acts_due code tape)) }
+{
+    match run {
+        Ok(compared) => Ok(compared),
+        Err(error) => Err(tape_answer(error)),
+    }
+}
+
+/// The verdict over records that answer the steps and whose plan is the acts, or what is missed.
 fn verdict_on<G: Gate>(
     rt: &(impl Threads + Sync),
     alloc: Global,
     steps: &[Step],
     records: &[Record],
-    acts: &[Act],
+    compared: Comparison<'_>,
     gate: &G,
 ) -> Result<Verdict, Status>
     requires steps { AreSteps steps.now }
@@ -117,8 +149,8 @@ fn verdict_on<G: Gate>(
     ensures follows { IfOk result (λ _. Follows steps.now records.now) }
     ensures verdict { IfOk result (IsVerdict (jobs_said records.now)) }
     ensures legal { IfOk result (λ v. v.first_bad ≡ None) }
-    ensures planned { IfOk result (λ _. acts.now ≡ plans.plan records.now) }
-    ensures missed { IfErr result (λ s. OrNoMemory (IsMissed steps.now records.now acts.now s) s) }
+    ensures planned { (begun : Comparison) (acts : List Act) → begun.records.now ≡ records.now → AreCompared begun compared.entry acts → IfOk result (λ _. acts ≡ plans.plan records.now) }
+    ensures missed { (begun : Comparison) (acts : List Act) → begun.records.now ≡ records.now → AreCompared begun compared.entry acts → IfErr result (λ s. OrNoMemory (IsMissed steps.now records.now acts s) s) }
 {
     let jobs = match jobs(alloc, steps, records) {
         Ok(jobs) => jobs,
@@ -133,65 +165,10 @@ fn verdict_on<G: Gate>(
             miss: Miss::Motion(bad),
         });
     }
-    match first_difference(acts, Plan::of(records)) {
+    match compared.difference() {
         Some(at) => Err(Status::NotCertified {
             miss: Miss::Act { at },
         }),
         None => Ok(verdict),
-    }
-}
-
-/// The first place, from 1, at which acts and a plan differ.
-#[tactic(auto, using(crate::proofs::Differences::same_lists))]
-fn first_difference(acts: &[Act], plan: Plan<'_>) -> Option<u64>
-    ensures differ { IfSome result (λ at. DifferAt acts.now plan.entry at) }
-    ensures same { result ≡ None → acts.now ≡ plan.entry }
-{
-    let mut at = 1;
-    let mut left = plan;
-    'acts: for x in acts {
-        if !begins_with(&mut left, *x) {
-            return Some(at);
-        }
-        at += 1;
-    }
-    if left.next().is_some() {
-        Some(at)
-    } else {
-        None
-    }
-}
-
-/// Whether an act is the first of those that are left, which is taken.
-fn begins_with(plan: &mut Plan<'_>, x: Act) -> bool
-    ensures same { IsTrue result → plan.old ≡ x ∷ plan.new }
-    ensures differ { result ≡ false → (xs : List Act) → HeadsDiffer (x ∷ xs) plan.old }
-{
-    match plan.next() {
-        Some(y) => is_same(x, y),
-        None => false,
-    }
-}
-
-fn is_same(x: Act, y: Act) -> bool
-    ensures { IsTrue result ↔ (x ≡ y) }
-{
-    match (x, y) {
-        (Act::Units(a), Act::Units(b)) => a == b,
-        (Act::Rapid { x, y, z }, Act::Rapid { x: u, y: v, z: w }) => x == u && y == v && z == w,
-        (
-            Act::Cut { x, y, z, feed },
-            Act::Cut {
-                x: u,
-                y: v,
-                z: w,
-                feed: f,
-            },
-        ) => x == u && y == v && z == w && feed == f,
-        (Act::Spindle { turn, n }, Act::Spindle { turn: t, n: m }) => turn == t && n == m,
-        (Act::Coolant(a), Act::Coolant(b)) => a == b,
-        (Act::Tool(a), Act::Tool(b)) => a == b,
-        (Act::Stop, Act::Stop) | (Act::OptStop, Act::OptStop) | (Act::End, Act::End) => true,
-        _ => false,
     }
 }

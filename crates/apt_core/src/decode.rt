@@ -5,6 +5,7 @@ ghost use Rattle.apt_control.specs.Control.{control_run};
 ghost use Rattle.apt_machine.specs.declared.machine.Machine.{Machine};
 ghost use Rattle.apt_machine.specs.Tables.{table_of};
 ghost use Rattle.apt_core.specs.Decoding.{said_of, said_due, IsSaid};
+ghost use Rattle.apt_core.specs.declared.taker.ActLines.{ActLines};
 ghost use Rattle.apt_core.specs.Request.{tape_names};
 ghost use Rattle.apt_core.specs.Inputs.{files_on};
 ghost use Rattle.apt_core.specs.TapeRuns.{IsTaken};
@@ -32,12 +33,13 @@ pub(crate) fn decode<H: Shelf>(
     let table = read_input(alloc, shelf, names.machine, MACHINE_LIMIT)?;
     match machine_of(&table) {
         Ok(machine) => {
-            let run = run_input(alloc, shelf, names.tape, machine.code)?;
+            let none = ActLines::none(alloc);
+            let run = run_input(alloc, shelf, names.tape, machine.code, none)?;
             decoded(run)
         }
         Err(answer) => {
             // a tape that can't be read is told before the table's fault
-            let _ = run_input::<H, ()>(alloc, shelf, names.tape, Code::Rs358)?;
+            let _ = run_input(alloc, shelf, names.tape, Code::Rs358, ())?;
             Err(answer)
         }
     }
@@ -45,7 +47,7 @@ pub(crate) fn decode<H: Shelf>(
 
 /// The lines of the acts to which a control ran a tape.
 fn decoded(run: Result<ActLines, ControlError>) -> Result<Reply, Status>
-    ensures { (machine : Machine) (table tape : List ℕ) → table_of table ≡ Ok machine → IsTaken ⟦<ActLines as Taker>⟧.has (control_run machine.code tape) run → IsSaid (said_of (said_due table tape)) (said_of result) }
+    ensures { (machine : Machine) (table tape : List ℕ) (none : ActLines) → table_of table ≡ Ok machine → IsTaken (⟦<ActLines as Taker>⟧.has none) (control_run machine.code tape) run → IsSaid (said_of (said_due table tape)) (said_of result) }
 {
     match run {
         Ok(ActLines { text, acts }) => Ok(Reply {

@@ -1,21 +1,17 @@
 //! What texts come to, or the answer where one has a fault.
 
 ghost use Rattle.std.specs.Prelude.{◌≡◌, ◌+◌, ◌≤◌, ℕ, List, length, IfOk, IfErr, Ok, Err};
-ghost use Rattle.apt_words.specs.Answers.{IsDueAs};
 ghost use Rattle.apt_cldata.specs.Ranges.{AreRecords, vertex_count};
 ghost use Rattle.apt_cldata.specs.Reading.{read_of};
-ghost use Rattle.apt_tapecode.specs.declared.Code.{Code};
-ghost use Rattle.apt_control.specs.Answers.{fault_in};
-ghost use Rattle.apt_control.specs.Control.{control_run};
 ghost use Rattle.apt_machine.specs.Machines.{IsMachine};
 ghost use Rattle.apt_machine.specs.Tables as tables;
 ghost use Rattle.apt_part.specs.Compilation as parts;
 ghost use Rattle.apt_part.specs.Promise.{Passes, Promise, AreSteps};
-ghost use Rattle.apt_core.specs.Due.{ComesToNone, machine_due, part_due, steps_due, records_due, acts_due, part_told, tape_told};
+ghost use Rattle.apt_core.specs.Due.{ComesToNone, machine_due, part_due, steps_due, records_due, part_told, tape_told};
 
 use apt_certify::Gate;
 use apt_cldata::{ClError, Record, read};
-use apt_control::{Act, ControlError};
+use apt_control::ControlError;
 use apt_machine::{Machine, table};
 use apt_part::{Part, PartError, part_of, steps_of};
 use apt_report::Status;
@@ -111,17 +107,5 @@ pub(crate) fn tape_answer(error: ControlError) -> Status
     match error {
         ControlError::Bad { at, cause } => Status::BadTape { at, cause },
         ControlError::NoMemory => Status::NoMemory,
-    }
-}
-
-/// The acts to which a control ran a tape.
-#[tactic(auto, using(crate::proofs::Chains::bad_tape_told))]
-pub(crate) fn acts_of(run: Result<Vec<Act>, ControlError>) -> Result<Vec<Act>, Status>
-    ensures value { (code : Code) (tape : List ℕ) → IsDueAs (λ v. v.items) fault_in (control_run code tape) run → IfOk result (λ acts. control_run code tape ≡ Ok acts.items) }
-    ensures none { (code : Code) (tape : List ℕ) → IsDueAs (λ v. v.items) fault_in (control_run code tape) run → IfErr result (ComesToNone (acts_due code tape)) }
-{
-    match run {
-        Ok(acts) => Ok(acts),
-        Err(error) => Err(tape_answer(error)),
     }
 }

@@ -77,12 +77,14 @@ pub(crate) fn run_input<H: Shelf, T: Taker>(
     shelf: &mut H,
     name: &str,
     code: Code,
+    none: T,
 ) -> Result<Result<T, ControlError>, Status>
-    ensures run { IfOk result (λ run. (tape : List ℕ) × Reads (H.told shelf.old) (input name.now file_limit) tape × IsTaken T.has (control_run code tape) run) }
+    requires { T.has none none [] }
+    ensures run { IfOk result (λ run. (tape : List ℕ) × Reads (H.told shelf.old) (input name.now file_limit) tape × IsTaken (T.has none) (control_run code tape) run) }
     ensures stopped { IfErr result (IsStopped (input name.now file_limit ∷ []) (files_on H.Shelf shelf.old) (files_on H.Shelf shelf.new)) }
     ensures read { AreRead (files_on H.Shelf shelf.old) (files_on H.Shelf shelf.new) }
 {
-    match run_pieces(alloc, shelf, name, code) {
+    match run_pieces(alloc, shelf, name, code, none) {
         Ok(run) => Ok(run),
         Err(error) => Err(unread(alloc, name, error)),
     }
@@ -94,8 +96,10 @@ fn run_pieces<H: Shelf, T: Taker>(
     shelf: &mut H,
     name: &str,
     code: Code,
+    none: T,
 ) -> Result<Result<T, ControlError>, ReadError>
-    ensures run { IfOk result (λ run. (tape : List ℕ) × Reads (H.told shelf.old) (input name.now file_limit) tape × IsTaken T.has (control_run code tape) run) }
+    requires { T.has none none [] }
+    ensures run { IfOk result (λ run. (tape : List ℕ) × Reads (H.told shelf.old) (input name.now file_limit) tape × IsTaken (T.has none) (control_run code tape) run) }
     ensures missing { IsErrOf result ReadError.Missing → Lacks (H.told shelf.old) name.now (H.read_faults shelf.old) (H.read_faults shelf.new) }
     ensures fault { IsErrOf result ReadError.Fault → Rose (H.read_faults shelf.old) (H.read_faults shelf.new) }
     ensures too_long { IsErrOf result ReadError.TooLong → IsLongerAt (H.told shelf.old) name.now file_limit }
@@ -104,7 +108,7 @@ fn run_pieces<H: Shelf, T: Taker>(
     shelf.start_read(name)?;
     let mut run = Ok(TapeRun {
         reader: TapeReader::new(alloc, code),
-        taken: T::none(alloc),
+        taken: none,
     });
     let mut count = 0;
     let mut buf = [0u8; PIECE];
@@ -131,7 +135,7 @@ fn fed<T: Taker>(
     piece: &[u8],
 ) -> Result<TapeRun<T>, ControlError>
     requires { IfOk run (λ run. run.reader.count + length piece.now < 2 ^ 64) }
-    ensures { (code : Code) (front : List ℕ) → HasRun T.has code front run → HasRun T.has code (front ++ piece.now) result }
+    ensures { (none : T) (code : Code) (front : List ℕ) → HasRun (T.has none) code front run → HasRun (T.has none) code (front ++ piece.now) result }
 {
     let TapeRun { reader, taken } = run?;
     let mut reader = reader.feed(piece)?;
@@ -142,7 +146,7 @@ fn fed<T: Taker>(
 
 /// What was taken of a run that has come to its end.
 fn finished<T: Taker>(run: Result<TapeRun<T>, ControlError>) -> Result<T, ControlError>
-    ensures { (code : Code) (front : List ℕ) → HasRun T.has code front run → IsTaken T.has (control_run code front) result }
+    ensures { (none : T) (code : Code) (front : List ℕ) → HasRun (T.has none) code front run → IsTaken (T.has none) (control_run code front) result }
 {
     let TapeRun { reader, taken } = run?;
     let rest = reader.finish()?;

@@ -8,32 +8,12 @@ use apt_report::push_act_lines;
 use std::alloc::{AllocError, Global};
 
 pub(crate) trait Taker: Drop {
-    /// It was taken of these acts, in order.
-    ghost has: { Self → List Act → Type 0 };
-
-    fn none(alloc: Global) -> Self
-        ensures { has result [] };
+    /// From what was there before the first act it was taken of these acts, in order.
+    ghost has: { Self → Self → List Act → Type 0 };
 
     /// Takes of acts that come behind those so far.
     fn with(self, acts: &[Act]) -> Result<Self, AllocError>
-        ensures { (before : List Act) → has self before → IfOk result (λ taken. has taken (before ++ acts.now)) };
-}
-
-/// All acts are taken.
-impl Taker for Vec<Act> {
-    ghost use Rattle.std.specs.Prelude.{◌≡◌};
-
-    ghost has = { λ v acts. v.items ≡ acts };
-
-    fn none(alloc: Global) -> Vec<Act> {
-        Vec::new(alloc)
-    }
-
-    fn with(self, acts: &[Act]) -> Result<Vec<Act>, AllocError> {
-        let mut all = self;
-        all.extend_from_slice(acts)?;
-        Ok(all)
-    }
+        ensures { (none : Self) (before : List Act) → has none self before → IfOk result (λ taken. has none taken (before ++ acts.now)) };
 }
 
 /// The lines of acts, and how many acts there are.
@@ -44,18 +24,23 @@ pub(crate) struct ActLines {
     ghost few: { acts ≤ length text.items },
 }
 
-impl Taker for ActLines {
-    ghost use Rattle.std.specs.Prelude.{◌≡◌, length};
-    ghost use Rattle.apt_report.specs.Acts.{act_lines};
-
-    ghost has = { λ l acts. (l.text.items ≡ act_lines acts) × (l.acts ≡ length acts) };
-
-    fn none(alloc: Global) -> ActLines {
+impl ActLines {
+    /// No lines. It takes no memory.
+    pub(crate) fn none(alloc: Global) -> ActLines
+        ensures { ⟦<ActLines as Taker>⟧.has result result [] }
+    {
         ActLines {
             text: Vec::new(alloc),
             acts: 0,
         }
     }
+}
+
+impl Taker for ActLines {
+    ghost use Rattle.std.specs.Prelude.{◌≡◌, length};
+    ghost use Rattle.apt_report.specs.Acts.{act_lines};
+
+    ghost has = { λ _ l acts. (l.text.items ≡ act_lines acts) × (l.acts ≡ length acts) };
 
     fn with(self, acts: &[Act]) -> Result<ActLines, AllocError> {
         let ActLines {
@@ -72,9 +57,7 @@ impl Taker for ActLines {
 
 /// Nothing is taken, where a tape must only be there to be read.
 impl Taker for () {
-    ghost has = { λ _ _. Unit {0} };
-
-    fn none(_: Global) {}
+    ghost has = { λ _ _ _. Unit {0} };
 
     fn with(self, _: &[Act]) -> Result<(), AllocError> {
         Ok(())

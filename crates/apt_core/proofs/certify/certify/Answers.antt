@@ -1,13 +1,11 @@
-use Rattle.std.proofs.Common.{◌≡◌, [], ◌∷◌, Ok, Err}
+use Rattle.std.proofs.Common.{◌≡◌, ◌∙◌, [], ◌∷◌, Ok, ap, sym}
 use Rattle.std.proofs.lemmas.Result.{err_from_is_err_and}
 use Rattle.apt_machine.specs.Tables.{table_of}
 use Rattle.apt_part.specs.Promise.{file_limit}
-use Rattle.apt_core.specs.Due.{machine_due}
 use Rattle.apt_core.specs.Request.{four_names}
-use Rattle.apt_core.specs.Inputs.{Files, files_on, AreRead, input, part_limit, machine_limit, inputs, ReadsAll}
-use Rattle.apt_core.proofs.Readings.{read_on, reads_next, stopped_first, stopped_next}
-use Rattle.apt_core.proofs.TapeRuns.{acts_taken}
-use Rattle.apt_core.proofs.Judging.{table_judged, stopped_certifies, judged_certifies}
+use Rattle.apt_core.specs.Inputs.{Files, files_on, input, part_limit, machine_limit}
+use Rattle.apt_core.proofs.Readings.{read_on, stopped_first, stopped_next}
+use Rattle.apt_core.proofs.Judging.{table_judged, stopped_certifies, tape_unread, four_read}
 use Rattle.apt_core.proofs.certify.certify.Goals as goal
 
 pub returns-in_err-records : goal.returns-in_err-records
@@ -24,86 +22,56 @@ returns-in_err-records g c =
     rw (error.1, error.2) (stopped_certifies n before three _ (read_on before one three a.read (read_on one two three b.read d.read))
     (stopped_next before one three (input n.part part_limit) c.in_ok-text.text.items ((input n.machine machine_limit) ∷ (input n.cl file_limit) ∷ (input n.tape file_limit) ∷ []) _ a.read a.text (stopped_next one two three (input n.machine machine_limit) c.in_ok-table.table.items ((input n.cl file_limit) ∷ (input n.tape file_limit) ∷ []) _ b.read b.text (stopped_first (input n.cl file_limit) ((input n.tape file_limit) ∷ []) two three _ d.stopped))))
 
-pub returns-in_err-run-in-Ok : goal.returns-in_err-run-in-Ok
-returns-in_err-run-in-Ok g c =
-    let error = err_from_is_err_and c.from_residual-in_err-run-in-Ok.result c.from_residual-in_err-run-in-Ok.ensures.1 in
-    let n = four_names c.args.names in
-    let before : Files = files_on g.H.Shelf c.args.shelf.now in
-    let one : Files = files_on g.H.Shelf c.read_input.new.shelf in
-    let two : Files = files_on g.H.Shelf c.read_input-2.new.shelf in
-    let three : Files = files_on g.H.Shelf c.records_input.new.shelf in
-    let four : Files = files_on g.H.Shelf c.run_input.new.shelf in
-    let a = c.in_ok-text.ensures in
-    let b = c.in_ok-table.ensures in
+pub returns-in_err-run-in-Ok-records : goal.returns-in_err-run-in-Ok-records
+returns-in_err-run-in-Ok-records g c =
+    let error = err_from_is_err_and c.from_residual-in_err-run-in-Ok-records.result c.from_residual-in_err-run-in-Ok-records.ensures.1 in
     let d = c.in_ok-records.ensures in
-    let e = c.in_err-run-in-Ok.ensures in
-    rw (error.1, error.2) (stopped_certifies n before four _ (read_on before one four a.read (read_on one two four b.read (read_on two three four d.read e.read)))
-    (stopped_next before one four (input n.part part_limit) c.in_ok-text.text.items (input n.machine machine_limit ∷ input n.cl file_limit ∷ input n.tape file_limit ∷ []) _ a.read a.text
-    (stopped_next one two four (input n.machine machine_limit) c.in_ok-table.table.items (input n.cl file_limit ∷ input n.tape file_limit ∷ []) _ b.read b.text
-    (stopped_next two three four (input n.cl file_limit) d.records.0 (input n.tape file_limit ∷ []) _ d.read d.records.1 e.stopped))))
+    let e = c.in_err-run-in-Ok-records.ensures in
+    rw (error.1, error.2) (tape_unread (four_names c.args.names) (files_on g.H.Shelf c.args.shelf.now) (files_on g.H.Shelf c.read_input.new.shelf) (files_on g.H.Shelf c.read_input-2.new.shelf) (files_on g.H.Shelf c.records_input.new.shelf) (files_on g.H.Shelf c.run_input.new.shelf) c.in_ok-text.text.items c.in_ok-table.table.items d.records.0 _
+    c.in_ok-text.ensures.read c.in_ok-text.ensures.text c.in_ok-table.ensures.read c.in_ok-table.ensures.text d.read d.records.1 e.read e.stopped)
+
+pub returns-in-Ok-records : goal.returns-in-Ok-records
+returns-in-Ok-records g c =
+    let d = c.in_ok-records.ensures in
+    let e = c.in_ok-run-in-Ok-records.ensures in
+    let table = c.in_ok-table.table.items in
+    let tabled : table_of table ≡ Ok c.in-Ok.machine = rw c.deref.ensures.value at c.in-Ok.ensures.machine in
+    four_read (four_names c.args.names) (files_on g.H.Shelf c.args.shelf.now) (files_on g.H.Shelf c.read_input.new.shelf) (files_on g.H.Shelf c.read_input-2.new.shelf) (files_on g.H.Shelf c.records_input.new.shelf) (files_on g.H.Shelf c.run_input.new.shelf) c.in_ok-text.text.items table d.records.0 e.run.0 _
+    c.in_ok-text.ensures.read c.in_ok-text.ensures.text c.in_ok-table.ensures.read c.in_ok-table.ensures.text d.read d.records.1 e.read e.run.1
+    (c.judged.ensures table d.records.0 e.run.0 c.with_plan-none.result tabled ((rw c.in-Ok-records.is at d.records.2) ∙ ap Ok (sym c.deref-in-Ok-records-2.ensures.value))
+    (c.with_plan-none.ensures.records ∙ c.deref-in-Ok-records.ensures.value ∙ sym c.deref-in-Ok-records-2.ensures.value) e.run.2)
+
+pub returns-in_err-run_input-in-Err-records : goal.returns-in_err-run_input-in-Err-records
+returns-in_err-run_input-in-Err-records g c =
+    let error = err_from_is_err_and c.from_residual-in_err-run_input-in-Err-records.result c.from_residual-in_err-run_input-in-Err-records.ensures.1 in
+    let d = c.in_ok-records.ensures in
+    let e = c.in_err-run_input-in-Err-records.ensures in
+    rw (error.1, error.2) (tape_unread (four_names c.args.names) (files_on g.H.Shelf c.args.shelf.now) (files_on g.H.Shelf c.read_input.new.shelf) (files_on g.H.Shelf c.read_input-2.new.shelf) (files_on g.H.Shelf c.records_input.new.shelf) (files_on g.H.Shelf c.run_input-in-Err-records.new.shelf) c.in_ok-text.text.items c.in_ok-table.table.items d.records.0 _
+    c.in_ok-text.ensures.read c.in_ok-text.ensures.text c.in_ok-table.ensures.read c.in_ok-table.ensures.text d.read d.records.1 e.read e.stopped)
+
+pub returns-in-Ok : goal.returns-in-Ok
+returns-in-Ok g c =
+    let d = c.in_ok-records.ensures in
+    let e = c.in_ok-run_input-in-Err-records.ensures in
+    let table = c.in_ok-table.table.items in
+    let tabled : table_of table ≡ Ok c.in-Ok.machine = rw c.deref.ensures.value at c.in-Ok.ensures.machine in
+    four_read (four_names c.args.names) (files_on g.H.Shelf c.args.shelf.now) (files_on g.H.Shelf c.read_input.new.shelf) (files_on g.H.Shelf c.read_input-2.new.shelf) (files_on g.H.Shelf c.records_input.new.shelf) (files_on g.H.Shelf c.run_input-in-Err-records.new.shelf) c.in_ok-text.text.items table d.records.0 e.run.0 _
+    c.in_ok-text.ensures.read c.in_ok-text.ensures.text c.in_ok-table.ensures.read c.in_ok-table.ensures.text d.read d.records.1 e.read e.run.1
+    (c.without_records.ensures table d.records.0 e.run.0 tabled (rw c.in-Err-records.is at d.records.2))
 
 pub returns-in_err-run_input-in-Err : goal.returns-in_err-run_input-in-Err
 returns-in_err-run_input-in-Err g c =
     let error = err_from_is_err_and c.from_residual-in_err-run_input-in-Err.result c.from_residual-in_err-run_input-in-Err.ensures.1 in
-    let n = four_names c.args.names in
-    let before : Files = files_on g.H.Shelf c.args.shelf.now in
-    let one : Files = files_on g.H.Shelf c.read_input.new.shelf in
-    let two : Files = files_on g.H.Shelf c.read_input-2.new.shelf in
-    let three : Files = files_on g.H.Shelf c.records_input.new.shelf in
-    let four : Files = files_on g.H.Shelf c.run_input-in-Err.new.shelf in
-    let a = c.in_ok-text.ensures in
-    let b = c.in_ok-table.ensures in
     let d = c.in_ok-records.ensures in
     let e = c.in_err-run_input-in-Err.ensures in
-    rw (error.1, error.2) (stopped_certifies n before four _ (read_on before one four a.read (read_on one two four b.read (read_on two three four d.read e.read)))
-    (stopped_next before one four (input n.part part_limit) c.in_ok-text.text.items (input n.machine machine_limit ∷ input n.cl file_limit ∷ input n.tape file_limit ∷ []) _ a.read a.text
-    (stopped_next one two four (input n.machine machine_limit) c.in_ok-table.table.items (input n.cl file_limit ∷ input n.tape file_limit ∷ []) _ b.read b.text
-    (stopped_next two three four (input n.cl file_limit) d.records.0 (input n.tape file_limit ∷ []) _ d.read d.records.1 e.stopped))))
+    rw (error.1, error.2) (tape_unread (four_names c.args.names) (files_on g.H.Shelf c.args.shelf.now) (files_on g.H.Shelf c.read_input.new.shelf) (files_on g.H.Shelf c.read_input-2.new.shelf) (files_on g.H.Shelf c.records_input.new.shelf) (files_on g.H.Shelf c.run_input-in-Err.new.shelf) c.in_ok-text.text.items c.in_ok-table.table.items d.records.0 _
+    c.in_ok-text.ensures.read c.in_ok-text.ensures.text c.in_ok-table.ensures.read c.in_ok-table.ensures.text d.read d.records.1 e.read e.stopped)
 
-pub returns-in_ok-run-in-Ok : goal.returns-in_ok-run-in-Ok
-returns-in_ok-run-in-Ok g c =
-    let n = four_names c.args.names in
-    let before : Files = files_on g.H.Shelf c.args.shelf.now in
-    let one : Files = files_on g.H.Shelf c.read_input.new.shelf in
-    let two : Files = files_on g.H.Shelf c.read_input-2.new.shelf in
-    let three : Files = files_on g.H.Shelf c.records_input.new.shelf in
-    let four : Files = files_on g.H.Shelf c.run_input.new.shelf in
-    let a = c.in_ok-text.ensures in
-    let b = c.in_ok-table.ensures in
-    let d = c.in_ok-records.ensures in
-    let e = c.in_ok-run-in-Ok.ensures in
-    let text = c.in_ok-text.text.items in
-    let table = c.in_ok-table.table.items in
-    let cl = d.records.0 in
-    let tape = e.run.0 in
-    let read : AreRead before four = read_on before one four a.read (read_on one two four b.read (read_on two three four d.read e.read)) in
-    let reads : ReadsAll before.told (inputs n) (text ∷ table ∷ cl ∷ tape ∷ []) =
-    reads_next before one (input n.part part_limit) text (input n.machine machine_limit ∷ input n.cl file_limit ∷ input n.tape file_limit ∷ []) (table ∷ cl ∷ tape ∷ []) a.read a.text
-    (reads_next one two (input n.machine machine_limit) table (input n.cl file_limit ∷ input n.tape file_limit ∷ []) (cl ∷ tape ∷ []) b.read b.text
-    (reads_next two three (input n.cl file_limit) cl (input n.tape file_limit ∷ []) (tape ∷ []) d.read d.records.1 (e.run.1, tt))) in
-    let tabled : table_of table ≡ Ok c.in-Ok.machine = rw c.deref.ensures.value at c.in-Ok.ensures.machine in
-    judged_certifies n text table cl tape before four _ read reads (c.judged.ensures table cl tape tabled d.records.2 (acts_taken (λ v. v.items) _ _ e.run.2))
-
-pub returns-in_ok-run_input-in-Err : goal.returns-in_ok-run_input-in-Err
-returns-in_ok-run_input-in-Err g c =
-    let n = four_names c.args.names in
-    let before : Files = files_on g.H.Shelf c.args.shelf.now in
-    let one : Files = files_on g.H.Shelf c.read_input.new.shelf in
-    let two : Files = files_on g.H.Shelf c.read_input-2.new.shelf in
-    let three : Files = files_on g.H.Shelf c.records_input.new.shelf in
-    let four : Files = files_on g.H.Shelf c.run_input-in-Err.new.shelf in
-    let a = c.in_ok-text.ensures in
-    let b = c.in_ok-table.ensures in
+pub returns : goal.returns
+returns g c =
     let d = c.in_ok-records.ensures in
     let e = c.in_ok-run_input-in-Err.ensures in
-    let text = c.in_ok-text.text.items in
     let table = c.in_ok-table.table.items in
-    let cl = d.records.0 in
-    let tape = e.run.0 in
-    let read : AreRead before four = read_on before one four a.read (read_on one two four b.read (read_on two three four d.read e.read)) in
-    let reads : ReadsAll before.told (inputs n) (text ∷ table ∷ cl ∷ tape ∷ []) =
-    reads_next before one (input n.part part_limit) text (input n.machine machine_limit ∷ input n.cl file_limit ∷ input n.tape file_limit ∷ []) (table ∷ cl ∷ tape ∷ []) a.read a.text
-    (reads_next one two (input n.machine machine_limit) table (input n.cl file_limit ∷ input n.tape file_limit ∷ []) (cl ∷ tape ∷ []) b.read b.text
-    (reads_next two three (input n.cl file_limit) cl (input n.tape file_limit ∷ []) (tape ∷ []) d.read d.records.1 (e.run.1, tt))) in
-    let bad : machine_due table ≡ Err c.in-Err.answer = rw c.deref.ensures.value at c.in-Err.ensures.none in
-    judged_certifies n text table cl tape before four _ read reads (table_judged text table cl tape c.in-Err.answer bad)
+    four_read (four_names c.args.names) (files_on g.H.Shelf c.args.shelf.now) (files_on g.H.Shelf c.read_input.new.shelf) (files_on g.H.Shelf c.read_input-2.new.shelf) (files_on g.H.Shelf c.records_input.new.shelf) (files_on g.H.Shelf c.run_input-in-Err.new.shelf) c.in_ok-text.text.items table d.records.0 e.run.0 _
+    c.in_ok-text.ensures.read c.in_ok-text.ensures.text c.in_ok-table.ensures.read c.in_ok-table.ensures.text d.read d.records.1 e.read e.run.1
+    (table_judged c.in_ok-text.text.items table d.records.0 e.run.0 c.in-Err.answer (rw c.deref.ensures.value at c.in-Err.ensures.none))

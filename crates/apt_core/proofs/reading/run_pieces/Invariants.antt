@@ -8,7 +8,7 @@ abbrev pub invariant-pieces : goal.invariant-pieces
 invariant-pieces g l =
     let H = g.H.Shelf in
     record {
-      read : (front : List ℕ) × HasRead (H.told l.fn.shelf) l.fn.name (H.left l.shelf) front × (l.count ≡ length front) × HasRun g.T.Taker.has l.fn.code front l.run;
+      read : (front : List ℕ) × HasRead (H.told l.fn.shelf) l.fn.name (H.left l.shelf) front × (l.count ≡ length front) × HasRun (g.T.Taker.has l.fn.none) l.fn.code front l.run;
       short : l.count ≤ file_limit;
       reading : H.reading l.shelf ≡ true;
       told : H.told l.shelf ≡ H.told l.fn.shelf;

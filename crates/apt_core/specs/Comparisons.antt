@@ -1,0 +1,17 @@
+-- The acts of a tape beside the plan of records, while the tape is read.
+use Rattle.std.specs.Prelude.{◌≡◌, ℕ, ◌+◌, List, ◌++◌, length, Option, Some, None}
+use Rattle.apt_control.specs.declared.Act.{Act}
+use Rattle.apt_post.specs.Plan.{plan}
+use Rattle.apt_core.specs.Certificates.{DifferAt}
+use Rattle.apt_core.specs.declared.comparison.Comparison.{Comparison}
+
+-- the acts so far stand in front of a plan, of which this is left; or they differ from it at a place, however they go on
+abbrev pub AreBeside : List Act → List Act → Option ℕ → List Act → Type 0
+AreBeside planned left None acts = planned ≡ acts ++ left
+AreBeside planned left (Some at) acts = (more : List Act) → DifferAt (acts ++ more) planned at
+
+-- acts that are compared with the plan of the records with which a comparison began, and the number of the next act
+pub record AreCompared (begun now : Comparison) (acts : List Act) : Type 0 where
+  pub same : now.records.now ≡ begun.records.now
+  pub beside : AreBeside (plan begun.records.now) now.left now.first acts
+  pub next : now.first ≡ None → now.next ≡ length acts + 1

@@ -1,0 +1,147 @@
+//! The acts of a tape beside a plan, while the tape is read.
+
+ghost use Rattle.std.specs.Prelude.{◌≡◌, ◌↔◌, ◌+◌, ◌<◌, ◌≤◌, ◌^◌, ◌++◌, false, IsTrue, List, [], ◌∷◌, length, None, IfSome};
+ghost use Rattle.apt_cldata.specs.Ranges.{vertex_count};
+ghost use Rattle.apt_control.specs.declared.Act.{Act};
+ghost use Rattle.apt_core.specs.Certificates.{HeadsDiffer};
+
+use crate::taker::Taker;
+use apt_cldata::Record;
+use apt_control::Act;
+use apt_post::Plan;
+use std::alloc::AllocError;
+
+/// The acts so far beside the plan of records: what is left of the plan behind them, and the number of the next act, from
+/// 1, where all are as planned; else the number of the first that is not.
+#[derive(Drop)]
+pub(crate) struct Comparison<'a> {
+    records: &'a [Record],
+    left: Plan<'a>,
+    next: u64,
+    first: Option<u64>,
+    ghost few: { next + length left ≤ 2 ^ 63 },
+}
+
+impl<'a> Comparison<'a> {
+    ghost use Rattle.apt_core.specs.Certificates.{DifferAt};
+    ghost use Rattle.apt_core.specs.Comparisons.{AreBeside, AreCompared};
+    ghost use Rattle.apt_core.specs.declared.comparison.Comparison.{Comparison};
+    ghost use Rattle.apt_post.specs.Plan as plans;
+
+    /// No acts beside the plan of some records.
+    #[tactic(auto, using(crate::proofs::Comparing::plan_fits))]
+    pub(crate) fn with_plan(records: &'a [Record]) -> Comparison<'a>
+        requires { vertex_count records.now + length records.now < 2 ^ 62 }
+        ensures records { result.records.now ≡ records.now }
+        ensures begun { AreCompared result result [] }
+    {
+        Comparison {
+            records,
+            left: Plan::of(records),
+            next: 1,
+            first: None,
+        }
+    }
+
+    /// Goes on with acts behind those so far, which are all as planned.
+    fn onwards(self, acts: &[Act]) -> Comparison<'a>
+        requires { self.first ≡ None }
+        ensures records { result.records.now ≡ self.entry.records.now }
+        ensures beside { (planned before : List Act) → planned ≡ before ++ self.entry.left → self.entry.next ≡ length before + 1 → AreBeside planned result.left result.first (before ++ acts.now) }
+        ensures next { result.first ≡ None → result.next ≡ self.entry.next + length acts.now }
+    {
+        let Comparison {
+            records,
+            mut left,
+            mut next,
+            ..
+        } = self;
+        'acts: for act in acts {
+            if !begins_with(&mut left, *act) {
+                return Comparison {
+                    records,
+                    left,
+                    next,
+                    first: Some(next),
+                };
+            }
+            next += 1;
+        }
+        Comparison {
+            records,
+            left,
+            next,
+            first: None,
+        }
+    }
+
+    /// The first place, from 1, at which all acts and the plan differ.
+    pub(crate) fn difference(self) -> Option<u64>
+        ensures differ { (begun : Comparison) (acts : List Act) → AreCompared begun self.entry acts → IfSome result (λ at. DifferAt acts (plans.plan begun.records.now) at) }
+        ensures same { (begun : Comparison) (acts : List Act) → AreCompared begun self.entry acts → result ≡ None → acts ≡ plans.plan begun.records.now }
+    {
+        let Comparison {
+            mut left,
+            next,
+            first,
+            ..
+        } = self;
+        if first.is_some() {
+            return first;
+        }
+        if left.next().is_some() {
+            Some(next)
+        } else {
+            None
+        }
+    }
+}
+
+impl<'a> Taker for Comparison<'a> {
+    ghost use Rattle.apt_core.specs.Comparisons.{AreCompared};
+
+    ghost has = { AreCompared };
+
+    #[tactic(auto, using(crate::proofs::Comparing::compared_still, crate::proofs::Comparing::compared_on))]
+    fn with(self, acts: &[Act]) -> Result<Comparison<'a>, AllocError> {
+        match self.first {
+            Some(_) => Ok(self),
+            None => Ok(self.onwards(acts)),
+        }
+    }
+}
+
+/// Whether an act is the first of those that are left, which is taken.
+fn begins_with(plan: &mut Plan<'_>, x: Act) -> bool
+    ensures same { IsTrue result → plan.old ≡ x ∷ plan.new }
+    ensures differ { result ≡ false → (xs : List Act) → HeadsDiffer (x ∷ xs) plan.old }
+    ensures fewer { length plan.new ≤ length plan.old }
+{
+    match plan.next() {
+        Some(y) => is_same(x, y),
+        None => false,
+    }
+}
+
+fn is_same(x: Act, y: Act) -> bool
+    ensures { IsTrue result ↔ (x ≡ y) }
+{
+    match (x, y) {
+        (Act::Units(a), Act::Units(b)) => a == b,
+        (Act::Rapid { x, y, z }, Act::Rapid { x: u, y: v, z: w }) => x == u && y == v && z == w,
+        (
+            Act::Cut { x, y, z, feed },
+            Act::Cut {
+                x: u,
+                y: v,
+                z: w,
+                feed: f,
+            },
+        ) => x == u && y == v && z == w && feed == f,
+        (Act::Spindle { turn, n }, Act::Spindle { turn: t, n: m }) => turn == t && n == m,
+        (Act::Coolant(a), Act::Coolant(b)) => a == b,
+        (Act::Tool(a), Act::Tool(b)) => a == b,
+        (Act::Stop, Act::Stop) | (Act::OptStop, Act::OptStop) | (Act::End, Act::End) => true,
+        _ => false,
+    }
+}
