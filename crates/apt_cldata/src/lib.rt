@@ -11,6 +11,6 @@ mod words;
 mod writing;
 
 pub use error::{ClCause, ClError};
-pub use reading::read;
+pub use reading::{behind_head, first_record};
 pub use record::{Note, Position, Reach, Record, Vertices};
 pub use writing::{ClBytes, write};

@@ -1,17 +1,15 @@
-//! Reading a CL file.
+//! Reading the records of a CL file, one by one.
 ghost use Rattle.std.specs.Prelude.{◌≡◌, ◌+◌, ◌^◌, ◌<◌, ◌≤◌, length, drop, Ok, Err, IfOk, MatchResult};
-ghost use Rattle.apt_cldata.specs.Ranges.{vertex_count};
-ghost use Rattle.apt_cldata.specs.Files.{IsFile, file_of};
 ghost use Rattle.apt_cldata.specs.Files as files;
 ghost use Rattle.apt_words.specs.Answers.{IsDueAs};
-ghost use Rattle.apt_cldata.specs.Reading.{read_of, fault_in};
+ghost use Rattle.apt_cldata.specs.Reading.{fault_in};
 ghost use Rattle.apt_cldata.specs.Reading as spec;
 
 use crate::bytes::{length_in, word_in};
 use crate::entries::record_of;
 use crate::error::ClFault;
 use crate::fields::Misfit;
-use crate::{ClCause, ClError, Note, Record};
+use crate::{ClCause, ClError, Record};
 use std::alloc::{AllocError, Global};
 
 /// How a file begins.
@@ -115,15 +113,13 @@ fn said_by(
     }
 }
 
-fn is_fini(record: &Record) -> bool
-    ensures { result ≡ files.is_fini «record».now }
-{
-    matches!(record, Record::Note(Note::Fini))
-}
-
-/// The first record, which has the number that is due, and how many bytes it has.
+/// The first record of some bytes at a place of a file, which has the number that is due, and how many bytes it has.
+///
+/// # Errors
+///
+/// `Bad` with the first place that can't stand and its cause; `NoMemory`.
 #[tactic(auto, unfolding(crate::specs::Reading::first_of))]
-fn first_of(alloc: Global, seq: u64, at: u64, bytes: &[u8]) -> Result<(Record, usize), ClError>
+pub fn first_record(alloc: Global, seq: u64, at: u64, bytes: &[u8]) -> Result<(Record, usize), ClError>
     requires number { seq < 2 ^ 63 }
     requires place { at + length bytes.now < 2 ^ 63 }
     ensures value { IsDueAs (λ p. spec.piece p.0 (at + p.1) (drop p.1 bytes.now)) fault_in (spec.first_of seq at bytes.now) result }
@@ -135,39 +131,8 @@ fn first_of(alloc: Global, seq: u64, at: u64, bytes: &[u8]) -> Result<(Record, u
     Ok((record, 4 + n))
 }
 
-/// The records from a place on, numbered from 1.
-fn records_from(alloc: Global, start: u64, bytes: &[u8]) -> Result<Vec<Record>, ClError>
-    requires some { 0 < start }
-    requires place { start + length bytes.now < 2 ^ 63 }
-    ensures { IsDueAs (λ v. v.items) fault_in (spec.records_from (start + length bytes.now) 1 start bytes.now) result }
-{
-    let mut records = Vec::new(alloc);
-    let mut seq = 1;
-    let mut at = start;
-    let mut rest = bytes;
-    'records: loop {
-        let (record, size) = first_of(alloc, seq, at, rest)?;
-        let is_last = is_fini(&record);
-        records.push(record)?;
-        at += size as u64;
-        rest = &rest[size..];
-        seq += 1;
-        if is_last {
-            break;
-        }
-    }
-    if rest.is_empty() {
-        Ok(records)
-    } else {
-        Err(ClError::Bad {
-            at,
-            cause: ClCause::AfterFini,
-        })
-    }
-}
-
 /// The bytes behind a head.
-fn behind_head<'a>(head: &[u8], bytes: &'a [u8]) -> Result<&'a [u8], ClFault>
+fn behind<'a>(head: &[u8], bytes: &'a [u8]) -> Result<&'a [u8], ClFault>
     ensures { MatchResult result (λ rest. spec.behind_head 0 head.now bytes.now ≡ Ok rest.now) (λ f. spec.behind_head 0 head.now bytes.now ≡ Err f) }
 {
     'places: for (i, want) in head.iter().enumerate() {
@@ -185,27 +150,13 @@ fn behind_head<'a>(head: &[u8], bytes: &'a [u8]) -> Result<&'a [u8], ClFault>
     Ok(&bytes[head.len()..])
 }
 
-/// The records of a CL file.
+/// The bytes behind the head of a file.
 ///
 /// # Errors
 ///
-/// `Bad` with the first place that can't stand and its cause; `NoMemory`.
-#[tactic(auto, using(crate::proofs::Laws::read_gives_bytes, crate::proofs::Laws::read_gives_file, crate::proofs::Laws::read_gives_few))]
-pub fn read(alloc: Global, bytes: &[u8]) -> Result<Vec<Record>, ClError>
-    requires { length bytes.now < 2 ^ 63 }
-    ensures value { IsDueAs (λ v. v.items) fault_in (read_of bytes.now) result }
-    ensures bytes { IfOk result (λ v. bytes.now ≡ file_of v.items) }
-    ensures file { IfOk result (λ v. IsFile v.items) }
-    ensures few { IfOk result (λ v. vertex_count v.items + length v.items ≤ length bytes.now) }
+/// `Bad` with the first place that can't stand and its cause.
+pub fn behind_head(bytes: &[u8]) -> Result<&[u8], ClError>
+    ensures { IsDueAs (λ rest. rest.now) fault_in (spec.behind_head 0 files.head bytes.now) result }
 {
-    read_exactly(alloc, bytes)
-}
-
-#[tactic(auto, unfolding(crate::specs::Reading::read_of))]
-fn read_exactly(alloc: Global, bytes: &[u8]) -> Result<Vec<Record>, ClError>
-    requires { length bytes.now < 2 ^ 63 }
-    ensures { IsDueAs (λ v. v.items) fault_in (read_of bytes.now) result }
-{
-    let rest = behind_head(HEAD, bytes)?;
-    records_from(alloc, HEAD.len() as u64, rest)
+    Ok(behind(HEAD, bytes)?)
 }

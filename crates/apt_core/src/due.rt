@@ -10,7 +10,8 @@ ghost use Rattle.apt_part.specs.Promise.{Passes, Promise, AreSteps};
 ghost use Rattle.apt_core.specs.Due.{ComesToNone, machine_due, part_due, steps_due, records_due, part_told, tape_told};
 
 use apt_certify::Gate;
-use apt_cldata::{ClError, Record, read};
+use apt_cldata::{ClError, Record};
+use apt_clreader::read;
 use apt_control::ControlError;
 use apt_machine::{Machine, table};
 use apt_part::{Part, PartError, part_of, steps_of};

@@ -1,4 +1,5 @@
-use apt_cldata::{ClBytes, ClCause, ClError, Note, Record, read, write};
+use apt_cldata::{ClBytes, ClCause, ClError, Note, Record, write};
+use apt_clreader::read;
 use std::alloc::{AllocError, Global};
 use std::test::Fail;
 

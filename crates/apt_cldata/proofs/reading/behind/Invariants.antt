@@ -1,6 +1,6 @@
 use Rattle.std.proofs.Common.{◌≡◌, ◌≤◌, drop, length}
 use Rattle.apt_cldata.specs.Reading.{behind_head}
-use Rattle.apt_cldata.proofs.reading.behind_head.Given as goal
+use Rattle.apt_cldata.proofs.reading.behind.Given as goal
 
 abbrev pub invariant-places : goal.invariant-places
 invariant-places l = record {

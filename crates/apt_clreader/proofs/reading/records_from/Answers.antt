@@ -5,7 +5,7 @@ use Rattle.apt_words.specs.Answers.{IsFault}
 use Rattle.apt_cldata.specs.Files.{is_fini}
 use Rattle.apt_cldata.specs.Reading as spec
 use Rattle.apt_cldata.proofs.Stands.{Stands, stands_first, stands_more, whole_is_done, whole_goes_on, whole_is_error}
-use Rattle.apt_cldata.proofs.reading.records_from.Goals as goal
+use Rattle.apt_clreader.proofs.reading.records_from.Goals as goal
 
 pub records-init : goal.records-init
 records-init c =

@@ -1,7 +1,7 @@
 use Rattle.std.proofs.Common.{◌≡◌, ◌+◌, ◌≤◌, length}
 use Rattle.apt_cldata.specs.Reading.{records_from}
 use Rattle.apt_cldata.proofs.Stands.{Stands}
-use Rattle.apt_cldata.proofs.reading.records_from.Given as goal
+use Rattle.apt_clreader.proofs.reading.records_from.Given as goal
 
 abbrev pub invariant-records : goal.invariant-records
 invariant-records l = record {

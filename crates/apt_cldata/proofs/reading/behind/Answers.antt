@@ -1,6 +1,6 @@
 use Rattle.std.proofs.Common.{Err, ap, sym, ◌∙◌, arith}
 use Rattle.apt_cldata.proofs.Heads.{head_cut_short}
-use Rattle.apt_cldata.proofs.reading.behind_head.Goals as goal
+use Rattle.apt_cldata.proofs.reading.behind.Goals as goal
 
 pub returns-in-None : goal.returns-in-None
 returns-in-None c =
