@@ -130,7 +130,7 @@ is_absent files n name h below j there =
 pub name_found : {A B : Type 0} (files : List (String A × Vec ℕ B)) (i : ℕ) (f : String A × Vec ℕ B) (name : List ℕ) → IsFirstIndex (entries files) name i → slice_get files i ≡ Some f → string_bytes f.0 ≡ name
 name_found files i f name p e = some_inj name _ _ (sym (ap (option_map (λ e. e.0)) (slice_get-map entry files i ∙ ap (option_map entry) e)) ∙ p.here)
 
-at_index : {A B : Type 0} (files : List (String A × Vec ℕ B)) (i : ℕ) (f : String A × Vec ℕ B) (name : List ℕ) → IsFirstIndex (entries files) name i → f ≡ get_or files i f → slice_get files i ≡ Some f
+pub at_index : {A B : Type 0} (files : List (String A × Vec ℕ B)) (i : ℕ) (f : String A × Vec ℕ B) (name : List ℕ) → IsFirstIndex (entries files) name i → f ≡ get_or files i f → slice_get files i ≡ Some f
 at_index files i f name p e = slice_get_read files (length files) i f refl (omega (arith, p.within, length-map files entry)) e
 
 pub held_file : {A B : Type 0} (files : List (String A × Vec ℕ B)) (i : ℕ) (f : String A × Vec ℕ B) (name : List ℕ) → IsFirstIndex (entries files) name i → f ≡ get_or files i f → held (contents files) name ≡ Some f.1.items

@@ -1,2 +1,3 @@
 pub mod EntriesLaws
+pub mod ReadingLaws
 pub mod ToldLaws

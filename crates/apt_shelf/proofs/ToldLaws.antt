@@ -1,13 +1,13 @@
 -- Laws of the told map.
-use Rattle.std.specs.Prelude.{◌≡◌, ℕ, List, [], ◌∷◌, ◌++◌, ◌+◌, ◌≤◌, length, take, unwrap_or, cond, Bool, true, false, Option, Some, None, Result, Ok, Err, OnErr}
+use Rattle.std.specs.Prelude.{◌≡◌, ℕ, List, [], ◌∷◌, ◌++◌, ◌+◌, ◌≤◌, length, take, drop, min, unwrap_or, cond, Bool, true, false, Option, Some, None, IsSomeAnd, Result, Ok, Err, OnErr}
 use Rattle.std.proofs.Common.{ap, sym, subst, ◌∙◌, ◌<◌, refl, arith, inl, inr, append_assoc}
-use Rattle.std.proofs.lemmas.List.{append-nil, length-append, take-append-le}
+use Rattle.std.proofs.lemmas.List.{append-nil, length-append, take-append-le, nil_from_length}
 use Rattle.std.proofs.Math.Seq.{take-append-add, take-append_seam}
 use Rattle.std.specs.Ordering.{nat_cmp, eq_by_cmp}
 use Rattle.std.specs.Cmp.{eq_by_cmp_equiv}
 use Rattle.std.specs.Cmp.Lexicographic.{slice_cmp, nat_list_cmp_total, texts_ties, same_text}
 use Rattle.std.specs.FinMap.{get, insert, get-insert, same_map, slice_cmp-IsAntisymmetric, nat_cmp-IsAntisymmetric}
-use Rattle.apt_shelf.specs.Told.{Contents, appended, Steps, Adds, KeepsPrefix}
+use Rattle.apt_shelf.specs.Told.{Contents, appended, Steps, Takes, Adds, KeepsPrefix}
 use Rattle.apt_shelf.specs.Files.{AddsAny, WritesPrefix}
 
 -- two names are one, as the map tests it
@@ -154,3 +154,10 @@ appended_held m k v piece e = ap (λ o. insert m k (unwrap_or o [] ++ piece)) e
 
 pub appended_absent : (m : Contents) (k piece : List ℕ) → get m k ≡ None → appended m k piece ≡ insert m k piece
 appended_absent m k piece e = ap (λ o. insert m k (unwrap_or o [] ++ piece)) e
+
+-- bytes that were read into the front of a buffer
+pub takes_front : (left now : Option (List ℕ)) (n : ℕ) (front rest : List ℕ) → 0 < length front
+    → IsSomeAnd left (λ bytes. (n ≡ min (length bytes) (length front)) × (take n front ≡ take n bytes) × (now ≡ Some (drop n bytes))) → Takes left now n (front ++ rest)
+takes_front None now n front rest h r = tt
+takes_front (Some bytes) now n front rest h r =
+    (omega (arith, r.0), take-append-le n front rest (omega (arith, r.0)) ∙ r.1, r.2, λ none. nil_from_length bytes (omega (arith, r.0, none, h)))

@@ -4,6 +4,7 @@ pub mod Files
 pub mod Folder
 pub mod Memory
 pub mod Counters
+pub mod Reading
 pub mod Sink
 pub mod Store
 pub mod Sure
