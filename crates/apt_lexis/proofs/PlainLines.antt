@@ -1,20 +1,15 @@
 -- Lines without a `$` that a line feed alone ends.
-use Rattle.std.proofs.Common.{◌≡◌, ◌≤◌, ◌<◌, ℕ, ◌==◌, List, [], ◌∷◌, ◌++◌, length, take, drop, get_or, Bool, true, false, ap, ◌∙◌, sym, subst, refl, arith}
+use Rattle.std.proofs.Common.{◌≡◌, ℕ, ◌==◌, List, [], ◌∷◌, ◌++◌, length, take, drop, Bool, true, false, ap, ◌∙◌, sym, subst, refl, arith}
 use Rattle.std.specs.Prelude.{◌&&◌}
 use Rattle.std.specs.List.{list_all, prefix_len}
-use Rattle.std.proofs.lemmas.List.{get_or-take, length-take-le, take-append-drop}
-use Rattle.std.proofs.lemmas.List.Elements.{All-from_get_or}
-use Rattle.std.proofs.lemmas.List.Sums.{list_all-from_AllPass}
+use Rattle.std.proofs.lemmas.List.{take-append-drop}
 use Rattle.std.proofs.Math.Seq.{take-length, drop-length}
 use Rattle.std.proofs.lemmas.Bool.Decides.{nat_tests}
 use Rattle.apt_lexis.specs.Lines.{split, in_front, line_feed, carriage_return, is_character, lines_of, without_return}
 use Rattle.apt_lexis.specs.Sentences.{is_no_dollar, said_on, goes_on}
+pub use Rattle.apt_lexis.specs.Sentences.{is_plain}
 use Rattle.apt_lexis.proofs.LineLaws.{line_first}
-use Rattle.apt_lexis.proofs.Fronts.{passes_other, whole_front}
-
--- a character that is no `$`
-abbrev pub is_plain : ℕ → Bool
-is_plain b = is_character b && is_no_dollar b
+use Rattle.apt_lexis.proofs.Fronts.{front_passes, passes_other, whole_front}
 
 no_line_feed : (b : ℕ) → is_plain b ≡ true → (b == line_feed) ≡ false
 no_line_feed b e = grind (arith, nat_tests)
@@ -28,9 +23,8 @@ character_of_plain b e = grind (arith, nat_tests)
 no_dollar_of_plain : (b : ℕ) → is_plain b ≡ true → is_no_dollar b ≡ true
 no_dollar_of_plain b e = grind (arith, nat_tests)
 
-pub all_plain : (text : List ℕ) (n : ℕ) → n ≤ length text → ((k : ℕ) → k < n → is_plain (get_or text k 0) ≡ true) → list_all is_plain (take n text) ≡ true
-all_plain text n h each =
-    list_all-from_AllPass is_plain (take n text) (All-from_get_or (λ b. is_plain b ≡ true) (take n text) 0 (λ k inside. subst (λ b. is_plain b ≡ true) (sym (get_or-take n text k 0 (omega (arith, length-take-le n text h)))) (each k (omega (arith, length-take-le n text h)))))
+pub front_plain : (text : List ℕ) (n : ℕ) → n ≡ prefix_len is_plain text → list_all is_plain (take n text) ≡ true
+front_plain text n e = subst (λ k. list_all is_plain (take k text) ≡ true) (sym e) (front_passes is_plain text)
 
 pub plain_characters : (text : List ℕ) → list_all is_plain text ≡ true → list_all is_character text ≡ true
 plain_characters text e = passes_other is_plain is_character character_of_plain text e

@@ -1,11 +1,11 @@
 -- The statements of a text, each on one line or on several that a `$` joins.
-use Rattle.std.specs.Prelude.{◌≡◌, ℕ, ◌+◌, ◌==◌, not, Bool, true, false, List, [], ◌∷◌, ◌++◌, drop, Option, Some, None, Result, Ok, Err, if◌then◌else◌}
+use Rattle.std.specs.Prelude.{◌≡◌, ℕ, ◌+◌, ◌==◌, ◌&&◌, not, Bool, true, false, List, [], ◌∷◌, ◌++◌, drop, Option, Some, None, Result, Ok, Err, if◌then◌else◌}
 use Rattle.std.specs.List.{take_while, prefix_len}
 use Rattle.apt_words.specs.Answers.{Comes}
 use Rattle.apt_lexis.specs.declared.cause.PartCause.{PartCause}
 use Rattle.apt_lexis.specs.declared.error.ParseError.{ParseError}
 use Rattle.apt_lexis.specs.declared.error.ParseError.TheVariants as errors
-use Rattle.apt_lexis.specs.Lines.{lines_of, line_fault}
+use Rattle.apt_lexis.specs.Lines.{is_character, lines_of, line_fault}
 use Rattle.apt_lexis.specs.Tokens.{Tokens, tokens_of}
 use Rattle.apt_lexis.specs.Titles.{Title, title_behind}
 use Rattle.apt_lexis.specs.Phrase.{Phrase}
@@ -17,6 +17,10 @@ dollar = 36
 
 abbrev pub is_no_dollar : ℕ → Bool
 is_no_dollar b = not (b == dollar)
+
+-- a character that is no `$`
+abbrev pub is_plain : ℕ → Bool
+is_plain b = is_character b && is_no_dollar b
 
 -- a line up to its first `$`
 abbrev pub said_on : List ℕ → List ℕ

@@ -1,5 +1,5 @@
 -- PARTNO and REMARK, the first word of a statement or the first behind its label, take the rest of their line as text.
-use Rattle.std.specs.Prelude.{ℕ, ◌==◌, Bool, true, false, List, [], ◌∷◌, ◌++◌, map, drop, Option, Some, None, if◌then◌else◌}
+use Rattle.std.specs.Prelude.{ℕ, ◌==◌, ◌||◌, Bool, true, false, List, [], ◌∷◌, ◌++◌, length, map, drop, Option, is_some, Some, None, if◌then◌else◌}
 use Rattle.std.specs.List.{take_while, prefix_len}
 use Rattle.apt_words.specs.Options.{◌>>=◌, only_if}
 use Rattle.apt_words.specs.Symbols.{is_name}
@@ -84,6 +84,12 @@ or_else (Some t) other = Some t
 -- a line that begins a statement
 abbrev pub title_or_labelled : List ℕ → Option Title
 title_or_labelled line = or_else (title line) (labelled_title line)
+
+-- a line at whose front a title or a closed label may stand: a word of six letters or digits, or a parenthesis behind the word
+abbrev pub may_be_titled : List ℕ → Bool
+may_be_titled line =
+    let line = behind is_blank line in
+    length (take_while is_letter_or_digit line) == 6 || is_some (behind_close (behind is_letter_or_digit line))
 
 -- the tokens and the text of a statement that has these tokens before the line
 abbrev pub title_behind : List Token → List ℕ → Option Title

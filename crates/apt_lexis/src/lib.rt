@@ -4,6 +4,7 @@
 mod cause;
 mod character;
 mod error;
+mod fast;
 mod line;
 mod lines;
 mod number;

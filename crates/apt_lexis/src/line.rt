@@ -1,15 +1,13 @@
 //! A line as its statement is read from it.
 
-ghost use Rattle.std.specs.Prelude.{◌≡◌, ◌+◌, ◌==◌, if◌then◌else◌, ◌&&◌, ℕ, true, take, slice_index, [], ◌∷◌, ◌<◌, ◌≤◌, length, IfSome, IsNone};
-ghost use Rattle.std.specs.List.{list_all, prefix_len};
-ghost use Rattle.std.specs.Int.{trailing_zeros, w64};
+ghost use Rattle.std.specs.Prelude.{◌≡◌, [], ◌∷◌, ◌<◌, ◌≤◌, length, IfSome, IsNone};
+ghost use Rattle.std.specs.List.{list_all};
 ghost use Rattle.apt_lexis.specs.Lines as lines;
 ghost use Rattle.apt_lexis.specs.Sentences as spec;
 
 use crate::PartCause;
 use crate::character::no_dollars;
 use crate::lines::{are_characters, next_line};
-use std::simd::prelude::*;
 
 /// The greatest number of lines.
 const MOST_LINES: u32 = 50_000;
@@ -24,53 +22,10 @@ pub(crate) struct SourceLine<'a> {
     pub(crate) text: &'a [u8],
     pub(crate) front: &'a [u8],
     pub(crate) goes_on: bool,
-    are_characters: bool,
+    pub(crate) are_characters: bool,
     ghost said: { front.now ≡ spec.said_on text.now },
     ghost on: { goes_on ≡ spec.goes_on text.now },
     ghost characters: { are_characters ≡ list_all lines.is_character text.now },
-}
-
-/// So many bytes are looked at together.
-const LANES: usize = 16;
-
-/// The place of the lowest bit of 16 that is set, and 16 where none is.
-fn first_set(mask: u64) -> usize
-    ensures { result ≡ (if mask == 0 then 16 else trailing_zeros w64 mask) }
-{
-    if mask == 0 {
-        LANES
-    } else {
-        mask.trailing_zeros() as usize
-    }
-}
-
-/// How many of the next 16 bytes, from the first, are characters and no `$`.
-fn plain_lanes(text: &[u8], at: usize) -> usize
-    requires { at + 16 ≤ length text.now }
-    ensures few { result ≤ 16 }
-    ensures plain { (k : ℕ) → at ≤ k → k < at + result → (lines.is_character (slice_index text.now k) && spec.is_no_dollar (slice_index text.now k)) ≡ true }
-{
-    let v = u8x16::from_slice(&text[at..]);
-    let is_control = v.simd_lt(u8x16::splat(b' ')) & v.simd_ne(u8x16::splat(b'\t'));
-    let stops = is_control | v.simd_gt(u8x16::splat(b'~')) | v.simd_eq(u8x16::splat(b'$'));
-    first_set(stops.to_bitmask())
-}
-
-/// How many bytes at the front of a text are seen to be characters and no `$`; near its end there may be more.
-#[tactic(auto, using(crate::proofs::PlainLines::all_plain))]
-fn plain_front(text: &[u8]) -> usize
-    ensures within { result ≤ length text.now }
-    ensures plain { list_all (λ b. lines.is_character b && spec.is_no_dollar b) (take result text.now) ≡ true }
-{
-    let mut at = 0;
-    'lanes: while text.len() - at >= LANES {
-        let run = plain_lanes(text, at);
-        at += run;
-        if run < LANES {
-            return at;
-        }
-    }
-    at
 }
 
 /// Whether a `$` begins a text with no other behind it.
@@ -94,7 +49,8 @@ fn said_on(line: &[u8]) -> (&[u8], bool)
     (front, is_single(rest))
 }
 
-fn any_line(rest: &[u8]) -> Option<(SourceLine<'_>, &[u8])>
+/// The first line of a text, and what stands behind it; none where the text is empty.
+pub(crate) fn any_line(rest: &[u8]) -> Option<(SourceLine<'_>, &[u8])>
     ensures none { IsNone result → lines.lines_of rest.now ≡ [] }
     ensures some { IfSome result (λ r. lines.lines_of rest.now ≡ r.0.text.now ∷ lines.lines_of r.1.now) }
     ensures shorter { IfSome result (λ r. length r.1.now < length rest.now) }
@@ -108,30 +64,6 @@ fn any_line(rest: &[u8]) -> Option<(SourceLine<'_>, &[u8])>
         are_characters: are_characters(text),
     };
     Some((line, after))
-}
-
-/// The first line of a text, and what stands behind it; none where the text is empty.
-///
-/// Most lines have no `$` and end with a line feed alone: these are looked at once.
-#[tactic(auto, using(crate::proofs::Fronts::front_short, crate::proofs::PlainLines::first_plain, crate::proofs::PlainLines::plain_said, crate::proofs::PlainLines::plain_ends, crate::proofs::PlainLines::plain_characters))]
-pub(crate) fn first_line(rest: &[u8]) -> Option<(SourceLine<'_>, &[u8])>
-    ensures none { IsNone result → lines.lines_of rest.now ≡ [] }
-    ensures some { IfSome result (λ r. lines.lines_of rest.now ≡ r.0.text.now ∷ lines.lines_of r.1.now) }
-    ensures shorter { IfSome result (λ r. length r.1.now < length rest.now) }
-{
-    let (text, behind) = rest.split_at(plain_front(rest));
-    match behind.split_first() {
-        Some((b'\n', after)) => {
-            let line = SourceLine {
-                text,
-                front: text,
-                goes_on: false,
-                are_characters: true,
-            };
-            Some((line, after))
-        }
-        _ => any_line(rest),
-    }
 }
 
 /// The first fault of a line.

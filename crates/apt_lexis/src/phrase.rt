@@ -7,8 +7,9 @@ ghost use Rattle.apt_lexis.specs.Sentences as spec;
 ghost use Rattle.apt_lexis.specs.Titles as titles;
 ghost use Rattle.apt_lexis.specs.Tokens as tokens;
 
-use crate::line::{SourceLine, first_line, line_fault};
-use crate::title::{Heading, add_heading, heading_behind, may_be_titled};
+use crate::fast::first_line;
+use crate::line::{SourceLine, line_fault};
+use crate::title::{Heading, add_heading, heading_behind};
 use crate::token::{add_tokens, behind_blanks};
 use crate::{ParseError, PartCause, Token};
 use apt_words::Text;
@@ -112,6 +113,7 @@ fn add_title(
 }
 
 /// The title of a line behind the statement that is begun, which has no bad token then.
+#[inline(always)]
 fn title_in<'a>(begun: &Option<Phrase>, line: &'a [u8]) -> Option<Heading<'a>>
     ensures none { IsNone result → spec.title_in (spec.tokens_before begun.now) line.now ≡ None }
     ensures some { IfSome result (λ t. IsOkAnd (spec.tokens_before begun.now) (λ ts. spec.title_in (Ok ts) line.now ≡ Some (titles.with_tokens ts t))) }
@@ -142,9 +144,9 @@ fn take_tokens(
     Ok(!line.goes_on)
 }
 
-/// Takes a line that may have a title into the statement that is begun; whether the line completes it.
+/// Takes a line into the statement that is begun; whether the line completes it.
 #[tactic(auto, using(crate::proofs::SentenceLaws::by_tokens, crate::proofs::SentenceLaws::ends_with_title))]
-fn take_titled(
+fn take_line(
     alloc: Global,
     spare: &mut Option<Vec<Token>>,
     begun: &mut Option<Phrase>,
@@ -160,25 +162,6 @@ fn take_titled(
             add_title(alloc, spare, begun, number, title)?;
             Ok(true)
         }
-    }
-}
-
-/// Takes a line into the statement that is begun; whether the line completes it.
-#[tactic(auto, using(crate::proofs::SentenceLaws::by_tokens))]
-fn take_line(
-    alloc: Global,
-    spare: &mut Option<Vec<Token>>,
-    begun: &mut Option<Phrase>,
-    number: u32,
-    line: &SourceLine<'_>,
-) -> Result<bool, AllocError>
-    ensures behind { IfOk result (λ done. spec.behind_line begun.old number line.now.text.now ≡ (if done then record { begun = None; said = begun.new } else record { begun = begun.new; said = None })) }
-    ensures ended { IfOk result (λ done. done ≡ true → IsSome begun.new) }
-{
-    if begun.is_none() && !may_be_titled(line.text) {
-        take_tokens(alloc, spare, begun, number, line)
-    } else {
-        take_titled(alloc, spare, begun, number, line)
     }
 }
 

@@ -1,6 +1,6 @@
 //! Titles: PARTNO and REMARK with the text behind them.
 
-ghost use Rattle.std.specs.Prelude.{◌≡◌, [], ◌∷◌, ◌++◌, map, false, None, OnOk, IfOk, option_map, option_and_then};
+ghost use Rattle.std.specs.Prelude.{◌≡◌, [], ◌∷◌, ◌++◌, map, OnOk, IfOk, option_map, option_and_then};
 ghost use Rattle.std.specs.List.{take_while};
 ghost use Rattle.std.specs.Option.{option_to_list};
 ghost use Rattle.std.proofs.Common.{bytes_eq};
@@ -13,13 +13,14 @@ ghost use Rattle.apt_lexis.specs.declared.token.Token.TheVariants as tokens;
 
 use crate::Token;
 use crate::character::letters_or_digits;
+use crate::fast::first_title;
 use crate::token::{behind_blanks, symbol};
 use apt_words::{Symbol, Text, Word, is_vocabulary};
 use std::alloc::{AllocError, Global};
 use std::marker::Model;
 
 /// PARTNO and REMARK have so many letters.
-const TITLE_LETTERS: usize = 6;
+pub(crate) const TITLE_LETTERS: usize = 6;
 
 /// A title's line: a label and its parenthesis where they stand on it, the word and the text. Clauses see its
 /// tokens and the text.
@@ -49,7 +50,7 @@ fn spells(symbol: &Symbol, word: Word) -> bool
 
 /// The letters and digits at the front of a line, and what stands behind them.
 #[tactic(auto, using(crate::proofs::Fronts::front_short))]
-fn front_word(line: &[u8]) -> (&[u8], &[u8])
+pub(crate) fn front_word(line: &[u8]) -> (&[u8], &[u8])
     ensures word { result.0.now ≡ take_while characters.is_letter_or_digit line.now }
     ensures rest { result.1.now ≡ spec.behind characters.is_letter_or_digit line.now }
 {
@@ -117,7 +118,7 @@ fn title(line: &[u8]) -> Option<(Word, &[u8])>
     title_of(word, rest)
 }
 
-fn behind_close(line: &[u8]) -> Option<&[u8]>
+pub(crate) fn behind_close(line: &[u8]) -> Option<&[u8]>
     ensures { option_map (λ r. r.now) result ≡ spec.behind_close line.now }
 {
     match behind_blanks(line) {
@@ -179,7 +180,8 @@ fn labelled_title<'a>(name: &[u8], rest: &'a [u8]) -> Option<Heading<'a>>
     })
 }
 
-fn first_title(line: &[u8]) -> Option<Heading<'_>>
+/// The title at the front of a line that begins a statement: a title word, or a label before one.
+pub(crate) fn any_title(line: &[u8]) -> Option<Heading<'_>>
     ensures { result ≡ spec.title_or_labelled line.now }
 {
     let (front, rest) = front_word(behind_blanks(line));
@@ -194,17 +196,9 @@ fn first_title(line: &[u8]) -> Option<Heading<'_>>
     }
 }
 
-/// Whether a line may begin with a title or a label: most lines do not, and are told from the others by a glance.
-#[tactic(auto, using(crate::proofs::TitleLaws::no_heading))]
-pub(crate) fn may_be_titled(line: &[u8]) -> bool
-    ensures { result ≡ false → spec.title_or_labelled line.now ≡ None }
-{
-    let (word, rest) = front_word(behind_blanks(line));
-    word.len() == TITLE_LETTERS || behind_close(rest).is_some()
-}
-
 /// The title on a line behind some tokens of its statement.
 #[tactic(auto, using(crate::proofs::TitleLaws::behind_nothing, crate::proofs::TitleLaws::behind_name, crate::proofs::TitleLaws::behind_closed))]
+#[inline(always)]
 pub(crate) fn heading_behind<'a>(tokens: &[Token], line: &'a [u8]) -> Option<Heading<'a>>
     ensures { option_map (spec.with_tokens tokens.now) result ≡ spec.title_behind tokens.now line.now }
 {

@@ -1,0 +1,114 @@
+//! Shortcuts: each gives what an exact call beside it gives, and spares that call where a look is enough.
+
+ghost use Rattle.std.specs.Prelude.{◌≡◌, ◌+◌, ◌<◌, ◌≤◌, ◌==◌, if◌then◌else◌, take, drop, [], ◌∷◌, length, IfSome, IsNone};
+ghost use Rattle.std.specs.Int.{trailing_zeros, w64};
+ghost use Rattle.std.specs.List.{prefix_len};
+ghost use Rattle.apt_lexis.specs.Lines as lines;
+ghost use Rattle.apt_lexis.specs.Sentences as sentences;
+ghost use Rattle.apt_lexis.specs.Titles as titles;
+
+use crate::line::{SourceLine, any_line};
+use crate::title::{Heading, TITLE_LETTERS, any_title, behind_close, front_word};
+use crate::token::behind_blanks;
+use std::simd::prelude::*;
+
+/// So many bytes are looked at together.
+const LANES: usize = 16;
+
+/// The place of the lowest bit of 16 that is set, and 16 where none is.
+fn first_set(mask: u64) -> usize
+    ensures { result ≡ (if mask == 0 then 16 else trailing_zeros w64 mask) }
+{
+    if mask == 0 {
+        LANES
+    } else {
+        mask.trailing_zeros() as usize
+    }
+}
+
+/// How many of the next 16 bytes, from the first, are characters and no `$`.
+fn plain_lanes(text: &[u8], at: usize) -> usize
+    requires { at + 16 ≤ length text.now }
+    ensures { result ≡ prefix_len sentences.is_plain (take 16 (drop at text.now)) }
+{
+    let v = u8x16::from_slice(&text[at..]);
+    let is_control = v.simd_lt(u8x16::splat(b' ')) & v.simd_ne(u8x16::splat(b'\t'));
+    let stops = is_control | v.simd_gt(u8x16::splat(b'~')) | v.simd_eq(u8x16::splat(b'$'));
+    first_set(stops.to_bitmask())
+}
+
+fn is_plain(b: u8) -> bool
+    ensures { result ≡ sentences.is_plain b }
+{
+    (b == b'\t' || (32 <= b && b <= 126)) && b != b'$'
+}
+
+/// The bytes at the front of a text that are characters and no `$`, one by one.
+#[tactic(auto, using(crate::proofs::Fronts::front_length))]
+fn plain_bytes(text: &[u8]) -> usize
+    ensures { result ≡ prefix_len sentences.is_plain text.now }
+{
+    text.iter().take_while(|b| is_plain(**b)).count()
+}
+
+/// The bytes at the front of a text that are characters and no `$`, 16 at a time while there are so many.
+#[tactic(auto, using(crate::proofs::Fronts::part_short, crate::proofs::Fronts::rest_short))]
+fn plain_front(text: &[u8]) -> usize
+    ensures { result ≡ prefix_len sentences.is_plain text.now }
+{
+    let mut at = 0;
+    'lanes: while text.len() - at >= LANES {
+        let run = plain_lanes(text, at);
+        at += run;
+        if run < LANES {
+            return at;
+        }
+    }
+    at + plain_bytes(&text[at..])
+}
+
+/// The first line of a text, and what stands behind it; none where the text is empty.
+///
+/// Most lines have no `$` and end with a line feed alone: these are looked at once.
+#[tactic(auto, using(crate::proofs::Fronts::front_short, crate::proofs::PlainLines::front_plain, crate::proofs::PlainLines::first_plain, crate::proofs::PlainLines::plain_said, crate::proofs::PlainLines::plain_ends, crate::proofs::PlainLines::plain_characters))]
+pub(crate) fn first_line(rest: &[u8]) -> Option<(SourceLine<'_>, &[u8])>
+    ensures none { IsNone result → lines.lines_of rest.now ≡ [] }
+    ensures some { IfSome result (λ r. lines.lines_of rest.now ≡ r.0.text.now ∷ lines.lines_of r.1.now) }
+    ensures shorter { IfSome result (λ r. length r.1.now < length rest.now) }
+{
+    let (text, behind) = rest.split_at(plain_front(rest));
+    match behind.split_first() {
+        Some((b'\n', after)) => {
+            let line = SourceLine {
+                text,
+                front: text,
+                goes_on: false,
+                are_characters: true,
+            };
+            Some((line, after))
+        }
+        _ => any_line(rest),
+    }
+}
+
+/// Whether a title or a closed label may stand at the front of a line: at most lines neither does.
+#[inline(always)]
+fn may_be_titled(line: &[u8]) -> bool
+    ensures { result ≡ titles.may_be_titled line.now }
+{
+    let (word, rest) = front_word(behind_blanks(line));
+    word.len() == TITLE_LETTERS || behind_close(rest).is_some()
+}
+
+/// The title at the front of a line that begins a statement.
+#[inline(always)]
+#[tactic(auto, using(crate::proofs::TitleLaws::no_heading))]
+pub(crate) fn first_title(line: &[u8]) -> Option<Heading<'_>>
+    ensures { result ≡ titles.title_or_labelled line.now }
+{
+    if may_be_titled(line) {
+        any_title(line)
+    } else {
+        None
+    }
+}
