@@ -6,7 +6,8 @@ use Rattle.std.proofs.lemmas.List.{take-append-drop}
 use Rattle.std.proofs.Math.Seq.{take-length, drop-length}
 use Rattle.std.proofs.lemmas.Bool.Decides.{nat_tests}
 use Rattle.apt_lexis.specs.Lines.{split, in_front, line_feed, carriage_return, is_character, lines_of, without_return}
-use Rattle.apt_lexis.specs.Sentences.{is_no_dollar, is_plain, said_on, goes_on}
+use Rattle.apt_lexis.specs.Sentences.{is_no_dollar, said_on, goes_on}
+pub use Rattle.apt_lexis.specs.Sentences.{is_plain}
 use Rattle.apt_lexis.proofs.LineLaws.{line_first}
 use Rattle.apt_lexis.proofs.Fronts.{front_passes, passes_other, whole_front}
 

@@ -92,7 +92,7 @@ pub(crate) fn first_line(rest: &[u8]) -> Option<(SourceLine<'_>, &[u8])>
 }
 
 /// Whether a title or a closed label may stand at the front of a line: at most lines neither does.
-#[inline]
+#[inline(always)]
 fn may_be_titled(line: &[u8]) -> bool
     ensures { result ≡ titles.may_be_titled line.now }
 {
@@ -101,7 +101,7 @@ fn may_be_titled(line: &[u8]) -> bool
 }
 
 /// The title at the front of a line that begins a statement.
-#[inline]
+#[inline(always)]
 #[tactic(auto, using(crate::proofs::TitleLaws::no_heading))]
 pub(crate) fn first_title(line: &[u8]) -> Option<Heading<'_>>
     ensures { result ≡ titles.title_or_labelled line.now }

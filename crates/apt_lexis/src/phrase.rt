@@ -113,7 +113,7 @@ fn add_title(
 }
 
 /// The title of a line behind the statement that is begun, which has no bad token then.
-#[inline]
+#[inline(always)]
 fn title_in<'a>(begun: &Option<Phrase>, line: &'a [u8]) -> Option<Heading<'a>>
     ensures none { IsNone result → spec.title_in (spec.tokens_before begun.now) line.now ≡ None }
     ensures some { IfSome result (λ t. IsOkAnd (spec.tokens_before begun.now) (λ ts. spec.title_in (Ok ts) line.now ≡ Some (titles.with_tokens ts t))) }

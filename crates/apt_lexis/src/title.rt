@@ -198,7 +198,7 @@ pub(crate) fn any_title(line: &[u8]) -> Option<Heading<'_>>
 
 /// The title on a line behind some tokens of its statement.
 #[tactic(auto, using(crate::proofs::TitleLaws::behind_nothing, crate::proofs::TitleLaws::behind_name, crate::proofs::TitleLaws::behind_closed))]
-#[inline]
+#[inline(always)]
 pub(crate) fn heading_behind<'a>(tokens: &[Token], line: &'a [u8]) -> Option<Heading<'a>>
     ensures { option_map (spec.with_tokens tokens.now) result ≡ spec.title_behind tokens.now line.now }
 {
