@@ -66,6 +66,10 @@ fn changed(alloc: Global, kept: &Kept<'_>, change: &[&str], lines: &str) -> Resu
             let put = put_bytes(alloc, put)?;
             spliced(alloc, &bytes, at.parse()?, count.parse()?, &put)
         }
+        ["at", at, "turn", holes] => {
+            let bytes = bytes_of(alloc, kept.writing, whole)?;
+            turned(bytes, at.parse()?, holes)
+        }
         ["line", at, "drop", count] => {
             let text = spliced_lines(alloc, whole, at.parse()?, count.parse()?, lines)?;
             bytes_of(alloc, kept.writing, text.as_str())
@@ -91,6 +95,17 @@ fn spliced(alloc: Global, bytes: &[u8], at: usize, count: usize, put: &[u8]) -> 
     new.extend_from_slice(put)?;
     new.extend_from_slice(back)?;
     Ok(new)
+}
+
+/// Bytes with some holes of one turned, by two hexadecimal digits.
+fn turned(mut bytes: Vec<u8>, at: usize, holes: &str) -> Result<Vec<u8>> {
+    let [high, low] = holes.as_bytes() else {
+        bail!("no pair of digits");
+    };
+    let holes = hex_byte(*high, *low).context("no pair of digits")?;
+    let byte = bytes.get_mut(at).context("no such place")?;
+    *byte ^= holes;
+    Ok(bytes)
 }
 
 /// Lines with others in place of so many from one on, by its number from 1.

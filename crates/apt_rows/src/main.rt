@@ -4,10 +4,12 @@
 mod blocks;
 mod codes;
 mod contents;
+mod each;
 mod rows;
 mod runs;
 
 use anyhow::{Context, Result};
+use each::spread;
 use rows::rows_of;
 use runs::run_row;
 use std::rt::Files;
@@ -24,6 +26,7 @@ fn main(rt: HostRuntime) -> Result<()> {
 /// Runs the rows of a data file, and tells how many they are.
 fn run_file(rt: &(impl Files + Print + Threads + Sync + AllocGlobal), name: &str) -> Result<()> {
     let text = fs::read_to_string(rt, name)?;
+    let text = spread(rt.alloc(), text.as_str()).context(format_args!("{name}"))?;
     let rows = rows_of(rt.alloc(), text.as_str()).context(format_args!("{name}"))?;
     let mut runs: usize = 0;
     for row in &rows {

@@ -4,6 +4,7 @@ use crate::blocks::{Block, blocks_of};
 use crate::codes::Code;
 use crate::contents::{Kept, Writing, content, writing_of};
 use anyhow::{Context, Result, bail, ensure};
+use apt_shelf::Calls;
 use std::alloc::Global;
 
 /// Files, and the runs over them in their order.
@@ -12,6 +13,8 @@ pub struct Row<'a> {
     pub title: &'a str,
     pub files: Vec<File<'a>>,
     pub fails: Vec<Fail>,
+    /// How many bytes a read gives at most.
+    pub step: usize,
     pub runs: Vec<Run<'a>>,
 }
 
@@ -46,6 +49,8 @@ pub struct Run<'a> {
     pub status: Option<u8>,
     pub prints: Vec<u8>,
     pub holds: Vec<Held<'a>>,
+    /// The calls on the shelf in the row so far.
+    pub calls: Option<Calls>,
 }
 
 /// What a name holds behind a run.
@@ -92,6 +97,7 @@ fn add_block<'a>(
                 title: block.rest,
                 files: Vec::new(alloc),
                 fails: Vec::new(alloc),
+                step: usize::MAX,
                 runs: Vec::new(alloc),
             })?;
             Ok(())
@@ -116,11 +122,13 @@ fn add_to_row<'a>(
             row.files.push(File { name: *name, bytes })?;
         }
         "fails" => row.fails.push(fail_of(block.rest)?)?,
+        "slow" => row.step = block.rest.parse::<usize>()?,
         "run" => row.runs.push(Run {
             words: words_of(alloc, block.rest)?,
             status: None,
             prints: Vec::new(alloc),
             holds: Vec::new(alloc),
+            calls: None,
         })?,
         _ => add_to_run(alloc, kept, row.runs.last_mut().context("no run")?, block)?,
     }
@@ -147,6 +155,7 @@ fn add_to_run<'a>(
             };
             run.holds.push(Held { name: *name, want })?;
         }
+        "calls" => run.calls = Some(calls_of(alloc, block.rest)?),
         _ => bail!("no such mark"),
     }
     Ok(())
@@ -190,5 +199,19 @@ fn fail_of(text: &str) -> Result<Fail> {
     Ok(Fail {
         call,
         number: number.parse::<u64>()?,
+    })
+}
+
+/// The calls on a shelf, by the number of each kind.
+fn calls_of(alloc: Global, text: &str) -> Result<Calls> {
+    let words = words_of(alloc, text)?;
+    let [read_starts, reads, write_starts, appends] = words.as_slice() else {
+        bail!("no four numbers");
+    };
+    Ok(Calls {
+        read_starts: read_starts.parse::<u64>()?,
+        reads: reads.parse::<u64>()?,
+        write_starts: write_starts.parse::<u64>()?,
+        appends: appends.parse::<u64>()?,
     })
 }

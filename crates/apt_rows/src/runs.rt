@@ -2,9 +2,9 @@
 
 use crate::contents::record_count;
 use crate::rows::{Call, Fail, File, Row, Run, Want};
-use anyhow::{Context, Result};
+use anyhow::{Context, Result, ensure};
 use apt_core::{OpenGate, apt};
-use apt_shelf::{FailList, MemShelf, MemSink};
+use apt_shelf::{Calls, FailList, MemShelf, MemSink};
 use std::alloc::Global;
 use std::fmt::Display;
 use std::thread::Threads;
@@ -32,7 +32,8 @@ pub fn run_row(
 ) -> Result<()> {
     let alloc = rt.alloc();
     let (fails, puts) = failing(alloc, &row.fails)?;
-    let mut shelf = MemShelf::new(alloc, files_of(alloc, row)?, fails)?;
+    ensure!(row.step > 0, "reads that give nothing");
+    let mut shelf = MemShelf::slow(alloc, files_of(alloc, row)?, fails, row.step)?;
     let mut sink = MemSink::new(alloc, puts);
     let names = names_of(alloc, row)?;
     let mut number: usize = 0;
@@ -129,7 +130,7 @@ fn make_run(
     for one in &before {
         compare(rt, place, run, one, shelf.file(one.name))?;
     }
-    Ok(())
+    compare_calls(rt, place, run.calls, shelf.calls())
 }
 
 /// The words of a command line.
@@ -207,6 +208,29 @@ fn compare_bytes(
         rt,
         place,
         format_args!("{name} holds {length} bytes, from {at} on \"{text}\""),
+    )
+}
+
+/// Tells where other calls were made so far than are wanted.
+fn compare_calls(
+    rt: &impl Print,
+    place: Place<'_>,
+    want: Option<Calls>,
+    made: Calls,
+) -> Result<()> {
+    if want.is_none_or(|calls| calls == made) {
+        return Ok(());
+    }
+    let Calls {
+        read_starts,
+        reads,
+        write_starts,
+        appends,
+    } = made;
+    tell(
+        rt,
+        place,
+        format_args!("calls {read_starts} {reads} {write_starts} {appends}"),
     )
 }
 
