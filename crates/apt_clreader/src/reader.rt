@@ -1,6 +1,6 @@
 //! Reading a CL file.
 
-ghost use Rattle.std.specs.Prelude.{◌≡◌, ◌+◌, ◌*◌, ◌^◌, ◌<◌, ◌≤◌, ◌++◌, [], ℕ, List, drop, length, Ok, Err, IfOk};
+ghost use Rattle.std.specs.Prelude.{◌≡◌, ◌+◌, ◌*◌, ◌^◌, ◌<◌, ◌≤◌, ◌++◌, [], ℕ, List, drop, length, Ok, Err, IfOk, OnOk};
 ghost use Rattle.apt_words.specs.Answers.{IsDueAs};
 ghost use Rattle.apt_cldata.specs.Ranges.{AreRecords, vertex_count};
 ghost use Rattle.apt_cldata.specs.Files.{IsFile, file_of};
@@ -13,7 +13,7 @@ ghost use Rattle.apt_clreader.specs.Steps.{IsNext, GoesOn, Takes, IsLeft};
 
 use crate::state::{ClReader, Part};
 use apt_cldata::{ClCause, ClError, Note, Record, behind_head, first_record};
-use std::alloc::Global;
+use std::alloc::{AllocError, Global};
 
 /// The head of a file has so many bytes.
 const HEAD_BYTES: usize = 8;
@@ -126,7 +126,7 @@ fn behind_start(alloc: Global, mut held: Vec<u8>) -> Result<ClReader, ClError>
         });
     }
     behind_head(&held)?;
-    drop_front(&mut held, HEAD_BYTES);
+    drop_front(alloc, &mut held, HEAD_BYTES)?;
     with_records(alloc, records, HEAD_BYTES as u64, held)
 }
 
@@ -144,7 +144,7 @@ fn with_records(
     ensures count { IfOk result (λ reader. count_of reader ≡ at + length held.items) }
 {
     let (taken, is_done) = take_records(alloc, &mut records, at, &held)?;
-    drop_front(&mut held, taken);
+    drop_front(alloc, &mut held, taken)?;
     let at = at + taken as u64;
     if is_done {
         with_nothing(alloc, records, at, held)
@@ -259,14 +259,15 @@ fn is_fini(record: &Record) -> bool
     matches!(record, Record::Note(Note::Fini))
 }
 
-/// Lets go of so many bytes in front. It takes no memory.
-fn drop_front(held: &mut Vec<u8>, n: usize)
+/// Lets go of so many bytes in front.
+fn drop_front(alloc: Global, held: &mut Vec<u8>, n: usize) -> Result<(), AllocError>
     requires { n ≤ length held.old.items }
-    ensures { held.new.items ≡ drop n held.old.items }
+    ensures { OnOk result (held.new.items ≡ drop n held.old.items) }
 {
-    let left = held.len() - n;
-    held.copy_within(n.., 0);
-    held.truncate(left);
+    if n > 0 {
+        *held = Vec::from_slice(alloc, &held[n..])?;
+    }
+    Ok(())
 }
 
 /// The records of a CL file.

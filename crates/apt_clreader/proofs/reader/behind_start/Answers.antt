@@ -19,5 +19,5 @@ returns-in_err-behind_head-clause-stands c =
 pub returns-clause-stands : goal.returns-clause-stands
 returns-clause-stands c =
     let same = head_is_read c.args.held.items c.in_ok-behind_head.field-0.now (ap (spec.behind_head 0 head) (sym c.deref.ensures.value) ∙ c.in_ok-behind_head.ensures) in
-    let on = subst (λ b. GoesOn parts.Records [] 8 b c.with_records.result) c.drop_front.ensures (subst (λ rs. GoesOn parts.Records rs 8 c.drop_front.new.held.items c.with_records.result) c.new-records.ensures.items c.with_records.ensures.stands) in
+    let on = subst (λ b. GoesOn parts.Records [] 8 b c.with_records.result) c.in_ok-drop_front.ensures (subst (λ rs. GoesOn parts.Records rs 8 c.drop_front.new.held.items c.with_records.result) c.new-records.ensures.items c.with_records.ensures.stands) in
     agree_goes_on parts.Head parts.Records [] [] 0 8 c.args.held.items (drop 8 c.args.held.items) c.with_records.result same on
