@@ -1,32 +1,25 @@
 -- A CL file whose bytes come in pieces.
-use Rattle.std.specs.Prelude.{◌≡◌, ℕ, suc, ◌+◌, ◌<◌, ◌==◌, List, [], ◌++◌, length, Result, Ok, Err, if◌then◌else◌}
+use Rattle.std.specs.Prelude.{◌≡◌, ℕ, suc, ◌+◌, ◌==◌, List, ◌++◌, length, Result, Ok, Err, if◌then◌else◌}
 use Rattle.apt_words.specs.Answers.{IsFault}
 use Rattle.apt_cldata.specs.declared.error.ClCause.TheVariants as causes
 use Rattle.apt_cldata.specs.declared.error.ClError.{ClError}
-use Rattle.apt_cldata.specs.declared.error.ClFault.{ClFault}
 use Rattle.apt_cldata.specs.declared.record.Record.{Record}
-use Rattle.apt_cldata.specs.Files.{head}
-use Rattle.apt_cldata.specs.Reading.{fault, fault_in, cut_short, first_of, records_from, read_of}
-use Rattle.apt_clreader.specs.declared.reader.Part.{Part}
-use Rattle.apt_clreader.specs.declared.reader.Part.TheVariants as parts
-use Rattle.apt_clreader.specs.declared.reader.ClReader.{ClReader}
+use Rattle.apt_cldata.specs.Reading.{fault, fault_in, records_from, read_of}
+use Rattle.apt_clreader.specs.declared.state.Part.{Part}
+use Rattle.apt_clreader.specs.declared.state.Part.TheVariants as parts
+use Rattle.apt_clreader.specs.declared.state.ClReader.{ClReader}
+use Rattle.apt_clreader.specs.Begun.{Fault}
 
 -- the records behind some that were read
-abbrev pub behind : List Record → Result (List Record) ClFault → Result (List Record) ClFault
+abbrev pub behind : List Record → Result (List Record) Fault → Result (List Record) Fault
 behind records (Ok more) = Ok (records ++ more)
 behind records (Err fault) = Err fault
 
 -- what a file comes to, by the part of it that comes next, the records so far, and the bytes from a place on
-abbrev pub comes_to : Part → List Record → ℕ → List ℕ → Result (List Record) ClFault
+abbrev pub comes_to : Part → List Record → ℕ → List ℕ → Result (List Record) Fault
 comes_to parts.Head records at bytes = read_of bytes
 comes_to parts.Records records at bytes = behind records (records_from (suc (length bytes)) (length records + 1) at bytes)
 comes_to parts.Nothing records at bytes = if length bytes == 0 then Ok records else Err (fault at causes.AfterFini)
-
--- no more is held than the front of the head or of a record
-abbrev pub IsBegun : Part → List Record → ℕ → List ℕ → Type 0
-IsBegun parts.Head records at held = (records ≡ []) × (at ≡ 0) × (length held < length head)
-IsBegun parts.Records records at held = first_of (length records + 1) at held ≡ Err (cut_short at held)
-IsBegun parts.Nothing records at held = held ≡ []
 
 -- how many bytes were read
 abbrev pub count_of : ClReader → ℕ

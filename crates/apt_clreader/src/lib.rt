@@ -2,5 +2,7 @@
 #![tactic(auto)]
 
 mod reader;
+mod state;
 
-pub use reader::{ClReader, read};
+pub use reader::read;
+pub use state::ClReader;

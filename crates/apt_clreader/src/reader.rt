@@ -1,41 +1,22 @@
 //! Reading a CL file.
 
-ghost use Rattle.std.specs.Prelude.{◌≡◌, ◌+◌, ◌^◌, ◌<◌, ◌≤◌, ◌++◌, [], ℕ, List, drop, length, IfOk};
+ghost use Rattle.std.specs.Prelude.{◌≡◌, ◌+◌, ◌*◌, ◌^◌, ◌<◌, ◌≤◌, ◌++◌, [], ℕ, List, drop, length, Ok, Err, IfOk, OnOk};
 ghost use Rattle.apt_words.specs.Answers.{IsDueAs};
 ghost use Rattle.apt_cldata.specs.Ranges.{AreRecords, vertex_count};
 ghost use Rattle.apt_cldata.specs.Files.{IsFile, file_of};
 ghost use Rattle.apt_cldata.specs.Files as files;
 ghost use Rattle.apt_cldata.specs.Reading.{read_of, fault_in};
-ghost use Rattle.apt_clreader.specs.Pieces.{IsBegun, StandsFor, HasRead, count_of};
+ghost use Rattle.apt_clreader.specs.declared.state.Part.TheVariants as parts;
+ghost use Rattle.apt_clreader.specs.Begun as begun;
+ghost use Rattle.apt_clreader.specs.Pieces.{StandsFor, HasRead, count_of};
+ghost use Rattle.apt_clreader.specs.Steps.{IsNext, GoesOn, Takes, IsLeft};
 
+use crate::state::{ClReader, Part};
 use apt_cldata::{ClCause, ClError, Note, Record, behind_head, first_record};
-use std::alloc::Global;
+use std::alloc::{AllocError, Global};
 
 /// The head of a file has so many bytes.
 const HEAD_BYTES: usize = 8;
-
-/// What of a file comes next.
-#[derive(Clone, Copy)]
-pub enum Part {
-    Head,
-    Records,
-    /// Nothing may stand behind FINI.
-    Nothing,
-}
-
-/// A CL file whose bytes come in pieces: the records so far, and the bytes of the record that is begun.
-#[derive(Drop)]
-pub struct ClReader {
-    alloc: Global,
-    part: Part,
-    records: Vec<Record>,
-    /// The place of the first byte that is held.
-    at: u64,
-    held: Vec<u8>,
-    ghost begun: { IsBegun part records.items at held.items },
-    ghost ranges: { AreRecords records.items },
-    ghost few: { vertex_count records.items + length records.items ≤ at },
-}
 
 impl ClReader {
     /// No bytes so far. It takes no memory.
@@ -58,9 +39,9 @@ impl ClReader {
     ///
     /// `Bad` with the first place that can't stand and its cause, whatever comes behind these bytes; `NoMemory`.
     pub fn feed(self, piece: &[u8]) -> Result<ClReader, ClError>
-        requires { count_of self.entry + length piece.now < 2 ^ 63 }
-        ensures stands { (front : List ℕ) → StandsFor self.entry front → HasRead (front ++ piece.now) result }
-        ensures count { IfOk result (λ reader. count_of reader ≡ count_of self.entry + length piece.now) }
+        requires { count_of self + length piece.now < 2 ^ 63 }
+        ensures stands { (front : List ℕ) → StandsFor self front → HasRead (front ++ piece.now) result }
+        ensures count { IfOk result (λ reader. count_of reader ≡ count_of self + length piece.now) }
     {
         let ClReader {
             alloc,
@@ -70,11 +51,7 @@ impl ClReader {
             mut held,
         } = self;
         held.extend_from_slice(piece)?;
-        match part {
-            Part::Head => behind_start(alloc, held),
-            Part::Records => with_records(alloc, records, at, held),
-            Part::Nothing => with_nothing(alloc, records, at, held),
-        }
+        go_on(alloc, part, records, at, held)
     }
 
     /// The records of the whole file, whose bytes have all been read.
@@ -83,25 +60,235 @@ impl ClReader {
     ///
     /// `Bad` with the first place that can't stand and its cause; `NoMemory`.
     pub fn finish(self) -> Result<Vec<Record>, ClError>
-        ensures value { (file : List ℕ) → StandsFor self.entry file → IsDueAs (λ v. v.items) fault_in (read_of file) result }
+        ensures value { (file : List ℕ) → StandsFor self file → IsDueAs (λ v. v.items) fault_in (read_of file) result }
         ensures range { IfOk result (λ v. AreRecords v.items) }
-        ensures few { IfOk result (λ v. vertex_count v.items + length v.items ≤ count_of self.entry) }
+        ensures few { IfOk result (λ v. vertex_count v.items + length v.items ≤ count_of self) }
     {
         let ClReader {
+            alloc,
             part,
             records,
             at,
             held,
-            ..
         } = self;
         match part {
             Part::Nothing => Ok(records),
-            Part::Records => Err(cut_short(at, &held)),
+            // what is held is no whole record
+            Part::Records => {
+                first_record(alloc, records.len() as u64 + 1, at, &held)?;
+                unreachable!()
+            }
+            // nor a whole head
             Part::Head => {
                 behind_head(&held)?;
-                // a head that is whole is no longer held
                 unreachable!()
             }
         }
     }
+}
+
+/// Reads what is whole of some bytes.
+fn go_on(
+    alloc: Global,
+    part: Part,
+    records: Vec<Record>,
+    at: u64,
+    held: Vec<u8>,
+) -> Result<ClReader, ClError>
+    requires place { at + length held.items < 2 ^ 63 }
+    requires head { part ≡ parts.Head → at ≡ 0 }
+    requires ranges { AreRecords records.items }
+    requires few { 8 * (vertex_count records.items + length records.items) ≤ at }
+    ensures stands { GoesOn part records.items at held.items result }
+    ensures count { IfOk result (λ reader. count_of reader ≡ at + length held.items) }
+{
+    match part {
+        Part::Head => behind_start(alloc, held),
+        Part::Records => with_records(alloc, records, at, held),
+        Part::Nothing => with_nothing(alloc, records, at, held),
+    }
+}
+
+/// Reads what is whole of the front of a file.
+fn behind_start(alloc: Global, mut held: Vec<u8>) -> Result<ClReader, ClError>
+    requires place { length held.items < 2 ^ 63 }
+    ensures stands { GoesOn parts.Head [] 0 held.items result }
+    ensures count { IfOk result (λ reader. count_of reader ≡ length held.items) }
+{
+    let records = Vec::new(alloc);
+    if held.len() < HEAD_BYTES {
+        return Ok(ClReader {
+            alloc,
+            part: Part::Head,
+            records,
+            at: 0,
+            held,
+        });
+    }
+    behind_head(&held)?;
+    drop_front(alloc, &mut held, HEAD_BYTES)?;
+    with_records(alloc, records, HEAD_BYTES as u64, held)
+}
+
+/// Reads the whole records in front.
+fn with_records(
+    alloc: Global,
+    mut records: Vec<Record>,
+    at: u64,
+    mut held: Vec<u8>,
+) -> Result<ClReader, ClError>
+    requires place { at + length held.items < 2 ^ 63 }
+    requires ranges { AreRecords records.items }
+    requires few { 8 * (vertex_count records.items + length records.items) ≤ at }
+    ensures stands { GoesOn parts.Records records.items at held.items result }
+    ensures count { IfOk result (λ reader. count_of reader ≡ at + length held.items) }
+{
+    let (taken, is_done) = take_records(alloc, &mut records, at, &held)?;
+    drop_front(alloc, &mut held, taken)?;
+    let at = at + taken as u64;
+    if is_done {
+        with_nothing(alloc, records, at, held)
+    } else {
+        Ok(ClReader {
+            alloc,
+            part: Part::Records,
+            records,
+            at,
+            held,
+        })
+    }
+}
+
+/// Nothing may stand behind the record of FINI.
+fn with_nothing(
+    alloc: Global,
+    records: Vec<Record>,
+    at: u64,
+    held: Vec<u8>,
+) -> Result<ClReader, ClError>
+    requires place { at + length held.items < 2 ^ 63 }
+    requires ranges { AreRecords records.items }
+    requires few { 8 * (vertex_count records.items + length records.items) ≤ at }
+    ensures stands { GoesOn parts.Nothing records.items at held.items result }
+    ensures count { IfOk result (λ reader. count_of reader ≡ at + length held.items) }
+{
+    if held.is_empty() {
+        Ok(ClReader {
+            alloc,
+            part: Part::Nothing,
+            records,
+            at,
+            held,
+        })
+    } else {
+        Err(ClError::Bad {
+            at,
+            cause: ClCause::AfterFini,
+        })
+    }
+}
+
+/// Adds the whole records in front of some bytes: how many bytes they have, and whether FINI was the last.
+fn take_records(
+    alloc: Global,
+    records: &mut Vec<Record>,
+    at: u64,
+    bytes: &[u8],
+) -> Result<(usize, bool), ClError>
+    requires place { at + length bytes.now < 2 ^ 63 }
+    requires ranges { AreRecords records.old.items }
+    requires few { 8 * (vertex_count records.old.items + length records.old.items) ≤ at }
+    ensures taken { Takes records.old.items at bytes.now records.new.items result }
+    ensures there { IfOk result (λ t. t.0 ≤ length bytes.now) }
+    ensures left { IfOk result (λ t. IsLeft t.1 records.new.items (at + t.0) (drop t.0 bytes.now)) }
+    ensures ranges { IfOk result (λ t. AreRecords records.new.items) }
+    ensures few { IfOk result (λ t. 8 * (vertex_count records.new.items + length records.new.items) ≤ at + t.0) }
+{
+    let mut taken = 0;
+    'records: while let Some((record, size)) = next_record(
+        alloc,
+        records.len() as u64 + 1,
+        at + taken as u64,
+        &bytes[taken..],
+    )? {
+        let is_last = is_fini(&record);
+        records.push(record)?;
+        taken += size;
+        if is_last {
+            return Ok((taken, true));
+        }
+    }
+    Ok((taken, false))
+}
+
+/// The first record of some bytes, and how many of them it has; `None` if they end within it.
+#[tactic(auto, using(crate::proofs::FirstLaws::next_ends))]
+fn next_record(
+    alloc: Global,
+    seq: u64,
+    at: u64,
+    bytes: &[u8],
+) -> Result<Option<(Record, usize)>, ClError>
+    requires number { seq < 2 ^ 63 }
+    requires place { at + length bytes.now < 2 ^ 63 }
+    ensures { IsNext seq at bytes.now result }
+{
+    match first_record(alloc, seq, at, bytes) {
+        Ok((record, size)) => Ok(Some((record, size))),
+        Err(error) if tells_end(&error) => Ok(None),
+        Err(error) => Err(error),
+    }
+}
+
+/// Whether the bytes end within what was read.
+fn tells_end(error: &ClError) -> bool
+    ensures { result ≡ begun.tells_end error.now }
+{
+    matches!(
+        error,
+        ClError::Bad {
+            cause: ClCause::Truncated,
+            ..
+        }
+    )
+}
+
+fn is_fini(record: &Record) -> bool
+    ensures { result ≡ files.is_fini «record».now }
+{
+    matches!(record, Record::Note(Note::Fini))
+}
+
+/// Lets go of so many bytes in front.
+fn drop_front(alloc: Global, held: &mut Vec<u8>, n: usize) -> Result<(), AllocError>
+    requires { n ≤ length held.old.items }
+    ensures { OnOk result (held.new.items ≡ drop n held.old.items) }
+{
+    if n > 0 {
+        *held = Vec::from_slice(alloc, &held[n..])?;
+    }
+    Ok(())
+}
+
+/// The records of a CL file.
+///
+/// # Errors
+///
+/// `Bad` with the first place that can't stand and its cause; `NoMemory`.
+#[tactic(auto, using(apt_cldata::proofs::Laws::read_gives_bytes, apt_cldata::proofs::Laws::read_gives_file, apt_cldata::proofs::Laws::read_gives_few))]
+pub fn read(alloc: Global, bytes: &[u8]) -> Result<Vec<Record>, ClError>
+    requires { length bytes.now < 2 ^ 63 }
+    ensures value { IsDueAs (λ v. v.items) fault_in (read_of bytes.now) result }
+    ensures bytes { IfOk result (λ v. bytes.now ≡ file_of v.items) }
+    ensures file { IfOk result (λ v. IsFile v.items) }
+    ensures few { IfOk result (λ v. vertex_count v.items + length v.items ≤ length bytes.now) }
+{
+    read_exactly(alloc, bytes)
+}
+
+fn read_exactly(alloc: Global, bytes: &[u8]) -> Result<Vec<Record>, ClError>
+    requires { length bytes.now < 2 ^ 63 }
+    ensures { IsDueAs (λ v. v.items) fault_in (read_of bytes.now) result }
+{
+    ClReader::new(alloc).feed(bytes)?.finish()
 }

@@ -1,0 +1,44 @@
+-- What is begun of a CL file.
+use Rattle.std.specs.Prelude.{◌≡◌, ℕ, ◌+◌, ◌<◌, Bool, true, false, List, [], length, Result, Ok, Err}
+use Rattle.apt_cldata.specs.declared.error.ClCause.{ClCause}
+use Rattle.apt_cldata.specs.declared.error.ClCause.TheVariants as causes
+use Rattle.apt_cldata.specs.declared.error.ClError.{ClError}
+use Rattle.apt_cldata.specs.declared.error.ClError.TheVariants as errors
+use Rattle.apt_cldata.specs.declared.record.Record.{Record}
+use Rattle.apt_cldata.specs.Files.{head}
+use Rattle.apt_cldata.specs.Reading.{first_of, read_of}
+use Rattle.apt_clreader.specs.declared.state.Part.{Part}
+use Rattle.apt_clreader.specs.declared.state.Part.TheVariants as parts
+
+-- what a reading gives in place of a value
+abbrev refusal : {A E : Type 0} → (List ℕ → Result A E) → Type 0
+refusal {A} {E} read = E
+
+-- a place of a file that can't stand, and why
+abbrev pub Fault : Type 0
+Fault = refusal read_of
+
+abbrev pub is_truncation : ClCause → Bool
+is_truncation causes.Header = false
+is_truncation causes.Truncated = true
+is_truncation causes.Length = false
+is_truncation causes.Seq = false
+is_truncation causes.Class = false
+is_truncation causes.Range = false
+is_truncation causes.AfterFini = false
+
+-- the bytes end within what is read
+abbrev pub is_truncated : {A : Type 0} → Result A Fault → Bool
+is_truncated (Ok a) = false
+is_truncated (Err fault) = is_truncation fault.cause
+
+-- an error tells that the bytes end within what is read
+abbrev pub tells_end : ClError → Bool
+tells_end (errors.Bad at cause) = is_truncation cause
+tells_end errors.NoMemory = false
+
+-- no more is held than the front of the head or of a record
+abbrev pub IsBegun : Part → List Record → ℕ → List ℕ → Type 0
+IsBegun parts.Head records at held = (length records ≡ 0) × (at ≡ 0) × (length held < length head)
+IsBegun parts.Records records at held = is_truncated (first_of (length records + 1) at held) ≡ true
+IsBegun parts.Nothing records at held = held ≡ []

@@ -1,0 +1,33 @@
+//! What a reader holds.
+
+ghost use Rattle.std.specs.Prelude.{◌+◌, ◌*◌, ◌^◌, ◌<◌, ◌≤◌, length};
+ghost use Rattle.apt_cldata.specs.Ranges.{AreRecords, vertex_count};
+ghost use Rattle.apt_clreader.specs.Begun.{IsBegun};
+ghost use Rattle.apt_clreader.specs.Single.{begun_single, records_single};
+
+use apt_cldata::Record;
+use std::alloc::Global;
+
+/// What of a file comes next.
+#[derive(Clone, Copy)]
+pub enum Part {
+    Head,
+    Records,
+    /// Nothing may stand behind FINI.
+    Nothing,
+}
+
+/// A CL file whose bytes come in pieces: the records so far, and the bytes of the record that is begun.
+#[derive(Drop)]
+pub struct ClReader {
+    pub(crate) alloc: Global,
+    pub(crate) part: Part,
+    pub(crate) records: Vec<Record>,
+    /// The place of the first byte that is held.
+    pub(crate) at: u64,
+    pub(crate) held: Vec<u8>,
+    ghost begun: { IsBegun part records.items at held.items } by { begun_single part records.items at held.items },
+    ghost ranges: { AreRecords records.items } by { records_single records.items },
+    ghost few: { 8 * (vertex_count records.items + length records.items) ≤ at },
+    ghost small: { at + length held.items < 2 ^ 63 },
+}
