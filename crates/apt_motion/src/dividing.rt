@@ -6,11 +6,12 @@ ghost use Rattle.apt_meaning.specs.Situations.{at_height};
 ghost use Rattle.apt_motion.specs.Drafts.{vertices_at};
 
 use crate::arcs::Round;
-use apt_arc::chords;
+use apt_arc::{bound, chords};
 use apt_certify::Gate;
 use apt_cldata::{Position, Vertices};
 use apt_plane::Pt;
 use std::alloc::{AllocError, Global};
+use std::mem::replace;
 use std::thread::{Threads, join};
 
 /// How often a list is halved at most, so there are at most 16 threads.
@@ -28,7 +29,17 @@ pub(crate) fn cut_all<G: Gate>(
 ) -> Result<Vec<Vertices>, AllocError>
     ensures { IfOk result (λ cuts. cuts.items ≡ map vertices_at rounds.now) }
 {
-    cut_halves(rt, alloc, rounds, 1, HALVINGS, gate)
+    let rooms = rooms_for(alloc, rounds)?;
+    cut_halves(rt, alloc, rounds, rooms, 1, HALVINGS, gate)
+}
+
+/// Room for the vertices of each arc. It is made here, since what a thread of its own gives back may serve no other.
+fn rooms_for(alloc: Global, rounds: &[Round]) -> Result<Vec<Vec<Position>>, AllocError> {
+    let mut rooms = Vec::with_capacity(alloc, rounds.len())?;
+    'rounds: for round in rounds {
+        rooms.push(Vec::with_capacity(alloc, bound(&round.arc) as usize)?)?;
+    }
+    Ok(rooms)
 }
 
 /// The vertices of arcs of which the first has this number, from halves of their list that are halved so often at most.
@@ -38,6 +49,7 @@ fn cut_halves<R: Threads + Sync, G: Gate>(
     rt: &R,
     alloc: Global,
     rounds: &[Round],
+    mut rooms: Vec<Vec<Position>>,
     first: u64,
     depth: u8,
     gate: &G,
@@ -46,24 +58,25 @@ fn cut_halves<R: Threads + Sync, G: Gate>(
     ensures { IfOk result (λ cuts. cuts.items ≡ map vertices_at rounds.now) }
 {
     if depth == 0 || rounds.len() < 2 {
-        return cut_from(alloc, rounds, first, gate);
+        return cut_from(alloc, rounds, rooms, first, gate);
     }
     let (left, right) = rounds.split_at(rounds.len() / 2);
     let second = first + left.len() as u64;
+    let behind = rooms.split_off(left.len().min(rooms.len()))?;
     let (front, back) = join(
         rt,
         || -> Result<Vec<Vertices>, AllocError>
             requires { IsSync R.row × IsSync G.row × (first + length left.now < 2 ^ 64) × (0 < depth) }
             ensures { IfOk result (λ cuts. cuts.items ≡ map vertices_at left.entry.now) }
-        { cut_halves(rt, alloc, left, first, depth - 1, gate) },
+        { cut_halves(rt, alloc, left, rooms, first, depth - 1, gate) },
         || -> Result<Vec<Vertices>, AllocError>
             requires { IsSync R.row × IsSync G.row × (second + length right.now < 2 ^ 64) × (0 < depth) }
             ensures { IfOk result (λ cuts. cuts.items ≡ map vertices_at right.entry.now) }
-        { cut_halves(rt, alloc, right, second, depth - 1, gate) },
+        { cut_halves(rt, alloc, right, behind, second, depth - 1, gate) },
     );
     let mut cuts = front?;
-    let mut behind = back?;
-    cuts.append(&mut behind)?;
+    let mut others = back?;
+    cuts.append(&mut others)?;
     Ok(cuts)
 }
 
@@ -71,6 +84,7 @@ fn cut_halves<R: Threads + Sync, G: Gate>(
 fn cut_from<G: Gate>(
     alloc: Global,
     rounds: &[Round],
+    mut rooms: Vec<Vec<Position>>,
     first: u64,
     gate: &G,
 ) -> Result<Vec<Vertices>, AllocError>
@@ -80,20 +94,29 @@ fn cut_from<G: Gate>(
     let mut cuts = Vec::with_capacity(alloc, rounds.len())?;
     'rounds: for (i, round) in rounds.iter().enumerate() {
         gate.enter(first + i as u64);
-        cuts.push_reserved(cut(alloc, round)?);
+        let room = room_at(alloc, &mut rooms, i);
+        cuts.push_reserved(cut(alloc, round, room)?);
     }
     Ok(cuts)
 }
 
-/// The vertices of an arc.
-fn cut(alloc: Global, round: &Round) -> Result<Vertices, AllocError>
+/// The room at a place, which is taken; none where it is missing.
+fn room_at(alloc: Global, rooms: &mut [Vec<Position>], i: usize) -> Vec<Position> {
+    match rooms.get_mut(i) {
+        Some(room) => replace(room, Vec::new(alloc)),
+        None => Vec::new(alloc),
+    }
+}
+
+/// The vertices of an arc, in this room where they fit.
+fn cut(alloc: Global, round: &Round, room: Vec<Position>) -> Result<Vertices, AllocError>
     ensures { IfOk result (λ vertices. vertices ≡ vertices_at round.now) }
 {
     let mut points = with_room(alloc);
     if chords(&round.arc, u64::MAX, &mut points).is_err() {
         return Err(AllocError);
     }
-    Ok(Vertices::from_vec(all_at(alloc, &points, round.z)?))
+    Ok(Vertices::from_vec(all_at(room, &points, round.z)?))
 }
 
 /// No points, with room for those of most arcs if there is memory for it.
@@ -106,11 +129,13 @@ fn with_room(alloc: Global) -> Vec<Pt>
     }
 }
 
-/// Points at a height.
-fn all_at(alloc: Global, points: &[Pt], z: i64) -> Result<Vec<Position>, AllocError>
+/// Points at a height, in this room where they fit.
+fn all_at(room: Vec<Position>, points: &[Pt], z: i64) -> Result<Vec<Position>, AllocError>
     ensures { IfOk result (λ vertices. vertices.items ≡ map (at_height z) points.now) }
 {
-    let mut vertices = Vec::with_capacity(alloc, points.len())?;
+    let mut vertices = room;
+    vertices.clear();
+    vertices.reserve(points.len())?;
     'points: for p in points {
         vertices.push_reserved(Position { xy: *p, z });
     }
