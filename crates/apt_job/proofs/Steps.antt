@@ -1,7 +1,9 @@
 -- The walk of a judge over steps and records.
 use Rattle.std.proofs.Common.{◌≡◌, ◌∙◌, ◌+◌, ◌-◌, ◌≤◌, ℕ, suc, ℤ, arith, List, [], ◌∷◌, ◌++◌, length, map, Option, Some, None, refl, sym, ap, subst, inl, inr, append_assoc, append-nil}
-use Rattle.std.proofs.Common.{length-append, ◌==◌, true, false}
-use Rattle.std.proofs.lemmas.Bool.{true≢false, eqb-true}
+use Rattle.std.proofs.Common.{◌<◌, take, drop, length-append, length-drop, drop-drop, drop_at, take_at, true, false}
+use Rattle.std.specs.Prelude.{IsSomeAnd}
+use Rattle.std.proofs.lemmas.List.{take_rest}
+use borrow.Rule.Slice.PartMut.{mid_of, put_mid, mid_len, same_len_mid, drop_put}
 use Rattle.apt_words.specs.Sources.{AreExecuted}
 use Rattle.apt_words.specs.declared.Case.{Case}
 use Rattle.apt_words.specs.declared.deed.Deed.{Deed}
@@ -60,6 +62,58 @@ light step (effects.Cuts m) vertices = omega (arith, length-heights m.start.z ve
 -- the number of the first of the rest
 abbrev pub number : List Record → List Record → ℕ
 number written rest = (length written - length rest) + 1
+
+number_at : (written now : List Record) (at : ℕ) → at ≤ length now → length now ≡ length written → number written (drop at now) ≡ at + 1
+number_at written now at place count = omega (arith, length-drop at now, place, count)
+
+-- ---- the records of a step, from a place on
+
+pub begins_in : (here : Situation) (step : Step) (rest seen : List Record) (o : Option Effect) (e : Effect) (vertices : List Pt) (later : List Record) → seen ≡ rest → o ≡ Some e
+    → IsSomeAnd o (λ e. Begins here step seen e vertices later) → Begins here step rest e vertices later
+begins_in here step rest seen o e vertices later same is begins =
+    subst (λ (rs : List Record). Begins here step rs e vertices later) same (subst (λ (o : Option Effect). IsSomeAnd o (λ e. Begins here step seen e vertices later)) is begins)
+
+pub seen_from : (now seen : List Record) (at : ℕ) → seen ≡ now → take (length seen - at) (drop at seen) ≡ drop at now
+seen_from now seen at same = take_rest seen at ∙ ap (λ (rs : List Record). drop at rs) same
+
+-- the place behind them
+pub record IsPlaceBehind (now : List Record) (at : ℕ) (later : List Record) (behind : ℕ) : Type 0 where
+  pub further : at ≤ behind
+  pub within : behind ≤ length now
+  pub same : drop behind now ≡ later
+
+pub place_behind : (now due later : List Record) (at n : ℕ) → n ≡ length now → at ≤ length now → drop at now ≡ due ++ later → IsPlaceBehind now at later (n - length later)
+place_behind now due later at n all place split =
+    let size : length now - at ≡ length due + length later = sym (length-drop at now) ∙ ap length split ∙ length-append due later in
+    let is : n - length later ≡ at + length due = omega (arith, all, size, place) in
+    record {
+      further = omega (arith, is);
+      within = omega (arith, all);
+      same = ap (λ (n : ℕ). drop n now) is ∙ sym (drop-drop (length due) at now) ∙ ap (λ (rs : List Record). drop (length due) rs) split ∙ drop_at due later (length due) refl;
+    }
+
+-- as many records as before, and the same from a place on
+pub record IsSameBehind (now gone : List Record) (behind : ℕ) : Type 0 where
+  pub count : length gone ≡ length now
+  pub same : drop behind gone ≡ drop behind now
+
+-- all records, with others in the place of those between two places
+abbrev put_between : ℕ → ℕ → List Record → List Record → List Record
+put_between at behind others now = put_mid at (behind - at) now others
+
+pub gone_between : (now seen others : List Record) (at behind n : ℕ) → seen ≡ now → n ≡ length now → at ≤ behind → behind ≤ length now → length others ≡ length (mid_of at (behind - at) seen)
+    → IsSameBehind now (take n (put_between at behind others seen ++ drop (length (put_between at behind others seen)) now)) behind
+gone_between now seen others at behind n same all further within as_many =
+    let put = put_between at behind others seen in
+    let part = mid_len at behind seen (subst (λ (rs : List Record). behind ≤ length rs) (sym same) within) in
+    let size : length put ≡ length now = same_len_mid at (behind - at) seen others as_many ∙ ap length same in
+    let is : take n (put ++ drop (length put) now) ≡ put = take_at put (drop (length put) now) n (size ∙ sym all) in
+    record {
+      count = ap length is ∙ size;
+      same = ap (λ (rs : List Record). drop behind rs) is
+          ∙ drop_put at behind seen others further (subst (λ (rs : List Record). behind ≤ length rs) (sym same) within) (as_many ∙ part)
+          ∙ ap (λ (rs : List Record). drop behind rs) same;
+    }
 
 -- ---- how far the walk has come
 
@@ -161,19 +215,20 @@ pub walk_departs : (all : List Step) (written : List Record) (here : Situation) 
     → IsWalk all written here rest jobs (step ∷ steps) → Departs (expected here step) rest k → FailsAt first_situation 1 all written (number written rest + k)
 walk_departs all written here rest jobs step steps k walk departs = walk.fails (number written rest + k) (inl (k, departs, refl))
 
-none_left : (rest : List Record) → (length rest == 0) ≡ true → rest ≡ []
-none_left [] e = refl
-none_left (r ∷ rs) e = absurd (omega (arith, eqb-true (length (r ∷ rs)) 0 e))
-
 pub walk_ends : (all : List Step) (written : List Record) (here : Situation) (rest : List Record) (jobs : List Job) → IsWalk all written here rest jobs []
-    → (length rest == 0) ≡ true → MakesJobs first_situation all written jobs
+    → rest ≡ [] → MakesJobs first_situation all written jobs
 walk_ends all written here rest jobs walk none =
-    subst (λ (js : List Job). MakesJobs first_situation all written js) (append-nil jobs) (walk.makes [] (none_left rest none, refl))
+    subst (λ (js : List Job). MakesJobs first_situation all written js) (append-nil jobs) (walk.makes [] (none, refl))
 
 -- records behind the last step
 pub walk_left : (all : List Step) (written : List Record) (here : Situation) (rest : List Record) (jobs : List Job) → IsWalk all written here rest jobs []
-    → (length rest == 0) ≡ false → FailsAt first_situation 1 all written (number written rest + 0)
-walk_left all written here [] jobs walk some = absurd (true≢false some)
+    → 0 < length rest → FailsAt first_situation 1 all written (number written rest + 0)
+walk_left all written here [] jobs walk some = absurd (omega (arith, some))
 walk_left all written here (r ∷ rs) jobs walk some =
     let same : number written (r ∷ rs) + 0 ≡ number written (r ∷ rs) = omega arith in
     subst (λ (k : ℕ). FailsAt first_situation 1 all written k) (sym same) (walk.fails (number written (r ∷ rs)) refl)
+
+-- the number of the record that fails, by the place behind the last step
+pub fails_at : (all : List Step) (written now : List Record) (at k : ℕ) → at ≤ length now → length now ≡ length written
+    → FailsAt first_situation 1 all written (number written (drop at now) + k) → FailsAt first_situation 1 all written ((at + 1) + k)
+fails_at all written now at k place count fails = subst (λ (n : ℕ). FailsAt first_situation 1 all written (n + k)) (number_at written now at place count) fails

@@ -140,11 +140,10 @@ fn out_sign_at(surface: &Surface, side: Sign) -> i8
 fn points(alloc: Global, start: Position, positions: &[Position]) -> Result<Points, AllocError>
     ensures { IfOk result (λ ps. ps ≡ start.xy ∷ points_at positions.now) }
 {
-    // Along a line there are two.
-    let mut vertices = Vec::with_capacity(alloc, 2)?;
+    let mut vertices = Vec::with_capacity(alloc, positions.len() + 1)?;
     vertices.push_reserved(start.xy);
     for p in positions {
-        vertices.push(p.xy)?;
+        vertices.push_reserved(p.xy);
     }
     Ok(Points { vertices })
 }

@@ -1,6 +1,6 @@
 //! The walk over steps and records.
 
-ghost use Rattle.std.specs.Prelude.{true, ◌≡◌, ◌≢◌, ◌+◌, ◌-◌, ◌<◌, ◌≤◌, ◌^◌, ◌++◌, ℕ, List, length, Ok, IfOk, IfErr, OnOk};
+ghost use Rattle.std.specs.Prelude.{true, ◌≡◌, ◌≢◌, ◌+◌, ◌<◌, ◌≤◌, ◌^◌, ◌++◌, ℕ, List, length, Ok, IfOk, IfErr, OnOk};
 ghost use Rattle.apt_words.specs.Sources.{AreExecuted};
 ghost use Rattle.apt_words.specs.declared.Case.{Case};
 ghost use Rattle.apt_scalar.specs.StepScalars.{AreScalars, HasScalars};
@@ -26,21 +26,27 @@ use crate::JobError;
 use crate::fronts::taken;
 use crate::legs::{Sides, effect_sides, job_of};
 use apt_certify::Job;
-use apt_cldata::{Position, Record};
+use apt_cldata::{Note, Position, Record};
 use apt_defs::{DefError, define};
 use apt_meaning::{Effect, Motion, Situation, effect_of};
 use apt_words::Step;
 use std::alloc::{AllocError, Global};
 
-/// The record behind which records cease to answer steps: so many of `rest` still answer them.
-fn entry(records: &[Record], rest: &[Record], fitting: u64) -> JobError
-    requires part { length rest.now ≤ length records.now }
-    requires few { length records.now < 2 ^ 62 }
+/// The first record that does not answer the steps, by the place behind those that do and how many there still fit.
+fn entry(at: usize, fitting: u64) -> JobError
+    requires few { at < 2 ^ 62 }
     requires fitting { fitting ≤ 3 }
-    ensures { result ≡ JobError.Entry (((length records.now - length rest.now) + 1) + fitting) }
+    ensures { result ≡ JobError.Entry ((at + 1) + fitting) }
 {
-    let seq = (records.len() - rest.len()) as u64 + 1;
+    let seq = at as u64 + 1;
     JobError::Entry { seq: seq + fitting }
+}
+
+/// Lets go of what records hold in memory.
+fn let_go(records: &mut [Record])
+    ensures { length records.new ≡ length records.old }
+{
+    records.fill_with(|| Record::Note(Note::Rapid));
 }
 
 /// Makes the job of a contour; then holds what holds behind it.
@@ -109,42 +115,42 @@ fn take(
 }
 
 /// The jobs of records that answer steps, whether or not their contours are legal: one for each contour, in order, as
-/// the records say it by themselves.
+/// the records say it by themselves. What records hold in memory goes as soon as their jobs are made.
 ///
 /// # Errors
 ///
 /// `Entry` has the number of the first record that does not answer the steps, from 1.
 #[tactic(auto, using(crate::proofs::Walks::jobs_follow))]
-pub fn jobs(alloc: Global, steps: &[Step], records: &[Record]) -> Result<Vec<Job>, JobError>
+pub fn jobs(alloc: Global, steps: &[Step], records: Vec<Record>) -> Result<Vec<Job>, JobError>
     requires scalars { AreScalars steps.now }
     requires sources { AreExecuted steps.now }
     requires passes { first_refused first_situation steps.now ≡ None }
-    requires records { AreRecords records.now }
-    requires few { vertex_count records.now + length records.now < 2 ^ 62 }
-    ensures jobs { IfOk result (λ js. MakesJobs first_situation steps.now records.now js.items) }
-    ensures follows { IfOk result (λ js. Follows steps.now records.now) }
-    ensures said { IfOk result (λ js. js.items ≡ jobs_said records.now) }
+    requires records { AreRecords records.items }
+    requires few { vertex_count records.items + length records.items < 2 ^ 62 }
+    ensures jobs { IfOk result (λ js. MakesJobs first_situation steps.now records.items js.items) }
+    ensures follows { IfOk result (λ js. Follows steps.now records.items) }
+    ensures said { IfOk result (λ js. js.items ≡ jobs_said records.items) }
     ensures range { IfOk result (λ js. AreJobs js.items) }
     ensures few { IfOk result (λ js. point_count js.items < 2 ^ 63) }
-    ensures entry { IfErr result (IsEntry steps.now records.now) }
-    ensures entry_at { (seq : ℕ) → FailsAt first_situation 1 steps.now records.now seq → IsEntryAt seq result }
+    ensures entry { IfErr result (IsEntry steps.now records.items) }
+    ensures entry_at { (seq : ℕ) → FailsAt first_situation 1 steps.now records.items seq → IsEntryAt seq result }
 {
     jobs_of(alloc, steps, records)
 }
 
-fn jobs_of(alloc: Global, steps: &[Step], records: &[Record]) -> Result<Vec<Job>, JobError>
+fn jobs_of(alloc: Global, steps: &[Step], mut records: Vec<Record>) -> Result<Vec<Job>, JobError>
     requires scalars { AreScalars steps.now }
     requires sources { AreExecuted steps.now }
     requires passes { first_refused first_situation steps.now ≡ None }
-    requires records { AreRecords records.now }
-    requires few { vertex_count records.now + length records.now < 2 ^ 62 }
-    ensures jobs { IfOk result (λ js. MakesJobs first_situation steps.now records.now js.items) }
+    requires records { AreRecords records.items }
+    requires few { vertex_count records.items + length records.items < 2 ^ 62 }
+    ensures jobs { IfOk result (λ js. MakesJobs first_situation steps.now records.items js.items) }
     ensures range { IfOk result (λ js. AreJobs js.items) }
     ensures few { IfOk result (λ js. point_count js.items < 2 ^ 63) }
-    ensures entry { IfErr result (IsEntry steps.now records.now) }
+    ensures entry { IfErr result (IsEntry steps.now records.items) }
 {
     let mut here = Situation::first(alloc);
-    let mut rest = records;
+    let mut at = 0;
     let mut jobs = Vec::new(alloc);
     'steps: for st in steps {
         if gives_name(st, &mut here)? {
@@ -152,17 +158,19 @@ fn jobs_of(alloc: Global, steps: &[Step], records: &[Record]) -> Result<Vec<Job>
         }
         let found = effect_of(&here, &st.deed)?;
         let sides = effect_sides(&found);
-        let front = match taken(st, &found, sides, rest) {
+        let front = match taken(st, &found, sides, &records[at..]) {
             Ok(front) => front,
-            Err(fitting) => return Err(entry(records, rest, fitting)),
+            Err(fitting) => return Err(entry(at, fitting)),
         };
         let Some(found) = &found else { unreachable!() };
         take(alloc, &mut jobs, &mut here, found, sides, front.vertices)?;
-        rest = front.rest;
+        let behind = records.len() - front.rest.len();
+        let_go(&mut records[at..behind]);
+        at = behind;
     }
-    if rest.is_empty() {
+    if at == records.len() {
         Ok(jobs)
     } else {
-        Err(entry(records, rest, 0))
+        Err(entry(at, 0))
     }
 }

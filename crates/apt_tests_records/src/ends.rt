@@ -147,8 +147,8 @@ fn verdict(alloc: Global, how: Stop, past: i8) -> Result<Option<Verdict>, AllocE
     let Ok(None) = ends(alloc, &steps) else {
         return Ok(None);
     };
-    let records = records(alloc, how, past)?;
-    match jobs(alloc, &steps, &records) {
+    let records = Vec::from_array(alloc, records(alloc, how, past)?)?;
+    match jobs(alloc, &steps, records) {
         Ok(jobs) => Ok(Some(check_jobs(&jobs))),
         Err(_) => Ok(None),
     }

@@ -193,15 +193,17 @@ fn the_first_record_that_does_not_answer_is_told(rt: HostRuntime) -> Result<(), 
         (changed(0, 1, Side::Right), 12),
     ];
     for (change, want) in table {
-        let records = records(rt.alloc(), change)?;
-        assert_eq!(rt; entry_of(jobs(rt.alloc(), &steps, &records)), want);
+        let records = Vec::from_array(rt.alloc(), records(rt.alloc(), change)?)?;
+        assert_eq!(rt; entry_of(jobs(rt.alloc(), &steps, records)), want);
     }
-    assert_eq!(rt; entry_of(jobs(rt.alloc(), &steps, &[])), 1);
-    assert_eq!(rt; entry_of(jobs(rt.alloc(), &steps, &settings(0))), 6);
-    let front = front(changed(0, 0, Side::Right));
-    assert_eq!(rt; entry_of(jobs(rt.alloc(), &steps, &front)), 12);
-    let more = more(rt.alloc())?;
-    assert_eq!(rt; entry_of(jobs(rt.alloc(), &steps, &more)), 13);
+    let none = Vec::new(rt.alloc());
+    assert_eq!(rt; entry_of(jobs(rt.alloc(), &steps, none)), 1);
+    let settings = Vec::from_array(rt.alloc(), settings(0))?;
+    assert_eq!(rt; entry_of(jobs(rt.alloc(), &steps, settings)), 6);
+    let front = Vec::from_array(rt.alloc(), front(changed(0, 0, Side::Right)))?;
+    assert_eq!(rt; entry_of(jobs(rt.alloc(), &steps, front)), 12);
+    let more = Vec::from_array(rt.alloc(), more(rt.alloc())?)?;
+    assert_eq!(rt; entry_of(jobs(rt.alloc(), &steps, more)), 13);
     Ok(())
 }
 
@@ -214,8 +216,9 @@ fn a_contour_is_a_job(rt: HostRuntime) -> Result<(), Fail> {
         assert!(rt; false, "a step is refused");
         return Ok(());
     };
-    let records = records(rt.alloc(), changed(0, 0, Side::Right))?;
-    let Ok(jobs) = jobs(rt.alloc(), &steps, &records) else {
+    let change = changed(0, 0, Side::Right);
+    let records = Vec::from_array(rt.alloc(), records(rt.alloc(), change)?)?;
+    let Ok(jobs) = jobs(rt.alloc(), &steps, records) else {
         assert!(rt; false, "a record does not answer");
         return Ok(());
     };

@@ -30,7 +30,7 @@ fn plate_jobs(alloc: Global, cl: &[u8]) -> Option<Vec<Job>>
     let text = Vec::from_slice(alloc, PLATE.as_bytes()).ok()?;
     let steps = steps_of(alloc, text, &machine).ok()?;
     let records = read(alloc, cl).ok()?;
-    jobs(alloc, &steps, &records).ok()
+    jobs(alloc, &steps, records).ok()
 }
 
 #[test]

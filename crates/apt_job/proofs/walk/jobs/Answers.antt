@@ -2,7 +2,7 @@ use Rattle.apt_job.proofs.Walks.{jobs_are_said, entry_told}
 use Rattle.apt_job.proofs.walk.jobs.Goals as goal
 
 pub returns-clause-said : goal.returns-clause-said
-returns-clause-said c = jobs_are_said c.args.steps.now c.args.records.now c.jobs_of.result c.jobs_of.ensures.jobs
+returns-clause-said c = jobs_are_said c.args.steps.now c.args.records.items c.jobs_of.result c.jobs_of.ensures.jobs
 
 pub returns-clause-entry_at : goal.returns-clause-entry_at
-returns-clause-entry_at c = entry_told c.args.steps.now c.args.records.now c.jobs_of.result c.jobs_of.ensures.jobs c.jobs_of.ensures.entry
+returns-clause-entry_at c = entry_told c.args.steps.now c.args.records.items c.jobs_of.result c.jobs_of.ensures.jobs c.jobs_of.ensures.entry
