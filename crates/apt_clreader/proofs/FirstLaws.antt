@@ -1,10 +1,10 @@
 -- The first record of some bytes is read in the same way whatever comes behind them, unless they end within it.
-use Rattle.std.proofs.Common.{◌≡◌, ℕ, zero, suc, ◌+◌, ◌-◌, ◌*◌, ◌/◌, ◌≤◌, ◌<◌, ◌⊎◌, inl, inr, ℤ, pos, Bool, true, false, cond, nat_lt, List, [], ◌∷◌, ◌++◌, length, get_or, take, drop, Result, Ok, Err, IfOk, refl, ap, sym, ◌∙◌, arith}
+use Rattle.std.proofs.Common.{◌≡◌, ℕ, zero, suc, ◌+◌, ◌-◌, ◌*◌, ◌/◌, ◌≤◌, ◌<◌, ◌⊎◌, inl, inr, ℤ, pos, Bool, true, false, cond, nat_lt, List, [], ◌∷◌, ◌++◌, length, get_or, take, drop, Result, Ok, Err, IfOk, MatchBool, refl, ap, sym, ◌∙◌, subst, arith}
 use Rattle.std.specs.Int.{w32, w64, from_be_bytes, cast_signed}
 use Rattle.std.specs.Ordering.{int_eq}
 use Rattle.std.proofs.lemmas.Bool.Decides.{nat_tests}
 use Rattle.std.proofs.lemmas.List.{take-append-le, drop-append-le, drop-drop, length-drop, length-append}
-use Rattle.apt_words.specs.Answers.{IsFault}
+use Rattle.apt_words.specs.Answers.{IsFault, IsDueAs}
 use Rattle.apt_cldata.specs.declared.error.ClCause.TheVariants as causes
 use Rattle.apt_cldata.specs.declared.error.ClError.{ClError}
 use Rattle.apt_cldata.specs.declared.error.ClError.TheVariants as errors
@@ -19,7 +19,7 @@ use Rattle.apt_cldata.specs.Reading.{fault, fault_in, cut_short, length_in, word
 use Rattle.apt_cldata.proofs.RecordLaws.{triples_length}
 use Rattle.apt_cldata.proofs.PieceLaws.{IsPiece, piece_only, framed_length}
 use Rattle.apt_clreader.specs.Begun.{Fault, is_truncated, tells_end}
-use Rattle.apt_clreader.specs.Steps.{IsFirst}
+use Rattle.apt_clreader.specs.Steps.{IsFirst, IsNext}
 
 -- ---- words
 
@@ -134,11 +134,11 @@ fault_of_more seq at bytes more f is whole = elim (first_settled seq at bytes mo
 ]
 
 -- what is told of the first record of some bytes, of those with more behind them
-pub next_ends : (seq at : ℕ) (bytes : List ℕ) (e : ClError) → IsFault fault_in (first_of seq at bytes) e → tells_end e ≡ true → is_truncated (first_of seq at bytes) ≡ true
+next_ends : (seq at : ℕ) (bytes : List ℕ) (e : ClError) → IsFault fault_in (first_of seq at bytes) e → tells_end e ≡ true → is_truncated (first_of seq at bytes) ≡ true
 next_ends seq at bytes errors.NoMemory is ends = absurd (cc)
 next_ends seq at bytes (errors.Bad place cause) is ends = ap is_truncated is ∙ ends
 
-pub next_fails : (seq at : ℕ) (bytes : List ℕ) (e : ClError) → IsFault fault_in (first_of seq at bytes) e → tells_end e ≡ false → (more : List ℕ) → IsFault fault_in (first_of seq at (bytes ++ more)) e
+next_fails : (seq at : ℕ) (bytes : List ℕ) (e : ClError) → IsFault fault_in (first_of seq at bytes) e → tells_end e ≡ false → (more : List ℕ) → IsFault fault_in (first_of seq at (bytes ++ more)) e
 next_fails seq at bytes errors.NoMemory is goes = λ more. tt
 next_fails seq at bytes (errors.Bad place cause) is goes = λ more. fault_of_more seq at bytes more (fault place cause) is (ap is_truncated is ∙ goes)
 
@@ -178,3 +178,16 @@ first_is seq at bytes r size small there is =
       long = omega (arith, ap length h.written, length-append (record_bytes seq r) (drop size bytes), length-drop size bytes, framed_length (pos seq ∷ words_of r), vertices_long r);
       there = there;
     }
+
+-- what is answered of the first record is so whatever comes behind, unless the bytes end within it
+pub next_is : (seq at : ℕ) (bytes : List ℕ) (result : Result (Record × ℕ) ClError) → ((i : ℕ) → get_or bytes i 0 < 256)
+    → IsDueAs (λ p. piece p.0 (at + p.1) (drop p.1 bytes)) fault_in (first_of seq at bytes) result → IfOk result (λ p. p.1 ≤ length bytes) → IsNext seq at bytes result
+next_is seq at bytes (Ok p) small is there = first_is seq at bytes p.0 p.1 small there is
+next_is seq at bytes (Err e) small is there = by_end (tells_end e) refl
+  where
+    by_end : (b : Bool) → tells_end e ≡ b → MatchBool b (is_truncated (first_of seq at bytes) ≡ true) ((more : List ℕ) → IsFault fault_in (first_of seq at (bytes ++ more)) e)
+    by_end true ends = next_ends seq at bytes e is ends
+    by_end false goes = next_fails seq at bytes e is goes
+
+pub next_goes : (seq at : ℕ) (bytes : List ℕ) (e : ClError) → IsNext seq at bytes (Err e) → tells_end e ≡ false → (more : List ℕ) → IsFault fault_in (first_of seq at (bytes ++ more)) e
+next_goes seq at bytes e is goes = subst (λ b. MatchBool b (is_truncated (first_of seq at bytes) ≡ true) ((more : List ℕ) → IsFault fault_in (first_of seq at (bytes ++ more)) e)) goes is

@@ -1,5 +1,5 @@
 -- The steps of reading, whatever bytes come behind.
-use Rattle.std.specs.Prelude.{◌≡◌, ℕ, ◌+◌, ◌*◌, ◌≤◌, Bool, true, false, List, ◌++◌, length, drop, Option, Some, None, Result, Ok, Err}
+use Rattle.std.specs.Prelude.{◌≡◌, ℕ, ◌+◌, ◌*◌, ◌≤◌, Bool, true, false, List, ◌++◌, length, drop, Result, Ok, Err, MatchBool}
 use Rattle.apt_words.specs.Answers.{IsFault}
 use Rattle.apt_cldata.specs.declared.error.ClError.{ClError}
 use Rattle.apt_cldata.specs.declared.record.Record.{Record}
@@ -8,7 +8,7 @@ use Rattle.apt_cldata.specs.Reading.{fault_in, piece, first_of}
 use Rattle.apt_clreader.specs.declared.state.Part.{Part}
 use Rattle.apt_clreader.specs.declared.state.Part.TheVariants as parts
 use Rattle.apt_clreader.specs.declared.state.ClReader.{ClReader}
-use Rattle.apt_clreader.specs.Begun.{is_truncated}
+use Rattle.apt_clreader.specs.Begun.{is_truncated, tells_end}
 use Rattle.apt_clreader.specs.Pieces.{comes_to}
 
 -- ---- a record
@@ -21,10 +21,10 @@ pub record IsFirst (seq at : ℕ) (bytes : List ℕ) (r : Record) (size : ℕ) :
   pub there : size ≤ length bytes
 
 -- the first record, or the bytes end within it, or they can't stand
-abbrev pub IsNext : ℕ → ℕ → List ℕ → Result (Option (Record × ℕ)) ClError → Type 0
-IsNext seq at bytes (Ok (Some p)) = IsFirst seq at bytes p.0 p.1
-IsNext seq at bytes (Ok None) = is_truncated (first_of seq at bytes) ≡ true
-IsNext seq at bytes (Err error) = (more : List ℕ) → IsFault fault_in (first_of seq at (bytes ++ more)) error
+abbrev pub IsNext : ℕ → ℕ → List ℕ → Result (Record × ℕ) ClError → Type 0
+IsNext seq at bytes (Ok p) = IsFirst seq at bytes p.0 p.1
+IsNext seq at bytes (Err error) =
+    MatchBool (tells_end error) (is_truncated (first_of seq at bytes) ≡ true) ((more : List ℕ) → IsFault fault_in (first_of seq at (bytes ++ more)) error)
 
 -- ---- what comes of it
 

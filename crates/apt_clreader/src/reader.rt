@@ -205,39 +205,35 @@ fn take_records(
     ensures few { IfOk result (λ t. 8 * (vertex_count records.new.items + length records.new.items) ≤ at + t.0) }
 {
     let mut taken = 0;
-    'records: while let Some((record, size)) = next_record(
-        alloc,
-        records.len() as u64 + 1,
-        at + taken as u64,
-        &bytes[taken..],
-    )? {
-        let is_last = is_fini(&record);
-        records.push(record)?;
-        taken += size;
-        if is_last {
-            return Ok((taken, true));
+    'records: loop {
+        match next_record(
+            alloc,
+            records.len() as u64 + 1,
+            at + taken as u64,
+            &bytes[taken..],
+        ) {
+            Ok((record, size)) => {
+                let is_last = is_fini(&record);
+                records.push(record)?;
+                taken += size;
+                if is_last {
+                    return Ok((taken, true));
+                }
+            }
+            Err(error) if tells_end(&error) => return Ok((taken, false)),
+            Err(error) => return Err(error),
         }
     }
-    Ok((taken, false))
 }
 
-/// The first record of some bytes, and how many of them it has; `None` if they end within it.
-#[tactic(auto, using(crate::proofs::FirstLaws::next_ends))]
-fn next_record(
-    alloc: Global,
-    seq: u64,
-    at: u64,
-    bytes: &[u8],
-) -> Result<Option<(Record, usize)>, ClError>
+/// The first record of some bytes, and how many of them it has. An error that tells that they end within it may go with
+/// more of them.
+fn next_record(alloc: Global, seq: u64, at: u64, bytes: &[u8]) -> Result<(Record, usize), ClError>
     requires number { seq < 2 ^ 63 }
     requires place { at + length bytes.now < 2 ^ 63 }
     ensures { IsNext seq at bytes.now result }
 {
-    match first_record(alloc, seq, at, bytes) {
-        Ok((record, size)) => Ok(Some((record, size))),
-        Err(error) if tells_end(&error) => Ok(None),
-        Err(error) => Err(error),
-    }
+    first_record(alloc, seq, at, bytes)
 }
 
 /// Whether the bytes end within what was read.
