@@ -42,11 +42,23 @@ fn entry(at: usize, fitting: u64) -> JobError
     JobError::Entry { seq: seq + fitting }
 }
 
-/// Lets go of what records hold in memory.
+/// Whether a record holds vertices beside the one for which it has room itself.
+fn has_list(record: &Record) -> bool {
+    match record {
+        Record::Contour(vertices) => vertices.as_slice().len() > 1,
+        _ => false,
+    }
+}
+
+/// Lets go of the vertices of a contour, which is the last record of a step.
 fn let_go(records: &mut [Record])
     ensures { length records.new ≡ length records.old }
 {
-    records.fill_with(|| Record::Note(Note::Rapid));
+    if let Some(last) = records.last_mut() {
+        if has_list(last) {
+            *last = Record::Note(Note::Rapid);
+        }
+    }
 }
 
 /// Makes the job of a contour; then holds what holds behind it.
