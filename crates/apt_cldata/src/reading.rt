@@ -119,7 +119,12 @@ fn said_by(
 ///
 /// `Bad` with the first place that can't stand and its cause; `NoMemory`.
 #[tactic(auto, unfolding(crate::specs::Reading::first_of))]
-pub fn first_record(alloc: Global, seq: u64, at: u64, bytes: &[u8]) -> Result<(Record, usize), ClError>
+pub fn first_record(
+    alloc: Global,
+    seq: u64,
+    at: u64,
+    bytes: &[u8],
+) -> Result<(Record, usize), ClError>
     requires number { seq < 2 ^ 63 }
     requires place { at + length bytes.now < 2 ^ 63 }
     ensures value { IsDueAs (λ p. spec.piece p.0 (at + p.1) (drop p.1 bytes.now)) fault_in (spec.first_of seq at bytes.now) result }
