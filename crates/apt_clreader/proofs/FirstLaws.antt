@@ -5,6 +5,7 @@ use Rattle.std.specs.Ordering.{int_eq}
 use Rattle.std.proofs.lemmas.Bool.Decides.{nat_tests}
 use Rattle.std.proofs.lemmas.List.{take-append-le, drop-append-le, drop-drop, length-drop, length-append}
 use Rattle.apt_words.specs.Answers.{IsFault, IsDueAs}
+use Rattle.apt_cldata.specs.declared.error.ClCause.{ClCause}
 use Rattle.apt_cldata.specs.declared.error.ClCause.TheVariants as causes
 use Rattle.apt_cldata.specs.declared.error.ClError.{ClError}
 use Rattle.apt_cldata.specs.declared.error.ClError.TheVariants as errors
@@ -18,7 +19,7 @@ use Rattle.apt_cldata.specs.Files.{record_bytes}
 use Rattle.apt_cldata.specs.Reading.{fault, fault_in, cut_short, length_in, word_in, words_in, is_length, length_of, located, record_in, said_by, Piece, piece, first_of}
 use Rattle.apt_cldata.proofs.RecordLaws.{triples_length}
 use Rattle.apt_cldata.proofs.PieceLaws.{IsPiece, piece_only, framed_length}
-use Rattle.apt_clreader.specs.Begun.{Fault, is_truncated, tells_end}
+use Rattle.apt_clreader.specs.Begun.{Fault, is_truncation, is_truncated, place_of, tells_end, place_in}
 use Rattle.apt_clreader.specs.Steps.{IsFirst, IsNext}
 
 -- ---- words
@@ -138,6 +139,10 @@ next_ends : (seq at : ℕ) (bytes : List ℕ) (e : ClError) → IsFault fault_in
 next_ends seq at bytes errors.NoMemory is ends = absurd (cc)
 next_ends seq at bytes (errors.Bad place cause) is ends = ap is_truncated is ∙ ends
 
+next_place : (seq at : ℕ) (bytes : List ℕ) (e : ClError) → IsFault fault_in (first_of seq at bytes) e → tells_end e ≡ true → place_of (first_of seq at bytes) ≡ place_in e
+next_place seq at bytes errors.NoMemory is ends = absurd (cc)
+next_place seq at bytes (errors.Bad place cause) is ends = ap place_of is
+
 next_fails : (seq at : ℕ) (bytes : List ℕ) (e : ClError) → IsFault fault_in (first_of seq at bytes) e → tells_end e ≡ false → (more : List ℕ) → IsFault fault_in (first_of seq at (bytes ++ more)) e
 next_fails seq at bytes errors.NoMemory is goes = λ more. tt
 next_fails seq at bytes (errors.Bad place cause) is goes = λ more. fault_of_more seq at bytes more (fault place cause) is (ap is_truncated is ∙ goes)
@@ -185,9 +190,26 @@ pub next_is : (seq at : ℕ) (bytes : List ℕ) (result : Result (Record × ℕ)
 next_is seq at bytes (Ok p) small is there = first_is seq at bytes p.0 p.1 small there is
 next_is seq at bytes (Err e) small is there = by_end (tells_end e) refl
   where
-    by_end : (b : Bool) → tells_end e ≡ b → MatchBool b (is_truncated (first_of seq at bytes) ≡ true) ((more : List ℕ) → IsFault fault_in (first_of seq at (bytes ++ more)) e)
-    by_end true ends = next_ends seq at bytes e is ends
+    by_end : (b : Bool) → tells_end e ≡ b → MatchBool b ((is_truncated (first_of seq at bytes) ≡ true) × (place_of (first_of seq at bytes) ≡ place_in e)) ((more : List ℕ) → IsFault fault_in (first_of seq at (bytes ++ more)) e)
+    by_end true ends = (next_ends seq at bytes e is ends, next_place seq at bytes e is ends)
     by_end false goes = next_fails seq at bytes e is goes
 
 pub next_goes : (seq at : ℕ) (bytes : List ℕ) (e : ClError) → IsNext seq at bytes (Err e) → tells_end e ≡ false → (more : List ℕ) → IsFault fault_in (first_of seq at (bytes ++ more)) e
-next_goes seq at bytes e is goes = subst (λ b. MatchBool b (is_truncated (first_of seq at bytes) ≡ true) ((more : List ℕ) → IsFault fault_in (first_of seq at (bytes ++ more)) e)) goes is
+next_goes seq at bytes e is goes = subst (λ b. MatchBool b ((is_truncated (first_of seq at bytes) ≡ true) × (place_of (first_of seq at bytes) ≡ place_in e)) ((more : List ℕ) → IsFault fault_in (first_of seq at (bytes ++ more)) e)) goes is
+
+pub next_cut : (seq at : ℕ) (bytes : List ℕ) (e : ClError) → IsNext seq at bytes (Err e) → tells_end e ≡ true → (is_truncated (first_of seq at bytes) ≡ true) × (place_of (first_of seq at bytes) ≡ place_in e)
+next_cut seq at bytes e is ends = subst (λ b. MatchBool b ((is_truncated (first_of seq at bytes) ≡ true) × (place_of (first_of seq at bytes) ≡ place_in e)) ((more : List ℕ) → IsFault fault_in (first_of seq at (bytes ++ more)) e)) ends is
+
+-- what is truncated at a place is told as such
+pub cut_is_fault : (r : Result Piece Fault) (end : ℕ) → is_truncated r ≡ true → place_of r ≡ end → IsFault fault_in r (errors.Bad end causes.Truncated)
+cut_is_fault (Ok p) end is place = absurd (cc)
+cut_is_fault (Err f) end is place = by_cause f.cause refl
+  where
+    by_cause : (cause : ClCause) → f.cause ≡ cause → ◌≡◌ {A = Result Piece Fault} (Err f) (Err (fault end causes.Truncated))
+    by_cause causes.Truncated e = λ i. Err (record { at = place i; cause = e i })
+    by_cause causes.Header e = absurd (let h : false ≡ true = sym (ap is_truncation e) ∙ is in cc)
+    by_cause causes.Length e = absurd (let h : false ≡ true = sym (ap is_truncation e) ∙ is in cc)
+    by_cause causes.Seq e = absurd (let h : false ≡ true = sym (ap is_truncation e) ∙ is in cc)
+    by_cause causes.Class e = absurd (let h : false ≡ true = sym (ap is_truncation e) ∙ is in cc)
+    by_cause causes.Range e = absurd (let h : false ≡ true = sym (ap is_truncation e) ∙ is in cc)
+    by_cause causes.AfterFini e = absurd (let h : false ≡ true = sym (ap is_truncation e) ∙ is in cc)

@@ -126,7 +126,7 @@ head_of_file reader file e stands is fails =
 -- behind FINI there is none
 pub none_of_file : (reader : ClReader) (file : List ℕ) → StandsFor reader file → reader.part ≡ parts.Nothing → read_of file ≡ Ok reader.records.items
 none_of_file reader file stands is =
-    let none : reader.held.items ≡ [] = subst (λ p. IsBegun p reader.records.items reader.at reader.held.items) is reader.begun in
+    let none : reader.held.items ≡ [] = subst (λ p. IsBegun p reader.records.items reader.at reader.end reader.held.items) is reader.begun in
     comes_of_file reader file stands ∙ ap (λ p. comes_to p reader.records.items reader.at reader.held.items) is
     ∙ ap (λ held. comes_to parts.Nothing reader.records.items reader.at held) none
 

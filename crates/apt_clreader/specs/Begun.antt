@@ -32,13 +32,22 @@ abbrev pub is_truncated : {A : Type 0} → Result A Fault → Bool
 is_truncated (Ok a) = false
 is_truncated (Err fault) = is_truncation fault.cause
 
--- an error tells that the bytes end within what is read
+-- the place of a fault
+abbrev pub place_of : {A : Type 0} → Result A Fault → ℕ
+place_of (Ok a) = 0
+place_of (Err fault) = fault.at
+
+-- an error tells that the bytes end within what is read, and where
 abbrev pub tells_end : ClError → Bool
 tells_end (errors.Bad at cause) = is_truncation cause
 tells_end errors.NoMemory = false
 
--- no more is held than the front of the head or of a record
-abbrev pub IsBegun : Part → List Record → ℕ → List ℕ → Type 0
-IsBegun parts.Head records at held = (length records ≡ 0) × (at ≡ 0) × (length held < length head)
-IsBegun parts.Records records at held = is_truncated (first_of (length records + 1) at held) ≡ true
-IsBegun parts.Nothing records at held = held ≡ []
+abbrev pub place_in : ClError → ℕ
+place_in (errors.Bad at cause) = at
+place_in errors.NoMemory = 0
+
+-- no more is held than the front of the head or of a record, and there is where the file is cut short if it ends there
+abbrev pub IsBegun : Part → List Record → ℕ → ℕ → List ℕ → Type 0
+IsBegun parts.Head records at end held = (length records ≡ 0) × (at ≡ 0) × (length held < length head)
+IsBegun parts.Records records at end held = (is_truncated (first_of (length records + 1) at held) ≡ true) × (place_of (first_of (length records + 1) at held) ≡ end)
+IsBegun parts.Nothing records at end held = held ≡ []

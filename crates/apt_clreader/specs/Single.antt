@@ -18,10 +18,10 @@ use Rattle.apt_clreader.specs.Begun.{IsBegun}
 use Rattle.apt_clreader.specs.declared.state.Part.{Part}
 use Rattle.apt_clreader.specs.declared.state.Part.TheVariants as parts
 
-pub begun_single : (part : Part) (records : List Record) (at : ℕ) (held : List ℕ) → IsProp (IsBegun part records at held)
-begun_single parts.Head records at held = Prim.hlevel props
-begun_single parts.Records records at held = Prim.hlevel props
-begun_single parts.Nothing records at held = Prim.hlevel props
+pub begun_single : (part : Part) (records : List Record) (at end : ℕ) (held : List ℕ) → IsProp (IsBegun part records at end held)
+begun_single parts.Head records at end held = Prim.hlevel props
+begun_single parts.Records records at end held = Prim.hlevel props
+begun_single parts.Nothing records at end held = Prim.hlevel props
 
 speed_single : (turn : Turn) (n : ℤ) → IsProp (IsSpeed turn n)
 speed_single turns.Cw n = Prim.hlevel props

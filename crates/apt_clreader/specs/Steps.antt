@@ -8,7 +8,8 @@ use Rattle.apt_cldata.specs.Reading.{fault_in, piece, first_of}
 use Rattle.apt_clreader.specs.declared.state.Part.{Part}
 use Rattle.apt_clreader.specs.declared.state.Part.TheVariants as parts
 use Rattle.apt_clreader.specs.declared.state.ClReader.{ClReader}
-use Rattle.apt_clreader.specs.Begun.{is_truncated, tells_end}
+use Rattle.apt_clreader.specs.declared.state.Taken.{Taken}
+use Rattle.apt_clreader.specs.Begun.{is_truncated, place_of, tells_end, place_in}
 use Rattle.apt_clreader.specs.Pieces.{comes_to}
 
 -- ---- a record
@@ -24,7 +25,7 @@ pub record IsFirst (seq at : ℕ) (bytes : List ℕ) (r : Record) (size : ℕ) :
 abbrev pub IsNext : ℕ → ℕ → List ℕ → Result (Record × ℕ) ClError → Type 0
 IsNext seq at bytes (Ok p) = IsFirst seq at bytes p.0 p.1
 IsNext seq at bytes (Err error) =
-    MatchBool (tells_end error) (is_truncated (first_of seq at bytes) ≡ true) ((more : List ℕ) → IsFault fault_in (first_of seq at (bytes ++ more)) error)
+    MatchBool (tells_end error) ((is_truncated (first_of seq at bytes) ≡ true) × (place_of (first_of seq at bytes) ≡ place_in error)) ((more : List ℕ) → IsFault fault_in (first_of seq at (bytes ++ more)) error)
 
 -- ---- what comes of it
 
@@ -46,11 +47,11 @@ part_behind true = parts.Nothing
 part_behind false = parts.Records
 
 -- so many bytes were taken by the records that were added
-abbrev pub Takes : List Record → ℕ → List ℕ → List Record → Result (ℕ × Bool) ClError → Type 0
-Takes before at bytes now (Ok t) = Agree parts.Records before at bytes (part_behind t.1) now (at + t.0) (drop t.0 bytes)
+abbrev pub Takes : List Record → ℕ → List ℕ → List Record → Result Taken ClError → Type 0
+Takes before at bytes now (Ok t) = Agree parts.Records before at bytes (part_behind t.is_done) now (at + t.bytes) (drop t.bytes bytes)
 Takes before at bytes now (Err error) = Fails parts.Records before at bytes error
 
--- no whole record is left, unless FINI was the last
-abbrev pub IsLeft : Bool → List Record → ℕ → List ℕ → Type 0
-IsLeft true now at rest = Unit {0}
-IsLeft false now at rest = is_truncated (first_of (length now + 1) at rest) ≡ true
+-- no whole record is left, and it is told where the bytes end, unless FINI was the last
+abbrev pub IsLeft : Bool → List Record → ℕ → ℕ → List ℕ → Type 0
+IsLeft true now at end rest = Unit {0}
+IsLeft false now at end rest = (is_truncated (first_of (length now + 1) at rest) ≡ true) × (place_of (first_of (length now + 1) at rest) ≡ end)

@@ -11,7 +11,7 @@ ghost use Rattle.apt_clreader.specs.Begun as begun;
 ghost use Rattle.apt_clreader.specs.Pieces.{StandsFor, HasRead, count_of};
 ghost use Rattle.apt_clreader.specs.Steps.{IsNext, GoesOn, Takes, IsLeft};
 
-use crate::state::{ClReader, Part};
+use crate::state::{ClReader, Part, Taken};
 use apt_cldata::{ClCause, ClError, Note, Record, behind_head, first_record};
 use std::alloc::{AllocError, Global};
 
@@ -29,6 +29,7 @@ impl ClReader {
             part: Part::Head,
             records: Vec::new(alloc),
             at: 0,
+            end: 0,
             held: Vec::new(alloc),
         }
     }
@@ -49,6 +50,7 @@ impl ClReader {
             records,
             at,
             mut held,
+            ..
         } = self;
         held.extend_from_slice(piece)?;
         go_on(alloc, part, records, at, held)
@@ -65,20 +67,19 @@ impl ClReader {
         ensures few { IfOk result (λ v. vertex_count v.items + length v.items ≤ count_of self) }
     {
         let ClReader {
-            alloc,
             part,
             records,
-            at,
+            end,
             held,
+            ..
         } = self;
         match part {
             Part::Nothing => Ok(records),
-            // what is held is no whole record
-            Part::Records => {
-                first_record(alloc, records.len() as u64 + 1, at, &held)?;
-                unreachable!()
-            }
-            // nor a whole head
+            Part::Records => Err(ClError::Bad {
+                at: end,
+                cause: ClCause::Truncated,
+            }),
+            // what is held is no whole head
             Part::Head => {
                 behind_head(&held)?;
                 unreachable!()
@@ -122,6 +123,7 @@ fn behind_start(alloc: Global, mut held: Vec<u8>) -> Result<ClReader, ClError>
             part: Part::Head,
             records,
             at: 0,
+            end: 0,
             held,
         });
     }
@@ -143,10 +145,10 @@ fn with_records(
     ensures stands { GoesOn parts.Records records.items at held.items result }
     ensures count { IfOk result (λ reader. count_of reader ≡ at + length held.items) }
 {
-    let (taken, is_done) = take_records(alloc, &mut records, at, &held)?;
-    drop_front(alloc, &mut held, taken)?;
-    let at = at + taken as u64;
-    if is_done {
+    let taken = take_records(alloc, &mut records, at, &held)?;
+    drop_front(alloc, &mut held, taken.bytes)?;
+    let at = at + taken.bytes as u64;
+    if taken.is_done {
         with_nothing(alloc, records, at, held)
     } else {
         Ok(ClReader {
@@ -154,6 +156,7 @@ fn with_records(
             part: Part::Records,
             records,
             at,
+            end: taken.end,
             held,
         })
     }
@@ -178,6 +181,7 @@ fn with_nothing(
             part: Part::Nothing,
             records,
             at,
+            end: at,
             held,
         })
     } else {
@@ -188,21 +192,21 @@ fn with_nothing(
     }
 }
 
-/// Adds the whole records in front of some bytes: how many bytes they have, and whether FINI was the last.
+/// Adds the whole records in front of some bytes.
 fn take_records(
     alloc: Global,
     records: &mut Vec<Record>,
     at: u64,
     bytes: &[u8],
-) -> Result<(usize, bool), ClError>
+) -> Result<Taken, ClError>
     requires place { at + length bytes.now < 2 ^ 63 }
     requires ranges { AreRecords records.old.items }
     requires few { 8 * (vertex_count records.old.items + length records.old.items) ≤ at }
     ensures taken { Takes records.old.items at bytes.now records.new.items result }
-    ensures there { IfOk result (λ t. t.0 ≤ length bytes.now) }
-    ensures left { IfOk result (λ t. IsLeft t.1 records.new.items (at + t.0) (drop t.0 bytes.now)) }
+    ensures there { IfOk result (λ t. t.bytes ≤ length bytes.now) }
+    ensures left { IfOk result (λ t. IsLeft t.is_done records.new.items (at + t.bytes) t.end (drop t.bytes bytes.now)) }
     ensures ranges { IfOk result (λ t. AreRecords records.new.items) }
-    ensures few { IfOk result (λ t. 8 * (vertex_count records.new.items + length records.new.items) ≤ at + t.0) }
+    ensures few { IfOk result (λ t. 8 * (vertex_count records.new.items + length records.new.items) ≤ at + t.bytes) }
 {
     let mut taken = 0;
     'records: loop {
@@ -217,10 +221,20 @@ fn take_records(
                 records.push(record)?;
                 taken += size;
                 if is_last {
-                    return Ok((taken, true));
+                    return Ok(Taken {
+                        bytes: taken,
+                        is_done: true,
+                        end: 0,
+                    });
                 }
             }
-            Err(error) if tells_end(&error) => return Ok((taken, false)),
+            Err(error) if tells_end(&error) => {
+                return Ok(Taken {
+                    bytes: taken,
+                    is_done: false,
+                    end: place_in(&error),
+                });
+            }
             Err(error) => return Err(error),
         }
     }
@@ -247,6 +261,16 @@ fn tells_end(error: &ClError) -> bool
             ..
         }
     )
+}
+
+/// The place that an error tells.
+fn place_in(error: &ClError) -> u64
+    ensures { result ≡ begun.place_in error.now }
+{
+    match error {
+        ClError::Bad { at, .. } => *at,
+        ClError::NoMemory => 0,
+    }
 }
 
 fn is_fini(record: &Record) -> bool

@@ -25,9 +25,20 @@ pub struct ClReader {
     pub(crate) records: Vec<Record>,
     /// The place of the first byte that is held.
     pub(crate) at: u64,
+    /// The place at which the file is cut short, if it ends within a record.
+    pub(crate) end: u64,
     pub(crate) held: Vec<u8>,
-    ghost begun: { IsBegun part records.items at held.items } by { begun_single part records.items at held.items },
+    ghost begun: { IsBegun part records.items at end held.items } by { begun_single part records.items at end held.items },
     ghost ranges: { AreRecords records.items } by { records_single records.items },
     ghost few: { 8 * (vertex_count records.items + length records.items) ≤ at },
     ghost small: { at + length held.items < 2 ^ 63 },
+}
+
+/// What was taken of bytes by whole records: how many bytes they have, whether FINI was the last, and where the file is cut
+/// short if it ends behind these bytes.
+#[derive(Clone, Copy)]
+pub(crate) struct Taken {
+    pub(crate) bytes: usize,
+    pub(crate) is_done: bool,
+    pub(crate) end: u64,
 }

@@ -14,18 +14,18 @@ returns-in_err-taken-clause-stands c =
 pub invariant_of-result-clause-begun : goal.invariant_of-result-clause-begun
 invariant_of-result-clause-begun c =
     let rs = c.take_records.new.records.items in
-    let place = c.args.at + c.in_ok-taken.taken in
-    subst (IsLeft false rs place) (ap (drop c.in_ok-taken.taken) c.deref.ensures.value ∙ sym c.in_ok-drop_front.ensures)
-    (subst (λ done. IsLeft done rs place (drop c.in_ok-taken.taken c.deref.result.now)) c.if-is_done.false c.in_ok-taken.ensures.left)
+    let place = c.args.at + c.in_ok-taken.taken.bytes in
+    subst (IsLeft false rs place c.in_ok-taken.taken.end) (ap (drop c.in_ok-taken.taken.bytes) c.deref.ensures.value ∙ sym c.in_ok-drop_front.ensures)
+    (subst (λ done. IsLeft done rs place c.in_ok-taken.taken.end (drop c.in_ok-taken.taken.bytes c.deref.result.now)) c.if-taken.false c.in_ok-taken.ensures.left)
 
-pub returns-then-is_done-clause-stands : goal.returns-then-is_done-clause-stands
-returns-then-is_done-clause-stands c =
+pub returns-then-taken-clause-stands : goal.returns-then-taken-clause-stands
+returns-then-taken-clause-stands c =
     let rs = c.take_records.new.records.items in
-    let place = c.args.at + c.in_ok-taken.taken in
+    let place = c.args.at + c.in_ok-taken.taken.bytes in
     let rest = c.drop_front.new.held.items in
-    let taken : Agree parts.Records c.args.records.items c.args.at c.deref.result.now parts.Nothing rs place (drop c.in_ok-taken.taken c.deref.result.now)
-    = subst (λ done. Agree parts.Records c.args.records.items c.args.at c.deref.result.now (part_behind done) rs place (drop c.in_ok-taken.taken c.deref.result.now)) c.if-is_done.true c.in_ok-taken.ensures.taken in
+    let taken : Agree parts.Records c.args.records.items c.args.at c.deref.result.now parts.Nothing rs place (drop c.in_ok-taken.taken.bytes c.deref.result.now)
+    = subst (λ done. Agree parts.Records c.args.records.items c.args.at c.deref.result.now (part_behind done) rs place (drop c.in_ok-taken.taken.bytes c.deref.result.now)) c.if-taken.true c.in_ok-taken.ensures.taken in
     let same : Agree parts.Records c.args.records.items c.args.at c.args.held.items parts.Nothing rs place rest
     = subst (Agree parts.Records c.args.records.items c.args.at c.args.held.items parts.Nothing rs place) (sym c.in_ok-drop_front.ensures)
-    (subst (λ b. Agree parts.Records c.args.records.items c.args.at b parts.Nothing rs place (drop c.in_ok-taken.taken b)) c.deref.ensures.value taken) in
+    (subst (λ b. Agree parts.Records c.args.records.items c.args.at b parts.Nothing rs place (drop c.in_ok-taken.taken.bytes b)) c.deref.ensures.value taken) in
     agree_goes_on parts.Records parts.Nothing c.args.records.items rs c.args.at place c.args.held.items rest c.with_nothing.result same c.with_nothing.ensures.stands
