@@ -42,20 +42,13 @@ fn entry(at: usize, fitting: u64) -> JobError
     JobError::Entry { seq: seq + fitting }
 }
 
-/// Whether a record holds vertices beside the one for which it has room itself.
-fn has_list(record: &Record) -> bool {
-    match record {
-        Record::Contour(vertices) => vertices.as_slice().len() > 1,
-        _ => false,
-    }
-}
-
-/// Lets go of the vertices of a contour, which is the last record of a step.
-fn let_go(records: &mut [Record])
+/// Lets go of the vertices of a contour, the last of some records, where there are more than the one for which a record has
+/// room itself.
+fn let_go(records: &mut [Record], vertices: usize)
     ensures { length records.new ≡ length records.old }
 {
-    if let Some(last) = records.last_mut() {
-        if has_list(last) {
+    if vertices > 1 {
+        if let Some(last) = records.last_mut() {
             *last = Record::Note(Note::Rapid);
         }
     }
@@ -177,7 +170,8 @@ fn jobs_of(alloc: Global, steps: &[Step], mut records: Vec<Record>) -> Result<Ve
         let Some(found) = &found else { unreachable!() };
         take(alloc, &mut jobs, &mut here, found, sides, front.vertices)?;
         let behind = records.len() - front.rest.len();
-        let_go(&mut records[at..behind]);
+        let vertices = front.vertices.len();
+        let_go(&mut records[at..behind], vertices);
         at = behind;
     }
     if at == records.len() {
