@@ -96,8 +96,8 @@ fn difference_in(run: Result<Comparison<'_>, ControlError>) -> Result<Option<u64
     }
 }
 
-/// What is found of a part, and of a CL file's records and where a tape first differs from their plan, on a machine. The
-/// records go as they are judged.
+/// What is found of a part, of a CL file's records, and of where a tape first differs from their plan, on a machine. The
+/// records go as their jobs are made, to keep the peak of memory low.
 fn judged<G: Gate>(
     rt: &(impl Threads + Sync),
     alloc: Global,

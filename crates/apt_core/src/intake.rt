@@ -89,9 +89,10 @@ impl Intake for Result<ClReader, ClError> {
 
 /// The records of a CL file that has come to its end.
 pub(crate) fn records_of(run: Result<ClReader, ClError>) -> Result<Vec<Record>, ClError>
+    requires { count_in count_of run < 2 ^ 62 }
     ensures value { (cl : List ℕ) → HasRead cl run → IsDueAs (λ v. v.items) cldata.fault_in (cldata.read_of cl) result }
     ensures range { IfOk result (λ v. AreRecords v.items) }
-    ensures few { IfOk result (λ v. vertex_count v.items + length v.items ≤ count_in count_of run) }
+    ensures few { IfOk result (λ v. vertex_count v.items + length v.items < 2 ^ 62) }
 {
     run?.finish()
 }

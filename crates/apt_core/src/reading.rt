@@ -94,7 +94,7 @@ pub(crate) fn run_input<H: Shelf, T: Taker>(
         reader: TapeReader::new(alloc, code),
         taken: none,
     });
-    let run = intake_of(alloc, shelf, name, begun)?;
+    let run = take_input(alloc, shelf, name, begun)?;
     Ok(taken_of(run))
 }
 
@@ -111,15 +111,15 @@ pub(crate) fn records_input<H: Shelf>(
     ensures read { AreRead (files_on H.Shelf shelf.old) (files_on H.Shelf shelf.new) }
 {
     let begun = Ok(ClReader::new(alloc));
-    let run = intake_of(alloc, shelf, name, begun)?;
+    let run = take_input(alloc, shelf, name, begun)?;
     match records_of(run) {
         Ok(records) => Ok(Ok(records)),
         Err(error) => Ok(Err(cl_answer(error))),
     }
 }
 
-/// What has taken in all bytes of a name, or the answer where it can't be read.
-fn intake_of<H: Shelf, I: Intake>(
+/// Takes in all bytes of a name, or gives the answer where it can't be read.
+fn take_input<H: Shelf, I: Intake>(
     alloc: Global,
     shelf: &mut H,
     name: &str,
@@ -132,14 +132,14 @@ fn intake_of<H: Shelf, I: Intake>(
     ensures stopped { IfErr result (IsStopped (input name.now file_limit ∷ []) (files_on H.Shelf shelf.old) (files_on H.Shelf shelf.new)) }
     ensures read { AreRead (files_on H.Shelf shelf.old) (files_on H.Shelf shelf.new) }
 {
-    match pieces_of(shelf, name, begun) {
+    match take_pieces(shelf, name, begun) {
         Ok(taken) => Ok(taken),
         Err(error) => Err(unread(alloc, name, error)),
     }
 }
 
 /// The same. The file is read to its end also behind a fault, so that one that is too long is told as such.
-fn pieces_of<H: Shelf, I: Intake>(shelf: &mut H, name: &str, begun: I) -> Result<I, ReadError>
+fn take_pieces<H: Shelf, I: Intake>(shelf: &mut H, name: &str, begun: I) -> Result<I, ReadError>
     requires none { I.has begun begun [] }
     requires count { I.count begun ≡ 0 }
     ensures has { IfOk result (λ taken. (bytes : List ℕ) × Reads (H.told shelf.old) (input name.now file_limit) bytes × I.has begun taken bytes) }

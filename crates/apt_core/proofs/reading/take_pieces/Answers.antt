@@ -1,6 +1,6 @@
 use Rattle.std.proofs.Common.{rules, ◌++◌, take}
 use Rattle.apt_core.proofs.Intakes.{read_more, counted_more}
-use Rattle.apt_core.proofs.reading.pieces_of.Goals as goal
+use Rattle.apt_core.proofs.reading.take_pieces.Goals as goal
 
 pub pieces-preserved : goal.pieces-preserved
 pieces-preserved g c =

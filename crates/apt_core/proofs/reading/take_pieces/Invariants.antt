@@ -1,7 +1,7 @@
 use Rattle.std.proofs.Common.{◌≡◌, ◌≤◌, ◌-◌, ◌+◌, true, ℕ, List, length}
 use Rattle.apt_shelf.specs.Files.{HasRead}
 use Rattle.apt_part.specs.Promise.{file_limit}
-use Rattle.apt_core.proofs.reading.pieces_of.Given as goal
+use Rattle.apt_core.proofs.reading.take_pieces.Given as goal
 
 abbrev pub invariant-pieces : goal.invariant-pieces
 invariant-pieces g l =
