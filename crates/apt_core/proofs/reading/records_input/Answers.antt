@@ -6,7 +6,7 @@ returns-in-Ok-clause-records g c =
     let has = c.in_ok-run.ensures.has in
     (has.0, has.1, c.in-Ok.ensures.value has.0 has.2)
 
-pub returns-clause-records : goal.returns-clause-records
-returns-clause-records g c =
+pub returns-in-Err-clause-records : goal.returns-in-Err-clause-records
+returns-in-Err-clause-records g c =
     let has = c.in_ok-run.ensures.has in
     (has.0, has.1, rw c.cl_answer.ensures (bad_cl_told has.0 c.in-Err.error (c.in-Err.ensures.value has.0 has.2)))
