@@ -1,10 +1,10 @@
 -- What is due, along a chain, and for a text that comes to none.
 use Rattle.std.proofs.Common.{◌≡◌, inl, inr, ℕ, List, Result, Ok, Err, sym, ◌∙◌, refl}
-use Rattle.std.specs.Prelude.{IfOk, IfErr, MatchResult}
 use Rattle.apt_words.specs.Chains.{◌>>=◌}
 use Rattle.apt_words.specs.declared.Refusal.{Refusal}
 use Rattle.apt_parse.specs.Programs.{TextFault}
-use Rattle.apt_cldata.specs.declared.error.ClCause.{ClCause}
+use Rattle.apt_cldata.specs.declared.error.ClError.{ClError}
+use Rattle.apt_cldata.specs.declared.error.ClError.TheVariants as cl_errors
 use Rattle.apt_cldata.specs.Reading as reading
 use Rattle.apt_tapecode.specs.declared.Code.{Code}
 use Rattle.apt_words.specs.Answers.{IsFault}
@@ -17,7 +17,7 @@ use Rattle.apt_part.specs.declared.part.PartError.{PartError}
 use Rattle.apt_part.specs.declared.part.PartError.TheVariants as part_errors
 use Rattle.apt_report.specs.declared.status.Status.{Status}
 use Rattle.apt_report.specs.declared.status.Status.TheVariants as answers
-use Rattle.apt_core.specs.Due.{ComesToNone, part_told, unless_refused, records_due, acts_due, tape_told}
+use Rattle.apt_core.specs.Due.{ComesToNone, part_told, unless_refused, records_due, acts_due, cl_told, tape_told}
 
 -- what is due and was not given is told
 pub none_told : {A : Type 0} (due : Result (Result A Refusal) TextFault) (error : PartError) → IsPart due (Err error) → ComesToNone (unless_refused due) (part_told error)
@@ -25,16 +25,13 @@ none_told due (part_errors.Bad line cause) is = inl (rw is refl)
 none_told due (part_errors.Refused r) is = inl (rw is refl)
 none_told due part_errors.NoMemory is = inr refl
 
-pub bad_cl_told : (cl : List ℕ) (at : ℕ) (cause : ClCause) → reading.read_of cl ≡ Err (reading.fault at cause) → ComesToNone (records_due cl) (answers.BadCl at cause)
-bad_cl_told cl at cause e = inl (rw e refl)
+pub bad_cl_told : (cl : List ℕ) (error : ClError) → IsFault reading.fault_in (reading.read_of cl) error → ComesToNone (records_due cl) (cl_told error)
+bad_cl_told cl (cl_errors.Bad at cause) e = inl (rw e refl)
+bad_cl_told cl cl_errors.NoMemory e = inr refl
 
 pub bad_tape_told : (code : Code) (tape : List ℕ) (error : ControlError) → IsFault fault_in (control_run code tape) error → ComesToNone (acts_due code tape) (tape_told error)
 bad_tape_told code tape (tape_errors.Bad at cause) e = inl (rw e refl)
 bad_tape_told code tape tape_errors.NoMemory e = inr refl
-
-pub told_both : {A E : Type 0} (result : Result A E) (P : A → Type 0) (Q : E → Type 0) → IfOk result P → IfErr result Q → MatchResult result P Q
-told_both (Ok x) P Q good bad = good
-told_both (Err e) P Q good bad = bad
 
 -- ---- along a chain
 

@@ -1,5 +1,5 @@
 -- The acts of a tape beside a plan, piece by piece.
-use Rattle.std.proofs.Common.{◌≡◌, ◌<◌, ◌≤◌, ◌+◌, ◌^◌, ℕ, zero, suc, List, [], ◌∷◌, ◌++◌, Option, Some, None, Err, IfSome, is_some, true, length, take, drop, get_or, sym, ap, ◌∙◌, refl, subst, arith, append_assoc}
+use Rattle.std.proofs.Common.{◌≡◌, ◌<◌, ◌≤◌, ◌+◌, ◌^◌, ℕ, zero, suc, List, [], ◌∷◌, ◌++◌, Option, Some, None, Err, is_some, true, length, take, drop, get_or, sym, ap, ◌∙◌, refl, subst, arith, append_assoc}
 use Rattle.std.proofs.lemmas.List.{take-append-drop, length-append, length-take-le, append-nil}
 use Rattle.apt_cldata.specs.declared.record.Record.{Record}
 use Rattle.apt_cldata.specs.Ranges.{vertex_count}
@@ -10,7 +10,7 @@ use Rattle.apt_control.specs.Control.{control_run}
 use Rattle.apt_post.specs.Plan.{plan}
 use Rattle.apt_post.proofs.HowMany.{plan_few}
 use Rattle.apt_core.specs.Certificates.{HeadsDiffer, DifferAt}
-use Rattle.apt_core.specs.Comparisons.{AreBeside, AreCompared}
+use Rattle.apt_core.specs.Comparisons.{AreBeside, AreCompared, IsDifference}
 use Rattle.apt_core.specs.Due.{ComesToNone, acts_due, tape_told}
 use Rattle.apt_core.specs.TapeRuns.{IsTaken}
 use Rattle.apt_core.specs.declared.comparison.Comparison.{Comparison}
@@ -46,7 +46,7 @@ differ_still planned acts more at differ rest = subst (λ (l : List Act). Differ
 pub differ_here : (planned acts : List Act) (at : ℕ) → ((more : List Act) → DifferAt (acts ++ more) planned at) → DifferAt acts planned at
 differ_here planned acts at differ = subst (λ (l : List Act). DifferAt l planned at) (append-nil acts) (differ [])
 
-pub found_differs : (planned left acts : List Act) (first : Option ℕ) → is_some first ≡ true → AreBeside planned left first acts → IfSome first (λ at. DifferAt acts planned at)
+pub found_differs : (planned left acts : List Act) (first : Option ℕ) → is_some first ≡ true → AreBeside planned left first acts → IsDifference planned first acts
 found_differs planned left acts None is beside = absurd (let f : ⊥ = cc in f)
 found_differs planned left acts (Some at) is beside = differ_here planned acts at beside
 
@@ -68,5 +68,5 @@ compared_on begun now behind before more none records beside next compared = rec
 }
 
 -- a fault of the tape is told
-pub bad_tape_compared : (begun : Comparison) (code : Code) (tape : List ℕ) (error : ControlError) → IsTaken (AreCompared begun) (control_run code tape) (Err error) → ComesToNone (acts_due code tape) (tape_told error)
-bad_tape_compared begun code tape error taken = bad_tape_told code tape error taken
+pub bad_tape_found : (planned : List Act) (code : Code) (tape : List ℕ) (error : ControlError) → IsTaken (IsDifference planned) (control_run code tape) (Err error) → ComesToNone (acts_due code tape) (tape_told error)
+bad_tape_found planned code tape error found = bad_tape_told code tape error found

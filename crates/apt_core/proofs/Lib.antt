@@ -4,6 +4,7 @@ pub mod Chains
 pub mod Outputs
 pub mod Deliveries
 pub mod Readings
+pub mod Intakes
 pub mod TapeRuns
 pub mod Compiling
 pub mod Counting

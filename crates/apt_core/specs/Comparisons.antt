@@ -15,3 +15,8 @@ pub record AreCompared (begun now : Comparison) (acts : List Act) : Type 0 where
   pub same : now.records.now ≡ begun.records.now
   pub beside : AreBeside (plan begun.records.now) now.left now.first acts
   pub next : now.first ≡ None → now.next ≡ length acts + 1
+
+-- where all acts first differ from a plan; none where they are as planned
+abbrev pub IsDifference : List Act → Option ℕ → List Act → Type 0
+IsDifference planned None acts = acts ≡ planned
+IsDifference planned (Some at) acts = DifferAt acts planned at

@@ -5,6 +5,8 @@ use Rattle.apt_words.specs.Chains.{◌>>=◌}
 use Rattle.apt_words.specs.declared.Refusal.{Refusal}
 use Rattle.apt_words.specs.declared.deed.Step.{Step}
 use Rattle.apt_parse.specs.Programs.{TextFault}
+use Rattle.apt_cldata.specs.declared.error.ClError.{ClError}
+use Rattle.apt_cldata.specs.declared.error.ClError.TheVariants as cl_errors
 use Rattle.apt_cldata.specs.declared.record.Record.{Record}
 use Rattle.apt_cldata.specs.Reading.{read_of}
 use Rattle.apt_tapecode.specs.declared.Code.{Code}
@@ -50,12 +52,17 @@ refused_step r = answers.Refused r.line r.step r.case
 abbrev pub bad_tape : BlockFault → Status
 bad_tape fault = answers.BadTape fault.at fault.cause
 
--- the same of what a reader of tapes refuses
+-- the same of what a reader of CL files refuses
+abbrev pub cl_told : ClError → Status
+cl_told (cl_errors.Bad at cause) = answers.BadCl at cause
+cl_told cl_errors.NoMemory = answers.NoMemory
+
+-- of what a reader of tapes refuses
 abbrev pub tape_told : ControlError → Status
 tape_told (tape_errors.Bad at cause) = answers.BadTape at cause
 tape_told tape_errors.NoMemory = answers.NoMemory
 
--- the same of what the crate of parts refuses
+-- and of what the crate of parts refuses
 abbrev pub part_told : PartError → Status
 part_told (part_errors.Bad line cause) = answers.BadPart line cause
 part_told (part_errors.Refused r) = refused_step r

@@ -2,6 +2,7 @@ pub mod Words
 pub mod Request
 pub mod Due
 pub mod Inputs
+pub mod Intakes
 pub mod TapeRuns
 pub mod Outputs
 pub mod Delivery

@@ -1,6 +1,6 @@
 //! The command `certify`.
 
-ghost use Rattle.std.specs.Prelude.{◌≡◌, ◌+◌, ◌<◌, ◌^◌, ℕ, List, [], ◌∷◌, length, None, Ok, IfOk, IfErr, MatchResult};
+ghost use Rattle.std.specs.Prelude.{◌≡◌, ◌+◌, ◌<◌, ◌^◌, ℕ, List, length, None, Result, Ok, IfOk, IfErr};
 ghost use Rattle.apt_cldata.specs.Ranges.{AreRecords, vertex_count};
 ghost use Rattle.apt_cldata.specs.Reading.{read_of};
 ghost use Rattle.apt_meaning.specs.Situations.{first_situation};
@@ -8,25 +8,26 @@ ghost use Rattle.apt_meaning.specs.Compiled.{first_refused};
 ghost use Rattle.apt_meaning.specs.Records.{Follows};
 ghost use Rattle.apt_certify.specs.Verdicts.{IsVerdict};
 ghost use Rattle.apt_job.specs.Jobs.{jobs_said};
-ghost use Rattle.apt_part.specs.Promise.{AreSteps, file_limit};
-ghost use Rattle.apt_post.specs.Plan as plans;
+ghost use Rattle.apt_part.specs.Promise.{AreSteps};
+ghost use Rattle.apt_post.specs.Plan.{plan};
 ghost use Rattle.apt_tapecode.specs.declared.Code.{Code};
+ghost use Rattle.apt_block.specs.declared.block.BlockFault.{BlockFault};
 ghost use Rattle.apt_control.specs.declared.Act.{Act};
 ghost use Rattle.apt_control.specs.Control.{control_run};
 ghost use Rattle.apt_machine.specs.Machines.{IsMachine};
 ghost use Rattle.apt_machine.specs.Tables.{table_of};
-ghost use Rattle.apt_core.specs.Comparisons.{AreCompared};
+ghost use Rattle.apt_core.specs.Comparisons.{AreCompared, IsDifference};
 ghost use Rattle.apt_core.specs.declared.comparison.Comparison.{Comparison};
 ghost use Rattle.apt_core.specs.Due.{answer_of, records_due, acts_due, ComesToNone, OrNoMemory};
 ghost use Rattle.apt_core.specs.Request.{four_names};
-ghost use Rattle.apt_core.specs.Inputs.{input, files_on, AreRead, Reads, IsStopped};
+ghost use Rattle.apt_core.specs.Inputs.{files_on};
 ghost use Rattle.apt_core.specs.TapeRuns.{IsTaken};
 ghost use Rattle.apt_core.specs.Certificates.{IsMissed, IsJudgement};
 ghost use Rattle.apt_core.specs.Promise.{Certifies};
 
 use crate::comparison::Comparison;
-use crate::due::{machine_of, records_in, steps_on, tape_answer};
-use crate::reading::{FILE_LIMIT, MACHINE_LIMIT, PART_LIMIT, read_input, run_input};
+use crate::due::{machine_of, steps_on, tape_answer};
+use crate::reading::{MACHINE_LIMIT, PART_LIMIT, read_input, records_input, run_input};
 use crate::words::Names;
 use apt_certify::{Gate, check_jobs_split};
 use apt_cldata::Record;
@@ -58,7 +59,8 @@ pub(crate) fn certify<H: Shelf, G: Gate>(
             Ok(records) => {
                 let none = Comparison::with_plan(&records);
                 let run = run_input(alloc, shelf, names.tape, machine.code, none)?;
-                judged(rt, alloc, &machine, text, &records, run, gate)
+                let found = difference_in(run);
+                judged(rt, alloc, &machine, text, records, found, gate)
             }
             Err(fault) => {
                 // a tape that can't be read is told before the fault of the CL file
@@ -74,22 +76,6 @@ pub(crate) fn certify<H: Shelf, G: Gate>(
     }
 }
 
-/// The records of a CL file, or the answer where it is none, and else the one where it can't be read. The file's bytes go
-/// before the tape is read, to keep the peak of memory low.
-fn records_input<H: Shelf>(
-    alloc: Global,
-    shelf: &mut H,
-    name: &str,
-) -> Result<Result<Vec<Record>, Status>, Status>
-    ensures records { IfOk result (λ records. (cl : List ℕ) × Reads (H.told shelf.old) (input name.now file_limit) cl × MatchResult records (λ r. read_of cl ≡ Ok r.items) (ComesToNone (records_due cl))) }
-    ensures range { IfOk result (λ records. IfOk records (λ r. AreRecords r.items × (vertex_count r.items + length r.items < 2 ^ 62))) }
-    ensures stopped { IfErr result (IsStopped (input name.now file_limit ∷ []) (files_on H.Shelf shelf.old) (files_on H.Shelf shelf.new)) }
-    ensures read { AreRead (files_on H.Shelf shelf.old) (files_on H.Shelf shelf.new) }
-{
-    let cl = read_input(alloc, shelf, name, FILE_LIMIT)?;
-    Ok(records_in(alloc, &cl))
-}
-
 /// The answer where the CL file has a fault: what is wrong with the part is told before it.
 fn without_records(alloc: Global, machine: &Machine, text: Vec<u8>, fault: Status) -> Status
     ensures { (table cl tape : List ℕ) → table_of table ≡ Ok machine.now → ComesToNone (records_due cl) fault → OrNoMemory (IsJudgement text.items table cl tape result) result }
@@ -100,35 +86,46 @@ fn without_records(alloc: Global, machine: &Machine, text: Vec<u8>, fault: Statu
     }
 }
 
-/// What is found of a part, and of a tape by its run beside the plan of a CL file's records, on a machine.
+/// The first place, from 1, at which the acts of a run differ from the plan beside which it was.
+fn difference_in(run: Result<Comparison<'_>, ControlError>) -> Result<Option<u64>, ControlError>
+    ensures { (begun : Comparison) (due : Result (List Act) BlockFault) → IsTaken (AreCompared begun) due run.entry → IsTaken (IsDifference (plan begun.records.now)) due result }
+{
+    match run {
+        Ok(compared) => Ok(compared.difference()),
+        Err(error) => Err(error),
+    }
+}
+
+/// What is found of a part, of a CL file's records, and of where a tape first differs from their plan, on a machine. The
+/// records go as their jobs are made, to keep the peak of memory low.
 fn judged<G: Gate>(
     rt: &(impl Threads + Sync),
     alloc: Global,
     machine: &Machine,
     text: Vec<u8>,
-    records: &[Record],
-    run: Result<Comparison<'_>, ControlError>,
+    records: Vec<Record>,
+    found: Result<Option<u64>, ControlError>,
     gate: &G,
 ) -> Result<Summary, Status>
     requires machine { IsMachine machine.now }
-    requires records { AreRecords records.now }
-    requires few { vertex_count records.now + length records.now < 2 ^ 62 }
-    ensures { (table cl tape : List ℕ) (begun : Comparison) → table_of table ≡ Ok machine.now → read_of cl ≡ Ok records.now → begun.records.now ≡ records.now → IsTaken (AreCompared begun) (control_run machine.now.code tape) run.entry → OrNoMemory (IsJudgement text.items table cl tape (answer_of result)) (answer_of result) }
+    requires records { AreRecords records.items }
+    requires few { vertex_count records.items + length records.items < 2 ^ 62 }
+    ensures { (table cl tape : List ℕ) → table_of table ≡ Ok machine.now → read_of cl ≡ Ok records.items → IsTaken (IsDifference (plan records.items)) (control_run machine.now.code tape) found → OrNoMemory (IsJudgement text.items table cl tape (answer_of result)) (answer_of result) }
 {
     let steps = steps_on(alloc, text, machine)?;
-    let compared = compared_in(run)?;
-    let verdict = verdict_on(rt, alloc, &steps, records, compared, gate)?;
+    let difference = found_in(found)?;
+    let verdict = verdict_on(rt, alloc, &steps, records, difference, gate)?;
     Ok(Summary::Certified(verdict))
 }
 
-/// What was compared of a tape, or how its fault is told.
-#[tactic(auto, using(crate::proofs::Comparing::bad_tape_compared))]
-fn compared_in(run: Result<Comparison<'_>, ControlError>) -> Result<Comparison<'_>, Status>
-    ensures compared { (begun : Comparison) (code : Code) (tape : List ℕ) → IsTaken (AreCompared begun) (control_run code tape) run.entry → IfOk result (λ c. (acts : List Act) × AreCompared begun c acts × (control_run code tape ≡ Ok acts)) }
-    ensures none { (begun : Comparison) (code : Code) (tape : List ℕ) → IsTaken (AreCompared begun) (control_run code tape) run.entry → IfErr result (ComesToNone (acts_due code tape)) }
+/// What was found of a tape, or how its fault is told.
+#[tactic(auto, using(crate::proofs::Comparing::bad_tape_found))]
+fn found_in(found: Result<Option<u64>, ControlError>) -> Result<Option<u64>, Status>
+    ensures found { (planned : List Act) (code : Code) (tape : List ℕ) → IsTaken (IsDifference planned) (control_run code tape) found → IfOk result (λ at. (acts : List Act) × IsDifference planned at acts × (control_run code tape ≡ Ok acts)) }
+    ensures none { (planned : List Act) (code : Code) (tape : List ℕ) → IsTaken (IsDifference planned) (control_run code tape) found → IfErr result (ComesToNone (acts_due code tape)) }
 {
-    match run {
-        Ok(compared) => Ok(compared),
+    match found {
+        Ok(difference) => Ok(difference),
         Err(error) => Err(tape_answer(error)),
     }
 }
@@ -138,19 +135,19 @@ fn verdict_on<G: Gate>(
     rt: &(impl Threads + Sync),
     alloc: Global,
     steps: &[Step],
-    records: &[Record],
-    compared: Comparison<'_>,
+    records: Vec<Record>,
+    difference: Option<u64>,
     gate: &G,
 ) -> Result<Verdict, Status>
     requires steps { AreSteps steps.now }
     requires passes { first_refused first_situation steps.now ≡ None }
-    requires records { AreRecords records.now }
-    requires few { vertex_count records.now + length records.now < 2 ^ 62 }
-    ensures follows { IfOk result (λ _. Follows steps.now records.now) }
-    ensures verdict { IfOk result (IsVerdict (jobs_said records.now)) }
+    requires records { AreRecords records.items }
+    requires few { vertex_count records.items + length records.items < 2 ^ 62 }
+    ensures follows { IfOk result (λ _. Follows steps.now records.items) }
+    ensures verdict { IfOk result (IsVerdict (jobs_said records.items)) }
     ensures legal { IfOk result (λ v. v.first_bad ≡ None) }
-    ensures planned { (begun : Comparison) (acts : List Act) → begun.records.now ≡ records.now → AreCompared begun compared.entry acts → IfOk result (λ _. acts ≡ plans.plan records.now) }
-    ensures missed { (begun : Comparison) (acts : List Act) → begun.records.now ≡ records.now → AreCompared begun compared.entry acts → IfErr result (λ s. OrNoMemory (IsMissed steps.now records.now acts s) s) }
+    ensures planned { (acts : List Act) → IsDifference (plan records.items) difference acts → IfOk result (λ _. acts ≡ plan records.items) }
+    ensures missed { (acts : List Act) → IsDifference (plan records.items) difference acts → IfErr result (λ s. OrNoMemory (IsMissed steps.now records.items acts s) s) }
 {
     let jobs = match jobs(alloc, steps, records) {
         Ok(jobs) => jobs,
@@ -165,7 +162,7 @@ fn verdict_on<G: Gate>(
             miss: Miss::Motion(bad),
         });
     }
-    match compared.difference() {
+    match difference {
         Some(at) => Err(Status::NotCertified {
             miss: Miss::Act { at },
         }),

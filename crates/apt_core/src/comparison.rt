@@ -1,6 +1,6 @@
 //! The acts of a tape beside a plan, while the tape is read.
 
-ghost use Rattle.std.specs.Prelude.{◌≡◌, ◌↔◌, ◌+◌, ◌<◌, ◌≤◌, ◌^◌, ◌++◌, false, IsTrue, List, [], ◌∷◌, length, None, IfSome};
+ghost use Rattle.std.specs.Prelude.{◌≡◌, ◌↔◌, ◌+◌, ◌<◌, ◌≤◌, ◌^◌, ◌++◌, false, IsTrue, List, [], ◌∷◌, length, None};
 ghost use Rattle.apt_cldata.specs.Ranges.{vertex_count};
 ghost use Rattle.apt_control.specs.declared.Act.{Act};
 ghost use Rattle.apt_core.specs.Certificates.{HeadsDiffer};
@@ -23,8 +23,7 @@ pub(crate) struct Comparison<'a> {
 }
 
 impl<'a> Comparison<'a> {
-    ghost use Rattle.apt_core.specs.Certificates.{DifferAt};
-    ghost use Rattle.apt_core.specs.Comparisons.{AreBeside, AreCompared};
+    ghost use Rattle.apt_core.specs.Comparisons.{AreBeside, AreCompared, IsDifference};
     ghost use Rattle.apt_core.specs.declared.comparison.Comparison.{Comparison};
     ghost use Rattle.apt_post.specs.Plan as plans;
 
@@ -77,8 +76,7 @@ impl<'a> Comparison<'a> {
 
     /// The first place, from 1, at which all acts and the plan differ.
     pub(crate) fn difference(self) -> Option<u64>
-        ensures differ { (begun : Comparison) (acts : List Act) → AreCompared begun self.entry acts → IfSome result (λ at. DifferAt acts (plans.plan begun.records.now) at) }
-        ensures same { (begun : Comparison) (acts : List Act) → AreCompared begun self.entry acts → result ≡ None → acts ≡ plans.plan begun.records.now }
+        ensures { (begun : Comparison) (acts : List Act) → AreCompared begun self.entry acts → IsDifference (plans.plan begun.records.now) result acts }
     {
         let Comparison {
             mut left,

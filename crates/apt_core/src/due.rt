@@ -1,17 +1,14 @@
 //! What texts come to, or the answer where one has a fault.
 
-ghost use Rattle.std.specs.Prelude.{◌≡◌, ◌+◌, ◌≤◌, ℕ, List, length, IfOk, IfErr, Ok, Err};
-ghost use Rattle.apt_cldata.specs.Ranges.{AreRecords, vertex_count};
-ghost use Rattle.apt_cldata.specs.Reading.{read_of};
+ghost use Rattle.std.specs.Prelude.{◌≡◌, ◌≤◌, length, IfOk, IfErr, Ok, Err};
 ghost use Rattle.apt_machine.specs.Machines.{IsMachine};
 ghost use Rattle.apt_machine.specs.Tables as tables;
 ghost use Rattle.apt_part.specs.Compilation as parts;
 ghost use Rattle.apt_part.specs.Promise.{Passes, Promise, AreSteps};
-ghost use Rattle.apt_core.specs.Due.{ComesToNone, machine_due, part_due, steps_due, records_due, part_told, tape_told};
+ghost use Rattle.apt_core.specs.Due.{ComesToNone, machine_due, part_due, steps_due, part_told, cl_told, tape_told};
 
 use apt_certify::Gate;
-use apt_cldata::{ClError, Record};
-use apt_clreader::read;
+use apt_cldata::ClError;
 use apt_control::ControlError;
 use apt_machine::{Machine, table};
 use apt_part::{Part, PartError, part_of, steps_of};
@@ -85,19 +82,13 @@ pub(crate) fn steps_on(alloc: Global, text: Vec<u8>, machine: &Machine) -> Resul
     }
 }
 
-/// The records of a CL file.
-#[tactic(auto, using(crate::proofs::Chains::bad_cl_told))]
-pub(crate) fn records_in(alloc: Global, cl: &[u8]) -> Result<Vec<Record>, Status>
-    requires short { length cl.now ≤ 67108864 }
-    ensures value { IfOk result (λ records. read_of cl.now ≡ Ok records.items) }
-    ensures range { IfOk result (λ records. AreRecords records.items) }
-    ensures few { IfOk result (λ records. vertex_count records.items + length records.items ≤ length cl.now) }
-    ensures none { IfErr result (ComesToNone (records_due cl.now)) }
+/// How a CL file that has a fault is told.
+pub(crate) fn cl_answer(error: ClError) -> Status
+    ensures { result ≡ cl_told error }
 {
-    match read(alloc, cl) {
-        Ok(records) => Ok(records),
-        Err(ClError::Bad { at, cause }) => Err(Status::BadCl { at, cause }),
-        Err(ClError::NoMemory) => Err(Status::NoMemory),
+    match error {
+        ClError::Bad { at, cause } => Status::BadCl { at, cause },
+        ClError::NoMemory => Status::NoMemory,
     }
 }
 

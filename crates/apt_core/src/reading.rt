@@ -1,15 +1,21 @@
 //! The files that a command reads.
 
-ghost use Rattle.std.specs.Prelude.{◌≡◌, ◌+◌, ◌<◌, ◌^◌, ◌++◌, ℕ, List, [], ◌∷◌, length, IfOk, IfErr, IsErrOf};
+ghost use Rattle.std.specs.Prelude.{◌≡◌, ◌+◌, ◌<◌, ◌≤◌, ◌^◌, ℕ, List, [], ◌∷◌, length, Ok, IfOk, IfErr, IsErrOf, MatchResult};
 ghost use Rattle.apt_shelf.specs.Told.{Lacks, Rose};
 ghost use Rattle.apt_shelf.specs.Files.{IsLongerAt};
-ghost use Rattle.apt_tapecode.specs.declared.Code.{Code};
+ghost use Rattle.apt_cldata.specs.Ranges.{AreRecords, vertex_count};
+ghost use Rattle.apt_cldata.specs.Reading.{read_of};
 ghost use Rattle.apt_control.specs.Control.{control_run};
 ghost use Rattle.apt_part.specs.Promise.{file_limit};
+ghost use Rattle.apt_core.specs.Due.{ComesToNone, records_due};
 ghost use Rattle.apt_core.specs.Inputs.{input, files_on, AreRead, Reads, IsStopped, IsToldFor};
-ghost use Rattle.apt_core.specs.TapeRuns.{HasRun, IsTaken};
+ghost use Rattle.apt_core.specs.TapeRuns.{IsTaken};
 
+use crate::due::cl_answer;
+use crate::intake::{Intake, TapeRun, records_of, taken_of};
 use crate::taker::Taker;
+use apt_cldata::Record;
+use apt_clreader::ClReader;
 use apt_control::{ControlError, TapeReader};
 use apt_report::{FileName, Status};
 use apt_shelf::{ReadError, Shelf, read_all, read_piece};
@@ -23,9 +29,9 @@ pub(crate) const PART_LIMIT: usize = 4_194_304;
 pub(crate) const MACHINE_LIMIT: usize = 65_536;
 
 /// The longest CL file and the longest tape, in bytes.
-pub(crate) const FILE_LIMIT: usize = 67_108_864;
+const FILE_LIMIT: usize = 67_108_864;
 
-/// How many bytes of a tape are read at a time.
+/// How many bytes of such a file are read at a time.
 const PIECE: usize = 4096;
 
 /// All bytes of a name, or the answer where it can't be read.
@@ -84,72 +90,75 @@ pub(crate) fn run_input<H: Shelf, T: Taker>(
     ensures stopped { IfErr result (IsStopped (input name.now file_limit ∷ []) (files_on H.Shelf shelf.old) (files_on H.Shelf shelf.new)) }
     ensures read { AreRead (files_on H.Shelf shelf.old) (files_on H.Shelf shelf.new) }
 {
-    match run_pieces(alloc, shelf, name, code, none) {
-        Ok(run) => Ok(run),
+    let begun = Ok(TapeRun {
+        reader: TapeReader::new(alloc, code),
+        taken: none,
+    });
+    let run = take_input(alloc, shelf, name, begun)?;
+    Ok(taken_of(run))
+}
+
+/// The records of a CL file, which is read piece by piece, or the answer where it is none, and else the one where it can't
+/// be read.
+pub(crate) fn records_input<H: Shelf>(
+    alloc: Global,
+    shelf: &mut H,
+    name: &str,
+) -> Result<Result<Vec<Record>, Status>, Status>
+    ensures records { IfOk result (λ records. (cl : List ℕ) × Reads (H.told shelf.old) (input name.now file_limit) cl × MatchResult records (λ r. read_of cl ≡ Ok r.items) (ComesToNone (records_due cl))) }
+    ensures range { IfOk result (λ records. IfOk records (λ r. AreRecords r.items × (vertex_count r.items + length r.items < 2 ^ 62))) }
+    ensures stopped { IfErr result (IsStopped (input name.now file_limit ∷ []) (files_on H.Shelf shelf.old) (files_on H.Shelf shelf.new)) }
+    ensures read { AreRead (files_on H.Shelf shelf.old) (files_on H.Shelf shelf.new) }
+{
+    let begun = Ok(ClReader::new(alloc));
+    let run = take_input(alloc, shelf, name, begun)?;
+    match records_of(run) {
+        Ok(records) => Ok(Ok(records)),
+        Err(error) => Ok(Err(cl_answer(error))),
+    }
+}
+
+/// Takes in all bytes of a name, or gives the answer where it can't be read.
+fn take_input<H: Shelf, I: Intake>(
+    alloc: Global,
+    shelf: &mut H,
+    name: &str,
+    begun: I,
+) -> Result<I, Status>
+    requires none { I.has begun begun [] }
+    requires count { I.count begun ≡ 0 }
+    ensures has { IfOk result (λ taken. (bytes : List ℕ) × Reads (H.told shelf.old) (input name.now file_limit) bytes × I.has begun taken bytes) }
+    ensures count { IfOk result (λ taken. I.count taken ≤ file_limit) }
+    ensures stopped { IfErr result (IsStopped (input name.now file_limit ∷ []) (files_on H.Shelf shelf.old) (files_on H.Shelf shelf.new)) }
+    ensures read { AreRead (files_on H.Shelf shelf.old) (files_on H.Shelf shelf.new) }
+{
+    match take_pieces(shelf, name, begun) {
+        Ok(taken) => Ok(taken),
         Err(error) => Err(unread(alloc, name, error)),
     }
 }
 
-/// The same. The tape is read to its end also behind a fault, so that one that is too long is told as such.
-fn run_pieces<H: Shelf, T: Taker>(
-    alloc: Global,
-    shelf: &mut H,
-    name: &str,
-    code: Code,
-    none: T,
-) -> Result<Result<T, ControlError>, ReadError>
-    requires { T.has none none [] }
-    ensures run { IfOk result (λ run. (tape : List ℕ) × Reads (H.told shelf.old) (input name.now file_limit) tape × IsTaken (T.has none) (control_run code tape) run) }
+/// The same. The file is read to its end also behind a fault, so that one that is too long is told as such.
+fn take_pieces<H: Shelf, I: Intake>(shelf: &mut H, name: &str, begun: I) -> Result<I, ReadError>
+    requires none { I.has begun begun [] }
+    requires count { I.count begun ≡ 0 }
+    ensures has { IfOk result (λ taken. (bytes : List ℕ) × Reads (H.told shelf.old) (input name.now file_limit) bytes × I.has begun taken bytes) }
+    ensures count { IfOk result (λ taken. I.count taken ≤ file_limit) }
     ensures missing { IsErrOf result ReadError.Missing → Lacks (H.told shelf.old) name.now (H.read_faults shelf.old) (H.read_faults shelf.new) }
     ensures fault { IsErrOf result ReadError.Fault → Rose (H.read_faults shelf.old) (H.read_faults shelf.new) }
     ensures too_long { IsErrOf result ReadError.TooLong → IsLongerAt (H.told shelf.old) name.now file_limit }
     ensures read { AreRead (files_on H.Shelf shelf.old) (files_on H.Shelf shelf.new) }
 {
     shelf.start_read(name)?;
-    let mut run = Ok(TapeRun {
-        reader: TapeReader::new(alloc, code),
-        taken: none,
-    });
+    let mut taken = begun;
     let mut count = 0;
     let mut buf = [0u8; PIECE];
     'pieces: loop {
         let n = read_piece(shelf, &mut buf, count, FILE_LIMIT)?;
         if n == 0 {
-            return Ok(finished(run));
+            return Ok(taken);
         }
-        run = fed(run, &buf[..n]);
+        taken = taken.with(&buf[..n]);
         count += n;
     }
-}
-
-/// A tape so far, and what was taken of the acts that its reader no longer keeps.
-#[derive(Drop)]
-struct TapeRun<T: Drop> {
-    reader: TapeReader,
-    taken: T,
-}
-
-/// A run goes on with a piece, where nothing was refused, and its acts are taken.
-fn fed<T: Taker>(
-    run: Result<TapeRun<T>, ControlError>,
-    piece: &[u8],
-) -> Result<TapeRun<T>, ControlError>
-    requires { IfOk run (λ run. run.reader.count + length piece.now < 2 ^ 64) }
-    ensures { (none : T) (code : Code) (front : List ℕ) → HasRun (T.has none) code front run → HasRun (T.has none) code (front ++ piece.now) result }
-{
-    let TapeRun { reader, taken } = run?;
-    let mut reader = reader.feed(piece)?;
-    let taken = taken.with(reader.acts())?;
-    reader.drop_acts();
-    Ok(TapeRun { reader, taken })
-}
-
-/// What was taken of a run that has come to its end.
-fn finished<T: Taker>(run: Result<TapeRun<T>, ControlError>) -> Result<T, ControlError>
-    ensures { (none : T) (code : Code) (front : List ℕ) → HasRun (T.has none) code front run → IsTaken (T.has none) (control_run code front) result }
-{
-    let TapeRun { reader, taken } = run?;
-    let rest = reader.finish()?;
-    let taken = taken.with(&rest)?;
-    Ok(taken)
 }

@@ -3,6 +3,6 @@ use Rattle.apt_post.specs.Plan as plans
 use Rattle.apt_core.proofs.Comparing.{found_differs}
 use Rattle.apt_core.proofs.comparison.Comparison.difference.Goals as goal
 
-pub returns-then-is_some-clause-differ : goal.returns-then-is_some-clause-differ
-returns-then-is_some-clause-differ c = λ begun acts compared.
+pub returns-then-is_some : goal.returns-then-is_some
+returns-then-is_some c = λ begun acts compared.
     found_differs (plans.plan begun.records.now) c.args.self.left acts c.args.self.first (sym c.is_some.ensures ∙ c.if-is_some.true) compared.beside

@@ -1,0 +1,98 @@
+//! What takes in a file piece by piece: the run of a tape, and that of a CL file.
+
+ghost use Rattle.std.specs.Prelude.{◌≡◌, ◌+◌, ◌<◌, ◌≤◌, ◌^◌, ◌++◌, ℕ, List, length, IfOk};
+ghost use Rattle.apt_words.specs.Answers.{IsDueAs};
+ghost use Rattle.apt_cldata.specs.Ranges.{AreRecords, vertex_count};
+ghost use Rattle.apt_cldata.specs.Reading as cldata;
+ghost use Rattle.apt_clreader.specs.Pieces.{HasRead, count_of};
+ghost use Rattle.apt_tapecode.specs.declared.Code.{Code};
+ghost use Rattle.apt_control.specs.Control.{control_run};
+ghost use Rattle.apt_core.specs.Intakes.{count_in};
+ghost use Rattle.apt_core.specs.TapeRuns.{HasRun, IsTaken};
+
+use crate::taker::Taker;
+use apt_cldata::{ClError, Record};
+use apt_clreader::ClReader;
+use apt_control::{ControlError, TapeReader};
+
+pub(crate) trait Intake: Drop {
+    /// From what was there before the first byte, it has taken in these bytes.
+    ghost has: { Self → Self → List ℕ → Type 0 };
+
+    /// How many bytes it has counted.
+    ghost count: { Self → ℕ };
+
+    /// Takes in bytes that come behind those so far. A refusal stays as it is.
+    fn with(self, piece: &[u8]) -> Self
+        requires { count self + length piece.now < 2 ^ 63 }
+        ensures has { (begun : Self) (front : List ℕ) → has begun self front → has begun result (front ++ piece.now) }
+        ensures count { count result ≤ count self + length piece.now };
+}
+
+/// A tape so far, and what was taken of the acts that its reader no longer keeps.
+#[derive(Drop)]
+pub(crate) struct TapeRun<T: Drop> {
+    pub reader: TapeReader,
+    pub taken: T,
+}
+
+impl<T: Taker> TapeRun<T> {
+    /// Goes on with a piece, and takes its acts.
+    fn fed(self, piece: &[u8]) -> Result<TapeRun<T>, ControlError>
+        requires { self.reader.count + length piece.now < 2 ^ 63 }
+        ensures run { (none : T) (code : Code) (front : List ℕ) → HasRun (T.has none) code front (Ok self) → HasRun (T.has none) code (front ++ piece.now) result }
+        ensures count { IfOk result (λ run. run.reader.count ≡ self.reader.count + length piece.now) }
+    {
+        let TapeRun { reader, taken } = self;
+        let mut reader = reader.feed(piece)?;
+        let taken = taken.with(reader.acts())?;
+        reader.drop_acts();
+        Ok(TapeRun { reader, taken })
+    }
+}
+
+impl<T: Taker> Intake for Result<TapeRun<T>, ControlError> {
+    ghost use Rattle.apt_core.specs.Intakes.{count_in};
+    ghost use Rattle.apt_core.specs.TapeRuns.{RunsFrom};
+
+    ghost has = { RunsFrom T.has };
+
+    ghost count = { count_in (λ run. run.reader.count) };
+
+    fn with(self, piece: &[u8]) -> Result<TapeRun<T>, ControlError> {
+        self?.fed(piece)
+    }
+}
+
+/// What was taken of a tape that has come to its end.
+pub(crate) fn taken_of<T: Taker>(run: Result<TapeRun<T>, ControlError>) -> Result<T, ControlError>
+    ensures { (none : T) (code : Code) (tape : List ℕ) → HasRun (T.has none) code tape run → IsTaken (T.has none) (control_run code tape) result }
+{
+    let TapeRun { reader, taken } = run?;
+    let rest = reader.finish()?;
+    let taken = taken.with(&rest)?;
+    Ok(taken)
+}
+
+impl Intake for Result<ClReader, ClError> {
+    ghost use Rattle.apt_clreader.specs.Pieces.{HasRead, count_of};
+    ghost use Rattle.apt_core.specs.Intakes.{count_in};
+
+    ghost has = { λ _ run front. HasRead front run };
+
+    ghost count = { count_in count_of };
+
+    fn with(self, piece: &[u8]) -> Result<ClReader, ClError> {
+        self?.feed(piece)
+    }
+}
+
+/// The records of a CL file that has come to its end.
+pub(crate) fn records_of(run: Result<ClReader, ClError>) -> Result<Vec<Record>, ClError>
+    requires { count_in count_of run < 2 ^ 62 }
+    ensures value { (cl : List ℕ) → HasRead cl run → IsDueAs (λ v. v.items) cldata.fault_in (cldata.read_of cl) result }
+    ensures range { IfOk result (λ v. AreRecords v.items) }
+    ensures few { IfOk result (λ v. vertex_count v.items + length v.items < 2 ^ 62) }
+{
+    run?.finish()
+}
