@@ -16,7 +16,6 @@ use Rattle.apt_part.specs.Answering.{IsPart}
 use Rattle.apt_part.specs.declared.part.PartError.{PartError}
 use Rattle.apt_part.specs.declared.part.PartError.TheVariants as part_errors
 use Rattle.apt_report.specs.declared.status.Status.{Status}
-use Rattle.apt_report.specs.declared.status.Status.TheVariants as answers
 use Rattle.apt_core.specs.Due.{ComesToNone, part_told, unless_refused, records_due, acts_due, cl_told, tape_told}
 
 -- what is due and was not given is told

@@ -1,5 +1,3 @@
-use Rattle.std.proofs.Common.{ap, subst}
-use Rattle.apt_core.specs.TapeRuns.{HasRun}
 use Rattle.apt_core.proofs.reading.run_input.Goals as goal
 
 pub returns-clause-run : goal.returns-clause-run
