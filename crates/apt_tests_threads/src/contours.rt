@@ -6,7 +6,7 @@ ghost use Rattle.apt_certify.specs.Jobs.{AreJobs, point_count};
 use crate::gates::{Counts, Meeting};
 use crate::runs::{MACHINE, PLATE, answer, plate};
 use apt_certify::{Bad, Job, OpenGate, check_jobs, check_jobs_split};
-use apt_cldata::read;
+use apt_clreader::read;
 use apt_job::jobs;
 use apt_machine::table;
 use apt_part::steps_of;
