@@ -1,15 +1,18 @@
 //! Shortcuts: each gives what an exact call beside it gives, and spares that call where a look is enough.
 
-ghost use Rattle.std.specs.Prelude.{◌≡◌, ◌+◌, ◌<◌, ◌≤◌, ◌==◌, if◌then◌else◌, take, drop, [], ◌∷◌, length, IfSome, IsNone};
+ghost use Rattle.std.specs.Prelude.{◌≡◌, ◌+◌, ◌<◌, ◌≤◌, ◌==◌, if◌then◌else◌, true, take, drop, [], ◌∷◌, length, None, IfOk, IfSome, IsNone, IsSome};
 ghost use Rattle.std.specs.Int.{trailing_zeros, w64};
 ghost use Rattle.std.specs.List.{prefix_len};
 ghost use Rattle.apt_lexis.specs.Lines as lines;
 ghost use Rattle.apt_lexis.specs.Sentences as sentences;
 ghost use Rattle.apt_lexis.specs.Titles as titles;
 
+use crate::Token;
 use crate::line::{SourceLine, any_line};
-use crate::title::{Heading, TITLE_LETTERS, any_title, behind_close, front_word};
+use crate::phrase::{Phrase, take_any_line, take_tokens};
+use crate::title::{TITLE_LETTERS, behind_close, front_word};
 use crate::token::behind_blanks;
+use std::alloc::{AllocError, Global};
 use std::simd::prelude::*;
 
 /// So many bytes are looked at together.
@@ -100,15 +103,23 @@ fn may_be_titled(line: &[u8]) -> bool
     word.len() == TITLE_LETTERS || behind_close(rest).is_some()
 }
 
-/// The title at the front of a line that begins a statement.
-#[inline(always)]
-#[tactic(auto, using(crate::proofs::TitleLaws::no_heading))]
-pub(crate) fn first_title(line: &[u8]) -> Option<Heading<'_>>
-    ensures { result ≡ titles.title_or_labelled line.now }
+/// Takes a line into the statement that is begun; whether the line completes it.
+///
+/// At the front of most lines that begin a statement no title may stand: their tokens are taken at once.
+#[tactic(auto, using(crate::proofs::SentenceLaws::by_tokens, crate::proofs::TitleLaws::no_heading))]
+pub(crate) fn take_line(
+    alloc: Global,
+    spare: &mut Option<Vec<Token>>,
+    begun: &mut Option<Phrase>,
+    number: u32,
+    line: &SourceLine<'_>,
+) -> Result<bool, AllocError>
+    ensures behind { IfOk result (λ done. sentences.behind_line begun.old number line.now.text.now ≡ (if done then record { begun = None; said = begun.new } else record { begun = begun.new; said = None })) }
+    ensures ended { IfOk result (λ done. done ≡ true → IsSome begun.new) }
 {
-    if may_be_titled(line) {
-        any_title(line)
+    if begun.is_none() && !may_be_titled(line.text) {
+        take_tokens(alloc, spare, begun, number, line)
     } else {
-        None
+        take_any_line(alloc, spare, begun, number, line)
     }
 }

@@ -7,7 +7,7 @@ ghost use Rattle.apt_lexis.specs.Sentences as spec;
 ghost use Rattle.apt_lexis.specs.Titles as titles;
 ghost use Rattle.apt_lexis.specs.Tokens as tokens;
 
-use crate::fast::first_line;
+use crate::fast::{first_line, take_line};
 use crate::line::{SourceLine, line_fault};
 use crate::title::{Heading, add_heading, heading_behind};
 use crate::token::{add_tokens, behind_blanks};
@@ -113,7 +113,6 @@ fn add_title(
 }
 
 /// The title of a line behind the statement that is begun, which has no bad token then.
-#[inline(always)]
 fn title_in<'a>(begun: &Option<Phrase>, line: &'a [u8]) -> Option<Heading<'a>>
     ensures none { IsNone result → spec.title_in (spec.tokens_before begun.now) line.now ≡ None }
     ensures some { IfSome result (λ t. IsOkAnd (spec.tokens_before begun.now) (λ ts. spec.title_in (Ok ts) line.now ≡ Some (titles.with_tokens ts t))) }
@@ -127,7 +126,8 @@ fn title_in<'a>(begun: &Option<Phrase>, line: &'a [u8]) -> Option<Heading<'a>>
 
 /// Takes a line that has no title into the statement that is begun; whether the line completes it.
 #[tactic(auto, using(crate::proofs::SentenceLaws::silent, crate::proofs::SentenceLaws::goes_on_with, crate::proofs::SentenceLaws::ends_with))]
-fn take_tokens(
+#[inline(always)]
+pub(crate) fn take_tokens(
     alloc: Global,
     spare: &mut Option<Vec<Token>>,
     begun: &mut Option<Phrase>,
@@ -146,7 +146,7 @@ fn take_tokens(
 
 /// Takes a line into the statement that is begun; whether the line completes it.
 #[tactic(auto, using(crate::proofs::SentenceLaws::by_tokens, crate::proofs::SentenceLaws::ends_with_title))]
-fn take_line(
+pub(crate) fn take_any_line(
     alloc: Global,
     spare: &mut Option<Vec<Token>>,
     begun: &mut Option<Phrase>,

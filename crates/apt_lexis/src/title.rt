@@ -13,7 +13,6 @@ ghost use Rattle.apt_lexis.specs.declared.token.Token.TheVariants as tokens;
 
 use crate::Token;
 use crate::character::letters_or_digits;
-use crate::fast::first_title;
 use crate::token::{behind_blanks, symbol};
 use apt_words::{Symbol, Text, Word, is_vocabulary};
 use std::alloc::{AllocError, Global};
@@ -181,7 +180,7 @@ fn labelled_title<'a>(name: &[u8], rest: &'a [u8]) -> Option<Heading<'a>>
 }
 
 /// The title at the front of a line that begins a statement: a title word, or a label before one.
-pub(crate) fn any_title(line: &[u8]) -> Option<Heading<'_>>
+fn any_title(line: &[u8]) -> Option<Heading<'_>>
     ensures { result ≡ spec.title_or_labelled line.now }
 {
     let (front, rest) = front_word(behind_blanks(line));
@@ -198,12 +197,11 @@ pub(crate) fn any_title(line: &[u8]) -> Option<Heading<'_>>
 
 /// The title on a line behind some tokens of its statement.
 #[tactic(auto, using(crate::proofs::TitleLaws::behind_nothing, crate::proofs::TitleLaws::behind_name, crate::proofs::TitleLaws::behind_closed))]
-#[inline(always)]
 pub(crate) fn heading_behind<'a>(tokens: &[Token], line: &'a [u8]) -> Option<Heading<'a>>
     ensures { option_map (spec.with_tokens tokens.now) result ≡ spec.title_behind tokens.now line.now }
 {
     match tokens {
-        [] => first_title(line),
+        [] => any_title(line),
         [Token::Name(_)] => closed_title(line),
         [Token::Name(_), Token::Close] => plain_title(line),
         _ => None,
