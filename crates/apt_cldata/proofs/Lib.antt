@@ -1,5 +1,6 @@
 pub mod Chains
 pub mod Triples
+pub mod Heights
 pub mod Surfaces
 pub mod Counts
 pub mod WordByWord

@@ -4,7 +4,8 @@ use Rattle.std.specs.List.{flat_map}
 use Rattle.std.specs.Int.{w32, w64, to_be_bytes, cast_unsigned}
 use Rattle.apt_cldata.specs.declared.record.Record.{Record}
 use Rattle.apt_cldata.specs.Ranges.{IsRecord, AreRecords, Mark, Begin, End, Fini, Other, mark_of}
-use Rattle.apt_cldata.specs.Words.{words_of}
+use Rattle.apt_cldata.specs.declared.record.Position.{Position}
+use Rattle.apt_cldata.specs.Words.{words_of, position_words}
 
 -- ---- words and bytes
 
@@ -19,6 +20,10 @@ word_bytes w = to_be_bytes w64 (cast_unsigned w64 w)
 -- words behind their length in bytes
 abbrev pub framed : List ℤ → List ℕ
 framed ws = length_bytes (8 * length ws) ++ flat_map word_bytes ws
+
+-- a position's three words
+abbrev pub position_bytes : Position → List ℕ
+position_bytes p = flat_map word_bytes (position_words p)
 
 -- the most bytes that the words of a record have
 abbrev pub most_bytes : ℕ

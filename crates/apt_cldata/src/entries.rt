@@ -304,7 +304,7 @@ fn positions_by(alloc: Global, words: &[Word]) -> Result<Result<Vertices, Misfit
 {
     if let [x, y, z] = words {
         return match position_by(0, number(x), number(y), number(z)) {
-            Ok(position) => Ok(Ok(Vertices::one(alloc, position))),
+            Ok(position) => Ok(Ok(Vertices::one(position))),
             Err(misfit) => Ok(Err(misfit)),
         };
     }
@@ -327,7 +327,7 @@ fn many_positions(alloc: Global, words: &[Word]) -> Result<Result<Vertices, Misf
         rest = after;
     }
     if rest.is_empty() {
-        Ok(Ok(Vertices::from_vec(list)))
+        Ok(Ok(Vertices::of(alloc, list)?))
     } else {
         Ok(Err(Misfit::Count))
     }

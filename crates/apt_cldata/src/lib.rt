@@ -7,10 +7,12 @@ mod error;
 mod fields;
 mod reading;
 mod record;
+mod vertices;
 mod words;
 mod writing;
 
 pub use error::{ClCause, ClError};
 pub use reading::{behind_head, first_record};
-pub use record::{Note, Position, Reach, Record, Vertices};
+pub use record::{Note, Position, Reach, Record};
+pub use vertices::{VertexSlice, Vertices};
 pub use writing::{ClBytes, write};

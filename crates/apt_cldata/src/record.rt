@@ -1,12 +1,8 @@
 //! Records.
 
-ghost use Rattle.std.specs.Prelude.{◌≡◌, [], ◌∷◌};
-
+use crate::vertices::Vertices;
 use apt_plane::{Pt, Surface};
 use apt_words::{Cool, Side, Stop, Text, Turn, Units};
-use smallvec::SmallVec;
-use std::alloc::Global;
-use std::marker::Model;
 
 /// A point and its height, in grid units.
 #[derive(Clone, Copy, PartialEq, Eq)]
@@ -52,48 +48,6 @@ pub enum Note {
     OptStop,
     End,
     Fini,
-}
-
-/// The vertices of a contour behind its start; a single one takes no memory of its own. Clauses see their list.
-#[derive(Drop)]
-pub struct Vertices {
-    list: SmallVec<Position, 1>,
-}
-
-impl Model for Vertices {
-    ghost use Rattle.std.specs.Prelude.{List};
-    ghost use Rattle.apt_cldata.specs.declared.record.Position.{Position};
-
-    ghost Value = { List Position };
-
-    ghost view = { λ v. v.list.items };
-}
-
-impl Vertices {
-    /// A single vertex.
-    pub fn one(alloc: Global, vertex: Position) -> Vertices
-        ensures { result ≡ vertex ∷ [] }
-    {
-        Vertices {
-            list: SmallVec::from_buf(alloc, [vertex]),
-        }
-    }
-
-    /// All of them, in order.
-    pub fn as_slice(&self) -> &[Position]
-        ensures { result.now ≡ self.now }
-    {
-        self.list.as_slice()
-    }
-
-    /// Those of a list.
-    pub fn from_vec(list: Vec<Position>) -> Vertices
-        ensures { result ≡ list.items }
-    {
-        Vertices {
-            list: SmallVec::from_vec(list),
-        }
-    }
 }
 
 /// A record of a CL file. The sense of a drive is 1 along a line's direction or anticlockwise round a circle,

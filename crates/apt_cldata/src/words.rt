@@ -4,10 +4,11 @@ ghost use Rattle.std.specs.List.{flat_map};
 ghost use Rattle.apt_cldata.specs.Files.{IsShort};
 ghost use Rattle.apt_cldata.specs.Files as files;
 ghost use Rattle.apt_cldata.specs.Words as spec;
+ghost use Rattle.apt_cldata.specs.Vertices.{at_height};
 
 use crate::bytes::{push_length, push_word};
-use crate::{Note, Position, Reach, Record};
-use apt_plane::Surface;
+use crate::{Note, Position, Reach, Record, VertexSlice};
+use apt_plane::{Pt, Surface};
 use apt_words::{Cool, Side, Stop, Turn, Units};
 use std::alloc::AllocError;
 
@@ -45,13 +46,7 @@ pub(crate) fn push_record(bytes: &mut Vec<u8>, seq: u64, said: &Record) -> Resul
             let reach = row(reach_word(*reach));
             push_rows(bytes, &[row(seq), row(5000), reach, x, y, z])
         }
-        Record::Contour(vertices) => match vertices.as_slice() {
-            [vertex] => {
-                let [x, y, z] = position_rows(*vertex);
-                push_rows(bytes, &[row(seq), row(5000), row(5), x, y, z])
-            }
-            more => push_contour(bytes, seq, more),
-        },
+        Record::Contour(vertices) => push_contour(bytes, seq, &vertices.all()),
     }
 }
 
@@ -131,22 +126,48 @@ fn push_partno(bytes: &mut Vec<u8>, seq: i64, text: &[u8]) -> Result<(), AllocEr
 }
 
 /// Appends a contour with its vertices, each of three words.
-#[tactic(auto, using(crate::proofs::RecordLaws::triples_length, crate::proofs::VertexBytes::contour_bytes))]
-fn push_contour(bytes: &mut Vec<u8>, seq: i64, vertices: &[Position]) -> Result<(), AllocError>
+fn push_contour(bytes: &mut Vec<u8>, seq: i64, vertices: &VertexSlice<'_>) -> Result<(), AllocError>
     requires short { 8 * (3 + 3 * length vertices.now) < 2 ^ 32 }
     ensures { OnOk result (bytes.new.items ≡ bytes.old.items ++ files.framed (seq ∷ pos 5000 ∷ pos 5 ∷ flat_map spec.position_words vertices.now)) }
 {
-    push_front(bytes, 3 + 3 * vertices.len(), &[seq, 5000, 5])?;
-    'vertices: for vertex in vertices {
-        push_position(bytes, *vertex);
+    if let ([], [vertex]) = (vertices.level, vertices.apart) {
+        let [x, y, z] = position_rows(*vertex);
+        return push_rows(bytes, &[row(seq), row(5000), row(5), x, y, z]);
     }
+    push_front(bytes, 3 + 3 * vertices.len(), &[seq, 5000, 5])?;
+    push_level(bytes, vertices.z, vertices.level);
+    push_apart(bytes, vertices.apart);
     Ok(())
+}
+
+/// Appends the words of points at a height, for which there is room.
+fn push_level(bytes: &mut Vec<u8>, z: i64, points: &[Pt])
+    requires { vec_len bytes.old + 24 * length points.now ≤ vec_capacity bytes.old }
+    ensures value { bytes.new.items ≡ bytes.old.items ++ flat_map files.position_bytes (map (at_height z) points.now) }
+    ensures len { vec_len bytes.new ≡ vec_len bytes.old + 24 * length points.now }
+    ensures capacity { vec_capacity bytes.new ≡ vec_capacity bytes.old }
+{
+    'points: for p in points {
+        push_position(bytes, Position { xy: *p, z });
+    }
+}
+
+/// Appends the words of positions, for which there is room.
+fn push_apart(bytes: &mut Vec<u8>, positions: &[Position])
+    requires { vec_len bytes.old + 24 * length positions.now ≤ vec_capacity bytes.old }
+    ensures value { bytes.new.items ≡ bytes.old.items ++ flat_map files.position_bytes positions.now }
+    ensures len { vec_len bytes.new ≡ vec_len bytes.old + 24 * length positions.now }
+    ensures capacity { vec_capacity bytes.new ≡ vec_capacity bytes.old }
+{
+    'positions: for p in positions {
+        push_position(bytes, *p);
+    }
 }
 
 /// Appends the three words of a position, for which there is room.
 fn push_position(bytes: &mut Vec<u8>, p: Position)
     requires { vec_len bytes.old + 24 ≤ vec_capacity bytes.old }
-    ensures value { bytes.new.items ≡ bytes.old.items ++ flat_map files.word_bytes (spec.position_words p) }
+    ensures value { bytes.new.items ≡ bytes.old.items ++ files.position_bytes p }
     ensures len { vec_len bytes.new ≡ vec_len bytes.old + 24 }
     ensures capacity { vec_capacity bytes.new ≡ vec_capacity bytes.old }
 {

@@ -10,7 +10,7 @@ use Rattle.apt_meaning.specs.declared.situation.Situation.{Situation}
 use Rattle.apt_meaning.specs.declared.effect.Change.TheVariants as changes
 use Rattle.apt_meaning.specs.declared.effect.Effect.{Effect}
 use Rattle.apt_meaning.specs.declared.effect.Effect.TheVariants as effects
-use Rattle.apt_meaning.specs.Situations.{at_height}
+use Rattle.apt_cldata.specs.Vertices.{at_height}
 use Rattle.apt_meaning.specs.Records.{MayHave, records_of, after}
 use Rattle.apt_job.specs.Jobs.{jobs_by, MakesJobs}
 use Rattle.apt_post.specs.Plan.{segments}

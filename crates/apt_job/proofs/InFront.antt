@@ -12,28 +12,22 @@ use Rattle.apt_meaning.specs.declared.motion.Motion.{Motion}
 use Rattle.apt_meaning.specs.declared.situation.Situation.{Situation}
 use Rattle.apt_meaning.specs.declared.effect.Effect.{Effect}
 use Rattle.apt_meaning.specs.declared.effect.Effect.TheVariants as effects
-use Rattle.apt_meaning.specs.Situations.{at_height}
+use Rattle.apt_cldata.specs.Vertices.{at_height}
+use Rattle.apt_cldata.proofs.Heights.{at_one_height}
 use Rattle.apt_meaning.specs.Motions.{has_track, has_stop}
 use Rattle.apt_meaning.specs.Effects.{effect_of}
 use Rattle.apt_meaning.specs.Records.{MayHave, effect_records}
 use Rattle.apt_meaning.specs.Expectations.{Expectation, Exactly, VerticesAt, exactly_if, expected, expected_of, behind_statement, Meets, Departs}
 use Rattle.apt_job.specs.Fronts.{points_at, IsMetFirst}
-use Rattle.apt_meaning.proofs.Walks.Begins.{both}
 
 -- ---- heights
-
-same_position : (z : ℤ) (p : Position) → int_eq p.z z ≡ true → p ≡ at_height z p.xy
-same_position z p e = ap (λ (n : ℤ). record { xy = p.xy; z = n }) ((Decides-int_eq p.z z).0 e)
 
 -- whether positions are all at a height
 abbrev are_at : ℤ → List Position → Bool
 are_at z ps = list_all (λ p. int_eq p.z z) ps
 
-pub at_one_height : (z : ℤ) (ps : List Position) → list_all (λ p. int_eq p.z z) ps ≡ true → ps ≡ map (at_height z) (points_at ps)
-at_one_height z [] e = refl
-at_one_height z (p ∷ ps) e =
-    let h = both (int_eq p.z z) (are_at z ps) e in
-    ap (λ (q : Position). q ∷ ps) (same_position z p h.0) ∙ ap (λ (qs : List Position). at_height z p.xy ∷ qs) (at_one_height z ps h.1)
+pub one_height : (z : ℤ) (ps : List Position) → list_all (λ p. int_eq p.z z) ps ≡ true → ps ≡ map (at_height z) (points_at ps)
+one_height z ps e = sym (at_one_height z ps e)
 
 are_at-map : (z : ℤ) (vs : List Pt) → are_at z (map (at_height z) vs) ≡ true
 are_at-map z [] = refl

@@ -17,4 +17,4 @@ pub record IsMetFirst (x : Expectation) (written : List Record) (vertices : List
 
 -- what is behind the first record, where it is as expected
 abbrev pub IsBehind : Expectation → List Record → Option Front → Type 0
-IsBehind x written front = MatchOption front (Departs (x ∷ []) written 0) (λ f. IsMetFirst x written (points_at f.vertices.now) f.rest.now)
+IsBehind x written front = MatchOption front (Departs (x ∷ []) written 0) (λ f. IsMetFirst x written (points_at f.vertices) f.rest.now)

@@ -13,25 +13,25 @@ ghost use Rattle.apt_job.specs.Fronts.{points_at, IsBehind};
 ghost use Rattle.apt_job.specs.Jobs.{AreSides, HasSides};
 
 use crate::legs::Sides;
-use crate::matches::{are_at, is_check, is_drive, is_note, is_point, is_statement};
-use apt_cldata::{Note, Position, Reach, Record};
+use crate::matches::{is_check, is_drive, is_note, is_point, is_statement};
+use apt_cldata::{Note, Position, Reach, Record, VertexSlice};
 use apt_meaning::{Change, Effect, Motion};
 use apt_words::Step;
 
 /// The vertices of a contour in front, and the records behind what is in front.
-#[derive(Clone, Copy)]
+#[derive(Drop)]
 pub(crate) struct Front<'a> {
-    pub vertices: &'a [Position],
+    pub vertices: VertexSlice<'a>,
     pub rest: &'a [Record],
 }
 
 /// No record is taken.
 fn nothing(records: &[Record]) -> Front<'_>
-    ensures vertices { result.vertices.now ≡ [] }
+    ensures vertices { result.vertices ≡ [] }
     ensures rest { result.rest.now ≡ records.now }
 {
     Front {
-        vertices: &[],
+        vertices: VertexSlice::none(),
         rest: records,
     }
 }
@@ -44,7 +44,7 @@ fn statement<'a>(step: &Step, records: &'a [Record]) -> Option<Front<'a>>
     };
     if is_statement(step, first) {
         Some(Front {
-            vertices: &[],
+            vertices: VertexSlice::none(),
             rest,
         })
     } else {
@@ -60,7 +60,7 @@ fn note<'a>(note: &Note, records: &'a [Record]) -> Option<Front<'a>>
     };
     if is_note(note, first) {
         Some(Front {
-            vertices: &[],
+            vertices: VertexSlice::none(),
             rest,
         })
     } else {
@@ -76,7 +76,7 @@ fn point<'a>(reach: Reach, to: Position, records: &'a [Record]) -> Option<Front<
     };
     if is_point(reach, to, first) {
         Some(Front {
-            vertices: &[],
+            vertices: VertexSlice::none(),
             rest,
         })
     } else {
@@ -93,7 +93,7 @@ fn drive<'a>(m: &Motion, sides: Sides, records: &'a [Record]) -> Option<Front<'a
     };
     if sides.has_track && is_drive(m, first) {
         Some(Front {
-            vertices: &[],
+            vertices: VertexSlice::none(),
             rest,
         })
     } else {
@@ -111,7 +111,7 @@ fn check<'a>(m: &Motion, sides: Sides, records: &'a [Record]) -> Option<Front<'a
     };
     if sides.has_stop && is_check(m, first) {
         Some(Front {
-            vertices: &[],
+            vertices: VertexSlice::none(),
             rest,
         })
     } else {
@@ -120,18 +120,13 @@ fn check<'a>(m: &Motion, sides: Sides, records: &'a [Record]) -> Option<Front<'a
 }
 
 /// The vertices of a contour at the height of its start.
-#[tactic(auto, using(crate::proofs::InFront::at_one_height, crate::proofs::InFront::not_one_height))]
-fn vertices_at(start: Position, r: &Record) -> Option<&[Position]>
-    ensures { MatchOption result (¬ ((vertices : List Pt) × expectations.Meets (expectations.VerticesAt start.z) r.now vertices)) (λ ps. expectations.Meets (expectations.VerticesAt start.z) r.now (points_at ps.now)) }
+fn vertices_at(start: Position, r: &Record) -> Option<VertexSlice<'_>>
+    ensures { MatchOption result (¬ ((vertices : List Pt) × expectations.Meets (expectations.VerticesAt start.z) r.now vertices)) (λ ps. expectations.Meets (expectations.VerticesAt start.z) r.now (points_at ps)) }
 {
     match r {
         Record::Contour(vertices) => {
-            let positions = vertices.as_slice();
-            if are_at(start, positions) {
-                Some(positions)
-            } else {
-                None
-            }
+            let all = vertices.all();
+            if all.are_at(start.z) { Some(all) } else { None }
         }
         _ => None,
     }
@@ -153,7 +148,7 @@ fn contour(start: Position, records: &[Record]) -> Option<Front<'_>>
 #[tactic(auto, using(crate::proofs::InFront::cut_said, crate::proofs::InFront::cut_departs))]
 fn cut<'a>(m: &Motion, sides: Sides, records: &'a [Record]) -> Result<Front<'a>, u64>
     requires { AreSides m.now sides }
-    ensures said { MatchResult result (λ f. (records.now ≡ effect_records (effects.Cuts m.now) (points_at f.vertices.now) ++ f.rest.now) × MayHave (effects.Cuts m.now) (points_at f.vertices.now)) (Departs (expected_of (Some (effects.Cuts m.now))) records.now) }
+    ensures said { MatchResult result (λ f. (records.now ≡ effect_records (effects.Cuts m.now) (points_at f.vertices) ++ f.rest.now) × MayHave (effects.Cuts m.now) (points_at f.vertices)) (Departs (expected_of (Some (effects.Cuts m.now))) records.now) }
     ensures few { IfErr result (λ k. k ≤ 2) }
 {
     let Some(behind_drive) = drive(m, sides, records) else {
@@ -175,7 +170,7 @@ fn effect_front<'a>(
     records: &'a [Record],
 ) -> Result<Front<'a>, u64>
     requires { IfSome effect.now (HasSides sides) }
-    ensures said { MatchResult result (λ f. IsSomeAnd effect.now (λ e. (records.now ≡ effect_records e (points_at f.vertices.now) ++ f.rest.now) × MayHave e (points_at f.vertices.now))) (Departs (expected_of effect.now) records.now) }
+    ensures said { MatchResult result (λ f. IsSomeAnd effect.now (λ e. (records.now ≡ effect_records e (points_at f.vertices) ++ f.rest.now) × MayHave e (points_at f.vertices))) (Departs (expected_of effect.now) records.now) }
     ensures few { IfErr result (λ k. k ≤ 2) }
 {
     match effect {
@@ -206,12 +201,12 @@ pub(crate) fn taken<'a>(
     records: &'a [Record],
 ) -> Result<Front<'a>, u64>
     requires { IfSome effect.now (HasSides sides) }
-    ensures taken { (here : Situation) → effect_of here step.now.deed ≡ effect.now → MatchResult result (λ f. IsSomeAnd effect.now (λ e. Begins here step.now records.now e (points_at f.vertices.now) f.rest.now)) (Departs (expected here step.now) records.now) }
+    ensures taken { (here : Situation) → effect_of here step.now.deed ≡ effect.now → MatchResult result (λ f. IsSomeAnd effect.now (λ e. Begins here step.now records.now e (points_at f.vertices) f.rest.now)) (Departs (expected here step.now) records.now) }
     ensures few { IfErr result (λ k. k ≤ 3) }
 {
     if is_silent(effect) {
         return Ok(Front {
-            vertices: &[],
+            vertices: VertexSlice::none(),
             rest: records,
         });
     }

@@ -11,7 +11,7 @@ ghost use Rattle.apt_job.specs.Fronts.{points_at};
 ghost use Rattle.apt_job.specs.Jobs.{AreBounds, AreSides, HasSides};
 
 use apt_certify::{Job, Leg, Points};
-use apt_cldata::Position;
+use apt_cldata::{Position, VertexSlice};
 use apt_meaning::{Effect, Motion};
 use apt_num::Sign;
 use apt_offset::signs::{is_zero, opposite};
@@ -136,15 +136,13 @@ fn out_sign_at(surface: &Surface, side: Sign) -> i8
     }
 }
 
-/// The start and the points of positions behind it.
-fn points(alloc: Global, start: Position, positions: &[Position]) -> Result<Points, AllocError>
-    ensures { IfOk result (λ ps. ps ≡ start.xy ∷ points_at positions.now) }
+/// The start and the points of the vertices behind it.
+fn points(alloc: Global, start: Position, behind: &VertexSlice<'_>) -> Result<Points, AllocError>
+    ensures { IfOk result (λ ps. ps ≡ start.xy ∷ points_at behind.now) }
 {
-    let mut vertices = Vec::with_capacity(alloc, positions.len() + 1)?;
+    let mut vertices = Vec::with_capacity(alloc, behind.len().saturating_add(1))?;
     vertices.push_reserved(start.xy);
-    for p in positions {
-        vertices.push_reserved(p.xy);
-    }
+    behind.append_points(&mut vertices)?;
     Ok(Points { vertices })
 }
 
@@ -153,14 +151,14 @@ pub(crate) fn job_of(
     alloc: Global,
     m: &Motion,
     sides: Sides,
-    positions: &[Position],
+    behind: &VertexSlice<'_>,
 ) -> Result<Job, AllocError>
     requires motion { IsMotion m.now }
     requires defined { motions.is_defined m.now ≡ true }
     requires sides { AreSides m.now sides }
-    ensures { IfOk result (λ job. job ≡ spec.job_of m.now (points_at positions.now)) }
+    ensures { IfOk result (λ job. job ≡ spec.job_of m.now (points_at behind.now)) }
 {
-    let points = points(alloc, m.start, positions)?;
+    let points = points(alloc, m.start, behind)?;
     Ok(Job {
         leg: leg_of(m, sides),
         out_sign: out_sign_at(&m.drive, m.drive_side()),

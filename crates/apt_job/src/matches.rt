@@ -1,8 +1,6 @@
 //! Whether a record is the one that is due.
 
 ghost use Rattle.std.specs.Prelude.{◌≡◌, ◌↔◌, IsTrue};
-ghost use Rattle.std.specs.List.{list_all};
-ghost use Rattle.std.specs.Ordering.{int_eq};
 
 use apt_cldata::{Note, Position, Reach, Record};
 use apt_meaning::Motion;
@@ -141,16 +139,4 @@ pub(crate) fn is_check(m: &Motion, r: &Record) -> bool
         }
         _ => false,
     }
-}
-
-/// Whether positions are all at the height of a start.
-pub(crate) fn are_at(start: Position, positions: &[Position]) -> bool
-    ensures { result ≡ list_all (λ p. int_eq p.z start.z) positions.now }
-{
-    for p in positions {
-        if p.z != start.z {
-            return false;
-        }
-    }
-    true
 }

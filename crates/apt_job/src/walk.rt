@@ -26,7 +26,7 @@ use crate::JobError;
 use crate::fronts::taken;
 use crate::legs::{Sides, effect_sides, job_of};
 use apt_certify::Job;
-use apt_cldata::{Note, Position, Record};
+use apt_cldata::{Note, Record, VertexSlice};
 use apt_defs::{DefError, define};
 use apt_meaning::{Effect, Motion, Situation, effect_of};
 use apt_words::Step;
@@ -61,7 +61,7 @@ fn cut(
     here: &mut Situation,
     motion: &Motion,
     sides: Sides,
-    vertices: &[Position],
+    vertices: &VertexSlice<'_>,
 ) -> Result<(), AllocError>
     requires motion { IsMotion motion.now }
     requires defined { is_defined motion.now ≡ true }
@@ -98,7 +98,7 @@ fn take(
     here: &mut Situation,
     effect: &Effect,
     sides: Sides,
-    vertices: &[Position],
+    vertices: &VertexSlice<'_>,
 ) -> Result<(), AllocError>
     requires situation { IsSituation here.old }
     requires effect { IsEffect effect.now }
@@ -168,7 +168,7 @@ fn jobs_of(alloc: Global, steps: &[Step], mut records: Vec<Record>) -> Result<Ve
             Err(fitting) => return Err(entry(at, fitting)),
         };
         let Some(found) = &found else { unreachable!() };
-        take(alloc, &mut jobs, &mut here, found, sides, front.vertices)?;
+        take(alloc, &mut jobs, &mut here, found, sides, &front.vertices)?;
         let behind = records.len() - front.rest.len();
         let vertices = front.vertices.len();
         let_go(&mut records[at..behind], vertices);

@@ -50,7 +50,8 @@ use Rattle.apt_meaning.specs.declared.effect.Change.{Change}
 use Rattle.apt_meaning.specs.declared.effect.Change.TheVariants as changes
 use Rattle.apt_meaning.specs.declared.effect.Effect.{Effect}
 use Rattle.apt_meaning.specs.declared.effect.Effect.TheVariants as effects
-use Rattle.apt_meaning.specs.Situations.{lacks_feed, with_side, at_height}
+use Rattle.apt_meaning.specs.Situations.{lacks_feed, with_side}
+use Rattle.apt_cldata.specs.Vertices.{at_height}
 use Rattle.apt_meaning.specs.Motions.{as_surface, surface_in, end_point, vertices_of, turn_at, if_turned, motion, motion_at}
 use Rattle.apt_meaning.specs.StartUps.{goal_in, second_in, start_up_at, start_position, start_position_at}
 use Rattle.apt_meaning.specs.Effects.{note_of, moves, cuts, as_position, place_at, names, defined, position_by, moved_by, goes, effect_by, effect_of}

@@ -28,7 +28,8 @@ use Rattle.apt_meaning.specs.declared.motion.Motion.{Motion}
 use Rattle.apt_meaning.specs.declared.effect.Change.TheVariants as changes
 use Rattle.apt_meaning.specs.declared.effect.Effect.{Effect}
 use Rattle.apt_meaning.specs.declared.effect.Effect.TheVariants as effects
-use Rattle.apt_meaning.specs.Situations.{position_at, at_height}
+use Rattle.apt_meaning.specs.Situations.{position_at}
+use Rattle.apt_cldata.specs.Vertices.{at_height}
 use Rattle.apt_meaning.specs.Motions.{motion_at}
 use Rattle.apt_meaning.specs.StartUps.{start_position_at}
 

@@ -17,7 +17,8 @@ use Rattle.apt_meaning.specs.declared.effect.Change.{Change}
 use Rattle.apt_meaning.specs.declared.effect.Change.TheVariants as changes
 use Rattle.apt_meaning.specs.declared.effect.Effect.{Effect}
 use Rattle.apt_meaning.specs.declared.effect.Effect.TheVariants as effects
-use Rattle.apt_meaning.specs.Situations.{first_situation, changed, settings_behind, forward_behind, at_height}
+use Rattle.apt_meaning.specs.Situations.{first_situation, changed, settings_behind, forward_behind}
+use Rattle.apt_cldata.specs.Vertices.{at_height}
 use Rattle.apt_meaning.specs.Motions.{track_of, end_point, arc_on, is_defined}
 use Rattle.apt_meaning.specs.Effects.{effect_of}
 use Rattle.apt_meaning.specs.Paths.{Saying, radius_by, said_of}

@@ -89,7 +89,3 @@ forward_behind (Some from) to forward = if length_squared (displacement from.xy 
 
 abbrev pub position_at : ℤ → ℤ → ℤ → Position
 position_at x y z = record { xy = record { x = x; y = y }; z = z }
-
--- a point at a height
-abbrev pub at_height : ℤ → Pt → Position
-at_height z p = record { xy = p; z = z }

@@ -5,10 +5,10 @@ ghost use Rattle.apt_words.specs.Asks.{form_numbers, place_numbers, route_number
 ghost use Rattle.apt_scalar.specs.Scalars.{IsScalar};
 ghost use Rattle.apt_scalar.specs.StepScalars.{AllScalars, HasScalars};
 ghost use Rattle.apt_startup.specs.Ranges.{IsStartUp};
+ghost use Rattle.apt_cldata.specs.Vertices.{at_height};
 ghost use Rattle.apt_meaning.specs.Effects as asking;
 ghost use Rattle.apt_meaning.specs.Motions as motions;
 ghost use Rattle.apt_meaning.specs.Ranges.{IsSituation, HasMotion};
-ghost use Rattle.apt_meaning.specs.Situations as situations;
 ghost use Rattle.apt_meaning.specs.StartUps as start_ups;
 
 use crate::start_up::start_up_at;
@@ -165,7 +165,7 @@ fn start_move(from: Position, u: &StartUp) -> Option<Effect>
 }
 
 fn start_to(from: Position, xy: Pt) -> Effect
-    ensures { result ≡ Effect.Moves Reach.Start (situations.at_height from.z xy) }
+    ensures { result ≡ Effect.Moves Reach.Start (at_height from.z xy) }
 {
     Effect::Moves(Reach::Start, Position { xy, z: from.z })
 }

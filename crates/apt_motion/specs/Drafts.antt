@@ -13,7 +13,7 @@ use Rattle.apt_cldata.specs.declared.record.Record.TheVariants as lines
 use Rattle.apt_meaning.specs.declared.situation.Situation.{Situation}
 use Rattle.apt_meaning.specs.declared.effect.Effect.{Effect}
 use Rattle.apt_meaning.specs.declared.effect.Effect.TheVariants as effects
-use Rattle.apt_meaning.specs.Situations.{at_height}
+use Rattle.apt_cldata.specs.Vertices.{at_height}
 use Rattle.apt_meaning.specs.Motions.{arc_of, end_point}
 use Rattle.apt_meaning.specs.Effects.{effect_of}
 use Rattle.apt_meaning.specs.Refusals.{refusal_of}

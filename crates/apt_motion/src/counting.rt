@@ -183,7 +183,7 @@ fn known(r: &Record) -> u64
     ensures { result ≡ drafts.known r.now }
 {
     match r {
-        Record::Contour(vertices) => vertices.as_slice().len() as u64,
+        Record::Contour(vertices) => vertices.all().len() as u64,
         _ => 0,
     }
 }

@@ -1,14 +1,13 @@
 //! The division of arcs, by halves of halves of their list in threads of their own.
 
-ghost use Rattle.std.specs.Prelude.{◌≡◌, ◌<◌, ◌+◌, ◌^◌, [], length, map, IfOk};
+ghost use Rattle.std.specs.Prelude.{◌≡◌, ◌<◌, ◌+◌, ◌^◌, length, map, IfOk};
 ghost use Rattle.std.specs.Thread.{IsSync};
-ghost use Rattle.apt_meaning.specs.Situations.{at_height};
 ghost use Rattle.apt_motion.specs.Drafts.{vertices_at};
 
 use crate::arcs::Round;
 use apt_arc::{bound, chords};
 use apt_certify::Gate;
-use apt_cldata::{Position, Vertices};
+use apt_cldata::Vertices;
 use apt_plane::Pt;
 use std::alloc::{AllocError, Global};
 use std::mem::replace;
@@ -16,9 +15,6 @@ use std::thread::{Threads, join};
 
 /// How often a list is halved at most, so there are at most 16 threads.
 const HALVINGS: u8 = 4;
-
-/// Few arcs have more chords.
-const MANY_CHORDS: usize = 512;
 
 /// The vertices of arcs, in order. The gate is told of each arc, by its number from 1, before it is divided.
 pub(crate) fn cut_all<G: Gate>(
@@ -34,7 +30,7 @@ pub(crate) fn cut_all<G: Gate>(
 }
 
 /// Room for the vertices of each arc. It is made here, since what a thread of its own gives back may serve no other.
-fn rooms_for(alloc: Global, rounds: &[Round]) -> Result<Vec<Vec<Position>>, AllocError> {
+fn rooms_for(alloc: Global, rounds: &[Round]) -> Result<Vec<Vec<Pt>>, AllocError> {
     let mut rooms = Vec::with_capacity(alloc, rounds.len())?;
     'rounds: for round in rounds {
         rooms.push(Vec::with_capacity(alloc, bound(&round.arc) as usize)?)?;
@@ -49,7 +45,7 @@ fn cut_halves<R: Threads + Sync, G: Gate>(
     rt: &R,
     alloc: Global,
     rounds: &[Round],
-    mut rooms: Vec<Vec<Position>>,
+    mut rooms: Vec<Vec<Pt>>,
     first: u64,
     depth: u8,
     gate: &G,
@@ -84,7 +80,7 @@ fn cut_halves<R: Threads + Sync, G: Gate>(
 fn cut_from<G: Gate>(
     alloc: Global,
     rounds: &[Round],
-    mut rooms: Vec<Vec<Position>>,
+    mut rooms: Vec<Vec<Pt>>,
     first: u64,
     gate: &G,
 ) -> Result<Vec<Vertices>, AllocError>
@@ -95,13 +91,13 @@ fn cut_from<G: Gate>(
     'rounds: for (i, round) in rounds.iter().enumerate() {
         gate.enter(first + i as u64);
         let room = room_at(alloc, &mut rooms, i);
-        cuts.push_reserved(cut(alloc, round, room)?);
+        cuts.push_reserved(cut(round, room)?);
     }
     Ok(cuts)
 }
 
 /// The room at a place, which is taken; none where it is missing.
-fn room_at(alloc: Global, rooms: &mut [Vec<Position>], i: usize) -> Vec<Position> {
+fn room_at(alloc: Global, rooms: &mut [Vec<Pt>], i: usize) -> Vec<Pt> {
     match rooms.get_mut(i) {
         Some(room) => replace(room, Vec::new(alloc)),
         None => Vec::new(alloc),
@@ -109,35 +105,13 @@ fn room_at(alloc: Global, rooms: &mut [Vec<Position>], i: usize) -> Vec<Position
 }
 
 /// The vertices of an arc, in this room where they fit.
-fn cut(alloc: Global, round: &Round, room: Vec<Position>) -> Result<Vertices, AllocError>
+fn cut(round: &Round, room: Vec<Pt>) -> Result<Vertices, AllocError>
     ensures { IfOk result (λ vertices. vertices ≡ vertices_at round.now) }
 {
-    let mut points = with_room(alloc);
+    let mut points = room;
+    points.clear();
     if chords(&round.arc, u64::MAX, &mut points).is_err() {
         return Err(AllocError);
     }
-    Ok(Vertices::from_vec(all_at(room, &points, round.z)?))
-}
-
-/// No points, with room for those of most arcs if there is memory for it.
-fn with_room(alloc: Global) -> Vec<Pt>
-    ensures { result.items ≡ [] }
-{
-    match Vec::with_capacity(alloc, MANY_CHORDS) {
-        Ok(points) => points,
-        Err(_) => Vec::new(alloc),
-    }
-}
-
-/// Points at a height, in this room where they fit.
-fn all_at(room: Vec<Position>, points: &[Pt], z: i64) -> Result<Vec<Position>, AllocError>
-    ensures { IfOk result (λ vertices. vertices.items ≡ map (at_height z) points.now) }
-{
-    let mut vertices = room;
-    vertices.clear();
-    vertices.reserve(points.len())?;
-    'points: for p in points {
-        vertices.push_reserved(Position { xy: *p, z });
-    }
-    Ok(vertices)
+    Ok(Vertices::level(round.z, points))
 }

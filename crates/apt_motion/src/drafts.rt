@@ -5,7 +5,7 @@ ghost use Rattle.apt_words.specs.Rows.{NoneHolds};
 ghost use Rattle.apt_meaning.specs.Motions.{arc_of, end_point};
 ghost use Rattle.apt_meaning.specs.Ranges.{IsMotion};
 ghost use Rattle.apt_meaning.specs.Refusals.{motion_cases};
-ghost use Rattle.apt_meaning.specs.Situations.{at_height};
+ghost use Rattle.apt_cldata.specs.Vertices.{at_height};
 ghost use Rattle.apt_motion.specs.Drafts as drafts;
 
 use crate::arcs::Round;
@@ -53,10 +53,10 @@ pub(crate) fn draw(
 {
     let z = motion.start.z;
     match motion.arc(end) {
-        None => Ok(Vertices::one(alloc, Position { xy: end, z })),
+        None => Ok(Vertices::one(Position { xy: end, z })),
         Some(arc) => {
             rounds.push(Round { arc, z })?;
-            Ok(Vertices::from_vec(Vec::new(alloc)))
+            Ok(Vertices::level(z, Vec::new(alloc)))
         }
     }
 }

@@ -11,7 +11,7 @@ pub(crate) fn is_open(r: &Record) -> bool
     ensures { result ≡ drafts.is_open r.now }
 {
     match r {
-        Record::Contour(vertices) => vertices.as_slice().is_empty(),
+        Record::Contour(vertices) => vertices.all().len() == 0,
         _ => false,
     }
 }

@@ -9,7 +9,7 @@ ghost use Rattle.apt_meaning.specs.Motions.{end_point};
 ghost use Rattle.apt_meaning.specs.Ranges.{IsSituation, IsEffect, IsMotion};
 ghost use Rattle.apt_meaning.specs.Refusals.{motion_cases};
 ghost use Rattle.apt_meaning.specs.Records as writing;
-ghost use Rattle.apt_meaning.specs.Situations.{at_height};
+ghost use Rattle.apt_cldata.specs.Vertices.{at_height};
 ghost use Rattle.apt_meaning.specs.declared.effect.Effect.TheVariants as effects;
 ghost use Rattle.apt_motion.specs.Drafts.{drawn, rounds_of};
 ghost use Rattle.apt_motion.specs.Finding.{SetsOrMoves};

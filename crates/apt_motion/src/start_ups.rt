@@ -13,7 +13,8 @@ ghost use Rattle.apt_meaning.specs.Effects.{effect_of};
 ghost use Rattle.apt_meaning.specs.Motions as motions;
 ghost use Rattle.apt_meaning.specs.Ranges.{IsSituation};
 ghost use Rattle.apt_meaning.specs.Refusals.{each_name, is_no_surface, is_undefined, refusal_of, start_names};
-ghost use Rattle.apt_meaning.specs.Situations.{at_height, lacks_feed};
+ghost use Rattle.apt_meaning.specs.Situations.{lacks_feed};
+ghost use Rattle.apt_cldata.specs.Vertices.{at_height};
 ghost use Rattle.apt_meaning.specs.StartUps as start_ups;
 ghost use Rattle.apt_meaning.specs.declared.effect.Effect.TheVariants as effects;
 

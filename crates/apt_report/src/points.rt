@@ -12,7 +12,7 @@ ghost use Rattle.apt_report.specs.Listing as lines;
 use crate::room::{
     ROOM, push_from, whole_line, write_blanks, write_count, write_signed_pointed, write_text,
 };
-use apt_cldata::{Note, Position, Reach, Record};
+use apt_cldata::{Note, Position, Reach, Record, VertexSlice};
 use apt_words::Units;
 use std::alloc::{AllocError, Global};
 
@@ -99,7 +99,7 @@ fn record_count(r: &Record) -> usize
 {
     match r {
         Record::Point(..) => 1,
-        Record::Contour(vertices) => vertices.as_slice().len(),
+        Record::Contour(vertices) => vertices.all().len(),
         _ => 0,
     }
 }
@@ -121,7 +121,7 @@ fn push_lines(
             let start = point_line(room, decimals, seq, word_of(*reach), *to);
             push_from(text, room, start)
         }
-        Record::Contour(vertices) => push_contour(text, room, decimals, seq, vertices.as_slice()),
+        Record::Contour(vertices) => push_contour(text, room, decimals, seq, vertices.all()),
         _ => Ok(()),
     }
 }
@@ -131,15 +131,17 @@ fn push_contour(
     room: &mut [u8],
     decimals: usize,
     seq: usize,
-    vertices: &[Position],
+    vertices: VertexSlice<'_>,
 ) -> Result<(), AllocError>
     requires room { length room.old ≡ 192 }
     requires decimals { decimals ≤ 5 }
-    ensures { OnOk result (text.new.items ≡ text.old.items ++ flat_map (lines.point_line decimals seq (codes "CONT")) vertices.now) }
+    ensures { OnOk result (text.new.items ≡ text.old.items ++ flat_map (lines.point_line decimals seq (codes "CONT")) vertices.entry) }
 {
-    'vertices: for to in vertices {
-        let start = point_line(room, decimals, seq, "CONT", *to);
+    let mut left = vertices;
+    'vertices: while let Some((to, behind)) = left.split_first() {
+        let start = point_line(room, decimals, seq, "CONT", to);
         push_from(text, room, start)?;
+        left = behind;
     }
     Ok(())
 }

@@ -12,8 +12,8 @@ fn at(x: i64, y: i64, z: i64) -> Position {
 }
 
 /// A contour of one vertex.
-fn cut(alloc: Global, x: i64, y: i64) -> Record {
-    Record::Contour(Vertices::one(alloc, at(x, y, 50_000)))
+fn cut(x: i64, y: i64) -> Record {
+    Record::Contour(Vertices::one(at(x, y, 50_000)))
 }
 
 /// Records without points up to a number, and a record behind them.
@@ -32,10 +32,10 @@ fn plate(alloc: Global) -> Result<Vec<Record>, AllocError> {
     push_as(&mut records, 10, Record::Point(Reach::From, begin))?;
     let start = at(-25_000, -25_000, 50_000);
     push_as(&mut records, 12, Record::Point(Reach::Start, start))?;
-    push_as(&mut records, 16, cut(alloc, 525_000, -25_000))?;
-    push_as(&mut records, 20, cut(alloc, 525_000, 525_000))?;
-    push_as(&mut records, 24, cut(alloc, -25_000, 525_000))?;
-    push_as(&mut records, 28, cut(alloc, -25_000, -25_000))?;
+    push_as(&mut records, 16, cut(525_000, -25_000))?;
+    push_as(&mut records, 20, cut(525_000, 525_000))?;
+    push_as(&mut records, 24, cut(-25_000, 525_000))?;
+    push_as(&mut records, 28, cut(-25_000, -25_000))?;
     push_as(&mut records, 32, Record::Note(Note::Fini))?;
     Ok(records)
 }

@@ -120,23 +120,23 @@ fn moves(how: Stop) -> [Record; 7]
     ]
 }
 
-fn vertex(alloc: Global, x: i64) -> Vertices
+fn vertex(x: i64) -> Vertices
     requires { unsigned_abs x ≤ 50000000 }
     ensures { (length result ≡ 1) × ArePositions result }
 {
-    Vertices::one(alloc, on_axis(x))
+    Vertices::one(on_axis(x))
 }
 
 /// All records of a motion that ends so many units past its contact.
-fn records(alloc: Global, how: Stop, past: i8) -> Result<[Record; 14], AllocError>
-    ensures range { IfOk result AreRecords }
-    ensures few { IfOk result (λ rs. vertex_count rs + length rs < 2 ^ 62) }
+fn records(how: Stop, past: i8) -> [Record; 14]
+    ensures range { AreRecords result }
+    ensures few { vertex_count result + length result < 2 ^ 62 }
 {
-    let vertex = vertex(alloc, contact(how) + i64::from(past));
+    let vertex = vertex(contact(how) + i64::from(past));
     let [a, b, c, d, e, f] = settings();
     let [g, h, i, j, k, l, m] = moves(how);
     let end = Record::Contour(vertex);
-    Ok([a, b, c, d, e, f, g, h, i, j, k, l, m, end])
+    [a, b, c, d, e, f, g, h, i, j, k, l, m, end]
 }
 
 /// What is found of its job, where the steps pass and the records answer them.
@@ -147,7 +147,7 @@ fn verdict(alloc: Global, how: Stop, past: i8) -> Result<Option<Verdict>, AllocE
     let Ok(None) = ends(alloc, &steps) else {
         return Ok(None);
     };
-    let records = Vec::from_array(alloc, records(alloc, how, past)?)?;
+    let records = Vec::from_array(alloc, records(how, past))?;
     match jobs(alloc, &steps, records) {
         Ok(jobs) => Ok(Some(check_jobs(&jobs))),
         Err(_) => Ok(None),

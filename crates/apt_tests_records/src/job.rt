@@ -100,7 +100,7 @@ fn vertices(alloc: Global, higher: i8) -> Result<Vertices, AllocError>
     let mut at = Vec::new(alloc);
     at.push(position(0, 100_000))?;
     at.push(position(525_000, 100_000 + i64::from(higher)))?;
-    Ok(Vertices::from_vec(at))
+    Vertices::of(alloc, at)
 }
 
 /// The records of what is set.

@@ -27,10 +27,10 @@ fn step(step: u32, deed: Deed) -> Step
     }
 }
 
-/// Where a contour ends.
+/// Where a contour of one segment ends.
 fn end_of(record: &Record) -> Option<Position> {
     match record {
-        Record::Contour(vertices) => vertices.as_slice().last().copied(),
+        Record::Contour(vertices) => Some(vertices.all().split_first()?.0),
         _ => None,
     }
 }

@@ -249,7 +249,7 @@ fn writes_records_piece_by_piece(rt: HostRuntime) -> Result<(), Fail> {
         Record::Note(Note::Feed(100)),
         Record::Note(Note::Rapid),
         Record::Point(Reach::Goto, place(1, 2)),
-        Record::Contour(Vertices::from_vec(vertices)),
+        Record::Contour(Vertices::of(rt.alloc(), vertices)?),
         Record::Note(Note::Coolant(Cool::Flood)),
         Record::Note(Note::Fini),
     ];

@@ -281,18 +281,13 @@ fn left_half() -> Arc
 }
 
 /// Whether a contour has these vertices, at the height 0.
-fn has_vertices(record: &Record, points: &[Pt]) -> bool {
-    match record {
-        Record::Contour(vertices) => {
-            vertices.as_slice().len() == points.len()
-                && vertices
-                    .as_slice()
-                    .iter()
-                    .zip(points)
-                    .all(|(v, p)| v.xy == *p && v.z == 0)
-        }
-        _ => false,
-    }
+fn has_vertices(alloc: Global, record: &Record, points: &[Pt]) -> bool {
+    let Record::Contour(vertices) = record else {
+        return false;
+    };
+    let all = vertices.all();
+    let mut found = Vec::new(alloc);
+    all.append_points(&mut found).is_ok() && all.are_at(0) && found.as_slice() == points
 }
 
 /// The records of a CL file; none where it can't be read.
@@ -325,7 +320,7 @@ fn many_arcs_are_as_they_are_divided_alone(rt: HostRuntime) -> Result<(), Fail> 
             // the first contour is along a line
             let alone = if contours % 2 == 1 { &right } else { &left };
             assert!(rt;
-                contours == 0 || has_vertices(record, alone),
+                contours == 0 || has_vertices(alloc, record, alone),
                 "contour {contours}"
             );
             contours = contours.saturating_add(1);

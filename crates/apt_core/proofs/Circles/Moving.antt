@@ -31,7 +31,8 @@ use Rattle.apt_meaning.specs.declared.situation.Settings.{Settings}
 use Rattle.apt_meaning.specs.declared.effect.Change.TheVariants as changes
 use Rattle.apt_meaning.specs.declared.effect.Effect.TheVariants as effects
 use Rattle.apt_cldata.specs.declared.record.Note.TheVariants as notes
-use Rattle.apt_meaning.specs.Situations.{position_at, at_height, forward_behind}
+use Rattle.apt_meaning.specs.Situations.{position_at, forward_behind}
+use Rattle.apt_cldata.specs.Vertices.{at_height}
 use Rattle.apt_meaning.specs.StartUps.{start_up_at}
 use Rattle.apt_meaning.specs.Effects.{moves}
 use Rattle.apt_core.proofs.Circles.Numbers.{Size}

@@ -28,7 +28,7 @@ use Rattle.apt_meaning.specs.declared.effect.Change.{Change}
 use Rattle.apt_meaning.specs.declared.effect.Change.TheVariants as changes
 use Rattle.apt_meaning.specs.declared.effect.Effect.{Effect}
 use Rattle.apt_meaning.specs.declared.effect.Effect.TheVariants as effects
-use Rattle.apt_meaning.specs.Situations.{at_height}
+use Rattle.apt_cldata.specs.Vertices.{at_height}
 use Rattle.apt_meaning.specs.Motions.{vertices_of}
 use Rattle.apt_meaning.specs.Effects.{note_of, effect_of}
 use Rattle.apt_meaning.specs.Refusals.{refusal_of}

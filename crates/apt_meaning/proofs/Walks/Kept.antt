@@ -27,7 +27,8 @@ use Rattle.apt_meaning.specs.declared.motion.Motion.{Motion}
 use Rattle.apt_meaning.specs.declared.effect.Change.TheVariants as changes
 use Rattle.apt_meaning.specs.declared.effect.Effect.{Effect}
 use Rattle.apt_meaning.specs.declared.effect.Effect.TheVariants as effects
-use Rattle.apt_meaning.specs.Situations.{first_situation, settings_behind, forward_behind, at_height}
+use Rattle.apt_meaning.specs.Situations.{first_situation, settings_behind, forward_behind}
+use Rattle.apt_cldata.specs.Vertices.{at_height}
 use Rattle.apt_meaning.specs.Records.{with_statement, effect_records, records_of, after}
 use Rattle.apt_meaning.specs.Ranges.{IsPositionOrNone, IsForward, AreSettings, IsSituation, IsMotion, IsEffect}
 use Rattle.apt_meaning.specs.Vertices.{HasIn}
