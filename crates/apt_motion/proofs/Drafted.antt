@@ -273,3 +273,11 @@ drafted (step ∷ steps) so_far here mark few =
 -- what steps come to is their draft, finished
 pub compiled : (steps : List Step) → compilation first_situation steps ≡ finished most_points nowhere (draft_from first_situation steps)
 compiled steps = drafted steps 0 first_situation nowhere (omega arith)
+
+-- ---- the vertices of arcs
+
+-- where there are none, the records stay
+pub filled_by_none : (rs : List Record) (cuts : List (List Position)) → length cuts ≡ 0 → rs ≡ filled rs cuts
+filled_by_none [] cuts none = refl
+filled_by_none (r ∷ rs) [] none = ap (λ (xs : List Record). r ∷ xs) (filled_by_none rs [] none)
+filled_by_none (r ∷ rs) (cut ∷ cuts) none = absurd (omega (arith, none))
