@@ -58,7 +58,7 @@ line_perp n p perpto l = name p >>= λ p. says words.Perpto perpto >>= λ _. nam
 
 -- LINE/e,e,e,e
 abbrev pub line_xy : Name → List Token → List Token → List Token → List Token → Option Body
-line_xy n x y u v = expression x >>= λ x. expression y >>= λ y. expression u >>= λ u. expression v >>= λ v. Some (bodies.LineXy n x y u v)
+line_xy n x y u v = expression x >>= λ x. expression y >>= λ y. expression u >>= λ u. expression v >>= λ v. Some (bodies.LineXy n x y (u, v))
 
 -- LINE/PARLEL,l,k,e
 abbrev pub line_at : Name → List Token → List Token → List Token → List Token → Option Body

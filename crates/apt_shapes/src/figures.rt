@@ -6,7 +6,7 @@ ghost use Rattle.apt_shapes.specs.Figures as figures;
 use crate::arguments::{is_left, is_word, name, pair, pick, triple};
 use apt_expr::expression;
 use apt_lexis::Token;
-use apt_words::{Body, Symbol, Word};
+use apt_words::{Body, Symbol, Word, Xy};
 use std::alloc::{AllocError, Global};
 
 pub(crate) fn assign(
@@ -125,7 +125,8 @@ fn line_xy(
     let (Some((x, y)), Some((u, v))) = (pair(alloc, x, y)?, pair(alloc, u, v)?) else {
         return Ok(None);
     };
-    Ok(Some(Body::LineXy(n.copied(), x, y, u, v)))
+    let to = Xy::new(alloc, u, v)?;
+    Ok(Some(Body::LineXy(n.copied(), x, y, to)))
 }
 
 fn line_at(

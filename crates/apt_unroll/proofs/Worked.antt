@@ -73,7 +73,7 @@ name_given_anew : trace_of (on 1 (bodies.Assign X (number 1)) ∷ on 2 (bodies.A
 unfolding trace_from action deed_of executed by_values
 name_given_anew = refl
 
-line_by_values : trace_of (on 1 (bodies.LineXy L (number 0) (number 1) (number 2) (Bin Div (number 3) (number 2))) ∷ [])
+line_by_values : trace_of (on 1 (bodies.LineXy L (number 0) (number 1) (number 2, Bin Div (number 3) (number 2))) ∷ [])
     ≡ all_of (step 1 1 (deeds.LineXy L (units 0) (units 1) (units 2) (pos 1500000)) ∷ [])
 unfolding trace_from action deed_of executed by_values
 line_by_values = refl

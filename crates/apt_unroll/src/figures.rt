@@ -34,8 +34,8 @@ pub(crate) fn figure(env: &Env, frame: &Frame, body: &Body) -> Result<Deed, Case
             let c = name_for(frame, c)?;
             Ok(Deed::PointCenter(n.copied(), c))
         }
-        Body::LineXy(n, x, y, u, v) => {
-            let (x, y, u, v) = four(env, frame, x, y, u, v)?;
+        Body::LineXy(n, x, y, to) => {
+            let (x, y, u, v) = four(env, frame, x, y, to.x(), to.y())?;
             Ok(Deed::LineXy(n.copied(), x, y, u, v))
         }
         Body::LinePoints(n, p, q) => {
@@ -99,7 +99,7 @@ pub(crate) fn defined_name(body: &Body) -> Option<&Symbol>
         | Body::PointLines(n, _, _)
         | Body::PointPick(n, _, _, _)
         | Body::PointCenter(n, _)
-        | Body::LineXy(n, _, _, _, _)
+        | Body::LineXy(n, _, _, _)
         | Body::LinePoints(n, _, _)
         | Body::LinePar(n, _, _)
         | Body::LinePerp(n, _, _)

@@ -4,7 +4,7 @@ ghost use Rattle.std.specs.Prelude.{◌≡◌, IfOk};
 ghost use Rattle.apt_words.specs.Composition.{is_fini};
 
 use crate::{Cool, Expr, Go, Pick, Side, Stop, Symbol, Turn, Units};
-use std::alloc::AllocError;
+use std::alloc::{AllocError, Global};
 use std::marker::Model;
 
 /// The text of PARTNO or REMARK. Clauses see its bytes.
@@ -87,6 +87,46 @@ impl Model for Args {
     ghost view = { λ a. a.items.items };
 }
 
+/// The coordinates of a point, apart from their statement, so that no other statement is larger for them. Clauses see
+/// the two.
+#[derive(Drop)]
+pub struct Xy {
+    at: Box<(Expr, Expr)>,
+}
+
+impl Model for Xy {
+    ghost use Rattle.std.specs.Coded.{coded×};
+    ghost use Rattle.apt_words.specs.Trees.{Tree};
+    ghost use Rattle.apt_words.specs.TreeCodes.{tree_code};
+
+    ghost Value = { Tree × Tree };
+
+    ghost coded = { coded× tree_code tree_code };
+
+    ghost view = { λ p. p.at.value };
+}
+
+impl Xy {
+    pub fn new(alloc: Global, x: Expr, y: Expr) -> Result<Xy, AllocError>
+        ensures { IfOk result (λ p. p ≡ (x, y)) }
+    {
+        let at = Box::new(alloc, (x, y))?;
+        Ok(Xy { at })
+    }
+
+    pub fn x(&self) -> &Expr
+        ensures { result.now ≡ self.now.0 }
+    {
+        &self.at.0
+    }
+
+    pub fn y(&self) -> &Expr
+        ensures { result.now ≡ self.now.1 }
+    {
+        &self.at.1
+    }
+}
+
 /// What a statement says: its words' arguments in order, a defined name first.
 ///
 /// A bool is true for LEFT. A stop that is left out is `To`, and a turn of the spindle `Cw`.
@@ -115,7 +155,7 @@ pub enum Body {
     /// `n=POINT/CENTER,c`.
     PointCenter(Symbol, Symbol),
     /// `n=LINE/x,y,x,y`.
-    LineXy(Symbol, Expr, Expr, Expr, Expr),
+    LineXy(Symbol, Expr, Expr, Xy),
     /// `n=LINE/p,p`.
     LinePoints(Symbol, Symbol, Symbol),
     /// `n=LINE/p,PARLEL,l`.

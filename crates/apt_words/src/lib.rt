@@ -11,7 +11,7 @@ mod symbol;
 mod word;
 
 pub use ask::{Ask, CircleForm, Form, LineForm, Place, PointForm, Route, Saying};
-pub use body::{Args, Body, Exprs, Params, Program, Stmt, Text};
+pub use body::{Args, Body, Exprs, Params, Program, Stmt, Text, Xy};
 pub use deed::{Deed, Step};
 pub use expr::{Expr, Node, Op};
 pub use postfix::{Item, Millionths, Postfix};

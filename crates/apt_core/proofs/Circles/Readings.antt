@@ -93,7 +93,7 @@ tree scale (negsuc n) = Neg (Num (pos ((n + 1) * scale)))
 abbrev bodies_about : ℤ → ℤ → ℕ → ℤ → List Body
 bodies_about x y r clear =
     bodies.CircleThree (codes "C") (tree 1000000 x) (tree 1000000 y) (tree 10000 (pos r))
-    ∷ bodies.LineXy (codes "L") (tree 1000000 x) (tree 1000000 y) (tree 1000000 (x +ℤ pos 1)) (tree 1000000 y)
+    ∷ bodies.LineXy (codes "L") (tree 1000000 x) (tree 1000000 y) (tree 1000000 (x +ℤ pos 1), tree 1000000 y)
     ∷ bodies.Rapid
     ∷ bodies.GotoXy (tree 10000 clear) (tree 1000000 y) (Some (Num (pos 500000)))
     ∷ bodies.Godlta (Num (pos 0)) (Num (pos 0)) (Neg (Num (pos 500000)))
