@@ -12,8 +12,8 @@ use crate::leg::Job;
 use crate::verdict::Verdict;
 use std::thread::{Threads, join};
 
-/// How often a list is halved at most, so there are at most 16 threads.
-const HALVINGS: u8 = 4;
+/// How often a list is halved at most, so there are at most 8 threads.
+const HALVINGS: u8 = 3;
 
 /// The verdict of `check_jobs`, by halves of halves of the list in threads of their own. The gate is told of each job, by
 /// its number from 1, before it is judged.

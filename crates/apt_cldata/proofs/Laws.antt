@@ -127,7 +127,7 @@ read_gives_file bytes rs small is = (read_only bytes rs (record { small = small 
 
 -- ---- how much a file holds
 
-vertices_long : (r : Record) → vertices_in r ≤ length (words_of r)
+pub vertices_long : (r : Record) → vertices_in r ≤ length (words_of r)
 vertices_long (records.Statement line step) = omega arith
 vertices_long (records.Note note) = omega arith
 vertices_long (records.Drive surface side sense) = omega arith

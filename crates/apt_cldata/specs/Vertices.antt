@@ -1,5 +1,5 @@
 -- The vertices of a contour, however they are held.
-use Rattle.std.specs.Prelude.{ℤ, List, [], ◌∷◌, map}
+use Rattle.std.specs.Prelude.{ℤ, List, map}
 use Rattle.apt_plane.specs.declared.figures.Pt.{Pt}
 use Rattle.apt_cldata.specs.declared.record.Position.{Position}
 use Rattle.apt_cldata.specs.declared.vertices.Held.{Held}

@@ -1,6 +1,6 @@
 //! The vertices of a contour.
 
-ghost use Rattle.std.specs.Prelude.{◌≡◌, [], ◌∷◌, ◌++◌, true, length, map, OnOk, IfOk, IfSome, MatchOption};
+ghost use Rattle.std.specs.Prelude.{◌≡◌, [], ◌∷◌, ◌++◌, true, length, map, OnOk, OnErr, IfOk, IfSome, MatchOption};
 ghost use Rattle.std.specs.List.{list_all};
 ghost use Rattle.std.specs.Ordering.{int_eq};
 ghost use Rattle.apt_cldata.specs.Vertices.{at_height, point_of};
@@ -163,12 +163,20 @@ impl<'a> VertexSlice<'a> {
         (self.level.is_empty() || is_same(self.z, z)) && are_at(z, self.apart)
     }
 
-    /// Appends their points.
+    /// Appends their points. Where memory is lacking, nothing is appended.
     pub fn append_points(&self, points: &mut Vec<Pt>) -> Result<(), AllocError>
-        ensures { OnOk result (points.new.items ≡ points.old.items ++ map point_of self.now) }
+        ensures ok { OnOk result (points.new.items ≡ points.old.items ++ map point_of self.now) }
+        ensures err { OnErr result (points.new.items ≡ points.old.items) }
     {
+        let before = points.len();
         points.extend_from_slice(self.level)?;
-        append_points(points, self.apart)
+        match append_points(points, self.apart) {
+            Ok(()) => Ok(()),
+            Err(error) => {
+                points.truncate(before);
+                Err(error)
+            }
+        }
     }
 }
 
@@ -200,7 +208,8 @@ fn common_height(positions: &[Position]) -> Option<i64>
 
 /// Appends the points of positions.
 fn append_points(points: &mut Vec<Pt>, positions: &[Position]) -> Result<(), AllocError>
-    ensures { OnOk result (points.new.items ≡ points.old.items ++ map point_of positions.now) }
+    ensures ok { OnOk result (points.new.items ≡ points.old.items ++ map point_of positions.now) }
+    ensures err { OnErr result (points.new.items ≡ points.old.items) }
 {
     points.reserve(positions.len())?;
     'positions: for p in positions {

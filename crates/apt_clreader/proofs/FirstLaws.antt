@@ -10,14 +10,12 @@ use Rattle.apt_cldata.specs.declared.error.ClCause.TheVariants as causes
 use Rattle.apt_cldata.specs.declared.error.ClError.{ClError}
 use Rattle.apt_cldata.specs.declared.error.ClError.TheVariants as errors
 use Rattle.apt_cldata.specs.declared.record.Record.{Record}
-use Rattle.apt_cldata.specs.declared.record.Record.TheVariants as records
-use Rattle.apt_cldata.specs.Ranges.{vertices_in}
 use Rattle.apt_cldata.specs.Fields.{◌>>=◌}
 use Rattle.apt_cldata.specs.Words.{words_of}
 use Rattle.apt_cldata.specs.Records.{record_of}
 use Rattle.apt_cldata.specs.Files.{record_bytes}
 use Rattle.apt_cldata.specs.Reading.{fault, fault_in, cut_short, length_in, word_in, words_in, is_length, length_of, located, record_in, said_by, Piece, piece, first_of}
-use Rattle.apt_cldata.proofs.RecordLaws.{triples_length}
+use Rattle.apt_cldata.proofs.Laws.{vertices_long}
 use Rattle.apt_cldata.proofs.PieceLaws.{IsPiece, piece_only, framed_length}
 use Rattle.apt_clreader.specs.Begun.{Fault, is_truncation, is_truncated, place_of, tells_end, place_in}
 use Rattle.apt_clreader.specs.Steps.{IsFirst, IsNext}
@@ -165,14 +163,6 @@ first_shorter seq at bytes p is = elim (length_known at bytes []) [
   | inl cut ↦ absurd (let e : Err (cut_short at bytes) ≡ Ok p = sym (ap (after_length seq at bytes) cut) ∙ is in cc)
   | inr k ↦ length_shorter seq at bytes (length_of at bytes) p k.there is
 ]
-
-vertices_long : (r : Record) → vertices_in r ≤ length (words_of r)
-vertices_long (records.Statement line step) = omega arith
-vertices_long (records.Note note) = omega arith
-vertices_long (records.Drive surface side sense) = omega arith
-vertices_long (records.Check surface how) = omega arith
-vertices_long (records.Point reach to) = omega arith
-vertices_long (records.Contour vertices) = omega (arith, triples_length vertices)
 
 pub first_is : (seq at : ℕ) (bytes : List ℕ) (r : Record) (size : ℕ) → ((i : ℕ) → get_or bytes i 0 < 256) → size ≤ length bytes → first_of seq at bytes ≡ Ok (piece r (at + size) (drop size bytes)) → IsFirst seq at bytes r size
 first_is seq at bytes r size small there is =

@@ -43,8 +43,7 @@ pub(crate) fn compile<H: Shelf, G: Gate>(
     }
 }
 
-/// What a text is compiled to for the machine of a table. The steps go as soon as the records stand, to keep the peak of
-/// memory low.
+/// What a text is compiled to for the machine of a table.
 #[tactic(auto, using(crate::proofs::Outputs::output_is, crate::proofs::Outputs::few_records))]
 fn output_by<G: Gate>(
     rt: &(impl Threads + Sync),
@@ -61,7 +60,9 @@ fn output_by<G: Gate>(
     ensures none { IfErr result (ComesToNone (output_due text.items table.now)) }
 {
     let machine = machine_of(table)?;
-    let Part { steps, records } = part_on(rt, alloc, text, &machine, gate)?;
-    drop(steps);
-    Ok(Output { records, machine })
+    let part = part_on(rt, alloc, text, &machine, gate)?;
+    Ok(Output {
+        records: part.records,
+        machine,
+    })
 }

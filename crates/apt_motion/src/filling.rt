@@ -3,7 +3,8 @@
 ghost use Rattle.std.specs.Prelude.{◌≡◌};
 ghost use Rattle.apt_motion.specs.Drafts as drafts;
 
-use apt_cldata::{Record, Vertices};
+use crate::arcs::Cut;
+use apt_cldata::Record;
 use std::collections::VecDeque;
 
 /// Whether a record is a contour that is still to be divided.
@@ -16,9 +17,9 @@ pub(crate) fn is_open(r: &Record) -> bool
     }
 }
 
-/// Gives each contour that is to be divided the next of these vertices. Most parts have no arcs.
+/// Gives each contour that is to be divided the next of these vertices. There is nothing to do where none is.
 #[tactic(auto, using(crate::proofs::Drafted::filled_by_none))]
-pub(crate) fn fill(records: &mut Vec<Record>, cuts: Vec<Vertices>)
+pub(crate) fn fill(records: &mut Vec<Record>, cuts: Vec<Cut>)
     ensures { records.new.items ≡ drafts.filled records.old.items cuts.items }
 {
     if cuts.is_empty() {
@@ -31,13 +32,13 @@ pub(crate) fn fill(records: &mut Vec<Record>, cuts: Vec<Vertices>)
 }
 
 /// Gives a contour that is to be divided the first of the vertices that are left.
-fn give(r: &mut Record, left: &mut VecDeque<Vertices>)
+fn give(r: &mut Record, left: &mut VecDeque<Cut>)
     ensures given { r.new ≡ drafts.given r.old left.old.items }
     ensures left { left.new.items ≡ drafts.cuts_behind r.old left.old.items }
 {
     if is_open(r) {
-        if let Some(vertices) = left.pop_front() {
-            *r = Record::Contour(vertices);
+        if let Some(cut) = left.pop_front() {
+            *r = Record::Contour(cut.vertices());
         }
     }
 }

@@ -231,14 +231,16 @@ fn draft_of(alloc: Global, steps: &[Step]) -> Result<(Draft, Option<Refusal>), A
 fn run_all<G: Gate>(
     rt: &(impl Threads + Sync),
     alloc: Global,
-    steps: &[Step],
+    steps: Vec<Step>,
     gate: &G,
 ) -> Result<Vec<Record>, RunError>
-    requires scalars { AreScalars steps.now }
-    requires sources { AreExecuted steps.now }
-    ensures { IsDueAs (λ records. records.items) refusal_in (compilation first_situation steps.now) result }
+    requires scalars { AreScalars steps.items }
+    requires sources { AreExecuted steps.items }
+    ensures { IsDueAs (λ records. records.items) refusal_in (compilation first_situation steps.items) result }
 {
-    let (draft, refusal) = draft_of(alloc, steps)?;
+    let (draft, refusal) = draft_of(alloc, &steps)?;
+    // The steps' memory is free for the vertices.
+    drop(steps);
     if let Some(past) = past_limit(rt, alloc, &draft)? {
         return Err(RunError::Refused(past));
     }
@@ -282,7 +284,7 @@ pub fn ends(alloc: Global, steps: &[Step]) -> Result<Option<Refusal>, AllocError
 }
 
 /// The records of steps, whose arcs are divided by several threads; the gate is told of each arc, by its number from 1
-/// over all steps, before it is divided. A contour along a line has one vertex, the point at which it stops; round a circle it has those
+/// over all steps, before it is divided. The steps go as soon as their records are drawn. A contour along a line has one vertex, the point at which it stops; round a circle it has those
 /// of its arc's division into chords, each within the inward tolerance. A program has up to 500,000 vertices. `Refused`
 /// has the first step that a case refuses, or that has too many vertices. The records follow the steps, every contour
 /// is legal, and all numbers are in range.
@@ -290,13 +292,13 @@ pub fn ends(alloc: Global, steps: &[Step]) -> Result<Option<Refusal>, AllocError
 pub fn run<G: Gate>(
     rt: &(impl Threads + Sync),
     alloc: Global,
-    steps: &[Step],
+    steps: Vec<Step>,
     gate: &G,
 ) -> Result<Vec<Record>, RunError>
-    requires scalars { AreScalars steps.now }
-    requires sources { AreExecuted steps.now }
-    ensures value { IsDueAs (λ records. records.items) refusal_in (compilation first_situation steps.now) result }
-    ensures follows { IfOk result (λ records. Follows steps.now records.items) }
+    requires scalars { AreScalars steps.items }
+    requires sources { AreExecuted steps.items }
+    ensures value { IsDueAs (λ records. records.items) refusal_in (compilation first_situation steps.items) result }
+    ensures follows { IfOk result (λ records. Follows steps.items records.items) }
     ensures legal { IfOk result (λ records. EveryContour IsLegalCut (contours_of records.items)) }
     ensures own { IfOk result (λ records. EveryContour IsOwnCut (contours_of records.items)) }
     ensures range { IfOk result (λ records. AreRecords records.items) }

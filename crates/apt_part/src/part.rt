@@ -24,16 +24,18 @@ use apt_machine::Machine;
 use apt_motion::{RunError, ends, run};
 use apt_parse::parse;
 use apt_post::limits;
-use apt_unroll::unroll;
+use apt_unroll::{Unrolled, unroll};
 use apt_words::{Program, Refusal, Step};
 use std::alloc::{AllocError, Global};
 use std::marker::Model;
+use std::snapshot::Snapshot;
 use std::thread::Threads;
 
-/// The steps of a part program, and the records that they ask for. Clauses see the two lists.
+/// The records that the steps of a part program ask for. Clauses see the steps too, which go as soon as the records are
+/// drawn.
 #[derive(Drop)]
 pub struct Part {
-    pub steps: Vec<Step>,
+    steps: Snapshot<Vec<Step>>,
     pub records: Vec<Record>,
 }
 
@@ -42,7 +44,7 @@ impl Model for Part {
 
     ghost Value = { Compiled };
 
-    ghost view = { λ p. record { steps = p.steps.items; records = p.records.items } };
+    ghost view = { λ p. record { steps = p.steps.value.items; records = p.records.items } };
 }
 
 /// Why a part has no records: the first fault of its text with its line, the first refused step, or want of memory.
@@ -191,12 +193,14 @@ fn part_by<G: Gate>(
     };
     // The statements' memory is free for the records.
     drop(program);
-    let records = records_of(rt, alloc, &unrolled.steps, machine, gate)?;
-    match unrolled.fault {
-        None => Ok(Part {
-            steps: unrolled.steps,
-            records,
-        }),
+    let Unrolled {
+        steps: executed,
+        fault,
+    } = unrolled;
+    let steps = Snapshot::of(&executed);
+    let records = records_of(rt, alloc, executed, machine, gate)?;
+    match fault {
+        None => Ok(Part { steps, records }),
         Some(fault) => Err(RunError::Refused(fault)),
     }
 }
@@ -205,15 +209,15 @@ fn part_by<G: Gate>(
 fn records_of<G: Gate>(
     rt: &(impl Threads + Sync),
     alloc: Global,
-    steps: &[Step],
+    steps: Vec<Step>,
     machine: &Machine,
     gate: &G,
 ) -> Result<Vec<Record>, RunError>
-    requires scalars { AreScalars steps.now }
-    requires sources { AreExecuted steps.now }
-    ensures { IsDueAs (λ records. records.items) refusal_in (parts.earlier (limiting.limits machine.now steps.now) (compilation first_situation steps.now)) result }
+    requires scalars { AreScalars steps.items }
+    requires sources { AreExecuted steps.items }
+    ensures { IsDueAs (λ records. records.items) refusal_in (parts.earlier (limiting.limits machine.now steps.items) (compilation first_situation steps.items)) result }
 {
-    let past = limits(steps, machine);
+    let past = limits(&steps, machine);
     match run(rt, alloc, steps, gate) {
         Ok(records) => match past {
             None => Ok(records),

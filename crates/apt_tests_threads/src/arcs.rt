@@ -35,7 +35,7 @@ fn demo_steps(alloc: Global) -> Option<Vec<Step>>
 /// How many records the demo part of two circles has, with its arcs divided through a gate.
 fn run_through<R: Threads + Sync, G: Gate>(rt: &R, alloc: Global, gate: &G) -> Option<usize> {
     let steps = demo_steps(alloc)?;
-    let records = run(rt, alloc, &steps, gate).ok()?;
+    let records = run(rt, alloc, steps, gate).ok()?;
     Some(records.len())
 }
 

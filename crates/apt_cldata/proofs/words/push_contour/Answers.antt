@@ -1,4 +1,4 @@
-use Rattle.std.proofs.Common.{rules, ◌≡◌, ◌∷◌, ◌++◌, ◌∙◌, ◌+◌, ◌*◌, ℕ, pos, List, [], length, ap, sym, map, w64}
+use Rattle.std.proofs.Common.{rules, ◌∷◌, ◌++◌, ◌∙◌, ◌+◌, ◌*◌, ℕ, pos, List, [], length, ap, sym, map, w64}
 use Rattle.std.specs.Prelude.{FitsSigned}
 use Rattle.std.specs.List.{flat_map}
 use Rattle.std.proofs.lemmas.Int.{to_z-of_z}

@@ -1,4 +1,4 @@
-use Rattle.std.proofs.Common.{◌≡◌, ◌≤◌, ◌+◌, ◌-◌, ◌*◌, ◌++◌, drop, length, map, vec_len, vec_capacity}
+use Rattle.std.proofs.Common.{◌≡◌, ◌+◌, ◌*◌, ◌++◌, drop, map, vec_len, vec_capacity}
 use Rattle.std.specs.List.{flat_map}
 use Rattle.apt_cldata.specs.Files.{position_bytes}
 use Rattle.apt_cldata.specs.Vertices.{at_height}

@@ -1,4 +1,4 @@
-use Rattle.std.proofs.Common.{rules, ◌≡◌, ◌∙◌, ◌≤◌, List, length, false, sym, ap, arith, int_eq, w64}
+use Rattle.std.proofs.Common.{rules, ◌∙◌, sym, ap, arith, int_eq, w64}
 use Rattle.std.specs.Prelude.{FitsSigned}
 use Rattle.std.specs.List.{list_all}
 use Rattle.std.proofs.lemmas.Bool.{true≢false}
