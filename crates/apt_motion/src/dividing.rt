@@ -26,7 +26,11 @@ pub(crate) fn cut_all<G: Gate>(
 {
     let mut cuts = rooms_for(alloc, rounds)?;
     divide_all(rt, rounds, gate, &mut cuts);
-    if are_cut(&cuts) { Ok(cuts) } else { Err(AllocError) }
+    if are_cut(&cuts) {
+        Ok(cuts)
+    } else {
+        Err(AllocError)
+    }
 }
 
 /// Room for the vertices of each arc. It is made here, since what a thread of its own gives back may serve no other.
