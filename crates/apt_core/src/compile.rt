@@ -60,9 +60,6 @@ fn output_by<G: Gate>(
     ensures none { IfErr result (ComesToNone (output_due text.items table.now)) }
 {
     let machine = machine_of(table)?;
-    let part = part_on(rt, alloc, text, &machine, gate)?;
-    Ok(Output {
-        records: part.records,
-        machine,
-    })
+    let Part { records, .. } = part_on(rt, alloc, text, &machine, gate)?;
+    Ok(Output { records, machine })
 }

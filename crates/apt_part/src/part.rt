@@ -35,7 +35,7 @@ use std::thread::Threads;
 /// drawn.
 #[derive(Drop)]
 pub struct Part {
-    steps: Snapshot<Vec<Step>>,
+    pub steps: Snapshot<Vec<Step>>,
     pub records: Vec<Record>,
 }
 
