@@ -1,4 +1,4 @@
-ghost use Rattle.std.specs.Prelude.{◌≡◌, IfOk};
+ghost use Rattle.std.specs.Prelude.{◌≡◌};
 ghost use Rattle.apt_words.specs.Sources.{AreExecuted};
 ghost use Rattle.apt_scalar.specs.StepScalars.{AreScalars};
 
@@ -6,7 +6,7 @@ use apt_certify::OpenGate;
 use apt_cldata::{Position, Record};
 use apt_motion::{RunError, run};
 use apt_words::{Case, Deed, Go, Refusal, Side, Step, Stop, Symbol};
-use std::alloc::{AllocError, Global};
+use std::alloc::Global;
 use std::process::Abort;
 use std::test::Fail;
 use std::thread::Threads;
@@ -69,22 +69,15 @@ fn contours_end_at_their_contact(rt: HostRuntime) -> Result<(), Fail> {
 
 /// The steps of a motion along the x axis from x = -1 to a circle about (5, b) with radius 1: the cutter has a radius of
 /// a quarter, on this side, and starts so many quarters below the axis.
-fn steps_to_circle(
-    rt: &impl Abort,
-    alloc: Global,
-    side: Side,
-    quarters: u8,
-    how: Stop,
-    b: u8,
-) -> Result<Vec<Step>, AllocError>
-    ensures scalars { IfOk result (λ steps. AreScalars steps.items) }
-    ensures sources { IfOk result (λ steps. AreExecuted steps.items) }
+fn steps_to_circle(rt: &impl Abort, side: Side, quarters: u8, how: Stop, b: u8) -> [Step; 7]
+    ensures scalars { AreScalars result }
+    ensures sources { AreExecuted result }
 {
     let line = symbol(rt, "L1");
     let circle = symbol(rt, "C1");
     let below = -250_000 * i64::from(quarters);
     let b = 1_000_000 * i64::from(b);
-    Ok(vec![in alloc;
+    [
         step(1, Deed::Cutter(500_000)),
         step(2, Deed::Fedrat(10_000_000)),
         step(3, Deed::LineXy(line.copied(), 0, 0, 5_000_000, 0)),
@@ -92,21 +85,24 @@ fn steps_to_circle(
         step(5, Deed::FromXy(-2_000_000, below, None)),
         step(6, Deed::Godlta(1_000_000, 0, 0)),
         step(7, Deed::Contour(Some(side), Go::Forward, line, how, circle)),
-    ]?)
+    ]
 }
 
 /// Where steps end with a contour, in grid units.
-fn last_end(rt: &(impl Threads + Sync), alloc: Global, steps: Vec<Step>) -> Option<(i64, i64)>
-    requires scalars { AreScalars steps.items }
-    requires sources { AreExecuted steps.items }
+fn last_end(rt: &(impl Threads + Sync), alloc: Global, steps: [Step; 7]) -> Option<(i64, i64)>
+    requires scalars { AreScalars steps }
+    requires sources { AreExecuted steps }
 {
+    let Ok(steps) = Vec::from_array(alloc, steps) else {
+        return None;
+    };
     let records = run(rt, alloc, steps, &OpenGate).ok()?;
     let end = records.last().and_then(end_of)?;
     Some((end.xy.x, end.xy.y))
 }
 
 #[test]
-fn contours_end_at_circles(rt: HostRuntime) -> Result<(), Fail> {
+fn contours_end_at_circles(rt: HostRuntime) {
     let table = [
         (Side::Right, 1, Stop::To, 0, (377_526, -25_000)),
         (Side::Right, 1, Stop::On, 0, (403_175, -25_000)),
@@ -118,14 +114,13 @@ fn contours_end_at_circles(rt: HostRuntime) -> Result<(), Fail> {
         (Side::On, 0, Stop::Tanto, 1, (500_000, 0)),
     ];
     for (side, quarters, how, b, want) in table {
-        let steps = steps_to_circle(&rt, rt.alloc(), side, quarters, how, b)?;
+        let steps = steps_to_circle(&rt, side, quarters, how, b);
         let Some(end) = last_end(&rt, rt.alloc(), steps) else {
             assert!(rt; false, "a step is refused");
-            return Ok(());
+            return;
         };
         assert_eq!(rt; end, want);
     }
-    Ok(())
 }
 
 #[test]
