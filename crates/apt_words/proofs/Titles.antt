@@ -47,7 +47,7 @@ asked_title (Says saying) = 0
 asked_title (Sets side) = 0
 asked_title (Defines name form) = 0
 asked_title (Goes route) = 0
-asked_title (Cuts side go drive how check) = 0
+asked_title (Cuts side go drive how check n) = 0
 asked_title Nothing = 0
 
 abbrev pub title_length : Deed → ℕ

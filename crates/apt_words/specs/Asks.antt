@@ -30,7 +30,7 @@ pub data Ask : Type 0 where
   Sets : Side → Ask
   Defines : List ℕ → Form → Ask
   Goes : Route → Ask
-  Cuts : Option Side → Go → List ℕ → Stop → List ℕ → Ask
+  Cuts : Option Side → Go → List ℕ → Stop → List ℕ → ℤ → Ask
   Nothing : Ask
 
 -- an ask of the program, with the text of its title
@@ -40,7 +40,7 @@ seen (shown.Says saying) = Says saying
 seen (shown.Sets side) = Sets side
 seen (shown.Defines name form) = Defines name form
 seen (shown.Goes route) = Goes route
-seen (shown.Cuts side go drive how check) = Cuts side go drive how check
+seen (shown.Cuts side go drive how check n) = Cuts side go drive how check n
 seen shown.Nothing = Nothing
 
 -- ---- the table of statements
@@ -80,7 +80,7 @@ ask_of (deeds.GotoXy x y z) = Goes (routes.Goto (places.Xyz x y z))
 ask_of (deeds.GotoPoint p) = Goes (routes.Goto (places.Named p))
 ask_of (deeds.Godlta x y z) = Goes (routes.By x y z)
 ask_of (deeds.GoStart how s other) = Goes (routes.Start how s other)
-ask_of (deeds.Contour side go d how c) = Cuts side go d how c
+ask_of (deeds.Contour side go d how c n) = Cuts side go d how c n
 ask_of deeds.Rapid = Says sayings.Rapid
 ask_of deeds.Halt = Says sayings.Stop
 ask_of deeds.OptHalt = Says sayings.OptStop
@@ -93,6 +93,10 @@ ask_of (deeds.Spindl n turns.Off) = Says sayings.SpindleOff
 ask_of deeds.SpindlOff = Says sayings.SpindleOff
 ask_of (deeds.Coolnt cool) = Says (sayings.Coolant cool)
 ask_of (deeds.Loadtl n) = Says (sayings.Tool n)
+ask_of (deeds.Patern n p q v) = Nothing
+ask_of (deeds.CycleDrill d c) = Nothing
+ask_of deeds.CycleOff = Nothing
+ask_of (deeds.GotoPatern n) = Nothing
 ask_of deeds.Macro = Nothing
 ask_of deeds.Termac = Nothing
 ask_of deeds.Call = Nothing
@@ -110,7 +114,7 @@ said_by (Titles text) = None
 said_by (Sets side) = None
 said_by (Defines name form) = None
 said_by (Goes route) = None
-said_by (Cuts side go drive how check) = None
+said_by (Cuts side go drive how check n) = None
 said_by Nothing = None
 
 -- the name that is defined, and by what, where one is
@@ -120,7 +124,7 @@ defined_by (Titles text) = None
 defined_by (Says saying) = None
 defined_by (Sets side) = None
 defined_by (Goes route) = None
-defined_by (Cuts side go drive how check) = None
+defined_by (Cuts side go drive how check n) = None
 defined_by Nothing = None
 
 -- something is said, a name is defined, or nothing
@@ -131,7 +135,7 @@ IsPlain Nothing = Unit {0}
 IsPlain (Titles text) = ⊥
 IsPlain (Sets side) = ⊥
 IsPlain (Goes route) = ⊥
-IsPlain (Cuts side go drive how check) = ⊥
+IsPlain (Cuts side go drive how check n) = ⊥
 
 -- ---- the numbers of an ask, in millionths, in their order
 
@@ -201,7 +205,7 @@ numbers_of (Says saying) = saying_numbers saying
 numbers_of (Sets side) = []
 numbers_of (Defines n form) = form_numbers form
 numbers_of (Goes route) = route_numbers route
-numbers_of (Cuts side go drive how check) = []
+numbers_of (Cuts side go drive how check n) = n ∷ []
 numbers_of Nothing = []
 
 -- ---- the end of a program
@@ -229,5 +233,5 @@ asks_end (Says saying) = is_end saying
 asks_end (Sets side) = false
 asks_end (Defines n form) = false
 asks_end (Goes route) = false
-asks_end (Cuts side go drive how check) = false
+asks_end (Cuts side go drive how check n) = false
 asks_end Nothing = false

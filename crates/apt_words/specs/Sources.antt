@@ -45,7 +45,7 @@ AskHasText (Says saying) = Unit {0}
 AskHasText (Sets side) = Unit {0}
 AskHasText (Defines n form) = Unit {0}
 AskHasText (Goes route) = Unit {0}
-AskHasText (Cuts side go drive how check) = Unit {0}
+AskHasText (Cuts side go drive how check n) = Unit {0}
 AskHasText Nothing = Unit {0}
 
 abbrev pub DeedHasText : Deed → Type 0

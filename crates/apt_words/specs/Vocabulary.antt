@@ -60,6 +60,10 @@ spelling words.Coolnt = codes "COOLNT"
 spelling words.Flood = codes "FLOOD"
 spelling words.Mist = codes "MIST"
 spelling words.Loadtl = codes "LOADTL"
+spelling words.Patern = codes "PATERN"
+spelling words.Linear = codes "LINEAR"
+spelling words.Cycle = codes "CYCLE"
+spelling words.Drill = codes "DRILL"
 spelling words.Macro = codes "MACRO"
 spelling words.Termac = codes "TERMAC"
 spelling words.Call = codes "CALL"
@@ -75,11 +79,11 @@ abbrev pub vocabulary : List Word
 vocabulary =
     words.Go ∷ words.If ∷ words.Mm ∷ words.On ∷ words.To ∷ words.Clw ∷ words.End ∷ words.Off ∷ words.Absf ∷ words.Cclw ∷
     words.Call ∷ words.From ∷ words.Fini ∷ words.Goto ∷ words.Line ∷ words.Left ∷ words.Mist ∷ words.Past ∷ words.Stop ∷
-    words.Tlon ∷ words.Flood ∷ words.Golft ∷ words.Gorgt ∷ words.Gofwd ∷ words.Intof ∷ words.Intol ∷ words.Macro ∷
+    words.Tlon ∷ words.Cycle ∷ words.Drill ∷ words.Flood ∷ words.Golft ∷ words.Gorgt ∷ words.Gofwd ∷ words.Intof ∷ words.Intol ∷ words.Macro ∷
     words.Point ∷ words.Right ∷ words.Rapid ∷ words.Sqrtf ∷ words.Tanto ∷ words.Tllft ∷ words.Tlrgt ∷ words.Units ∷
     words.Clprnt ∷ words.Center ∷ words.Circle ∷ words.Cutter ∷ words.Coolnt ∷ words.Fedrat ∷ words.Godlta ∷ words.Goback ∷
-    words.Inches ∷ words.Jumpto ∷ words.Loadtl ∷ words.Loopst ∷ words.Loopnd ∷ words.Machin ∷ words.Nopost ∷ words.Outtol ∷
-    words.Opstop ∷ words.Partno ∷ words.Parlel ∷ words.Perpto ∷ words.Remark ∷ words.Radius ∷ words.Spindl ∷ words.Termac ∷
+    words.Inches ∷ words.Jumpto ∷ words.Linear ∷ words.Loadtl ∷ words.Loopst ∷ words.Loopnd ∷ words.Machin ∷ words.Nopost ∷ words.Outtol ∷
+    words.Opstop ∷ words.Partno ∷ words.Patern ∷ words.Parlel ∷ words.Perpto ∷ words.Remark ∷ words.Radius ∷ words.Spindl ∷ words.Termac ∷
     words.Xlarge ∷ words.Xsmall ∷ words.Ylarge ∷ words.Ysmall ∷ []
 
 -- the word that is spelled so, where there is one

@@ -118,7 +118,7 @@ pub enum Route {
 }
 
 /// What a step asks for. A contour runs along its drive surface, from a turn on, with the cutter on a side where its
-/// statement sets one, and stops at its check surface.
+/// statement sets one, and stops at its check surface, where it meets it for the n-th time, with n in millionths.
 #[derive(Drop)]
 pub enum Ask<'a> {
     /// The part has a title.
@@ -132,7 +132,7 @@ pub enum Ask<'a> {
     /// The tool comes to a place.
     Goes(Route),
     /// A contour is cut.
-    Cuts(Option<Side>, Go, Symbol, Stop, Symbol),
+    Cuts(Option<Side>, Go, Symbol, Stop, Symbol, i64),
     /// Nothing.
     Nothing,
 }
@@ -208,7 +208,7 @@ impl Deed {
             Deed::GotoPoint(p) => Ask::Goes(Route::Goto(Place::Named(p.copied()))),
             Deed::Godlta(x, y, z) => Ask::Goes(Route::By(*x, *y, *z)),
             Deed::GoStart(how, s, other) => Ask::Goes(start(*how, s, other)),
-            Deed::Contour(side, go, d, how, c) => Ask::Cuts(*side, *go, d.copied(), *how, c.copied()),
+            Deed::Contour(side, go, d, how, c, n) => Ask::Cuts(*side, *go, d.copied(), *how, c.copied(), *n),
             _ => self.plainly(),
         }
     }

@@ -198,8 +198,8 @@ pub enum Body {
     Godlta(Expr, Expr, Expr),
     /// `GO/q,s` or `GO/q,s,q,s`.
     GoStart(Stop, Symbol, Option<(Stop, Symbol)>),
-    /// `GOLFT/s,q,s`, `GORGT`, `GOFWD` or `GOBACK`, behind a side or not.
-    Contour(Option<Side>, Go, Symbol, Stop, Symbol),
+    /// `GOLFT/s,q,e,INTOF,s`, `GORGT`, `GOFWD` or `GOBACK`, behind a side or not. A count that is left out is the number 1.
+    Contour(Option<Side>, Go, Symbol, Stop, Symbol, Expr),
     /// `RAPID`.
     Rapid,
     /// `STOP`.
@@ -220,6 +220,12 @@ pub enum Body {
     Coolnt(Cool),
     /// `LOADTL/e`.
     Loadtl(Expr),
+    /// `n=PATERN/LINEAR,p,p,e`.
+    Patern(Symbol, Symbol, Symbol, Expr),
+    /// `CYCLE/DRILL,e,e`.
+    CycleDrill(Expr, Expr),
+    /// `CYCLE/OFF`.
+    CycleOff,
     /// `m=MACRO` and its parameters.
     Macro(Symbol, Params),
     /// `TERMAC`.

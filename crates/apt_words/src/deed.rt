@@ -73,8 +73,8 @@ pub enum Deed {
     Godlta(i64, i64, i64),
     /// `GO/q,s` or `GO/q,s,q,s`.
     GoStart(Stop, Symbol, Option<(Stop, Symbol)>),
-    /// `GOLFT/s,q,s`, `GORGT`, `GOFWD` or `GOBACK`, behind a side or not.
-    Contour(Option<Side>, Go, Symbol, Stop, Symbol),
+    /// `GOLFT/s,q,e,INTOF,s`, `GORGT`, `GOFWD` or `GOBACK`, behind a side or not.
+    Contour(Option<Side>, Go, Symbol, Stop, Symbol, i64),
     /// `RAPID`.
     Rapid,
     /// `STOP`.
@@ -95,6 +95,14 @@ pub enum Deed {
     Coolnt(Cool),
     /// `LOADTL/e`.
     Loadtl(i64),
+    /// `n=PATERN/LINEAR,p,p,e`.
+    Patern(Symbol, Symbol, Symbol, i64),
+    /// `CYCLE/DRILL,e,e`.
+    CycleDrill(i64, i64),
+    /// `CYCLE/OFF`.
+    CycleOff,
+    /// `GOTO/n` where the name stands for a pattern.
+    GotoPatern(Symbol),
     /// `m=MACRO` and its parameters.
     Macro,
     /// `TERMAC`.

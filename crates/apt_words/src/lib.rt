@@ -103,6 +103,8 @@ pub enum Case {
     Undefined,
     /// A name stands for another kind.
     WrongKind,
+    /// A count of meetings other than 1 and 2.
+    BadCount,
     /// A number beyond its limits.
     OutOfRange,
     /// A figure without extent or direction.
@@ -141,10 +143,14 @@ pub enum Case {
     NotTangent,
     /// A circle that misses the other surface.
     NoContact,
+    /// Two legs round a circle, from a start near the stop.
+    FullTurn,
     /// The stop is not ahead.
     Behind,
     /// The contours of the program would have too many points.
     TooManyPoints,
+    /// The patterns and cycles of the program would visit too many points. No step is refused by it yet.
+    TooManyHoles,
 }
 
 /// The first step of a part program that is refused: its line, its number, both from 1, and the case.

@@ -22,6 +22,7 @@ impl Case {
             Case::BadArgs => "BadArgs",
             Case::Undefined => "Undefined",
             Case::WrongKind => "WrongKind",
+            Case::BadCount => "BadCount",
             Case::OutOfRange => "OutOfRange",
             Case::Degenerate => "Degenerate",
             Case::NoMeeting => "NoMeeting",
@@ -41,8 +42,10 @@ impl Case {
             Case::Parallel => "Parallel",
             Case::NotTangent => "NotTangent",
             Case::NoContact => "NoContact",
+            Case::FullTurn => "FullTurn",
             Case::Behind => "Behind",
             Case::TooManyPoints => "TooManyPoints",
+            Case::TooManyHoles => "TooManyHoles",
         }
     }
 }

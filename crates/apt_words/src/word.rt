@@ -65,6 +65,10 @@ pub enum Word {
     Flood,
     Mist,
     Loadtl,
+    Patern,
+    Linear,
+    Cycle,
+    Drill,
     Macro,
     Termac,
     Call,
@@ -83,13 +87,13 @@ macro_rules! vocabulary {
         $make! { $($with;)*
             Go b"GO", If b"IF", Mm b"MM", On b"ON", To b"TO", Clw b"CLW", End b"END", Off b"OFF", Absf b"ABSF",
             Cclw b"CCLW", Call b"CALL", From b"FROM", Fini b"FINI", Goto b"GOTO", Line b"LINE", Left b"LEFT",
-            Mist b"MIST", Past b"PAST", Stop b"STOP", Tlon b"TLON", Flood b"FLOOD", Golft b"GOLFT",
+            Mist b"MIST", Past b"PAST", Stop b"STOP", Tlon b"TLON", Cycle b"CYCLE", Drill b"DRILL", Flood b"FLOOD", Golft b"GOLFT",
             Gorgt b"GORGT", Gofwd b"GOFWD", Intof b"INTOF", Intol b"INTOL", Macro b"MACRO", Point b"POINT",
             Right b"RIGHT", Rapid b"RAPID", Sqrtf b"SQRTF", Tanto b"TANTO", Tllft b"TLLFT", Tlrgt b"TLRGT",
             Units b"UNITS", Clprnt b"CLPRNT", Center b"CENTER", Circle b"CIRCLE", Cutter b"CUTTER",
             Coolnt b"COOLNT", Fedrat b"FEDRAT", Godlta b"GODLTA", Goback b"GOBACK", Inches b"INCHES",
-            Jumpto b"JUMPTO", Loadtl b"LOADTL", Loopst b"LOOPST", Loopnd b"LOOPND", Machin b"MACHIN",
-            Nopost b"NOPOST", Outtol b"OUTTOL", Opstop b"OPSTOP", Partno b"PARTNO", Parlel b"PARLEL",
+            Jumpto b"JUMPTO", Linear b"LINEAR", Loadtl b"LOADTL", Loopst b"LOOPST", Loopnd b"LOOPND", Machin b"MACHIN",
+            Nopost b"NOPOST", Outtol b"OUTTOL", Opstop b"OPSTOP", Partno b"PARTNO", Patern b"PATERN", Parlel b"PARLEL",
             Perpto b"PERPTO", Remark b"REMARK", Radius b"RADIUS", Spindl b"SPINDL", Termac b"TERMAC",
             Xlarge b"XLARGE", Xsmall b"XSMALL", Ylarge b"YLARGE", Ysmall b"YSMALL"
         }
