@@ -49,13 +49,45 @@ one_coordinate : body (codes "GOTO/1") ≡ None
 unfolding shape expression word_of
 one_coordinate = refl
 
-with_tool_word : body (codes "TLRGT,GORGT/L1,PAST,L2") ≡ Some (bodies.Contour (Some sides.Right) turns.Right (codes "L1") stops.Past (codes "L2"))
+with_tool_word : body (codes "TLRGT,GORGT/L1,PAST,L2") ≡ Some (bodies.Contour (Some sides.Right) turns.Right (codes "L1") stops.Past (codes "L2") (n 1000000))
 unfolding shape expression word_of
 with_tool_word = refl
 
-to_left_out : body (codes "GOFWD/L1,C1") ≡ Some (bodies.Contour None turns.Forward (codes "L1") stops.To (codes "C1"))
+to_left_out : body (codes "GOFWD/L1,C1") ≡ Some (bodies.Contour None turns.Forward (codes "L1") stops.To (codes "C1") (n 1000000))
 unfolding shape expression word_of
 to_left_out = refl
+
+second_meeting : body (codes "GOFWD/L1,ON,2,INTOF,C1") ≡ Some (bodies.Contour None turns.Forward (codes "L1") stops.On (codes "C1") (n 2000000))
+unfolding shape expression word_of
+second_meeting = refl
+
+meeting_by_expression : body (codes "TLON,GOLFT/C1,K/2,INTOF,LY") ≡ Some (bodies.Contour (Some sides.On) turns.Left (codes "C1") stops.To (codes "LY") (Bin ops.Div (Name (codes "K")) (n 2000000)))
+unfolding shape expression word_of
+meeting_by_expression = refl
+
+no_second_tangency : body (codes "GOFWD/L1,TANTO,2,INTOF,C1") ≡ None
+unfolding shape expression word_of
+no_second_tangency = refl
+
+no_count : body (codes "GOFWD/L1,ON,INTOF,C1") ≡ None
+unfolding shape expression word_of
+no_count = refl
+
+pattern : body (codes "A=PATERN/LINEAR,P1,P2,4") ≡ Some (bodies.Patern (codes "A") (codes "P1") (codes "P2") (n 4000000))
+unfolding shape expression word_of
+pattern = refl
+
+drilling : body (codes "CYCLE/DRILL,.25,.1") ≡ Some (bodies.CycleDrill (n 250000) (n 100000))
+unfolding shape expression word_of
+drilling = refl
+
+no_more_drilling : body (codes "CYCLE/OFF") ≡ Some bodies.CycleOff
+unfolding shape expression word_of
+no_more_drilling = refl
+
+depth_alone : body (codes "CYCLE/DRILL,.25") ≡ None
+unfolding shape expression word_of
+depth_alone = refl
 
 two_surfaces : body (codes "GO/L1,ON,L2") ≡ Some (bodies.GoStart stops.To (codes "L1") (Some (stops.On, codes "L2")))
 unfolding shape expression word_of

@@ -1,4 +1,4 @@
--- The shapes that define a name: n = e, POINT, LINE and CIRCLE.
+-- The shapes that define a name: n = e, POINT, LINE, CIRCLE and PATERN.
 use Rattle.std.specs.Prelude.{ℕ, List, [], ◌∷◌, Option, Some, None}
 use Rattle.apt_words.specs.declared.body.Body.{Body}
 use Rattle.apt_words.specs.declared.body.Body.TheVariants as bodies
@@ -115,3 +115,11 @@ circle n (a ∷ b ∷ c ∷ []) = or_else (circle_through n a b c) (circle_three
 circle n (a ∷ b ∷ c ∷ d ∷ []) = or_else (circle_radius n a b c d) (circle_tan n a b c d)
 circle n (a ∷ b ∷ c ∷ d ∷ e ∷ f ∷ []) = circle_corner n a b c d e f
 circle n _ = None
+
+-- ---- patterns
+
+-- PATERN/LINEAR,p,p,e
+abbrev pub patern : Name → List (List Token) → Option Body
+patern n (linear ∷ p ∷ q ∷ e ∷ []) =
+    says words.Linear linear >>= λ _. name p >>= λ p. name q >>= λ q. expression e >>= λ e. Some (bodies.Patern n p q e)
+patern n _ = None

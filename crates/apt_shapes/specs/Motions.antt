@@ -1,5 +1,5 @@
 -- The shapes of motions: FROM, GOTO, GODLTA, GO and contours.
-use Rattle.std.specs.Prelude.{ℕ, List, [], ◌∷◌, Option, Some, None}
+use Rattle.std.specs.Prelude.{ℕ, pos, List, [], ◌∷◌, Option, Some, None}
 use Rattle.apt_words.specs.declared.Side.{Side}
 use Rattle.apt_words.specs.declared.Side.TheVariants as sides
 use Rattle.apt_words.specs.declared.Go.{Go}
@@ -11,10 +11,11 @@ use Rattle.apt_words.specs.declared.body.Body.TheVariants as bodies
 use Rattle.apt_words.specs.declared.word.Word.{Word}
 use Rattle.apt_words.specs.declared.word.Word.TheVariants as words
 use Rattle.apt_words.specs.Options.{◌>>=◌, only_if}
+use Rattle.apt_words.specs.Trees.{Tree, Num}
 use Rattle.apt_lexis.specs.declared.token.Token.{Token}
 use Rattle.apt_lexis.specs.declared.token.Token.TheVariants as tokens
 use Rattle.apt_expr.specs.Expressions.{expression}
-use Rattle.apt_shapes.specs.Arguments.{arguments, name, stop, is_word, or_else}
+use Rattle.apt_shapes.specs.Arguments.{arguments, name, stop, is_word, says, or_else}
 
 -- FROM/p, FROM/e,e and FROM/e,e,e
 abbrev pub from : List (List Token) → Option Body
@@ -56,7 +57,7 @@ start (a ∷ b ∷ c ∷ []) = or_else (start_two (a ∷ b ∷ []) (c ∷ [])) (
 start (a ∷ b ∷ c ∷ d ∷ []) = start_two (a ∷ b ∷ []) (c ∷ d ∷ [])
 start _ = None
 
--- ---- contours: a turn word, the drive surface, and the check surface with its modifier
+-- ---- contours: a turn word, the drive surface, and the check surface with its modifier and with the count of its meetings
 
 abbrev pub side_named : Word → Option Side
 side_named words.Tllft = Some sides.Left
@@ -75,10 +76,24 @@ turn_of _ = None
 abbrev pub check_stop : List Token → Option Stop
 check_stop a = or_else (stop a) (only_if (is_word words.Tanto a) stops.Tanto)
 
+-- the count where none is said: 1, in millionths
+abbrev pub once : Tree
+once = Num (pos 1000000)
+
+-- e,INTOF
+abbrev pub count : List Token → List Token → Option Tree
+count e intof = expression e >>= λ e. says words.Intof intof >>= λ _. Some e
+
+abbrev pub between : Option Side → Go → List Token → Option Stop → Option Tree → List Token → Option Body
+between side turn drive q e check =
+    name drive >>= λ drive. q >>= λ q. e >>= λ e. name check >>= λ check. Some (bodies.Contour side turn drive q check e)
+
+-- s,s and s,q,s; with a count s,e,INTOF,s and s,q,e,INTOF,s, where q is not TANTO
 abbrev pub contour : Option Side → Go → List (List Token) → Option Body
-contour side turn (drive ∷ check ∷ []) = name drive >>= λ drive. name check >>= λ check. Some (bodies.Contour side turn drive stops.To check)
-contour side turn (drive ∷ q ∷ check ∷ []) =
-    name drive >>= λ drive. check_stop q >>= λ q. name check >>= λ check. Some (bodies.Contour side turn drive q check)
+contour side turn (drive ∷ check ∷ []) = between side turn drive (Some stops.To) (Some once) check
+contour side turn (drive ∷ q ∷ check ∷ []) = between side turn drive (check_stop q) (Some once) check
+contour side turn (drive ∷ e ∷ intof ∷ check ∷ []) = between side turn drive (Some stops.To) (count e intof) check
+contour side turn (drive ∷ q ∷ e ∷ intof ∷ check ∷ []) = between side turn drive (stop q) (count e intof) check
 contour side turn _ = None
 
 -- a contour behind a tool word and a comma

@@ -1,4 +1,4 @@
--- The shapes of settings: texts, units, the cutter, tolerances, feed, spindle, coolant and tools.
+-- The shapes of settings: texts, units, the cutter, tolerances, feed, spindle, coolant, tools and cycles.
 use Rattle.std.specs.Prelude.{ℕ, List, [], ◌∷◌, Option, Some, None}
 use Rattle.apt_words.specs.declared.Units.{Units}
 use Rattle.apt_words.specs.declared.Units.TheVariants as units
@@ -14,7 +14,7 @@ use Rattle.apt_words.specs.Options.{◌>>=◌}
 use Rattle.apt_words.specs.Trees.{Tree}
 use Rattle.apt_lexis.specs.declared.token.Token.{Token}
 use Rattle.apt_expr.specs.Expressions.{expression}
-use Rattle.apt_shapes.specs.Arguments.{word, says, or_else}
+use Rattle.apt_shapes.specs.Arguments.{word, says, pair, or_else}
 
 -- PARTNO text, REMARK text
 abbrev pub titled : Word → List ℕ → Option Body
@@ -72,3 +72,9 @@ cool_of _ = None
 abbrev pub coolnt : List (List Token) → Option Body
 coolnt (a ∷ []) = word a >>= cool_of >>= λ c. Some (bodies.Coolnt c)
 coolnt _ = None
+
+-- CYCLE/OFF and CYCLE/DRILL,e,e
+abbrev pub cycle : List (List Token) → Option Body
+cycle (off ∷ []) = says words.Off off >>= λ _. Some bodies.CycleOff
+cycle (drill ∷ d ∷ c ∷ []) = says words.Drill drill >>= λ _. pair d c >>= λ r. Some (bodies.CycleDrill r.0 r.1)
+cycle _ = None

@@ -10,9 +10,9 @@ use Rattle.apt_lexis.specs.declared.token.Token.{Token}
 use Rattle.apt_lexis.specs.declared.token.Token.TheVariants as tokens
 use Rattle.apt_shapes.specs.declared.table.Labelled.{Labelled}
 use Rattle.apt_shapes.specs.Arguments.{arguments, or_else}
-use Rattle.apt_shapes.specs.Figures.{assign, point, line, circle}
+use Rattle.apt_shapes.specs.Figures.{assign, point, line, circle, patern}
 use Rattle.apt_shapes.specs.Motions.{from, goto, godlta, start, contour, contour_behind, side_named}
-use Rattle.apt_shapes.specs.Settings.{titled, one, machin, units_in, spindl, coolnt}
+use Rattle.apt_shapes.specs.Settings.{titled, one, machin, units_in, spindl, coolnt, cycle}
 use Rattle.apt_shapes.specs.Flow.{macro, call, jumpto, if_in}
 
 -- ---- one word
@@ -57,6 +57,7 @@ with_arguments words.Gofwd args = contour None turns.Forward args
 with_arguments words.Goback args = contour None turns.Back args
 with_arguments words.Spindl args = spindl args
 with_arguments words.Coolnt args = coolnt args
+with_arguments words.Cycle args = cycle args
 with_arguments words.Call args = call args
 with_arguments words.Jumpto args = jumpto args
 with_arguments _ args = None
@@ -67,6 +68,7 @@ abbrev pub figure : List ℕ → Word → List (List Token) → Option Body
 figure n words.Point args = point n args
 figure n words.Line args = line n args
 figure n words.Circle args = circle n args
+figure n words.Patern args = patern n args
 figure n words.Macro args = macro n args
 figure n _ args = None
 

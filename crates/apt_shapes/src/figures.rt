@@ -1,4 +1,4 @@
-//! The shapes that define a name: an expression, POINT, LINE and CIRCLE.
+//! The shapes that define a name: an expression, POINT, LINE, CIRCLE and PATERN.
 
 ghost use Rattle.std.specs.Prelude.{◌≡◌, map, IfOk};
 ghost use Rattle.apt_shapes.specs.Figures as figures;
@@ -305,4 +305,23 @@ pub(crate) fn circle(
         [a, b, c, d, e, f] => circle_corner(alloc, n, a, b, c, d, e, f),
         _ => Ok(None),
     }
+}
+
+pub(crate) fn patern(
+    alloc: Global,
+    n: &Symbol,
+    args: &[&[Token]],
+) -> Result<Option<Body>, AllocError>
+    ensures { IfOk result (λ b. b ≡ figures.patern n.now (map (λ a. a.now) args.now)) }
+{
+    let [linear, p, q, e] = args else {
+        return Ok(None);
+    };
+    if !is_word(Word::Linear, linear) {
+        return Ok(None);
+    }
+    let (Some(p), Some(q)) = (name(p), name(q)) else {
+        return Ok(None);
+    };
+    Ok(expression(alloc, e)?.map(|e| Body::Patern(n.copied(), p, q, e)))
 }

@@ -6,7 +6,7 @@ ghost use Rattle.apt_shapes.specs.Motions as motions;
 use crate::arguments::{arguments, is_word, name, pair, stop, triple};
 use apt_expr::expression;
 use apt_lexis::Token;
-use apt_words::{Body, Go, Side, Stop, Symbol, Word};
+use apt_words::{Body, Expr, Go, Node, Side, Stop, Symbol, Word};
 use std::alloc::{AllocError, Global};
 
 pub(crate) fn from(alloc: Global, args: &[&[Token]]) -> Result<Option<Body>, AllocError>
@@ -144,26 +144,72 @@ fn check_stop(tokens: &[Token]) -> Option<Stop>
     }
 }
 
-/// A contour: the drive surface, and the check surface with its modifier, TO where it is left out.
-fn contour(side: Option<Side>, turn: Go, args: &[&[Token]]) -> Result<Option<Body>, AllocError>
+/// The count where none is said: the first meeting.
+fn once() -> Expr
+    ensures { result ≡ motions.once }
+{
+    Expr {
+        node: Node::Num(1_000_000),
+    }
+}
+
+/// A count of meetings in front of INTOF.
+fn count(alloc: Global, e: &[Token], intof: &[Token]) -> Result<Option<Expr>, AllocError>
+    ensures { IfOk result (λ r. r ≡ motions.count e.now intof.now) }
+{
+    if !is_word(Word::Intof, intof) {
+        return Ok(None);
+    }
+    expression(alloc, e)
+}
+
+fn between(
+    side: Option<Side>,
+    turn: Go,
+    drive: &[Token],
+    stop: Option<Stop>,
+    count: Option<Expr>,
+    check: &[Token],
+) -> Option<Body>
+    ensures { result ≡ motions.between side turn drive.now stop count check.now }
+{
+    Some(Body::Contour(side, turn, name(drive)?, stop?, name(check)?, count?))
+}
+
+/// A contour: the drive surface, and the check surface with its modifier, TO where it is left out, and with the count
+/// of its meetings, 1 where it is left out.
+fn contour(
+    alloc: Global,
+    side: Option<Side>,
+    turn: Go,
+    args: &[&[Token]],
+) -> Result<Option<Body>, AllocError>
     ensures { IfOk result (λ b. b ≡ motions.contour side turn (map (λ a. a.now) args.now)) }
 {
-    let (drive, stop, check) = match args {
-        [drive, check] => (drive, Some(Stop::To), check),
-        [drive, q, check] => (drive, check_stop(q), check),
-        _ => return Ok(None),
-    };
-    let (Some(drive), Some(stop), Some(check)) = (name(drive), stop, name(check)) else {
-        return Ok(None);
-    };
-    Ok(Some(Body::Contour(side, turn, drive, stop, check)))
+    match args {
+        [drive, check] => Ok(between(side, turn, drive, Some(Stop::To), Some(once()), check)),
+        [drive, q, check] => Ok(between(side, turn, drive, check_stop(q), Some(once()), check)),
+        [drive, e, intof, check] => {
+            let count = count(alloc, e, intof)?;
+            Ok(between(side, turn, drive, Some(Stop::To), count, check))
+        }
+        [drive, q, e, intof, check] => {
+            let count = count(alloc, e, intof)?;
+            Ok(between(side, turn, drive, stop(q), count, check))
+        }
+        _ => Ok(None),
+    }
 }
 
 /// A contour with no tool word before it.
-pub(crate) fn onward(turn: Go, args: &[&[Token]]) -> Result<Option<Body>, AllocError>
+pub(crate) fn onward(
+    alloc: Global,
+    turn: Go,
+    args: &[&[Token]],
+) -> Result<Option<Body>, AllocError>
     ensures { IfOk result (λ b. b ≡ motions.contour None turn (map (λ a. a.now) args.now)) }
 {
-    contour(None, turn, args)
+    contour(alloc, None, turn, args)
 }
 
 /// A contour behind a tool word and a comma.
@@ -180,5 +226,5 @@ pub(crate) fn contour_behind(
     let Some(turn) = turn_of(*word) else {
         return Ok(None);
     };
-    contour(side, turn, &arguments(alloc, rest)?)
+    contour(alloc, side, turn, &arguments(alloc, rest)?)
 }

@@ -1,10 +1,10 @@
-//! The shapes of settings: texts, units, the cutter, tolerances, feed, spindle, coolant and tools.
+//! The shapes of settings: texts, units, the cutter, tolerances, feed, spindle, coolant, tools and cycles.
 
 ghost use Rattle.std.specs.Prelude.{◌≡◌, map, IfOk};
 ghost use Rattle.apt_shapes.specs.Settings as settings;
 ghost use Rattle.apt_shapes.specs.Shapes.{with_arguments};
 
-use crate::arguments::{is_word, vocabulary};
+use crate::arguments::{is_word, pair, vocabulary};
 use apt_expr::expression;
 use apt_lexis::Token;
 use apt_words::{Body, Cool, Expr, Exprs, Text, Turn, Units, Word};
@@ -145,6 +145,18 @@ pub(crate) fn coolnt(args: &[&[Token]]) -> Result<Option<Body>, AllocError>
 {
     match args {
         [a] => Ok(vocabulary(a).and_then(cool_of).map(Body::Coolnt)),
+        _ => Ok(None),
+    }
+}
+
+pub(crate) fn cycle(alloc: Global, args: &[&[Token]]) -> Result<Option<Body>, AllocError>
+    ensures { IfOk result (λ b. b ≡ settings.cycle (map (λ a. a.now) args.now)) }
+{
+    match args {
+        [off] if is_word(Word::Off, off) => Ok(Some(Body::CycleOff)),
+        [drill, d, c] if is_word(Word::Drill, drill) => {
+            Ok(pair(alloc, d, c)?.map(|(d, c)| Body::CycleDrill(d, c)))
+        }
         _ => Ok(None),
     }
 }

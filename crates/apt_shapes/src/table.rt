@@ -7,11 +7,11 @@ ghost use Rattle.apt_shapes.specs.Figures.{assign};
 ghost use Rattle.apt_shapes.specs.Shapes as shapes;
 
 use crate::arguments::{arguments, at_comma};
-use crate::figures::{assign, circle, line, point};
+use crate::figures::{assign, circle, line, patern, point};
 use crate::flow::{call, if_in, jumpto, macro_of};
 use crate::motions::{contour_behind, from, godlta, goto, onward, side_named, start};
 use crate::settings::{
-    coolnt, cutter, fedrat, intol, loadtl, machin, outtol, spindl, titled, units_in,
+    coolnt, cutter, cycle, fedrat, intol, loadtl, machin, outtol, spindl, titled, units_in,
 };
 use apt_lexis::Token;
 use apt_words::{Body, Go, Params, Symbol, Text, Word};
@@ -68,12 +68,13 @@ fn with_arguments(alloc: Global, word: Word, args: &[&[Token]]) -> Result<Option
         Word::Goto => goto(alloc, args),
         Word::Godlta => godlta(alloc, args),
         Word::Go => start(args),
-        Word::Golft => onward(Go::Left, args),
-        Word::Gorgt => onward(Go::Right, args),
-        Word::Gofwd => onward(Go::Forward, args),
-        Word::Goback => onward(Go::Back, args),
+        Word::Golft => onward(alloc, Go::Left, args),
+        Word::Gorgt => onward(alloc, Go::Right, args),
+        Word::Gofwd => onward(alloc, Go::Forward, args),
+        Word::Goback => onward(alloc, Go::Back, args),
         Word::Spindl => spindl(alloc, args),
         Word::Coolnt => coolnt(args),
+        Word::Cycle => cycle(alloc, args),
         Word::Call => call(alloc, args),
         Word::Jumpto => jumpto(args),
         _ => Ok(None),
@@ -92,6 +93,7 @@ fn figure(
         Word::Point => point(alloc, n, args),
         Word::Line => line(alloc, n, args),
         Word::Circle => circle(alloc, n, args),
+        Word::Patern => patern(alloc, n, args),
         Word::Macro => macro_of(alloc, n, args),
         _ => Ok(None),
     }

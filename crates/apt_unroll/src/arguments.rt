@@ -27,6 +27,14 @@ pub(crate) fn pair(frame: &Frame, a: &Symbol, b: &Symbol) -> Result<(Symbol, Sym
     Ok((a, b))
 }
 
+pub(crate) fn both(env: &Env, frame: &Frame, x: &Expr, y: &Expr) -> Result<(i64, i64), Case>
+    ensures { deeds.listed_by deeds.two result ≡ deeds.values_of env.now frame.now (x.now ∷ y.now ∷ []) }
+{
+    let x = eval(x, env, frame)?;
+    let y = eval(y, env, frame)?;
+    Ok((x, y))
+}
+
 pub(crate) fn three(
     env: &Env,
     frame: &Frame,

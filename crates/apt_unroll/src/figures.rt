@@ -11,7 +11,7 @@ use crate::arguments::{
 use apt_scalar::{Env, Frame};
 use apt_words::{Body, Case, Deed, Symbol};
 
-/// What the definition of a point, a line or a circle does.
+/// What the definition of a point, a line, a circle or a pattern does.
 #[tactic(auto, unfolding(crate::specs::Deeds::executed, crate::specs::Deeds::by_values))]
 pub(crate) fn figure(env: &Env, frame: &Frame, body: &Body) -> Result<Deed, Case>
     requires { texts.is_figure body.now ≡ true }
@@ -85,6 +85,10 @@ pub(crate) fn figure(env: &Env, frame: &Frame, body: &Body) -> Result<Deed, Case
             let (v, a, b) = value_and_pair(env, frame, e, a, b)?;
             Ok(Deed::CircleCorner(n.copied(), *pick, a, *pick_too, b, v))
         }
+        Body::Patern(n, p, q, e) => {
+            let (v, p, q) = value_and_pair(env, frame, e, p, q)?;
+            Ok(Deed::Patern(n.copied(), p, q, v))
+        }
         _ => unreachable!(),
     }
 }
@@ -110,7 +114,8 @@ pub(crate) fn defined_name(body: &Body) -> Option<&Symbol>
         | Body::CircleRadius(n, _, _)
         | Body::CircleTan(n, _, _)
         | Body::CircleThrough(n, _, _)
-        | Body::CircleCorner(n, _, _, _, _, _) => Some(n),
+        | Body::CircleCorner(n, _, _, _, _, _)
+        | Body::Patern(n, _, _, _) => Some(n),
         _ => None,
     }
 }

@@ -3,7 +3,7 @@ ghost use Rattle.std.specs.Prelude.{◌≡◌, false};
 ghost use Rattle.apt_unroll.specs.Deeds as deeds;
 ghost use Rattle.apt_unroll.specs.Texts as texts;
 
-use crate::arguments::{coordinates, name_for, pair, surfaces, three};
+use crate::arguments::{both, coordinates, name_for, surfaces, three, value_and_pair};
 use crate::figures::figure;
 use apt_scalar::{Env, Frame, eval};
 use apt_words::{Body, Case, Deed};
@@ -46,9 +46,9 @@ pub(crate) fn execution(env: &Env, frame: &Frame, body: &Body) -> Result<Deed, C
             let (s, other) = surfaces(frame, s, other)?;
             Ok(Deed::GoStart(*stop, s, other))
         }
-        Body::Contour(side, go, d, stop, c) => {
-            let (d, c) = pair(frame, d, c)?;
-            Ok(Deed::Contour(*side, *go, d, *stop, c))
+        Body::Contour(side, go, d, stop, c, e) => {
+            let (n, d, c) = value_and_pair(env, frame, e, d, c)?;
+            Ok(Deed::Contour(*side, *go, d, *stop, c, n))
         }
         Body::Rapid => Ok(Deed::Rapid),
         Body::Halt => Ok(Deed::Halt),
@@ -60,6 +60,11 @@ pub(crate) fn execution(env: &Env, frame: &Frame, body: &Body) -> Result<Deed, C
         Body::SpindlOff => Ok(Deed::SpindlOff),
         Body::Coolnt(coolant) => Ok(Deed::Coolnt(*coolant)),
         Body::Loadtl(e) => Ok(Deed::Loadtl(eval(e, env, frame)?)),
+        Body::CycleDrill(d, c) => {
+            let (d, c) = both(env, frame, d, c)?;
+            Ok(Deed::CycleDrill(d, c))
+        }
+        Body::CycleOff => Ok(Deed::CycleOff),
         Body::Macro(_, _) => Ok(Deed::Macro),
         Body::Termac => Ok(Deed::Termac),
         Body::Call(_, _) => Ok(Deed::Call),
