@@ -14,10 +14,13 @@ use Rattle.apt_meaning.specs.declared.effect.Effect.{Effect}
 use Rattle.apt_meaning.specs.declared.effect.Effect.TheVariants as effects
 use Rattle.apt_cldata.specs.Vertices.{at_height}
 use Rattle.apt_cldata.proofs.Heights.{at_one_height}
-use Rattle.apt_meaning.specs.Motions.{has_track, has_stop}
+use Rattle.apt_stop.specs.Legs.{leg_count}
+use Rattle.apt_stop.specs.declared.legs.Legs.{Legs}
+use Rattle.apt_stop.specs.declared.legs.Legs.TheVariants as the_legs
+use Rattle.apt_meaning.specs.Motions.{has_track, has_stop, is_defined}
 use Rattle.apt_meaning.specs.Effects.{effect_of}
-use Rattle.apt_meaning.specs.Records.{MayHave, effect_records}
-use Rattle.apt_meaning.specs.Expectations.{Expectation, Exactly, VerticesAt, exactly_if, expected, expected_of, behind_statement, Meets, Departs}
+use Rattle.apt_meaning.specs.Records.{MayHave, cut_record, effect_records}
+use Rattle.apt_meaning.specs.Expectations.{Expectation, Exactly, VerticesAt, exactly_if, each_leg, expected, expected_of, behind_statement, Meets, Departs}
 use Rattle.apt_job.specs.Fronts.{points_at, IsMetFirst}
 
 -- ---- heights
@@ -66,21 +69,54 @@ drive_due m = exactly_if (has_track m) (records.Drive m.drive m.side m.sense)
 abbrev check_due : Motion → Expectation
 check_due m = exactly_if (has_stop m) (records.Check m.check m.how)
 
-pub cut_said : (m : Motion) (written d c rest : List Record) (us ws vs : List Pt) → IsMetFirst (drive_due m) written us d → IsMetFirst (check_due m) d ws c
-    → IsMetFirst (VerticesAt m.start.z) c vs rest → (written ≡ effect_records (effects.Cuts m) vs ++ rest) × MayHave (effects.Cuts m) vs
-cut_said m written d c rest us ws vs drive check contour =
+-- the records of drive and check, with what is behind them
+abbrev IsBegun : Motion → List Record → List Record → Type 0
+IsBegun m written c = (is_defined m ≡ true) × (written ≡ records.Drive m.drive m.side m.sense ∷ records.Check m.check m.how ∷ c)
+
+begun : (m : Motion) (written d c : List Record) (us ws : List Pt) → IsMetFirst (drive_due m) written us d → IsMetFirst (check_due m) d ws c → IsBegun m written c
+begun m written d c us ws drive check =
     let a = next_if (has_track m) (records.Drive m.drive m.side m.sense) written us d drive in
     let b = next_if (has_stop m) (records.Check m.check m.how) d ws c check in
-    let vertices = contour.split ∙ ap (λ (r : Record). r ∷ rest) (contour_met m.start.z contour.first vs contour.met) in (
-      a.1 ∙ ap (λ (rs : List Record). records.Drive m.drive m.side m.sense ∷ rs) (b.1 ∙ ap (λ (rs : List Record). records.Check m.check m.how ∷ rs) vertices),
-      rw (a.0, b.0) refl,
-    )
+    (rw (a.0, b.0) refl, a.1 ∙ ap (λ (rs : List Record). records.Drive m.drive m.side m.sense ∷ rs) b.1)
 
-pub cut_departs : (m : Motion) (written d c : List Record) (us ws : List Pt) → IsMetFirst (drive_due m) written us d → IsMetFirst (check_due m) d ws c
-    → Departs (VerticesAt m.start.z ∷ []) c 0 → Departs (expected_of (Some (effects.Cuts m))) written 2
-cut_departs m written d c us ws drive check amiss =
-    next_departs (drive_due m) (check_due m ∷ VerticesAt m.start.z ∷ []) written us d 1 drive
-    (next_departs (check_due m) (VerticesAt m.start.z ∷ []) d ws c 0 check (amiss_departs (VerticesAt m.start.z) [] c amiss))
+one_cut : (z : ℤ) (rs rest : List Record) (vs : List Pt) → IsMetFirst (VerticesAt z) rs vs rest → rs ≡ cut_record z vs ∷ rest
+one_cut z rs rest vs contour = contour.split ∙ ap (λ (r : Record). r ∷ rest) (contour_met z contour.first vs contour.met)
+
+pub cut_said : (m : Motion) (n : Legs) (written d c rest : List Record) (us ws vs : List Pt) → n ≡ the_legs.One → IsMetFirst (drive_due m) written us d → IsMetFirst (check_due m) d ws c
+    → IsMetFirst (VerticesAt m.start.z) c vs rest
+    → (written ≡ effect_records (effects.Cuts m n) (vs ∷ []) ++ rest) × MayHave (effects.Cuts m n) (vs ∷ [])
+cut_said m n written d c rest us ws vs one drive check contour =
+    let both = begun m written d c us ws drive check in
+    (both.1 ∙ ap (λ (rs : List Record). records.Drive m.drive m.side m.sense ∷ records.Check m.check m.how ∷ rs) (one_cut m.start.z c rest vs contour), (both.0, sym (ap leg_count one)))
+
+pub two_said : (m : Motion) (n : Legs) (written d c b rest : List Record) (us ws vs xs : List Pt) → n ≡ the_legs.Two → IsMetFirst (drive_due m) written us d → IsMetFirst (check_due m) d ws c
+    → IsMetFirst (VerticesAt m.start.z) c vs b → IsMetFirst (VerticesAt m.start.z) b xs rest
+    → (written ≡ effect_records (effects.Cuts m n) (vs ∷ xs ∷ []) ++ rest) × MayHave (effects.Cuts m n) (vs ∷ xs ∷ [])
+two_said m n written d c b rest us ws vs xs two drive check first second =
+    let both = begun m written d c us ws drive check in
+    let cuts = one_cut m.start.z c b vs first ∙ ap (λ (rs : List Record). cut_record m.start.z vs ∷ rs) (one_cut m.start.z b rest xs second) in
+    (both.1 ∙ ap (λ (rs : List Record). records.Drive m.drive m.side m.sense ∷ records.Check m.check m.how ∷ rs) cuts, (both.0, sym (ap leg_count two)))
+
+-- a contour record is due for each leg
+first_amiss : (n : Legs) (x : Expectation) (written : List Record) → Departs (x ∷ []) written 0 → Departs (each_leg n x) written 0
+first_amiss the_legs.One x written amiss = amiss
+first_amiss the_legs.Two x written amiss = amiss_departs x (x ∷ []) written amiss
+
+behind_both : (m : Motion) (xs : List Expectation) (written d c : List Record) (us ws : List Pt) (k : ℕ) → IsMetFirst (drive_due m) written us d → IsMetFirst (check_due m) d ws c
+    → Departs xs c k → Departs (drive_due m ∷ check_due m ∷ xs) written (suc (suc k))
+behind_both m xs written d c us ws k drive check departs =
+    next_departs (drive_due m) (check_due m ∷ xs) written us d (suc k) drive (next_departs (check_due m) xs d ws c k check departs)
+
+pub cut_departs : (m : Motion) (n : Legs) (written d c : List Record) (us ws : List Pt) → IsMetFirst (drive_due m) written us d → IsMetFirst (check_due m) d ws c
+    → Departs (VerticesAt m.start.z ∷ []) c 0 → Departs (expected_of (Some (effects.Cuts m n))) written 2
+cut_departs m n written d c us ws drive check amiss =
+    behind_both m (each_leg n (VerticesAt m.start.z)) written d c us ws 0 drive check (first_amiss n (VerticesAt m.start.z) c amiss)
+
+pub second_departs : (m : Motion) (written d c b : List Record) (us ws vs : List Pt) → IsMetFirst (drive_due m) written us d → IsMetFirst (check_due m) d ws c
+    → IsMetFirst (VerticesAt m.start.z) c vs b → Departs (VerticesAt m.start.z ∷ []) b 0 → Departs (expected_of (Some (effects.Cuts m the_legs.Two))) written 3
+second_departs m written d c b us ws vs drive check first amiss =
+    behind_both m (each_leg the_legs.Two (VerticesAt m.start.z)) written d c us ws 1 drive check
+    (next_departs (VerticesAt m.start.z) (VerticesAt m.start.z ∷ []) c vs b 0 first amiss)
 
 -- ---- steps
 

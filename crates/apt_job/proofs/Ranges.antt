@@ -1,5 +1,5 @@
 -- Jobs are in the range in which they are judged.
-use Rattle.std.proofs.Common.{◌≡◌, ◌≤◌, ◌+◌, ◌^◌, ◌==◌, ℕ, zero, suc, ℤ, pos, ◌-ℤ◌, ◌≤ℤ◌, unsigned_abs, arith, Bool, true, false, not, List, [], ◌∷◌, ◌++◌, length, Some, None, inl, inr, refl, sym, ap, ◌∙◌}
+use Rattle.std.proofs.Common.{◌≡◌, ◌≤◌, ◌+◌, ◌^◌, ◌==◌, ℕ, zero, suc, ℤ, pos, ◌-ℤ◌, ◌≤ℤ◌, unsigned_abs, arith, Bool, true, false, not, List, [], ◌∷◌, ◌++◌, length, map, Some, None, inl, inr, refl, sym, ap, ◌∙◌}
 use Rattle.std.specs.Prelude.{◌&&◌, ◌||◌, if◌then◌else◌}
 use Rattle.std.proofs.lemmas.Bool.{true≢false}
 use Rattle.std.proofs.lemmas.Int.{ints}
@@ -11,7 +11,7 @@ use Rattle.apt_plane.specs.declared.figures.Circ.{Circ}
 use Rattle.apt_plane.specs.declared.figures.Pt.{Pt}
 use Rattle.apt_plane.specs.declared.figures.Surface.{Surface}
 use Rattle.apt_plane.specs.declared.figures.Surface.TheVariants as surfaces
-use Rattle.apt_plane.specs.Ranges.{IsCircle, IsSurface, IsSense}
+use Rattle.apt_plane.specs.Ranges.{IsPoint, IsCircle, IsSurface, IsSense}
 use Rattle.apt_plane.specs.Vectors.{displacement, length_squared}
 use Rattle.apt_plane.proofs.Turned.{perp_dir}
 use Rattle.apt_canon.specs.Circles.{are_concentric}
@@ -20,16 +20,19 @@ use Rattle.apt_offset.specs.Ranges.{IsRadius}
 use Rattle.apt_offset.specs.Targets.{signed, greater, offset_surface, lacks_room, band_at}
 use Rattle.apt_stop.specs.Courses.{is_tanto}
 use Rattle.apt_stop.specs.Tangencies.{axis, touching_half, tangent_axis}
+use Rattle.apt_certify.specs.Legal.{last_of}
 use Rattle.apt_certify.specs.declared.leg.Job.{Job}
 use Rattle.apt_certify.specs.Jobs.{IsTrackOf, IsNarrow, IsAxisOrNone, ArePoints, IsLeg, IsJob, AreJobs, point_count}
 use Rattle.apt_meaning.specs.declared.motion.Motion.{Motion}
 use Rattle.apt_meaning.specs.declared.effect.Effect.{Effect}
 use Rattle.apt_meaning.specs.declared.effect.Effect.TheVariants as effects
-use Rattle.apt_meaning.specs.Motions.{drive_side, check_side, track_of, stop_of, starts_on_check, course_of, leg_of, has_track, has_bound, has_stop}
+use Rattle.apt_meaning.specs.Motions.{drive_side, track_of, stop_of, starts_on_check, course_of, leg_on, onward, has_track, has_bound, has_stop}
 use Rattle.apt_meaning.specs.Ranges.{IsAllowance, IsMotion, HasMotion}
-use Rattle.apt_meaning.specs.Vertices.{HasIn}
+use Rattle.apt_meaning.specs.Vertices.{AreCuts, HasIn}
+use Rattle.apt_meaning.specs.Paths.{Due, first_leg, next_leg, cut_on}
+use Rattle.apt_meaning.specs.Records.{legs_from}
 use Rattle.apt_meaning.proofs.Walks.Begins.{both}
-use Rattle.apt_job.specs.Jobs.{AreSides, unbounded, bounded, out_sign_at, job_of, jobs_by}
+use Rattle.apt_job.specs.Jobs.{AreSides, unbounded, bounded, out_sign_at, job_said, jobs_by}
 
 offset_small : (side : Sign) (r : ℤ) → IsRadius r → unsigned_abs (signed side r) ≤ 10 ^ 8
 offset_small signs.Plus r is = omega (arith, ints, is.least, is.most)
@@ -39,9 +42,8 @@ offset_small signs.Minus r is = omega (arith, ints, is.least, is.most)
 -- ---- what bounds a motion
 
 -- a track that is not there
-pub no_track : (m : Motion) → lacks_room (track_of m) ≡ true → AreSides m (unbounded (check_side m) false)
+pub no_track : (m : Motion) → lacks_room (track_of m) ≡ true → AreSides m (unbounded false)
 no_track m lacks = record {
-  check = refl;
   track = rw lacks refl;
   stop = λ there. absurd (missing there);
   bounds = λ is. absurd (missing (both (has_track m) (has_stop m) is).0);
@@ -56,19 +58,17 @@ no_stop_by false true bound e = refl
 no_stop_by false false bound e = absurd (true≢false (sym e))
 
 -- a stop that is not there
-pub no_stop : (m : Motion) → lacks_room (track_of m) ≡ false → (starts_on_check m || lacks_room (stop_of m)) ≡ true → AreSides m (unbounded (check_side m) true)
+pub no_stop : (m : Motion) → lacks_room (track_of m) ≡ false → (starts_on_check m || lacks_room (stop_of m)) ≡ true → AreSides m (unbounded true)
 no_stop m room e =
     let none : has_stop m ≡ false = no_stop_by (starts_on_check m) (lacks_room (stop_of m)) (has_bound m) e in record {
-      check = refl;
       track = rw room refl;
       stop = λ there. sym none;
       bounds = λ is. absurd (true≢false (sym (both (has_track m) (has_stop m) is).1 ∙ none));
     }
 
 -- both are there
-pub stop_there : (m : Motion) → lacks_room (track_of m) ≡ false → starts_on_check m ≡ false → lacks_room (stop_of m) ≡ false → AreSides m (bounded (check_side m) (course_of m))
+pub stop_there : (m : Motion) → lacks_room (track_of m) ≡ false → starts_on_check m ≡ false → lacks_room (stop_of m) ≡ false → AreSides m (bounded (course_of m))
 stop_there m room on stop = record {
-  check = refl;
   track = rw room refl;
   stop = λ there. rw (on, stop) refl;
   bounds = λ is. (refl, refl);
@@ -134,13 +134,13 @@ axis_in drive check stops.On is_d is_c = tt
 axis_in drive check stops.Past is_d is_c = tt
 axis_in drive check stops.Tanto is_d is_c = tangent_in drive check is_d is_c
 
-leg_in : (m : Motion) → IsMotion m → IsLeg (leg_of m)
-leg_in m is = record {
+leg_in : (m : Motion) (side : Sign) → IsMotion m → IsLeg (leg_on m side)
+leg_in m side is = record {
   drive = is.drive;
   track = track_is m.drive (drive_side m) m.radius is.drive is.radius;
   band = band_narrow m.drive (drive_side m) m.radius m.inner m.outer is.drive is.radius is.inner is.outer;
   check = is.check;
-  stop_band = band_narrow m.check (check_side m) m.radius m.inner m.outer is.check is.radius is.inner is.outer;
+  stop_band = band_narrow m.check m.check_side m.radius m.inner m.outer is.check is.radius is.inner is.outer;
   sense = is.sense;
   axis = axis_in m.drive m.check m.how is.drive is.check;
 }
@@ -148,27 +148,49 @@ leg_in m is = record {
 more_than : (p : Pt) (vertices : List Pt) → 1 ≤ length vertices → 2 ≤ length (p ∷ vertices)
 more_than p vertices some = omega (arith, some)
 
-job_in : (m : Motion) (vertices : List Pt) → IsMotion m → 1 ≤ length vertices → ArePoints vertices → IsJob (job_of m vertices)
-job_in m vertices is some are = record {
-  leg = leg_in m is;
-  out_sign = out_sign_is m.drive (drive_side m);
-  moves = more_than m.start.xy vertices some;
+job_in : (d : Due) (vertices : List Pt) → IsMotion d.motion → 1 ≤ length vertices → ArePoints vertices → IsJob (job_said (cut_on d vertices))
+job_in d vertices is some are = record {
+  leg = leg_in d.motion d.side is;
+  out_sign = out_sign_is d.motion.drive (drive_side d.motion);
+  moves = more_than d.motion.start.xy vertices some;
   points = (is.start.xy, are);
 }
 
-made_in : (e : Effect) (vertices : List Pt) → HasMotion e → HasIn e vertices → AreJobs (jobs_by e vertices)
-made_in (effects.Defines n f) vertices good within = tt
-made_in (effects.Sets change) vertices good within = tt
-made_in (effects.Moves reach to) vertices good within = tt
-made_in (effects.Cuts m) vertices good within = (job_in m vertices good within.0 within.1, tt)
+pub last_in : (p : Pt) (vertices : List Pt) → IsPoint p → ArePoints vertices → IsPoint (last_of p vertices)
+last_in p [] is are = is
+last_in p (v ∷ vs) is are = last_in v vs are.0 are.1
+
+onward_in : (m : Motion) (p : Pt) → IsMotion m → IsPoint p → IsMotion (onward m p)
+onward_in m p is point = record {
+  start = record { xy = point; z = is.start.z };
+  drive = is.drive;
+  sense = is.sense;
+  check = is.check;
+  touching = is.touching;
+  radius = is.radius;
+  inner = is.inner;
+  outer = is.outer;
+}
+
+legs_in : (d : Due) (cuts : List (List Pt)) → IsMotion d.motion → AreCuts cuts → AreJobs (map job_said (legs_from d cuts))
+legs_in d [] is are = tt
+legs_in d (vertices ∷ cuts) is are =
+    let last = last_in d.motion.start.xy vertices is.start.xy are.0.1 in
+    (job_in d vertices is are.0.0 are.0.1, legs_in (next_leg d vertices) cuts (onward_in d.motion (last_of d.motion.start.xy vertices) is last) are.1)
+
+made_in : (e : Effect) (cuts : List (List Pt)) → HasMotion e → HasIn e cuts → AreJobs (jobs_by e cuts)
+made_in (effects.Defines n f) cuts good within = tt
+made_in (effects.Sets change) cuts good within = tt
+made_in (effects.Moves reach to) cuts good within = tt
+made_in (effects.Cuts m legs) cuts good within = legs_in (first_leg m) cuts good within
 
 are_jobs-append : (xs ys : List Job) → AreJobs xs → AreJobs ys → AreJobs (xs ++ ys)
 are_jobs-append [] ys are more = more
 are_jobs-append (x ∷ xs) ys are more = (are.0, are_jobs-append xs ys are.1 more)
 
 -- one more effect's jobs
-pub jobs_in : (jobs : List Job) (e : Effect) (vertices : List Pt) → AreJobs jobs → HasMotion e → HasIn e vertices → AreJobs (jobs ++ jobs_by e vertices)
-jobs_in jobs e vertices are good within = are_jobs-append jobs (jobs_by e vertices) are (made_in e vertices good within)
+pub jobs_in : (jobs : List Job) (e : Effect) (cuts : List (List Pt)) → AreJobs jobs → HasMotion e → HasIn e cuts → AreJobs (jobs ++ jobs_by e cuts)
+jobs_in jobs e cuts are good within = are_jobs-append jobs (jobs_by e cuts) are (made_in e cuts good within)
 
 pub points-append : (xs ys : List Job) → point_count (xs ++ ys) ≡ point_count xs + point_count ys
 points-append [] ys = omega arith

@@ -26,12 +26,13 @@ use Rattle.apt_cldata.specs.Vertices.{at_height}
 use Rattle.apt_meaning.specs.Effects.{effect_of}
 use Rattle.apt_meaning.specs.Refusals.{refusal_of}
 use Rattle.apt_meaning.specs.Compiled.{ends_of, first_refused}
-use Rattle.apt_meaning.specs.Records.{Begins, records_of, after}
+use Rattle.apt_meaning.specs.Paths.{Due, first_leg, next_leg}
+use Rattle.apt_meaning.specs.Records.{Begins, records_of, after, cut_record, legs_from}
 use Rattle.apt_meaning.specs.Expectations.{expected, Departs, FailsAt}
 use Rattle.apt_meaning.proofs.Walks.Follower.{KeepsUp, keeps_up_first, StepsOn, steps_on}
 use Rattle.apt_meaning.proofs.Walks.Agree.{Agrees}
 use Rattle.apt_meaning.proofs.Walks.Compiled.{passed}
-use Rattle.apt_job.specs.Jobs.{jobs_by, MakesJobs}
+use Rattle.apt_job.specs.Jobs.{job_said, jobs_by, MakesJobs}
 use Rattle.apt_job.proofs.Named.{is_named, is_unnamed, refused_name}
 use Rattle.apt_job.proofs.Ranges.{jobs_in, points-append}
 
@@ -51,14 +52,19 @@ length-heights : (z : ℤ) (vertices : List Pt) → length (map (at_height z) ve
 length-heights z [] = refl
 length-heights z (v ∷ vs) = ap suc (length-heights z vs)
 
--- a contour has more records than its job has points before its vertices
-light : (step : Step) (e : Effect) (vertices : List Pt) → point_count (jobs_by e vertices) ≤ weight (records_of step e vertices)
-light step (effects.Defines n f) vertices = omega arith
-light step (effects.Sets (changes.Said note)) vertices = omega arith
-light step (effects.Sets (changes.Side side)) vertices = omega arith
-light step (effects.Sets changes.Nothing) vertices = omega arith
-light step (effects.Moves reach to) vertices = omega arith
-light step (effects.Cuts m) vertices = omega (arith, length-heights m.start.z vertices)
+-- a leg's record weighs as much as its points
+legs_light : (z : ℤ) (d : Due) (cuts : List (List Pt)) → point_count (map job_said (legs_from d cuts)) ≤ weight (map (cut_record z) cuts)
+legs_light z d [] = omega arith
+legs_light z d (vertices ∷ cuts) = omega (arith, length-heights z vertices, legs_light z (next_leg d vertices) cuts)
+
+-- the jobs of a step have no more points than its records weigh
+light : (step : Step) (e : Effect) (cuts : List (List Pt)) → point_count (jobs_by e cuts) ≤ weight (records_of step e cuts)
+light step (effects.Defines n f) cuts = omega arith
+light step (effects.Sets (changes.Said note)) cuts = omega arith
+light step (effects.Sets (changes.Side side)) cuts = omega arith
+light step (effects.Sets changes.Nothing) cuts = omega arith
+light step (effects.Moves reach to) cuts = omega arith
+light step (effects.Cuts m legs) cuts = omega (arith, legs_light m.start.z (first_leg m) cuts)
 
 -- the number of the first of the rest
 abbrev pub number : List Record → List Record → ℕ
@@ -69,10 +75,10 @@ number_at written now at place count = omega (arith, length-drop at now, place, 
 
 -- ---- the records of a step, from a place on
 
-pub begins_in : (here : Situation) (step : Step) (rest seen : List Record) (o : Option Effect) (e : Effect) (vertices : List Pt) (later : List Record) → seen ≡ rest → o ≡ Some e
-    → IsSomeAnd o (λ e. Begins here step seen e vertices later) → Begins here step rest e vertices later
-begins_in here step rest seen o e vertices later same is begins =
-    subst (λ (rs : List Record). Begins here step rs e vertices later) same (subst (λ (o : Option Effect). IsSomeAnd o (λ e. Begins here step seen e vertices later)) is begins)
+pub begins_in : (here : Situation) (step : Step) (rest seen : List Record) (o : Option Effect) (e : Effect) (cuts : List (List Pt)) (later : List Record) → seen ≡ rest → o ≡ Some e
+    → IsSomeAnd o (λ e. Begins here step seen e cuts later) → Begins here step rest e cuts later
+begins_in here step rest seen o e cuts later same is begins =
+    subst (λ (rs : List Record). Begins here step rs e cuts later) same (subst (λ (o : Option Effect). IsSomeAnd o (λ e. Begins here step seen e cuts later)) is begins)
 
 pub seen_from : (now seen : List Record) (at : ℕ) → seen ≡ now → take (length seen - at) (drop at seen) ≡ drop at now
 seen_from now seen at same = take_rest seen at ∙ ap (λ (rs : List Record). drop at rs) same
@@ -147,16 +153,16 @@ walk_first all written scalars sources passes are = record {
     first_number n = omega arith
 
 -- the step that is due, with its records in front
-pub steps_in : (all : List Step) (written : List Record) (here : Situation) (rest : List Record) (jobs : List Job) (step : Step) (steps : List Step) (e : Effect) (vertices : List Pt) (later : List Record)
-    → IsWalk all written here rest jobs (step ∷ steps) → Begins here step rest e vertices later → StepsOn here steps e vertices later
-steps_in all written here rest jobs step steps e vertices later walk begins =
-    steps_on here step steps rest e vertices later walk.keeps walk.scalars.0 walk.sources.0.text walk.records begins.asked begins.front
+pub steps_in : (all : List Step) (written : List Record) (here : Situation) (rest : List Record) (jobs : List Job) (step : Step) (steps : List Step) (e : Effect) (cuts : List (List Pt)) (later : List Record)
+    → IsWalk all written here rest jobs (step ∷ steps) → Begins here step rest e cuts later → StepsOn here steps e cuts later
+steps_in all written here rest jobs step steps e cuts later walk begins =
+    steps_on here step steps rest e cuts later walk.keeps walk.scalars.0 walk.sources.0.text walk.records begins.asked begins.front
 
-pub walk_on : (all : List Step) (written : List Record) (here : Situation) (rest : List Record) (jobs : List Job) (step : Step) (steps : List Step) (e : Effect) (vertices : List Pt) (later : List Record)
-    → IsWalk all written here rest jobs (step ∷ steps) → Begins here step rest e vertices later → IsWalk all written (after here e vertices) later (jobs ++ jobs_by e vertices) steps
-walk_on all written here rest jobs step steps e vertices later walk begins =
-    let on = steps_in all written here rest jobs step steps e vertices later walk begins in
-    let due = records_of step e vertices in
+pub walk_on : (all : List Step) (written : List Record) (here : Situation) (rest : List Record) (jobs : List Job) (step : Step) (steps : List Step) (e : Effect) (cuts : List (List Pt)) (later : List Record)
+    → IsWalk all written here rest jobs (step ∷ steps) → Begins here step rest e cuts later → IsWalk all written (after here e cuts) later (jobs ++ jobs_by e cuts) steps
+walk_on all written here rest jobs step steps e cuts later walk begins =
+    let on = steps_in all written here rest jobs step steps e cuts later walk begins in
+    let due = records_of step e cuts in
     let size : length rest ≡ length due + length later = ap length begins.front ∙ length-append due later in
     let load : weight rest ≡ weight due + weight later = ap weight begins.front ∙ weight-append due later in
     let further : number written rest + length due ≡ number written later = omega (arith, size, walk.part) in
@@ -166,11 +172,11 @@ walk_on all written here rest jobs step steps e vertices later walk begins =
       sources = walk.sources.1;
       records = on.later;
       part = omega (arith, size, walk.part);
-      makes = λ more makes. subst (λ (js : List Job). MakesJobs first_situation all written js) (sym (append_assoc jobs (jobs_by e vertices) more))
-          (walk.makes (jobs_by e vertices ++ more) (e, vertices, later, more, begins, refl, makes));
-      fails = λ k fails. walk.fails k (inr (e, vertices, later, begins, subst (λ (n : ℕ). FailsAt (after here e vertices) n steps later k) (sym further) fails));
-      range = jobs_in jobs e vertices walk.range on.motion on.within;
-      points = omega (arith, points-append jobs (jobs_by e vertices), light step e vertices, load, walk.points);
+      makes = λ more makes. subst (λ (js : List Job). MakesJobs first_situation all written js) (sym (append_assoc jobs (jobs_by e cuts) more))
+          (walk.makes (jobs_by e cuts ++ more) (e, cuts, later, more, begins, refl, makes));
+      fails = λ k fails. walk.fails k (inr (e, cuts, later, begins, subst (λ (n : ℕ). FailsAt (after here e cuts) n steps later k) (sym further) fails));
+      range = jobs_in jobs e cuts walk.range on.motion on.within;
+      points = omega (arith, points-append jobs (jobs_by e cuts), light step e cuts, load, walk.points);
     }
 
 -- a step that defines a name has no records, and no case refuses it

@@ -9,32 +9,37 @@ use Rattle.apt_cldata.specs.declared.record.Record.{Record}
 use Rattle.apt_meaning.specs.declared.situation.Situation.{Situation}
 use Rattle.apt_meaning.specs.declared.effect.Effect.{Effect}
 use Rattle.apt_meaning.specs.declared.effect.Effect.TheVariants as effects
-use Rattle.apt_meaning.specs.Paths.{Saying, Contour, contours_behind, said_behind, nothing_said, EveryContour, IsLegalCut, contours_of}
-use Rattle.apt_meaning.specs.Records.{MayHave, FollowsAs, HasAny, Follows, IsAsSaid, records_of, after}
+use Rattle.apt_meaning.specs.Paths.{Saying, Contour, Due, first_leg, next_leg, contours_behind, said_behind, nothing_said, EveryContour, IsLegalCut, contours_of}
+use Rattle.apt_meaning.specs.Records.{MayHave, FollowsAs, HasAny, Follows, IsAsSaid, records_of, after, legs_from, contours_by}
 use Rattle.apt_meaning.specs.Expectations.{expected, FailsAt}
 use Rattle.apt_meaning.specs.Situations.{first_situation}
 use Rattle.apt_meaning.proofs.Asked.{CutsLegally}
-use Rattle.apt_meaning.proofs.Contours.Legal.{defined_bounded}
-use Rattle.apt_meaning.proofs.Walks.Alone.{cuts_by, says_on, nothing_tells, follows, legal_contours}
+use Rattle.apt_meaning.proofs.Contours.Legs.{IsBound, bound_first, bound_next, bounded_due}
+use Rattle.apt_meaning.proofs.Walks.Alone.{says_on, nothing_tells, follows, legal_contours}
 use Rattle.apt_meaning.proofs.Walks.Begins.{begins_once, begins_no_departs, departs_once}
 use Rattle.apt_job.specs.declared.error.JobError.{JobError}
 use Rattle.apt_job.specs.declared.error.JobError.TheVariants as errors
 use Rattle.apt_job.specs.Answering.{IsEntry, IsEntryAt}
-use Rattle.apt_job.specs.Jobs.{job_of, job_said, jobs_said, jobs_by, MakesJobs}
+use Rattle.apt_job.specs.Jobs.{job_said, jobs_said, jobs_by, MakesJobs}
 
 -- ---- legal jobs, legal records
 
-effect_legal : (e : Effect) (vertices : List Pt) (more : List Job) → MayHave e vertices → AreLegal (jobs_by e vertices ++ more) → CutsLegally e vertices × AreLegal more
-effect_legal (effects.Defines n f) vertices more may legal = (tt, legal)
-effect_legal (effects.Sets change) vertices more may legal = (tt, legal)
-effect_legal (effects.Moves reach to) vertices more may legal = (tt, legal)
-effect_legal (effects.Cuts m) vertices more may legal = (record { bounded = defined_bounded m may; legal = legal.0 }, legal.1)
+legs_legal : (d : Due) (cuts : List (List Pt)) (more : List Job) → IsBound d → AreLegal (map job_said (legs_from d cuts) ++ more)
+    → EveryContour IsLegalCut (legs_from d cuts) × AreLegal more
+legs_legal d [] more bound legal = (tt, legal)
+legs_legal d (vertices ∷ cuts) more bound legal =
+    let later = legs_legal (next_leg d vertices) cuts more (bound_next d vertices bound) legal.1 in
+    ((record { bounded = bounded_due d bound; legal = legal.0 }, later.0), later.1)
 
-jobs_legal : (e : Effect) (vertices : List Pt) (more : List Job) → CutsLegally e vertices → AreLegal more → AreLegal (jobs_by e vertices ++ more)
-jobs_legal (effects.Defines n f) vertices more legal later = later
-jobs_legal (effects.Sets change) vertices more legal later = later
-jobs_legal (effects.Moves reach to) vertices more legal later = later
-jobs_legal (effects.Cuts m) vertices more legal later = (legal.legal, later)
+effect_legal : (e : Effect) (cuts : List (List Pt)) (more : List Job) → MayHave e cuts → AreLegal (jobs_by e cuts ++ more) → CutsLegally e cuts × AreLegal more
+effect_legal (effects.Defines n f) cuts more may legal = (tt, legal)
+effect_legal (effects.Sets change) cuts more may legal = (tt, legal)
+effect_legal (effects.Moves reach to) cuts more may legal = (tt, legal)
+effect_legal (effects.Cuts m legs) cuts more may legal = legs_legal (first_leg m) cuts more (bound_first m may.0) legal
+
+jobs_legal : (cs : List Contour) (more : List Job) → EveryContour IsLegalCut cs → AreLegal more → AreLegal (map job_said cs ++ more)
+jobs_legal [] more legal later = later
+jobs_legal (c ∷ cs) more legal later = (legal.0.legal, jobs_legal cs more legal.1 later)
 
 pub makes_follows : (here : Situation) (steps : List Step) (written : List Record) (jobs : List Job) → MakesJobs here steps written jobs
     → (behind : Situation) × FollowsAs HasAny here steps written behind
@@ -74,11 +79,11 @@ follows_legal here (step ∷ steps) written jobs behind makes follows =
     let rest = makes.2 in
     let more = makes.3 in
     let same = begins_once here step written e follows.0 vertices follows.1 rest follows.2 makes.4 follows.3 in
-    let legal = subst (λ (x : Effect). CutsLegally x vertices) (sym same.effect) (subst (λ (ps : List Pt). CutsLegally follows.0 ps) (sym same.vertices) follows.4) in
+    let legal = subst (λ (x : Effect). CutsLegally x vertices) (sym same.effect) (subst (λ (ps : List (List Pt)). CutsLegally follows.0 ps) (sym same.cuts) follows.4) in
     let later = subst (λ (x : Effect). FollowsAs CutsLegally (after here x vertices) steps rest behind) (sym same.effect)
-    (subst (λ (ps : List Pt). FollowsAs CutsLegally (after here follows.0 ps) steps rest behind) (sym same.vertices)
+    (subst (λ (ps : List (List Pt)). FollowsAs CutsLegally (after here follows.0 ps) steps rest behind) (sym same.cuts)
     (subst (λ (rs : List Record). FollowsAs CutsLegally (after here follows.0 follows.1) steps rs behind) (sym same.rest) follows.5)) in
-    rw makes.5 (jobs_legal e vertices more legal (follows_legal (after here e vertices) steps rest more behind makes.6 later))
+    rw makes.5 (jobs_legal (contours_by e vertices) more legal (follows_legal (after here e vertices) steps rest more behind makes.6 later))
 
 -- records that follow legally have jobs
 pub follows_makes : (here : Situation) (steps : List Step) (written : List Record) (behind : Situation) → FollowsAs CutsLegally here steps written behind
@@ -88,7 +93,7 @@ follows_makes here (step ∷ steps) written behind follows =
     let e = follows.0 in
     let vertices = follows.1 in
     let later = follows_makes (after here e vertices) steps follows.2 behind follows.5 in
-    (jobs_by e vertices ++ later.0, (e, vertices, follows.2, later.0, follows.3, refl, later.1), jobs_legal e vertices later.0 follows.4 later.2)
+    (jobs_by e vertices ++ later.0, (e, vertices, follows.2, later.0, follows.3, refl, later.1), jobs_legal (contours_by e vertices) later.0 follows.4 later.2)
 
 -- ---- records that make jobs don't fail
 
@@ -103,7 +108,7 @@ makes_no_fails here (step ∷ steps) written jobs seq k makes (inr f) =
     let same = begins_once here step written e f.0 vertices f.1 rest f.2 makes.4 f.3 in
     let n = seq + length (records_of step f.0 f.1) in
     let later = subst (λ (x : Effect). FailsAt (after here x vertices) n steps rest k) (sym same.effect)
-    (subst (λ (ps : List Pt). FailsAt (after here f.0 ps) n steps rest k) (sym same.vertices)
+    (subst (λ (ps : List (List Pt)). FailsAt (after here f.0 ps) n steps rest k) (sym same.cuts)
     (subst (λ (rs : List Record). FailsAt (after here f.0 f.1) n steps rs k) (sym same.rest) f.4)) in
     makes_no_fails (after here e vertices) steps rest makes.3 n k makes.6 later
 
@@ -120,7 +125,7 @@ fails_once here (step ∷ steps) written seq j k (inr f) (inr g) =
     let same = begins_once here step written f.0 g.0 f.1 g.1 f.2 g.2 f.3 g.3 in
     let n = seq + length (records_of step g.0 g.1) in
     let first = subst (λ (x : Effect). FailsAt (after here x g.1) (seq + length (records_of step x g.1)) steps g.2 j) same.effect
-    (subst (λ (ps : List Pt). FailsAt (after here f.0 ps) (seq + length (records_of step f.0 ps)) steps g.2 j) same.vertices
+    (subst (λ (ps : List (List Pt)). FailsAt (after here f.0 ps) (seq + length (records_of step f.0 ps)) steps g.2 j) same.cuts
     (subst (λ (rs : List Record). FailsAt (after here f.0 f.1) (seq + length (records_of step f.0 f.1)) steps rs j) same.rest f.4)) in
     fails_once (after here g.0 g.1) steps g.2 n j k first g.4
 
@@ -134,11 +139,9 @@ jobs_follow steps written (Ok js) makes =
 jobs_follow steps written (Err e) makes = tt
 
 -- the jobs of records that follow steps are those of their contours
-jobs_joined : (e : Effect) (vertices : List Pt) (more : List Job) (cs : List Contour) → more ≡ map job_said cs → jobs_by e vertices ++ more ≡ map job_said (cuts_by e vertices ++ cs)
-jobs_joined (effects.Defines n f) vertices more cs same = same
-jobs_joined (effects.Sets change) vertices more cs same = same
-jobs_joined (effects.Moves reach to) vertices more cs same = same
-jobs_joined (effects.Cuts m) vertices more cs same = ap (λ (js : List Job). job_of m vertices ∷ js) same
+jobs_joined : (cs more : List Contour) (jobs : List Job) → jobs ≡ map job_said more → map job_said cs ++ jobs ≡ map job_said (cs ++ more)
+jobs_joined [] more jobs same = same
+jobs_joined (c ∷ cs) more jobs same = ap (λ (js : List Job). job_said c ∷ js) (jobs_joined cs more jobs same)
 
 said_of : (s : Saying) (here : Situation) (steps : List Step) (written : List Record) (jobs : List Job) → IsAsSaid s here → MakesJobs here steps written jobs
     → jobs ≡ map job_said (contours_behind s written)
@@ -146,9 +149,9 @@ said_of s here [] written jobs t makes = rw (makes.0, makes.1) refl
 said_of s here (step ∷ steps) written jobs t makes =
     let e = makes.0 in
     let due = records_of step e makes.1 in
-    let on = says_on s here step e makes.1 t makes.4.asked in
+    let on = says_on s here step e makes.1 t makes.4.asked makes.4.may in
     rw (makes.4.front, on.contours makes.2)
-    (makes.5 ∙ jobs_joined e makes.1 makes.3 (contours_behind (said_behind s due) makes.2)
+    (makes.5 ∙ jobs_joined (contours_by e makes.1) (contours_behind (said_behind s due) makes.2) makes.3
     (said_of (said_behind s due) (after here e makes.1) steps makes.2 makes.3 on.tells makes.6))
 
 follows_jobs : (here : Situation) (steps : List Step) (written : List Record) (behind : Situation) → FollowsAs HasAny here steps written behind → (jobs : List Job) × MakesJobs here steps written jobs

@@ -13,6 +13,7 @@ use Rattle.apt_cldata.specs.declared.record.Note.TheVariants as notes
 use Rattle.apt_cldata.specs.declared.record.Position.{Position}
 use Rattle.apt_cldata.specs.declared.record.Record.{Record}
 use Rattle.apt_cldata.specs.declared.record.Record.TheVariants as records
+use Rattle.apt_stop.specs.declared.legs.Legs.TheVariants as the_legs
 use Rattle.apt_meaning.specs.declared.effect.Effect.TheVariants as effects
 use Rattle.apt_meaning.specs.Situations.{position_at}
 use Rattle.apt_meaning.specs.Motions.{motion_at}
@@ -37,12 +38,12 @@ written line side z more =
 abbrev job : Job
 job = record { leg = leg; out_sign = negsuc 0; points = point (neg_ℤ (pos 25000)) (neg_ℤ (pos 25000)) ∷ point (pos 525000) (neg_ℤ (pos 25000)) ∷ [] }
 
-begins : (more : List Record) → Begins at_corner contour (written 7 sides.Right (pos 50000) more) (effects.Cuts along_lower) (point (pos 525000) (neg_ℤ (pos 25000)) ∷ []) more
+begins : (more : List Record) → Begins at_corner contour (written 7 sides.Right (pos 50000) more) (effects.Cuts along_lower the_legs.One) ((point (pos 525000) (neg_ℤ (pos 25000)) ∷ []) ∷ []) more
 unfolding motion_at
-begins more = record { asked = refl; front = refl; may = refl }
+begins more = record { asked = refl; front = refl; may = (refl, refl) }
 
 one_job : MakesJobs at_corner (contour ∷ []) (written 7 sides.Right (pos 50000) []) (job ∷ [])
-one_job = (effects.Cuts along_lower, point (pos 525000) (neg_ℤ (pos 25000)) ∷ [], [], [], begins [], refl, (refl, refl))
+one_job = (effects.Cuts along_lower the_legs.One, (point (pos 525000) (neg_ℤ (pos 25000)) ∷ []) ∷ [], [], [], begins [], refl, (refl, refl))
 
 -- the number of the first record that isn't due
 another_line : FailsAt at_corner 1 (contour ∷ []) (written 8 sides.Right (pos 50000) []) 1
@@ -60,7 +61,7 @@ another_side = inl (1, (([], (refl, refl)), (λ met. absurd (left met.1.0))), re
     left e = cc
 
 one_too_many : FailsAt at_corner 1 (contour ∷ []) (written 7 sides.Right (pos 50000) (records.Note notes.Stop ∷ [])) 5
-one_too_many = inr (effects.Cuts along_lower, point (pos 525000) (neg_ℤ (pos 25000)) ∷ [], records.Note notes.Stop ∷ [], begins (records.Note notes.Stop ∷ []), refl)
+one_too_many = inr (effects.Cuts along_lower the_legs.One, (point (pos 525000) (neg_ℤ (pos 25000)) ∷ []) ∷ [], records.Note notes.Stop ∷ [], begins (records.Note notes.Stop ∷ []), refl)
 
 none_at_all : FailsAt at_corner 1 (contour ∷ []) [] 1
 unfolding motion_at

@@ -5,9 +5,17 @@ use Rattle.apt_cldata.specs.declared.record.Position.{Position}
 use Rattle.apt_cldata.specs.declared.record.Record.{Record}
 use Rattle.apt_meaning.specs.Expectations.{Expectation, Meets, Departs}
 use Rattle.apt_job.specs.declared.fronts.Front.{Front}
+use Rattle.apt_job.specs.declared.fronts.Cuts.{Cuts}
+use Rattle.apt_job.specs.declared.fronts.Cuts.TheVariants as the_cuts
 
 abbrev pub points_at : List Position → List Pt
 points_at ps = map (λ p. p.xy) ps
+
+-- the vertices of each leg that is there
+abbrev pub cuts_at : Cuts → List (List Pt)
+cuts_at the_cuts.None = []
+cuts_at (the_cuts.One vertices) = points_at vertices ∷ []
+cuts_at (the_cuts.Two first second) = points_at first ∷ points_at second ∷ []
 
 -- the first record is as expected, with these vertices, and rest is behind it
 pub record IsMetFirst (x : Expectation) (written : List Record) (vertices : List Pt) (rest : List Record) : Type 0 where

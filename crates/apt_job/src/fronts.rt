@@ -9,7 +9,7 @@ ghost use Rattle.apt_meaning.specs.Motions as motions;
 ghost use Rattle.apt_meaning.specs.Records.{Begins, MayHave, effect_records};
 ghost use Rattle.apt_meaning.specs.declared.effect.Effect.TheVariants as effects;
 ghost use Rattle.apt_meaning.specs.declared.situation.Situation.{Situation};
-ghost use Rattle.apt_job.specs.Fronts.{points_at, IsBehind};
+ghost use Rattle.apt_job.specs.Fronts.{points_at, cuts_at, IsBehind};
 ghost use Rattle.apt_job.specs.Jobs.{AreSides, HasSides};
 
 use crate::legs::Sides;
@@ -17,21 +17,45 @@ use crate::matches::{is_check, is_drive, is_note, is_point, is_statement};
 use apt_cldata::{Note, Position, Reach, Record, VertexSlice};
 use apt_meaning::{Change, Effect, Motion};
 use apt_words::Step;
+use apt_stop::Legs;
 
-/// The vertices of a contour in front, and the records behind what is in front.
+/// The vertices of a leg in front, and the records behind the one in front.
 #[derive(Drop)]
 pub(crate) struct Front<'a> {
     pub vertices: VertexSlice<'a>,
     pub rest: &'a [Record],
 }
 
+/// The vertices of the legs of a contour.
+#[derive(Drop)]
+pub(crate) enum Cuts<'a> {
+    None,
+    One(VertexSlice<'a>),
+    Two(VertexSlice<'a>, VertexSlice<'a>),
+}
+
+/// The vertices of the legs of a step, and the records behind those of the step.
+#[derive(Drop)]
+pub(crate) struct StepFront<'a> {
+    pub cuts: Cuts<'a>,
+    pub rest: &'a [Record],
+}
+
+/// The records behind one without vertices.
+fn behind<'a>(front: &Front<'a>) -> StepFront<'a>
+    ensures cuts { cuts_at result.cuts ≡ [] }
+    ensures rest { result.rest.now ≡ front.now.rest.now }
+{
+    nothing(front.rest)
+}
+
 /// No record is taken.
-fn nothing(records: &[Record]) -> Front<'_>
-    ensures vertices { result.vertices ≡ [] }
+fn nothing(records: &[Record]) -> StepFront<'_>
+    ensures cuts { cuts_at result.cuts ≡ [] }
     ensures rest { result.rest.now ≡ records.now }
 {
-    Front {
-        vertices: VertexSlice::none(),
+    StepFront {
+        cuts: Cuts::None,
         rest: records,
     }
 }
@@ -145,11 +169,16 @@ fn contour(start: Position, records: &[Record]) -> Option<Front<'_>>
 }
 
 /// The records of a contour.
-#[tactic(auto, using(crate::proofs::InFront::cut_said, crate::proofs::InFront::cut_departs))]
-fn cut<'a>(m: &Motion, sides: Sides, records: &'a [Record]) -> Result<Front<'a>, u64>
+#[tactic(auto, using(crate::proofs::InFront::cut_said, crate::proofs::InFront::two_said, crate::proofs::InFront::cut_departs, crate::proofs::InFront::second_departs))]
+fn cut<'a>(
+    m: &Motion,
+    legs: Legs,
+    sides: Sides,
+    records: &'a [Record],
+) -> Result<StepFront<'a>, u64>
     requires { AreSides m.now sides }
-    ensures said { MatchResult result (λ f. (records.now ≡ effect_records (effects.Cuts m.now) (points_at f.vertices) ++ f.rest.now) × MayHave (effects.Cuts m.now) (points_at f.vertices)) (Departs (expected_of (Some (effects.Cuts m.now))) records.now) }
-    ensures few { IfErr result (λ k. k ≤ 2) }
+    ensures said { MatchResult result (λ f. (records.now ≡ effect_records (effects.Cuts m.now legs) (cuts_at f.cuts) ++ f.rest.now) × MayHave (effects.Cuts m.now legs) (cuts_at f.cuts)) (Departs (expected_of (Some (effects.Cuts m.now legs))) records.now) }
+    ensures few { IfErr result (λ k. k ≤ 3) }
 {
     let Some(behind_drive) = drive(m, sides, records) else {
         return Err(0);
@@ -157,9 +186,21 @@ fn cut<'a>(m: &Motion, sides: Sides, records: &'a [Record]) -> Result<Front<'a>,
     let Some(behind_check) = check(m, sides, behind_drive.rest) else {
         return Err(1);
     };
-    match contour(m.start, behind_check.rest) {
-        Some(front) => Ok(front),
-        None => Err(2),
+    let Some(first) = contour(m.start, behind_check.rest) else {
+        return Err(2);
+    };
+    match legs {
+        Legs::One => Ok(StepFront {
+            cuts: Cuts::One(first.vertices),
+            rest: first.rest,
+        }),
+        Legs::Two => match contour(m.start, first.rest) {
+            Some(second) => Ok(StepFront {
+                cuts: Cuts::Two(first.vertices, second.vertices),
+                rest: second.rest,
+            }),
+            None => Err(3),
+        },
     }
 }
 
@@ -168,18 +209,24 @@ fn effect_front<'a>(
     effect: &Option<Effect>,
     sides: Sides,
     records: &'a [Record],
-) -> Result<Front<'a>, u64>
+) -> Result<StepFront<'a>, u64>
     requires { IfSome effect.now (HasSides sides) }
-    ensures said { MatchResult result (λ f. IsSomeAnd effect.now (λ e. (records.now ≡ effect_records e (points_at f.vertices) ++ f.rest.now) × MayHave e (points_at f.vertices))) (Departs (expected_of effect.now) records.now) }
-    ensures few { IfErr result (λ k. k ≤ 2) }
+    ensures said { MatchResult result (λ f. IsSomeAnd effect.now (λ e. (records.now ≡ effect_records e (cuts_at f.cuts) ++ f.rest.now) × MayHave e (cuts_at f.cuts))) (Departs (expected_of effect.now) records.now) }
+    ensures few { IfErr result (λ k. k ≤ 3) }
 {
     match effect {
         None => Err(0),
         Some(Effect::Defines(..)) => Ok(nothing(records)),
         Some(Effect::Sets(Change::Side(_) | Change::Nothing)) => Ok(nothing(records)),
-        Some(Effect::Sets(Change::Said(said))) => note(said, records).ok_or(0),
-        Some(Effect::Moves(reach, to)) => point(*reach, *to, records).ok_or(0),
-        Some(Effect::Cuts(m)) => cut(m, sides, records),
+        Some(Effect::Sets(Change::Said(said))) => match note(said, records) {
+            Some(front) => Ok(behind(&front)),
+            None => Err(0),
+        },
+        Some(Effect::Moves(reach, to)) => match point(*reach, *to, records) {
+            Some(front) => Ok(behind(&front)),
+            None => Err(0),
+        },
+        Some(Effect::Cuts(m, legs)) => cut(m, *legs, sides, records),
     }
 }
 
@@ -199,16 +246,13 @@ pub(crate) fn taken<'a>(
     effect: &Option<Effect>,
     sides: Sides,
     records: &'a [Record],
-) -> Result<Front<'a>, u64>
+) -> Result<StepFront<'a>, u64>
     requires { IfSome effect.now (HasSides sides) }
-    ensures taken { (here : Situation) → effect_of here step.now.deed ≡ effect.now → MatchResult result (λ f. IsSomeAnd effect.now (λ e. Begins here step.now records.now e (points_at f.vertices) f.rest.now)) (Departs (expected here step.now) records.now) }
-    ensures few { IfErr result (λ k. k ≤ 3) }
+    ensures taken { (here : Situation) → effect_of here step.now.deed ≡ effect.now → MatchResult result (λ f. IsSomeAnd effect.now (λ e. Begins here step.now records.now e (cuts_at f.cuts) f.rest.now)) (Departs (expected here step.now) records.now) }
+    ensures few { IfErr result (λ k. k ≤ 4) }
 {
     if is_silent(effect) {
-        return Ok(Front {
-            vertices: VertexSlice::none(),
-            rest: records,
-        });
+        return Ok(nothing(records));
     }
     let Some(behind) = statement(step, records) else {
         return Err(0);

@@ -1,14 +1,17 @@
 //! The jobs of motions.
 
-ghost use Rattle.std.specs.Prelude.{◌≡◌, ◌∷◌, true, false, IfOk, IfSome};
+ghost use Rattle.std.specs.Prelude.{◌≡◌, ◌∷◌, ◌++◌, [], true, false, IfOk, OnOk, IfSome};
 ghost use Rattle.apt_plane.specs.Ranges.{IsPoint, IsSurface, IsSense};
 ghost use Rattle.apt_offset.specs.Ranges.{IsTarget};
+ghost use Rattle.apt_stop.specs.Courses.{axis_of};
+ghost use Rattle.apt_certify.specs.Jobs.{ArePoints};
+ghost use Rattle.apt_certify.specs.Legal.{last_of};
 ghost use Rattle.apt_certify.specs.Legs as legs;
 ghost use Rattle.apt_meaning.specs.Motions as motions;
 ghost use Rattle.apt_meaning.specs.Ranges.{IsMotion, HasMotion};
 ghost use Rattle.apt_job.specs.Jobs as spec;
 ghost use Rattle.apt_job.specs.Fronts.{points_at};
-ghost use Rattle.apt_job.specs.Jobs.{AreBounds, AreSides, HasSides};
+ghost use Rattle.apt_job.specs.Jobs.{AreSides, HasSides};
 
 use apt_certify::{Job, Leg, Points};
 use apt_cldata::{Position, VertexSlice};
@@ -16,15 +19,14 @@ use apt_meaning::{Effect, Motion};
 use apt_num::Sign;
 use apt_offset::signs::{is_zero, opposite};
 use apt_offset::{band_at, is_on_check, lacks_room};
-use apt_plane::{Axis, Surface};
+use apt_plane::{Axis, Pt, Surface};
 use apt_stop::{Course, axis, kept_side};
 use std::alloc::{AllocError, Global};
 
-/// The place of the cutter at the check surface; whether the track of a motion is there, and where it is, whether the stop
-/// is; where both are, the side of the stop on which the motion runs, and the axis on which it ends where it touches.
+/// Whether the track of a motion is there, and where it is, whether the stop is; where both are, the side of the stop on
+/// which the motion runs, and the axis on which it ends where it touches.
 #[derive(Clone, Copy)]
 pub(crate) struct Sides {
-    pub check: Sign,
     pub has_track: bool,
     pub has_stop: bool,
     pub stop: Sign,
@@ -36,24 +38,22 @@ fn sides_of(m: &Motion) -> Sides
     requires { IsMotion m.now }
     ensures { AreSides m.now result }
 {
-    let check = m.check_side();
     let track = m.track();
     if lacks_room(&track) {
-        return unbounded(check, false);
+        return unbounded(false);
     }
-    let stop = m.stop(check);
-    if is_on_check(m.how, check) || lacks_room(&stop) {
-        return unbounded(check, true);
+    let stop = m.stop();
+    if is_on_check(m.how, m.check_side) || lacks_room(&stop) {
+        return unbounded(true);
     }
-    bounds(check, &m.course(track, stop))
+    bounds(&m.course(track, stop))
 }
 
 /// The sides of a motion without a stop.
-fn unbounded(check: Sign, has_track: bool) -> Sides
-    ensures { result ≡ spec.unbounded check has_track }
+fn unbounded(has_track: bool) -> Sides
+    ensures { result ≡ spec.unbounded has_track }
 {
     Sides {
-        check,
         has_track,
         has_stop: false,
         stop: Sign::Zero,
@@ -62,19 +62,18 @@ fn unbounded(check: Sign, has_track: bool) -> Sides
 }
 
 /// The sides of a motion, by its course.
-fn bounds(check: Sign, course: &Course) -> Sides
+fn bounds(course: &Course) -> Sides
     requires start { IsPoint course.now.start }
     requires drive { IsSurface course.now.drive }
     requires track { IsTarget course.now.track }
     requires sense { IsSense course.now.sense }
     requires check { IsSurface course.now.check }
     requires stop { IsTarget course.now.stop }
-    ensures { result ≡ spec.bounded check course.now }
+    ensures { result ≡ spec.bounded course.now }
 {
     let stop = kept_side(course);
     let axis = axis(course);
     Sides {
-        check,
         has_track: true,
         has_stop: !is_zero(stop) || axis.is_some(),
         stop,
@@ -88,17 +87,16 @@ pub(crate) fn effect_sides(effect: &Option<Effect>) -> Sides
     ensures { IfSome effect.now (HasSides result) }
 {
     match effect {
-        Some(Effect::Cuts(m)) => sides_of(m),
+        Some(Effect::Cuts(m, _)) => sides_of(m),
         Some(Effect::Defines(..) | Effect::Sets(..) | Effect::Moves(..)) | None => {
-            unbounded(Sign::Zero, false)
+            unbounded(false)
         }
     }
 }
 
-/// The edge of the stop that a motion must not pass, by the side of the stop on which it runs.
+/// The edge of the stop that a leg must not pass, by the side of the stop on which it runs.
 fn beyond(m: &Motion, side: Sign) -> Sign
-    requires { side ≡ motions.stop_side m.now }
-    ensures { result ≡ legs.beyond_of m.now.check (motions.stop_side m.now) }
+    ensures { result ≡ legs.beyond_of m.now.check side }
 {
     match m.check {
         Surface::Line(_) => opposite(side),
@@ -106,21 +104,20 @@ fn beyond(m: &Motion, side: Sign) -> Sign
     }
 }
 
-fn leg_of(m: &Motion, sides: Sides) -> Leg
+fn leg_on(m: &Motion, side: Sign, touching: Option<Axis>) -> Leg
     requires motion { IsMotion m.now }
-    requires check_side { sides.check ≡ motions.check_side m.now }
-    requires bounds { AreBounds m.now sides }
-    ensures { result ≡ motions.leg_of m.now }
+    requires touching { touching ≡ axis_of (motions.course_of m.now) }
+    ensures { result ≡ motions.leg_on m.now side }
 {
     Leg {
         drive: m.drive,
         track: m.track(),
         band: band_at(&m.drive, m.drive_side(), m.radius, m.inner, m.outer),
         check: m.check,
-        stop_band: band_at(&m.check, sides.check, m.radius, m.inner, m.outer),
-        beyond: beyond(m, sides.stop),
+        stop_band: band_at(&m.check, m.check_side, m.radius, m.inner, m.outer),
+        beyond: beyond(m, side),
         sense: m.sense,
-        axis: sides.axis,
+        axis: touching,
     }
 }
 
@@ -146,22 +143,69 @@ fn points(alloc: Global, start: Position, behind: &VertexSlice<'_>) -> Result<Po
     Ok(Points { vertices })
 }
 
-/// The job of a contour.
-pub(crate) fn job_of(
+/// The last of a start and points behind it.
+fn last_of(start: Pt, points: &[Pt]) -> Pt
+    ensures { result ≡ last_of start points.now }
+{
+    let mut last = start;
+    for p in points {
+        last = *p;
+    }
+    last
+}
+
+#[tactic(auto, using(crate::proofs::Ranges::last_in))]
+fn end_of(start: Pt, points: &[Pt]) -> Pt
+    requires start { IsPoint start }
+    requires points { ArePoints points.now }
+    ensures value { result ≡ last_of start points.now }
+    ensures range { IsPoint result }
+{
+    last_of(start, points)
+}
+
+/// The job of a leg, and where it ends.
+fn job_of(
     alloc: Global,
     m: &Motion,
-    sides: Sides,
+    side: Sign,
+    touching: Option<Axis>,
     behind: &VertexSlice<'_>,
-) -> Result<Job, AllocError>
+) -> Result<(Job, Pt), AllocError>
     requires motion { IsMotion m.now }
-    requires defined { motions.is_defined m.now ≡ true }
-    requires sides { AreSides m.now sides }
-    ensures { IfOk result (λ job. job ≡ spec.job_of m.now (points_at behind.now)) }
+    requires touching { touching ≡ axis_of (motions.course_of m.now) }
+    requires vertices { ArePoints (points_at behind.now) }
+    ensures job { IfOk result (λ made. made.0 ≡ spec.job_said (record { motion = m.now; side = side; vertices = points_at behind.now })) }
+    ensures last { IfOk result (λ made. made.1 ≡ last_of m.now.start.xy (points_at behind.now)) }
+    ensures range { IfOk result (λ made. IsPoint made.1) }
 {
     let points = points(alloc, m.start, behind)?;
-    Ok(Job {
-        leg: leg_of(m, sides),
+    let last = end_of(m.start.xy, &points.vertices[1..]);
+    let job = Job {
+        leg: leg_on(m, side, touching),
         out_sign: out_sign_at(&m.drive, m.drive_side()),
         points,
-    })
+    };
+    Ok((job, last))
+}
+
+/// Makes the job of a leg. Where the leg ends.
+pub(crate) fn take_leg(
+    alloc: Global,
+    jobs: &mut Vec<Job>,
+    m: &Motion,
+    side: Sign,
+    touching: Option<Axis>,
+    behind: &VertexSlice<'_>,
+) -> Result<Pt, AllocError>
+    requires motion { IsMotion m.now }
+    requires touching { touching ≡ axis_of (motions.course_of m.now) }
+    requires vertices { ArePoints (points_at behind.now) }
+    ensures jobs { OnOk result (jobs.new.items ≡ jobs.old.items ++ spec.job_said (record { motion = m.now; side = side; vertices = points_at behind.now }) ∷ []) }
+    ensures last { IfOk result (λ p. p ≡ last_of m.now.start.xy (points_at behind.now)) }
+    ensures range { IfOk result IsPoint }
+{
+    let (job, last) = job_of(alloc, m, side, touching, behind)?;
+    jobs.push(job)?;
+    Ok(last)
 }

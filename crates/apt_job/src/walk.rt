@@ -19,23 +19,25 @@ ghost use Rattle.apt_meaning.specs.declared.effect.Effect.TheVariants as effects
 ghost use Rattle.apt_meaning.specs.Expectations.{FailsAt};
 ghost use Rattle.apt_meaning.specs.Records.{Follows};
 ghost use Rattle.apt_job.specs.Answering.{IsEntry, IsEntryAt};
-ghost use Rattle.apt_job.specs.Fronts.{points_at};
+ghost use Rattle.apt_job.specs.Fronts.{cuts_at};
 ghost use Rattle.apt_job.specs.Jobs.{AreSides, HasSides, jobs_by, jobs_said, MakesJobs};
 
 use crate::JobError;
-use crate::fronts::taken;
-use crate::legs::{Sides, effect_sides, job_of};
+use crate::fronts::{Cuts, taken};
+use crate::legs::{Sides, effect_sides, take_leg};
 use apt_certify::Job;
-use apt_cldata::{Note, Record, VertexSlice};
+use apt_cldata::{Note, Record};
 use apt_defs::{DefError, define};
 use apt_meaning::{Effect, Motion, Situation, effect_of};
+use apt_offset::signs::opposite;
 use apt_words::Step;
+use apt_stop::Legs;
 use std::alloc::{AllocError, Global};
 
 /// The first record that does not answer the steps, by the place behind those that do and how many there still fit.
 fn entry(at: usize, fitting: u64) -> JobError
     requires few { at < 2 ^ 62 }
-    requires fitting { fitting ≤ 3 }
+    requires fitting { fitting ≤ 4 }
     ensures { result ≡ JobError.Entry ((at + 1) + fitting) }
 {
     let seq = at as u64 + 1;
@@ -43,36 +45,65 @@ fn entry(at: usize, fitting: u64) -> JobError
 }
 
 /// Lets go of the vertices of a contour, the last of some records, where there are more than the one for which a record has
-/// room itself.
-fn let_go(records: &mut [Record], vertices: usize)
+/// room itself; and of those before it.
+fn let_go(records: &mut [Record], vertices: (usize, usize))
     ensures { length records.new ≡ length records.old }
 {
-    if vertices > 1 {
-        if let Some(last) = records.last_mut() {
-            *last = Record::Note(Note::Rapid);
-        }
+    let n = records.len();
+    if vertices.1 > 1 && n >= 1 {
+        records[n - 1] = Record::Note(Note::Rapid);
+    }
+    if vertices.0 > 1 && n >= 2 {
+        records[n - 2] = Record::Note(Note::Rapid);
     }
 }
 
-/// Makes the job of a contour; then holds what holds behind it.
+/// How many vertices the first of two legs has and the last.
+fn sizes(cuts: &Cuts<'_>) -> (usize, usize) {
+    match cuts {
+        Cuts::None => (0, 0),
+        Cuts::One(vertices) => (0, vertices.len()),
+        Cuts::Two(first, second) => (first.len(), second.len()),
+    }
+}
+
+/// Makes the jobs of a contour; then holds what holds behind it.
 fn cut(
     alloc: Global,
     jobs: &mut Vec<Job>,
     here: &mut Situation,
     motion: &Motion,
+    legs: Legs,
     sides: Sides,
-    vertices: &VertexSlice<'_>,
+    cuts: &Cuts<'_>,
 ) -> Result<(), AllocError>
     requires motion { IsMotion motion.now }
     requires defined { is_defined motion.now ≡ true }
     requires sides { AreSides motion.now sides }
-    requires vertices { HasIn (effects.Cuts motion.now) (points_at vertices.now) }
-    ensures after { OnOk result (here.new ≡ written.after here.old (effects.Cuts motion.now) (points_at vertices.now)) }
-    ensures jobs { OnOk result (jobs.new.items ≡ jobs.old.items ++ jobs_by (effects.Cuts motion.now) (points_at vertices.now)) }
+    requires vertices { HasIn (effects.Cuts motion.now legs) (cuts_at cuts.now) }
+    ensures after { OnOk result (here.new ≡ written.after here.old (effects.Cuts motion.now legs) (cuts_at cuts.now)) }
+    ensures jobs { OnOk result (jobs.new.items ≡ jobs.old.items ++ jobs_by (effects.Cuts motion.now legs) (cuts_at cuts.now)) }
 {
-    let job = job_of(alloc, motion, sides, vertices)?;
-    here.cut_along(motion, &job.points.vertices[1..]);
-    jobs.push(job)?;
+    match cuts {
+        Cuts::None => here.cut_to(motion, motion.start.xy),
+        Cuts::One(vertices) => {
+            let end = take_leg(alloc, jobs, motion, sides.stop, sides.axis, vertices)?;
+            here.cut_to(motion, end);
+        }
+        Cuts::Two(first, second) => {
+            let met = take_leg(alloc, jobs, motion, sides.stop, sides.axis, first)?;
+            let onward = motion.onward(met);
+            let end = take_leg(
+                alloc,
+                jobs,
+                &onward,
+                opposite(sides.stop),
+                sides.axis,
+                second,
+            )?;
+            here.cut_to(motion, end);
+        }
+    }
     Ok(())
 }
 
@@ -98,28 +129,28 @@ fn take(
     here: &mut Situation,
     effect: &Effect,
     sides: Sides,
-    vertices: &VertexSlice<'_>,
+    cuts: &Cuts<'_>,
 ) -> Result<(), AllocError>
     requires situation { IsSituation here.old }
     requires effect { IsEffect effect.now }
     requires defines_nothing { (n : List ℕ) (f : Figure) → effect.now ≢ effects.Defines n f }
     requires has_motion { HasMotion effect.now }
     requires sides { HasSides sides effect.now }
-    requires vertices { HasIn effect.now (points_at vertices.now) }
-    requires may { written.MayHave effect.now (points_at vertices.now) }
-    ensures after { OnOk result (here.new ≡ written.after here.old effect.now (points_at vertices.now)) }
-    ensures jobs { OnOk result (jobs.new.items ≡ jobs.old.items ++ jobs_by effect.now (points_at vertices.now)) }
+    requires vertices { HasIn effect.now (cuts_at cuts.now) }
+    requires may { written.MayHave effect.now (cuts_at cuts.now) }
+    ensures after { OnOk result (here.new ≡ written.after here.old effect.now (cuts_at cuts.now)) }
+    ensures jobs { OnOk result (jobs.new.items ≡ jobs.old.items ++ jobs_by effect.now (cuts_at cuts.now)) }
 {
     match effect {
         Effect::Defines(..) => unreachable!(),
         Effect::Sets(change) => here.settings.change(change),
         Effect::Moves(reach, to) => here.go_to(*reach, *to),
-        Effect::Cuts(motion) => cut(alloc, jobs, here, motion, sides, vertices)?,
+        Effect::Cuts(motion, legs) => cut(alloc, jobs, here, motion, *legs, sides, cuts)?,
     }
     Ok(())
 }
 
-/// The jobs of records that answer steps, whether or not their contours are legal: one for each contour, in order, as
+/// The jobs of records that answer steps, whether or not their contours are legal: one for each leg of a contour, in order, as
 /// the records say it by themselves. What records hold in memory goes as soon as their jobs are made.
 ///
 /// # Errors
@@ -168,9 +199,9 @@ fn jobs_of(alloc: Global, steps: &[Step], mut records: Vec<Record>) -> Result<Ve
             Err(fitting) => return Err(entry(at, fitting)),
         };
         let Some(found) = &found else { unreachable!() };
-        take(alloc, &mut jobs, &mut here, found, sides, &front.vertices)?;
+        take(alloc, &mut jobs, &mut here, found, sides, &front.cuts)?;
         let behind = records.len() - front.rest.len();
-        let vertices = front.vertices.len();
+        let vertices = sizes(&front.cuts);
         let_go(&mut records[at..behind], vertices);
         at = behind;
     }

@@ -1,5 +1,5 @@
 -- A step that no case refuses has an effect in range, and a contour that it asks for is legal with its own vertices, to its contact.
-use Rattle.std.proofs.Common.{◌≡◌, ℕ, not, Bool, true, false, List, [], ◌∷◌, Option, Some, None, is_none, IfSome, Result, Ok, Err, IfOk, refl, cond, sym, ap, subst, ◌∙◌, pos}
+use Rattle.std.proofs.Common.{◌≡◌, ℕ, not, Bool, true, false, List, [], ◌∷◌, Option, Some, None, is_none, length, map, IfSome, Result, Ok, Err, IfOk, refl, cond, sym, ap, subst, ◌∙◌, ℤ, pos}
 use Rattle.std.proofs.lemmas.Bool.{true≢false}
 use Rattle.apt_num.specs.declared.Sign.{Sign}
 use Rattle.apt_words.specs.declared.Go.{Go}
@@ -20,7 +20,7 @@ use Rattle.apt_words.specs.Asks.{Ask, Titles, Says, Sets, Defines, Goes, Cuts, N
 use Rattle.apt_words.specs.Options.{◌>>=◌}
 use Rattle.apt_words.specs.Rows.{Row, first_of, NoneHolds}
 use Rattle.apt_words.specs.Sources.{AskHasText, DeedHasText}
-use Rattle.apt_scalar.specs.Scalars.{grid_units}
+use Rattle.apt_scalar.specs.Scalars.{grid_units, whole}
 use Rattle.apt_plane.specs.declared.figures.Pt.{Pt}
 use Rattle.apt_plane.specs.declared.figures.Surface.{Surface}
 use Rattle.apt_plane.specs.Ranges.{IsPoint, IsSurface}
@@ -29,7 +29,6 @@ use Rattle.apt_startup.specs.declared.Goal.{Goal}
 use Rattle.apt_startup.specs.declared.StartUp.{StartUp}
 use Rattle.apt_startup.specs.StartUps.{start_up_cases, start_point}
 use Rattle.apt_startup.proofs.Limits.{start_point-is}
-use Rattle.apt_certify.specs.Legal.{last_of}
 use Rattle.apt_cldata.specs.Ranges.{IsPosition, IsNote}
 use Rattle.apt_cldata.specs.declared.record.Note.{Note}
 use Rattle.apt_cldata.specs.declared.record.Note.TheVariants as notes
@@ -46,48 +45,46 @@ use Rattle.apt_defs.proofs.Tables.{looked_up}
 use Rattle.apt_meaning.specs.declared.situation.Settings.{Settings}
 use Rattle.apt_meaning.specs.declared.situation.Situation.{Situation}
 use Rattle.apt_meaning.specs.declared.motion.Motion.{Motion}
+use Rattle.apt_stop.specs.declared.legs.Legs.{Legs}
+use Rattle.apt_stop.specs.declared.legs.Legs.TheVariants as legs
 use Rattle.apt_meaning.specs.declared.effect.Change.{Change}
 use Rattle.apt_meaning.specs.declared.effect.Change.TheVariants as changes
 use Rattle.apt_meaning.specs.declared.effect.Effect.{Effect}
 use Rattle.apt_meaning.specs.declared.effect.Effect.TheVariants as effects
 use Rattle.apt_meaning.specs.Situations.{lacks_feed, with_side}
 use Rattle.apt_cldata.specs.Vertices.{at_height}
-use Rattle.apt_meaning.specs.Motions.{as_surface, surface_in, end_point, vertices_of, turn_at, if_turned, motion, motion_at}
+use Rattle.apt_meaning.specs.Motions.{as_surface, surface_in, vertices_of, motions_of, turn_at, if_turned, motion, motion_at}
 use Rattle.apt_meaning.specs.StartUps.{goal_in, second_in, start_up_at, start_position, start_position_at}
-use Rattle.apt_meaning.specs.Effects.{note_of, moves, cuts, as_position, place_at, names, defined, position_by, moved_by, goes, effect_by, effect_of}
-use Rattle.apt_meaning.specs.Refusals.{is_other_kind, is_no_place, refused, refused_form, position_cases, place_cases, move_cases, note_cases, route_cases, motion_cases, turned_cases, surface_cases, contour_cases, start_cases, go_cases, cases_by, cases_of, refusal_of}
-use Rattle.apt_meaning.specs.Paths.{IsLegalCut}
-use Rattle.apt_meaning.specs.Records.{IsOwnCut, MayHave}
-use Rattle.apt_meaning.specs.Compiled.{points_of}
+use Rattle.apt_meaning.specs.Effects.{note_of, moves, cuts, legs_by, as_position, place_at, names, defined, position_by, moved_by, goes, effect_by, effect_of}
+use Rattle.apt_meaning.specs.Refusals.{is_other_kind, is_no_place, refused, refused_form, position_cases, place_cases, move_cases, note_cases, route_cases, cut_cases, turned_cases, surface_cases, contour_cases, start_cases, go_cases, cases_by, cases_of, refusal_of}
+use Rattle.apt_meaning.specs.Paths.{IsLegalCut, EveryContour}
+use Rattle.apt_meaning.specs.Records.{IsOwnCut, MayHave, last_behind, contours_by}
+use Rattle.apt_meaning.specs.Compiled.{ends_of, points_of}
+use Rattle.apt_stop.specs.Legs.{leg_count}
 use Rattle.apt_meaning.specs.Ranges.{IsPositionOrNone, AreSettings, IsChange, IsSituation, IsMotion, IsEffect}
 use Rattle.apt_scalar.specs.StepScalars.{AllScalars, HasScalars}
 use Rattle.apt_meaning.specs.Vertices.{HasIn}
 use Rattle.apt_words.proofs.Rows.{first_none, none_first}
 use Rattle.apt_meaning.proofs.Contours.Legal.{motion_defined}
-use Rattle.apt_meaning.proofs.Contours.Cuts.{cut_is}
+use Rattle.apt_meaning.proofs.Contours.Legs.{first_free, legs_are}
 use Rattle.apt_meaning.proofs.EffectRanges.{reach_in, up_to_in, feed_note, whole_note, on_side_or_as_it_was, motion_is}
 use Rattle.apt_meaning.proofs.Contours.Ranges.{named_surface}
+use Rattle.apt_meaning.proofs.Counts.{unless_counted}
 
 -- a contour ends at its contact
 abbrev pub EndsThere : Effect → Type 0
 EndsThere (effects.Defines n f) = Unit {0}
 EndsThere (effects.Sets change) = Unit {0}
 EndsThere (effects.Moves reach to) = Unit {0}
-EndsThere (effects.Cuts m) = last_of m.start.xy (vertices_of m) ≡ end_point m
+EndsThere (effects.Cuts m n) = last_behind m.start.xy (points_of (effects.Cuts m n)) ≡ last_behind m.start.xy (ends_of (effects.Cuts m n))
 
--- a contour is legal
-abbrev pub CutsLegally : Effect → List Pt → Type 0
-CutsLegally (effects.Defines n f) vertices = Unit {0}
-CutsLegally (effects.Sets change) vertices = Unit {0}
-CutsLegally (effects.Moves reach to) vertices = Unit {0}
-CutsLegally (effects.Cuts m) vertices = IsLegalCut m vertices
+-- the legs of a contour are legal
+abbrev pub CutsLegally : Effect → List (List Pt) → Type 0
+CutsLegally e cuts = EveryContour IsLegalCut (contours_by e cuts)
 
--- a contour has the compiler's own vertices
-abbrev pub CutsOwn : Effect → List Pt → Type 0
-CutsOwn (effects.Defines n f) vertices = Unit {0}
-CutsOwn (effects.Sets change) vertices = Unit {0}
-CutsOwn (effects.Moves reach to) vertices = Unit {0}
-CutsOwn (effects.Cuts m) vertices = IsOwnCut m vertices
+-- they have the compiler's own vertices
+abbrev pub CutsOwn : Effect → List (List Pt) → Type 0
+CutsOwn e cuts = EveryContour IsOwnCut (contours_by e cuts)
 
 -- an effect in range, whose contour is legal with its own vertices, which end at its contact
 pub record IsFit (e : Effect) : Type 0 where
@@ -115,10 +112,17 @@ says note is = sets (changes.Said note) is
 moves_to : (reach : Reach) (to : Position) → IsPosition to → Asks (Some (effects.Moves reach to))
 moves_to reach to is = record { e = effects.Moves reach to; asked = refl; fit = record { good = is; legal = tt; own = tt; within = tt; may = refl; ends = tt } }
 
-cuts_on : (m : Motion) → IsMotion m → NoneHolds (motion_cases m) → Asks (Some (effects.Cuts m))
-cuts_on m is none =
-    let cut = cut_is m is none in
-    record { e = effects.Cuts m; asked = refl; fit = record { good = is; legal = cut.legal; own = cut.own; within = (cut.some, cut.points); may = motion_defined m is none; ends = cut.ends } }
+one_each : (m : Motion) (n : Legs) → length (map vertices_of (motions_of m n)) ≡ leg_count n
+one_each m legs.One = refl
+one_each m legs.Two = refl
+
+cuts_on : (m : Motion) (n : Legs) → IsMotion m → NoneHolds (cut_cases m n) → Asks (Some (effects.Cuts m n))
+cuts_on m n is none =
+    let own = legs_are m n is none in record {
+      e = effects.Cuts m n;
+      asked = refl;
+      fit = record { good = is; legal = own.legal; own = own.own; within = own.cuts; may = (motion_defined m is (first_free m n none), one_each m n); ends = own.ends };
+    }
 
 -- ---- definitions
 
@@ -208,37 +212,40 @@ go_asks here how name (Some other) is none =
 
 -- ---- contours
 
-unless_asks : (b : Bool) (o : Option Motion) → b ≡ false → Asks (cuts o) → Asks (cuts (cond b None o))
-unless_asks true o e asks = absurd (true≢false e)
-unless_asks false o e asks = asks
+unless_asks : (n : Legs) (b : Bool) (o : Option Motion) → b ≡ false → Asks (cuts n o) → Asks (cuts n (cond b None o))
+unless_asks n true o e asks = absurd (true≢false e)
+unless_asks n false o e asks = asks
 
-turned_asks : (s : Settings) (start : Position) (drive : Surface) (turned : Sign) (how : Stop) (check : Surface)
+turned_asks : (n : Legs) (s : Settings) (start : Position) (drive : Surface) (turned : Sign) (how : Stop) (check : Surface)
     → AreSettings s → IsPosition start → IsSurface drive → IsSurface check
-    → NoneHolds (turned_cases s start drive turned how check) → Asks (cuts (if_turned s start drive turned how check))
-turned_asks s start drive turned how check is from d c none =
+    → NoneHolds (turned_cases n s start drive turned how check) → Asks (cuts n (if_turned s start drive turned how check))
+turned_asks n s start drive turned how check is from d c none =
     let turns = none.1.1.1 in
     let m = motion s start drive turned how check in
-    unless_asks (is_zero turned) (Some m) turns.0 (cuts_on m (motion_is s start drive turned how check is from d c turns.0) turns.1)
+    unless_asks n (is_zero turned) (Some m) turns.0 (cuts_on m n (motion_is s start drive turned how check is from d c turns.0) turns.1)
 
-surfaces_ask : (here : Situation) (side : Option Side) (go : Go) (how : Stop) (p : Option Position) (d c : Option Surface)
+surfaces_ask : (here : Situation) (side : Option Side) (go : Go) (how : Stop) (n : Legs) (p : Option Position) (d c : Option Surface)
     → AreSettings here.settings → IsPositionOrNone p → IfSome d IsSurface → IfSome c IsSurface
-    → is_none p ≡ false → is_none d ≡ false → is_none c ≡ false → NoneHolds (surface_cases here side go how p d c)
-    → Asks (cuts (p >>= λ start. d >>= λ drive. c >>= λ check. if_turned (with_side here.settings side) start drive (turn_at here start drive go) how check))
-surfaces_ask here side go how None d c is is_p is_d is_c e f g none = absurd (true≢false e)
-surfaces_ask here side go how (Some start) None c is is_p is_d is_c e f g none = absurd (true≢false f)
-surfaces_ask here side go how (Some start) (Some drive) None is is_p is_d is_c e f g none = absurd (true≢false g)
-surfaces_ask here side go how (Some start) (Some drive) (Some check) is is_p is_d is_c e f g none =
-    turned_asks (with_side here.settings side) start drive (turn_at here start drive go) how check (on_side_or_as_it_was here.settings side is) is_p is_d is_c none
+    → is_none p ≡ false → is_none d ≡ false → is_none c ≡ false → NoneHolds (surface_cases here side go how n p d c)
+    → Asks (cuts n (p >>= λ start. d >>= λ drive. c >>= λ check. if_turned (with_side here.settings side) start drive (turn_at here start drive go) how check))
+surfaces_ask here side go how n None d c is is_p is_d is_c e f g none = absurd (true≢false e)
+surfaces_ask here side go how n (Some start) None c is is_p is_d is_c e f g none = absurd (true≢false f)
+surfaces_ask here side go how n (Some start) (Some drive) None is is_p is_d is_c e f g none = absurd (true≢false g)
+surfaces_ask here side go how n (Some start) (Some drive) (Some check) is is_p is_d is_c e f g none =
+    turned_asks n (with_side here.settings side) start drive (turn_at here start drive go) how check (on_side_or_as_it_was here.settings side is) is_p is_d is_c none
 
-contour_asks : (here : Situation) (side : Option Side) (go : Go) (drive : List ℕ) (how : Stop) (check : List ℕ) → IsSituation here
-    → NoneHolds (contour_cases here side go drive how check) → Asks (cuts (motion_at here side go drive how check))
+contour_asks : (here : Situation) (side : Option Side) (go : Go) (drive : List ℕ) (how : Stop) (check : List ℕ) (n : ℤ) → IsSituation here
+    → NoneHolds (contour_cases here side go drive how check n) → Asks (legs_by (whole n) >>= λ legs. cuts legs (motion_at here side go drive how check))
 unfolding motion_at
-contour_asks here side go drive how check is none =
+contour_asks here side go drive how check n is none =
     let d = none.1 in
     let c = d.1.1 in
-    surfaces_ask here side go how here.position (surface_in here.table drive) (surface_in here.table check) is.settings is.position
+    let on = surface_in here.table drive in
+    let at = surface_in here.table check in
+    unless_counted (legs_by (whole n)) (λ legs. cuts legs (motion_at here side go drive how check)) (λ legs. surface_cases here side go how legs here.position on at) Asks
+    (λ legs free. surfaces_ask here side go how legs here.position on at is.settings is.position
     (named_surface here.table drive is.table) (named_surface here.table check is.table)
-    none.0 (surface_there (figure_named here.table drive) d.0 d.1.0) (surface_there (figure_named here.table check) c.0 c.1.0) c.1.1
+    none.0 (surface_there (figure_named here.table drive) d.0 d.1.0) (surface_there (figure_named here.table check) c.0 c.1.0) free) c.1.1
 
 -- ---- places
 
@@ -275,7 +282,7 @@ asks_by here (Says saying) is numbers worded none = says (note_of here.settings.
 asks_by here (Sets side) is numbers worded none = sets (changes.Side side) tt
 asks_by here (Defines name form) is numbers worded none = defined_asks here name form is none
 asks_by here (Goes route) is numbers worded none = route_asks here route is none
-asks_by here (Cuts side go drive how check) is numbers worded none = contour_asks here side go drive how check is none
+asks_by here (Cuts side go drive how check n) is numbers worded none = contour_asks here side go drive how check n is none
 asks_by here Nothing is numbers worded none = sets changes.Nothing tt
 
 pub asks : (here : Situation) (deed : Deed) → IsSituation here → HasScalars deed → DeedHasText deed → NoneHolds (cases_of here deed) → Asks (effect_of here deed)

@@ -7,4 +7,5 @@ pub mod Starts
 pub mod Overruns
 pub mod Rounds
 pub mod Cuts
+pub mod Legs
 pub mod Ranges

@@ -1,5 +1,5 @@
 -- The ranges of what effects are made of.
-use Rattle.std.proofs.Common.{◌≡◌, ◌^◌, ◌≤◌, ℤ, pos, unsigned_abs, int_le, int_lt, not, Bool, true, false, Option, Some, None, refl, inl, inr, arith}
+use Rattle.std.proofs.Common.{◌≡◌, ◌^◌, ◌≤◌, ℤ, pos, unsigned_abs, int_le, int_lt, not, Bool, true, false, Option, Some, None, refl, sym, subst, inl, inr, arith}
 use Rattle.std.specs.Prelude.{if◌then◌else◌}
 use Rattle.std.proofs.lemmas.Int.{ints}
 use Rattle.std.proofs.lemmas.Bool.{true≢false, not-false}
@@ -25,6 +25,7 @@ use Rattle.apt_meaning.specs.declared.effect.Change.{Change}
 use Rattle.apt_meaning.specs.declared.effect.Change.TheVariants as changes
 use Rattle.apt_meaning.specs.declared.situation.Settings.{Settings}
 use Rattle.apt_meaning.specs.Situations.{radius_of, with_side, settings_with, changed}
+use Rattle.apt_meaning.specs.declared.motion.Motion.{Motion}
 use Rattle.apt_meaning.specs.Motions.{grid_step, motion}
 use Rattle.apt_meaning.specs.Refusals.{is_up_to}
 use Rattle.apt_meaning.specs.Ranges.{AreSettings, IsChange, IsAllowance, IsMotion}
@@ -110,7 +111,12 @@ motion_is s start drive turned how check is from d c turns = record {
   drive = d;
   sense = sense_in turned turns;
   check = c;
+  touching = λ e. rw e refl;
   radius = is.radius;
   inner = allowance_in s.intol is.intol;
   outer = allowance_in s.outtol is.outtol;
 }
+
+pub along_in : (m : Motion) (s : Settings) (start : Position) (drive : Surface) (turned : Sign) (how : Stop) (check : Surface) → m ≡ motion s start drive turned how check
+    → AreSettings s → IsPosition start → IsSurface drive → IsSurface check → is_zero turned ≡ false → IsMotion m
+along_in m s start drive turned how check e is from d c turns = subst IsMotion (sym e) (motion_is s start drive turned how check is from d c turns)

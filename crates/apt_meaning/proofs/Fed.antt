@@ -23,14 +23,18 @@ use Rattle.apt_defs.specs.Definitions.{figure_of}
 use Rattle.apt_meaning.specs.declared.situation.Settings.{Settings}
 use Rattle.apt_meaning.specs.declared.situation.Situation.{Situation}
 use Rattle.apt_meaning.specs.declared.motion.Motion.{Motion}
+use Rattle.apt_stop.specs.declared.legs.Legs.{Legs}
+use Rattle.apt_stop.specs.declared.legs.Legs.TheVariants as legs
 use Rattle.apt_meaning.specs.declared.effect.Effect.{Effect}
 use Rattle.apt_meaning.specs.declared.effect.Effect.TheVariants as effects
 use Rattle.apt_meaning.specs.Situations.{has_feed, lacks_feed, with_side}
 use Rattle.apt_meaning.specs.Motions.{surface_in, turn_at, if_turned, motion_at}
 use Rattle.apt_meaning.specs.StartUps.{start_position_at}
-use Rattle.apt_meaning.specs.Effects.{moves, cuts, place_in, place_at, names, defined, position_by, moved_from, goes, effect_by, effect_of}
+use Rattle.apt_meaning.specs.Effects.{moves, cuts, legs_by, place_in, place_at, names, defined, position_by, moved_from, goes, effect_by, effect_of}
 use Rattle.apt_meaning.specs.Refusals.{place_cases, move_cases, route_cases, surface_cases, go_cases, cases_by, cases_of}
 use Rattle.apt_meaning.proofs.Said.{of_some}
+use Rattle.apt_scalar.specs.Scalars.{whole}
+use Rattle.apt_meaning.proofs.Counts.{unless_counted}
 
 abbrev pub IsFed : Settings → Effect → Type 0
 IsFed s (effects.Defines n f) = Unit {0}
@@ -39,7 +43,7 @@ IsFed s (effects.Moves reaches.From to) = Unit {0}
 IsFed s (effects.Moves reaches.Goto to) = lacks_feed s ≡ false
 IsFed s (effects.Moves reaches.Godlta to) = lacks_feed s ≡ false
 IsFed s (effects.Moves reaches.Start to) = lacks_feed s ≡ false
-IsFed s (effects.Cuts m) = not (has_feed s) ≡ false
+IsFed s (effects.Cuts m n) = not (has_feed s) ≡ false
 
 figure_fed : (s : Settings) (n : List ℕ) (r : Result Figure Case) → IfSome (names n r) (IsFed s)
 figure_fed s n (Ok f) = tt
@@ -72,22 +76,22 @@ go_fed : (here : Situation) (how : Stop) (name : List ℕ) (other : Option (Stop
 go_fed here how name None none = point_fed here.settings reaches.Start (start_position_at here how name None) none.1.1.1.0
 go_fed here how name (Some other) none = point_fed here.settings reaches.Start (start_position_at here how name (Some other)) none.1.1.1.1.1.0
 
-cuts_fed : (s : Settings) (o : Option Motion) → not (has_feed s) ≡ false → IfSome (cuts o) (IsFed s)
-cuts_fed s None fed = tt
-cuts_fed s (Some m) fed = fed
+cuts_fed : (s : Settings) (n : Legs) (o : Option Motion) → not (has_feed s) ≡ false → IfSome (cuts n o) (IsFed s)
+cuts_fed s n None fed = tt
+cuts_fed s n (Some m) fed = fed
 
 -- the side of the cutter changes no feed
 without_side : (s : Settings) (side : Option Side) → not (has_feed (with_side s side)) ≡ false → not (has_feed s) ≡ false
 without_side s None fed = fed
 without_side s (Some side) fed = fed
 
-surfaces_fed : (here : Situation) (side : Option Side) (go : Go) (how : Stop) (p : Option Position) (d c : Option Surface) → NoneHolds (surface_cases here side go how p d c)
-    → IfSome (cuts (p >>= λ start. d >>= λ drive. c >>= λ check. if_turned (with_side here.settings side) start drive (turn_at here start drive go) how check)) (IsFed here.settings)
-surfaces_fed here side go how None d c none = tt
-surfaces_fed here side go how (Some start) None c none = tt
-surfaces_fed here side go how (Some start) (Some drive) None none = tt
-surfaces_fed here side go how (Some start) (Some drive) (Some check) none =
-    cuts_fed here.settings (if_turned (with_side here.settings side) start drive (turn_at here start drive go) how check) (without_side here.settings side none.1.0)
+surfaces_fed : (here : Situation) (side : Option Side) (go : Go) (how : Stop) (n : Legs) (p : Option Position) (d c : Option Surface) → NoneHolds (surface_cases here side go how n p d c)
+    → IfSome (cuts n (p >>= λ start. d >>= λ drive. c >>= λ check. if_turned (with_side here.settings side) start drive (turn_at here start drive go) how check)) (IsFed here.settings)
+surfaces_fed here side go how n None d c none = tt
+surfaces_fed here side go how n (Some start) None c none = tt
+surfaces_fed here side go how n (Some start) (Some drive) None none = tt
+surfaces_fed here side go how n (Some start) (Some drive) (Some check) none =
+    cuts_fed here.settings n (if_turned (with_side here.settings side) start drive (turn_at here start drive go) how check) (without_side here.settings side none.1.0)
 
 goto_fed : (here : Situation) (place : Place) → NoneHolds (place_cases here place ((lacks_feed here.settings, cases.NoFeed) ∷ [])) → IfSome (moves reaches.Goto (place_at here place)) (IsFed here.settings)
 goto_fed here (places.Xyz x y z) none = moves_fed here.settings reaches.Goto (Some (position_by here.settings.units x y z)) none
@@ -106,7 +110,11 @@ all_fed here (Says saying) none = tt
 all_fed here (Sets side) none = tt
 all_fed here (Defines name form) none = defined_fed here name form
 all_fed here (Goes route) none = goes_fed here route none
-all_fed here (Cuts side go drive how check) none = surfaces_fed here side go how here.position (surface_in here.table drive) (surface_in here.table check) none.1.1.1.1.1
+all_fed here (Cuts side go drive how check n) none =
+    let d = surface_in here.table drive in
+    let c = surface_in here.table check in
+    unless_counted (legs_by (whole n)) (λ legs. cuts legs (motion_at here side go drive how check)) (λ legs. surface_cases here side go how legs here.position d c)
+    (λ o. IfSome o (IsFed here.settings)) (λ legs none. surfaces_fed here side go how legs here.position d c none) none.1.1.1.1.1
 all_fed here Nothing none = tt
 
 -- the effect of a step that no case refuses

@@ -1,5 +1,6 @@
 pub mod Contours
 pub mod Worked
+pub mod Counts
 pub mod Said
 pub mod EffectRanges
 pub mod Asked

@@ -14,6 +14,7 @@ use Rattle.apt_words.specs.Asks.{Ask, Titles, Says, Sets, Defines, Goes, Cuts, N
 use Rattle.apt_words.specs.Options.{◌>>=◌}
 use Rattle.apt_plane.specs.declared.figures.Surface.{Surface}
 use Rattle.apt_offset.specs.Turns.{is_zero}
+use Rattle.apt_offset.specs.Sides.{side_at_check}
 use Rattle.apt_offset.specs.Targets.{greater}
 use Rattle.apt_cldata.specs.declared.record.Note.{Note}
 use Rattle.apt_cldata.specs.declared.record.Note.TheVariants as notes
@@ -24,14 +25,18 @@ use Rattle.apt_defs.specs.declared.figure.Figure.{Figure}
 use Rattle.apt_defs.specs.Definitions.{figure_of}
 use Rattle.apt_meaning.specs.declared.situation.Situation.{Situation}
 use Rattle.apt_meaning.specs.declared.motion.Motion.{Motion}
+use Rattle.apt_stop.specs.declared.legs.Legs.{Legs}
+use Rattle.apt_stop.specs.declared.legs.Legs.TheVariants as legs
 use Rattle.apt_meaning.specs.declared.effect.Change.{Change}
 use Rattle.apt_meaning.specs.declared.effect.Change.TheVariants as changes
 use Rattle.apt_meaning.specs.declared.effect.Effect.{Effect}
 use Rattle.apt_meaning.specs.declared.effect.Effect.TheVariants as effects
 use Rattle.apt_meaning.specs.Situations.{with_side}
-use Rattle.apt_meaning.specs.Motions.{grid_step, surface_in, turn_at, if_turned, motion, motion_at}
+use Rattle.apt_meaning.specs.Motions.{grid_step, drive_side, surface_in, turn_at, if_turned, motion, motion_at}
 use Rattle.apt_meaning.specs.StartUps.{start_position_at}
-use Rattle.apt_meaning.specs.Effects.{note_of, moves, cuts, place_at, names, defined, moved_from, goes, effect_by, effect_of}
+use Rattle.apt_meaning.specs.Effects.{note_of, moves, cuts, legs_by, place_at, names, defined, moved_from, goes, effect_by, effect_of}
+use Rattle.apt_scalar.specs.Scalars.{whole}
+use Rattle.apt_meaning.proofs.Counts.{if_counted}
 
 pub of_some : {A : Type 0} (P : A → Type 0) (o : Option A) (x : A) → o ≡ Some x → IfSome o P → P x
 of_some P o x e held = subst (λ q. IfSome q P) e held
@@ -44,7 +49,7 @@ IsNoteOf units (Says saying) note = note ≡ note_of units saying
 IsNoteOf units (Sets side) note = ⊥
 IsNoteOf units (Defines name form) note = ⊥
 IsNoteOf units (Goes route) note = ⊥
-IsNoteOf units (Cuts side go drive how check) note = ⊥
+IsNoteOf units (Cuts side go drive how check n) note = ⊥
 IsNoteOf units Nothing note = ⊥
 
 abbrev pub IsSetBy : Units → Ask → Change → Type 0
@@ -55,6 +60,7 @@ IsSetBy units ask changes.Nothing = asks_end ask ≡ false
 -- a contour starts at the position, with the cutter and the tolerances that are set
 pub record IsMotionOf (here : Situation) (m : Motion) : Type 0 where
   pub start : here.position ≡ Some m.start
+  pub check_side : m.check_side ≡ side_at_check m.check m.how m.start.xy m.drive (drive_side m)
   pub radius : m.radius ≡ here.settings.radius
   pub inner : m.inner ≡ greater here.settings.intol grid_step
   pub outer : m.outer ≡ greater here.settings.outtol grid_step
@@ -63,7 +69,7 @@ abbrev pub IsSaidBy : Situation → Ask → Effect → Type 0
 IsSaidBy here ask (effects.Defines n f) = asks_end ask ≡ false
 IsSaidBy here ask (effects.Sets change) = IsSetBy here.settings.units ask change
 IsSaidBy here ask (effects.Moves reach to) = asks_end ask ≡ false
-IsSaidBy here ask (effects.Cuts m) = (asks_end ask ≡ false) × IsMotionOf here m
+IsSaidBy here ask (effects.Cuts m n) = (asks_end ask ≡ false) × IsMotionOf here m
 
 figure_said : (here : Situation) (ask : Ask) (n : List ℕ) (r : Result Figure Case) → asks_end ask ≡ false → IfSome (names n r) (IsSaidBy here ask)
 figure_said here ask n (Ok f) on = on
@@ -79,29 +85,29 @@ moves_said : (here : Situation) (ask : Ask) (reach : Reach) (o : Option Position
 moves_said here ask reach None on = tt
 moves_said here ask reach (Some to) on = on
 
-unless_said : (here : Situation) (ask : Ask) (b : Bool) (o : Option Motion) → IfSome (cuts o) (IsSaidBy here ask) → IfSome (cuts (cond b None o)) (IsSaidBy here ask)
-unless_said here ask true o said = tt
-unless_said here ask false o said = said
+unless_said : (here : Situation) (ask : Ask) (n : Legs) (b : Bool) (o : Option Motion) → IfSome (cuts n o) (IsSaidBy here ask) → IfSome (cuts n (cond b None o)) (IsSaidBy here ask)
+unless_said here ask n true o said = tt
+unless_said here ask n false o said = said
 
 motion_of : (here : Situation) (side : Option Side) (start : Position) (drive : Surface) (turned : Sign) (how : Stop) (check : Surface) → here.position ≡ Some start
     → IsMotionOf here (motion (with_side here.settings side) start drive turned how check)
-motion_of here None start drive turned how check is_start = record { start = is_start; radius = refl; inner = refl; outer = refl }
-motion_of here (Some side) start drive turned how check is_start = record { start = is_start; radius = refl; inner = refl; outer = refl }
+motion_of here None start drive turned how check is_start = record { start = is_start; check_side = refl; radius = refl; inner = refl; outer = refl }
+motion_of here (Some side) start drive turned how check is_start = record { start = is_start; check_side = refl; radius = refl; inner = refl; outer = refl }
 
-turned_said : (here : Situation) (ask : Ask) (side : Option Side) (start : Position) (drive : Surface) (turned : Sign) (how : Stop) (check : Surface)
-    → asks_end ask ≡ false → here.position ≡ Some start → IfSome (cuts (if_turned (with_side here.settings side) start drive turned how check)) (IsSaidBy here ask)
-turned_said here ask side start drive turned how check on is_start =
+turned_said : (here : Situation) (ask : Ask) (n : Legs) (side : Option Side) (start : Position) (drive : Surface) (turned : Sign) (how : Stop) (check : Surface)
+    → asks_end ask ≡ false → here.position ≡ Some start → IfSome (cuts n (if_turned (with_side here.settings side) start drive turned how check)) (IsSaidBy here ask)
+turned_said here ask n side start drive turned how check on is_start =
     let m = motion (with_side here.settings side) start drive turned how check in
-    unless_said here ask (is_zero turned) (Some m) (on, motion_of here side start drive turned how check is_start)
+    unless_said here ask n (is_zero turned) (Some m) (on, motion_of here side start drive turned how check is_start)
 
-contour_said : (here : Situation) (ask : Ask) (side : Option Side) (go : Go) (how : Stop) (p : Option Position) (d c : Option Surface)
+contour_said : (here : Situation) (ask : Ask) (n : Legs) (side : Option Side) (go : Go) (how : Stop) (p : Option Position) (d c : Option Surface)
     → asks_end ask ≡ false → here.position ≡ p
-    → IfSome (cuts (p >>= λ start. d >>= λ drive. c >>= λ check. if_turned (with_side here.settings side) start drive (turn_at here start drive go) how check)) (IsSaidBy here ask)
-contour_said here ask side go how None d c on is_start = tt
-contour_said here ask side go how (Some start) None c on is_start = tt
-contour_said here ask side go how (Some start) (Some drive) None on is_start = tt
-contour_said here ask side go how (Some start) (Some drive) (Some check) on is_start =
-    turned_said here ask side start drive (turn_at here start drive go) how check on is_start
+    → IfSome (cuts n (p >>= λ start. d >>= λ drive. c >>= λ check. if_turned (with_side here.settings side) start drive (turn_at here start drive go) how check)) (IsSaidBy here ask)
+contour_said here ask n side go how None d c on is_start = tt
+contour_said here ask n side go how (Some start) None c on is_start = tt
+contour_said here ask n side go how (Some start) (Some drive) None on is_start = tt
+contour_said here ask n side go how (Some start) (Some drive) (Some check) on is_start =
+    turned_said here ask n side start drive (turn_at here start drive go) how check on is_start
 
 goes_said : (here : Situation) (route : Route) → IfSome (goes here route) (IsSaidBy here (Goes route))
 goes_said here (routes.From place) = moves_said here (Goes (routes.From place)) reaches.From (place_at here place) refl
@@ -118,8 +124,9 @@ said here (Says saying) = refl
 said here (Sets side) = refl
 said here (Defines name form) = defined_said here name form
 said here (Goes route) = goes_said here route
-said here (Cuts side go drive how check) =
-    contour_said here (Cuts side go drive how check) side go how here.position (surface_in here.table drive) (surface_in here.table check) refl refl
+said here (Cuts side go drive how check n) =
+    if_counted (legs_by (whole n)) (λ legs. cuts legs (motion_at here side go drive how check)) (IsSaidBy here (Cuts side go drive how check n))
+    (λ legs. contour_said here (Cuts side go drive how check n) legs side go how here.position (surface_in here.table drive) (surface_in here.table check) refl refl)
 said here Nothing = refl
 
 pub said_by : (here : Situation) (deed : Deed) (e : Effect) → effect_of here deed ≡ Some e → IsSaidBy here (ask_of deed) e

@@ -1,5 +1,5 @@
 -- The compiler's walk over steps, on which every contour runs to its contact: the first step that is refused, and the records.
-use Rattle.std.specs.Prelude.{ℕ, ◌+◌, nat_lt, List, [], ◌∷◌, ◌++◌, length, Option, Some, None, Result, Ok, Err, if◌then◌else◌}
+use Rattle.std.specs.Prelude.{ℕ, ◌+◌, nat_lt, List, [], ◌∷◌, ◌++◌, map, Option, Some, None, Result, Ok, Err, if◌then◌else◌}
 use Rattle.apt_plane.specs.declared.figures.Pt.{Pt}
 use Rattle.apt_words.specs.declared.Case.{Case}
 use Rattle.apt_words.specs.declared.Case.TheVariants as cases
@@ -9,23 +9,28 @@ use Rattle.apt_cldata.specs.declared.record.Record.{Record}
 use Rattle.apt_meaning.specs.declared.situation.Situation.{Situation}
 use Rattle.apt_meaning.specs.declared.effect.Effect.{Effect}
 use Rattle.apt_meaning.specs.declared.effect.Effect.TheVariants as effects
-use Rattle.apt_meaning.specs.Motions.{end_point, vertices_of}
+use Rattle.apt_meaning.specs.Motions.{end_point, vertices_of, motions_of}
 use Rattle.apt_meaning.specs.Effects.{effect_of}
 use Rattle.apt_meaning.specs.Refusals.{refusal_of}
+use Rattle.apt_meaning.specs.Vertices.{cut_points}
 use Rattle.apt_meaning.specs.Records.{records_of, after}
 
-abbrev pub ends_of : Effect → List Pt
+-- for each leg of a contour its end
+abbrev pub ends_of : Effect → List (List Pt)
 ends_of (effects.Defines n f) = []
 ends_of (effects.Sets change) = []
 ends_of (effects.Moves reach to) = []
-ends_of (effects.Cuts m) = end_point m ∷ []
+ends_of (effects.Cuts m legs) = map (λ n. end_point n ∷ []) (motions_of m legs)
 
--- the vertices that it writes
-abbrev pub points_of : Effect → List Pt
+-- and the vertices that it writes
+abbrev pub points_of : Effect → List (List Pt)
 points_of (effects.Defines n f) = []
 points_of (effects.Sets change) = []
 points_of (effects.Moves reach to) = []
-points_of (effects.Cuts m) = vertices_of m
+points_of (effects.Cuts m legs) = map vertices_of (motions_of m legs)
+
+abbrev pub point_number : Effect → ℕ
+point_number e = cut_points (points_of e)
 
 abbrev pub refused_at : Step → Case → Refusal
 refused_at step case = record { line = step.line; step = step.step; case = case }
@@ -43,7 +48,7 @@ most_points = 500000
 -- the same, behind so many vertices
 abbrev pub asked_within : ℕ → Result Effect Case → Result Effect Case
 asked_within so_far (Err case) = Err case
-asked_within so_far (Ok e) = if nat_lt most_points (so_far + length (points_of e)) then Err cases.TooManyPoints else Ok e
+asked_within so_far (Ok e) = if nat_lt most_points (so_far + point_number e) then Err cases.TooManyPoints else Ok e
 
 -- ---- the steps alone
 
@@ -72,7 +77,7 @@ abbrev pub compilation_behind : ℕ → Situation → List Step → Result (List
 compilation_behind so_far here [] = Ok []
 compilation_behind so_far here (step ∷ steps) =
     or_refused step (asked_within so_far (asked (refusal_of here step.deed) (effect_of here step.deed)))
-    (λ e. with_front (records_of step e (points_of e)) (compilation_behind (so_far + length (points_of e)) (after here e (ends_of e)) steps))
+    (λ e. with_front (records_of step e (points_of e)) (compilation_behind (so_far + point_number e) (after here e (ends_of e)) steps))
 
 abbrev pub compilation : Situation → List Step → Result (List Record) Refusal
 compilation here steps = compilation_behind 0 here steps

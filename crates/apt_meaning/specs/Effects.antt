@@ -1,5 +1,6 @@
 -- What a step asks for, wherever the figures and the turn that it needs are there.
-use Rattle.std.specs.Prelude.{ℕ, ℤ, pos, ◌+ℤ◌, List, Option, Some, None, Result, Ok, Err}
+use Rattle.std.specs.Prelude.{ℕ, ℤ, pos, ◌+ℤ◌, List, Option, Some, None, Result, Ok, Err, if◌then◌else◌}
+use Rattle.std.specs.Ordering.{int_eq}
 use Rattle.apt_words.specs.Asks.{Ask, Titles, Says, Sets, Defines, Goes, Cuts, Nothing, ask_of}
 use Rattle.apt_words.specs.declared.Case.{Case}
 use Rattle.apt_words.specs.declared.Turn.TheVariants as turns
@@ -25,6 +26,8 @@ use Rattle.apt_defs.specs.Figures.{Table, figure_named}
 use Rattle.apt_defs.specs.Definitions.{figure_of}
 use Rattle.apt_meaning.specs.declared.situation.Situation.{Situation}
 use Rattle.apt_meaning.specs.declared.motion.Motion.{Motion}
+use Rattle.apt_stop.specs.declared.legs.Legs.{Legs}
+use Rattle.apt_stop.specs.declared.legs.Legs.TheVariants as the_legs
 use Rattle.apt_meaning.specs.declared.effect.Change.TheVariants as changes
 use Rattle.apt_meaning.specs.declared.effect.Effect.{Effect}
 use Rattle.apt_meaning.specs.declared.effect.Effect.TheVariants as effects
@@ -59,9 +62,13 @@ abbrev pub moves : Reach → Option Position → Option Effect
 moves reach None = None
 moves reach (Some to) = Some (effects.Moves reach to)
 
-abbrev pub cuts : Option Motion → Option Effect
-cuts None = None
-cuts (Some m) = Some (effects.Cuts m)
+abbrev pub cuts : Legs → Option Motion → Option Effect
+cuts legs None = None
+cuts legs (Some m) = Some (effects.Cuts m legs)
+
+-- a contour to the first meeting with its check surface has one leg, and to the second two; there is no other count
+abbrev pub legs_by : ℤ → Option Legs
+legs_by n = if int_eq n (pos 1) then Some the_legs.One else if int_eq n (pos 2) then Some the_legs.Two else None
 
 -- ---- lengths and places in grid units
 
@@ -117,7 +124,7 @@ effect_by here (Says saying) = says (note_of here.settings.units saying)
 effect_by here (Sets side) = Some (effects.Sets (changes.Side side))
 effect_by here (Defines name form) = defined here name form
 effect_by here (Goes route) = goes here route
-effect_by here (Cuts side go drive how check) = cuts (motion_at here side go drive how check)
+effect_by here (Cuts side go drive how check n) = legs_by (whole n) >>= λ legs. cuts legs (motion_at here side go drive how check)
 effect_by here Nothing = Some (effects.Sets changes.Nothing)
 
 abbrev pub effect_of : Situation → Deed → Option Effect

@@ -5,6 +5,8 @@ use Rattle.apt_words.specs.declared.deed.Step.{Step}
 use Rattle.apt_cldata.specs.declared.record.Record.{Record}
 use Rattle.apt_cldata.specs.declared.record.Record.TheVariants as records
 use Rattle.apt_meaning.specs.declared.situation.Situation.{Situation}
+use Rattle.apt_stop.specs.declared.legs.Legs.{Legs}
+use Rattle.apt_stop.specs.declared.legs.Legs.TheVariants as the_legs
 use Rattle.apt_meaning.specs.declared.effect.Change.TheVariants as changes
 use Rattle.apt_meaning.specs.declared.effect.Effect.{Effect}
 use Rattle.apt_meaning.specs.declared.effect.Effect.TheVariants as effects
@@ -23,6 +25,11 @@ abbrev pub exactly_if : Bool → Record → Expectation
 exactly_if true r = Exactly r
 exactly_if false r = Nothing
 
+-- a contour record for each leg
+abbrev pub each_leg : Legs → Expectation → List Expectation
+each_leg the_legs.One x = x ∷ []
+each_leg the_legs.Two x = x ∷ x ∷ []
+
 abbrev pub expected_of : Option Effect → List Expectation
 expected_of None = Nothing ∷ []
 expected_of (Some (effects.Defines n f)) = []
@@ -30,8 +37,8 @@ expected_of (Some (effects.Sets (changes.Said note))) = Exactly (records.Note no
 expected_of (Some (effects.Sets (changes.Side side))) = []
 expected_of (Some (effects.Sets changes.Nothing)) = []
 expected_of (Some (effects.Moves reach to)) = Exactly (records.Point reach to) ∷ []
-expected_of (Some (effects.Cuts m)) =
-    exactly_if (has_track m) (records.Drive m.drive m.side m.sense) ∷ exactly_if (has_stop m) (records.Check m.check m.how) ∷ VerticesAt m.start.z ∷ []
+expected_of (Some (effects.Cuts m legs)) =
+    exactly_if (has_track m) (records.Drive m.drive m.side m.sense) ∷ exactly_if (has_stop m) (records.Check m.check m.how) ∷ each_leg legs (VerticesAt m.start.z)
 
 abbrev pub behind_statement : Step → List Expectation → List Expectation
 behind_statement step [] = []
@@ -65,5 +72,5 @@ FailsAt here seq [] [] k = ⊥
 FailsAt here seq [] (r ∷ rs) k = k ≡ seq
 FailsAt here seq (step ∷ steps) written k =
     ((j : ℕ) × Departs (expected here step) written j × (k ≡ seq + j))
-    ⊎ ((e : Effect) × (vertices : List Pt) × (rest : List Record)
-    × Begins here step written e vertices rest × FailsAt (after here e vertices) (seq + length (records_of step e vertices)) steps rest k)
+    ⊎ ((e : Effect) × (cuts : List (List Pt)) × (rest : List Record)
+    × Begins here step written e cuts rest × FailsAt (after here e cuts) (seq + length (records_of step e cuts)) steps rest k)

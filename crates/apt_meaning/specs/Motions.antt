@@ -24,9 +24,12 @@ use Rattle.apt_arc.specs.Made.{divided}
 use Rattle.apt_certify.specs.declared.leg.Leg.{Leg}
 use Rattle.apt_certify.specs.Legs.{beyond_of}
 use Rattle.apt_cldata.specs.declared.record.Position.{Position}
+use Rattle.apt_cldata.specs.Vertices.{at_height}
 use Rattle.apt_meaning.specs.declared.situation.Settings.{Settings}
 use Rattle.apt_meaning.specs.declared.situation.Situation.{Situation}
 use Rattle.apt_meaning.specs.declared.motion.Motion.{Motion}
+use Rattle.apt_stop.specs.declared.legs.Legs.{Legs}
+use Rattle.apt_stop.specs.declared.legs.Legs.TheVariants as legs
 use Rattle.apt_meaning.specs.Situations.{with_side}
 
 -- ---- the parts of a motion
@@ -56,28 +59,26 @@ motion s start drive turned how check = record {
   sense = signed turned (pos 1);
   check = check;
   how = how;
+  check_side = side_at_check check how start.xy drive (side_at_drive s.side (signed turned (pos 1)));
   radius = s.radius;
   inner = greater s.intol grid_step;
   outer = greater s.outtol grid_step;
 }
 
--- the place of the cutter at the drive surface, and at the check surface behind the motion
+-- the place of the cutter at the drive surface
 abbrev pub drive_side : Motion → Sign
 drive_side m = side_at_drive m.side m.sense
-
-abbrev pub check_side : Motion → Sign
-check_side m = side_at_check m.check m.how m.start.xy m.drive (drive_side m)
 
 -- the targets: the curve of the cutter's centre, and the one at which it stops
 abbrev pub track_of : Motion → Target
 track_of m = offset_surface m.drive (drive_side m) m.radius
 
 abbrev pub stop_of : Motion → Target
-stop_of m = offset_surface m.check (check_side m) m.radius
+stop_of m = offset_surface m.check m.check_side m.radius
 
 -- the start is on the check surface, under TO or PAST
 abbrev pub starts_on_check : Motion → Bool
-starts_on_check m = is_on_check m.how (check_side m)
+starts_on_check m = is_on_check m.how m.check_side
 
 -- ---- its course
 
@@ -94,17 +95,21 @@ end_point m = end_of (course_of m)
 
 -- ---- the leg
 
-abbrev pub leg_of : Motion → Leg
-leg_of m = record {
+-- that runs on a side of its stop
+abbrev pub leg_on : Motion → Sign → Leg
+leg_on m side = record {
   drive = m.drive;
   track = track_of m;
   band = band_at m.drive (drive_side m) m.radius m.inner m.outer;
   check = m.check;
-  stop_band = band_at m.check (check_side m) m.radius m.inner m.outer;
-  beyond = beyond_of m.check (stop_side m);
+  stop_band = band_at m.check m.check_side m.radius m.inner m.outer;
+  beyond = beyond_of m.check side;
   sense = m.sense;
   axis = axis_of (course_of m);
 }
+
+abbrev pub leg_of : Motion → Leg
+leg_of m = leg_on m (stop_side m)
 
 -- its track is there
 abbrev pub has_track : Motion → Bool
@@ -148,6 +153,17 @@ vertices_on m (targets.Circ c r) = divided (arc_on m c r)
 
 abbrev pub vertices_of : Motion → List Pt
 vertices_of m = vertices_on m (track_of m)
+
+-- ---- its legs
+
+-- the motion from another point, with the same stop
+abbrev pub onward : Motion → Pt → Motion
+onward m p = record m { start = at_height m.start.z p }
+
+-- a contour to the second meeting goes on from the first, to the same stop
+abbrev pub motions_of : Motion → Legs → List Motion
+motions_of m legs.One = m ∷ []
+motions_of m legs.Two = m ∷ onward m (end_point m) ∷ []
 
 -- ---- the motion of a statement
 

@@ -2,6 +2,7 @@
 use Rattle.std.specs.Prelude.{◌+◌, ◌/◌, ℤ, pos, neg_ℤ, ◌-ℤ◌, ◌*ℤ◌, unsigned_abs, int_lt, ◌&&◌, Bool, true, false, List, [], ◌∷◌, ◌++◌, map, Option, Some, None, if◌then◌else◌}
 use Rattle.std.specs.Ordering.{int_eq}
 use Rattle.apt_words.specs.Asks.{listed}
+use Rattle.apt_num.specs.declared.Sign.{Sign}
 use Rattle.apt_words.specs.declared.Side.{Side}
 use Rattle.apt_words.specs.declared.Stop.{Stop}
 use Rattle.apt_words.specs.declared.Units.{Units}
@@ -11,6 +12,8 @@ use Rattle.apt_plane.specs.declared.figures.Pt.{Pt}
 use Rattle.apt_plane.specs.declared.figures.Dir.{Dir}
 use Rattle.apt_plane.specs.declared.figures.Surface.{Surface}
 use Rattle.apt_plane.specs.declared.figures.Surface.TheVariants as surfaces
+use Rattle.apt_offset.specs.Turns.{opposite}
+use Rattle.apt_offset.specs.Sides.{side_at_drive, side_at_check}
 use Rattle.apt_cldata.specs.declared.record.Note.{Note}
 use Rattle.apt_cldata.specs.declared.record.Note.TheVariants as notes
 use Rattle.apt_cldata.specs.declared.record.Position.{Position}
@@ -19,9 +22,9 @@ use Rattle.apt_cldata.specs.declared.record.Reach.TheVariants as reaches
 use Rattle.apt_cldata.specs.declared.record.Record.{Record}
 use Rattle.apt_cldata.specs.declared.record.Record.TheVariants as records
 use Rattle.apt_certify.specs.Legs.{IsBounded}
-use Rattle.apt_certify.specs.Legal.{IsLegal}
+use Rattle.apt_certify.specs.Legal.{IsLegal, last_of}
 use Rattle.apt_meaning.specs.declared.motion.Motion.{Motion}
-use Rattle.apt_meaning.specs.Motions.{leg_of}
+use Rattle.apt_meaning.specs.Motions.{stop_side, leg_on, onward}
 
 -- ---- what the records say so far
 
@@ -31,13 +34,13 @@ pub record Drive : Type 0 where
   pub side : Side
   pub sense : ℤ
 
--- a check surface, and how a contour stops at it
-pub record Check : Type 0 where
-  pub surface : Surface
-  pub how : Stop
+-- the leg of a contour that is due: its motion, and the side of the stop on which it runs
+pub record Due : Type 0 where
+  pub motion : Motion
+  pub side : Sign
 
 -- the units; the cutter's diameter, INTOL and OUTTOL in grid units, and the feed in tenths, as they were said last; whether a RAPID is pending; where
--- the tool stands, and which way is forward; and the last drive and check surface
+-- the tool stands, and which way is forward; the last drive surface; and the leg that is due behind the last check surface
 pub record Saying : Type 0 where
   pub units : Units
   pub diameter : ℤ
@@ -48,7 +51,7 @@ pub record Saying : Type 0 where
   pub position : Option Position
   pub forward : Dir
   pub drive : Option Drive
-  pub check : Option Check
+  pub due : Option Due
 
 -- before the first record: inches, a cutter without a diameter, INTOL 0, OUTTOL 50 units, no feed, no position and no way forward
 abbrev pub nothing_said : Saying
@@ -62,7 +65,7 @@ nothing_said = record {
   position = None;
   forward = record { dx = pos 0; dy = pos 0 };
   drive = None;
-  check = None;
+  due = None;
 }
 
 -- ---- moves
@@ -108,34 +111,55 @@ counted t = if int_lt t (pos 8) then pos 8 else t
 abbrev pub radius_by : ℤ → ℤ
 radius_by d = pos ((unsigned_abs d + 1) / 2)
 
--- a contour: the motion that is said of it, and its vertices
+-- a leg of a contour: the motion that is said of it, the side of the stop on which it runs, and its vertices
 pub record Contour : Type 0 where
   pub motion : Motion
+  pub side : Sign
   pub vertices : List Pt
 
 abbrev pub at_points : List Position → List Pt
 at_points ps = map (λ p. p.xy) ps
 
--- from where the tool stands, along the last drive surface, to the last check surface
-abbrev pub motion_said : Saying → Position → Drive → Check → Motion
-motion_said s start drive check = record {
+-- from where the tool stands, along the last drive surface, to a check surface
+abbrev pub motion_said : Saying → Position → Drive → Surface → Stop → Motion
+motion_said s start drive check how = record {
   start = start;
   drive = drive.surface;
   side = drive.side;
   sense = drive.sense;
-  check = check.surface;
-  how = check.how;
+  check = check;
+  how = how;
+  check_side = side_at_check check how start.xy drive.surface (side_at_drive drive.side drive.sense);
   radius = radius_by s.diameter;
   inner = counted s.intol;
   outer = counted s.outtol;
 }
 
-abbrev pub contour_said : Saying → List Position → Option Contour
-contour_said s vertices = do
+-- the first leg runs on the side of its start, or on that into which it heads
+abbrev pub first_leg : Motion → Due
+first_leg m = record { motion = m; side = stop_side m }
+
+abbrev pub due_said : Saying → Surface → Stop → Option Due
+due_said s check how = do
   start ← s.position
   drive ← s.drive
-  check ← s.check
-  Some (record { motion = motion_said s start drive check; vertices = at_points vertices })
+  Some (first_leg (motion_said s start drive check how))
+
+-- the leg behind one runs from its last vertex, on the other side of the stop
+abbrev pub next_leg : Due → List Pt → Due
+next_leg d vertices = record { motion = onward d.motion (last_of d.motion.start.xy vertices); side = opposite d.side }
+
+abbrev pub due_behind : Option Due → List Position → Option Due
+due_behind None vertices = None
+due_behind (Some d) vertices = Some (next_leg d (at_points vertices))
+
+-- the leg that is due, with these vertices
+abbrev pub cut_on : Due → List Pt → Contour
+cut_on d vertices = record { motion = d.motion; side = d.side; vertices = vertices }
+
+abbrev pub contour_said : Option Due → List Position → Option Contour
+contour_said None vertices = None
+contour_said (Some d) vertices = Some (cut_on d (at_points vertices))
 
 -- the last of some positions, behind one
 abbrev pub last_position : Option Position → List Position → Option Position
@@ -150,7 +174,11 @@ forward_there (Some d) (Some p) forward = forward_on d.surface d.sense p.xy
 -- behind a contour the tool stands at its last vertex, and forward is that of its drive surface there
 abbrev pub with_contour : Saying → List Position → Saying
 with_contour s vertices =
-    record s { position = last_position s.position vertices; forward = forward_there s.drive (last_position s.position vertices) s.forward }
+    record s {
+      position = last_position s.position vertices;
+      forward = forward_there s.drive (last_position s.position vertices) s.forward;
+      due = due_behind s.due vertices;
+    }
 
 -- ---- the walk over records
 
@@ -174,7 +202,7 @@ abbrev pub with_record : Saying → Record → Saying
 with_record s (records.Statement line step) = s
 with_record s (records.Note note) = with_note s note
 with_record s (records.Drive surface side sense) = record s { drive = Some (record { surface = surface; side = side; sense = sense }) }
-with_record s (records.Check surface how) = record s { check = Some (record { surface = surface; how = how }) }
+with_record s (records.Check surface how) = record s { due = due_said s surface how }
 with_record s (records.Point reach to) = with_point s reach to
 with_record s (records.Contour vertices) = with_contour s vertices
 
@@ -192,24 +220,24 @@ record_contours s (records.Note note) = []
 record_contours s (records.Drive surface side sense) = []
 record_contours s (records.Check surface how) = []
 record_contours s (records.Point reach to) = []
-record_contours s (records.Contour vertices) = listed (contour_said s vertices)
+record_contours s (records.Contour vertices) = listed (contour_said s.due vertices)
 
 abbrev pub contours_behind : Saying → List Record → List Contour
 contours_behind s [] = []
 contours_behind s (r ∷ rs) = record_contours s r ++ contours_behind (with_record s r) rs
 
--- the contours of a CL file, each with its motion
+-- the contours of a CL file, leg by leg
 abbrev pub contours_of : List Record → List Contour
 contours_of rs = contours_behind nothing_said rs
 
 -- ---- legal contours
 
--- a motion whose leg has an edge that it must not pass, or an axis on which it ends, and is legal through these vertices
-pub record IsLegalCut (m : Motion) (vertices : List Pt) : Type 0 where
-  pub bounded : IsBounded (leg_of m)
-  pub legal : IsLegal (leg_of m) m.start.xy vertices
+-- a leg that has an edge that it must not pass, or an axis on which it ends, and is legal from its start through its vertices
+pub record IsLegalCut (c : Contour) : Type 0 where
+  pub bounded : IsBounded (leg_on c.motion c.side)
+  pub legal : IsLegal (leg_on c.motion c.side) c.motion.start.xy c.vertices
 
--- a fact of the motion and the vertices of every contour
-abbrev pub EveryContour : (Motion → List Pt → Type 0) → List Contour → Type 0
+-- a fact of every contour
+abbrev pub EveryContour : (Contour → Type 0) → List Contour → Type 0
 EveryContour P [] = Unit {0}
-EveryContour P (c ∷ cs) = P c.motion c.vertices × EveryContour P cs
+EveryContour P (c ∷ cs) = P c × EveryContour P cs

@@ -1,14 +1,17 @@
 -- The ranges of situations and effects.
-use Rattle.std.specs.Prelude.{◌^◌, ◌≤◌, ℤ, pos, ◌≤ℤ◌, unsigned_abs, Option, Some, None}
+use Rattle.std.specs.Prelude.{◌≡◌, ◌^◌, ◌≤◌, ℤ, pos, ◌≤ℤ◌, unsigned_abs, Option, Some, None}
 use Rattle.apt_plane.specs.declared.figures.Dir.{Dir}
 use Rattle.apt_plane.specs.Ranges.{IsSurface, IsSense}
+use Rattle.apt_words.specs.declared.Stop.TheVariants as stops
 use Rattle.apt_offset.specs.Ranges.{IsRadius, IsTolerance}
+use Rattle.apt_offset.specs.Sides.{side_at_tangency}
 use Rattle.apt_cldata.specs.Ranges.{IsPosition, IsNote}
 use Rattle.apt_cldata.specs.declared.record.Position.{Position}
 use Rattle.apt_defs.specs.Figures.{IsFigure, AreFigures}
 use Rattle.apt_meaning.specs.declared.situation.Settings.{Settings}
 use Rattle.apt_meaning.specs.declared.situation.Situation.{Situation}
 use Rattle.apt_meaning.specs.declared.motion.Motion.{Motion}
+use Rattle.apt_meaning.specs.Motions.{drive_side}
 use Rattle.apt_meaning.specs.declared.effect.Change.{Change}
 use Rattle.apt_meaning.specs.declared.effect.Change.TheVariants as changes
 use Rattle.apt_meaning.specs.declared.effect.Effect.{Effect}
@@ -49,6 +52,7 @@ pub record IsMotion (m : Motion) : Type 0 where
   pub drive : IsSurface m.drive
   pub sense : IsSense m.sense
   pub check : IsSurface m.check
+  pub touching : m.how ≡ stops.Tanto → m.check_side ≡ side_at_tangency m.drive m.check (drive_side m)
   pub radius : IsRadius m.radius
   pub inner : IsAllowance m.inner
   pub outer : IsAllowance m.outer
@@ -62,11 +66,11 @@ abbrev pub IsEffect : Effect → Type 0
 IsEffect (effects.Defines n f) = IsFigure f
 IsEffect (effects.Sets change) = IsChange change
 IsEffect (effects.Moves reach to) = IsPosition to
-IsEffect (effects.Cuts m) = IsMotion m
+IsEffect (effects.Cuts m legs) = IsMotion m
 
 -- the motion of a contour is in range
 abbrev pub HasMotion : Effect → Type 0
 HasMotion (effects.Defines n f) = Unit {0}
 HasMotion (effects.Sets change) = Unit {0}
 HasMotion (effects.Moves reach to) = Unit {0}
-HasMotion (effects.Cuts m) = IsMotion m
+HasMotion (effects.Cuts m legs) = IsMotion m

@@ -1,5 +1,5 @@
 -- Which records answer which steps: what an effect writes, what it leaves, and the walk over both.
-use Rattle.std.specs.Prelude.{◌≡◌, true, List, [], ◌∷◌, ◌++◌, map, Some}
+use Rattle.std.specs.Prelude.{◌≡◌, ℤ, true, List, [], ◌∷◌, ◌++◌, length, map, Some}
 use Rattle.apt_plane.specs.declared.figures.Pt.{Pt}
 use Rattle.apt_words.specs.declared.deed.Step.{Step}
 use Rattle.apt_cldata.specs.declared.record.Record.{Record}
@@ -10,6 +10,7 @@ use Rattle.apt_stop.specs.Nearness.{heading}
 use Rattle.apt_offset.specs.declared.Target.{Target}
 use Rattle.apt_offset.specs.declared.Target.TheVariants as targets
 use Rattle.apt_arc.specs.Divisions.{IsDivision}
+use Rattle.apt_stop.specs.Legs.{leg_count}
 use Rattle.apt_certify.specs.Legal.{last_of}
 use Rattle.apt_meaning.specs.declared.situation.Situation.{Situation}
 use Rattle.apt_meaning.specs.declared.motion.Motion.{Motion}
@@ -21,9 +22,9 @@ use Rattle.apt_meaning.specs.Situations.{first_situation, changed, settings_behi
 use Rattle.apt_cldata.specs.Vertices.{at_height}
 use Rattle.apt_meaning.specs.Motions.{track_of, end_point, arc_on, is_defined}
 use Rattle.apt_meaning.specs.Effects.{effect_of}
-use Rattle.apt_meaning.specs.Paths.{Saying, radius_by, said_of}
+use Rattle.apt_meaning.specs.Paths.{Saying, radius_by, said_of, Contour, Due, first_leg, next_leg, cut_on}
 
--- ---- what an effect writes and leaves; only a contour has vertices, those of its leg behind the start
+-- ---- what an effect writes and leaves; only a contour has cuts: for each of its legs the vertices behind its start
 
 -- a note has its record; the side of the cutter is told by the contours behind it
 abbrev pub change_records : Change → List Record
@@ -32,57 +33,79 @@ change_records (changes.Side side) = []
 change_records changes.Nothing = []
 
 -- a contour keeps the height
-abbrev pub effect_records : Effect → List Pt → List Record
-effect_records (effects.Defines n f) vertices = []
-effect_records (effects.Sets change) vertices = change_records change
-effect_records (effects.Moves reach to) vertices = records.Point reach to ∷ []
-effect_records (effects.Cuts m) vertices =
-    records.Drive m.drive m.side m.sense ∷ records.Check m.check m.how ∷ records.Contour (map (at_height m.start.z) vertices) ∷ []
+abbrev pub cut_record : ℤ → List Pt → Record
+cut_record z vertices = records.Contour (map (at_height z) vertices)
+
+abbrev pub effect_records : Effect → List (List Pt) → List Record
+effect_records (effects.Defines n f) cuts = []
+effect_records (effects.Sets change) cuts = change_records change
+effect_records (effects.Moves reach to) cuts = records.Point reach to ∷ []
+effect_records (effects.Cuts m legs) cuts = records.Drive m.drive m.side m.sense ∷ records.Check m.check m.how ∷ map (cut_record m.start.z) cuts
 
 -- the records of a step begin with its line and number
 abbrev pub with_statement : Step → List Record → List Record
 with_statement step [] = []
 with_statement step (r ∷ rs) = records.Statement step.line step.step ∷ r ∷ rs
 
-abbrev pub records_of : Step → Effect → List Pt → List Record
-records_of step e vertices = with_statement step (effect_records e vertices)
+abbrev pub records_of : Step → Effect → List (List Pt) → List Record
+records_of step e cuts = with_statement step (effect_records e cuts)
 
--- the situation behind an effect; behind a contour forward is the tangent of the drive surface, in its sense
-abbrev pub after : Situation → Effect → List Pt → Situation
-after here (effects.Defines n f) vertices = record here { table = table_with here.table n f }
-after here (effects.Sets change) vertices = record here { settings = changed here.settings change }
-after here (effects.Moves reach to) vertices = record here {
+-- where the legs of a contour lead from a point
+abbrev pub last_behind : Pt → List (List Pt) → Pt
+last_behind p [] = p
+last_behind p (vertices ∷ cuts) = last_behind (last_of p vertices) cuts
+
+-- the situation behind a contour that ends at a point: forward is the tangent of the drive surface there, in its sense
+abbrev pub cut_at : Situation → Motion → Pt → Situation
+cut_at here m end = record here {
+  settings = record here.settings { side = m.side };
+  position = Some (at_height m.start.z end);
+  forward = heading m.sense (tangent m.drive end);
+}
+
+-- the situation behind an effect
+abbrev pub after : Situation → Effect → List (List Pt) → Situation
+after here (effects.Defines n f) cuts = record here { table = table_with here.table n f }
+after here (effects.Sets change) cuts = record here { settings = changed here.settings change }
+after here (effects.Moves reach to) cuts = record here {
   settings = settings_behind reach here.settings;
   position = Some to;
   forward = forward_behind here.position to.xy here.forward;
 }
-after here (effects.Cuts m) vertices = record here {
-  settings = record here.settings { side = m.side };
-  position = Some (at_height m.start.z (last_of m.start.xy vertices));
-  forward = heading m.sense (tangent m.drive (last_of m.start.xy vertices));
-}
+after here (effects.Cuts m legs) cuts = cut_at here m (last_behind m.start.xy cuts)
+
+-- the legs behind one that is due, each with its vertices
+abbrev pub legs_from : Due → List (List Pt) → List Contour
+legs_from d [] = []
+legs_from d (vertices ∷ cuts) = cut_on d vertices ∷ legs_from (next_leg d vertices) cuts
+
+abbrev pub contours_by : Effect → List (List Pt) → List Contour
+contours_by (effects.Defines n f) cuts = []
+contours_by (effects.Sets change) cuts = []
+contours_by (effects.Moves reach to) cuts = []
+contours_by (effects.Cuts m legs) cuts = legs_from (first_leg m) cuts
 
 -- ---- the walk
 
--- only a contour has vertices, and its track and its stop are there
-abbrev pub MayHave : Effect → List Pt → Type 0
-MayHave (effects.Defines n f) vertices = vertices ≡ []
-MayHave (effects.Sets change) vertices = vertices ≡ []
-MayHave (effects.Moves reach to) vertices = vertices ≡ []
-MayHave (effects.Cuts m) vertices = is_defined m ≡ true
+-- only a contour has cuts, one for each of its legs, and its track and its stop are there
+abbrev pub MayHave : Effect → List (List Pt) → Type 0
+MayHave (effects.Defines n f) cuts = cuts ≡ []
+MayHave (effects.Sets change) cuts = cuts ≡ []
+MayHave (effects.Moves reach to) cuts = cuts ≡ []
+MayHave (effects.Cuts m legs) cuts = (is_defined m ≡ true) × (length cuts ≡ leg_count legs)
 
--- the records begin with those of the step's effect, whose contour has these vertices, and rest is behind them
-pub record Begins (here : Situation) (step : Step) (written : List Record) (e : Effect) (vertices : List Pt) (rest : List Record) : Type 0 where
+-- the records begin with those of the step's effect, whose contour has these cuts, and rest is behind them
+pub record Begins (here : Situation) (step : Step) (written : List Record) (e : Effect) (cuts : List (List Pt)) (rest : List Record) : Type 0 where
   pub asked : effect_of here step.deed ≡ Some e
-  pub front : written ≡ records_of step e vertices ++ rest
-  pub may : MayHave e vertices
+  pub front : written ≡ records_of step e cuts ++ rest
+  pub may : MayHave e cuts
 
--- records follow steps from the situation before them to the one behind, each contour with vertices as Allowed says
-abbrev pub FollowsAs : (Effect → List Pt → Type 0) → Situation → List Step → List Record → Situation → Type 0
+-- records follow steps from the situation before them to the one behind, each contour with cuts as Allowed says
+abbrev pub FollowsAs : (Effect → List (List Pt) → Type 0) → Situation → List Step → List Record → Situation → Type 0
 FollowsAs Allowed here [] written behind = (written ≡ []) × (behind ≡ here)
 FollowsAs Allowed here (step ∷ steps) written behind =
-    (e : Effect) × (vertices : List Pt) × (rest : List Record)
-    × Begins here step written e vertices rest × Allowed e vertices × FollowsAs Allowed (after here e vertices) steps rest behind
+    (e : Effect) × (cuts : List (List Pt)) × (rest : List Record)
+    × Begins here step written e cuts rest × Allowed e cuts × FollowsAs Allowed (after here e cuts) steps rest behind
 
 -- ---- the compiler's own vertices
 
@@ -91,8 +114,8 @@ abbrev pub IsOwnOn : Motion → Target → List Pt → Type 0
 IsOwnOn m (targets.Line b d h) vertices = vertices ≡ end_point m ∷ []
 IsOwnOn m (targets.Circ c r) vertices = IsDivision (arc_on m c r) vertices
 
-abbrev pub IsOwnCut : Motion → List Pt → Type 0
-IsOwnCut m vertices = IsOwnOn m (track_of m) vertices
+abbrev pub IsOwnCut : Contour → Type 0
+IsOwnCut c = IsOwnOn c.motion (track_of c.motion) c.vertices
 
 -- ---- what holds behind records, beside what they say by themselves
 
@@ -108,8 +131,8 @@ pub record IsAsSaid (s : Saying) (here : Situation) : Type 0 where
   pub forward : here.forward ≡ s.forward
 
 -- a contour may have any vertices
-abbrev pub HasAny : Effect → List Pt → Type 0
-HasAny e vertices = Unit {0}
+abbrev pub HasAny : Effect → List (List Pt) → Type 0
+HasAny e cuts = Unit {0}
 
 -- records follow the steps of a program, each contour with any vertices, and the situation behind them is what they say by themselves
 pub record Follows (steps : List Step) (written : List Record) : Type 0 where

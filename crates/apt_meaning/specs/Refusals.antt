@@ -16,6 +16,7 @@ use Rattle.apt_words.specs.declared.deed.Deed.{Deed}
 use Rattle.apt_words.specs.Asks.{Ask, Titles, Says, Sets, Defines, Goes, Cuts, Nothing, ask_of}
 use Rattle.apt_words.specs.Options.{◌>>=◌}
 use Rattle.apt_words.specs.Rows.{Row, first_of}
+use Rattle.apt_scalar.specs.Scalars.{whole}
 use Rattle.apt_plane.specs.declared.figures.Surface.{Surface}
 use Rattle.apt_defs.specs.declared.figure.Figure.{Figure}
 use Rattle.apt_defs.specs.Definitions.{figure_of}
@@ -24,7 +25,7 @@ use Rattle.apt_defs.specs.Figures.{Table, figure_named}
 use Rattle.apt_offset.specs.Turns.{is_zero}
 use Rattle.apt_offset.specs.Targets.{lacks_room}
 use Rattle.apt_stop.specs.Nearness.{is_near, off_track}
-use Rattle.apt_stop.specs.Courses.{course_cases}
+use Rattle.apt_stop.specs.Legs.{leg_cases}
 use Rattle.apt_startup.specs.declared.StartUp.{StartUp}
 use Rattle.apt_startup.specs.StartUps.{start_up_cases}
 use Rattle.apt_cldata.specs.declared.record.Note.{Note}
@@ -33,10 +34,12 @@ use Rattle.apt_cldata.specs.declared.record.Position.{Position}
 use Rattle.apt_meaning.specs.declared.situation.Settings.{Settings}
 use Rattle.apt_meaning.specs.declared.situation.Situation.{Situation}
 use Rattle.apt_meaning.specs.declared.motion.Motion.{Motion}
+use Rattle.apt_stop.specs.declared.legs.Legs.{Legs}
+use Rattle.apt_stop.specs.declared.legs.Legs.TheVariants as the_legs
 use Rattle.apt_meaning.specs.Situations.{has_feed, lacks_feed, with_side}
 use Rattle.apt_meaning.specs.Motions.{motion, is_too_fine, as_surface, surface_in, turn_at, track_of, stop_of, starts_on_check, course_of}
 use Rattle.apt_meaning.specs.StartUps.{start_up_at}
-use Rattle.apt_meaning.specs.Effects.{note_of, as_position, position_by, moved_by}
+use Rattle.apt_meaning.specs.Effects.{note_of, as_position, position_by, moved_by, legs_by}
 
 -- ---- numbers and names
 
@@ -126,31 +129,41 @@ go_cases here how name other =
 
 -- ---- contours
 
-abbrev pub motion_cases : Motion → List Row
-motion_cases m =
+-- a contour with so many legs
+abbrev pub cut_cases : Motion → Legs → List Row
+cut_cases m legs =
     (lacks_room (track_of m), cases.NoRoom)
     ∷ (not (starts_on_check m) && lacks_room (stop_of m), cases.NoRoom)
     ∷ (not (is_near (track_of m) off_track m.start.xy), cases.OffDrive)
-    ∷ (starts_on_check m, cases.OnCheck) ∷ course_cases (course_of m)
+    ∷ (starts_on_check m, cases.OnCheck) ∷ leg_cases legs (course_of m)
+
+-- one leg alone
+abbrev pub motion_cases : Motion → List Row
+motion_cases m = cut_cases m the_legs.One
 
 -- a contour whose drive surface runs so against forward
-abbrev pub turned_cases : Settings → Position → Surface → Sign → Stop → Surface → List Row
-turned_cases s start drive turned how check =
+abbrev pub turned_cases : Legs → Settings → Position → Surface → Sign → Stop → Surface → List Row
+turned_cases legs s start drive turned how check =
     (s.rapid, cases.RapidContour) ∷ (not (has_feed s), cases.NoFeed) ∷ (is_too_fine s, cases.TooFine)
-    ∷ (is_zero turned, cases.NoTurn) ∷ motion_cases (motion s start drive turned how check)
+    ∷ (is_zero turned, cases.NoTurn) ∷ cut_cases (motion s start drive turned how check) legs
 
-abbrev pub surface_cases : Situation → Option Side → Go → Stop → Option Position → Option Surface → Option Surface → List Row
-surface_cases here side go how (Some start) (Some drive) (Some check) =
-    turned_cases (with_side here.settings side) start drive (turn_at here start drive go) how check
-surface_cases here side go how (Some start) (Some drive) None = []
-surface_cases here side go how (Some start) None check = []
-surface_cases here side go how None drive check = []
+abbrev pub surface_cases : Situation → Option Side → Go → Stop → Legs → Option Position → Option Surface → Option Surface → List Row
+surface_cases here side go how legs (Some start) (Some drive) (Some check) =
+    turned_cases legs (with_side here.settings side) start drive (turn_at here start drive go) how check
+surface_cases here side go how legs (Some start) (Some drive) None = []
+surface_cases here side go how legs (Some start) None check = []
+surface_cases here side go how legs None drive check = []
 
-abbrev pub contour_cases : Situation → Option Side → Go → List ℕ → Stop → List ℕ → List Row
-contour_cases here side go drive how check =
+-- a count of meetings, with what refuses a contour of so many legs
+abbrev pub counted_cases : Option Legs → (Legs → List Row) → List Row
+counted_cases None more = (true, cases.BadCount) ∷ []
+counted_cases (Some legs) more = more legs
+
+abbrev pub contour_cases : Situation → Option Side → Go → List ℕ → Stop → List ℕ → ℤ → List Row
+contour_cases here side go drive how check n =
     (is_none here.position, cases.NoFrom)
     ∷ name_cases here.table drive (name_cases here.table check
-    (surface_cases here side go how here.position (surface_in here.table drive) (surface_in here.table check)))
+    (counted_cases (legs_by (whole n)) (λ legs. surface_cases here side go how legs here.position (surface_in here.table drive) (surface_in here.table check))))
 
 abbrev pub godlta_cases : Situation → ℤ → ℤ → ℤ → List Row
 godlta_cases here x y z = (is_none here.position, cases.NoFrom) ∷ move_cases here.settings (here.position >>= λ p. Some (moved_by here.settings.units x y z p))
@@ -192,7 +205,7 @@ cases_by here (Says saying) = note_cases (note_of here.settings.units saying)
 cases_by here (Sets side) = []
 cases_by here (Defines name form) = refused_form here form
 cases_by here (Goes route) = route_cases here route
-cases_by here (Cuts side go drive how check) = contour_cases here side go drive how check
+cases_by here (Cuts side go drive how check n) = contour_cases here side go drive how check n
 cases_by here Nothing = []
 
 abbrev pub cases_of : Situation → Deed → List Row

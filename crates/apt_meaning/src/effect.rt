@@ -3,6 +3,7 @@
 use crate::Motion;
 use apt_cldata::{Note, Position, Reach};
 use apt_defs::Figure;
+use apt_stop::Legs;
 use apt_words::{Side, Symbol};
 
 /// What a step sets: what a note says, the side of the cutter, or nothing.
@@ -22,6 +23,6 @@ pub enum Effect {
     Sets(Change),
     /// The position moves.
     Moves(Reach, Position),
-    /// A contour is cut.
-    Cuts(Motion),
+    /// A contour is cut, with so many legs.
+    Cuts(Motion, Legs),
 }

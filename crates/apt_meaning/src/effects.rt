@@ -2,7 +2,8 @@
 
 ghost use Rattle.std.specs.Prelude.{◌≡◌, Some, IfOk, IfSome};
 ghost use Rattle.apt_words.specs.Asks.{form_numbers, place_numbers, route_numbers, saying_numbers};
-ghost use Rattle.apt_scalar.specs.Scalars.{IsScalar};
+ghost use Rattle.apt_words.specs.Options.{◌>>=◌};
+ghost use Rattle.apt_scalar.specs.Scalars.{IsScalar, whole};
 ghost use Rattle.apt_scalar.specs.StepScalars.{AllScalars, HasScalars};
 ghost use Rattle.apt_startup.specs.Ranges.{IsStartUp};
 ghost use Rattle.apt_cldata.specs.Vertices.{at_height};
@@ -21,6 +22,7 @@ use apt_offset::signs::is_zero;
 use apt_plane::Pt;
 use apt_scalar::{grid_units, tenths, whole};
 use apt_startup::{StartUp, start};
+use apt_stop::Legs;
 use apt_words::{Ask, Deed, Form, Go, Place, Route, Saying, Side, Stop, Symbol, Turn, Units};
 use std::alloc::AllocError;
 
@@ -53,7 +55,7 @@ pub fn note_of(units: Units, saying: &Saying) -> Note
 /// to which it leads, and how; or the motion of a contour, from the position on. Lengths and coordinates are in grid units
 /// by the units that hold, feeds in tenths. None where a definition is refused, a FROM or a GOTO names no point, a GODLTA,
 /// a GO or a contour has no position to start from, a name of GO or of a contour stands for no surface, a case refuses the
-/// point of GO, or a contour has no turn. Where a move leads may be out of range; a contour's motion is in range.
+/// point of GO, or a contour has no turn or a count of meetings other than 1 and 2. Where a move leads may be out of range; a contour's motion is in range.
 #[tactic(auto, using(crate::proofs::Contours::Ranges::motion_in))]
 pub fn effect_of(here: &Situation, deed: &Deed) -> Result<Option<Effect>, AllocError>
     requires situation { IsSituation here.now }
@@ -75,7 +77,9 @@ fn asked(here: &Situation, deed: &Deed) -> Result<Option<Effect>, AllocError>
         Ask::Sets(side) => Ok(Some(Effect::Sets(Change::Side(side)))),
         Ask::Defines(name, form) => Ok(defined(here, name, &form)),
         Ask::Goes(route) => Ok(goes(here, &route)),
-        Ask::Cuts(side, go, drive, how, check) => Ok(contour(here, side, go, &drive, how, &check)),
+        Ask::Cuts(side, go, drive, how, check, n) => {
+            Ok(contour(here, side, go, &drive, how, &check, n))
+        }
         Ask::Nothing => Ok(Some(Effect::Sets(Change::Nothing))),
     }
 }
@@ -170,6 +174,17 @@ fn start_to(from: Position, xy: Pt) -> Effect
     Effect::Moves(Reach::Start, Position { xy, z: from.z })
 }
 
+/// How many legs a count of meetings asks for: the first meeting one, the second two, and no other any.
+pub fn legs_by(n: i64) -> Option<Legs>
+    ensures { result ≡ asking.legs_by n }
+{
+    match n {
+        1 => Some(Legs::One),
+        2 => Some(Legs::Two),
+        _ => None,
+    }
+}
+
 #[tactic(auto, unfolding(crate::specs::Motions::motion_at))]
 fn contour(
     here: &Situation,
@@ -178,10 +193,13 @@ fn contour(
     drive: &Symbol,
     how: Stop,
     check: &Symbol,
+    n: i64,
 ) -> Option<Effect>
-    requires { IsSituation here.now }
-    ensures { result ≡ asking.cuts (motions.motion_at here.now side go drive.now how check.now) }
+    requires situation { IsSituation here.now }
+    requires count { IsScalar n }
+    ensures { result ≡ (asking.legs_by (whole n) >>= λ legs. asking.cuts legs (motions.motion_at here.now side go drive.now how check.now)) }
 {
+    let legs = legs_by(whole(n))?;
     let start = here.position?;
     let drive = surface_in(&here.table, drive)?;
     let check = surface_in(&here.table, check)?;
@@ -190,5 +208,6 @@ fn contour(
     if is_zero(turned) {
         return None;
     }
-    Some(Effect::Cuts(Motion::along(&settings, start, &drive, turned, how, &check)))
+    let motion = Motion::along(&settings, start, &drive, turned, how, &check);
+    Some(Effect::Cuts(motion, legs))
 }

@@ -12,7 +12,7 @@ mod start_up;
 mod surface;
 
 pub use effect::{Change, Effect};
-pub use effects::{effect_of, note_of};
+pub use effects::{effect_of, legs_by, note_of};
 pub use motion::{Motion, is_too_fine, turn_at};
 pub use moves::{moved_by, position_by};
 pub use situation::{Settings, Situation};

@@ -24,10 +24,10 @@ use apt_words::{Go, Side, Stop};
 /// A grid step, in grid units.
 const GRID_STEP: i64 = 8;
 
-/// A contour motion as a step asks for it: where it starts, along which drive surface, with the cutter on which
-/// side and in which sense (1 along a line's direction or anticlockwise round a circle, -1 the other way), and
-/// how it stops at which check surface; with the cutter's radius and the tolerances inwards and outwards, each
-/// at least one grid step, in grid units.
+/// A contour motion: where it starts, along which drive surface, with the cutter on which side and in which sense
+/// (1 along a line's direction or anticlockwise round a circle, -1 the other way), how it stops at which check surface,
+/// and with the cutter at which place there; with the cutter's radius and the tolerances inwards and outwards, each at
+/// least one grid step, in grid units. All legs of a contour have the place at the check surface of its first start.
 #[derive(Clone, Copy)]
 pub struct Motion {
     pub start: Position,
@@ -36,6 +36,7 @@ pub struct Motion {
     pub sense: i8,
     pub check: Surface,
     pub how: Stop,
+    pub check_side: Sign,
     pub radius: i64,
     pub inner: i64,
     pub outer: i64,
@@ -43,6 +44,7 @@ pub struct Motion {
 
 impl Motion {
     /// The motion along a drive surface that runs so against forward.
+    #[tactic(auto, using(crate::proofs::EffectRanges::along_in))]
     pub fn along(
         settings: &Settings,
         start: Position,
@@ -59,13 +61,35 @@ impl Motion {
         ensures value { result ≡ motions.motion settings.now start drive.now turned how check.now }
         ensures range { IsMotion result }
     {
+        Motion::turned(settings, start, drive, turned, how, check)
+    }
+
+    #[inline(always)]
+    fn turned(
+        settings: &Settings,
+        start: Position,
+        drive: &Surface,
+        turned: Sign,
+        how: Stop,
+        check: &Surface,
+    ) -> Motion
+        requires settings { AreSettings settings.now }
+        requires start { IsPosition start }
+        requires drive { IsSurface drive.now }
+        requires turned { turns.is_zero turned ≡ false }
+        requires check { IsSurface check.now }
+        ensures { result ≡ motions.motion settings.now start drive.now turned how check.now }
+    {
+        let sense = sense_of(turned);
+        let at_drive = side_at_drive(settings.side, sense);
         Motion {
             start,
             drive: *drive,
             side: settings.side,
-            sense: sense_of(turned),
+            sense,
             check: *check,
             how,
+            check_side: side_at_check(check, how, start.xy, drive, at_drive),
             radius: settings.radius,
             inner: allowance(settings.intol),
             outer: allowance(settings.outtol),
@@ -79,18 +103,20 @@ impl Motion {
         side_at_drive(self.side, self.sense)
     }
 
-    /// The place of the cutter at the check surface behind the motion.
-    pub fn check_side(&self) -> Sign
-        requires { IsMotion self.now }
-        ensures { result ≡ motions.check_side self.now }
+    /// The motion from another point, with the same stop.
+    pub fn onward(&self, from: Pt) -> Motion
+        requires motion { IsMotion self.now }
+        requires from { IsPoint from }
+        ensures value { result ≡ motions.onward self.now from }
+        ensures range { IsMotion result }
     {
-        side_at_check(
-            &self.check,
-            self.how,
-            self.start.xy,
-            &self.drive,
-            self.drive_side(),
-        )
+        Motion {
+            start: Position {
+                xy: from,
+                z: self.start.z,
+            },
+            ..*self
+        }
     }
 
     /// The curve of the cutter's centre.
@@ -104,13 +130,12 @@ impl Motion {
 
     /// The curve on which it stops, by the place of the cutter at the check surface.
     #[inline(always)]
-    pub fn stop(&self, check_side: Sign) -> Target
-        requires motion { IsMotion self.now }
-        requires check_side { check_side ≡ motions.check_side self.now }
+    pub fn stop(&self) -> Target
+        requires { IsMotion self.now }
         ensures value { result ≡ motions.stop_of self.now }
         ensures range { targets.lacks_room result ≡ false → IsTarget result }
     {
-        offset_surface(&self.check, check_side, self.radius)
+        offset_surface(&self.check, self.check_side, self.radius)
     }
 
     /// Its course, before it is cut, by its track and its stop.

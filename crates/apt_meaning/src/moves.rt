@@ -5,8 +5,6 @@ ghost use Rattle.apt_scalar.specs.Scalars.{IsScalar, grid_units};
 ghost use Rattle.apt_scalar.specs.StepScalars.{AllScalars};
 ghost use Rattle.apt_words.specs.Asks.{listed};
 ghost use Rattle.apt_plane.specs.Ranges.{IsPoint};
-ghost use Rattle.apt_certify.specs.Jobs.{ArePoints};
-ghost use Rattle.apt_certify.specs.Legal as legal;
 ghost use Rattle.apt_cldata.specs.Ranges.{IsPosition};
 ghost use Rattle.apt_meaning.specs.Effects as asking;
 ghost use Rattle.apt_meaning.specs.Ranges.{IsSituation, IsMotion, IsPositionOrNone};
@@ -88,13 +86,12 @@ impl Situation {
         self.position = Some(to);
     }
 
-    /// A contour with these vertices is cut.
-    pub fn cut_along(&mut self, motion: &Motion, vertices: &[Pt])
+    /// A contour is cut that ends at a point.
+    pub fn cut_to(&mut self, motion: &Motion, end: Pt)
         requires motion { IsMotion motion.now }
-        requires vertices { ArePoints vertices.now }
-        ensures { self.new ≡ written.after self.old (effects.Cuts motion.now) vertices.now }
+        requires end { IsPoint end }
+        ensures { self.new ≡ written.cut_at self.old motion.now end }
     {
-        let end = end_of(motion.start.xy, vertices);
         self.forward = heading(motion.sense, tangent(&motion.drive, end));
         self.settings.side = motion.side;
         self.position = Some(Position {
@@ -127,25 +124,4 @@ fn forward_from(from: Position, to: Pt, forward: Dir) -> Dir
     } else {
         along
     }
-}
-
-/// The last of a start and the vertices behind it.
-#[tactic(auto, using(crate::proofs::Walks::Kept::last_point))]
-fn end_of(start: Pt, vertices: &[Pt]) -> Pt
-    requires start { IsPoint start }
-    requires vertices { ArePoints vertices.now }
-    ensures value { result ≡ legal.last_of start vertices.now }
-    ensures range { IsPoint result }
-{
-    last_of(start, vertices)
-}
-
-fn last_of(start: Pt, vertices: &[Pt]) -> Pt
-    ensures { result ≡ legal.last_of start vertices.now }
-{
-    let mut last = start;
-    for p in vertices {
-        last = *p;
-    }
-    last
 }

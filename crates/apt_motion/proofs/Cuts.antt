@@ -13,9 +13,10 @@ use Rattle.apt_plane.specs.declared.figures.Pt.{Pt}
 use Rattle.apt_plane.specs.declared.figures.Surface.{Surface}
 use Rattle.apt_offset.specs.Targets.{lacks_room}
 use Rattle.apt_stop.specs.Nearness.{is_near, off_track}
-use Rattle.apt_stop.specs.declared.course.Choice.{Choice}
-use Rattle.apt_stop.specs.declared.course.Course.{Course}
-use Rattle.apt_stop.specs.Courses.{choice_of, end_of, course_cases}
+use Rattle.apt_stop.specs.declared.legs.Legs.{Legs}
+use Rattle.apt_stop.specs.declared.legs.Legs.TheVariants as legs
+use Rattle.apt_stop.specs.declared.legs.Ends.{Ends}
+use Rattle.apt_stop.specs.Legs.{leg_cases, ends_of as ends_at, last_end}
 use Rattle.apt_cldata.specs.declared.record.Position.{Position}
 use Rattle.apt_cldata.specs.declared.record.Record.{Record}
 use Rattle.apt_meaning.specs.declared.motion.Motion.{Motion}
@@ -23,11 +24,11 @@ use Rattle.apt_meaning.specs.declared.situation.Situation.{Situation}
 use Rattle.apt_meaning.specs.declared.effect.Effect.{Effect}
 use Rattle.apt_meaning.specs.declared.effect.Effect.TheVariants as effects
 use Rattle.apt_meaning.specs.Situations.{with_side}
-use Rattle.apt_meaning.specs.Motions.{surface_in, motion_at, if_turned, turn_at, end_point, track_of, stop_of, starts_on_check, course_of}
+use Rattle.apt_meaning.specs.Motions.{surface_in, motion_at, if_turned, turn_at, track_of, stop_of, starts_on_check, course_of}
 use Rattle.apt_meaning.specs.Effects.{cuts, effect_of}
-use Rattle.apt_meaning.specs.Records.{records_of, after}
-use Rattle.apt_meaning.specs.Refusals.{name_cases, motion_cases, turned_cases, surface_cases, refusal_of}
-use Rattle.apt_meaning.specs.Compiled.{asked, refused_at}
+use Rattle.apt_meaning.specs.Records.{records_of, last_behind, cut_at}
+use Rattle.apt_meaning.specs.Refusals.{name_cases, cut_cases, turned_cases, surface_cases, refusal_of}
+use Rattle.apt_meaning.specs.Compiled.{ends_of, asked, refused_at}
 use Rattle.apt_words.proofs.Rows.{first_none}
 use Rattle.apt_motion.specs.declared.runs.RunError.TheVariants as errors
 use Rattle.apt_motion.specs.Drafts.{ArcAt, drawn, rounds_of}
@@ -35,40 +36,31 @@ use Rattle.apt_motion.specs.Ends.{HasPassed, HasDrawn}
 use Rattle.apt_motion.specs.Finding.{IsMotionBy}
 use Rattle.apt_motion.proofs.Cases.{name_refused, known_surface}
 
--- ---- the end of a course
-
--- the end of a choice, where there is one
-abbrev pub ended : Result Choice Case → Result Pt Case
-ended (Ok x) = Ok x.end
-ended (Err case) = Err case
-
-ended_case : (f : Option Case) (c : Course) → ended (unless_case f (choice_of c)) ≡ unless_case f (end_of c)
-ended_case None c = refl
-ended_case (Some case) c = refl
-
-pub end_unless : (c : Course) (r : Result Choice Case) → r ≡ unless (course_cases c) (choice_of c) → ended r ≡ unless (course_cases c) (end_of c)
-end_unless c r e = rw e (ended_case (first_of (course_cases c)) c)
-
--- ---- the end of a motion
+-- ---- the ends of a contour
 
 pub on_and_off : (b : Bool) → b ≡ true → b ≡ false → ⊥
 on_and_off b e f = cc
 
-pub motion_end : (m : Motion) (r : Result Pt Case) → lacks_room (track_of m) ≡ false → starts_on_check m ≡ false → lacks_room (stop_of m) ≡ false
-    → is_near (track_of m) off_track m.start.xy ≡ true → r ≡ unless (course_cases (course_of m)) (end_point m) → r ≡ unless (motion_cases m) (end_point m)
-motion_end m r track on stop near is = is ∙ ap (λ f. unless_case f (end_point m)) (sym (none_before (lacks_room (track_of m)) (starts_on_check m) (lacks_room (stop_of m)) (is_near (track_of m) off_track m.start.xy) (course_cases (course_of m)) track on stop near))
+pub cut_ends : (m : Motion) (n : Legs) (r : Result Ends Case) → lacks_room (track_of m) ≡ false → starts_on_check m ≡ false → lacks_room (stop_of m) ≡ false
+    → is_near (track_of m) off_track m.start.xy ≡ true → r ≡ unless (leg_cases n (course_of m)) (ends_at n (course_of m)) → r ≡ unless (cut_cases m n) (ends_at n (course_of m))
+cut_ends m n r track on stop near is = is ∙ ap (λ f. unless_case f (ends_at n (course_of m))) (sym (none_before (lacks_room (track_of m)) (starts_on_check m) (lacks_room (stop_of m)) (is_near (track_of m) off_track m.start.xy) (leg_cases n (course_of m)) track on stop near))
   where
     none_before : (a b c d : Bool) (rows : List Row) → a ≡ false → b ≡ false → c ≡ false → d ≡ true
         → first_of ((a, cases.NoRoom) ∷ (not b && c, cases.NoRoom) ∷ (not d, cases.OffDrive) ∷ (b, cases.OnCheck) ∷ rows) ≡ first_of rows
     none_before a b c d rows e f g h = rw (e, f, g, h) refl
+
+-- the last of them is where the contour leads
+pub last_is : (m : Motion) (n : Legs) → last_behind m.start.xy (ends_of (effects.Cuts m n)) ≡ last_end (ends_at n (course_of m))
+last_is m legs.One = refl
+last_is m legs.Two = refl
 
 -- ---- the motion that a contour asks for
 
 -- on known surfaces
 pub contour_motion : (here : Situation) (side : Option Side) (go : Go) (drive : List ℕ) (how : Stop) (check : List ℕ) (start : Position) (d e : Surface) (r : Result Motion Case)
     → here.position ≡ Some start → surface_in here.table drive ≡ Some d → surface_in here.table check ≡ Some e
-    → IsMotionBy (first_of (turned_cases (with_side here.settings side) start d (turn_at here start d go) how e)) (cuts (if_turned (with_side here.settings side) start d (turn_at here start d go) how e)) r
-    → IsMotionBy (refusal_of here (deeds.Contour side go drive how check)) (effect_of here (deeds.Contour side go drive how check)) r
+    → IsMotionBy legs.One (first_of (turned_cases legs.One (with_side here.settings side) start d (turn_at here start d go) how e)) (cuts legs.One (if_turned (with_side here.settings side) start d (turn_at here start d go) how e)) r
+    → IsMotionBy legs.One (refusal_of here (deeds.Contour side go drive how check)) (effect_of here (deeds.Contour side go drive how check)) r
 unfolding motion_at
 contour_motion here side go drive how check start d e r is_start on_d on_e is =
     let known_d = known_surface here.table drive d on_d in
@@ -79,7 +71,7 @@ contour_motion here side go drive how check start d e r is_start on_d on_e is =
 
 -- the rows behind those of both names
 abbrev behind_names : Situation → Option Side → Go → List ℕ → Stop → List ℕ → Position → List Row
-behind_names here side go drive how check start = surface_cases here side go how (Some start) (surface_in here.table drive) (surface_in here.table check)
+behind_names here side go drive how check start = surface_cases here side go how legs.One (Some start) (surface_in here.table drive) (surface_in here.table check)
 
 pub drive_refused : (here : Situation) (side : Option Side) (go : Go) (drive : List ℕ) (how : Stop) (check : List ℕ) (start : Position) (case : Case)
     → here.position ≡ Some start → first_of (name_cases here.table drive []) ≡ Some case → refusal_of here (deeds.Contour side go drive how check) ≡ Some case
@@ -95,55 +87,56 @@ check_refused here side go drive how check start d case is_start on_d refused =
 
 -- ---- a motion that is run to its end
 
-ends : (f : Option Case) (p q : Pt) → Ok p ≡ unless_case f q → (f ≡ None) × (p ≡ q)
+ends : (f : Option Case) (p q : Ends) → Ok p ≡ unless_case f q → (f ≡ None) × (p ≡ q)
 ends None p q e = (refl, same_ok p q e)
   where
-    same_ok : (p q : Pt) → ◌≡◌ {A = Result Pt Case} (Ok p) (Ok q) → p ≡ q
+    same_ok : (p q : Ends) → ◌≡◌ {A = Result Ends Case} (Ok p) (Ok q) → p ≡ q
     same_ok p q e = cc
 ends (Some case) p q e = absurd cc
 
-stops : (f : Option Case) (case : Case) (q : Pt) → Err case ≡ unless_case f q → f ≡ Some case
+stops : (f : Option Case) (case : Case) (q : Ends) → Err case ≡ unless_case f q → f ≡ Some case
 stops None case q e = absurd cc
 stops (Some other) case q e = ap Some (same_err case other e)
   where
-    same_err : (case other : Case) → ◌≡◌ {A = Result Pt Case} (Err case) (Err other) → other ≡ case
+    same_err : (case other : Case) → ◌≡◌ {A = Result Ends Case} (Err case) (Err other) → other ≡ case
     same_err case other e = cc
 
 -- what a step asks for whose motion ends
-end_asked : (f : Option Case) (o : Option Effect) (m : Motion) (end : Pt) → IsMotionBy f o (Ok m) → Ok end ≡ unless (motion_cases m) (end_point m)
-    → (asked f o ≡ Ok (effects.Cuts m)) × (end ≡ end_point m)
-end_asked f o m end by is =
-    let at_end = ends (first_of (motion_cases m)) end (end_point m) is in
+end_asked : (f : Option Case) (o : Option Effect) (m : Motion) (n : Legs) (end : Ends) → IsMotionBy n f o (Ok m) → Ok end ≡ unless (cut_cases m n) (ends_at n (course_of m))
+    → (asked f o ≡ Ok (effects.Cuts m n)) × (end ≡ ends_at n (course_of m))
+end_asked f o m n end by is =
+    let at_end = ends (first_of (cut_cases m n)) end (ends_at n (course_of m)) is in
     (rw (by.0, by.1, at_end.0) refl, at_end.1)
 
-pub has_passed : (here : Situation) (step : Step) (m : Motion) (end : Pt) → IsMotionBy (refusal_of here step.deed) (effect_of here step.deed) (Ok m)
-    → Ok end ≡ unless (motion_cases m) (end_point m) → HasPassed here step (Ok (after here (effects.Cuts m) (end ∷ [])))
-has_passed here step m end by is =
-    let asks = end_asked (refusal_of here step.deed) (effect_of here step.deed) m end by is in
-    (effects.Cuts m, record { asks = asks.0; after = ap (λ p. after here (effects.Cuts m) (p ∷ [])) asks.1 })
+pub has_passed : (here behind : Situation) (step : Step) (m : Motion) (n : Legs) (end : Ends) → IsMotionBy n (refusal_of here step.deed) (effect_of here step.deed) (Ok m)
+    → Ok end ≡ unless (cut_cases m n) (ends_at n (course_of m)) → behind ≡ cut_at here m (last_end end) → HasPassed here step (Ok behind)
+has_passed here behind step m n end by is led =
+    let asks = end_asked (refusal_of here step.deed) (effect_of here step.deed) m n end by is in
+    (effects.Cuts m n, record { asks = asks.0; after = led ∙ ap (cut_at here m) (ap last_end asks.1 ∙ sym (last_is m n)) })
 
--- a motion whose end is known: no case refuses it
-pub known_end : (m : Motion) (end : Pt) → Ok end ≡ unless (motion_cases m) (end_point m) → NoneHolds (motion_cases m) × (end ≡ end_point m)
-known_end m end is =
-    let at_end = ends (first_of (motion_cases m)) end (end_point m) is in
-    (first_none (motion_cases m) at_end.0, at_end.1)
+-- a motion whose ends are known: no case refuses it
+pub known_end : (m : Motion) (n : Legs) (end : Ends) → Ok end ≡ unless (cut_cases m n) (ends_at n (course_of m)) → NoneHolds (cut_cases m n) × (end ≡ ends_at n (course_of m))
+known_end m n end is =
+    let at_end = ends (first_of (cut_cases m n)) end (ends_at n (course_of m)) is in
+    (first_none (cut_cases m n) at_end.0, at_end.1)
 
-pub has_cut : (here behind : Situation) (step : Step) (before now : List Record) (first later : List ArcAt) (m : Motion) (end : Pt)
-    → IsMotionBy (refusal_of here step.deed) (effect_of here step.deed) (Ok m) → Ok end ≡ unless (motion_cases m) (end_point m)
-    → behind ≡ after here (effects.Cuts m) (end_point m ∷ []) → now ≡ before ++ records_of step (effects.Cuts m) (drawn (effects.Cuts m))
-    → later ≡ first ++ rounds_of (effects.Cuts m) → HasDrawn here step before now first later (Ok behind)
-has_cut here behind step before now first later m end by is behind_is now_is later_is =
-    (effects.Cuts m, record { asks = (end_asked (refusal_of here step.deed) (effect_of here step.deed) m end by is).0; after = behind_is; records = now_is; rounds = later_is })
+pub has_cut : (here behind : Situation) (step : Step) (before now : List Record) (first later : List ArcAt) (m : Motion) (n : Legs) (end : Ends)
+    → IsMotionBy n (refusal_of here step.deed) (effect_of here step.deed) (Ok m) → Ok end ≡ unless (cut_cases m n) (ends_at n (course_of m))
+    → behind ≡ cut_at here m (last_end end) → now ≡ before ++ records_of step (effects.Cuts m n) (drawn (effects.Cuts m n))
+    → later ≡ first ++ rounds_of (effects.Cuts m n) → HasDrawn here step before now first later (Ok behind)
+has_cut here behind step before now first later m n end by is behind_is now_is later_is =
+    let asks = end_asked (refusal_of here step.deed) (effect_of here step.deed) m n end by is in
+    (effects.Cuts m n, record { asks = asks.0; after = behind_is ∙ ap (cut_at here m) (ap last_end asks.1 ∙ sym (last_is m n)); records = now_is; rounds = later_is })
 
-stop_asked : (f : Option Case) (o : Option Effect) (m : Motion) (case : Case) → IsMotionBy f o (Ok m) → Err case ≡ unless (motion_cases m) (end_point m) → asked f o ≡ Err case
-stop_asked f o m case by is = rw (by.1 ∙ stops (first_of (motion_cases m)) case (end_point m) is) refl
+stop_asked : (f : Option Case) (o : Option Effect) (m : Motion) (n : Legs) (case : Case) → IsMotionBy n f o (Ok m) → Err case ≡ unless (cut_cases m n) (ends_at n (course_of m)) → asked f o ≡ Err case
+stop_asked f o m n case by is = rw (by.1 ∙ stops (first_of (cut_cases m n)) case (ends_at n (course_of m)) is) refl
 
-pub is_stopped : (here : Situation) (step : Step) (m : Motion) (case : Case) → IsMotionBy (refusal_of here step.deed) (effect_of here step.deed) (Ok m)
-    → Err case ≡ unless (motion_cases m) (end_point m) → HasPassed here step (Err (errors.Refused (refused_at step case)))
-is_stopped here step m case by is = (case, record { asks = stop_asked (refusal_of here step.deed) (effect_of here step.deed) m case by is; told = refl })
+pub is_stopped : (here : Situation) (step : Step) (m : Motion) (n : Legs) (case : Case) → IsMotionBy n (refusal_of here step.deed) (effect_of here step.deed) (Ok m)
+    → Err case ≡ unless (cut_cases m n) (ends_at n (course_of m)) → HasPassed here step (Err (errors.Refused (refused_at step case)))
+is_stopped here step m n case by is = (case, record { asks = stop_asked (refusal_of here step.deed) (effect_of here step.deed) m n case by is; told = refl })
 
-pub is_stopped_again : (here : Situation) (step : Step) (records : List Record) (rounds : List ArcAt) (m : Motion) (case : Case)
-    → IsMotionBy (refusal_of here step.deed) (effect_of here step.deed) (Ok m) → Err case ≡ unless (motion_cases m) (end_point m)
+pub is_stopped_again : (here : Situation) (step : Step) (records : List Record) (rounds : List ArcAt) (m : Motion) (n : Legs) (case : Case)
+    → IsMotionBy n (refusal_of here step.deed) (effect_of here step.deed) (Ok m) → Err case ≡ unless (cut_cases m n) (ends_at n (course_of m))
     → HasDrawn here step records records rounds rounds (Err (errors.Refused (refused_at step case)))
-is_stopped_again here step records rounds m case by is =
-    (case, record { asks = stop_asked (refusal_of here step.deed) (effect_of here step.deed) m case by is; told = refl; records = refl; rounds = refl })
+is_stopped_again here step records rounds m n case by is =
+    (case, record { asks = stop_asked (refusal_of here step.deed) (effect_of here step.deed) m n case by is; told = refl; records = refl; rounds = refl })

@@ -13,22 +13,24 @@ use Rattle.apt_cldata.specs.declared.record.Record.{Record}
 use Rattle.apt_cldata.specs.declared.record.Record.TheVariants as lines
 use Rattle.apt_meaning.specs.declared.situation.Situation.{Situation}
 use Rattle.apt_meaning.specs.declared.motion.Motion.{Motion}
+use Rattle.apt_stop.specs.declared.legs.Legs.{Legs}
 use Rattle.apt_meaning.specs.declared.effect.Change.TheVariants as changes
 use Rattle.apt_meaning.specs.declared.effect.Effect.{Effect}
 use Rattle.apt_meaning.specs.declared.effect.Effect.TheVariants as effects
 use Rattle.apt_meaning.specs.Situations.{first_situation}
 use Rattle.apt_cldata.specs.Vertices.{at_height}
-use Rattle.apt_meaning.specs.Motions.{arc_of, end_point, vertices_of}
+use Rattle.apt_meaning.specs.Motions.{arc_of, end_point, vertices_of, motions_of}
 use Rattle.apt_meaning.specs.Effects.{effect_of}
 use Rattle.apt_meaning.specs.Refusals.{refusal_of}
-use Rattle.apt_meaning.specs.Records.{records_of, after}
-use Rattle.apt_meaning.specs.Compiled.{ends_of, points_of, asked, asked_within, refused_at, most_points, or_refused, with_front, compilation_behind, compilation}
+use Rattle.apt_meaning.specs.Records.{cut_record, records_of, after}
+use Rattle.apt_meaning.specs.Vertices.{cut_points}
+use Rattle.apt_meaning.specs.Compiled.{ends_of, points_of, point_number, asked, asked_within, refused_at, most_points, or_refused, with_front, compilation_behind, compilation}
 use Rattle.apt_meaning.proofs.Contours.Arcs.{vertices_by, vertices-vertices_by}
 use Rattle.apt_words.specs.Answers.{Tells}
 use Rattle.apt_motion.specs.declared.runs.RunError.{RunError}
 use Rattle.apt_motion.specs.declared.runs.RunError.TheVariants as errors
 use Rattle.apt_motion.specs.Ends.{refusal_in, IsStopped}
-use Rattle.apt_motion.specs.Drafts.{ArcAt, drawn, drawn_by, rounds_of, rounds_by, round_at, Draft, behind, or_stopped, draft_from, vertices_at, chords_of, is_open, known, Mark, mark_at, overfull, too_many, nowhere, filled, or_refusal, finished}
+use Rattle.apt_motion.specs.Drafts.{ArcAt, drawn, drawn_by, drawn_on, rounds_along, rounds_of, rounds_by, round_at, Draft, behind, or_stopped, draft_from, vertices_at, chords_of, is_open, known, Mark, mark_at, overfull, too_many, nowhere, filled, or_refusal, finished}
 
 -- ---- the draft, step by step
 
@@ -124,7 +126,7 @@ left_after so_far = most_points - so_far
 -- what is behind a step: it comes to the draft of what is behind it
 abbrev GoesOn : ℕ → Effect → (Effect → Result (List Record) Refusal) → (Effect → Draft) → Type 0
 GoesOn so_far e more next =
-    so_far + length (points_of e) ≤ most_points → (mark : Mark) → more e ≡ finished (left_after (so_far + length (points_of e))) mark (next e)
+    so_far + point_number e ≤ most_points → (mark : Mark) → more e ≡ finished (left_after (so_far + point_number e)) mark (next e)
 
 abbrev taken : ℕ → Step → Effect → (Effect → Result (List Record) Refusal) → Result (List Record) Refusal
 taken so_far step e more = or_refused step (asked_within so_far (Ok e)) (λ e. with_front (records_of step e (points_of e)) (more e))
@@ -143,9 +145,9 @@ plain_taken : (so_far : ℕ) (step : Step) (e : Effect) (more : Effect → Resul
     → so_far ≤ most_points → points_of e ≡ [] → GoesOn so_far e more next
     → taken so_far step e more ≡ with_front (records_of step e (points_of e)) (finished (left_after so_far) mark (next e))
 plain_taken so_far step e more next mark few none goes =
-    let still : so_far + length (points_of e) ≡ so_far = rw none (omega arith) in
-    let within : so_far + length (points_of e) ≤ most_points = rw still few in
-    let one : asked_within so_far (Ok e) ≡ Ok e = rw (le-ltb most_points (so_far + length (points_of e)) within) refl in
+    let still : so_far + point_number e ≡ so_far = rw none (omega arith) in
+    let within : so_far + point_number e ≤ most_points = rw still few in
+    let one : asked_within so_far (Ok e) ≡ Ok e = rw (le-ltb most_points (so_far + point_number e) within) refl in
     ap (λ a. or_refused step a (λ e. with_front (records_of step e (points_of e)) (more e))) one
     ∙ ap (with_front (records_of step e (points_of e))) (goes within mark ∙ ap (λ n. finished (left_after n) mark (next e)) still)
 
@@ -173,6 +175,48 @@ cut_on : (o : Option Arc) (end : Pt) (z : ℤ) (left : ℕ) (mark : Mark) (d : D
 cut_on None end z left mark d = contour_on (at_height z end) [] left mark d
 cut_on (Some arc) end z left mark d = round_on (round_at z arc) left mark d
 
+-- the legs of a contour one behind the other
+abbrev cuts_along : List Motion → List (List Pt)
+cuts_along ms = map (λ m. vertices_by (end_point m) (arc_of m)) ms
+
+abbrev sized : List Motion → ℕ
+sized ms = cut_points (cuts_along ms)
+
+abbrev drawn_records : ℤ → List Motion → List Record
+drawn_records z ms = map (cut_record z) (map drawn_on ms)
+
+abbrev cut_records : ℤ → List Motion → List Record
+cut_records z ms = map (cut_record z) (cuts_along ms)
+
+-- two tests are one
+both_fit : (left v t : ℕ) (x : Refusal) (front last : List Record) (f : ℕ → Result (List Record) Refusal)
+    → (if nat_lt left v then Err x else with_front front (if nat_lt (left - v) t then Err x else with_front last (f ((left - v) - t))))
+    ≡ (if nat_lt left (v + t) then Err x else with_front (front ++ last) (f (left - (v + t))))
+both_fit left v t x front last f = elim (cases_lt left v) [
+  | inl over ↦ rw (lt-ltb left v over, lt-ltb left (v + t) (omega (arith, over))) refl
+  | inr fits ↦ elim (cases_lt (left - v) t) [
+    | inl over ↦ rw (le-ltb left v fits, lt-ltb (left - v) t over, lt-ltb left (v + t) (omega (arith, fits, over))) refl
+    | inr all ↦
+        rw (le-ltb left v fits, le-ltb (left - v) t all, le-ltb left (v + t) (omega (arith, fits, all)))
+        (regroup front last (f ((left - v) - t)) ∙ ap (λ (n : ℕ). with_front (front ++ last) (f n)) (same_rest left v t))
+  ]
+]
+  where
+    same_rest : (left v t : ℕ) → (left - v) - t ≡ left - (v + t)
+    same_rest left v t = omega arith
+
+legs_on : (z : ℤ) (ms : List Motion) (left : ℕ) (mark : Mark) (d : Draft)
+    → finished left mark (behind (drawn_records z ms) (rounds_along z ms) d)
+    ≡ (if nat_lt left (sized ms) then Err (overfull mark) else with_front (cut_records z ms) (finished (left - sized ms) mark d))
+legs_on z [] left mark d = rw (none_below left, none_off left) (sym (no_front (finished left mark d)))
+legs_on z (m ∷ ms) left mark d =
+    let v = length (vertices_by (end_point m) (arc_of m)) in
+    let one = lines.Contour (map (at_height z) (vertices_by (end_point m) (arc_of m))) in
+    ap (λ (q : Draft). finished left mark q) (sym (regrouped (cut_record z (drawn_on m) ∷ []) (drawn_records z ms) (rounds_by z (arc_of m)) (rounds_along z ms) d))
+    ∙ cut_on (arc_of m) (end_point m) z left mark (behind (drawn_records z ms) (rounds_along z ms) d)
+    ∙ ap (λ (r : Result (List Record) Refusal). if nat_lt left v then Err (overfull mark) else with_front (one ∷ []) r) (legs_on z ms (left - v) mark d)
+    ∙ both_fit left v (sized ms) (overfull mark) (one ∷ []) (cut_records z ms) (λ n. finished n mark d)
+
 three_on : (a b c : Record) (left : ℕ) (mark : Mark) (d : Draft) → is_open a ≡ false → known a ≡ 0 → is_open b ≡ false → known b ≡ 0 → is_open c ≡ false → known c ≡ 0
     → finished left mark (behind (a ∷ b ∷ c ∷ []) [] d) ≡ with_front (a ∷ b ∷ c ∷ []) (finished left (mark_at c (mark_at b (mark_at a mark))) d)
 three_on a b c left mark d shut_a none_a shut_b none_b shut_c none_c =
@@ -195,47 +239,51 @@ same_unless : (test : Bool) (x : Refusal) (r s : Result (List Record) Refusal) �
 same_unless true x r s h = refl
 same_unless false x r s h = h refl
 
--- the records of a contour with these vertices, where there is room for so many more
-abbrev with_vertices : ℕ → Step → Motion → List Pt → Result (List Record) Refusal → Result (List Record) Refusal
-with_vertices left step m vertices rest =
-    if nat_lt left (length vertices) then Err (refused_at step cases.TooManyPoints) else with_front (records_of step (effects.Cuts m) vertices) rest
+-- the records of a contour with these cuts, where there is room for so many vertices more
+abbrev with_cuts : ℕ → Step → Motion → Legs → List (List Pt) → Result (List Record) Refusal → Result (List Record) Refusal
+with_cuts left step m n cuts rest =
+    if nat_lt left (cut_points cuts) then Err (refused_at step cases.TooManyPoints) else with_front (records_of step (effects.Cuts m n) cuts) rest
 
-cut_taken : (so_far : ℕ) (step : Step) (m : Motion) (more : Effect → Result (List Record) Refusal) → so_far ≤ most_points
-    → taken so_far step (effects.Cuts m) more ≡ with_vertices (left_after so_far) step m (vertices_of m) (more (effects.Cuts m))
-cut_taken so_far step m more few =
-    test_within (nat_lt most_points (so_far + length (vertices_of m))) step cases.TooManyPoints (effects.Cuts m) (λ e. with_front (records_of step e (points_of e)) (more e))
-    ∙ ap (λ t. if t then Err (refused_at step cases.TooManyPoints) else with_front (records_of step (effects.Cuts m) (vertices_of m)) (more (effects.Cuts m)))
-    (same_limit so_far (length (vertices_of m)) few)
+cut_taken : (so_far : ℕ) (step : Step) (m : Motion) (n : Legs) (more : Effect → Result (List Record) Refusal) → so_far ≤ most_points
+    → taken so_far step (effects.Cuts m n) more ≡ with_cuts (left_after so_far) step m n (points_of (effects.Cuts m n)) (more (effects.Cuts m n))
+cut_taken so_far step m n more few =
+    let e = effects.Cuts m n in
+    test_within (nat_lt most_points (so_far + point_number e)) step cases.TooManyPoints e (λ e. with_front (records_of step e (points_of e)) (more e))
+    ∙ ap (λ t. if t then Err (refused_at step cases.TooManyPoints) else with_front (records_of step e (points_of e)) (more e)) (same_limit so_far (point_number e) few)
 
-cut_drawn : (step : Step) (m : Motion) (left : ℕ) (mark : Mark) (d : Draft)
-    → finished left mark (behind (records_of step (effects.Cuts m) (drawn (effects.Cuts m))) (rounds_of (effects.Cuts m)) d)
-    ≡ with_vertices left step m (vertices_by (end_point m) (arc_of m)) (finished (left - length (vertices_by (end_point m) (arc_of m))) (step.line, step.step) d)
-cut_drawn step m left mark d =
-    let V = vertices_by (end_point m) (arc_of m) in
+same_cuts : (ms : List Motion) → map vertices_of ms ≡ cuts_along ms
+same_cuts [] = refl
+same_cuts (m ∷ ms) = rw (vertices-vertices_by m, same_cuts ms) refl
+
+cut_drawn : (step : Step) (m : Motion) (n : Legs) (left : ℕ) (mark : Mark) (d : Draft)
+    → finished left mark (behind (records_of step (effects.Cuts m n) (drawn (effects.Cuts m n))) (rounds_of (effects.Cuts m n)) d)
+    ≡ with_cuts left step m n (cuts_along (motions_of m n)) (finished (left - sized (motions_of m n)) (step.line, step.step) d)
+cut_drawn step m n left mark d =
+    let ms = motions_of m n in
+    let z = m.start.z in
     let here : Mark = (step.line, step.step) in
-    let last = lines.Contour (map (at_height m.start.z) (drawn (effects.Cuts m))) in
-    three_on (lines.Statement step.line step.step) (lines.Drive m.drive m.side m.sense) (lines.Check m.check m.how) left mark (behind (last ∷ []) (rounds_of (effects.Cuts m)) d) refl refl refl refl refl refl
-    ∙ ap (with_front (lines.Statement step.line step.step ∷ lines.Drive m.drive m.side m.sense ∷ lines.Check m.check m.how ∷ [])) (cut_on (arc_of m) (end_point m) m.start.z left here d)
-    ∙ test_front (nat_lt left (length V)) (lines.Statement step.line step.step ∷ lines.Drive m.drive m.side m.sense ∷ lines.Check m.check m.how ∷ [])
-    (lines.Contour (map (at_height m.start.z) V) ∷ []) (overfull here) (finished (left - length V) here d)
+    let front = lines.Statement step.line step.step ∷ lines.Drive m.drive m.side m.sense ∷ lines.Check m.check m.how ∷ [] in
+    three_on (lines.Statement step.line step.step) (lines.Drive m.drive m.side m.sense) (lines.Check m.check m.how) left mark (behind (drawn_records z ms) (rounds_along z ms) d) refl refl refl refl refl refl
+    ∙ ap (with_front front) (legs_on z ms left here d)
+    ∙ test_front (nat_lt left (sized ms)) front (cut_records z ms) (overfull here) (finished (left - sized ms) here d)
 
-cut_goes : (so_far : ℕ) (step : Step) (m : Motion) (more : Effect → Result (List Record) Refusal) (next : Effect → Draft) (mark : Mark) → so_far ≤ most_points
-    → GoesOn so_far (effects.Cuts m) more next
-    → taken so_far step (effects.Cuts m) more ≡ finished (left_after so_far) mark (behind (records_of step (effects.Cuts m) (drawn (effects.Cuts m))) (rounds_of (effects.Cuts m)) (next (effects.Cuts m)))
-cut_goes so_far step m more next mark few goes =
-    let e = effects.Cuts m in
+cut_goes : (so_far : ℕ) (step : Step) (m : Motion) (n : Legs) (more : Effect → Result (List Record) Refusal) (next : Effect → Draft) (mark : Mark) → so_far ≤ most_points
+    → GoesOn so_far (effects.Cuts m n) more next
+    → taken so_far step (effects.Cuts m n) more
+    ≡ finished (left_after so_far) mark (behind (records_of step (effects.Cuts m n) (drawn (effects.Cuts m n))) (rounds_of (effects.Cuts m n)) (next (effects.Cuts m n)))
+cut_goes so_far step m n more next mark few goes =
+    let e = effects.Cuts m n in
     let here : Mark = (step.line, step.step) in
-    let V = vertices_by (end_point m) (arc_of m) in
-    let same : vertices_of m ≡ V = vertices-vertices_by m in
-    cut_taken so_far step m more few
-    ∙ same_unless (nat_lt (left_after so_far) (length (vertices_of m))) (refused_at step cases.TooManyPoints) (with_front (records_of step e (vertices_of m)) (more e))
-    (with_front (records_of step e (vertices_of m)) (finished (left_after so_far - length (vertices_of m)) here (next e)))
+    let k = point_number e in
+    cut_taken so_far step m n more few
+    ∙ same_unless (nat_lt (left_after so_far) k) (refused_at step cases.TooManyPoints) (with_front (records_of step e (points_of e)) (more e))
+    (with_front (records_of step e (points_of e)) (finished (left_after so_far - k) here (next e)))
     (λ fits.
-    let room : length (vertices_of m) ≤ left_after so_far = ltb-false (left_after so_far) (length (vertices_of m)) fits in
-    let within : so_far + length (vertices_of m) ≤ most_points = omega (arith, room, few) in
-    ap (with_front (records_of step e (vertices_of m))) (goes within here ∙ ap (λ n. finished n here (next e)) (sym (same_left so_far (length (vertices_of m))))))
-    ∙ ap (λ (vs : List Pt). with_vertices (left_after so_far) step m vs (finished (left_after so_far - length vs) here (next e))) same
-    ∙ sym (cut_drawn step m (left_after so_far) mark (next e))
+    let room : k ≤ left_after so_far = ltb-false (left_after so_far) k fits in
+    let within : so_far + k ≤ most_points = omega (arith, room, few) in
+    ap (with_front (records_of step e (points_of e))) (goes within here ∙ ap (λ n. finished n here (next e)) (sym (same_left so_far k))))
+    ∙ ap (λ (cuts : List (List Pt)). with_cuts (left_after so_far) step m n cuts (finished (left_after so_far - cut_points cuts) here (next e))) (same_cuts (motions_of m n))
+    ∙ sym (cut_drawn step m n (left_after so_far) mark (next e))
 
 -- ---- every step
 
@@ -255,7 +303,7 @@ step_goes so_far step (effects.Moves reach to) more next mark few goes =
     let e = effects.Moves reach to in
     plain_taken so_far step e more next (step.line, step.step) few refl goes
     ∙ sym (two_on (lines.Statement step.line step.step) (lines.Point reach to) (left_after so_far) mark (next e) refl refl refl refl)
-step_goes so_far step (effects.Cuts m) more next mark few goes = cut_goes so_far step m more next mark few goes
+step_goes so_far step (effects.Cuts m n) more next mark few goes = cut_goes so_far step m n more next mark few goes
 
 answer_goes : (so_far : ℕ) (step : Step) (a : Result Effect Case) (more : Effect → Result (List Record) Refusal) (next : Effect → Draft) (mark : Mark) → so_far ≤ most_points
     → ((e : Effect) → GoesOn so_far e more next)
@@ -267,8 +315,8 @@ drafted : (steps : List Step) (so_far : ℕ) (here : Situation) (mark : Mark) �
     → compilation_behind so_far here steps ≡ finished (left_after so_far) mark (draft_from here steps)
 drafted [] so_far here mark few = refl
 drafted (step ∷ steps) so_far here mark few =
-    answer_goes so_far step (asked (refusal_of here step.deed) (effect_of here step.deed)) (λ e. compilation_behind (so_far + length (points_of e)) (after here e (ends_of e)) steps)
-    (λ e. draft_from (after here e (ends_of e)) steps) mark few (λ e few mark. drafted steps (so_far + length (points_of e)) (after here e (ends_of e)) mark few)
+    answer_goes so_far step (asked (refusal_of here step.deed) (effect_of here step.deed)) (λ e. compilation_behind (so_far + point_number e) (after here e (ends_of e)) steps)
+    (λ e. draft_from (after here e (ends_of e)) steps) mark few (λ e few mark. drafted steps (so_far + point_number e) (after here e (ends_of e)) mark few)
 
 -- what steps come to is their draft, finished
 pub compiled : (steps : List Step) → compilation first_situation steps ≡ finished most_points nowhere (draft_from first_situation steps)

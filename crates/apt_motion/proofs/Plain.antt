@@ -16,6 +16,8 @@ use Rattle.apt_defs.specs.declared.figure.Figure.{Figure}
 use Rattle.apt_defs.specs.Definitions.{IsNoDefinition, figure_of}
 use Rattle.apt_meaning.specs.declared.situation.Situation.{Situation}
 use Rattle.apt_meaning.specs.declared.motion.Motion.{Motion}
+use Rattle.apt_stop.specs.declared.legs.Legs.{Legs}
+use Rattle.apt_stop.specs.declared.legs.Legs.TheVariants as legs
 use Rattle.apt_meaning.specs.declared.effect.Effect.{Effect}
 use Rattle.apt_meaning.specs.declared.effect.Effect.TheVariants as effects
 use Rattle.apt_meaning.specs.Motions.{motion_at}
@@ -29,15 +31,15 @@ abbrev IsBy : Ask → Effect → Type 0
 IsBy ask (effects.Defines n f) = ((name : List ℕ) (form : Form) → ask ≢ Defines name form) → ⊥
 IsBy ask (effects.Sets change) = Unit {0}
 IsBy ask (effects.Moves reach to) = Unit {0}
-IsBy ask (effects.Cuts m) = ((side : Option Side) (go : Go) (drive : List ℕ) (how : Stop) (check : List ℕ) → ask ≢ Cuts side go drive how check) → ⊥
+IsBy ask (effects.Cuts m n) = ((side : Option Side) (go : Go) (drive : List ℕ) (how : Stop) (check : List ℕ) → ask ≢ Cuts side go drive how check) → ⊥
 
 moved_by : (ask : Ask) (reach : Reach) (to : Option Position) → IfSome (moves reach to) (IsBy ask)
 moved_by ask reach None = tt
 moved_by ask reach (Some to) = tt
 
-cut_by : (side : Option Side) (go : Go) (drive : List ℕ) (how : Stop) (check : List ℕ) (o : Option Motion) → IfSome (cuts o) (IsBy (Cuts side go drive how check))
-cut_by side go drive how check None = tt
-cut_by side go drive how check (Some m) = λ plain. plain side go drive how check refl
+cut_by : (n : Legs) (side : Option Side) (go : Go) (drive : List ℕ) (how : Stop) (check : List ℕ) (o : Option Motion) → IfSome (cuts n o) (IsBy (Cuts side go drive how check))
+cut_by n side go drive how check None = tt
+cut_by n side go drive how check (Some m) = λ plain. plain side go drive how check refl
 
 figure_by : (name : List ℕ) (form : Form) (r : Result Figure Case) → IfSome (names name r) (IsBy (Defines name form))
 figure_by name form (Ok f) = λ none. none name form refl
@@ -59,14 +61,14 @@ suits here (Says saying) = tt
 suits here (Sets side) = tt
 suits here (Defines name form) = defined_by here name form
 suits here (Goes route) = goes_by here route
-suits here (Cuts side go drive how check) = cut_by side go drive how check (motion_at here side go drive how check)
+suits here (Cuts side go drive how check) = cut_by legs.One side go drive how check (motion_at here side go drive how check)
 suits here Nothing = tt
 
 plain_by : (deed : Deed) (e : Effect) → IsNoContour deed → IsNoDefinition deed → IsBy (ask_of deed) e → SetsOrMoves e
 plain_by deed (effects.Defines n f) plain none is = is none
 plain_by deed (effects.Sets change) plain none is = tt
 plain_by deed (effects.Moves reach to) plain none is = tt
-plain_by deed (effects.Cuts m) plain none is = is plain
+plain_by deed (effects.Cuts m n) plain none is = is plain
 
 pub is_plain : (here : Situation) (deed : Deed) (e : Effect) → IsNoContour deed → IsNoDefinition deed → effect_of here deed ≡ Some e → SetsOrMoves e
 is_plain here deed e uncut none asks = plain_by deed e uncut none (of_some (IsBy (ask_of deed)) (effect_of here deed) e asks (suits here (ask_of deed)))

@@ -11,10 +11,11 @@ use Rattle.apt_cldata.specs.declared.record.Position.{Position}
 use Rattle.apt_cldata.specs.declared.record.Record.{Record}
 use Rattle.apt_cldata.specs.declared.record.Record.TheVariants as lines
 use Rattle.apt_meaning.specs.declared.situation.Situation.{Situation}
+use Rattle.apt_meaning.specs.declared.motion.Motion.{Motion}
 use Rattle.apt_meaning.specs.declared.effect.Effect.{Effect}
 use Rattle.apt_meaning.specs.declared.effect.Effect.TheVariants as effects
 use Rattle.apt_cldata.specs.Vertices.{at_height}
-use Rattle.apt_meaning.specs.Motions.{arc_of, end_point}
+use Rattle.apt_meaning.specs.Motions.{arc_of, end_point, motions_of}
 use Rattle.apt_meaning.specs.Effects.{effect_of}
 use Rattle.apt_meaning.specs.Refusals.{refusal_of}
 use Rattle.apt_meaning.specs.Records.{records_of, after}
@@ -31,12 +32,15 @@ abbrev pub drawn_by : Pt → Option Arc → List Pt
 drawn_by end None = end ∷ []
 drawn_by end (Some arc) = []
 
--- the vertices that are known at once
-abbrev pub drawn : Effect → List Pt
+-- for each leg of a contour the vertices that are known at once
+abbrev pub drawn_on : Motion → List Pt
+drawn_on m = drawn_by (end_point m) (arc_of m)
+
+abbrev pub drawn : Effect → List (List Pt)
 drawn (effects.Defines n f) = []
 drawn (effects.Sets change) = []
 drawn (effects.Moves reach to) = []
-drawn (effects.Cuts m) = drawn_by (end_point m) (arc_of m)
+drawn (effects.Cuts m legs) = map drawn_on (motions_of m legs)
 
 abbrev pub round_at : ℤ → Arc → ArcAt
 round_at z arc = record { arc = arc; z = z }
@@ -45,12 +49,16 @@ abbrev pub rounds_by : ℤ → Option Arc → List ArcAt
 rounds_by z None = []
 rounds_by z (Some arc) = round_at z arc ∷ []
 
--- the arc that is to be divided, with its height
+-- the arcs that are to be divided, with their height
+abbrev pub rounds_along : ℤ → List Motion → List ArcAt
+rounds_along z [] = []
+rounds_along z (m ∷ ms) = rounds_by z (arc_of m) ++ rounds_along z ms
+
 abbrev pub rounds_of : Effect → List ArcAt
 rounds_of (effects.Defines n f) = []
 rounds_of (effects.Sets change) = []
 rounds_of (effects.Moves reach to) = []
-rounds_of (effects.Cuts m) = rounds_by m.start.z (arc_of m)
+rounds_of (effects.Cuts m legs) = rounds_along m.start.z (motions_of m legs)
 
 -- ---- the draft of steps
 

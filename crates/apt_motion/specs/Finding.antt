@@ -11,7 +11,8 @@ use Rattle.apt_words.specs.declared.deed.Deed.TheVariants as deeds
 use Rattle.apt_meaning.specs.declared.motion.Motion.{Motion}
 use Rattle.apt_meaning.specs.declared.effect.Effect.{Effect}
 use Rattle.apt_meaning.specs.declared.effect.Effect.TheVariants as effects
-use Rattle.apt_meaning.specs.Refusals.{motion_cases}
+use Rattle.apt_stop.specs.declared.legs.Legs.{Legs}
+use Rattle.apt_meaning.specs.Refusals.{cut_cases}
 
 abbrev pub IsNoContour : Deed → Type 0
 IsNoContour deed = (side : Option Side) (go : Go) (drive : List ℕ) (how : Stop) (check : List ℕ) → ask_of deed ≢ Cuts side go drive how check
@@ -25,9 +26,9 @@ abbrev pub SetsOrMoves : Effect → Type 0
 SetsOrMoves (effects.Defines n f) = ⊥
 SetsOrMoves (effects.Sets change) = Unit {0}
 SetsOrMoves (effects.Moves reach to) = Unit {0}
-SetsOrMoves (effects.Cuts m) = ⊥
+SetsOrMoves (effects.Cuts m legs) = ⊥
 
 -- the motion that a step asks for, which its own cases alone may refuse, or the case that refuses the step
-abbrev pub IsMotionBy : Option Case → Option Effect → Result Motion Case → Type 0
-IsMotionBy f o (Ok m) = (o ≡ Some (effects.Cuts m)) × (f ≡ first_of (motion_cases m))
-IsMotionBy f o (Err case) = f ≡ Some case
+abbrev pub IsMotionBy : Legs → Option Case → Option Effect → Result Motion Case → Type 0
+IsMotionBy n f o (Ok m) = (o ≡ Some (effects.Cuts m n)) × (f ≡ first_of (cut_cases m n))
+IsMotionBy n f o (Err case) = f ≡ Some case

@@ -1,11 +1,10 @@
 //! The motions that contours ask for, and where they end.
 
 ghost use Rattle.std.specs.Prelude.{◌≡◌, [], ◌∷◌, Some, IfOk, MatchResult};
-ghost use Rattle.apt_plane.specs.Ranges.{IsPoint, IsSurface};
+ghost use Rattle.apt_plane.specs.Ranges.{IsSurface};
 ghost use Rattle.apt_words.specs.Rows.{first_of, unless};
 ghost use Rattle.apt_words.specs.declared.deed.Deed.TheVariants as deeds;
-ghost use Rattle.apt_stop.specs.Courses as courses;
-ghost use Rattle.apt_stop.specs.Ranges.{IsCourse};
+ghost use Rattle.apt_stop.specs.Legs as legging;
 ghost use Rattle.apt_cldata.specs.Ranges.{IsPosition};
 ghost use Rattle.apt_meaning.specs.Effects.{cuts, effect_of};
 ghost use Rattle.apt_meaning.specs.Motions as motions;
@@ -21,9 +20,10 @@ use apt_meaning::{Motion, Settings, Situation, is_too_fine, surface_of, turn_at}
 use apt_num::Sign;
 use apt_offset::signs::is_zero;
 use apt_offset::{is_on_check, lacks_room};
-use apt_plane::{Pt, Surface};
-use apt_stop::{Course, decide, is_near};
+use apt_plane::Surface;
+use apt_stop::is_near;
 use apt_words::{Case, Go, Side, Stop, Symbol};
+use apt_stop::{Ends, Legs, decide_legs};
 
 /// How far a start may be off its track, in grid units.
 const OFF_TRACK: i64 = 3;
@@ -58,7 +58,7 @@ pub(crate) fn motion(
     check: &Symbol,
 ) -> Result<Motion, Case>
     requires { IsSituation here.now }
-    ensures motion { IsMotionBy (refusal_of here.now (deeds.Contour side go drive.now how check.now)) (effect_of here.now (deeds.Contour side go drive.now how check.now)) result }
+    ensures motion { IsMotionBy Legs.One (refusal_of here.now (deeds.Contour side go drive.now how check.now)) (effect_of here.now (deeds.Contour side go drive.now how check.now)) result }
     ensures range { IfOk result IsMotion }
 {
     let Some(start) = here.position else {
@@ -84,7 +84,7 @@ fn on_surfaces(
     requires start { IsPosition start }
     requires drive { IsSurface drive }
     requires check { IsSurface check.now }
-    ensures motion { let s = with_side here.now.settings side in let turned = motions.turn_at here.now start drive go in IsMotionBy (first_of (turned_cases s start drive turned how check.now)) (cuts (motions.if_turned s start drive turned how check.now)) result }
+    ensures motion { let s = with_side here.now.settings side in let turned = motions.turn_at here.now start drive go in IsMotionBy Legs.One (first_of (turned_cases Legs.One s start drive turned how check.now)) (cuts Legs.One (motions.if_turned s start drive turned how check.now)) result }
     ensures range { IfOk result IsMotion }
 {
     let settings = here.settings.with_side(side);
@@ -106,7 +106,7 @@ fn turned_motion(
     requires start { IsPosition start }
     requires drive { IsSurface drive.now }
     requires check { IsSurface check.now }
-    ensures motion { IsMotionBy (first_of (turned_cases settings.now start drive.now turned how check.now)) (cuts (motions.if_turned settings.now start drive.now turned how check.now)) result }
+    ensures motion { IsMotionBy Legs.One (first_of (turned_cases Legs.One settings.now start drive.now turned how check.now)) (cuts Legs.One (motions.if_turned settings.now start drive.now turned how check.now)) result }
     ensures range { IfOk result IsMotion }
 {
     if settings.rapid {
@@ -124,23 +124,22 @@ fn turned_motion(
     Ok(Motion::along(settings, start, drive, turned, how, check))
 }
 
-/// Where a motion ends.
+/// Where the legs of a contour end.
 ///
 /// # Errors
 ///
-/// The first case that refuses it: `NoRoom`, `OffDrive`, `OnCheck`, or one that refuses its course.
-pub(crate) fn end_of(m: &Motion) -> Result<Pt, Case>
+/// The first case that refuses it: `NoRoom`, `OffDrive`, `OnCheck`, or one that refuses its legs.
+pub(crate) fn ends_of(m: &Motion, legs: Legs) -> Result<Ends, Case>
     requires { IsMotion m.now }
-    ensures value { result ≡ unless (refusals.motion_cases m.now) (motions.end_point m.now) }
-    ensures range { IfOk result IsPoint }
+    ensures value { result ≡ unless (refusals.cut_cases m.now legs) (legging.ends_of legs (motions.course_of m.now)) }
+    ensures range { IfOk result legging.AreEnds }
 {
     let track = m.track();
     if lacks_room(&track) {
         return Err(Case::NoRoom);
     }
-    let side = m.check_side();
-    let on = is_on_check(m.how, side);
-    let stop = m.stop(side);
+    let on = is_on_check(m.how, m.check_side);
+    let stop = m.stop();
     if !on && lacks_room(&stop) {
         return Err(Case::NoRoom);
     }
@@ -150,19 +149,5 @@ pub(crate) fn end_of(m: &Motion) -> Result<Pt, Case>
     if on {
         return Err(Case::OnCheck);
     }
-    course_end(&m.course(track, stop))
-}
-
-/// Where a course ends.
-#[inline(always)]
-#[tactic(auto, using(crate::proofs::Cuts::end_unless))]
-fn course_end(c: &Course) -> Result<Pt, Case>
-    requires { IsCourse c.now }
-    ensures value { result ≡ unless (courses.course_cases c.now) (courses.end_of c.now) }
-    ensures range { IfOk result IsPoint }
-{
-    match decide(c) {
-        Ok(choice) => Ok(choice.end),
-        Err(case) => Err(case),
-    }
+    decide_legs(&m.course(track, stop), legs)
 }

@@ -15,7 +15,7 @@ use apt_plane::Pt;
 use std::alloc::{AllocError, Global};
 
 /// No step has more records.
-const MOST_RECORDS: usize = 4;
+const MOST_RECORDS: usize = 5;
 
 /// The records of steps, in which a contour round a circle has no vertices yet, and the arcs of these contours, in order.
 #[derive(Drop)]
@@ -37,8 +37,8 @@ impl Draft {
     }
 }
 
-/// The vertices of a contour that are known at once: its end along a line, and none round a circle, whose arc goes behind
-/// the others.
+/// The vertices of a leg that are known at once: its end along a line, and none round a circle, whose arc goes behind the
+/// others.
 pub(crate) fn draw(
     alloc: Global,
     rounds: &mut Vec<Round>,
@@ -48,7 +48,7 @@ pub(crate) fn draw(
     requires motion { IsMotion motion.now }
     requires none { NoneHolds (motion_cases motion.now) }
     requires end { end ≡ end_point motion.now }
-    ensures vertices { IfOk result (λ vs. vs ≡ map (at_height motion.now.start.z) (drafts.drawn_by (end_point motion.now) (arc_of motion.now))) }
+    ensures vertices { IfOk result (λ vs. vs ≡ map (at_height motion.now.start.z) (drafts.drawn_on motion.now)) }
     ensures rounds { OnOk result (rounds.new.items ≡ rounds.old.items ++ drafts.rounds_by motion.now.start.z (arc_of motion.now)) }
 {
     let z = motion.start.z;

@@ -19,7 +19,7 @@ ghost use Rattle.apt_words.specs.Answers.{IsDueAs};
 ghost use Rattle.apt_defs.specs.Definitions.{IsNoDefinition};
 ghost use Rattle.apt_motion.specs.Finding.{IsContour, IsMotionBy, IsNoContour};
 
-use crate::contours::{end_of, motion};
+use crate::contours::{ends_of, motion};
 use crate::counting::past_limit;
 use crate::dividing::cut_all;
 use crate::drafts::Draft;
@@ -31,6 +31,7 @@ use apt_cldata::Record;
 use apt_defs::{DefError, define};
 use apt_meaning::{Motion, Situation};
 use apt_words::{Case, Deed, Refusal, Step};
+use apt_stop::Legs;
 use std::alloc::{AllocError, Global};
 use std::thread::Threads;
 
@@ -110,20 +111,20 @@ fn pass_contour(here: &mut Situation, step: &Step) -> Result<(), RunError>
         unreachable!();
     };
     match &motion(here, *side, *go, drive, *how, check) {
-        Ok(motion) => go_along(here, step, motion),
+        Ok(motion) => go_along(here, step, motion, Legs::One),
         Err(case) => Err(refused(step, *case)),
     }
 }
 
 /// Passes a motion, run to its contact.
 #[tactic(auto, using(crate::proofs::Cuts::has_passed, crate::proofs::Cuts::is_stopped))]
-fn go_along(here: &mut Situation, step: &Step, motion: &Motion) -> Result<(), RunError>
+fn go_along(here: &mut Situation, step: &Step, motion: &Motion, legs: Legs) -> Result<(), RunError>
     requires motion { IsMotion motion.now }
-    requires asks { IsMotionBy (refusal_of here.old step.now.deed) (effect_of here.old step.now.deed) (Ok motion.now) }
+    requires asks { IsMotionBy legs (refusal_of here.old step.now.deed) (effect_of here.old step.now.deed) (Ok motion.now) }
     ensures { HasPassed here.old step.now (result_map_both (λ _. here.new) (λ e. e) result) }
 {
-    match end_of(motion) {
-        Ok(end) => Ok(here.cut_along(motion, &[end])),
+    match ends_of(motion, legs) {
+        Ok(ends) => Ok(here.cut_to(motion, ends.last())),
         Err(case) => Err(refused(step, case)),
     }
 }
@@ -184,7 +185,7 @@ fn contour(
         unreachable!();
     };
     match &motion(here, *side, *go, drive, *how, check) {
-        Ok(motion) => cut(alloc, draft, here, step, motion),
+        Ok(motion) => cut(alloc, draft, here, step, motion, Legs::One),
         Err(case) => Err(refused(step, *case)),
     }
 }
@@ -197,13 +198,14 @@ fn cut(
     here: &mut Situation,
     step: &Step,
     motion: &Motion,
+    legs: Legs,
 ) -> Result<(), RunError>
     requires motion { IsMotion motion.now }
-    requires asks { IsMotionBy (refusal_of here.old step.now.deed) (effect_of here.old step.now.deed) (Ok motion.now) }
+    requires asks { IsMotionBy legs (refusal_of here.old step.now.deed) (effect_of here.old step.now.deed) (Ok motion.now) }
     ensures { HasDrawn here.old step.now draft.old.records.items draft.new.records.items draft.old.rounds.items draft.new.rounds.items (result_map_both (λ _. here.new) (λ e. e) result) }
 {
-    match end_of(motion) {
-        Ok(end) => Ok(take_cut(alloc, draft, here, step, motion, end)?),
+    match ends_of(motion, legs) {
+        Ok(ends) => Ok(take_cut(alloc, draft, here, step, motion, legs, ends)?),
         Err(case) => Err(refused(step, case)),
     }
 }

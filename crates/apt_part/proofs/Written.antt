@@ -32,8 +32,9 @@ use Rattle.apt_meaning.specs.declared.effect.Effect.TheVariants as effects
 use Rattle.apt_meaning.specs.Situations.{has_feed, lacks_feed, settings_with, changed, settings_behind}
 use Rattle.apt_meaning.specs.Effects.{note_of, effect_of}
 use Rattle.apt_meaning.specs.Refusals.{refusal_of, cases_of}
-use Rattle.apt_meaning.specs.Records.{with_statement, change_records, effect_records, records_of, after}
-use Rattle.apt_meaning.specs.Compiled.{ends_of, points_of, compilation_behind}
+use Rattle.apt_cldata.specs.Vertices.{at_height}
+use Rattle.apt_meaning.specs.Records.{with_statement, change_records, cut_record, effect_records, records_of, after}
+use Rattle.apt_meaning.specs.Compiled.{ends_of, points_of, point_number, compilation_behind}
 use Rattle.apt_meaning.specs.Ranges.{IsChange, IsSituation, IsEffect}
 use Rattle.apt_scalar.specs.StepScalars.{AreScalars}
 use Rattle.apt_words.proofs.Rows.{first_none}
@@ -174,14 +175,23 @@ change_written machine p s ask (changes.Said note) is agrees room takes says goo
 change_written machine p s ask (changes.Side side) is agrees room takes says good = nothing_written p s (record s { side = side }) agrees room refl refl
 change_written machine p s ask changes.Nothing is agrees room takes says good = nothing_written p s s agrees room refl refl
 
-said_written : (machine : Machine) (p : Pending) (here : Situation) (ask : Ask) (e : Effect) (vertices : List Pt) → IsMachine machine → Agrees p here.settings → HasRoom here.settings
-    → first_of (ask_limits machine ask) ≡ None → IsSaidBy here ask e → IsFed here.settings e → IsEffect e → AreRecords (effect_records e vertices)
-    → Leaves p (effect_records e vertices) (after here e vertices).settings
-said_written machine p here ask (effects.Defines n f) vertices is agrees room takes says on good in_range = nothing_written p here.settings here.settings agrees room refl refl
-said_written machine p here ask (effects.Sets change) vertices is agrees room takes says on good in_range = change_written machine p here.settings ask change is agrees room takes says good
-said_written machine p here ask (effects.Moves reach to) vertices is agrees room takes says on good in_range = moved p here.settings reach to agrees room in_range.0 on
-said_written machine p here ask (effects.Cuts m) vertices is agrees room takes says on good in_range =
-    record { can = (tt, (tt, (written_cuts p here.settings _ agrees room in_range.1.1.0.1 on, tt))); agrees = record { feed = agrees.feed; rapid = agrees.rapid }; room = record { most = room.most } }
+-- the legs of a contour
+legs_written : (p : Pending) (s : Settings) (z : ℤ) (cuts : List (List Pt)) → Agrees p s → HasRoom s → AreRecords (map (cut_record z) cuts) → not (has_feed s) ≡ false
+    → Leaves p (map (cut_record z) cuts) s
+legs_written p s z [] agrees room are some = record { can = tt; agrees = agrees; room = room }
+legs_written p s z (vertices ∷ cuts) agrees room are some =
+    let more = legs_written p s z cuts agrees room are.1 some in
+    record { can = (written_cuts p s (map (at_height z) vertices) agrees room are.0.1 some, more.can); agrees = more.agrees; room = more.room }
+
+said_written : (machine : Machine) (p : Pending) (here : Situation) (ask : Ask) (e : Effect) (cuts : List (List Pt)) → IsMachine machine → Agrees p here.settings → HasRoom here.settings
+    → first_of (ask_limits machine ask) ≡ None → IsSaidBy here ask e → IsFed here.settings e → IsEffect e → AreRecords (effect_records e cuts)
+    → Leaves p (effect_records e cuts) (after here e cuts).settings
+said_written machine p here ask (effects.Defines n f) cuts is agrees room takes says on good in_range = nothing_written p here.settings here.settings agrees room refl refl
+said_written machine p here ask (effects.Sets change) cuts is agrees room takes says on good in_range = change_written machine p here.settings ask change is agrees room takes says good
+said_written machine p here ask (effects.Moves reach to) cuts is agrees room takes says on good in_range = moved p here.settings reach to agrees room in_range.0 on
+said_written machine p here ask (effects.Cuts m legs) cuts is agrees room takes says on good in_range =
+    let more = legs_written p here.settings m.start.z cuts agrees room in_range.1.1 on in
+    record { can = (tt, (tt, more.can)); agrees = record { feed = more.agrees.feed; rapid = more.agrees.rapid }; room = record { most = room.most } }
 
 statement_written : (p : Pending) (step : Step) (rs : List Record) (s : Settings) → Leaves p rs s → Leaves p (with_statement step rs) s
 statement_written p step [] s leaves = leaves
@@ -203,7 +213,7 @@ compiled_written machine p so_far here [] written is agrees room good numbers so
 compiled_written machine p so_far here (step ∷ steps) written is agrees room good numbers sources within h =
     let d = done so_far step (refusal_of here step.deed) (effect_of here step.deed) (behind_step so_far here step steps) written h in
     let e = d.e in
-    let n = so_far + length (points_of e) in
+    let n = so_far + point_number e in
     let rs = effect_records e (points_of e) in
     let takes = taken step (first_of (machine_cases machine step.deed)) (limits machine steps) within in
     let ok = fit (effect_of here step.deed) e d.asked (answered here step.deed good numbers.0 sources.0.text d.fine) in

@@ -35,5 +35,10 @@ pub mod Sided
 pub mod OnMovedLines
 pub mod Decided
 pub mod Chosen
+pub mod Within
+pub mod Turned
+pub mod NextLegs
+pub mod Stops
+pub mod TwoLegs
 mod Worked
 mod WorkedCourses

@@ -5,3 +5,4 @@ pub mod Courses
 pub mod Steps
 pub mod Ends
 pub mod Ranges
+pub mod Legs

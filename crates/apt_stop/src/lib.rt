@@ -4,6 +4,7 @@
 mod course;
 mod decisions;
 mod gaps;
+mod legs;
 mod nearness;
 mod sides;
 mod tangencies;
@@ -12,5 +13,6 @@ mod touches;
 pub use course::{Choice, Course};
 pub use decisions::{axis, decide, kept_side, stop_side};
 pub use gaps::is_touching;
+pub use legs::{Ends, Legs, decide_legs, near_stop};
 pub use nearness::{heading, is_near, side_of};
 pub use tangencies::{axis_towards, tangent_axis};

@@ -33,7 +33,7 @@ use Rattle.apt_arc.specs.Made.{divided}
 use Rattle.apt_arc.specs.Ranges.{IsTrack, IsSag, IsArc}
 use Rattle.apt_arc.proofs.Tracks.{near_track}
 use Rattle.apt_meaning.specs.declared.motion.Motion.{Motion}
-use Rattle.apt_meaning.specs.Motions.{drive_side, check_side, course_of, end_point, leg_of, lesser, sag, arc_on, arc_along, arc_of, vertices_on, vertices_of, track_of}
+use Rattle.apt_meaning.specs.Motions.{drive_side, course_of, end_point, leg_of, lesser, sag, arc_on, arc_along, arc_of, vertices_on, vertices_of, track_of}
 use Rattle.apt_meaning.specs.Refusals.{motion_cases}
 use Rattle.apt_meaning.specs.Ranges.{IsMotion}
 use Rattle.apt_meaning.proofs.Contours.Legal.{course_is}
@@ -129,7 +129,7 @@ touch_elsewhere d (surfaces.Circ e) there = λ same.
     either_there axis there ((no_axis axis (surfaces.Circ d) (surfaces.Circ e) refl).1 same)
 
 elsewhere : (m : Motion) (d : Circ) (tanto : Bool) → is_tanto m.how ≡ tanto → NoneHolds (course_cases (course_of (round m d))) → IsElsewhere d.c m.check
-elsewhere m d false e none = met_elsewhere d.c (radius_round m d) m.check (check_side (round m d)) m.radius (meets (course_of (round m d)) e none).meeting
+elsewhere m d false e none = met_elsewhere d.c (radius_round m d) m.check m.check_side m.radius (meets (course_of (round m d)) e none).meeting
 elsewhere m d true e none = touch_elsewhere d m.check (touches (course_of (round m d)) e none).axis
 
 -- ---- all of it

@@ -15,14 +15,14 @@ use Rattle.apt_meaning.specs.declared.motion.Motion.{Motion}
 use Rattle.apt_meaning.specs.Motions.{track_of, course_of, end_point, vertices_of}
 use Rattle.apt_meaning.specs.Refusals.{motion_cases}
 use Rattle.apt_meaning.specs.Ranges.{IsMotion}
-use Rattle.apt_meaning.specs.Paths.{IsLegalCut}
+use Rattle.apt_meaning.specs.Paths.{IsLegalCut, first_leg, cut_on}
 use Rattle.apt_meaning.specs.Records.{IsOwnOn}
 use Rattle.apt_meaning.proofs.Contours.Legal.{line_legal}
 use Rattle.apt_meaning.proofs.Contours.Arcs.{radius_round, arc_round, arc_is, track_is}
 use Rattle.apt_meaning.proofs.Contours.Rounds.{round_legal, steps_last, steps_points}
 
 pub record IsCut (m : Motion) : Type 0 where
-  pub legal : IsLegalCut m (vertices_of m)
+  pub legal : IsLegalCut (cut_on (first_leg m) (vertices_of m))
   pub own : IsOwnOn m (track_of m) (vertices_of m)
   pub some : 1 ≤ length (vertices_of m)
   pub points : ArePoints (vertices_of m)
@@ -32,15 +32,15 @@ at_least_one : (list : List Pt) → IsSome list → 1 ≤ length list
 at_least_one [] some = absurd some
 at_least_one (p ∷ ps) some = omega arith
 
-cut_on : (m : Motion) (drive : Surface) → IsMotion (record m { drive = drive }) → NoneHolds (motion_cases (record m { drive = drive })) → IsCut (record m { drive = drive })
-cut_on m (surfaces.Line l) is none = record {
+own_cut : (m : Motion) (drive : Surface) → IsMotion (record m { drive = drive }) → NoneHolds (motion_cases (record m { drive = drive })) → IsCut (record m { drive = drive })
+own_cut m (surfaces.Line l) is none = record {
   legal = line_legal m l is none;
   own = refl;
   some = omega arith;
   points = (end_is_point (course_of (record m { drive = surfaces.Line l })) none.1.1.1.1, tt);
   ends = refl;
 }
-cut_on m (surfaces.Circ d) is none =
+own_cut m (surfaces.Circ d) is none =
     let arc = arc_is m d is none in
     let steps = arc_steps (arc_round m d) arc in
     let legal = round_legal m d is none in
@@ -53,4 +53,4 @@ cut_on m (surfaces.Circ d) is none =
     }
 
 pub cut_is : (m : Motion) → IsMotion m → NoneHolds (motion_cases m) → IsCut m
-cut_is m is none = cut_on m m.drive is none
+cut_is m is none = own_cut m m.drive is none

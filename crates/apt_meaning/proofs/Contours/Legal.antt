@@ -5,7 +5,6 @@ use Rattle.std.proofs.lemmas.Int.{ints}
 use Rattle.std.proofs.lemmas.Bool.{true≢false, not-false}
 use Rattle.apt_num.specs.declared.Sign.{Sign}
 use Rattle.apt_num.specs.declared.Sign.TheVariants as signs
-use Rattle.apt_words.specs.declared.Stop.TheVariants as stops
 use Rattle.apt_words.specs.Rows.{NoneHolds}
 use Rattle.apt_plane.specs.declared.figures.Pt.{Pt}
 use Rattle.apt_plane.specs.declared.figures.Line.{Line}
@@ -18,7 +17,6 @@ use Rattle.apt_plane.specs.Distances.{InBand, EveryPoint}
 use Rattle.apt_plane.proofs.SegmentLaws.{in_band-between}
 use Rattle.apt_offset.specs.Edges as edges
 use Rattle.apt_offset.specs.Edges.{widened}
-use Rattle.apt_offset.specs.Sides.{side_at_tangency}
 use Rattle.apt_offset.specs.Turns.{is_zero}
 use Rattle.apt_offset.specs.Targets.{signed, lacks_room}
 use Rattle.apt_stop.specs.declared.course.Course.{Course}
@@ -33,17 +31,14 @@ use Rattle.apt_stop.proofs.Ended.{course_ends}
 use Rattle.apt_certify.specs.declared.leg.Leg.{Leg}
 use Rattle.apt_certify.specs.Legs.{beyond_of, IsBounded, IsOnAxisOrNone}
 use Rattle.apt_meaning.specs.declared.motion.Motion.{Motion}
-use Rattle.apt_meaning.specs.Motions.{track_of, stop_of, drive_side, check_side, starts_on_check, course_of, stop_side, end_point, leg_of, has_track, has_bound, is_defined}
+use Rattle.apt_meaning.specs.Motions.{track_of, stop_of, drive_side, starts_on_check, course_of, stop_side, end_point, leg_on, leg_of, has_track, has_bound, is_defined}
 use Rattle.apt_meaning.specs.Refusals.{motion_cases}
 use Rattle.apt_meaning.specs.Ranges.{IsMotion}
-use Rattle.apt_meaning.specs.Paths.{IsLegalCut}
+use Rattle.apt_meaning.specs.Paths.{IsLegalCut, first_leg, cut_on}
 use Rattle.apt_meaning.proofs.Contours.Bands.{near_surface}
 use Rattle.apt_meaning.proofs.Contours.Edges.{kept_before}
 
 -- ---- its course is in range
-
-touching_at : (m : Motion) → m.how ≡ stops.Tanto → check_side m ≡ side_at_tangency m.drive m.check (drive_side m)
-touching_at m e = rw e refl
 
 second_false : (on lacks : Bool) → on ≡ false → (not on && lacks) ≡ false → lacks ≡ false
 second_false false lacks e f = f
@@ -60,12 +55,12 @@ course_in_range m is track stop near = record {
   check = is.check;
   moved = record {
     at_drive = drive_side m;
-    at_check = check_side m;
+    at_check = m.check_side;
     radius = m.radius;
     cutter = is.radius;
     track = refl;
     stop = refl;
-    touching = touching_at m;
+    touching = is.touching;
   };
   track_room = track;
   stop_room = stop;
@@ -89,10 +84,14 @@ beyond_is_zero (surfaces.Line l) signs.Zero = refl
 beyond_is_zero (surfaces.Line l) signs.Minus = refl
 beyond_is_zero (surfaces.Circ c) side = refl
 
+-- on a side of its stop
+pub side_bounded : (m : Motion) (side : Sign) → (not (is_zero side) || is_some (axis_of (course_of m))) ≡ true → IsBounded (leg_on m side)
+side_bounded m side there =
+    edge_bounded (leg_on m side) (beyond_of m.check side) (axis_of (course_of m)) refl refl
+    (ap (λ b. not b || is_some (axis_of (course_of m))) (beyond_is_zero m.check side) ∙ there)
+
 pub leg_bounded : (m : Motion) → has_bound m ≡ true → IsBounded (leg_of m)
-leg_bounded m there =
-    edge_bounded (leg_of m) (beyond_of m.check (stop_side m)) (axis_of (course_of m)) refl refl
-    (ap (λ b. not b || is_some (axis_of (course_of m))) (beyond_is_zero m.check (stop_side m)) ∙ there)
+leg_bounded m there = side_bounded m (stop_side m) there
 
 -- ---- its tests hold
 
@@ -124,8 +123,8 @@ pub record EndsAtStop (m : Motion) (q : Pt) : Type 0 where
 meets : (m : Motion) (d : Line) (q : Pt) → IsMotion m → is_tanto m.how ≡ false → EndsOnLine (course_of m) d.dir q → EndsAtStop m q
 meets m d q is meeting ends =
     let at_stop = ends.meets meeting in record {
-      before = kept_before m.check (check_side m) (stop_side m) m.radius m.inner m.outer m.start.xy q is.inner.least is.outer.least at_stop.kept;
-      stop = near_surface m.check (check_side m) m.radius m.inner m.outer (pos 1) q is.inner.least is.outer.least (omega (arith, ints)) at_stop.stop;
+      before = kept_before m.check m.check_side (stop_side m) m.radius m.inner m.outer m.start.xy q is.inner.least is.outer.least at_stop.kept;
+      stop = near_surface m.check m.check_side m.radius m.inner m.outer (pos 1) q is.inner.least is.outer.least (omega (arith, ints)) at_stop.stop;
       axis = rw (no_axis (course_of m) meeting) tt;
     }
 
@@ -133,7 +132,7 @@ touches : (m : Motion) (d : Line) (q : Pt) → IsMotion m → is_tanto m.how ≡
 touches m d q is touching ends =
     let at_stop = ends.touches touching in record {
       before = no_edge m.check (widened (leg_of m).stop_band (pos 0)) (stop_side m) m.start.xy q (no_side (course_of m) touching);
-      stop = near_surface m.check (check_side m) m.radius m.inner m.outer (pos 4) q is.inner.least is.outer.least (omega (arith, ints)) at_stop.stop;
+      stop = near_surface m.check m.check_side m.radius m.inner m.outer (pos 4) q is.inner.least is.outer.least (omega (arith, ints)) at_stop.stop;
       axis = on_axis (axis_of (course_of m)) q at_stop.axis;
     }
 
@@ -141,7 +140,7 @@ ends_at_stop : (m : Motion) (d : Line) (q : Pt) (tanto : Bool) → is_tanto m.ho
 ends_at_stop m d q false e is ends = meets m d q is e ends
 ends_at_stop m d q true e is ends = touches m d q is e ends
 
-pub line_legal : (m : Motion) (d : Line) → IsMotion (along m d) → NoneHolds (motion_cases (along m d)) → IsLegalCut (along m d) (end_point (along m d) ∷ [])
+pub line_legal : (m : Motion) (d : Line) → IsMotion (along m d) → NoneHolds (motion_cases (along m d)) → IsLegalCut (cut_on (first_leg (along m d)) (end_point (along m d) ∷ []))
 line_legal m d is none =
     let course = course_is (along m d) is none in
     let ends : EndsOnLine (course_of (along m d)) d.dir (end_point (along m d)) = course_ends (course_of (along m d)) course none.1.1.1.1 in
@@ -182,5 +181,5 @@ fourth_there true false true d e = absurd (true≢false (sym e))
 fourth_there true true c d e = absurd (true≢false (sym e))
 fourth_there false b c d e = absurd (true≢false (sym e))
 
-pub defined_bounded : (m : Motion) → is_defined m ≡ true → IsBounded (leg_of m)
-defined_bounded m is = leg_bounded m (fourth_there (has_track m) (starts_on_check m) (lacks_room (stop_of m)) (has_bound m) is)
+pub defined_bound : (m : Motion) → is_defined m ≡ true → has_bound m ≡ true
+defined_bound m is = fourth_there (has_track m) (starts_on_check m) (lacks_room (stop_of m)) (has_bound m) is

@@ -35,7 +35,7 @@ use Rattle.apt_arc.proofs.OutsideStops.{circle_outside}
 use Rattle.apt_certify.specs.declared.leg.Leg.{Leg}
 use Rattle.apt_certify.specs.Legs.{beyond_of, slack, slack_of, IsWithinSlack}
 use Rattle.apt_meaning.specs.declared.motion.Motion.{Motion}
-use Rattle.apt_meaning.specs.Motions.{check_side, course_of, end_point, leg_of}
+use Rattle.apt_meaning.specs.Motions.{course_of, end_point, leg_of}
 use Rattle.apt_meaning.specs.Refusals.{motion_cases}
 use Rattle.apt_meaning.specs.Ranges.{IsMotion}
 use Rattle.apt_meaning.proofs.Contours.Bands.{band_at-HasRoom}
@@ -92,27 +92,27 @@ to_line m d l signs.Zero is none meeting free e some = absurd (some refl)
 to_line m d l signs.Plus is none meeting free e some =
     let n = to m d (surfaces.Line l) in
     let a = arc_round n d in
-    let h = signed (check_side n) m.radius in
+    let h = signed n.check_side m.radius in
     let on = (ends_round n d is none).meets meeting in
     let further : IsFurther l a.track (neg_ℤ m.sense) a.end =
     subst (λ (q : Pt). IsFurther l a.track (neg_ℤ m.sense) q) (end_by n signs.Plus free e) (point_further l h a.track (neg_ℤ m.sense) is.check (other_sense m.sense is.sense)) in
     let starts = starts_left a l h (starts_near_stop (course_of n)) is.sense refl free.past e in
     let kept = line_left a l h (route n d is none) (omega (arith, is.check.dir.length)) further (above_at l (h -ℤ pos 1) a.end on.right) (below_at l (h +ℤ pos 1) (neg_ℤ h -ℤ pos 1) a.end (omega (arith, ints)) on.left) starts
     (divided a) (divides a (arc_is n d is none)) in
-    let room = band_at-HasRoom l (check_side n) m.radius m.inner m.outer is.inner.least is.outer.least in
+    let room = band_at-HasRoom l n.check_side m.radius m.inner m.outer is.inner.least is.outer.least in
     let leg = leg_of n in
     every_chord (IsAbove l (h -ℤ pos 12)) (IsWithinSlack leg leg.beyond) m.start.xy (divided a)
     (λ p q all. at_edge leg signs.Minus (pos 4) p q (beyond_by n signs.Plus free e) refl (every_over (surfaces.Line l) (h -ℤ pos 12) (leg.stop_band.lo -ℤ pos 4) p q (omega (arith, ints, room.lo)) all)) kept
 to_line m d l signs.Minus is none meeting free e some =
     let n = to m d (surfaces.Line l) in
     let a = arc_round n d in
-    let h = signed (check_side n) m.radius in
+    let h = signed n.check_side m.radius in
     let on = (ends_round n d is none).meets meeting in
     let further : IsFurther l a.track m.sense a.end = subst (λ (q : Pt). IsFurther l a.track m.sense q) (end_by n signs.Minus free e) (point_further l h a.track m.sense is.check is.sense) in
     let starts = starts_right a l h (starts_near_stop (course_of n)) is.sense refl free.past e in
     let kept = line_right a l h (route n d is none) (omega (arith, is.check.dir.length)) further (above_at l (h -ℤ pos 1) a.end on.right) (below_at l (h +ℤ pos 1) (neg_ℤ h -ℤ pos 1) a.end (omega (arith, ints)) on.left) starts
     (divided a) (divides a (arc_is n d is none)) in
-    let room = band_at-HasRoom l (check_side n) m.radius m.inner m.outer is.inner.least is.outer.least in
+    let room = band_at-HasRoom l n.check_side m.radius m.inner m.outer is.inner.least is.outer.least in
     let leg = leg_of n in
     every_chord (IsBelow l (h +ℤ pos 12)) (IsWithinSlack leg leg.beyond) m.start.xy (divided a)
     (λ p q all. at_edge leg signs.Plus (pos 4) p q (beyond_by n signs.Minus free e) refl (every_under (surfaces.Line l) (h +ℤ pos 12) (leg.stop_band.hi +ℤ pos 4) p q (omega (arith, ints, room.hi)) all)) kept
@@ -129,14 +129,14 @@ to_circle m d k signs.Zero is none meeting free e some = absurd (some refl)
 to_circle m d k signs.Plus is none meeting free e some =
     let n = to m d (surfaces.Circ k) in
     let a = arc_round n d in
-    let s = k.r -ℤ signed (check_side n) m.radius in
+    let s = k.r -ℤ signed n.check_side m.radius in
     let least = enough s (stop_room n none) in
     let dir = (arc_is n d is none).axis in
     let beyond : IsBeyond a.track (circle_about k.c s) m.sense a.end =
     subst (λ (q : Pt). IsBeyond a.track (circle_about k.c s) m.sense q) (end_by n signs.Plus free e) (point_beyond a.track (circle_about k.c s) m.sense dir is.sense) in
     let starts = starts_inside a k.c s (starts_near_stop (course_of n)) least is.sense refl free.past e in
     let kept = circle_inside a (circle_about k.c s) (route n d is none) least (omega (arith, dir.length)) beyond ((ends_round n d is none).meets meeting) starts (divided a) (divides a (arc_is n d is none)) in
-    let room = circle_room k.r (check_side n) m.radius m.inner m.outer is.inner.least is.outer.least in
+    let room = circle_room k.r n.check_side m.radius m.inner m.outer is.inner.least is.outer.least in
     let leg = leg_of n in
     let edge = beyond_by n signs.Plus free e in
     every_chord (IsUnder (about k.c) (s +ℤ pos 12)) (IsWithinSlack leg leg.beyond) m.start.xy (divided a)
@@ -145,7 +145,7 @@ to_circle m d k signs.Plus is none meeting free e some =
 to_circle m d k signs.Minus is none meeting free e some =
     let n = to m d (surfaces.Circ k) in
     let a = arc_round n d in
-    let s = k.r -ℤ signed (check_side n) m.radius in
+    let s = k.r -ℤ signed n.check_side m.radius in
     let least = enough s (stop_room n none) in
     let dir = (arc_is n d is none).axis in
     let beyond : IsBeyond a.track (circle_about k.c s) (neg_ℤ m.sense) a.end =
@@ -154,7 +154,7 @@ to_circle m d k signs.Minus is none meeting free e some =
     let overlap = (circles_overlap a.track (circle_about k.c s) free.meeting).1.inside in
     let meets_track : ((a.track.r -ℤ s) *ℤ (a.track.r -ℤ s)) ≤ℤ pos (length_squared (displacement a.track.c k.c)) = rw (own_square (a.track.r -ℤ s)) (omega (arith, ints, overlap)) in
     let kept = circle_outside a (circle_about k.c s) (route n d is none) least (omega (arith, dir.length)) meets_track beyond ((ends_round n d is none).meets meeting) starts (divided a) (divides a (arc_is n d is none)) in
-    let room = circle_room k.r (check_side n) m.radius m.inner m.outer is.inner.least is.outer.least in
+    let room = circle_room k.r n.check_side m.radius m.inner m.outer is.inner.least is.outer.least in
     let leg = leg_of n in
     let edge = beyond_by n signs.Minus free e in
     let loose = pos 4 +ℤ (radius_round n d -ℤ leg.band.lo) in

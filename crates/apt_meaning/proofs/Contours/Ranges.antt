@@ -24,13 +24,17 @@ use Rattle.apt_defs.proofs.Tables.{looked_up}
 use Rattle.apt_meaning.specs.declared.situation.Settings.{Settings}
 use Rattle.apt_meaning.specs.declared.situation.Situation.{Situation}
 use Rattle.apt_meaning.specs.declared.motion.Motion.{Motion}
+use Rattle.apt_stop.specs.declared.legs.Legs.{Legs}
+use Rattle.apt_stop.specs.declared.legs.Legs.TheVariants as legs
 use Rattle.apt_meaning.specs.declared.effect.Effect.{Effect}
 use Rattle.apt_meaning.specs.Situations.{with_side}
 use Rattle.apt_meaning.specs.Motions.{as_surface, surface_in, motion, if_turned, motion_at}
 use Rattle.apt_meaning.specs.StartUps.{start_position_at}
-use Rattle.apt_meaning.specs.Effects.{moves, cuts, moved_from, place_at, names, defined, goes, effect_by, effect_of}
+use Rattle.apt_meaning.specs.Effects.{moves, cuts, legs_by, moved_from, place_at, names, defined, goes, effect_by, effect_of}
 use Rattle.apt_meaning.specs.Ranges.{IsPositionOrNone, AreSettings, IsSituation, IsMotion, HasMotion}
 use Rattle.apt_meaning.proofs.EffectRanges.{on_side_or_as_it_was, motion_is}
+use Rattle.apt_scalar.specs.Scalars.{whole}
+use Rattle.apt_meaning.proofs.Counts.{if_counted}
 
 -- ---- names of surfaces
 
@@ -49,19 +53,19 @@ moves_made : (reach : Reach) (o : Option Position) → IfSome (moves reach o) Ha
 moves_made reach None = tt
 moves_made reach (Some to) = tt
 
-turned_made : (b : Bool) (m : Motion) → (b ≡ false → IsMotion m) → IfSome (cuts (cond b None (Some m))) HasMotion
-turned_made true m is = tt
-turned_made false m is = is refl
+turned_made : (n : Legs) (b : Bool) (m : Motion) → (b ≡ false → IsMotion m) → IfSome (cuts n (cond b None (Some m))) HasMotion
+turned_made n true m is = tt
+turned_made n false m is = is refl
 
-contour_made : (s : Settings) (forward : Dir) (go : Go) (how : Stop) (p : Option Position) (d c : Option Surface)
+contour_made : (n : Legs) (s : Settings) (forward : Dir) (go : Go) (how : Stop) (p : Option Position) (d c : Option Surface)
     → AreSettings s → IsPositionOrNone p → IfSome d IsSurface → IfSome c IsSurface
-    → IfSome (cuts (p >>= λ start. d >>= λ drive. c >>= λ check. if_turned s start drive (turn forward (tangent drive start.xy) go) how check)) HasMotion
-contour_made s forward go how None d c is is_p is_d is_c = tt
-contour_made s forward go how (Some start) None c is is_p is_d is_c = tt
-contour_made s forward go how (Some start) (Some drive) None is is_p is_d is_c = tt
-contour_made s forward go how (Some start) (Some drive) (Some check) is is_p is_d is_c =
+    → IfSome (cuts n (p >>= λ start. d >>= λ drive. c >>= λ check. if_turned s start drive (turn forward (tangent drive start.xy) go) how check)) HasMotion
+contour_made n s forward go how None d c is is_p is_d is_c = tt
+contour_made n s forward go how (Some start) None c is is_p is_d is_c = tt
+contour_made n s forward go how (Some start) (Some drive) None is is_p is_d is_c = tt
+contour_made n s forward go how (Some start) (Some drive) (Some check) is is_p is_d is_c =
     let turned = turn forward (tangent drive start.xy) go in
-    turned_made (is_zero turned) (motion s start drive turned how check) (λ turns. motion_is s start drive turned how check is is_p is_d is_c turns)
+    turned_made n (is_zero turned) (motion s start drive turned how check) (λ turns. motion_is s start drive turned how check is is_p is_d is_c turns)
 
 names_made : (name : List ℕ) (r : Result Figure Case) → IfSome (names name r) HasMotion
 names_made name (Ok f) = tt
@@ -84,9 +88,10 @@ made_by here (Says saying) is = tt
 made_by here (Sets side) is = tt
 made_by here (Defines name form) is = defined_made here name form
 made_by here (Goes route) is = goes_made here route
-made_by here (Cuts side go drive how check) is =
-    contour_made (with_side here.settings side) here.forward go how here.position (surface_in here.table drive) (surface_in here.table check)
-    (on_side_or_as_it_was here.settings side is.settings) is.position (named_surface here.table drive is.table) (named_surface here.table check is.table)
+made_by here (Cuts side go drive how check n) is =
+    if_counted (legs_by (whole n)) (λ legs. cuts legs (motion_at here side go drive how check)) HasMotion
+    (λ legs. contour_made legs (with_side here.settings side) here.forward go how here.position (surface_in here.table drive) (surface_in here.table check)
+    (on_side_or_as_it_was here.settings side is.settings) is.position (named_surface here.table drive is.table) (named_surface here.table check is.table))
 made_by here Nothing is = tt
 
 pub made : (here : Situation) (deed : Deed) → IsSituation here → IfSome (effect_of here deed) HasMotion

@@ -29,10 +29,10 @@ use Rattle.apt_certify.specs.Jobs.{ArePoints}
 use Rattle.apt_certify.specs.Legs.{IsWithinSlack, IsOnAxisOrNone}
 use Rattle.apt_certify.specs.Legal.{IsSome, last_of, AreInOrder, EveryPointFrom}
 use Rattle.apt_meaning.specs.declared.motion.Motion.{Motion}
-use Rattle.apt_meaning.specs.Motions.{check_side, course_of, end_point, leg_of, sag}
+use Rattle.apt_meaning.specs.Motions.{course_of, end_point, leg_of, sag}
 use Rattle.apt_meaning.specs.Refusals.{motion_cases}
 use Rattle.apt_meaning.specs.Ranges.{IsMotion}
-use Rattle.apt_meaning.specs.Paths.{IsLegalCut}
+use Rattle.apt_meaning.specs.Paths.{IsLegalCut, first_leg, cut_on}
 use Rattle.apt_meaning.proofs.Contours.Bands.{near_surface}
 use Rattle.apt_meaning.proofs.Contours.Legal.{course_is, leg_bounded, no_axis, on_axis}
 use Rattle.apt_meaning.proofs.Contours.Arcs.{round, radius_round, arc_round, arc_is, room_round, sag_within, ends_round}
@@ -46,12 +46,12 @@ record EndsThere (m : Motion) (q : Pt) : Type 0 where
 
 ends_there : (m : Motion) (d : Circ) (q : Pt) (tanto : Bool) → is_tanto m.how ≡ tanto → IsMotion (round m d) → EndsOnCircle (course_of (round m d)) d.c q → EndsThere (round m d) q
 ends_there m d q false e is ends = record {
-  stop = near_surface m.check (check_side (round m d)) m.radius m.inner m.outer (pos 1) q is.inner.least is.outer.least (omega (arith, ints)) (ends.meets e);
+  stop = near_surface m.check m.check_side m.radius m.inner m.outer (pos 1) q is.inner.least is.outer.least (omega (arith, ints)) (ends.meets e);
   axis = rw (no_axis (course_of (round m d)) e) tt;
 }
 ends_there m d q true e is ends =
     let at_stop = ends.touches e in record {
-      stop = near_surface m.check (check_side (round m d)) m.radius m.inner m.outer (pos 4) q is.inner.least is.outer.least (omega (arith, ints)) at_stop.stop;
+      stop = near_surface m.check m.check_side m.radius m.inner m.outer (pos 4) q is.inner.least is.outer.least (omega (arith, ints)) at_stop.stop;
       axis = on_axis (axis_of (course_of (round m d))) q at_stop.axis;
     }
 
@@ -96,7 +96,7 @@ some_chord a arc =
     let last = division_ends a (divided a) arc (divides a arc) in
     last_some last.0 a.end (divided a) last.1
 
-pub round_legal : (m : Motion) (d : Circ) → IsMotion (round m d) → NoneHolds (motion_cases (round m d)) → IsLegalCut (round m d) (divided (arc_round m d))
+pub round_legal : (m : Motion) (d : Circ) → IsMotion (round m d) → NoneHolds (motion_cases (round m d)) → IsLegalCut (cut_on (first_leg (round m d)) (divided (arc_round m d)))
 round_legal m d is none =
     let arc = arc_is m d is none in
     let list = divided (arc_round m d) in

@@ -21,13 +21,16 @@ use Rattle.apt_defs.specs.Definitions.{figure_of}
 use Rattle.apt_meaning.specs.declared.situation.Settings.{Settings}
 use Rattle.apt_meaning.specs.declared.situation.Situation.{Situation}
 use Rattle.apt_meaning.specs.declared.motion.Motion.{Motion}
+use Rattle.apt_stop.specs.declared.legs.Legs.{Legs}
+use Rattle.apt_stop.specs.declared.legs.Legs.TheVariants as legs
 use Rattle.apt_meaning.specs.declared.effect.Effect.{Effect}
 use Rattle.apt_meaning.specs.declared.effect.Effect.TheVariants as effects
 use Rattle.apt_meaning.specs.Situations.{with_side}
 use Rattle.apt_meaning.specs.Motions.{surface_in, motion, if_turned, motion_at}
 use Rattle.apt_meaning.specs.StartUps.{start_position_at}
-use Rattle.apt_meaning.specs.Effects.{moves, cuts, place_at, names, defined, moved_from, goes, effect_by, effect_of}
+use Rattle.apt_meaning.specs.Effects.{moves, cuts, legs_by, place_at, names, defined, moved_from, goes, effect_by, effect_of}
 use Rattle.apt_meaning.specs.Records.{after}
+use Rattle.apt_scalar.specs.Scalars.{whole}
 
 -- the same settings and names, and both or neither have a position
 pub record Agrees (c here : Situation) : Type 0 where
@@ -44,19 +47,19 @@ abbrev pub AreLike : Effect → Effect → Type 0
 AreLike (effects.Defines n f) (effects.Defines m g) = (n ≡ m) × (f ≡ g)
 AreLike (effects.Defines n f) (effects.Sets other) = ⊥
 AreLike (effects.Defines n f) (effects.Moves reach to) = ⊥
-AreLike (effects.Defines n f) (effects.Cuts o) = ⊥
+AreLike (effects.Defines n f) (effects.Cuts o l) = ⊥
 AreLike (effects.Sets change) (effects.Defines m g) = ⊥
 AreLike (effects.Sets change) (effects.Sets other) = change ≡ other
 AreLike (effects.Sets change) (effects.Moves reach to) = ⊥
-AreLike (effects.Sets change) (effects.Cuts o) = ⊥
+AreLike (effects.Sets change) (effects.Cuts o l) = ⊥
 AreLike (effects.Moves how from) (effects.Defines m g) = ⊥
 AreLike (effects.Moves how from) (effects.Sets other) = ⊥
 AreLike (effects.Moves how from) (effects.Moves reach to) = how ≡ reach
-AreLike (effects.Moves how from) (effects.Cuts o) = ⊥
-AreLike (effects.Cuts m) (effects.Defines n g) = ⊥
-AreLike (effects.Cuts m) (effects.Sets other) = ⊥
-AreLike (effects.Cuts m) (effects.Moves reach to) = ⊥
-AreLike (effects.Cuts m) (effects.Cuts o) = m.side ≡ o.side
+AreLike (effects.Moves how from) (effects.Cuts o l) = ⊥
+AreLike (effects.Cuts m k) (effects.Defines n g) = ⊥
+AreLike (effects.Cuts m k) (effects.Sets other) = ⊥
+AreLike (effects.Cuts m k) (effects.Moves reach to) = ⊥
+AreLike (effects.Cuts m k) (effects.Cuts o l) = m.side ≡ o.side
 
 -- where both are there
 abbrev AreLikeIfThere : Option Effect → Option Effect → Type 0
@@ -78,26 +81,26 @@ moves_like reach None p = tt
 moves_like reach (Some from) None = tt
 moves_like reach (Some from) (Some to) = refl
 
-turned_like : (a b : Bool) (m o : Motion) → m.side ≡ o.side → AreLikeIfThere (cuts (cond a None (Some m))) (cuts (cond b None (Some o)))
-turned_like true b m o same = tt
-turned_like false true m o same = tt
-turned_like false false m o same = same
+turned_like : (n : Legs) (a b : Bool) (m o : Motion) → m.side ≡ o.side → AreLikeIfThere (cuts n (cond a None (Some m))) (cuts n (cond b None (Some o)))
+turned_like n true b m o same = tt
+turned_like n false true m o same = tt
+turned_like n false false m o same = same
 
-contour_like : (s : Settings) (from to : Dir) (go : Go) (how : Stop) (p q : Option Position) (d c : Option Surface)
-    → AreLikeIfThere (cuts (p >>= λ start. d >>= λ drive. c >>= λ check. if_turned s start drive (turn from (tangent drive start.xy) go) how check))
-    (cuts (q >>= λ start. d >>= λ drive. c >>= λ check. if_turned s start drive (turn to (tangent drive start.xy) go) how check))
-contour_like s from to go how None q d c = tt
-contour_like s from to go how (Some start) None None c = tt
-contour_like s from to go how (Some start) None (Some drive) None = tt
-contour_like s from to go how (Some start) None (Some drive) (Some check) = nothing_like (cuts (if_turned s start drive (turn from (tangent drive start.xy) go) how check))
+contour_like : (n : Legs) (s : Settings) (from to : Dir) (go : Go) (how : Stop) (p q : Option Position) (d c : Option Surface)
+    → AreLikeIfThere (cuts n (p >>= λ start. d >>= λ drive. c >>= λ check. if_turned s start drive (turn from (tangent drive start.xy) go) how check))
+    (cuts n (q >>= λ start. d >>= λ drive. c >>= λ check. if_turned s start drive (turn to (tangent drive start.xy) go) how check))
+contour_like n s from to go how None q d c = tt
+contour_like n s from to go how (Some start) None None c = tt
+contour_like n s from to go how (Some start) None (Some drive) None = tt
+contour_like n s from to go how (Some start) None (Some drive) (Some check) = nothing_like (cuts n (if_turned s start drive (turn from (tangent drive start.xy) go) how check))
   where
     nothing_like : (o : Option Effect) → AreLikeIfThere o None
     nothing_like None = tt
     nothing_like (Some e) = tt
-contour_like s from to go how (Some start) (Some other) None c = tt
-contour_like s from to go how (Some start) (Some other) (Some drive) None = tt
-contour_like s from to go how (Some start) (Some other) (Some drive) (Some check) =
-    turned_like (is_zero (turn from (tangent drive start.xy) go)) (is_zero (turn to (tangent drive other.xy) go))
+contour_like n s from to go how (Some start) (Some other) None c = tt
+contour_like n s from to go how (Some start) (Some other) (Some drive) None = tt
+contour_like n s from to go how (Some start) (Some other) (Some drive) (Some check) =
+    turned_like n (is_zero (turn from (tangent drive start.xy) go)) (is_zero (turn to (tangent drive other.xy) go))
     (motion s start drive (turn from (tangent drive start.xy) go) how check) (motion s other drive (turn to (tangent drive other.xy) go) how check) refl
 
 goes_like : (here : Situation) (stand : Option Position) (forward : Dir) (route : Route) → AreLikeIfThere (goes here route) (goes (elsewhere here stand forward) route)
@@ -113,7 +116,13 @@ like here stand forward (Says saying) = refl
 like here stand forward (Sets side) = refl
 like here stand forward (Defines name form) = defined_like here stand forward name form
 like here stand forward (Goes route) = goes_like here stand forward route
-like here stand forward (Cuts side go drive how check) = contour_like (with_side here.settings side) here.forward forward go how here.position stand (surface_in here.table drive) (surface_in here.table check)
+like here stand forward (Cuts side go drive how check n) = counted_like (legs_by (whole n))
+  where
+    counted_like : (o : Option Legs)
+        → AreLikeIfThere (o >>= λ legs. cuts legs (motion_at here side go drive how check)) (o >>= λ legs. cuts legs (motion_at (elsewhere here stand forward) side go drive how check))
+    unfolding motion_at
+    counted_like None = tt
+    counted_like (Some legs) = contour_like legs (with_side here.settings side) here.forward forward go how here.position stand (surface_in here.table drive) (surface_in here.table check)
 like here stand forward Nothing = refl
 
 is_elsewhere : (c here : Situation) → Agrees c here → here ≡ elsewhere c here.position here.forward
@@ -127,25 +136,25 @@ alike c here deed e d agrees ask asked =
     (subst (λ (o : Option Effect). AreLikeIfThere o (effect_of (elsewhere c here.position here.forward) deed)) ask (like c here.position here.forward (ask_of deed)))
 
 -- and they agree behind it
-behind_like : (c here : Situation) (e d : Effect) (vs us : List Pt) → Agrees c here → AreLike e d → Agrees (after c e vs) (after here d us)
+behind_like : (c here : Situation) (e d : Effect) (vs us : List (List Pt)) → Agrees c here → AreLike e d → Agrees (after c e vs) (after here d us)
 behind_like c here (effects.Defines n f) (effects.Defines m g) vs us agrees same = record { settings = agrees.settings; table = rw (same.0, same.1, agrees.table) refl; position = agrees.position }
 behind_like c here (effects.Defines n f) (effects.Sets other) vs us agrees same = absurd same
 behind_like c here (effects.Defines n f) (effects.Moves reach to) vs us agrees same = absurd same
-behind_like c here (effects.Defines n f) (effects.Cuts o) vs us agrees same = absurd same
+behind_like c here (effects.Defines n f) (effects.Cuts o l) vs us agrees same = absurd same
 behind_like c here (effects.Sets change) (effects.Defines m g) vs us agrees same = absurd same
 behind_like c here (effects.Sets change) (effects.Sets other) vs us agrees same = record { settings = rw (same, agrees.settings) refl; table = agrees.table; position = agrees.position }
 behind_like c here (effects.Sets change) (effects.Moves reach to) vs us agrees same = absurd same
-behind_like c here (effects.Sets change) (effects.Cuts o) vs us agrees same = absurd same
+behind_like c here (effects.Sets change) (effects.Cuts o l) vs us agrees same = absurd same
 behind_like c here (effects.Moves how from) (effects.Defines m g) vs us agrees same = absurd same
 behind_like c here (effects.Moves how from) (effects.Sets other) vs us agrees same = absurd same
 behind_like c here (effects.Moves how from) (effects.Moves reach to) vs us agrees same = record { settings = rw (same, agrees.settings) refl; table = agrees.table; position = refl }
-behind_like c here (effects.Moves how from) (effects.Cuts o) vs us agrees same = absurd same
-behind_like c here (effects.Cuts m) (effects.Defines n g) vs us agrees same = absurd same
-behind_like c here (effects.Cuts m) (effects.Sets other) vs us agrees same = absurd same
-behind_like c here (effects.Cuts m) (effects.Moves reach to) vs us agrees same = absurd same
-behind_like c here (effects.Cuts m) (effects.Cuts o) vs us agrees same = record { settings = rw (same, agrees.settings) refl; table = agrees.table; position = refl }
+behind_like c here (effects.Moves how from) (effects.Cuts o l) vs us agrees same = absurd same
+behind_like c here (effects.Cuts m k) (effects.Defines n g) vs us agrees same = absurd same
+behind_like c here (effects.Cuts m k) (effects.Sets other) vs us agrees same = absurd same
+behind_like c here (effects.Cuts m k) (effects.Moves reach to) vs us agrees same = absurd same
+behind_like c here (effects.Cuts m k) (effects.Cuts o l) vs us agrees same = record { settings = rw (same, agrees.settings) refl; table = agrees.table; position = refl }
 
-pub agrees_behind : (c here : Situation) (deed : Deed) (e d : Effect) (vs us : List Pt) → Agrees c here → effect_of c deed ≡ Some e → effect_of here deed ≡ Some d
+pub agrees_behind : (c here : Situation) (deed : Deed) (e d : Effect) (vs us : List (List Pt)) → Agrees c here → effect_of c deed ≡ Some e → effect_of here deed ≡ Some d
     → Agrees (after c e vs) (after here d us)
 agrees_behind c here deed e d vs us agrees ask asked = behind_like c here e d vs us agrees (alike c here deed e d agrees ask asked)
 

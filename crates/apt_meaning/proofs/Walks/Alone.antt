@@ -1,5 +1,5 @@
 -- Records that follow steps say by themselves where they lead, and which contours they have.
-use Rattle.std.proofs.Common.{◌≡◌, ◌∙◌, ℕ, ◌+◌, ◌*◌, zero, suc, ℤ, pos, negsuc, unsigned_abs, ◌==◌, Bool, true, false, List, [], ◌∷◌, ◌++◌, map, Option, Some, None, refl, sym, ap, cond, arith}
+use Rattle.std.proofs.Common.{◌≡◌, ◌∙◌, ℕ, ◌+◌, ◌*◌, zero, suc, ℤ, pos, negsuc, unsigned_abs, ◌==◌, Bool, true, false, List, [], ◌∷◌, ◌++◌, length, map, Option, Some, None, refl, sym, ap, cond, arith}
 use Rattle.std.specs.Prelude.{◌&&◌}
 use Rattle.std.specs.Ordering.{int_eq}
 use Rattle.std.proofs.lemmas.Bool.Decides.{Decides-eqb, Decides-int_eq}
@@ -29,10 +29,13 @@ use Rattle.apt_meaning.specs.declared.effect.Effect.{Effect}
 use Rattle.apt_meaning.specs.declared.effect.Effect.TheVariants as effects
 use Rattle.apt_meaning.specs.Situations.{first_situation, settings_with, forward_behind}
 use Rattle.apt_cldata.specs.Vertices.{at_height}
+use Rattle.apt_stop.specs.declared.legs.Legs.{Legs}
+use Rattle.apt_stop.specs.declared.legs.Legs.TheVariants as legs
 use Rattle.apt_meaning.specs.Motions.{grid_step}
+use Rattle.apt_stop.specs.Legs.{leg_count}
 use Rattle.apt_meaning.specs.Effects.{effect_of}
-use Rattle.apt_meaning.specs.Paths.{Drive, Check, Saying, nothing_said, is_nowhere, forward_to, forward_on, forward_there, with_point, counted, radius_by, Contour, at_points, last_position, motion_said, contour_said, with_note, with_record, said_behind, contours_behind, contours_of, IsLegalCut, EveryContour}
-use Rattle.apt_meaning.specs.Records.{records_of, after, FollowsAs, HasAny, IsAsSaid, Follows, IsOwnCut}
+use Rattle.apt_meaning.specs.Paths.{Drive, Due, Saying, first_leg, next_leg, due_behind, cut_on, nothing_said, is_nowhere, forward_to, forward_on, forward_there, with_point, counted, radius_by, Contour, at_points, last_position, motion_said, contour_said, with_note, with_record, said_behind, contours_behind, contours_of, IsLegalCut, EveryContour}
+use Rattle.apt_meaning.specs.Records.{cut_record, records_of, last_behind, cut_at, after, legs_from, contours_by, MayHave, FollowsAs, HasAny, IsAsSaid, Follows, IsOwnCut}
 use Rattle.apt_meaning.proofs.Said.{IsMotionOf, said_by as effect_said}
 use Rattle.apt_meaning.proofs.Asked.{CutsLegally, CutsOwn}
 use Rattle.apt_meaning.proofs.Walks.Begins.{both}
@@ -120,26 +123,49 @@ forward_by_tangent (surfaces.Circ c) sense p = refl
 counted_by_greater : (t : ℤ) → greater t grid_step ≡ counted t
 counted_by_greater t = grind (arith, ints)
 
--- the drive and the check record of a motion
+-- what the drive record of a motion says
 abbrev drive_of : Motion → Drive
 drive_of m = record { surface = m.drive; side = m.side; sense = m.sense }
 
-abbrev check_of : Motion → Check
-check_of m = record { surface = m.check; how = m.how }
+same_motion : (s : Saying) (here : Situation) (m : Motion) → IsAsSaid s here → IsMotionOf here m → motion_said s m.start (drive_of m) m.check m.how ≡ m
+same_motion s here m t is =
+    let radius : radius_by s.diameter ≡ m.radius = sym t.radius ∙ sym is.radius in
+    let inner : counted s.intol ≡ m.inner = ap counted (sym t.intol) ∙ sym (counted_by_greater here.settings.intol) ∙ sym is.inner in
+    let outer : counted s.outtol ≡ m.outer = ap counted (sym t.outtol) ∙ sym (counted_by_greater here.settings.outtol) ∙ sym is.outer in
+    rw (sym is.check_side, radius, inner, outer) refl
 
+-- behind them its first leg is due
 abbrev with_surfaces : Saying → Motion → Saying
-with_surfaces s m = record s { drive = Some (drive_of m); check = Some (check_of m) }
+with_surfaces s m = with_record (with_record s (records.Drive m.drive m.side m.sense)) (records.Check m.check m.how)
 
--- where the tool stands behind the vertices of a motion
-stands_behind : (s : Saying) (here : Situation) (m : Motion) (vertices : List Pt) → IsAsSaid s here → IsMotionOf here m
-    → last_position s.position (map (at_height m.start.z) vertices) ≡ Some (at_height m.start.z (last_of m.start.xy vertices))
-stands_behind s here m vertices t is =
-    ap (λ (p : Option Position). last_position p (map (at_height m.start.z) vertices)) (sym t.position ∙ is.start) ∙ last-at_height m.start.z m.start.xy vertices
+due_is : (s : Saying) (here : Situation) (m : Motion) → IsAsSaid s here → IsMotionOf here m → (with_surfaces s m).due ≡ Some (first_leg m)
+due_is s here m t is = rw (sym t.position ∙ is.start) (ap (λ (n : Motion). Some (first_leg n)) (same_motion s here m t is))
 
-contour_tells : (s : Saying) (here : Situation) (m : Motion) (vertices : List Pt) → IsAsSaid s here → IsMotionOf here m
-    → IsAsSaid (with_record (with_surfaces s m) (records.Contour (map (at_height m.start.z) vertices))) (after here (effects.Cuts m) vertices)
-contour_tells s here m vertices t is =
-    let there = stands_behind s here m vertices t is in record {
+-- a leg is due where the tool stands
+pub record IsDueAt (s : Saying) (d : Due) : Type 0 where
+  pub position : s.position ≡ Some d.motion.start
+  pub drive : s.drive ≡ Some (drive_of d.motion)
+  pub due : s.due ≡ Some d
+
+abbrev next_said : Saying → Due → List Pt → Saying
+next_said s d vertices = with_record s (cut_record d.motion.start.z vertices)
+
+-- where the tool stands behind its vertices
+stands_behind : (s : Saying) (d : Due) (vertices : List Pt) → IsDueAt s d → (next_said s d vertices).position ≡ Some (at_height d.motion.start.z (last_of d.motion.start.xy vertices))
+stands_behind s d vertices at =
+    ap (λ (p : Option Position). last_position p (map (at_height d.motion.start.z) vertices)) at.position ∙ last-at_height d.motion.start.z d.motion.start.xy vertices
+
+next_due_at : (s : Saying) (d : Due) (vertices : List Pt) → IsDueAt s d → IsDueAt (next_said s d vertices) (next_leg d vertices)
+next_due_at s d vertices at = record {
+  position = stands_behind s d vertices at;
+  drive = at.drive;
+  due = ap (λ (o : Option Due). due_behind o (map (at_height d.motion.start.z) vertices)) at.due ∙ ap (λ (ps : List Pt). Some (next_leg d ps)) (at_points-at_height d.motion.start.z vertices);
+}
+
+cut_tells : (s : Saying) (now : Situation) (d : Due) (vertices : List Pt) → IsAsSaid s now → IsDueAt s d → IsAsSaid (next_said s d vertices) (cut_at now d.motion (last_of d.motion.start.xy vertices))
+cut_tells s now d vertices t at =
+    let there = stands_behind s d vertices at in
+    let stands = last_position s.position (map (at_height d.motion.start.z) vertices) in record {
       units = t.units;
       radius = t.radius;
       intol = t.intol;
@@ -148,34 +174,48 @@ contour_tells s here m vertices t is =
       rapid = t.rapid;
       position = sym there;
       forward =
-          forward_by_tangent m.drive m.sense (last_of m.start.xy vertices)
-          ∙ ap (λ (p : Option Position). forward_there (Some (drive_of m)) p s.forward) (sym there);
+          forward_by_tangent d.motion.drive d.motion.sense (last_of d.motion.start.xy vertices)
+          ∙ ap (λ (p : Option Position). forward_there (Some (drive_of d.motion)) p s.forward) (sym there)
+          ∙ ap (λ (o : Option Drive). forward_there o stands s.forward) (sym at.drive);
     }
 
-same_motion : (s : Saying) (here : Situation) (m : Motion) → IsAsSaid s here → IsMotionOf here m → motion_said (with_surfaces s m) m.start (drive_of m) (check_of m) ≡ m
-same_motion s here m t is =
-    let radius : radius_by s.diameter ≡ m.radius = sym t.radius ∙ sym is.radius in
-    let inner : counted s.intol ≡ m.inner = ap counted (sym t.intol) ∙ sym (counted_by_greater here.settings.intol) ∙ sym is.inner in
-    let outer : counted s.outtol ≡ m.outer = ap counted (sym t.outtol) ∙ sym (counted_by_greater here.settings.outtol) ∙ sym is.outer in
-    rw (radius, inner, outer) refl
+cuts_tell : (s : Saying) (now : Situation) (d : Due) (vertices : List Pt) (cuts : List (List Pt)) → IsAsSaid s now → IsDueAt s d
+    → IsAsSaid (said_behind s (map (cut_record d.motion.start.z) (vertices ∷ cuts))) (cut_at now d.motion (last_behind d.motion.start.xy (vertices ∷ cuts)))
+cuts_tell s now d vertices [] t at = cut_tells s now d vertices t at
+cuts_tell s now d vertices (more ∷ cuts) t at =
+    cuts_tell (next_said s d vertices) (cut_at now d.motion (last_of d.motion.start.xy vertices)) (next_leg d vertices) more cuts (cut_tells s now d vertices t at) (next_due_at s d vertices at)
 
-contour_is : (s : Saying) (here : Situation) (m : Motion) (vertices : List Pt) → IsAsSaid s here → IsMotionOf here m
-    → contour_said (with_surfaces s m) (map (at_height m.start.z) vertices) ≡ Some (record { motion = m; vertices = vertices })
-contour_is s here m vertices t is =
-    rw (sym t.position ∙ is.start, same_motion s here m t is, at_points-at_height m.start.z vertices) refl
+contour_is : (s : Saying) (d : Due) (vertices : List Pt) → IsDueAt s d → contour_said s.due (map (at_height d.motion.start.z) vertices) ≡ Some (cut_on d vertices)
+contour_is s d vertices at =
+    ap (λ (o : Option Due). contour_said o (map (at_height d.motion.start.z) vertices)) at.due ∙ ap (λ (ps : List Pt). Some (cut_on d ps)) (at_points-at_height d.motion.start.z vertices)
+
+cuts_said : (s : Saying) (d : Due) (cuts : List (List Pt)) (rest : List Record) → IsDueAt s d
+    → contours_behind s (map (cut_record d.motion.start.z) cuts ++ rest) ≡ legs_from d cuts ++ contours_behind (said_behind s (map (cut_record d.motion.start.z) cuts)) rest
+cuts_said s d [] rest at = refl
+cuts_said s d (vertices ∷ cuts) rest at =
+    let z = d.motion.start.z in
+    ap (λ (o : Option Contour). listed o ++ contours_behind (next_said s d vertices) (map (cut_record z) cuts ++ rest)) (contour_is s d vertices at)
+    ∙ ap (λ (cs : List Contour). cut_on d vertices ∷ cs) (cuts_said (next_said s d vertices) (next_leg d vertices) cuts rest (next_due_at s d vertices at))
+
+-- the legs of a contour, of which there is one at least
+first_due_at : (s : Saying) (here : Situation) (m : Motion) → IsAsSaid s here → IsMotionOf here m → IsDueAt (with_surfaces s m) (first_leg m)
+first_due_at s here m t is = record { position = sym t.position ∙ is.start; drive = refl; due = due_is s here m t is }
+
+contour_tells : (s : Saying) (here : Situation) (m : Motion) (n : Legs) (cuts : List (List Pt)) → IsAsSaid s here → IsMotionOf here m → length cuts ≡ leg_count n
+    → IsAsSaid (said_behind (with_surfaces s m) (map (cut_record m.start.z) cuts)) (after here (effects.Cuts m n) cuts)
+contour_tells s here m legs.One [] t is e = absurd cc
+contour_tells s here m legs.Two [] t is e = absurd cc
+contour_tells s here m n (vertices ∷ cuts) t is e =
+    let surfaces : IsAsSaid (with_surfaces s m) here =
+    record { units = t.units; radius = t.radius; intol = t.intol; outtol = t.outtol; feed = t.feed; rapid = t.rapid; position = t.position; forward = t.forward } in
+    cuts_tell (with_surfaces s m) here (first_leg m) vertices cuts surfaces (first_due_at s here m t is)
 
 -- ---- the records of a step
 
-abbrev pub cuts_by : Effect → List Pt → List Contour
-cuts_by (effects.Defines n f) vertices = []
-cuts_by (effects.Sets change) vertices = []
-cuts_by (effects.Moves reach to) vertices = []
-cuts_by (effects.Cuts m) vertices = record { motion = m; vertices = vertices } ∷ []
-
 -- what the records of an effect say, and the contours among them
-pub record SaysOn (s : Saying) (here : Situation) (step : Step) (e : Effect) (vertices : List Pt) : Type 0 where
-  pub tells : IsAsSaid (said_behind s (records_of step e vertices)) (after here e vertices)
-  pub contours : (rest : List Record) → contours_behind s (records_of step e vertices ++ rest) ≡ cuts_by e vertices ++ contours_behind (said_behind s (records_of step e vertices)) rest
+pub record SaysOn (s : Saying) (here : Situation) (step : Step) (e : Effect) (cuts : List (List Pt)) : Type 0 where
+  pub tells : IsAsSaid (said_behind s (records_of step e cuts)) (after here e cuts)
+  pub contours : (rest : List Record) → contours_behind s (records_of step e cuts ++ rest) ≡ contours_by e cuts ++ contours_behind (said_behind s (records_of step e cuts)) rest
 
 still_tells : (s : Saying) (here now : Situation) → IsAsSaid s here → now.settings.units ≡ here.settings.units → now.settings.radius ≡ here.settings.radius → now.settings.intol ≡ here.settings.intol
     → now.settings.outtol ≡ here.settings.outtol → now.settings.feed ≡ here.settings.feed → now.settings.rapid ≡ here.settings.rapid → now.position ≡ here.position → now.forward ≡ here.forward → IsAsSaid s now
@@ -190,19 +230,17 @@ still_tells s here now t a b c d e f g h = record {
   forward = h ∙ t.forward;
 }
 
-pub says_on : (s : Saying) (here : Situation) (step : Step) (e : Effect) (vertices : List Pt) → IsAsSaid s here → effect_of here step.deed ≡ Some e → SaysOn s here step e vertices
-says_on s here step (effects.Defines n f) vertices t asked =
-    record { tells = still_tells s here (after here (effects.Defines n f) vertices) t refl refl refl refl refl refl refl refl; contours = λ rest. refl }
-says_on s here step (effects.Sets (changes.Said note)) vertices t asked = record { tells = note_tells s here note t; contours = λ rest. refl }
-says_on s here step (effects.Sets (changes.Side side)) vertices t asked =
-    record { tells = still_tells s here (after here (effects.Sets (changes.Side side)) vertices) t refl refl refl refl refl refl refl refl; contours = λ rest. refl }
-says_on s here step (effects.Sets changes.Nothing) vertices t asked = record { tells = t; contours = λ rest. refl }
-says_on s here step (effects.Moves reach to) vertices t asked = record { tells = point_tells s here reach to t; contours = λ rest. refl }
-says_on s here step (effects.Cuts m) vertices t asked =
-    let is = (effect_said here step.deed (effects.Cuts m) asked).1 in record {
-      tells = contour_tells s here m vertices t is;
-      contours = λ rest. ap (λ (o : Option Contour). listed o ++ contours_behind (said_behind s (records_of step (effects.Cuts m) vertices)) rest) (contour_is s here m vertices t is);
-    }
+pub says_on : (s : Saying) (here : Situation) (step : Step) (e : Effect) (cuts : List (List Pt)) → IsAsSaid s here → effect_of here step.deed ≡ Some e → MayHave e cuts → SaysOn s here step e cuts
+says_on s here step (effects.Defines n f) cuts t asked may =
+    record { tells = still_tells s here (after here (effects.Defines n f) cuts) t refl refl refl refl refl refl refl refl; contours = λ rest. refl }
+says_on s here step (effects.Sets (changes.Said note)) cuts t asked may = record { tells = note_tells s here note t; contours = λ rest. refl }
+says_on s here step (effects.Sets (changes.Side side)) cuts t asked may =
+    record { tells = still_tells s here (after here (effects.Sets (changes.Side side)) cuts) t refl refl refl refl refl refl refl refl; contours = λ rest. refl }
+says_on s here step (effects.Sets changes.Nothing) cuts t asked may = record { tells = t; contours = λ rest. refl }
+says_on s here step (effects.Moves reach to) cuts t asked may = record { tells = point_tells s here reach to t; contours = λ rest. refl }
+says_on s here step (effects.Cuts m n) cuts t asked may =
+    let is = (effect_said here step.deed (effects.Cuts m n) asked).1 in
+    record { tells = contour_tells s here m n cuts t is may.1; contours = λ rest. cuts_said (with_surfaces s m) (first_leg m) cuts rest (first_due_at s here m t is) }
 
 -- ---- the walk
 
@@ -211,72 +249,69 @@ said_behind-append s [] ys = refl
 said_behind-append s (x ∷ xs) ys = said_behind-append (with_record s x) xs ys
 
 -- the situation behind records that follow steps is what they say
-told_behind : (Allowed : Effect → List Pt → Type 0) (s : Saying) (here : Situation) (steps : List Step) (written : List Record) (behind : Situation) → IsAsSaid s here
+told_behind : (Allowed : Effect → List (List Pt) → Type 0) (s : Saying) (here : Situation) (steps : List Step) (written : List Record) (behind : Situation) → IsAsSaid s here
     → FollowsAs Allowed here steps written behind → IsAsSaid (said_behind s written) behind
 told_behind Allowed s here [] written behind t f = rw (f.0, f.1) t
 told_behind Allowed s here (step ∷ steps) written behind t f =
     let e = f.0 in
     let due = records_of step e f.1 in
-    let on = says_on s here step e f.1 t f.3.asked in
+    let on = says_on s here step e f.1 t f.3.asked f.3.may in
     rw (f.3.front, said_behind-append s due f.2) (told_behind Allowed (said_behind s due) (after here e f.1) steps f.2 behind on.tells f.5)
 
--- and what is allowed to the effects is a fact of the contours
-pub contours_are : (Allowed : Effect → List Pt → Type 0) (P : Motion → List Pt → Type 0) → ((e : Effect) (vertices : List Pt) (more : List Contour) → Allowed e vertices → EveryContour P more → EveryContour P (cuts_by e vertices ++ more))
-    → (s : Saying) (here : Situation) (steps : List Step) (written : List Record) (behind : Situation) → IsAsSaid s here → FollowsAs Allowed here steps written behind → EveryContour P (contours_behind s written)
-contours_are Allowed P join s here [] written behind t f = rw f.0 tt
-contours_are Allowed P join s here (step ∷ steps) written behind t f =
+-- ---- facts of contours
+
+pub every_join : (P : Contour → Type 0) (cs more : List Contour) → EveryContour P cs → EveryContour P more → EveryContour P (cs ++ more)
+every_join P [] more every later = later
+every_join P (c ∷ cs) more every later = (every.0, every_join P cs more every.1 later)
+
+pub every_split : (P : Contour → Type 0) (cs more : List Contour) → EveryContour P (cs ++ more) → EveryContour P cs × EveryContour P more
+every_split P [] more every = (tt, every)
+every_split P (c ∷ cs) more every =
+    let parts = every_split P cs more every.1 in
+    ((every.0, parts.0), parts.1)
+
+-- a fact of the legs of each effect is one of all contours
+abbrev pub EachCut : (Contour → Type 0) → Effect → List (List Pt) → Type 0
+EachCut P e cuts = EveryContour P (contours_by e cuts)
+
+pub contours_are : (P : Contour → Type 0) (s : Saying) (here : Situation) (steps : List Step) (written : List Record) (behind : Situation) → IsAsSaid s here
+    → FollowsAs (EachCut P) here steps written behind → EveryContour P (contours_behind s written)
+contours_are P s here [] written behind t f = rw f.0 tt
+contours_are P s here (step ∷ steps) written behind t f =
     let e = f.0 in
     let due = records_of step e f.1 in
-    let on = says_on s here step e f.1 t f.3.asked in
-    rw (f.3.front, on.contours f.2) (join e f.1 (contours_behind (said_behind s due) f.2) f.4 (contours_are Allowed P join (said_behind s due) (after here e f.1) steps f.2 behind on.tells f.5))
+    let on = says_on s here step e f.1 t f.3.asked f.3.may in
+    rw (f.3.front, on.contours f.2)
+    (every_join P (contours_by e f.1) (contours_behind (said_behind s due) f.2) f.4 (contours_are P (said_behind s due) (after here e f.1) steps f.2 behind on.tells f.5))
 
 -- and the other way round
-pub contours_allow : (Allowed : Effect → List Pt → Type 0) (P : Motion → List Pt → Type 0) → ((e : Effect) (vertices : List Pt) (more : List Contour) → EveryContour P (cuts_by e vertices ++ more) → Allowed e vertices × EveryContour P more)
-    → (s : Saying) (here : Situation) (steps : List Step) (written : List Record) (behind : Situation) → IsAsSaid s here → FollowsAs HasAny here steps written behind
-    → EveryContour P (contours_behind s written) → FollowsAs Allowed here steps written behind
-contours_allow Allowed P split s here [] written behind t f every = f
-contours_allow Allowed P split s here (step ∷ steps) written behind t f every =
+pub contours_allow : (P : Contour → Type 0) (s : Saying) (here : Situation) (steps : List Step) (written : List Record) (behind : Situation) → IsAsSaid s here
+    → FollowsAs HasAny here steps written behind → EveryContour P (contours_behind s written) → FollowsAs (EachCut P) here steps written behind
+contours_allow P s here [] written behind t f every = f
+contours_allow P s here (step ∷ steps) written behind t f every =
     let e = f.0 in
     let due = records_of step e f.1 in
-    let on = says_on s here step e f.1 t f.3.asked in
-    let parts = split e f.1 (contours_behind (said_behind s due) f.2) (rw (f.3.front, on.contours f.2) at every) in
-    (e, f.1, f.2, f.3, parts.0, contours_allow Allowed P split (said_behind s due) (after here e f.1) steps f.2 behind on.tells f.5 parts.1)
+    let on = says_on s here step e f.1 t f.3.asked f.3.may in
+    let parts = every_split P (contours_by e f.1) (contours_behind (said_behind s due) f.2) (rw (f.3.front, on.contours f.2) at every) in
+    (e, f.1, f.2, f.3, parts.0, contours_allow P (said_behind s due) (after here e f.1) steps f.2 behind on.tells f.5 parts.1)
 
-pub any_follows : (Allowed : Effect → List Pt → Type 0) (here : Situation) (steps : List Step) (written : List Record) (behind : Situation) → FollowsAs Allowed here steps written behind
+pub any_follows : (Allowed : Effect → List (List Pt) → Type 0) (here : Situation) (steps : List Step) (written : List Record) (behind : Situation) → FollowsAs Allowed here steps written behind
     → FollowsAs HasAny here steps written behind
 any_follows Allowed here [] written behind f = f
 any_follows Allowed here (step ∷ steps) written behind f = (f.0, f.1, f.2, f.3, tt, any_follows Allowed (after here f.0 f.1) steps f.2 behind f.5)
 
-pub follows : (Allowed : Effect → List Pt → Type 0) (steps : List Step) (written : List Record) (behind : Situation) → FollowsAs Allowed first_situation steps written behind → Follows steps written
+pub follows : (Allowed : Effect → List (List Pt) → Type 0) (steps : List Step) (written : List Record) (behind : Situation) → FollowsAs Allowed first_situation steps written behind → Follows steps written
 follows Allowed steps written behind f =
     record { behind = behind; follow = any_follows Allowed first_situation steps written behind f; tells = told_behind Allowed nothing_said first_situation steps written behind nothing_tells f }
 
 -- ---- legal, and the compiler's own
 
-join_legal : (e : Effect) (vertices : List Pt) (more : List Contour) → CutsLegally e vertices → EveryContour IsLegalCut more → EveryContour IsLegalCut (cuts_by e vertices ++ more)
-join_legal (effects.Defines n f) vertices more legal later = later
-join_legal (effects.Sets change) vertices more legal later = later
-join_legal (effects.Moves reach to) vertices more legal later = later
-join_legal (effects.Cuts m) vertices more legal later = (legal, later)
-
-split_legal : (e : Effect) (vertices : List Pt) (more : List Contour) → EveryContour IsLegalCut (cuts_by e vertices ++ more) → CutsLegally e vertices × EveryContour IsLegalCut more
-split_legal (effects.Defines n f) vertices more every = (tt, every)
-split_legal (effects.Sets change) vertices more every = (tt, every)
-split_legal (effects.Moves reach to) vertices more every = (tt, every)
-split_legal (effects.Cuts m) vertices more every = every
-
-join_own : (e : Effect) (vertices : List Pt) (more : List Contour) → CutsOwn e vertices → EveryContour IsOwnCut more → EveryContour IsOwnCut (cuts_by e vertices ++ more)
-join_own (effects.Defines n f) vertices more own later = later
-join_own (effects.Sets change) vertices more own later = later
-join_own (effects.Moves reach to) vertices more own later = later
-join_own (effects.Cuts m) vertices more own later = (own, later)
-
 -- records that follow steps legally follow them, and their contours are legal; and the other way round
 pub legal_contours : (steps : List Step) (written : List Record) (behind : Situation) → FollowsAs CutsLegally first_situation steps written behind → EveryContour IsLegalCut (contours_of written)
-legal_contours steps written behind f = contours_are CutsLegally IsLegalCut join_legal nothing_said first_situation steps written behind nothing_tells f
+legal_contours steps written behind f = contours_are IsLegalCut nothing_said first_situation steps written behind nothing_tells f
 
 pub contours_legal : (steps : List Step) (written : List Record) (f : Follows steps written) → EveryContour IsLegalCut (contours_of written) → FollowsAs CutsLegally first_situation steps written f.behind
-contours_legal steps written f every = contours_allow CutsLegally IsLegalCut split_legal nothing_said first_situation steps written f.behind nothing_tells f.follow every
+contours_legal steps written f every = contours_allow IsLegalCut nothing_said first_situation steps written f.behind nothing_tells f.follow every
 
 pub own_contours : (steps : List Step) (written : List Record) (behind : Situation) → FollowsAs CutsOwn first_situation steps written behind → EveryContour IsOwnCut (contours_of written)
-own_contours steps written behind f = contours_are CutsOwn IsOwnCut join_own nothing_said first_situation steps written behind nothing_tells f
+own_contours steps written behind f = contours_are IsOwnCut nothing_said first_situation steps written behind nothing_tells f

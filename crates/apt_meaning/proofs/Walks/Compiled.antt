@@ -14,8 +14,8 @@ use Rattle.apt_meaning.specs.declared.effect.Effect.{Effect}
 use Rattle.apt_meaning.specs.declared.effect.Effect.TheVariants as effects
 use Rattle.apt_meaning.specs.Effects.{effect_of}
 use Rattle.apt_meaning.specs.Refusals.{refusal_of}
-use Rattle.apt_meaning.specs.Records.{Begins, FollowsAs, records_of, after}
-use Rattle.apt_meaning.specs.Compiled.{ends_of, points_of, most_points, asked_within, with_front, asked, or_first, first_refused, or_refused, compilation_behind}
+use Rattle.apt_meaning.specs.Records.{Begins, FollowsAs, records_of, cut_at, after}
+use Rattle.apt_meaning.specs.Compiled.{ends_of, points_of, point_number, most_points, asked_within, with_front, asked, or_first, first_refused, or_refused, compilation_behind}
 use Rattle.apt_meaning.specs.Ranges.{IsSituation}
 use Rattle.apt_words.specs.Sources.{AreExecuted}
 use Rattle.apt_scalar.specs.StepScalars.{AreScalars}
@@ -28,22 +28,22 @@ pub record Done (so_far : ℕ) (refusal : Option Case) (effect : Option Effect) 
   pub e : Effect
   pub fine : refusal ≡ None
   pub asked : effect ≡ Some e
-  pub few : so_far + length (points_of e) ≤ most_points
+  pub few : so_far + point_number e ≤ most_points
   pub rest : more e ≡ Ok written
 
 no_ok : (refusal : Refusal) (written : List Record) → Err refusal ≡ Ok written → ⊥
 no_ok refusal written e = cc
 
 done_within : (so_far : ℕ) (step : Step) (e : Effect) (more : Effect → Result (List Record) Refusal) (written : List Record) (many : Bool)
-    → nat_lt most_points (so_far + length (points_of e)) ≡ many → or_refused step (if many then Err cases.TooManyPoints else Ok e) more ≡ Ok written → Done so_far None (Some e) more written
+    → nat_lt most_points (so_far + point_number e) ≡ many → or_refused step (if many then Err cases.TooManyPoints else Ok e) more ≡ Ok written → Done so_far None (Some e) more written
 done_within so_far step e more written true tells h = absurd (no_ok _ written h)
-done_within so_far step e more written false tells h = record { e = e; fine = refl; asked = refl; few = ltb-false most_points (so_far + length (points_of e)) tells; rest = h }
+done_within so_far step e more written false tells h = record { e = e; fine = refl; asked = refl; few = ltb-false most_points (so_far + point_number e) tells; rest = h }
 
 pub done : (so_far : ℕ) (step : Step) (refusal : Option Case) (effect : Option Effect) (more : Effect → Result (List Record) Refusal) (written : List Record)
     → or_refused step (asked_within so_far (asked refusal effect)) more ≡ Ok written → Done so_far refusal effect more written
 done so_far step (Some case) effect more written h = absurd (no_ok _ written h)
 done so_far step None None more written h = absurd (no_ok _ written h)
-done so_far step None (Some e) more written h = done_within so_far step e more written (nat_lt most_points (so_far + length (points_of e))) refl h
+done so_far step None (Some e) more written h = done_within so_far step e more written (nat_lt most_points (so_far + point_number e)) refl h
 
 -- a step that is done, where only the first refusal is asked for
 pub record Passed (refusal : Option Case) (effect : Option Effect) (more : Effect → Option Refusal) : Type 0 where
@@ -83,7 +83,7 @@ pub after_points : (here : Situation) (e : Effect) → EndsThere e → after her
 after_points here (effects.Defines n f) ends = refl
 after_points here (effects.Sets change) ends = refl
 after_points here (effects.Moves reach to) ends = refl
-after_points here (effects.Cuts m) ends = ap (λ (q : Pt). after here (effects.Cuts m) (q ∷ [])) (sym ends)
+after_points here (effects.Cuts m n) ends = ap (cut_at here m) (sym ends)
 
 -- records follow steps legally and with the compiler's own vertices, and all that they lead to is in range
 pub record Arrives (here : Situation) (steps : List Step) (written : List Record) : Type 0 where
@@ -95,14 +95,14 @@ pub record Arrives (here : Situation) (steps : List Step) (written : List Record
 
 -- what is done behind a step, after so many vertices
 abbrev pub behind_step : ℕ → Situation → Step → List Step → Effect → Result (List Record) Refusal
-behind_step so_far here step steps e = with_front (records_of step e (points_of e)) (compilation_behind (so_far + length (points_of e)) (after here e (ends_of e)) steps)
+behind_step so_far here step steps e = with_front (records_of step e (points_of e)) (compilation_behind (so_far + point_number e) (after here e (ends_of e)) steps)
 
 -- steps that have records pass
 pub compiled_passes : (so_far : ℕ) (here : Situation) (steps : List Step) (written : List Record) → compilation_behind so_far here steps ≡ Ok written → first_refused here steps ≡ None
 compiled_passes so_far here [] written h = refl
 compiled_passes so_far here (step ∷ steps) written h =
     let d = done so_far step (refusal_of here step.deed) (effect_of here step.deed) (behind_step so_far here step steps) written h in
-    let n = so_far + length (points_of d.e) in
+    let n = so_far + point_number d.e in
     let f = front_ok (records_of step d.e (points_of d.e)) (compilation_behind n (after here d.e (ends_of d.e)) steps) written d.rest in
     rw (d.fine, d.asked) (compiled_passes n (after here d.e (ends_of d.e)) steps f.0 f.1)
 
@@ -114,7 +114,7 @@ compiled_follows so_far here [] written is numbers sources h =
 compiled_follows so_far here (step ∷ steps) written is numbers sources h =
     let d = done so_far step (refusal_of here step.deed) (effect_of here step.deed) (behind_step so_far here step steps) written h in
     let e = d.e in
-    let n = so_far + length (points_of e) in
+    let n = so_far + point_number e in
     let ok = fit (effect_of here step.deed) e d.asked (answered here step.deed is numbers.0 sources.0.text d.fine) in
     let f = front_ok (records_of step e (points_of e)) (compilation_behind n (after here e (ends_of e)) steps) written d.rest in
     let same = after_points here e ok.ends in

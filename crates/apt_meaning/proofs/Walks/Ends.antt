@@ -1,5 +1,5 @@
 -- Records that follow steps end as the steps do.
-use Rattle.std.proofs.Common.{◌≡◌, refl, Bool, false, List, [], ◌∷◌, ◌++◌, Option, Some, ap, subst}
+use Rattle.std.proofs.Common.{◌≡◌, refl, Bool, false, ℤ, List, [], ◌∷◌, ◌++◌, map, Option, Some, ap, subst}
 use Rattle.apt_words.specs.Asks.{Ask, Titles, Says, Sets, Defines, Goes, Cuts, Nothing, ask_of, is_end, asks_end}
 use Rattle.apt_words.specs.declared.Turn.TheVariants as turns
 use Rattle.apt_words.specs.declared.Units.{Units}
@@ -19,7 +19,7 @@ use Rattle.apt_meaning.specs.declared.effect.Change.TheVariants as changes
 use Rattle.apt_meaning.specs.declared.effect.Effect.{Effect}
 use Rattle.apt_meaning.specs.declared.effect.Effect.TheVariants as effects
 use Rattle.apt_meaning.specs.Effects.{note_of, effect_of}
-use Rattle.apt_meaning.specs.Records.{records_of, after, FollowsAs}
+use Rattle.apt_meaning.specs.Records.{cut_record, records_of, after, FollowsAs}
 use Rattle.apt_words.specs.ProgramEnds.{is_ended, StepsEnd}
 use Rattle.apt_meaning.proofs.Said.{IsNoteOf, IsSaidBy, said_by}
 
@@ -37,7 +37,7 @@ note_ends units (Says saying) note rest said goes_on more = rw said (saying_ends
 note_ends units (Sets side) note rest said goes_on more = absurd said
 note_ends units (Defines name form) note rest said goes_on more = absurd said
 note_ends units (Goes route) note rest said goes_on more = absurd said
-note_ends units (Cuts side go drive how check) note rest said goes_on more = absurd said
+note_ends units (Cuts side go drive how check n) note rest said goes_on more = absurd said
 note_ends units Nothing note rest said goes_on more = absurd said
 
 still_on : (ended : Bool) (rest : List Record) → ended ≡ false → EndsOnce ended rest → EndsOnce false rest
@@ -51,34 +51,38 @@ fini_asked (deeds.Spindl n turns.Ccw) e = absurd cc
 fini_asked (deeds.Spindl n turns.Off) e = absurd cc
 fini_asked _ e = absurd cc
 
-change_ends : (here : Situation) (ask : Ask) (step : Step) (change : Change) (vertices : List Pt) (rest : List Record) → IsSaidBy here ask (effects.Sets change)
-    → ¬ (ask ≡ Says sayings.Fini) → EndsOnce (asks_end ask) rest → EndsOnce false (records_of step (effects.Sets change) vertices ++ rest)
-change_ends here ask step (changes.Said note) vertices rest said goes_on more = note_ends here.settings.units ask note rest said goes_on more
-change_ends here ask step (changes.Side side) vertices rest said goes_on more = still_on (asks_end ask) rest said more
-change_ends here ask step changes.Nothing vertices rest said goes_on more = still_on (asks_end ask) rest said more
+change_ends : (here : Situation) (ask : Ask) (step : Step) (change : Change) (cuts : List (List Pt)) (rest : List Record) → IsSaidBy here ask (effects.Sets change)
+    → ¬ (ask ≡ Says sayings.Fini) → EndsOnce (asks_end ask) rest → EndsOnce false (records_of step (effects.Sets change) cuts ++ rest)
+change_ends here ask step (changes.Said note) cuts rest said goes_on more = note_ends here.settings.units ask note rest said goes_on more
+change_ends here ask step (changes.Side side) cuts rest said goes_on more = still_on (asks_end ask) rest said more
+change_ends here ask step changes.Nothing cuts rest said goes_on more = still_on (asks_end ask) rest said more
 
-step_ends : (here : Situation) (ask : Ask) (step : Step) (e : Effect) (vertices : List Pt) (rest : List Record) → IsSaidBy here ask e → ¬ (ask ≡ Says sayings.Fini)
-    → EndsOnce (asks_end ask) rest → EndsOnce false (records_of step e vertices ++ rest)
-step_ends here ask step (effects.Defines n f) vertices rest said goes_on more = still_on (asks_end ask) rest said more
-step_ends here ask step (effects.Sets change) vertices rest said goes_on more = change_ends here ask step change vertices rest said goes_on more
-step_ends here ask step (effects.Moves reach to) vertices rest said goes_on more = still_on (asks_end ask) rest said more
-step_ends here ask step (effects.Cuts m) vertices rest said goes_on more = still_on (asks_end ask) rest said.0 more
+cuts_end : (z : ℤ) (cuts : List (List Pt)) (rest : List Record) → EndsOnce false rest → EndsOnce false (map (cut_record z) cuts ++ rest)
+cuts_end z [] rest more = more
+cuts_end z (vertices ∷ cuts) rest more = cuts_end z cuts rest more
+
+step_ends : (here : Situation) (ask : Ask) (step : Step) (e : Effect) (cuts : List (List Pt)) (rest : List Record) → IsSaidBy here ask e → ¬ (ask ≡ Says sayings.Fini)
+    → EndsOnce (asks_end ask) rest → EndsOnce false (records_of step e cuts ++ rest)
+step_ends here ask step (effects.Defines n f) cuts rest said goes_on more = still_on (asks_end ask) rest said more
+step_ends here ask step (effects.Sets change) cuts rest said goes_on more = change_ends here ask step change cuts rest said goes_on more
+step_ends here ask step (effects.Moves reach to) cuts rest said goes_on more = still_on (asks_end ask) rest said more
+step_ends here ask step (effects.Cuts m n) cuts rest said goes_on more = cuts_end m.start.z cuts rest (still_on (asks_end ask) rest said.0 more)
 
 -- ---- the last step
 
 same_effect : (d e : Effect) → ◌≡◌ {A = Option Effect} (Some d) (Some e) → d ≡ e
 same_effect d e h = cc
 
-fini_ends : (ended : Bool) (here : Situation) (step : Step) (deed : Deed) (e : Effect) (vertices : List Pt) → deed ≡ deeds.Fini → effect_of here deed ≡ Some e
-    → EndsOnce ended (records_of step e vertices ++ [])
-fini_ends ended here step deed e vertices is asked =
+fini_ends : (ended : Bool) (here : Situation) (step : Step) (deed : Deed) (e : Effect) (cuts : List (List Pt)) → deed ≡ deeds.Fini → effect_of here deed ≡ Some e
+    → EndsOnce ended (records_of step e cuts ++ [])
+fini_ends ended here step deed e cuts is asked =
     let fini = effects.Sets (changes.Said notes.Fini) in
     let same = same_effect fini e (subst (λ (d : Deed). effect_of here d ≡ Some e) is asked) in
-    subst (λ (x : Effect). EndsOnce ended (records_of step x vertices ++ [])) same tt
+    subst (λ (x : Effect). EndsOnce ended (records_of step x cuts ++ [])) same tt
 
 -- ---- the walk
 
-pub ends_once : (Allowed : Effect → List Pt → Type 0) (ended : Bool) (here : Situation) (steps : List Step) (written : List Record) (behind : Situation)
+pub ends_once : (Allowed : Effect → List (List Pt) → Type 0) (ended : Bool) (here : Situation) (steps : List Step) (written : List Record) (behind : Situation)
     → FollowsAs Allowed here steps written behind → StepsEnd ended steps → EndsOnce ended written
 ends_once Allowed ended here [] written behind f end = absurd end
 ends_once Allowed ended here (step ∷ []) written behind f end =

@@ -29,11 +29,15 @@ use Rattle.apt_meaning.specs.declared.effect.Change.TheVariants as changes
 use Rattle.apt_meaning.specs.declared.effect.Effect.{Effect}
 use Rattle.apt_meaning.specs.declared.effect.Effect.TheVariants as effects
 use Rattle.apt_cldata.specs.Vertices.{at_height}
-use Rattle.apt_meaning.specs.Motions.{vertices_of}
+use Rattle.apt_meaning.specs.declared.motion.Motion.{Motion}
+use Rattle.apt_stop.specs.declared.legs.Legs.{Legs}
+use Rattle.apt_stop.specs.declared.legs.Legs.TheVariants as legs
+use Rattle.apt_meaning.specs.Motions.{vertices_of, motions_of}
 use Rattle.apt_meaning.specs.Effects.{note_of, effect_of}
 use Rattle.apt_meaning.specs.Refusals.{refusal_of}
-use Rattle.apt_meaning.specs.Records.{with_statement, change_records, effect_records, records_of, after}
-use Rattle.apt_meaning.specs.Compiled.{ends_of, points_of, most_points, compilation_behind}
+use Rattle.apt_meaning.specs.Records.{with_statement, change_records, cut_record, effect_records, records_of, after}
+use Rattle.apt_meaning.specs.Vertices.{cut_points}
+use Rattle.apt_meaning.specs.Compiled.{ends_of, points_of, point_number, most_points, compilation_behind}
 use Rattle.apt_meaning.proofs.Said.{IsNoteOf, IsSetBy, IsSaidBy, said_by}
 use Rattle.apt_meaning.proofs.Walks.Compiled.{done, front_ok, nothing_left, behind_step}
 
@@ -53,7 +57,7 @@ note_short units (Says saying) note titled said = rw said (saying_short units sa
 note_short units (Sets side) note titled said = absurd said
 note_short units (Defines name form) note titled said = absurd said
 note_short units (Goes route) note titled said = absurd said
-note_short units (Cuts side go drive how check) note titled said = absurd said
+note_short units (Cuts side go drive how check n) note titled said = absurd said
 note_short units Nothing note titled said = absurd said
 
 drive_short : (s : Surface) (side : Side) (sense : ℤ) → IsShort (records.Drive s side sense)
@@ -68,38 +72,57 @@ check_short (surfaces.Circ c) how = omega arith
 contour_short : (z : ℤ) (vertices : List Pt) → length vertices ≤ most_points → IsShort (records.Contour (map (at_height z) vertices))
 contour_short z vertices few = short_when (records.Contour (map (at_height z) vertices)) (omega (arith, few, length-map vertices (at_height z)))
 
--- ---- the records of a step: short ones, at most four, with its vertices
+-- ---- the records of a step: short ones, at most five, with its vertices
 
 change_short : (units : Units) (ask : Ask) (change : Change) → AskHasText ask → IsSetBy units ask change → AreShort (change_records change)
 change_short units ask (changes.Said note) titled said = (note_short units ask note titled said, tt)
 change_short units ask (changes.Side side) titled said = tt
 change_short units ask changes.Nothing titled said = tt
 
-effect_short : (here : Situation) (ask : Ask) (e : Effect) (vertices : List Pt) → AskHasText ask → IsSaidBy here ask e → length vertices ≤ most_points → AreShort (effect_records e vertices)
-effect_short here ask (effects.Defines n f) vertices titled said few = tt
-effect_short here ask (effects.Sets change) vertices titled said few = change_short here.settings.units ask change titled said
-effect_short here ask (effects.Moves reach to) vertices titled said few = (omega arith, tt)
-effect_short here ask (effects.Cuts m) vertices titled said few = (drive_short m.drive m.side m.sense, (check_short m.check m.how, (contour_short m.start.z vertices few, tt)))
+cuts_short : (z : ℤ) (cuts : List (List Pt)) → cut_points cuts ≤ most_points → AreShort (map (cut_record z) cuts)
+cuts_short z [] few = tt
+cuts_short z (vertices ∷ cuts) few = (contour_short z vertices (omega (arith, few)), cuts_short z cuts (omega (arith, few)))
+
+effect_short : (here : Situation) (ask : Ask) (e : Effect) (cuts : List (List Pt)) → AskHasText ask → IsSaidBy here ask e → cut_points cuts ≤ most_points → AreShort (effect_records e cuts)
+effect_short here ask (effects.Defines n f) cuts titled said few = tt
+effect_short here ask (effects.Sets change) cuts titled said few = change_short here.settings.units ask change titled said
+effect_short here ask (effects.Moves reach to) cuts titled said few = (omega arith, tt)
+effect_short here ask (effects.Cuts m n) cuts titled said few = (drive_short m.drive m.side m.sense, (check_short m.check m.how, cuts_short m.start.z cuts few))
 
 with_statement-short : (step : Step) (rs : List Record) → AreShort rs → AreShort (with_statement step rs)
 with_statement-short step [] are = tt
 with_statement-short step (r ∷ rs) are = (omega arith, are)
 
-few_records : (step : Step) (e : Effect) (vertices : List Pt) → length (records_of step e vertices) ≤ 4
-few_records step (effects.Defines n f) vertices = omega arith
-few_records step (effects.Sets (changes.Said note)) vertices = omega arith
-few_records step (effects.Sets (changes.Side side)) vertices = omega arith
-few_records step (effects.Sets changes.Nothing) vertices = omega arith
-few_records step (effects.Moves reach to) vertices = omega arith
-few_records step (effects.Cuts m) vertices = omega arith
+-- a contour has two legs at most
+few_legs : (m : Motion) (n : Legs) → length (map vertices_of (motions_of m n)) ≤ 2
+few_legs m legs.One = omega arith
+few_legs m legs.Two = omega arith
 
-step_vertices : (step : Step) (e : Effect) → vertex_count (records_of step e (points_of e)) ≡ length (points_of e)
+few_cuts : (e : Effect) → length (points_of e) ≤ 2
+few_cuts (effects.Defines n f) = omega arith
+few_cuts (effects.Sets change) = omega arith
+few_cuts (effects.Moves reach to) = omega arith
+few_cuts (effects.Cuts m n) = few_legs m n
+
+few_records : (step : Step) (e : Effect) (cuts : List (List Pt)) → length (records_of step e cuts) ≤ 3 + length cuts
+few_records step (effects.Defines n f) cuts = omega arith
+few_records step (effects.Sets (changes.Said note)) cuts = omega arith
+few_records step (effects.Sets (changes.Side side)) cuts = omega arith
+few_records step (effects.Sets changes.Nothing) cuts = omega arith
+few_records step (effects.Moves reach to) cuts = omega arith
+few_records step (effects.Cuts m n) cuts = omega (arith, length-map cuts (cut_record m.start.z))
+
+cut_vertices : (z : ℤ) (cuts : List (List Pt)) → vertex_count (map (cut_record z) cuts) ≡ cut_points cuts
+cut_vertices z [] = refl
+cut_vertices z (vertices ∷ cuts) = omega (arith, length-map vertices (at_height z), cut_vertices z cuts)
+
+step_vertices : (step : Step) (e : Effect) → vertex_count (records_of step e (points_of e)) ≡ point_number e
 step_vertices step (effects.Defines n f) = refl
 step_vertices step (effects.Sets (changes.Said note)) = refl
 step_vertices step (effects.Sets (changes.Side side)) = refl
 step_vertices step (effects.Sets changes.Nothing) = refl
 step_vertices step (effects.Moves reach to) = refl
-step_vertices step (effects.Cuts m) = omega (arith, length-map (vertices_of m) (at_height m.start.z))
+step_vertices step (effects.Cuts m n) = omega (arith, cut_vertices m.start.z (points_of (effects.Cuts m n)))
 
 -- ---- the bytes of a step
 
@@ -113,7 +136,7 @@ note_bytes units (Says saying) note said = rw said (omega (arith, saying_bytes u
 note_bytes units (Sets side) note said = absurd said
 note_bytes units (Defines name form) note said = absurd said
 note_bytes units (Goes route) note said = absurd said
-note_bytes units (Cuts side go drive how check) note said = absurd said
+note_bytes units (Cuts side go drive how check n) note said = absurd said
 note_bytes units Nothing note said = absurd said
 
 drive_bytes : (s : Surface) (side : Side) (sense : ℤ) → bytes_in (records.Drive s side sense) ≤ 84
@@ -132,18 +155,22 @@ change_bytes units ask (changes.Said note) said = omega (arith, note_bytes units
 change_bytes units ask (changes.Side side) said = omega arith
 change_bytes units ask changes.Nothing said = omega arith
 
-effect_bytes : (here : Situation) (ask : Ask) (e : Effect) (vertices : List Pt) → IsSaidBy here ask e → bytes_of (effect_records e vertices) ≤ 188 + 24 * length vertices + 8 * asked_title ask
-effect_bytes here ask (effects.Defines n f) vertices said = omega arith
-effect_bytes here ask (effects.Sets change) vertices said = omega (arith, change_bytes here.settings.units ask change said)
-effect_bytes here ask (effects.Moves reach to) vertices said = omega arith
-effect_bytes here ask (effects.Cuts m) vertices said = omega (arith, drive_bytes m.drive m.side m.sense, check_bytes m.check m.how, contour_bytes m.start.z vertices)
+cuts_bytes : (z : ℤ) (cuts : List (List Pt)) → bytes_of (map (cut_record z) cuts) ≤ 28 * length cuts + 24 * cut_points cuts
+cuts_bytes z [] = omega arith
+cuts_bytes z (vertices ∷ cuts) = omega (arith, contour_bytes z vertices, cuts_bytes z cuts)
+
+effect_bytes : (here : Situation) (ask : Ask) (e : Effect) (cuts : List (List Pt)) → IsSaidBy here ask e → bytes_of (effect_records e cuts) ≤ 160 + 28 * length cuts + 24 * cut_points cuts + 8 * asked_title ask
+effect_bytes here ask (effects.Defines n f) cuts said = omega arith
+effect_bytes here ask (effects.Sets change) cuts said = omega (arith, change_bytes here.settings.units ask change said)
+effect_bytes here ask (effects.Moves reach to) cuts said = omega arith
+effect_bytes here ask (effects.Cuts m n) cuts said = omega (arith, drive_bytes m.drive m.side m.sense, check_bytes m.check m.how, cuts_bytes m.start.z cuts)
 
 with_statement-bytes : (step : Step) (rs : List Record) → bytes_of (with_statement step rs) ≤ 44 + bytes_of rs
 with_statement-bytes step [] = omega arith
 with_statement-bytes step (r ∷ rs) = omega arith
 
-step_bytes : (here : Situation) (step : Step) (e : Effect) (vertices : List Pt) → IsSaidBy here (ask_of step.deed) e → bytes_of (records_of step e vertices) ≤ 232 + 24 * length vertices + 8 * title_length step.deed
-step_bytes here step e vertices said = omega (arith, effect_bytes here (ask_of step.deed) e vertices said, with_statement-bytes step (effect_records e vertices))
+step_bytes : (here : Situation) (step : Step) (e : Effect) → IsSaidBy here (ask_of step.deed) e → bytes_of (records_of step e (points_of e)) ≤ 260 + 24 * point_number e + 8 * title_length step.deed
+step_bytes here step e said = omega (arith, few_cuts e, effect_bytes here (ask_of step.deed) e (points_of e) said, with_statement-bytes step (effect_records e (points_of e)))
 
 -- ---- the records of all steps
 
@@ -158,17 +185,17 @@ vertex_count-append (x ∷ xs) ys = omega (arith, vertex_count-append xs ys)
 -- the records of steps behind so many vertices fit a file
 pub record Fit (so_far : ℕ) (steps : List Step) (written : List Record) : Type 0 where
   pub short : AreShort written
-  pub number : length written ≤ 4 * length steps
+  pub number : length written ≤ 5 * length steps
   pub vertices : so_far + vertex_count written ≤ most_points
-  pub bytes : bytes_of written ≤ 232 * length steps + 24 * vertex_count written + 8 * title_lengths steps
+  pub bytes : bytes_of written ≤ 260 * length steps + 24 * vertex_count written + 8 * title_lengths steps
 
 fit_behind : (so_far : ℕ) (steps : List Step) (step : Step) (e : Effect) (rest : List Record) → AreShort (records_of step e (points_of e))
-    → bytes_of (records_of step e (points_of e)) ≤ 232 + 24 * length (points_of e) + 8 * title_length step.deed → Fit (so_far + length (points_of e)) steps rest
+    → bytes_of (records_of step e (points_of e)) ≤ 260 + 24 * point_number e + 8 * title_length step.deed → Fit (so_far + point_number e) steps rest
     → Fit so_far (step ∷ steps) (records_of step e (points_of e) ++ rest)
 fit_behind so_far steps step e rest are bytes more =
     let front = records_of step e (points_of e) in record {
       short = short-append front rest are more.short;
-      number = omega (arith, few_records step e (points_of e), more.number, length-append front rest);
+      number = omega (arith, few_records step e (points_of e), few_cuts e, more.number, length-append front rest);
       vertices = omega (arith, vertex_count-append front rest, step_vertices step e, more.vertices);
       bytes = omega (arith, bytes_of-append front rest, bytes, more.bytes, vertex_count-append front rest, step_vertices step e);
     }
@@ -182,11 +209,11 @@ compiled_fit so_far here [] written few executed h = rw (nothing_left written h)
 compiled_fit so_far here (step ∷ steps) written few executed h =
     let d = done so_far step (refusal_of here step.deed) (effect_of here step.deed) (behind_step so_far here step steps) written h in
     let e = d.e in
-    let n = so_far + length (points_of e) in
+    let n = so_far + point_number e in
     let f = front_ok (records_of step e (points_of e)) (compilation_behind n (after here e (ends_of e)) steps) written d.rest in
     let said = said_by here step.deed e d.asked in
-    let short = effect_short here (ask_of step.deed) e (points_of e) executed.0.text said (few_points so_far (length (points_of e)) d.few) in
-    rw f.2 (fit_behind so_far steps step e f.0 (with_statement-short step (effect_records e (points_of e)) short) (step_bytes here step e (points_of e) said) (compiled_fit n (after here e (ends_of e)) steps f.0 d.few executed.1 f.1))
+    let short = effect_short here (ask_of step.deed) e (points_of e) executed.0.text said (few_points so_far (point_number e) d.few) in
+    rw f.2 (fit_behind so_far steps step e f.0 (with_statement-short step (effect_records e (points_of e)) short) (step_bytes here step e said) (compiled_fit n (after here e (ends_of e)) steps f.0 d.few executed.1 f.1))
 
 -- ---- the end
 

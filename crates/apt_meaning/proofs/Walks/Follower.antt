@@ -16,10 +16,10 @@ use Rattle.apt_meaning.specs.Situations.{first_situation}
 use Rattle.apt_cldata.specs.Vertices.{at_height}
 use Rattle.apt_meaning.specs.Effects.{effect_of}
 use Rattle.apt_meaning.specs.Refusals.{refusal_of}
-use Rattle.apt_meaning.specs.Records.{records_of, after}
+use Rattle.apt_meaning.specs.Records.{cut_record, records_of, after}
 use Rattle.apt_meaning.specs.Compiled.{ends_of, points_of, first_refused}
 use Rattle.apt_meaning.specs.Ranges.{IsChange, IsSituation, IsEffect, HasMotion}
-use Rattle.apt_meaning.specs.Vertices.{HasIn}
+use Rattle.apt_meaning.specs.Vertices.{AreCuts, HasIn}
 use Rattle.apt_meaning.proofs.Walks.Agree.{Agrees, AreLike, alike, agrees_behind, agrees_first}
 use Rattle.apt_meaning.proofs.Asked.{answered}
 use Rattle.apt_meaning.proofs.Walks.Kept.{kept, first_situation-IsSituation}
@@ -34,7 +34,7 @@ abbrev LeadsIn : Effect → Type 0
 LeadsIn (effects.Defines n f) = Unit {0}
 LeadsIn (effects.Sets change) = Unit {0}
 LeadsIn (effects.Moves reach to) = IsPosition to
-LeadsIn (effects.Cuts m) = Unit {0}
+LeadsIn (effects.Cuts m n) = Unit {0}
 
 points_in : (z : ℤ) (vertices : List Pt) → ArePositions (map (at_height z) vertices) → ArePoints vertices
 points_in z [] are = tt
@@ -44,39 +44,45 @@ some_points : (z : ℤ) (vertices : List Pt) → 1 ≤ length (map (at_height z)
 some_points z [] some = some
 some_points z (v ∷ vs) some = omega arith
 
-pub record SaysIn (e : Effect) (vertices : List Pt) (rest : List Record) : Type 0 where
+cuts_in : (z : ℤ) (cuts : List (List Pt)) (rest : List Record) → AreRecords (map (cut_record z) cuts ++ rest) → AreCuts cuts × AreRecords rest
+cuts_in z [] rest are = (tt, are)
+cuts_in z (vertices ∷ cuts) rest are =
+    let more = cuts_in z cuts rest are.1 in
+    (((some_points z vertices are.0.0, points_in z vertices are.0.1), more.0), more.1)
+
+pub record SaysIn (e : Effect) (cuts : List (List Pt)) (rest : List Record) : Type 0 where
   pub leads : LeadsIn e
-  pub within : HasIn e vertices
+  pub within : HasIn e cuts
   pub later : AreRecords rest
 
-says_in : (step : Step) (e : Effect) (vertices : List Pt) (rest : List Record) → AreRecords (records_of step e vertices ++ rest) → SaysIn e vertices rest
-says_in step (effects.Defines n f) vertices rest are = record { leads = tt; within = tt; later = are }
-says_in step (effects.Sets (changes.Said note)) vertices rest are = record { leads = tt; within = tt; later = are.1.1 }
-says_in step (effects.Sets (changes.Side side)) vertices rest are = record { leads = tt; within = tt; later = are }
-says_in step (effects.Sets changes.Nothing) vertices rest are = record { leads = tt; within = tt; later = are }
-says_in step (effects.Moves reach to) vertices rest are = record { leads = are.1.0; within = tt; later = are.1.1 }
-says_in step (effects.Cuts m) vertices rest are =
-    let contour = are.1.1.1.0 in
-    record { leads = tt; within = (some_points m.start.z vertices contour.0, points_in m.start.z vertices contour.1); later = are.1.1.1.1 }
+says_in : (step : Step) (e : Effect) (cuts : List (List Pt)) (rest : List Record) → AreRecords (records_of step e cuts ++ rest) → SaysIn e cuts rest
+says_in step (effects.Defines n f) cuts rest are = record { leads = tt; within = tt; later = are }
+says_in step (effects.Sets (changes.Said note)) cuts rest are = record { leads = tt; within = tt; later = are.1.1 }
+says_in step (effects.Sets (changes.Side side)) cuts rest are = record { leads = tt; within = tt; later = are }
+says_in step (effects.Sets changes.Nothing) cuts rest are = record { leads = tt; within = tt; later = are }
+says_in step (effects.Moves reach to) cuts rest are = record { leads = are.1.0; within = tt; later = are.1.1 }
+says_in step (effects.Cuts m n) cuts rest are =
+    let parts = cuts_in m.start.z cuts rest are.1.1.1 in
+    record { leads = tt; within = parts.0; later = parts.1 }
 
 -- an effect like one in range
 effect_in : (e d : Effect) → AreLike e d → IsEffect e → HasMotion d → LeadsIn d → IsEffect d
 effect_in (effects.Defines n f) (effects.Defines m g) same good motion leads = subst IsFigure same.1 good
 effect_in (effects.Defines n f) (effects.Sets other) same good motion leads = absurd same
 effect_in (effects.Defines n f) (effects.Moves reach to) same good motion leads = absurd same
-effect_in (effects.Defines n f) (effects.Cuts o) same good motion leads = absurd same
+effect_in (effects.Defines n f) (effects.Cuts o l) same good motion leads = absurd same
 effect_in (effects.Sets change) (effects.Defines m g) same good motion leads = absurd same
 effect_in (effects.Sets change) (effects.Sets other) same good motion leads = subst IsChange same good
 effect_in (effects.Sets change) (effects.Moves reach to) same good motion leads = absurd same
-effect_in (effects.Sets change) (effects.Cuts o) same good motion leads = absurd same
+effect_in (effects.Sets change) (effects.Cuts o l) same good motion leads = absurd same
 effect_in (effects.Moves how from) (effects.Defines m g) same good motion leads = absurd same
 effect_in (effects.Moves how from) (effects.Sets other) same good motion leads = absurd same
 effect_in (effects.Moves how from) (effects.Moves reach to) same good motion leads = leads
-effect_in (effects.Moves how from) (effects.Cuts o) same good motion leads = absurd same
-effect_in (effects.Cuts m) (effects.Defines n g) same good motion leads = absurd same
-effect_in (effects.Cuts m) (effects.Sets other) same good motion leads = absurd same
-effect_in (effects.Cuts m) (effects.Moves reach to) same good motion leads = absurd same
-effect_in (effects.Cuts m) (effects.Cuts o) same good motion leads = motion
+effect_in (effects.Moves how from) (effects.Cuts o l) same good motion leads = absurd same
+effect_in (effects.Cuts m k) (effects.Defines n g) same good motion leads = absurd same
+effect_in (effects.Cuts m k) (effects.Sets other) same good motion leads = absurd same
+effect_in (effects.Cuts m k) (effects.Moves reach to) same good motion leads = absurd same
+effect_in (effects.Cuts m k) (effects.Cuts o l) same good motion leads = motion
 
 -- ---- the walk beside the compiler's
 
@@ -99,14 +105,14 @@ keeps_up_first steps passes = record {
 }
 
 -- a step whose effect, with these vertices, is in range, and what holds behind it
-pub record StepsOn (here : Situation) (steps : List Step) (e : Effect) (vertices : List Pt) (rest : List Record) : Type 0 where
+pub record StepsOn (here : Situation) (steps : List Step) (e : Effect) (cuts : List (List Pt)) (rest : List Record) : Type 0 where
   pub good : IsEffect e
   pub motion : HasMotion e
-  pub within : HasIn e vertices
-  pub behind : KeepsUp (after here e vertices) steps
+  pub within : HasIn e cuts
+  pub behind : KeepsUp (after here e cuts) steps
   pub later : AreRecords rest
 
-pub steps_on : (here : Situation) (step : Step) (steps : List Step) (written : List Record) (d : Effect) (us : List Pt) (rest : List Record)
+pub steps_on : (here : Situation) (step : Step) (steps : List Step) (written : List Record) (d : Effect) (us : List (List Pt)) (rest : List Record)
     → KeepsUp here (step ∷ steps) → HasScalars step.deed → DeedHasText step.deed → AreRecords written
     → effect_of here step.deed ≡ Some d → written ≡ records_of step d us ++ rest → StepsOn here steps d us rest
 steps_on here step steps written d us rest keeps numbers worded are asked front =

@@ -29,9 +29,9 @@ use Rattle.apt_meaning.specs.declared.effect.Effect.{Effect}
 use Rattle.apt_meaning.specs.declared.effect.Effect.TheVariants as effects
 use Rattle.apt_meaning.specs.Situations.{first_situation, settings_behind, forward_behind}
 use Rattle.apt_cldata.specs.Vertices.{at_height}
-use Rattle.apt_meaning.specs.Records.{with_statement, effect_records, records_of, after}
+use Rattle.apt_meaning.specs.Records.{with_statement, cut_record, effect_records, records_of, last_behind, after}
 use Rattle.apt_meaning.specs.Ranges.{IsPositionOrNone, IsForward, AreSettings, IsSituation, IsMotion, IsEffect}
-use Rattle.apt_meaning.specs.Vertices.{HasIn}
+use Rattle.apt_meaning.specs.Vertices.{AreCuts, HasIn}
 use Rattle.apt_meaning.proofs.EffectRanges.{with_rapid, on_side, change_kept}
 
 -- ---- directions
@@ -86,17 +86,21 @@ cut_kept here m last is good end = record {
   table = is.table;
 }
 
-pub kept : (here : Situation) (e : Effect) (vertices : List Pt) → IsSituation here → IsEffect e → HasIn e vertices → IsSituation (after here e vertices)
-kept here (effects.Defines n f) vertices is good within =
+pub last_cut : (p : Pt) (cuts : List (List Pt)) → IsPoint p → AreCuts cuts → IsPoint (last_behind p cuts)
+last_cut p [] is are = is
+last_cut p (vertices ∷ cuts) is are = last_cut (last_of p vertices) cuts (last_point p vertices is are.0.1) are.1
+
+pub kept : (here : Situation) (e : Effect) (cuts : List (List Pt)) → IsSituation here → IsEffect e → HasIn e cuts → IsSituation (after here e cuts)
+kept here (effects.Defines n f) cuts is good within =
     record { settings = is.settings; position = is.position; forward = is.forward; table = still_figures here.table n f is.table good }
-kept here (effects.Sets change) vertices is good within = record { settings = change_kept here.settings change is.settings good; position = is.position; forward = is.forward; table = is.table }
-kept here (effects.Moves reach to) vertices is good within = record {
+kept here (effects.Sets change) cuts is good within = record { settings = change_kept here.settings change is.settings good; position = is.position; forward = is.forward; table = is.table }
+kept here (effects.Moves reach to) cuts is good within = record {
   settings = settings_kept reach here.settings is.settings;
   position = good;
   forward = forward_kept here.position to.xy here.forward is.position good.xy is.forward;
   table = is.table;
 }
-kept here (effects.Cuts m) vertices is good within = cut_kept here m (last_of m.start.xy vertices) is good (last_point m.start.xy vertices good.start.xy within.1)
+kept here (effects.Cuts m n) cuts is good within = cut_kept here m (last_behind m.start.xy cuts) is good (last_cut m.start.xy cuts good.start.xy within)
 
 pub first_situation-IsSituation : IsSituation first_situation
 first_situation-IsSituation = record {
@@ -121,20 +125,24 @@ still_some : (z : ℤ) (vertices : List Pt) → 1 ≤ length vertices → 1 ≤ 
 still_some z [] h = h
 still_some z (v ∷ vs) h = omega arith
 
-said_in : (e : Effect) (vertices : List Pt) → IsEffect e → HasIn e vertices → AreRecords (effect_records e vertices)
-said_in (effects.Defines n f) vertices good within = tt
-said_in (effects.Sets (changes.Said note)) vertices good within = (good, tt)
-said_in (effects.Sets (changes.Side side)) vertices good within = tt
-said_in (effects.Sets changes.Nothing) vertices good within = tt
-said_in (effects.Moves reach to) vertices good within = (good, tt)
-said_in (effects.Cuts m) vertices good within = ((good.drive, good.sense), (good.check, ((still_some m.start.z vertices within.0, positions_in m.start.z vertices good.start.z within.1), tt)))
+cuts_in : (z : ℤ) (cuts : List (List Pt)) → unsigned_abs z ≤ 50000000 → AreCuts cuts → AreRecords (map (cut_record z) cuts)
+cuts_in z [] high are = tt
+cuts_in z (vertices ∷ cuts) high are = ((still_some z vertices are.0.0, positions_in z vertices high are.0.1), cuts_in z cuts high are.1)
+
+said_in : (e : Effect) (cuts : List (List Pt)) → IsEffect e → HasIn e cuts → AreRecords (effect_records e cuts)
+said_in (effects.Defines n f) cuts good within = tt
+said_in (effects.Sets (changes.Said note)) cuts good within = (good, tt)
+said_in (effects.Sets (changes.Side side)) cuts good within = tt
+said_in (effects.Sets changes.Nothing) cuts good within = tt
+said_in (effects.Moves reach to) cuts good within = (good, tt)
+said_in (effects.Cuts m n) cuts good within = ((good.drive, good.sense), (good.check, cuts_in m.start.z cuts good.start.z within))
 
 statement_in : (step : Step) (rs : List Record) → IsExecuted step → AreRecords rs → AreRecords (with_statement step rs)
 statement_in step [] is are = tt
 statement_in step (r ∷ rs) is are = ((is.line, is.step), are)
 
-pub records_in : (step : Step) (e : Effect) (vertices : List Pt) → IsExecuted step → IsEffect e → HasIn e vertices → AreRecords (records_of step e vertices)
-records_in step e vertices is good within = statement_in step (effect_records e vertices) is (said_in e vertices good within)
+pub records_in : (step : Step) (e : Effect) (cuts : List (List Pt)) → IsExecuted step → IsEffect e → HasIn e cuts → AreRecords (records_of step e cuts)
+records_in step e cuts is good within = statement_in step (effect_records e cuts) is (said_in e cuts good within)
 
 pub records-append : (xs ys : List Record) → AreRecords xs → AreRecords ys → AreRecords (xs ++ ys)
 records-append [] ys are more = more

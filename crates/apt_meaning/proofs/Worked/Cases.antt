@@ -25,12 +25,14 @@ use Rattle.apt_meaning.specs.Refusals.{refusal_of}
 abbrev line : ℤ → ℤ → ℤ → ℤ → Surface
 line x y dx dy = surfaces.Line (record { base = record { x = x; y = y }; dir = record { dx = dx; dy = dy } })
 
--- a line to the right, one up, one to the left above, one that meets the first far off, a circle of radius 5000, a point, and a number
+-- a line to the right, one up, one to the left above, one that meets the first far off, one up a unit right of the circle, one to the right through it, a circle of radius 5000, a point, and a number
 abbrev table : Table
 table =
     (codes "L1", figures.Shape (line (pos 0) (pos 0) (pos 100000) (pos 0))) ∷ (codes "L2", figures.Shape (line (pos 100000) (pos 0) (pos 0) (pos 100000)))
     ∷ (codes "L3", figures.Shape (line (pos 0) (pos 50000) (neg_ℤ (pos 100000)) (pos 0)))
     ∷ (codes "L4", figures.Shape (line (pos 0) (pos 50000) (pos 100000) (neg_ℤ (pos 1))))
+    ∷ (codes "L5", figures.Shape (line (pos 10001) (pos 0) (pos 0) (pos 1)))
+    ∷ (codes "L6", figures.Shape (line (pos 0) (pos 3000) (pos 1) (pos 0)))
     ∷ (codes "C1", figures.Shape (surfaces.Circ (record { c = record { x = pos 5000; y = pos 0 }; r = pos 5000 })))
     ∷ (codes "P1", figures.Point (record { x = pos 1000; y = pos 2000 }) (pos 300)) ∷ (codes "A", figures.Scalar) ∷ []
 
@@ -48,8 +50,12 @@ on_track = Some (above (pos 0) (pos 12500))
 abbrev standing : Settings → Option Position → Situation
 standing settings position = record { settings = settings; position = position; forward = record { dx = pos 1; dy = pos 0 }; table = table }
 
+-- to the n-th meeting, with n in millionths
+abbrev counted : ℕ → Situation → Go → List ℕ → Stop → List ℕ → Option Case
+counted n situation go drive how check = refusal_of situation (deeds.Contour None go drive how check (pos n))
+
 abbrev contour : Situation → Go → List ℕ → Stop → List ℕ → Option Case
-contour situation go drive how check = refusal_of situation (deeds.Contour None go drive how check)
+contour situation go drive how check = counted 1000000 situation go drive how check
 
 abbrev go : Situation → List ℕ → List ℕ → Option Case
 go situation a b = refusal_of situation (deeds.GoStart stops.To a (Some (stops.To, b)))
@@ -205,6 +211,13 @@ round_drive = refl
 round_check : contour (standing (record held { feed = pos 0; rapid = true; outtol = pos 7 }) on_track) turns.Left (codes "L1") stops.To (codes "C1") ≡ Some cases.RapidContour
 round_check = refl
 
+-- a count is tried behind the names
+bad_count : counted 2500000 (standing (record held { feed = pos 0; rapid = true; outtol = pos 7 }) on_track) turns.Left (codes "L1") stops.To (codes "L2") ≡ Some cases.BadCount
+bad_count = refl
+
+no_meeting_at_all : counted 499999 (standing held on_track) turns.Forward (codes "L1") stops.To (codes "L2") ≡ Some cases.BadCount
+no_meeting_at_all = refl
+
 rapid_contour : contour (standing (record held { feed = pos 0; rapid = true; outtol = pos 7 }) on_track) turns.Left (codes "L1") stops.To (codes "L2") ≡ Some cases.RapidContour
 rapid_contour = refl
 
@@ -278,6 +291,29 @@ fine : contour (standing held on_track) turns.Forward (codes "L1") stops.To (cod
 unfolding root
 fine = refl
 
+-- ---- to the second meeting
+
+abbrev on_line_at : ℤ → Situation
+on_line_at x = standing (record held { side = sides.On }) (Some (above x (pos 0)))
+
+through_the_circle : counted 2000000 (on_line_at (neg_ℤ (pos 20000))) turns.Forward (codes "L1") stops.On (codes "C1") ≡ None
+unfolding root
+through_the_circle = refl
+
+-- within 8 units of the circle the first meeting is the one on its far side, and there is no second
+from_near_the_circle : counted 2000000 (on_line_at (neg_ℤ (pos 8))) turns.Forward (codes "L1") stops.On (codes "C1") ≡ Some cases.Behind
+unfolding root
+from_near_the_circle = refl
+
+from_before_the_circle : counted 2000000 (on_line_at (neg_ℤ (pos 9))) turns.Forward (codes "L1") stops.On (codes "C1") ≡ None
+unfolding root
+from_before_the_circle = refl
+
+-- lines meet once
+no_second_line : counted 2000000 (standing held on_track) turns.Forward (codes "L1") stops.To (codes "L2") ≡ Some cases.Behind
+unfolding root
+no_second_line = refl
+
 -- ---- round the circle, from its rightmost point: with the cutter on it, or to its left, which is inside
 
 abbrev on_circle : Option Position
@@ -306,3 +342,17 @@ round_apart = refl
 round_fine : contour (standing (record held { side = sides.On }) on_circle) turns.Left (codes "C1") stops.On (codes "L1") ≡ None
 unfolding root
 round_fine = refl
+
+-- to the second meeting it would turn fully, and from farther off it does not
+full_turn : counted 2000000 (standing (record held { side = sides.On }) on_circle) turns.Left (codes "C1") stops.On (codes "L1") ≡ Some cases.FullTurn
+unfolding root
+full_turn = refl
+
+no_full_turn : counted 2000000 (standing (record held { side = sides.On }) on_circle) turns.Left (codes "C1") stops.On (codes "L6") ≡ None
+unfolding root
+no_full_turn = refl
+
+-- a circle that misses its stop turns to none
+no_contact_first : counted 2000000 (standing (record held { side = sides.On }) on_circle) turns.Left (codes "C1") stops.On (codes "L5") ≡ Some cases.NoContact
+unfolding root
+no_contact_first = refl

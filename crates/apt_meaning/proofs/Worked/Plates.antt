@@ -91,6 +91,7 @@ along_lower = record {
   sense = pos 1;
   check = surfaces.Line right;
   how = stops.Past;
+  check_side = signs.Minus;
   radius = pos 25000;
   inner = pos 8;
   outer = pos 50;
@@ -120,18 +121,18 @@ leg = record {
 pub leg_is : leg_of along_lower ≡ leg
 leg_is = refl
 
-unrefused : refusal_of at_corner (deeds.Contour None turns.Right (codes "L1") stops.Past (codes "L2")) ≡ None
+unrefused : refusal_of at_corner (deeds.Contour None turns.Right (codes "L1") stops.Past (codes "L2") (pos 1000000)) ≡ None
 unfolding root
 unrefused = refl
 
 -- a turn to the other side would need the cutter on the line's left
-turned_left : refusal_of at_corner (deeds.Contour None turns.Left (codes "L1") stops.Past (codes "L2")) ≡ Some cases.OffDrive
+turned_left : refusal_of at_corner (deeds.Contour None turns.Left (codes "L1") stops.Past (codes "L2") (pos 1000000)) ≡ Some cases.OffDrive
 turned_left = refl
 
 -- no line touches a line
-touches : refusal_of at_corner (deeds.Contour None turns.Right (codes "L1") stops.Tanto (codes "L2")) ≡ Some cases.Parallel
+touches : refusal_of at_corner (deeds.Contour None turns.Right (codes "L1") stops.Tanto (codes "L2") (pos 1000000)) ≡ Some cases.Parallel
 touches = refl
 
 -- it stands where it is to stop
-stands_there : refusal_of at_corner (deeds.Contour None turns.Right (codes "L1") stops.To (codes "L4")) ≡ Some cases.Behind
+stands_there : refusal_of at_corner (deeds.Contour None turns.Right (codes "L1") stops.To (codes "L4") (pos 1000000)) ≡ Some cases.Behind
 stands_there = refl

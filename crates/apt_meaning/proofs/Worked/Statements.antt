@@ -23,7 +23,10 @@ use Rattle.apt_cldata.specs.declared.record.Reach.TheVariants as reaches
 use Rattle.apt_defs.specs.declared.figure.Figure.TheVariants as figures
 use Rattle.apt_meaning.specs.declared.situation.Settings.{Settings}
 use Rattle.apt_meaning.specs.declared.situation.Situation.{Situation}
+use Rattle.apt_offset.specs.Sides.{side_at_drive, side_at_check}
+use Rattle.apt_num.specs.declared.Sign.TheVariants as signs
 use Rattle.apt_meaning.specs.declared.motion.Motion.{Motion}
+use Rattle.apt_stop.specs.declared.legs.Legs.TheVariants as legs
 use Rattle.apt_meaning.specs.declared.effect.Effect.{Effect}
 use Rattle.apt_meaning.specs.declared.effect.Effect.TheVariants as effects
 use Rattle.apt_meaning.specs.Situations.{first_settings, position_at}
@@ -153,24 +156,34 @@ along side = record {
   sense = pos 1;
   check = up;
   how = stops.To;
+  check_side = signs.Plus;
   radius = pos 12500;
   inner = pos 8;
   outer = pos 50;
 }
 
-contour : effect_of standing (deeds.Contour None turns.Forward (codes "L1") stops.To (codes "L2")) ≡ Some (effects.Cuts (along sides.Left))
+contour : effect_of standing (deeds.Contour None turns.Forward (codes "L1") stops.To (codes "L2") (pos 1000000)) ≡ Some (effects.Cuts (along sides.Left) legs.One)
 unfolding root motion_at
 contour = refl
 
+-- to the second meeting it has two legs; a count is the nearest whole number
+contour_twice : effect_of standing (deeds.Contour None turns.Forward (codes "L1") stops.To (codes "L2") (pos 1500000)) ≡ Some (effects.Cuts (along sides.Left) legs.Two)
+unfolding root motion_at
+contour_twice = refl
+
+no_third_meeting : effect_of standing (deeds.Contour None turns.Forward (codes "L1") stops.To (codes "L2") (pos 2500000)) ≡ None
+unfolding root motion_at
+no_third_meeting = refl
+
 -- the side of the cutter may be given with the motion
-contour_right : effect_of standing (deeds.Contour (Some sides.Right) turns.Forward (codes "L1") stops.To (codes "L2")) ≡ Some (effects.Cuts (along sides.Right))
+contour_right : effect_of standing (deeds.Contour (Some sides.Right) turns.Forward (codes "L1") stops.To (codes "L2") (pos 1000000)) ≡ Some (effects.Cuts (along sides.Right) legs.One)
 unfolding root motion_at
 contour_right = refl
 
 abbrev stopping : Stop → Side → Motion
-stopping how side = record (along side) { how = how }
+stopping how side = record (along side) { how = how; check_side = side_at_check up how (record { x = pos 0; y = pos 12500 }) across (side_at_drive side (pos 1)) }
 
-contour_on : effect_of standing (deeds.Contour (Some sides.On) turns.Forward (codes "L1") stops.On (codes "L2")) ≡ Some (effects.Cuts (stopping stops.On sides.On))
+contour_on : effect_of standing (deeds.Contour (Some sides.On) turns.Forward (codes "L1") stops.On (codes "L2") (pos 1000000)) ≡ Some (effects.Cuts (stopping stops.On sides.On) legs.One)
 unfolding root motion_at
 contour_on = refl
 

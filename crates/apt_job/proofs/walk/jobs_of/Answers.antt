@@ -6,7 +6,7 @@ use Rattle.apt_defs.specs.Definitions.{HasOrNone}
 use Rattle.apt_meaning.specs.Expectations.{expected, Departs}
 use Rattle.apt_meaning.specs.Records.{records_of, after}
 use Rattle.apt_job.specs.Answering.{IsEntry}
-use Rattle.apt_job.specs.Fronts.{points_at}
+use Rattle.apt_job.specs.Fronts.{cuts_at}
 use Rattle.apt_job.specs.Jobs.{jobs_by}
 use Rattle.apt_job.proofs.Steps.{IsWalk, begins_in, seen_from, steps_in, walk_on, walk_named, walk_waits, walk_unrefused, walk_departs, walk_ends, walk_left, fails_at, place_behind, gone_between}
 use Rattle.apt_job.proofs.walk.jobs_of.Goals as goal
@@ -66,13 +66,13 @@ take-requires-clause-effect c =
     let now = c.steps.records.items in
     let rest = drop at now in
     let e = c.in-Some.found in
-    let vertices = points_at c.in-Ok.front.vertices in
+    let cuts = cuts_at c.in-Ok.front.cuts in
     let later = c.in-Ok.front.rest.now in
     let split : drop i xs ≡ st ∷ drop (i + 1) xs = drop_more xs i st c.steps-test.true ∙ ap (λ x. x ∷ drop (i + 1) xs) (sym c.st-item.is) in
     let named = subst (HasOrNone c.steps.here.settings.units c.steps.here.table st.deed here.table) c.if-branch.false c.in_ok-gives_name.ensures.table in
     let walk = walk_waits xs written c.steps.here rest c.steps.jobs.items st.deed (st ∷ drop (i + 1) xs) here (subst (IsWalk xs written c.steps.here rest c.steps.jobs.items) split c.steps.invariant.walk) named c.gives_name.ensures.others in
-    let begins = begins_in here st rest _ _ e vertices later (seen_from now c.deref.result.now at c.deref.ensures.value) c.in-Some.is (c.in-Ok.ensures.taken here (sym c.in_ok-found.ensures.value)) in
-    (steps_in xs written here rest c.steps.jobs.items st (drop (i + 1) xs) e vertices later walk begins).good
+    let begins = begins_in here st rest _ _ e cuts later (seen_from now c.deref.result.now at c.deref.ensures.value) c.in-Some.is (c.in-Ok.ensures.taken here (sym c.in_ok-found.ensures.value)) in
+    (steps_in xs written here rest c.steps.jobs.items st (drop (i + 1) xs) e cuts later walk begins).good
 
 pub take-requires-clause-vertices : goal.take-requires-clause-vertices
 take-requires-clause-vertices c =
@@ -85,21 +85,21 @@ take-requires-clause-vertices c =
     let now = c.steps.records.items in
     let rest = drop at now in
     let e = c.in-Some.found in
-    let vertices = points_at c.in-Ok.front.vertices in
+    let cuts = cuts_at c.in-Ok.front.cuts in
     let later = c.in-Ok.front.rest.now in
     let split : drop i xs ≡ st ∷ drop (i + 1) xs = drop_more xs i st c.steps-test.true ∙ ap (λ x. x ∷ drop (i + 1) xs) (sym c.st-item.is) in
     let named = subst (HasOrNone c.steps.here.settings.units c.steps.here.table st.deed here.table) c.if-branch.false c.in_ok-gives_name.ensures.table in
     let walk = walk_waits xs written c.steps.here rest c.steps.jobs.items st.deed (st ∷ drop (i + 1) xs) here (subst (IsWalk xs written c.steps.here rest c.steps.jobs.items) split c.steps.invariant.walk) named c.gives_name.ensures.others in
-    let begins = begins_in here st rest _ _ e vertices later (seen_from now c.deref.result.now at c.deref.ensures.value) c.in-Some.is (c.in-Ok.ensures.taken here (sym c.in_ok-found.ensures.value)) in
-    (steps_in xs written here rest c.steps.jobs.items st (drop (i + 1) xs) e vertices later walk begins).within
+    let begins = begins_in here st rest _ _ e cuts later (seen_from now c.deref.result.now at c.deref.ensures.value) c.in-Some.is (c.in-Ok.ensures.taken here (sym c.in_ok-found.ensures.value)) in
+    (steps_in xs written here rest c.steps.jobs.items st (drop (i + 1) xs) e cuts later walk begins).within
 
 pub take-requires-clause-may : goal.take-requires-clause-may
 take-requires-clause-may c =
     let here = c.gives_name.new.here in
-    let vertices = points_at c.in-Ok.front.vertices in
+    let cuts = cuts_at c.in-Ok.front.cuts in
     let now = c.steps.records.items in
     let at = c.steps.at in
-    (begins_in here c.st-item.result (drop at now) _ _ c.in-Some.found vertices c.in-Ok.front.rest.now (seen_from now c.deref.result.now at c.deref.ensures.value) c.in-Some.is (c.in-Ok.ensures.taken here (sym c.in_ok-found.ensures.value))).may
+    (begins_in here c.st-item.result (drop at now) _ _ c.in-Some.found cuts c.in-Ok.front.rest.now (seen_from now c.deref.result.now at c.deref.ensures.value) c.in-Some.is (c.in-Ok.ensures.taken here (sym c.in_ok-found.ensures.value))).may
 
 pub steps-preserved : goal.steps-preserved
 steps-preserved c =
@@ -112,20 +112,20 @@ steps-preserved c =
     let now = c.steps.records.items in
     let rest = drop at now in
     let e = c.in-Some.found in
-    let vertices = points_at c.in-Ok.front.vertices in
+    let cuts = cuts_at c.in-Ok.front.cuts in
     let later = c.in-Ok.front.rest.now in
     let split : drop i xs ≡ st ∷ drop (i + 1) xs = drop_more xs i st c.steps-test.true ∙ ap (λ x. x ∷ drop (i + 1) xs) (sym c.st-item.is) in
     let named = subst (HasOrNone c.steps.here.settings.units c.steps.here.table st.deed here.table) c.if-branch.false c.in_ok-gives_name.ensures.table in
     let walk = walk_waits xs written c.steps.here rest c.steps.jobs.items st.deed (st ∷ drop (i + 1) xs) here (subst (IsWalk xs written c.steps.here rest c.steps.jobs.items) split c.steps.invariant.walk) named c.gives_name.ensures.others in
-    let begins = begins_in here st rest _ _ e vertices later (seen_from now c.deref.result.now at c.deref.ensures.value) c.in-Some.is (c.in-Ok.ensures.taken here (sym c.in_ok-found.ensures.value)) in
-    let on = walk_on xs written here rest c.steps.jobs.items st (drop (i + 1) xs) e vertices later walk begins in
+    let begins = begins_in here st rest _ _ e cuts later (seen_from now c.deref.result.now at c.deref.ensures.value) c.in-Some.is (c.in-Ok.ensures.taken here (sym c.in_ok-found.ensures.value)) in
+    let on = walk_on xs written here rest c.steps.jobs.items st (drop (i + 1) xs) e cuts later walk begins in
     let behind = c.len.result - length later in
     let all : c.len.result ≡ length now = omega (arith, c.len.ensures, c.steps.records.ok.0) in
-    let place = place_behind now (records_of st e vertices) later at c.len.result all c.steps.invariant.place begins.front in
+    let place = place_behind now (records_of st e cuts) later at c.len.result all c.steps.invariant.place begins.front in
     let gone = gone_between now c.deref_mut.result.now c.let_go.new.records at behind c.steps.records.len c.deref_mut.ensures.value c.steps.records.ok.0 place.further place.within c.let_go.ensures in
     record {
       walk = rw (c.in_ok-take.ensures.after, c.in_ok-take.ensures.jobs)
-          (subst (λ (rs : List Record). IsWalk xs written (after here e vertices) rs (c.steps.jobs.items ++ jobs_by e vertices) (drop (i + 1) xs)) (sym (gone.same ∙ place.same)) on);
+          (subst (λ (rs : List Record). IsWalk xs written (after here e cuts) rs (c.steps.jobs.items ++ jobs_by e cuts) (drop (i + 1) xs)) (sym (gone.same ∙ place.same)) on);
       place = subst (λ (n : ℕ). behind ≤ n) (sym gone.count) place.within;
       count = gone.count ∙ c.steps.invariant.count;
     }

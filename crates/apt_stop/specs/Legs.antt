@@ -1,0 +1,61 @@
+-- The legs of a contour with one stop: where they end, and what refuses them.
+use Rattle.std.specs.Prelude.{◌≡◌, ℕ, ◌&&◌, Bool, true, false, List, ◌∷◌, ◌++◌, Option, Some, None, unwrap_or, IfSome}
+use Rattle.apt_words.specs.declared.Case.TheVariants as cases
+use Rattle.apt_words.specs.Rows.{Row}
+use Rattle.apt_plane.specs.declared.figures.Pt.{Pt}
+use Rattle.apt_plane.specs.declared.figures.Surface.{Surface}
+use Rattle.apt_plane.specs.declared.figures.Surface.TheVariants as surfaces
+use Rattle.apt_plane.specs.Ranges.{IsPoint}
+use Rattle.apt_offset.specs.Turns.{opposite}
+use Rattle.apt_stop.specs.declared.course.Course.{Course}
+use Rattle.apt_stop.specs.declared.legs.Legs.{Legs}
+use Rattle.apt_stop.specs.declared.legs.Legs.TheVariants as legs
+use Rattle.apt_stop.specs.declared.legs.Ends.{Ends}
+use Rattle.apt_stop.specs.Courses.{starts_near_stop, kept_side, end_of, stop_cases, way_cases}
+use Rattle.apt_stop.specs.Ends.{IsEndOn}
+
+abbrev pub leg_count : Legs → ℕ
+leg_count legs.One = 1
+leg_count legs.Two = 2
+
+-- the leg behind a course: to the same stop, from where the course ends
+abbrev pub next_leg : Course → Course
+next_leg c = record c { start = end_of c }
+
+-- ---- what refuses so many legs
+
+abbrev pub is_round : Surface → Bool
+is_round (surfaces.Line l) = false
+is_round (surfaces.Circ c) = true
+
+-- round a circle from near its stop, two legs would turn fully
+abbrev pub turns_fully : Course → Bool
+turns_fully c = is_round c.drive && starts_near_stop c
+
+-- whether each leg leads to its end, within the coordinate limit
+abbrev pub ways_of : Legs → Course → List Row
+ways_of legs.One c = way_cases c
+ways_of legs.Two c = (turns_fully c, cases.FullTurn) ∷ way_cases c ++ way_cases (next_leg c)
+
+abbrev pub leg_cases : Legs → Course → List Row
+leg_cases n c = stop_cases c ++ ways_of n c
+
+-- ---- where they end
+
+abbrev pub ends_of : Legs → Course → Ends
+ends_of legs.One c = record { first = end_of c; second = None }
+ends_of legs.Two c = record { first = end_of c; second = Some (end_of (next_leg c)) }
+
+abbrev pub last_end : Ends → Pt
+last_end e = unwrap_or e.second e.first
+
+abbrev pub AreEnds : Ends → Type 0
+AreEnds e = IsPoint e.first × IfSome e.second IsPoint
+
+-- the second leg runs on the other side of the stop, to its own end
+pub record IsSecond (c : Course) (q : Pt) : Type 0 where
+  pub side : kept_side (next_leg c) ≡ opposite (kept_side c)
+  pub end : IsEndOn c.track (next_leg c) q
+
+abbrev pub LegsEnd : Course → Ends → Type 0
+LegsEnd c e = IsEndOn c.track c e.first × IfSome e.second (IsSecond c)
