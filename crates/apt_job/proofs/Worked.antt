@@ -23,7 +23,7 @@ use Rattle.apt_meaning.proofs.Worked.Plates.{point, lower, right, at_corner, alo
 use Rattle.apt_job.specs.Jobs.{MakesJobs}
 
 abbrev contour : Step
-contour = record { line = 7; step = 3; deed = deeds.Contour None turns.Right (codes "L1") stops.Past (codes "L2") }
+contour = record { line = 7; step = 3; deed = deeds.Contour None turns.Right (codes "L1") stops.Past (codes "L2") (pos 1000000) }
 
 -- the end of the edge, at a height
 abbrev end_at : ℤ → Position

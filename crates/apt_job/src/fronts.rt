@@ -16,8 +16,8 @@ use crate::legs::Sides;
 use crate::matches::{is_check, is_drive, is_note, is_point, is_statement};
 use apt_cldata::{Note, Position, Reach, Record, VertexSlice};
 use apt_meaning::{Change, Effect, Motion};
-use apt_words::Step;
 use apt_stop::Legs;
+use apt_words::Step;
 
 /// The vertices of a leg in front, and the records behind the one in front.
 #[derive(Drop)]

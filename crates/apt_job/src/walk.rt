@@ -30,8 +30,8 @@ use apt_cldata::{Note, Record};
 use apt_defs::{DefError, define};
 use apt_meaning::{Effect, Motion, Situation, effect_of};
 use apt_offset::signs::opposite;
-use apt_words::Step;
 use apt_stop::Legs;
+use apt_words::Step;
 use std::alloc::{AllocError, Global};
 
 /// The first record that does not answer the steps, by the place behind those that do and how many there still fit.

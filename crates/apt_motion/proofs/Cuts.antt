@@ -1,5 +1,5 @@
 -- The motions that contours ask for, and where they end.
-use Rattle.std.proofs.Common.{◌≡◌, ◌∙◌, ℕ, Bool, true, false, List, [], ◌∷◌, ◌++◌, Option, Some, None, Result, Ok, Err, refl, sym, ap}
+use Rattle.std.proofs.Common.{◌≡◌, ◌∙◌, ℕ, ℤ, Bool, true, false, List, [], ◌∷◌, ◌++◌, Option, Some, None, Result, Ok, Err, refl, sym, ap}
 use Rattle.std.specs.Prelude.{not, ◌&&◌}
 use Rattle.apt_words.specs.declared.Case.{Case}
 use Rattle.apt_words.specs.declared.Case.TheVariants as cases
@@ -9,6 +9,7 @@ use Rattle.apt_words.specs.declared.Stop.{Stop}
 use Rattle.apt_words.specs.declared.deed.Deed.TheVariants as deeds
 use Rattle.apt_words.specs.declared.deed.Step.{Step}
 use Rattle.apt_words.specs.Rows.{Row, NoneHolds, first_of, unless, unless_case}
+use Rattle.apt_scalar.specs.Scalars.{whole}
 use Rattle.apt_plane.specs.declared.figures.Pt.{Pt}
 use Rattle.apt_plane.specs.declared.figures.Surface.{Surface}
 use Rattle.apt_offset.specs.Targets.{lacks_room}
@@ -25,9 +26,9 @@ use Rattle.apt_meaning.specs.declared.effect.Effect.{Effect}
 use Rattle.apt_meaning.specs.declared.effect.Effect.TheVariants as effects
 use Rattle.apt_meaning.specs.Situations.{with_side}
 use Rattle.apt_meaning.specs.Motions.{surface_in, motion_at, if_turned, turn_at, track_of, stop_of, starts_on_check, course_of}
-use Rattle.apt_meaning.specs.Effects.{cuts, effect_of}
+use Rattle.apt_meaning.specs.Effects.{cuts, legs_by, effect_of}
 use Rattle.apt_meaning.specs.Records.{records_of, last_behind, cut_at}
-use Rattle.apt_meaning.specs.Refusals.{name_cases, cut_cases, turned_cases, surface_cases, refusal_of}
+use Rattle.apt_meaning.specs.Refusals.{name_cases, cut_cases, turned_cases, surface_cases, counted_cases, refusal_of}
 use Rattle.apt_meaning.specs.Compiled.{ends_of, asked, refused_at}
 use Rattle.apt_words.proofs.Rows.{first_none}
 use Rattle.apt_motion.specs.declared.runs.RunError.TheVariants as errors
@@ -57,33 +58,43 @@ last_is m legs.Two = refl
 -- ---- the motion that a contour asks for
 
 -- on known surfaces
-pub contour_motion : (here : Situation) (side : Option Side) (go : Go) (drive : List ℕ) (how : Stop) (check : List ℕ) (start : Position) (d e : Surface) (r : Result Motion Case)
-    → here.position ≡ Some start → surface_in here.table drive ≡ Some d → surface_in here.table check ≡ Some e
-    → IsMotionBy legs.One (first_of (turned_cases legs.One (with_side here.settings side) start d (turn_at here start d go) how e)) (cuts legs.One (if_turned (with_side here.settings side) start d (turn_at here start d go) how e)) r
-    → IsMotionBy legs.One (refusal_of here (deeds.Contour side go drive how check)) (effect_of here (deeds.Contour side go drive how check)) r
+pub contour_motion : (here : Situation) (side : Option Side) (go : Go) (drive : List ℕ) (how : Stop) (check : List ℕ) (n : ℤ) (start : Position) (d e : Surface) (k : Legs) (r : Result Motion Case)
+    → here.position ≡ Some start → surface_in here.table drive ≡ Some d → surface_in here.table check ≡ Some e → legs_by (whole n) ≡ Some k
+    → IsMotionBy k (first_of (turned_cases k (with_side here.settings side) start d (turn_at here start d go) how e)) (cuts k (if_turned (with_side here.settings side) start d (turn_at here start d go) how e)) r
+    → IsMotionBy k (refusal_of here (deeds.Contour side go drive how check n)) (effect_of here (deeds.Contour side go drive how check n)) r
 unfolding motion_at
-contour_motion here side go drive how check start d e r is_start on_d on_e is =
+contour_motion here side go drive how check n start d e k r is_start on_d on_e counts is =
     let known_d = known_surface here.table drive d on_d in
     let known_e = known_surface here.table check e on_e in
-    rw (is_start, known_d.0, known_d.1, known_e.0, known_e.1, on_d, on_e) is
+    rw (is_start, known_d.0, known_d.1, known_e.0, known_e.1, on_d, on_e, counts) is
 
 -- ---- a contour with a name that stands for no surface
 
 -- the rows behind those of both names
-abbrev behind_names : Situation → Option Side → Go → List ℕ → Stop → List ℕ → Position → List Row
-behind_names here side go drive how check start = surface_cases here side go how legs.One (Some start) (surface_in here.table drive) (surface_in here.table check)
+abbrev behind_names : Situation → Option Side → Go → List ℕ → Stop → List ℕ → ℤ → Position → List Row
+behind_names here side go drive how check n start = counted_cases (legs_by (whole n)) (λ k. surface_cases here side go how k (Some start) (surface_in here.table drive) (surface_in here.table check))
 
-pub drive_refused : (here : Situation) (side : Option Side) (go : Go) (drive : List ℕ) (how : Stop) (check : List ℕ) (start : Position) (case : Case)
-    → here.position ≡ Some start → first_of (name_cases here.table drive []) ≡ Some case → refusal_of here (deeds.Contour side go drive how check) ≡ Some case
-drive_refused here side go drive how check start case is_start refused =
-    rw is_start (name_refused here.table drive (name_cases here.table check (behind_names here side go drive how check start)) case refused)
+pub drive_refused : (here : Situation) (side : Option Side) (go : Go) (drive : List ℕ) (how : Stop) (check : List ℕ) (n : ℤ) (start : Position) (case : Case)
+    → here.position ≡ Some start → first_of (name_cases here.table drive []) ≡ Some case → refusal_of here (deeds.Contour side go drive how check n) ≡ Some case
+drive_refused here side go drive how check n start case is_start refused =
+    rw is_start (name_refused here.table drive (name_cases here.table check (behind_names here side go drive how check n start)) case refused)
 
-pub check_refused : (here : Situation) (side : Option Side) (go : Go) (drive : List ℕ) (how : Stop) (check : List ℕ) (start : Position) (d : Surface) (case : Case)
+pub check_refused : (here : Situation) (side : Option Side) (go : Go) (drive : List ℕ) (how : Stop) (check : List ℕ) (n : ℤ) (start : Position) (d : Surface) (case : Case)
     → here.position ≡ Some start → surface_in here.table drive ≡ Some d → first_of (name_cases here.table check []) ≡ Some case
-    → refusal_of here (deeds.Contour side go drive how check) ≡ Some case
-check_refused here side go drive how check start d case is_start on_d refused =
+    → refusal_of here (deeds.Contour side go drive how check n) ≡ Some case
+check_refused here side go drive how check n start d case is_start on_d refused =
     let known = known_surface here.table drive d on_d in
-    rw (is_start, known.0, known.1) (name_refused here.table check (behind_names here side go drive how check start) case refused)
+    rw (is_start, known.0, known.1) (name_refused here.table check (behind_names here side go drive how check n start) case refused)
+
+-- ---- a contour whose count of meetings is neither 1 nor 2
+
+pub count_refused : (here : Situation) (side : Option Side) (go : Go) (drive : List ℕ) (how : Stop) (check : List ℕ) (n : ℤ) (start : Position) (d e : Surface)
+    → here.position ≡ Some start → surface_in here.table drive ≡ Some d → surface_in here.table check ≡ Some e → legs_by (whole n) ≡ None
+    → refusal_of here (deeds.Contour side go drive how check n) ≡ Some cases.BadCount
+count_refused here side go drive how check n start d e is_start on_d on_e counts =
+    let known_d = known_surface here.table drive d on_d in
+    let known_e = known_surface here.table check e on_e in
+    rw (is_start, known_d.0, known_d.1, known_e.0, known_e.1, counts) refl
 
 -- ---- a motion that is run to its end
 

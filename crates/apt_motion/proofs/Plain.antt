@@ -1,5 +1,5 @@
 -- What a step asks for that is neither a contour nor a definition neither cuts nor defines.
-use Rattle.std.proofs.Common.{◌≡◌, ◌≢◌, ℕ, List, Result, Ok, Err, Option, Some, None, IfSome, refl}
+use Rattle.std.proofs.Common.{◌≡◌, ◌≢◌, ℕ, ℤ, List, Result, Ok, Err, Option, Some, None, IfSome, refl}
 use Rattle.apt_words.specs.Asks.{Ask, Titles, Says, Sets, Defines, Goes, Cuts, Nothing, ask_of}
 use Rattle.apt_words.specs.declared.Case.{Case}
 use Rattle.apt_words.specs.declared.Go.{Go}
@@ -9,6 +9,7 @@ use Rattle.apt_words.specs.declared.ask.Form.{Form}
 use Rattle.apt_words.specs.declared.ask.Route.{Route}
 use Rattle.apt_words.specs.declared.ask.Route.TheVariants as routes
 use Rattle.apt_words.specs.declared.deed.Deed.{Deed}
+use Rattle.apt_scalar.specs.Scalars.{whole}
 use Rattle.apt_cldata.specs.declared.record.Position.{Position}
 use Rattle.apt_cldata.specs.declared.record.Reach.{Reach}
 use Rattle.apt_cldata.specs.declared.record.Reach.TheVariants as reaches
@@ -17,12 +18,12 @@ use Rattle.apt_defs.specs.Definitions.{IsNoDefinition, figure_of}
 use Rattle.apt_meaning.specs.declared.situation.Situation.{Situation}
 use Rattle.apt_meaning.specs.declared.motion.Motion.{Motion}
 use Rattle.apt_stop.specs.declared.legs.Legs.{Legs}
-use Rattle.apt_stop.specs.declared.legs.Legs.TheVariants as legs
 use Rattle.apt_meaning.specs.declared.effect.Effect.{Effect}
 use Rattle.apt_meaning.specs.declared.effect.Effect.TheVariants as effects
 use Rattle.apt_meaning.specs.Motions.{motion_at}
 use Rattle.apt_meaning.specs.StartUps.{start_position_at}
-use Rattle.apt_meaning.specs.Effects.{moves, cuts, place_at, names, defined, moved_from, goes, effect_by, effect_of}
+use Rattle.apt_meaning.specs.Effects.{moves, cuts, legs_by, place_at, names, defined, moved_from, goes, effect_by, effect_of}
+use Rattle.apt_meaning.proofs.Counts.{if_counted}
 use Rattle.apt_meaning.proofs.Said.{of_some}
 use Rattle.apt_motion.specs.Finding.{IsNoContour, SetsOrMoves}
 
@@ -31,15 +32,15 @@ abbrev IsBy : Ask → Effect → Type 0
 IsBy ask (effects.Defines n f) = ((name : List ℕ) (form : Form) → ask ≢ Defines name form) → ⊥
 IsBy ask (effects.Sets change) = Unit {0}
 IsBy ask (effects.Moves reach to) = Unit {0}
-IsBy ask (effects.Cuts m n) = ((side : Option Side) (go : Go) (drive : List ℕ) (how : Stop) (check : List ℕ) → ask ≢ Cuts side go drive how check) → ⊥
+IsBy ask (effects.Cuts m n) = ((side : Option Side) (go : Go) (drive : List ℕ) (how : Stop) (check : List ℕ) (count : ℤ) → ask ≢ Cuts side go drive how check count) → ⊥
 
 moved_by : (ask : Ask) (reach : Reach) (to : Option Position) → IfSome (moves reach to) (IsBy ask)
 moved_by ask reach None = tt
 moved_by ask reach (Some to) = tt
 
-cut_by : (n : Legs) (side : Option Side) (go : Go) (drive : List ℕ) (how : Stop) (check : List ℕ) (o : Option Motion) → IfSome (cuts n o) (IsBy (Cuts side go drive how check))
-cut_by n side go drive how check None = tt
-cut_by n side go drive how check (Some m) = λ plain. plain side go drive how check refl
+cut_by : (side : Option Side) (go : Go) (drive : List ℕ) (how : Stop) (check : List ℕ) (count : ℤ) (n : Legs) (o : Option Motion) → IfSome (cuts n o) (IsBy (Cuts side go drive how check count))
+cut_by side go drive how check count n None = tt
+cut_by side go drive how check count n (Some m) = λ plain. plain side go drive how check count refl
 
 figure_by : (name : List ℕ) (form : Form) (r : Result Figure Case) → IfSome (names name r) (IsBy (Defines name form))
 figure_by name form (Ok f) = λ none. none name form refl
@@ -61,7 +62,9 @@ suits here (Says saying) = tt
 suits here (Sets side) = tt
 suits here (Defines name form) = defined_by here name form
 suits here (Goes route) = goes_by here route
-suits here (Cuts side go drive how check) = cut_by legs.One side go drive how check (motion_at here side go drive how check)
+suits here (Cuts side go drive how check n) =
+    let m = motion_at here side go drive how check in
+    if_counted (legs_by (whole n)) (λ legs. cuts legs m) (IsBy (Cuts side go drive how check n)) (λ legs. cut_by side go drive how check n legs m)
 suits here Nothing = tt
 
 plain_by : (deed : Deed) (e : Effect) → IsNoContour deed → IsNoDefinition deed → IsBy (ask_of deed) e → SetsOrMoves e

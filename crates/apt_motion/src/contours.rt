@@ -4,6 +4,7 @@ ghost use Rattle.std.specs.Prelude.{◌≡◌, [], ◌∷◌, Some, IfOk, MatchR
 ghost use Rattle.apt_plane.specs.Ranges.{IsSurface};
 ghost use Rattle.apt_words.specs.Rows.{first_of, unless};
 ghost use Rattle.apt_words.specs.declared.deed.Deed.TheVariants as deeds;
+ghost use Rattle.apt_scalar.specs.Scalars.{IsScalar};
 ghost use Rattle.apt_stop.specs.Legs as legging;
 ghost use Rattle.apt_cldata.specs.Ranges.{IsPosition};
 ghost use Rattle.apt_meaning.specs.Effects.{cuts, effect_of};
@@ -12,18 +13,18 @@ ghost use Rattle.apt_meaning.specs.Ranges.{IsSituation, AreSettings, IsMotion};
 ghost use Rattle.apt_meaning.specs.Refusals as refusals;
 ghost use Rattle.apt_meaning.specs.Refusals.{refusal_of, turned_cases};
 ghost use Rattle.apt_meaning.specs.Situations.{with_side};
-ghost use Rattle.apt_motion.specs.Finding.{IsMotionBy};
+ghost use Rattle.apt_motion.specs.Finding.{IsContourBy, IsMotionBy};
 
 use apt_cldata::Position;
 use apt_defs::Table;
-use apt_meaning::{Motion, Settings, Situation, is_too_fine, surface_of, turn_at};
+use apt_meaning::{Motion, Settings, Situation, is_too_fine, legs_by, surface_of, turn_at};
 use apt_num::Sign;
 use apt_offset::signs::is_zero;
 use apt_offset::{is_on_check, lacks_room};
 use apt_plane::Surface;
-use apt_stop::is_near;
+use apt_scalar::whole;
+use apt_stop::{Ends, Legs, decide_legs, is_near};
 use apt_words::{Case, Go, Side, Stop, Symbol};
-use apt_stop::{Ends, Legs, decide_legs};
 
 /// How far a start may be off its track, in grid units.
 const OFF_TRACK: i64 = 3;
@@ -43,7 +44,7 @@ pub(crate) fn surface_named(table: &Table, name: &Symbol) -> Result<Surface, Cas
     }
 }
 
-/// The motion that a contour asks for.
+/// The motion that a contour asks for, and with how many legs.
 ///
 /// # Errors
 ///
@@ -56,17 +57,25 @@ pub(crate) fn motion(
     drive: &Symbol,
     how: Stop,
     check: &Symbol,
-) -> Result<Motion, Case>
-    requires { IsSituation here.now }
-    ensures motion { IsMotionBy Legs.One (refusal_of here.now (deeds.Contour side go drive.now how check.now)) (effect_of here.now (deeds.Contour side go drive.now how check.now)) result }
-    ensures range { IfOk result IsMotion }
+    n: i64,
+) -> Result<(Motion, Legs), Case>
+    requires situation { IsSituation here.now }
+    requires count { IsScalar n }
+    ensures motion { IsContourBy (refusal_of here.now (deeds.Contour side go drive.now how check.now n)) (effect_of here.now (deeds.Contour side go drive.now how check.now n)) result }
+    ensures range { IfOk result (λ r. IsMotion r.0) }
 {
     let Some(start) = here.position else {
         return Err(Case::NoFrom);
     };
     let drive = surface_named(&here.table, drive)?;
     let check = surface_named(&here.table, check)?;
-    on_surfaces(here, side, go, start, drive, how, &check)
+    let Some(legs) = legs_by(whole(n)) else {
+        return Err(Case::BadCount);
+    };
+    match on_surfaces(here, side, go, start, drive, how, &check) {
+        Ok(motion) => Ok((motion, legs)),
+        Err(case) => Err(case),
+    }
 }
 
 /// A contour on known surfaces.
@@ -84,7 +93,7 @@ fn on_surfaces(
     requires start { IsPosition start }
     requires drive { IsSurface drive }
     requires check { IsSurface check.now }
-    ensures motion { let s = with_side here.now.settings side in let turned = motions.turn_at here.now start drive go in IsMotionBy Legs.One (first_of (turned_cases Legs.One s start drive turned how check.now)) (cuts Legs.One (motions.if_turned s start drive turned how check.now)) result }
+    ensures motion { (legs : Legs) → let s = with_side here.now.settings side in let turned = motions.turn_at here.now start drive go in IsMotionBy legs (first_of (turned_cases legs s start drive turned how check.now)) (cuts legs (motions.if_turned s start drive turned how check.now)) result }
     ensures range { IfOk result IsMotion }
 {
     let settings = here.settings.with_side(side);
@@ -106,7 +115,7 @@ fn turned_motion(
     requires start { IsPosition start }
     requires drive { IsSurface drive.now }
     requires check { IsSurface check.now }
-    ensures motion { IsMotionBy Legs.One (first_of (turned_cases Legs.One settings.now start drive.now turned how check.now)) (cuts Legs.One (motions.if_turned settings.now start drive.now turned how check.now)) result }
+    ensures motion { (legs : Legs) → IsMotionBy legs (first_of (turned_cases legs settings.now start drive.now turned how check.now)) (cuts legs (motions.if_turned settings.now start drive.now turned how check.now)) result }
     ensures range { IfOk result IsMotion }
 {
     if settings.rapid {

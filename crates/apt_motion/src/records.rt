@@ -19,8 +19,8 @@ use crate::drafts::{Draft, draw};
 use apt_cldata::{Record, Vertices};
 use apt_meaning::{Change, Effect, Motion, Situation};
 use apt_plane::Pt;
-use apt_words::Step;
 use apt_stop::{Ends, Legs};
+use apt_words::Step;
 use std::alloc::{AllocError, Global};
 
 /// A contour has so many records, and no step has more.

@@ -30,8 +30,8 @@ use apt_certify::Gate;
 use apt_cldata::Record;
 use apt_defs::{DefError, define};
 use apt_meaning::{Motion, Situation};
-use apt_words::{Case, Deed, Refusal, Step};
 use apt_stop::Legs;
+use apt_words::{Case, Deed, Refusal, Step};
 use std::alloc::{AllocError, Global};
 use std::thread::Threads;
 
@@ -104,14 +104,15 @@ fn go_on(here: &mut Situation, step: &Step) -> Result<(), RunError>
 /// Passes a contour. Its motion stays where it is made.
 fn pass_contour(here: &mut Situation, step: &Step) -> Result<(), RunError>
     requires situation { IsSituation here.old }
+    requires scalars { HasScalars step.now.deed }
     requires contour { IsContour step.now.deed }
     ensures { HasPassed here.old step.now (result_map_both (λ _. here.new) (λ e. e) result) }
 {
-    let Deed::Contour(side, go, drive, how, check) = &step.deed else {
+    let Deed::Contour(side, go, drive, how, check, n) = &step.deed else {
         unreachable!();
     };
-    match &motion(here, *side, *go, drive, *how, check) {
-        Ok(motion) => go_along(here, step, motion, Legs::One),
+    match &motion(here, *side, *go, drive, *how, check, *n) {
+        Ok((motion, legs)) => go_along(here, step, motion, *legs),
         Err(case) => Err(refused(step, *case)),
     }
 }
@@ -178,14 +179,15 @@ fn contour(
     step: &Step,
 ) -> Result<(), RunError>
     requires situation { IsSituation here.old }
+    requires scalars { HasScalars step.now.deed }
     requires contour { IsContour step.now.deed }
     ensures { HasDrawn here.old step.now draft.old.records.items draft.new.records.items draft.old.rounds.items draft.new.rounds.items (result_map_both (λ _. here.new) (λ e. e) result) }
 {
-    let Deed::Contour(side, go, drive, how, check) = &step.deed else {
+    let Deed::Contour(side, go, drive, how, check, n) = &step.deed else {
         unreachable!();
     };
-    match &motion(here, *side, *go, drive, *how, check) {
-        Ok(motion) => cut(alloc, draft, here, step, motion, Legs::One),
+    match &motion(here, *side, *go, drive, *how, check, *n) {
+        Ok((motion, legs)) => cut(alloc, draft, here, step, motion, *legs),
         Err(case) => Err(refused(step, *case)),
     }
 }

@@ -57,7 +57,7 @@ fn steps_to_circle(how: Stop) -> Option<[Step; 8]>
         step(7, Deed::Godlta(1_000_000, 0, 0)),
         step(
             8,
-            Deed::Contour(Some(Side::On), Go::Forward, axis, how, circle),
+            Deed::Contour(Some(Side::On), Go::Forward, axis, how, circle, 1_000_000),
         ),
     ])
 }

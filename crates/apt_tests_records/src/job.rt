@@ -42,7 +42,14 @@ fn edge_steps() -> Option<[Step; 7]>
         step(6, Deed::Godlta(1_000_000, 0, 0)),
         step(
             7,
-            Deed::Contour(Some(Side::Right), Go::Forward, l1, Stop::Past, l2),
+            Deed::Contour(
+                Some(Side::Right),
+                Go::Forward,
+                l1,
+                Stop::Past,
+                l2,
+                1_000_000,
+            ),
         ),
     ])
 }

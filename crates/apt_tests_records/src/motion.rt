@@ -51,7 +51,14 @@ fn contours_end_at_their_contact(rt: HostRuntime) -> Result<(), Fail> {
         step(6, Deed::Godlta(1_000_000, 0, 0)),
         step(
             7,
-            Deed::Contour(Some(Side::Right), Go::Forward, one, Stop::Past, two),
+            Deed::Contour(
+                Some(Side::Right),
+                Go::Forward,
+                one,
+                Stop::Past,
+                two,
+                1_000_000
+            ),
         ),
     ]?;
     let Ok(records) = run(&rt, rt.alloc(), steps, &OpenGate) else {
@@ -84,7 +91,10 @@ fn steps_to_circle(rt: &impl Abort, side: Side, quarters: u8, how: Stop, b: u8) 
         step(4, Deed::CircleXyr(circle.copied(), 5_000_000, b, 1_000_000)),
         step(5, Deed::FromXy(-2_000_000, below, None)),
         step(6, Deed::Godlta(1_000_000, 0, 0)),
-        step(7, Deed::Contour(Some(side), Go::Forward, line, how, circle)),
+        step(
+            7,
+            Deed::Contour(Some(side), Go::Forward, line, how, circle, 1_000_000),
+        ),
     ]
 }
 

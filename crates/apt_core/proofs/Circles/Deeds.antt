@@ -23,8 +23,8 @@ cut_deeds vx vy =
     ∷ deeds.GotoXy vx vy (Some (pos 500000))
     ∷ deeds.Godlta (pos 0) (pos 0) (neg_ℤ (pos 500000))
     ∷ deeds.GoStart stops.To (codes "C") None
-    ∷ deeds.Contour None turns.Right (codes "C") stops.On (codes "L")
-    ∷ deeds.Contour None turns.Forward (codes "C") stops.On (codes "L")
+    ∷ deeds.Contour None turns.Right (codes "C") stops.On (codes "L") (pos 1000000)
+    ∷ deeds.Contour None turns.Forward (codes "C") stops.On (codes "L") (pos 1000000)
     ∷ deeds.Godlta (pos 0) (pos 0) (pos 500000)
     ∷ []
 

@@ -1,5 +1,5 @@
 -- The two halves round a circle are not refused.
-use Rattle.std.proofs.Common.{◌≡◌, ℕ, ◌/◌, length, refl, ◌∙◌, true, false}
+use Rattle.std.proofs.Common.{◌≡◌, ℕ, ◌+◌, ◌/◌, length, refl, ◌∙◌, true, false}
 use Rattle.std.specs.Prelude.{ℤ, pos, neg_ℤ, ◌+ℤ◌, ◌-ℤ◌, not, unsigned_abs, None, codes}
 use Rattle.apt_num.specs.declared.Sign.TheVariants as signs
 use Rattle.apt_words.specs.declared.Go.{Go}
@@ -15,6 +15,7 @@ use Rattle.apt_canon.specs.Scale.{way, from, is_in_range}
 use Rattle.apt_offset.specs.Turns.{turn}
 use Rattle.apt_contact.specs.Meetings.{circle_about, is_parallel, is_apart}
 use Rattle.apt_stop.specs.Nearness.{heading}
+use Rattle.apt_stop.specs.declared.legs.Legs.TheVariants as legs
 use Rattle.apt_arc.specs.Made.{divided}
 use Rattle.apt_meaning.specs.declared.motion.Motion.{Motion}
 use Rattle.apt_meaning.specs.declared.effect.Effect.TheVariants as effects
@@ -24,7 +25,7 @@ use Rattle.apt_meaning.specs.Motions.{motion, motion_at, if_turned, end_point, a
 use Rattle.apt_meaning.specs.Effects.{cuts}
 use Rattle.apt_meaning.specs.Refusals.{turned_cases, motion_cases}
 use Rattle.apt_core.proofs.Circles.Numbers.{Size, Half, rightward, none, is_near_round, is_past_line, end_way, meeting_by}
-use Rattle.apt_core.proofs.Circles.Walks.{Passes}
+use Rattle.apt_core.proofs.Circles.Walks.{Passes, plus_none}
 use Rattle.apt_core.proofs.Circles.Scenes.{ready, standing, point, figures_about, self, plus_zero, beside}
 use Rattle.apt_core.proofs.Circles.Chords.{half_arc}
 
@@ -78,7 +79,7 @@ half_arc_is x y a b r R size half =
 -- the step that asks for it
 pub half_step : (f : Dir) (x y a b : ℤ) (r R n : ℕ) (go : Go) → Size r R → Half R a b → turn f (perp (way a (pos 0))) go ≡ signs.Plus
     → is_in_range (point (x +ℤ b) y) ≡ true → length (divided (half_arc x y R a b)) ≡ n
-    → Passes (standing ready (position_at (x +ℤ a) y (pos 0)) f (figures_about x y r)) (deeds.Contour None go (codes "C") stops.On (codes "L")) n
+    → Passes (standing ready (position_at (x +ℤ a) y (pos 0)) f (figures_about x y r)) (deeds.Contour None go (codes "C") stops.On (codes "L") (pos 1000000)) n
     (standing ready (position_at (x +ℤ b) y (pos 0)) (heading (pos 1) (perp (way b (pos 0)))) (figures_about x y r))
 unfolding motion_at
 half_step f x y a b r R n go size half turns inside count =
@@ -86,10 +87,10 @@ half_step f x y a b r R n go size half turns inside count =
     let turned : turn f (perp (displacement (point x y) (point (x +ℤ a) y))) go ≡ signs.Plus = (λ i. turn f (perp (beside x y a i)) go) ∙ turns in
     let ends = half_ends x y a b r R size half in
     record {
-      effect = effects.Cuts (half_motion x y r a);
-      fine = (λ i. first_of (turned_cases ready start (circle_surface x y r) (turned i) stops.On (line_surface x y))) ∙ half_fine x y a b r R size half inside;
-      asked = λ i. cuts (if_turned ready start (circle_surface x y r) (turned i) stops.On (line_surface x y));
-      count = (λ i. length (divided (half_arc_is x y a b r R size half i))) ∙ count;
+      effect = effects.Cuts (half_motion x y r a) legs.One;
+      fine = (λ i. first_of (turned_cases legs.One ready start (circle_surface x y r) (turned i) stops.On (line_surface x y))) ∙ half_fine x y a b r R size half inside;
+      asked = λ i. cuts legs.One (if_turned ready start (circle_surface x y r) (turned i) stops.On (line_surface x y));
+      count = (λ i. length (divided (half_arc_is x y a b r R size half i)) + 0) ∙ plus_none (length (divided (half_arc x y R a b))) ∙ count;
       leaves = (λ i. standing ready (at_height (pos 0) (ends i)) (heading (pos 1) (perp (displacement (point x y) (ends i)))) (figures_about x y r))
           ∙ (λ i. standing ready (position_at (x +ℤ b) y (pos 0)) (heading (pos 1) (perp (beside x y b i))) (figures_about x y r));
     }
