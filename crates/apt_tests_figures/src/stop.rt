@@ -3,7 +3,7 @@ ghost use Rattle.apt_plane.specs.Ranges.{IsPoint, IsSurface};
 use apt_num::Sign;
 use apt_offset::Target;
 use apt_plane::{Circ, Dir, Line, Pt, Surface};
-use apt_stop::{heading, is_near, is_touching, side_of, tangent_axis};
+use apt_stop::{heading, is_near, is_touching, near_stop, side_of, tangent_axis};
 
 mod decisions;
 
@@ -111,6 +111,7 @@ fn nears_a_circle(rt: HostRuntime) {
     ];
     for (x, y, near, side) in table {
         assert_eq!(rt; is_near(&target, 8, at(x, y)), near, "at {x}, {y}");
+        assert_eq!(rt; near_stop(at(x, y), &target), near, "at {x}, {y}");
         assert_eq!(rt; side_of(&target, at(x, y)), side, "at {x}, {y}");
     }
 }

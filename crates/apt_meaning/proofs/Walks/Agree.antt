@@ -120,7 +120,6 @@ like here stand forward (Cuts side go drive how check n) = counted_like (legs_by
   where
     counted_like : (o : Option Legs)
         → AreLikeIfThere (o >>= λ legs. cuts legs (motion_at here side go drive how check)) (o >>= λ legs. cuts legs (motion_at (elsewhere here stand forward) side go drive how check))
-    unfolding motion_at
     counted_like None = tt
     counted_like (Some legs) = contour_like legs (with_side here.settings side) here.forward forward go how here.position stand (surface_in here.table drive) (surface_in here.table check)
 like here stand forward Nothing = refl

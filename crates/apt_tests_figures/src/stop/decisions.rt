@@ -1,15 +1,16 @@
 //! Where courses stop, worked out by hand.
 
-ghost use Rattle.std.specs.Prelude.{◌≡◌, IsTrue};
+ghost use Rattle.std.specs.Prelude.{◌≡◌, IfSome, IsTrue};
 ghost use Rattle.apt_plane.specs.Ranges.{IsPoint, IsSurface, IsSense};
 ghost use Rattle.apt_offset.specs.Ranges.{IsRadius};
 ghost use Rattle.apt_offset.specs.Sides.{side_at_tangency};
+ghost use Rattle.apt_stop.specs.Ranges.{IsCourse};
 
 use crate::ranges::{is_point, is_surface};
 use apt_num::Sign;
 use apt_offset::{lacks_room, offset_surface, side_at_check};
 use apt_plane::{Axis, Circ, Dir, Line, Pt, Surface};
-use apt_stop::{Choice, Course, decide, is_near};
+use apt_stop::{Choice, Course, Ends, Legs, decide, decide_legs, is_near};
 use apt_words::{Case, Stop};
 
 /// A course by its surfaces, the places of the cutter at them and its radius. Where it touches, its place at the check
@@ -53,8 +54,10 @@ fn place_at_check(leg: &Leg) -> Sign
     }
 }
 
-/// How a leg in range ends whose start is on its track.
-fn ended(leg: &Leg) -> Option<Found> {
+/// The course of a leg in range whose start is on its track.
+fn course_of(leg: &Leg) -> Option<Course>
+    ensures { IfSome result IsCourse }
+{
     let in_range = is_point(leg.start)
         && is_surface(&leg.drive)
         && is_sense(leg.sense)
@@ -64,19 +67,20 @@ fn ended(leg: &Leg) -> Option<Found> {
 }
 
 #[tactic(auto, using(apt_stop::proofs::Moved::moved_course))]
-fn placed(leg: &Leg) -> Option<Found>
+fn placed(leg: &Leg) -> Option<Course>
     requires start { IsPoint leg.now.start }
     requires drive { IsSurface leg.now.drive }
     requires sense { IsSense leg.now.sense }
     requires check { IsSurface leg.now.check }
     requires radius { IsRadius leg.now.radius }
+    ensures { IfSome result IsCourse }
 {
     let track = offset_surface(&leg.drive, leg.at_drive, leg.radius);
     let stop = offset_surface(&leg.check, place_at_check(leg), leg.radius);
     if lacks_room(&track) || lacks_room(&stop) || !is_near(&track, 3, leg.start) {
         return None;
     }
-    let course = Course {
+    Some(Course {
         start: leg.start,
         drive: leg.drive,
         track,
@@ -84,8 +88,21 @@ fn placed(leg: &Leg) -> Option<Found>
         check: leg.check,
         how: leg.how,
         stop,
-    };
+    })
+}
+
+fn ended(leg: &Leg) -> Option<Found> {
+    let course = course_of(leg)?;
     Some(found(decide(&course)))
+}
+
+/// Where the legs to the second meeting end.
+fn ended_twice(leg: &Leg) -> Option<Result<(Pt, Option<Pt>), Case>> {
+    let course = course_of(leg)?;
+    Some(match decide_legs(&course, Legs::Two) {
+        Ok(Ends { first, second }) => Ok((first, second)),
+        Err(case) => Err(case),
+    })
 }
 
 fn found(ended: Result<Choice, Case>) -> Found {
@@ -352,6 +369,78 @@ fn to_where_it_touches(rt: HostRuntime) {
     for (leg, want) in table {
         assert_eq!(rt;
             ended(&leg),
+            Some(want),
+            "from {}, {}",
+            leg.start.x,
+            leg.start.y
+        );
+    }
+}
+
+fn both(x: i64, y: i64, u: i64, v: i64) -> Result<(Pt, Option<Pt>), Case> {
+    Ok((Pt { x, y }, Some(Pt { x: u, y: v })))
+}
+
+/// To the second meeting along the x axis: through a circle from outside, and from 9 units before it; not from inside, at
+/// a touch, to a line, or where a leg touches.
+#[test]
+fn along_a_line_twice(rt: HostRuntime) {
+    let axis = line(0, 0, 1, 0);
+    let round = ring(3_000, 0, 1_000);
+    let table: [(Leg, Result<(Pt, Option<Pt>), Case>); 9] = [
+        (on(0, 0, axis, 1, round), both(2_000, 0, 4_000, 0)),
+        (on(1_991, 0, axis, 1, round), both(2_000, 0, 4_000, 0)),
+        (on(5_000, 0, axis, -1, round), both(4_000, 0, 2_000, 0)),
+        (on(1_992, 0, axis, 1, round), Err(Case::Behind)),
+        (on(2_500, 0, axis, 1, round), Err(Case::Behind)),
+        (
+            on(0, 0, axis, 1, ring(3_000, 1_000, 1_000)),
+            Err(Case::Behind),
+        ),
+        (
+            on(0, 0, axis, 1, ring(3_000, 1_001, 1_000)),
+            Err(Case::NoContact),
+        ),
+        (on(0, 0, axis, 1, line(1_000, 0, 0, 1)), Err(Case::Behind)),
+        (
+            tanto(0, 0, axis, 1, ring(3_000, 1_000, 1_000)),
+            Err(Case::Behind),
+        ),
+    ];
+    for (leg, want) in table {
+        assert_eq!(rt; ended_twice(&leg), Some(want), "from {}", leg.start.x);
+    }
+}
+
+/// To the second meeting round a circle: past its first crossing with a line or a circle on to the other; a full turn from
+/// 8 units before the stop, which comes behind what refuses the stop itself.
+#[test]
+fn round_a_circle_twice(rt: HostRuntime) {
+    let round = ring(0, 0, 1_000);
+    let middle = line(0, 0, 0, 1);
+    let small = ring(0, 0, 500);
+    let other = ring(600, 0, 500);
+    let table: [(Leg, Result<(Pt, Option<Pt>), Case>); 10] = [
+        (on(1_000, 0, round, 1, middle), both(0, 1_000, 0, -1_000)),
+        (on(1_000, 0, round, -1, middle), both(0, -1_000, 0, 1_000)),
+        (on(9, 1_000, round, 1, middle), both(0, 1_000, 0, -1_000)),
+        (on(8, 1_000, round, 1, middle), Err(Case::FullTurn)),
+        (on(0, 1_000, round, 1, middle), Err(Case::FullTurn)),
+        (
+            on(1_000, 0, round, 1, line(1_001, 0, 0, 1)),
+            Err(Case::NoContact),
+        ),
+        (on(-500, 0, small, 1, other), both(300, -400, 300, 400)),
+        (on(300, 400, small, 1, other), Err(Case::FullTurn)),
+        (
+            on(-500, 0, small, 1, ring(1_000, 0, 500)),
+            Err(Case::Behind),
+        ),
+        (on(-500, 0, small, 1, ring(0, 0, 300)), Err(Case::Parallel)),
+    ];
+    for (leg, want) in table {
+        assert_eq!(rt;
+            ended_twice(&leg),
             Some(want),
             "from {}, {}",
             leg.start.x,
