@@ -75,8 +75,15 @@ fn contours_end_at_their_contact(rt: HostRuntime) -> Result<(), Fail> {
 }
 
 /// The steps of a motion along the x axis from x = -1 to a circle about (5, b) with radius 1: the cutter has a radius of
-/// a quarter, on this side, and starts so many quarters below the axis.
-fn steps_to_circle(rt: &impl Abort, side: Side, quarters: u8, how: Stop, b: u8) -> [Step; 7]
+/// a quarter, on this side, and starts so many quarters below the axis; it stops at this meeting.
+fn steps_to_circle(
+    rt: &impl Abort,
+    side: Side,
+    quarters: u8,
+    how: Stop,
+    b: u8,
+    meeting: u8,
+) -> [Step; 7]
     ensures scalars { AreScalars result }
     ensures sources { AreExecuted result }
 {
@@ -84,6 +91,7 @@ fn steps_to_circle(rt: &impl Abort, side: Side, quarters: u8, how: Stop, b: u8) 
     let circle = symbol(rt, "C1");
     let below = -250_000 * i64::from(quarters);
     let b = 1_000_000 * i64::from(b);
+    let n = 1_000_000 * i64::from(meeting);
     [
         step(1, Deed::Cutter(500_000)),
         step(2, Deed::Fedrat(10_000_000)),
@@ -93,7 +101,7 @@ fn steps_to_circle(rt: &impl Abort, side: Side, quarters: u8, how: Stop, b: u8) 
         step(6, Deed::Godlta(1_000_000, 0, 0)),
         step(
             7,
-            Deed::Contour(Some(side), Go::Forward, line, how, circle, 1_000_000),
+            Deed::Contour(Some(side), Go::Forward, line, how, circle, n),
         ),
     ]
 }
@@ -124,12 +132,45 @@ fn contours_end_at_circles(rt: HostRuntime) {
         (Side::On, 0, Stop::Tanto, 1, (500_000, 0)),
     ];
     for (side, quarters, how, b, want) in table {
-        let steps = steps_to_circle(&rt, side, quarters, how, b);
+        let steps = steps_to_circle(&rt, side, quarters, how, b, 1);
         let Some(end) = last_end(&rt, rt.alloc(), steps) else {
             assert!(rt; false, "a step is refused");
             return;
         };
         assert_eq!(rt; end, want);
+    }
+}
+
+/// Where the two legs end with which steps end.
+fn both_ends(rt: &(impl Threads + Sync), alloc: Global, steps: [Step; 7]) -> Option<[(i64, i64); 2]>
+    requires scalars { AreScalars steps }
+    requires sources { AreExecuted steps }
+{
+    let Ok(steps) = Vec::from_array(alloc, steps) else {
+        return None;
+    };
+    let records = run(rt, alloc, steps, &OpenGate).ok()?;
+    let [.., first, second] = records.as_slice() else {
+        return None;
+    };
+    let (first, second) = (end_of(first)?, end_of(second)?);
+    Some([(first.xy.x, first.xy.y), (second.xy.x, second.xy.y)])
+}
+
+#[test]
+fn contours_go_on_to_the_second_meeting(rt: HostRuntime) {
+    let table = [
+        (Stop::To, [(375_000, 0), (625_000, 0)]),
+        (Stop::On, [(400_000, 0), (600_000, 0)]),
+        (Stop::Past, [(425_000, 0), (575_000, 0)]),
+    ];
+    for (how, want) in table {
+        let steps = steps_to_circle(&rt, Side::On, 0, how, 0, 2);
+        let Some(ends) = both_ends(&rt, rt.alloc(), steps) else {
+            assert!(rt; false, "a step is refused");
+            return;
+        };
+        assert_eq!(rt; ends, want);
     }
 }
 

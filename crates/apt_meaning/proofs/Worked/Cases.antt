@@ -348,6 +348,15 @@ full_turn : counted 2000000 (standing (record held { side = sides.On }) on_circl
 unfolding root
 full_turn = refl
 
+-- 8 units off the stop it still would
+full_turn_from_near : counted 2000000 (standing (record held { side = sides.On }) (Some (above (pos 10000) (pos 8)))) turns.Left (codes "C1") stops.On (codes "L1") ≡ Some cases.FullTurn
+unfolding root
+full_turn_from_near = refl
+
+no_full_turn_from_there : counted 2000000 (standing (record held { side = sides.On }) (Some (above (pos 10000) (pos 9)))) turns.Left (codes "C1") stops.On (codes "L1") ≡ None
+unfolding root
+no_full_turn_from_there = refl
+
 no_full_turn : counted 2000000 (standing (record held { side = sides.On }) on_circle) turns.Left (codes "C1") stops.On (codes "L6") ≡ None
 unfolding root
 no_full_turn = refl
