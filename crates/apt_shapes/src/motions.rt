@@ -202,11 +202,7 @@ fn contour(
 }
 
 /// A contour with no tool word before it.
-pub(crate) fn onward(
-    alloc: Global,
-    turn: Go,
-    args: &[&[Token]],
-) -> Result<Option<Body>, AllocError>
+pub(crate) fn onward(alloc: Global, turn: Go, args: &[&[Token]]) -> Result<Option<Body>, AllocError>
     ensures { IfOk result (λ b. b ≡ motions.contour None turn (map (λ a. a.now) args.now)) }
 {
     contour(alloc, None, turn, args)
