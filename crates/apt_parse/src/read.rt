@@ -179,7 +179,10 @@ fn loop_behind(before: Option<u32>, line: u32, body: &Body) -> Option<u32>
 fn is_unbuilt(body: &Body) -> bool
     ensures { result ≡ statements.is_unbuilt body.now }
 {
-    matches!(body, Body::Patern(..) | Body::CycleDrill(..) | Body::CycleOff)
+    matches!(
+        body,
+        Body::Patern(..) | Body::CycleDrill(..) | Body::CycleOff
+    )
 }
 
 fn is_partno(body: &Body) -> bool
