@@ -3,6 +3,8 @@ use Rattle.std.proofs.Common.{ℕ, List, [], ◌∷◌, Option, Some, None}
 use Rattle.std.specs.Prelude.{IfSome}
 use Rattle.apt_words.specs.declared.Go.{Go}
 use Rattle.apt_words.specs.declared.Side.{Side}
+use Rattle.apt_words.specs.declared.Stop.{Stop}
+use Rattle.apt_words.specs.declared.Stop.TheVariants as stops
 use Rattle.apt_words.specs.declared.body.Body.{Body}
 use Rattle.apt_words.specs.declared.body.Body.TheVariants as bodies
 use Rattle.apt_words.specs.declared.word.Word.{Word}
@@ -11,14 +13,15 @@ use Rattle.apt_words.specs.declared.Go.TheVariants as turns
 use Rattle.apt_words.specs.declared.Turn.TheVariants as spins
 use Rattle.apt_words.specs.Options.{◌>>=◌}
 use Rattle.apt_words.specs.Sources.{IsTitle, HasText}
+use Rattle.apt_words.specs.Trees.{Tree}
 use Rattle.apt_lexis.specs.declared.token.Token.{Token}
 use Rattle.apt_lexis.specs.declared.token.Token.TheVariants as tokens
 use Rattle.apt_expr.specs.Expressions.{expression}
 use Rattle.apt_shapes.specs.declared.table.Labelled.{Labelled}
-use Rattle.apt_shapes.specs.Arguments.{arguments, name, word, pick, is_left, says, or_else}
-use Rattle.apt_shapes.specs.Figures.{assign, point_xy, point_xyz, point_center, point_lines, point, line_par, line_perp, line_xy, line_at, line_tan, line, circle_three, circle_through, circle_radius, circle_tan, circle}
-use Rattle.apt_shapes.specs.Motions.{from, goto, godlta, surface, start_one, start_two, start, side_named, turn_of, check_stop, contour, contour_behind}
-use Rattle.apt_shapes.specs.Settings.{titled, one, expressions, units_of, units_in, spindle_turn, spindl_off, spindl_on, spindl, cool_of, coolnt}
+use Rattle.apt_shapes.specs.Arguments.{arguments, name, word, pick, is_left, stop, says, pair, or_else}
+use Rattle.apt_shapes.specs.Figures.{assign, point_xy, point_xyz, point_center, point_lines, point, line_par, line_perp, line_xy, line_at, line_tan, line, circle_three, circle_through, circle_radius, circle_tan, circle, patern}
+use Rattle.apt_shapes.specs.Motions.{from, goto, godlta, surface, start_one, start_two, start, side_named, turn_of, check_stop, once, count, between, contour, contour_behind}
+use Rattle.apt_shapes.specs.Settings.{titled, one, expressions, units_of, units_in, spindle_turn, spindl_off, spindl_on, spindl, cool_of, coolnt, cycle}
 use Rattle.apt_shapes.specs.Flow.{parameters, differ, names_of, macro, arguments_in, call, jumpto, condition, if_in}
 use Rattle.apt_shapes.specs.Shapes.{tool, command, alone, with_arguments, figure, macro_alone, defined, behind_equals, if_word, untitled, with_text, body, labelled, shape}
 use Rattle.apt_parse.proofs.TitleTexts.{only_if-holds}
@@ -81,6 +84,10 @@ circle-fits n (a ∷ b ∷ c ∷ d ∷ e ∷ f ∷ []) =
     by (pick a) _ (λ j. by (name b) _ (λ a. by (pick c) _ (λ k. by (name d) _ (λ b. by (says words.Radius e) _ (λ _. by (expression f) _ (λ e. tt))))))
 circle-fits n _ = tt
 
+patern-fits : (n : List ℕ) (args : List (List Token)) → FitsText (patern n args)
+patern-fits n (linear ∷ p ∷ q ∷ e ∷ []) = by (says words.Linear linear) _ (λ _. by (name p) _ (λ p. by (name q) _ (λ q. by (expression e) _ (λ e. tt))))
+patern-fits n _ = tt
+
 macro-fits : (n : List ℕ) (args : List (List Token)) → FitsText (macro n args)
 macro-fits n args = by (parameters args) _ (λ ps. only_if-holds HasText (differ (names_of ps)) (bodies.Macro n ps) tt)
 
@@ -88,6 +95,7 @@ figure-fits : (n : List ℕ) (w : Word) (args : List (List Token)) → FitsText 
 figure-fits n words.Point args = point-fits n args
 figure-fits n words.Line args = line-fits n args
 figure-fits n words.Circle args = circle-fits n args
+figure-fits n words.Patern args = patern-fits n args
 figure-fits n words.Macro args = macro-fits n args
 figure-fits n _ args = tt
 
@@ -135,9 +143,14 @@ start-fits (a ∷ b ∷ c ∷ []) =
 start-fits (a ∷ b ∷ c ∷ d ∷ []) = start_two-fits (a ∷ b ∷ []) (c ∷ d ∷ [])
 start-fits _ = tt
 
+between-fits : (side : Option Side) (turn : Go) (drive : List Token) (q : Option Stop) (e : Option Tree) (check : List Token) → FitsText (between side turn drive q e check)
+between-fits side turn drive q e check = by (name drive) _ (λ drive. by q _ (λ q. by e _ (λ e. by (name check) _ (λ check. tt))))
+
 contour-fits : (side : Option Side) (turn : Go) (args : List (List Token)) → FitsText (contour side turn args)
-contour-fits side turn (drive ∷ check ∷ []) = by (name drive) _ (λ drive. by (name check) _ (λ check. tt))
-contour-fits side turn (drive ∷ q ∷ check ∷ []) = by (name drive) _ (λ drive. by (check_stop q) _ (λ q. by (name check) _ (λ check. tt)))
+contour-fits side turn (drive ∷ check ∷ []) = between-fits side turn drive (Some stops.To) (Some once) check
+contour-fits side turn (drive ∷ q ∷ check ∷ []) = between-fits side turn drive (check_stop q) (Some once) check
+contour-fits side turn (drive ∷ e ∷ intof ∷ check ∷ []) = between-fits side turn drive (Some stops.To) (count e intof) check
+contour-fits side turn (drive ∷ q ∷ e ∷ intof ∷ check ∷ []) = between-fits side turn drive (stop q) (count e intof) check
 contour-fits side turn _ = tt
 
 contour_behind-fits : (side : Option Side) (ts : List Token) → FitsText (contour_behind side ts)
@@ -158,6 +171,11 @@ spindl-fits _ = tt
 coolnt-fits : (args : List (List Token)) → FitsText (coolnt args)
 coolnt-fits (a ∷ []) = by (word a >>= cool_of) _ (λ c. tt)
 coolnt-fits _ = tt
+
+cycle-fits : (args : List (List Token)) → FitsText (cycle args)
+cycle-fits (off ∷ []) = by (says words.Off off) _ (λ _. tt)
+cycle-fits (drill ∷ d ∷ c ∷ []) = by (says words.Drill drill) _ (λ _. by (pair d c) _ (λ r. tt))
+cycle-fits _ = tt
 
 call-fits : (args : List (List Token)) → FitsText (call args)
 call-fits (m ∷ args) = by (name m) _ (λ m. by (arguments_in args) _ (λ ps. tt))
@@ -202,6 +220,7 @@ with_arguments-fits words.Gofwd args = contour-fits None turns.Forward args
 with_arguments-fits words.Goback args = contour-fits None turns.Back args
 with_arguments-fits words.Spindl args = spindl-fits args
 with_arguments-fits words.Coolnt args = coolnt-fits args
+with_arguments-fits words.Cycle args = cycle-fits args
 with_arguments-fits words.Call args = call-fits args
 with_arguments-fits words.Jumpto args = jumpto-fits args
 with_arguments-fits _ args = tt

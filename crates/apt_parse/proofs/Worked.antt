@@ -72,6 +72,22 @@ one_surface : program_of (codes "PARTNO\nGO/L1\nFINI\n") ≡
 unfolding shape expression word_of
 one_surface = refl
 
+a_pattern : fault (codes "PARTNO X\nA=PATERN/LINEAR,P,Q,4\nFINI\n") ≡ Some (2, causes.NotBuilt)
+unfolding shape expression word_of
+a_pattern = refl
+
+a_drilling_cycle : fault (codes "PARTNO X\nCYCLE/DRILL,.25,.1\nCYCLE/OFF\nFINI\n") ≡ Some (2, causes.NotBuilt)
+unfolding shape expression word_of
+a_drilling_cycle = refl
+
+no_cycle : fault (codes "PARTNO X\nCYCLE/OFF\nFINI\n") ≡ Some (2, causes.NotBuilt)
+unfolding shape expression word_of
+no_cycle = refl
+
+pattern_before_partno : fault (codes "A=PATERN/LINEAR,P,Q,4\nPARTNO X\nFINI\n") ≡ Some (1, causes.NotBuilt)
+unfolding shape expression word_of
+pattern_before_partno = refl
+
 label_twice : fault (codes "PARTNO\nA)STOP\nB)STOP\nA)END\nFINI\n") ≡ Some (4, causes.LabelTwice)
 unfolding shape expression word_of
 label_twice = refl
