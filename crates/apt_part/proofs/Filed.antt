@@ -19,10 +19,11 @@ use Rattle.apt_meaning.proofs.Walks.Compiled.{compiled_follows}
 use Rattle.apt_meaning.proofs.Walks.Ends.{ends_once}
 use Rattle.apt_meaning.proofs.Walks.Files.{Fit, compiled_fit, fini_last}
 use Rattle.apt_machine.specs.declared.machine.Machine.{Machine}
-use Rattle.apt_post.specs.Plan.{plan}
+use Rattle.apt_post.specs.Plan.{nothing_pending, plan}
 use Rattle.apt_post.specs.Blocks.{tape_bytes}
-use Rattle.apt_post.proofs.Lengths.{plan_length}
+use Rattle.apt_post.proofs.Lengths.{tape_length}
 use Rattle.apt_part.specs.Promise.{file_limit}
+use Rattle.apt_part.proofs.Acting.{compiled_acts}
 
 pub compiled_file : (statements : List Stmt) (steps : List Step) (written : List Record) → IsTrace statements (record { steps = steps; fault = None })
     → AreScalars steps → AreExecuted steps → StepsEnd false steps → compilation first_situation steps ≡ Ok written → IsFile written
@@ -39,5 +40,6 @@ compiled_file statements steps written trace scalars executed ends compiled =
 pub file_fits : (steps : List Step) (written : List Record) → Fit 0 steps written → length steps ≤ 200000 → title_lengths steps ≤ 256 → length (file_of written) ≤ file_limit
 file_fits steps written fit few titles = omega (arith, file_length written, fit.bytes, fit.vertices, few, titles)
 
-pub tape_fits : (m : Machine) (steps : List Step) (written : List Record) → Fit 0 steps written → length steps ≤ 200000 → length (tape_bytes m (plan written)) ≤ file_limit
-tape_fits m steps written fit few = omega (arith, plan_length m written, fit.number, fit.vertices, few)
+pub tape_fits : (m : Machine) (steps : List Step) (written : List Record) → compilation first_situation steps ≡ Ok written → Fit 0 steps written → length steps ≤ 200000
+    → length (tape_bytes m (plan written)) ≤ file_limit
+tape_fits m steps written compiled fit few = omega (arith, tape_length m (plan written), compiled_acts 0 first_situation steps written compiled nothing_pending, fit.vertices, few)

@@ -1,4 +1,5 @@
 mod Worked
 pub mod Written
+mod Acting
 pub mod Filed
 pub mod Promised

@@ -181,5 +181,5 @@ promised machine text p is h =
       file_fits = file_fits p.steps p.records fit few (titles_short p.steps titled are.sources);
       reached = plan_reaches p.records;
       program = planned_program p.records (ends_once CutsLegally false first_situation p.steps p.records follow.behind follow.follows ends) can;
-      tape_fits = tape_fits machine p.steps p.records fit few;
+      tape_fits = tape_fits machine p.steps p.records q.compiled fit few;
     }

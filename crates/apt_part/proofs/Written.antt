@@ -155,7 +155,7 @@ note_written machine p s (Says saying) note is agrees room takes said good = rw 
 note_written machine p s (Sets side) note is agrees room takes said good = absurd said
 note_written machine p s (Defines name form) note is agrees room takes said good = absurd said
 note_written machine p s (Goes route) note is agrees room takes said good = absurd said
-note_written machine p s (Cuts side go drive how check) note is agrees room takes said good = absurd said
+note_written machine p s (Cuts side go drive how check n) note is agrees room takes said good = absurd said
 note_written machine p s Nothing note is agrees room takes said good = absurd said
 
 moved : (p : Pending) (s : Settings) (reach : Reach) (to : Position) → Agrees p s → HasRoom s → IsPosition to → IsFed s (effects.Moves reach to)

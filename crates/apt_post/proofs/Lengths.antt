@@ -1,4 +1,4 @@
--- How many bytes a tape has: at most 44 a block, and a block for the units, each record and each vertex.
+-- How many bytes a tape has: at most 44 a block; and how many acts records have.
 use Rattle.std.proofs.Common.{◌≡◌, cond, ℕ, ◌+◌, ◌*◌, ◌≤◌, ◌==◌, pos, Bool, true, false, List, [], ◌∷◌, ◌++◌, length, ap, ◌∙◌, arith}
 use Rattle.std.specs.Prelude.{if◌then◌else◌, ◌%◌}
 use Rattle.std.specs.List.{filter, flat_map}
@@ -22,7 +22,7 @@ use Rattle.apt_control.specs.declared.Act.TheVariants as acts
 use Rattle.apt_control.specs.declared.held.Held.{Held}
 use Rattle.apt_control.specs.Control.{nothing_held}
 use Rattle.apt_post.specs.declared.planning.Pending.{Pending}
-use Rattle.apt_post.specs.Plan.{cut_to, note_acts, record_acts, record_pending, acts_from, nothing_pending, plan}
+use Rattle.apt_post.specs.Plan.{cut_to, note_acts, record_acts, record_pending, acts_from}
 use Rattle.apt_post.specs.Blocks.{act_words, numbered, is_written, behind, act_block, blocks_from, tape_text, tape_bytes}
 
 -- ---- a block
@@ -83,7 +83,7 @@ text_length m k held (act ∷ more) =
     let block = spelling (act_block m k held act) in
     omega (arith, length-append block (flat_map spelling (blocks_from m (k + 1) (behind held act) more)), act_block_length m k held act, text_length m (k + 1) (behind held act) more)
 
-tape_length : (m : Machine) (acts : List Act) → length (tape_bytes m acts) ≤ 2 + 44 * length acts
+pub tape_length : (m : Machine) (acts : List Act) → length (tape_bytes m acts) ≤ 2 + 44 * length acts
 tape_length m acts = omega (arith, length-map (tape_text m acts) (byte_of m.code), text_length m 0 nothing_held acts)
 
 -- ---- the acts of records
@@ -92,7 +92,7 @@ end_once : (ended : Bool) → length (if ended then [] else acts.End ∷ []) ≤
 end_once true = omega arith
 end_once false = omega arith
 
-note_few : (p : Pending) (note : Note) → length (note_acts p note) ≤ 1
+pub note_few : (p : Pending) (note : Note) → length (note_acts p note) ≤ 1
 note_few p (notes.Partno text) = omega arith
 note_few p (notes.Units units) = omega arith
 note_few p (notes.Cutter d) = omega arith
@@ -123,8 +123,3 @@ pub acts_few : (p : Pending) (rs : List Record) → length (acts_from p rs) ≤ 
 acts_few p [] = omega arith
 acts_few p (r ∷ rs) =
     omega (arith, length-append (record_acts p r) (acts_from (record_pending p r) rs), record_few p r, acts_few (record_pending p r) rs)
-
--- ---- the tape of records
-
-pub plan_length : (m : Machine) (rs : List Record) → length (tape_bytes m (plan rs)) ≤ 46 + 44 * (length rs + vertex_count rs)
-plan_length m rs = omega (arith, tape_length m (plan rs), acts_few nothing_pending rs)

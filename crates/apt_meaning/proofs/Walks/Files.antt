@@ -116,7 +116,7 @@ cut_vertices : (z : ℤ) (cuts : List (List Pt)) → vertex_count (map (cut_reco
 cut_vertices z [] = refl
 cut_vertices z (vertices ∷ cuts) = omega (arith, length-map vertices (at_height z), cut_vertices z cuts)
 
-step_vertices : (step : Step) (e : Effect) → vertex_count (records_of step e (points_of e)) ≡ point_number e
+pub step_vertices : (step : Step) (e : Effect) → vertex_count (records_of step e (points_of e)) ≡ point_number e
 step_vertices step (effects.Defines n f) = refl
 step_vertices step (effects.Sets (changes.Said note)) = refl
 step_vertices step (effects.Sets (changes.Side side)) = refl
@@ -178,7 +178,7 @@ short-append : (xs ys : List Record) → AreShort xs → AreShort ys → AreShor
 short-append [] ys are more = more
 short-append (x ∷ xs) ys are more = (are.0, short-append xs ys are.1 more)
 
-vertex_count-append : (xs ys : List Record) → vertex_count (xs ++ ys) ≡ vertex_count xs + vertex_count ys
+pub vertex_count-append : (xs ys : List Record) → vertex_count (xs ++ ys) ≡ vertex_count xs + vertex_count ys
 vertex_count-append [] ys = omega arith
 vertex_count-append (x ∷ xs) ys = omega (arith, vertex_count-append xs ys)
 
