@@ -70,6 +70,9 @@ cuts legs (Some m) = Some (effects.Cuts m legs)
 abbrev pub legs_by : ℤ → Option Legs
 legs_by n = if int_eq n (pos 1) then Some the_legs.One else if int_eq n (pos 2) then Some the_legs.Two else None
 
+abbrev pub cuts_by : ℤ → Option Motion → Option Effect
+cuts_by n m = legs_by n >>= λ legs. cuts legs m
+
 -- ---- lengths and places in grid units
 
 -- the height is 0 where it is left out
@@ -124,7 +127,7 @@ effect_by here (Says saying) = says (note_of here.settings.units saying)
 effect_by here (Sets side) = Some (effects.Sets (changes.Side side))
 effect_by here (Defines name form) = defined here name form
 effect_by here (Goes route) = goes here route
-effect_by here (Cuts side go drive how check n) = legs_by (whole n) >>= λ legs. cuts legs (motion_at here side go drive how check)
+effect_by here (Cuts side go drive how check n) = cuts_by (whole n) (motion_at here side go drive how check)
 effect_by here Nothing = Some (effects.Sets changes.Nothing)
 
 abbrev pub effect_of : Situation → Deed → Option Effect

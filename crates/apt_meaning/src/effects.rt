@@ -2,7 +2,6 @@
 
 ghost use Rattle.std.specs.Prelude.{◌≡◌, Some, IfOk, IfSome};
 ghost use Rattle.apt_words.specs.Asks.{form_numbers, place_numbers, route_numbers, saying_numbers};
-ghost use Rattle.apt_words.specs.Options.{◌>>=◌};
 ghost use Rattle.apt_scalar.specs.Scalars.{IsScalar, whole};
 ghost use Rattle.apt_scalar.specs.StepScalars.{AllScalars, HasScalars};
 ghost use Rattle.apt_startup.specs.Ranges.{IsStartUp};
@@ -185,7 +184,7 @@ pub fn legs_by(n: i64) -> Option<Legs>
     }
 }
 
-#[tactic(auto, unfolding(crate::specs::Motions::motion_at))]
+/// A contour to the n-th meeting with its check surface, with n in millionths.
 fn contour(
     here: &Situation,
     side: Option<Side>,
@@ -197,9 +196,25 @@ fn contour(
 ) -> Option<Effect>
     requires situation { IsSituation here.now }
     requires count { IsScalar n }
-    ensures { result ≡ (asking.legs_by (whole n) >>= λ legs. asking.cuts legs (motions.motion_at here.now side go drive.now how check.now)) }
+    ensures { result ≡ asking.cuts_by (whole n) (motions.motion_at here.now side go drive.now how check.now) }
 {
     let legs = legs_by(whole(n))?;
+    let motion = motion_at(here, side, go, drive, how, check)?;
+    Some(Effect::Cuts(motion, legs))
+}
+
+#[tactic(auto, unfolding(crate::specs::Motions::motion_at))]
+fn motion_at(
+    here: &Situation,
+    side: Option<Side>,
+    go: Go,
+    drive: &Symbol,
+    how: Stop,
+    check: &Symbol,
+) -> Option<Motion>
+    requires { IsSituation here.now }
+    ensures { result ≡ motions.motion_at here.now side go drive.now how check.now }
+{
     let start = here.position?;
     let drive = surface_in(&here.table, drive)?;
     let check = surface_in(&here.table, check)?;
@@ -208,6 +223,5 @@ fn contour(
     if is_zero(turned) {
         return None;
     }
-    let motion = Motion::along(&settings, start, &drive, turned, how, &check);
-    Some(Effect::Cuts(motion, legs))
+    Some(Motion::along(&settings, start, &drive, turned, how, &check))
 }
