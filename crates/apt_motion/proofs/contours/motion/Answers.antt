@@ -1,4 +1,4 @@
-use Rattle.std.proofs.Common.{rules}
+use Rattle.std.proofs.Common.{rules, Ok, Err}
 use Rattle.apt_motion.proofs.Cuts.{drive_refused, check_refused, count_refused, contour_motion}
 use Rattle.apt_motion.proofs.contours.motion.Goals as goal
 
@@ -11,3 +11,21 @@ pub returns-in_err-check-clause-motion : goal.returns-in_err-check-clause-motion
 returns-in_err-check-clause-motion c =
     let a = c.args in
     rw (check_refused a.here.now a.side a.go a.drive.now a.how a.check.now a.n c.in-Some.start c.in_ok-drive.drive c.in_err-check.field-0.0 c.in-Some.is c.in_ok-drive.ensures.named c.in_err-check.ensures.named) (search rules)
+
+pub returns-in_default-legs_by-clause-motion : goal.returns-in_default-legs_by-clause-motion
+returns-in_default-legs_by-clause-motion c =
+    let a = c.args in
+    count_refused a.here.now a.side a.go a.drive.now a.how a.check.now a.n c.in-Some.start c.in_ok-drive.drive c.in_ok-check.check c.in-Some.is c.in_ok-drive.ensures.named c.in_ok-check.ensures.named
+    (search (rules, c.whole.ensures, c.legs_by.ensures))
+
+pub returns-in-Ok-clause-motion : goal.returns-in-Ok-clause-motion
+returns-in-Ok-clause-motion c =
+    let a = c.args in
+    contour_motion a.here.now a.side a.go a.drive.now a.how a.check.now a.n c.in-Some.start c.in_ok-drive.drive c.in_ok-check.check c.in-Some-legs_by.legs (Ok c.in-Ok.motion)
+    c.in-Some.is c.in_ok-drive.ensures.named c.in_ok-check.ensures.named (search (rules, c.whole.ensures, c.legs_by.ensures, c.in-Some-legs_by.is)) (c.in-Ok.ensures.motion c.in-Some-legs_by.legs)
+
+pub returns-in-Err-clause-motion : goal.returns-in-Err-clause-motion
+returns-in-Err-clause-motion c =
+    let a = c.args in
+    contour_motion a.here.now a.side a.go a.drive.now a.how a.check.now a.n c.in-Some.start c.in_ok-drive.drive c.in_ok-check.check c.in-Some-legs_by.legs (Err c.in-Err.case)
+    c.in-Some.is c.in_ok-drive.ensures.named c.in_ok-check.ensures.named (search (rules, c.whole.ensures, c.legs_by.ensures, c.in-Some-legs_by.is)) (c.in-Err.ensures.motion c.in-Some-legs_by.legs)
