@@ -53,7 +53,7 @@ fn causes_of_parts(rt: HostRuntime) -> Result<(), Fail> {
     Ok(())
 }
 
-const CASES: [(Case, &str); 33] = [
+const CASES: [(Case, &str); 36] = [
     (Case::Budget, "Budget"),
     (Case::AfterEnd, "AfterEnd"),
     (Case::Unknown, "Unknown"),
@@ -66,6 +66,7 @@ const CASES: [(Case, &str); 33] = [
     (Case::BadArgs, "BadArgs"),
     (Case::Undefined, "Undefined"),
     (Case::WrongKind, "WrongKind"),
+    (Case::BadCount, "BadCount"),
     (Case::OutOfRange, "OutOfRange"),
     (Case::Degenerate, "Degenerate"),
     (Case::NoMeeting, "NoMeeting"),
@@ -85,8 +86,10 @@ const CASES: [(Case, &str); 33] = [
     (Case::Parallel, "Parallel"),
     (Case::NotTangent, "NotTangent"),
     (Case::NoContact, "NoContact"),
+    (Case::FullTurn, "FullTurn"),
     (Case::Behind, "Behind"),
     (Case::TooManyPoints, "TooManyPoints"),
+    (Case::TooManyHoles, "TooManyHoles"),
 ];
 
 #[test]

@@ -98,7 +98,7 @@ pub(crate) fn read(alloc: Global, text: &str) -> Result<Option<Expr>, AllocError
     expression(alloc, &tokens)
 }
 
-fn token(word: &str) -> Token {
+pub(crate) fn token(word: &str) -> Token {
     match word.as_bytes() {
         [b'='] => Token::Equals,
         [b'/'] => Token::Slash,
@@ -119,7 +119,7 @@ fn symbol_or_number(word: &str) -> Token {
     }
 }
 
-pub(crate) fn named(symbol: Symbol) -> Token {
+fn named(symbol: Symbol) -> Token {
     match word_of(&symbol) {
         Some(word) => Token::Word(word),
         None => Token::Name(symbol),
@@ -127,9 +127,14 @@ pub(crate) fn named(symbol: Symbol) -> Token {
 }
 
 fn shown(alloc: Global, found: &Option<Expr>) -> Result<String, AllocError> {
-    let Some(e) = found else {
-        return format!(in alloc; "none");
-    };
+    match found {
+        Some(e) => written(alloc, e),
+        None => format!(in alloc; "none"),
+    }
+}
+
+/// An expression with all its parentheses, numbers in millionths.
+pub(crate) fn written(alloc: Global, e: &Expr) -> Result<String, AllocError> {
     match &e.node {
         Node::Num(v) => format!(in alloc; "{v}"),
         Node::Minus(v) => format!(in alloc; "-({v})"),

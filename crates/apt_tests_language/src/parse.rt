@@ -1,7 +1,7 @@
 use apt_parse::{ParseError, PartCause, parse};
 
 /// Texts, each with the line and the cause of its first fault, none where it is a program.
-const TEXTS: [(&str, Option<(u32, PartCause)>); 72] = [
+const TEXTS: [(&str, Option<(u32, PartCause)>); 81] = [
     ("PARTNO A\nFINI\n", None),
     ("partno a\n\tL1 = line / 0,0,\t5 , 0\nfini", None),
     ("PARTNO A\r\nGOTO/1,2\r\nFINI\r\n", None),
@@ -11,6 +11,7 @@ const TEXTS: [(&str, Option<(u32, PartCause)>); 72] = [
     ),
     ("PARTNO\nTLON,GOLFT/L1,TANTO,L2\nFINI\n", None),
     ("PARTNO\nGOLFT/L1,ON,L2\nFINI\n", None),
+    ("PARTNO\nGOFWD/L1,ON,2,INTOF,C1\nFINI\n", None),
     ("PARTNO\nGO/L1\nFINI\n", None),
     ("PARTNO\nGO/ON,L1\nFINI\n", None),
     ("PARTNO\nGO/ON,L1,ON,L2\nFINI\n", None),
@@ -197,6 +198,35 @@ const TEXTS: [(&str, Option<(u32, PartCause)>); 72] = [
         Some((4, PartCause::LabelMissing)),
     ),
     ("PARTNO\nCALL/M\nFINI\n", None),
+    (
+        "PARTNO X\nA=PATERN/LINEAR,P,Q,4\nFINI\n",
+        Some((2, PartCause::NotBuilt)),
+    ),
+    (
+        "PARTNO X\nSTOP\nCYCLE/DRILL,.25,.1\nFINI\n",
+        Some((3, PartCause::NotBuilt)),
+    ),
+    (
+        "PARTNO X\nCYCLE/OFF\nFINI\n",
+        Some((2, PartCause::NotBuilt)),
+    ),
+    (
+        "A=PATERN/LINEAR,P,Q,4\nPARTNO X\nFINI\n",
+        Some((1, PartCause::NotBuilt)),
+    ),
+    (
+        "PARTNO\nCYCLE/DRILL,.25\nFINI\n",
+        Some((2, PartCause::BadShape)),
+    ),
+    (
+        "PARTNO\nLA)STOP\nLA)CYCLE/OFF\nFINI\n",
+        Some((3, PartCause::NotBuilt)),
+    ),
+    (
+        "PARTNO\nM=MACRO\nCYCLE/OFF\nN=MACRO\nTERMAC\nFINI\n",
+        Some((3, PartCause::NotBuilt)),
+    ),
+    ("PARTNO\nFINI\nCYCLE/OFF\n", None),
 ];
 
 #[test]

@@ -1,24 +1,38 @@
-//! Statements without expressions.
-use crate::expr::named;
-use apt_lexis::Token;
+//! Statements, numbers in millionths.
+use crate::expr::{token, written};
 use apt_shapes::{Labelled, shape};
 use apt_words::{Body, Symbol, Text};
 use std::alloc::{AllocError, Global};
 use std::test::Fail;
 
 /// Statements and what they say.
-const STATEMENTS: [(&str, &str); 29] = [
+const STATEMENTS: [(&str, &str); 35] = [
     ("GOTO / P1", "GotoPoint P1"),
     ("FROM / P1", "FromPoint P1"),
     ("GO / L1", "GoStart To L1"),
     ("GO / PAST , L1", "GoStart Past L1"),
     ("GO / L1 , ON , L2", "GoStart To L1 On L2"),
     ("GO / ON , L1 , PAST , L2", "GoStart On L1 Past L2"),
-    ("GOFWD / L1 , C1", "Contour None Forward L1 To C1"),
-    ("GOBACK / L1 , TANTO , C1", "Contour None Back L1 Tanto C1"),
+    ("GOFWD / L1 , C1", "Contour None Forward L1 To C1 1000000"),
+    (
+        "GOBACK / L1 , TANTO , C1",
+        "Contour None Back L1 Tanto C1 1000000",
+    ),
     (
         "TLRGT , GORGT / L1 , PAST , L2",
-        "Contour Some(Right) Right L1 Past L2",
+        "Contour Some(Right) Right L1 Past L2 1000000",
+    ),
+    (
+        "GOFWD / L1 , ON , 2000000 , INTOF , C1",
+        "Contour None Forward L1 On C1 2000000",
+    ),
+    (
+        "GOFWD / L1 , 2000000 , INTOF , C1",
+        "Contour None Forward L1 To C1 2000000",
+    ),
+    (
+        "TLON , GOLFT / C1 , PAST , K - 1000000 , INTOF , C2",
+        "Contour Some(On) Left C1 Past C2 (K-1000000)",
     ),
     ("TLLFT", "Tool Left"),
     ("TERMAC", "Termac"),
@@ -41,6 +55,12 @@ const STATEMENTS: [(&str, &str); 29] = [
     ("UNITS / MM", "Units Mm"),
     ("SPINDL / OFF", "SpindlOff"),
     ("COOLNT / FLOOD", "Coolnt Flood"),
+    (
+        "A = PATERN / LINEAR , P , Q , 4000000",
+        "Patern A P Q 4000000",
+    ),
+    ("CYCLE / DRILL , 250000 , C", "CycleDrill 250000 C"),
+    ("CYCLE / OFF", "CycleOff"),
     ("JUMPTO / LA", "Jumpto LA"),
     ("M = MACRO", "Macro M 0"),
     ("M = MACRO / A , B", "Macro M 2"),
@@ -51,22 +71,7 @@ const STATEMENTS: [(&str, &str); 29] = [
     ),
 ];
 
-/// The token that is spelled so, a star where none is.
-fn token(text: &str) -> Token {
-    match text {
-        "=" => Token::Equals,
-        "/" => Token::Slash,
-        "," => Token::Comma,
-        "(" => Token::Open,
-        ")" => Token::Close,
-        _ => match Symbol::new(text) {
-            Some(symbol) => named(symbol),
-            None => Token::Star,
-        },
-    }
-}
-
-/// What defines a point, a line or a circle, printed.
+/// What defines a figure, printed.
 fn figure_printed(alloc: Global, body: &Body) -> Result<String, AllocError> {
     match body {
         Body::LinePoints(n, p, q) => three(alloc, "LinePoints", n, p, q),
@@ -97,6 +102,15 @@ fn figure_printed(alloc: Global, body: &Body) -> Result<String, AllocError> {
                 b.as_str()
             )
         }
+        Body::Patern(n, p, q, count) => {
+            let count = written(alloc, count)?;
+            format!(in alloc;
+                "Patern {} {} {} {count}",
+                n.as_str(),
+                p.as_str(),
+                q.as_str()
+            )
+        }
         _ => format!(in alloc; "another figure"),
     }
 }
@@ -120,13 +134,20 @@ fn body_printed(alloc: Global, body: &Body) -> Result<String, AllocError> {
         Body::GoStart(q, s, Some((r, t))) => {
             format!(in alloc; "GoStart {q:?} {} {r:?} {}", s.as_str(), t.as_str())
         }
-        Body::Contour(side, go, drive, q, check) => {
+        Body::Contour(side, go, drive, q, check, count) => {
+            let count = written(alloc, count)?;
             format!(in alloc;
-                "Contour {side:?} {go:?} {} {q:?} {}",
+                "Contour {side:?} {go:?} {} {q:?} {} {count}",
                 drive.as_str(),
                 check.as_str()
             )
         }
+        Body::CycleDrill(depth, clearance) => {
+            let depth = written(alloc, depth)?;
+            let clearance = written(alloc, clearance)?;
+            format!(in alloc; "CycleDrill {depth} {clearance}")
+        }
+        Body::CycleOff => format!(in alloc; "CycleOff"),
         Body::Tool(side) => format!(in alloc; "Tool {side:?}"),
         Body::Units(units) => format!(in alloc; "Units {units:?}"),
         Body::SpindlOff => format!(in alloc; "SpindlOff"),
@@ -192,12 +213,19 @@ fn labels_and_titles(rt: HostRuntime) -> Result<(), Fail> {
     Ok(())
 }
 
-const NO_SHAPES: [&str; 12] = [
+const NO_SHAPES: [&str; 19] = [
     "",
     "GOTO / P1 , P2 , P3 , P4",
     "GO / TANTO , C",
     "GOFWD / L1 , LEFT , C1",
+    "GOFWD / L1 , TANTO , 2000000 , INTOF , C1",
+    "GOFWD / L1 , TANTO , 2000000 , INTOF",
+    "GOFWD / L1 , ON , INTOF , C1",
+    "GOFWD / L1 , ON , 2000000 , C1",
     "TLLFT , GOFWD",
+    "PATERN / LINEAR , P , Q , 4000000",
+    "A = PATERN / P , Q , 4000000",
+    "CYCLE / DRILL , 250000",
     "UNITS / CLW",
     "JUMPTO / GOTO",
     "GOTO ) STOP",

@@ -1,6 +1,7 @@
 use apt_parse::parse;
 use apt_unroll::unroll;
-use apt_words::{Case, Refusal};
+use apt_words::{Case, Deed, Refusal, Step};
+use std::alloc::{AllocError, Global};
 use std::test::Fail;
 
 /// Parts, each with the steps before its first refused one, and the line, the number and the case of that.
@@ -34,7 +35,7 @@ fn steps_stop_at_the_first_refusal(rt: HostRuntime) -> Result<(), Fail> {
 }
 
 /// Each fault of unrolling, with the line of its statement and the number of its step.
-const FAULTS: [(&str, u32, u32, Case); 16] = [
+const FAULTS: [(&str, u32, u32, Case); 19] = [
     (
         "PARTNO\nLOOPST\nK=0\nI=0\nLA)I=I+1\nIF (I-99998) LA,LB,LB\nLB)LOOPND\nFINI\n",
         7,
@@ -96,6 +97,24 @@ const FAULTS: [(&str, u32, u32, Case); 16] = [
         4,
         Case::WrongKind,
     ),
+    (
+        "PARTNO\nGOFWD/L1,ON,1/0,INTOF,C1\nFINI\n",
+        2,
+        2,
+        Case::DivideByZero,
+    ),
+    (
+        "PARTNO\nM=MACRO/A\nGOFWD/A,ON,2,INTOF,C1\nTERMAC\nCALL/M,A=1\nFINI\n",
+        3,
+        3,
+        Case::WrongKind,
+    ),
+    (
+        "PARTNO\nM=MACRO/A\nGOFWD/A,ON,K,INTOF,C1\nTERMAC\nCALL/M,A=1\nFINI\n",
+        3,
+        3,
+        Case::Unknown,
+    ),
 ];
 
 #[test]
@@ -105,5 +124,43 @@ fn each_fault_of_unrolling_is_told(rt: HostRuntime) -> Result<(), Fail> {
         let fault = unroll(rt.alloc(), &program)?.fault;
         assert_eq!(rt; fault, Some(Refusal { line, step, case }), "at {text}");
     }
+    Ok(())
+}
+
+/// Contours whose counts are left out, by an expression, and by a parameter of a macro.
+const CONTOURS: &str = "PARTNO
+M1=MACRO/K=2
+GOFWD/L1,ON,K,INTOF,C1
+TERMAC
+X=3
+GOFWD/L1,C1
+GOFWD/L1,PAST,(X+1)/4,INTOF,C1
+CALL/M1
+CALL/M1,K=X
+FINI
+";
+
+/// Their counts as the steps run, in millionths.
+const COUNTS: [i64; 4] = [1_000_000, 1_000_000, 2_000_000, 3_000_000];
+
+/// The counts of the contours among some steps.
+fn counts_of(alloc: Global, steps: &[Step]) -> Result<Vec<i64>, AllocError> {
+    let mut counts = Vec::new(alloc);
+    for step in steps {
+        if let Deed::Contour(_, _, _, _, _, count) = &step.deed {
+            counts.push(*count)?;
+        }
+    }
+    Ok(counts)
+}
+
+#[test]
+fn counts_have_values(rt: HostRuntime) -> Result<(), Fail> {
+    let alloc = rt.alloc();
+    let program = parse(alloc, CONTOURS.as_bytes())?;
+    let unrolled = unroll(alloc, &program)?;
+    let counts = counts_of(alloc, &unrolled.steps)?;
+    assert!(rt; unrolled.fault.is_none());
+    assert_eq!(rt; counts.as_slice(), COUNTS.as_slice());
     Ok(())
 }

@@ -4,6 +4,7 @@ use Rattle.std.specs.Prelude.{ℤ, negsuc, true, codes}
 use Rattle.apt_words.specs.Trees.{Tree, Num, Name, Neg, Bin}
 use Rattle.apt_words.specs.declared.Case.{Case}
 use Rattle.apt_words.specs.declared.Case.TheVariants as cases
+use Rattle.apt_words.specs.declared.Go.TheVariants as turns
 use Rattle.apt_words.specs.declared.Stop.TheVariants as stops
 use Rattle.apt_words.specs.declared.expr.Op.TheVariants.{Add, Div}
 use Rattle.apt_words.specs.declared.body.Body.{Body}
@@ -141,6 +142,22 @@ number_for_figure = refl
 parameter_defined : deed_of names ((X, bounds.Scalar (units 1)) ∷ []) (bodies.Assign X (Name Y)) ≡ Err cases.BadArgs
 unfolding deed_of executed by_values
 parameter_defined = refl
+
+-- ---- counts of meetings
+
+count_by_parameter : deed_of names ((Y, bounds.Scalar (units 2)) ∷ []) (bodies.Contour None turns.Forward L stops.On C (Name Y))
+    ≡ Ok (deeds.Contour None turns.Forward L stops.On C (units 2))
+unfolding deed_of executed by_values
+count_by_parameter = refl
+
+-- a count has its value before the surfaces are looked up
+count_before_surfaces : deed_of names ((L, bounds.Scalar (units 1)) ∷ []) (bodies.Contour None turns.Forward L stops.On C (Name Y)) ≡ Err cases.Unknown
+unfolding deed_of executed by_values
+count_before_surfaces = refl
+
+number_for_surface : deed_of names ((L, bounds.Scalar (units 1)) ∷ []) (bodies.Contour None turns.Forward L stops.On C (number 2)) ≡ Err cases.WrongKind
+unfolding deed_of executed by_values
+number_for_surface = refl
 
 -- ---- names behind a step
 
