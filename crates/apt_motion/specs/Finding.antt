@@ -13,6 +13,7 @@ use Rattle.apt_meaning.specs.declared.effect.Effect.{Effect}
 use Rattle.apt_meaning.specs.declared.effect.Effect.TheVariants as effects
 use Rattle.apt_stop.specs.declared.legs.Legs.{Legs}
 use Rattle.apt_meaning.specs.Refusals.{cut_cases}
+use Rattle.apt_motion.specs.declared.contours.Contour.{Contour}
 
 abbrev pub IsNoContour : Deed → Type 0
 IsNoContour deed = (side : Option Side) (go : Go) (drive : List ℕ) (how : Stop) (check : List ℕ) (n : ℤ) → ask_of deed ≢ Cuts side go drive how check n
@@ -34,6 +35,6 @@ IsMotionBy n f o (Ok m) = (o ≡ Some (effects.Cuts m n)) × (f ≡ first_of (cu
 IsMotionBy n f o (Err case) = f ≡ Some case
 
 -- the same with the legs that it asks for
-abbrev pub IsContourBy : Option Case → Option Effect → Result (Motion × Legs) Case → Type 0
-IsContourBy f o (Ok (m, n)) = IsMotionBy n f o (Ok m)
+abbrev pub IsContourBy : Option Case → Option Effect → Result Contour Case → Type 0
+IsContourBy f o (Ok c) = IsMotionBy c.legs f o (Ok c.motion)
 IsContourBy f o (Err case) = f ≡ Some case

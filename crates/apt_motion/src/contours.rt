@@ -29,6 +29,13 @@ use apt_words::{Case, Go, Side, Stop, Symbol};
 /// How far a start may be off its track, in grid units.
 const OFF_TRACK: i64 = 3;
 
+/// A contour that a step asks for: its motion from where the tool stands, and how many legs it has.
+#[derive(Clone, Copy)]
+pub(crate) struct Contour {
+    pub motion: Motion,
+    pub legs: Legs,
+}
+
 /// The surface that a name stands for.
 ///
 /// # Errors
@@ -44,13 +51,13 @@ pub(crate) fn surface_named(table: &Table, name: &Symbol) -> Result<Surface, Cas
     }
 }
 
-/// The motion that a contour asks for, and with how many legs.
+/// The contour that its statement asks for, to the n-th meeting with its check surface, with n in millionths.
 ///
 /// # Errors
 ///
 /// The first case that refuses it, where no motion is known yet.
 #[inline(always)]
-pub(crate) fn motion(
+pub(crate) fn contour_of(
     here: &Situation,
     side: Option<Side>,
     go: Go,
@@ -58,11 +65,11 @@ pub(crate) fn motion(
     how: Stop,
     check: &Symbol,
     n: i64,
-) -> Result<(Motion, Legs), Case>
+) -> Result<Contour, Case>
     requires situation { IsSituation here.now }
     requires count { IsScalar n }
-    ensures motion { IsContourBy (refusal_of here.now (deeds.Contour side go drive.now how check.now n)) (effect_of here.now (deeds.Contour side go drive.now how check.now n)) result }
-    ensures range { IfOk result (λ r. IsMotion r.0) }
+    ensures contour { IsContourBy (refusal_of here.now (deeds.Contour side go drive.now how check.now n)) (effect_of here.now (deeds.Contour side go drive.now how check.now n)) result }
+    ensures range { IfOk result (λ c. IsMotion c.motion) }
 {
     let Some(start) = here.position else {
         return Err(Case::NoFrom);
@@ -73,7 +80,7 @@ pub(crate) fn motion(
         return Err(Case::BadCount);
     };
     match on_surfaces(here, side, go, start, drive, how, &check) {
-        Ok(motion) => Ok((motion, legs)),
+        Ok(motion) => Ok(Contour { motion, legs }),
         Err(case) => Err(case),
     }
 }

@@ -17,9 +17,9 @@ ghost use Rattle.apt_motion.specs.Drafts as drafts;
 ghost use Rattle.apt_motion.specs.Ends.{HasDrawn, HasPassed, ArePassed, refusal_in};
 ghost use Rattle.apt_words.specs.Answers.{IsDueAs};
 ghost use Rattle.apt_defs.specs.Definitions.{IsNoDefinition};
-ghost use Rattle.apt_motion.specs.Finding.{IsContour, IsMotionBy, IsNoContour};
+ghost use Rattle.apt_motion.specs.Finding.{IsContour, IsContourBy, IsNoContour};
 
-use crate::contours::{ends_of, motion};
+use crate::contours::{Contour, contour_of, ends_of};
 use crate::counting::past_limit;
 use crate::dividing::cut_all;
 use crate::drafts::Draft;
@@ -29,8 +29,7 @@ use crate::records::{pass_by, take, take_cut};
 use apt_certify::Gate;
 use apt_cldata::Record;
 use apt_defs::{DefError, define};
-use apt_meaning::{Motion, Situation};
-use apt_stop::Legs;
+use apt_meaning::Situation;
 use apt_words::{Case, Deed, Refusal, Step};
 use std::alloc::{AllocError, Global};
 use std::thread::Threads;
@@ -111,21 +110,21 @@ fn pass_contour(here: &mut Situation, step: &Step) -> Result<(), RunError>
     let Deed::Contour(side, go, drive, how, check, n) = &step.deed else {
         unreachable!();
     };
-    match &motion(here, *side, *go, drive, *how, check, *n) {
-        Ok((motion, legs)) => go_along(here, step, motion, *legs),
+    match &contour_of(here, *side, *go, drive, *how, check, *n) {
+        Ok(contour) => go_along(here, step, contour),
         Err(case) => Err(refused(step, *case)),
     }
 }
 
 /// Passes a motion, run to its contact.
 #[tactic(auto, using(crate::proofs::Cuts::has_passed, crate::proofs::Cuts::is_stopped))]
-fn go_along(here: &mut Situation, step: &Step, motion: &Motion, legs: Legs) -> Result<(), RunError>
-    requires motion { IsMotion motion.now }
-    requires asks { IsMotionBy legs (refusal_of here.old step.now.deed) (effect_of here.old step.now.deed) (Ok motion.now) }
+fn go_along(here: &mut Situation, step: &Step, contour: &Contour) -> Result<(), RunError>
+    requires motion { IsMotion contour.now.motion }
+    requires asks { IsContourBy (refusal_of here.old step.now.deed) (effect_of here.old step.now.deed) (Ok contour.now) }
     ensures { HasPassed here.old step.now (result_map_both (λ _. here.new) (λ e. e) result) }
 {
-    match ends_of(motion, legs) {
-        Ok(ends) => Ok(here.cut_to(motion, ends.last())),
+    match ends_of(&contour.motion, contour.legs) {
+        Ok(ends) => Ok(here.cut_to(&contour.motion, ends.last())),
         Err(case) => Err(refused(step, case)),
     }
 }
@@ -186,8 +185,8 @@ fn contour(
     let Deed::Contour(side, go, drive, how, check, n) = &step.deed else {
         unreachable!();
     };
-    match &motion(here, *side, *go, drive, *how, check, *n) {
-        Ok((motion, legs)) => cut(alloc, draft, here, step, motion, *legs),
+    match &contour_of(here, *side, *go, drive, *how, check, *n) {
+        Ok(contour) => cut(alloc, draft, here, step, contour),
         Err(case) => Err(refused(step, *case)),
     }
 }
@@ -199,15 +198,22 @@ fn cut(
     draft: &mut Draft,
     here: &mut Situation,
     step: &Step,
-    motion: &Motion,
-    legs: Legs,
+    contour: &Contour,
 ) -> Result<(), RunError>
-    requires motion { IsMotion motion.now }
-    requires asks { IsMotionBy legs (refusal_of here.old step.now.deed) (effect_of here.old step.now.deed) (Ok motion.now) }
+    requires motion { IsMotion contour.now.motion }
+    requires asks { IsContourBy (refusal_of here.old step.now.deed) (effect_of here.old step.now.deed) (Ok contour.now) }
     ensures { HasDrawn here.old step.now draft.old.records.items draft.new.records.items draft.old.rounds.items draft.new.rounds.items (result_map_both (λ _. here.new) (λ e. e) result) }
 {
-    match ends_of(motion, legs) {
-        Ok(ends) => Ok(take_cut(alloc, draft, here, step, motion, legs, ends)?),
+    match ends_of(&contour.motion, contour.legs) {
+        Ok(ends) => Ok(take_cut(
+            alloc,
+            draft,
+            here,
+            step,
+            &contour.motion,
+            contour.legs,
+            ends,
+        )?),
         Err(case) => Err(refused(step, case)),
     }
 }

@@ -1,31 +1,31 @@
 use Rattle.std.proofs.Common.{rules, Ok, Err}
 use Rattle.apt_motion.proofs.Cuts.{drive_refused, check_refused, count_refused, contour_motion}
-use Rattle.apt_motion.proofs.contours.motion.Goals as goal
+use Rattle.apt_motion.proofs.contours.contour_of.Goals as goal
 
-pub returns-in_err-drive-clause-motion : goal.returns-in_err-drive-clause-motion
-returns-in_err-drive-clause-motion c =
+pub returns-in_err-drive-clause-contour : goal.returns-in_err-drive-clause-contour
+returns-in_err-drive-clause-contour c =
     let a = c.args in
     rw (drive_refused a.here.now a.side a.go a.drive.now a.how a.check.now a.n c.in-Some.start c.in_err-drive.field-0.0 c.in-Some.is c.in_err-drive.ensures.named) (search rules)
 
-pub returns-in_err-check-clause-motion : goal.returns-in_err-check-clause-motion
-returns-in_err-check-clause-motion c =
+pub returns-in_err-check-clause-contour : goal.returns-in_err-check-clause-contour
+returns-in_err-check-clause-contour c =
     let a = c.args in
     rw (check_refused a.here.now a.side a.go a.drive.now a.how a.check.now a.n c.in-Some.start c.in_ok-drive.drive c.in_err-check.field-0.0 c.in-Some.is c.in_ok-drive.ensures.named c.in_err-check.ensures.named) (search rules)
 
-pub returns-in_default-legs_by-clause-motion : goal.returns-in_default-legs_by-clause-motion
-returns-in_default-legs_by-clause-motion c =
+pub returns-in_default-legs_by-clause-contour : goal.returns-in_default-legs_by-clause-contour
+returns-in_default-legs_by-clause-contour c =
     let a = c.args in
     count_refused a.here.now a.side a.go a.drive.now a.how a.check.now a.n c.in-Some.start c.in_ok-drive.drive c.in_ok-check.check c.in-Some.is c.in_ok-drive.ensures.named c.in_ok-check.ensures.named
     (search (rules, c.whole.ensures, c.legs_by.ensures))
 
-pub returns-in-Ok-clause-motion : goal.returns-in-Ok-clause-motion
-returns-in-Ok-clause-motion c =
+pub returns-in-Ok-clause-contour : goal.returns-in-Ok-clause-contour
+returns-in-Ok-clause-contour c =
     let a = c.args in
     contour_motion a.here.now a.side a.go a.drive.now a.how a.check.now a.n c.in-Some.start c.in_ok-drive.drive c.in_ok-check.check c.in-Some-legs_by.legs (Ok c.in-Ok.motion)
     c.in-Some.is c.in_ok-drive.ensures.named c.in_ok-check.ensures.named (search (rules, c.whole.ensures, c.legs_by.ensures, c.in-Some-legs_by.is)) (c.in-Ok.ensures.motion c.in-Some-legs_by.legs)
 
-pub returns-in-Err-clause-motion : goal.returns-in-Err-clause-motion
-returns-in-Err-clause-motion c =
+pub returns-in-Err-clause-contour : goal.returns-in-Err-clause-contour
+returns-in-Err-clause-contour c =
     let a = c.args in
     contour_motion a.here.now a.side a.go a.drive.now a.how a.check.now a.n c.in-Some.start c.in_ok-drive.drive c.in_ok-check.check c.in-Some-legs_by.legs (Err c.in-Err.case)
     c.in-Some.is c.in_ok-drive.ensures.named c.in_ok-check.ensures.named (search (rules, c.whole.ensures, c.legs_by.ensures, c.in-Some-legs_by.is)) (c.in-Err.ensures.motion c.in-Some-legs_by.legs)
