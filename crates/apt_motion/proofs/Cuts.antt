@@ -1,11 +1,12 @@
 -- The motions that contours ask for, and where they end.
-use Rattle.std.proofs.Common.{◌≡◌, ◌∙◌, ℕ, ℤ, Bool, true, false, List, [], ◌∷◌, ◌++◌, Option, Some, None, Result, Ok, Err, refl, sym, ap}
+use Rattle.std.proofs.Common.{◌≡◌, ◌∙◌, ℕ, ℤ, Bool, true, false, List, [], ◌∷◌, ◌++◌, Option, Some, None, Result, Ok, Err, refl, sym, ap, subst}
 use Rattle.std.specs.Prelude.{not, ◌&&◌}
 use Rattle.apt_words.specs.declared.Case.{Case}
 use Rattle.apt_words.specs.declared.Case.TheVariants as cases
 use Rattle.apt_words.specs.declared.Go.{Go}
 use Rattle.apt_words.specs.declared.Side.{Side}
 use Rattle.apt_words.specs.declared.Stop.{Stop}
+use Rattle.apt_words.specs.declared.deed.Deed.{Deed}
 use Rattle.apt_words.specs.declared.deed.Deed.TheVariants as deeds
 use Rattle.apt_words.specs.declared.deed.Step.{Step}
 use Rattle.apt_words.specs.Rows.{Row, NoneHolds, first_of, unless, unless_case}
@@ -34,7 +35,8 @@ use Rattle.apt_words.proofs.Rows.{first_none}
 use Rattle.apt_motion.specs.declared.runs.RunError.TheVariants as errors
 use Rattle.apt_motion.specs.Drafts.{ArcAt, drawn, rounds_of}
 use Rattle.apt_motion.specs.Ends.{HasPassed, HasDrawn}
-use Rattle.apt_motion.specs.Finding.{IsMotionBy}
+use Rattle.apt_motion.specs.declared.contours.Contour.{Contour}
+use Rattle.apt_motion.specs.Finding.{IsContourBy, IsMotionBy}
 use Rattle.apt_motion.proofs.Cases.{name_refused, known_surface}
 
 -- ---- the ends of a contour
@@ -95,6 +97,16 @@ count_refused here side go drive how check n start d e is_start on_d on_e counts
     let known_d = known_surface here.table drive d on_d in
     let known_e = known_surface here.table check e on_e in
     rw (is_start, known_d.0, known_d.1, known_e.0, known_e.1, counts) refl
+
+-- a step that is a contour asks for what its statement does
+pub asks_as_said : (here : Situation) (deed : Deed) (side : Option Side) (go : Go) (drive : List ℕ) (how : Stop) (check : List ℕ) (n : ℤ) (r : Result Contour Case) (c : Contour)
+    → deed ≡ deeds.Contour side go drive how check n → r ≡ Ok c
+    → IsContourBy (refusal_of here (deeds.Contour side go drive how check n)) (effect_of here (deeds.Contour side go drive how check n)) r
+    → IsContourBy (refusal_of here deed) (effect_of here deed) (Ok c)
+asks_as_said here deed side go drive how check n r c said found by =
+    let f = refusal_of here (deeds.Contour side go drive how check n) in
+    let o = effect_of here (deeds.Contour side go drive how check n) in
+    subst (λ (d : Deed). IsContourBy (refusal_of here d) (effect_of here d) (Ok c)) (sym said) (subst (λ (x : Result Contour Case). IsContourBy f o x) found by)
 
 -- ---- a motion that is run to its end
 
