@@ -11,7 +11,6 @@ use Rattle.apt_words.specs.declared.deed.Deed.TheVariants as deeds
 use Rattle.apt_words.specs.declared.deed.Step.{Step}
 use Rattle.apt_words.specs.Rows.{Row, NoneHolds, first_of, unless, unless_case}
 use Rattle.apt_scalar.specs.Scalars.{whole}
-use Rattle.apt_plane.specs.declared.figures.Pt.{Pt}
 use Rattle.apt_plane.specs.declared.figures.Surface.{Surface}
 use Rattle.apt_offset.specs.Targets.{lacks_room}
 use Rattle.apt_stop.specs.Nearness.{is_near, off_track}

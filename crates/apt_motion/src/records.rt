@@ -10,13 +10,12 @@ ghost use Rattle.apt_meaning.specs.Ranges.{IsSituation, IsEffect, IsMotion};
 ghost use Rattle.apt_meaning.specs.Refusals.{cut_cases, motion_cases};
 ghost use Rattle.apt_stop.specs.Legs.{ends_of, last_end, AreEnds};
 ghost use Rattle.apt_meaning.specs.Records as writing;
-ghost use Rattle.apt_cldata.specs.Vertices.{at_height};
 ghost use Rattle.apt_meaning.specs.declared.effect.Effect.TheVariants as effects;
 ghost use Rattle.apt_motion.specs.Drafts.{drawn, drawn_on, rounds_along, rounds_by, rounds_of};
 ghost use Rattle.apt_motion.specs.Finding.{SetsOrMoves};
 
 use crate::drafts::{Draft, draw};
-use apt_cldata::{Record, Vertices};
+use apt_cldata::Record;
 use apt_meaning::{Change, Effect, Motion, Situation};
 use apt_plane::Pt;
 use apt_stop::{Ends, Legs};

@@ -1,5 +1,5 @@
 -- The acts of records that the compiler makes can be written.
-use Rattle.std.proofs.Common.{◌≡◌, ◌∙◌, ◌+◌, ◌≤◌, ℕ, ℤ, pos, negsuc, zero, suc, ◌≤ℤ◌, int_lt, not, ◌||◌, Bool, true, false, List, [], ◌∷◌, length, map, Option, Some, None, Ok, refl, sym, subst, cond, arith}
+use Rattle.std.proofs.Common.{◌≡◌, ◌∙◌, ◌+◌, ◌≤◌, ℕ, ℤ, pos, negsuc, zero, suc, ◌≤ℤ◌, int_lt, not, ◌||◌, Bool, true, false, List, [], ◌∷◌, map, Option, Some, None, Ok, refl, sym, subst, cond, arith}
 use Rattle.std.proofs.lemmas.Int.{ints}
 use Rattle.std.proofs.lemmas.Bool.{true≢false}
 use Rattle.apt_words.specs.declared.Case.{Case}

@@ -1,11 +1,9 @@
 -- The leg behind a course that nothing refuses: it starts near the stop, and where it leads on it runs on the other side of it.
 use Rattle.std.specs.Prelude.{Option, Some, None, Result, Ok, Err, IfOk}
-use Rattle.std.proofs.Common.{refl, ◌≡◌, ◌≢◌, inl, inr, FitsSigned, w8, sym, subst, ap, ◌∙◌, ℕ, ◌*◌, ◌≤◌, ◌<◌, arith, ℤ, pos, neg_ℤ, ◌+ℤ◌, ◌-ℤ◌, ◌*ℤ◌, Bool, true, false, ◌||◌, List, [], ◌∷◌, ◌++◌}
-use Rattle.std.proofs.lemmas.Int.{ints}
-use Rattle.std.proofs.lemmas.Bool.{true≢false, not-false}
+use Rattle.std.proofs.Common.{refl, ◌≡◌, ◌≢◌, inl, sym, subst, ap, ◌∙◌, ◌*◌, arith, ℤ, pos, neg_ℤ, ◌*ℤ◌, Bool, true, false, ◌||◌, List, [], ◌∷◌, ◌++◌}
+use Rattle.std.proofs.lemmas.Bool.{true≢false}
 use Rattle.apt_num.specs.declared.Sign.{Sign}
 use Rattle.apt_num.specs.declared.Sign.TheVariants as signs
-use Rattle.apt_num.specs.Sign.{sign_of}
 use Rattle.apt_num.proofs.Ring.{*ℤ-neg}
 use Rattle.apt_words.specs.declared.Case.{Case}
 use Rattle.apt_words.specs.Rows.{Row, NoneHolds, first_of, unless, unless_case}
@@ -28,14 +26,14 @@ use Rattle.apt_contact.specs.Contacts.{contact_point, HasMeeting, IsNearTarget}
 use Rattle.apt_contact.proofs.ContactLaws.{circles_overlap}
 use Rattle.apt_stop.specs.declared.course.Course.{Course}
 use Rattle.apt_stop.specs.declared.course.Choice.{Choice}
-use Rattle.apt_stop.specs.Nearness.{is_near, heading, near_stop, off_track}
-use Rattle.apt_stop.specs.Courses.{is_tanto, starts_near_stop, headed_side, stop_side, kept_side, sigma_of, meets_at, end_of, is_past, is_behind, stop_cases, way_cases, course_cases, choice_of, way_on_to}
-use Rattle.apt_stop.specs.Ends.{IsEndOn, EndsOnLine, EndsOnCircle}
+use Rattle.apt_stop.specs.Nearness.{is_near, heading, near_stop}
+use Rattle.apt_stop.specs.Courses.{is_tanto, starts_near_stop, headed_side, stop_side, kept_side, sigma_of, end_of, is_past, is_behind, stop_cases, way_cases, course_cases, choice_of, way_on_to}
+use Rattle.apt_stop.specs.Ends.{IsEndOn}
 use Rattle.apt_stop.specs.Ranges.{IsCourse}
 use Rattle.apt_stop.proofs.Ended.{course_ends}
 use Rattle.apt_stop.proofs.Chosen.{end_is_point}
 use Rattle.apt_stop.proofs.Contacts.{contact-near}
-use Rattle.apt_stop.proofs.Decided.{stop_free, way_free}
+use Rattle.apt_stop.proofs.Decided.{stop_free}
 use Rattle.apt_stop.proofs.Moved.{track_target, stop_target}
 use Rattle.apt_stop.proofs.Onwards.{dot_back}
 use Rattle.apt_stop.proofs.Parts.{Meets, meets}

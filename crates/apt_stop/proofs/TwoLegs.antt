@@ -1,14 +1,13 @@
 -- What refuses two legs, in order.
-use Rattle.std.specs.Prelude.{if◌then◌else◌, Option, Some, None, Result, Ok, Err, ◌&&◌, unwrap_or}
-use Rattle.std.proofs.Common.{refl, ◌≡◌, sym, ap, ◌∙◌, Bool, true, false, List, [], ◌∷◌, ◌++◌}
+use Rattle.std.specs.Prelude.{if◌then◌else◌, Option, Some, None, Result, Ok, Err, unwrap_or}
+use Rattle.std.proofs.Common.{refl, ◌≡◌, ap, ◌∙◌, Bool, true, false, List, [], ◌∷◌, ◌++◌}
 use Rattle.apt_words.specs.declared.Case.{Case}
 use Rattle.apt_words.specs.declared.Case.TheVariants as cases
 use Rattle.apt_words.specs.Rows.{Row, NoneHolds, first_of, unless, unless_case}
-use Rattle.apt_words.proofs.Rows.{first_none, none_first}
-use Rattle.apt_plane.specs.declared.figures.Pt.{Pt}
+use Rattle.apt_words.proofs.Rows.{first_none}
 use Rattle.apt_stop.specs.declared.course.Course.{Course}
 use Rattle.apt_stop.specs.declared.course.Choice.{Choice}
-use Rattle.apt_stop.specs.Courses.{end_of, choice_of, stop_cases, way_cases, course_cases}
+use Rattle.apt_stop.specs.Courses.{choice_of, stop_cases, way_cases, course_cases}
 use Rattle.apt_stop.specs.declared.legs.Legs.TheVariants as legs
 use Rattle.apt_stop.specs.Legs.{next_leg, turns_fully, leg_cases, ends_of}
 

@@ -1,5 +1,5 @@
 -- The legs of a contour with one stop: where they end, and what refuses them.
-use Rattle.std.specs.Prelude.{◌≡◌, ℕ, ◌&&◌, Bool, true, false, List, ◌∷◌, ◌++◌, Option, Some, None, unwrap_or, IfSome}
+use Rattle.std.specs.Prelude.{◌≡◌, ℕ, ◌&&◌, Bool, true, false, List, ◌∷◌, ◌++◌, Some, None, unwrap_or, IfSome}
 use Rattle.apt_words.specs.declared.Case.TheVariants as cases
 use Rattle.apt_words.specs.Rows.{Row}
 use Rattle.apt_plane.specs.declared.figures.Pt.{Pt}

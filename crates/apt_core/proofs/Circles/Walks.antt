@@ -1,5 +1,5 @@
 -- A walk over steps, none of which is refused.
-use Rattle.std.proofs.Common.{◌≡◌, ℕ, ◌+◌, ◌≤◌, List, ◌∷◌, ◌++◌, length, ◌∙◌, arith, false}
+use Rattle.std.proofs.Common.{◌≡◌, ℕ, ◌+◌, ◌≤◌, List, ◌∷◌, ◌++◌, ◌∙◌, arith, false}
 use Rattle.std.specs.Prelude.{nat_lt, Some, None, Result, Ok, Err, cond}
 use Rattle.std.proofs.lemmas.Bool.Decides.{nat_tests}
 use Rattle.apt_words.specs.declared.Case.TheVariants as cases

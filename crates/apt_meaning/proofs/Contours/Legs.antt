@@ -1,28 +1,25 @@
 -- The legs of a contour that no case refuses: each is legal with its own vertices, and the second runs on the other side of the stop.
-use Rattle.std.proofs.Common.{◌≡◌, refl, sym, ap, subst, ◌∙◌, ◌≤◌, Bool, true, false, not, List, [], ◌∷◌, ◌++◌, length, map, arith, is_some}
+use Rattle.std.proofs.Common.{◌≡◌, refl, sym, ap, subst, ◌∙◌, Bool, true, false, not, List, [], ◌∷◌, ◌++◌, map, is_some}
 use Rattle.std.specs.Prelude.{◌||◌}
-use Rattle.std.proofs.lemmas.Bool.{true≢false}
 use Rattle.apt_num.specs.declared.Sign.{Sign}
 use Rattle.apt_num.specs.declared.Sign.TheVariants as signs
 use Rattle.apt_words.specs.Rows.{Row, NoneHolds}
 use Rattle.apt_plane.specs.declared.figures.Pt.{Pt}
-use Rattle.apt_plane.specs.Ranges.{IsPoint}
-use Rattle.apt_contact.specs.Contacts.{IsNearTarget}
 use Rattle.apt_offset.specs.Turns.{opposite, is_zero}
 use Rattle.apt_stop.specs.Nearness.{is_near, off_track}
-use Rattle.apt_stop.specs.Courses.{stop_cases, way_cases, course_cases, axis_of}
+use Rattle.apt_stop.specs.Courses.{stop_cases, way_cases, axis_of}
 use Rattle.apt_stop.proofs.Chosen.{end_is_point}
-use Rattle.apt_stop.specs.Legs.{turns_fully, ways_of}
+use Rattle.apt_stop.specs.Legs.{ways_of}
 use Rattle.apt_stop.proofs.NextLegs.{next_is, next_free, other_side}
 use Rattle.apt_certify.specs.Legal.{last_of}
 use Rattle.apt_certify.specs.Legs.{IsBounded}
 use Rattle.apt_meaning.specs.declared.motion.Motion.{Motion}
 use Rattle.apt_stop.specs.declared.legs.Legs.{Legs}
 use Rattle.apt_stop.specs.declared.legs.Legs.TheVariants as legs
-use Rattle.apt_meaning.specs.Motions.{track_of, course_of, stop_side, end_point, vertices_of, onward, motions_of, leg_on, has_bound, is_defined}
+use Rattle.apt_meaning.specs.Motions.{track_of, course_of, stop_side, end_point, vertices_of, onward, motions_of, leg_on, is_defined}
 use Rattle.apt_meaning.specs.Refusals.{motion_cases, cut_cases}
 use Rattle.apt_meaning.specs.Ranges.{IsMotion}
-use Rattle.apt_meaning.specs.Paths.{Contour, Due, first_leg, next_leg, cut_on, IsLegalCut, EveryContour}
+use Rattle.apt_meaning.specs.Paths.{Due, first_leg, next_leg, cut_on, IsLegalCut, EveryContour}
 use Rattle.apt_meaning.specs.Records.{IsOwnCut, last_behind, legs_from}
 use Rattle.apt_meaning.specs.Vertices.{AreCuts}
 use Rattle.apt_meaning.proofs.Contours.Legal.{course_is, side_bounded, defined_bound}

@@ -1,4 +1,4 @@
-use Rattle.std.proofs.Common.{◌≡◌, ◌∙◌, sym, ap, subst}
+use Rattle.std.proofs.Common.{◌∙◌, sym, ap, subst}
 use Rattle.std.specs.Prelude.{IfOk}
 use Rattle.apt_words.specs.Rows.{unless}
 use Rattle.apt_stop.specs.declared.course.Course.{Course}
