@@ -237,6 +237,37 @@ start_up : records_of (codes "PARTNO A\nCUTTER/2\nL1=LINE/0,0,1,0\nL2=LINE/0,0,0
 unfolding root word_of expression shape by_values executed deed_of trace_from action motion_at start_up_at refused_form defined
 start_up = refl
 
+-- ---- to the second meeting: a record for each of two legs
+
+abbrev ring : Surface
+ring = figures.Circ (record { c = record { x = pos 300000; y = pos 0 }; r = pos 100000 })
+
+-- a line through a circle, which leads to where these words say
+abbrev through : List ℕ → List ℕ
+through words = codes "PARTNO A\nL1=LINE/0,0,1,0\nC1=CIRCLE/3,0,1\nFEDRAT/1\nFROM/-1,0\nGOTO/0,0\nGOFWD/L1," ++ words ++ codes "\nFINI\n"
+
+abbrev leg : Position → Record
+leg to = records.Contour (to ∷ [])
+
+twice : records_of (through (codes "ON,2,INTOF,C1")) ≡
+    written (before (at 0 0 0) ++ records.Statement 7 7 ∷ records.Drive across sides.On (pos 1) ∷ records.Check ring stops.On ∷ leg (at 200000 0 0) ∷ leg (at 400000 0 0) ∷ note_at 8 notes.Fini)
+unfolding root word_of expression shape by_values executed deed_of trace_from action motion_at start_up_at refused_form defined
+twice = refl
+
+twice_are_acts : acts_of (through (codes "ON,2,INTOF,C1")) ≡
+    Ok (Ok (record { acts = acts.Units Inch ∷ acts.Cut (pos 0) (pos 0) (pos 0) (pos 10) ∷ acts.Cut (pos 200000) (pos 0) (pos 0) (pos 10) ∷ acts.Cut (pos 400000) (pos 0) (pos 0) (pos 10) ∷ acts.End ∷ []; segments = 2 }))
+unfolding root word_of expression shape by_values executed deed_of trace_from action motion_at start_up_at refused_form defined
+twice_are_acts = refl
+
+-- once where the count is 1 or none is said
+once : records_of (through (codes "ON,1,INTOF,C1")) ≡ records_of (through (codes "ON,C1"))
+unfolding root word_of expression shape by_values executed deed_of trace_from action motion_at start_up_at refused_form defined
+once = refl
+
+third_meeting : records_of (through (codes "ON,3,INTOF,C1")) ≡ refused 7 cases.BadCount
+unfolding root word_of expression shape by_values executed deed_of trace_from action motion_at start_up_at refused_form defined
+third_meeting = refl
+
 -- ---- macros, loops and jumps: the line of a record is its statement's, the step counts on
 
 called : records_of (codes "PARTNO A\nM=MACRO/X,Y=2\nGOTO/X,Y\nTERMAC\nFEDRAT/1\nFROM/0,0\nCALL/M,X=1\nFINI\n") ≡
@@ -293,6 +324,12 @@ no_length : records_of (codes "PARTNO A\nL1=LINE/1,2,1,2\nFINI\n") ≡
     refused 2 cases.Degenerate
 unfolding root word_of expression shape by_values executed deed_of trace_from action motion_at start_up_at refused_form defined
 no_length = refl
+
+-- patterns and cycles are not built
+pattern : records_of (codes "PARTNO A\nGOTO/1,2\nP=PATERN/LINEAR,Q,R,4\nFINI\n") ≡
+    Err (3, causes.NotBuilt)
+unfolding root word_of expression shape by_values executed deed_of trace_from action motion_at start_up_at refused_form defined
+pattern = refl
 
 -- a fault of the text comes before all steps
 fault_first : records_of (codes "PARTNO A\nGOTO/1,2\nGOTO/1,2,3,4\nFINI\n") ≡
