@@ -75,15 +75,8 @@ fn contours_end_at_their_contact(rt: HostRuntime) -> Result<(), Fail> {
 }
 
 /// The steps of a motion along the x axis from x = -1 to a circle about (5, b) with radius 1: the cutter has a radius of
-/// a quarter, on this side, and starts so many quarters below the axis; it stops at this meeting.
-fn steps_to_circle(
-    rt: &impl Abort,
-    side: Side,
-    quarters: u8,
-    how: Stop,
-    b: u8,
-    meeting: u8,
-) -> [Step; 7]
+/// a quarter, on this side, and starts so many quarters below the axis.
+fn steps_to_circle(rt: &impl Abort, side: Side, quarters: u8, how: Stop, b: u8) -> [Step; 7]
     ensures scalars { AreScalars result }
     ensures sources { AreExecuted result }
 {
@@ -91,7 +84,6 @@ fn steps_to_circle(
     let circle = symbol(rt, "C1");
     let below = -250_000 * i64::from(quarters);
     let b = 1_000_000 * i64::from(b);
-    let n = 1_000_000 * i64::from(meeting);
     [
         step(1, Deed::Cutter(500_000)),
         step(2, Deed::Fedrat(10_000_000)),
@@ -101,7 +93,7 @@ fn steps_to_circle(
         step(6, Deed::Godlta(1_000_000, 0, 0)),
         step(
             7,
-            Deed::Contour(Some(side), Go::Forward, line, how, circle, n),
+            Deed::Contour(Some(side), Go::Forward, line, how, circle, 1_000_000),
         ),
     ]
 }
@@ -132,13 +124,35 @@ fn contours_end_at_circles(rt: HostRuntime) {
         (Side::On, 0, Stop::Tanto, 1, (500_000, 0)),
     ];
     for (side, quarters, how, b, want) in table {
-        let steps = steps_to_circle(&rt, side, quarters, how, b, 1);
+        let steps = steps_to_circle(&rt, side, quarters, how, b);
         let Some(end) = last_end(&rt, rt.alloc(), steps) else {
             assert!(rt; false, "a step is refused");
             return;
         };
         assert_eq!(rt; end, want);
     }
+}
+
+/// The steps of a motion on the x axis from x = -1 that stops where it meets a circle about (5, 0) with radius 1 the
+/// second time.
+fn steps_to_the_second_meeting(rt: &impl Abort, how: Stop) -> [Step; 7]
+    ensures scalars { AreScalars result }
+    ensures sources { AreExecuted result }
+{
+    let line = symbol(rt, "L1");
+    let circle = symbol(rt, "C1");
+    [
+        step(1, Deed::Cutter(500_000)),
+        step(2, Deed::Fedrat(10_000_000)),
+        step(3, Deed::LineXy(line.copied(), 0, 0, 5_000_000, 0)),
+        step(4, Deed::CircleXyr(circle.copied(), 5_000_000, 0, 1_000_000)),
+        step(5, Deed::FromXy(-2_000_000, 0, None)),
+        step(6, Deed::Godlta(1_000_000, 0, 0)),
+        step(
+            7,
+            Deed::Contour(Some(Side::On), Go::Forward, line, how, circle, 2_000_000),
+        ),
+    ]
 }
 
 /// Where the two legs end with which steps end.
@@ -165,7 +179,7 @@ fn contours_go_on_to_the_second_meeting(rt: HostRuntime) {
         (Stop::Past, [(425_000, 0), (575_000, 0)]),
     ];
     for (how, want) in table {
-        let steps = steps_to_circle(&rt, Side::On, 0, how, 0, 2);
+        let steps = steps_to_the_second_meeting(&rt, how);
         let Some(ends) = both_ends(&rt, rt.alloc(), steps) else {
             assert!(rt; false, "a step is refused");
             return;
