@@ -156,6 +156,7 @@ fn vertices_at(start: Position, r: &Record) -> Option<VertexSlice<'_>>
     }
 }
 
+#[inline(always)]
 fn contour(start: Position, records: &[Record]) -> Option<Front<'_>>
     ensures { IsBehind (expectations.VerticesAt start.z) records.now result }
 {

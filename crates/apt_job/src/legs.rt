@@ -164,29 +164,25 @@ fn end_of(start: Pt, points: &[Pt]) -> Pt
     last_of(start, points)
 }
 
-/// The job of a leg, and where it ends.
+/// The job of a leg.
+#[inline(always)]
 fn job_of(
     alloc: Global,
     m: &Motion,
     side: Sign,
     touching: Option<Axis>,
     behind: &VertexSlice<'_>,
-) -> Result<(Job, Pt), AllocError>
+) -> Result<Job, AllocError>
     requires motion { IsMotion m.now }
     requires touching { touching ≡ axis_of (motions.course_of m.now) }
-    requires vertices { ArePoints (points_at behind.now) }
-    ensures job { IfOk result (λ made. made.0 ≡ spec.job_said (record { motion = m.now; side = side; vertices = points_at behind.now })) }
-    ensures last { IfOk result (λ made. made.1 ≡ last_of m.now.start.xy (points_at behind.now)) }
-    ensures range { IfOk result (λ made. IsPoint made.1) }
+    ensures { IfOk result (λ job. job ≡ spec.job_said (record { motion = m.now; side = side; vertices = points_at behind.now })) }
 {
     let points = points(alloc, m.start, behind)?;
-    let last = end_of(m.start.xy, &points.vertices[1..]);
-    let job = Job {
+    Ok(Job {
         leg: leg_on(m, side, touching),
         out_sign: out_sign_at(&m.drive, m.drive_side()),
         points,
-    };
-    Ok((job, last))
+    })
 }
 
 /// Makes the job of a leg. Where the leg ends.
@@ -205,7 +201,8 @@ pub(crate) fn take_leg(
     ensures last { IfOk result (λ p. p ≡ last_of m.now.start.xy (points_at behind.now)) }
     ensures range { IfOk result IsPoint }
 {
-    let (job, last) = job_of(alloc, m, side, touching, behind)?;
+    let job = job_of(alloc, m, side, touching, behind)?;
+    let last = end_of(m.start.xy, &job.points.vertices[1..]);
     jobs.push(job)?;
     Ok(last)
 }

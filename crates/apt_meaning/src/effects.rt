@@ -173,8 +173,19 @@ fn start_to(from: Position, xy: Pt) -> Effect
     Effect::Moves(Reach::Start, Position { xy, z: from.z })
 }
 
-/// How many legs a count of meetings asks for: the first meeting one, the second two, and no other any.
+/// How many legs a count of meetings in millionths asks for: the first meeting one, the second two, and no other any.
+#[inline(always)]
 pub fn legs_by(n: i64) -> Option<Legs>
+    requires { IsScalar n }
+    ensures { result ≡ asking.legs_by (whole n) }
+{
+    match n {
+        1_000_000 => Some(Legs::One),
+        _ => legs_to(whole(n)),
+    }
+}
+
+fn legs_to(n: i64) -> Option<Legs>
     ensures { result ≡ asking.legs_by n }
 {
     match n {
@@ -198,7 +209,7 @@ fn contour(
     requires count { IsScalar n }
     ensures { result ≡ asking.cuts_by (whole n) (motions.motion_at here.now side go drive.now how check.now) }
 {
-    let legs = legs_by(whole(n))?;
+    let legs = legs_by(n)?;
     let motion = motion_at(here, side, go, drive, how, check)?;
     Some(Effect::Cuts(motion, legs))
 }

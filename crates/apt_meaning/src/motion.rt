@@ -44,6 +44,7 @@ pub struct Motion {
 
 impl Motion {
     /// The motion along a drive surface that runs so against forward.
+    #[inline(always)]
     #[tactic(auto, using(crate::proofs::EffectRanges::along_in))]
     pub fn along(
         settings: &Settings,

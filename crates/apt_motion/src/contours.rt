@@ -22,7 +22,6 @@ use apt_num::Sign;
 use apt_offset::signs::is_zero;
 use apt_offset::{is_on_check, lacks_room};
 use apt_plane::Surface;
-use apt_scalar::whole;
 use apt_stop::{Ends, Legs, decide_legs, is_near};
 use apt_words::{Case, Go, Side, Stop, Symbol};
 
@@ -76,7 +75,7 @@ pub(crate) fn contour_of(
     };
     let drive = surface_named(&here.table, drive)?;
     let check = surface_named(&here.table, check)?;
-    let Some(legs) = legs_by(whole(n)) else {
+    let Some(legs) = legs_by(n) else {
         return Err(Case::BadCount);
     };
     match on_surfaces(here, side, go, start, drive, how, &check) {

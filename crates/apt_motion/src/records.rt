@@ -70,6 +70,7 @@ fn begin_cut(records: &mut Vec<Record>, step: &Step, motion: &Motion)
 }
 
 /// The record of a leg that no case refuses; its arc goes behind the others.
+#[inline(always)]
 fn write_leg(alloc: Global, draft: &mut Draft, motion: &Motion, end: Pt) -> Result<(), AllocError>
     requires room { vec_len draft.old.records + 1 ≤ vec_capacity draft.old.records }
     requires motion { IsMotion motion.now }
@@ -169,6 +170,7 @@ fn next_leg(motion: &Motion, first: Pt) -> Motion
 }
 
 /// The records of the legs of a contour that no case refuses.
+#[inline(always)]
 fn write_legs(
     alloc: Global,
     draft: &mut Draft,

@@ -1,6 +1,6 @@
 //! The shapes of motions: FROM, GOTO, GODLTA, GO and contours.
 
-ghost use Rattle.std.specs.Prelude.{◌≡◌, [], ◌∷◌, map, IfOk};
+ghost use Rattle.std.specs.Prelude.{◌≡◌, [], ◌∷◌, map, IfOk, Some};
 ghost use Rattle.apt_shapes.specs.Motions as motions;
 
 use crate::arguments::{arguments, is_word, name, pair, stop, triple};
@@ -163,6 +163,24 @@ fn count(alloc: Global, e: &[Token], intof: &[Token]) -> Result<Option<Expr>, Al
     expression(alloc, e)
 }
 
+/// A contour to so many meetings with its check surface.
+#[inline(always)]
+fn counted(
+    side: Option<Side>,
+    turn: Go,
+    drive: &[Token],
+    stop: Option<Stop>,
+    count: Expr,
+    check: &[Token],
+) -> Option<Body>
+    ensures { result ≡ motions.between side turn drive.now stop (Some count) check.now }
+{
+    let (Some(drive), Some(stop), Some(check)) = (name(drive), stop, name(check)) else {
+        return None;
+    };
+    Some(Body::Contour(side, turn, drive, stop, check, count))
+}
+
 fn between(
     side: Option<Side>,
     turn: Go,
@@ -173,7 +191,7 @@ fn between(
 ) -> Option<Body>
     ensures { result ≡ motions.between side turn drive.now stop count check.now }
 {
-    Some(Body::Contour(side, turn, name(drive)?, stop?, name(check)?, count?))
+    counted(side, turn, drive, stop, count?, check)
 }
 
 /// A contour: the drive surface, and the check surface with its modifier, TO where it is left out, and with the count
@@ -186,19 +204,20 @@ fn contour(
 ) -> Result<Option<Body>, AllocError>
     ensures { IfOk result (λ b. b ≡ motions.contour side turn (map (λ a. a.now) args.now)) }
 {
-    match args {
-        [drive, check] => Ok(between(side, turn, drive, Some(Stop::To), Some(once()), check)),
-        [drive, q, check] => Ok(between(side, turn, drive, check_stop(q), Some(once()), check)),
+    let (drive, stop, check) = match args {
+        [drive, check] => (drive, Some(Stop::To), check),
+        [drive, q, check] => (drive, check_stop(q), check),
         [drive, e, intof, check] => {
             let count = count(alloc, e, intof)?;
-            Ok(between(side, turn, drive, Some(Stop::To), count, check))
+            return Ok(between(side, turn, drive, Some(Stop::To), count, check));
         }
         [drive, q, e, intof, check] => {
             let count = count(alloc, e, intof)?;
-            Ok(between(side, turn, drive, stop(q), count, check))
+            return Ok(between(side, turn, drive, stop(q), count, check));
         }
-        _ => Ok(None),
-    }
+        _ => return Ok(None),
+    };
+    Ok(counted(side, turn, drive, stop, once(), check))
 }
 
 /// A contour with no tool word before it.

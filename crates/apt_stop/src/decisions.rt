@@ -34,6 +34,7 @@ use apt_words::{Case, Stop};
 ///
 /// The first case that refuses it: `Parallel`, `NotTangent` where it touches or `NoContact` where it doesn't, `Behind`,
 /// `OutOfRange`.
+#[inline(always)]
 pub fn decide(c: &Course) -> Result<Choice, Case>
     requires { IsCourse c.now }
     ensures value { result ≡ unless (spec.course_cases c.now) (spec.choice_of c.now) }

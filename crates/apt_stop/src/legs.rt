@@ -63,6 +63,7 @@ pub fn near_stop(start: Pt, stop: &Target) -> bool
 /// The first case that refuses them: those of all courses to the stop (`Parallel`, `NotTangent` or `NoContact`);
 /// `FullTurn` for two legs round a circle from near the stop; then `Behind` and `OutOfRange` of the first leg, and of
 /// the second.
+#[inline(always)]
 pub fn decide_legs(c: &Course, legs: Legs) -> Result<Ends, Case>
     requires { IsCourse c.now }
     ensures value { result ≡ unless (legging.leg_cases legs c.now) (legging.ends_of legs c.now) }
@@ -73,6 +74,7 @@ pub fn decide_legs(c: &Course, legs: Legs) -> Result<Ends, Case>
     decided(c, legs)
 }
 
+#[inline(always)]
 fn decided(c: &Course, legs: Legs) -> Result<Ends, Case>
     requires { IsCourse c.now }
     ensures value { result ≡ unless (legging.leg_cases legs c.now) (legging.ends_of legs c.now) }
@@ -85,6 +87,7 @@ fn decided(c: &Course, legs: Legs) -> Result<Ends, Case>
     }
 }
 
+#[inline(always)]
 #[tactic(auto, using(crate::proofs::TwoLegs::one_is, crate::proofs::TwoLegs::one_refused))]
 fn one_end(c: &Course) -> Result<Ends, Case>
     requires { IsCourse c.now }

@@ -17,6 +17,7 @@ use apt_plane::{Dir, Pt};
 pub(crate) const NEAR_STOP: i64 = 8;
 
 /// Whether a point is at most `g` grid units from a target.
+#[inline(always)]
 pub fn is_near(target: &Target, g: i64, p: Pt) -> bool
     requires target { IsTarget target.now }
     requires least { pos 0 ≤ℤ g }

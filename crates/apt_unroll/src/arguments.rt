@@ -2,11 +2,12 @@
 ghost use Rattle.std.specs.Prelude.{◌≡◌, [], ◌∷◌, pos, IfOk, option_map};
 ghost use Rattle.apt_words.specs.Asks.{listed};
 ghost use Rattle.apt_words.specs.Composition.{if_there, names_with, surface_by};
+ghost use Rattle.apt_scalar.specs.Evaluation as values;
 ghost use Rattle.apt_scalar.specs.Meanings as meanings;
 ghost use Rattle.apt_unroll.specs.Deeds as deeds;
 
 use apt_scalar::{Bound, Env, Frame, Kind, Value, bound_in, eval};
-use apt_words::{Case, Expr, Stop, Symbol};
+use apt_words::{Case, Expr, Node, Stop, Symbol};
 
 /// The figure's name that a name stands for.
 pub(crate) fn name_for(frame: &Frame, name: &Symbol) -> Result<Symbol, Case>
@@ -16,6 +17,20 @@ pub(crate) fn name_for(frame: &Frame, name: &Symbol) -> Result<Symbol, Case>
         None => Ok(name.copied()),
         Some(Bound::Alias(other)) => Ok(other.copied()),
         Some(Bound::Scalar(_)) => Err(Case::WrongKind),
+    }
+}
+
+/// The greatest size of a scalar, in millionths.
+const GREATEST: u64 = 1_000_000_000_000;
+
+/// The value of an expression. A number that is small enough is its own.
+#[inline(always)]
+fn value(env: &Env, frame: &Frame, e: &Expr) -> Result<i64, Case>
+    ensures { result ≡ values.value_of env.now frame.now e.now }
+{
+    match e.node {
+        Node::Num(v) if v.unsigned_abs() <= GREATEST => Ok(v),
+        _ => eval(e, env, frame),
     }
 }
 
@@ -30,8 +45,8 @@ pub(crate) fn pair(frame: &Frame, a: &Symbol, b: &Symbol) -> Result<(Symbol, Sym
 pub(crate) fn both(env: &Env, frame: &Frame, x: &Expr, y: &Expr) -> Result<(i64, i64), Case>
     ensures { deeds.listed_by deeds.two result ≡ deeds.values_of env.now frame.now (x.now ∷ y.now ∷ []) }
 {
-    let x = eval(x, env, frame)?;
-    let y = eval(y, env, frame)?;
+    let x = value(env, frame, x)?;
+    let y = value(env, frame, y)?;
     Ok((x, y))
 }
 
@@ -44,9 +59,9 @@ pub(crate) fn three(
 ) -> Result<(i64, i64, i64), Case>
     ensures { deeds.listed_by deeds.three result ≡ deeds.values_of env.now frame.now (x.now ∷ y.now ∷ z.now ∷ []) }
 {
-    let x = eval(x, env, frame)?;
-    let y = eval(y, env, frame)?;
-    let z = eval(z, env, frame)?;
+    let x = value(env, frame, x)?;
+    let y = value(env, frame, y)?;
+    let z = value(env, frame, z)?;
     Ok((x, y, z))
 }
 
@@ -60,10 +75,10 @@ pub(crate) fn four(
 ) -> Result<(i64, i64, i64, i64), Case>
     ensures { deeds.listed_by deeds.four result ≡ deeds.values_of env.now frame.now (x.now ∷ y.now ∷ u.now ∷ v.now ∷ []) }
 {
-    let x = eval(x, env, frame)?;
-    let y = eval(y, env, frame)?;
-    let u = eval(u, env, frame)?;
-    let v = eval(v, env, frame)?;
+    let x = value(env, frame, x)?;
+    let y = value(env, frame, y)?;
+    let u = value(env, frame, u)?;
+    let v = value(env, frame, v)?;
     Ok((x, y, u, v))
 }
 
@@ -74,7 +89,7 @@ fn optional(env: &Env, frame: &Frame, e: &Option<Expr>) -> Result<Option<i64>, C
     match e {
         None => Ok(None),
         Some(e) => {
-            let v = eval(e, env, frame)?;
+            let v = value(env, frame, e)?;
             Ok(Some(v))
         }
     }
@@ -91,8 +106,8 @@ pub(crate) fn coordinates(
     ensures value { deeds.listed_by deeds.two_or_three result ≡ deeds.values_of env.now frame.now (x.now ∷ y.now ∷ listed z.now) }
     ensures there { IfOk result (λ r. r.2 ≡ if_there z.now (deeds.nth (pos 0) (listed r.2) 0)) }
 {
-    let x = eval(x, env, frame)?;
-    let y = eval(y, env, frame)?;
+    let x = value(env, frame, x)?;
+    let y = value(env, frame, y)?;
     let z = optional(env, frame, z)?;
     Ok((x, y, z))
 }
@@ -105,7 +120,7 @@ pub(crate) fn value_and_name(
 ) -> Result<(i64, Symbol), Case>
     ensures { deeds.listed_by (λ r. (r.0 ∷ [], r.1 ∷ [])) result ≡ deeds.arguments env.now frame.now (e.now ∷ []) (a.now ∷ []) }
 {
-    let v = eval(e, env, frame)?;
+    let v = value(env, frame, e)?;
     let a = name_for(frame, a)?;
     Ok((v, a))
 }
@@ -119,7 +134,7 @@ pub(crate) fn value_and_pair(
 ) -> Result<(i64, Symbol, Symbol), Case>
     ensures { deeds.listed_by (λ r. (r.0 ∷ [], r.1 ∷ r.2 ∷ [])) result ≡ deeds.arguments env.now frame.now (e.now ∷ []) (a.now ∷ b.now ∷ []) }
 {
-    let v = eval(e, env, frame)?;
+    let v = value(env, frame, e)?;
     let a = name_for(frame, a)?;
     let b = name_for(frame, b)?;
     Ok((v, a, b))

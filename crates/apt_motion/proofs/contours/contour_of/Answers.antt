@@ -16,16 +16,16 @@ pub returns-in_default-legs_by-clause-contour : goal.returns-in_default-legs_by-
 returns-in_default-legs_by-clause-contour c =
     let a = c.args in
     count_refused a.here.now a.side a.go a.drive.now a.how a.check.now a.n c.in-Some.start c.in_ok-drive.drive c.in_ok-check.check c.in-Some.is c.in_ok-drive.ensures.named c.in_ok-check.ensures.named
-    (search (rules, c.whole.ensures, c.legs_by.ensures))
+    (search (rules, c.legs_by.ensures))
 
 pub returns-in-Ok-clause-contour : goal.returns-in-Ok-clause-contour
 returns-in-Ok-clause-contour c =
     let a = c.args in
     contour_motion a.here.now a.side a.go a.drive.now a.how a.check.now a.n c.in-Some.start c.in_ok-drive.drive c.in_ok-check.check c.in-Some-legs_by.legs (Ok c.in-Ok.motion)
-    c.in-Some.is c.in_ok-drive.ensures.named c.in_ok-check.ensures.named (search (rules, c.whole.ensures, c.legs_by.ensures, c.in-Some-legs_by.is)) (c.in-Ok.ensures.motion c.in-Some-legs_by.legs)
+    c.in-Some.is c.in_ok-drive.ensures.named c.in_ok-check.ensures.named (search (rules, c.legs_by.ensures, c.in-Some-legs_by.is)) (c.in-Ok.ensures.motion c.in-Some-legs_by.legs)
 
 pub returns-in-Err-clause-contour : goal.returns-in-Err-clause-contour
 returns-in-Err-clause-contour c =
     let a = c.args in
     contour_motion a.here.now a.side a.go a.drive.now a.how a.check.now a.n c.in-Some.start c.in_ok-drive.drive c.in_ok-check.check c.in-Some-legs_by.legs (Err c.in-Err.case)
-    c.in-Some.is c.in_ok-drive.ensures.named c.in_ok-check.ensures.named (search (rules, c.whole.ensures, c.legs_by.ensures, c.in-Some-legs_by.is)) (c.in-Err.ensures.motion c.in-Some-legs_by.legs)
+    c.in-Some.is c.in_ok-drive.ensures.named c.in_ok-check.ensures.named (search (rules, c.legs_by.ensures, c.in-Some-legs_by.is)) (c.in-Err.ensures.motion c.in-Some-legs_by.legs)
