@@ -40,5 +40,6 @@ pub mod Turned
 pub mod NextLegs
 pub mod Stops
 pub mod TwoLegs
+pub mod FullTurns
 mod Worked
 mod WorkedCourses

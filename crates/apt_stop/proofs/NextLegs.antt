@@ -1,6 +1,6 @@
 -- The leg behind a course that nothing refuses: it starts near the stop, and where it leads on it runs on the other side of it.
 use Rattle.std.specs.Prelude.{Option, Some, None, Result, Ok, Err, IfOk}
-use Rattle.std.proofs.Common.{refl, ◌≡◌, ◌≢◌, inl, sym, subst, ap, ◌∙◌, ◌*◌, arith, ℤ, pos, neg_ℤ, ◌*ℤ◌, Bool, true, false, ◌||◌, List, [], ◌∷◌, ◌++◌}
+use Rattle.std.proofs.Common.{refl, ◌≡◌, ◌≢◌, inl, sym, subst, ap, ◌∙◌, arith, ℤ, pos, neg_ℤ, ◌*ℤ◌, Bool, true, false, ◌||◌, List, [], ◌∷◌, ◌++◌}
 use Rattle.std.proofs.lemmas.Bool.{true≢false}
 use Rattle.apt_num.specs.declared.Sign.{Sign}
 use Rattle.apt_num.specs.declared.Sign.TheVariants as signs

@@ -8,7 +8,7 @@ use Rattle.apt_plane.specs.declared.figures.Pt.{Pt}
 use Rattle.apt_plane.specs.declared.figures.Dir.{Dir}
 use Rattle.apt_plane.specs.declared.figures.Axis.{Axis}
 use Rattle.apt_plane.specs.declared.figures.Surface.{Surface}
-use Rattle.apt_plane.specs.Vectors.{displacement, length_squared, perp}
+use Rattle.apt_plane.specs.Vectors.{displacement, length_squared}
 use Rattle.apt_plane.specs.Ranges.{IsSense, IsDir, IsPoint}
 use Rattle.apt_canon.specs.Scale.{times}
 use Rattle.apt_canon.proofs.CircleMeetings.LineCircle.{sense_size}

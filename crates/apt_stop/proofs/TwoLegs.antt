@@ -13,7 +13,7 @@ use Rattle.apt_stop.specs.Legs.{next_leg, turns_fully, leg_cases, ends_of}
 
 -- ---- rows in front of others
 
-abbrev or_first : Option Case → Option Case → Option Case
+abbrev pub or_first : Option Case → Option Case → Option Case
 or_first None other = other
 or_first (Some case) other = Some case
 
@@ -21,7 +21,7 @@ first_in : (b : Bool) (case : Case) (x y : Option Case) → (if b then Some case
 first_in true case x y = refl
 first_in false case x y = refl
 
-first-append : (rows more : List Row) → first_of (rows ++ more) ≡ or_first (first_of rows) (first_of more)
+pub first-append : (rows more : List Row) → first_of (rows ++ more) ≡ or_first (first_of rows) (first_of more)
 first-append [] more = refl
 first-append (row ∷ rows) more = ap (λ (o : Option Case). if row.0 then Some row.1 else o) (first-append rows more) ∙ first_in row.0 row.1 (first_of rows) (first_of more)
 

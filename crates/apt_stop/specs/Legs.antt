@@ -1,12 +1,13 @@
 -- The legs of a contour with one stop: where they end, and what refuses them.
-use Rattle.std.specs.Prelude.{◌≡◌, ℕ, ◌&&◌, Bool, true, false, List, ◌∷◌, ◌++◌, Some, None, unwrap_or, IfSome}
+use Rattle.std.specs.Prelude.{◌≡◌, ℕ, pos, ◌&&◌, Bool, true, false, List, ◌∷◌, ◌++◌, Some, None, unwrap_or, IfSome}
 use Rattle.apt_words.specs.declared.Case.TheVariants as cases
-use Rattle.apt_words.specs.Rows.{Row}
+use Rattle.apt_words.specs.Rows.{Row, NoneHolds}
 use Rattle.apt_plane.specs.declared.figures.Pt.{Pt}
 use Rattle.apt_plane.specs.declared.figures.Surface.{Surface}
 use Rattle.apt_plane.specs.declared.figures.Surface.TheVariants as surfaces
 use Rattle.apt_plane.specs.Ranges.{IsPoint}
 use Rattle.apt_offset.specs.Turns.{opposite}
+use Rattle.apt_contact.specs.Contacts.{IsNearTarget}
 use Rattle.apt_stop.specs.declared.course.Course.{Course}
 use Rattle.apt_stop.specs.declared.legs.Legs.{Legs}
 use Rattle.apt_stop.specs.declared.legs.Legs.TheVariants as legs
@@ -39,6 +40,17 @@ ways_of legs.Two c = (turns_fully c, cases.FullTurn) ∷ way_cases c ++ way_case
 
 abbrev pub leg_cases : Legs → Course → List Row
 leg_cases n c = stop_cases c ++ ways_of n c
+
+abbrev pub IsRound : Surface → Type 0
+IsRound (surfaces.Line l) = ⊥
+IsRound (surfaces.Circ c) = Unit {0}
+
+-- two legs round a circle turn fully where they start at most 8 grid units from their stop, and nothing refuses the stop
+pub record IsFullTurn (n : Legs) (c : Course) : Type 0 where
+  pub two : n ≡ legs.Two
+  pub round : IsRound c.drive
+  pub near : IsNearTarget c.stop (pos 8) c.start
+  pub free : NoneHolds (stop_cases c)
 
 -- ---- where they end
 

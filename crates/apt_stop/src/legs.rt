@@ -68,6 +68,7 @@ pub fn decide_legs(c: &Course, legs: Legs) -> Result<Ends, Case>
     requires { IsCourse c.now }
     ensures value { result ≡ unless (legging.leg_cases legs c.now) (legging.ends_of legs c.now) }
     ensures refused { (case : Case) → IsErrOf result case ↔ (first_of (legging.leg_cases legs c.now) ≡ Some case) }
+    ensures full_turn { IsErrOf result Case.FullTurn ↔ legging.IsFullTurn legs c.now }
     ensures range { IfOk result legging.AreEnds }
     ensures ends { IfOk result (legging.LegsEnd c.now) }
 {
