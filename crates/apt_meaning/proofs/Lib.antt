@@ -7,3 +7,4 @@ pub mod Asked
 pub mod Fed
 pub mod Walks
 pub mod Moving
+pub mod Alike

@@ -2,6 +2,7 @@ pub mod Situations
 pub mod Motions
 pub mod StartUps
 pub mod Effects
+pub mod Alike
 pub mod Paths
 pub mod Refusals
 pub mod Records

@@ -1,11 +1,14 @@
 //! What steps ask for, refusals aside.
 
 ghost use Rattle.std.specs.Prelude.{◌≡◌, Some, IfOk, IfSome};
-ghost use Rattle.apt_words.specs.Asks.{form_numbers, place_numbers, route_numbers, saying_numbers};
+ghost use Rattle.apt_words.specs.Asks.{ask_of, form_numbers, place_numbers, route_numbers, saying_numbers};
 ghost use Rattle.apt_scalar.specs.Scalars.{IsScalar, whole};
 ghost use Rattle.apt_scalar.specs.StepScalars.{AllScalars, HasScalars};
 ghost use Rattle.apt_startup.specs.Ranges.{IsStartUp};
 ghost use Rattle.apt_cldata.specs.Vertices.{at_height};
+ghost use Rattle.apt_words.specs.declared.Units.{Units};
+ghost use Rattle.apt_words.specs.declared.deed.Deed.{Deed};
+ghost use Rattle.apt_meaning.specs.Alike.{AskAlike, with_units};
 ghost use Rattle.apt_meaning.specs.Effects as asking;
 ghost use Rattle.apt_meaning.specs.Motions as motions;
 ghost use Rattle.apt_meaning.specs.Ranges.{IsSituation, HasMotion};
@@ -60,6 +63,7 @@ pub fn effect_of(here: &Situation, deed: &Deed) -> Result<Option<Effect>, AllocE
     requires situation { IsSituation here.now }
     requires scalars { HasScalars deed.now }
     ensures value { IfOk result (λ e. e ≡ asking.effect_of here.now deed.now) }
+    ensures alike { (units : Units) (same : Deed) → AskAlike here.now.settings.units (ask_of deed.now) units (ask_of same) → IfOk result (λ e. e ≡ asking.effect_of (with_units here.now units) same) }
     ensures motion { IfOk result (λ e. IfSome e HasMotion) }
 {
     asked(here, deed)

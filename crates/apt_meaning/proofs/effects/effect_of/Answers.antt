@@ -1,0 +1,5 @@
+use Rattle.apt_meaning.proofs.Alike.{result_alike}
+use Rattle.apt_meaning.proofs.effects.effect_of.Goals as goal
+
+pub returns-clause-alike : goal.returns-clause-alike
+returns-clause-alike c = result_alike c.asked.result c.args.here.now c.args.deed.now c.asked.ensures
