@@ -139,6 +139,7 @@ motion_said s start drive check how = record {
 abbrev pub first_leg : Motion → Due
 first_leg m = record { motion = m; side = stop_side m }
 
+-- the first leg is due behind a check record, where the tool stands somewhere and a drive surface was said
 abbrev pub due_said : Saying → Surface → Stop → Option Due
 due_said s check how = do
   start ← s.position
@@ -198,6 +199,7 @@ with_note s notes.OptStop = s
 with_note s notes.End = s
 with_note s notes.Fini = s
 
+-- what is said behind one record more
 abbrev pub with_record : Saying → Record → Saying
 with_record s (records.Statement line step) = s
 with_record s (records.Note note) = with_note s note
