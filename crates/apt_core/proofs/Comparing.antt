@@ -7,8 +7,9 @@ use Rattle.apt_tapecode.specs.declared.Code.{Code}
 use Rattle.apt_control.specs.declared.Act.{Act}
 use Rattle.apt_control.specs.declared.error.ControlError.{ControlError}
 use Rattle.apt_control.specs.Control.{control_run}
-use Rattle.apt_post.specs.Plan.{plan}
+use Rattle.apt_post.specs.Said.{acts_of}
 use Rattle.apt_post.proofs.HowMany.{plan_few}
+use Rattle.apt_post.proofs.Said.{plan_said}
 use Rattle.apt_core.specs.Certificates.{HeadsDiffer, DifferAt}
 use Rattle.apt_core.specs.Comparisons.{AreBeside, AreCompared, IsDifference}
 use Rattle.apt_core.specs.Due.{ComesToNone, acts_due, tape_told}
@@ -17,8 +18,8 @@ use Rattle.apt_core.specs.declared.comparison.Comparison.{Comparison}
 use Rattle.apt_core.proofs.Chains.{bad_tape_told}
 
 -- a plan has not many acts
-pub plan_fits : (rs : List Record) → vertex_count rs + length rs < 2 ^ 62 → 1 + length (plan rs) ≤ 2 ^ 63
-plan_fits rs few = omega (arith, plan_few rs, few)
+pub plan_fits : (rs : List Record) → vertex_count rs + length rs < 2 ^ 62 → 1 + length (acts_of rs) ≤ 2 ^ 63
+plan_fits rs few = subst (λ (acts : List Act). 1 + length acts ≤ 2 ^ 63) (plan_said rs) (omega (arith, plan_few rs, few))
 
 -- the act at a place, and those behind it
 drop_one : (xs : List Act) (i : ℕ) (d : Act) → i < length xs → drop i xs ≡ get_or xs i d ∷ drop (suc i) xs
@@ -54,7 +55,7 @@ found_differs planned left acts (Some at) is beside = differ_here planned acts a
 pub compared_still : (begun now : Comparison) (before more : List Act) (at : ℕ) → now.first ≡ Some at → AreCompared begun now before → AreCompared begun now (before ++ more)
 compared_still begun now before more at found compared = record {
   same = compared.same;
-  beside = subst (λ f. AreBeside (plan begun.records.now) now.left f (before ++ more)) (sym found) (differ_still (plan begun.records.now) before more at (rw found at compared.beside));
+  beside = subst (λ f. AreBeside (acts_of begun.records.now) now.left f (before ++ more)) (sym found) (differ_still (acts_of begun.records.now) before more at (rw found at compared.beside));
   next = λ none. absurd (let e = sym found ∙ none in cc);
 }
 
@@ -63,7 +64,7 @@ pub compared_on : (begun now behind : Comparison) (before more : List Act) → n
     → (behind.first ≡ None → behind.next ≡ now.next + length more) → AreCompared begun now before → AreCompared begun behind (before ++ more)
 compared_on begun now behind before more none records beside next compared = record {
   same = records ∙ compared.same;
-  beside = beside (plan begun.records.now) before (rw none at compared.beside) (compared.next none);
+  beside = beside (acts_of begun.records.now) before (rw none at compared.beside) (compared.next none);
   next = λ still. omega (arith, next still, compared.next none, length-append before more);
 }
 

@@ -16,7 +16,7 @@ use Rattle.apt_machine.specs.declared.machine.Machine.{Machine}
 use Rattle.apt_machine.specs.Tables.{table_of}
 use Rattle.apt_control.specs.declared.Act.{Act}
 use Rattle.apt_control.specs.Control.{control_run}
-use Rattle.apt_post.specs.Plan.{plan}
+use Rattle.apt_post.specs.Said.{acts_of}
 use Rattle.apt_part.specs.Compilation.{steps_of}
 use Rattle.apt_part.specs.Promise.{Passes, file_limit}
 use Rattle.apt_report.specs.declared.status.Status.{Status}
@@ -100,7 +100,7 @@ missed_judged machine text table cl tape steps written acts answer are (inr shor
 
 -- what follows legally is right
 good_is_right : (machine : Machine) (text cl tape : List ℕ) (steps : List Step) (written : List Record) (v : Verdict) → Passes machine text steps → read_of cl ≡ Ok written
-    → control_run machine.code tape ≡ Ok (plan written) → Follows steps written → IsVerdict (jobs_said written) v → v.first_bad ≡ None → IsCertified machine text cl tape v
+    → control_run machine.code tape ≡ Ok (acts_of written) → Follows steps written → IsVerdict (jobs_said written) v → v.first_bad ≡ None → IsCertified machine text cl tape v
 good_is_right machine text cl tape steps written v passes read run follow verdict none =
     let makes = makes_said steps written follow in
     let right = jobs_right steps written (jobs_said written) makes (all_legal (jobs_said written) v verdict none) in record {
@@ -119,7 +119,7 @@ good_is_right machine text cl tape steps written v passes read run follow verdic
 
 -- all is right
 pub good_judged : (machine : Machine) (text table cl tape : List ℕ) (steps : List Step) (written : List Record) (acts : List Act) (v : Verdict)
-    → AreJudged machine text table cl tape steps written acts → Passes machine text steps → Follows steps written → IsVerdict (jobs_said written) v → v.first_bad ≡ None → acts ≡ plan written
+    → AreJudged machine text table cl tape steps written acts → Passes machine text steps → Follows steps written → IsVerdict (jobs_said written) v → v.first_bad ≡ None → acts ≡ acts_of written
     → OrNoMemory (IsJudgement text table cl tape (answers.Done (summaries.Certified v))) (answers.Done (summaries.Certified v))
 good_judged machine text table cl tape steps written acts v are passes follow verdict none planned =
     inl (inr (

@@ -15,7 +15,8 @@ use Rattle.apt_job.specs.Jobs.{jobs_said}
 use Rattle.apt_machine.specs.declared.machine.Machine.{Machine}
 use Rattle.apt_control.specs.declared.Act.{Act}
 use Rattle.apt_control.specs.Control.{control_run}
-use Rattle.apt_post.specs.Plan.{plan, segments}
+use Rattle.apt_post.specs.Plan.{segments}
+use Rattle.apt_post.specs.Said.{acts_of}
 use Rattle.apt_part.specs.Promise.{Passes}
 use Rattle.apt_report.specs.declared.status.Status.{Status}
 use Rattle.apt_report.specs.declared.status.Status.TheVariants as answers
@@ -25,14 +26,14 @@ use Rattle.apt_report.specs.declared.status.Miss.TheVariants as misses
 use Rattle.apt_core.specs.Due.{machine_due, steps_due, records_due, acts_due}
 
 -- a CL file and a tape are right for a part on a machine. The part's steps are those of its one trace, and none is refused; the CL file is just its records,
--- and a control runs the tape, to the last byte, to just their plan, so that nothing else stands in either file; the records follow the steps, each contour
+-- and a control runs the tape, to the last byte, to just the acts that they ask for, so that nothing else stands in either file; the records follow the steps, each contour
 -- with the drive, the check, the side and the turn that its statement names; and every contour that the CL file says is legal
 pub record IsRight (machine : Machine) (text cl tape : List ℕ) : Type 0 where
   pub steps : List Step
   pub passes : Passes machine text steps
   pub records : List Record
   pub read : read_of cl ≡ Ok records
-  pub acts : control_run machine.code tape ≡ Ok (plan records)
+  pub acts : control_run machine.code tape ≡ Ok (acts_of records)
   pub follow : Follows steps records
   pub legal : EveryContour IsLegalCut (contours_of records)
 
@@ -54,11 +55,11 @@ pub record DifferAt (xs ys : List Act) (at : ℕ) : Type 0 where
   pub differ : HeadsDiffer left right
   pub number : at ≡ length same + 1
 
--- the first that fails: that the records follow the steps, that every contour that they say is legal, that the acts are the plan
+-- the first that fails: that the records follow the steps, that every contour that they say is legal, that the acts are those that they ask for
 abbrev pub IsMiss : List Step → List Record → List Act → Miss → Type 0
 IsMiss steps written acts (misses.Entry seq) = FailsAt first_situation 1 steps written seq
 IsMiss steps written acts (misses.Motion bad) = Follows steps written × IsFirstBad (jobs_said written) bad
-IsMiss steps written acts (misses.Act at) = Follows steps written × AreLegal (jobs_said written) × DifferAt acts (plan written) at
+IsMiss steps written acts (misses.Act at) = Follows steps written × AreLegal (jobs_said written) × DifferAt acts (acts_of written) at
 
 -- all is right, with the verdict over the contours
 pub record IsCertified (machine : Machine) (text cl tape : List ℕ) (v : Verdict) : Type 0 where

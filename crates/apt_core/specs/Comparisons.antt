@@ -1,7 +1,7 @@
 -- The acts of a tape beside the plan of records, while the tape is read.
 use Rattle.std.specs.Prelude.{◌≡◌, ℕ, ◌+◌, List, ◌++◌, length, Option, Some, None}
 use Rattle.apt_control.specs.declared.Act.{Act}
-use Rattle.apt_post.specs.Plan.{plan}
+use Rattle.apt_post.specs.Said.{acts_of}
 use Rattle.apt_core.specs.Certificates.{DifferAt}
 use Rattle.apt_core.specs.declared.comparison.Comparison.{Comparison}
 
@@ -13,7 +13,7 @@ AreBeside planned left (Some at) acts = (more : List Act) → DifferAt (acts ++ 
 -- acts that are compared with the plan of the records with which a comparison began, and the number of the next act
 pub record AreCompared (begun now : Comparison) (acts : List Act) : Type 0 where
   pub same : now.records.now ≡ begun.records.now
-  pub beside : AreBeside (plan begun.records.now) now.left now.first acts
+  pub beside : AreBeside (acts_of begun.records.now) now.left now.first acts
   pub next : now.first ≡ None → now.next ≡ length acts + 1
 
 -- where all acts first differ from a plan; none where they are as planned

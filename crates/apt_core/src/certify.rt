@@ -9,7 +9,7 @@ ghost use Rattle.apt_meaning.specs.Records.{Follows};
 ghost use Rattle.apt_certify.specs.Verdicts.{IsVerdict};
 ghost use Rattle.apt_job.specs.Jobs.{jobs_said};
 ghost use Rattle.apt_part.specs.Promise.{AreSteps};
-ghost use Rattle.apt_post.specs.Plan.{plan};
+ghost use Rattle.apt_post.specs.Said.{acts_of};
 ghost use Rattle.apt_tapecode.specs.declared.Code.{Code};
 ghost use Rattle.apt_block.specs.declared.block.BlockFault.{BlockFault};
 ghost use Rattle.apt_control.specs.declared.Act.{Act};
@@ -88,7 +88,7 @@ fn without_records(alloc: Global, machine: &Machine, text: Vec<u8>, fault: Statu
 
 /// The first place, from 1, at which the acts of a run differ from the plan beside which it was.
 fn difference_in(run: Result<Comparison<'_>, ControlError>) -> Result<Option<u64>, ControlError>
-    ensures { (begun : Comparison) (due : Result (List Act) BlockFault) → IsTaken (AreCompared begun) due run.entry → IsTaken (IsDifference (plan begun.records.now)) due result }
+    ensures { (begun : Comparison) (due : Result (List Act) BlockFault) → IsTaken (AreCompared begun) due run.entry → IsTaken (IsDifference (acts_of begun.records.now)) due result }
 {
     match run {
         Ok(compared) => Ok(compared.difference()),
@@ -110,7 +110,7 @@ fn judged<G: Gate>(
     requires machine { IsMachine machine.now }
     requires records { AreRecords records.items }
     requires few { vertex_count records.items + length records.items < 2 ^ 62 }
-    ensures { (table cl tape : List ℕ) → table_of table ≡ Ok machine.now → read_of cl ≡ Ok records.items → IsTaken (IsDifference (plan records.items)) (control_run machine.now.code tape) found → OrNoMemory (IsJudgement text.items table cl tape (answer_of result)) (answer_of result) }
+    ensures { (table cl tape : List ℕ) → table_of table ≡ Ok machine.now → read_of cl ≡ Ok records.items → IsTaken (IsDifference (acts_of records.items)) (control_run machine.now.code tape) found → OrNoMemory (IsJudgement text.items table cl tape (answer_of result)) (answer_of result) }
 {
     let steps = steps_on(alloc, text, machine)?;
     let difference = found_in(found)?;
@@ -146,8 +146,8 @@ fn verdict_on<G: Gate>(
     ensures follows { IfOk result (λ _. Follows steps.now records.items) }
     ensures verdict { IfOk result (IsVerdict (jobs_said records.items)) }
     ensures legal { IfOk result (λ v. v.first_bad ≡ None) }
-    ensures planned { (acts : List Act) → IsDifference (plan records.items) difference acts → IfOk result (λ _. acts ≡ plan records.items) }
-    ensures missed { (acts : List Act) → IsDifference (plan records.items) difference acts → IfErr result (λ s. OrNoMemory (IsMissed steps.now records.items acts s) s) }
+    ensures planned { (acts : List Act) → IsDifference (acts_of records.items) difference acts → IfOk result (λ _. acts ≡ acts_of records.items) }
+    ensures missed { (acts : List Act) → IsDifference (acts_of records.items) difference acts → IfErr result (λ s. OrNoMemory (IsMissed steps.now records.items acts s) s) }
 {
     let jobs = match jobs(alloc, steps, records) {
         Ok(jobs) => jobs,

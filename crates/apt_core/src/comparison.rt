@@ -25,7 +25,7 @@ pub(crate) struct Comparison<'a> {
 impl<'a> Comparison<'a> {
     ghost use Rattle.apt_core.specs.Comparisons.{AreBeside, AreCompared, IsDifference};
     ghost use Rattle.apt_core.specs.declared.comparison.Comparison.{Comparison};
-    ghost use Rattle.apt_post.specs.Plan as plans;
+    ghost use Rattle.apt_post.specs.Said.{acts_of};
 
     /// No acts beside the plan of some records.
     #[tactic(auto, using(crate::proofs::Comparing::plan_fits))]
@@ -76,7 +76,7 @@ impl<'a> Comparison<'a> {
 
     /// The first place, from 1, at which all acts and the plan differ.
     pub(crate) fn difference(self) -> Option<u64>
-        ensures { (begun : Comparison) (acts : List Act) → AreCompared begun self.entry acts → IsDifference (plans.plan begun.records.now) result acts }
+        ensures { (begun : Comparison) (acts : List Act) → AreCompared begun self.entry acts → IsDifference (acts_of begun.records.now) result acts }
     {
         let Comparison {
             mut left,

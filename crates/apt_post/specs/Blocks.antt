@@ -98,9 +98,13 @@ blocks_from machine k held (act ∷ more) = act_block machine k held act ∷ blo
 abbrev pub blocks_of : Machine → List Act → List (List TapeWord)
 blocks_of machine acts = blocks_from machine 0 nothing_held acts
 
--- the characters of a tape: rewind stop, end of block, and a block for each act
+-- the characters of a tape: rewind stop, end of block, and the blocks
+abbrev pub text_of : List (List TapeWord) → List ℕ
+text_of blocks = rewind_stop ∷ end_of_block ∷ flat_map spelling blocks
+
+-- with a block for each act
 abbrev pub tape_text : Machine → List Act → List ℕ
-tape_text machine acts = rewind_stop ∷ end_of_block ∷ flat_map spelling (blocks_of machine acts)
+tape_text machine acts = text_of (blocks_of machine acts)
 
 -- the bytes of a tape
 abbrev pub tape_bytes : Machine → List Act → List ℕ

@@ -1,6 +1,8 @@
 //! The blocks of acts, and the bytes of their tape.
 
-ghost use Rattle.std.specs.Prelude.{◌≡◌, false, IfOk};
+ghost use Rattle.std.specs.Prelude.{◌≡◌, false, map, Ok, IfOk};
+ghost use Rattle.apt_control.specs.Control.{control_run};
+ghost use Rattle.apt_tapecode.specs.Tapecode as coding;
 ghost use Rattle.apt_post.specs.Blocks as spec;
 ghost use Rattle.apt_post.specs.Writing.{AreBlocks, CanWriteAll, whole_blocks};
 
@@ -13,11 +15,12 @@ use apt_machine::Machine;
 use std::alloc::{AllocError, Global};
 
 /// The blocks of acts for a machine, one for each act.
-#[tactic(auto, using(crate::proofs::Whole::are_whole, crate::proofs::Standing::blocks_of_are))]
+#[tactic(auto, using(crate::proofs::Whole::are_whole, crate::proofs::Standing::blocks_of_are, crate::proofs::Running::tape_runs))]
 pub fn blocks(alloc: Global, acts: &[Act], m: &Machine) -> Result<Vec<Block>, AllocError>
     requires { CanWriteAll acts.now }
     ensures value { IfOk result (λ v. v.items ≡ spec.blocks_of m.now acts.now) }
     ensures are { IfOk result (λ v. AreBlocks v.items) }
+    ensures run { spec.IsProgram acts.now → IfOk result (λ v. control_run m.now.code (map (coding.byte_of m.now.code) (spec.text_of v.items)) ≡ Ok acts.now) }
     ensures whole { m.now.changed ≡ false → IfOk result (λ v. v.items ≡ whole_blocks m.now.seq 0 acts.now) }
 {
     all_blocks(alloc, acts, m)

@@ -3,7 +3,7 @@ use Rattle.std.proofs.lemmas.Result.{err_from_is_err_and}
 use Rattle.apt_cldata.specs.declared.record.Record.{Record}
 use Rattle.apt_machine.specs.Tables.{table_of}
 use Rattle.apt_control.specs.Control.{control_run}
-use Rattle.apt_post.specs.Plan.{plan}
+use Rattle.apt_post.specs.Said.{acts_of}
 use Rattle.apt_part.specs.Promise.{file_limit}
 use Rattle.apt_core.specs.Request.{four_names}
 use Rattle.apt_core.specs.Inputs.{Files, files_on, input, part_limit, machine_limit}
@@ -44,7 +44,7 @@ returns-in-Ok-records g c =
     four_read (four_names c.args.names) (files_on g.H.Shelf c.args.shelf.now) (files_on g.H.Shelf c.read_input.new.shelf) (files_on g.H.Shelf c.read_input-2.new.shelf) (files_on g.H.Shelf c.records_input.new.shelf) (files_on g.H.Shelf c.run_input.new.shelf) c.in_ok-text.text.items table d.records.0 e.run.0 _
     c.in_ok-text.ensures.read c.in_ok-text.ensures.text c.in_ok-table.ensures.read c.in_ok-table.ensures.text d.read d.records.1 e.read e.run.1
     (c.judged.ensures table d.records.0 e.run.0 tabled (rw c.in-Ok-records.is at d.records.2)
-    (subst (λ (rs : List Record). IsTaken (IsDifference (plan rs)) (control_run c.in-Ok.machine.code e.run.0) c.difference_in-found.result) (c.with_plan-none.ensures.records ∙ c.deref-in-Ok-records.ensures.value)
+    (subst (λ (rs : List Record). IsTaken (IsDifference (acts_of rs)) (control_run c.in-Ok.machine.code e.run.0) c.difference_in-found.result) (c.with_plan-none.ensures.records ∙ c.deref-in-Ok-records.ensures.value)
     (c.difference_in-found.ensures c.with_plan-none.result _ e.run.2)))
 
 pub returns-in_err-run_input-in-Err-records : goal.returns-in_err-run_input-in-Err-records
