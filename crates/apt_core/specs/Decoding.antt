@@ -9,6 +9,7 @@ use Rattle.apt_report.specs.Lines.{line_of}
 use Rattle.apt_report.specs.Acts.{act_lines}
 use Rattle.apt_core.specs.Due.{machine_due, acts_due}
 
+-- an answer, and the text that is put for it
 pub record Said : Type 0 where
   pub answer : Status
   pub text : List ℕ

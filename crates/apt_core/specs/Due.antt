@@ -77,6 +77,7 @@ unless_refused due = told_by due bad_part >>= λ r. told_by r refused_step
 
 -- ---- what is due
 
+-- what a table, a part, a CL file and a tape come to, or the answer to their fault
 abbrev pub machine_due : List ℕ → Result Machine Status
 machine_due table = told_by (table_of table) bad_machine
 

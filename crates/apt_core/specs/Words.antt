@@ -3,6 +3,7 @@ use Rattle.std.specs.Prelude.{ℕ, ◌&&◌, Bool, not, List, [], ◌∷◌, map
 use Rattle.std.proofs.Common.{String, string_bytes, bytes_eq}
 use Rattle.apt_machine.specs.Numbers.{number_within}
 
+-- the bytes of the words
 abbrev pub texts : {A : Type 0} → List (String A) → List (List ℕ)
 texts words = map string_bytes words
 
@@ -72,7 +73,7 @@ demo_ask text = option_map Demo (number_within 1 800 text)
 abbrev pub word_ask : List ℕ → List ℕ → Option Ask
 word_ask word text = if bytes_eq word (codes "list") then list_ask text else if bytes_eq word (codes "demo") then demo_ask text else None
 
--- what the words ask, by their shapes
+-- what the words ask, by their shapes; none where they fit no shape
 abbrev pub asked : List (List ℕ) → Option Ask
 asked (word ∷ part ∷ machine ∷ cl ∷ tape ∷ []) = command_ask word (names_of part machine cl tape)
 asked (word ∷ machine ∷ tape ∷ []) = decode_ask word (tape_names_of machine tape)

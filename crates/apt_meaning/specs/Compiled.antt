@@ -29,6 +29,7 @@ points_of (effects.Sets change) = []
 points_of (effects.Moves reach to) = []
 points_of (effects.Cuts m legs) = map vertices_of (motions_of m legs)
 
+-- how many vertices all legs of a contour have
 abbrev pub point_number : Effect → ℕ
 point_number e = cut_points (points_of e)
 
@@ -79,5 +80,6 @@ compilation_behind so_far here (step ∷ steps) =
     or_refused step (asked_within so_far (asked (refusal_of here step.deed) (effect_of here step.deed)))
     (λ e. with_front (records_of step e (points_of e)) (compilation_behind (so_far + point_number e) (after here e (ends_of e)) steps))
 
+-- the records of all steps, or the first step that is refused
 abbrev pub compilation : Situation → List Step → Result (List Record) Refusal
 compilation here steps = compilation_behind 0 here steps

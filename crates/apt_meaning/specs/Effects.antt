@@ -38,6 +38,7 @@ use Rattle.apt_meaning.specs.StartUps.{start_position_at}
 
 -- ---- what is said: lengths in grid units, feeds in tenths, speeds and tools in whole numbers
 
+-- the note that a saying has the CL file say
 abbrev pub note_of : Units → Saying → Note
 note_of units (sayings.Units others) = notes.Units others
 note_of units (sayings.Diameter v) = notes.Cutter (grid_units units v)

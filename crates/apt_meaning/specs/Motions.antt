@@ -38,6 +38,7 @@ use Rattle.apt_meaning.specs.Situations.{with_side}
 abbrev pub grid_step : ℤ
 grid_step = pos 8
 
+-- both tolerances are under a grid step
 abbrev pub is_too_fine : Settings → Bool
 is_too_fine s = int_lt s.intol grid_step && int_lt s.outtol grid_step
 
@@ -108,6 +109,7 @@ leg_on m side = record {
   axis = axis_of (course_of m);
 }
 
+-- the leg on the side of the stop on which the motion runs
 abbrev pub leg_of : Motion → Leg
 leg_of m = leg_on m (stop_side m)
 

@@ -91,6 +91,7 @@ abbrev pub forward_on : Surface → ℤ → Pt → Dir
 forward_on (surfaces.Line l) sense p = record { dx = sense *ℤ l.dir.dx; dy = sense *ℤ l.dir.dy }
 forward_on (surfaces.Circ c) sense p = record { dx = sense *ℤ neg_ℤ (p.y -ℤ c.c.y); dy = sense *ℤ (p.x -ℤ c.c.x) }
 
+-- behind a move the tool stands there, and forward is its way
 abbrev pub moved : Saying → Position → Saying
 moved s to = record s { position = Some to; forward = forward_to s.position to.xy s.forward }
 
@@ -139,6 +140,7 @@ motion_said s start drive check how = record {
 abbrev pub first_leg : Motion → Due
 first_leg m = record { motion = m; side = stop_side m }
 
+-- the first leg is due behind a check record, where the tool stands somewhere and a drive surface was said
 abbrev pub due_said : Saying → Surface → Stop → Option Due
 due_said s check how = do
   start ← s.position
@@ -149,6 +151,7 @@ due_said s check how = do
 abbrev pub next_leg : Due → List Pt → Due
 next_leg d vertices = record { motion = onward d.motion (last_of d.motion.start.xy vertices); side = opposite d.side }
 
+-- behind a contour record the next leg is due, where one was
 abbrev pub due_behind : Option Due → List Position → Option Due
 due_behind None vertices = None
 due_behind (Some d) vertices = Some (next_leg d (at_points vertices))
@@ -157,6 +160,7 @@ due_behind (Some d) vertices = Some (next_leg d (at_points vertices))
 abbrev pub cut_on : Due → List Pt → Contour
 cut_on d vertices = record { motion = d.motion; side = d.side; vertices = vertices }
 
+-- the leg that a contour record says, where one is due
 abbrev pub contour_said : Option Due → List Position → Option Contour
 contour_said None vertices = None
 contour_said (Some d) vertices = Some (cut_on d (at_points vertices))
@@ -182,6 +186,7 @@ with_contour s vertices =
 
 -- ---- the walk over records
 
+-- units, cutter, tolerances, feed and RAPID as a note says them; the other notes change nothing
 abbrev pub with_note : Saying → Note → Saying
 with_note s (notes.Partno text) = s
 with_note s (notes.Units units) = record s { units = units }
@@ -198,6 +203,7 @@ with_note s notes.OptStop = s
 with_note s notes.End = s
 with_note s notes.Fini = s
 
+-- what is said behind one record more
 abbrev pub with_record : Saying → Record → Saying
 with_record s (records.Statement line step) = s
 with_record s (records.Note note) = with_note s note
@@ -222,6 +228,7 @@ record_contours s (records.Check surface how) = []
 record_contours s (records.Point reach to) = []
 record_contours s (records.Contour vertices) = listed (contour_said s.due vertices)
 
+-- the legs that records say, behind what was said before
 abbrev pub contours_behind : Saying → List Record → List Contour
 contours_behind s [] = []
 contours_behind s (r ∷ rs) = record_contours s r ++ contours_behind (with_record s r) rs

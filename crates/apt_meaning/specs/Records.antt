@@ -36,6 +36,7 @@ change_records changes.Nothing = []
 abbrev pub cut_record : ℤ → List Pt → Record
 cut_record z vertices = records.Contour (map (at_height z) vertices)
 
+-- the records of an effect: a contour has its drive record, its check record, and a contour record for each leg
 abbrev pub effect_records : Effect → List (List Pt) → List Record
 effect_records (effects.Defines n f) cuts = []
 effect_records (effects.Sets change) cuts = change_records change
@@ -47,6 +48,7 @@ abbrev pub with_statement : Step → List Record → List Record
 with_statement step [] = []
 with_statement step (r ∷ rs) = records.Statement step.line step.step ∷ r ∷ rs
 
+-- the records of a step and of what it asks for
 abbrev pub records_of : Step → Effect → List (List Pt) → List Record
 records_of step e cuts = with_statement step (effect_records e cuts)
 
@@ -79,6 +81,7 @@ abbrev pub legs_from : Due → List (List Pt) → List Contour
 legs_from d [] = []
 legs_from d (vertices ∷ cuts) = cut_on d vertices ∷ legs_from (next_leg d vertices) cuts
 
+-- the legs of an effect
 abbrev pub contours_by : Effect → List (List Pt) → List Contour
 contours_by (effects.Defines n f) cuts = []
 contours_by (effects.Sets change) cuts = []

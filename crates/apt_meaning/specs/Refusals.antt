@@ -154,7 +154,7 @@ surface_cases here side go how legs (Some start) (Some drive) None = []
 surface_cases here side go how legs (Some start) None check = []
 surface_cases here side go how legs None drive check = []
 
--- a count of meetings, with what refuses a contour of so many legs
+-- a count of meetings other than 1 and 2 is BadCount; else it is the number of legs, and what refuses a contour of so many
 abbrev pub counted_cases : Option Legs → (Legs → List Row) → List Row
 counted_cases None more = (true, cases.BadCount) ∷ []
 counted_cases (Some legs) more = more legs

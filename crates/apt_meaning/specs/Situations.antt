@@ -16,6 +16,7 @@ use Rattle.apt_meaning.specs.declared.effect.Change.TheVariants as changes
 use Rattle.apt_meaning.specs.declared.situation.Settings.{Settings}
 use Rattle.apt_meaning.specs.declared.situation.Situation.{Situation}
 
+-- what holds at first: inches, a cutter without a radius, on its surfaces, INTOL 0, OUTTOL 50 grid units, and no feed
 abbrev pub first_settings : Settings
 first_settings = record {
   units = the_units.Inch;
@@ -65,6 +66,7 @@ settings_with s notes.OptStop = s
 settings_with s notes.End = s
 settings_with s notes.Fini = s
 
+-- the settings behind what a step sets
 abbrev pub changed : Settings → Change → Settings
 changed s (changes.Said note) = settings_with s note
 changed s (changes.Side side) = record s { side = side }

@@ -8,6 +8,7 @@ use Rattle.apt_block.specs.declared.block.TapeWord.{TapeWord}
 use Rattle.apt_block.specs.Block.{IsBlock}
 use Rattle.apt_post.specs.Blocks.{act_words, numbered, CanWrite}
 
+-- all acts can be written
 abbrev pub CanWriteAll : List Act → Type 0
 CanWriteAll [] = Unit {0}
 CanWriteAll (act ∷ more) = CanWrite act × CanWriteAll more
