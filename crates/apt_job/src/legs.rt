@@ -164,27 +164,6 @@ fn end_of(start: Pt, points: &[Pt]) -> Pt
     last_of(start, points)
 }
 
-/// The job of a leg.
-#[inline(always)]
-fn job_of(
-    alloc: Global,
-    m: &Motion,
-    side: Sign,
-    touching: Option<Axis>,
-    behind: &VertexSlice<'_>,
-) -> Result<Job, AllocError>
-    requires motion { IsMotion m.now }
-    requires touching { touching ≡ axis_of (motions.course_of m.now) }
-    ensures { IfOk result (λ job. job ≡ spec.job_said (record { motion = m.now; side = side; vertices = points_at behind.now })) }
-{
-    let points = points(alloc, m.start, behind)?;
-    Ok(Job {
-        leg: leg_on(m, side, touching),
-        out_sign: out_sign_at(&m.drive, m.drive_side()),
-        points,
-    })
-}
-
 /// Makes the job of a leg. Where the leg ends.
 pub(crate) fn take_leg(
     alloc: Global,
@@ -201,8 +180,12 @@ pub(crate) fn take_leg(
     ensures last { IfOk result (λ p. p ≡ last_of m.now.start.xy (points_at behind.now)) }
     ensures range { IfOk result IsPoint }
 {
-    let job = job_of(alloc, m, side, touching, behind)?;
-    let last = end_of(m.start.xy, &job.points.vertices[1..]);
-    jobs.push(job)?;
+    let points = points(alloc, m.start, behind)?;
+    let last = end_of(m.start.xy, &points.vertices[1..]);
+    jobs.push(Job {
+        leg: leg_on(m, side, touching),
+        out_sign: out_sign_at(&m.drive, m.drive_side()),
+        points,
+    })?;
     Ok(last)
 }

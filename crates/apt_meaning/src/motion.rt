@@ -176,7 +176,10 @@ impl Motion {
         ensures value { result ≡ motions.arc_of self.now }
         ensures range { NoneHolds (refusals.motion_cases self.now) → IfSome result IsArc }
     {
-        self.arc_to(end)
+        match self.drive {
+            Surface::Line(_) => None,
+            Surface::Circ(_) => self.arc_to(end),
+        }
     }
 
     fn arc_to(&self, end: Pt) -> Option<Arc>

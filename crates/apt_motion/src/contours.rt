@@ -78,10 +78,7 @@ pub(crate) fn contour_of(
     let Some(legs) = legs_by(n) else {
         return Err(Case::BadCount);
     };
-    match on_surfaces(here, side, go, start, drive, how, &check) {
-        Ok(motion) => Ok(Contour { motion, legs }),
-        Err(case) => Err(case),
-    }
+    on_surfaces(here, side, go, start, drive, how, &check, legs)
 }
 
 /// A contour on known surfaces.
@@ -94,35 +91,39 @@ fn on_surfaces(
     drive: Surface,
     how: Stop,
     check: &Surface,
-) -> Result<Motion, Case>
+    legs: Legs,
+) -> Result<Contour, Case>
     requires situation { IsSituation here.now }
     requires start { IsPosition start }
     requires drive { IsSurface drive }
     requires check { IsSurface check.now }
-    ensures motion { (legs : Legs) → let s = with_side here.now.settings side in let turned = motions.turn_at here.now start drive go in IsMotionBy legs (first_of (turned_cases legs s start drive turned how check.now)) (cuts legs (motions.if_turned s start drive turned how check.now)) result }
-    ensures range { IfOk result IsMotion }
+    ensures contour { let s = with_side here.now.settings side in let turned = motions.turn_at here.now start drive go in IsContourBy (first_of (turned_cases legs s start drive turned how check.now)) (cuts legs (motions.if_turned s start drive turned how check.now)) result }
+    ensures legs { IfOk result (λ c. c.legs ≡ legs) }
+    ensures range { IfOk result (λ c. IsMotion c.motion) }
 {
     let settings = here.settings.with_side(side);
     let turned = turn_at(here.forward, start, &drive, go);
-    turned_motion(&settings, start, &drive, turned, how, check)
+    turned_contour(&settings, start, &drive, turned, how, check, legs)
 }
 
 /// A contour along a drive surface that runs so against forward.
 #[inline(always)]
-fn turned_motion(
+fn turned_contour(
     settings: &Settings,
     start: Position,
     drive: &Surface,
     turned: Sign,
     how: Stop,
     check: &Surface,
-) -> Result<Motion, Case>
+    legs: Legs,
+) -> Result<Contour, Case>
     requires settings { AreSettings settings.now }
     requires start { IsPosition start }
     requires drive { IsSurface drive.now }
     requires check { IsSurface check.now }
-    ensures motion { (legs : Legs) → IsMotionBy legs (first_of (turned_cases legs settings.now start drive.now turned how check.now)) (cuts legs (motions.if_turned settings.now start drive.now turned how check.now)) result }
-    ensures range { IfOk result IsMotion }
+    ensures contour { IsContourBy (first_of (turned_cases legs settings.now start drive.now turned how check.now)) (cuts legs (motions.if_turned settings.now start drive.now turned how check.now)) result }
+    ensures legs { IfOk result (λ c. c.legs ≡ legs) }
+    ensures range { IfOk result (λ c. IsMotion c.motion) }
 {
     if settings.rapid {
         return Err(Case::RapidContour);
@@ -136,7 +137,10 @@ fn turned_motion(
     if is_zero(turned) {
         return Err(Case::NoTurn);
     }
-    Ok(Motion::along(settings, start, drive, turned, how, check))
+    Ok(Contour {
+        motion: Motion::along(settings, start, drive, turned, how, check),
+        legs,
+    })
 }
 
 /// Where the legs of a contour end.

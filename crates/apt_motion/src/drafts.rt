@@ -39,6 +39,7 @@ impl Draft {
 
 /// The vertices of a leg that are known at once: its end along a line, and none round a circle, whose arc goes behind the
 /// others.
+#[inline(always)]
 pub(crate) fn draw(
     alloc: Global,
     rounds: &mut Vec<Round>,

@@ -133,6 +133,7 @@ pub(crate) fn take(
 }
 
 /// The records of two legs that no case refuses.
+#[inline(never)]
 #[tactic(auto, using(apt_meaning::proofs::Contours::Legs::first_free))]
 fn write_two(
     alloc: Global,
