@@ -141,3 +141,32 @@ head_there bytes h e =
     let a = bind_only (behind_head 0 (codes "APTCL ") bytes) _ h e in
     let is = ap length (head_only 0 (codes "APTCL ") bytes a.0 a.1) in
     omega (arith, is, versioned_there 6 a.0 h a.2)
+
+-- a head is not empty
+pub head_place : (bytes : List ℕ) (h : Head) → head_in bytes ≡ Ok h → 8 ≤ h.at
+head_place bytes h e =
+    let a = bind_only (behind_head 0 (codes "APTCL ") bytes) _ h e in
+    versioned_place 6 a.0 h a.2
+  where
+    numbered_place : (at : ℕ) (bytes : List ℕ) (h : Head) → numbered at bytes ≡ Ok h → at ≤ h.at
+    numbered_place at bytes h e =
+        pick_both (nat_lt (length bytes) 8) _ _ _ (λ short bad. absurd (cc))
+        (λ long is.
+        let it : head (Some (count_in bytes)) (at + 8) (drop 8 bytes) ≡ h = cc in
+        subst (λ (h : Head). at ≤ h.at) it (omega arith))
+        e
+
+    versioned_place : (at : ℕ) (bytes : List ℕ) (h : Head) → versioned at bytes ≡ Ok h → at + 2 ≤ h.at
+    versioned_place at [] h e = absurd (cc)
+    versioned_place at (b ∷ bytes) h e =
+        pick_both (b == 49) _ _ _
+        (λ first e.
+        let a = bind_only (behind_head (at + 1) (10 ∷ []) bytes) _ h e in
+        let it : head None (at + 2) a.0 ≡ h = cc in
+        subst (λ (h : Head). at + 2 ≤ h.at) it (omega arith))
+        (λ other. pick_both (b == 50) _ _ _
+        (λ second e.
+        let a = bind_only (behind_head (at + 1) (10 ∷ []) bytes) _ h e in
+        numbered_place (at + 2) a.0 h a.2)
+        (λ none bad. absurd (cc)))
+        e
