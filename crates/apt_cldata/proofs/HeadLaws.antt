@@ -1,14 +1,12 @@
 -- The head of a file is read as what was written, in either version, and only as that.
-use Rattle.std.proofs.Common.{◌≡◌, ℕ, ◌+◌, ◌^◌, ◌≤◌, ◌<◌, ◌==◌, nat_lt, Bool, true, false, cond, Option, Some, None, List, [], ◌∷◌, ◌++◌, length, take, drop, Ok, Err, refl, ap, sym, ◌∙◌, subst, arith, take-append-drop}
+use Rattle.std.proofs.Common.{◌≡◌, ℕ, ◌+◌, ◌^◌, ◌≤◌, ◌<◌, ◌==◌, nat_lt, false, cond, Option, Some, None, List, [], ◌∷◌, ◌++◌, length, take, drop, Ok, Err, refl, ap, sym, ◌∙◌, subst, arith, take-append-drop}
 use Rattle.std.specs.Prelude.{codes}
 use Rattle.std.specs.Int.{w64, to_be_bytes, from_be_bytes}
 use Rattle.std.proofs.lemmas.Bool.Decides.{nat_tests}
 use Rattle.std.proofs.lemmas.List.{length-append, length-drop, length-take-le, take_at, drop_at}
 use Rattle.std.proofs.lemmas.Nat.{from_be_bytes-to_be_bytes_8, be_bytes_8}
-use Rattle.apt_cldata.specs.declared.error.ClCause.TheVariants as causes
-use Rattle.apt_cldata.specs.Fields.{◌>>=◌}
 use Rattle.apt_cldata.specs.Files.{count_bytes, head_of}
-use Rattle.apt_cldata.specs.Reading.{fault, cut_short, behind_head, Head, head, count_in, numbered, versioned, head_in}
+use Rattle.apt_cldata.specs.Reading.{cut_short, behind_head, Head, head, count_in, numbered, versioned, head_in}
 use Rattle.apt_cldata.proofs.FieldLaws.{bind_only, equal_test, pick, pick_both}
 use Rattle.apt_cldata.proofs.ByteLaws.{AreBytes, bytes_behind, bytes_in_front}
 

@@ -1,5 +1,5 @@
 -- Where a head is cut short.
-use Rattle.std.proofs.Common.{◌≡◌, ℕ, ◌+◌, ◌≤◌, ◌<◌, List, [], ◌∷◌, length, drop, Err, refl, ap, ◌∙◌, arith}
+use Rattle.std.proofs.Common.{◌≡◌, ℕ, ◌≤◌, ◌<◌, List, [], ◌∷◌, length, drop, Err, refl, ap, ◌∙◌, arith}
 use Rattle.std.proofs.lemmas.List.{nil_from_length, length-drop}
 use Rattle.apt_cldata.specs.declared.error.ClCause.TheVariants as causes
 use Rattle.apt_cldata.specs.Reading.{fault, behind_head}

@@ -14,7 +14,7 @@ use Rattle.apt_cldata.specs.Reading.{fault, Piece, piece, first_of, last_of, rec
 use Rattle.apt_cldata.proofs.FieldLaws.{bind_only, equal_test, pick, pick_both}
 use Rattle.apt_cldata.proofs.RecordLaws.{bind_again, triples_length}
 use Rattle.apt_cldata.proofs.ByteLaws.{AreBytes}
-use Rattle.apt_cldata.proofs.HeadLaws.{HeadBy, HasHead, second_head, first_head, head_in_only, behind_count}
+use Rattle.apt_cldata.proofs.HeadLaws.{HeadBy, second_head, first_head, head_in_only, behind_count}
 use Rattle.apt_cldata.proofs.PieceLaws.{framed_length, piece_again, piece_only, records_apart}
 
 -- ---- records
@@ -73,6 +73,11 @@ first_file_again rs is =
     let rest = records_bytes 1 rs in
     let long : length rest < length all = omega (arith, length-append (codes "APTCL 1\n") rest) in
     bind_again (head_in all) (λ h. records_from (length all) 1 h.at h.rest >>= λ rs. counted h.number rs) (head None 8 rest) (Ok rs) (first_head rest) (behind_again 8 all None rs is long refl)
+
+-- a file of either version is read as its records
+pub each_again : (bytes : List ℕ) (rs : List Record) → IsFile rs → IsFileOf rs bytes → read_of bytes ≡ Ok rs
+each_again bytes rs is (inl second) = ap read_of second ∙ file_again rs is
+each_again bytes rs is (inr first) = ap read_of first ∙ first_file_again rs is
 
 pub file_apart : (rs : List Record) → IsFile rs → StandApart 1 rs (drop 16 (file_of rs))
 file_apart rs is = subst (StandApart 1 rs) (sym (behind_count (length rs) (records_bytes 1 rs))) (records_apart 1 rs is.ranges is.short (omega (arith, is.numbers)))

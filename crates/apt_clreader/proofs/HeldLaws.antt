@@ -1,24 +1,24 @@
 -- The head of a file, and what a reader has read.
-use Rattle.std.proofs.Common.{◌≡◌, ℕ, suc, ◌+◌, ◌≤◌, ◌==◌, nat_lt, nat_le, Bool, true, false, cond, Option, Some, None, List, [], ◌∷◌, ◌++◌, length, take, drop, Result, Ok, Err, refl, ap, sym, ◌∙◌, subst, arith, append_assoc}
+use Rattle.std.proofs.Common.{◌≡◌, ℕ, suc, ◌+◌, ◌≤◌, ◌==◌, nat_lt, nat_le, Bool, true, false, cond, Option, Some, None, List, [], ◌∷◌, ◌++◌, length, Result, Ok, Err, refl, ap, sym, ◌∙◌, subst, arith, append_assoc}
 use Rattle.std.specs.Prelude.{codes}
 use Rattle.std.specs.Int.{w64, from_be_bytes}
 use Rattle.std.specs.List.{starts_with}
 use Rattle.std.proofs.lemmas.Bool.Decides.{nat_tests}
 use Rattle.std.proofs.lemmas.List.{length-append, take-append-le, drop-append-le, append-nil}
-use Rattle.apt_words.specs.Answers.{IsFault, IsDueAs}
+use Rattle.apt_words.specs.Answers.{IsFault}
 use Rattle.apt_cldata.specs.declared.error.ClCause.TheVariants as causes
 use Rattle.apt_cldata.specs.declared.error.ClError.{ClError}
 use Rattle.apt_cldata.specs.declared.error.ClError.TheVariants as errors
 use Rattle.apt_cldata.specs.declared.record.Record.{Record}
 use Rattle.apt_cldata.specs.Fields.{◌>>=◌}
-use Rattle.apt_cldata.specs.Reading.{fault, fault_in, cut_short, first_of, records_from, behind_head, Head, head, count_in, numbered, versioned, head_in, counted, read_of}
+use Rattle.apt_cldata.specs.Reading.{fault, fault_in, first_of, records_from, behind_head, Head, head, count_in, numbered, versioned, head_in, counted, read_of}
 use Rattle.apt_clreader.specs.declared.state.Part.{Part}
 use Rattle.apt_clreader.specs.declared.state.Part.TheVariants as parts
 use Rattle.apt_clreader.specs.declared.state.ClReader.{ClReader}
 use Rattle.apt_clreader.specs.Begun.{Fault, has_head, IsBegun}
 use Rattle.apt_clreader.specs.Pieces.{behind, comes_to, StandsFor, HasRead}
 use Rattle.apt_clreader.specs.Steps.{Agree, Fails, GoesOn}
-use Rattle.apt_cldata.proofs.FieldLaws.{bind_only, equal_test, pick, pick_both}
+use Rattle.apt_cldata.proofs.FieldLaws.{bind_only, equal_test, pick_both}
 use Rattle.apt_cldata.proofs.HeadLaws.{head_only, head_there, head_place}
 use Rattle.apt_clreader.proofs.StepLaws.{same_fuel, first_is_fault, agree_fails}
 

@@ -324,7 +324,7 @@ fn drop_front(alloc: Global, held: &mut Vec<u8>, n: usize) -> Result<(), AllocEr
     Ok(())
 }
 
-/// The records of a CL file.
+/// The records of a CL file, which has one of the two versions.
 ///
 /// # Errors
 ///
@@ -333,6 +333,7 @@ fn drop_front(alloc: Global, held: &mut Vec<u8>, n: usize) -> Result<(), AllocEr
 pub fn read(alloc: Global, bytes: &[u8]) -> Result<Vec<Record>, ClError>
     requires { length bytes.now < 2 ^ 63 }
     ensures value { IsDueAs (λ v. v.items) fault_in (read_of bytes.now) result }
+    ensures all { (rs : List Record) → IsFile rs → IsFileOf rs bytes.now → IsDueAs (λ v. v.items) fault_in (Ok rs) result }
     ensures bytes { IfOk result (λ v. IsFileOf v.items bytes.now) }
     ensures file { IfOk result (λ v. IsFile v.items) }
     ensures few { IfOk result (λ v. vertex_count v.items + length v.items ≤ length bytes.now) }
