@@ -37,7 +37,8 @@ PUNCHED = {code: bytes.maketrans(CHARACTERS.encode(), bytes(row.values())) for c
 SENSED = {code: bytes.maketrans(bytes(row.values()), CHARACTERS.encode()) for code, row in CODES.items()}
 DROPPED = {code: bytes(set(range(256)) - set(row.values())) for code, row in CODES.items()}
 
-CL_HEAD = b"APTCL 1\n"
+# how a CL file begins; the number of its records stands behind it, in eight bytes
+CL_HEAD = b"APTCL 2\n"
 
 
 def program_of(path):
@@ -83,9 +84,15 @@ def sense(tape, code):
     return tape.translate(SENSED[code], DROPPED[code]).decode("ascii")
 
 
+def cl_head(count):
+    """The head of a CL file of so many records."""
+    return CL_HEAD + struct.pack(">Q", count)
+
+
 def cl_file(records):
     """The CL file of these records, each a list of its words from the sequence number on."""
-    return CL_HEAD + b"".join(struct.pack(">I", 8 * len(words)) + struct.pack(f">{len(words)}q", *words) for words in records)
+    parts = [struct.pack(">I", 8 * len(words)) + struct.pack(f">{len(words)}q", *words) for words in records]
+    return cl_head(len(parts)) + b"".join(parts)
 
 
 def row_files(rows, title):

@@ -8,6 +8,6 @@ no_more : (at : ℕ) (hs : List ℕ) → 0 < length hs → behind_head at hs [] 
 no_more at [] some = absurd (omega arith)
 no_more at (h ∷ hs) some = refl
 
-pub head_cut_short : (i : ℕ) (head bytes : List ℕ) → i < length head → length bytes ≤ i → behind_head i (drop i head) (drop i bytes) ≡ Err (fault i causes.Truncated)
-head_cut_short i head bytes some short =
-    ap (behind_head i (drop i head)) (nil_from_length (drop i bytes) (omega (arith, length-drop i bytes))) ∙ no_more i (drop i head) (omega (arith, length-drop i head))
+pub head_cut_short : (at i : ℕ) (due bytes : List ℕ) → i < length due → length bytes ≤ i → behind_head at (drop i due) (drop i bytes) ≡ Err (fault at causes.Truncated)
+head_cut_short at i due bytes some short =
+    ap (behind_head at (drop i due)) (nil_from_length (drop i bytes) (omega (arith, length-drop i bytes))) ∙ no_more at (drop i due) (omega (arith, length-drop i due))

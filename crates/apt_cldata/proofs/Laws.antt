@@ -1,5 +1,6 @@
 -- A file is read as what was written, and only as that.
-use Rattle.std.proofs.Common.{◌≡◌, ℕ, zero, suc, ◌+◌, ◌^◌, ◌≤◌, ◌<◌, ◌==◌, Bool, true, false, MatchBool, pos, List, [], ◌∷◌, ◌++◌, length, get_or, drop, cond, Ok, Err, refl, ap, sym, ◌∙◌, subst, arith}
+use Rattle.std.proofs.Common.{◌≡◌, ℕ, zero, suc, ◌+◌, ◌^◌, ◌≤◌, ◌<◌, ◌==◌, Bool, true, false, MatchBool, pos, List, [], ◌∷◌, ◌++◌, length, get_or, drop, cond, Option, Some, None, Ok, Err, inl, inr, refl, ap, sym, ◌∙◌, subst, arith}
+use Rattle.std.specs.Prelude.{codes}
 use Rattle.std.proofs.lemmas.Bool.Decides.{nat_tests}
 use Rattle.std.proofs.lemmas.List.{length-append, nil_from_length}
 use Rattle.apt_cldata.specs.declared.error.ClCause.TheVariants as causes
@@ -8,27 +9,13 @@ use Rattle.apt_cldata.specs.declared.record.Record.TheVariants as records
 use Rattle.apt_cldata.specs.Ranges.{vertices_in, vertex_count, AreRecords}
 use Rattle.apt_cldata.specs.Words.{words_of}
 use Rattle.apt_cldata.specs.Fields.{◌>>=◌}
-use Rattle.apt_cldata.specs.Files.{head, record_bytes, records_bytes, file_of, is_fini, HasFiniLast, AreShort, IsFile, StandApart}
-use Rattle.apt_cldata.specs.Reading.{fault, Piece, piece, first_of, last_of, records_from, behind_head, read_of}
+use Rattle.apt_cldata.specs.Files.{record_bytes, records_bytes, head_of, file_of, first_file_of, IsFileOf, is_fini, HasFiniLast, AreShort, IsFile, StandApart}
+use Rattle.apt_cldata.specs.Reading.{fault, Piece, piece, first_of, last_of, records_from, head, head_in, counted, read_of}
 use Rattle.apt_cldata.proofs.FieldLaws.{bind_only, equal_test, pick, pick_both}
 use Rattle.apt_cldata.proofs.RecordLaws.{bind_again, triples_length}
-use Rattle.apt_cldata.proofs.ByteLaws.{AreBytes, bytes_behind}
+use Rattle.apt_cldata.proofs.ByteLaws.{AreBytes}
+use Rattle.apt_cldata.proofs.HeadLaws.{HeadBy, second_head, first_head, head_in_only, behind_count}
 use Rattle.apt_cldata.proofs.PieceLaws.{framed_length, piece_again, piece_only, records_apart}
-
--- ---- heads
-
-head_again : (at : ℕ) (hs rest : List ℕ) → behind_head at hs (hs ++ rest) ≡ Ok rest
-head_again at [] rest = refl
-head_again at (h ∷ hs) rest = ap (λ b. cond b (behind_head (at + 1) hs (hs ++ rest)) (Err (fault at causes.Header))) (same h) ∙ head_again (at + 1) hs rest
-  where
-    same : (h : ℕ) → (h == h) ≡ true
-    same h = grind (arith, nat_tests)
-
-head_only : (at : ℕ) (hs bytes rest : List ℕ) → behind_head at hs bytes ≡ Ok rest → bytes ≡ hs ++ rest
-head_only at [] bytes rest e = cc
-head_only at (h ∷ hs) [] rest e = absurd (cc)
-head_only at (h ∷ hs) (b ∷ bytes) rest e =
-    pick (b == h) _ _ _ (λ is e. (λ i. equal_test b h is i ∷ head_only (at + 1) hs bytes rest e i)) (λ bad. absurd (cc)) e
 
 -- ---- records
 
@@ -60,14 +47,42 @@ records_again (suc fuel) seq at (r ∷ rs) are last short few enough =
     = λ last. records_again fuel (seq + 1) next rs are.1 last short.1 (omega arith) (omega (arith, some_bytes seq r rest)) in
     bind_again (first_of seq at (record_bytes seq r ++ rest)) _ (piece r next rest) (Ok (r ∷ rs)) (piece_again seq at r rest are.0 short.0 (omega arith)) (next_again fuel seq next r rs more (is_fini r) refl last)
 
+-- ---- a file that was written is read
+
+behind_again : (n : ℕ) (all : List ℕ) (o : Option ℕ) (rs : List Record) → IsFile rs → length (records_bytes 1 rs) < length all → counted o rs ≡ Ok rs
+    → (records_from (length all) 1 n (records_bytes 1 rs) >>= λ rs. counted o rs) ≡ Ok rs
+behind_again n all o rs is long same =
+    bind_again (records_from (length all) 1 n (records_bytes 1 rs)) (λ rs. counted o rs) rs (Ok rs) (records_again (length all) 1 n rs is.ranges is.last is.short (omega (arith, is.numbers)) long) same
+
 pub file_again : (rs : List Record) → IsFile rs → read_of (file_of rs) ≡ Ok rs
 unfolding read_of
 file_again rs is =
-    bind_again (behind_head 0 head (file_of rs)) (records_from (length (file_of rs)) 1 (length head)) (records_bytes 1 rs) (Ok rs) (head_again 0 head (records_bytes 1 rs))
-    (records_again (length (file_of rs)) 1 (length head) rs is.ranges is.last is.short (omega (arith, is.numbers)) (omega (arith, length-append head (records_bytes 1 rs))))
+    let all = file_of rs in
+    let rest = records_bytes 1 rs in
+    let long : length rest < length all = omega (arith, length-append (head_of (length rs)) rest) in
+    bind_again (head_in all) (λ h. records_from (length all) 1 h.at h.rest >>= λ rs. counted h.number rs) (head (Some (length rs)) 16 rest) (Ok rs) (second_head (length rs) rest (omega (arith, is.numbers)))
+    (behind_again 16 all (Some (length rs)) rs is long (ap (λ t. cond t (Ok rs) (Err (fault 8 causes.Count))) (same (length rs))))
+  where
+    same : (n : ℕ) → (n == n) ≡ true
+    same n = grind (arith, nat_tests)
 
-pub file_apart : (rs : List Record) → IsFile rs → StandApart 1 rs (drop (length head) (file_of rs))
-file_apart rs is = records_apart 1 rs is.ranges is.short (omega (arith, is.numbers))
+pub first_file_again : (rs : List Record) → IsFile rs → read_of (first_file_of rs) ≡ Ok rs
+unfolding read_of
+first_file_again rs is =
+    let all = first_file_of rs in
+    let rest = records_bytes 1 rs in
+    let long : length rest < length all = omega (arith, length-append (codes "APTCL 1\n") rest) in
+    bind_again (head_in all) (λ h. records_from (length all) 1 h.at h.rest >>= λ rs. counted h.number rs) (head None 8 rest) (Ok rs) (first_head rest) (behind_again 8 all None rs is long refl)
+
+-- a file of either version is read as its records
+pub each_again : (bytes : List ℕ) (rs : List Record) → IsFile rs → IsFileOf rs bytes → read_of bytes ≡ Ok rs
+each_again bytes rs is (inl second) = ap read_of second ∙ file_again rs is
+each_again bytes rs is (inr first) = ap read_of first ∙ first_file_again rs is
+
+pub file_apart : (rs : List Record) → IsFile rs → StandApart 1 rs (drop 16 (file_of rs))
+file_apart rs is = subst (StandApart 1 rs) (sym (behind_count (length rs) (records_bytes 1 rs))) (records_apart 1 rs is.ranges is.short (omega (arith, is.numbers)))
+
+-- ---- only a file that was written is read
 
 record AreRead (seq : ℕ) (bytes : List ℕ) (rs : List Record) : Type 0 where
   written : bytes ≡ records_bytes seq rs
@@ -110,16 +125,30 @@ records_only (suc fuel) seq at bytes rs small e =
     }))
     a.2
 
-pub read_only : (bytes : List ℕ) (rs : List Record) → AreBytes bytes → read_of bytes ≡ Ok rs → (bytes ≡ file_of rs) × IsFile rs
+counted_only : (o : Option ℕ) (rs ss : List Record) (bytes rest : List ℕ) → counted o rs ≡ Ok ss → HeadBy bytes rest o → rest ≡ records_bytes 1 rs → (rs ≡ ss) × IsFileOf ss bytes
+counted_only None rs ss bytes rest e head is =
+    let it : rs ≡ ss = cc in
+    (it, inr (head ∙ ap (λ r. codes "APTCL 1\n" ++ r) is ∙ ap first_file_of it))
+counted_only (Some n) rs ss bytes rest e head is =
+    pick (n == length rs) _ _ _
+    (λ many same.
+    let it : rs ≡ ss = cc in
+    (it, inl (head ∙ (λ i. head_of (equal_test n (length rs) many i) ++ is i) ∙ ap file_of it)))
+    (λ bad. absurd (cc))
+    e
+
+-- a file that is read is that of its records, in one of the versions
+pub read_only : (bytes : List ℕ) (rs : List Record) → AreBytes bytes → read_of bytes ≡ Ok rs → IsFileOf rs bytes × IsFile rs
 unfolding read_of
 read_only bytes rs small e =
-    let a = bind_only (behind_head 0 head bytes) _ rs e in
-    let is = head_only 0 head bytes a.0 a.1 in
-    let rest_small : AreBytes a.0 = subst AreBytes (ap (drop 8) is) (bytes_behind 8 bytes small) in
-    let k = records_only (length bytes) 1 (length head) a.0 rs rest_small a.2 in
-    (is ∙ ap (λ rest. head ++ rest) k.written, record { ranges = k.ranges; last = k.last; short = k.short; numbers = omega (arith, k.few) })
+    let a = bind_only (head_in bytes) _ rs e in
+    let h = head_in_only bytes a.0 small a.1 in
+    let b = bind_only (records_from (length bytes) 1 a.0.at a.0.rest) _ rs a.2 in
+    let k = records_only (length bytes) 1 a.0.at a.0.rest b.0 h.small b.1 in
+    let c = counted_only a.0.number b.0 rs bytes a.0.rest b.2 h.written k.written in
+    (c.1, subst IsFile c.0 (record { ranges = k.ranges; last = k.last; short = k.short; numbers = omega (arith, k.few) }))
 
-pub read_gives_bytes : (bytes : List ℕ) (rs : List Record) → ((i : ℕ) → get_or bytes i 0 < 256) → read_of bytes ≡ Ok rs → bytes ≡ file_of rs
+pub read_gives_bytes : (bytes : List ℕ) (rs : List Record) → ((i : ℕ) → get_or bytes i 0 < 256) → read_of bytes ≡ Ok rs → IsFileOf rs bytes
 read_gives_bytes bytes rs small is = (read_only bytes rs (record { small = small }) is).0
 
 pub read_gives_file : (bytes : List ℕ) (rs : List Record) → ((i : ℕ) → get_or bytes i 0 < 256) → read_of bytes ≡ Ok rs → IsFile rs
@@ -142,7 +171,13 @@ records_long seq (r ∷ rs) =
 
 -- there are fewer records and vertices than bytes
 pub file_long : (rs : List Record) → vertex_count rs + length rs ≤ length (file_of rs)
-file_long rs = omega (arith, length-append head (records_bytes 1 rs), records_long 1 rs)
+file_long rs = omega (arith, length-append (head_of (length rs)) (records_bytes 1 rs), records_long 1 rs)
+
+first_file_long : (rs : List Record) → vertex_count rs + length rs ≤ length (first_file_of rs)
+first_file_long rs = omega (arith, length-append (codes "APTCL 1\n") (records_bytes 1 rs), records_long 1 rs)
 
 pub read_gives_few : (bytes : List ℕ) (rs : List Record) → ((i : ℕ) → get_or bytes i 0 < 256) → read_of bytes ≡ Ok rs → vertex_count rs + length rs ≤ length bytes
-read_gives_few bytes rs small is = subst (λ b. vertex_count rs + length rs ≤ length b) (sym (read_gives_bytes bytes rs small is)) (file_long rs)
+read_gives_few bytes rs small is = elim (read_gives_bytes bytes rs small is) [
+  | inl second ↦ subst (λ b. vertex_count rs + length rs ≤ length b) (sym second) (file_long rs)
+  | inr first ↦ subst (λ b. vertex_count rs + length rs ≤ length b) (sym first) (first_file_long rs)
+]

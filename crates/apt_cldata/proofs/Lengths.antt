@@ -3,7 +3,8 @@ use Rattle.std.proofs.Common.{◌≡◌, ℕ, ◌+◌, ◌*◌, pos, List, [], �
 use Rattle.std.proofs.lemmas.List.{length-append}
 use Rattle.apt_cldata.specs.declared.record.Record.{Record}
 use Rattle.apt_cldata.specs.Words.{words_of}
-use Rattle.apt_cldata.specs.Files.{head, record_bytes, records_bytes, file_of}
+use Rattle.apt_cldata.specs.Files.{head_of, record_bytes, records_bytes, file_of}
+use Rattle.apt_cldata.proofs.HeadLaws.{count_length}
 use Rattle.apt_cldata.proofs.PieceLaws.{framed_length}
 
 -- the bytes of a record: four for its length, and eight for its number and for each of its words
@@ -23,5 +24,5 @@ records_length seq [] = refl
 records_length seq (r ∷ rs) =
     omega (arith, length-append (record_bytes seq r) (records_bytes (seq + 1) rs), framed_length (pos seq ∷ words_of r), records_length (seq + 1) rs)
 
-pub file_length : (rs : List Record) → length (file_of rs) ≡ 8 + bytes_of rs
-file_length rs = omega (arith, length-append head (records_bytes 1 rs), records_length 1 rs)
+pub file_length : (rs : List Record) → length (file_of rs) ≡ 16 + bytes_of rs
+file_length rs = omega (arith, length-append (head_of (length rs)) (records_bytes 1 rs), count_length (length rs), records_length 1 rs)

@@ -8,6 +8,7 @@ pub mod Stands
 pub mod Heads
 pub mod Pieces
 pub mod VertexBytes
+pub mod HeadLaws
 pub mod Laws
 pub mod Left
 pub mod Conditions

@@ -6,8 +6,8 @@ use Rattle.apt_cldata.specs.declared.record.Note.TheVariants as notes
 use Rattle.apt_cldata.specs.declared.record.Record.{Record}
 use Rattle.apt_cldata.specs.declared.record.Record.TheVariants as records
 use Rattle.apt_cldata.specs.Records.{record_of}
-use Rattle.apt_cldata.specs.Files.{length_bytes, word_bytes, file_of}
-use Rattle.apt_cldata.specs.Reading.{fault, length_in, word_in, length_of, record_in, said_by, first_of, records_from, read_of}
+use Rattle.apt_cldata.specs.Files.{count_bytes, length_bytes, word_bytes, file_of}
+use Rattle.apt_cldata.specs.Reading.{fault, count_in, length_in, word_in, length_of, record_in, said_by, first_of, records_from, read_of}
 use Rattle.apt_plane.specs.declared.figures.Surface.{Surface}
 use Rattle.apt_plane.specs.declared.figures.Surface.TheVariants as surfaces
 use Rattle.apt_words.specs.declared.Cool.TheVariants as cools
@@ -22,10 +22,13 @@ use Rattle.apt_cldata.specs.Words.{note_words, words_of}
 abbrev sample : List Record
 sample = records.Statement 1 1 ∷ records.Note (notes.Partno (codes "A")) ∷ records.Note notes.Fini ∷ []
 
-abbrev front : List ℕ
-front =
-    65 ∷ 80 ∷ 84 ∷ 67 ∷ 76 ∷ 32 ∷ 49 ∷ 10
-    ∷ 0 ∷ 0 ∷ 0 ∷ 40
+-- the head of so many records
+abbrev head : ℕ → List ℕ
+head n = 65 ∷ 80 ∷ 84 ∷ 67 ∷ 76 ∷ 32 ∷ 50 ∷ 10 ∷ 0 ∷ 0 ∷ 0 ∷ 0 ∷ 0 ∷ 0 ∷ 0 ∷ n ∷ []
+
+abbrev start : List ℕ
+start =
+    0 ∷ 0 ∷ 0 ∷ 40
     ∷ 0 ∷ 0 ∷ 0 ∷ 0 ∷ 0 ∷ 0 ∷ 0 ∷ 1
     ∷ 0 ∷ 0 ∷ 0 ∷ 0 ∷ 0 ∷ 0 ∷ 3 ∷ 232
     ∷ 0 ∷ 0 ∷ 0 ∷ 0 ∷ 0 ∷ 0 ∷ 0 ∷ 0
@@ -50,34 +53,70 @@ end =
     ∷ 0 ∷ 0 ∷ 0 ∷ 0 ∷ 0 ∷ 0 ∷ 0 ∷ 0
     ∷ []
 
-written : file_of sample ≡ front ++ middle 65 ++ end
-unfolding length_bytes word_bytes
+written : file_of sample ≡ head 3 ++ start ++ middle 65 ++ end
+unfolding count_bytes length_bytes word_bytes
 written = refl
 
-read : read_of (front ++ middle 65 ++ end) ≡ Ok sample
-unfolding read_of records_from first_of length_of said_by record_in record_of length_in word_in
+read : read_of (head 3 ++ start ++ middle 65 ++ end) ≡ Ok sample
+unfolding read_of count_in records_from first_of length_of said_by record_in record_of length_in word_in
 read = refl
 
+-- a file of version 1
+first_read : read_of (codes "APTCL 1\n" ++ start ++ middle 65 ++ end) ≡ Ok sample
+unfolding read_of count_in records_from first_of length_of said_by record_in record_of length_in word_in
+first_read = refl
+
 -- a byte of the text that is no character, and a record numbered 3 where 2 is due
-no_character : read_of (front ++ middle 31 ++ end) ≡ Err (fault 80 causes.Range)
-unfolding read_of records_from first_of length_of said_by record_in record_of length_in word_in
+no_character : read_of (head 3 ++ start ++ middle 31 ++ end) ≡ Err (fault 88 causes.Range)
+unfolding read_of count_in records_from first_of length_of said_by record_in record_of length_in word_in
 no_character = refl
 
-wrong_number : read_of (front ++ end) ≡ Err (fault 56 causes.Seq)
-unfolding read_of records_from first_of length_of said_by record_in record_of length_in word_in
+wrong_number : read_of (head 2 ++ start ++ end) ≡ Err (fault 64 causes.Seq)
+unfolding read_of count_in records_from first_of length_of said_by record_in record_of length_in word_in
 wrong_number = refl
 
-no_end : read_of (front ++ middle 65) ≡ Err (fault 88 causes.Truncated)
-unfolding read_of records_from first_of length_of said_by record_in record_of length_in word_in
+no_end : read_of (head 3 ++ start ++ middle 65) ≡ Err (fault 96 causes.Truncated)
+unfolding read_of count_in records_from first_of length_of said_by record_in record_of length_in word_in
 no_end = refl
 
-behind_the_end : read_of (front ++ middle 65 ++ end ++ 0 ∷ []) ≡ Err (fault 116 causes.AfterFini)
-unfolding read_of records_from first_of length_of said_by record_in record_of length_in word_in
+behind_the_end : read_of (head 3 ++ start ++ middle 65 ++ end ++ 0 ∷ []) ≡ Err (fault 124 causes.AfterFini)
+unfolding read_of count_in records_from first_of length_of said_by record_in record_of length_in word_in
 behind_the_end = refl
 
-other_head : read_of (codes "APTCL 2\n") ≡ Err (fault 6 causes.Header)
+-- ---- heads
+
+other_version : read_of (codes "APTCL 3\n") ≡ Err (fault 6 causes.Header)
 unfolding read_of
-other_head = refl
+other_version = refl
+
+blank_for_line_end : read_of (codes "APTCL 2 ") ≡ Err (fault 7 causes.Header)
+unfolding read_of
+blank_for_line_end = refl
+
+first_without_line_end : read_of (codes "APTCL 1 ") ≡ Err (fault 7 causes.Header)
+unfolding read_of
+first_without_line_end = refl
+
+cut_before_number : read_of (codes "APTCL 2\n") ≡ Err (fault 8 causes.Truncated)
+unfolding read_of
+cut_before_number = refl
+
+cut_in_number : read_of (codes "APTCL 2\n" ++ 0 ∷ 0 ∷ 0 ∷ 0 ∷ 0 ∷ 0 ∷ 0 ∷ []) ≡ Err (fault 15 causes.Truncated)
+unfolding read_of
+cut_in_number = refl
+
+no_records : read_of (head 0) ≡ Err (fault 16 causes.Truncated)
+unfolding read_of count_in records_from first_of length_of said_by record_in record_of length_in word_in
+no_records = refl
+
+-- the head tells 4 records: that is told last
+other_count : read_of (head 4 ++ start ++ middle 65 ++ end) ≡ Err (fault 8 causes.Count)
+unfolding read_of count_in records_from first_of length_of said_by record_in record_of length_in word_in
+other_count = refl
+
+other_count_and_more : read_of (head 4 ++ start ++ middle 65 ++ end ++ 0 ∷ []) ≡ Err (fault 124 causes.AfterFini)
+unfolding read_of count_in records_from first_of length_of said_by record_in record_of length_in word_in
+other_count_and_more = refl
 
 -- ---- the words of each kind of record
 

@@ -1,5 +1,5 @@
 -- The bytes of a CL file: its head, and its records one behind the other.
-use Rattle.std.specs.Prelude.{◌≡◌, ℕ, ◌+◌, ◌*◌, ◌^◌, ◌<◌, ◌≤◌, ℤ, pos, Bool, true, false, List, [], ◌∷◌, ◌++◌, length, drop, MatchBool, codes}
+use Rattle.std.specs.Prelude.{◌≡◌, ◌⊎◌, ℕ, ◌+◌, ◌*◌, ◌^◌, ◌<◌, ◌≤◌, ℤ, pos, Bool, true, false, List, [], ◌∷◌, ◌++◌, length, drop, MatchBool, codes}
 use Rattle.std.specs.List.{flat_map}
 use Rattle.std.specs.Int.{w32, w64, to_be_bytes, cast_unsigned}
 use Rattle.apt_cldata.specs.declared.record.Record.{Record}
@@ -57,11 +57,25 @@ StandApart seq (r ∷ rs) bytes = BeginsAlone seq r bytes × StandApart (seq + 1
 
 -- ---- files
 
-abbrev pub head : List ℕ
-head = codes "APTCL 1\n"
+-- a number of records is eight bytes, the highest first
+unfoldable pub count_bytes : ℕ → List ℕ
+count_bytes n = to_be_bytes w64 n
 
+-- the head of a file of so many records, in version 2
+abbrev pub head_of : ℕ → List ℕ
+head_of n = codes "APTCL 2\n" ++ count_bytes n
+
+-- the file of records: its head, and the records one behind the other
 abbrev pub file_of : List Record → List ℕ
-file_of rs = head ++ records_bytes 1 rs
+file_of rs = head_of (length rs) ++ records_bytes 1 rs
+
+-- the same in version 1, whose head tells no number
+abbrev pub first_file_of : List Record → List ℕ
+first_file_of rs = codes "APTCL 1\n" ++ records_bytes 1 rs
+
+-- bytes that are the file of records in one of the versions
+abbrev pub IsFileOf : List Record → List ℕ → Type 0
+IsFileOf rs bytes = (bytes ≡ file_of rs) ⊎ (bytes ≡ first_file_of rs)
 
 abbrev pub is_fini_mark : Mark → Bool
 is_fini_mark Begin = false

@@ -1,5 +1,5 @@
 -- How a CL file is read: its records, or the first place that can't stand, with its cause.
-use Rattle.std.specs.Prelude.{ℕ, zero, suc, ◌+◌, ◌-◌, ◌*◌, ◌/◌, ◌%◌, ℤ, pos, nat_lt, nat_le, ◌==◌, not, ◌&&◌, Bool, List, [], ◌∷◌, length, take, drop, Result, Ok, Err, if◌then◌else◌, Option, Some, None}
+use Rattle.std.specs.Prelude.{ℕ, zero, suc, ◌+◌, ◌-◌, ◌*◌, ◌/◌, ◌%◌, ℤ, pos, nat_lt, nat_le, ◌==◌, not, ◌&&◌, Bool, List, [], ◌∷◌, length, take, drop, codes, Result, Ok, Err, if◌then◌else◌, Option, Some, None}
 use Rattle.std.specs.Int.{w32, w64, from_be_bytes, cast_signed}
 use Rattle.std.specs.Ordering.{int_eq}
 use Rattle.apt_cldata.specs.declared.error.ClCause.{ClCause}
@@ -12,7 +12,7 @@ use Rattle.apt_cldata.specs.declared.fields.Misfit.TheVariants as misfits
 use Rattle.apt_cldata.specs.declared.record.Record.{Record}
 use Rattle.apt_cldata.specs.Fields.{◌>>=◌}
 use Rattle.apt_cldata.specs.Records.{record_of}
-use Rattle.apt_cldata.specs.Files.{most_bytes, head, is_fini}
+use Rattle.apt_cldata.specs.Files.{most_bytes, is_fini}
 
 abbrev pub fault : ℕ → ClCause → ClFault
 fault at cause = record { at = at; cause = cause }
@@ -106,15 +106,53 @@ records_from (suc fuel) seq at bytes =
     first_of seq at bytes >>= λ p.
     if is_fini p.said then last_of p else (records_from fuel (seq + 1) p.at p.rest >>= λ rs. Ok (p.said ∷ rs))
 
--- the bytes behind a head, from a place in it on
+-- ---- the head
+
+-- the bytes behind some that are due, from a place on
 abbrev pub behind_head : ℕ → List ℕ → List ℕ → Result (List ℕ) ClFault
 behind_head at [] bytes = Ok bytes
 behind_head at (h ∷ hs) [] = Err (fault at causes.Truncated)
 behind_head at (h ∷ hs) (b ∷ bytes) = if b == h then behind_head (at + 1) hs bytes else Err (fault at causes.Header)
 
+-- what a head tells: the number of records, in version 2, and the bytes behind it with their place
+pub record Head : Type 0 where
+  pub number : Option ℕ
+  pub at : ℕ
+  pub rest : List ℕ
+
+abbrev pub head : Option ℕ → ℕ → List ℕ → Head
+head number at rest = record { number = number; at = at; rest = rest }
+
+-- the number in the first eight bytes
+unfoldable pub count_in : List ℕ → ℕ
+count_in bytes = from_be_bytes w64 (take 8 bytes)
+
+-- the head of version 2, from its number on
+abbrev pub numbered : ℕ → List ℕ → Result Head ClFault
+numbered at bytes = if nat_lt (length bytes) 8 then Err (cut_short at bytes) else Ok (head (Some (count_in bytes)) (at + 8) (drop 8 bytes))
+
+-- the head from its version on, `1` or `2`, behind which LF stands
+abbrev pub versioned : ℕ → List ℕ → Result Head ClFault
+versioned at [] = Err (fault at causes.Truncated)
+versioned at (b ∷ bytes) =
+    if b == 49 then (behind_head (at + 1) (10 ∷ []) bytes >>= λ rest. Ok (head None (at + 2) rest))
+    else if b == 50 then (behind_head (at + 1) (10 ∷ []) bytes >>= λ rest. numbered (at + 2) rest)
+    else Err (fault at causes.Header)
+
+-- the head of a file
+abbrev pub head_in : List ℕ → Result Head ClFault
+head_in bytes = behind_head 0 (codes "APTCL ") bytes >>= λ rest. versioned 6 rest
+
+-- ---- the file
+
+-- the records behind a head, unless it tells another number of them
+abbrev pub counted : Option ℕ → List Record → Result (List Record) ClFault
+counted None rs = Ok rs
+counted (Some n) rs = if n == length rs then Ok rs else Err (fault 8 causes.Count)
+
 -- the records of a file
 unfoldable pub read_of : List ℕ → Result (List Record) ClFault
-read_of bytes = behind_head 0 head bytes >>= λ rest. records_from (length bytes) 1 (length head) rest
+read_of bytes = head_in bytes >>= λ h. records_from (length bytes) 1 h.at h.rest >>= λ rs. counted h.number rs
 
 -- the fault that an error tells
 abbrev pub fault_in : ClError → Option ClFault

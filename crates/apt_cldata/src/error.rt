@@ -23,6 +23,8 @@ pub enum ClCause {
     Range,
     /// Bytes stand behind the record of FINI.
     AfterFini,
+    /// The head tells another number of records than there are.
+    Count,
 }
 
 impl ClCause {
@@ -38,6 +40,7 @@ impl ClCause {
             ClCause::Class => "Class",
             ClCause::Range => "Range",
             ClCause::AfterFini => "AfterFini",
+            ClCause::Count => "Count",
         }
     }
 }

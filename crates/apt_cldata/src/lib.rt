@@ -12,7 +12,7 @@ mod words;
 mod writing;
 
 pub use error::{ClCause, ClError};
-pub use reading::{behind_head, first_record};
+pub use reading::{Head, first_record, read_head};
 pub use record::{Note, Position, Reach, Record};
 pub use vertices::{VertexSlice, Vertices};
 pub use writing::{ClBytes, write};

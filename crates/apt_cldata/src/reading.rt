@@ -1,6 +1,5 @@
 //! Reading the records of a CL file, one by one.
 ghost use Rattle.std.specs.Prelude.{◌≡◌, ◌+◌, ◌^◌, ◌<◌, ◌≤◌, length, drop, Ok, Err, IfOk, MatchResult};
-ghost use Rattle.apt_cldata.specs.Files as files;
 ghost use Rattle.apt_words.specs.Answers.{IsDueAs};
 ghost use Rattle.apt_cldata.specs.Reading.{fault_in};
 ghost use Rattle.apt_cldata.specs.Reading as spec;
@@ -12,8 +11,11 @@ use crate::fields::Misfit;
 use crate::{ClCause, ClError, Record};
 use std::alloc::{AllocError, Global};
 
-/// How a file begins.
-pub(crate) const HEAD: &[u8] = b"APTCL 1\n";
+/// How a file begins, in version 2. The number of its records stands behind it.
+pub(crate) const HEAD: &[u8] = b"APTCL 2\n";
+
+/// The front of a head, behind which its version stands.
+const FRONT: &[u8] = b"APTCL ";
 
 /// The most bytes that the words of a record have.
 const MOST_BYTES: usize = 67_108_864;
@@ -136,12 +138,21 @@ pub fn first_record(
     Ok((record, 4 + n))
 }
 
-/// The bytes behind a head.
-fn behind<'a>(head: &[u8], bytes: &'a [u8]) -> Result<&'a [u8], ClFault>
-    ensures { MatchResult result (λ rest. spec.behind_head 0 head.now bytes.now ≡ Ok rest.now) (λ f. spec.behind_head 0 head.now bytes.now ≡ Err f) }
+/// What the head of a file tells: the number of its records, in version 2, and the bytes behind it with their place.
+#[derive(Clone, Copy)]
+pub struct Head<'a> {
+    pub number: Option<u64>,
+    pub at: u64,
+    pub rest: &'a [u8],
+}
+
+/// The bytes behind some that are due, from a place on.
+fn behind<'a>(at: u64, due: &[u8], bytes: &'a [u8]) -> Result<&'a [u8], ClFault>
+    requires { at + length due.now < 2 ^ 64 }
+    ensures { MatchResult result (λ rest. spec.behind_head at due.now bytes.now ≡ Ok rest.now) (λ f. spec.behind_head at due.now bytes.now ≡ Err f) }
 {
-    'places: for (i, want) in head.iter().enumerate() {
-        let at = i as u64;
+    'places: for (i, want) in due.iter().enumerate() {
+        let at = at + i as u64;
         match bytes.get(i) {
             None => {
                 return Err(ClFault::new(at, ClCause::Truncated));
@@ -152,16 +163,52 @@ fn behind<'a>(head: &[u8], bytes: &'a [u8]) -> Result<&'a [u8], ClFault>
             Some(_) => {}
         }
     }
-    Ok(&bytes[head.len()..])
+    Ok(&bytes[due.len()..])
 }
 
-/// The bytes behind the head of a file.
+/// The head of version 2, from its number on.
+#[tactic(auto, unfolding(crate::specs::Reading::count_in))]
+fn numbered(at: u64, bytes: &[u8]) -> Result<Head<'_>, ClFault>
+    requires { at + length bytes.now < 2 ^ 63 }
+    ensures { MatchResult result (λ h. spec.numbered at bytes.now ≡ Ok (spec.head h.number h.at h.rest.now)) (λ f. spec.numbered at bytes.now ≡ Err f) }
+{
+    match bytes.split_first_chunk() {
+        None => Err(cut_short(at, bytes)),
+        Some((count, rest)) => Ok(Head {
+            number: Some(u64::from_be_bytes(*count)),
+            at: at + 8,
+            rest,
+        }),
+    }
+}
+
+/// The head from its version on.
+fn versioned(at: u64, bytes: &[u8]) -> Result<Head<'_>, ClFault>
+    requires { at + length bytes.now < 2 ^ 63 }
+    ensures { MatchResult result (λ h. spec.versioned at bytes.now ≡ Ok (spec.head h.number h.at h.rest.now)) (λ f. spec.versioned at bytes.now ≡ Err f) }
+{
+    match bytes.split_first() {
+        None => Err(ClFault::new(at, ClCause::Truncated)),
+        Some((b'1', bytes)) => Ok(Head {
+            number: None,
+            at: at + 2,
+            rest: behind(at + 1, b"\n", bytes)?,
+        }),
+        Some((b'2', bytes)) => numbered(at + 2, behind(at + 1, b"\n", bytes)?),
+        Some(_) => Err(ClFault::new(at, ClCause::Header)),
+    }
+}
+
+/// The head of a file.
 ///
 /// # Errors
 ///
 /// `Bad` with the first place that can't stand and its cause.
-pub fn behind_head(bytes: &[u8]) -> Result<&[u8], ClError>
-    ensures { IsDueAs (λ rest. rest.now) fault_in (spec.behind_head 0 files.head bytes.now) result }
+pub fn read_head(bytes: &[u8]) -> Result<Head<'_>, ClError>
+    requires { length bytes.now < 2 ^ 63 }
+    ensures value { IsDueAs (λ h. spec.head h.number h.at h.rest.now) fault_in (spec.head_in bytes.now) result }
+    ensures there { IfOk result (λ h. h.at + length h.rest.now ≡ length bytes.now) }
 {
-    Ok(behind(HEAD, bytes)?)
+    let version = behind(0, FRONT, bytes)?;
+    Ok(versioned(6, version)?)
 }

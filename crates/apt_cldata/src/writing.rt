@@ -1,6 +1,6 @@
 //! Writing a CL file.
 ghost use Rattle.std.specs.Prelude.{◌≡◌, ◌≢◌, ◌^◌, ◌<◌, ◌≤◌, ◌++◌, [], Ok, ◌+◌, MatchBool, length, vec_len, drop, IfOk, OnOk, OnErr};
-ghost use Rattle.apt_cldata.specs.Files.{AreShort, IsFile, StandApart, file_of, head};
+ghost use Rattle.apt_cldata.specs.Files.{AreShort, IsFile, StandApart, file_of};
 ghost use Rattle.apt_cldata.specs.Files as spec;
 ghost use Rattle.apt_cldata.specs.Reading.{read_of};
 ghost use Rattle.apt_cldata.specs.Shortness.{short_prop};
@@ -21,7 +21,7 @@ pub fn write(alloc: Global, records: &[Record]) -> Result<Vec<u8>, AllocError>
     requires { IsFile records.now }
     ensures bytes { IfOk result (λ v. v.items ≡ file_of records.now) }
     ensures again { IfOk result (λ v. read_of v.items ≡ Ok records.now) }
-    ensures apart { IfOk result (λ v. StandApart 1 records.now (drop (length head) v.items)) }
+    ensures apart { IfOk result (λ v. StandApart 1 records.now (drop 16 v.items)) }
 {
     write_exactly(alloc, records)
 }
@@ -30,7 +30,8 @@ fn write_exactly(alloc: Global, records: &[Record]) -> Result<Vec<u8>, AllocErro
     requires { IsFile records.now }
     ensures { IfOk result (λ v. v.items ≡ file_of records.now) }
 {
-    let mut bytes = Vec::from_slice(alloc, HEAD)?;
+    let mut bytes = Vec::new(alloc);
+    push_head(&mut bytes, records.len())?;
     push_records(&mut bytes, usize::MAX, 1, records)?;
     Ok(bytes)
 }
@@ -46,12 +47,12 @@ pub struct ClBytes<'a> {
 }
 
 impl<'a> Model for ClBytes<'a> {
-    ghost use Rattle.std.specs.Prelude.{ℕ, List, [], ◌++◌, if◌then◌else◌};
-    ghost use Rattle.apt_cldata.specs.Files.{head, records_bytes};
+    ghost use Rattle.std.specs.Prelude.{ℕ, List, [], ◌++◌, length, if◌then◌else◌};
+    ghost use Rattle.apt_cldata.specs.Files.{head_of, records_bytes};
 
     ghost Value = { List ℕ };
 
-    ghost view = { λ b. (if b.begun then [] else head) ++ records_bytes b.first b.records.now };
+    ghost view = { λ b. (if b.begun then [] else head_of (length b.records.now)) ++ records_bytes b.first b.records.now };
 }
 
 impl<'a> ClBytes<'a> {
@@ -62,7 +63,7 @@ impl<'a> ClBytes<'a> {
         requires { IsFile records.now }
         ensures bytes { result ≡ file_of records.now }
         ensures again { read_of result ≡ Ok records.now }
-        ensures apart { StandApart 1 records.now (drop (length head) result) }
+        ensures apart { StandApart 1 records.now (drop 16 result) }
     {
         ClBytes {
             records,
@@ -88,7 +89,7 @@ impl<'a> ClBytes<'a> {
     {
         piece.clear();
         if !self.begun {
-            piece.extend_from_slice(HEAD)?;
+            push_head(piece, self.records.len())?;
         }
         let count = push_records(piece, PIECE, self.first, self.records)?;
         self.begun = true;
@@ -96,6 +97,15 @@ impl<'a> ClBytes<'a> {
         self.records = self.records.split_at(count).1;
         Ok(())
     }
+}
+
+/// Appends the head of a file of so many records.
+#[tactic(auto, unfolding(crate::specs::Files::count_bytes))]
+fn push_head(bytes: &mut Vec<u8>, count: usize) -> Result<(), AllocError>
+    ensures { OnOk result (bytes.new.items ≡ bytes.old.items ++ spec.head_of count) }
+{
+    bytes.extend_from_slice(HEAD)?;
+    bytes.extend_from_slice(&(count as u64).to_be_bytes())
 }
 
 /// Appends records, numbered from `first` on, until there are so many bytes, and says how many records.

@@ -203,3 +203,4 @@ cut_is_fault (Err f) end is place = by_cause f.cause refl
     by_cause causes.Class e = absurd (let h : false ≡ true = sym (ap is_truncation e) ∙ is in cc)
     by_cause causes.Range e = absurd (let h : false ≡ true = sym (ap is_truncation e) ∙ is in cc)
     by_cause causes.AfterFini e = absurd (let h : false ≡ true = sym (ap is_truncation e) ∙ is in cc)
+    by_cause causes.Count e = absurd (let h : false ≡ true = sym (ap is_truncation e) ∙ is in cc)

@@ -1,5 +1,5 @@
 -- What a reader comes to, step by step.
-use Rattle.std.proofs.Common.{◌≡◌, ℕ, zero, suc, ◌+◌, ◌*◌, ◌≤◌, ◌<◌, ◌==◌, Bool, true, false, cond, List, [], ◌∷◌, ◌++◌, length, drop, Result, Ok, Err, refl, ap, sym, ◌∙◌, subst, arith, append_assoc}
+use Rattle.std.proofs.Common.{◌≡◌, ℕ, zero, suc, ◌+◌, ◌*◌, ◌≤◌, ◌<◌, ◌==◌, Bool, true, false, cond, Option, List, [], ◌∷◌, ◌++◌, length, drop, Result, Ok, Err, refl, ap, sym, ◌∙◌, subst, arith, append_assoc}
 use Rattle.std.proofs.lemmas.List.{length-append, length-drop, drop-drop}
 use Rattle.apt_words.specs.Answers.{IsFault}
 use Rattle.apt_cldata.specs.declared.error.ClCause.TheVariants as causes
@@ -9,7 +9,7 @@ use Rattle.apt_cldata.specs.declared.record.Record.{Record}
 use Rattle.apt_cldata.specs.Ranges.{IsRecord, AreRecords, vertices_in, vertex_count}
 use Rattle.apt_cldata.specs.Fields.{◌>>=◌}
 use Rattle.apt_cldata.specs.Files.{is_fini}
-use Rattle.apt_cldata.specs.Reading.{fault, fault_in, Piece, piece, first_of, last_of, records_from}
+use Rattle.apt_cldata.specs.Reading.{fault, fault_in, Piece, piece, first_of, last_of, records_from, counted}
 use Rattle.apt_clreader.specs.declared.state.Part.{Part}
 use Rattle.apt_clreader.specs.declared.state.Part.TheVariants as parts
 use Rattle.apt_clreader.specs.Begun.{Fault}
@@ -56,32 +56,32 @@ same_fuel (suc f) (suc g) seq at bytes a b =
     (λ p is. same_fuel f g (seq + 1) p.at p.rest (omega (arith, first_shorter seq at bytes p is)) (omega (arith, first_shorter seq at bytes p is)))
 
 -- what records come to, by the first behind them
-comes_by_first : (rs : List Record) (at : ℕ) (bytes : List ℕ) (r : Result Piece Fault) → first_of (length rs + 1) at bytes ≡ r
-    → comes_to parts.Records rs at bytes ≡ behind rs (r >>= rest_by (length bytes) (length rs + 1))
-comes_by_first rs at bytes r is = ap (behind rs) (by_first (length bytes) (length rs + 1) at bytes r is)
+comes_by_first : (number : Option ℕ) (rs : List Record) (at : ℕ) (bytes : List ℕ) (r : Result Piece Fault) → first_of (length rs + 1) at bytes ≡ r
+    → comes_to parts.Records number rs at bytes ≡ behind rs (r >>= rest_by (length bytes) (length rs + 1)) >>= counted number
+comes_by_first number rs at bytes r is = ap (λ r. behind rs r >>= counted number) (by_first (length bytes) (length rs + 1) at bytes r is)
 
 -- a record that goes on
-one_more : (rs : List Record) (at : ℕ) (bytes : List ℕ) (p : Piece) → first_of (length rs + 1) at bytes ≡ Ok p → is_fini p.said ≡ false
-    → comes_to parts.Records rs at bytes ≡ comes_to parts.Records (rs ++ p.said ∷ []) p.at p.rest
-one_more rs at bytes p is more =
+one_more : (number : Option ℕ) (rs : List Record) (at : ℕ) (bytes : List ℕ) (p : Piece) → first_of (length rs + 1) at bytes ≡ Ok p → is_fini p.said ≡ false
+    → comes_to parts.Records number rs at bytes ≡ comes_to parts.Records number (rs ++ p.said ∷ []) p.at p.rest
+one_more number rs at bytes p is more =
     let count : length rs + 1 + 1 ≡ length (rs ++ p.said ∷ []) + 1 = omega (arith, length-append rs (p.said ∷ [])) in
     let rest = records_from (length bytes) (length rs + 1 + 1) p.at p.rest in
-    comes_by_first rs at bytes (Ok p) is
-    ∙ ap (λ b. behind rs (cond b (last_of p) (rest >>= λ rs. Ok (p.said ∷ rs)))) more
-    ∙ sym (behind_one rs p.said rest)
-    ∙ ap (behind (rs ++ p.said ∷ []))
+    comes_by_first number rs at bytes (Ok p) is
+    ∙ ap (λ b. behind rs (cond b (last_of p) (rest >>= λ rs. Ok (p.said ∷ rs))) >>= counted number) more
+    ∙ ap (λ r. r >>= counted number) (sym (behind_one rs p.said rest))
+    ∙ ap (λ r. behind (rs ++ p.said ∷ []) r >>= counted number)
     (same_fuel (length bytes) (suc (length p.rest)) (length rs + 1 + 1) p.at p.rest (first_shorter (length rs + 1) at bytes p is) (omega arith)
     ∙ ap (λ seq. records_from (suc (length p.rest)) seq p.at p.rest) count)
 
 -- the last record
-one_last : (rs : List Record) (at : ℕ) (bytes : List ℕ) (p : Piece) → first_of (length rs + 1) at bytes ≡ Ok p → is_fini p.said ≡ true
-    → comes_to parts.Records rs at bytes ≡ comes_to parts.Nothing (rs ++ p.said ∷ []) p.at p.rest
-one_last rs at bytes p is last =
-    comes_by_first rs at bytes (Ok p) is
-    ∙ ap (λ b. behind rs (cond b (last_of p) (records_from (length bytes) (length rs + 1 + 1) p.at p.rest >>= λ rs. Ok (p.said ∷ rs)))) last
+one_last : (number : Option ℕ) (rs : List Record) (at : ℕ) (bytes : List ℕ) (p : Piece) → first_of (length rs + 1) at bytes ≡ Ok p → is_fini p.said ≡ true
+    → comes_to parts.Records number rs at bytes ≡ comes_to parts.Nothing number (rs ++ p.said ∷ []) p.at p.rest
+one_last number rs at bytes p is last =
+    comes_by_first number rs at bytes (Ok p) is
+    ∙ ap (λ b. behind rs (cond b (last_of p) (records_from (length bytes) (length rs + 1 + 1) p.at p.rest >>= λ rs. Ok (p.said ∷ rs))) >>= counted number) last
     ∙ by_test (length p.rest == 0)
   where
-    by_test : (b : Bool) → behind rs (cond b (Ok (p.said ∷ [])) (Err (fault p.at causes.AfterFini))) ≡ cond b (Ok (rs ++ p.said ∷ [])) (Err (fault p.at causes.AfterFini))
+    by_test : (b : Bool) → (behind rs (cond b (Ok (p.said ∷ [])) (Err (fault p.at causes.AfterFini))) >>= counted number) ≡ cond b (counted number (rs ++ p.said ∷ [])) (Err (fault p.at causes.AfterFini))
     by_test true = refl
     by_test false = refl
 
@@ -89,11 +89,11 @@ one_last rs at bytes p is last =
 
 pub goes_on : (rs : List Record) (at : ℕ) (bytes : List ℕ) (r : Record) (size : ℕ) → IsFirst (length rs + 1) at bytes r size → is_fini r ≡ false
     → Agree parts.Records rs at bytes parts.Records (rs ++ r ∷ []) (at + size) (drop size bytes)
-goes_on rs at bytes r size is more = λ behind. one_more rs at (bytes ++ behind) (piece r (at + size) (drop size bytes ++ behind)) (is.read behind) more
+goes_on rs at bytes r size is more = λ number behind. one_more number rs at (bytes ++ behind) (piece r (at + size) (drop size bytes ++ behind)) (is.read behind) more
 
 pub is_last : (rs : List Record) (at : ℕ) (bytes : List ℕ) (r : Record) (size : ℕ) → IsFirst (length rs + 1) at bytes r size → is_fini r ≡ true
     → Agree parts.Records rs at bytes parts.Nothing (rs ++ r ∷ []) (at + size) (drop size bytes)
-is_last rs at bytes r size is last = λ behind. one_last rs at (bytes ++ behind) (piece r (at + size) (drop size bytes ++ behind)) (is.read behind) last
+is_last rs at bytes r size is last = λ number behind. one_last number rs at (bytes ++ behind) (piece r (at + size) (drop size bytes ++ behind)) (is.read behind) last
 
 -- the same behind bytes that were taken
 pub takes_more : (before rs : List Record) (at taken : ℕ) (bytes : List ℕ) (r : Record) (size : ℕ) → Agree parts.Records before at bytes parts.Records rs (at + taken) (drop taken bytes)
@@ -102,7 +102,7 @@ pub takes_more : (before rs : List Record) (at taken : ℕ) (bytes : List ℕ) (
 takes_more before rs at taken bytes r size same is more =
     let place : at + taken + size ≡ at + (taken + size) = omega arith in
     let step = goes_on rs (at + taken) (drop taken bytes) r size is more in
-    λ behind. same behind ∙ step behind ∙ (λ i. comes_to parts.Records (rs ++ r ∷ []) (place i) (drop-drop size taken bytes i ++ behind))
+    λ number behind. same number behind ∙ step number behind ∙ (λ i. comes_to parts.Records number (rs ++ r ∷ []) (place i) (drop-drop size taken bytes i ++ behind))
 
 pub takes_last : (before rs : List Record) (at taken : ℕ) (bytes : List ℕ) (r : Record) (size : ℕ) → Agree parts.Records before at bytes parts.Records rs (at + taken) (drop taken bytes)
     → IsFirst (length rs + 1) (at + taken) (drop taken bytes) r size → is_fini r ≡ true
@@ -110,7 +110,7 @@ pub takes_last : (before rs : List Record) (at taken : ℕ) (bytes : List ℕ) (
 takes_last before rs at taken bytes r size same is last =
     let place : at + taken + size ≡ at + (taken + size) = omega arith in
     let step = is_last rs (at + taken) (drop taken bytes) r size is last in
-    λ behind. same behind ∙ step behind ∙ (λ i. comes_to parts.Nothing (rs ++ r ∷ []) (place i) (drop-drop size taken bytes i ++ behind))
+    λ number behind. same number behind ∙ step number behind ∙ (λ i. comes_to parts.Nothing number (rs ++ r ∷ []) (place i) (drop-drop size taken bytes i ++ behind))
 
 pub few_one : (rs : List Record) (at taken : ℕ) (r : Record) (size : ℕ) → 8 * (vertex_count rs + length rs) ≤ at + taken → 8 * (vertices_in r + 1) ≤ size
     → 8 * (vertex_count (rs ++ r ∷ []) + length (rs ++ r ∷ [])) ≤ at + (taken + size)
@@ -121,13 +121,13 @@ there_one bytes taken size there is = omega (arith, length-drop taken bytes)
 
 pub agree_fails : (part next : Part) (rs ss : List Record) (at place : ℕ) (bytes rest : List ℕ) (e : ClError)
     → Agree part rs at bytes next ss place rest → Fails next ss place rest e → Fails part rs at bytes e
-agree_fails part next rs ss at place bytes rest e a b = λ more. subst (λ due. IsFault fault_in due e) (sym (a more)) (b more)
+agree_fails part next rs ss at place bytes rest e a b = λ number more. subst (λ due. IsFault fault_in due e) (sym (a number more)) (b number more)
 
 -- a fault of the first record is one of the file that ends there
-pub first_is_fault : (rs : List Record) (at : ℕ) (bytes : List ℕ) (e : ClError) → IsFault fault_in (first_of (length rs + 1) at bytes) e → IsFault fault_in (comes_to parts.Records rs at bytes) e
-first_is_fault rs at bytes errors.NoMemory h = tt
-first_is_fault rs at bytes (errors.Bad place cause) h = comes_by_first rs at bytes (Err (fault place cause)) h
+pub first_is_fault : (number : Option ℕ) (rs : List Record) (at : ℕ) (bytes : List ℕ) (e : ClError) → IsFault fault_in (first_of (length rs + 1) at bytes) e → IsFault fault_in (comes_to parts.Records number rs at bytes) e
+first_is_fault number rs at bytes errors.NoMemory h = tt
+first_is_fault number rs at bytes (errors.Bad place cause) h = comes_by_first number rs at bytes (Err (fault place cause)) h
 
 -- a fault of the first record is one of the file
 pub first_fails : (rs : List Record) (at : ℕ) (bytes : List ℕ) (e : ClError) → ((more : List ℕ) → IsFault fault_in (first_of (length rs + 1) at (bytes ++ more)) e) → Fails parts.Records rs at bytes e
-first_fails rs at bytes e h = λ more. first_is_fault rs at (bytes ++ more) e (h more)
+first_fails rs at bytes e h = λ number more. first_is_fault number rs at (bytes ++ more) e (h more)

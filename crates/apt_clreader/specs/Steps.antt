@@ -1,5 +1,5 @@
 -- The steps of reading, whatever bytes come behind.
-use Rattle.std.specs.Prelude.{◌≡◌, ℕ, ◌+◌, ◌*◌, ◌≤◌, Bool, true, false, List, ◌++◌, length, drop, Result, Ok, Err, MatchBool}
+use Rattle.std.specs.Prelude.{◌≡◌, ℕ, ◌+◌, ◌*◌, ◌≤◌, Bool, true, false, Option, List, ◌++◌, length, drop, Result, Ok, Err, MatchBool}
 use Rattle.apt_words.specs.Answers.{IsFault}
 use Rattle.apt_cldata.specs.declared.error.ClError.{ClError}
 use Rattle.apt_cldata.specs.declared.record.Record.{Record}
@@ -29,17 +29,17 @@ IsNext seq at bytes (Err error) =
 
 -- ---- what comes of it
 
--- one part, records, place and bytes come to what others come to
+-- one part, records, place and bytes come to what others come to, whatever number the head told
 abbrev pub Agree : Part → List Record → ℕ → List ℕ → Part → List Record → ℕ → List ℕ → Type 0
-Agree part rs at bytes next ss place rest = (more : List ℕ) → comes_to part rs at (bytes ++ more) ≡ comes_to next ss place (rest ++ more)
+Agree part rs at bytes next ss place rest = (number : Option ℕ) (more : List ℕ) → comes_to part number rs at (bytes ++ more) ≡ comes_to next number ss place (rest ++ more)
 
 abbrev pub Fails : Part → List Record → ℕ → List ℕ → ClError → Type 0
-Fails part rs at bytes error = (more : List ℕ) → IsFault fault_in (comes_to part rs at (bytes ++ more)) error
+Fails part rs at bytes error = (number : Option ℕ) (more : List ℕ) → IsFault fault_in (comes_to part number rs at (bytes ++ more)) error
 
 -- a reader stands where these stood, or they fail
-abbrev pub GoesOn : Part → List Record → ℕ → List ℕ → Result ClReader ClError → Type 0
-GoesOn part rs at bytes (Ok reader) = Agree part rs at bytes reader.part reader.records.items reader.at reader.held.items
-GoesOn part rs at bytes (Err error) = Fails part rs at bytes error
+abbrev pub GoesOn : Part → Option ℕ → List Record → ℕ → List ℕ → Result ClReader ClError → Type 0
+GoesOn part number rs at bytes (Ok reader) = (more : List ℕ) → comes_to part number rs at (bytes ++ more) ≡ comes_to reader.part reader.number reader.records.items reader.at (reader.held.items ++ more)
+GoesOn part number rs at bytes (Err error) = Fails part rs at bytes error
 
 -- what comes behind records, by whether FINI was the last
 abbrev pub part_behind : Bool → Part

@@ -1,22 +1,22 @@
 //! Reading a CL file.
 
-ghost use Rattle.std.specs.Prelude.{◌≡◌, ◌+◌, ◌*◌, ◌^◌, ◌<◌, ◌≤◌, ◌++◌, [], ℕ, List, drop, length, Ok, Err, IfOk, OnOk};
+ghost use Rattle.std.specs.Prelude.{◌≡◌, ◌+◌, ◌*◌, ◌^◌, ◌<◌, ◌≤◌, ◌++◌, [], ℕ, List, None, drop, length, Ok, Err, IfOk, OnOk};
 ghost use Rattle.apt_words.specs.Answers.{IsDueAs};
 ghost use Rattle.apt_cldata.specs.Ranges.{AreRecords, vertex_count};
-ghost use Rattle.apt_cldata.specs.Files.{IsFile, file_of};
+ghost use Rattle.apt_cldata.specs.Files.{IsFile, IsFileOf};
 ghost use Rattle.apt_cldata.specs.Files as files;
-ghost use Rattle.apt_cldata.specs.Reading.{read_of, fault_in};
+ghost use Rattle.apt_cldata.specs.Reading.{counted, read_of, fault_in};
 ghost use Rattle.apt_clreader.specs.declared.state.Part.TheVariants as parts;
 ghost use Rattle.apt_clreader.specs.Begun as begun;
 ghost use Rattle.apt_clreader.specs.Pieces.{StandsFor, HasRead, count_of};
 ghost use Rattle.apt_clreader.specs.Steps.{IsNext, GoesOn, Takes, IsLeft};
 
 use crate::state::{ClReader, Part, Taken};
-use apt_cldata::{ClCause, ClError, Note, Record, behind_head, first_record};
+use apt_cldata::{ClCause, ClError, Note, Record, first_record, read_head};
 use std::alloc::{AllocError, Global};
 
-/// The head of a file has so many bytes.
-const HEAD_BYTES: usize = 8;
+/// How a file of version 2 begins.
+const SECOND: &[u8] = b"APTCL 2\n";
 
 impl ClReader {
     /// No bytes so far. It takes no memory.
@@ -27,6 +27,7 @@ impl ClReader {
         ClReader {
             alloc,
             part: Part::Head,
+            number: None,
             records: Vec::new(alloc),
             at: 0,
             end: 0,
@@ -47,13 +48,14 @@ impl ClReader {
         let ClReader {
             alloc,
             part,
+            number,
             records,
             at,
             mut held,
             ..
         } = self;
         held.extend_from_slice(piece)?;
-        go_on(alloc, part, records, at, held)
+        go_on(alloc, part, number, records, at, held)
     }
 
     /// The records of the whole file, whose bytes have all been read.
@@ -68,23 +70,38 @@ impl ClReader {
     {
         let ClReader {
             part,
+            number,
             records,
             end,
             held,
             ..
         } = self;
         match part {
-            Part::Nothing => Ok(records),
+            Part::Nothing => counted(number, records),
             Part::Records => Err(ClError::Bad {
                 at: end,
                 cause: ClCause::Truncated,
             }),
             // what is held is no whole head
             Part::Head => {
-                behind_head(&held)?;
+                read_head(&held)?;
                 unreachable!()
             }
         }
+    }
+}
+
+/// The records behind a head, unless it told another number of them.
+fn counted(number: Option<u64>, records: Vec<Record>) -> Result<Vec<Record>, ClError>
+    ensures value { IsDueAs (λ v. v.items) fault_in (counted number records.items) result }
+    ensures same { IfOk result (λ v. v.items ≡ records.items) }
+{
+    match number {
+        Some(n) if n != records.len() as u64 => Err(ClError::Bad {
+            at: 8,
+            cause: ClCause::Count,
+        }),
+        _ => Ok(records),
     }
 }
 
@@ -92,6 +109,7 @@ impl ClReader {
 fn go_on(
     alloc: Global,
     part: Part,
+    number: Option<u64>,
     records: Vec<Record>,
     at: u64,
     held: Vec<u8>,
@@ -100,41 +118,54 @@ fn go_on(
     requires head { part ≡ parts.Head → at ≡ 0 }
     requires ranges { AreRecords records.items }
     requires few { 8 * (vertex_count records.items + length records.items) ≤ at }
-    ensures stands { GoesOn part records.items at held.items result }
+    ensures stands { GoesOn part number records.items at held.items result }
     ensures count { IfOk result (λ reader. count_of reader ≡ at + length held.items) }
 {
     match part {
         Part::Head => behind_start(alloc, held),
-        Part::Records => with_records(alloc, records, at, held),
-        Part::Nothing => with_nothing(alloc, records, at, held),
+        Part::Records => with_records(alloc, number, records, at, held),
+        Part::Nothing => with_nothing(alloc, number, records, at, held),
+    }
+}
+
+/// Whether a whole head is there.
+fn has_head(held: &[u8]) -> bool
+    ensures { result ≡ begun.has_head held.now }
+{
+    if held.starts_with(SECOND) {
+        16 <= held.len()
+    } else {
+        8 <= held.len()
     }
 }
 
 /// Reads what is whole of the front of a file.
-fn behind_start(alloc: Global, mut held: Vec<u8>) -> Result<ClReader, ClError>
+fn behind_start(alloc: Global, held: Vec<u8>) -> Result<ClReader, ClError>
     requires place { length held.items < 2 ^ 63 }
-    ensures stands { GoesOn parts.Head [] 0 held.items result }
+    ensures stands { GoesOn parts.Head None [] 0 held.items result }
     ensures count { IfOk result (λ reader. count_of reader ≡ length held.items) }
 {
     let records = Vec::new(alloc);
-    if held.len() < HEAD_BYTES {
+    if !has_head(&held) {
         return Ok(ClReader {
             alloc,
             part: Part::Head,
+            number: None,
             records,
             at: 0,
             end: 0,
             held,
         });
     }
-    behind_head(&held)?;
-    drop_front(alloc, &mut held, HEAD_BYTES)?;
-    with_records(alloc, records, HEAD_BYTES as u64, held)
+    let head = read_head(&held)?;
+    let rest = Vec::from_slice(alloc, head.rest)?;
+    with_records(alloc, head.number, records, head.at, rest)
 }
 
 /// Reads the whole records in front.
 fn with_records(
     alloc: Global,
+    number: Option<u64>,
     mut records: Vec<Record>,
     at: u64,
     mut held: Vec<u8>,
@@ -142,18 +173,19 @@ fn with_records(
     requires place { at + length held.items < 2 ^ 63 }
     requires ranges { AreRecords records.items }
     requires few { 8 * (vertex_count records.items + length records.items) ≤ at }
-    ensures stands { GoesOn parts.Records records.items at held.items result }
+    ensures stands { GoesOn parts.Records number records.items at held.items result }
     ensures count { IfOk result (λ reader. count_of reader ≡ at + length held.items) }
 {
     let taken = take_records(alloc, &mut records, at, &held)?;
     drop_front(alloc, &mut held, taken.bytes)?;
     let at = at + taken.bytes as u64;
     if taken.is_done {
-        with_nothing(alloc, records, at, held)
+        with_nothing(alloc, number, records, at, held)
     } else {
         Ok(ClReader {
             alloc,
             part: Part::Records,
+            number,
             records,
             at,
             end: taken.end,
@@ -165,6 +197,7 @@ fn with_records(
 /// Nothing may stand behind the record of FINI.
 fn with_nothing(
     alloc: Global,
+    number: Option<u64>,
     records: Vec<Record>,
     at: u64,
     held: Vec<u8>,
@@ -172,13 +205,14 @@ fn with_nothing(
     requires place { at + length held.items < 2 ^ 63 }
     requires ranges { AreRecords records.items }
     requires few { 8 * (vertex_count records.items + length records.items) ≤ at }
-    ensures stands { GoesOn parts.Nothing records.items at held.items result }
+    ensures stands { GoesOn parts.Nothing number records.items at held.items result }
     ensures count { IfOk result (λ reader. count_of reader ≡ at + length held.items) }
 {
     if held.is_empty() {
         Ok(ClReader {
             alloc,
             part: Part::Nothing,
+            number,
             records,
             at,
             end: at,
@@ -290,7 +324,7 @@ fn drop_front(alloc: Global, held: &mut Vec<u8>, n: usize) -> Result<(), AllocEr
     Ok(())
 }
 
-/// The records of a CL file.
+/// The records of a CL file, which has one of the two versions.
 ///
 /// # Errors
 ///
@@ -299,7 +333,8 @@ fn drop_front(alloc: Global, held: &mut Vec<u8>, n: usize) -> Result<(), AllocEr
 pub fn read(alloc: Global, bytes: &[u8]) -> Result<Vec<Record>, ClError>
     requires { length bytes.now < 2 ^ 63 }
     ensures value { IsDueAs (λ v. v.items) fault_in (read_of bytes.now) result }
-    ensures bytes { IfOk result (λ v. bytes.now ≡ file_of v.items) }
+    ensures all { (rs : List Record) → IsFile rs → IsFileOf rs bytes.now → IsDueAs (λ v. v.items) fault_in (Ok rs) result }
+    ensures bytes { IfOk result (λ v. IsFileOf v.items bytes.now) }
     ensures file { IfOk result (λ v. IsFile v.items) }
     ensures few { IfOk result (λ v. vertex_count v.items + length v.items ≤ length bytes.now) }
 {

@@ -22,6 +22,8 @@ pub enum Part {
 pub struct ClReader {
     pub(crate) alloc: Global,
     pub(crate) part: Part,
+    /// How many records the head told, in version 2.
+    pub(crate) number: Option<u64>,
     pub(crate) records: Vec<Record>,
     /// The place of the first byte that is held.
     pub(crate) at: u64,

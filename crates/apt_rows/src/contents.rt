@@ -11,6 +11,8 @@ pub enum Writing {
     Characters(Code),
     /// The records of a CL file, a line for each.
     Records,
+    /// The same, of a file of version 1.
+    FirstRecords,
     /// Pairs of hexadecimal digits.
     Hex,
 }
@@ -30,6 +32,7 @@ pub fn writing_of(name: &str) -> Result<Writing> {
         "rs358" => Writing::Characters(Code::Rs358),
         "rs244" => Writing::Characters(Code::Rs244),
         "records" => Writing::Records,
+        "records-1" => Writing::FirstRecords,
         "hex" => Writing::Hex,
         _ => bail!("no such writing: {name}"),
     })
@@ -135,6 +138,7 @@ fn bytes_of(alloc: Global, writing: Writing, lines: &str) -> Result<Vec<u8>> {
     match writing {
         Writing::Characters(code) => coded(alloc, code, lines),
         Writing::Records => records(alloc, lines),
+        Writing::FirstRecords => first_records(alloc, lines),
         Writing::Hex => pairs(alloc, lines),
     }
 }
@@ -177,12 +181,26 @@ fn pairs(alloc: Global, lines: &str) -> Result<Vec<u8>> {
     Ok(bytes)
 }
 
-/// The first bytes of a CL file.
-const HEAD: &[u8] = b"APTCL 1\n";
+/// The head of a CL file has so many bytes.
+const HEAD_BYTES: usize = 16;
 
 /// The CL file of records, numbered from 1, each by its class, its subtype and its words.
 fn records(alloc: Global, lines: &str) -> Result<Vec<u8>> {
-    let mut bytes = Vec::from_slice(alloc, HEAD)?;
+    let mut bytes = Vec::from_slice(alloc, b"APTCL 2\n")?;
+    let count = lines.lines().count() as u64;
+    bytes.extend_from_slice(&count.to_be_bytes())?;
+    push_records(alloc, &mut bytes, lines)?;
+    Ok(bytes)
+}
+
+/// The same in version 1.
+fn first_records(alloc: Global, lines: &str) -> Result<Vec<u8>> {
+    let mut bytes = Vec::from_slice(alloc, b"APTCL 1\n")?;
+    push_records(alloc, &mut bytes, lines)?;
+    Ok(bytes)
+}
+
+fn push_records(alloc: Global, bytes: &mut Vec<u8>, lines: &str) -> Result<()> {
     let mut number: i64 = 0;
     for line in lines.lines() {
         number = number.wrapping_add(1);
@@ -190,7 +208,7 @@ fn records(alloc: Global, lines: &str) -> Result<Vec<u8>> {
         bytes.extend_from_slice(&u32::try_from(record.len())?.to_be_bytes())?;
         bytes.extend_from_slice(&record)?;
     }
-    Ok(bytes)
+    Ok(())
 }
 
 /// The bytes of a record: its number, and the words of its line.
@@ -204,7 +222,7 @@ fn record(alloc: Global, number: i64, line: &str) -> Result<Vec<u8>> {
 
 /// How many records a CL file has, by their lengths.
 pub fn record_count(cl: &[u8]) -> u64 {
-    let mut rest = cl.get(HEAD.len()..).unwrap_or(&[]);
+    let mut rest = cl.get(HEAD_BYTES..).unwrap_or(&[]);
     let mut count: u64 = 0;
     for _ in 0..cl.len() {
         let Some((length, behind)) = rest.split_first_chunk::<4>() else {

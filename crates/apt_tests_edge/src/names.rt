@@ -123,7 +123,7 @@ fn causes_of_machines(rt: HostRuntime) -> Result<(), Fail> {
     Ok(())
 }
 
-const CL_CAUSES: [(ClCause, &str); 7] = [
+const CL_CAUSES: [(ClCause, &str); 8] = [
     (ClCause::Header, "Header"),
     (ClCause::Truncated, "Truncated"),
     (ClCause::Length, "Length"),
@@ -131,6 +131,7 @@ const CL_CAUSES: [(ClCause, &str); 7] = [
     (ClCause::Class, "Class"),
     (ClCause::Range, "Range"),
     (ClCause::AfterFini, "AfterFini"),
+    (ClCause::Count, "Count"),
 ];
 
 #[test]

@@ -4,8 +4,9 @@ use std::alloc::{AllocError, Global};
 use std::test::Fail;
 
 /// The file of STATEMENT 1 1, PARTNO "A", STATEMENT 2 2 and FINI.
-const SAMPLE: [u8; 160] = [
-    0x41, 0x50, 0x54, 0x43, 0x4c, 0x20, 0x31, 0x0a, // head
+const SAMPLE: [u8; 168] = [
+    0x41, 0x50, 0x54, 0x43, 0x4c, 0x20, 0x32, 0x0a, // head
+    0x00, 0x00, 0x00, 0x00, 0x00, 0x00, 0x00, 0x04, // four records
     0x00, 0x00, 0x00, 0x28, // five words
     0x00, 0x00, 0x00, 0x00, 0x00, 0x00, 0x00, 0x01, //
     0x00, 0x00, 0x00, 0x00, 0x00, 0x00, 0x03, 0xe8, // 1000
@@ -65,7 +66,7 @@ fn fault_of(alloc: Global, bytes: &[u8]) -> Option<(u64, ClCause)> {
 }
 
 /// The sample with another byte at a place.
-fn changed(place: usize, byte: u8) -> [u8; 160] {
+fn changed(place: usize, byte: u8) -> [u8; 168] {
     let mut bytes = SAMPLE;
     if let Some(old) = bytes.get_mut(place) {
         *old = byte;
@@ -76,7 +77,8 @@ fn changed(place: usize, byte: u8) -> [u8; 160] {
 /// A file of records, each by its class, its subtype and the words behind them.
 fn file(alloc: Global, records: &[&[i64]]) -> Result<Vec<u8>, AllocError> {
     let mut bytes = Vec::new(alloc);
-    bytes.extend_from_slice(b"APTCL 1\n")?;
+    bytes.extend_from_slice(b"APTCL 2\n")?;
+    bytes.extend_from_slice(&(records.len() as u64).to_be_bytes())?;
     for (i, words) in records.iter().enumerate() {
         let count = u32::try_from(words.len()).unwrap_or(0);
         let length = count.wrapping_mul(8).wrapping_add(8);
@@ -110,6 +112,22 @@ fn the_sample_is_read_and_written_again(rt: HostRuntime) -> Result<(), Fail> {
         taken(alloc, ClBytes::of(&records))?.as_slice(),
         SAMPLE.as_slice()
     );
+    Ok(())
+}
+
+/// A file of version 1 is read, and is written as one of version 2.
+#[test]
+fn a_first_file_is_read(rt: HostRuntime) -> Result<(), Fail> {
+    let alloc = rt.alloc();
+    let mut first = Vec::new(alloc);
+    first.extend_from_slice(b"APTCL 1\n")?;
+    first.extend_from_slice(&SAMPLE[16..])?;
+    let Ok(records) = read(alloc, &first) else {
+        assert!(rt; false, "a file of version 1 is refused");
+        return Ok(());
+    };
+    assert!(rt; is_sample(&records));
+    assert_eq!(rt; write(alloc, &records)?.as_slice(), SAMPLE.as_slice());
     Ok(())
 }
 
@@ -165,15 +183,19 @@ fn first_faults_of_files(rt: HostRuntime) {
     let alloc = rt.alloc();
     let table = [
         (changed(5, b'_'), 5, ClCause::Header),
-        (changed(11, 0x29), 8, ClCause::Length),
-        (changed(11, 0x20), 8, ClCause::Length),
-        (changed(8, 0x04), 8, ClCause::Length),
-        (changed(9, 0x01), 160, ClCause::Truncated),
-        (changed(63, 3), 56, ClCause::Seq),
-        (changed(27, 0), 20, ClCause::Class),
-        (changed(35, 1), 28, ClCause::Class),
-        (changed(43, 0), 36, ClCause::Range),
-        (changed(87, 31), 80, ClCause::Range),
+        (changed(6, b'3'), 6, ClCause::Header),
+        (changed(7, b' '), 7, ClCause::Header),
+        (changed(8, 1), 8, ClCause::Count),
+        (changed(15, 5), 8, ClCause::Count),
+        (changed(19, 0x29), 16, ClCause::Length),
+        (changed(19, 0x20), 16, ClCause::Length),
+        (changed(16, 0x04), 16, ClCause::Length),
+        (changed(17, 0x01), 168, ClCause::Truncated),
+        (changed(71, 3), 64, ClCause::Seq),
+        (changed(35, 0), 28, ClCause::Class),
+        (changed(43, 1), 36, ClCause::Class),
+        (changed(51, 0), 44, ClCause::Range),
+        (changed(95, 31), 88, ClCause::Range),
     ];
     for (bytes, at, cause) in &table {
         assert_eq!(rt; fault_of(alloc, bytes), Some((*at, *cause)));
@@ -183,7 +205,7 @@ fn first_faults_of_files(rt: HostRuntime) {
 #[test]
 fn ends_of_files(rt: HostRuntime) -> Result<(), Fail> {
     let alloc = rt.alloc();
-    for length in [0usize, 7, 8, 11, 12, 51, 132, 159] {
+    for length in [0usize, 7, 8, 15, 16, 19, 20, 59, 140, 167] {
         assert_eq!(rt;
             fault_of(alloc, &SAMPLE[..length]),
             Some((length as u64, ClCause::Truncated))
@@ -192,7 +214,7 @@ fn ends_of_files(rt: HostRuntime) -> Result<(), Fail> {
     let mut longer = Vec::new(alloc);
     longer.extend_from_slice(&SAMPLE)?;
     longer.push(0)?;
-    assert_eq!(rt; fault_of(alloc, &longer), Some((160, ClCause::AfterFini)));
+    assert_eq!(rt; fault_of(alloc, &longer), Some((168, ClCause::AfterFini)));
     Ok(())
 }
 
@@ -201,42 +223,42 @@ fn ends_of_files(rt: HostRuntime) -> Result<(), Fail> {
 fn first_faults_of_records(rt: HostRuntime) -> Result<(), Fail> {
     let alloc = rt.alloc();
     let table: [(&[i64], u64, ClCause); 28] = [
-        (&[1000, 0, 1], 8, ClCause::Length),
-        (&[1000, 0, 1, 2_147_483_648], 44, ClCause::Range),
-        (&[2000, 0], 28, ClCause::Class),
-        (&[2000, 10], 28, ClCause::Class),
-        (&[2000, 2, 0], 8, ClCause::Length),
-        (&[2000, 6, 0], 36, ClCause::Range),
-        (&[2000, 7, -1, 0], 36, ClCause::Range),
-        (&[2000, 7, 2_147_483_648, 1], 36, ClCause::Range),
-        (&[2000, 7, 0, 1], 44, ClCause::Range),
-        (&[2000, 7, 5, 0], 44, ClCause::Range),
-        (&[2000, 7, 5, 3], 44, ClCause::Range),
-        (&[2000, 8, 3], 36, ClCause::Range),
-        (&[3000, 1, 3, 0, 0, 0, 0, 1, 1], 36, ClCause::Range),
-        (&[3000, 1, 1, 0, 0, 0, 0, 1, 1], 68, ClCause::Range),
+        (&[1000, 0, 1], 16, ClCause::Length),
+        (&[1000, 0, 1, 2_147_483_648], 52, ClCause::Range),
+        (&[2000, 0], 36, ClCause::Class),
+        (&[2000, 10], 36, ClCause::Class),
+        (&[2000, 2, 0], 16, ClCause::Length),
+        (&[2000, 6, 0], 44, ClCause::Range),
+        (&[2000, 7, -1, 0], 44, ClCause::Range),
+        (&[2000, 7, 2_147_483_648, 1], 44, ClCause::Range),
+        (&[2000, 7, 0, 1], 52, ClCause::Range),
+        (&[2000, 7, 5, 0], 52, ClCause::Range),
+        (&[2000, 7, 5, 3], 52, ClCause::Range),
+        (&[2000, 8, 3], 44, ClCause::Range),
+        (&[3000, 1, 3, 0, 0, 0, 0, 1, 1], 44, ClCause::Range),
+        (&[3000, 1, 1, 0, 0, 0, 0, 1, 1], 76, ClCause::Range),
         (
             &[3000, 1, 1, 0, 0, 100_000_001, 0, 1, 1],
-            60,
+            68,
             ClCause::Range,
         ),
-        (&[3000, 1, 1, 0, 0, 1, 0, 4, 1], 76, ClCause::Range),
-        (&[3000, 1, 1, 0, 0, 1, 0, 1, 0], 84, ClCause::Range),
-        (&[3000, 2, 2, 0, 0, 99, 0, 1], 60, ClCause::Range),
+        (&[3000, 1, 1, 0, 0, 1, 0, 4, 1], 84, ClCause::Range),
+        (&[3000, 1, 1, 0, 0, 1, 0, 1, 0], 92, ClCause::Range),
+        (&[3000, 2, 2, 0, 0, 99, 0, 1], 68, ClCause::Range),
         (
             &[3000, 2, 2, 48_000_000, 0, 1_000_001, 0, 1],
-            60,
+            68,
             ClCause::Range,
         ),
-        (&[3000, 2, 2, 0, 0, 100, 1, 1], 68, ClCause::Range),
-        (&[3000, 2, 1, 0, 0, 1, 0, 5], 76, ClCause::Range),
-        (&[4000, 1], 20, ClCause::Class),
-        (&[5000, 1, 0, 0, 50_000_001], 52, ClCause::Range),
-        (&[5000, 5], 8, ClCause::Length),
-        (&[5000, 5, 1, 2, 3, 50_000_001], 8, ClCause::Length),
-        (&[5000, 5, 1, 2, 3, 4, -50_000_001, 6], 68, ClCause::Range),
-        (&[6000, 4, 3], 36, ClCause::Range),
-        (&[14_000, 0, 0], 8, ClCause::Length),
+        (&[3000, 2, 2, 0, 0, 100, 1, 1], 76, ClCause::Range),
+        (&[3000, 2, 1, 0, 0, 1, 0, 5], 84, ClCause::Range),
+        (&[4000, 1], 28, ClCause::Class),
+        (&[5000, 1, 0, 0, 50_000_001], 60, ClCause::Range),
+        (&[5000, 5], 16, ClCause::Length),
+        (&[5000, 5, 1, 2, 3, 50_000_001], 16, ClCause::Length),
+        (&[5000, 5, 1, 2, 3, 4, -50_000_001, 6], 76, ClCause::Range),
+        (&[6000, 4, 3], 44, ClCause::Range),
+        (&[14_000, 0, 0], 16, ClCause::Length),
     ];
     for (words, at, cause) in &table {
         let bytes = file(alloc, &[*words])?;

@@ -28,4 +28,4 @@ returns-then-taken-clause-stands c =
     let same : Agree parts.Records c.args.records.items c.args.at c.args.held.items parts.Nothing rs place rest
     = subst (Agree parts.Records c.args.records.items c.args.at c.args.held.items parts.Nothing rs place) (sym c.in_ok-drop_front.ensures)
     (subst (λ b. Agree parts.Records c.args.records.items c.args.at b parts.Nothing rs place (drop c.in_ok-taken.taken.bytes b)) c.deref.ensures.value taken) in
-    agree_goes_on parts.Records parts.Nothing c.args.records.items rs c.args.at place c.args.held.items rest c.with_nothing.result same c.with_nothing.ensures.stands
+    agree_goes_on parts.Records parts.Nothing c.args.number c.args.records.items rs c.args.at place c.args.held.items rest c.with_nothing.result same c.with_nothing.ensures.stands
