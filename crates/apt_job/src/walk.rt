@@ -192,18 +192,13 @@ fn jobs_of(alloc: Global, steps: &[Step], mut records: Vec<Record>) -> Result<Ve
         if gives_name(st, &mut here)? {
             continue;
         }
-        // what is found stays where it is made
-        let found = effect_of(&here, &st.deed);
-        let found = match &found {
-            Ok(found) => found,
-            Err(_) => return Err(JobError::NoMemory),
-        };
-        let sides = effect_sides(found);
-        let front = match taken(st, found, sides, &records[at..]) {
+        let found = effect_of(&here, &st.deed)?;
+        let sides = effect_sides(&found);
+        let front = match taken(st, &found, sides, &records[at..]) {
             Ok(front) => front,
             Err(fitting) => return Err(entry(at, fitting)),
         };
-        let Some(found) = found else { unreachable!() };
+        let Some(found) = &found else { unreachable!() };
         take(alloc, &mut jobs, &mut here, found, sides, &front.cuts)?;
         let behind = records.len() - front.rest.len();
         let vertices = sizes(&front.cuts);

@@ -1,6 +1,6 @@
 -- The motions that contours ask for, and where they end.
 use Rattle.std.proofs.Common.{◌≡◌, ◌∙◌, ℕ, ℤ, Bool, true, false, List, [], ◌∷◌, ◌++◌, Option, Some, None, Result, Ok, Err, refl, sym, ap, subst}
-use Rattle.std.specs.Prelude.{not, ◌&&◌}
+use Rattle.std.specs.Prelude.{not, ◌&&◌, IfOk}
 use Rattle.apt_words.specs.declared.Case.{Case}
 use Rattle.apt_words.specs.declared.Case.TheVariants as cases
 use Rattle.apt_words.specs.declared.Go.{Go}
@@ -68,6 +68,18 @@ contour_motion here side go drive how check n start d e k r is_start on_d on_e c
     let known_d = known_surface here.table drive d on_d in
     let known_e = known_surface here.table check e on_e in
     rw (is_start, known_d.0, known_d.1, known_e.0, known_e.1, on_d, on_e, counts) is
+
+-- with its legs
+pub contour_legs : (here : Situation) (side : Option Side) (go : Go) (drive : List ℕ) (how : Stop) (check : List ℕ) (n : ℤ) (start : Position) (d e : Surface) (k : Legs) (r : Result Contour Case)
+    → here.position ≡ Some start → surface_in here.table drive ≡ Some d → surface_in here.table check ≡ Some e → legs_by (whole n) ≡ Some k → IfOk r (λ c. c.legs ≡ k)
+    → IsContourBy (first_of (turned_cases k (with_side here.settings side) start d (turn_at here start d go) how e)) (cuts k (if_turned (with_side here.settings side) start d (turn_at here start d go) how e)) r
+    → IsContourBy (refusal_of here (deeds.Contour side go drive how check n)) (effect_of here (deeds.Contour side go drive how check n)) r
+contour_legs here side go drive how check n start d e k (Ok c) is_start on_d on_e counts legs is =
+    contour_motion here side go drive how check n start d e c.legs (Ok c.motion) is_start on_d on_e (counts ∙ ap Some (sym legs))
+    (subst (λ (j : Legs). IsMotionBy c.legs (first_of (turned_cases j (with_side here.settings side) start d (turn_at here start d go) how e)) (cuts j (if_turned (with_side here.settings side) start d (turn_at here start d go) how e)) (Ok c.motion))
+    (sym legs) is)
+contour_legs here side go drive how check n start d e k (Err case) is_start on_d on_e counts legs is =
+    contour_motion here side go drive how check n start d e k (Err case) is_start on_d on_e counts is
 
 -- ---- a contour with a name that stands for no surface
 

@@ -1,5 +1,5 @@
-use Rattle.std.proofs.Common.{rules, Ok, Err}
-use Rattle.apt_motion.proofs.Cuts.{drive_refused, check_refused, count_refused, contour_motion}
+use Rattle.std.proofs.Common.{rules}
+use Rattle.apt_motion.proofs.Cuts.{drive_refused, check_refused, count_refused, contour_legs}
 use Rattle.apt_motion.proofs.contours.contour_of.Goals as goal
 
 pub returns-in_err-drive-clause-contour : goal.returns-in_err-drive-clause-contour
@@ -18,14 +18,8 @@ returns-in_default-legs_by-clause-contour c =
     count_refused a.here.now a.side a.go a.drive.now a.how a.check.now a.n c.in-Some.start c.in_ok-drive.drive c.in_ok-check.check c.in-Some.is c.in_ok-drive.ensures.named c.in_ok-check.ensures.named
     (search (rules, c.legs_by.ensures))
 
-pub returns-in-Ok-clause-contour : goal.returns-in-Ok-clause-contour
-returns-in-Ok-clause-contour c =
+pub returns-clause-contour : goal.returns-clause-contour
+returns-clause-contour c =
     let a = c.args in
-    contour_motion a.here.now a.side a.go a.drive.now a.how a.check.now a.n c.in-Some.start c.in_ok-drive.drive c.in_ok-check.check c.in-Some-legs_by.legs (Ok c.in-Ok.motion)
-    c.in-Some.is c.in_ok-drive.ensures.named c.in_ok-check.ensures.named (search (rules, c.legs_by.ensures, c.in-Some-legs_by.is)) (c.in-Ok.ensures.motion c.in-Some-legs_by.legs)
-
-pub returns-in-Err-clause-contour : goal.returns-in-Err-clause-contour
-returns-in-Err-clause-contour c =
-    let a = c.args in
-    contour_motion a.here.now a.side a.go a.drive.now a.how a.check.now a.n c.in-Some.start c.in_ok-drive.drive c.in_ok-check.check c.in-Some-legs_by.legs (Err c.in-Err.case)
-    c.in-Some.is c.in_ok-drive.ensures.named c.in_ok-check.ensures.named (search (rules, c.legs_by.ensures, c.in-Some-legs_by.is)) (c.in-Err.ensures.motion c.in-Some-legs_by.legs)
+    contour_legs a.here.now a.side a.go a.drive.now a.how a.check.now a.n c.in-Some.start c.in_ok-drive.drive c.in_ok-check.check c.in-Some-legs_by.legs c.on_surfaces.result
+    c.in-Some.is c.in_ok-drive.ensures.named c.in_ok-check.ensures.named (search (rules, c.legs_by.ensures, c.in-Some-legs_by.is)) c.on_surfaces.ensures.legs c.on_surfaces.ensures.contour
