@@ -1,12 +1,13 @@
 -- Records whose acts can be written, and the blocks of acts.
-use Rattle.std.specs.Prelude.{ℕ, ◌+◌, List, [], ◌∷◌, ◌++◌}
+use Rattle.std.specs.Prelude.{ℕ, Bool, ◌+◌, List, [], ◌∷◌, ◌++◌}
 use Rattle.apt_cldata.specs.declared.record.Record.{Record}
 use Rattle.apt_control.specs.declared.Act.{Act}
 use Rattle.apt_post.specs.declared.planning.Pending.{Pending}
 use Rattle.apt_post.specs.Plan.{record_acts, record_pending}
 use Rattle.apt_block.specs.declared.block.TapeWord.{TapeWord}
 use Rattle.apt_block.specs.Block.{IsBlock}
-use Rattle.apt_post.specs.Blocks.{act_words, numbered, CanWrite}
+use Rattle.apt_post.specs.Blocks.{act_words, numbered, behind, CanWrite}
+use Rattle.apt_control.specs.declared.held.Held.{Held}
 
 -- all acts can be written
 abbrev pub CanWriteAll : List Act → Type 0
@@ -29,6 +30,7 @@ AreBlocks [] = Unit {0}
 AreBlocks (words ∷ more) = IsBlock words × AreBlocks more
 
 -- the blocks of acts that k blocks precede, each with all words of its act
-abbrev pub whole_blocks : ℕ → ℕ → List Act → List (List TapeWord)
-whole_blocks step k [] = []
-whole_blocks step k (act ∷ more) = (numbered step k ++ act_words act) ∷ whole_blocks step (k + 1) more
+abbrev pub whole_blocks : Bool → ℕ → ℕ → Held → List Act → List (List TapeWord)
+whole_blocks incremental step k held [] = []
+whole_blocks incremental step k held (act ∷ more) =
+    (numbered step k ++ act_words incremental held act) ∷ whole_blocks incremental step (k + 1) (behind incremental held act) more

@@ -1,7 +1,7 @@
 //! The blocks of acts, and the bytes of their tape.
 
 ghost use Rattle.std.specs.Prelude.{◌≡◌, false, map, Ok, IfOk};
-ghost use Rattle.apt_control.specs.Control.{control_run};
+ghost use Rattle.apt_control.specs.Control.{control_run, nothing_held};
 ghost use Rattle.apt_tapecode.specs.Tapecode as coding;
 ghost use Rattle.apt_post.specs.Blocks as spec;
 ghost use Rattle.apt_post.specs.Writing.{AreBlocks, CanWriteAll, whole_blocks};
@@ -20,8 +20,8 @@ pub fn blocks(alloc: Global, acts: &[Act], m: &Machine) -> Result<Vec<Block>, Al
     requires { CanWriteAll acts.now }
     ensures value { IfOk result (λ v. v.items ≡ spec.blocks_of m.now acts.now) }
     ensures are { IfOk result (λ v. AreBlocks v.items) }
-    ensures run { spec.IsProgram acts.now → IfOk result (λ v. control_run m.now.code (map (coding.byte_of m.now.code) (spec.text_of v.items)) ≡ Ok acts.now) }
-    ensures whole { m.now.changed ≡ false → IfOk result (λ v. v.items ≡ whole_blocks m.now.seq 0 acts.now) }
+    ensures run { spec.IsProgram acts.now → IfOk result (λ v. control_run m.now.code (map (coding.byte_of m.now.code) (spec.text_of m.now.short v.items)) ≡ Ok acts.now) }
+    ensures whole { m.now.changed ≡ false → IfOk result (λ v. v.items ≡ whole_blocks m.now.incremental m.now.seq 0 nothing_held acts.now) }
 {
     all_blocks(alloc, acts, m)
 }
