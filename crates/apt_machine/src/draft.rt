@@ -124,6 +124,8 @@ impl Draft {
             spinmax: self.spinmax?,
             toolmax: self.toolmax?,
             changed: self.words.unwrap_or(false),
+            incremental: false,
+            short: false,
         })
     }
 }

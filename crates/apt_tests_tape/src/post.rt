@@ -26,6 +26,8 @@ fn machine(code: Code, seq: u16) -> Machine {
         spinmax: 9999,
         toolmax: 99,
         changed: false,
+        incremental: false,
+        short: false,
     }
 }
 

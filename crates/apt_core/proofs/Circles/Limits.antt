@@ -13,7 +13,7 @@ use Rattle.apt_core.specs.Demo.{demo_table}
 use Rattle.apt_core.proofs.Circles.Deeds.{deeds_about, circle_deeds, deeds_from, head_deeds, numbered, demo_deeds, demo_steps}
 
 abbrev pub demo_machine : Machine
-demo_machine = record { code = codings.Rs358; seq = 1; feedmax = 9999; spinmax = 9999; toolmax = 99; changed = false }
+demo_machine = record { code = codings.Rs358; seq = 1; feedmax = 9999; spinmax = 9999; toolmax = 99; changed = false; incremental = false; short = false }
 
 -- it is the machine of the table
 pub demo_tabled : table_of demo_table ≡ Ok demo_machine
