@@ -1,6 +1,6 @@
 -- A table that is spelled out is read as its machine.
-use Rattle.std.proofs.Common.{refl, ap, ◌∙◌, arith, rules, ◌≡◌, ℕ, ◌+◌, ◌<◌, ◌≤◌, ◌==◌, Bool, true, false, not, List, [], ◌∷◌, ◌++◌, length, take, get_or, Some, None, Result, Ok, inl, inr, lit≤}
-use Rattle.std.specs.Prelude.{◌&&◌, ◌||◌, nat_le, nat_lt, codes}
+use Rattle.std.proofs.Common.{refl, ap, ◌∙◌, arith, rules, ◌≡◌, ℕ, ◌+◌, ◌<◌, ◌≤◌, ◌==◌, Bool, true, false, not, List, [], ◌∷◌, ◌++◌, length, take, get_or, Some, Result, Ok, inl, inr, lit≤}
+use Rattle.std.specs.Prelude.{◌&&◌, ◌||◌, nat_le, nat_lt, codes, if◌then◌else◌}
 use Rattle.std.specs.List.{list_all, list_any}
 use Rattle.std.specs.Fmt.{decimal}
 use Rattle.std.proofs.Math.Seq.{take-append_seam, drop-append_seam}
@@ -15,15 +15,18 @@ use Rattle.apt_lexis.proofs.Fronts.{passes_other}
 use Rattle.apt_lexis.proofs.PlainLines.{is_plain, first_plain}
 use Rattle.apt_tapecode.specs.declared.Code.{Code}
 use Rattle.apt_tapecode.specs.declared.Code.TheVariants as codings
+use Rattle.apt_machine.specs.declared.version.Version.{Version}
+use Rattle.apt_machine.specs.declared.version.Version.TheVariants as versions
+use Rattle.apt_machine.specs.declared.key.Key.{Key}
 use Rattle.apt_machine.specs.declared.key.Key.TheVariants as keys
 use Rattle.apt_machine.specs.declared.draft.Draft.{Draft}
 use Rattle.apt_machine.specs.declared.machine.Machine.{Machine}
 use Rattle.apt_machine.specs.declared.cause.MachineError.{MachineError}
 use Rattle.apt_machine.specs.Machines.{IsMachine}
 use Rattle.apt_machine.specs.Numbers.{is_digit, digits_from, has_leading_zero, plain_number, number_within}
-use Rattle.apt_machine.specs.Keys.{blank_draft, has, key_named}
+use Rattle.apt_machine.specs.Keys.{blank_draft, has, first_key, key_named}
 use Rattle.apt_machine.specs.Tables.{is_readable, in_front, behind, keyed, behind_line, machine_from, machine_of_lines, table_of}
-use Rattle.apt_machine.specs.Spelling.{code_word, words_lines, table_lines, text_of, spelled}
+use Rattle.apt_machine.specs.Spelling.{code_word, line_where, chosen_lines, table_lines, text_of, spelled}
 
 -- ---- numbers
 
@@ -108,55 +111,74 @@ no_tab : (line : List ℕ) → list_all is_shown line ≡ true → list_any (λ 
 no_tab [] e = refl
 no_tab (b ∷ bs) e = let h = both (is_shown b) (list_all is_shown bs) e in rw (tab_shown b h.0, no_tab bs h.1) refl
 
-says : (d : Draft) (b : ℕ) (bs : List ℕ) → list_all is_shown (b ∷ bs) ≡ true → length (b ∷ bs) ≤ 256
-    → behind_line d (b ∷ bs) ≡ keyed d (key_named (in_front (b ∷ bs))) (behind (b ∷ bs))
-says d b bs e short = rw (readable (b ∷ bs) e short, no_tab (b ∷ bs) e) refl
+-- a key of the first version stands in both
+named : (version : Version) (name : List ℕ) (key : Key) → first_key name ≡ Some key → key_named version name ≡ Some key
+named versions.First name key e = e
+named versions.Second name key e = rw e refl
+
+says : (version : Version) (d : Draft) (key : Key) (b : ℕ) (bs : List ℕ) → first_key (in_front (b ∷ bs)) ≡ Some key → list_all is_shown (b ∷ bs) ≡ true → length (b ∷ bs) ≤ 256
+    → behind_line version d (b ∷ bs) ≡ keyed d (Some key) (behind (b ∷ bs))
+says version d key b bs k e short = rw (readable (b ∷ bs) e short, no_tab (b ∷ bs) e, named version (in_front (b ∷ bs)) key k) refl
 
 shown_line : (key : List ℕ) (n : ℕ) → list_all is_shown key ≡ true → n ≤ 9999 → list_all is_shown (key ++ decimal n) ≡ true
 shown_line key n e small = rw (list_all-append is_shown key (decimal n), e, shown_decimal n small) refl
 
 -- a line of a number, behind its key and a blank
-number_line : (d : Draft) (b : ℕ) (bs : List ℕ) (n : ℕ) → list_all is_shown (b ∷ bs) ≡ true → length bs ≤ 20 → n ≤ 9999
-    → behind_line d (b ∷ (bs ++ decimal n)) ≡ keyed d (key_named (in_front (b ∷ (bs ++ decimal n)))) (behind (b ∷ (bs ++ decimal n)))
-number_line d b bs n e short small =
-    says d b (bs ++ decimal n) (shown_line (b ∷ bs) n e small) (omega (arith, length-append bs (decimal n), length-decimal-le 4 n (omega arith) (omega arith) (omega arith)))
+number_line : (version : Version) (d : Draft) (key : Key) (b : ℕ) (bs : List ℕ) (n : ℕ) → first_key (in_front (b ∷ (bs ++ decimal n))) ≡ Some key → list_all is_shown (b ∷ bs) ≡ true → length bs ≤ 20 → n ≤ 9999
+    → behind_line version d (b ∷ (bs ++ decimal n)) ≡ keyed d (Some key) (behind (b ∷ (bs ++ decimal n)))
+number_line version d key b bs n k e short small =
+    says version d key b (bs ++ decimal n) k (shown_line (b ∷ bs) n e small) (omega (arith, length-append bs (decimal n), length-decimal-le 4 n (omega arith) (omega arith) (omega arith)))
 
-code_line : (d : Draft) (code : Code) → has d keys.Code ≡ false → behind_line d (codes "CODE " ++ code_word code) ≡ Ok (record d { code = Some code })
-code_line d codings.Rs244 fresh = rw fresh refl
-code_line d codings.Rs358 fresh = rw fresh refl
+code_line : (version : Version) (d : Draft) (code : Code) → has d keys.Code ≡ false → behind_line version d (codes "CODE " ++ code_word code) ≡ Ok (record d { code = Some code })
+code_line version d codings.Rs244 fresh = says version d keys.Code 67 (codes "ODE RS244") refl refl (lit≤ tt) ∙ rw fresh refl
+code_line version d codings.Rs358 fresh = says version d keys.Code 67 (codes "ODE RS358") refl refl (lit≤ tt) ∙ rw fresh refl
 
-seq_line : (d : Draft) (n : ℕ) → has d keys.Seq ≡ false → n ≤ 999 → behind_line d (codes "SEQ " ++ decimal n) ≡ Ok (record d { seq = Some n })
-seq_line d n fresh high =
-    number_line d 83 (codes "EQ ") n refl (lit≤ tt) (omega arith) ∙ rw (fresh, number_in 0 999 n (omega arith) high (lit≤ tt)) refl
+seq_line : (version : Version) (d : Draft) (n : ℕ) → has d keys.Seq ≡ false → n ≤ 999 → behind_line version d (codes "SEQ " ++ decimal n) ≡ Ok (record d { seq = Some n })
+seq_line version d n fresh high =
+    number_line version d keys.Seq 83 (codes "EQ ") n refl refl (lit≤ tt) (omega arith) ∙ rw (fresh, number_in 0 999 n (omega arith) high (lit≤ tt)) refl
 
-feedmax_line : (d : Draft) (n : ℕ) → has d keys.Feedmax ≡ false → 1 ≤ n → n ≤ 9999 → behind_line d (codes "FEEDMAX " ++ decimal n) ≡ Ok (record d { feedmax = Some n })
-feedmax_line d n fresh low high =
-    number_line d 70 (codes "EEDMAX ") n refl (lit≤ tt) high ∙ rw (fresh, number_in 1 9999 n low high (lit≤ tt)) refl
+feedmax_line : (version : Version) (d : Draft) (n : ℕ) → has d keys.Feedmax ≡ false → 1 ≤ n → n ≤ 9999 → behind_line version d (codes "FEEDMAX " ++ decimal n) ≡ Ok (record d { feedmax = Some n })
+feedmax_line version d n fresh low high =
+    number_line version d keys.Feedmax 70 (codes "EEDMAX ") n refl refl (lit≤ tt) high ∙ rw (fresh, number_in 1 9999 n low high (lit≤ tt)) refl
 
-spinmax_line : (d : Draft) (n : ℕ) → has d keys.Spinmax ≡ false → 1 ≤ n → n ≤ 9999 → behind_line d (codes "SPINMAX " ++ decimal n) ≡ Ok (record d { spinmax = Some n })
-spinmax_line d n fresh low high =
-    number_line d 83 (codes "PINMAX ") n refl (lit≤ tt) high ∙ rw (fresh, number_in 1 9999 n low high (lit≤ tt)) refl
+spinmax_line : (version : Version) (d : Draft) (n : ℕ) → has d keys.Spinmax ≡ false → 1 ≤ n → n ≤ 9999 → behind_line version d (codes "SPINMAX " ++ decimal n) ≡ Ok (record d { spinmax = Some n })
+spinmax_line version d n fresh low high =
+    number_line version d keys.Spinmax 83 (codes "PINMAX ") n refl refl (lit≤ tt) high ∙ rw (fresh, number_in 1 9999 n low high (lit≤ tt)) refl
 
-toolmax_line : (d : Draft) (n : ℕ) → has d keys.Toolmax ≡ false → 1 ≤ n → n ≤ 99 → behind_line d (codes "TOOLMAX " ++ decimal n) ≡ Ok (record d { toolmax = Some n })
-toolmax_line d n fresh low high =
-    number_line d 84 (codes "OOLMAX ") n refl (lit≤ tt) (omega arith) ∙ rw (fresh, number_in 1 99 n low high (lit≤ tt)) refl
+toolmax_line : (version : Version) (d : Draft) (n : ℕ) → has d keys.Toolmax ≡ false → 1 ≤ n → n ≤ 99 → behind_line version d (codes "TOOLMAX " ++ decimal n) ≡ Ok (record d { toolmax = Some n })
+toolmax_line version d n fresh low high =
+    number_line version d keys.Toolmax 84 (codes "OOLMAX ") n refl refl (lit≤ tt) (omega arith) ∙ rw (fresh, number_in 1 99 n low high (lit≤ tt)) refl
 
 -- ---- the table
 
-next_line : (n : ℕ) (d e : Draft) (line : List ℕ) (lines : List (List ℕ)) → behind_line d line ≡ Ok e → machine_from n d (line ∷ lines) ≡ machine_from (n + 1) e lines
-next_line n d e line lines h = rw h refl
+next_line : (version : Version) (n : ℕ) (d e : Draft) (line : List ℕ) (lines : List (List ℕ)) → behind_line version d line ≡ Ok e → machine_from version n d (line ∷ lines) ≡ machine_from version (n + 1) e lines
+next_line version n d e line lines h = rw h refl
 
 code_shown : (code : Code) → list_all is_shown (codes "CODE " ++ code_word code) ≡ true
 code_shown codings.Rs244 = refl
 code_shown codings.Rs358 = refl
 
-words_shown : (changed : Bool) → AreShown (words_lines changed)
-words_shown true = (refl, tt)
-words_shown false = tt
+version_shown : (second : Bool) → list_all is_shown (if second then codes "MACHINE 2" else codes "MACHINE 1") ≡ true
+version_shown true = refl
+version_shown false = refl
+
+shown_where : (b : Bool) (line : List ℕ) → list_all is_shown line ≡ true → AreShown (line_where b line)
+shown_where true line e = (e, tt)
+shown_where false line e = tt
+
+shown_both : (lines others : List (List ℕ)) → AreShown lines → AreShown others → AreShown (lines ++ others)
+shown_both [] others h k = k
+shown_both (line ∷ lines) others h k = (h.0, shown_both lines others h.1 k)
+
+chosen_shown : (m : Machine) → AreShown (chosen_lines m)
+chosen_shown m =
+    let words = shown_where m.changed (codes "WORDS CHANGED") refl in
+    let mode = shown_where m.incremental (codes "MODE INC") refl in
+    shown_both _ _ (shown_both _ _ words mode) (shown_where m.short (codes "ZEROS DROPPED") refl)
 
 lines_shown : (m : Machine) → IsMachine m → AreShown (table_lines m)
 lines_shown m is = (
-  refl,
+  version_shown (m.incremental || m.short),
   (
     code_shown m.code,
     (
@@ -167,7 +189,7 @@ lines_shown m is = (
           shown_line (codes "SPINMAX ") m.spinmax refl is.spindle,
           (
             shown_line (codes "TOOLMAX ") m.toolmax refl (omega arith),
-            words_shown m.changed,
+            chosen_shown m,
           ),
         ),
       ),
@@ -175,12 +197,33 @@ lines_shown m is = (
   ),
 )
 
--- the words that are written are said last, or not at all
-words_again : (code : Code) (seq feedmax spinmax toolmax : ℕ) (changed : Bool)
-    → machine_from 7 (record { code = Some code; seq = Some seq; feedmax = Some feedmax; spinmax = Some spinmax; toolmax = Some toolmax; words = None }) (words_lines changed)
-    ≡ Ok (record { code = code; seq = seq; feedmax = feedmax; spinmax = spinmax; toolmax = toolmax; changed = changed })
-words_again code seq feedmax spinmax toolmax true = refl
-words_again code seq feedmax spinmax toolmax false = refl
+-- the version that the first line names
+abbrev version_for : Bool → Version
+version_for second = if second then versions.Second else versions.First
+
+version_again : (second : Bool) (lines : List (List ℕ))
+    → machine_of_lines ((if second then codes "MACHINE 2" else codes "MACHINE 1") ∷ lines) ≡ machine_from (version_for second) 2 blank_draft lines
+version_again true lines = refl
+version_again false lines = refl
+
+-- what the keys that must stand say
+abbrev needed : Machine → Draft
+needed m = record blank_draft { code = Some m.code; seq = Some m.seq; feedmax = Some m.feedmax; spinmax = Some m.spinmax; toolmax = Some m.toolmax }
+
+abbrev chosen : Machine → Bool → Bool → Bool → Machine
+chosen m changed incremental short = record m { changed = changed; incremental = incremental; short = short }
+
+-- what is chosen is said last, or not at all
+chosen_again : (m : Machine) (changed incremental short : Bool)
+    → machine_from (version_for (incremental || short)) 7 (needed m) (chosen_lines (chosen m changed incremental short)) ≡ Ok (chosen m changed incremental short)
+chosen_again m true true true = refl
+chosen_again m true true false = refl
+chosen_again m true false true = refl
+chosen_again m true false false = refl
+chosen_again m false true true = refl
+chosen_again m false true false = refl
+chosen_again m false false true = refl
+chosen_again m false false false = refl
 
 machine_again : (m : Machine) → IsMachine m → machine_of_lines (table_lines m) ≡ Ok m
 machine_again m is =
@@ -188,17 +231,20 @@ machine_again m is =
     let b = record a { seq = Some m.seq } in
     let c = record b { feedmax = Some m.feedmax } in
     let d = record c { spinmax = Some m.spinmax } in
+    let v = version_for (m.incremental || m.short) in
+    let code : List ℕ = codes "CODE " ++ code_word m.code in
     let seq : List ℕ = codes "SEQ " ++ decimal m.seq in
     let feed : List ℕ = codes "FEEDMAX " ++ decimal m.feedmax in
     let spindle : List ℕ = codes "SPINMAX " ++ decimal m.spinmax in
     let tool : List ℕ = codes "TOOLMAX " ++ decimal m.toolmax in
-    let words = words_lines m.changed in
-    next_line 2 blank_draft a (codes "CODE " ++ code_word m.code) (seq ∷ feed ∷ spindle ∷ tool ∷ words) (code_line blank_draft m.code refl)
-    ∙ next_line 3 a b seq (feed ∷ spindle ∷ tool ∷ words) (seq_line a m.seq refl is.seq)
-    ∙ next_line 4 b c feed (spindle ∷ tool ∷ words) (feedmax_line b m.feedmax refl is.least_feed is.feed)
-    ∙ next_line 5 c d spindle (tool ∷ words) (spinmax_line c m.spinmax refl is.least_spindle is.spindle)
-    ∙ next_line 6 d (record d { toolmax = Some m.toolmax }) tool words (toolmax_line d m.toolmax refl is.least_tool is.tool)
-    ∙ words_again m.code m.seq m.feedmax m.spinmax m.toolmax m.changed
+    let last = chosen_lines m in
+    version_again (m.incremental || m.short) (code ∷ seq ∷ feed ∷ spindle ∷ tool ∷ last)
+    ∙ next_line v 2 blank_draft a code (seq ∷ feed ∷ spindle ∷ tool ∷ last) (code_line v blank_draft m.code refl)
+    ∙ next_line v 3 a b seq (feed ∷ spindle ∷ tool ∷ last) (seq_line v a m.seq refl is.seq)
+    ∙ next_line v 4 b c feed (spindle ∷ tool ∷ last) (feedmax_line v b m.feedmax refl is.least_feed is.feed)
+    ∙ next_line v 5 c d spindle (tool ∷ last) (spinmax_line v c m.spinmax refl is.least_spindle is.spindle)
+    ∙ next_line v 6 d (record d { toolmax = Some m.toolmax }) tool last (toolmax_line v d m.toolmax refl is.least_tool is.tool)
+    ∙ chosen_again m m.changed m.incremental m.short
 
 table_again : (m : Machine) → IsMachine m → table_of (spelled m) ≡ Ok m
 table_again m is = ap machine_of_lines (lines_again (table_lines m) (lines_shown m is)) ∙ machine_again m is

@@ -1,5 +1,5 @@
 -- The table of a machine, spelled out.
-use Rattle.std.specs.Prelude.{ℕ, Bool, true, false, List, [], ◌∷◌, ◌++◌, codes}
+use Rattle.std.specs.Prelude.{ℕ, ◌||◌, Bool, true, false, List, [], ◌∷◌, ◌++◌, codes, if◌then◌else◌}
 use Rattle.std.specs.Fmt.{decimal}
 use Rattle.apt_lexis.specs.Lines.{line_feed}
 use Rattle.apt_tapecode.specs.declared.Code.{Code}
@@ -10,21 +10,32 @@ abbrev pub code_word : Code → List ℕ
 code_word codings.Rs244 = codes "RS244"
 code_word codings.Rs358 = codes "RS358"
 
--- WORDS stands where words that say what holds are left out
-abbrev pub words_lines : Bool → List (List ℕ)
-words_lines true = codes "WORDS CHANGED" ∷ []
-words_lines false = []
+-- the second version, where the machine needs a key of it
+abbrev pub version_line : Machine → List ℕ
+version_line m = if m.incremental || m.short then codes "MACHINE 2" else codes "MACHINE 1"
 
--- six lines, and the one of WORDS
+-- a line, where something holds
+abbrev pub line_where : Bool → List ℕ → List (List ℕ)
+line_where true line = line ∷ []
+line_where false line = []
+
+-- the keys that can be left out, where they have their second value
+abbrev pub chosen_lines : Machine → List (List ℕ)
+chosen_lines m =
+    line_where m.changed (codes "WORDS CHANGED")
+    ++ line_where m.incremental (codes "MODE INC")
+    ++ line_where m.short (codes "ZEROS DROPPED")
+
+-- six lines, and those of the keys that can be left out
 abbrev pub table_lines : Machine → List (List ℕ)
 table_lines m =
-    codes "MACHINE 1"
+    version_line m
     ∷ (codes "CODE " ++ code_word m.code)
     ∷ (codes "SEQ " ++ decimal m.seq)
     ∷ (codes "FEEDMAX " ++ decimal m.feedmax)
     ∷ (codes "SPINMAX " ++ decimal m.spinmax)
     ∷ (codes "TOOLMAX " ++ decimal m.toolmax)
-    ∷ words_lines m.changed
+    ∷ chosen_lines m
 
 -- lines, each with its line feed
 abbrev pub text_of : List (List ℕ) → List ℕ

@@ -10,7 +10,7 @@ use thiserror::Error;
 pub enum MachineCause {
     /// The line has a byte that is no character, or more than 256.
     Byte,
-    /// The first line is not `MACHINE 1`.
+    /// The first line is neither `MACHINE 1` nor `MACHINE 2`.
     Header,
     /// The line begins with no key.
     Key,

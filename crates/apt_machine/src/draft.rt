@@ -1,6 +1,6 @@
 //! What a table has said of a machine so far.
 
-ghost use Rattle.std.specs.Prelude.{◌≡◌, Some, IfSome};
+ghost use Rattle.std.specs.Prelude.{◌≡◌, IfSome};
 ghost use Rattle.apt_machine.specs.Keys as keys;
 ghost use Rattle.apt_machine.specs.Machines.{IsDraft, IsMachine};
 
@@ -9,7 +9,7 @@ use crate::key::Key;
 use crate::number::number_within;
 use apt_tapecode::Code;
 
-/// What a table has said of a machine so far; of WORDS, whether words that say what holds are left out.
+/// What a table has said of a machine so far; of a key of two values, whether it is the second.
 #[derive(Clone, Copy)]
 pub(crate) struct Draft {
     pub code: Option<Code>,
@@ -18,6 +18,10 @@ pub(crate) struct Draft {
     pub spinmax: Option<u16>,
     pub toolmax: Option<u8>,
     pub words: Option<bool>,
+    pub mode: Option<bool>,
+    pub zeros: Option<bool>,
+    pub arcs: Option<bool>,
+    pub drill: Option<bool>,
 }
 
 impl Draft {
@@ -31,6 +35,10 @@ impl Draft {
             spinmax: None,
             toolmax: None,
             words: None,
+            mode: None,
+            zeros: None,
+            arcs: None,
+            drill: None,
         }
     }
 
@@ -45,74 +53,34 @@ impl Draft {
             Key::Spinmax => self.spinmax.is_some(),
             Key::Toolmax => self.toolmax.is_some(),
             Key::Words => self.words.is_some(),
+            Key::Mode => self.mode.is_some(),
+            Key::Zeros => self.zeros.is_some(),
+            Key::Arcs => self.arcs.is_some(),
+            Key::Drill => self.drill.is_some(),
         }
     }
 
     /// With one key more, where it can have the value.
-    pub fn with(self, key: Key, value: &[u8]) -> Option<Draft>
+    pub fn with(mut self, key: Key, value: &[u8]) -> Option<Draft>
         ensures value { result ≡ keys.with_value self key value.now }
         ensures within { IsDraft self → IfSome result IsDraft }
     {
         match key {
-            Key::Code => self.with_code(value),
-            Key::Seq => Some(Draft {
-                seq: Some(number_within(0, 999, value)?),
-                ..self
-            }),
-            Key::Feedmax => Some(Draft {
-                feedmax: Some(number_within(1, 9999, value)?),
-                ..self
-            }),
-            Key::Spinmax => Some(Draft {
-                spinmax: Some(number_within(1, 9999, value)?),
-                ..self
-            }),
-            Key::Toolmax => Some(Draft {
-                toolmax: Some(number_within(1, 99, value)? as u8),
-                ..self
-            }),
-            Key::Words => self.with_words(value),
+            Key::Code => self.code = Some(code_named(value)?),
+            Key::Seq => self.seq = Some(number_within(0, 999, value)?),
+            Key::Feedmax => self.feedmax = Some(number_within(1, 9999, value)?),
+            Key::Spinmax => self.spinmax = Some(number_within(1, 9999, value)?),
+            Key::Toolmax => self.toolmax = Some(number_within(1, 99, value)? as u8),
+            Key::Words => self.words = Some(choice(b"ALL", b"CHANGED", value)?),
+            Key::Mode => self.mode = Some(choice(b"ABS", b"INC", value)?),
+            Key::Zeros => self.zeros = Some(choice(b"KEPT", b"DROPPED", value)?),
+            Key::Arcs => self.arcs = Some(only(b"LINES", value)?),
+            Key::Drill => self.drill = Some(only(b"MOVES", value)?),
         }
+        Some(self)
     }
 
-    fn with_code(self, value: &[u8]) -> Option<Draft>
-        ensures value { result ≡ keys.with_code self value.now }
-        ensures within { IsDraft self → IfSome result IsDraft }
-    {
-        let code = match value {
-            b"RS244" => Code::Rs244,
-            b"RS358" => Code::Rs358,
-            _ => return None,
-        };
-        Some(Draft {
-            code: Some(code),
-            ..self
-        })
-    }
-
-    fn with_words(self, value: &[u8]) -> Option<Draft>
-        ensures value { result ≡ keys.with_words self value.now }
-        ensures within { IsDraft self → IfSome result IsDraft }
-    {
-        if value == b"ALL".as_slice() {
-            Some(self.saying(false))
-        } else if value == b"CHANGED".as_slice() {
-            Some(self.saying(true))
-        } else {
-            None
-        }
-    }
-
-    fn saying(self, changed: bool) -> Draft
-        ensures { result ≡ record self { words = Some changed } }
-    {
-        Draft {
-            words: Some(changed),
-            ..self
-        }
-    }
-
-    /// The machine, where every key but WORDS stands. Without WORDS all words are written.
+    /// The machine, where each of the first five keys stands. A later key that doesn't has its first value.
     pub fn machine(self) -> Option<Machine>
         ensures value { result ≡ keys.machine_of self }
         ensures within { IsDraft self → IfSome result IsMachine }
@@ -124,8 +92,38 @@ impl Draft {
             spinmax: self.spinmax?,
             toolmax: self.toolmax?,
             changed: self.words.unwrap_or(false),
-            incremental: false,
-            short: false,
+            incremental: self.mode.unwrap_or(false),
+            short: self.zeros.unwrap_or(false),
         })
     }
+}
+
+fn code_named(value: &[u8]) -> Option<Code>
+    ensures { result ≡ keys.code_named value.now }
+{
+    match value {
+        b"RS244" => Some(Code::Rs244),
+        b"RS358" => Some(Code::Rs358),
+        _ => None,
+    }
+}
+
+/// Whether a value is the second of two words, where it is one of them.
+fn choice(first: &[u8], second: &[u8], value: &[u8]) -> Option<bool>
+    ensures { result ≡ keys.choice first.now second.now value.now }
+{
+    if value == first {
+        Some(false)
+    } else if value == second {
+        Some(true)
+    } else {
+        None
+    }
+}
+
+/// The same of one word alone.
+fn only(first: &[u8], value: &[u8]) -> Option<bool>
+    ensures { result ≡ keys.only first.now value.now }
+{
+    if value == first { Some(false) } else { None }
 }

@@ -8,6 +8,7 @@ mod line;
 mod machine;
 mod number;
 mod reader;
+mod version;
 
 pub use cause::{MachineCause, MachineError};
 pub use machine::Machine;

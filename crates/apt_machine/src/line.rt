@@ -10,6 +10,7 @@ ghost use Rattle.apt_machine.specs.Tables as tables;
 use crate::MachineCause;
 use crate::draft::Draft;
 use crate::key::{Key, key_named};
+use crate::version::Version;
 use apt_lexis::are_characters;
 
 /// The greatest number of bytes of a line.
@@ -47,11 +48,15 @@ fn has_tab(line: &[u8]) -> bool
 }
 
 /// The key of a line, of which this stands in front of the first blank.
-fn key_of(line: &[u8], name: &[u8]) -> Option<Key>
+fn key_of(version: Version, line: &[u8], name: &[u8]) -> Option<Key>
     requires { name.now ≡ tables.in_front line.now }
-    ensures { result ≡ tables.key_of line.now }
+    ensures { result ≡ tables.key_of version line.now }
 {
-    if has_tab(line) { None } else { key_named(name) }
+    if has_tab(line) {
+        None
+    } else {
+        key_named(version, name)
+    }
 }
 
 /// What is said with one key more, which must not stand already, and its value.
@@ -73,8 +78,12 @@ fn keyed(draft: Draft, key: Option<Key>, value: Option<&[u8]>) -> Result<Draft, 
 }
 
 /// What is said behind a line.
-pub(crate) fn behind_line(draft: Draft, line: &[u8]) -> Result<Draft, MachineCause>
-    ensures value { result ≡ tables.behind_line draft line.now }
+pub(crate) fn behind_line(
+    version: Version,
+    draft: Draft,
+    line: &[u8],
+) -> Result<Draft, MachineCause>
+    ensures value { result ≡ tables.behind_line version draft line.now }
     ensures within { IsDraft draft → IfOk result IsDraft }
     ensures cause { IfErr result tables.IsOfLine }
 {
@@ -85,5 +94,5 @@ pub(crate) fn behind_line(draft: Draft, line: &[u8]) -> Result<Draft, MachineCau
         return Err(MachineCause::Byte);
     }
     let (name, value) = cut(line);
-    keyed(draft, key_of(line, name), value)
+    keyed(draft, key_of(version, line, name), value)
 }

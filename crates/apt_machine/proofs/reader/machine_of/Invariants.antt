@@ -7,7 +7,7 @@ use Rattle.apt_machine.proofs.reader.machine_of.Given as goal
 
 abbrev pub invariant-lines : goal.invariant-lines
 invariant-lines l = record {
-  value : machine_from l.line l.draft (lines_of l.rest) ≡ machine_from 2 blank_draft (lines_of l.text);
+  value : machine_from l.version l.line l.draft (lines_of l.rest) ≡ machine_from l.version 2 blank_draft (lines_of l.text);
   within : IsDraft l.draft;
   least : 2 ≤ l.line;
   count : l.line + length (lines_of l.rest) ≡ 2 + length (lines_of l.text);
