@@ -50,7 +50,7 @@ no_tool_of_zero = refl
 one_digit_of_two : run_of (codes "%M2\n") ≡ Err (fault 3 causes.BadBlock)
 one_digit_of_two = refl
 
-three_digits_of_two : run_of (codes "%N1G71\nG0001\n") ≡ Err (fault 11 causes.BadBlock)
+three_digits_of_two : run_of (codes "%N1G71\nG0001\n") ≡ Err (fault 10 causes.BadBlock)
 three_digits_of_two = refl
 
 -- ---- groups of G codes
