@@ -13,6 +13,9 @@ use indexmap::IndexMap;
 use std::alloc::{AllocError, Global};
 use std::marker::Model;
 
+/// So many names are few.
+const FEW: usize = 8;
+
 /// Names with their latest figures, each in its range, in the order in which they were first defined.
 #[derive(Drop)]
 pub struct Table {
@@ -47,6 +50,40 @@ impl Table {
     pub fn get(&self, name: &Symbol) -> Option<Figure>
         ensures value { result ≡ figures.figure_named self.now name.now }
         ensures range { IfSome result IsFigure }
+    {
+        self.figures_in_range();
+        self.find(name)
+    }
+
+    /// What a name stands for. Few names are looked at one by one.
+    fn find(&self, name: &Symbol) -> Option<Figure>
+        ensures { result ≡ figures.figure_named self.now name.now }
+    {
+        match self.among_few(name) {
+            Some(figure) => Some(figure),
+            None => self.among_all(name),
+        }
+    }
+
+    /// What a name stands for where names are few, and None also where they are not.
+    fn among_few(&self, name: &Symbol) -> Option<Figure>
+        ensures { IfSome result (λ f. figures.figure_named self.now name.now ≡ Some f) }
+    {
+        if self.map.len() > FEW {
+            return None;
+        }
+        'names: for i in 0..self.map.len() {
+            match self.map.get_index(i) {
+                Some((other, figure)) if other == name => return Some(*figure),
+                _ => {}
+            }
+        }
+        None
+    }
+
+    #[inline(never)]
+    fn among_all(&self, name: &Symbol) -> Option<Figure>
+        ensures { result ≡ figures.figure_named self.now name.now }
     {
         self.map.get(name).copied()
     }

@@ -72,16 +72,6 @@ pub(crate) fn symbol(text: &[u8]) -> Option<Symbol>
     if rest.is_empty() { Some(symbol) } else { None }
 }
 
-/// A word of the vocabulary, or else a name.
-fn name_token(symbol: Symbol) -> Token
-    ensures { result ≡ spec.of_symbol symbol }
-{
-    match word_of(&symbol) {
-        Some(word) => Token::Word(word),
-        None => Token::Name(symbol),
-    }
-}
-
 fn mark(b: u8) -> Option<Token>
     ensures some { IfSome result (λ t. spec.mark b ≡ Ok t) }
     ensures none { IsNone result → spec.mark b ≡ Err PartCause.BadWord }
@@ -120,6 +110,17 @@ fn push_token(tokens: &mut Vec<Token>, token: Token) -> Result<(), AllocError>
     Ok(())
 }
 
+/// Adds a word of the vocabulary, or else a name.
+#[inline(always)]
+fn push_symbol(tokens: &mut Vec<Token>, symbol: Symbol) -> Result<(), AllocError>
+    ensures { OnOk result (tokens.new.items ≡ tokens.old.items ++ spec.of_symbol symbol ∷ []) }
+{
+    match word_of(&symbol) {
+        Some(word) => push_token(tokens, Token::Word(word)),
+        None => push_token(tokens, Token::Name(symbol)),
+    }
+}
+
 /// Adds the tokens of a text up to the first bad one, whose cause is given.
 pub(crate) fn add_tokens(
     tokens: &mut Vec<Token>,
@@ -145,7 +146,7 @@ pub(crate) fn add_tokens(
             },
             _ => match symbol_first(rest) {
                 Some((symbol, behind)) => {
-                    push_token(tokens, name_token(symbol))?;
+                    push_symbol(tokens, symbol)?;
                     rest = behind;
                 }
                 None => return Ok(Some(PartCause::BadWord)),

@@ -22,7 +22,7 @@ tokens-preserved-in_default-1 c =
     let first : c.tokens.rest.now ≡ c.in-Some.b.now ∷ c.in-Some.after.now = search rules in
     let word = c.in-Some-symbol_first.ensures in
     let letter = letter_first c.tokens.rest.now c.in-Some.b.now c.in-Some.after.now first word.letter in
-    record { read = rw (c.in_ok-push_token-in-Some-symbol_first.ensures, c.name_token.ensures) (word_more c.tokens.tokens.items c.tokens.rest.now c.in-Some.b.now c.in-Some.after.now _ _ _ first letter word.symbol word.capitals word.rest c.tokens.invariant.read) }
+    record { read = rw c.in_ok-push_symbol-in-Some-symbol_first.ensures (word_more c.tokens.tokens.items c.tokens.rest.now c.in-Some.b.now c.in-Some.after.now _ _ _ first letter word.symbol word.capitals word.rest c.tokens.invariant.read) }
 
 pub tokens-preserved-in-Some-mark : goal.tokens-preserved-in-Some-mark
 tokens-preserved-in-Some-mark c =
