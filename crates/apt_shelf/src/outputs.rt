@@ -28,16 +28,16 @@ impl FileId {
 /// A file that is written.
 #[derive(Drop)]
 pub(crate) struct Output<F> {
-    file: F,
+    /// What its path leads to. It is kept open, so that no other file gets its number.
+    place: F,
     path: String,
-    /// The file that its path leads to, once that is known.
-    place: Option<FileId>,
+    id: Option<FileId>,
     /// Whether nothing was there before.
     is_new: bool,
     /// Whether it is a regular file, and no device or pipe.
     is_regular: bool,
-    /// Where its bytes lie until they are put in their place; they lie there at once without it.
-    beside: Option<String>,
+    /// Where its bytes lie until they are put in their place; without it they go there at once.
+    draft: Option<Draft<F>>,
 }
 
 /// A file beside the place of an output.
@@ -59,14 +59,14 @@ pub(crate) fn begin<R: Files>(
 ) -> Result<(), ShelfFault> {
     sync(outputs)?;
     outputs.reserve(1)?;
-    let (file, is_new) = open_place(rt, path.as_str())?;
+    let (place, is_new) = open_place(rt, path.as_str())?;
     let mut output = Output {
-        file,
+        place,
         path,
-        place: None,
+        id: None,
         is_new,
         is_regular: false,
-        beside: None,
+        draft: None,
     };
     match prepare(rt, alloc, &mut output, opened) {
         Ok(()) => Ok(outputs.push(output).map_err(AllocError::from)?),
@@ -108,13 +108,13 @@ fn prepare<R: Files>(
     output: &mut Output<R::File>,
     opened: &mut Vec<FileId>,
 ) -> Result<(), ShelfFault> {
-    let found = output.file.metadata()?;
+    let found = output.place.metadata()?;
     let id = FileId::of(&found);
     if opened.contains(&id) {
         return Err(ShelfFault::Fault);
     }
     opened.push(id).map_err(AllocError::from)?;
-    output.place = Some(id);
+    output.id = Some(id);
     // a device or a pipe has no length
     if !found.is_file() {
         return Ok(());
@@ -122,19 +122,24 @@ fn prepare<R: Files>(
     output.is_regular = true;
     if is_alone(rt, output.path.as_str(), &found)? {
         if let Some(draft) = make_beside(rt, alloc, output.path.as_str(), &found)? {
-            output.file = draft.file;
-            output.beside = Some(draft.path);
-            opened.push(draft.id).map_err(AllocError::from)?;
+            let id = draft.id;
+            output.draft = Some(draft);
+            opened.push(id).map_err(AllocError::from)?;
             return Ok(());
         }
     }
-    Ok(output.file.set_len(0)?)
+    Ok(output.place.set_len(0)?)
 }
 
-/// Whether a file has this name alone, which is no link to it.
-fn is_alone<R: Files>(rt: &R, path: &str, found: &Metadata) -> io::Result<bool> {
+/// Whether a file has this name alone, which is no link to it. One in whose place another has come
+/// meanwhile is refused: its bytes would be lost.
+fn is_alone<R: Files>(rt: &R, path: &str, found: &Metadata) -> Result<bool, ShelfFault> {
+    let id = FileId::of(found);
+    if FileId::of(&fs::metadata(rt, path)?) != id {
+        return Err(ShelfFault::Fault);
+    }
     let named = fs::symlink_metadata(rt, path)?;
-    Ok(found.nlink() == 1 && FileId::of(&named) == FileId::of(found))
+    Ok(found.nlink() == 1 && FileId::of(&named) == id)
 }
 
 /// A new file beside a path, with the permissions of the one there. `None` where none can be made
@@ -199,16 +204,23 @@ fn make_alike<F: OpenFile>(file: &F, found: &Metadata) -> io::Result<Option<File
 
 /// Adds bytes to the last output.
 pub(crate) fn append<F: Write>(outputs: &mut [Output<F>], bytes: &[u8]) -> Result<(), ShelfFault> {
-    match outputs.last_mut() {
-        Some(output) => Ok(output.file.write_all(bytes)?),
-        None => Err(ShelfFault::Fault),
+    let Some(output) = outputs.last_mut() else {
+        return Err(ShelfFault::Fault);
+    };
+    match &mut output.draft {
+        Some(draft) => draft.file.write_all(bytes)?,
+        None => output.place.write_all(bytes)?,
     }
+    Ok(())
 }
 
 /// Waits until the bytes of the last output lie on the disk. A device or a pipe has none there.
 fn sync<F: OpenFile>(outputs: &[Output<F>]) -> io::Result<()> {
     match outputs.last() {
-        Some(output) if output.is_regular => output.file.sync_all(),
+        Some(output) if output.is_regular => match &output.draft {
+            Some(draft) => draft.file.sync_all(),
+            None => output.place.sync_all(),
+        },
         _ => Ok(()),
     }
 }
@@ -220,10 +232,10 @@ pub(crate) fn put_in_place<R: Files>(
 ) -> Result<(), ShelfFault> {
     sync(outputs)?;
     for output in outputs.iter_mut() {
-        if let Some(beside) = &output.beside {
-            fs::rename(rt, beside, &output.path)?;
+        if let Some(draft) = &output.draft {
+            fs::rename(rt, &draft.path, &output.path)?;
         }
-        output.beside = None;
+        output.draft = None;
         output.is_new = false;
     }
     Ok(())
@@ -239,8 +251,8 @@ pub(crate) fn remove_all<R: Files>(rt: &R, outputs: &mut Vec<Output<R::File>>) {
 
 /// Removes what was made for an output that is not in its place.
 fn remove<R: Files>(rt: &R, output: &Output<R::File>) {
-    if let Some(beside) = &output.beside {
-        let _ = fs::remove_file(rt, beside);
+    if let Some(draft) = &output.draft {
+        let _ = fs::remove_file(rt, &draft.path);
     }
     if output.is_new && !is_replaced(rt, output) {
         let _ = fs::remove_file(rt, &output.path);
@@ -249,8 +261,8 @@ fn remove<R: Files>(rt: &R, output: &Output<R::File>) {
 
 /// Whether another file lies at the place of an output by now: another run may have put it there.
 fn is_replaced<R: Files>(rt: &R, output: &Output<R::File>) -> bool {
-    match (output.place, fs::symlink_metadata(rt, &output.path)) {
-        (Some(place), Ok(found)) => FileId::of(&found) != place,
+    match (output.id, fs::symlink_metadata(rt, &output.path)) {
+        (Some(id), Ok(found)) => FileId::of(&found) != id,
         _ => false,
     }
 }
@@ -258,8 +270,11 @@ fn is_replaced<R: Files>(rt: &R, output: &Output<R::File>) -> bool {
 /// Where the bytes of a file lie that is written, if not in its place.
 pub(crate) fn beside_of<F>(outputs: &[Output<F>], place: FileId) -> Option<&str> {
     for output in outputs {
-        if output.place == Some(place) {
-            return output.beside.as_deref();
+        if output.id == Some(place) {
+            return match &output.draft {
+                Some(draft) => Some(draft.path.as_str()),
+                None => None,
+            };
         }
     }
     None
