@@ -13,6 +13,7 @@
 #include <stdarg.h>
 #include <stdatomic.h>
 #include <stdint.h>
+#include <stdio.h>
 #include <stdlib.h>
 #include <string.h>
 #include <sys/mman.h>
@@ -21,9 +22,11 @@
 #include <sys/uio.h>
 #include <unistd.h>
 
-enum kind { NONE, ALLOC, OPEN, STAT, READ, READ_ONE, WRITE, WRITE_HALF, WRITE_ONE, TRUNCATE, THREAD, KINDS };
+enum kind { NONE, ALLOC, OPEN, STAT, READ, READ_ONE, WRITE, WRITE_HALF, WRITE_ONE, TRUNCATE, SYNC, CLOSE, RENAME, INTERRUPT, THREAD, KINDS };
 
-static const char *const names[KINDS] = {"", "alloc", "open", "stat", "read", "read-one", "write", "write-half", "write-one", "truncate", "thread"};
+static const char *const names[KINDS] = {
+    "", "alloc", "open", "stat", "read", "read-one", "write", "write-half", "write-one", "truncate", "sync", "close", "rename", "interrupt", "thread",
+};
 
 static enum kind kind;
 static int64_t at;
@@ -31,6 +34,8 @@ static int later;
 static _Atomic int64_t *count;
 /* a write has moved half of its bytes, and the next one fails */
 static atomic_int halved;
+/* a call was interrupted, and the next one is not */
+static atomic_int interrupted;
 
 __attribute__((constructor)) static void begin(void) {
     const char *word = getenv("REFUSE"), *number = getenv("REFUSE_AT"), *file = getenv("REFUSE_COUNT");
@@ -65,6 +70,14 @@ static int fails(enum kind k) {
             return answer; \
         } \
     } while (0)
+
+/* Whether a call is to be interrupted by a signal. One that is tried again is not, so that a run ends. */
+static int stops(void) {
+    if (atomic_exchange(&interrupted, 0) || !fails(INTERRUPT)) return 0;
+    interrupted = 1;
+    errno = EINTR;
+    return 1;
+}
 
 /* Allocations. dlsym allocates itself, so these names of the GNU C library are called. */
 extern void *__libc_malloc(size_t), *__libc_calloc(size_t, size_t), *__libc_realloc(void *, size_t), *__libc_memalign(size_t, size_t);
@@ -119,24 +132,28 @@ int posix_memalign(void **p, size_t edge, size_t n) {
 
 int open(const char *path, int flags, ...) {
     MODE(flags)
+    if (stops()) return -1;
     REFUSE(OPEN, EACCES, -1);
     return NEXT(open)(path, flags, mode);
 }
 
 int open64(const char *path, int flags, ...) {
     MODE(flags)
+    if (stops()) return -1;
     REFUSE(OPEN, EACCES, -1);
     return NEXT(open64)(path, flags, mode);
 }
 
 int openat(int folder, const char *path, int flags, ...) {
     MODE(flags)
+    if (stops()) return -1;
     REFUSE(OPEN, EACCES, -1);
     return NEXT(openat)(folder, path, flags, mode);
 }
 
 int openat64(int folder, const char *path, int flags, ...) {
     MODE(flags)
+    if (stops()) return -1;
     REFUSE(OPEN, EACCES, -1);
     return NEXT(openat64)(folder, path, flags, mode);
 }
@@ -169,6 +186,7 @@ int statx(int folder, const char *path, int flags, unsigned mask, struct statx *
 
 /* Bytes that are read. */
 ssize_t read(int fd, void *into, size_t n) {
+    if (stops()) return -1;
     REFUSE(READ, EIO, -1);
     if (n > 1 && fails(READ_ONE)) n = 1;
     return NEXT(read)(fd, into, n);
@@ -187,6 +205,7 @@ ssize_t readv(int fd, const struct iovec *into, int k) {
 
 /* Bytes that are written. */
 ssize_t write(int fd, const void *bytes, size_t n) {
+    if (stops()) return -1;
     REFUSE(WRITE, ENOSPC, -1);
     if (atomic_exchange(&halved, 0)) {
         errno = ENOSPC;
@@ -208,13 +227,40 @@ ssize_t writev(int fd, const struct iovec *bytes, int k) {
 }
 
 int ftruncate(int fd, off_t n) {
+    if (stops()) return -1;
     REFUSE(TRUNCATE, EIO, -1);
     return NEXT(ftruncate)(fd, n);
 }
 
 int ftruncate64(int fd, off64_t n) {
+    if (stops()) return -1;
     REFUSE(TRUNCATE, EIO, -1);
     return NEXT(ftruncate64)(fd, n);
+}
+
+/* What the system tells late. A file is closed all the same. */
+int fsync(int fd) {
+    if (stops()) return -1;
+    REFUSE(SYNC, EIO, -1);
+    return NEXT(fsync)(fd);
+}
+
+int fdatasync(int fd) {
+    if (stops()) return -1;
+    REFUSE(SYNC, EIO, -1);
+    return NEXT(fdatasync)(fd);
+}
+
+int close(int fd) {
+    int answer = NEXT(close)(fd);
+    REFUSE(CLOSE, EIO, -1);
+    return answer;
+}
+
+/* Names that are given to other files. */
+int rename(const char *from, const char *to) {
+    REFUSE(RENAME, EIO, -1);
+    return NEXT(rename)(from, to);
 }
 
 /* Threads that are started. */

@@ -1,11 +1,13 @@
 //! The program `apt`, over the files of the current folder and standard output.
 #![tactic(auto)]
 
-use apt_core::{OpenGate, apt};
-use apt_shelf::{FolderShelf, StdSink};
+use apt_core::{OpenGate, Status, apt};
+use apt_shelf::{FolderShelf, MemSink, ShelfFault, Sink, StdSink};
+use std::alloc::AllocGlobal;
 use std::io::ErrorKind;
 use std::process::ExitCode;
-use std::rt::Env;
+use std::rt::{Env, Files};
+use std::thread::Threads;
 use std::{env, fs};
 
 /// The exit status where the words of the command line can't be read.
@@ -31,8 +33,12 @@ fn main(rt: HostRuntime) -> ExitCode {
     let Ok(mut shelf) = FolderShelf::new(&rt, alloc, ".") else {
         return ExitCode::from(NO_MEMORY);
     };
-    let mut out = StdSink::new(&rt);
-    let status = apt(&rt, alloc, &words, &mut shelf, &mut out, &OpenGate);
+    let status = if is_compile(&words) {
+        compile(&rt, &words, &mut shelf)
+    } else {
+        let mut out = StdSink::new(&rt);
+        apt(&rt, alloc, &words, &mut shelf, &mut out, &OpenGate)
+    };
     ExitCode::from(status.number())
 }
 
@@ -45,9 +51,56 @@ fn words_of(rt: &(impl Env + AllocGlobal)) -> Result<Vec<String>, WordsError> {
     };
     let mut words = Vec::new(rt.alloc());
     for word in args.skip(1) {
+        if has_control_byte(&word) {
+            return Err(WordsError::Unreadable);
+        }
         if words.push(word).is_err() {
             return Err(WordsError::NoMemory);
         }
     }
     Ok(words)
+}
+
+/// Whether a word has a byte that would break the line of an answer, as a line feed does.
+fn has_control_byte(word: &str) -> bool {
+    word.as_bytes().iter().any(|byte| byte.is_ascii_control())
+}
+
+/// Whether the words are those of the command that writes files.
+fn is_compile(words: &[String]) -> bool {
+    match words.first() {
+        Some(word) => word.as_str() == "compile",
+        None => false,
+    }
+}
+
+/// Compiles a part. Its line is kept in memory until both files are in their places.
+fn compile<R: Files + Print + AllocGlobal + Threads + Sync>(
+    rt: &R,
+    words: &[String],
+    shelf: &mut FolderShelf<'_, R>,
+) -> Status {
+    let alloc = rt.alloc();
+    let mut line = MemSink::new(alloc, Vec::new(alloc));
+    let status = apt(rt, alloc, words, shelf, &mut line, &OpenGate);
+    match end(rt, shelf, &status, line.bytes()) {
+        Ok(()) => status,
+        Err(ShelfFault::Fault) => Status::WriteFault,
+        Err(ShelfFault::NoMemory) => Status::NoMemory,
+    }
+}
+
+/// Puts the files in their places where both are whole, else removes what was made of them, and
+/// then puts the line.
+fn end<R: Files + Print>(
+    rt: &R,
+    shelf: &mut FolderShelf<'_, R>,
+    status: &Status,
+    line: &[u8],
+) -> Result<(), ShelfFault> {
+    match status {
+        Status::Done(_) => shelf.settle()?,
+        _ => shelf.discard(),
+    }
+    StdSink::new(rt).put(line)
 }

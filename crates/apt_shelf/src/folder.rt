@@ -1,21 +1,27 @@
 //! Files of a folder.
-ghost use Rattle.std.specs.Prelude.{◌≡◌, false, is_some, option_map, Some, None, IfOk};
+ghost use Rattle.std.specs.Prelude.{◌≡◌, ◌≤◌, length, false, is_some, option_map, Some, None, IfOk};
 ghost use Rattle.std.specs.String.{string_bytes};
+ghost use Rattle.apt_shelf.specs.Told.{FaultCause};
 ghost use Rattle.apt_shelf.specs.Folder.{folder_of, path_in};
 
+use crate::outputs::{self, FileId, Output};
 use crate::shelf::{ReadStart, Shelf, ShelfFault};
 use std::alloc::{AllocError, Global};
-use std::fs::{self, Metadata, OpenFile, OpenOptions};
+use std::fs::{self, OpenFile};
 use std::io::{self, ErrorKind, Read, Write};
-use std::os::unix::fs::MetadataExt;
 use std::rt::Files;
 
 /// The files of a folder; a name that begins with `/` is taken as it is. Each error of the system
-/// counts as a fault, a missing file too.
+/// counts as a fault, a missing file too, but a lack of memory does not.
 ///
-/// A file that was opened to be read is never written, nor is one to which standard output leads:
-/// where a name leads to such a file, by any path or link, `start_write` answers `Fault`, the count of
-/// writing faults rises, and the file stays as it is. Files are told apart by device and inode number.
+/// What is written lies beside its place until `settle` puts it there, or `discard` removes it: one of
+/// them ends the writing. In its place is written at once a device or a pipe, a file to which the
+/// name is a link or that has several names, and one beside which no file like it can be made.
+///
+/// A file that was opened is never written, nor is what standard output leads to: where a name leads
+/// there, by any path or link, `start_write` answers `Fault`, the count of writing faults rises, and
+/// the file stays as it is. Files are told apart by device and inode number, so a new name is taken
+/// by an empty file at once.
 #[derive(Drop)]
 pub struct FolderShelf<'a, R: Files> {
     rt: &'a R,
@@ -25,24 +31,8 @@ pub struct FolderShelf<'a, R: Files> {
     write_faults: u64,
     opened: Vec<FileId>,
     input: Option<R::File>,
-    output: Option<R::File>,
+    outputs: Vec<Output<R::File>>,
     writing: Option<String>,
-}
-
-/// Which file it is, under whatever name. Under a runtime that numbers no files all are alike.
-#[derive(Clone, Copy, PartialEq, Eq)]
-struct FileId {
-    device: u64,
-    inode: u64,
-}
-
-impl FileId {
-    fn of(file: &Metadata) -> FileId {
-        FileId {
-            device: file.dev(),
-            inode: file.ino(),
-        }
-    }
 }
 
 impl<'a, R: Files> FolderShelf<'a, R> {
@@ -66,7 +56,7 @@ impl<'a, R: Files> FolderShelf<'a, R> {
             write_faults: 0,
             opened,
             input: None,
-            output: None,
+            outputs: Vec::new(alloc),
             writing: None,
         })
     }
@@ -84,6 +74,36 @@ impl<'a, R: Files> FolderShelf<'a, R> {
     {
         self.write_faults
     }
+
+    /// Puts all that was written in its place, in the order in which it was begun, once the system
+    /// has it on the disk. After a refusal what is not in its place is removed. Nothing is being
+    /// written from then on.
+    pub fn settle(&mut self) -> Result<(), ShelfFault>
+        ensures cause { FaultCause (⟦<FolderShelf<'a, R> as Shelf>⟧.write_faults self.old) (⟦<FolderShelf<'a, R> as Shelf>⟧.write_faults self.new) result }
+        ensures writing { ⟦<FolderShelf<'a, R> as Shelf>⟧.writing self.new ≡ None }
+        ensures reading { ⟦<FolderShelf<'a, R> as Shelf>⟧.reading self.new ≡ ⟦<FolderShelf<'a, R> as Shelf>⟧.reading self.old }
+        ensures read_faults { ⟦<FolderShelf<'a, R> as Shelf>⟧.read_faults self.new ≡ ⟦<FolderShelf<'a, R> as Shelf>⟧.read_faults self.old }
+        ensures folder { folder_of self.new ≡ folder_of self.old }
+    {
+        let settled = outputs::put_in_place(self.rt, &mut self.outputs);
+        self.discard();
+        match settled {
+            Ok(()) => Ok(()),
+            Err(fault) => Err(fault.counted(&mut self.write_faults)),
+        }
+    }
+
+    /// Removes all that was written and isn't in its place. Nothing is being written from then on.
+    pub fn discard(&mut self)
+        ensures writing { ⟦<FolderShelf<'a, R> as Shelf>⟧.writing self.new ≡ None }
+        ensures reading { ⟦<FolderShelf<'a, R> as Shelf>⟧.reading self.new ≡ ⟦<FolderShelf<'a, R> as Shelf>⟧.reading self.old }
+        ensures read_faults { ⟦<FolderShelf<'a, R> as Shelf>⟧.read_faults self.new ≡ ⟦<FolderShelf<'a, R> as Shelf>⟧.read_faults self.old }
+        ensures write_faults { ⟦<FolderShelf<'a, R> as Shelf>⟧.write_faults self.new ≡ ⟦<FolderShelf<'a, R> as Shelf>⟧.write_faults self.old }
+        ensures folder { folder_of self.new ≡ folder_of self.old }
+    {
+        self.writing = None;
+        outputs::remove_all(self.rt, &mut self.outputs);
+    }
 }
 
 /// The path of a name.
@@ -97,42 +117,38 @@ fn path_of(alloc: Global, folder: &str, name: &str) -> Result<String, AllocError
     }
 }
 
-/// The regular file to which standard output leads, if it leads to one: what is printed lies there.
+/// What standard output leads to, where that is known: what is printed lies there.
 fn standard_output<R: Files>(rt: &R) -> Option<FileId> {
     let found = fs::metadata(rt, "/dev/stdout").ok()?;
-    if found.is_file() {
-        Some(FileId::of(&found))
-    } else {
-        None
-    }
+    Some(FileId::of(&found))
 }
 
-/// A file to be read, and which one it is.
-fn open_source<R: Files>(rt: &R, path: &str) -> io::Result<(R::File, FileId)> {
+/// A file to be read, and which one it is. One that is being written is read where its bytes lie.
+fn open_source<R: Files>(
+    rt: &R,
+    path: &str,
+    outputs: &[Output<R::File>],
+) -> io::Result<(R::File, FileId)> {
     let file = fs::open(rt, path)?;
     let id = FileId::of(&file.metadata()?);
-    Ok((file, id))
+    match outputs::beside_of(outputs, id) {
+        Some(beside) => Ok((fs::open(rt, beside)?, id)),
+        None => Ok((file, id)),
+    }
 }
 
-/// An empty file to be written, and which one it is. `None` where the system refuses it, and where
-/// the path leads to one of those that were opened, which stays as it is: so it is opened with its
-/// bytes, and emptied after that.
-fn open_output<R: Files>(rt: &R, path: &str, opened: &[FileId]) -> Option<(R::File, FileId)> {
-    let file = OpenOptions::new()
-        .write(true)
-        .create(true)
-        .open(rt, path)
-        .ok()?;
-    let found = file.metadata().ok()?;
-    let id = FileId::of(&found);
-    if opened.contains(&id) {
-        return None;
+/// Reads some bytes to the front of the buffer. A read that a signal interrupts is tried again.
+fn read_some<F: Read>(file: &mut F, buf: &mut [u8]) -> io::Result<usize>
+    ensures { IfOk result (λ n. n ≤ length buf.new) }
+{
+    for _ in 0..u64::MAX {
+        match file.read(buf) {
+            Ok(count) => return Ok(count),
+            Err(error) if error.kind() == ErrorKind::Interrupted => {}
+            Err(error) => return Err(error),
+        }
     }
-    // a device or a pipe has no length
-    if found.is_file() {
-        file.set_len(0).ok()?;
-    }
-    Some((file, id))
+    Err(io::Error::from(ErrorKind::Interrupted))
 }
 
 impl<'a, R: Files> Shelf for FolderShelf<'a, R> {
@@ -153,12 +169,13 @@ impl<'a, R: Files> Shelf for FolderShelf<'a, R> {
     fn start_read(&mut self, name: &str) -> Result<(), ReadStart> {
         self.input = None;
         let path = path_of(self.alloc, &self.folder, name)?;
-        match open_source(self.rt, path.as_str()) {
+        match open_source(self.rt, path.as_str(), &self.outputs) {
             Ok((file, id)) => {
                 self.opened.push(id).map_err(AllocError::from)?;
                 self.input = Some(file);
                 Ok(())
             }
+            Err(error) if error.kind() == ErrorKind::OutOfMemory => Err(ReadStart::NoMemory),
             Err(error) => {
                 self.read_faults = self.read_faults.saturating_add(1);
                 if error.kind() == ErrorKind::NotFound {
@@ -174,43 +191,35 @@ impl<'a, R: Files> Shelf for FolderShelf<'a, R> {
         let Some(file) = &mut self.input else {
             return Ok(0);
         };
-        match file.read(buf) {
+        match read_some(file, buf) {
             Ok(count) => Ok(count),
-            Err(_) => {
-                self.read_faults = self.read_faults.saturating_add(1);
-                Err(ShelfFault::Fault)
-            }
+            Err(error) => Err(ShelfFault::from(error).counted(&mut self.read_faults)),
         }
     }
 
     fn start_write(&mut self, name: &str) -> Result<(), ShelfFault> {
-        self.output = None;
         self.writing = None;
         let path = path_of(self.alloc, &self.folder, name)?;
         let name = String::from_str(self.alloc, name)?;
-        match open_output(self.rt, path.as_str(), &self.opened) {
-            Some((file, id)) => {
-                self.opened.push(id).map_err(AllocError::from)?;
-                self.output = Some(file);
+        match outputs::begin(
+            self.rt,
+            self.alloc,
+            path,
+            &mut self.opened,
+            &mut self.outputs,
+        ) {
+            Ok(()) => {
                 self.writing = Some(name);
                 Ok(())
             }
-            None => {
-                self.write_faults = self.write_faults.saturating_add(1);
-                Err(ShelfFault::Fault)
-            }
+            Err(fault) => Err(fault.counted(&mut self.write_faults)),
         }
     }
 
     fn append(&mut self, bytes: &[u8]) -> Result<(), ShelfFault> {
-        let written = match &mut self.output {
-            Some(file) => file.write_all(bytes).is_ok(),
-            None => false,
-        };
-        if written {
-            return Ok(());
+        match outputs::append(&mut self.outputs, bytes) {
+            Ok(()) => Ok(()),
+            Err(fault) => Err(fault.counted(&mut self.write_faults)),
         }
-        self.write_faults = self.write_faults.saturating_add(1);
-        Err(ShelfFault::Fault)
     }
 }

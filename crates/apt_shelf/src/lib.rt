@@ -4,6 +4,7 @@
 pub mod files;
 pub mod folder;
 pub mod memory;
+mod outputs;
 pub mod pieces;
 mod reading;
 pub mod shelf;

@@ -1,9 +1,10 @@
 //! What files and lines are asked of.
 ghost use Rattle.std.specs.Prelude.{◌≡◌, ℕ, ◌<◌, ◌≤◌, List, [], length, Bool, true, false, Option, IsSome, IfOk, OnOk, OnErr, IsErrOf};
 ghost use Rattle.std.specs.FinMap.{insert};
-ghost use Rattle.apt_shelf.specs.Told.{Contents, Steps, StartsAt, Lacks, Takes, MayBeEmptied, KeepsPrefix, Adds, StartCause, FaultCause, Puts, PutsPrefix};
+ghost use Rattle.apt_shelf.specs.Told.{Contents, Rose, Steps, StartsAt, Lacks, Takes, MayBeEmptied, KeepsPrefix, Adds, StartCause, FaultCause, Puts, PutsPrefix};
 
 use std::alloc::AllocError;
+use std::io::{self, ErrorKind};
 
 /// Why a read was not started.
 #[derive(Clone, Copy, Debug, PartialEq, Eq)]
@@ -42,6 +43,29 @@ impl From<AllocError> for ShelfFault {
 
     fn from(_: AllocError) -> Self {
         ShelfFault::NoMemory
+    }
+}
+
+impl From<io::Error> for ShelfFault {
+    fn from(error: io::Error) -> Self {
+        match error.kind() {
+            ErrorKind::OutOfMemory => ShelfFault::NoMemory,
+            _ => ShelfFault::Fault,
+        }
+    }
+}
+
+impl ShelfFault {
+    /// Raises a count where it is no lack of memory, and gives it back.
+    pub(crate) fn counted(self, faults: &mut u64) -> ShelfFault
+        ensures same { result ≡ self }
+        ensures later { faults.old ≤ faults.new }
+        ensures rose { self ≡ ShelfFault.Fault → Rose faults.old faults.new }
+    {
+        if self == ShelfFault::Fault {
+            *faults = faults.saturating_add(1);
+        }
+        self
     }
 }
 

@@ -65,7 +65,7 @@ impl Sink for MemSink {
     }
 }
 
-/// Standard output. Each error of the system counts as a fault.
+/// Standard output. Each error of the system counts as a fault, but a lack of memory does not.
 #[derive(Drop)]
 pub struct StdSink<'a, R: Print> {
     rt: &'a R,
@@ -89,10 +89,7 @@ impl<'a, R: Print> Sink for StdSink<'a, R> {
     fn put(&mut self, bytes: &[u8]) -> Result<(), ShelfFault> {
         match self.rt.write_all(bytes) {
             Ok(()) => Ok(()),
-            Err(_) => {
-                self.faults = self.faults.saturating_add(1);
-                Err(ShelfFault::Fault)
-            }
+            Err(error) => Err(ShelfFault::from(error).counted(&mut self.faults)),
         }
     }
 }
