@@ -10,6 +10,7 @@ use Rattle.apt_certify.specs.Jobs.{AreLegal}
 use Rattle.apt_certify.specs.Verdicts.{IsVerdict, IsFirstBadOrNone}
 use Rattle.apt_meaning.specs.Situations.{first_situation}
 use Rattle.apt_meaning.specs.Records.{Follows}
+use Rattle.apt_meaning.proofs.InNumbers.{legal_in_numbers}
 use Rattle.apt_job.specs.Jobs.{jobs_said}
 use Rattle.apt_job.proofs.Walks.{jobs_right, makes_said}
 use Rattle.apt_machine.specs.declared.machine.Machine.{Machine}
@@ -113,6 +114,7 @@ good_is_right machine text cl tape steps written v passes read run follow verdic
         follow = right.0;
         legal = right.1;
       };
+      numbers = (legal_in_numbers written).0 right.1;
       verdict = verdict;
       counted = verdict.segments ∙ makes_segments first_situation steps written (jobs_said written) makes;
     }

@@ -9,6 +9,7 @@ use Rattle.apt_certify.specs.Jobs.{AreLegal}
 use Rattle.apt_certify.specs.Verdicts.{IsFirstBad, IsVerdict}
 use Rattle.apt_meaning.specs.Situations.{first_situation}
 use Rattle.apt_meaning.specs.Paths.{EveryContour, IsLegalCut, contours_of}
+use Rattle.apt_meaning.specs.InNumbers.{AreLegalInNumbers}
 use Rattle.apt_meaning.specs.Records.{Follows}
 use Rattle.apt_meaning.specs.Expectations.{FailsAt}
 use Rattle.apt_job.specs.Jobs.{jobs_said}
@@ -61,9 +62,10 @@ IsMiss steps written acts (misses.Entry seq) = FailsAt first_situation 1 steps w
 IsMiss steps written acts (misses.Motion bad) = Follows steps written × IsFirstBad (jobs_said written) bad
 IsMiss steps written acts (misses.Act at) = Follows steps written × AreLegal (jobs_said written) × DifferAt acts (acts_of written) at
 
--- all is right, with the verdict over the contours
+-- all is right, in numbers too, with the verdict over the contours
 pub record IsCertified (machine : Machine) (text cl tape : List ℕ) (v : Verdict) : Type 0 where
   pub right : IsRight machine text cl tape
+  pub numbers : AreLegalInNumbers right.records
   pub verdict : IsVerdict (jobs_said right.records) v
   pub counted : v.segments ≡ segments right.records
 

@@ -4,6 +4,7 @@ pub mod StartUps
 pub mod Effects
 pub mod Alike
 pub mod Paths
+pub mod InNumbers
 pub mod Refusals
 pub mod Records
 pub mod Compiled

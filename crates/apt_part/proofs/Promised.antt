@@ -28,6 +28,7 @@ use Rattle.apt_meaning.proofs.Walks.Kept.{first_situation-IsSituation}
 use Rattle.apt_meaning.proofs.Walks.Compiled.{compiled_follows, compiled_passes}
 use Rattle.apt_meaning.proofs.Walks.Ends.{ends_once}
 use Rattle.apt_meaning.proofs.Walks.Files.{compiled_fit}
+use Rattle.apt_meaning.proofs.InNumbers.{legal_in_numbers}
 use Rattle.apt_meaning.proofs.Walks.Alone.{follows, legal_contours, own_contours}
 use Rattle.apt_machine.specs.declared.machine.Machine.{Machine}
 use Rattle.apt_machine.specs.Machines.{IsMachine}
@@ -165,6 +166,7 @@ promised machine text p is h =
     let q = is_done machine text p h in
     let are = are_steps machine text p.steps q.passes in
     let follow = compiled_follows 0 first_situation p.steps p.records first_situation-IsSituation are.scalars are.sources q.compiled in
+    let legal = legal_contours p.steps p.records follow.behind follow.follows in
     let ends : StepsEnd false p.steps = end_once q.passes.statements (record { steps = p.steps; fault = None }) q.passes.unrolled refl in
     let trace : Trace = record { steps = p.steps; fault = None } in
     let fit = compiled_fit 0 first_situation p.steps p.records (omega arith) are.sources q.compiled in
@@ -174,7 +176,8 @@ promised machine text p is h =
       passes = q.passes;
       compiled = q.compiled;
       follow = follows CutsLegally p.steps p.records follow.behind follow.follows;
-      legal = legal_contours p.steps p.records follow.behind follow.follows;
+      legal = legal;
+      numbers = (legal_in_numbers p.records).0 legal;
       own = own_contours p.steps p.records follow.behind follow.own;
       few = few_from_none (vertex_count p.records) fit.vertices;
       file = compiled_file q.passes.statements p.steps p.records q.passes.unrolled are.scalars are.sources ends q.compiled;

@@ -11,6 +11,7 @@ use Rattle.apt_cldata.specs.Files.{file_of, IsFile}
 use Rattle.apt_meaning.specs.Situations.{first_situation}
 use Rattle.apt_meaning.specs.Compiled.{first_refused, compilation, most_points}
 use Rattle.apt_meaning.specs.Paths.{EveryContour, IsLegalCut, contours_of}
+use Rattle.apt_meaning.specs.InNumbers.{AreLegalInNumbers}
 use Rattle.apt_meaning.specs.Records.{Follows, IsOwnCut}
 use Rattle.apt_machine.specs.declared.machine.Machine.{Machine}
 use Rattle.apt_post.specs.Limits.{limits}
@@ -30,14 +31,15 @@ pub record Passes (machine : Machine) (text : List ℕ) (steps : List Step) : Ty
 abbrev pub file_limit : ℕ
 file_limit = 67108864
 
--- the records follow the steps, and leave what holds behind them as they say; every contour that they say is legal, and its vertices are the compiler's
--- own, not too many in all; they are those of a CL file, and the acts that they ask for are a program of a control, and lead where they lead. Neither the
+-- the records follow the steps, and leave what holds behind them as they say; every contour that they say is legal, in numbers too, and its vertices are
+-- the compiler's own, not too many in all; they are those of a CL file, and the acts that they ask for are a program of a control, and lead where they lead. Neither the
 -- file nor the tape is too long to be read again
 pub record Promise (machine : Machine) (text : List ℕ) (p : Compiled) : Type 0 where
   pub passes : Passes machine text p.steps
   pub compiled : compilation first_situation p.steps ≡ Ok p.records
   pub follow : Follows p.steps p.records
   pub legal : EveryContour IsLegalCut (contours_of p.records)
+  pub numbers : AreLegalInNumbers p.records
   pub own : EveryContour IsOwnCut (contours_of p.records)
   pub few : vertex_count p.records ≤ most_points
   pub file : IsFile p.records
