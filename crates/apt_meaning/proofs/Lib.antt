@@ -8,3 +8,4 @@ pub mod Fed
 pub mod Walks
 pub mod Moving
 pub mod Alike
+pub mod Aside
