@@ -9,3 +9,5 @@ pub mod Walks
 pub mod Moving
 pub mod Alike
 pub mod Aside
+pub mod Forward
+pub mod Counted

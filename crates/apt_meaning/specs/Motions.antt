@@ -1,5 +1,5 @@
 -- Contour motions: the parts of one at a situation, its leg, and where it stops.
-use Rattle.std.specs.Prelude.{◌≡◌, ℤ, pos, ◌-ℤ◌, ◌<ℤ◌, ◌/◌, unsigned_abs, int_lt, int_le, ◌&&◌, ◌||◌, not, Bool, false, is_some, List, [], ◌∷◌, ℕ, Option, Some, None, if◌then◌else◌}
+use Rattle.std.specs.Prelude.{◌≡◌, ◌↔◌, ℤ, pos, ◌-ℤ◌, ◌<ℤ◌, ◌≤ℤ◌, ◌/◌, unsigned_abs, int_lt, int_le, ◌&&◌, ◌||◌, not, Bool, false, is_some, List, [], ◌∷◌, ℕ, Option, Some, None, if◌then◌else◌}
 use Rattle.apt_num.specs.declared.Sign.{Sign}
 use Rattle.apt_words.specs.declared.Go.{Go}
 use Rattle.apt_words.specs.declared.Side.{Side}
@@ -39,6 +39,10 @@ use Rattle.apt_meaning.specs.Situations.{with_side}
 -- a tolerance counts as at least one grid step of 8 units
 abbrev pub grid_step : ℤ
 grid_step = pos 8
+
+-- what a tolerance counts as: the least length that is at least it and at least 8 units
+abbrev pub CountsAs : ℤ → ℤ → Type 0
+CountsAs tolerance length = (x : ℤ) → (length ≤ℤ x) ↔ ((tolerance ≤ℤ x) × (pos 8 ≤ℤ x))
 
 -- both tolerances are under a grid step
 abbrev pub is_too_fine : Settings → Bool
