@@ -3,7 +3,6 @@ use Rattle.std.specs.Prelude.{ℕ, nat_lt, nat_eq, ℤ, ◌+ℤ◌, ◌-ℤ◌, 
 use Rattle.apt_num.specs.declared.Sign.{Sign}
 use Rattle.apt_num.specs.declared.Sign.TheVariants as signs
 use Rattle.apt_num.specs.Sign.{square, root_sign_of}
-use Rattle.apt_words.specs.declared.Case.{Case}
 use Rattle.apt_words.specs.declared.Case.TheVariants as cases
 use Rattle.apt_words.specs.Rows.{Row}
 use Rattle.apt_plane.specs.declared.figures.Pt.{Pt}

@@ -81,7 +81,6 @@ impl Table {
         None
     }
 
-    #[inline(never)]
     fn among_all(&self, name: &Symbol) -> Option<Figure>
         ensures { result ≡ figures.figure_named self.now name.now }
     {

@@ -3,4 +3,5 @@ pub mod InFront
 pub mod Ranges
 pub mod Named
 pub mod Steps
+pub mod InAndOut
 mod Worked

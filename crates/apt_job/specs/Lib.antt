@@ -1,3 +1,4 @@
 pub mod Jobs
 pub mod Fronts
 pub mod Answering
+pub mod InAndOut

@@ -5,6 +5,8 @@ ghost use Rattle.apt_words.specs.Sources.{AreExecuted};
 ghost use Rattle.apt_words.specs.declared.Case.{Case};
 ghost use Rattle.apt_scalar.specs.StepScalars.{AreScalars, HasScalars};
 ghost use Rattle.apt_certify.specs.Jobs.{AreJobs, point_count};
+ghost use Rattle.apt_certify.specs.Verdicts.{IsVerdict};
+ghost use Rattle.apt_certify.specs.declared.verdict.Verdict.{Verdict};
 ghost use Rattle.apt_cldata.specs.Ranges.{AreRecords, vertex_count};
 ghost use Rattle.apt_cldata.specs.declared.record.Record.{Record};
 ghost use Rattle.apt_defs.specs.Definitions.{HasOrNone, IsRefusedBy};
@@ -12,6 +14,7 @@ ghost use Rattle.apt_defs.specs.declared.figure.Figure.{Figure};
 ghost use Rattle.apt_meaning.specs.Compiled.{first_refused};
 ghost use Rattle.apt_meaning.specs.Ranges.{IsSituation, IsMotion, IsEffect, HasMotion};
 ghost use Rattle.apt_meaning.specs.Motions.{is_defined};
+ghost use Rattle.apt_meaning.specs.Paths.{contours_of};
 ghost use Rattle.apt_meaning.specs.Records as written;
 ghost use Rattle.apt_meaning.specs.Situations.{first_situation};
 ghost use Rattle.apt_meaning.specs.Vertices.{HasIn};
@@ -20,6 +23,7 @@ ghost use Rattle.apt_meaning.specs.Expectations.{FailsAt};
 ghost use Rattle.apt_meaning.specs.Records.{Follows};
 ghost use Rattle.apt_job.specs.Answering.{IsEntry, IsEntryAt};
 ghost use Rattle.apt_job.specs.Fronts.{cuts_at};
+ghost use Rattle.apt_job.specs.InAndOut.{TellsInAndOut};
 ghost use Rattle.apt_job.specs.Jobs.{AreSides, HasSides, jobs_by, jobs_said, MakesJobs};
 
 use crate::JobError;
@@ -166,6 +170,7 @@ pub fn jobs(alloc: Global, steps: &[Step], records: Vec<Record>) -> Result<Vec<J
     ensures jobs { IfOk result (λ js. MakesJobs first_situation steps.now records.items js.items) }
     ensures follows { IfOk result (λ js. Follows steps.now records.items) }
     ensures said { IfOk result (λ js. js.items ≡ jobs_said records.items) }
+    ensures in_and_out { IfOk result (λ js. (v : Verdict) → IsVerdict js.items v → TellsInAndOut (contours_of records.items) v) }
     ensures range { IfOk result (λ js. AreJobs js.items) }
     ensures few { IfOk result (λ js. point_count js.items < 2 ^ 63) }
     ensures entry { IfErr result (IsEntry steps.now records.items) }

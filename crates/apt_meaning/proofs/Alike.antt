@@ -1,6 +1,6 @@
 -- What a step asks for depends on its lengths in grid units alone.
 use Rattle.std.specs.Prelude.{Option, Some, None, Result, Ok, Err, IfOk}
-use Rattle.std.proofs.Common.{refl, ◌≡◌, sym, ap, ◌∙◌, ℕ, ℤ, pos, ◌+ℤ◌, Bool, true, false, List}
+use Rattle.std.proofs.Common.{refl, ◌≡◌, sym, ap, ◌∙◌, ℕ, ℤ, pos, ◌+ℤ◌, List}
 use Rattle.apt_words.specs.Options.{◌>>=◌}
 use Rattle.apt_words.specs.Asks.{Ask, Titles, Says, Sets, Defines, Goes, Cuts, Nothing, ask_of}
 use Rattle.apt_words.specs.declared.Go.{Go}
@@ -22,17 +22,14 @@ use Rattle.apt_cldata.specs.declared.record.Note.TheVariants as notes
 use Rattle.apt_cldata.specs.declared.record.Position.{Position}
 use Rattle.apt_cldata.specs.declared.record.Reach.TheVariants as reaches
 use Rattle.apt_defs.specs.Alike.{in_grid}
-use Rattle.apt_defs.specs.Definitions.{figure_of}
 use Rattle.apt_defs.proofs.Gridded.{alike}
-use Rattle.apt_stop.specs.declared.legs.Legs.{Legs}
 use Rattle.apt_meaning.specs.declared.effect.Effect.{Effect}
-use Rattle.apt_meaning.specs.declared.motion.Motion.{Motion}
 use Rattle.apt_meaning.specs.declared.situation.Situation.{Situation}
 use Rattle.apt_meaning.specs.Situations.{position_at}
 use Rattle.apt_meaning.specs.Motions.{motion_at}
 use Rattle.apt_meaning.specs.StartUps.{start_up_at, start_position_at}
-use Rattle.apt_meaning.specs.Effects.{note_of, says, moves, cuts, legs_by, cuts_by, place_in, place_at, moved_from, goes, names, defined, effect_by, effect_of}
-use Rattle.apt_meaning.specs.Alike.{saying_in_grid, place_in_grid, route_in_grid, ask_in_grid, AskAlike, with_units}
+use Rattle.apt_meaning.specs.Effects.{note_of, says, moves, cuts_by, place_in, place_at, goes, names, defined, effect_by, effect_of}
+use Rattle.apt_meaning.specs.Alike.{saying_in_grid, place_in_grid, route_in_grid, AskAlike, with_units}
 
 -- ---- what is said, by grid units
 

@@ -9,3 +9,6 @@ pub mod Walks
 pub mod Moving
 pub mod Alike
 pub mod InNumbers
+pub mod Aside
+pub mod Forward
+pub mod Counted

@@ -1,5 +1,5 @@
 -- Contour motions: the parts of one at a situation, its leg, and where it stops.
-use Rattle.std.specs.Prelude.{ℤ, pos, ◌-ℤ◌, ◌/◌, unsigned_abs, int_lt, int_le, ◌&&◌, ◌||◌, not, Bool, is_some, List, [], ◌∷◌, ℕ, Option, Some, None, if◌then◌else◌}
+use Rattle.std.specs.Prelude.{◌≡◌, ◌↔◌, ℤ, pos, ◌-ℤ◌, ◌<ℤ◌, ◌≤ℤ◌, ◌/◌, unsigned_abs, int_lt, int_le, ◌&&◌, ◌||◌, not, Bool, false, is_some, List, [], ◌∷◌, ℕ, Option, Some, None, if◌then◌else◌}
 use Rattle.apt_num.specs.declared.Sign.{Sign}
 use Rattle.apt_words.specs.declared.Go.{Go}
 use Rattle.apt_words.specs.declared.Side.{Side}
@@ -7,13 +7,15 @@ use Rattle.apt_words.specs.declared.Stop.{Stop}
 use Rattle.apt_words.specs.Options.{◌>>=◌}
 use Rattle.apt_plane.specs.declared.figures.Pt.{Pt}
 use Rattle.apt_plane.specs.declared.figures.Surface.{Surface}
+use Rattle.apt_plane.specs.Vectors.{scaled}
+use Rattle.apt_plane.specs.Distances.{InBand}
 use Rattle.apt_defs.specs.declared.figure.Figure.{Figure}
 use Rattle.apt_defs.specs.declared.figure.Figure.TheVariants as figures
 use Rattle.apt_defs.specs.Figures.{Table, figure_named}
 use Rattle.apt_offset.specs.declared.Target.{Target}
 use Rattle.apt_offset.specs.declared.Target.TheVariants as targets
 use Rattle.apt_offset.specs.Turns.{tangent, turn, is_zero}
-use Rattle.apt_offset.specs.Sides.{side_at_drive, side_at_check, is_on_check}
+use Rattle.apt_offset.specs.Sides.{side_at_drive, side_at_check, is_on_check, StopsAside}
 use Rattle.apt_offset.specs.Targets.{signed, greater, offset_surface, lacks_room, band_at}
 use Rattle.apt_contact.specs.Meetings.{circle_about}
 use Rattle.apt_stop.specs.declared.course.Course.{Course}
@@ -37,6 +39,10 @@ use Rattle.apt_meaning.specs.Situations.{with_side}
 -- a tolerance counts as at least one grid step of 8 units
 abbrev pub grid_step : ℤ
 grid_step = pos 8
+
+-- what a tolerance counts as: the least length that is at least it and at least 8 units
+abbrev pub CountsAs : ℤ → ℤ → Type 0
+CountsAs tolerance length = (x : ℤ) → (length ≤ℤ x) ↔ ((tolerance ≤ℤ x) × (pos 8 ≤ℤ x))
 
 -- both tolerances are under a grid step
 abbrev pub is_too_fine : Settings → Bool
@@ -112,6 +118,10 @@ leg_on m side = record {
 -- the leg on the side of the stop on which the motion runs
 abbrev pub leg_of : Motion → Leg
 leg_of m = leg_on m (stop_side m)
+
+-- whatever point is within the tolerances of its stop, the inner one less than the cutter's radius, is on the side of the check surface on which it starts under TO, and on the other under PAST
+abbrev pub EndsAside : Motion → Type 0
+EndsAside m = starts_on_check m ≡ false → m.inner <ℤ m.radius → (q : Pt) → InBand m.check (leg_of m).stop_band (scaled q) → StopsAside m.check m.how m.start.xy q
 
 -- its track is there
 abbrev pub has_track : Motion → Bool

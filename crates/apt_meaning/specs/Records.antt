@@ -1,17 +1,22 @@
 -- Which records answer which steps: what an effect writes, what it leaves, and the walk over both.
-use Rattle.std.specs.Prelude.{◌≡◌, ℤ, true, List, [], ◌∷◌, ◌++◌, length, map, Some}
+use Rattle.std.specs.Prelude.{◌≡◌, ◌≤◌, ℤ, pos, ◌<ℤ◌, true, List, [], ◌∷◌, ◌++◌, length, map, Some}
+use Rattle.apt_num.specs.Sign.{sign_of}
 use Rattle.apt_plane.specs.declared.figures.Pt.{Pt}
+use Rattle.apt_plane.specs.declared.figures.Dir.{Dir}
+use Rattle.apt_plane.specs.Vectors.{displacement, dot, length_squared}
+use Rattle.apt_words.specs.declared.Go.TheVariants as turns
 use Rattle.apt_words.specs.declared.deed.Step.{Step}
 use Rattle.apt_cldata.specs.declared.record.Record.{Record}
 use Rattle.apt_cldata.specs.declared.record.Record.TheVariants as records
 use Rattle.apt_defs.specs.Figures.{table_with}
-use Rattle.apt_offset.specs.Turns.{tangent}
+use Rattle.apt_offset.specs.Turns.{tangent, turn, opposite}
 use Rattle.apt_stop.specs.Nearness.{heading}
 use Rattle.apt_offset.specs.declared.Target.{Target}
 use Rattle.apt_offset.specs.declared.Target.TheVariants as targets
 use Rattle.apt_arc.specs.Divisions.{IsDivision}
 use Rattle.apt_stop.specs.Legs.{leg_count}
 use Rattle.apt_certify.specs.Legal.{last_of}
+use Rattle.apt_certify.specs.Legs.{IsStep}
 use Rattle.apt_meaning.specs.declared.situation.Situation.{Situation}
 use Rattle.apt_meaning.specs.declared.motion.Motion.{Motion}
 use Rattle.apt_meaning.specs.declared.effect.Change.{Change}
@@ -64,6 +69,16 @@ cut_at here m end = record here {
   position = Some (at_height m.start.z end);
   forward = heading m.sense (tangent m.drive end);
 }
+
+-- forward leads on behind a contour: it has a positive scalar product with each step along the drive surface that ends there, as with the last segment of a legal one
+abbrev pub LeadsOn : Motion → Pt → Dir → Type 0
+LeadsOn m end forward = (start a : Pt) → IsStep m.drive m.sense start a end → pos 0 <ℤ dot forward (displacement a end)
+
+-- and a contour from there along the same drive surface goes on in the same sense under GOFWD, and in the other under GOBACK
+abbrev pub GoesOn : Motion → Pt → Dir → Type 0
+GoesOn m end forward =
+    let along = tangent m.drive end in
+    1 ≤ length_squared along → (turn forward along turns.Forward ≡ sign_of m.sense) × (turn forward along turns.Back ≡ opposite (sign_of m.sense))
 
 -- the situation behind an effect
 abbrev pub after : Situation → Effect → List (List Pt) → Situation

@@ -45,7 +45,7 @@ pub struct Motion {
 impl Motion {
     /// The motion along a drive surface that runs so against forward.
     #[inline(always)]
-    #[tactic(auto, using(crate::proofs::EffectRanges::along_in))]
+    #[tactic(auto, using(crate::proofs::EffectRanges::along_in, crate::proofs::Aside::ends_aside, crate::proofs::Counted::counts_as))]
     pub fn along(
         settings: &Settings,
         start: Position,
@@ -60,6 +60,9 @@ impl Motion {
         requires turned { turns.is_zero turned ≡ false }
         requires check { IsSurface check.now }
         ensures value { result ≡ motions.motion settings.now start drive.now turned how check.now }
+        ensures aside { motions.EndsAside result }
+        ensures inner { motions.CountsAs settings.now.intol result.inner }
+        ensures outer { motions.CountsAs settings.now.outtol result.outer }
         ensures range { IsMotion result }
     {
         Motion::turned(settings, start, drive, turned, how, check)

@@ -90,7 +90,9 @@ impl Situation {
     pub fn cut_to(&mut self, motion: &Motion, end: Pt)
         requires motion { IsMotion motion.now }
         requires end { IsPoint end }
-        ensures { self.new ≡ written.cut_at self.old motion.now end }
+        ensures after { self.new ≡ written.cut_at self.old motion.now end }
+        ensures onwards { written.LeadsOn motion.now end self.new.forward }
+        ensures same_drive { written.GoesOn motion.now end self.new.forward }
     {
         self.forward = heading(motion.sense, tangent(&motion.drive, end));
         self.settings.side = motion.side;

@@ -3,3 +3,4 @@ pub mod Rooms
 pub mod Bands
 pub mod Refusals
 pub mod Spots
+pub mod Aside

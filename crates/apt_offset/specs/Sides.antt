@@ -1,5 +1,5 @@
 -- The place of the cutter at a surface: left of a line or inside a circle (Plus), right or outside (Minus), or on it (Zero).
-use Rattle.std.specs.Prelude.{ℕ, ◌*◌, nat_le, Bool, false, ℤ, pos, ◌-ℤ◌, ◌*ℤ◌, unsigned_abs, max, if◌then◌else◌}
+use Rattle.std.specs.Prelude.{◌≡◌, ℕ, ◌*◌, nat_le, Bool, false, ℤ, pos, ◌-ℤ◌, ◌*ℤ◌, unsigned_abs, max, if◌then◌else◌}
 use Rattle.apt_num.specs.declared.Sign.{Sign}
 use Rattle.apt_num.specs.declared.Sign.TheVariants as signs
 use Rattle.apt_num.specs.Sign.{sign_of}
@@ -69,3 +69,10 @@ is_on_check stops.To w = is_zero w
 is_on_check stops.Past w = is_zero w
 is_on_check stops.On w = false
 is_on_check stops.Tanto w = false
+
+-- where a motion stops: under TO on the side of the check surface on which it starts, under PAST on the other
+abbrev pub StopsAside : Surface → Stop → Pt → Pt → Type 0
+StopsAside check stops.To start q = side_at check q ≡ side_at check start
+StopsAside check stops.Past start q = side_at check q ≡ opposite (side_at check start)
+StopsAside check stops.On start q = Unit {0}
+StopsAside check stops.Tanto start q = Unit {0}

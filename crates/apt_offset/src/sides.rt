@@ -1,10 +1,13 @@
 //! The place of the cutter at a surface: left of a line or inside a circle (Plus), right or outside
 //! (Minus), or on it (Zero).
 
-ghost use Rattle.std.specs.Prelude.{◌≡◌, ◌↔◌, true};
+ghost use Rattle.std.specs.Prelude.{◌≡◌, ◌↔◌, true, false, ℤ, ◌<ℤ◌};
+ghost use Rattle.apt_plane.specs.Distances.{InBand};
 ghost use Rattle.apt_plane.specs.Ranges.{IsPoint, IsSurface, IsLine, IsCircle};
+ghost use Rattle.apt_plane.specs.Vectors.{scaled};
 ghost use Rattle.apt_offset.specs.Refusals.{StartsOn};
 ghost use Rattle.apt_offset.specs.Sides as spec;
+ghost use Rattle.apt_offset.specs.Targets.{band_at};
 
 use crate::signs::{is_zero, opposite, times};
 use apt_num::{Sign, compare, sign_of};
@@ -24,13 +27,14 @@ pub fn side_at_drive(side: Side, sense: i8) -> Sign
 }
 
 /// The place at the check surface where the motion stops; Zero under `To` and `Past` where the start is on it.
-#[tactic(auto, using(crate::proofs::Refusals::starts_on))]
+#[tactic(auto, using(crate::proofs::Refusals::starts_on, crate::proofs::Aside::stops_aside))]
 pub fn side_at_check(check: &Surface, how: Stop, start: Pt, drive: &Surface, at_drive: Sign) -> Sign
     requires check { IsSurface check.now }
     requires start { IsPoint start }
     requires drive { IsSurface drive.now }
     ensures value { result ≡ spec.side_at_check check.now how start drive.now at_drive }
     ensures on_check { (spec.is_on_check how result ≡ true) ↔ StartsOn check.now how start }
+    ensures aside { spec.is_on_check how result ≡ false → (r i o : ℤ) (q : Pt) → i <ℤ r → InBand check.now (band_at check.now result r i o) (scaled q) → spec.StopsAside check.now how start q }
 {
     match how {
         Stop::To => side_at(check, start),

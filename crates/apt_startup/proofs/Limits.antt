@@ -1,5 +1,5 @@
 -- A start-up that no condition refuses ends within the coordinate limit.
-use Rattle.std.proofs.Common.{◌≡◌, false, not, true, Option, Some, None, arith}
+use Rattle.std.proofs.Common.{◌≡◌, true, Option, Some, None, arith}
 use Rattle.std.proofs.lemmas.Bool.{not-false}
 use Rattle.std.proofs.lemmas.Bool.Decides.{nat_tests}
 use Rattle.apt_words.specs.Rows.{NoneHolds}

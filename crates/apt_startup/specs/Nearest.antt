@@ -6,6 +6,7 @@ use Rattle.apt_plane.specs.declared.figures.Dir.{Dir}
 use Rattle.apt_plane.specs.Vectors.{displacement, cross, dot, length_squared}
 use Rattle.apt_offset.specs.declared.Target.{Target}
 use Rattle.apt_offset.specs.declared.Target.TheVariants as targets
+use Rattle.apt_offset.specs.Sides.{StopsAside}
 use Rattle.apt_contact.specs.Contacts.{contact_point, IsNearTarget}
 use Rattle.apt_startup.specs.declared.Goal.{Goal}
 use Rattle.apt_startup.specs.declared.StartUp.{StartUp}
@@ -40,3 +41,13 @@ IsNearerContact p a b q = IsNearerOf p (contact_point a b (neg_ℤ (pos 1))) (co
 abbrev pub IsNearest : StartUp → Option Goal → Pt → Type 0
 IsNearest u None q = IsFootOf u.start (goal_target u u.first) q
 IsNearest u (Some g) q = IsNearerContact u.start (goal_target u u.first) (goal_target u g) q
+
+-- ---- on which side
+
+-- at each surface it stops on the side of its start under TO, and on the other under PAST
+abbrev pub GoesAside : StartUp → Goal → Pt → Type 0
+GoesAside u g q = StopsAside g.surface g.how u.start q
+
+abbrev pub EachAside : StartUp → Option Goal → Pt → Type 0
+EachAside u None q = GoesAside u u.first q
+EachAside u (Some g) q = GoesAside u u.first q × GoesAside u g q

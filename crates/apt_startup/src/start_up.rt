@@ -1,13 +1,13 @@
 //! Where a start-up ends.
 
-ghost use Rattle.std.specs.Prelude.{◌≡◌, ◌↔◌, ◌++◌, false, pos, Some, None, IfOk, IsErrOf};
+ghost use Rattle.std.specs.Prelude.{◌≡◌, ◌↔◌, ◌++◌, ◌<ℤ◌, false, pos, Some, None, IfOk, IsErrOf};
 ghost use Rattle.apt_words.specs.Rows.{unless, first_of};
 ghost use Rattle.apt_plane.specs.Ranges.{IsPoint};
 ghost use Rattle.apt_offset.specs.Ranges.{IsTarget};
 ghost use Rattle.apt_offset.specs.Targets as moving;
 ghost use Rattle.apt_contact.specs.Contacts.{IsNearTarget};
 ghost use Rattle.apt_contact.specs.Meetings as meetings;
-ghost use Rattle.apt_startup.specs.Nearest.{IsNearBoth, IsNearest};
+ghost use Rattle.apt_startup.specs.Nearest.{IsNearBoth, IsNearest, EachAside};
 ghost use Rattle.apt_startup.specs.Ranges.{IsStartUp, IsGoal};
 ghost use Rattle.apt_startup.specs.StartUps as spec;
 
@@ -33,6 +33,7 @@ pub fn start(u: &StartUp) -> Result<Pt, Case>
     ensures range { IfOk result IsPoint }
     ensures near { IfOk result (IsNearBoth u.now u.now.second) }
     ensures nearest { IfOk result (IsNearest u.now u.now.second) }
+    ensures aside { pos 1 <ℤ u.now.radius → IfOk result (EachAside u.now u.now.second) }
 {
     match &u.second {
         None => start_on_one(u),

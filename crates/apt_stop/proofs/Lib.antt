@@ -39,6 +39,7 @@ pub mod Within
 pub mod Turned
 pub mod NextLegs
 pub mod Stops
+pub mod StopSides
 pub mod TwoLegs
 pub mod FullTurns
 mod Worked

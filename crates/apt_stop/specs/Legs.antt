@@ -1,5 +1,6 @@
 -- The legs of a contour with one stop: where they end, and what refuses them.
-use Rattle.std.specs.Prelude.{◌≡◌, ℕ, pos, ◌&&◌, Bool, true, false, List, ◌∷◌, ◌++◌, Some, None, unwrap_or, IfSome}
+use Rattle.std.specs.Prelude.{◌≡◌, ℕ, ℤ, pos, ◌<ℤ◌, ◌&&◌, Bool, true, false, List, ◌∷◌, ◌++◌, Some, None, unwrap_or, IfSome}
+use Rattle.apt_num.specs.declared.Sign.{Sign}
 use Rattle.apt_words.specs.declared.Case.TheVariants as cases
 use Rattle.apt_words.specs.Rows.{Row, NoneHolds}
 use Rattle.apt_plane.specs.declared.figures.Pt.{Pt}
@@ -7,6 +8,8 @@ use Rattle.apt_plane.specs.declared.figures.Surface.{Surface}
 use Rattle.apt_plane.specs.declared.figures.Surface.TheVariants as surfaces
 use Rattle.apt_plane.specs.Ranges.{IsPoint}
 use Rattle.apt_offset.specs.Turns.{opposite}
+use Rattle.apt_offset.specs.Sides.{side_at_check, is_on_check, StopsAside}
+use Rattle.apt_offset.specs.Targets.{offset_surface}
 use Rattle.apt_contact.specs.Contacts.{IsNearTarget}
 use Rattle.apt_stop.specs.declared.course.Course.{Course}
 use Rattle.apt_stop.specs.declared.legs.Legs.{Legs}
@@ -71,3 +74,17 @@ pub record IsSecond (c : Course) (q : Pt) : Type 0 where
 
 abbrev pub LegsEnd : Course → Ends → Type 0
 LegsEnd c e = IsEndOn c.track c e.first × IfSome e.second (IsSecond c)
+
+-- ---- on which side
+
+-- the stop is that of the start, by a cutter's radius of more than a unit: the check surface, moved to the place at which a motion stops that starts off it
+pub record IsStopOfStart (c : Course) : Type 0 where
+  pub at_drive : Sign
+  pub radius : ℤ
+  pub more : pos 1 <ℤ radius
+  pub off : is_on_check c.how (side_at_check c.check c.how c.start c.drive at_drive) ≡ false
+  pub stop : c.stop ≡ offset_surface c.check (side_at_check c.check c.how c.start c.drive at_drive) radius
+
+-- each leg ends on the side of the check surface on which the first starts under TO, and on the other under PAST
+abbrev pub LegsStopAside : Course → Ends → Type 0
+LegsStopAside c e = StopsAside c.check c.how c.start e.first × IfSome e.second (StopsAside c.check c.how c.start)

@@ -71,6 +71,7 @@ pub fn decide_legs(c: &Course, legs: Legs) -> Result<Ends, Case>
     ensures full_turn { IsErrOf result Case.FullTurn ↔ legging.IsFullTurn legs c.now }
     ensures range { IfOk result legging.AreEnds }
     ensures ends { IfOk result (legging.LegsEnd c.now) }
+    ensures aside { legging.IsStopOfStart c.now → IfOk result (legging.LegsStopAside c.now) }
 {
     decided(c, legs)
 }

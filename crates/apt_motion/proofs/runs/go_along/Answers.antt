@@ -7,4 +7,4 @@ pub returns-in-Ok : goal.returns-in-Ok
 returns-in-Ok c =
     let here = c.args.here.now in
     let m = c.args.contour.now.motion in
-    has_passed here c.cut_to.new.self c.args.step.now m c.args.contour.now.legs c.in-Ok.ends c.requires.asks c.in-Ok.ensures.value (c.cut_to.ensures ∙ ap (cut_at here m) c.last.ensures)
+    has_passed here c.cut_to.new.self c.args.step.now m c.args.contour.now.legs c.in-Ok.ends c.requires.asks c.in-Ok.ensures.value (c.cut_to.ensures.after ∙ ap (cut_at here m) c.last.ensures)

@@ -1,5 +1,9 @@
 use Rattle.apt_stop.proofs.FullTurns.{full_turn_exactly}
+use Rattle.apt_stop.proofs.StopSides.{legs_aside}
 use Rattle.apt_stop.proofs.legs.decide_legs.Goals as goal
 
 pub returns-clause-full_turn : goal.returns-clause-full_turn
 returns-clause-full_turn c = full_turn_exactly c.decided.result c.args.legs c.args.c.now c.requires c.decided.ensures.value
+
+pub returns-clause-aside : goal.returns-clause-aside
+returns-clause-aside c = legs_aside c.decided.result c.args.c.now c.requires.check c.decided.ensures.ends
