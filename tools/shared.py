@@ -26,10 +26,10 @@ STATUSES = {
 }
 
 # the characters of a tape in both codes, by docs/TAPE.md; a line feed is the end of block, % the rewind stop
-CHARACTERS = "0123456789FGMNSTXYZ+-\n%"
+CHARACTERS = "0123456789FGIJMNRSTXYZ+-\n%"
 CODES = {
     "RS358": {c: ord(c) | 0x80 * (ord(c).bit_count() % 2) for c in CHARACTERS},
-    "RS244": dict(zip(CHARACTERS, bytes.fromhex("20010213041516070819" "76675445322337382970" "40800b"))),
+    "RS244": dict(zip(CHARACTERS, bytes.fromhex("20010213041516070819" "766779515445493223373829" "7040800b"))),
 }
 
 # the same as tables over all bytes: which byte is punched, which character is sensed, and which bytes are none
