@@ -142,7 +142,7 @@ fn causes_of_cl_files(rt: HostRuntime) -> Result<(), Fail> {
     Ok(())
 }
 
-const TAPE_CAUSES: [(TapeCause, &str); 13] = [
+const TAPE_CAUSES: [(TapeCause, &str); 17] = [
     (TapeCause::NoStart, "NoStart"),
     (TapeCause::BadParity, "BadParity"),
     (TapeCause::BadCode, "BadCode"),
@@ -156,6 +156,10 @@ const TAPE_CAUSES: [(TapeCause, &str); 13] = [
     (TapeCause::NoPosition, "NoPosition"),
     (TapeCause::Truncated, "Truncated"),
     (TapeCause::AfterEnd, "AfterEnd"),
+    (TapeCause::Foreign, "Foreign"),
+    (TapeCause::Limit, "Limit"),
+    (TapeCause::BadArc, "BadArc"),
+    (TapeCause::BadCycle, "BadCycle"),
 ];
 
 #[test]

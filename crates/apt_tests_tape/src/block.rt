@@ -69,11 +69,25 @@ fn end() -> Block
     block
 }
 
-fn spelled(alloc: Global, block: &Block) -> Result<Vec<u8>, AllocError>
+/// A block of a circle, which is read though no straight control runs it.
+fn arc() -> Block
+    ensures { IsBlock result }
+{
+    let mut block = Block::new();
+    block.push(word(b'G', 2));
+    block.push(word(b'X', 5));
+    block.push(word(b'I', -10));
+    block.push(word(b'J', 0));
+    block.push(word(b'R', 50_000_000));
+    block.push(word(b'F', 7));
+    block
+}
+
+fn spelled(alloc: Global, block: &Block, short: bool) -> Result<Vec<u8>, AllocError>
     requires { IsBlock block.now }
 {
     let mut text = Vec::new(alloc);
-    write_block(alloc, block, &mut text)?;
+    write_block(alloc, block, short, &mut text)?;
     Ok(text)
 }
 
@@ -81,18 +95,46 @@ fn spelled(alloc: Global, block: &Block) -> Result<Vec<u8>, AllocError>
 fn spells_blocks(rt: HostRuntime) -> Result<(), Fail> {
     let alloc = rt.alloc();
     let cases = [
-        (spelled(alloc, &start())?, "N0001G70G90G94\n"),
+        (spelled(alloc, &start(), false)?, "N0001G70G90G94\n"),
         (
-            spelled(alloc, &way())?,
+            spelled(alloc, &way(), false)?,
             "N0002G01X+00100000Y+00200000Z+00300000\n",
         ),
-        (spelled(alloc, &feed())?, "F0100\n"),
+        (spelled(alloc, &feed(), false)?, "F0100\n"),
         (
-            spelled(alloc, &below_zero())?,
+            spelled(alloc, &below_zero(), false)?,
             "X-50000000Y+00000000Z-00000001S1250T07\n",
         ),
-        (spelled(alloc, &end())?, "M02\n"),
-        (spelled(alloc, &Block::new())?, "\n"),
+        (
+            spelled(alloc, &arc(), false)?,
+            "G02X+00000005I-00000010J+00000000R+50000000F0007\n",
+        ),
+        (spelled(alloc, &end(), false)?, "M02\n"),
+        (spelled(alloc, &Block::new(), false)?, "\n"),
+    ];
+    for (text, want) in &cases {
+        assert_eq!(rt; text.as_slice(), want.as_bytes());
+    }
+    Ok(())
+}
+
+#[test]
+fn spells_blocks_without_leading_zeros(rt: HostRuntime) -> Result<(), Fail> {
+    let alloc = rt.alloc();
+    let cases = [
+        (spelled(alloc, &start(), true)?, "N1G70G90G94\n"),
+        (
+            spelled(alloc, &way(), true)?,
+            "N2G01X+100000Y+200000Z+300000\n",
+        ),
+        (spelled(alloc, &feed(), true)?, "F100\n"),
+        (
+            spelled(alloc, &below_zero(), true)?,
+            "X-50000000Y+0Z-1S1250T7\n",
+        ),
+        (spelled(alloc, &arc(), true)?, "G02X+5I-10J+0R+50000000F7\n"),
+        (spelled(alloc, &end(), true)?, "M02\n"),
+        (spelled(alloc, &Block::new(), true)?, "\n"),
     ];
     for (text, want) in &cases {
         assert_eq!(rt; text.as_slice(), want.as_bytes());
@@ -104,9 +146,10 @@ fn spells_blocks(rt: HostRuntime) -> Result<(), Fail> {
 fn appends_blocks(rt: HostRuntime) -> Result<(), Fail> {
     let alloc = rt.alloc();
     let mut text = Vec::new(alloc);
-    write_block(alloc, &start(), &mut text)?;
-    write_block(alloc, &end(), &mut text)?;
-    assert_eq!(rt; text.as_slice(), "N0001G70G90G94\nM02\n".as_bytes());
+    write_block(alloc, &start(), false, &mut text)?;
+    write_block(alloc, &feed(), true, &mut text)?;
+    write_block(alloc, &end(), true, &mut text)?;
+    assert_eq!(rt; text.as_slice(), "N0001G70G90G94\nF100\nM02\n".as_bytes());
     Ok(())
 }
 
@@ -126,22 +169,43 @@ fn reads_blocks(rt: HostRuntime) {
     assert!(rt; is_read("\n", &Block::new()));
 }
 
+#[test]
+fn reads_blocks_of_fewer_digits(rt: HostRuntime) {
+    assert!(rt; is_read("N1G70G90G94\n", &start()));
+    assert!(rt; is_read("N02G01X100000Y+0200000Z300000F100\n", &cut()));
+    assert!(rt; is_read("F0100\n", &feed()));
+    assert!(rt; is_read("X-50000000Y-0Z-001S1250T7\n", &below_zero()));
+    assert!(rt; is_read("G02X5I-10J0R50000000F007\n", &arc()));
+}
+
 fn refusal(text: &str) -> Option<BlockError> {
     read_block(text.as_bytes()).err()
 }
 
-const REFUSED: [(&str, usize, TapeCause); 13] = [
+const REFUSED: [(&str, usize, TapeCause); 25] = [
     ("", 0, TapeCause::Truncated),
     ("N0001G7", 7, TapeCause::Truncated),
     ("M02", 3, TapeCause::Truncated),
     ("N0001Q\n", 5, TapeCause::BadBlock),
-    ("N001G70\n", 4, TapeCause::BadBlock),
+    ("N00001G70\n", 5, TapeCause::BadBlock),
     ("X+50000001\n", 9, TapeCause::BadBlock),
+    ("X-50000001", 9, TapeCause::BadBlock),
+    ("R000000001\n", 9, TapeCause::BadBlock),
     ("F0000\n", 4, TapeCause::BadBlock),
+    ("F00\n", 2, TapeCause::BadBlock),
+    ("F0", 2, TapeCause::Truncated),
+    ("T0M06\n", 1, TapeCause::BadBlock),
+    ("XY1\n", 1, TapeCause::BadBlock),
+    ("Z+\n", 2, TapeCause::BadBlock),
+    ("M2\n", 2, TapeCause::BadBlock),
+    ("I1Z1\n", 2, TapeCause::BadBlock),
+    ("J1I1\n", 2, TapeCause::BadBlock),
     ("G90N0001\n", 3, TapeCause::BadBlock),
     ("M00\nM01\n", 4, TapeCause::BadBlock),
     ("G00G90G01\n", 6, TapeCause::BadG),
-    ("G02X+00000000\n", 0, TapeCause::BadG),
+    ("G02G80\n", 3, TapeCause::BadG),
+    ("G90G91\n", 3, TapeCause::BadG),
+    ("G04X+00000000\n", 0, TapeCause::BadG),
     ("G00G70G90G94G00\n", 12, TapeCause::BadG),
     ("M10\n", 0, TapeCause::BadM),
 ];

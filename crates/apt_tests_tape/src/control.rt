@@ -47,6 +47,53 @@ fn reads_moves(rt: HostRuntime) -> Result<(), Fail> {
 }
 
 #[test]
+fn reads_incremental_blocks(rt: HostRuntime) -> Result<(), Fail> {
+    let text = "%G71G90\nG01X1Y-2Z3F100\nG91X40000000\nY+0\nG00X-1Z-4M08\nG90G70X7\nG01Y8\nM02\n";
+    let (y, feed) = (-2, 100);
+    let want = [
+        Act::Units(Units::Mm),
+        Act::Cut {
+            x: 1,
+            y,
+            z: 3,
+            feed,
+        },
+        Act::Cut {
+            x: 40_000_001,
+            y,
+            z: 3,
+            feed,
+        },
+        Act::Cut {
+            x: 40_000_001,
+            y,
+            z: 3,
+            feed,
+        },
+        Act::Coolant(Cool::Flood),
+        Act::Rapid {
+            x: 40_000_000,
+            y,
+            z: -1,
+        },
+        Act::Units(Units::Inch),
+        Act::Rapid { x: 7, y, z: -1 },
+        Act::Cut {
+            x: 7,
+            y: 8,
+            z: -1,
+            feed,
+        },
+        Act::End,
+    ];
+    for code in [Code::Rs244, Code::Rs358] {
+        let tape = punched(rt.alloc(), code, text)?;
+        assert!(rt; is_run(rt.alloc(), code, &tape, &want));
+    }
+    Ok(())
+}
+
+#[test]
 fn reads_every_act(rt: HostRuntime) -> Result<(), Fail> {
     let text = "%G71\nS0700M03\nS0008M04\nM05\nT09M06\nM07\nM08\nM09\nM00\nM01\nM02\n";
     let want = [
@@ -76,12 +123,20 @@ fn reads_every_act(rt: HostRuntime) -> Result<(), Fail> {
     Ok(())
 }
 
-const TAPES: [(&str, u64, TapeCause); 16] = [
+const TAPES: [(&str, u64, TapeCause); 28] = [
     ("", 0, TapeCause::NoStart),
     ("M02\n", 4, TapeCause::NoStart),
-    ("%\nN1\n", 4, TapeCause::BadBlock),
+    ("%\nN1\n", 5, TapeCause::Truncated),
+    ("%\nN12345\n", 7, TapeCause::BadBlock),
+    ("%\nF0M02\n", 3, TapeCause::BadBlock),
     ("%\nM0%", 4, TapeCause::BadBlock),
-    ("%\nG02\n", 2, TapeCause::BadG),
+    ("%\nG04\n", 2, TapeCause::BadG),
+    ("%\nG02I5M10\n", 7, TapeCause::BadM),
+    ("%\nG02\n", 2, TapeCause::Foreign),
+    ("%\nG80\n", 2, TapeCause::Foreign),
+    ("%\nG70R5S1\n", 5, TapeCause::Foreign),
+    ("%\nG70G00X1Y1Z1J5I5\n", 16, TapeCause::BadBlock),
+    ("%\nG70G00X1Y1Z1J5R6\n", 14, TapeCause::Foreign),
     ("%\nM10\n", 2, TapeCause::BadM),
     ("%\nS0100\n", 7, TapeCause::BadMix),
     ("%\nM06\n", 5, TapeCause::BadMix),
@@ -96,6 +151,14 @@ const TAPES: [(&str, u64, TapeCause); 16] = [
         TapeCause::NoMode,
     ),
     ("%\nG01G70X+00000000\n", 18, TapeCause::NoPosition),
+    ("%\nG91G70G00X1Y1Z1\n", 17, TapeCause::NoPosition),
+    ("%\nG70G00X50000000Y0Z0\nG91X1\n", 27, TapeCause::Limit),
+    (
+        "%\nG70G00X1Y1Z1\nG91G01X50000000S5\n",
+        32,
+        TapeCause::BadMix,
+    ),
+    ("%\nG70G00X1Y1Z1\nG91G01X5\n", 23, TapeCause::NoFeed),
     (
         "%\nG01G70X+00000000Y+00000000Z+00000000\n",
         38,

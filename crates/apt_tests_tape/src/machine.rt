@@ -4,14 +4,41 @@ use std::alloc::{AllocError, Global};
 use std::test::Fail;
 
 /// Texts, and the line and the cause of each.
-const BAD: [(&[u8], u32, MachineCause); 32] = [
+const BAD: [(&[u8], u32, MachineCause); 51] = [
     (b"", 1, MachineCause::Header),
     (b"\n", 1, MachineCause::Header),
     (b"  \n", 1, MachineCause::Header),
-    (b"MACHINE 2\n", 1, MachineCause::Header),
+    (b"MACHINE 3\n", 1, MachineCause::Header),
+    (b"MACHINE 02\n", 1, MachineCause::Header),
+    (b"MACHINE 2 \n", 1, MachineCause::Header),
     (b"MACHINE 1 \n", 1, MachineCause::Header),
     (b"MACHINE 2\xff\n", 1, MachineCause::Byte),
     (b"MACHINE 1", 2, MachineCause::Missing),
+    (b"MACHINE 2", 2, MachineCause::Missing),
+    (
+        b"MACHINE 2\nMODE INC\nZEROS DROPPED\nARCS LINES\nDRILL MOVES\n",
+        6,
+        MachineCause::Missing,
+    ),
+    (b"MACHINE 1\nMODE ABS\n", 2, MachineCause::Key),
+    (b"MACHINE 1\nZEROS KEPT\n", 2, MachineCause::Key),
+    (b"MACHINE 1\nARCS LINES\n", 2, MachineCause::Key),
+    (b"MACHINE 1\nDRILL MOVES\n", 2, MachineCause::Key),
+    (b"MACHINE 2\nmode INC\n", 2, MachineCause::Key),
+    (b"MACHINE 2\nMODES INC\n", 2, MachineCause::Key),
+    (b"MACHINE 2\nMODE INC\nMODE ABS\n", 3, MachineCause::Twice),
+    (
+        b"MACHINE 2\nDRILL MOVES\nDRILL no\n",
+        3,
+        MachineCause::Twice,
+    ),
+    (b"MACHINE 2\nMODE\n", 2, MachineCause::Value),
+    (b"MACHINE 2\nMODE inc\n", 2, MachineCause::Value),
+    (b"MACHINE 2\nMODE DROPPED\n", 2, MachineCause::Value),
+    (b"MACHINE 2\nZEROS NONE\n", 2, MachineCause::Value),
+    (b"MACHINE 2\nARCS CIRCLES\n", 2, MachineCause::Value),
+    (b"MACHINE 2\nARCS MOVES\n", 2, MachineCause::Value),
+    (b"MACHINE 2\nDRILL CYCLES\n", 2, MachineCause::Value),
     (b"MACHINE 1\r", 1, MachineCause::Byte),
     (b"MACHINE 1\nCODE RS358\x7f\n", 2, MachineCause::Byte),
     (b"MACHINE 1\nCODES RS358\n", 2, MachineCause::Key),
@@ -76,6 +103,8 @@ fn small(changed: bool) -> Machine {
         spinmax: 9999,
         toolmax: 10,
         changed,
+        incremental: false,
+        short: false,
     }
 }
 
@@ -97,6 +126,58 @@ const CHANGED: [&[u8]; 3] = [
 fn reads_words_anywhere(rt: HostRuntime) {
     for &text in &CHANGED {
         assert!(rt; table(text) == Ok(small(true)));
+    }
+}
+
+/// Tables of version 2, all of the same machine: whether its blocks leave out what holds, are incremental, and leave
+/// out leading zeros.
+const SECOND: [(&[u8], bool, bool, bool); 5] = [
+    (
+        b"MACHINE 2\nCODE RS244\nSEQ 0\nFEEDMAX 1\nSPINMAX 9999\nTOOLMAX 10\n",
+        false,
+        false,
+        false,
+    ),
+    (
+        b"MACHINE 2\nCODE RS244\nSEQ 0\nFEEDMAX 1\nSPINMAX 9999\nTOOLMAX 10\nWORDS ALL\nMODE ABS\nZEROS KEPT\nARCS LINES\nDRILL MOVES\n",
+        false,
+        false,
+        false,
+    ),
+    (
+        b"MACHINE 2\nMODE INC\nCODE RS244\nSEQ 0\nFEEDMAX 1\nSPINMAX 9999\nTOOLMAX 10\n",
+        false,
+        true,
+        false,
+    ),
+    (
+        b"MACHINE 2\r\nCODE RS244\r\nSEQ 0\r\n\r\nZEROS DROPPED\r\nFEEDMAX 1\r\nSPINMAX 9999\r\nTOOLMAX 10\r\n",
+        false,
+        false,
+        true,
+    ),
+    (
+        b"MACHINE 2\nDRILL MOVES\nZEROS DROPPED\nCODE RS244\nWORDS CHANGED\nSEQ 0\nFEEDMAX 1\nSPINMAX 9999\nTOOLMAX 10\nMODE INC",
+        true,
+        true,
+        true,
+    ),
+];
+
+/// Whether a text is the table of a machine.
+fn is_table_of(text: &[u8], machine: Machine) -> bool {
+    text.len() <= 65_536 && table(text) == Ok(machine)
+}
+
+#[test]
+fn reads_tables_of_version_2(rt: HostRuntime) {
+    for &(text, changed, incremental, short) in &SECOND {
+        let machine = Machine {
+            incremental,
+            short,
+            ..small(changed)
+        };
+        assert!(rt; is_table_of(text, machine));
     }
 }
 

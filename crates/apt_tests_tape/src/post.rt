@@ -39,6 +39,16 @@ fn changed(code: Code, seq: u16) -> Machine {
     }
 }
 
+/// A machine whose tapes are incremental and leave out leading zeros, with sequence numbers by 1.
+fn incremental(leaves_out: bool) -> Machine {
+    Machine {
+        changed: leaves_out,
+        incremental: true,
+        short: true,
+        ..machine(Code::Rs358, 1)
+    }
+}
+
 fn word(letter: u8, value: i64) -> TapeWord {
     TapeWord { letter, value }
 }
@@ -122,7 +132,7 @@ fn writes_every_act(rt: HostRuntime) -> Result<(), Fail> {
 }
 
 #[test]
-fn leaves_out_what_holds(rt: HostRuntime) -> Result<(), Fail> {
+fn writes_a_plate_in_each_way(rt: HostRuntime) -> Result<(), Fail> {
     let (z, feed) = (50_000, 100);
     let (near, far) = (-25_000, 525_000);
     let acts = [
@@ -168,6 +178,18 @@ fn leaves_out_what_holds(rt: HostRuntime) -> Result<(), Fail> {
     assert_eq!(rt;
         text.as_slice(),
         b"%\nN0001G70G90G94\nN0002S1200M03\nN0003G01X-00025000Y-00025000Z+00050000F0100\nN0004X+00525000\nN0005X+00525000Y+00525000\nN0006X-00025000\nN0007X-00025000Y-00025000\nN0008M02\n".as_slice()
+    );
+    let text = characters(tape(rt.alloc(), &acts, &incremental(false))?);
+    assert_eq!(rt; text.len(), 161);
+    assert_eq!(rt;
+        text.as_slice(),
+        b"%\nN1G70G90G94\nN2S1200M03\nN3G01X-25000Y-25000Z+50000F100\nN4G91G01X+550000Y+0Z+0F100\nN5G01X+0Y+550000Z+0F100\nN6G01X-550000Y+0Z+0F100\nN7G01X+0Y-550000Z+0F100\nN8M02\n".as_slice()
+    );
+    let text = characters(tape(rt.alloc(), &acts, &incremental(true))?);
+    assert_eq!(rt; text.len(), 115);
+    assert_eq!(rt;
+        text.as_slice(),
+        b"%\nN1G70G90G94\nN2S1200M03\nN3G01X-25000Y-25000Z+50000F100\nN4G91X+550000\nN5X+0Y+550000\nN6X-550000\nN7X+0Y-550000\nN8M02\n".as_slice()
     );
     Ok(())
 }
@@ -215,6 +237,63 @@ fn writes_a_block_at_a_time(rt: HostRuntime) {
     assert_eq!(rt; slower.as_slice(), b"N5995X+00000003F0001\n".as_slice());
 }
 
+/// Moves that are too far to be incremental, and moves to where the tool stands.
+#[test]
+fn writes_far_moves_by_their_places(rt: HostRuntime) {
+    let mut poster = Poster::new(&incremental(true));
+    let (y, z, feed) = (0, 0, 100);
+    let text = poster.text(&Act::Units(Units::Inch));
+    assert_eq!(rt; text.as_slice(), b"N1G70G90G94\n".as_slice());
+    let text = poster.text(&Act::Cut {
+        x: -40_000_000,
+        y,
+        z,
+        feed,
+    });
+    assert_eq!(rt; text.as_slice(), b"N2G01X-40000000Y+0Z+0F100\n".as_slice());
+    let text = poster.text(&Act::Cut {
+        x: 40_000_000,
+        y,
+        z,
+        feed,
+    });
+    assert_eq!(rt; text.as_slice(), b"N3X+40000000\n".as_slice());
+    let text = poster.text(&Act::Cut {
+        x: 40_000_000,
+        y: 100_000,
+        z,
+        feed,
+    });
+    assert_eq!(rt; text.as_slice(), b"N4G91X+0Y+100000\n".as_slice());
+    let text = poster.text(&Act::Rapid {
+        x: 40_000_000,
+        y: 100_000,
+        z,
+    });
+    assert_eq!(rt; text.as_slice(), b"N5G00X+0\n".as_slice());
+    let text = poster.text(&Act::Rapid {
+        x: -10_000_000,
+        y: 100_000,
+        z,
+    });
+    assert_eq!(rt; text.as_slice(), b"N6X-50000000\n".as_slice());
+    let text = poster.text(&Act::Rapid {
+        x: 40_000_001,
+        y: 100_000,
+        z,
+    });
+    assert_eq!(rt; text.as_slice(), b"N7G90X+40000001\n".as_slice());
+    let text = poster.text(&Act::Tool(7));
+    assert_eq!(rt; text.as_slice(), b"N8T7M06\n".as_slice());
+    let text = poster.text(&Act::Cut {
+        x: 0,
+        y: 100_000,
+        z: -7,
+        feed: 5,
+    });
+    assert_eq!(rt; text.as_slice(), b"N9G91G01X-40000001Z-7F5\n".as_slice());
+}
+
 #[test]
 fn gives_the_blocks_of_any_acts(rt: HostRuntime) -> Result<(), Fail> {
     let acts = [Act::Tool(7), Act::Rapid { x: 1, y: -2, z: 3 }];
@@ -260,7 +339,12 @@ fn writes_records_piece_by_piece(rt: HostRuntime) -> Result<(), Fail> {
     assert_eq!(rt; (counted.acts, counted.segments), (6, 2));
     assert_eq!(rt; acts.len(), 6);
     for code in [Code::Rs244, Code::Rs358] {
-        for machine in [machine(code, 1), changed(code, 1)] {
+        for machine in [
+            machine(code, 1),
+            changed(code, 1),
+            incremental(false),
+            incremental(true),
+        ] {
             let mut left = TapeBytes::of(&records, &machine);
             let mut piece = Piece::new();
             let whole = tape(rt.alloc(), &acts, &machine)?;

@@ -21,9 +21,22 @@ const HEAD: [(u8, u8, u8); 17] = [
     (b'\n', 0x80, 0x0a),
 ];
 
+/// The letters of circles and holes, with their rows in RS-244 and in RS-358.
+const LETTERS: [(u8, u8, u8); 3] = [(b'I', 0x79, 0xc9), (b'J', 0x51, 0xca), (b'R', 0x49, 0xd2)];
+
 #[test]
 fn punches_and_senses_a_head(rt: HostRuntime) {
     for &(ch, rs244, rs358) in &HEAD {
+        let punched = [punch(Code::Rs244, ch), punch(Code::Rs358, ch)];
+        assert_eq!(rt; punched, [Some(rs244), Some(rs358)]);
+        assert!(rt; sense(Code::Rs244, rs244) == Read::Char(ch));
+        assert!(rt; sense(Code::Rs358, rs358) == Read::Char(ch));
+    }
+}
+
+#[test]
+fn punches_and_senses_letters(rt: HostRuntime) {
+    for &(ch, rs244, rs358) in &LETTERS {
         let punched = [punch(Code::Rs244, ch), punch(Code::Rs358, ch)];
         assert_eq!(rt; punched, [Some(rs244), Some(rs358)]);
         assert!(rt; sense(Code::Rs244, rs244) == Read::Char(ch));
@@ -75,10 +88,10 @@ const ALL_244: [&[u8]; 16] = [
     b".pp3p56pp9cpcppc",
     b"0ppTpccppZcpcppc",
     b"pcSpcppXYppcpc.p",
-    b"-ppcpNcppccpcppc",
-    b"pccpMppccppcpccp",
+    b"-ppcpNcppRcpcppc",
+    b"pJcpMppccppcpccp",
     b"pccpcppGcppcpccp",
-    b"+ppcpcFppccpcpp.",
+    b"+ppcpcFppIcpcpp.",
     b"/ppcpccppccpcppc",
     b"pccpcppccppcpccp",
     b"pccpcppccppcpccp",
@@ -102,8 +115,8 @@ const ALL_358: [&[u8]; 16] = [
     b"cppcpccppccpcppc",
     b".ppcp%cppccpcppc",
     b"p12p4pp78ppcpccp",
-    b"cppcpcFppccpcppc",
-    b"pccpTppcXppcpccp",
+    b"cppcpcFppIJpcppc",
+    b"pcRpTppcXppcpccp",
     b"pccpcppccppcpccp",
     b"cppcpccppccpcpp.",
 ];
