@@ -1,8 +1,7 @@
 -- The plan of records is what they ask for, read by themselves.
-use Rattle.std.specs.Prelude.{Option, Some, None, unwrap_or, map, if◌then◌else◌}
+use Rattle.std.specs.Prelude.{unwrap_or}
 use Rattle.std.specs.Option.{option_or}
-use Rattle.std.proofs.Common.{refl, ◌≡◌, sym, ap, ◌∙◌, ℤ, pos, Bool, true, false, List, [], ◌∷◌, ◌++◌}
-use Rattle.apt_words.specs.declared.Units.{Units}
+use Rattle.std.proofs.Common.{refl, ◌≡◌, ap, ◌∙◌, List, [], ◌∷◌, ◌++◌}
 use Rattle.apt_words.specs.declared.Units.TheVariants.{Inch}
 use Rattle.apt_cldata.specs.declared.record.Position.{Position}
 use Rattle.apt_cldata.specs.declared.record.Reach.{Reach}
@@ -13,7 +12,7 @@ use Rattle.apt_cldata.specs.declared.record.Record.{Record}
 use Rattle.apt_cldata.specs.declared.record.Record.TheVariants as records
 use Rattle.apt_control.specs.declared.Act.{Act}
 use Rattle.apt_post.specs.declared.planning.Pending.{Pending}
-use Rattle.apt_post.specs.Plan.{nothing_pending, note_acts, point_acts, record_acts, note_pending, point_pending, record_pending, acts_from, note_units, record_units, first_units, units_of, plan}
+use Rattle.apt_post.specs.Plan.{note_acts, point_acts, record_acts, note_pending, point_pending, record_pending, acts_from, note_units, first_units, units_of, plan}
 use Rattle.apt_post.specs.Said.{feed_said, is_rapid, has_ended, units_said, note_said, record_said, acts_said, acts_of}
 
 -- what is pending, looked back for
