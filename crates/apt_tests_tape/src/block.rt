@@ -22,18 +22,6 @@ fn start() -> Block
     block
 }
 
-fn way() -> Block
-    ensures { IsBlock result }
-{
-    let mut block = Block::new();
-    block.push(word(b'N', 2));
-    block.push(word(b'G', 1));
-    block.push(word(b'X', 100_000));
-    block.push(word(b'Y', 200_000));
-    block.push(word(b'Z', 300_000));
-    block
-}
-
 fn feed() -> Block
     ensures { IsBlock result }
 {
@@ -42,22 +30,40 @@ fn feed() -> Block
     block
 }
 
-/// The words of both.
-fn cut() -> Block {
-    let mut block = way();
-    let _ = block.words.try_push(word(b'F', 100));
-    block
-}
-
-fn below_zero() -> Block
+fn to_x() -> Block
     ensures { IsBlock result }
 {
     let mut block = Block::new();
+    block.push(word(b'N', 2));
     block.push(word(b'X', -50_000_000));
+    block
+}
+
+fn level() -> Block
+    ensures { IsBlock result }
+{
+    let mut block = Block::new();
     block.push(word(b'Y', 0));
     block.push(word(b'Z', -1));
+    block
+}
+
+fn turn() -> Block
+    ensures { IsBlock result }
+{
+    let mut block = Block::new();
     block.push(word(b'S', 1_250));
     block.push(word(b'T', 7));
+    block
+}
+
+/// A word of circles, which is spelled though no straight control runs it.
+fn centre() -> Block
+    ensures { IsBlock result }
+{
+    let mut block = Block::new();
+    block.push(word(b'G', 2));
+    block.push(word(b'I', -10));
     block
 }
 
@@ -66,20 +72,6 @@ fn end() -> Block
 {
     let mut block = Block::new();
     block.push(word(b'M', 2));
-    block
-}
-
-/// A block of a circle, which is read though no straight control runs it.
-fn arc() -> Block
-    ensures { IsBlock result }
-{
-    let mut block = Block::new();
-    block.push(word(b'G', 2));
-    block.push(word(b'X', 5));
-    block.push(word(b'I', -10));
-    block.push(word(b'J', 0));
-    block.push(word(b'R', 50_000_000));
-    block.push(word(b'F', 7));
     block
 }
 
@@ -96,19 +88,11 @@ fn spells_blocks(rt: HostRuntime) -> Result<(), Fail> {
     let alloc = rt.alloc();
     let cases = [
         (spelled(alloc, &start(), false)?, "N0001G70G90G94\n"),
-        (
-            spelled(alloc, &way(), false)?,
-            "N0002G01X+00100000Y+00200000Z+00300000\n",
-        ),
         (spelled(alloc, &feed(), false)?, "F0100\n"),
-        (
-            spelled(alloc, &below_zero(), false)?,
-            "X-50000000Y+00000000Z-00000001S1250T07\n",
-        ),
-        (
-            spelled(alloc, &arc(), false)?,
-            "G02X+00000005I-00000010J+00000000R+50000000F0007\n",
-        ),
+        (spelled(alloc, &to_x(), false)?, "N0002X-50000000\n"),
+        (spelled(alloc, &level(), false)?, "Y+00000000Z-00000001\n"),
+        (spelled(alloc, &turn(), false)?, "S1250T07\n"),
+        (spelled(alloc, &centre(), false)?, "G02I-00000010\n"),
         (spelled(alloc, &end(), false)?, "M02\n"),
         (spelled(alloc, &Block::new(), false)?, "\n"),
     ];
@@ -123,16 +107,11 @@ fn spells_blocks_without_leading_zeros(rt: HostRuntime) -> Result<(), Fail> {
     let alloc = rt.alloc();
     let cases = [
         (spelled(alloc, &start(), true)?, "N1G70G90G94\n"),
-        (
-            spelled(alloc, &way(), true)?,
-            "N2G01X+100000Y+200000Z+300000\n",
-        ),
         (spelled(alloc, &feed(), true)?, "F100\n"),
-        (
-            spelled(alloc, &below_zero(), true)?,
-            "X-50000000Y+0Z-1S1250T7\n",
-        ),
-        (spelled(alloc, &arc(), true)?, "G02X+5I-10J+0R+50000000F7\n"),
+        (spelled(alloc, &to_x(), true)?, "N2X-50000000\n"),
+        (spelled(alloc, &level(), true)?, "Y+0Z-1\n"),
+        (spelled(alloc, &turn(), true)?, "S1250T7\n"),
+        (spelled(alloc, &centre(), true)?, "G02I-10\n"),
         (spelled(alloc, &end(), true)?, "M02\n"),
         (spelled(alloc, &Block::new(), true)?, "\n"),
     ];
@@ -153,29 +132,58 @@ fn appends_blocks(rt: HostRuntime) -> Result<(), Fail> {
     Ok(())
 }
 
-fn is_read(text: &str, want: &Block) -> bool {
+fn is_read(text: &str, want: &[TapeWord]) -> bool {
     match read_block(text.as_bytes()) {
-        Ok(block) => block.words.as_slice() == want.words.as_slice(),
+        Ok(block) => block.words.as_slice() == want,
         Err(_) => false,
     }
 }
 
 #[test]
 fn reads_blocks(rt: HostRuntime) {
-    assert!(rt; is_read("N0001G70G90G94\n", &start()));
-    assert!(rt; is_read("N0002G01X+00100000Y+00200000Z+00300000F0100\n", &cut()));
-    assert!(rt; is_read("X-50000000Y-00000000Z-00000001S1250T07\n", &below_zero()));
-    assert!(rt; is_read("M02\n", &end()));
-    assert!(rt; is_read("\n", &Block::new()));
+    let start = [
+        word(b'N', 1),
+        word(b'G', 70),
+        word(b'G', 90),
+        word(b'G', 94),
+    ];
+    assert!(rt; is_read("N0001G70G90G94\n", &start));
+    assert!(rt; is_read("N1G70G90G94\n", &start));
+    let cut = [
+        word(b'N', 2),
+        word(b'G', 1),
+        word(b'X', 100_000),
+        word(b'Y', 200_000),
+        word(b'Z', 300_000),
+        word(b'F', 100),
+    ];
+    assert!(rt; is_read("N0002G01X+00100000Y+00200000Z+00300000F0100\n", &cut));
+    assert!(rt; is_read("N02G01X100000Y+0200000Z300000F100\n", &cut));
+    let below_zero = [
+        word(b'X', -50_000_000),
+        word(b'Y', 0),
+        word(b'Z', -1),
+        word(b'S', 1_250),
+        word(b'T', 7),
+    ];
+    assert!(rt; is_read("X-50000000Y-00000000Z-00000001S1250T07\n", &below_zero));
+    assert!(rt; is_read("X-50000000Y-0Z-001S1250T7\n", &below_zero));
+    assert!(rt; is_read("M02\n", &[word(b'M', 2)]));
+    assert!(rt; is_read("\n", &[]));
 }
 
+/// Circles are read as blocks, though no straight control runs them.
 #[test]
-fn reads_blocks_of_fewer_digits(rt: HostRuntime) {
-    assert!(rt; is_read("N1G70G90G94\n", &start()));
-    assert!(rt; is_read("N02G01X100000Y+0200000Z300000F100\n", &cut()));
-    assert!(rt; is_read("F0100\n", &feed()));
-    assert!(rt; is_read("X-50000000Y-0Z-001S1250T7\n", &below_zero()));
-    assert!(rt; is_read("G02X5I-10J0R50000000F007\n", &arc()));
+fn reads_words_of_circles(rt: HostRuntime) {
+    let arc = [
+        word(b'G', 2),
+        word(b'X', 5),
+        word(b'I', -10),
+        word(b'J', 0),
+        word(b'R', 50_000_000),
+        word(b'F', 7),
+    ];
+    assert!(rt; is_read("G02X5I-10J0R50000000F007\n", &arc));
 }
 
 fn refusal(text: &str) -> Option<BlockError> {

@@ -8,8 +8,6 @@ mod control;
 #[cfg(test)]
 mod machine;
 #[cfg(test)]
-mod meaning;
-#[cfg(test)]
 mod pieces;
 #[cfg(test)]
 mod post;
