@@ -53,12 +53,13 @@ use Rattle.apt_meaning.specs.declared.effect.Effect.{Effect}
 use Rattle.apt_meaning.specs.declared.effect.Effect.TheVariants as effects
 use Rattle.apt_meaning.specs.Situations.{lacks_feed, with_side}
 use Rattle.apt_cldata.specs.Vertices.{at_height}
-use Rattle.apt_meaning.specs.Motions.{as_surface, surface_in, vertices_of, motions_of, turn_at, if_turned, motion, motion_at}
+use Rattle.apt_meaning.specs.Motions.{as_surface, surface_in, turn_at, if_turned, motion, motion_at}
+use Rattle.apt_meaning.specs.Cuts.{vertices_of, motions_of, IsOwnCut}
 use Rattle.apt_meaning.specs.StartUps.{goal_in, second_in, start_up_at, start_position, start_position_at}
 use Rattle.apt_meaning.specs.Effects.{note_of, moves, cuts, legs_by, as_position, place_at, names, defined, position_by, moved_by, goes, effect_by, effect_of}
 use Rattle.apt_meaning.specs.Refusals.{is_other_kind, is_no_place, refused, refused_form, position_cases, place_cases, move_cases, note_cases, route_cases, cut_cases, turned_cases, surface_cases, contour_cases, start_cases, go_cases, cases_by, cases_of, refusal_of}
 use Rattle.apt_meaning.specs.Paths.{IsLegalCut, EveryContour}
-use Rattle.apt_meaning.specs.Records.{IsOwnCut, MayHave, last_behind, contours_by}
+use Rattle.apt_meaning.specs.Records.{MayHave, last_behind, contours_by}
 use Rattle.apt_meaning.specs.Compiled.{ends_of, points_of}
 use Rattle.apt_stop.specs.Legs.{leg_count}
 use Rattle.apt_meaning.specs.Ranges.{IsPositionOrNone, AreSettings, IsChange, IsSituation, IsMotion, IsEffect}

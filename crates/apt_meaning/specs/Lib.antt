@@ -7,6 +7,7 @@ pub mod Paths
 pub mod InNumbers
 pub mod Refusals
 pub mod Records
+pub mod Cuts
 pub mod Compiled
 pub mod Ranges
 pub mod Vertices

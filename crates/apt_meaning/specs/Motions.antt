@@ -1,5 +1,5 @@
--- Contour motions: the parts of one at a situation, its leg, and where it stops.
-use Rattle.std.specs.Prelude.{◌≡◌, ◌↔◌, ℤ, pos, ◌-ℤ◌, ◌<ℤ◌, ◌≤ℤ◌, ◌/◌, unsigned_abs, int_lt, int_le, ◌&&◌, ◌||◌, not, Bool, false, is_some, List, [], ◌∷◌, ℕ, Option, Some, None, if◌then◌else◌}
+-- A contour motion as a certificate knows it: its parts at a situation, its targets, its leg, and what bounds it.
+use Rattle.std.specs.Prelude.{◌≡◌, ◌↔◌, ℤ, pos, ◌<ℤ◌, ◌≤ℤ◌, ◌&&◌, ◌||◌, not, Bool, false, is_some, List, ℕ, Option, Some, None, if◌then◌else◌}
 use Rattle.apt_num.specs.declared.Sign.{Sign}
 use Rattle.apt_words.specs.declared.Go.{Go}
 use Rattle.apt_words.specs.declared.Side.{Side}
@@ -13,16 +13,11 @@ use Rattle.apt_defs.specs.declared.figure.Figure.{Figure}
 use Rattle.apt_defs.specs.declared.figure.Figure.TheVariants as figures
 use Rattle.apt_defs.specs.Figures.{Table, figure_named}
 use Rattle.apt_offset.specs.declared.Target.{Target}
-use Rattle.apt_offset.specs.declared.Target.TheVariants as targets
 use Rattle.apt_offset.specs.Turns.{tangent, turn, is_zero}
 use Rattle.apt_offset.specs.Sides.{side_at_drive, side_at_check, is_on_check, StopsAside}
 use Rattle.apt_offset.specs.Targets.{signed, greater, offset_surface, lacks_room, band_at}
-use Rattle.apt_contact.specs.Meetings.{circle_about}
 use Rattle.apt_stop.specs.declared.course.Course.{Course}
-use Rattle.apt_stop.specs.Tangencies.{axis_towards}
-use Rattle.apt_stop.specs.Courses.{kept_side, axis_of, end_of}
-use Rattle.apt_arc.specs.declared.arc.Arc.{Arc}
-use Rattle.apt_arc.specs.Made.{divided}
+use Rattle.apt_stop.specs.Courses.{kept_side, axis_of}
 use Rattle.apt_certify.specs.declared.leg.Leg.{Leg}
 use Rattle.apt_certify.specs.Legs.{beyond_of}
 use Rattle.apt_cldata.specs.declared.record.Position.{Position}
@@ -30,8 +25,6 @@ use Rattle.apt_cldata.specs.Vertices.{at_height}
 use Rattle.apt_meaning.specs.declared.situation.Settings.{Settings}
 use Rattle.apt_meaning.specs.declared.situation.Situation.{Situation}
 use Rattle.apt_meaning.specs.declared.motion.Motion.{Motion}
-use Rattle.apt_stop.specs.declared.legs.Legs.{Legs}
-use Rattle.apt_stop.specs.declared.legs.Legs.TheVariants as legs
 use Rattle.apt_meaning.specs.Situations.{with_side}
 
 -- ---- the parts of a motion
@@ -44,10 +37,7 @@ grid_step = pos 8
 abbrev pub CountsAs : ℤ → ℤ → Type 0
 CountsAs tolerance length = (x : ℤ) → (length ≤ℤ x) ↔ ((tolerance ≤ℤ x) × (pos 8 ≤ℤ x))
 
--- both tolerances are under a grid step
-abbrev pub is_too_fine : Settings → Bool
-is_too_fine s = int_lt s.intol grid_step && int_lt s.outtol grid_step
-
+-- a figure that is a surface
 abbrev pub as_surface : Figure → Option Surface
 as_surface (figures.Point xy z) = None
 as_surface (figures.Shape s) = Some s
@@ -89,16 +79,13 @@ starts_on_check m = is_on_check m.how m.check_side
 
 -- ---- its course
 
+-- the motion without its tolerances
 abbrev pub course_of : Motion → Course
 course_of m = record { start = m.start.xy; drive = m.drive; track = track_of m; sense = m.sense; check = m.check; how = m.how; stop = stop_of m }
 
 -- the side of the stop on which it runs; a motion that touches its check surface has none
 abbrev pub stop_side : Motion → Sign
 stop_side m = kept_side (course_of m)
-
--- where it ends
-abbrev pub end_point : Motion → Pt
-end_point m = end_of (course_of m)
 
 -- ---- the leg
 
@@ -135,47 +122,15 @@ has_bound m = not (is_zero (stop_side m)) || is_some (axis_of (course_of m))
 abbrev pub has_stop : Motion → Bool
 has_stop m = not (starts_on_check m) && not (lacks_room (stop_of m)) && has_bound m
 
+-- both are there
 abbrev pub is_defined : Motion → Bool
 is_defined m = has_track m && has_stop m
 
--- ---- the vertices that the compiler gives it
-
-abbrev pub lesser : ℤ → ℤ → ℤ
-lesser a b = if int_le a b then a else b
-
--- how far its chords may lie inside of its track: the drive's own inner margin, at most a quarter of the radius
-abbrev pub sag : Motion → ℤ → ℤ
-sag m r = lesser (r -ℤ (leg_of m).band.lo) (pos (unsigned_abs r / 4))
-
-abbrev pub arc_on : Motion → Pt → ℤ → Arc
-arc_on m c r = record { track = circle_about c r; sense = m.sense; axis = axis_towards c m.check; sag = sag m r; start = m.start.xy; end = end_point m }
-
--- the arc along which it runs, none along a line
-abbrev pub arc_along : Motion → Target → Option Arc
-arc_along m (targets.Line b d h) = None
-arc_along m (targets.Circ c r) = Some (arc_on m c r)
-
-abbrev pub arc_of : Motion → Option Arc
-arc_of m = arc_along m (track_of m)
-
--- its end alone along a line, and round a circle those of the arc's division
-abbrev pub vertices_on : Motion → Target → List Pt
-vertices_on m (targets.Line b d h) = end_point m ∷ []
-vertices_on m (targets.Circ c r) = divided (arc_on m c r)
-
-abbrev pub vertices_of : Motion → List Pt
-vertices_of m = vertices_on m (track_of m)
-
--- ---- its legs
+-- ---- the next leg
 
 -- the motion from another point, with the same stop
 abbrev pub onward : Motion → Pt → Motion
 onward m p = record m { start = at_height m.start.z p }
-
--- a contour to the second meeting goes on from the first, to the same stop
-abbrev pub motions_of : Motion → Legs → List Motion
-motions_of m legs.One = m ∷ []
-motions_of m legs.Two = m ∷ onward m (end_point m) ∷ []
 
 -- ---- the motion of a statement
 

@@ -11,9 +11,6 @@ use Rattle.apt_cldata.specs.declared.record.Record.TheVariants as records
 use Rattle.apt_defs.specs.Figures.{table_with}
 use Rattle.apt_offset.specs.Turns.{tangent, turn, opposite}
 use Rattle.apt_stop.specs.Nearness.{heading}
-use Rattle.apt_offset.specs.declared.Target.{Target}
-use Rattle.apt_offset.specs.declared.Target.TheVariants as targets
-use Rattle.apt_arc.specs.Divisions.{IsDivision}
 use Rattle.apt_stop.specs.Legs.{leg_count}
 use Rattle.apt_certify.specs.Legal.{last_of}
 use Rattle.apt_certify.specs.Legs.{IsStep}
@@ -25,7 +22,7 @@ use Rattle.apt_meaning.specs.declared.effect.Effect.{Effect}
 use Rattle.apt_meaning.specs.declared.effect.Effect.TheVariants as effects
 use Rattle.apt_meaning.specs.Situations.{first_situation, changed, settings_behind, forward_behind}
 use Rattle.apt_cldata.specs.Vertices.{at_height}
-use Rattle.apt_meaning.specs.Motions.{track_of, end_point, arc_on, is_defined}
+use Rattle.apt_meaning.specs.Motions.{is_defined}
 use Rattle.apt_meaning.specs.Effects.{effect_of}
 use Rattle.apt_meaning.specs.Paths.{Saying, radius_by, said_of, Contour, Due, first_leg, next_leg, cut_on}
 
@@ -124,16 +121,6 @@ FollowsAs Allowed here [] written behind = (written ≡ []) × (behind ≡ here)
 FollowsAs Allowed here (step ∷ steps) written behind =
     (e : Effect) × (cuts : List (List Pt)) × (rest : List Record)
     × Begins here step written e cuts rest × Allowed e cuts × FollowsAs Allowed (after here e cuts) steps rest behind
-
--- ---- the compiler's own vertices
-
--- its end alone along a line, and round a circle a division of its arc
-abbrev pub IsOwnOn : Motion → Target → List Pt → Type 0
-IsOwnOn m (targets.Line b d h) vertices = vertices ≡ end_point m ∷ []
-IsOwnOn m (targets.Circ c r) vertices = IsDivision (arc_on m c r) vertices
-
-abbrev pub IsOwnCut : Contour → Type 0
-IsOwnCut c = IsOwnOn c.motion (track_of c.motion) c.vertices
 
 -- ---- what holds behind records, beside what they say by themselves
 

@@ -37,7 +37,7 @@ use Rattle.apt_meaning.specs.declared.motion.Motion.{Motion}
 use Rattle.apt_stop.specs.declared.legs.Legs.{Legs}
 use Rattle.apt_stop.specs.declared.legs.Legs.TheVariants as the_legs
 use Rattle.apt_meaning.specs.Situations.{has_feed, lacks_feed, with_side}
-use Rattle.apt_meaning.specs.Motions.{motion, is_too_fine, as_surface, surface_in, turn_at, track_of, stop_of, starts_on_check, course_of}
+use Rattle.apt_meaning.specs.Motions.{motion, grid_step, as_surface, surface_in, turn_at, track_of, stop_of, starts_on_check, course_of}
 use Rattle.apt_meaning.specs.StartUps.{start_up_at}
 use Rattle.apt_meaning.specs.Effects.{note_of, as_position, position_by, moved_by, legs_by}
 
@@ -140,6 +140,10 @@ cut_cases m legs =
 -- one leg alone
 abbrev pub motion_cases : Motion → List Row
 motion_cases m = cut_cases m the_legs.One
+
+-- both tolerances are under a grid step
+abbrev pub is_too_fine : Settings → Bool
+is_too_fine s = int_lt s.intol grid_step && int_lt s.outtol grid_step
 
 -- a contour whose drive surface runs so against forward
 abbrev pub turned_cases : Legs → Settings → Position → Surface → Sign → Stop → Surface → List Row

@@ -9,6 +9,7 @@ ghost use Rattle.apt_offset.specs.Targets as targets;
 ghost use Rattle.apt_offset.specs.Turns as turns;
 ghost use Rattle.apt_cldata.specs.Ranges.{IsPosition};
 ghost use Rattle.apt_meaning.specs.Motions as motions;
+ghost use Rattle.apt_meaning.specs.Cuts as cuts;
 ghost use Rattle.apt_meaning.specs.Ranges.{AreSettings, IsForward, IsAllowance, IsMotion};
 ghost use Rattle.apt_meaning.specs.Refusals as refusals;
 
@@ -175,8 +176,8 @@ impl Motion {
     pub fn arc(&self, end: Pt) -> Option<Arc>
         requires motion { IsMotion self.now }
         requires room { targets.lacks_room (motions.track_of self.now) ≡ false }
-        requires end { end ≡ motions.end_point self.now }
-        ensures value { result ≡ motions.arc_of self.now }
+        requires end { end ≡ cuts.end_point self.now }
+        ensures value { result ≡ cuts.arc_of self.now }
         ensures range { NoneHolds (refusals.motion_cases self.now) → IfSome result IsArc }
     {
         match self.drive {
@@ -188,8 +189,8 @@ impl Motion {
     fn arc_to(&self, end: Pt) -> Option<Arc>
         requires motion { IsMotion self.now }
         requires room { targets.lacks_room (motions.track_of self.now) ≡ false }
-        requires end { end ≡ motions.end_point self.now }
-        ensures { result ≡ motions.arc_of self.now }
+        requires end { end ≡ cuts.end_point self.now }
+        ensures { result ≡ cuts.arc_of self.now }
     {
         match self.track() {
             Target::Line { .. } => None,
@@ -200,8 +201,8 @@ impl Motion {
     fn arc_about(&self, c: Pt, r: i64, end: Pt) -> Arc
         requires motion { IsMotion self.now }
         requires track { IsCircleTarget c r }
-        requires end { end ≡ motions.end_point self.now }
-        ensures { result ≡ motions.arc_on self.now c r }
+        requires end { end ≡ cuts.end_point self.now }
+        ensures { result ≡ cuts.arc_on self.now c r }
     {
         Arc {
             track: Circ { c, r },
@@ -218,7 +219,7 @@ impl Motion {
         requires motion { IsMotion self.now }
         requires least { pos 100 ≤ℤ r }
         requires most { r ≤ℤ pos (10 ^ 8) }
-        ensures { result ≡ motions.sag self.now r }
+        ensures { result ≡ cuts.sag self.now r }
     {
         lesser(self.inner_margin(r), quarter(r))
     }
@@ -262,7 +263,7 @@ pub fn turn_at(forward: Dir, start: Position, drive: &Surface, go: Go) -> Sign
 
 /// Whether both tolerances are below a grid step.
 pub fn is_too_fine(settings: &Settings) -> bool
-    ensures { result ≡ motions.is_too_fine settings.now }
+    ensures { result ≡ refusals.is_too_fine settings.now }
 {
     settings.intol < GRID_STEP && settings.outtol < GRID_STEP
 }
@@ -294,7 +295,7 @@ fn allowance(tolerance: i64) -> i64
 }
 
 fn lesser(a: i64, b: i64) -> i64
-    ensures { result ≡ motions.lesser a b }
+    ensures { result ≡ cuts.lesser a b }
 {
     if a <= b { a } else { b }
 }

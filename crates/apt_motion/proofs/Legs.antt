@@ -5,7 +5,8 @@ use Rattle.apt_plane.specs.declared.figures.Pt.{Pt}
 use Rattle.apt_stop.specs.declared.legs.Legs.TheVariants as legs
 use Rattle.apt_cldata.specs.declared.record.Record.{Record}
 use Rattle.apt_meaning.specs.declared.motion.Motion.{Motion}
-use Rattle.apt_meaning.specs.Motions.{end_point, onward}
+use Rattle.apt_meaning.specs.Motions.{onward}
+use Rattle.apt_meaning.specs.Cuts.{end_point}
 use Rattle.apt_meaning.specs.Ranges.{IsMotion}
 use Rattle.apt_meaning.specs.Refusals.{motion_cases, cut_cases}
 use Rattle.apt_meaning.proofs.Contours.Legs.{second_free}

@@ -14,7 +14,8 @@ use Rattle.apt_meaning.specs.Effects.{effect_of}
 use Rattle.apt_meaning.specs.Refusals.{refusal_of}
 use Rattle.apt_meaning.specs.Situations.{first_situation}
 use Rattle.apt_meaning.specs.Paths.{EveryContour, IsLegalCut, contours_of}
-use Rattle.apt_meaning.specs.Records.{Follows, IsOwnCut, after}
+use Rattle.apt_meaning.specs.Records.{Follows, after}
+use Rattle.apt_meaning.specs.Cuts.{IsOwnCut}
 use Rattle.apt_meaning.proofs.Asked.{CutsLegally}
 use Rattle.apt_meaning.proofs.Walks.Alone.{follows, legal_contours, own_contours}
 use Rattle.apt_meaning.specs.Compiled.{ends_of, points_of, most_points, asked, or_first, first_refused, compilation}

@@ -2,7 +2,7 @@
 
 ghost use Rattle.std.specs.Prelude.{◌≡◌, ◌++◌, [], map, OnOk, IfOk};
 ghost use Rattle.apt_words.specs.Rows.{NoneHolds};
-ghost use Rattle.apt_meaning.specs.Motions.{arc_of, end_point};
+ghost use Rattle.apt_meaning.specs.Cuts.{arc_of, end_point};
 ghost use Rattle.apt_meaning.specs.Ranges.{IsMotion};
 ghost use Rattle.apt_meaning.specs.Refusals.{motion_cases};
 ghost use Rattle.apt_cldata.specs.Vertices.{at_height};

@@ -12,7 +12,8 @@ use Rattle.apt_meaning.specs.Situations.{first_situation}
 use Rattle.apt_meaning.specs.Compiled.{first_refused, compilation, most_points}
 use Rattle.apt_meaning.specs.Paths.{EveryContour, IsLegalCut, contours_of}
 use Rattle.apt_meaning.specs.InNumbers.{AreLegalInNumbers}
-use Rattle.apt_meaning.specs.Records.{Follows, IsOwnCut}
+use Rattle.apt_meaning.specs.Records.{Follows}
+use Rattle.apt_meaning.specs.Cuts.{IsOwnCut}
 use Rattle.apt_machine.specs.declared.machine.Machine.{Machine}
 use Rattle.apt_post.specs.Limits.{limits}
 use Rattle.apt_post.specs.Plan.{plan, positions, points}

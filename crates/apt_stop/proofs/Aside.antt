@@ -21,7 +21,7 @@ use Rattle.apt_canon.specs.Circles.{HasSense}
 use Rattle.apt_offset.specs.Targets.{signed}
 use Rattle.apt_offset.specs.Turns.{opposite}
 use Rattle.apt_stop.specs.Nearness.{near_stop}
-use Rattle.apt_stop.specs.Courses.{is_by_axis}
+use Rattle.apt_stop.specs.Choices.{is_by_axis}
 use Rattle.apt_stop.proofs.OneWay.{AreOneWay, one_way-lengths, Rounds}
 
 -- ---- products with two ways of one direction

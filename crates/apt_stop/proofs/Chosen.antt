@@ -9,7 +9,8 @@ use Rattle.apt_plane.specs.declared.figures.Axis.{Axis}
 use Rattle.apt_plane.specs.Ranges.{IsPoint}
 use Rattle.apt_offset.specs.Turns.{is_zero}
 use Rattle.apt_stop.specs.declared.course.Course.{Course}
-use Rattle.apt_stop.specs.Courses.{is_tanto, is_past, kept_side, axis_of, end_of, stop_cases, course_cases}
+use Rattle.apt_stop.specs.Courses.{is_tanto, kept_side, axis_of}
+use Rattle.apt_stop.specs.Choices.{is_past, end_of, stop_cases, course_cases}
 use Rattle.apt_stop.specs.Tangencies.{tangent_axis}
 use Rattle.apt_stop.specs.Ranges.{IsCourse}
 use Rattle.apt_stop.proofs.Inside.{inside_point}

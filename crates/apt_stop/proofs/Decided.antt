@@ -19,7 +19,8 @@ use Rattle.apt_stop.specs.declared.course.Course.{Course}
 use Rattle.apt_stop.specs.declared.course.Choice.{Choice}
 use Rattle.apt_stop.specs.Gaps.{is_touching}
 use Rattle.apt_stop.specs.Tangencies.{tangent_axis}
-use Rattle.apt_stop.specs.Courses.{is_tanto, is_past, is_past_axis, is_past_or_none, stop_side, sigma_of, meets_at, touches_at, end_of, stop_cases, way_cases, course_cases, choice_of}
+use Rattle.apt_stop.specs.Courses.{is_tanto, stop_side}
+use Rattle.apt_stop.specs.Choices.{is_past, is_past_axis, is_past_or_none, sigma_of, meets_at, touches_at, end_of, stop_cases, way_cases, course_cases, choice_of}
 use Rattle.apt_stop.specs.Ends.{IsEndOn}
 use Rattle.apt_stop.specs.Ranges.{IsCourse}
 use Rattle.apt_stop.specs.Steps.{met, led, meeting, touched, touch}

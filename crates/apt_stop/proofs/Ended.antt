@@ -14,7 +14,8 @@ use Rattle.apt_offset.specs.declared.Target.{Target}
 use Rattle.apt_offset.specs.Sides.{side_at_tangency}
 use Rattle.apt_offset.specs.Targets.{signed, offset_surface}
 use Rattle.apt_stop.specs.declared.course.Course.{Course}
-use Rattle.apt_stop.specs.Courses.{is_tanto, stop_side, end_of, meets_at, course_cases}
+use Rattle.apt_stop.specs.Courses.{is_tanto, stop_side}
+use Rattle.apt_stop.specs.Choices.{end_of, meets_at, course_cases}
 use Rattle.apt_stop.specs.Ranges.{IsCourse}
 use Rattle.apt_stop.specs.Ends.{MeetsStop, EndsOnLine, EndsOnCircle, IsEndOn}
 use Rattle.apt_stop.proofs.Parts.{course_at, Meets, Touches, meets, touches}

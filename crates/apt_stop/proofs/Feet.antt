@@ -20,7 +20,7 @@ use Rattle.apt_offset.specs.Ranges.{IsLineTarget, IsCircleTarget}
 use Rattle.apt_contact.specs.Contacts.{IsNearTarget}
 use Rattle.apt_stop.specs.declared.course.Course.{Course}
 use Rattle.apt_stop.specs.Nearness.{heading}
-use Rattle.apt_stop.specs.Courses.{way_on_to}
+use Rattle.apt_stop.specs.Choices.{way_on_to}
 use Rattle.apt_stop.specs.Ranges.{IsCourse}
 use Rattle.apt_stop.specs.Ends.{TouchesStop}
 use Rattle.apt_stop.proofs.Moved.{track_target, stop_target}

@@ -11,7 +11,8 @@ use Rattle.apt_stop.specs.declared.course.Course.{Course}
 use Rattle.apt_stop.specs.declared.legs.Ends.{Ends}
 use Rattle.apt_stop.specs.declared.legs.Legs.{Legs}
 use Rattle.apt_stop.specs.declared.legs.Legs.TheVariants as legs
-use Rattle.apt_stop.specs.Courses.{is_tanto, starts_near_stop, stop_cases, way_cases}
+use Rattle.apt_stop.specs.Courses.{is_tanto, starts_near_stop}
+use Rattle.apt_stop.specs.Choices.{stop_cases, way_cases}
 use Rattle.apt_stop.specs.Legs.{next_leg, is_round, turns_fully, ways_of, leg_cases, ends_of, IsRound, IsFullTurn}
 use Rattle.apt_stop.specs.Ranges.{IsCourse}
 use Rattle.apt_stop.proofs.Moved.{stop_target}

@@ -10,7 +10,7 @@ use Rattle.apt_plane.specs.declared.figures.Line.{Line}
 use Rattle.apt_plane.specs.Ranges.{IsSense}
 use Rattle.apt_plane.specs.Vectors.{displacement, cross, dot, length_squared}
 use Rattle.apt_stop.specs.Nearness.{heading}
-use Rattle.apt_stop.specs.Courses.{is_same}
+use Rattle.apt_stop.specs.Choices.{is_same}
 use Rattle.apt_num.proofs.Sums.{at_least-sum}
 use Rattle.apt_stop.proofs.Approaches.{Approach, along-left, along-right, heading_cross, in_sense-left, in_sense-right, turned_zero}
 use Rattle.apt_stop.proofs.Far.{IsFar}

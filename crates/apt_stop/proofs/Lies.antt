@@ -8,7 +8,7 @@ use Rattle.apt_num.specs.declared.Sign.TheVariants as signs
 use Rattle.apt_num.specs.Sign.{AtLeast, square, sign_of, is_minus}
 use Rattle.apt_num.proofs.Testing.{is_at_least-false}
 use Rattle.apt_stop.specs.Nearness.{near_stop}
-use Rattle.apt_stop.specs.Courses.{is_not_ahead}
+use Rattle.apt_stop.specs.Choices.{is_not_ahead}
 use Rattle.apt_stop.proofs.Rings.{is_in_ring, ring_true, ring_false}
 
 -- k is how far the line runs on to the centre, times the root of n, and m the square of the start's distance from it

@@ -27,7 +27,8 @@ use Rattle.apt_contact.proofs.ContactLaws.{circles_overlap}
 use Rattle.apt_stop.specs.declared.course.Course.{Course}
 use Rattle.apt_stop.specs.declared.course.Choice.{Choice}
 use Rattle.apt_stop.specs.Nearness.{is_near, heading, near_stop}
-use Rattle.apt_stop.specs.Courses.{is_tanto, starts_near_stop, headed_side, stop_side, kept_side, sigma_of, end_of, is_past, is_behind, stop_cases, way_cases, course_cases, choice_of, way_on_to}
+use Rattle.apt_stop.specs.Courses.{is_tanto, starts_near_stop, headed_side, stop_side, kept_side}
+use Rattle.apt_stop.specs.Choices.{sigma_of, end_of, is_past, is_behind, stop_cases, way_cases, course_cases, choice_of, way_on_to}
 use Rattle.apt_stop.specs.Ends.{IsEndOn}
 use Rattle.apt_stop.specs.Ranges.{IsCourse}
 use Rattle.apt_stop.proofs.Ended.{course_ends}

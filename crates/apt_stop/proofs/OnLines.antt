@@ -19,7 +19,8 @@ use Rattle.apt_contact.specs.Meetings.{line_on, circle_about}
 use Rattle.apt_contact.specs.Contacts.{IsNearTarget}
 use Rattle.apt_stop.specs.declared.course.Course.{Course}
 use Rattle.apt_stop.specs.Nearness.{heading, is_near, side_of, near_stop, off_track}
-use Rattle.apt_stop.specs.Courses.{starts_near_stop, stop_side, meets_at, is_same, way_on_to}
+use Rattle.apt_stop.specs.Courses.{starts_near_stop, stop_side}
+use Rattle.apt_stop.specs.Choices.{meets_at, is_same, way_on_to}
 use Rattle.apt_stop.specs.Ranges.{IsCourse}
 use Rattle.apt_stop.specs.Ends.{IsKept}
 use Rattle.apt_stop.proofs.NearLaws.{near-OnLine}

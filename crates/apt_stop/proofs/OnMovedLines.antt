@@ -18,7 +18,8 @@ use Rattle.apt_contact.specs.Meetings.{is_parallel, is_apart, meeting_cases}
 use Rattle.apt_contact.specs.Contacts.{contact_point}
 use Rattle.apt_stop.specs.declared.course.Course.{Course}
 use Rattle.apt_stop.specs.declared.course.Choice.{Choice}
-use Rattle.apt_stop.specs.Courses.{is_past, stop_side, sigma_of}
+use Rattle.apt_stop.specs.Courses.{stop_side}
+use Rattle.apt_stop.specs.Choices.{is_past, sigma_of}
 use Rattle.apt_stop.specs.Steps.{meeting, straight}
 
 abbrev on : Moved → Target

@@ -21,7 +21,7 @@ use Rattle.apt_offset.specs.declared.Target.TheVariants as targets
 use Rattle.apt_offset.specs.Targets.{signed}
 use Rattle.apt_offset.specs.Ranges.{IsCircleTarget}
 use Rattle.apt_contact.specs.Meetings.{circle_about}
-use Rattle.apt_stop.specs.Courses.{is_same, is_by_axis, touches_on}
+use Rattle.apt_stop.specs.Choices.{is_same, is_by_axis, touches_on}
 use Rattle.apt_stop.proofs.Touching.{within_eight, neg_square}
 use Rattle.apt_stop.proofs.Tracks.{heading_dot, heading_turn, heading_length}
 use Rattle.apt_stop.proofs.OnRounds.{half_sense, turned_dir}

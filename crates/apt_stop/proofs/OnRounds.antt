@@ -21,7 +21,8 @@ use Rattle.apt_offset.specs.Targets.{signed}
 use Rattle.apt_offset.specs.Ranges.{IsCircleTarget}
 use Rattle.apt_contact.specs.Meetings.{circle_about}
 use Rattle.apt_contact.specs.Contacts.{IsNearTarget}
-use Rattle.apt_stop.specs.Courses.{stop_side, sigma_of, meets_at, touches_on}
+use Rattle.apt_stop.specs.Courses.{stop_side}
+use Rattle.apt_stop.specs.Choices.{sigma_of, meets_at, touches_on}
 use Rattle.apt_stop.specs.Ranges.{IsCourse}
 use Rattle.apt_stop.proofs.Moved.{track_target, stop_target}
 use Rattle.apt_stop.proofs.Contacts.{contact-near}

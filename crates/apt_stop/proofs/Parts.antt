@@ -11,7 +11,8 @@ use Rattle.apt_contact.specs.Contacts.{HasMeeting}
 use Rattle.apt_stop.specs.declared.course.Course.{Course}
 use Rattle.apt_stop.specs.Gaps.{is_touching}
 use Rattle.apt_stop.specs.Tangencies.{tangent_axis}
-use Rattle.apt_stop.specs.Courses.{is_tanto, is_past, is_past_or_none, kept_side, stop_side, end_of, meets_at, touches_at, axis_of, course_cases}
+use Rattle.apt_stop.specs.Courses.{is_tanto, kept_side, stop_side, axis_of}
+use Rattle.apt_stop.specs.Choices.{is_past, is_past_or_none, end_of, meets_at, touches_at, course_cases}
 use Rattle.apt_stop.proofs.Contacts.{has_meeting}
 
 -- a course of these parts

@@ -23,7 +23,8 @@ use Rattle.apt_offset.specs.Targets.{signed}
 use Rattle.apt_offset.specs.Ranges.{IsLineTarget, IsCircleTarget}
 use Rattle.apt_contact.specs.Meetings.{line_on, circle_about}
 use Rattle.apt_stop.specs.Nearness.{is_near, off_track, near_stop, side_of}
-use Rattle.apt_stop.specs.Courses.{is_by_axis, headed_side, starts_near_stop, stop_side, sigma_of, meets_at}
+use Rattle.apt_stop.specs.Courses.{headed_side, starts_near_stop, stop_side}
+use Rattle.apt_stop.specs.Choices.{is_by_axis, sigma_of, meets_at}
 use Rattle.apt_stop.specs.Ranges.{IsCourse}
 use Rattle.apt_stop.proofs.Rings.{ring_true, ring_false, near_least, near_most}
 use Rattle.apt_stop.proofs.Moved.{track_target, stop_target, no_radius}

@@ -26,7 +26,7 @@ use Rattle.apt_contact.specs.Contacts.{IsNearTarget}
 use Rattle.apt_stop.specs.declared.course.Course.{Course}
 use Rattle.apt_stop.specs.Nearness.{is_near, off_track}
 use Rattle.apt_stop.specs.Tangencies.{axis, half_towards, touching_half, tangent_axis}
-use Rattle.apt_stop.specs.Courses.{is_same, is_by_axis, touches_on, touches_at}
+use Rattle.apt_stop.specs.Choices.{is_same, is_by_axis, touches_on, touches_at}
 use Rattle.apt_stop.specs.Ranges.{IsCourse}
 use Rattle.apt_stop.specs.Ends.{IsOnAxisOf, TouchesStop}
 use Rattle.apt_stop.proofs.Moved.{track_target, stop_target}

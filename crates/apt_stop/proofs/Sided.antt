@@ -18,7 +18,8 @@ use Rattle.apt_offset.specs.declared.Target.TheVariants as targets
 use Rattle.apt_offset.specs.Ranges.{IsTarget}
 use Rattle.apt_stop.specs.declared.course.Course.{Course}
 use Rattle.apt_stop.specs.Nearness.{is_near, side_of, heading, near_stop}
-use Rattle.apt_stop.specs.Courses.{is_same, headed_side, stop_side, starts_near_stop, is_past, is_not_ahead, is_by_axis, way_on_to}
+use Rattle.apt_stop.specs.Courses.{headed_side, stop_side, starts_near_stop}
+use Rattle.apt_stop.specs.Choices.{is_same, is_past, is_not_ahead, is_by_axis, way_on_to}
 use Rattle.apt_stop.specs.Steps.{IsPlaced, HasSide, far_side, side_from, past_from}
 use Rattle.apt_stop.proofs.Headings.{kept, turned}
 

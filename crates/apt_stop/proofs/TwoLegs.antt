@@ -7,7 +7,7 @@ use Rattle.apt_words.specs.Rows.{Row, NoneHolds, first_of, unless, unless_case}
 use Rattle.apt_words.proofs.Rows.{first_none}
 use Rattle.apt_stop.specs.declared.course.Course.{Course}
 use Rattle.apt_stop.specs.declared.course.Choice.{Choice}
-use Rattle.apt_stop.specs.Courses.{choice_of, stop_cases, way_cases, course_cases}
+use Rattle.apt_stop.specs.Choices.{choice_of, stop_cases, way_cases, course_cases}
 use Rattle.apt_stop.specs.declared.legs.Legs.TheVariants as legs
 use Rattle.apt_stop.specs.Legs.{next_leg, turns_fully, leg_cases, ends_of}
 

@@ -12,7 +12,8 @@ use Rattle.apt_plane.specs.declared.figures.Surface.{Surface}
 use Rattle.apt_plane.specs.declared.figures.Surface.TheVariants as surfaces
 use Rattle.apt_offset.specs.declared.Target.TheVariants as targets
 use Rattle.apt_stop.specs.declared.course.Course.{Course}
-use Rattle.apt_stop.specs.Courses.{course_cases, stop_side, end_of}
+use Rattle.apt_stop.specs.Courses.{stop_side}
+use Rattle.apt_stop.specs.Choices.{course_cases, end_of}
 
 abbrev pt : ℤ → ℤ → Pt
 pt x y = record { x = x; y = y }

@@ -1,46 +1,24 @@
--- Where a course stops: the side of its stop on which it runs, its end, and what refuses it.
-use Rattle.std.specs.Prelude.{ℕ, ℤ, pos, neg_ℤ, ◌*ℤ◌, int_le, ◌&&◌, ◌||◌, not, Bool, true, false, List, [], ◌∷◌, ◌++◌, Option, Some, None, is_none, if◌then◌else◌}
+-- The side of its stop on which a course runs, and the axis on which it ends: all that a certificate knows of it.
+use Rattle.std.specs.Prelude.{ℤ, ◌*ℤ◌, Bool, true, false, Option, None, if◌then◌else◌}
 use Rattle.apt_num.specs.declared.Sign.{Sign}
 use Rattle.apt_num.specs.declared.Sign.TheVariants as signs
-use Rattle.apt_num.specs.Sign.{sign_of, is_at_least, is_minus}
+use Rattle.apt_num.specs.Sign.{sign_of}
 use Rattle.apt_words.specs.declared.Stop.{Stop}
 use Rattle.apt_words.specs.declared.Stop.TheVariants as stops
-use Rattle.apt_words.specs.declared.Case.TheVariants as cases
-use Rattle.apt_words.specs.Rows.{Row}
-use Rattle.apt_plane.specs.declared.figures.Pt.{Pt}
-use Rattle.apt_plane.specs.declared.figures.Dir.{Dir}
 use Rattle.apt_plane.specs.declared.figures.Axis.{Axis}
-use Rattle.apt_plane.specs.Vectors.{displacement, cross, dot, length_squared}
-use Rattle.apt_canon.specs.Scale.{is_in_range, times as stretched}
-use Rattle.apt_canon.specs.Feet.{ray_point, foot_point}
+use Rattle.apt_plane.specs.Vectors.{displacement, cross, dot}
 use Rattle.apt_offset.specs.declared.Target.{Target}
 use Rattle.apt_offset.specs.declared.Target.TheVariants as targets
-use Rattle.apt_offset.specs.Turns.{opposite}
-use Rattle.apt_offset.specs.Targets.{signed}
-use Rattle.apt_contact.specs.Meetings.{line_on, circle_about, meeting_cases}
-use Rattle.apt_contact.specs.Contacts.{contact_point}
 use Rattle.apt_stop.specs.declared.course.Course.{Course}
-use Rattle.apt_stop.specs.declared.course.Choice.{Choice}
 use Rattle.apt_stop.specs.Nearness.{is_near, side_of, heading, near_stop}
-use Rattle.apt_stop.specs.Gaps.{is_within, is_touching}
 use Rattle.apt_stop.specs.Tangencies.{tangent_axis}
 
+-- under TANTO a course ends where its surfaces touch
 abbrev pub is_tanto : Stop → Bool
 is_tanto stops.To = false
 is_tanto stops.On = false
 is_tanto stops.Past = false
 is_tanto stops.Tanto = true
-
-abbrev pub is_same : Sign → Sign → Bool
-is_same signs.Plus signs.Plus = true
-is_same signs.Plus signs.Zero = false
-is_same signs.Plus signs.Minus = false
-is_same signs.Zero signs.Plus = false
-is_same signs.Zero signs.Zero = true
-is_same signs.Zero signs.Minus = false
-is_same signs.Minus signs.Plus = false
-is_same signs.Minus signs.Zero = false
-is_same signs.Minus signs.Minus = true
 
 -- the start is near the stop
 abbrev pub starts_near_stop : Course → Bool
@@ -63,87 +41,8 @@ stop_side c = if starts_near_stop c then headed_side c c.track c.stop else side_
 abbrev pub kept_side : Course → Sign
 kept_side c = if is_tanto c.how then signs.Zero else stop_side c
 
--- ---- its end
+-- ---- the axis on which a course ends
 
--- which of the two points in which the targets meet: along the line, or to the left of the way from the track's centre to the stop's, for 1; two lines meet in one
-abbrev pub sigma_of : ℤ → Sign → Target → Target → ℤ
-sigma_of sense side (targets.Line b d h) (targets.Line e f k) = pos 1
-sigma_of sense side (targets.Line b d h) (targets.Circ o r) = signed side sense
-sigma_of sense side (targets.Circ o r) (targets.Line e f k) = signed (opposite side) sense
-sigma_of sense side (targets.Circ o r) (targets.Circ q s) = signed side sense
-
--- where a course that runs on a side of its stop meets it
-abbrev pub meets_at : Course → Sign → Pt
-meets_at c side = contact_point c.track c.stop (sigma_of c.sense side c.track c.stop)
-
--- where it touches: on a line the foot of the axis, on a circle the point on the axis, on its half
-abbrev pub touches_on : Target → Axis → Pt
-touches_on (targets.Line b d h) a = foot_point a.through (line_on b d) h
-touches_on (targets.Circ o r) a = ray_point (circle_about o r) (stretched (signed a.half (pos 1)) a.along)
-
-abbrev pub touches_at : Course → Option Axis → Pt
-touches_at c None = c.start
-touches_at c (Some a) = touches_on c.track a
-
--- the axis on which it ends, where it touches
+-- where it touches, that on which its surfaces touch
 abbrev pub axis_of : Course → Option Axis
 axis_of c = if is_tanto c.how then tangent_axis c.drive c.check else None
-
-abbrev pub end_of : Course → Pt
-end_of c = if is_tanto c.how then touches_at c (tangent_axis c.drive c.check) else meets_at c (stop_side c)
-
-abbrev pub choice_of : Course → Choice
-choice_of c = record { side = kept_side c; end = end_of c; axis = axis_of c }
-
--- ---- whether the stop lies behind
-
--- k is at most 8 roots of n
-abbrev pub is_not_ahead : ℤ → ℕ → Bool
-is_not_ahead k n = is_at_least (neg_ℤ k) (neg_ℤ near_stop) n
-
--- and at most 8 of them to both sides of 0
-abbrev pub is_by_axis : ℤ → ℕ → Bool
-is_by_axis k n = is_within k (pos 0) near_stop n
-
--- how far a line runs on to a centre, times its length
-abbrev pub way_on_to : Course → Dir → Pt → ℤ
-way_on_to c d o = dot (displacement c.start o) (heading c.sense d)
-
--- a line that stops at a line: the start is near it, or the motion heads to the start's side; at a circle: the start is outside and past the centre, or near it and not 8 units before the centre;
--- a circle: the start is near the stop, and not 8 units off the axis on which both contacts lie evenly
-abbrev pub is_past : Course → Target → Target → Bool
-is_past c (targets.Line b d h) (targets.Line e f k) = starts_near_stop c || is_same (side_of c.stop c.start) (sign_of (cross f (heading c.sense d)))
-is_past c (targets.Line b d h) (targets.Circ o r) =
-    if starts_near_stop c then is_not_ahead (way_on_to c d o) (length_squared d)
-    else is_minus (side_of c.stop c.start) && int_le (way_on_to c d o) (pos 0)
-is_past c (targets.Circ o r) (targets.Line e f k) = starts_near_stop c && is_by_axis (dot (displacement o c.start) f) (length_squared f)
-is_past c (targets.Circ o r) (targets.Circ q s) =
-    starts_near_stop c && is_by_axis (cross (displacement o c.start) (displacement o q)) (length_squared (displacement o q))
-
--- against the axis on which it touches: a line is not 8 units before it; the start on a circle is within 8 units of it, on its half
-abbrev pub is_past_axis : Course → Target → Axis → Bool
-is_past_axis c (targets.Line b d h) a = is_not_ahead (way_on_to c d a.through) (length_squared d)
-is_past_axis c (targets.Circ o r) a =
-    is_by_axis (cross a.along (displacement a.through c.start)) (length_squared a.along) && is_same a.half (sign_of (dot a.along (displacement a.through c.start)))
-
-abbrev pub is_past_or_none : Course → Option Axis → Bool
-is_past_or_none c None = true
-is_past_or_none c (Some a) = is_past_axis c c.track a
-
-abbrev pub is_behind : Course → Bool
-is_behind c = if is_tanto c.how then is_past_or_none c (tangent_axis c.drive c.check) else is_past c c.track c.stop
-
--- ---- what refuses a course
-
--- how its surfaces lie to each other where it touches, else its targets: the same for all legs with one stop
-abbrev pub stop_cases : Course → List Row
-stop_cases c =
-    if is_tanto c.how then (is_none (tangent_axis c.drive c.check), cases.Parallel) ∷ (not (is_touching c.drive c.check), cases.NotTangent) ∷ []
-    else meeting_cases c.track c.stop
-
--- whether it leads there, within the coordinate limit
-abbrev pub way_cases : Course → List Row
-way_cases c = (is_behind c, cases.Behind) ∷ (not (is_in_range (end_of c)), cases.OutOfRange) ∷ []
-
-abbrev pub course_cases : Course → List Row
-course_cases c = stop_cases c ++ way_cases c

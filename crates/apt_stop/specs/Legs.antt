@@ -15,7 +15,8 @@ use Rattle.apt_stop.specs.declared.course.Course.{Course}
 use Rattle.apt_stop.specs.declared.legs.Legs.{Legs}
 use Rattle.apt_stop.specs.declared.legs.Legs.TheVariants as legs
 use Rattle.apt_stop.specs.declared.legs.Ends.{Ends}
-use Rattle.apt_stop.specs.Courses.{starts_near_stop, kept_side, end_of, stop_cases, way_cases}
+use Rattle.apt_stop.specs.Courses.{starts_near_stop, kept_side}
+use Rattle.apt_stop.specs.Choices.{end_of, stop_cases, way_cases}
 use Rattle.apt_stop.specs.Ends.{IsEndOn}
 
 abbrev pub leg_count : Legs → ℕ

@@ -2,6 +2,7 @@ pub mod Nearness
 pub mod Gaps
 pub mod Tangencies
 pub mod Courses
+pub mod Choices
 pub mod Steps
 pub mod Ends
 pub mod Ranges

@@ -1,4 +1,4 @@
--- The steps in which the code decides where a course stops; what they come to, Courses says.
+-- The steps in which the code decides where a course stops; what they come to, Courses and Choices say.
 use Rattle.std.specs.Prelude.{◌≢◌, pos, int_le, ◌&&◌, not, Bool, true, false, [], ◌∷◌, ◌++◌, Option, Some, None, Result, Ok, Err, if◌then◌else◌}
 use Rattle.apt_num.specs.declared.Sign.{Sign}
 use Rattle.apt_num.specs.declared.Sign.TheVariants as signs
@@ -21,7 +21,8 @@ use Rattle.apt_stop.specs.declared.course.Course.{Course}
 use Rattle.apt_stop.specs.declared.course.Choice.{Choice}
 use Rattle.apt_stop.specs.Nearness.{is_near, side_of, heading, near_stop}
 use Rattle.apt_stop.specs.Gaps.{is_touching}
-use Rattle.apt_stop.specs.Courses.{is_same, headed_side, stop_side, is_past, is_past_axis, is_not_ahead, is_by_axis, way_on_to, meets_at, touches_on}
+use Rattle.apt_stop.specs.Courses.{headed_side, stop_side}
+use Rattle.apt_stop.specs.Choices.{is_same, is_past, is_past_axis, is_not_ahead, is_by_axis, way_on_to, meets_at, touches_on}
 
 -- its start and its targets are in range
 pub record IsPlaced (c : Course) : Type 0 where

@@ -8,6 +8,7 @@ ghost use Rattle.apt_offset.specs.Targets as moving;
 ghost use Rattle.apt_contact.specs.Contacts.{HasMeeting};
 ghost use Rattle.apt_contact.specs.Meetings.{meeting_of};
 ghost use Rattle.apt_stop.specs.Courses as spec;
+ghost use Rattle.apt_stop.specs.Choices as choices;
 ghost use Rattle.apt_stop.specs.Ends.{IsEndOn};
 ghost use Rattle.apt_stop.specs.Ranges.{IsCourse};
 ghost use Rattle.apt_stop.specs.Steps as steps;
@@ -37,8 +38,8 @@ use apt_words::{Case, Stop};
 #[inline(always)]
 pub fn decide(c: &Course) -> Result<Choice, Case>
     requires { IsCourse c.now }
-    ensures value { result ≡ unless (spec.course_cases c.now) (spec.choice_of c.now) }
-    ensures refused { (case : Case) → IsErrOf result case ↔ (first_of (spec.course_cases c.now) ≡ Some case) }
+    ensures value { result ≡ unless (choices.course_cases c.now) (choices.choice_of c.now) }
+    ensures refused { (case : Case) → IsErrOf result case ↔ (first_of (choices.course_cases c.now) ≡ Some case) }
     ensures range { IfOk result (λ x. IsPoint x.end) }
     ensures end { IfOk result (λ x. IsEndOn c.now.track c.now x.end) }
 {
@@ -47,7 +48,7 @@ pub fn decide(c: &Course) -> Result<Choice, Case>
 
 fn decided(c: &Course) -> Result<Choice, Case>
     requires { IsCourse c.now }
-    ensures { result ≡ unless (spec.course_cases c.now) (spec.choice_of c.now) }
+    ensures { result ≡ unless (choices.course_cases c.now) (choices.choice_of c.now) }
 {
     match c.how {
         Stop::Tanto => touching(c),
@@ -137,7 +138,7 @@ fn leading(c: &Course) -> Result<Choice, Case>
 fn sigma(c: &Course, side: Sign) -> i8
     requires sense { IsSense c.now.sense }
     requires side { steps.HasSide c.now.track c.now.stop side }
-    ensures value { result ≡ spec.sigma_of c.now.sense side c.now.track c.now.stop }
+    ensures value { result ≡ choices.sigma_of c.now.sense side c.now.track c.now.stop }
     ensures sense { IsSense result }
 {
     match (&c.track, &c.stop) {

@@ -6,6 +6,7 @@ ghost use Rattle.apt_plane.specs.Ranges.{IsPoint};
 ghost use Rattle.apt_offset.specs.Ranges.{IsTarget};
 ghost use Rattle.apt_contact.specs.Contacts.{IsNearTarget};
 ghost use Rattle.apt_stop.specs.Courses as spec;
+ghost use Rattle.apt_stop.specs.Choices as choices;
 ghost use Rattle.apt_stop.specs.Legs as legging;
 ghost use Rattle.apt_stop.specs.Legs.{next_leg};
 ghost use Rattle.apt_stop.specs.Nearness as near;
@@ -150,9 +151,9 @@ fn is_round(surface: &Surface) -> bool
 #[tactic(auto, using(crate::proofs::NextLegs::next_is, crate::proofs::NextLegs::next_answer))]
 fn decide_next(c: &Course, end: Pt) -> Result<Choice, Case>
     requires course { IsCourse c.now }
-    requires none { NoneHolds (spec.course_cases c.now) }
-    requires end { end ≡ spec.end_of c.now }
-    ensures value { result ≡ unless (spec.way_cases (next_leg c.now)) (spec.choice_of (next_leg c.now)) }
+    requires none { NoneHolds (choices.course_cases c.now) }
+    requires end { end ≡ choices.end_of c.now }
+    ensures value { result ≡ unless (choices.way_cases (next_leg c.now)) (choices.choice_of (next_leg c.now)) }
     ensures second { IfOk result (λ x. legging.IsSecond c.now x.end) }
     ensures range { IfOk result (λ x. IsPoint x.end) }
 {
@@ -161,7 +162,7 @@ fn decide_next(c: &Course, end: Pt) -> Result<Choice, Case>
 
 fn next_course(c: &Course, end: Pt) -> Course
     requires course { IsCourse c.now }
-    requires end { end ≡ spec.end_of c.now }
+    requires end { end ≡ choices.end_of c.now }
     ensures { result ≡ next_leg c.now }
 {
     Course { start: end, ..*c }
@@ -170,7 +171,7 @@ fn next_course(c: &Course, end: Pt) -> Course
 /// The case that refuses all courses to a stop.
 fn stop_case(c: &Course) -> Option<Case>
     requires { IsCourse c.now }
-    ensures { result ≡ first_of (spec.stop_cases c.now) }
+    ensures { result ≡ first_of (choices.stop_cases c.now) }
 {
     match c.how {
         Stop::Tanto => touch_case(c),
@@ -181,7 +182,7 @@ fn stop_case(c: &Course) -> Option<Case>
 fn touch_case(c: &Course) -> Option<Case>
     requires course { IsCourse c.now }
     requires touching { spec.is_tanto c.now.how ≡ true }
-    ensures { result ≡ first_of (spec.stop_cases c.now) }
+    ensures { result ≡ first_of (choices.stop_cases c.now) }
 {
     if tangent_axis(&c.drive, &c.check).is_none() {
         return Some(Case::Parallel);
@@ -197,7 +198,7 @@ fn touch_case(c: &Course) -> Option<Case>
 fn meeting_case(c: &Course) -> Option<Case>
     requires course { IsCourse c.now }
     requires meeting { spec.is_tanto c.now.how ≡ false }
-    ensures { result ≡ first_of (spec.stop_cases c.now) }
+    ensures { result ≡ first_of (choices.stop_cases c.now) }
 {
     match meet(&c.track, &c.stop) {
         Meeting::Parallel => Some(Case::Parallel),

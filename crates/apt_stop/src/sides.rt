@@ -7,6 +7,7 @@ ghost use Rattle.apt_canon.specs.Meeting as meeting;
 ghost use Rattle.apt_offset.specs.Ranges.{IsTarget};
 ghost use Rattle.apt_stop.specs.Nearness as near;
 ghost use Rattle.apt_stop.specs.Courses as spec;
+ghost use Rattle.apt_stop.specs.Choices as choices;
 ghost use Rattle.apt_stop.specs.Steps as steps;
 ghost use Rattle.apt_stop.specs.Steps.{IsPlaced};
 
@@ -113,7 +114,7 @@ pub(crate) fn is_past(c: &Course, far: Option<Sign>) -> bool
 }
 
 pub(crate) fn is_same(first: Sign, second: Sign) -> bool
-    ensures { result ≡ spec.is_same first second }
+    ensures { result ≡ choices.is_same first second }
 {
     first == second
 }
@@ -124,7 +125,7 @@ pub(crate) fn way_on_to(c: &Course, dir: Dir, p: Pt) -> i128
     requires sense { IsSense c.now.sense }
     requires dir { IsDir dir }
     requires point { IsPoint p }
-    ensures value { result ≡ spec.way_on_to c.now dir p }
+    ensures value { result ≡ choices.way_on_to c.now dir p }
     ensures small { unsigned_abs result ≤ 2 * 10 ^ 16 }
 {
     dot_short(displacement(c.start, p), heading(c.sense, dir))
@@ -145,7 +146,7 @@ fn off_axis(c: &Course, centre: Pt, other: Pt) -> i128
 pub(crate) fn is_not_ahead(k: i128, n: u128) -> bool
     requires k { unsigned_abs k ≤ 2 * 10 ^ 16 }
     requires n { n ≤ 2 * 10 ^ 16 }
-    ensures { result ≡ spec.is_not_ahead k n }
+    ensures { result ≡ choices.is_not_ahead k n }
 {
     is_at_least(-k, -NEAR_STOP, n)
 }
@@ -154,7 +155,7 @@ pub(crate) fn is_not_ahead(k: i128, n: u128) -> bool
 pub(crate) fn is_by_axis(k: i128, n: u128) -> bool
     requires k { unsigned_abs k ≤ 2 * 10 ^ 16 }
     requires n { n ≤ 2 * 10 ^ 16 }
-    ensures { result ≡ spec.is_by_axis k n }
+    ensures { result ≡ choices.is_by_axis k n }
 {
     is_in_strip(k, 0, NEAR_STOP, n)
 }

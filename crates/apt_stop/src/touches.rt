@@ -5,7 +5,7 @@ ghost use Rattle.apt_canon.specs.Scale as scale;
 ghost use Rattle.apt_plane.specs.Ranges.{IsDir};
 ghost use Rattle.apt_offset.specs.Ranges.{IsTarget};
 ghost use Rattle.apt_offset.specs.Targets as moving;
-ghost use Rattle.apt_stop.specs.Courses as spec;
+ghost use Rattle.apt_stop.specs.Choices as choices;
 ghost use Rattle.apt_stop.specs.Steps.{IsPlaced, IsAxis, HasHalf};
 
 use crate::course::Course;
@@ -21,7 +21,7 @@ use apt_words::Case;
 pub(crate) fn is_past_axis(c: &Course, axis: &Axis) -> bool
     requires course { IsPlaced c.now }
     requires axis { IsAxis axis.now }
-    ensures { result ≡ spec.is_past_axis c.now c.now.track axis.now }
+    ensures { result ≡ choices.is_past_axis c.now c.now.track axis.now }
 {
     match &c.track {
         Target::Line { dir, .. } => {
@@ -44,7 +44,7 @@ pub(crate) fn touch_point(track: &Target, axis: &Axis) -> Result<Pt, Case>
     requires track { IsTarget track.now }
     requires axis { IsAxis axis.now }
     requires half { HasHalf track.now axis.now }
-    ensures { result ≡ if scale.is_in_range (spec.touches_on track.now axis.now) then Ok (spec.touches_on track.now axis.now) else Err Case.OutOfRange }
+    ensures { result ≡ if scale.is_in_range (choices.touches_on track.now axis.now) then Ok (choices.touches_on track.now axis.now) else Err Case.OutOfRange }
 {
     let point = match *track {
         Target::Line { base, dir, off } => {

@@ -21,7 +21,8 @@ use Rattle.apt_meaning.specs.declared.motion.Motion.{Motion}
 use Rattle.apt_meaning.specs.declared.effect.Effect.TheVariants as effects
 use Rattle.apt_meaning.specs.Situations.{position_at}
 use Rattle.apt_cldata.specs.Vertices.{at_height}
-use Rattle.apt_meaning.specs.Motions.{motion, motion_at, if_turned, end_point, arc_on, lesser}
+use Rattle.apt_meaning.specs.Motions.{motion, motion_at, if_turned}
+use Rattle.apt_meaning.specs.Cuts.{end_point, arc_on, lesser}
 use Rattle.apt_meaning.specs.Effects.{cuts}
 use Rattle.apt_meaning.specs.Refusals.{turned_cases, motion_cases}
 use Rattle.apt_core.proofs.Circles.Numbers.{Size, Half, rightward, none, is_near_round, is_past_line, end_way, meeting_by}

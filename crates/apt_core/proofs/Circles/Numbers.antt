@@ -16,8 +16,8 @@ use Rattle.apt_contact.specs.declared.Meeting.{Meeting}
 use Rattle.apt_contact.specs.Meetings.{by_sides, is_parallel, is_apart}
 use Rattle.apt_startup.specs.StartUps.{way_or_right}
 use Rattle.apt_stop.specs.Nearness.{heading}
-use Rattle.apt_stop.specs.Courses.{is_by_axis}
-use Rattle.apt_meaning.specs.Motions.{lesser}
+use Rattle.apt_stop.specs.Choices.{is_by_axis}
+use Rattle.apt_meaning.specs.Cuts.{lesser}
 
 -- the direction of the line through a circle's centre
 abbrev pub rightward : Dir

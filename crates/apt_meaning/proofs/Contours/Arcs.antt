@@ -22,7 +22,8 @@ use Rattle.apt_contact.specs.Contacts.{HasMeeting}
 use Rattle.apt_contact.proofs.ContactLaws.{circles_overlap}
 use Rattle.apt_stop.specs.Nearness.{is_near, off_track}
 use Rattle.apt_stop.specs.Tangencies.{tangent_axis, IsElsewhere}
-use Rattle.apt_stop.specs.Courses.{is_tanto, course_cases}
+use Rattle.apt_stop.specs.Courses.{is_tanto}
+use Rattle.apt_stop.specs.Choices.{course_cases}
 use Rattle.apt_stop.specs.Ends.{EndsOnCircle}
 use Rattle.apt_stop.proofs.Ended.{course_ends}
 use Rattle.apt_stop.proofs.Axes.{no_axis, towards-IsDir}
@@ -33,7 +34,8 @@ use Rattle.apt_arc.specs.Made.{divided}
 use Rattle.apt_arc.specs.Ranges.{IsTrack, IsSag, IsArc}
 use Rattle.apt_arc.proofs.Tracks.{near_track}
 use Rattle.apt_meaning.specs.declared.motion.Motion.{Motion}
-use Rattle.apt_meaning.specs.Motions.{drive_side, course_of, end_point, leg_of, lesser, sag, arc_on, arc_along, arc_of, vertices_on, vertices_of, track_of}
+use Rattle.apt_meaning.specs.Motions.{drive_side, course_of, leg_of, track_of}
+use Rattle.apt_meaning.specs.Cuts.{end_point, lesser, sag, arc_on, arc_along, arc_of, vertices_on, vertices_of}
 use Rattle.apt_meaning.specs.Refusals.{motion_cases}
 use Rattle.apt_meaning.specs.Ranges.{IsMotion}
 use Rattle.apt_meaning.proofs.Contours.Legal.{course_is}

@@ -12,11 +12,11 @@ use Rattle.apt_arc.proofs.Steps.{arc_steps}
 use Rattle.apt_certify.specs.Jobs.{ArePoints}
 use Rattle.apt_certify.specs.Legal.{IsSome, last_of}
 use Rattle.apt_meaning.specs.declared.motion.Motion.{Motion}
-use Rattle.apt_meaning.specs.Motions.{track_of, course_of, end_point, vertices_of}
+use Rattle.apt_meaning.specs.Motions.{track_of, course_of}
+use Rattle.apt_meaning.specs.Cuts.{end_point, vertices_of, IsOwnOn}
 use Rattle.apt_meaning.specs.Refusals.{motion_cases}
 use Rattle.apt_meaning.specs.Ranges.{IsMotion}
 use Rattle.apt_meaning.specs.Paths.{IsLegalCut, first_leg, cut_on}
-use Rattle.apt_meaning.specs.Records.{IsOwnOn}
 use Rattle.apt_meaning.proofs.Contours.Legal.{line_legal}
 use Rattle.apt_meaning.proofs.Contours.Arcs.{radius_round, arc_round, arc_is, track_is}
 use Rattle.apt_meaning.proofs.Contours.Rounds.{round_legal, steps_last, steps_points}

@@ -31,7 +31,8 @@ use Rattle.apt_stop.proofs.Ended.{course_ends}
 use Rattle.apt_certify.specs.declared.leg.Leg.{Leg}
 use Rattle.apt_certify.specs.Legs.{beyond_of, IsBounded, IsOnAxisOrNone}
 use Rattle.apt_meaning.specs.declared.motion.Motion.{Motion}
-use Rattle.apt_meaning.specs.Motions.{track_of, stop_of, drive_side, starts_on_check, course_of, stop_side, end_point, leg_on, leg_of, has_track, has_bound, is_defined}
+use Rattle.apt_meaning.specs.Motions.{track_of, stop_of, drive_side, starts_on_check, course_of, stop_side, leg_on, leg_of, has_track, has_bound, is_defined}
+use Rattle.apt_meaning.specs.Cuts.{end_point}
 use Rattle.apt_meaning.specs.Refusals.{motion_cases}
 use Rattle.apt_meaning.specs.Ranges.{IsMotion}
 use Rattle.apt_meaning.specs.Paths.{IsLegalCut, first_leg, cut_on}

@@ -7,7 +7,8 @@ use Rattle.apt_words.specs.Rows.{Row, NoneHolds}
 use Rattle.apt_plane.specs.declared.figures.Pt.{Pt}
 use Rattle.apt_offset.specs.Turns.{opposite, is_zero}
 use Rattle.apt_stop.specs.Nearness.{is_near, off_track}
-use Rattle.apt_stop.specs.Courses.{stop_cases, way_cases, axis_of}
+use Rattle.apt_stop.specs.Courses.{axis_of}
+use Rattle.apt_stop.specs.Choices.{stop_cases, way_cases}
 use Rattle.apt_stop.proofs.Chosen.{end_is_point}
 use Rattle.apt_stop.specs.Legs.{ways_of}
 use Rattle.apt_stop.proofs.NextLegs.{next_is, next_free, other_side}
@@ -16,11 +17,12 @@ use Rattle.apt_certify.specs.Legs.{IsBounded}
 use Rattle.apt_meaning.specs.declared.motion.Motion.{Motion}
 use Rattle.apt_stop.specs.declared.legs.Legs.{Legs}
 use Rattle.apt_stop.specs.declared.legs.Legs.TheVariants as legs
-use Rattle.apt_meaning.specs.Motions.{track_of, course_of, stop_side, end_point, vertices_of, onward, motions_of, leg_on, is_defined}
+use Rattle.apt_meaning.specs.Motions.{track_of, course_of, stop_side, onward, leg_on, is_defined}
+use Rattle.apt_meaning.specs.Cuts.{end_point, vertices_of, motions_of, IsOwnCut}
 use Rattle.apt_meaning.specs.Refusals.{motion_cases, cut_cases}
 use Rattle.apt_meaning.specs.Ranges.{IsMotion}
 use Rattle.apt_meaning.specs.Paths.{Due, first_leg, next_leg, cut_on, IsLegalCut, EveryContour}
-use Rattle.apt_meaning.specs.Records.{IsOwnCut, last_behind, legs_from}
+use Rattle.apt_meaning.specs.Records.{last_behind, legs_from}
 use Rattle.apt_meaning.specs.Vertices.{AreCuts}
 use Rattle.apt_meaning.proofs.Contours.Legal.{course_is, side_bounded, defined_bound}
 use Rattle.apt_meaning.proofs.Contours.Cuts.{cut_is}

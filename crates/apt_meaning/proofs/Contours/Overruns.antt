@@ -22,7 +22,8 @@ use Rattle.apt_offset.specs.Targets.{signed}
 use Rattle.apt_offset.proofs.Rooms.{circle_room}
 use Rattle.apt_contact.specs.Meetings.{circle_about}
 use Rattle.apt_contact.proofs.ContactLaws.{circles_overlap}
-use Rattle.apt_stop.specs.Courses.{is_tanto, starts_near_stop, stop_side, kept_side, meets_at}
+use Rattle.apt_stop.specs.Courses.{is_tanto, starts_near_stop, stop_side, kept_side}
+use Rattle.apt_stop.specs.Choices.{meets_at}
 use Rattle.apt_stop.proofs.Parts.{Meets, meets}
 use Rattle.apt_stop.proofs.Placed.{placed}
 use Rattle.apt_stop.proofs.Sided.{sided}
@@ -35,7 +36,8 @@ use Rattle.apt_arc.proofs.OutsideStops.{circle_outside}
 use Rattle.apt_certify.specs.declared.leg.Leg.{Leg}
 use Rattle.apt_certify.specs.Legs.{beyond_of, slack, slack_of, IsWithinSlack}
 use Rattle.apt_meaning.specs.declared.motion.Motion.{Motion}
-use Rattle.apt_meaning.specs.Motions.{course_of, end_point, leg_of}
+use Rattle.apt_meaning.specs.Motions.{course_of, leg_of}
+use Rattle.apt_meaning.specs.Cuts.{end_point}
 use Rattle.apt_meaning.specs.Refusals.{motion_cases}
 use Rattle.apt_meaning.specs.Ranges.{IsMotion}
 use Rattle.apt_meaning.proofs.Contours.Bands.{band_at-HasRoom}

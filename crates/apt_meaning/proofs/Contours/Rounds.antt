@@ -29,7 +29,8 @@ use Rattle.apt_certify.specs.Jobs.{ArePoints}
 use Rattle.apt_certify.specs.Legs.{IsWithinSlack, IsOnAxisOrNone}
 use Rattle.apt_certify.specs.Legal.{IsSome, last_of, AreInOrder, EveryPointFrom}
 use Rattle.apt_meaning.specs.declared.motion.Motion.{Motion}
-use Rattle.apt_meaning.specs.Motions.{course_of, end_point, leg_of, sag}
+use Rattle.apt_meaning.specs.Motions.{course_of, leg_of}
+use Rattle.apt_meaning.specs.Cuts.{end_point, sag}
 use Rattle.apt_meaning.specs.Refusals.{motion_cases}
 use Rattle.apt_meaning.specs.Ranges.{IsMotion}
 use Rattle.apt_meaning.specs.Paths.{IsLegalCut, first_leg, cut_on}

@@ -17,7 +17,7 @@ use Rattle.apt_plane.proofs.SegmentLaws.{point_above, point_below}
 use Rattle.apt_canon.proofs.CircleMeetings.LineCircle.{sense_size}
 use Rattle.apt_offset.specs.declared.Target.TheVariants as targets
 use Rattle.apt_stop.specs.Nearness.{is_near, near_stop}
-use Rattle.apt_stop.specs.Courses.{is_by_axis}
+use Rattle.apt_stop.specs.Choices.{is_by_axis}
 use Rattle.apt_stop.proofs.NearLaws.{near-OnLine}
 use Rattle.apt_stop.proofs.Far.{far_on_side}
 use Rattle.apt_stop.proofs.Rings.{ring_true, ring_false, over_at, under_at}

@@ -35,7 +35,8 @@ use Rattle.apt_meaning.specs.Motions.{grid_step}
 use Rattle.apt_stop.specs.Legs.{leg_count}
 use Rattle.apt_meaning.specs.Effects.{effect_of}
 use Rattle.apt_meaning.specs.Paths.{Drive, Due, Saying, first_leg, next_leg, due_behind, cut_on, nothing_said, is_nowhere, forward_to, forward_on, forward_there, with_point, counted, radius_by, Contour, at_points, last_position, motion_said, contour_said, with_note, with_record, said_behind, contours_behind, contours_of, IsLegalCut, EveryContour}
-use Rattle.apt_meaning.specs.Records.{cut_record, records_of, last_behind, cut_at, after, legs_from, contours_by, MayHave, FollowsAs, HasAny, IsAsSaid, Follows, IsOwnCut}
+use Rattle.apt_meaning.specs.Records.{cut_record, records_of, last_behind, cut_at, after, legs_from, contours_by, MayHave, FollowsAs, HasAny, IsAsSaid, Follows}
+use Rattle.apt_meaning.specs.Cuts.{IsOwnCut}
 use Rattle.apt_meaning.proofs.Said.{IsMotionOf, said_by as effect_said}
 use Rattle.apt_meaning.proofs.Asked.{CutsLegally, CutsOwn}
 use Rattle.apt_meaning.proofs.Walks.Begins.{both}

@@ -32,7 +32,7 @@ use Rattle.apt_cldata.specs.Vertices.{at_height}
 use Rattle.apt_meaning.specs.declared.motion.Motion.{Motion}
 use Rattle.apt_stop.specs.declared.legs.Legs.{Legs}
 use Rattle.apt_stop.specs.declared.legs.Legs.TheVariants as legs
-use Rattle.apt_meaning.specs.Motions.{vertices_of, motions_of}
+use Rattle.apt_meaning.specs.Cuts.{vertices_of, motions_of}
 use Rattle.apt_meaning.specs.Effects.{note_of, effect_of}
 use Rattle.apt_meaning.specs.Refusals.{refusal_of}
 use Rattle.apt_meaning.specs.Records.{with_statement, change_records, cut_record, effect_records, records_of, after}

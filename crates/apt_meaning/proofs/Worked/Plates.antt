@@ -20,7 +20,8 @@ use Rattle.apt_meaning.specs.declared.situation.Settings.{Settings}
 use Rattle.apt_meaning.specs.declared.situation.Situation.{Situation}
 use Rattle.apt_meaning.specs.declared.motion.Motion.{Motion}
 use Rattle.apt_meaning.specs.Situations.{first_settings, position_at}
-use Rattle.apt_meaning.specs.Motions.{motion_at, end_point, leg_of}
+use Rattle.apt_meaning.specs.Motions.{motion_at, leg_of}
+use Rattle.apt_meaning.specs.Cuts.{end_point}
 use Rattle.apt_meaning.specs.StartUps.{start_up_at}
 use Rattle.apt_meaning.specs.Refusals.{refusal_of}
 

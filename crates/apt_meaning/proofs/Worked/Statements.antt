@@ -30,7 +30,8 @@ use Rattle.apt_stop.specs.declared.legs.Legs.TheVariants as legs
 use Rattle.apt_meaning.specs.declared.effect.Effect.{Effect}
 use Rattle.apt_meaning.specs.declared.effect.Effect.TheVariants as effects
 use Rattle.apt_meaning.specs.Situations.{first_settings, position_at}
-use Rattle.apt_meaning.specs.Motions.{motion_at, end_point}
+use Rattle.apt_meaning.specs.Motions.{motion_at}
+use Rattle.apt_meaning.specs.Cuts.{end_point}
 use Rattle.apt_meaning.specs.StartUps.{start_up_at}
 use Rattle.apt_meaning.specs.Effects.{effect_of}
 use Rattle.apt_meaning.specs.Records.{effect_records, after}

@@ -3,7 +3,8 @@ use Rattle.std.proofs.lemmas.Int.{ints, to_z-of_z}
 use Rattle.std.proofs.lemmas.Result.{err_from_is_err_and}
 use Rattle.apt_plane.specs.Ranges.{IsSense}
 use Rattle.apt_contact.specs.Contacts.{contact}
-use Rattle.apt_stop.specs.Courses.{stop_side, is_past}
+use Rattle.apt_stop.specs.Courses.{stop_side}
+use Rattle.apt_stop.specs.Choices.{is_past}
 use Rattle.apt_stop.proofs.Sided.{side_is, past_is, has_side}
 use Rattle.apt_stop.proofs.Decided.{led_behind, led_ok, led_err}
 use Rattle.apt_stop.proofs.decisions.leading.Goals as goal

@@ -1,6 +1,7 @@
 use Rattle.std.proofs.Common.{◌≡◌, ◌∙◌, sym, false}
 use Rattle.apt_canon.specs.Meeting.{are_parallel, line_line}
-use Rattle.apt_stop.specs.Courses.{stop_side, is_past}
+use Rattle.apt_stop.specs.Courses.{stop_side}
+use Rattle.apt_stop.specs.Choices.{is_past}
 use Rattle.apt_stop.proofs.Sided.{side_is, past_is}
 use Rattle.apt_stop.proofs.OnMovedLines.{straight_ok, straight_err, straight_behind}
 use Rattle.apt_stop.proofs.decisions.straight.Goals as goal

@@ -2,7 +2,7 @@ use Rattle.std.proofs.Common.{◌∙◌, sym, ap, subst}
 use Rattle.std.specs.Prelude.{IfOk}
 use Rattle.apt_words.specs.Rows.{unless}
 use Rattle.apt_stop.specs.declared.course.Course.{Course}
-use Rattle.apt_stop.specs.Courses.{course_cases, choice_of}
+use Rattle.apt_stop.specs.Choices.{course_cases, choice_of}
 use Rattle.apt_stop.specs.Ends.{IsEndOn}
 use Rattle.apt_stop.specs.Ranges.{IsCourse}
 use Rattle.apt_stop.proofs.NextLegs.{next_is, next_answer, next_second}

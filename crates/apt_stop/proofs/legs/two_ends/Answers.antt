@@ -1,7 +1,7 @@
 use Rattle.std.proofs.Common.{◌∙◌, sym, ap}
 use Rattle.apt_words.specs.Rows.{first_of}
 use Rattle.apt_stop.specs.declared.course.Choice.{Choice}
-use Rattle.apt_stop.specs.Courses.{choice_of, course_cases}
+use Rattle.apt_stop.specs.Choices.{choice_of, course_cases}
 use Rattle.apt_stop.proofs.TwoLegs.{some_choice, free_course, refused_first, refused_next, both_free}
 use Rattle.apt_stop.proofs.legs.two_ends.Goals as goal
 
