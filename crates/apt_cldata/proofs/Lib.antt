@@ -19,4 +19,5 @@ pub mod ByteLaws
 pub mod WordsFit
 pub mod PieceLaws
 mod Worked
+mod WorkedRanges
 pub mod Lengths

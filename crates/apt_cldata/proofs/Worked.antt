@@ -1,12 +1,12 @@
 -- A small file, and files with one fault, which the checker reads.
-use Rattle.std.specs.Prelude.{◌≡◌, ℕ, ℤ, pos, negsuc, map, List, [], ◌∷◌, ◌++◌, Ok, Err, codes}
+use Rattle.std.specs.Prelude.{◌≡◌, ◌+◌, ℕ, ℤ, pos, negsuc, map, List, [], ◌∷◌, ◌++◌, Ok, Err, codes}
 use Rattle.std.proofs.Common.{refl}
 use Rattle.apt_cldata.specs.declared.error.ClCause.TheVariants as causes
 use Rattle.apt_cldata.specs.declared.record.Note.TheVariants as notes
 use Rattle.apt_cldata.specs.declared.record.Record.{Record}
 use Rattle.apt_cldata.specs.declared.record.Record.TheVariants as records
 use Rattle.apt_cldata.specs.Records.{record_of}
-use Rattle.apt_cldata.specs.Files.{count_bytes, length_bytes, word_bytes, file_of}
+use Rattle.apt_cldata.specs.Files.{count_bytes, length_bytes, word_bytes, most_bytes, file_of}
 use Rattle.apt_cldata.specs.Reading.{fault, count_in, length_in, word_in, length_of, record_in, said_by, first_of, records_from, read_of}
 use Rattle.apt_plane.specs.declared.figures.Surface.{Surface}
 use Rattle.apt_plane.specs.declared.figures.Surface.TheVariants as surfaces
@@ -117,6 +117,53 @@ other_count = refl
 other_count_and_more : read_of (head 4 ++ start ++ middle 65 ++ end ++ 0 ∷ []) ≡ Err (fault 124 causes.AfterFini)
 unfolding read_of count_in records_from first_of length_of said_by record_in record_of length_in word_in
 other_count_and_more = refl
+
+-- ---- two causes in one record, and lengths at their ends
+
+-- the first record with another length, number and class, whose words are three numbers
+abbrev first : ℕ → ℕ → ℕ → List ℕ
+first length number thousand =
+    0 ∷ 0 ∷ 0 ∷ length
+    ∷ 0 ∷ 0 ∷ 0 ∷ 0 ∷ 0 ∷ 0 ∷ 0 ∷ number
+    ∷ 0 ∷ 0 ∷ 0 ∷ 0 ∷ 0 ∷ 0 ∷ thousand ∷ 232
+    ∷ 0 ∷ 0 ∷ 0 ∷ 0 ∷ 0 ∷ 0 ∷ 0 ∷ 0
+    ∷ 0 ∷ 0 ∷ 0 ∷ 0 ∷ 0 ∷ 0 ∷ 0 ∷ 0
+    ∷ []
+
+-- a number that is not due is told before a class that is none, a record that lacks a word, and a word out of its range
+number_before_class : read_of (head 2 ++ first 32 2 4) ≡ Err (fault 20 causes.Seq)
+unfolding read_of count_in records_from first_of length_of said_by record_in record_of length_in word_in
+number_before_class = refl
+
+class_alone : read_of (head 2 ++ first 32 1 4) ≡ Err (fault 28 causes.Class)
+unfolding read_of count_in records_from first_of length_of said_by record_in record_of length_in word_in
+class_alone = refl
+
+number_before_count_of_words : read_of (head 2 ++ first 32 2 3) ≡ Err (fault 20 causes.Seq)
+unfolding read_of count_in records_from first_of length_of said_by record_in record_of length_in word_in
+number_before_count_of_words = refl
+
+count_of_words_alone : read_of (head 2 ++ first 32 1 3) ≡ Err (fault 16 causes.Length)
+unfolding read_of count_in records_from first_of length_of said_by record_in record_of length_in word_in
+count_of_words_alone = refl
+
+-- a length that is none is told before the number, and a record that is cut short before it too
+length_before_number : read_of (head 2 ++ first 31 2 3) ≡ Err (fault 16 causes.Length)
+unfolding read_of count_in records_from first_of length_of said_by record_in record_of length_in word_in
+length_before_number = refl
+
+cut_short_before_number : read_of (head 2 ++ first 40 2 3) ≡ Err (fault 52 causes.Truncated)
+unfolding read_of count_in records_from first_of length_of said_by record_in record_of length_in word_in
+cut_short_before_number = refl
+
+-- the greatest length, and eight bytes more
+greatest_length : length_of 16 (length_bytes most_bytes) ≡ Err (fault 20 causes.Truncated)
+unfolding length_of length_in length_bytes
+greatest_length = refl
+
+eight_bytes_more : length_of 16 (length_bytes (most_bytes + 8)) ≡ Err (fault 16 causes.Length)
+unfolding length_of length_in length_bytes
+eight_bytes_more = refl
 
 -- ---- the words of each kind of record
 
