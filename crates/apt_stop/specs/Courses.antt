@@ -1,5 +1,5 @@
 -- The side of its stop on which a course runs, and the axis on which it ends: all that a certificate knows of it.
-use Rattle.std.specs.Prelude.{ℤ, ◌*ℤ◌, Bool, true, false, Option, None, if◌then◌else◌}
+use Rattle.std.specs.Prelude.{◌*ℤ◌, Bool, true, false, Option, None, if◌then◌else◌}
 use Rattle.apt_num.specs.declared.Sign.{Sign}
 use Rattle.apt_num.specs.declared.Sign.TheVariants as signs
 use Rattle.apt_num.specs.Sign.{sign_of}
