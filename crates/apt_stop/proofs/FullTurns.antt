@@ -1,9 +1,9 @@
 -- FullTurn comes exactly where two legs turn fully.
 use Rattle.std.specs.Prelude.{Option, Some, None, Result, Err, IsErrOf, ◌↔◌, if◌then◌else◌}
-use Rattle.std.proofs.Common.{refl, ◌≡◌, ◌≢◌, sym, ◌∙◌, Bool, true, false, ◌&&◌, List, [], ◌∷◌, ◌++◌}
+use Rattle.std.proofs.Common.{refl, ◌≡◌, ◌≢◌, sym, ◌∙◌, Bool, true, false, ◌&&◌, ◌∷◌, ◌++◌}
 use Rattle.apt_words.specs.declared.Case.{Case}
 use Rattle.apt_words.specs.declared.Case.TheVariants as cases
-use Rattle.apt_words.specs.Rows.{Row, first_of, unless, unless_case}
+use Rattle.apt_words.specs.Rows.{first_of, unless, unless_case}
 use Rattle.apt_words.proofs.Rows.{none_first, first_none}
 use Rattle.apt_plane.specs.declared.figures.Surface.{Surface}
 use Rattle.apt_plane.specs.declared.figures.Surface.TheVariants as surfaces
@@ -16,35 +16,20 @@ use Rattle.apt_stop.specs.Choices.{stop_cases, way_cases}
 use Rattle.apt_stop.specs.Legs.{next_leg, is_round, turns_fully, ways_of, leg_cases, ends_of, IsRound, IsFullTurn}
 use Rattle.apt_stop.specs.Ranges.{IsCourse}
 use Rattle.apt_stop.proofs.Moved.{stop_target}
+use Rattle.apt_stop.proofs.OtherCases.{AreOthers, never_first, both_others}
 use Rattle.apt_stop.proofs.TwoLegs.{or_first, first-append}
 use Rattle.apt_stop.proofs.Within.{near_tells}
 
--- ---- rows of other cases
+-- ---- the other rows
 
-abbrev AreOthers : List Row → Type 0
-AreOthers [] = Unit {0}
-AreOthers (row ∷ rows) = (row.1 ≢ cases.FullTurn) × AreOthers rows
-
-by_row : (b : Bool) (case : Case) (rest : Option Case) → case ≢ cases.FullTurn → (rest ≡ Some cases.FullTurn → ⊥) → (if b then Some case else rest) ≡ Some cases.FullTurn → ⊥
-by_row true case rest other never e = other cc
-by_row false case rest other never e = never e
-
-never_full : (rows : List Row) → AreOthers rows → first_of rows ≡ Some cases.FullTurn → ⊥
-never_full [] are e = absurd cc
-never_full (row ∷ rows) are e = by_row row.0 row.1 (first_of rows) are.0 (never_full rows are.1) e
-
-both_others : (rows more : List Row) → AreOthers rows → AreOthers more → AreOthers (rows ++ more)
-both_others [] more are later = later
-both_others (row ∷ rows) more are later = (are.0, both_others rows more are.1 later)
-
-stop_others : (c : Course) → AreOthers (stop_cases c)
+stop_others : (c : Course) → AreOthers cases.FullTurn (stop_cases c)
 stop_others c = by_how (is_tanto c.how) refl
   where
-    by_how : (tanto : Bool) → is_tanto c.how ≡ tanto → AreOthers (stop_cases c)
+    by_how : (tanto : Bool) → is_tanto c.how ≡ tanto → AreOthers cases.FullTurn (stop_cases c)
     by_how true e = rw e (λ e. cc, (λ e. cc, tt))
     by_how false e = rw e (λ e. cc, (λ e. cc, tt))
 
-way_others : (c : Course) → AreOthers (way_cases c)
+way_others : (c : Course) → AreOthers cases.FullTurn (way_cases c)
 way_others c = (λ e. cc, (λ e. cc, tt))
 
 -- ---- behind the cases of the stop
@@ -58,8 +43,8 @@ behind_stop (Some case) full ways other later e = absurd (other e)
 two_full : (c : Course) → first_of (leg_cases legs.Two c) ≡ Some cases.FullTurn → (first_of (stop_cases c) ≡ None) × (turns_fully c ≡ true)
 two_full c e =
     let ways = way_cases c ++ way_cases (next_leg c) in
-    behind_stop (first_of (stop_cases c)) (turns_fully c) (first_of ways) (never_full (stop_cases c) (stop_others c))
-    (never_full ways (both_others (way_cases c) (way_cases (next_leg c)) (way_others c) (way_others (next_leg c))))
+    behind_stop (first_of (stop_cases c)) (turns_fully c) (first_of ways) (never_first cases.FullTurn (stop_cases c) (stop_others c))
+    (never_first cases.FullTurn ways (both_others cases.FullTurn (way_cases c) (way_cases (next_leg c)) (way_others c) (way_others (next_leg c))))
     (sym (first-append (stop_cases c) ((turns_fully c, cases.FullTurn) ∷ ways)) ∙ e)
 
 -- ---- a full turn, read by itself
@@ -77,7 +62,7 @@ round_told (surfaces.Line l) is = absurd is
 round_told (surfaces.Circ c) is = refl
 
 told : (n : Legs) (c : Course) → IsCourse c → first_of (leg_cases n c) ≡ Some cases.FullTurn → IsFullTurn n c
-told legs.One c is e = absurd (never_full (stop_cases c ++ way_cases c) (both_others (stop_cases c) (way_cases c) (stop_others c) (way_others c)) e)
+told legs.One c is e = absurd (never_first cases.FullTurn (stop_cases c ++ way_cases c) (both_others cases.FullTurn (stop_cases c) (way_cases c) (stop_others c) (way_others c)) e)
 told legs.Two c is e =
     let full = two_full c e in
     let both = both_true (is_round c.drive) (starts_near_stop c) full.1 in

@@ -36,11 +36,15 @@ pub mod OnMovedLines
 pub mod Decided
 pub mod Chosen
 pub mod Within
+pub mod TouchTests
+pub mod Running
 pub mod Turned
 pub mod NextLegs
 pub mod Stops
 pub mod StopSides
 pub mod TwoLegs
+pub mod OtherCases
 pub mod FullTurns
+pub mod NotTangent
 mod Worked
 mod WorkedCourses

@@ -92,7 +92,7 @@ off_circle r n least far on =
     let outside = at_most n (square (r +ℤ near_stop)) (rw same (square_le (unsigned_abs r) (unsigned_abs (r +ℤ near_stop)) (omega (arith, ints)))) in
     apart (rw (inside, outside) at far)
 
-off_target : (t : Target) (p : Pt) → IsTarget t → is_near t near_stop p ≡ false → side_of t p ≢ signs.Zero
+pub off_target : (t : Target) (p : Pt) → IsTarget t → is_near t near_stop p ≡ false → side_of t p ≢ signs.Zero
 off_target (targets.Line b d h) p is far = off_line (cross d (displacement b p)) h (length_squared d) far
 off_target (targets.Circ c r) p is far = off_circle r (length_squared (displacement c p)) is.least far
 

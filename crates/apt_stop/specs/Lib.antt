@@ -1,9 +1,11 @@
 pub mod Nearness
 pub mod Gaps
 pub mod Tangencies
+pub mod Touching
 pub mod Courses
 pub mod Choices
 pub mod Steps
 pub mod Ends
+pub mod Sides
 pub mod Ranges
 pub mod Legs

@@ -1,6 +1,6 @@
 //! Where courses stop.
 
-ghost use Rattle.std.specs.Prelude.{◌≡◌, ◌↔◌, Some, IfOk, IsErrOf};
+ghost use Rattle.std.specs.Prelude.{◌≡◌, ◌≢◌, ◌↔◌, Some, IfOk, IsErrOf};
 ghost use Rattle.apt_words.specs.Rows.{unless, first_of};
 ghost use Rattle.apt_plane.specs.Ranges.{IsPoint, IsSurface, IsSense};
 ghost use Rattle.apt_offset.specs.Ranges.{IsTarget};
@@ -11,6 +11,7 @@ ghost use Rattle.apt_stop.specs.Courses as spec;
 ghost use Rattle.apt_stop.specs.Choices as choices;
 ghost use Rattle.apt_stop.specs.Ends.{IsEndOn};
 ghost use Rattle.apt_stop.specs.Ranges.{IsCourse};
+ghost use Rattle.apt_stop.specs.Sides.{RunsOn};
 ghost use Rattle.apt_stop.specs.Steps as steps;
 ghost use Rattle.apt_stop.specs.Steps.{IsPlaced};
 ghost use Rattle.apt_stop.specs.Tangencies as tangencies;
@@ -188,7 +189,8 @@ pub fn stop_side(c: &Course) -> Sign
     requires track { IsTarget c.now.track }
     requires sense { IsSense c.now.sense }
     requires stop { IsTarget c.now.stop }
-    ensures { result ≡ spec.stop_side c.now }
+    ensures value { result ≡ spec.stop_side c.now }
+    ensures side { (s : Sign) → (result ≡ s) ↔ RunsOn c.now s }
 {
     side_from(c, far_side(&c.stop, c.start))
 }
@@ -199,7 +201,9 @@ pub fn kept_side(c: &Course) -> Sign
     requires track { IsTarget c.now.track }
     requires sense { IsSense c.now.sense }
     requires stop { IsTarget c.now.stop }
-    ensures { result ≡ spec.kept_side c.now }
+    ensures value { result ≡ spec.kept_side c.now }
+    ensures touches { c.now.how ≡ Stop.Tanto → result ≡ Sign.Zero }
+    ensures meets { c.now.how ≢ Stop.Tanto → (s : Sign) → (result ≡ s) ↔ RunsOn c.now s }
 {
     match c.how {
         Stop::Tanto => Sign::Zero,

@@ -1,9 +1,10 @@
 //! Whether two surfaces come near to touching.
 
-ghost use Rattle.std.specs.Prelude.{◌≡◌, ◌*◌, ◌^◌, ◌≤◌, pos, ◌-ℤ◌, ◌≤ℤ◌, unsigned_abs};
+ghost use Rattle.std.specs.Prelude.{◌≡◌, ◌↔◌, ◌*◌, ◌^◌, ◌≤◌, pos, ◌-ℤ◌, ◌≤ℤ◌, unsigned_abs, IsTrue};
 ghost use Rattle.apt_plane.specs.Ranges.{IsLine, IsCircle, IsSurface};
 ghost use Rattle.apt_offset.specs.Targets as targets;
 ghost use Rattle.apt_stop.specs.Gaps as spec;
+ghost use Rattle.apt_stop.specs.Touching.{AreTouching};
 
 use crate::nearness::{is_in_strip, square};
 use apt_offset::touch_outside;
@@ -17,7 +18,8 @@ const GAP: i64 = 2;
 pub fn is_touching(drive: &Surface, check: &Surface) -> bool
     requires drive { IsSurface drive.now }
     requires check { IsSurface check.now }
-    ensures { result ≡ spec.is_touching drive.now check.now }
+    ensures value { result ≡ spec.is_touching drive.now check.now }
+    ensures touching { IsTrue result ↔ AreTouching drive.now check.now }
 {
     match (drive, check) {
         (Surface::Line(_), Surface::Line(_)) => false,

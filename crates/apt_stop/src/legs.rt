@@ -11,6 +11,7 @@ ghost use Rattle.apt_stop.specs.Legs as legging;
 ghost use Rattle.apt_stop.specs.Legs.{next_leg};
 ghost use Rattle.apt_stop.specs.Nearness as near;
 ghost use Rattle.apt_stop.specs.Ranges.{IsCourse};
+ghost use Rattle.apt_stop.specs.Touching.{IsNotTangent};
 
 use crate::course::{Choice, Course};
 use crate::decisions::decide;
@@ -69,6 +70,7 @@ pub fn decide_legs(c: &Course, legs: Legs) -> Result<Ends, Case>
     requires { IsCourse c.now }
     ensures value { result ≡ unless (legging.leg_cases legs c.now) (legging.ends_of legs c.now) }
     ensures refused { (case : Case) → IsErrOf result case ↔ (first_of (legging.leg_cases legs c.now) ≡ Some case) }
+    ensures not_tangent { IsErrOf result Case.NotTangent ↔ IsNotTangent c.now }
     ensures full_turn { IsErrOf result Case.FullTurn ↔ legging.IsFullTurn legs c.now }
     ensures range { IfOk result legging.AreEnds }
     ensures ends { IfOk result (legging.LegsEnd c.now) }
