@@ -14,7 +14,8 @@ use Rattle.apt_stop.specs.declared.course.Course.{Course}
 use Rattle.apt_stop.specs.declared.legs.Ends.{Ends}
 use Rattle.apt_stop.specs.declared.legs.Legs.{Legs}
 use Rattle.apt_stop.specs.declared.legs.Legs.TheVariants as legs
-use Rattle.apt_stop.specs.Courses.{is_tanto, stop_cases, way_cases}
+use Rattle.apt_stop.specs.Courses.{is_tanto}
+use Rattle.apt_stop.specs.Choices.{stop_cases, way_cases}
 use Rattle.apt_stop.specs.Gaps.{is_touching}
 use Rattle.apt_stop.specs.Legs.{next_leg, ways_of, leg_cases, ends_of}
 use Rattle.apt_stop.specs.Ranges.{IsCourse}
