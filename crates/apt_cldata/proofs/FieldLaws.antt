@@ -21,8 +21,8 @@ use Rattle.apt_plane.specs.declared.figures.Circ.{Circ}
 use Rattle.apt_plane.specs.Ranges.{IsPoint, IsDir, IsCircle, IsSense}
 use Rattle.apt_cldata.specs.declared.fields.Misfit.TheVariants as misfits
 use Rattle.apt_words.specs.Sources.{IsCount, is_text_byte, IsText}
-use Rattle.apt_cldata.specs.Ranges.{IsFromTo, IsSpeed, greatest}
-use Rattle.apt_cldata.specs.Words.{side_word, stop_word, cool_word, units_word, turn_word}
+use Rattle.apt_records.specs.Ranges.{IsFromTo, IsSpeed, greatest}
+use Rattle.apt_records.specs.Words.{side_word, stop_word, cool_word, units_word, turn_word}
 use Rattle.apt_cldata.specs.Fields.{◌>>=◌, at_if, is_from_to, is_sized, from_to, count_at, coordinate, point_at, direction_part, is_nowhere, dir_at, is_within_edge, is_radius, circle_at, zero_at, is_text, text_byte, side_at, sense_at, stop_at, cool_at, units_at, turn_at}
 
 -- ---- chains

@@ -4,15 +4,16 @@ use Rattle.std.specs.Prelude.{codes}
 use Rattle.std.proofs.lemmas.Bool.Decides.{nat_tests}
 use Rattle.std.proofs.lemmas.List.{length-append, nil_from_length}
 use Rattle.apt_cldata.specs.declared.error.ClCause.TheVariants as causes
-use Rattle.apt_cldata.specs.declared.record.Record.{Record}
-use Rattle.apt_cldata.specs.declared.record.Record.TheVariants as records
-use Rattle.apt_cldata.specs.Ranges.{vertices_in, vertex_count, AreRecords}
-use Rattle.apt_cldata.specs.Words.{words_of}
+use Rattle.apt_records.specs.declared.record.Record.{Record}
+use Rattle.apt_records.specs.Ranges.{vertex_count, AreRecords}
+use Rattle.apt_records.specs.Words.{words_of}
 use Rattle.apt_cldata.specs.Fields.{◌>>=◌}
-use Rattle.apt_cldata.specs.Files.{record_bytes, records_bytes, head_of, file_of, first_file_of, IsFileOf, is_fini, HasFiniLast, AreShort, IsFile, StandApart}
+use Rattle.apt_cldata.specs.Files.{record_bytes, records_bytes, head_of, file_of, first_file_of, IsFileOf, StandApart}
+use Rattle.apt_records.specs.Lists.{is_fini, HasFiniLast, AreShort, IsFile}
 use Rattle.apt_cldata.specs.Reading.{fault, Piece, piece, first_of, last_of, records_from, head, head_in, counted, read_of}
 use Rattle.apt_cldata.proofs.FieldLaws.{bind_only, equal_test, pick, pick_both}
-use Rattle.apt_cldata.proofs.RecordLaws.{bind_again, triples_length}
+use Rattle.apt_cldata.proofs.RecordLaws.{bind_again}
+use Rattle.apt_records.proofs.Lengths.{vertices_long}
 use Rattle.apt_cldata.proofs.ByteLaws.{AreBytes}
 use Rattle.apt_cldata.proofs.HeadLaws.{HeadBy, second_head, first_head, head_in_only, behind_count}
 use Rattle.apt_cldata.proofs.PieceLaws.{framed_length, piece_again, piece_only, records_apart}
@@ -155,14 +156,6 @@ pub read_gives_file : (bytes : List ℕ) (rs : List Record) → ((i : ℕ) → g
 read_gives_file bytes rs small is = (read_only bytes rs (record { small = small }) is).1
 
 -- ---- how much a file holds
-
-pub vertices_long : (r : Record) → vertices_in r ≤ length (words_of r)
-vertices_long (records.Statement line step) = omega arith
-vertices_long (records.Note note) = omega arith
-vertices_long (records.Drive surface side sense) = omega arith
-vertices_long (records.Check surface how) = omega arith
-vertices_long (records.Point reach to) = omega arith
-vertices_long (records.Contour vertices) = omega (arith, triples_length vertices)
 
 records_long : (seq : ℕ) (rs : List Record) → vertex_count rs + length rs ≤ length (records_bytes seq rs)
 records_long seq [] = omega arith

@@ -1,23 +1,12 @@
 -- How many bytes a file has.
-use Rattle.std.proofs.Common.{◌≡◌, ℕ, ◌+◌, ◌*◌, pos, List, [], ◌∷◌, ◌++◌, length, refl, arith}
+use Rattle.std.proofs.Common.{◌≡◌, ℕ, ◌+◌, pos, List, [], ◌∷◌, length, refl, arith}
 use Rattle.std.proofs.lemmas.List.{length-append}
-use Rattle.apt_cldata.specs.declared.record.Record.{Record}
-use Rattle.apt_cldata.specs.Words.{words_of}
+use Rattle.apt_records.specs.declared.record.Record.{Record}
+use Rattle.apt_records.specs.Words.{words_of}
 use Rattle.apt_cldata.specs.Files.{head_of, record_bytes, records_bytes, file_of}
 use Rattle.apt_cldata.proofs.HeadLaws.{count_length}
 use Rattle.apt_cldata.proofs.PieceLaws.{framed_length}
-
--- the bytes of a record: four for its length, and eight for its number and for each of its words
-abbrev pub bytes_in : Record → ℕ
-bytes_in r = 12 + 8 * length (words_of r)
-
-abbrev pub bytes_of : List Record → ℕ
-bytes_of [] = 0
-bytes_of (r ∷ rs) = bytes_in r + bytes_of rs
-
-pub bytes_of-append : (xs ys : List Record) → bytes_of (xs ++ ys) ≡ bytes_of xs + bytes_of ys
-bytes_of-append [] ys = omega arith
-bytes_of-append (x ∷ xs) ys = omega (arith, bytes_of-append xs ys)
+use Rattle.apt_records.proofs.Lengths.{bytes_of}
 
 records_length : (seq : ℕ) (rs : List Record) → length (records_bytes seq rs) ≡ bytes_of rs
 records_length seq [] = refl

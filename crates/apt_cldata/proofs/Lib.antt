@@ -1,17 +1,14 @@
 pub mod Chains
 pub mod Triples
-pub mod Heights
 pub mod Surfaces
 pub mod Counts
 pub mod WordByWord
-pub mod Stands
 pub mod Heads
 pub mod Pieces
 pub mod VertexBytes
 pub mod HeadLaws
 pub mod Laws
 pub mod Left
-pub mod Conditions
 pub mod FieldLaws
 pub mod RecordLaws
 pub mod RecordOnly

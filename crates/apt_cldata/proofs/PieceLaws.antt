@@ -9,11 +9,12 @@ use Rattle.std.proofs.lemmas.Bool.Decides.{nat_tests}
 use Rattle.std.proofs.lemmas.List.{drop_at, drop-drop, length-drop, length-append}
 use Rattle.apt_cldata.specs.declared.error.ClCause.TheVariants as causes
 use Rattle.apt_cldata.specs.declared.fields.Misfit.{Misfit}
-use Rattle.apt_cldata.specs.declared.record.Record.{Record}
-use Rattle.apt_cldata.specs.Ranges.{IsRecord, AreRecords}
-use Rattle.apt_cldata.specs.Words.{words_of}
+use Rattle.apt_records.specs.declared.record.Record.{Record}
+use Rattle.apt_records.specs.Ranges.{IsRecord, AreRecords}
+use Rattle.apt_records.specs.Words.{words_of}
 use Rattle.apt_cldata.specs.Records.{record_of}
-use Rattle.apt_cldata.specs.Files.{most_bytes, length_bytes, word_bytes, framed, record_bytes, records_bytes, IsShort, AreShort, StandApart}
+use Rattle.apt_records.specs.Lists.{most_bytes, IsShort, AreShort}
+use Rattle.apt_cldata.specs.Files.{length_bytes, word_bytes, framed, record_bytes, records_bytes, StandApart}
 use Rattle.apt_cldata.specs.Reading.{fault, length_in, word_in, words_in, is_length, length_of, located, record_in, said_by, Piece, piece, first_of}
 use Rattle.apt_cldata.proofs.FieldLaws.{bind_only, equal_test, less_test, both_only, equal_only, equal_again, pick, pick_both}
 use Rattle.apt_cldata.proofs.RecordLaws.{bind_again, SaidBy, record_again}

@@ -12,19 +12,20 @@ use Rattle.apt_words.specs.declared.Turn.{Turn}
 use Rattle.apt_words.specs.declared.Turn.TheVariants as turns
 use Rattle.apt_words.specs.declared.Side.{Side}
 use Rattle.apt_words.specs.declared.Stop.{Stop}
-use Rattle.apt_cldata.specs.declared.record.Position.{Position}
-use Rattle.apt_cldata.specs.declared.record.Reach.{Reach}
-use Rattle.apt_cldata.specs.declared.record.Reach.TheVariants as reaches
-use Rattle.apt_cldata.specs.declared.record.Note.{Note}
-use Rattle.apt_cldata.specs.declared.record.Note.TheVariants as notes
-use Rattle.apt_cldata.specs.declared.record.Record.{Record}
-use Rattle.apt_cldata.specs.declared.record.Record.TheVariants as records
+use Rattle.apt_records.specs.declared.record.Position.{Position}
+use Rattle.apt_records.specs.declared.record.Reach.{Reach}
+use Rattle.apt_records.specs.declared.record.Reach.TheVariants as reaches
+use Rattle.apt_records.specs.declared.record.Note.{Note}
+use Rattle.apt_records.specs.declared.record.Note.TheVariants as notes
+use Rattle.apt_records.specs.declared.record.Record.{Record}
+use Rattle.apt_records.specs.declared.record.Record.TheVariants as records
 use Rattle.apt_words.specs.Sources.{IsCount, IsText}
-use Rattle.apt_cldata.specs.Ranges.{IsPosition, ArePositions, IsFromTo, IsSpeed, IsNote, IsRecord, greatest}
-use Rattle.apt_cldata.specs.Words.{position_words, side_word, stop_word, turn_word, cool_word, units_word, note_words, words_of}
+use Rattle.apt_records.specs.Ranges.{IsPosition, ArePositions, IsFromTo, IsSpeed, IsNote, IsRecord, greatest}
+use Rattle.apt_records.specs.Words.{position_words, side_word, stop_word, turn_word, cool_word, units_word, note_words, words_of}
 use Rattle.apt_cldata.specs.Fields.{◌>>=◌, from_to, count_at, coordinate, point_at, dir_at, circle_at, text_byte, side_at, sense_at, stop_at, cool_at, units_at, turn_at}
 use Rattle.apt_cldata.specs.Records.{statement_by, text_by, number_alone, spindl_at, line_by, surface_by, drive_on, drive_at, check_at, position_by, reached_by, positions_by, is_triples, contour_by, record_of}
 use Rattle.apt_cldata.proofs.FieldLaws.{from_to_again, count_again, coordinate_again, point_again, dir_again, circle_again, byte_again, text_first, side_again, sense_again, stop_again, cool_again, units_again, turn_again}
+use Rattle.apt_records.proofs.Lengths.{triples_length}
 
 pub bind_again : {A B E : Type 0} (r : Result A E) (f : A → Result B E) (a : A) (b : Result B E) → r ≡ Ok a → f a ≡ b → r >>= f ≡ b
 bind_again r f a b e g = ap (λ r. r >>= f) e ∙ g
@@ -56,10 +57,6 @@ positions_again i [] h = refl
 positions_again i (p ∷ ps) h =
     bind_again (position_by i p.xy.x p.xy.y p.z) _ p _ (position_again i p h.0)
     (bind_again (positions_by (i + 3) (flat_map position_words ps)) _ ps _ (positions_again (i + 3) ps h.1) refl)
-
-pub triples_length : (ps : List Position) → length (flat_map position_words ps) ≡ 3 * length ps
-triples_length [] = refl
-triples_length (p ∷ ps) = omega (arith, triples_length ps)
 
 is_triples_again : (ws : List ℤ) (k : ℕ) → length ws ≡ 3 * k → 1 ≤ k → is_triples ws ≡ true
 is_triples_again ws k e some = grind (arith, nat_tests)

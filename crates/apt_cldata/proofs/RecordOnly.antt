@@ -8,15 +8,15 @@ use Rattle.apt_plane.specs.declared.figures.Surface.TheVariants as surfaces
 use Rattle.apt_plane.specs.Ranges.{IsSurface}
 use Rattle.apt_words.specs.Sources.{IsText}
 use Rattle.apt_cldata.specs.declared.fields.Misfit.{Misfit}
-use Rattle.apt_cldata.specs.declared.record.Position.{Position}
-use Rattle.apt_cldata.specs.declared.record.Reach.{Reach}
-use Rattle.apt_cldata.specs.declared.record.Reach.TheVariants as reaches
-use Rattle.apt_cldata.specs.declared.record.Note.{Note}
-use Rattle.apt_cldata.specs.declared.record.Note.TheVariants as notes
-use Rattle.apt_cldata.specs.declared.record.Record.{Record}
-use Rattle.apt_cldata.specs.declared.record.Record.TheVariants as records
-use Rattle.apt_cldata.specs.Ranges.{IsPosition, ArePositions, IsFromTo, IsNote, IsRecord, greatest}
-use Rattle.apt_cldata.specs.Words.{position_words, surface_words, reach_word, note_words, words_of}
+use Rattle.apt_records.specs.declared.record.Position.{Position}
+use Rattle.apt_records.specs.declared.record.Reach.{Reach}
+use Rattle.apt_records.specs.declared.record.Reach.TheVariants as reaches
+use Rattle.apt_records.specs.declared.record.Note.{Note}
+use Rattle.apt_records.specs.declared.record.Note.TheVariants as notes
+use Rattle.apt_records.specs.declared.record.Record.{Record}
+use Rattle.apt_records.specs.declared.record.Record.TheVariants as records
+use Rattle.apt_records.specs.Ranges.{IsPosition, ArePositions, IsFromTo, IsNote, IsRecord, greatest}
+use Rattle.apt_records.specs.Words.{position_words, surface_words, reach_word, note_words, words_of}
 use Rattle.apt_cldata.specs.Fields.{◌>>=◌, from_to, count_at, coordinate, point_at, dir_at, circle_at, zero_at, text_byte, side_at, sense_at, stop_at, cool_at, units_at, turn_at}
 use Rattle.apt_cldata.specs.Records.{statement_by, text_by, partno_by, note_alone, number_alone, spindl_by, coolnt_by, units_by, line_by, circle_by, surface_by, drive_at, drive_by, check_at, check_by, position_by, reached_by, positions_by, is_triples, contour_by, record_of, command_by, setting_by, motion_by, surface_record_by, only_zero}
 use Rattle.apt_cldata.proofs.FieldLaws.{bind_only, equal_only, pick, from_to_only, count_only, coordinate_only, point_only, dir_only, circle_only, zero_only, byte_only, text_more, side_only, sense_only, stop_only, cool_only, units_only, turn_only}

@@ -3,7 +3,7 @@ use Rattle.std.proofs.Common.{◌≡◌, ℕ, ◌+◌, ◌-◌, ◌≤◌, ◌<�
 use Rattle.std.proofs.lemmas.List.{take_rest, length-drop}
 use Rattle.apt_cldata.specs.declared.fields.Misfit.{Misfit}
 use Rattle.apt_cldata.specs.declared.fields.Misfit.TheVariants as misfits
-use Rattle.apt_cldata.specs.declared.record.Position.{Position}
+use Rattle.apt_records.specs.declared.record.Position.{Position}
 use Rattle.apt_cldata.specs.Fields.{◌>>=◌}
 use Rattle.apt_cldata.specs.Reading.{number_of, numbers_of}
 use Rattle.apt_cldata.specs.Records.{position_by, positions_by}

@@ -3,10 +3,10 @@ use Rattle.std.proofs.Common.{◌≡◌, ◌∙◌, ◌+◌, ◌*◌, ℕ, ℤ, 
 use Rattle.std.specs.List.{flat_map}
 use Rattle.std.proofs.lemmas.Grind.{flat_map-append}
 use Rattle.std.proofs.lemmas.List.{append_assoc}
-use Rattle.apt_cldata.specs.declared.record.Position.{Position}
+use Rattle.apt_records.specs.declared.record.Position.{Position}
 use Rattle.apt_cldata.specs.Files.{length_bytes, word_bytes, position_bytes, framed}
-use Rattle.apt_cldata.specs.Words.{position_words}
-use Rattle.apt_cldata.proofs.RecordLaws.{triples_length}
+use Rattle.apt_records.specs.Words.{position_words}
+use Rattle.apt_records.proofs.Lengths.{triples_length}
 
 one_by_one : (ps : List Position) → flat_map position_bytes ps ≡ flat_map word_bytes (flat_map position_words ps)
 one_by_one [] = refl

@@ -17,15 +17,15 @@ use Rattle.apt_words.specs.declared.Side.{Side}
 use Rattle.apt_words.specs.declared.Side.TheVariants as sides
 use Rattle.apt_words.specs.declared.Stop.{Stop}
 use Rattle.apt_words.specs.declared.Stop.TheVariants as stops
-use Rattle.apt_cldata.specs.declared.record.Position.{Position}
-use Rattle.apt_cldata.specs.declared.record.Reach.{Reach}
-use Rattle.apt_cldata.specs.declared.record.Reach.TheVariants as reaches
-use Rattle.apt_cldata.specs.declared.record.Note.{Note}
-use Rattle.apt_cldata.specs.declared.record.Note.TheVariants as notes
-use Rattle.apt_cldata.specs.declared.record.Record.{Record}
-use Rattle.apt_cldata.specs.declared.record.Record.TheVariants as records
-use Rattle.apt_cldata.specs.Ranges.{ArePositions, IsSpeed, IsNote, IsRecord, greatest}
-use Rattle.apt_cldata.specs.Words.{position_words, surface_words, side_word, stop_word, turn_word, cool_word, units_word, reach_word, note_words, words_of}
+use Rattle.apt_records.specs.declared.record.Position.{Position}
+use Rattle.apt_records.specs.declared.record.Reach.{Reach}
+use Rattle.apt_records.specs.declared.record.Reach.TheVariants as reaches
+use Rattle.apt_records.specs.declared.record.Note.{Note}
+use Rattle.apt_records.specs.declared.record.Note.TheVariants as notes
+use Rattle.apt_records.specs.declared.record.Record.{Record}
+use Rattle.apt_records.specs.declared.record.Record.TheVariants as records
+use Rattle.apt_records.specs.Ranges.{ArePositions, IsSpeed, IsNote, IsRecord, greatest}
+use Rattle.apt_records.specs.Words.{position_words, surface_words, side_word, stop_word, turn_word, cool_word, units_word, reach_word, note_words, words_of}
 use Rattle.apt_words.specs.Sources.{IsText}
 use Rattle.apt_cldata.proofs.FieldLaws.{IsTextByte, text_first}
 use Rattle.apt_cldata.proofs.ByteLaws.{AllFit}

@@ -1,23 +1,14 @@
 -- A small file, and files with one fault, which the checker reads.
-use Rattle.std.specs.Prelude.{◌≡◌, ◌+◌, ℕ, ℤ, pos, negsuc, map, List, [], ◌∷◌, ◌++◌, Ok, Err, codes}
+use Rattle.std.specs.Prelude.{◌≡◌, ◌+◌, ℕ, List, [], ◌∷◌, ◌++◌, Ok, Err, codes}
 use Rattle.std.proofs.Common.{refl}
 use Rattle.apt_cldata.specs.declared.error.ClCause.TheVariants as causes
-use Rattle.apt_cldata.specs.declared.record.Note.TheVariants as notes
-use Rattle.apt_cldata.specs.declared.record.Record.{Record}
-use Rattle.apt_cldata.specs.declared.record.Record.TheVariants as records
+use Rattle.apt_records.specs.declared.record.Note.TheVariants as notes
+use Rattle.apt_records.specs.declared.record.Record.{Record}
+use Rattle.apt_records.specs.declared.record.Record.TheVariants as records
 use Rattle.apt_cldata.specs.Records.{record_of}
-use Rattle.apt_cldata.specs.Files.{count_bytes, length_bytes, word_bytes, most_bytes, file_of}
+use Rattle.apt_cldata.specs.Files.{count_bytes, length_bytes, word_bytes, file_of}
+use Rattle.apt_records.specs.Lists.{most_bytes}
 use Rattle.apt_cldata.specs.Reading.{fault, count_in, length_in, word_in, length_of, record_in, said_by, first_of, records_from, read_of}
-use Rattle.apt_plane.specs.declared.figures.Surface.{Surface}
-use Rattle.apt_plane.specs.declared.figures.Surface.TheVariants as surfaces
-use Rattle.apt_words.specs.declared.Cool.TheVariants as cools
-use Rattle.apt_words.specs.declared.Side.TheVariants as sides
-use Rattle.apt_words.specs.declared.Stop.TheVariants as stops
-use Rattle.apt_words.specs.declared.Turn.TheVariants as turns
-use Rattle.apt_words.specs.declared.Units.TheVariants as units
-use Rattle.apt_cldata.specs.declared.record.Position.{Position}
-use Rattle.apt_cldata.specs.declared.record.Reach.TheVariants as reaches
-use Rattle.apt_cldata.specs.Words.{note_words, words_of}
 
 abbrev sample : List Record
 sample = records.Statement 1 1 ∷ records.Note (notes.Partno (codes "A")) ∷ records.Note notes.Fini ∷ []
@@ -164,49 +155,3 @@ greatest_length = refl
 eight_bytes_more : length_of 16 (length_bytes (most_bytes + 8)) ≡ Err (fault 16 causes.Length)
 unfolding length_of length_in length_bytes
 eight_bytes_more = refl
-
--- ---- the words of each kind of record
-
-abbrev line : Surface
-line = surfaces.Line (record { base = record { x = pos 1; y = pos 2 }; dir = record { dx = pos 3; dy = pos 4 } })
-
-abbrev circle : Surface
-circle = surfaces.Circ (record { c = record { x = pos 5; y = pos 6 }; r = pos 100 })
-
-abbrev at : ℤ → ℤ → ℤ → Position
-at x y z = record { xy = record { x = x; y = y }; z = z }
-
-notes_in_words :
-    map note_words (notes.Partno (codes "AB") ∷ notes.Rapid ∷ notes.Stop ∷ notes.OptStop ∷ notes.End ∷ notes.Feed (pos 60) ∷ [])
-    ≡ (pos 2000 ∷ pos 1 ∷ pos 65 ∷ pos 66 ∷ []) ∷ (pos 2000 ∷ pos 2 ∷ []) ∷ (pos 2000 ∷ pos 3 ∷ []) ∷ (pos 2000 ∷ pos 4 ∷ []) ∷ (pos 2000 ∷ pos 5 ∷ [])
-    ∷ (pos 2000 ∷ pos 6 ∷ pos 60 ∷ []) ∷ []
-notes_in_words = refl
-
-tools_in_words :
-    map note_words (notes.Spindle turns.Cw (pos 70) ∷ notes.Spindle turns.Ccw (pos 70) ∷ notes.Spindle turns.Off (pos 0) ∷ notes.Coolant cools.Off ∷ notes.Coolant cools.Mist ∷ notes.Coolant cools.Flood ∷ notes.Tool (pos 9) ∷ [])
-    ≡ (pos 2000 ∷ pos 7 ∷ pos 70 ∷ pos 1 ∷ []) ∷ (pos 2000 ∷ pos 7 ∷ pos 70 ∷ pos 2 ∷ []) ∷ (pos 2000 ∷ pos 7 ∷ pos 0 ∷ pos 0 ∷ []) ∷ (pos 2000 ∷ pos 8 ∷ pos 0 ∷ [])
-    ∷ (pos 2000 ∷ pos 8 ∷ pos 1 ∷ []) ∷ (pos 2000 ∷ pos 8 ∷ pos 2 ∷ []) ∷ (pos 2000 ∷ pos 9 ∷ pos 9 ∷ []) ∷ []
-tools_in_words = refl
-
-settings_in_words :
-    map note_words (notes.Cutter (pos 5) ∷ notes.Intol (pos 6) ∷ notes.Outtol (pos 7) ∷ notes.Units units.Inch ∷ notes.Units units.Mm ∷ notes.Fini ∷ [])
-    ≡ (pos 6000 ∷ pos 1 ∷ pos 5 ∷ []) ∷ (pos 6000 ∷ pos 2 ∷ pos 6 ∷ []) ∷ (pos 6000 ∷ pos 3 ∷ pos 7 ∷ []) ∷ (pos 6000 ∷ pos 4 ∷ pos 1 ∷ []) ∷ (pos 6000 ∷ pos 4 ∷ pos 2 ∷ [])
-    ∷ (pos 14000 ∷ pos 0 ∷ []) ∷ []
-settings_in_words = refl
-
-surfaces_in_words :
-    map words_of (records.Statement 3 4 ∷ records.Drive line sides.Left (pos 1) ∷ records.Drive circle sides.Right (negsuc 0) ∷ records.Drive circle sides.On (pos 1) ∷ records.Check line stops.To ∷ records.Check line stops.On
-    ∷ records.Check circle stops.Past ∷ records.Check circle stops.Tanto ∷ [])
-    ≡ (pos 1000 ∷ pos 0 ∷ pos 3 ∷ pos 4 ∷ [])
-    ∷ (pos 3000 ∷ pos 1 ∷ pos 1 ∷ pos 1 ∷ pos 2 ∷ pos 3 ∷ pos 4 ∷ pos 1 ∷ pos 1 ∷ []) ∷ (pos 3000 ∷ pos 1 ∷ pos 2 ∷ pos 5 ∷ pos 6 ∷ pos 100 ∷ pos 0 ∷ pos 2 ∷ negsuc 0 ∷ [])
-    ∷ (pos 3000 ∷ pos 1 ∷ pos 2 ∷ pos 5 ∷ pos 6 ∷ pos 100 ∷ pos 0 ∷ pos 3 ∷ pos 1 ∷ [])
-    ∷ (pos 3000 ∷ pos 2 ∷ pos 1 ∷ pos 1 ∷ pos 2 ∷ pos 3 ∷ pos 4 ∷ pos 1 ∷ []) ∷ (pos 3000 ∷ pos 2 ∷ pos 1 ∷ pos 1 ∷ pos 2 ∷ pos 3 ∷ pos 4 ∷ pos 2 ∷ [])
-    ∷ (pos 3000 ∷ pos 2 ∷ pos 2 ∷ pos 5 ∷ pos 6 ∷ pos 100 ∷ pos 0 ∷ pos 3 ∷ []) ∷ (pos 3000 ∷ pos 2 ∷ pos 2 ∷ pos 5 ∷ pos 6 ∷ pos 100 ∷ pos 0 ∷ pos 4 ∷ []) ∷ []
-surfaces_in_words = refl
-
-points_in_words :
-    map words_of (records.Point reaches.From (at (pos 7) (pos 8) (pos 9)) ∷ records.Point reaches.Goto (at (pos 7) (pos 8) (pos 9)) ∷ records.Point reaches.Godlta (at (pos 7) (pos 8) (pos 9))
-    ∷ records.Point reaches.Start (at (pos 7) (pos 8) (pos 9)) ∷ records.Contour (at (pos 7) (pos 8) (pos 9) ∷ at (pos 1) (pos 2) (pos 9) ∷ []) ∷ [])
-    ≡ (pos 5000 ∷ pos 1 ∷ pos 7 ∷ pos 8 ∷ pos 9 ∷ []) ∷ (pos 5000 ∷ pos 2 ∷ pos 7 ∷ pos 8 ∷ pos 9 ∷ []) ∷ (pos 5000 ∷ pos 3 ∷ pos 7 ∷ pos 8 ∷ pos 9 ∷ [])
-    ∷ (pos 5000 ∷ pos 4 ∷ pos 7 ∷ pos 8 ∷ pos 9 ∷ []) ∷ (pos 5000 ∷ pos 5 ∷ pos 7 ∷ pos 8 ∷ pos 9 ∷ pos 1 ∷ pos 2 ∷ pos 9 ∷ []) ∷ []
-points_in_words = refl

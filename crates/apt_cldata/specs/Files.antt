@@ -1,11 +1,12 @@
 -- The bytes of a CL file: its head, and its records one behind the other.
-use Rattle.std.specs.Prelude.{◌≡◌, ◌⊎◌, ℕ, ◌+◌, ◌*◌, ◌^◌, ◌<◌, ◌≤◌, ℤ, pos, Bool, true, false, List, [], ◌∷◌, ◌++◌, length, drop, MatchBool, codes}
+use Rattle.std.specs.Prelude.{◌≡◌, ◌⊎◌, ℕ, ◌+◌, ◌*◌, ◌^◌, ◌<◌, ℤ, pos, List, [], ◌∷◌, ◌++◌, length, drop, codes}
 use Rattle.std.specs.List.{flat_map}
 use Rattle.std.specs.Int.{w32, w64, to_be_bytes, cast_unsigned}
-use Rattle.apt_cldata.specs.declared.record.Record.{Record}
-use Rattle.apt_cldata.specs.Ranges.{IsRecord, AreRecords, Mark, Begin, End, Fini, Other, mark_of}
-use Rattle.apt_cldata.specs.declared.record.Position.{Position}
-use Rattle.apt_cldata.specs.Words.{words_of, position_words}
+use Rattle.apt_records.specs.declared.record.Record.{Record}
+use Rattle.apt_records.specs.Ranges.{IsRecord}
+use Rattle.apt_records.specs.declared.record.Position.{Position}
+use Rattle.apt_records.specs.Words.{words_of, position_words}
+use Rattle.apt_records.specs.Lists.{IsShort}
 
 -- ---- words and bytes
 
@@ -25,10 +26,6 @@ framed ws = length_bytes (8 * length ws) ++ flat_map word_bytes ws
 abbrev pub position_bytes : Position → List ℕ
 position_bytes p = flat_map word_bytes (position_words p)
 
--- the most bytes that the words of a record have
-abbrev pub most_bytes : ℕ
-most_bytes = 67108864
-
 -- ---- records
 
 -- a record with its number: the number, the class, the subtype, and the words behind them
@@ -39,10 +36,6 @@ record_bytes seq r = framed (pos seq ∷ words_of r)
 abbrev pub records_bytes : ℕ → List Record → List ℕ
 records_bytes seq [] = []
 records_bytes seq (r ∷ rs) = record_bytes seq r ++ records_bytes (seq + 1) rs
-
--- the words of each record fit a length
-abbrev pub IsShort : Record → Type 0
-IsShort r = 8 * (1 + length (words_of r)) ≤ most_bytes
 
 -- bytes that begin with a record, and with no other
 pub record BeginsAlone (seq : ℕ) (r : Record) (bytes : List ℕ) : Type 0 where
@@ -76,28 +69,3 @@ first_file_of rs = codes "APTCL 1\n" ++ records_bytes 1 rs
 -- bytes that are the file of records in one of the versions
 abbrev pub IsFileOf : List Record → List ℕ → Type 0
 IsFileOf rs bytes = (bytes ≡ file_of rs) ⊎ (bytes ≡ first_file_of rs)
-
-abbrev pub is_fini_mark : Mark → Bool
-is_fini_mark Begin = false
-is_fini_mark End = false
-is_fini_mark Fini = true
-is_fini_mark Other = false
-
-abbrev pub is_fini : Record → Bool
-is_fini r = is_fini_mark (mark_of r)
-
--- the record of FINI stands last and nowhere else
-abbrev pub HasFiniLast : List Record → Type 0
-HasFiniLast [] = ⊥
-HasFiniLast (r ∷ rs) = MatchBool (is_fini r) (rs ≡ []) (HasFiniLast rs)
-
-abbrev pub AreShort : List Record → Type 0
-AreShort [] = Unit {0}
-AreShort (r ∷ rs) = IsShort r × AreShort rs
-
--- the records of a file; their numbers fit a word
-pub record IsFile (rs : List Record) : Type 0 where
-  pub ranges : AreRecords rs
-  pub last : HasFiniLast rs
-  pub short : AreShort rs
-  pub numbers : length rs < 2 ^ 63

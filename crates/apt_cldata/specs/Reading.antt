@@ -9,10 +9,10 @@ use Rattle.apt_cldata.specs.declared.error.ClError.TheVariants as errors
 use Rattle.apt_cldata.specs.declared.error.ClFault.{ClFault}
 use Rattle.apt_cldata.specs.declared.fields.Misfit.{Misfit}
 use Rattle.apt_cldata.specs.declared.fields.Misfit.TheVariants as misfits
-use Rattle.apt_cldata.specs.declared.record.Record.{Record}
+use Rattle.apt_records.specs.declared.record.Record.{Record}
 use Rattle.apt_cldata.specs.Fields.{◌>>=◌}
 use Rattle.apt_cldata.specs.Records.{record_of}
-use Rattle.apt_cldata.specs.Files.{most_bytes, is_fini}
+use Rattle.apt_records.specs.Lists.{most_bytes, is_fini}
 
 abbrev pub fault : ℕ → ClCause → ClFault
 fault at cause = record { at = at; cause = cause }

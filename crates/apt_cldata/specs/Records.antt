@@ -5,14 +5,14 @@ use Rattle.apt_plane.specs.declared.figures.Surface.{Surface}
 use Rattle.apt_plane.specs.declared.figures.Surface.TheVariants as surfaces
 use Rattle.apt_cldata.specs.declared.fields.Misfit.{Misfit}
 use Rattle.apt_cldata.specs.declared.fields.Misfit.TheVariants as misfits
-use Rattle.apt_cldata.specs.declared.record.Position.{Position}
-use Rattle.apt_cldata.specs.declared.record.Reach.{Reach}
-use Rattle.apt_cldata.specs.declared.record.Reach.TheVariants as reaches
-use Rattle.apt_cldata.specs.declared.record.Note.{Note}
-use Rattle.apt_cldata.specs.declared.record.Note.TheVariants as notes
-use Rattle.apt_cldata.specs.declared.record.Record.{Record}
-use Rattle.apt_cldata.specs.declared.record.Record.TheVariants as records
-use Rattle.apt_cldata.specs.Ranges.{greatest}
+use Rattle.apt_records.specs.declared.record.Position.{Position}
+use Rattle.apt_records.specs.declared.record.Reach.{Reach}
+use Rattle.apt_records.specs.declared.record.Reach.TheVariants as reaches
+use Rattle.apt_records.specs.declared.record.Note.{Note}
+use Rattle.apt_records.specs.declared.record.Note.TheVariants as notes
+use Rattle.apt_records.specs.declared.record.Record.{Record}
+use Rattle.apt_records.specs.declared.record.Record.TheVariants as records
+use Rattle.apt_records.specs.Ranges.{greatest}
 use Rattle.apt_cldata.specs.Fields.{◌>>=◌, from_to, count_at, coordinate, point_at, dir_at, circle_at, zero_at, side_at, sense_at, stop_at, cool_at, units_at, turn_at, text_byte}
 
 -- ---- class 1000

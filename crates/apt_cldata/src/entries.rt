@@ -8,8 +8,8 @@ use crate::fields::{
     GREATEST, Misfit, circle_at, cool_at, coordinate, count_at, dir_at, from_to, point_at,
     sense_at, side_at, stop_at, text_byte, turn_at, units_at, zero_at,
 };
-use crate::{Note, Position, Reach, Record, Vertices};
 use apt_plane::{Line, Surface};
+use apt_records::{Note, Position, Reach, Record, Vertices};
 use apt_words::Text;
 use std::alloc::{AllocError, Global};
 

@@ -1,4 +1,4 @@
-//! The records of a CL file, as what they say, and their bytes.
+//! The bytes of a CL file: how they are made of records, and how records are read from them.
 #![tactic(auto)]
 
 mod bytes;
@@ -6,13 +6,9 @@ mod entries;
 mod error;
 mod fields;
 mod reading;
-mod record;
-mod vertices;
 mod words;
 mod writing;
 
 pub use error::{ClCause, ClError};
 pub use reading::{Head, first_record, read_head};
-pub use record::{Note, Position, Reach, Record};
-pub use vertices::{VertexSlice, Vertices};
 pub use writing::{ClBytes, write};

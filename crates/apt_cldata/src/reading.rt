@@ -8,7 +8,8 @@ use crate::bytes::{length_in, word_in};
 use crate::entries::record_of;
 use crate::error::ClFault;
 use crate::fields::Misfit;
-use crate::{ClCause, ClError, Record};
+use crate::{ClCause, ClError};
+use apt_records::Record;
 use std::alloc::{AllocError, Global};
 
 /// How a file begins, in version 2. The number of its records stands behind it.

@@ -1,19 +1,20 @@
 //! The bytes of a record: its words behind their length.
 ghost use Rattle.std.specs.Prelude.{◌≡◌, pos, [], ◌∷◌, ◌++◌, ◌+◌, ◌-◌, ◌*◌, ◌^◌, ◌<◌, ◌≤◌, length, map, vec_len, vec_capacity, OnOk};
 ghost use Rattle.std.specs.List.{flat_map};
-ghost use Rattle.apt_cldata.specs.Files.{IsShort};
+ghost use Rattle.apt_records.specs.Lists.{IsShort};
 ghost use Rattle.apt_cldata.specs.Files as files;
-ghost use Rattle.apt_cldata.specs.Words as spec;
-ghost use Rattle.apt_cldata.specs.Vertices.{at_height};
+ghost use Rattle.apt_records.specs.Lists as lists;
+ghost use Rattle.apt_records.specs.Words as spec;
+ghost use Rattle.apt_records.specs.Vertices.{at_height};
 
 use crate::bytes::{push_length, push_word};
-use crate::{Note, Position, Reach, Record, VertexSlice};
 use apt_plane::{Pt, Surface};
+use apt_records::{Note, Position, Reach, Record, VertexSlice};
 use apt_words::{Cool, Side, Stop, Turn, Units};
 use std::alloc::AllocError;
 
 /// Appends a record with its number; after a refusal a part of it may stand there.
-#[tactic(auto, using(crate::proofs::RecordLaws::triples_length))]
+#[tactic(auto, using(apt_records::proofs::Lengths::triples_length))]
 pub(crate) fn push_record(bytes: &mut Vec<u8>, seq: u64, said: &Record) -> Result<(), AllocError>
     requires short { IsShort said.now }
     requires number { seq < 2 ^ 63 }
@@ -69,7 +70,7 @@ fn push_rows(bytes: &mut Vec<u8>, rows: &[[u8; 8]]) -> Result<(), AllocError>
 }
 
 fn push_note(bytes: &mut Vec<u8>, seq: i64, note: &Note) -> Result<(), AllocError>
-    requires short { 8 * (1 + length (spec.note_words note.now)) ≤ files.most_bytes }
+    requires short { 8 * (1 + length (spec.note_words note.now)) ≤ lists.most_bytes }
     ensures { OnOk result (bytes.new.items ≡ bytes.old.items ++ files.framed (seq ∷ spec.note_words note.now)) }
 {
     match note {
@@ -130,13 +131,14 @@ fn push_contour(bytes: &mut Vec<u8>, seq: i64, vertices: &VertexSlice<'_>) -> Re
     requires short { 8 * (3 + 3 * length vertices.now) < 2 ^ 32 }
     ensures { OnOk result (bytes.new.items ≡ bytes.old.items ++ files.framed (seq ∷ pos 5000 ∷ pos 5 ∷ flat_map spec.position_words vertices.now)) }
 {
-    if let ([], [vertex]) = (vertices.level, vertices.apart) {
+    let (z, level, apart) = vertices.parts();
+    if let ([], [vertex]) = (level, apart) {
         let [x, y, z] = position_rows(*vertex);
         return push_rows(bytes, &[row(seq), row(5000), row(5), x, y, z]);
     }
     push_front(bytes, 3 + 3 * vertices.len(), &[seq, 5000, 5])?;
-    push_level(bytes, vertices.z, vertices.level);
-    push_apart(bytes, vertices.apart);
+    push_level(bytes, z, level);
+    push_apart(bytes, apart);
     Ok(())
 }
 

@@ -1,13 +1,14 @@
 //! Writing a CL file.
 ghost use Rattle.std.specs.Prelude.{◌≡◌, ◌≢◌, ◌^◌, ◌<◌, ◌≤◌, ◌++◌, [], Ok, ◌+◌, MatchBool, length, vec_len, drop, IfOk, OnOk, OnErr};
-ghost use Rattle.apt_cldata.specs.Files.{AreShort, IsFile, StandApart, file_of};
+ghost use Rattle.apt_records.specs.Lists.{AreShort, IsFile};
+ghost use Rattle.apt_cldata.specs.Files.{StandApart, file_of};
 ghost use Rattle.apt_cldata.specs.Files as spec;
 ghost use Rattle.apt_cldata.specs.Reading.{read_of};
 ghost use Rattle.apt_cldata.specs.Shortness.{short_prop};
 
-use crate::Record;
 use crate::reading::HEAD;
 use crate::words::push_record;
+use apt_records::Record;
 use std::alloc::{AllocError, Global};
 use std::marker::Model;
 

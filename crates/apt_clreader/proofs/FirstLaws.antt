@@ -9,13 +9,13 @@ use Rattle.apt_cldata.specs.declared.error.ClCause.{ClCause}
 use Rattle.apt_cldata.specs.declared.error.ClCause.TheVariants as causes
 use Rattle.apt_cldata.specs.declared.error.ClError.{ClError}
 use Rattle.apt_cldata.specs.declared.error.ClError.TheVariants as errors
-use Rattle.apt_cldata.specs.declared.record.Record.{Record}
+use Rattle.apt_records.specs.declared.record.Record.{Record}
 use Rattle.apt_cldata.specs.Fields.{◌>>=◌}
-use Rattle.apt_cldata.specs.Words.{words_of}
+use Rattle.apt_records.specs.Words.{words_of}
 use Rattle.apt_cldata.specs.Records.{record_of}
 use Rattle.apt_cldata.specs.Files.{record_bytes}
 use Rattle.apt_cldata.specs.Reading.{fault, fault_in, cut_short, length_in, word_in, words_in, is_length, length_of, located, record_in, said_by, Piece, piece, first_of}
-use Rattle.apt_cldata.proofs.Laws.{vertices_long}
+use Rattle.apt_records.proofs.Lengths.{vertices_long}
 use Rattle.apt_cldata.proofs.PieceLaws.{IsPiece, piece_only, framed_length}
 use Rattle.apt_clreader.specs.Begun.{Fault, is_truncation, is_truncated, place_of, tells_end, place_in}
 use Rattle.apt_clreader.specs.Steps.{IsFirst, IsNext}

@@ -9,7 +9,7 @@ use Rattle.apt_words.specs.Answers.{IsFault}
 use Rattle.apt_cldata.specs.declared.error.ClCause.TheVariants as causes
 use Rattle.apt_cldata.specs.declared.error.ClError.{ClError}
 use Rattle.apt_cldata.specs.declared.error.ClError.TheVariants as errors
-use Rattle.apt_cldata.specs.declared.record.Record.{Record}
+use Rattle.apt_records.specs.declared.record.Record.{Record}
 use Rattle.apt_cldata.specs.Fields.{◌>>=◌}
 use Rattle.apt_cldata.specs.Reading.{fault, fault_in, first_of, records_from, behind_head, Head, head, count_in, numbered, versioned, head_in, counted, read_of}
 use Rattle.apt_clreader.specs.declared.state.Part.{Part}

@@ -5,10 +5,10 @@ use Rattle.apt_words.specs.Answers.{IsFault}
 use Rattle.apt_cldata.specs.declared.error.ClCause.TheVariants as causes
 use Rattle.apt_cldata.specs.declared.error.ClError.{ClError}
 use Rattle.apt_cldata.specs.declared.error.ClError.TheVariants as errors
-use Rattle.apt_cldata.specs.declared.record.Record.{Record}
-use Rattle.apt_cldata.specs.Ranges.{IsRecord, AreRecords, vertices_in, vertex_count}
+use Rattle.apt_records.specs.declared.record.Record.{Record}
+use Rattle.apt_records.specs.Ranges.{IsRecord, AreRecords, vertices_in, vertex_count}
 use Rattle.apt_cldata.specs.Fields.{◌>>=◌}
-use Rattle.apt_cldata.specs.Files.{is_fini}
+use Rattle.apt_records.specs.Lists.{is_fini}
 use Rattle.apt_cldata.specs.Reading.{fault, fault_in, Piece, piece, first_of, last_of, records_from, counted}
 use Rattle.apt_clreader.specs.declared.state.Part.{Part}
 use Rattle.apt_clreader.specs.declared.state.Part.TheVariants as parts

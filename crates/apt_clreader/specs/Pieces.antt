@@ -3,7 +3,7 @@ use Rattle.std.specs.Prelude.{◌≡◌, ℕ, suc, ◌+◌, ◌==◌, Option, Li
 use Rattle.apt_words.specs.Answers.{IsFault}
 use Rattle.apt_cldata.specs.declared.error.ClCause.TheVariants as causes
 use Rattle.apt_cldata.specs.declared.error.ClError.{ClError}
-use Rattle.apt_cldata.specs.declared.record.Record.{Record}
+use Rattle.apt_records.specs.declared.record.Record.{Record}
 use Rattle.apt_cldata.specs.Fields.{◌>>=◌}
 use Rattle.apt_cldata.specs.Reading.{fault, fault_in, records_from, counted, read_of}
 use Rattle.apt_clreader.specs.declared.state.Part.{Part}

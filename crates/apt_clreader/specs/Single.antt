@@ -8,12 +8,12 @@ use Rattle.apt_words.specs.declared.Turn.{Turn}
 use Rattle.apt_plane.specs.declared.figures.Surface.{Surface}
 use Rattle.apt_plane.specs.declared.figures.Surface.TheVariants as surfaces
 use Rattle.apt_plane.specs.Ranges.{IsSense, IsSurface}
-use Rattle.apt_cldata.specs.declared.record.Position.{Position}
-use Rattle.apt_cldata.specs.declared.record.Note.{Note}
-use Rattle.apt_cldata.specs.declared.record.Note.TheVariants as notes
-use Rattle.apt_cldata.specs.declared.record.Record.{Record}
-use Rattle.apt_cldata.specs.declared.record.Record.TheVariants as records
-use Rattle.apt_cldata.specs.Ranges.{IsSpeed, IsNote, ArePositions, IsRecord, AreRecords}
+use Rattle.apt_records.specs.declared.record.Position.{Position}
+use Rattle.apt_records.specs.declared.record.Note.{Note}
+use Rattle.apt_records.specs.declared.record.Note.TheVariants as notes
+use Rattle.apt_records.specs.declared.record.Record.{Record}
+use Rattle.apt_records.specs.declared.record.Record.TheVariants as records
+use Rattle.apt_records.specs.Ranges.{IsSpeed, IsNote, ArePositions, IsRecord, AreRecords}
 use Rattle.apt_clreader.specs.Begun.{IsBegun}
 use Rattle.apt_clreader.specs.declared.state.Part.{Part}
 use Rattle.apt_clreader.specs.declared.state.Part.TheVariants as parts

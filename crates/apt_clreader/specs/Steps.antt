@@ -2,8 +2,8 @@
 use Rattle.std.specs.Prelude.{◌≡◌, ℕ, ◌+◌, ◌*◌, ◌≤◌, Bool, true, false, Option, List, ◌++◌, length, drop, Result, Ok, Err, MatchBool}
 use Rattle.apt_words.specs.Answers.{IsFault}
 use Rattle.apt_cldata.specs.declared.error.ClError.{ClError}
-use Rattle.apt_cldata.specs.declared.record.Record.{Record}
-use Rattle.apt_cldata.specs.Ranges.{IsRecord, vertices_in}
+use Rattle.apt_records.specs.declared.record.Record.{Record}
+use Rattle.apt_records.specs.Ranges.{IsRecord, vertices_in}
 use Rattle.apt_cldata.specs.Reading.{fault_in, piece, first_of}
 use Rattle.apt_clreader.specs.declared.state.Part.{Part}
 use Rattle.apt_clreader.specs.declared.state.Part.TheVariants as parts

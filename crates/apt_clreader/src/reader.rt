@@ -2,9 +2,10 @@
 
 ghost use Rattle.std.specs.Prelude.{◌≡◌, ◌+◌, ◌*◌, ◌^◌, ◌<◌, ◌≤◌, ◌++◌, [], ℕ, List, None, drop, length, Ok, Err, IfOk, OnOk};
 ghost use Rattle.apt_words.specs.Answers.{IsDueAs};
-ghost use Rattle.apt_cldata.specs.Ranges.{AreRecords, vertex_count};
-ghost use Rattle.apt_cldata.specs.Files.{IsFile, IsFileOf};
-ghost use Rattle.apt_cldata.specs.Files as files;
+ghost use Rattle.apt_records.specs.Ranges.{AreRecords, vertex_count};
+ghost use Rattle.apt_records.specs.Lists.{IsFile};
+ghost use Rattle.apt_cldata.specs.Files.{IsFileOf};
+ghost use Rattle.apt_records.specs.Lists as lists;
 ghost use Rattle.apt_cldata.specs.Reading.{counted, read_of, fault_in};
 ghost use Rattle.apt_clreader.specs.declared.state.Part.TheVariants as parts;
 ghost use Rattle.apt_clreader.specs.Begun as begun;
@@ -12,7 +13,8 @@ ghost use Rattle.apt_clreader.specs.Pieces.{StandsFor, HasRead, count_of};
 ghost use Rattle.apt_clreader.specs.Steps.{IsNext, GoesOn, Takes, IsLeft};
 
 use crate::state::{ClReader, Part, Taken};
-use apt_cldata::{ClCause, ClError, Note, Record, first_record, read_head};
+use apt_cldata::{ClCause, ClError, first_record, read_head};
+use apt_records::{Note, Record};
 use std::alloc::{AllocError, Global};
 
 /// How a file of version 2 begins.
@@ -308,7 +310,7 @@ fn place_in(error: &ClError) -> u64
 }
 
 fn is_fini(record: &Record) -> bool
-    ensures { result ≡ files.is_fini «record».now }
+    ensures { result ≡ lists.is_fini «record».now }
 {
     matches!(record, Record::Note(Note::Fini))
 }

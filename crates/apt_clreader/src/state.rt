@@ -1,11 +1,11 @@
 //! What a reader holds.
 
 ghost use Rattle.std.specs.Prelude.{◌+◌, ◌*◌, ◌^◌, ◌<◌, ◌≤◌, length};
-ghost use Rattle.apt_cldata.specs.Ranges.{AreRecords, vertex_count};
+ghost use Rattle.apt_records.specs.Ranges.{AreRecords, vertex_count};
 ghost use Rattle.apt_clreader.specs.Begun.{IsBegun};
 ghost use Rattle.apt_clreader.specs.Single.{begun_single, records_single};
 
-use apt_cldata::Record;
+use apt_records::Record;
 use std::alloc::Global;
 
 /// What of a file comes next.

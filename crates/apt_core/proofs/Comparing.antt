@@ -1,8 +1,8 @@
 -- The acts of a tape beside a plan, piece by piece.
 use Rattle.std.proofs.Common.{◌≡◌, ◌<◌, ◌≤◌, ◌+◌, ◌^◌, ℕ, zero, suc, List, [], ◌∷◌, ◌++◌, Option, Some, None, Err, is_some, true, length, take, drop, get_or, sym, ap, ◌∙◌, refl, subst, arith, append_assoc}
 use Rattle.std.proofs.lemmas.List.{take-append-drop, length-append, length-take-le, append-nil}
-use Rattle.apt_cldata.specs.declared.record.Record.{Record}
-use Rattle.apt_cldata.specs.Ranges.{vertex_count}
+use Rattle.apt_records.specs.declared.record.Record.{Record}
+use Rattle.apt_records.specs.Ranges.{vertex_count}
 use Rattle.apt_tapecode.specs.declared.Code.{Code}
 use Rattle.apt_control.specs.declared.Act.{Act}
 use Rattle.apt_control.specs.declared.error.ControlError.{ControlError}

@@ -1,6 +1,6 @@
 -- From the parts of the work to what `list` says.
 use Rattle.std.proofs.Common.{◌≡◌, inl, inr, ℕ, List, [], ◌∷◌, Ok, ap, sym, ◌∙◌, refl}
-use Rattle.apt_cldata.specs.declared.record.Record.{Record}
+use Rattle.apt_records.specs.declared.record.Record.{Record}
 use Rattle.apt_cldata.specs.Reading.{read_of}
 use Rattle.apt_report.specs.declared.status.Status.{Status}
 use Rattle.apt_core.specs.Due.{ComesToNone, records_due}

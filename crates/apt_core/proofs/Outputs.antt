@@ -1,9 +1,9 @@
 -- The files of a part are right for it.
 use Rattle.std.proofs.Common.{◌≡◌, ◌+◌, ◌≤◌, ℕ, List, length, Ok, ap, ◌∙◌, refl, subst, arith}
 use Rattle.apt_words.specs.Chains.{◌>>=◌}
-use Rattle.apt_cldata.specs.declared.record.Record.{Record}
+use Rattle.apt_records.specs.declared.record.Record.{Record}
 use Rattle.apt_cldata.specs.Files.{file_of}
-use Rattle.apt_cldata.specs.Ranges.{vertex_count}
+use Rattle.apt_records.specs.Ranges.{vertex_count}
 use Rattle.apt_cldata.proofs.Laws.{file_again, file_long}
 use Rattle.apt_machine.specs.declared.machine.Machine.{Machine}
 use Rattle.apt_machine.specs.Tables.{table_of}

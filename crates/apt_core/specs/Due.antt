@@ -7,7 +7,7 @@ use Rattle.apt_words.specs.declared.deed.Step.{Step}
 use Rattle.apt_parse.specs.Programs.{TextFault}
 use Rattle.apt_cldata.specs.declared.error.ClError.{ClError}
 use Rattle.apt_cldata.specs.declared.error.ClError.TheVariants as cl_errors
-use Rattle.apt_cldata.specs.declared.record.Record.{Record}
+use Rattle.apt_records.specs.declared.record.Record.{Record}
 use Rattle.apt_cldata.specs.Reading.{read_of}
 use Rattle.apt_tapecode.specs.declared.Code.{Code}
 use Rattle.apt_block.specs.declared.block.BlockFault.{BlockFault}

@@ -1,7 +1,7 @@
 -- What a CL file is listed to.
 use Rattle.std.specs.Prelude.{ℕ, List, Result, Ok}
 use Rattle.apt_words.specs.Chains.{◌>>=◌}
-use Rattle.apt_cldata.specs.declared.record.Record.{Record}
+use Rattle.apt_records.specs.declared.record.Record.{Record}
 use Rattle.apt_report.specs.declared.status.Status.{Status}
 use Rattle.apt_report.specs.declared.status.Status.TheVariants as answers
 use Rattle.apt_report.specs.declared.status.Summary.TheVariants as summaries

@@ -23,7 +23,7 @@ use Rattle.apt_core.specs.Decoding.{Said, lined, said_of, said_due}
 use Rattle.apt_core.specs.Listing.{listed_due}
 use Rattle.apt_core.specs.Demo.{IsDemo}
 use Rattle.apt_report.specs.Listing.{point_count}
-use Rattle.apt_cldata.specs.declared.record.Record.{Record}
+use Rattle.apt_records.specs.declared.record.Record.{Record}
 use Rattle.apt_cldata.specs.Reading.{read_of}
 
 -- ---- what stands outside

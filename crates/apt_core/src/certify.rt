@@ -1,7 +1,7 @@
 //! The command `certify`.
 
 ghost use Rattle.std.specs.Prelude.{◌≡◌, ◌+◌, ◌<◌, ◌^◌, ℕ, List, length, None, Result, Ok, IfOk, IfErr};
-ghost use Rattle.apt_cldata.specs.Ranges.{AreRecords, vertex_count};
+ghost use Rattle.apt_records.specs.Ranges.{AreRecords, vertex_count};
 ghost use Rattle.apt_cldata.specs.Reading.{read_of};
 ghost use Rattle.apt_meaning.specs.Situations.{first_situation};
 ghost use Rattle.apt_meaning.specs.Compiled.{first_refused};
@@ -30,10 +30,10 @@ use crate::due::{machine_of, steps_on, tape_answer};
 use crate::reading::{MACHINE_LIMIT, PART_LIMIT, read_input, records_input, run_input};
 use crate::words::Names;
 use apt_certify::{Gate, check_jobs_split};
-use apt_cldata::Record;
 use apt_control::ControlError;
 use apt_job::{JobError, jobs};
 use apt_machine::Machine;
+use apt_records::Record;
 use apt_report::{Miss, Status, Summary, Verdict};
 use apt_shelf::Shelf;
 use apt_tapecode::Code;

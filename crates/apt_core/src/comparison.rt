@@ -1,14 +1,14 @@
 //! The acts of a tape beside a plan, while the tape is read.
 
 ghost use Rattle.std.specs.Prelude.{◌≡◌, ◌↔◌, ◌+◌, ◌<◌, ◌≤◌, ◌^◌, ◌++◌, false, IsTrue, List, [], ◌∷◌, length, None};
-ghost use Rattle.apt_cldata.specs.Ranges.{vertex_count};
+ghost use Rattle.apt_records.specs.Ranges.{vertex_count};
 ghost use Rattle.apt_control.specs.declared.Act.{Act};
 ghost use Rattle.apt_core.specs.Certificates.{HeadsDiffer};
 
 use crate::taker::Taker;
-use apt_cldata::Record;
 use apt_control::Act;
 use apt_post::Plan;
+use apt_records::Record;
 use std::alloc::AllocError;
 
 /// The acts so far beside the plan of records: what is left of the plan behind them, and the number of the next act, from

@@ -1,8 +1,8 @@
 //! The command `compile`.
 
 ghost use Rattle.std.specs.Prelude.{◌≢◌, ◌≤◌, ◌+◌, length, IfOk, IfErr};
-ghost use Rattle.apt_cldata.specs.Files.{IsFile};
-ghost use Rattle.apt_cldata.specs.Ranges.{vertex_count};
+ghost use Rattle.apt_records.specs.Lists.{IsFile};
+ghost use Rattle.apt_records.specs.Ranges.{vertex_count};
 ghost use Rattle.apt_post.specs.Plan.{plan};
 ghost use Rattle.apt_post.specs.Blocks.{IsProgram};
 ghost use Rattle.apt_core.specs.Due.{answer_of, ComesToNone};

@@ -4,16 +4,17 @@ ghost use Rattle.std.specs.Prelude.{◌≡◌, ◌+◌, ◌≤◌, length, IfOk,
 ghost use Rattle.std.specs.FinMap.{insert};
 ghost use Rattle.apt_shelf.specs.Files.{WritesPrefix};
 ghost use Rattle.apt_shelf.specs.Told.{Rose, Steps};
-ghost use Rattle.apt_cldata.specs.Files.{IsFile};
-ghost use Rattle.apt_cldata.specs.Ranges.{vertex_count};
+ghost use Rattle.apt_records.specs.Lists.{IsFile};
+ghost use Rattle.apt_records.specs.Ranges.{vertex_count};
 ghost use Rattle.apt_post.specs.Blocks.{IsProgram};
 ghost use Rattle.apt_post.specs.Plan.{plan};
 ghost use Rattle.apt_core.specs.Delivery.{with_output, WritesFront};
 ghost use Rattle.apt_core.specs.Outputs.{output_of};
 
-use apt_cldata::{ClBytes, Record};
+use apt_cldata::ClBytes;
 use apt_machine::Machine;
 use apt_post::{Counts, Piece, TapeBytes, counts};
+use apt_records::Record;
 use apt_report::Summary;
 use apt_shelf::{Pieces, Shelf, ShelfFault};
 use std::alloc::Global;

@@ -2,7 +2,7 @@
 
 ghost use Rattle.std.specs.Prelude.{◌≡◌, ◌+◌, ◌<◌, ◌≤◌, ◌^◌, ◌++◌, ℕ, List, length, IfOk};
 ghost use Rattle.apt_words.specs.Answers.{IsDueAs};
-ghost use Rattle.apt_cldata.specs.Ranges.{AreRecords, vertex_count};
+ghost use Rattle.apt_records.specs.Ranges.{AreRecords, vertex_count};
 ghost use Rattle.apt_cldata.specs.Reading as cldata;
 ghost use Rattle.apt_clreader.specs.Pieces.{HasRead, count_of};
 ghost use Rattle.apt_tapecode.specs.declared.Code.{Code};
@@ -11,9 +11,10 @@ ghost use Rattle.apt_core.specs.Intakes.{count_in};
 ghost use Rattle.apt_core.specs.TapeRuns.{HasRun, IsTaken};
 
 use crate::taker::Taker;
-use apt_cldata::{ClError, Record};
+use apt_cldata::ClError;
 use apt_clreader::ClReader;
 use apt_control::{ControlError, TapeReader};
+use apt_records::Record;
 
 pub(crate) trait Intake: Drop {
     /// From what was there before the first byte, it has taken in these bytes.

@@ -10,7 +10,7 @@ ghost use Rattle.apt_core.specs.Promise.{Lists};
 
 use crate::put::Reply;
 use crate::reading::records_input;
-use apt_cldata::Record;
+use apt_records::Record;
 use apt_report::{PointLines, Status, Summary, listing};
 use apt_shelf::Shelf;
 use std::alloc::Global;

@@ -16,7 +16,7 @@ use Rattle.apt_certify.specs.declared.verdict.Verdict.{Verdict}
 use Rattle.apt_certify.specs.Legal.{EveryPointFrom}
 use Rattle.apt_certify.specs.Deviations.{IsAtMostPast, AreWithin, inwards, outwards}
 use Rattle.apt_certify.specs.Verdicts.{IsVerdict}
-use Rattle.apt_cldata.specs.declared.record.Record.{Record}
+use Rattle.apt_records.specs.declared.record.Record.{Record}
 use Rattle.apt_meaning.specs.Motions.{drive_side}
 use Rattle.apt_meaning.specs.Paths.{Contour, EveryContour, contours_of}
 use Rattle.apt_job.specs.declared.error.JobError.{JobError}

@@ -12,8 +12,8 @@ use Rattle.apt_scalar.specs.StepScalars.{AreScalars}
 use Rattle.apt_plane.specs.declared.figures.Pt.{Pt}
 use Rattle.apt_certify.specs.declared.leg.Job.{Job}
 use Rattle.apt_certify.specs.Jobs.{AreJobs, point_count}
-use Rattle.apt_cldata.specs.declared.record.Record.{Record}
-use Rattle.apt_cldata.specs.Ranges.{vertex_count, AreRecords}
+use Rattle.apt_records.specs.declared.record.Record.{Record}
+use Rattle.apt_records.specs.Ranges.{vertex_count, AreRecords}
 use Rattle.apt_defs.specs.Figures.{Table}
 use Rattle.apt_defs.specs.Definitions.{figure_of, HasOrNone, IsRefusedBy}
 use Rattle.apt_meaning.specs.declared.situation.Settings.{Settings}
@@ -22,7 +22,7 @@ use Rattle.apt_meaning.specs.declared.effect.Change.TheVariants as changes
 use Rattle.apt_meaning.specs.declared.effect.Effect.{Effect}
 use Rattle.apt_meaning.specs.declared.effect.Effect.TheVariants as effects
 use Rattle.apt_meaning.specs.Situations.{first_situation}
-use Rattle.apt_cldata.specs.Vertices.{at_height}
+use Rattle.apt_records.specs.Vertices.{at_height}
 use Rattle.apt_meaning.specs.Effects.{effect_of}
 use Rattle.apt_meaning.specs.Refusals.{refusal_of}
 use Rattle.apt_meaning.specs.Compiled.{ends_of, first_refused}

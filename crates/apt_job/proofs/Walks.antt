@@ -5,7 +5,7 @@ use Rattle.apt_words.specs.declared.deed.Step.{Step}
 use Rattle.apt_plane.specs.declared.figures.Pt.{Pt}
 use Rattle.apt_certify.specs.declared.leg.Job.{Job}
 use Rattle.apt_certify.specs.Jobs.{AreLegal}
-use Rattle.apt_cldata.specs.declared.record.Record.{Record}
+use Rattle.apt_records.specs.declared.record.Record.{Record}
 use Rattle.apt_meaning.specs.declared.situation.Situation.{Situation}
 use Rattle.apt_meaning.specs.declared.effect.Effect.{Effect}
 use Rattle.apt_meaning.specs.declared.effect.Effect.TheVariants as effects

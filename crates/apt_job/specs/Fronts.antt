@@ -1,8 +1,8 @@
 -- The record in front: whether it is as expected, and what is behind it.
 use Rattle.std.specs.Prelude.{◌≡◌, List, [], ◌∷◌, map, Option, MatchOption}
 use Rattle.apt_plane.specs.declared.figures.Pt.{Pt}
-use Rattle.apt_cldata.specs.declared.record.Position.{Position}
-use Rattle.apt_cldata.specs.declared.record.Record.{Record}
+use Rattle.apt_records.specs.declared.record.Position.{Position}
+use Rattle.apt_records.specs.declared.record.Record.{Record}
 use Rattle.apt_meaning.specs.Expectations.{Expectation, Meets, Departs}
 use Rattle.apt_job.specs.declared.fronts.Front.{Front}
 use Rattle.apt_job.specs.declared.fronts.Cuts.{Cuts}

@@ -14,8 +14,8 @@ ghost use Rattle.apt_job.specs.Jobs.{AreSides, HasSides};
 
 use crate::legs::Sides;
 use crate::matches::{is_check, is_drive, is_note, is_point, is_statement};
-use apt_cldata::{Note, Position, Reach, Record, VertexSlice};
 use apt_meaning::{Change, Effect, Motion};
+use apt_records::{Note, Position, Reach, Record, VertexSlice};
 use apt_stop::Legs;
 use apt_words::Step;
 

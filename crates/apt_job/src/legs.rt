@@ -14,12 +14,12 @@ ghost use Rattle.apt_job.specs.Fronts.{points_at};
 ghost use Rattle.apt_job.specs.Jobs.{AreSides, HasSides};
 
 use apt_certify::{Job, Leg, Points};
-use apt_cldata::{Position, VertexSlice};
 use apt_meaning::{Effect, Motion};
 use apt_num::Sign;
 use apt_offset::signs::{is_zero, opposite};
 use apt_offset::{band_at, is_on_check, lacks_room};
 use apt_plane::{Axis, Pt, Surface};
+use apt_records::{Position, VertexSlice};
 use apt_stop::{Course, axis, kept_side};
 use std::alloc::{AllocError, Global};
 

@@ -2,9 +2,9 @@
 
 ghost use Rattle.std.specs.Prelude.{◌≡◌, ◌↔◌, IsTrue};
 
-use apt_cldata::{Note, Position, Reach, Record};
 use apt_meaning::Motion;
 use apt_plane::{Circ, Dir, Line, Pt, Surface};
+use apt_records::{Note, Position, Reach, Record};
 use apt_words::{Side, Step, Stop};
 
 /// Whether two notes say the same.

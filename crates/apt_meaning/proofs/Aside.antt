@@ -7,7 +7,7 @@ use Rattle.apt_plane.specs.Ranges.{IsSurface}
 use Rattle.apt_offset.specs.Sides.{side_at_drive}
 use Rattle.apt_offset.specs.Targets.{signed, greater}
 use Rattle.apt_offset.proofs.Aside.{stops_aside}
-use Rattle.apt_cldata.specs.declared.record.Position.{Position}
+use Rattle.apt_records.specs.declared.record.Position.{Position}
 use Rattle.apt_meaning.specs.declared.situation.Settings.{Settings}
 use Rattle.apt_meaning.specs.declared.motion.Motion.{Motion}
 use Rattle.apt_meaning.specs.Motions.{motion, grid_step, EndsAside}

@@ -16,10 +16,10 @@ use Rattle.apt_plane.specs.Ranges.{IsSurface, IsSense}
 use Rattle.apt_offset.specs.Ranges.{IsRadius, IsTolerance}
 use Rattle.apt_offset.specs.Turns.{is_zero}
 use Rattle.apt_offset.specs.Targets.{signed, greater}
-use Rattle.apt_cldata.specs.declared.record.Note.{Note}
-use Rattle.apt_cldata.specs.declared.record.Note.TheVariants as notes
-use Rattle.apt_cldata.specs.declared.record.Position.{Position}
-use Rattle.apt_cldata.specs.Ranges.{IsPosition, IsNote, IsFromTo}
+use Rattle.apt_records.specs.declared.record.Note.{Note}
+use Rattle.apt_records.specs.declared.record.Note.TheVariants as notes
+use Rattle.apt_records.specs.declared.record.Position.{Position}
+use Rattle.apt_records.specs.Ranges.{IsPosition, IsNote, IsFromTo}
 use Rattle.apt_defs.specs.Forms.{is_in_reach}
 use Rattle.apt_meaning.specs.declared.effect.Change.{Change}
 use Rattle.apt_meaning.specs.declared.effect.Change.TheVariants as changes

@@ -29,13 +29,13 @@ use Rattle.apt_stop.specs.Tangencies.{axis, half_towards, touching_half, tangent
 use Rattle.apt_stop.specs.Courses.{is_tanto}
 use Rattle.apt_stop.proofs.Touching.{turned_length, neg_square}
 use Rattle.apt_stop.proofs.Axes.{no_axis}
-use Rattle.apt_cldata.specs.declared.record.Note.{Note}
-use Rattle.apt_cldata.specs.declared.record.Note.TheVariants as notes
-use Rattle.apt_cldata.specs.declared.record.Position.{Position}
-use Rattle.apt_cldata.specs.declared.record.Reach.{Reach}
-use Rattle.apt_cldata.specs.declared.record.Reach.TheVariants as reaches
-use Rattle.apt_cldata.specs.declared.record.Record.{Record}
-use Rattle.apt_cldata.specs.declared.record.Record.TheVariants as records
+use Rattle.apt_records.specs.declared.record.Note.{Note}
+use Rattle.apt_records.specs.declared.record.Note.TheVariants as notes
+use Rattle.apt_records.specs.declared.record.Position.{Position}
+use Rattle.apt_records.specs.declared.record.Reach.{Reach}
+use Rattle.apt_records.specs.declared.record.Reach.TheVariants as reaches
+use Rattle.apt_records.specs.declared.record.Record.{Record}
+use Rattle.apt_records.specs.declared.record.Record.TheVariants as records
 use Rattle.apt_certify.specs.declared.leg.Leg.{Leg}
 use Rattle.apt_certify.specs.Legs.{slack, slack_of, beyond_of, IsBounded, IsWithinSlack, IsOnAxisOrNone}
 use Rattle.apt_certify.specs.Legal.{EveryPointFrom, AreInOrder, last_of}

@@ -14,8 +14,8 @@ use Rattle.apt_plane.specs.Vectors.{Scaled, scaled, displacement, cross, dot, le
 use Rattle.apt_plane.specs.Distances.{IsOver, IsUnder}
 use Rattle.apt_offset.specs.Turns.{opposite}
 use Rattle.apt_offset.specs.Sides.{times, touch_outside}
-use Rattle.apt_cldata.specs.declared.record.Record.{Record}
-use Rattle.apt_cldata.specs.declared.record.Record.TheVariants as records
+use Rattle.apt_records.specs.declared.record.Record.{Record}
+use Rattle.apt_records.specs.declared.record.Record.TheVariants as records
 use Rattle.apt_certify.specs.Legs.{IsStep}
 use Rattle.apt_certify.specs.Legal.{IsSome, last_of, EveryPointFrom}
 use Rattle.apt_meaning.specs.Motions.{drive_side}

@@ -5,8 +5,8 @@ use Rattle.apt_plane.specs.Ranges.{IsSurface, IsSense}
 use Rattle.apt_words.specs.declared.Stop.TheVariants as stops
 use Rattle.apt_offset.specs.Ranges.{IsRadius, IsTolerance}
 use Rattle.apt_offset.specs.Sides.{side_at_tangency}
-use Rattle.apt_cldata.specs.Ranges.{IsPosition, IsNote}
-use Rattle.apt_cldata.specs.declared.record.Position.{Position}
+use Rattle.apt_records.specs.Ranges.{IsPosition, IsNote}
+use Rattle.apt_records.specs.declared.record.Position.{Position}
 use Rattle.apt_defs.specs.Figures.{IsFigure, AreFigures}
 use Rattle.apt_meaning.specs.declared.situation.Settings.{Settings}
 use Rattle.apt_meaning.specs.declared.situation.Situation.{Situation}

@@ -7,9 +7,9 @@ use Rattle.apt_defs.specs.Figures.{Table}
 use Rattle.apt_startup.specs.declared.Goal.{Goal}
 use Rattle.apt_startup.specs.declared.StartUp.{StartUp}
 use Rattle.apt_startup.specs.StartUps.{start_up_cases, start_point}
-use Rattle.apt_cldata.specs.declared.record.Position.{Position}
+use Rattle.apt_records.specs.declared.record.Position.{Position}
 use Rattle.apt_meaning.specs.declared.situation.Situation.{Situation}
-use Rattle.apt_cldata.specs.Vertices.{at_height}
+use Rattle.apt_records.specs.Vertices.{at_height}
 use Rattle.apt_meaning.specs.Motions.{surface_in}
 
 -- the surface of a name, and how the cutter stops there

@@ -1,8 +1,8 @@
 //! Effects.
 
 use crate::Motion;
-use apt_cldata::{Note, Position, Reach};
 use apt_defs::Figure;
+use apt_records::{Note, Position, Reach};
 use apt_stop::Legs;
 use apt_words::{Side, Symbol};
 

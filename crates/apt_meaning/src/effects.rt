@@ -5,7 +5,7 @@ ghost use Rattle.apt_words.specs.Asks.{ask_of, form_numbers, place_numbers, rout
 ghost use Rattle.apt_scalar.specs.Scalars.{IsScalar, whole};
 ghost use Rattle.apt_scalar.specs.StepScalars.{AllScalars, HasScalars};
 ghost use Rattle.apt_startup.specs.Ranges.{IsStartUp};
-ghost use Rattle.apt_cldata.specs.Vertices.{at_height};
+ghost use Rattle.apt_records.specs.Vertices.{at_height};
 ghost use Rattle.apt_words.specs.declared.Units.{Units};
 ghost use Rattle.apt_words.specs.declared.deed.Deed.{Deed};
 ghost use Rattle.apt_meaning.specs.Alike.{AskAlike, with_units};
@@ -18,10 +18,10 @@ use crate::start_up::start_up_at;
 use crate::{
     Change, Effect, Motion, Situation, moved_by, place_in, position_by, surface_in, turn_at,
 };
-use apt_cldata::{Note, Position, Reach};
 use apt_defs::figure_of;
 use apt_offset::signs::is_zero;
 use apt_plane::Pt;
+use apt_records::{Note, Position, Reach};
 use apt_scalar::{grid_units, tenths, whole};
 use apt_startup::{StartUp, start};
 use apt_stop::Legs;

@@ -7,7 +7,7 @@ ghost use Rattle.apt_arc.specs.Ranges.{IsArc};
 ghost use Rattle.apt_offset.specs.Ranges.{IsTarget, IsCircleTarget, IsTolerance};
 ghost use Rattle.apt_offset.specs.Targets as targets;
 ghost use Rattle.apt_offset.specs.Turns as turns;
-ghost use Rattle.apt_cldata.specs.Ranges.{IsPosition};
+ghost use Rattle.apt_records.specs.Ranges.{IsPosition};
 ghost use Rattle.apt_meaning.specs.Motions as motions;
 ghost use Rattle.apt_meaning.specs.Cuts as cuts;
 ghost use Rattle.apt_meaning.specs.Ranges.{AreSettings, IsForward, IsAllowance, IsMotion};
@@ -15,10 +15,10 @@ ghost use Rattle.apt_meaning.specs.Refusals as refusals;
 
 use crate::Settings;
 use apt_arc::Arc;
-use apt_cldata::Position;
 use apt_num::Sign;
 use apt_offset::{Target, band_at, offset_surface, side_at_check, side_at_drive, tangent, turn};
 use apt_plane::{Circ, Dir, Pt, Surface};
+use apt_records::Position;
 use apt_stop::{Course, axis_towards};
 use apt_words::{Go, Side, Stop};
 

@@ -1,12 +1,12 @@
 //! Settings that change in one place.
 
 ghost use Rattle.std.specs.Prelude.{◌≡◌};
-ghost use Rattle.apt_cldata.specs.Ranges.{IsNote};
+ghost use Rattle.apt_records.specs.Ranges.{IsNote};
 ghost use Rattle.apt_meaning.specs.Ranges.{IsChange};
 ghost use Rattle.apt_meaning.specs.Situations as situations;
 
 use crate::{Change, Settings};
-use apt_cldata::{Note, Reach};
+use apt_records::{Note, Reach};
 use apt_words::Side;
 
 impl Settings {

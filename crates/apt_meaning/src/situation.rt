@@ -3,9 +3,9 @@
 ghost use Rattle.std.specs.Prelude.{◌≡◌};
 ghost use Rattle.apt_meaning.specs.Situations as situations;
 
-use apt_cldata::Position;
 use apt_defs::Table;
 use apt_plane::Dir;
+use apt_records::Position;
 use apt_words::{Side, Units};
 use std::alloc::Global;
 

@@ -2,14 +2,14 @@
 
 ghost use Rattle.std.specs.Prelude.{◌≡◌, IfSome};
 ghost use Rattle.apt_plane.specs.Ranges.{IsSurface};
-ghost use Rattle.apt_cldata.specs.Ranges.{IsPosition};
+ghost use Rattle.apt_records.specs.Ranges.{IsPosition};
 ghost use Rattle.apt_defs.specs.Figures.{IsFigure};
 ghost use Rattle.apt_meaning.specs.Effects as asking;
 ghost use Rattle.apt_meaning.specs.Motions as motions;
 
-use apt_cldata::Position;
 use apt_defs::{Figure, Table};
 use apt_plane::Surface;
+use apt_records::Position;
 use apt_words::Symbol;
 
 /// The surface that a figure is.

@@ -12,8 +12,8 @@ use Rattle.apt_plane.specs.declared.figures.Surface.{Surface}
 use Rattle.apt_startup.specs.declared.Goal.{Goal}
 use Rattle.apt_startup.specs.declared.StartUp.{StartUp}
 use Rattle.apt_startup.specs.StartUps.{start_up_cases, start_point}
-use Rattle.apt_cldata.specs.declared.record.Position.{Position}
-use Rattle.apt_cldata.specs.declared.record.Reach.TheVariants as reaches
+use Rattle.apt_records.specs.declared.record.Position.{Position}
+use Rattle.apt_records.specs.declared.record.Reach.TheVariants as reaches
 use Rattle.apt_defs.specs.declared.figure.Figure.{Figure}
 use Rattle.apt_defs.specs.declared.figure.Figure.TheVariants as figures
 use Rattle.apt_defs.specs.Figures.{Table, figure_named}
@@ -22,7 +22,7 @@ use Rattle.apt_meaning.specs.declared.situation.Situation.{Situation}
 use Rattle.apt_meaning.specs.declared.effect.Effect.{Effect}
 use Rattle.apt_meaning.specs.declared.effect.Effect.TheVariants as effects
 use Rattle.apt_meaning.specs.Situations.{lacks_feed}
-use Rattle.apt_cldata.specs.Vertices.{at_height}
+use Rattle.apt_records.specs.Vertices.{at_height}
 use Rattle.apt_meaning.specs.Motions.{as_surface, surface_in}
 use Rattle.apt_meaning.specs.StartUps.{goal_in, second_in, start_up_at, start_position, start_position_at}
 use Rattle.apt_meaning.specs.Effects.{moves, as_position, effect_of}

@@ -18,8 +18,8 @@ use Rattle.apt_stop.specs.declared.legs.Legs.{Legs}
 use Rattle.apt_stop.specs.declared.legs.Legs.TheVariants as legs
 use Rattle.apt_stop.specs.declared.legs.Ends.{Ends}
 use Rattle.apt_stop.specs.Legs.{leg_cases, ends_of as ends_at, last_end}
-use Rattle.apt_cldata.specs.declared.record.Position.{Position}
-use Rattle.apt_cldata.specs.declared.record.Record.{Record}
+use Rattle.apt_records.specs.declared.record.Position.{Position}
+use Rattle.apt_records.specs.declared.record.Record.{Record}
 use Rattle.apt_meaning.specs.declared.motion.Motion.{Motion}
 use Rattle.apt_meaning.specs.declared.situation.Situation.{Situation}
 use Rattle.apt_meaning.specs.declared.effect.Effect.{Effect}

@@ -3,7 +3,7 @@ use Rattle.std.proofs.Common.{inl, inr, ◌≡◌, ◌∙◌, ◌<◌, ℕ, zero
 use Rattle.std.specs.Prelude.{◌&&◌, slice_index_or}
 use Rattle.std.specs.List.{list_all}
 use Rattle.std.proofs.lemmas.List.{map-append, take-append-drop}
-use Rattle.apt_cldata.specs.declared.record.Position.{Position}
+use Rattle.apt_records.specs.declared.record.Position.{Position}
 use Rattle.apt_motion.specs.Drafts.{ArcAt, vertices_at, chords_of}
 use Rattle.apt_motion.specs.Divided.{IsDivided, is_filled}
 

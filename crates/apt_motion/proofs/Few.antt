@@ -3,7 +3,7 @@ use Rattle.std.proofs.Common.{◌≡◌, ℕ, ◌+◌, ◌-◌, ◌≤◌, Bool,
 use Rattle.std.specs.Prelude.{nat_lt, sum_by, if◌then◌else◌}
 use Rattle.std.proofs.lemmas.Bool.{le-ltb}
 use Rattle.std.proofs.lemmas.List.Sums.{sum_by-cons}
-use Rattle.apt_cldata.specs.declared.record.Record.{Record}
+use Rattle.apt_records.specs.declared.record.Record.{Record}
 use Rattle.apt_meaning.specs.Compiled.{most_points}
 use Rattle.apt_motion.specs.Drafts.{ArcAt, chords_of, is_open, known, first_or_none, behind_first, weight, left_behind, Mark, mark_at, overfull, too_many, nowhere, past_limit}
 

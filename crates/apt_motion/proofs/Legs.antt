@@ -3,7 +3,7 @@ use Rattle.std.proofs.Common.{◌≡◌, ◌∙◌, sym, ap, subst, List, ◌++�
 use Rattle.apt_words.specs.Rows.{NoneHolds}
 use Rattle.apt_plane.specs.declared.figures.Pt.{Pt}
 use Rattle.apt_stop.specs.declared.legs.Legs.TheVariants as legs
-use Rattle.apt_cldata.specs.declared.record.Record.{Record}
+use Rattle.apt_records.specs.declared.record.Record.{Record}
 use Rattle.apt_meaning.specs.declared.motion.Motion.{Motion}
 use Rattle.apt_meaning.specs.Motions.{onward}
 use Rattle.apt_meaning.specs.Cuts.{end_point}

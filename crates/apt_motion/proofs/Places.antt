@@ -8,13 +8,13 @@ use Rattle.apt_words.specs.declared.Case.{Case}
 use Rattle.apt_words.specs.declared.Case.TheVariants as cases
 use Rattle.apt_words.specs.declared.ask.Place.{Place}
 use Rattle.apt_words.specs.declared.ask.Place.TheVariants as places
-use Rattle.apt_cldata.specs.declared.record.Position.{Position}
+use Rattle.apt_records.specs.declared.record.Position.{Position}
 use Rattle.apt_plane.specs.declared.figures.Pt.{Pt}
 use Rattle.apt_defs.specs.declared.figure.Figure.{Figure}
 use Rattle.apt_defs.specs.declared.figure.Figure.TheVariants as figures
 use Rattle.apt_defs.specs.Figures.{Table, defined, as_place, figure_named, place_named}
 use Rattle.apt_meaning.specs.declared.situation.Situation.{Situation}
-use Rattle.apt_cldata.specs.Vertices.{at_height}
+use Rattle.apt_records.specs.Vertices.{at_height}
 use Rattle.apt_meaning.specs.Effects.{place_in, position_by}
 use Rattle.apt_meaning.specs.Refusals.{position_cases, point_cases, place_cases, is_no_place}
 use Rattle.apt_motion.proofs.Cases.{first_append, position_of, position_of-is}

@@ -1,6 +1,6 @@
 -- What is in the rooms for the vertices of arcs.
 use Rattle.std.specs.Prelude.{◌≡◌, ◌⊎◌, Bool, true, false, List, [], ◌∷◌}
-use Rattle.apt_cldata.specs.declared.record.Position.{Position}
+use Rattle.apt_records.specs.declared.record.Position.{Position}
 use Rattle.apt_motion.specs.Drafts.{ArcAt, vertices_at}
 
 -- a room has the vertices of its arc, or none where memory was short

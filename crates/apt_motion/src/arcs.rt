@@ -4,8 +4,8 @@ ghost use Rattle.std.specs.Prelude.{◌≡◌, not};
 ghost use Rattle.apt_motion.specs.Divided.{IsDivided, is_filled};
 
 use apt_arc::{Arc, bound, chords};
-use apt_cldata::Vertices;
 use apt_plane::Pt;
+use apt_records::Vertices;
 use std::alloc::{AllocError, Global};
 use std::marker::Model;
 
@@ -36,8 +36,8 @@ pub(crate) struct Cut {
 
 impl Model for Cut {
     ghost use Rattle.std.specs.Prelude.{List, map};
-    ghost use Rattle.apt_cldata.specs.declared.record.Position.{Position};
-    ghost use Rattle.apt_cldata.specs.Vertices.{at_height};
+    ghost use Rattle.apt_records.specs.declared.record.Position.{Position};
+    ghost use Rattle.apt_records.specs.Vertices.{at_height};
 
     ghost Value = { List Position };
 

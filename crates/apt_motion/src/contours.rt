@@ -6,7 +6,7 @@ ghost use Rattle.apt_words.specs.Rows.{first_of, unless};
 ghost use Rattle.apt_words.specs.declared.deed.Deed.TheVariants as deeds;
 ghost use Rattle.apt_scalar.specs.Scalars.{IsScalar};
 ghost use Rattle.apt_stop.specs.Legs as legging;
-ghost use Rattle.apt_cldata.specs.Ranges.{IsPosition};
+ghost use Rattle.apt_records.specs.Ranges.{IsPosition};
 ghost use Rattle.apt_meaning.specs.Effects.{cuts, effect_of};
 ghost use Rattle.apt_meaning.specs.Motions as motions;
 ghost use Rattle.apt_meaning.specs.Ranges.{IsSituation, AreSettings, IsMotion};
@@ -15,13 +15,13 @@ ghost use Rattle.apt_meaning.specs.Refusals.{refusal_of, turned_cases};
 ghost use Rattle.apt_meaning.specs.Situations.{with_side};
 ghost use Rattle.apt_motion.specs.Finding.{IsContourBy, IsMotionBy};
 
-use apt_cldata::Position;
 use apt_defs::Table;
 use apt_meaning::{Motion, Settings, Situation, is_too_fine, legs_by, surface_of, turn_at};
 use apt_num::Sign;
 use apt_offset::signs::is_zero;
 use apt_offset::{is_on_check, lacks_room};
 use apt_plane::Surface;
+use apt_records::Position;
 use apt_stop::{Ends, Legs, decide_legs, is_near};
 use apt_words::{Case, Go, Side, Stop, Symbol};
 

@@ -8,7 +8,7 @@ use crate::arcs::Round;
 use crate::drafts::Draft;
 use crate::filling::is_open;
 use apt_arc::{bound, count};
-use apt_cldata::Record;
+use apt_records::Record;
 use apt_words::{Case, Refusal};
 use rayon::prelude::*;
 use std::alloc::{AllocError, Global};

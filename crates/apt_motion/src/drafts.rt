@@ -5,13 +5,13 @@ ghost use Rattle.apt_words.specs.Rows.{NoneHolds};
 ghost use Rattle.apt_meaning.specs.Cuts.{arc_of, end_point};
 ghost use Rattle.apt_meaning.specs.Ranges.{IsMotion};
 ghost use Rattle.apt_meaning.specs.Refusals.{motion_cases};
-ghost use Rattle.apt_cldata.specs.Vertices.{at_height};
+ghost use Rattle.apt_records.specs.Vertices.{at_height};
 ghost use Rattle.apt_motion.specs.Drafts as drafts;
 
 use crate::arcs::Round;
-use apt_cldata::{Position, Record, Vertices};
 use apt_meaning::Motion;
 use apt_plane::Pt;
+use apt_records::{Position, Record, Vertices};
 use std::alloc::{AllocError, Global};
 
 /// No step has more records.

@@ -4,7 +4,7 @@ ghost use Rattle.std.specs.Prelude.{◌≡◌};
 ghost use Rattle.apt_motion.specs.Drafts as drafts;
 
 use crate::arcs::Cut;
-use apt_cldata::Record;
+use apt_records::Record;
 use std::collections::VecDeque;
 
 /// Whether a record is a contour that is still to be divided.

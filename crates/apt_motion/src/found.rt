@@ -15,8 +15,8 @@ ghost use Rattle.apt_motion.specs.Finding.{IsNoContour, SetsOrMoves};
 
 use crate::refusals::{godlta, note_case, position_at_place};
 use crate::start_ups::go;
-use apt_cldata::{Note, Reach};
 use apt_meaning::{Change, Effect, Situation, note_of};
+use apt_records::{Note, Reach};
 use apt_words::{Ask, Case, Deed, Place, Route, Saying};
 use std::alloc::AllocError;
 

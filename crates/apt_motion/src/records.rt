@@ -3,7 +3,7 @@
 ghost use Rattle.std.specs.Prelude.{◌≡◌, ◌≤◌, ◌+◌, ◌++◌, [], ◌∷◌, map, vec_len, vec_capacity, OnOk};
 ghost use Rattle.apt_words.specs.Rows.{NoneHolds};
 ghost use Rattle.apt_plane.specs.Ranges.{IsPoint};
-ghost use Rattle.apt_cldata.specs.declared.record.Record.TheVariants as lines;
+ghost use Rattle.apt_records.specs.declared.record.Record.TheVariants as lines;
 ghost use Rattle.apt_meaning.specs.Compiled as compiled;
 ghost use Rattle.apt_meaning.specs.Motions.{course_of, onward};
 ghost use Rattle.apt_meaning.specs.Cuts.{arc_of, end_point};
@@ -16,9 +16,9 @@ ghost use Rattle.apt_motion.specs.Drafts.{drawn, drawn_on, rounds_along, rounds_
 ghost use Rattle.apt_motion.specs.Finding.{SetsOrMoves};
 
 use crate::drafts::{Draft, draw};
-use apt_cldata::Record;
 use apt_meaning::{Change, Effect, Motion, Situation};
 use apt_plane::Pt;
+use apt_records::Record;
 use apt_stop::{Ends, Legs};
 use apt_words::Step;
 use std::alloc::{AllocError, Global};

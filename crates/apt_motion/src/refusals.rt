@@ -10,9 +10,9 @@ ghost use Rattle.apt_meaning.specs.Effects as asking;
 ghost use Rattle.apt_meaning.specs.Ranges.{IsSituation};
 ghost use Rattle.apt_meaning.specs.Refusals as refusals;
 
-use apt_cldata::{Note, Position, Reach};
 use apt_defs::{Table, is_in_reach, point};
 use apt_meaning::{Effect, Settings, Situation, moved_by, position_by};
+use apt_records::{Note, Position, Reach};
 use apt_words::{Case, Place, Symbol, Turn};
 
 /// The greatest diameter of a cutter, in grid units.

@@ -7,22 +7,22 @@ ghost use Rattle.apt_words.specs.declared.deed.Deed.TheVariants as deeds;
 ghost use Rattle.apt_plane.specs.Ranges.{IsSurface};
 ghost use Rattle.apt_startup.specs.Ranges.{IsGoal, IsStartUp};
 ghost use Rattle.apt_startup.specs.StartUps.{start_up_cases, start_point};
-ghost use Rattle.apt_cldata.specs.Ranges.{IsPosition};
+ghost use Rattle.apt_records.specs.Ranges.{IsPosition};
 ghost use Rattle.apt_meaning.specs.Compiled.{asked};
 ghost use Rattle.apt_meaning.specs.Effects.{effect_of};
 ghost use Rattle.apt_meaning.specs.Motions as motions;
 ghost use Rattle.apt_meaning.specs.Ranges.{IsSituation};
 ghost use Rattle.apt_meaning.specs.Refusals.{each_name, is_no_surface, is_undefined, refusal_of, start_names};
 ghost use Rattle.apt_meaning.specs.Situations.{lacks_feed};
-ghost use Rattle.apt_cldata.specs.Vertices.{at_height};
+ghost use Rattle.apt_records.specs.Vertices.{at_height};
 ghost use Rattle.apt_meaning.specs.StartUps as start_ups;
 ghost use Rattle.apt_meaning.specs.declared.effect.Effect.TheVariants as effects;
 
 use crate::contours::surface_named;
-use apt_cldata::{Position, Reach};
 use apt_defs::Table;
 use apt_meaning::{Effect, Settings, Situation, surface_of};
 use apt_plane::{Pt, Surface};
+use apt_records::{Position, Reach};
 use apt_startup::{Goal, StartUp, start};
 use apt_words::{Case, Stop, Symbol};
 

@@ -3,13 +3,13 @@ use Rattle.std.proofs.Common.{◌≡◌, ℕ, ℤ, ◌+◌, ◌≤◌, false, Li
 use Rattle.std.proofs.lemmas.List.{length-map, length-append}
 use Rattle.apt_words.specs.declared.deed.Step.{Step}
 use Rattle.apt_plane.specs.declared.figures.Pt.{Pt}
-use Rattle.apt_cldata.specs.declared.record.Reach.{Reach}
-use Rattle.apt_cldata.specs.declared.record.Reach.TheVariants as reaches
-use Rattle.apt_cldata.specs.declared.record.Position.{Position}
-use Rattle.apt_cldata.specs.declared.record.Record.{Record}
-use Rattle.apt_cldata.specs.declared.record.Record.TheVariants as records
-use Rattle.apt_cldata.specs.Ranges.{vertex_count}
-use Rattle.apt_cldata.specs.Vertices.{at_height}
+use Rattle.apt_records.specs.declared.record.Reach.{Reach}
+use Rattle.apt_records.specs.declared.record.Reach.TheVariants as reaches
+use Rattle.apt_records.specs.declared.record.Position.{Position}
+use Rattle.apt_records.specs.declared.record.Record.{Record}
+use Rattle.apt_records.specs.declared.record.Record.TheVariants as records
+use Rattle.apt_records.specs.Ranges.{vertex_count}
+use Rattle.apt_records.specs.Vertices.{at_height}
 use Rattle.apt_meaning.specs.declared.situation.Situation.{Situation}
 use Rattle.apt_meaning.specs.declared.effect.Change.TheVariants as changes
 use Rattle.apt_meaning.specs.declared.effect.Effect.{Effect}

@@ -8,8 +8,9 @@ use Rattle.apt_words.proofs.Titles.{title_lengths}
 use Rattle.apt_scalar.specs.StepScalars.{AreScalars}
 use Rattle.apt_unroll.specs.Trace.{IsTrace}
 use Rattle.apt_unroll.proofs.Found.{few_steps}
-use Rattle.apt_cldata.specs.declared.record.Record.{Record}
-use Rattle.apt_cldata.specs.Files.{file_of, IsFile}
+use Rattle.apt_records.specs.declared.record.Record.{Record}
+use Rattle.apt_cldata.specs.Files.{file_of}
+use Rattle.apt_records.specs.Lists.{IsFile}
 use Rattle.apt_cldata.proofs.Lengths.{file_length}
 use Rattle.apt_meaning.specs.Situations.{first_situation}
 use Rattle.apt_meaning.specs.Compiled.{compilation}
@@ -17,7 +18,8 @@ use Rattle.apt_meaning.proofs.Asked.{CutsLegally}
 use Rattle.apt_meaning.proofs.Walks.Kept.{first_situation-IsSituation}
 use Rattle.apt_meaning.proofs.Walks.Compiled.{compiled_follows}
 use Rattle.apt_meaning.proofs.Walks.Ends.{ends_once}
-use Rattle.apt_meaning.proofs.Walks.Files.{Fit, compiled_fit, fini_last}
+use Rattle.apt_records.proofs.Conditions.{fini_last}
+use Rattle.apt_meaning.proofs.Walks.Files.{Fit, compiled_fit}
 use Rattle.apt_machine.specs.declared.machine.Machine.{Machine}
 use Rattle.apt_post.specs.Plan.{nothing_pending, plan}
 use Rattle.apt_post.specs.Blocks.{tape_bytes}

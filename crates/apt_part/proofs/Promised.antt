@@ -19,8 +19,8 @@ use Rattle.apt_unroll.proofs.Going.{has_trace}
 use Rattle.apt_unroll.proofs.Found.{trace_found, few_steps}
 use Rattle.apt_unroll.proofs.Titles.{steps_titled}
 use Rattle.apt_unroll.proofs.Steps.{are_scalars, are_executed, end_once}
-use Rattle.apt_cldata.specs.declared.record.Record.{Record}
-use Rattle.apt_cldata.specs.Ranges.{vertex_count}
+use Rattle.apt_records.specs.declared.record.Record.{Record}
+use Rattle.apt_records.specs.Ranges.{vertex_count}
 use Rattle.apt_meaning.specs.Situations.{first_situation}
 use Rattle.apt_meaning.specs.Compiled.{first_refused, compilation, most_points}
 use Rattle.apt_meaning.proofs.Asked.{CutsLegally}

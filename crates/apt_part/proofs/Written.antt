@@ -15,14 +15,14 @@ use Rattle.apt_words.specs.Rows.{first_of}
 use Rattle.apt_words.specs.Sources.{AreExecuted}
 use Rattle.apt_scalar.specs.Scalars.{tenths, whole}
 use Rattle.apt_plane.specs.declared.figures.Pt.{Pt}
-use Rattle.apt_cldata.specs.declared.record.Position.{Position}
-use Rattle.apt_cldata.specs.declared.record.Reach.{Reach}
-use Rattle.apt_cldata.specs.declared.record.Reach.TheVariants as reaches
-use Rattle.apt_cldata.specs.declared.record.Note.{Note}
-use Rattle.apt_cldata.specs.declared.record.Note.TheVariants as notes
-use Rattle.apt_cldata.specs.declared.record.Record.{Record}
-use Rattle.apt_cldata.specs.declared.record.Record.TheVariants as records
-use Rattle.apt_cldata.specs.Ranges.{IsFromTo, greatest, IsNote, IsPosition, ArePositions, AreRecords}
+use Rattle.apt_records.specs.declared.record.Position.{Position}
+use Rattle.apt_records.specs.declared.record.Reach.{Reach}
+use Rattle.apt_records.specs.declared.record.Reach.TheVariants as reaches
+use Rattle.apt_records.specs.declared.record.Note.{Note}
+use Rattle.apt_records.specs.declared.record.Note.TheVariants as notes
+use Rattle.apt_records.specs.declared.record.Record.{Record}
+use Rattle.apt_records.specs.declared.record.Record.TheVariants as records
+use Rattle.apt_records.specs.Ranges.{IsFromTo, greatest, IsNote, IsPosition, ArePositions, AreRecords}
 use Rattle.apt_meaning.specs.declared.situation.Settings.{Settings}
 use Rattle.apt_meaning.specs.declared.situation.Situation.{Situation}
 use Rattle.apt_meaning.specs.declared.effect.Change.{Change}
@@ -32,7 +32,7 @@ use Rattle.apt_meaning.specs.declared.effect.Effect.TheVariants as effects
 use Rattle.apt_meaning.specs.Situations.{has_feed, lacks_feed, settings_with, changed, settings_behind}
 use Rattle.apt_meaning.specs.Effects.{note_of, effect_of}
 use Rattle.apt_meaning.specs.Refusals.{refusal_of, cases_of}
-use Rattle.apt_cldata.specs.Vertices.{at_height}
+use Rattle.apt_records.specs.Vertices.{at_height}
 use Rattle.apt_meaning.specs.Records.{with_statement, change_records, cut_record, effect_records, records_of, after}
 use Rattle.apt_meaning.specs.Compiled.{ends_of, points_of, point_number, compilation_behind}
 use Rattle.apt_meaning.specs.Ranges.{IsChange, IsSituation, IsEffect}

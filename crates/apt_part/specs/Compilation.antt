@@ -6,7 +6,7 @@ use Rattle.apt_words.specs.declared.body.Stmt.{Stmt}
 use Rattle.apt_words.specs.declared.deed.Step.{Step}
 use Rattle.apt_parse.specs.Programs.{TextFault, program_of}
 use Rattle.apt_unroll.specs.Trace.{Trace, trace_of}
-use Rattle.apt_cldata.specs.declared.record.Record.{Record}
+use Rattle.apt_records.specs.declared.record.Record.{Record}
 use Rattle.apt_meaning.specs.Situations.{first_situation}
 use Rattle.apt_meaning.specs.Compiled.{first_refused, compilation}
 use Rattle.apt_machine.specs.declared.machine.Machine.{Machine}

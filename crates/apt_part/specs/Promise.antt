@@ -6,8 +6,9 @@ use Rattle.apt_words.specs.Sources.{AreExecuted}
 use Rattle.apt_parse.specs.Programs.{program_of}
 use Rattle.apt_scalar.specs.StepScalars.{AreScalars}
 use Rattle.apt_unroll.specs.Trace.{IsTrace}
-use Rattle.apt_cldata.specs.Ranges.{vertex_count}
-use Rattle.apt_cldata.specs.Files.{file_of, IsFile}
+use Rattle.apt_records.specs.Ranges.{vertex_count}
+use Rattle.apt_cldata.specs.Files.{file_of}
+use Rattle.apt_records.specs.Lists.{IsFile}
 use Rattle.apt_meaning.specs.Situations.{first_situation}
 use Rattle.apt_meaning.specs.Compiled.{first_refused, compilation, most_points}
 use Rattle.apt_meaning.specs.Paths.{EveryContour, IsLegalCut, contours_of}

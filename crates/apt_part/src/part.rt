@@ -18,12 +18,12 @@ ghost use Rattle.apt_part.specs.Answering.{IsPart};
 ghost use Rattle.apt_part.specs.Promise.{Passes, Promise, AreSteps};
 
 use apt_certify::Gate;
-use apt_cldata::Record;
 use apt_lexis::{ParseError, PartCause};
 use apt_machine::Machine;
 use apt_motion::{RunError, ends, run};
 use apt_parse::parse;
 use apt_post::limits;
+use apt_records::Record;
 use apt_unroll::{Unrolled, unroll};
 use apt_words::{Program, Refusal, Step};
 use std::alloc::{AllocError, Global};

@@ -3,13 +3,13 @@ use Rattle.std.specs.Prelude.{unwrap_or}
 use Rattle.std.specs.Option.{option_or}
 use Rattle.std.proofs.Common.{refl, ◌≡◌, ap, ◌∙◌, List, [], ◌∷◌, ◌++◌}
 use Rattle.apt_words.specs.declared.Units.TheVariants.{Inch}
-use Rattle.apt_cldata.specs.declared.record.Position.{Position}
-use Rattle.apt_cldata.specs.declared.record.Reach.{Reach}
-use Rattle.apt_cldata.specs.declared.record.Reach.TheVariants as reaches
-use Rattle.apt_cldata.specs.declared.record.Note.{Note}
-use Rattle.apt_cldata.specs.declared.record.Note.TheVariants as notes
-use Rattle.apt_cldata.specs.declared.record.Record.{Record}
-use Rattle.apt_cldata.specs.declared.record.Record.TheVariants as records
+use Rattle.apt_records.specs.declared.record.Position.{Position}
+use Rattle.apt_records.specs.declared.record.Reach.{Reach}
+use Rattle.apt_records.specs.declared.record.Reach.TheVariants as reaches
+use Rattle.apt_records.specs.declared.record.Note.{Note}
+use Rattle.apt_records.specs.declared.record.Note.TheVariants as notes
+use Rattle.apt_records.specs.declared.record.Record.{Record}
+use Rattle.apt_records.specs.declared.record.Record.TheVariants as records
 use Rattle.apt_control.specs.declared.Act.{Act}
 use Rattle.apt_post.specs.declared.planning.Pending.{Pending}
 use Rattle.apt_post.specs.Plan.{note_acts, point_acts, record_acts, note_pending, point_pending, record_pending, acts_from, note_units, first_units, units_of, plan}

@@ -1,6 +1,6 @@
 -- Records whose acts can be written, and the blocks of acts.
 use Rattle.std.specs.Prelude.{ℕ, Bool, ◌+◌, List, [], ◌∷◌, ◌++◌}
-use Rattle.apt_cldata.specs.declared.record.Record.{Record}
+use Rattle.apt_records.specs.declared.record.Record.{Record}
 use Rattle.apt_control.specs.declared.Act.{Act}
 use Rattle.apt_post.specs.declared.planning.Pending.{Pending}
 use Rattle.apt_post.specs.Plan.{record_acts, record_pending}

@@ -7,12 +7,12 @@ use Rattle.std.proofs.lemmas.List.{take_at, drop_at, length-map}
 use Rattle.std.proofs.lemmas.List.Concat.{flat_map-append}
 use Rattle.std.proofs.lemmas.List.Folds.{flat_map-map}
 use Rattle.apt_words.specs.declared.Units.{Units}
-use Rattle.apt_cldata.specs.declared.record.Position.{Position}
-use Rattle.apt_cldata.specs.declared.record.Reach.{Reach}
-use Rattle.apt_cldata.specs.declared.record.Reach.TheVariants as reaches
-use Rattle.apt_cldata.specs.declared.record.Record.{Record}
-use Rattle.apt_cldata.specs.declared.record.Record.TheVariants as records
-use Rattle.apt_cldata.specs.Ranges.{IsPosition, ArePositions, IsRecord, AreRecords}
+use Rattle.apt_records.specs.declared.record.Position.{Position}
+use Rattle.apt_records.specs.declared.record.Reach.{Reach}
+use Rattle.apt_records.specs.declared.record.Reach.TheVariants as reaches
+use Rattle.apt_records.specs.declared.record.Record.{Record}
+use Rattle.apt_records.specs.declared.record.Record.TheVariants as records
+use Rattle.apt_records.specs.Ranges.{IsPosition, ArePositions, IsRecord, AreRecords}
 use Rattle.apt_post.specs.Plan.{units_of}
 use Rattle.apt_report.specs.Decimals.{right_in}
 use Rattle.apt_report.specs.Listing.{decimals_in, word_of, coordinate, point_line, record_lines, lines_from, record_count, point_count, end_line, listing}

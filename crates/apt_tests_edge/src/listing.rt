@@ -1,7 +1,7 @@
 //! The listing of points, and the part of `demo`.
 
-use apt_cldata::{Note, Position, Reach, Record, Vertices};
 use apt_plane::Pt;
+use apt_records::{Note, Position, Reach, Record, Vertices};
 use apt_report::{demo_part, listing};
 use apt_words::Units;
 use std::alloc::{AllocError, AllocGlobal, Global};

@@ -1,5 +1,6 @@
-use apt_cldata::{ClBytes, ClCause, ClError, Note, Record, write};
+use apt_cldata::{ClBytes, ClCause, ClError, write};
 use apt_clreader::read;
+use apt_records::{Note, Record};
 use std::alloc::{AllocError, Global};
 use std::test::Fail;
 

@@ -2,14 +2,14 @@ ghost use Rattle.std.specs.Prelude.{◌≡◌, ◌+◌, ◌<◌, ◌≤◌, ◌^
 ghost use Rattle.apt_words.specs.Sources.{AreExecuted};
 ghost use Rattle.apt_scalar.specs.StepScalars.{AreScalars};
 ghost use Rattle.apt_plane.specs.Ranges.{IsSurface};
-ghost use Rattle.apt_cldata.specs.Ranges.{IsPosition, ArePositions, AreRecords, vertex_count};
-ghost use Rattle.apt_cldata.specs.declared.record.Record.{Record};
+ghost use Rattle.apt_records.specs.Ranges.{IsPosition, ArePositions, AreRecords, vertex_count};
+ghost use Rattle.apt_records.specs.declared.record.Record.{Record};
 
 use apt_certify::Job;
-use apt_cldata::{Note, Position, Reach, Record, Vertices};
 use apt_job::{JobError, jobs};
 use apt_motion::ends;
 use apt_plane::{Dir, Line, Pt, Surface};
+use apt_records::{Note, Position, Reach, Record, Vertices};
 use apt_words::{Deed, Go, Side, Step, Stop, Symbol};
 use std::alloc::{AllocError, Global};
 use std::test::Fail;

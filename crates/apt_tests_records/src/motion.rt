@@ -3,8 +3,8 @@ ghost use Rattle.apt_words.specs.Sources.{AreExecuted};
 ghost use Rattle.apt_scalar.specs.StepScalars.{AreScalars};
 
 use apt_certify::OpenGate;
-use apt_cldata::{Position, Record};
 use apt_motion::{RunError, run};
+use apt_records::{Position, Record};
 use apt_words::{Case, Deed, Go, Refusal, Side, Step, Stop, Symbol};
 use std::alloc::Global;
 use std::process::Abort;

@@ -1,11 +1,11 @@
 ghost use Rattle.std.specs.Prelude.{◌≡◌, pos};
 
 use apt_block::TapeWord;
-use apt_cldata::{Note, Position, Reach, Record, Vertices};
 use apt_control::Act;
 use apt_machine::Machine;
 use apt_plane::Pt;
 use apt_post::{Piece, Poster, TapeBytes, blocks, counts, plan, tape};
+use apt_records::{Note, Position, Reach, Record, Vertices};
 use apt_tapecode::Code;
 use apt_words::{Cool, Turn, Units};
 use std::test::Fail;

@@ -20,7 +20,7 @@ use Rattle.apt_arc.specs.Made.{divided}
 use Rattle.apt_meaning.specs.declared.motion.Motion.{Motion}
 use Rattle.apt_meaning.specs.declared.effect.Effect.TheVariants as effects
 use Rattle.apt_meaning.specs.Situations.{position_at}
-use Rattle.apt_cldata.specs.Vertices.{at_height}
+use Rattle.apt_records.specs.Vertices.{at_height}
 use Rattle.apt_meaning.specs.Motions.{motion, motion_at, if_turned}
 use Rattle.apt_meaning.specs.Cuts.{end_point, arc_on, lesser}
 use Rattle.apt_meaning.specs.Effects.{cuts}

@@ -25,14 +25,14 @@ use Rattle.apt_startup.specs.declared.StartUp.{StartUp}
 use Rattle.apt_startup.specs.StartUps.{start_up_cases, start_point, way_or_right}
 use Rattle.apt_defs.specs.Figures.{Table}
 use Rattle.apt_defs.specs.Forms.{is_within}
-use Rattle.apt_cldata.specs.declared.record.Position.{Position}
-use Rattle.apt_cldata.specs.declared.record.Reach.TheVariants as reaches
+use Rattle.apt_records.specs.declared.record.Position.{Position}
+use Rattle.apt_records.specs.declared.record.Reach.TheVariants as reaches
 use Rattle.apt_meaning.specs.declared.situation.Settings.{Settings}
 use Rattle.apt_meaning.specs.declared.effect.Change.TheVariants as changes
 use Rattle.apt_meaning.specs.declared.effect.Effect.TheVariants as effects
-use Rattle.apt_cldata.specs.declared.record.Note.TheVariants as notes
+use Rattle.apt_records.specs.declared.record.Note.TheVariants as notes
 use Rattle.apt_meaning.specs.Situations.{position_at, forward_behind}
-use Rattle.apt_cldata.specs.Vertices.{at_height}
+use Rattle.apt_records.specs.Vertices.{at_height}
 use Rattle.apt_meaning.specs.StartUps.{start_up_at}
 use Rattle.apt_meaning.specs.Effects.{moves}
 use Rattle.apt_core.proofs.Circles.Numbers.{Size}

@@ -11,7 +11,7 @@ use Rattle.apt_words.specs.declared.ask.Form.TheVariants as forms
 use Rattle.apt_words.specs.declared.ask.CircleForm.TheVariants as circles
 use Rattle.apt_words.specs.declared.ask.LineForm.TheVariants as lines
 use Rattle.apt_defs.specs.Figures.{Table, table_with}
-use Rattle.apt_cldata.specs.declared.record.Position.{Position}
+use Rattle.apt_records.specs.declared.record.Position.{Position}
 use Rattle.apt_meaning.specs.Situations.{position_at}
 use Rattle.apt_core.proofs.Circles.Deeds.{inches, hundredths, cut_deeds, deeds_about}
 use Rattle.apt_core.proofs.Circles.Numbers.{round_radius, track_radius, sizes}

@@ -15,20 +15,20 @@ use Rattle.apt_offset.specs.Targets.{greater}
 use Rattle.apt_offset.specs.Turns.{tangent}
 use Rattle.apt_stop.specs.Nearness.{heading}
 use Rattle.apt_certify.specs.Legal.{last_of}
-use Rattle.apt_cldata.specs.declared.record.Note.{Note}
-use Rattle.apt_cldata.specs.declared.record.Note.TheVariants as notes
-use Rattle.apt_cldata.specs.declared.record.Position.{Position}
-use Rattle.apt_cldata.specs.declared.record.Reach.{Reach}
-use Rattle.apt_cldata.specs.declared.record.Reach.TheVariants as reaches
-use Rattle.apt_cldata.specs.declared.record.Record.{Record}
-use Rattle.apt_cldata.specs.declared.record.Record.TheVariants as records
+use Rattle.apt_records.specs.declared.record.Note.{Note}
+use Rattle.apt_records.specs.declared.record.Note.TheVariants as notes
+use Rattle.apt_records.specs.declared.record.Position.{Position}
+use Rattle.apt_records.specs.declared.record.Reach.{Reach}
+use Rattle.apt_records.specs.declared.record.Reach.TheVariants as reaches
+use Rattle.apt_records.specs.declared.record.Record.{Record}
+use Rattle.apt_records.specs.declared.record.Record.TheVariants as records
 use Rattle.apt_meaning.specs.declared.situation.Situation.{Situation}
 use Rattle.apt_meaning.specs.declared.motion.Motion.{Motion}
 use Rattle.apt_meaning.specs.declared.effect.Change.TheVariants as changes
 use Rattle.apt_meaning.specs.declared.effect.Effect.{Effect}
 use Rattle.apt_meaning.specs.declared.effect.Effect.TheVariants as effects
 use Rattle.apt_meaning.specs.Situations.{first_situation, settings_with, forward_behind}
-use Rattle.apt_cldata.specs.Vertices.{at_height}
+use Rattle.apt_records.specs.Vertices.{at_height}
 use Rattle.apt_stop.specs.declared.legs.Legs.{Legs}
 use Rattle.apt_stop.specs.declared.legs.Legs.TheVariants as legs
 use Rattle.apt_meaning.specs.Motions.{grid_step}

@@ -4,13 +4,13 @@ use Rattle.std.specs.Prelude.{◌&&◌}
 use Rattle.std.proofs.lemmas.Bool.{true≢false}
 use Rattle.apt_words.specs.declared.deed.Step.{Step}
 use Rattle.apt_plane.specs.declared.figures.Pt.{Pt}
-use Rattle.apt_cldata.specs.declared.record.Position.{Position}
-use Rattle.apt_cldata.specs.declared.record.Record.{Record}
+use Rattle.apt_records.specs.declared.record.Position.{Position}
+use Rattle.apt_records.specs.declared.record.Record.{Record}
 use Rattle.apt_meaning.specs.declared.situation.Situation.{Situation}
 use Rattle.apt_meaning.specs.declared.effect.Change.TheVariants as changes
 use Rattle.apt_meaning.specs.declared.effect.Effect.{Effect}
 use Rattle.apt_meaning.specs.declared.effect.Effect.TheVariants as effects
-use Rattle.apt_cldata.specs.Vertices.{at_height}
+use Rattle.apt_records.specs.Vertices.{at_height}
 use Rattle.apt_stop.specs.declared.legs.Legs.{Legs}
 use Rattle.apt_stop.specs.declared.legs.Legs.TheVariants as legs
 use Rattle.apt_meaning.specs.Motions.{has_track, has_stop}

@@ -9,10 +9,10 @@ use Rattle.apt_words.specs.declared.deed.Deed.{Deed}
 use Rattle.apt_words.specs.declared.deed.Deed.TheVariants as deeds
 use Rattle.apt_words.specs.declared.deed.Step.{Step}
 use Rattle.apt_plane.specs.declared.figures.Pt.{Pt}
-use Rattle.apt_cldata.specs.declared.record.Note.{Note}
-use Rattle.apt_cldata.specs.declared.record.Note.TheVariants as notes
-use Rattle.apt_cldata.specs.declared.record.Record.{Record}
-use Rattle.apt_cldata.specs.Ranges.{note_mark, EndsBy, EndsOnce}
+use Rattle.apt_records.specs.declared.record.Note.{Note}
+use Rattle.apt_records.specs.declared.record.Note.TheVariants as notes
+use Rattle.apt_records.specs.declared.record.Record.{Record}
+use Rattle.apt_records.specs.Ranges.{note_mark, EndsBy, EndsOnce}
 use Rattle.apt_meaning.specs.declared.situation.Situation.{Situation}
 use Rattle.apt_meaning.specs.declared.effect.Change.{Change}
 use Rattle.apt_meaning.specs.declared.effect.Change.TheVariants as changes

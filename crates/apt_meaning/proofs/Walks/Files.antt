@@ -1,6 +1,5 @@
 -- The compiler's records fit a CL file: their words fit its lengths, they are few, their bytes are few, and FINI stands last.
-use Rattle.std.proofs.Common.{◌≡◌, ℕ, ◌+◌, ◌*◌, ◌≤◌, ℤ, pos, Bool, true, false, List, [], ◌∷◌, ◌++◌, length, map, Ok, refl, arith}
-use Rattle.std.specs.Prelude.{MatchBool}
+use Rattle.std.proofs.Common.{◌≡◌, ℕ, ◌+◌, ◌*◌, ◌≤◌, ℤ, pos, List, [], ◌∷◌, ◌++◌, length, map, Ok, refl, arith}
 use Rattle.std.proofs.lemmas.List.{length-map, length-append}
 use Rattle.apt_words.specs.declared.Side.{Side}
 use Rattle.apt_words.specs.declared.Stop.{Stop}
@@ -14,21 +13,20 @@ use Rattle.apt_words.proofs.Titles.{asked_title, title_length, title_lengths}
 use Rattle.apt_plane.specs.declared.figures.Pt.{Pt}
 use Rattle.apt_plane.specs.declared.figures.Surface.{Surface}
 use Rattle.apt_plane.specs.declared.figures.Surface.TheVariants as surfaces
-use Rattle.apt_cldata.specs.declared.record.Note.{Note}
-use Rattle.apt_cldata.specs.declared.record.Note.TheVariants as notes
-use Rattle.apt_cldata.specs.declared.record.Record.{Record}
-use Rattle.apt_cldata.specs.declared.record.Record.TheVariants as records
-use Rattle.apt_cldata.specs.Ranges.{Mark, Begin, End, Fini, Other, mark_of, vertex_count, EndsBy, EndsOnce}
-use Rattle.apt_cldata.specs.Files.{is_fini_mark, HasFiniLast, IsShort, AreShort}
-use Rattle.apt_cldata.proofs.Conditions.{short_when}
-use Rattle.apt_cldata.proofs.RecordLaws.{triples_length}
-use Rattle.apt_cldata.proofs.Lengths.{bytes_in, bytes_of, bytes_of-append}
+use Rattle.apt_records.specs.declared.record.Note.{Note}
+use Rattle.apt_records.specs.declared.record.Note.TheVariants as notes
+use Rattle.apt_records.specs.declared.record.Record.{Record}
+use Rattle.apt_records.specs.declared.record.Record.TheVariants as records
+use Rattle.apt_records.specs.Ranges.{vertex_count}
+use Rattle.apt_records.specs.Lists.{IsShort, AreShort}
+use Rattle.apt_records.proofs.Conditions.{short_when}
+use Rattle.apt_records.proofs.Lengths.{triples_length, bytes_in, bytes_of, bytes_of-append}
 use Rattle.apt_meaning.specs.declared.situation.Situation.{Situation}
 use Rattle.apt_meaning.specs.declared.effect.Change.{Change}
 use Rattle.apt_meaning.specs.declared.effect.Change.TheVariants as changes
 use Rattle.apt_meaning.specs.declared.effect.Effect.{Effect}
 use Rattle.apt_meaning.specs.declared.effect.Effect.TheVariants as effects
-use Rattle.apt_cldata.specs.Vertices.{at_height}
+use Rattle.apt_records.specs.Vertices.{at_height}
 use Rattle.apt_meaning.specs.declared.motion.Motion.{Motion}
 use Rattle.apt_stop.specs.declared.legs.Legs.{Legs}
 use Rattle.apt_stop.specs.declared.legs.Legs.TheVariants as legs
@@ -214,19 +212,3 @@ compiled_fit so_far here (step ∷ steps) written few executed h =
     let said = said_by here step.deed e d.asked in
     let short = effect_short here (ask_of step.deed) e (points_of e) executed.0.text said (few_points so_far (point_number e) d.few) in
     rw f.2 (fit_behind so_far steps step e f.0 (with_statement-short step (effect_records e (points_of e)) short) (step_bytes here step e said) (compiled_fit n (after here e (ends_of e)) steps f.0 d.few executed.1 f.1))
-
--- ---- the end
-
-by_mark : (ended : Bool) (mark : Mark) (rs : List Record) → EndsBy ended mark rs (λ now. EndsOnce now rs) → ((now : Bool) → EndsOnce now rs → HasFiniLast rs)
-    → MatchBool (is_fini_mark mark) (rs ≡ []) (HasFiniLast rs)
-by_mark ended Fini [] ends more = refl
-by_mark ended Fini (r ∷ rs) ends more = absurd ends
-by_mark false End rs ends more = more true ends
-by_mark true End rs ends more = absurd ends
-by_mark ended Begin rs ends more = more ended ends
-by_mark false Other rs ends more = more false ends
-by_mark true Other rs ends more = absurd ends
-
-pub fini_last : (ended : Bool) (rs : List Record) → EndsOnce ended rs → HasFiniLast rs
-fini_last ended [] ends = absurd ends
-fini_last ended (r ∷ rs) ends = by_mark ended (mark_of r) rs ends (λ now. fini_last now rs)

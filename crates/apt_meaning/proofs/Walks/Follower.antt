@@ -5,15 +5,15 @@ use Rattle.apt_words.specs.declared.deed.Step.{Step}
 use Rattle.apt_scalar.specs.StepScalars.{HasScalars}
 use Rattle.apt_plane.specs.declared.figures.Pt.{Pt}
 use Rattle.apt_certify.specs.Jobs.{ArePoints}
-use Rattle.apt_cldata.specs.Ranges.{IsPosition, ArePositions, AreRecords}
-use Rattle.apt_cldata.specs.declared.record.Record.{Record}
+use Rattle.apt_records.specs.Ranges.{IsPosition, ArePositions, AreRecords}
+use Rattle.apt_records.specs.declared.record.Record.{Record}
 use Rattle.apt_defs.specs.Figures.{IsFigure}
 use Rattle.apt_meaning.specs.declared.situation.Situation.{Situation}
 use Rattle.apt_meaning.specs.declared.effect.Change.TheVariants as changes
 use Rattle.apt_meaning.specs.declared.effect.Effect.{Effect}
 use Rattle.apt_meaning.specs.declared.effect.Effect.TheVariants as effects
 use Rattle.apt_meaning.specs.Situations.{first_situation}
-use Rattle.apt_cldata.specs.Vertices.{at_height}
+use Rattle.apt_records.specs.Vertices.{at_height}
 use Rattle.apt_meaning.specs.Effects.{effect_of}
 use Rattle.apt_meaning.specs.Refusals.{refusal_of}
 use Rattle.apt_meaning.specs.Records.{cut_record, records_of, after}

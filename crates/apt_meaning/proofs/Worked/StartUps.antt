@@ -8,7 +8,7 @@ use Rattle.apt_words.specs.declared.Stop.TheVariants as stops
 use Rattle.apt_words.specs.declared.deed.Deed.TheVariants as deeds
 use Rattle.apt_plane.specs.declared.figures.Surface.{Surface}
 use Rattle.apt_plane.specs.declared.figures.Surface.TheVariants as surfaces
-use Rattle.apt_cldata.specs.declared.record.Reach.TheVariants as reaches
+use Rattle.apt_records.specs.declared.record.Reach.TheVariants as reaches
 use Rattle.apt_defs.specs.declared.figure.Figure.TheVariants as figures
 use Rattle.apt_defs.specs.Figures.{Table}
 use Rattle.apt_meaning.specs.declared.situation.Settings.{Settings}

@@ -1,7 +1,7 @@
 use Rattle.std.proofs.Common.{◌≡◌, ◌+◌, ◌*◌, ◌++◌, drop, map, vec_len, vec_capacity}
 use Rattle.std.specs.List.{flat_map}
 use Rattle.apt_cldata.specs.Files.{position_bytes}
-use Rattle.apt_cldata.specs.Vertices.{at_height}
+use Rattle.apt_records.specs.Vertices.{at_height}
 use Rattle.apt_cldata.proofs.words.push_level.Given as goal
 
 abbrev pub invariant-points : goal.invariant-points

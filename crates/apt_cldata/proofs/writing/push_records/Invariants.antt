@@ -1,5 +1,6 @@
 use Rattle.std.proofs.Common.{◌≡◌, ◌+◌, ◌++◌, drop}
-use Rattle.apt_cldata.specs.Files.{AreShort, records_bytes}
+use Rattle.apt_records.specs.Lists.{AreShort}
+use Rattle.apt_cldata.specs.Files.{records_bytes}
 use Rattle.apt_cldata.proofs.writing.push_records.Given as goal
 
 abbrev pub invariant-records : goal.invariant-records

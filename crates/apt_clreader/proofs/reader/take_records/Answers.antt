@@ -1,6 +1,6 @@
 use Rattle.std.proofs.Common.{rules, ◌≡◌, ◌+◌, drop, length, Err, true, false, sym, ◌∙◌, subst}
 use Rattle.std.proofs.lemmas.List.{take_rest}
-use Rattle.apt_cldata.specs.Files.{is_fini}
+use Rattle.apt_records.specs.Lists.{is_fini}
 use Rattle.apt_clreader.specs.declared.state.Part.TheVariants as parts
 use Rattle.apt_clreader.specs.Steps.{IsFirst, IsNext}
 use Rattle.apt_clreader.proofs.FirstLaws.{next_goes}

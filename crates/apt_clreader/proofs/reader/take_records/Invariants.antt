@@ -1,5 +1,5 @@
 use Rattle.std.proofs.Common.{◌+◌, ◌-◌, ◌*◌, ◌≤◌, drop, length}
-use Rattle.apt_cldata.specs.Ranges.{AreRecords, vertex_count}
+use Rattle.apt_records.specs.Ranges.{AreRecords, vertex_count}
 use Rattle.apt_clreader.specs.declared.state.Part.TheVariants as parts
 use Rattle.apt_clreader.specs.Steps.{Agree}
 use Rattle.apt_clreader.proofs.reader.take_records.Given as goal

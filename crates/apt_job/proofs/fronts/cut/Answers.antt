@@ -1,4 +1,4 @@
-use Rattle.apt_cldata.specs.declared.record.Record.TheVariants as records
+use Rattle.apt_records.specs.declared.record.Record.TheVariants as records
 use Rattle.apt_meaning.specs.Motions.{has_track}
 use Rattle.apt_job.specs.Fronts.{points_at}
 use Rattle.apt_job.proofs.InFront.{next_if, cut_said, two_said, cut_departs}

@@ -1,7 +1,7 @@
 use Rattle.std.proofs.Common.{◌≡◌, ◌∙◌, ◌∷◌, ◌++◌, ◌+◌, ◌-◌, ◌≤◌, ℕ, [], List, arith, drop, length, length-drop, ap, sym, subst}
 use Rattle.std.proofs.Math.ListN.{drop_of_length-le}
 use Rattle.std.proofs.lemmas.List.{drop_more}
-use Rattle.apt_cldata.specs.declared.record.Record.{Record}
+use Rattle.apt_records.specs.declared.record.Record.{Record}
 use Rattle.apt_defs.specs.Definitions.{HasOrNone}
 use Rattle.apt_meaning.specs.Expectations.{expected, Departs}
 use Rattle.apt_meaning.specs.Records.{records_of, after}

@@ -1,6 +1,6 @@
 use Rattle.std.proofs.Common.{rules, ◌≡◌, []}
 use Rattle.apt_words.specs.Rows.{unless}
-use Rattle.apt_cldata.specs.declared.record.Position.{Position}
+use Rattle.apt_records.specs.declared.record.Position.{Position}
 use Rattle.apt_meaning.specs.Effects.{position_by}
 use Rattle.apt_meaning.specs.Refusals.{position_cases}
 use Rattle.apt_motion.proofs.Places.{position_found}

@@ -1,6 +1,6 @@
 use Rattle.std.proofs.Common.{◌≡◌, ◌≤◌, ◌+◌, ◌++◌, drop, length, map, vec_len, vec_capacity}
-use Rattle.apt_cldata.specs.Vertices.{point_of}
-use Rattle.apt_cldata.proofs.vertices.append_points.Given as goal
+use Rattle.apt_records.specs.Vertices.{point_of}
+use Rattle.apt_records.proofs.vertices.append_points.Given as goal
 
 abbrev pub invariant-positions : goal.invariant-positions
 invariant-positions l =

@@ -2,13 +2,13 @@
 use Rattle.std.proofs.Common.{◌≡◌, ℕ, ◌+◌, ◌*◌, ◌≤◌, Bool, true, false, List, [], ◌∷◌, MatchBool, pos, length, refl, arith}
 use Rattle.std.proofs.lemmas.List.{length-map}
 use Rattle.apt_plane.specs.declared.figures.Surface.TheVariants as surfaces
-use Rattle.apt_cldata.specs.declared.record.Note.TheVariants as notes
-use Rattle.apt_cldata.specs.declared.record.Record.{Record}
-use Rattle.apt_cldata.specs.declared.record.Record.TheVariants as records
-use Rattle.apt_cldata.specs.Ranges.{Mark, Begin, End, Fini, Other, mark_of, vertices_in, EndsBy, EndsOnce}
-use Rattle.apt_cldata.specs.Words.{words_of}
-use Rattle.apt_cldata.specs.Files.{is_fini_mark, HasFiniLast, IsShort}
-use Rattle.apt_cldata.proofs.RecordLaws.{triples_length}
+use Rattle.apt_records.specs.declared.record.Note.TheVariants as notes
+use Rattle.apt_records.specs.declared.record.Record.{Record}
+use Rattle.apt_records.specs.declared.record.Record.TheVariants as records
+use Rattle.apt_records.specs.Ranges.{Mark, Begin, End, Fini, Other, mark_of, vertices_in, EndsBy, EndsOnce}
+use Rattle.apt_records.specs.Words.{words_of}
+use Rattle.apt_records.specs.Lists.{is_fini_mark, HasFiniLast, IsShort}
+use Rattle.apt_records.proofs.Lengths.{triples_length}
 
 -- ---- FINI stands last
 

@@ -1,9 +1,9 @@
 use Rattle.std.proofs.Common.{◌++◌, ◌∙◌, List, map, ap}
 use Rattle.apt_plane.specs.declared.figures.Pt.{Pt}
-use Rattle.apt_cldata.specs.declared.record.Position.{Position}
-use Rattle.apt_cldata.specs.Vertices.{point_of}
-use Rattle.apt_cldata.proofs.Heights.{points_behind}
-use Rattle.apt_cldata.proofs.vertices.VertexSlice.append_points.Goals as goal
+use Rattle.apt_records.specs.declared.record.Position.{Position}
+use Rattle.apt_records.specs.Vertices.{point_of}
+use Rattle.apt_records.proofs.Heights.{points_behind}
+use Rattle.apt_records.proofs.vertices.VertexSlice.append_points.Goals as goal
 
 pub returns-in-Ok-clause-ok : goal.returns-in-Ok-clause-ok
 returns-in-Ok-clause-ok c =

@@ -3,7 +3,7 @@
 ghost use Rattle.std.specs.Prelude.{◌≡◌, [], ◌∷◌, ◌++◌, true, length, map, OnOk, OnErr, IfOk, IfSome, MatchOption};
 ghost use Rattle.std.specs.List.{list_all};
 ghost use Rattle.std.specs.Ordering.{int_eq};
-ghost use Rattle.apt_cldata.specs.Vertices.{at_height, point_of};
+ghost use Rattle.apt_records.specs.Vertices.{at_height, point_of};
 
 use crate::Position;
 use apt_plane::Pt;
@@ -27,8 +27,8 @@ pub struct Vertices {
 
 impl Model for Vertices {
     ghost use Rattle.std.specs.Prelude.{List};
-    ghost use Rattle.apt_cldata.specs.declared.record.Position.{Position};
-    ghost use Rattle.apt_cldata.specs.Vertices.{listed};
+    ghost use Rattle.apt_records.specs.declared.record.Position.{Position};
+    ghost use Rattle.apt_records.specs.Vertices.{listed};
 
     ghost Value = { List Position };
 
@@ -97,15 +97,15 @@ impl Vertices {
 /// Some vertices of a contour, in order. Clauses see their list.
 #[derive(Drop)]
 pub struct VertexSlice<'a> {
-    pub(crate) z: i64,
-    pub(crate) level: &'a [Pt],
-    pub(crate) apart: &'a [Position],
+    z: i64,
+    level: &'a [Pt],
+    apart: &'a [Position],
 }
 
 impl<'a> Model for VertexSlice<'a> {
     ghost use Rattle.std.specs.Prelude.{List, ◌++◌, map};
-    ghost use Rattle.apt_cldata.specs.declared.record.Position.{Position};
-    ghost use Rattle.apt_cldata.specs.Vertices.{at_height};
+    ghost use Rattle.apt_records.specs.declared.record.Position.{Position};
+    ghost use Rattle.apt_records.specs.Vertices.{at_height};
 
     ghost Value = { List Position };
 
@@ -132,6 +132,14 @@ impl<'a> VertexSlice<'a> {
         ensures { result ≡ length self.now }
     {
         self.level.len() + self.apart.len()
+    }
+
+    /// A height and the points at it, which are the first, and the others.
+    #[inline(always)]
+    pub fn parts(&self) -> (i64, &'a [Pt], &'a [Position])
+        ensures { self.now ≡ map (at_height result.0) result.1.now ++ result.2.now }
+    {
+        (self.z, self.level, self.apart)
     }
 
     /// The first, and those behind it; none where there is none.

@@ -7,8 +7,8 @@ use Rattle.std.proofs.lemmas.Bool.Decides.{Decides-int_eq}
 use Rattle.std.proofs.lemmas.List.{append_assoc, length-map, length-append, map-append}
 use Rattle.std.proofs.lemmas.List.Folds.{list_all-append}
 use Rattle.apt_plane.specs.declared.figures.Pt.{Pt}
-use Rattle.apt_cldata.specs.declared.record.Position.{Position}
-use Rattle.apt_cldata.specs.Vertices.{at_height, point_of}
+use Rattle.apt_records.specs.declared.record.Position.{Position}
+use Rattle.apt_records.specs.Vertices.{at_height, point_of}
 
 -- whether positions are all at a height
 abbrev are_at : ℤ → List Position → Bool

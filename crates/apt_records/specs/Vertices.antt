@@ -1,9 +1,9 @@
 -- The vertices of a contour, however they are held.
 use Rattle.std.specs.Prelude.{ℤ, List, map}
 use Rattle.apt_plane.specs.declared.figures.Pt.{Pt}
-use Rattle.apt_cldata.specs.declared.record.Position.{Position}
-use Rattle.apt_cldata.specs.declared.vertices.Held.{Held}
-use Rattle.apt_cldata.specs.declared.vertices.Held.TheVariants as held
+use Rattle.apt_records.specs.declared.record.Position.{Position}
+use Rattle.apt_records.specs.declared.vertices.Held.{Held}
+use Rattle.apt_records.specs.declared.vertices.Held.TheVariants as held
 
 -- a point at a height
 abbrev pub at_height : ℤ → Pt → Position

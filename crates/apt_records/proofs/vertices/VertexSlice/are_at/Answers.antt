@@ -4,10 +4,10 @@ use Rattle.std.specs.List.{list_all}
 use Rattle.std.proofs.lemmas.Bool.{true≢false}
 use Rattle.std.proofs.lemmas.Bool.Decides.{nat_tests}
 use Rattle.std.proofs.lemmas.Int.{to_z-of_z}
-use Rattle.apt_cldata.specs.declared.record.Position.{Position}
-use Rattle.apt_cldata.proofs.Heights.{none_level, same_at, none_at}
-use Rattle.apt_cldata.proofs.vertices.VertexSlice.are_at.Goals.{then-is_empty, else-is_empty}
-use Rattle.apt_cldata.proofs.vertices.VertexSlice.are_at.Goals as goal
+use Rattle.apt_records.specs.declared.record.Position.{Position}
+use Rattle.apt_records.proofs.Heights.{none_level, same_at, none_at}
+use Rattle.apt_records.proofs.vertices.VertexSlice.are_at.Goals.{then-is_empty, else-is_empty}
+use Rattle.apt_records.proofs.vertices.VertexSlice.are_at.Goals as goal
 
 pub returns-then-is_same : goal.returns-then-is_same
 returns-then-is_same c =

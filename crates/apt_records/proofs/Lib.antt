@@ -1,0 +1,4 @@
+pub mod Heights
+pub mod Lengths
+pub mod Conditions
+mod Worked

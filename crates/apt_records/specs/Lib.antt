@@ -1,0 +1,4 @@
+pub mod Vertices
+pub mod Ranges
+pub mod Words
+pub mod Lists
