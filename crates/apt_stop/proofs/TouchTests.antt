@@ -4,7 +4,6 @@ use Rattle.std.proofs.Common.{refl, ◌≡◌, ◌⊎◌, inl, inr, ℕ, zero, s
 use Rattle.std.proofs.lemmas.Int.{ints}
 use Rattle.std.proofs.lemmas.Nat.{mul-le, mul-lt}
 use Rattle.std.proofs.lemmas.Bool.{and_parts, leb-true, leb-false}
-use Rattle.std.proofs.lemmas.Bool.Decides.{leb_tells}
 use Rattle.apt_num.specs.Sign.{OnLine, square}
 use Rattle.apt_num.proofs.AtLeast.{at_least_squares}
 use Rattle.apt_num.proofs.Testing.{is_at_least-from}
@@ -22,14 +21,15 @@ use Rattle.apt_contact.specs.Meetings.{circle_about}
 use Rattle.apt_stop.specs.Gaps.{gap, size, is_within, is_about, line_touches, circles_touch, is_touching}
 use Rattle.apt_stop.specs.Touching.{LineTouches, CirclesTouch, AreTouching}
 use Rattle.apt_stop.proofs.Touching.{touches_by}
+use Rattle.apt_stop.proofs.Within.{at_most}
 
 -- ---- a line and a circle
 
+twice : (z : ℤ) → neg_ℤ (neg_ℤ z) ≡ z
+twice z = omega (arith, ints)
+
 mirrored : (k h g : ℤ) (n : ℕ) → OnLine k h n g → OnLine (neg_ℤ k) (neg_ℤ h) n g
 mirrored k h g n on = record { right = on.left; left = rw (twice k, twice h) on.right }
-  where
-    twice : (z : ℤ) → neg_ℤ (neg_ℤ z) ≡ z
-    twice z = omega (arith, ints)
 
 within : (k h : ℤ) (n : ℕ) → OnLine k h n (pos 2) → is_within k h gap n ≡ true
 within k h n on = rw (is_at_least-from k (h -ℤ pos 2) n on.right, is_at_least-from (neg_ℤ k) (neg_ℤ h -ℤ pos 2) n on.left) refl
@@ -57,9 +57,6 @@ strip_tells (pos k) r n large some = (
         absurd (omega (arith, ints, is))
   ],
 )
-  where
-    twice : (z : ℤ) → neg_ℤ (neg_ℤ z) ≡ z
-    twice z = omega (arith, ints)
 strip_tells (negsuc k) r n large some = (
   λ e. inr (mirrored (pos (suc k)) r (pos 2) n (touches_by (pos (suc k)) r n e)),
   λ on. elim on [
@@ -69,17 +66,11 @@ strip_tells (negsuc k) r n large some = (
     | inr right ↦ within (pos (suc k)) r n (rw (twice r) at (mirrored (negsuc k) (neg_ℤ r) (pos 2) n right))
   ],
 )
-  where
-    twice : (z : ℤ) → neg_ℤ (neg_ℤ z) ≡ z
-    twice z = omega (arith, ints)
 
 line_tells : (l : Line) (c : Circ) → IsLine l → IsCircle c → (line_touches l c ≡ true) ↔ LineTouches l c
 line_tells l c line circle = strip_tells (cross l.dir (displacement l.base c.c)) c.r (length_squared l.dir) circle.least line.dir.length
 
 -- ---- two circles
-
-at_most : (x y : ℕ) → x ≤ y → nat_le x y ≡ true
-at_most x y h = elim (leb_tells x y) [ inl is ↦ is.0 | inr past ↦ let more = past.1 in absurd (omega arith) ]
 
 -- the root of n is a length, up to 2
 abbrev IsAbout : ℕ → ℕ → Type 0

@@ -10,15 +10,15 @@ use Rattle.apt_contact.specs.Meetings.{circle_about}
 use Rattle.apt_stop.specs.declared.course.Course.{Course}
 use Rattle.apt_stop.specs.Tangencies.{HaveNoAxis}
 
--- a line and a circle touch where the centre is the radius away from the line, on its left or on its right
+-- a line and a circle touch where the centre is the radius away from the line, up to 2 units, on its left or on its right
 abbrev pub LineTouches : Line → Circ → Type 0
 LineTouches l c = IsNearLine l c.r (pos 2) c.c ⊎ IsNearLine l (neg_ℤ c.r) (pos 2) c.c
 
--- two circles where their centres are the sum of the radii apart, or the difference
+-- two circles where their centres are the sum of the radii apart, or the difference, up to 2 units
 abbrev pub CirclesTouch : Circ → Circ → Type 0
 CirclesTouch c d = IsNearCircle (circle_about c.c (c.r +ℤ d.r)) (pos 2) d.c ⊎ IsNearCircle (circle_about c.c (pos (unsigned_abs (c.r -ℤ d.r)))) (pos 2) d.c
 
--- two lines never
+-- two lines never do
 abbrev pub AreTouching : Surface → Surface → Type 0
 AreTouching (surfaces.Line l) (surfaces.Line k) = ⊥
 AreTouching (surfaces.Line l) (surfaces.Circ c) = LineTouches l c
