@@ -33,6 +33,8 @@ pub fn expression(alloc: Global, tokens: &[Token]) -> Result<Option<Expr>, Alloc
     Ok(Some(Expr { node }))
 }
 
+// a frame of its own, so that the commonest expressions, of one or two tokens, need none
+#[inline(never)]
 #[tactic(auto, unfolding(crate::specs::Expressions::expression))]
 fn longer(alloc: Global, tokens: &[Token]) -> Result<Option<Expr>, AllocError>
     ensures value { IfOk result (λ e. e ≡ expressions.expression tokens.now) }

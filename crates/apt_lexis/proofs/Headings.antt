@@ -11,8 +11,8 @@ use Rattle.apt_words.specs.declared.word.Word.{Word}
 use Rattle.apt_lexis.specs.declared.cause.PartCause.TheVariants as causes
 use Rattle.apt_lexis.specs.declared.token.Token.{Token}
 use Rattle.apt_lexis.specs.declared.token.Token.TheVariants as tokens
-use Rattle.apt_lexis.specs.Tokens.{Read, capital, is_blank, is_letter, is_letter_or_digit, is_in_run, or_bad_number, number_in, word_or_name, of_symbol, word, mark}
-use Rattle.apt_lexis.specs.Titles.{Title, behind, front_word, takes_text, title_word, title, close_first, behind_close, with_tokens, labelled, with_label, labelled_title, or_else, title_behind}
+use Rattle.apt_lexis.specs.Tokens.{Read, capital, is_blank, is_letter, is_letter_or_digit, is_in_run, Tokens, tokens_of, all_good, in_front_of, or_bad_number, number_in, word_or_name, of_symbol, word, mark}
+use Rattle.apt_lexis.specs.Titles.{Title, behind, front_word, takes_text, title_word, title, close_first, behind_close, with_tokens, labelled, with_label, labelled_title, or_else, title_or_labelled, is_title, closes_first, may_be_titled, title_behind}
 use Rattle.apt_lexis.specs.Sentences.{is_no_dollar, said_on}
 use Rattle.apt_lexis.specs.Spellings.{TakesNoText}
 use Rattle.apt_lexis.proofs.Fronts.{prefix_no, take_front, none_behind, none_first}
@@ -325,6 +325,53 @@ untitled_line line are = takes_no_text line (record {
   unclosed = sym (closed_said line) ∙ sym (closed_read (said_on line)) ∙ are.unclosed;
   unlabelled = sym (labelled_said line) ∙ sym (labelled_read (said_on line)) ∙ are.unlabelled;
 })
+
+of_ok : (us ts : List Token) (read : Tokens) → read ≡ Ok us → read ≡ Ok ts → us ≡ ts
+of_ok us ts read e f = cc
+
+-- tokens that are read well
+abbrev good_ones : List Token → List Read
+good_ones [] = []
+good_ones (t ∷ ts) = Ok t ∷ good_ones ts
+
+good_first : (t : Token) (reads : List Read) (ts : List Token) (more : Tokens) → all_good reads ≡ more → in_front_of (Ok t) more ≡ Ok ts
+    → ((us : List Token) → all_good reads ≡ Ok us → reads ≡ good_ones us) → Ok t ∷ reads ≡ good_ones ts
+good_first t reads ts (Err cause) f e again = cc
+good_first t reads ts (Ok us) f e again = subst (λ (vs : List Token). Ok t ∷ reads ≡ good_ones vs) (of_ok (t ∷ us) ts (in_front_of (Ok t) (Ok us)) refl e) (ap (λ rs. Ok t ∷ rs) (again us f))
+
+good_reads : (reads : List Read) (ts : List Token) → all_good reads ≡ Ok ts → reads ≡ good_ones ts
+good_reads [] ts e = subst (λ (us : List Token). [] ≡ good_ones us) (of_ok [] ts (all_good []) refl e) refl
+good_reads (Err cause ∷ reads) ts e = cc
+good_reads (Ok t ∷ reads) ts e = good_first t reads ts (all_good reads) refl e (λ us f. good_reads reads us f)
+
+unclosed_tokens : (ts : List Token) → closes_first ts ≡ false → closed (good_ones ts) ≡ false
+unclosed_tokens [] e = refl
+unclosed_tokens (tokens.Close ∷ ts) e = cc
+unclosed_tokens (_ ∷ ts) e = refl
+
+unlabelled_tokens : (t : Token) (ts : List Token) → closes_first ts ≡ false → labelled_in (Ok t ∷ good_ones ts) ≡ false
+unlabelled_tokens (tokens.Name name) ts e = unclosed_tokens ts e
+unlabelled_tokens _ ts e = refl
+
+no_title_token : (t : Token) (reads : List Read) → is_title t ≡ false → titled (Ok t ∷ reads) ≡ false
+no_title_token (tokens.Word w) reads e = e
+no_title_token _ reads e = refl
+
+untitled_front : (ts : List Token) → may_be_titled ts ≡ false → (titled (good_ones ts) ≡ false) × (labelled_in (good_ones ts) ≡ false)
+untitled_front [] e = cc
+untitled_front (t ∷ ts) e = let no = neither (is_title t) (closes_first ts) e in (no_title_token t (good_ones ts) no.0, unlabelled_tokens t ts no.1)
+
+-- no title stands at the front of a line that begins a statement, where its tokens tell so
+pub untitled_tokens : (line : List ℕ) (ts : List Token) → tokens_of (said_on line) ≡ Ok ts → may_be_titled ts ≡ false → title_or_labelled line ≡ None
+untitled_tokens line ts e f =
+    let reads = good_reads (reads_of (said_on line)) ts e in
+    let none = untitled_front ts f in
+    let word : is_titled line ≡ false = sym (titled_said line) ∙ sym (titled_read (said_on line)) ∙ ap titled reads ∙ none.0 in
+    let label : is_labelled line ≡ false = sym (labelled_said line) ∙ sym (labelled_read (said_on line)) ∙ ap labelled_in reads ∙ none.1 in
+    is_none (title_or_labelled line) (some_either (title line) (labelled_title line) ∙ both_false (is_titled line) (is_labelled line) word label)
+  where
+    both_false : (s t : Bool) → s ≡ false → t ≡ false → (s || t) ≡ false
+    both_false s t e f = rw (e, f) refl
 
 -- a line on which the same is read takes no text where the other takes none
 pub same_reads_no_text : (line other : List ℕ) → reads_of (said_on line) ≡ reads_of (said_on other) → TakesNoText line → TakesNoText other

@@ -274,7 +274,7 @@ word_more ts rest b bs w more all e f s same on h =
     good_word : (text w : List ℕ) → is_symbol (map capital text) ≡ true → w ≡ map capital text → word text ≡ Ok (of_symbol w)
     good_word text w s same = rw s (ap (λ v. Ok (of_symbol v)) (sym same))
 
-word_bad : (ts : List Token) (rest : List ℕ) (b : ℕ) (bs : List ℕ) (all : Tokens) → rest ≡ b ∷ bs → is_letter b ≡ true
+pub word_bad : (ts : List Token) (rest : List ℕ) (b : ℕ) (bs : List ℕ) (all : Tokens) → rest ≡ b ∷ bs → is_letter b ≡ true
     → is_symbol (map capital (take_while is_letter_or_digit rest)) ≡ false → joined (Ok ts) (tokens_of rest) ≡ all → Err causes.BadWord ≡ all
 word_bad ts rest b bs all e f s h =
     bad_one ts causes.BadWord rest (tokens_of (behind is_letter_or_digit rest)) all
@@ -299,18 +299,3 @@ number_bad ts rest b bs all e f g s h =
 pub mark_more : (ts : List Token) (t : Token) (rest : List ℕ) (b : ℕ) (bs : List ℕ) (all : Tokens) → rest ≡ b ∷ bs → is_in_run b ≡ false → is_blank b ≡ false
     → mark b ≡ Ok t → joined (Ok ts) (tokens_of rest) ≡ all → joined (Ok (ts ++ t ∷ [])) (tokens_of bs) ≡ all
 mark_more ts t rest b bs all e f g s h = one_more ts t rest bs all (mark_at rest b bs e f g ∙ ap (λ r. in_front_of r (tokens_of bs)) s) h
-
-mark_bad : (ts : List Token) (rest : List ℕ) (b : ℕ) (bs : List ℕ) (all : Tokens) → rest ≡ b ∷ bs → is_in_run b ≡ false → is_blank b ≡ false
-    → mark b ≡ Err causes.BadWord → joined (Ok ts) (tokens_of rest) ≡ all → Err causes.BadWord ≡ all
-mark_bad ts rest b bs all e f g s h = bad_one ts causes.BadWord rest (tokens_of bs) all (mark_at rest b bs e f g ∙ ap (λ r. in_front_of r (tokens_of bs)) s) h
-
--- neither a mark nor a number, and no symbol stands there
-pub other_bad : (ts : List Token) (rest : List ℕ) (b : ℕ) (bs : List ℕ) (all : Tokens) → rest ≡ b ∷ bs → is_blank b ≡ false → (is_digit b || b == point) ≡ false → mark b ≡ Err causes.BadWord
-    → is_symbol (map capital (take_while is_letter_or_digit rest)) ≡ false → joined (Ok ts) (tokens_of rest) ≡ all → Err causes.BadWord ≡ all
-other_bad ts rest b bs all e f g m s h = elim (is_letter b) as (λ t. is_letter b ≡ t → Err causes.BadWord ≡ all) [
-  | true ↦ λ k. word_bad ts rest b bs all e k s h
-  | false ↦ λ k. mark_bad ts rest b bs all e (rw k g) f m h
-] refl
-
-pub letter_first : (rest : List ℕ) (b : ℕ) (bs : List ℕ) → rest ≡ b ∷ bs → begins_with_letter rest ≡ true → is_letter b ≡ true
-letter_first rest b bs e f = sym (ap begins_with_letter e) ∙ f

@@ -15,7 +15,7 @@ use Rattle.apt_words.specs.declared.word.Word.TheVariants as words
 use Rattle.apt_words.proofs.Words.{spelled, no_word}
 use Rattle.apt_lexis.specs.declared.token.Token.TheVariants as tokens
 use Rattle.apt_lexis.specs.Tokens.{capital, is_blank, is_letter_or_digit}
-use Rattle.apt_lexis.specs.Titles.{Title, without_blanks, unless_last, takes_text, title_word, title, labelled, with_label, title_or_labelled, may_be_titled, title_behind, behind_close, with_tokens, behind, front_word}
+use Rattle.apt_lexis.specs.Titles.{Title, without_blanks, unless_last, takes_text, title_word, title, labelled, with_label, title_behind, behind_close, with_tokens, behind, front_word}
 use Rattle.apt_lexis.proofs.Capitals.{no_both}
 
 -- ---- blanks at the end
@@ -129,24 +129,6 @@ untitled name rest line e f = elim (is_name name) as (λ t. (only_if t name >>= 
 
 pub no_label : (name rest : List ℕ) → is_name name ≡ false → with_label name rest ≡ None
 no_label name rest e = rw e refl
-
-no_title : (line : List ℕ) → length (take_while is_letter_or_digit (behind is_blank line)) ≢ 6 → title line ≡ None
-no_title line h = rw (other_length (take_while is_letter_or_digit (behind is_blank line)) h) refl
-
-not_six : (n : ℕ) → (n == 6) ≡ false → n ≢ 6
-not_six n e six = let f = rw six at e in (cc)
-
-no_close : (line : Option (List ℕ)) → is_some line ≡ false → line ≡ None
-no_close None e = refl
-no_close (Some line) e = cc
-
--- neither a title nor a label at the front of a line
-pub no_heading : (line : List ℕ) → may_be_titled line ≡ false → title_or_labelled line ≡ None
-no_heading line none =
-    let word = behind is_blank line in
-    let rest = behind is_letter_or_digit word in
-    let no = or_parts (length (take_while is_letter_or_digit word) == 6) (is_some (behind_close rest)) none in
-    rw (no_title line (not_six (length (take_while is_letter_or_digit word)) no.0)) (not_closed (front_word word) rest (no_close (behind_close rest) no.1))
 
 pub behind_nothing : (t : Option Title) → option_map (with_tokens []) t ≡ t
 behind_nothing None = refl

@@ -1,5 +1,5 @@
 -- PARTNO and REMARK, the first word of a statement or the first behind its label, take the rest of their line as text.
-use Rattle.std.specs.Prelude.{ℕ, ◌==◌, ◌||◌, Bool, true, false, List, [], ◌∷◌, ◌++◌, length, map, drop, Option, is_some, Some, None, if◌then◌else◌}
+use Rattle.std.specs.Prelude.{ℕ, ◌==◌, ◌||◌, Bool, true, false, List, [], ◌∷◌, ◌++◌, map, drop, Option, Some, None, if◌then◌else◌}
 use Rattle.std.specs.List.{take_while, prefix_len}
 use Rattle.apt_words.specs.Options.{◌>>=◌, only_if}
 use Rattle.apt_words.specs.Symbols.{is_name}
@@ -85,11 +85,18 @@ or_else (Some t) other = Some t
 abbrev pub title_or_labelled : List ℕ → Option Title
 title_or_labelled line = or_else (title line) (labelled_title line)
 
--- a line at whose front a title or a closed label may stand: a word of six letters or digits, or a parenthesis behind the word
-abbrev pub may_be_titled : List ℕ → Bool
-may_be_titled line =
-    let line = behind is_blank line in
-    length (take_while is_letter_or_digit line) == 6 || is_some (behind_close (behind is_letter_or_digit line))
+abbrev pub is_title : Token → Bool
+is_title (tokens.Word w) = takes_text w
+is_title _ = false
+
+abbrev pub closes_first : List Token → Bool
+closes_first (tokens.Close ∷ ts) = true
+closes_first _ = false
+
+-- the tokens of a line at whose front a title may stand: none at all, a word of titles, or one that a parenthesis closes
+abbrev pub may_be_titled : List Token → Bool
+may_be_titled [] = true
+may_be_titled (t ∷ ts) = is_title t || closes_first ts
 
 -- the tokens and the text of a statement that has these tokens before the line
 abbrev pub title_behind : List Token → List ℕ → Option Title

@@ -54,7 +54,7 @@ pub(crate) fn begins_with_letter(text: &[u8]) -> bool
 
 /// A letter as a capital, or a digit; none for another byte.
 #[tactic(auto, using(crate::proofs::Entries::no_capital, crate::proofs::Entries::capital_of))]
-fn in_capitals(b: u8) -> Option<u8>
+pub(crate) fn in_capitals(b: u8) -> Option<u8>
     ensures { result ≡ only_if (spec.is_letter_or_digit b) (spec.capital b) }
 {
     match CAPITALS[b as usize] {

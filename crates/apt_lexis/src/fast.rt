@@ -9,9 +9,9 @@ ghost use Rattle.apt_lexis.specs.Titles as titles;
 
 use crate::Token;
 use crate::line::{SourceLine, any_line};
-use crate::phrase::{Phrase, take_any_line, take_tokens};
-use crate::title::{TITLE_LETTERS, behind_close, front_word};
-use crate::token::behind_blanks;
+use crate::phrase::{Phrase, no_tokens, take_any_line};
+use crate::token::add_tokens;
+use apt_words::Word;
 use std::alloc::{AllocError, Global};
 use std::simd::prelude::*;
 
@@ -94,19 +94,31 @@ pub(crate) fn first_line(rest: &[u8]) -> Option<(SourceLine<'_>, &[u8])>
     }
 }
 
-/// Whether a title or a closed label may stand at the front of a line: at most lines neither does.
-#[inline(always)]
-fn may_be_titled(line: &[u8]) -> bool
-    ensures { result ≡ titles.may_be_titled line.now }
+fn is_title(token: &Token) -> bool
+    ensures { result ≡ titles.is_title token.now }
 {
-    let (word, rest) = front_word(behind_blanks(line));
-    word.len() == TITLE_LETTERS || behind_close(rest).is_some()
+    matches!(token, Token::Word(Word::Partno | Word::Remark))
+}
+
+fn closes_first(tokens: &[Token]) -> bool
+    ensures { result ≡ titles.closes_first tokens.now }
+{
+    matches!(tokens, [Token::Close, ..])
+}
+
+/// Whether a title may stand at the front of a line with these tokens: at most lines none does.
+fn may_be_titled(tokens: &[Token]) -> bool
+    ensures { result ≡ titles.may_be_titled tokens.now }
+{
+    match tokens {
+        [] => true,
+        [first, rest @ ..] => is_title(first) || closes_first(rest),
+    }
 }
 
 /// Takes a line into the statement that is begun; whether the line completes it.
 ///
-/// At the front of most lines that begin a statement no title may stand: their tokens are taken at once.
-#[tactic(auto, using(crate::proofs::SentenceLaws::by_tokens, crate::proofs::TitleLaws::no_heading))]
+/// The tokens of most lines that begin a statement tell that no title stands there: these lines are taken at once.
 pub(crate) fn take_line(
     alloc: Global,
     spare: &mut Option<Vec<Token>>,
@@ -117,9 +129,19 @@ pub(crate) fn take_line(
     ensures behind { IfOk result (λ done. sentences.behind_line begun.old number line.now.text.now ≡ (if done then record { begun = None; said = begun.new } else record { begun = begun.new; said = None })) }
     ensures ended { IfOk result (λ done. done ≡ true → IsSome begun.new) }
 {
-    if begun.is_none() && !may_be_titled(line.text) {
-        take_tokens(alloc, spare, begun, number, line)
-    } else {
-        take_any_line(alloc, spare, begun, number, line)
+    if begun.is_none() {
+        let mut tokens = no_tokens(alloc, spare);
+        let fault = add_tokens(&mut tokens, line.front)?;
+        if fault.is_none() && !may_be_titled(&tokens) {
+            *begun = Some(Phrase {
+                line: number,
+                tokens,
+                fault: None,
+                text: None,
+            });
+            return Ok(!line.goes_on);
+        }
+        *spare = Some(tokens);
     }
+    take_any_line(alloc, spare, begun, number, line)
 }

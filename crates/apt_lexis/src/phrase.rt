@@ -35,7 +35,7 @@ impl Model for Phrase {
 }
 
 /// A list without tokens, in the room of one that is done with where there is one.
-fn no_tokens(alloc: Global, spare: &mut Option<Vec<Token>>) -> Vec<Token>
+pub(crate) fn no_tokens(alloc: Global, spare: &mut Option<Vec<Token>>) -> Vec<Token>
     ensures { result.items ≡ [] }
 {
     match spare.take() {
@@ -126,8 +126,7 @@ fn title_in<'a>(begun: &Option<Phrase>, line: &'a [u8]) -> Option<Heading<'a>>
 
 /// Takes a line that has no title into the statement that is begun; whether the line completes it.
 #[tactic(auto, using(crate::proofs::SentenceLaws::silent, crate::proofs::SentenceLaws::goes_on_with, crate::proofs::SentenceLaws::ends_with))]
-#[inline(always)]
-pub(crate) fn take_tokens(
+fn take_tokens(
     alloc: Global,
     spare: &mut Option<Vec<Token>>,
     begun: &mut Option<Phrase>,

@@ -19,7 +19,7 @@ use std::alloc::{AllocError, Global};
 use std::marker::Model;
 
 /// PARTNO and REMARK have so many letters.
-pub(crate) const TITLE_LETTERS: usize = 6;
+const TITLE_LETTERS: usize = 6;
 
 /// A title's line: a label and its parenthesis where they stand on it, the word and the text. Clauses see its
 /// tokens and the text.
@@ -49,7 +49,7 @@ fn spells(symbol: &Symbol, word: Word) -> bool
 
 /// The letters and digits at the front of a line, and what stands behind them.
 #[tactic(auto, using(crate::proofs::Fronts::front_short))]
-pub(crate) fn front_word(line: &[u8]) -> (&[u8], &[u8])
+fn front_word(line: &[u8]) -> (&[u8], &[u8])
     ensures word { result.0.now ≡ take_while characters.is_letter_or_digit line.now }
     ensures rest { result.1.now ≡ spec.behind characters.is_letter_or_digit line.now }
 {
@@ -117,7 +117,7 @@ fn title(line: &[u8]) -> Option<(Word, &[u8])>
     title_of(word, rest)
 }
 
-pub(crate) fn behind_close(line: &[u8]) -> Option<&[u8]>
+fn behind_close(line: &[u8]) -> Option<&[u8]>
     ensures { option_map (λ r. r.now) result ≡ spec.behind_close line.now }
 {
     match behind_blanks(line) {
