@@ -16,6 +16,6 @@ pub mod Unfailed
 pub mod Comparing
 pub mod Putting
 pub mod Usage
-pub mod Shown
 pub mod Running
-pub mod Circles
+pub mod Demonstrating
+pub mod Shown

@@ -11,7 +11,8 @@ use Rattle.apt_part.specs.Promise.{file_limit}
 use Rattle.apt_report.specs.declared.status.Status.{Status}
 use Rattle.apt_report.specs.declared.status.Status.TheVariants as answers
 use Rattle.apt_report.specs.declared.status.Summary.{Summary}
-use Rattle.apt_report.specs.Demo.{demo_part}
+use Rattle.apt_demo.specs.Demo.{demo_part}
+use Rattle.apt_demo.specs.Promise.{demo_machine, HasRecords}
 use Rattle.apt_core.specs.Words.{FourNames, names_of}
 use Rattle.apt_core.specs.Due.{OrNoMemory}
 use Rattle.apt_core.specs.Inputs.{Files, part_limit, part_inputs, inputs, ReadsAll}
@@ -23,7 +24,7 @@ use Rattle.apt_core.specs.Promise.{IsCompiled, Compiles, Certifies}
 use Rattle.apt_core.proofs.Apart.{differs}
 use Rattle.apt_core.proofs.Unfailed.{AreUnfailed, FaultOrWritten, compiles_whole, certifies_right}
 use Rattle.apt_core.proofs.Usage.{TellsNoFault, output_never}
-use Rattle.apt_core.proofs.Circles.Output.{demo_comes}
+use Rattle.apt_core.proofs.Demonstrating.{demo_comes}
 
 -- ---- the store
 
@@ -51,6 +52,15 @@ two_files n f g part machine text table = (
   held_at_index (f ∷ g ∷ []) 0 (codes "PART") (first_file f g part) ∙ ap Some text,
   held_at_index (f ∷ g ∷ []) 1 (codes "MACHINE") (second_file f g part machine) ∙ ap Some table,
 )
+
+-- what holds by itself holds of a store that is made
+made_has : {S E : Type 0} (P : Type 0) (made : Result S E) → P → IfOk made (λ _. P)
+made_has P (Ok store) has = has
+made_has P (Err e) has = tt
+
+-- its part has records
+pub part_has : {S E : Type 0} (n : ℕ) (text : List ℕ) (made : Result S E) → text ≡ demo_part n → HasRecords demo_machine text → IfOk made (λ _. HasRecords demo_machine (demo_part n))
+part_has n text made is has = made_has (HasRecords demo_machine (demo_part n)) made (subst (HasRecords demo_machine) is has)
 
 -- what is told of a store holds for each that tells it
 pub told_holds : {S E : Type 0} (told : S → Option Contents) (n : ℕ) (made : Result S E) (files : Contents) → IsOkAnd made (λ store. told store ≡ Some files) → HoldsDemo n (Some files)
@@ -133,17 +143,17 @@ done_tells_none s = record { table = λ fault e. let f : ⊥ = cc in f; text = �
 -- ---- the two works
 
 -- the part has neither a fault nor a refused step
-no_fault : (n : ℕ) (answer : Status) → 1 ≤ n → n ≤ 800 → demo_due n ≢ Err answer
-no_fault n answer low high fault = let due = sym fault ∙ (demo_comes n low high).1 in let f : ⊥ = cc in f
+no_fault : (n : ℕ) (answer : Status) → HasRecords demo_machine (demo_part n) → demo_due n ≢ Err answer
+no_fault n answer has fault = let due = sym fault ∙ (demo_comes n has).1 in let f : ⊥ = cc in f
 
 -- where the compile is not done, memory ran out
-pub fault_shown : (n : ℕ) (m middle : Contents) (w x : Option (List ℕ)) (told : Status) → 1 ≤ n → n ≤ 800 → HoldsDemo n (Some m) → length (demo_part n) ≤ part_limit
+pub fault_shown : (n : ℕ) (m middle : Contents) (w x : Option (List ℕ)) (told : Status) → HasRecords demo_machine (demo_part n) → HoldsDemo n (Some m) → length (demo_part n) ≤ part_limit
     → Compiles demo_names (sure_files m w) (sure_files middle x) told → ((s : Summary) → told ≢ answers.Done s) → OrNoMemory (IsDemo n told) told
-fault_shown n m middle w x told low high holds short works undone =
+fault_shown n m middle w x told has holds short works undone =
     told_fault (compiles_whole demo_names m (demo_part n) demo_table (sure_files m w) (sure_files middle x) told refl (demo_reads n m holds short) (sure_unfailed m middle w x) works)
   where
     told_fault : OrNoMemory (FaultOrWritten demo_names (demo_part n) demo_table (Some m) (Some middle) told) told → OrNoMemory (IsDemo n told) told
-    told_fault (inl (inl fault)) = absurd (no_fault n told low high fault)
+    told_fault (inl (inl fault)) = absurd (no_fault n told has fault)
     told_fault (inl (inr is)) = absurd (undone is.output.summary is.done)
     told_fault (inr lacks) = inr lacks
 

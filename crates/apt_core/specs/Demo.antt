@@ -8,7 +8,7 @@ use Rattle.apt_machine.specs.Tables.{table_of}
 use Rattle.apt_report.specs.declared.status.Status.{Status}
 use Rattle.apt_report.specs.declared.status.Status.TheVariants as answers
 use Rattle.apt_report.specs.declared.status.Summary.TheVariants as summaries
-use Rattle.apt_report.specs.Demo.{demo_part}
+use Rattle.apt_demo.specs.Demo.{demo_part}
 use Rattle.apt_core.specs.Outputs.{Output, output_due}
 use Rattle.apt_core.specs.Certificates.{IsCertified}
 

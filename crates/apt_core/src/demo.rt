@@ -1,7 +1,8 @@
 //! The command `demo`.
 
 ghost use Rattle.std.specs.Prelude.{◌≡◌, ◌≤◌, length, IfOk};
-ghost use Rattle.apt_report.specs.Demo.{demo_part};
+ghost use Rattle.apt_demo.specs.Demo.{demo_part};
+ghost use Rattle.apt_demo.specs.Promise.{demo_machine, HasRecords};
 ghost use Rattle.apt_core.specs.Demo.{shown_for, IsDemo, HoldsDemo};
 ghost use Rattle.apt_core.specs.Due.{answer_of, OrNoMemory};
 
@@ -10,7 +11,8 @@ use crate::compile::compile;
 use crate::put::status_of;
 use crate::words::Names;
 use apt_certify::Gate;
-use apt_report::{Status, Summary, demo_part};
+use apt_demo::demo_part;
+use apt_report::{Status, Summary};
 use apt_shelf::{Shelf, SureShelf};
 use std::alloc::{AllocError, Global};
 use std::thread::Threads;
@@ -48,6 +50,7 @@ fn store_of(alloc: Global, n: u32) -> Result<SureShelf, AllocError>
     requires { (1 ≤ n) × (n ≤ 800) }
     ensures holds { IfOk result (λ store. HoldsDemo n (⟦<SureShelf as Shelf>⟧.told store)) }
     ensures short { IfOk result (λ _. length (demo_part n) ≤ 4194304) }
+    ensures records { IfOk result (λ _. HasRecords demo_machine (demo_part n)) }
 {
     let part = (String::from_str(alloc, NAMES.part)?, demo_part(alloc, n)?);
     let table = (

@@ -4,6 +4,4 @@ pub mod PointCounts
 pub mod ActLines
 pub mod Places
 pub mod Told
-pub mod Circles
-pub mod DemoLines
 mod Worked

@@ -4,4 +4,3 @@ pub mod Acts
 pub mod Decimals
 pub mod Listing
 pub mod Columns
-pub mod Demo

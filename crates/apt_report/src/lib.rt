@@ -2,10 +2,9 @@
 #![tactic(auto)]
 
 mod acts;
-mod demo;
 mod line;
 mod points;
-mod room;
+pub mod room;
 mod status;
 
 pub use acts::{act_lines, push_act_lines};
@@ -14,7 +13,6 @@ pub use apt_certify::{Bad, Reason, Verdict};
 pub use apt_cldata::ClCause;
 pub use apt_lexis::PartCause;
 pub use apt_machine::MachineCause;
-pub use demo::demo_part;
 pub use line::line_of;
 pub use points::{PointLines, listing};
 pub use status::{FileName, Miss, Status, Summary};

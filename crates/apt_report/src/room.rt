@@ -85,6 +85,7 @@ pub fn write_signed_pointed(room: &mut [u8], end: usize, decimals: usize, v: i64
     start - 1
 }
 
+/// The same without a sign.
 pub fn write_pointed(room: &mut [u8], end: usize, decimals: usize, n: u64) -> usize
     requires room { 40 ≤ end }
     requires end { end ≤ length room.old }

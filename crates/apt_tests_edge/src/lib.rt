@@ -2,6 +2,8 @@
 #![tactic(auto)]
 
 #[cfg(test)]
+mod demo;
+#[cfg(test)]
 mod folder;
 #[cfg(test)]
 mod listing;

@@ -19,5 +19,5 @@ pub returns : goal.returns
 returns g c =
     let store = c.in_ok-store.store in
     rw c.status_of.ensures
-    (fault_shown c.args.n (files_of store) (files_of c.compile.new.shelf) _ _ (answer_of c.compile.result) c.requires.0 c.requires.1 c.in_ok-store.ensures.holds c.in_ok-store.ensures.short c.compile.ensures
+    (fault_shown c.args.n (files_of store) (files_of c.compile.new.shelf) _ _ (answer_of c.compile.result) c.in_ok-store.ensures.records c.in_ok-store.ensures.holds c.in_ok-store.ensures.short c.compile.ensures
     (λ s e. c.in_default.not-Done s (c.status_of.ensures ∙ e)))

@@ -35,9 +35,9 @@ use Rattle.apt_meaning.specs.Situations.{position_at, forward_behind}
 use Rattle.apt_records.specs.Vertices.{at_height}
 use Rattle.apt_meaning.specs.StartUps.{start_up_at}
 use Rattle.apt_meaning.specs.Effects.{moves}
-use Rattle.apt_core.proofs.Circles.Numbers.{Size}
-use Rattle.apt_core.proofs.Circles.Walks.{Passes}
-use Rattle.apt_core.proofs.Circles.Scenes.{ready, standing, point, figures_about, le_true, self, plus_zero, beside}
+use Rattle.apt_demo.proofs.Numbers.{Size}
+use Rattle.apt_demo.proofs.Walks.{Passes}
+use Rattle.apt_demo.proofs.Scenes.{ready, standing, point, figures_about, le_true, self, plus_zero, beside}
 
 -- a coordinate beyond the limit is refused
 abbrev beyond : ℤ → Row

@@ -7,7 +7,7 @@ use Rattle.apt_words.specs.declared.Stop.TheVariants as stops
 use Rattle.apt_words.specs.declared.deed.Deed.{Deed}
 use Rattle.apt_words.specs.declared.deed.Deed.TheVariants as deeds
 use Rattle.apt_words.specs.declared.deed.Step.{Step}
-use Rattle.apt_report.specs.Demo.{centre_x, centre_y, radius, clear_x}
+use Rattle.apt_demo.specs.Demo.{centre_x, centre_y, radius, clear_x}
 
 -- inches, and hundredths of an inch, in millionths
 abbrev pub inches : ℤ → ℤ

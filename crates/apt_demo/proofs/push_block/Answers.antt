@@ -1,7 +1,7 @@
 use Rattle.std.proofs.Common.{◌++◌, ap, ◌∙◌, rules, FitsSigned, w64}
 use Rattle.std.proofs.lemmas.Int.{to_z-of_z}
-use Rattle.apt_report.proofs.Circles.{one_circle}
-use Rattle.apt_report.proofs.demo.push_block.Goals as goal
+use Rattle.apt_demo.proofs.Circles.{one_circle}
+use Rattle.apt_demo.proofs.push_block.Goals as goal
 
 pub returns-clause-text : goal.returns-clause-text
 returns-clause-text c =

@@ -1,9 +1,11 @@
 //! The part that `demo` compiles.
+#![tactic(auto)]
 
 ghost use Rattle.std.specs.Prelude.{◌≡◌, ◌≤◌, ◌+◌, ◌*◌, ◌++◌, pos, ◌≤ℤ◌, length, drop, IfOk, OnOk};
-ghost use Rattle.apt_report.specs.Demo as demo;
+ghost use Rattle.apt_demo.specs.Demo as demo;
+ghost use Rattle.apt_demo.specs.Promise.{demo_machine, HasRecords};
 
-use crate::room::{
+use apt_report::room::{
     ROOM, push_from, whole_line, write_count, write_number, write_pointed, write_signed_pointed,
     write_text,
 };
@@ -18,6 +20,7 @@ pub fn demo_part(alloc: Global, n: u32) -> Result<Vec<u8>, AllocError>
     requires { (1 ≤ n) × (n ≤ 800) }
     ensures text { IfOk result (λ v. v.items ≡ demo.demo_part n) }
     ensures short { IfOk result (λ v. length v.items ≤ 576 * n + 512) }
+    ensures records { IfOk result (λ v. HasRecords demo_machine v.items) }
 {
     let mut text = Vec::new(alloc);
     let mut room = [0u8; ROOM];

@@ -31,10 +31,10 @@ use Rattle.apt_unroll.specs.Actions.{most_steps}
 use Rattle.apt_unroll.specs.Trace.{Trace, with_step, trace_of}
 use Rattle.apt_unroll.specs.Straight.{IsStraight, AreStraight, or_refused, deed_at, straight_from, in_order}
 use Rattle.apt_unroll.proofs.InOrder.{straight_in_order}
-use Rattle.apt_report.specs.Demo.{demo_part}
-use Rattle.apt_core.proofs.Circles.Deeds.{deeds_from, numbered, demo_steps}
-use Rattle.apt_core.proofs.Circles.Readings.{title_line, inner_lines, inner_bodies, first_deeds, last_line, body_in, of_tokens, read, AreRead, AreDone, AreOnward, title_read, title_fit, title_done, inner_read, inner_done, inner_onward, inner_length, last_read, last_done, as_many}
-use Rattle.apt_core.proofs.Circles.Texts.{IsReadAs, read_as, fit_line, demo_lines_of}
+use Rattle.apt_demo.specs.Demo.{demo_part}
+use Rattle.apt_demo.proofs.Deeds.{deeds_from, numbered, demo_steps}
+use Rattle.apt_demo.proofs.Readings.{title_line, inner_lines, inner_bodies, first_deeds, last_line, body_in, of_tokens, read, AreRead, AreDone, AreOnward, title_read, title_fit, title_done, inner_read, inner_done, inner_onward, inner_length, last_read, last_done, as_many}
+use Rattle.apt_demo.proofs.Texts.{IsReadAs, read_as, fit_line, demo_lines_of}
 
 -- ---- what is said in the lines
 

@@ -1,4 +1,5 @@
--- The part of the demo is read, none of its steps is refused, and so it comes to a CL file and a tape.
+pub mod Circles
+pub mod DemoLines
 pub mod Deeds
 pub mod Walks
 pub mod Numbers
@@ -12,4 +13,5 @@ pub mod Readings
 pub mod Texts
 pub mod Programs
 pub mod Limits
-pub mod Output
+pub mod Promised
+mod Worked

@@ -16,12 +16,12 @@ use Rattle.apt_meaning.specs.declared.effect.Effect.TheVariants as effects
 use Rattle.apt_meaning.specs.declared.effect.Change.TheVariants as changes
 use Rattle.apt_meaning.specs.Situations.{first_situation, first_settings, position_at}
 use Rattle.apt_meaning.specs.Compiled.{compilation}
-use Rattle.apt_report.specs.Demo.{centre_x, centre_y, clear_x}
-use Rattle.apt_core.proofs.Circles.Deeds.{deeds_from, demo_deeds, demo_steps}
-use Rattle.apt_core.proofs.Circles.Walks.{Passes, Goes, passes_by}
-use Rattle.apt_core.proofs.Circles.Numbers.{none}
-use Rattle.apt_core.proofs.Circles.Scenes.{ready, standing}
-use Rattle.apt_core.proofs.Circles.Rounds.{GoesOn, round_goes}
+use Rattle.apt_demo.specs.Demo.{centre_x, centre_y, clear_x}
+use Rattle.apt_demo.proofs.Deeds.{deeds_from, demo_deeds, demo_steps}
+use Rattle.apt_demo.proofs.Walks.{Passes, Goes, passes_by}
+use Rattle.apt_demo.proofs.Numbers.{none}
+use Rattle.apt_demo.proofs.Scenes.{ready, standing}
+use Rattle.apt_demo.proofs.Rounds.{GoesOn, round_goes}
 
 -- ---- the circles' places
 

@@ -34,8 +34,8 @@ use Rattle.apt_meaning.specs.declared.effect.Effect.TheVariants as effects
 use Rattle.apt_meaning.specs.Effects.{defined, names, effect_by}
 use Rattle.apt_meaning.specs.Refusals.{refused, refused_form, cases_by}
 use Rattle.apt_records.specs.declared.record.Position.{Position}
-use Rattle.apt_core.proofs.Circles.Numbers.{rightward}
-use Rattle.apt_core.proofs.Circles.Walks.{Passes}
+use Rattle.apt_demo.proofs.Numbers.{rightward}
+use Rattle.apt_demo.proofs.Walks.{Passes}
 
 -- ---- situations
 

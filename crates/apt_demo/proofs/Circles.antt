@@ -1,7 +1,7 @@
 -- The part of `demo`, circle by circle.
 use Rattle.std.proofs.Common.{◌≡◌, ℕ, ◌+◌, List, ◌++◌, ap, ◌∙◌, append_assoc, add-one, sym}
 use Rattle.std.specs.Prelude.{ℤ, codes}
-use Rattle.apt_report.specs.Demo.{head, centre_x, centre_y, radius, clear_x, circle_line, line_line, cut_lines, circle_block, circle_blocks, demo_part}
+use Rattle.apt_demo.specs.Demo.{head, centre_x, centre_y, radius, clear_x, circle_line, line_line, cut_lines, circle_block, circle_blocks, demo_part}
 
 -- the three pieces of a circle's statements
 pub one_circle : (text first second third : List ℕ) (k r : ℕ) (x y clear : ℤ) → x ≡ centre_x k → y ≡ centre_y k → r ≡ radius k → clear ≡ clear_x k

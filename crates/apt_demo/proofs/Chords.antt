@@ -13,8 +13,8 @@ use Rattle.apt_arc.specs.declared.arc.Arc.{Arc}
 use Rattle.apt_arc.specs.Cuts.{middle}
 use Rattle.apt_arc.specs.Made.{is_clear, pieces, chain, first_past, quarters_from, stations, vertices, divided}
 use Rattle.apt_arc.proofs.Moved.{moved, moved_arc, divided_moved}
-use Rattle.apt_core.proofs.Circles.Numbers.{rightward, track_radius, eight}
-use Rattle.apt_core.proofs.Circles.Scenes.{point}
+use Rattle.apt_demo.proofs.Numbers.{rightward, track_radius, eight}
+use Rattle.apt_demo.proofs.Scenes.{point}
 
 -- ---- a number is computed before a function takes it, so that it is computed once
 abbrev with_number : ℕ → (ℕ → ℕ) → ℕ

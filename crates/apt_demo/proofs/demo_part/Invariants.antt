@@ -1,6 +1,6 @@
 use Rattle.std.proofs.Common.{◌≡◌, ◌++◌, ◌+◌, ◌*◌, ◌≤◌, length}
-use Rattle.apt_report.specs.Demo.{head, circle_blocks}
-use Rattle.apt_report.proofs.demo.demo_part.Given as goal
+use Rattle.apt_demo.specs.Demo.{head, circle_blocks}
+use Rattle.apt_demo.proofs.demo_part.Given as goal
 
 abbrev pub invariant-circles : goal.invariant-circles
 invariant-circles l = record {

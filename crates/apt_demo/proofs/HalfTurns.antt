@@ -25,10 +25,10 @@ use Rattle.apt_meaning.specs.Motions.{motion, motion_at, if_turned}
 use Rattle.apt_meaning.specs.Cuts.{end_point, arc_on, lesser}
 use Rattle.apt_meaning.specs.Effects.{cuts}
 use Rattle.apt_meaning.specs.Refusals.{turned_cases, motion_cases}
-use Rattle.apt_core.proofs.Circles.Numbers.{Size, Half, rightward, none, is_near_round, is_past_line, end_way, meeting_by}
-use Rattle.apt_core.proofs.Circles.Walks.{Passes, plus_none}
-use Rattle.apt_core.proofs.Circles.Scenes.{ready, standing, point, figures_about, self, plus_zero, beside}
-use Rattle.apt_core.proofs.Circles.Chords.{half_arc}
+use Rattle.apt_demo.proofs.Numbers.{Size, Half, rightward, none, is_near_round, is_past_line, end_way, meeting_by}
+use Rattle.apt_demo.proofs.Walks.{Passes, plus_none}
+use Rattle.apt_demo.proofs.Scenes.{ready, standing, point, figures_about, self, plus_zero, beside}
+use Rattle.apt_demo.proofs.Chords.{half_arc}
 
 abbrev circle_surface : ℤ → ℤ → ℕ → Surface
 circle_surface x y r = surfaces.Circ (record { c = point x y; r = pos r })

@@ -1,6 +1,6 @@
 use Rattle.std.proofs.Common.{refl, w64}
 use Rattle.std.proofs.lemmas.Int.{to_z-of_z}
-use Rattle.apt_report.proofs.demo.cut_lines.Goals as goal
+use Rattle.apt_demo.proofs.cut_lines.Goals as goal
 
 pub returns-clause-line : goal.returns-clause-line
 returns-clause-line c =

@@ -8,7 +8,7 @@ use Rattle.std.proofs.lemmas.Int.{ints}
 use Rattle.std.proofs.Math.Nat.{div-le_self}
 use Rattle.apt_block.specs.Block.{digits}
 use Rattle.apt_report.specs.Decimals.{pointed, signed_pointed}
-use Rattle.apt_report.specs.Demo.{centre_x, centre_y, radius, clear_x, pair, circle_line, line_line, cut_lines, circle_block, circle_blocks, head, demo_part}
+use Rattle.apt_demo.specs.Demo.{centre_x, centre_y, radius, clear_x, pair, circle_line, line_line, cut_lines, circle_block, circle_blocks, head, demo_part}
 use Rattle.apt_report.proofs.Places.{AreDigits, decimal_digits, last_digits}
 
 -- how many lines a text ends

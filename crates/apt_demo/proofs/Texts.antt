@@ -13,8 +13,8 @@ use Rattle.apt_lexis.specs.Tokens.{tokens_of}
 use Rattle.apt_lexis.specs.Titles.{Title, title_or_labelled}
 use Rattle.apt_lexis.specs.Sentences.{said_on, goes_on}
 use Rattle.apt_lexis.proofs.PlainLines.{is_plain, plain_characters, first_plain}
-use Rattle.apt_report.specs.Demo.{centre_x, centre_y, radius, clear_x, circle_line, line_line, cut_lines, circle_block, circle_blocks, head, demo_part}
-use Rattle.apt_core.proofs.Circles.Readings.{lines_about, circle_lines, lines_from, title_line, inner_lines, last_line, demo_lines, inner_bodies, of_tokens, is_fit, is_usual, read, AreRead, title_fit, inner_read}
+use Rattle.apt_demo.specs.Demo.{centre_x, centre_y, radius, clear_x, circle_line, line_line, cut_lines, circle_block, circle_blocks, head, demo_part}
+use Rattle.apt_demo.proofs.Readings.{lines_about, circle_lines, lines_from, title_line, inner_lines, last_line, demo_lines, inner_bodies, of_tokens, is_fit, is_usual, read, AreRead, title_fit, inner_read}
 
 -- lines, each with its line feed
 abbrev text_of : List (List ℕ) → List ℕ

@@ -12,7 +12,7 @@ use Rattle.apt_meaning.specs.Effects.{effect_of}
 use Rattle.apt_meaning.specs.Refusals.{refusal_of}
 use Rattle.apt_meaning.specs.Records.{records_of, after}
 use Rattle.apt_meaning.specs.Compiled.{ends_of, points_of, point_number, asked, asked_within, or_refused, with_front, compilation_behind}
-use Rattle.apt_core.proofs.Circles.Deeds.{numbered}
+use Rattle.apt_demo.proofs.Deeds.{numbered}
 
 -- a step is not refused, has so many vertices, and leads to a situation
 pub record Passes (here : Situation) (deed : Deed) (n : ℕ) (behind : Situation) : Type 0 where

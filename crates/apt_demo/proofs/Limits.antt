@@ -1,23 +1,14 @@
 -- The machine of `demo` has limits within which the steps of its part stay.
-use Rattle.std.proofs.Common.{◌≡◌, ℕ, zero, suc, ◌+◌, List, [], ◌∷◌, ◌++◌, None, Ok, refl, ap, ◌∙◌}
-use Rattle.std.specs.Prelude.{ℤ, false}
+use Rattle.std.proofs.Common.{◌≡◌, ℕ, zero, suc, ◌+◌, List, [], ◌∷◌, ◌++◌, None, refl, ap, ◌∙◌}
+use Rattle.std.specs.Prelude.{ℤ}
 use Rattle.apt_words.specs.Rows.{first_of}
 use Rattle.apt_words.specs.declared.deed.Deed.{Deed}
 use Rattle.apt_words.specs.declared.deed.Deed.TheVariants as deeds
-use Rattle.apt_tapecode.specs.declared.Code.TheVariants as codings
 use Rattle.apt_machine.specs.declared.machine.Machine.{Machine}
-use Rattle.apt_machine.specs.Tables.{table_of}
 use Rattle.apt_post.specs.Limits.{limits, machine_cases, refused_by}
-use Rattle.apt_report.specs.Demo.{centre_x, centre_y, radius, clear_x}
-use Rattle.apt_core.specs.Demo.{demo_table}
-use Rattle.apt_core.proofs.Circles.Deeds.{deeds_about, circle_deeds, deeds_from, head_deeds, numbered, demo_deeds, demo_steps}
-
-abbrev pub demo_machine : Machine
-demo_machine = record { code = codings.Rs358; seq = 1; feedmax = 9999; spinmax = 9999; toolmax = 99; changed = false; incremental = false; short = false }
-
--- it is the machine of the table
-pub demo_tabled : table_of demo_table ≡ Ok demo_machine
-demo_tabled = refl
+use Rattle.apt_demo.specs.Demo.{centre_x, centre_y, radius, clear_x}
+use Rattle.apt_demo.specs.Promise.{demo_machine}
+use Rattle.apt_demo.proofs.Deeds.{deeds_about, circle_deeds, deeds_from, head_deeds, numbered, demo_deeds, demo_steps}
 
 -- the machine refuses none of what is asked for
 abbrev StayWithin : Machine → List Deed → Type 0

@@ -13,13 +13,13 @@ use Rattle.apt_words.specs.declared.ask.LineForm.TheVariants as lines
 use Rattle.apt_defs.specs.Figures.{Table, table_with}
 use Rattle.apt_records.specs.declared.record.Position.{Position}
 use Rattle.apt_meaning.specs.Situations.{position_at}
-use Rattle.apt_core.proofs.Circles.Deeds.{inches, hundredths, cut_deeds, deeds_about}
-use Rattle.apt_core.proofs.Circles.Numbers.{round_radius, track_radius, sizes}
-use Rattle.apt_core.proofs.Circles.Walks.{Passes, Goes, passes_by, passes_on}
-use Rattle.apt_core.proofs.Circles.Scenes.{ready, standing, round, straight, figures_about, tenth, circle_drawn, line_drawn, defines_one}
-use Rattle.apt_core.proofs.Circles.Moving.{is_inside, rapid_step, goto_step, height_step, start_step}
-use Rattle.apt_core.proofs.Circles.Chords.{left_half, right_half}
-use Rattle.apt_core.proofs.Circles.HalfTurns.{half_step}
+use Rattle.apt_demo.proofs.Deeds.{inches, hundredths, cut_deeds, deeds_about}
+use Rattle.apt_demo.proofs.Numbers.{round_radius, track_radius, sizes}
+use Rattle.apt_demo.proofs.Walks.{Passes, Goes, passes_by, passes_on}
+use Rattle.apt_demo.proofs.Scenes.{ready, standing, round, straight, figures_about, tenth, circle_drawn, line_drawn, defines_one}
+use Rattle.apt_demo.proofs.Moving.{is_inside, rapid_step, goto_step, height_step, start_step}
+use Rattle.apt_demo.proofs.Chords.{left_half, right_half}
+use Rattle.apt_demo.proofs.HalfTurns.{half_step}
 
 -- ---- numbers
 
