@@ -5,7 +5,8 @@ ghost use Rattle.apt_arc.specs.Ranges.{IsArc};
 
 use apt_arc::{Arc, ArcError, chords};
 use apt_plane::{Circ, Dir, Pt};
-use std::alloc::Global;
+use std::alloc::{AllocGlobal, Global};
+use std::process::Abort;
 use std::test::Fail;
 
 const SMALL: Circ = Circ {
@@ -86,57 +87,68 @@ fn divided(alloc: Global, arc: &Arc, room: u64) -> Result<(Vec<Pt>, Option<ArcEr
     }
 }
 
+fn has_points(points: &[Pt], places: &[(usize, Pt)]) -> bool {
+    for (place, p) in places {
+        if points.get(*place).copied() != Some(*p) {
+            return false;
+        }
+    }
+    true
+}
+
+/// So many points come of an arc, with these among them by their places, or it is refused.
+fn assert_divided<R: Abort + AllocGlobal>(
+    rt: &R,
+    arc: &Arc,
+    room: u64,
+    want: (usize, Option<ArcError>),
+    places: &[(usize, Pt)],
+) -> Result<(), Fail>
+    requires { IsArc arc.now }
+{
+    let (points, error) = divided(rt.alloc(), arc, room)?;
+    assert!(rt; (points.len(), error) == want, "with room for {room}");
+    assert!(rt; has_points(&points, places), "with room for {room}");
+    Ok(())
+}
+
+const SMALLEST: [(usize, Pt); 5] = [
+    (0, Pt { x: 100, y: 0 }),
+    (1, Pt { x: 71, y: 71 }),
+    (2, Pt { x: 0, y: 100 }),
+    (3, Pt { x: -71, y: 71 }),
+    (4, Pt { x: -100, y: 0 }),
+];
+
 #[test]
 fn the_smallest_track(rt: HostRuntime) -> Result<(), Fail> {
-    let (points, error) = divided(rt.alloc(), &smallest(), 4)?;
-    let want = [
-        Pt { x: 100, y: 0 },
-        Pt { x: 71, y: 71 },
-        Pt { x: 0, y: 100 },
-        Pt { x: -71, y: 71 },
-        Pt { x: -100, y: 0 },
-    ];
-    assert_eq!(rt; error, None);
-    assert_eq!(rt; points.as_slice(), want.as_slice());
-    Ok(())
+    let too_many = Some(ArcError::TooManyPoints);
+    assert_divided(&rt, &smallest(), 4, (5, None), &SMALLEST)?;
+    assert_divided(&rt, &smallest(), 3, (1, too_many), &SMALLEST[..1])
 }
 
-#[test]
-fn too_little_room(rt: HostRuntime) -> Result<(), Fail> {
-    let (points, error) = divided(rt.alloc(), &smallest(), 3)?;
-    let start = [Pt { x: 100, y: 0 }];
-    assert_eq!(rt; error, Some(ArcError::TooManyPoints));
-    assert_eq!(rt; points.as_slice(), start.as_slice());
-    Ok(())
-}
+const MIDDLE_HALF: [(usize, Pt); 3] = [
+    (
+        64,
+        Pt {
+            x: 159_099,
+            y: 159_099,
+        },
+    ),
+    (128, Pt { x: 225_000, y: 0 }),
+    (256, Pt { x: 0, y: -225_000 }),
+];
 
+/// Also with a greater sag.
 #[test]
 fn half_round(rt: HostRuntime) -> Result<(), Fail> {
-    let (points, error) = divided(rt.alloc(), &half(8), 256)?;
-    assert_eq!(rt; error, None);
-    assert_eq!(rt; points.len(), 257);
-    assert_eq!(rt;
-        points.get(64).copied(),
-        Some(Pt {
-            x: 159_099,
-            y: 159_099
-        })
-    );
-    assert_eq!(rt; points.get(128).copied(), Some(Pt { x: 225_000, y: 0 }));
-    assert_eq!(rt; points.get(256).copied(), Some(Pt { x: 0, y: -225_000 }));
-    let (points, error) = divided(rt.alloc(), &half(50), 128)?;
-    assert_eq!(rt; error, None);
-    assert_eq!(rt; points.len(), 129, "with a greater sag");
-    Ok(())
+    assert_divided(&rt, &half(8), 256, (257, None), &MIDDLE_HALF)?;
+    assert_divided(&rt, &half(50), 128, (129, None), &[])
 }
 
 #[test]
 fn the_largest_track(rt: HostRuntime) -> Result<(), Fail> {
-    let (points, error) = divided(rt.alloc(), &largest(), 4096)?;
-    assert_eq!(rt; error, None);
-    assert_eq!(rt; points.len(), 4097);
-    let (points, error) = divided(rt.alloc(), &largest(), 4095)?;
-    assert_eq!(rt; error, Some(ArcError::TooManyPoints));
-    assert_eq!(rt; points.len(), 1);
-    Ok(())
+    let too_many = Some(ArcError::TooManyPoints);
+    assert_divided(&rt, &largest(), 4096, (4097, None), &[])?;
+    assert_divided(&rt, &largest(), 4095, (1, too_many), &[])
 }

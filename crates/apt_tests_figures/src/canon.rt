@@ -1,139 +1,118 @@
-ghost use Rattle.std.specs.Prelude.{◌+◌, ◌*◌, ◌^◌, ◌≤◌, unsigned_abs};
-ghost use Rattle.apt_plane.specs.Ranges.{IsLine, IsMoved};
+//! Meetings of lines, worked out by hand or computed from square roots of 80 digits.
 
+use crate::rows::{Pair, Slid, assert_all, moved};
 use apt_canon::{FormFault, Wide, line_line, line_line_point};
-use apt_plane::{Dir, Line, Moved, Pt};
+use apt_plane::vectors::cross_of;
+use apt_plane::{Moved, Pt};
 
 mod circles;
 mod feet;
 mod rounds;
 mod tangents;
 
-fn line(x: i64, y: i64, dx: i64, dy: i64) -> Line
-    requires x { unsigned_abs x ≤ 50000000 }
-    requires y { unsigned_abs y ≤ 50000000 }
-    requires dx { unsigned_abs dx ≤ 10 ^ 8 }
-    requires dy { unsigned_abs dy ≤ 10 ^ 8 }
-    requires length { 1 ≤ unsigned_abs dx * unsigned_abs dx + unsigned_abs dy * unsigned_abs dy }
-    ensures { IsLine result }
-{
-    Line {
-        base: Pt { x, y },
-        dir: Dir { dx, dy },
+/// A point, or why there is none.
+type At = Result<Pair, FormFault>;
+
+const NONE: At = Err(FormFault::NoMeeting);
+
+const FAR: At = Err(FormFault::OutOfRange);
+
+fn is_at(found: Result<Pt, FormFault>, want: At) -> bool {
+    match (found, want) {
+        (Ok(p), Ok((x, y))) => p.x == x && p.y == y,
+        (Err(fault), Err(other)) => fault == other,
+        _ => false,
     }
 }
 
-fn moved(line: Line, off: i64) -> Moved
-    requires line { IsLine line }
-    requires off { unsigned_abs off ≤ 10 ^ 8 }
-    ensures { IsMoved result }
-{
-    Moved { line, off }
-}
+/// The x axis.
+const AXIS: Slid = (((0, 0), (1, 0)), 0);
 
-/// To the left is up for a line to the right, and to the left for a line up.
-#[test]
-fn meets_along_the_axes(rt: HostRuntime) {
-    let right = line(1000, 2000, 5, 0);
-    let up = line(-400, 700, 0, 3);
-    assert_eq!(rt;
-        line_line(&moved(right, 0), &moved(up, 0)),
-        Ok(Pt { x: -400, y: 2000 })
-    );
-    assert_eq!(rt;
-        line_line(&moved(right, 300), &moved(up, 200)),
-        Ok(Pt { x: -600, y: 2300 })
-    );
-    assert_eq!(rt;
-        line_line(&moved(up, 200), &moved(right, 300)),
-        Ok(Pt { x: -600, y: 2300 })
-    );
-    let left = line(1000, 2000, -5, 0);
-    let down = line(-400, 700, 0, -3);
-    assert_eq!(rt;
-        line_line(&moved(left, 300), &moved(down, 200)),
-        Ok(Pt { x: -200, y: 1700 })
-    );
-}
+/// Two lines, and where they meet.
+const MEETINGS: [(Slid, Slid, At); 13] = [
+    // To the left is up for a line to the right, and to the left for a line up.
+    (
+        (((1000, 2000), (5, 0)), 0),
+        (((-400, 700), (0, 3)), 0),
+        Ok((-400, 2000)),
+    ),
+    (
+        (((1000, 2000), (5, 0)), 300),
+        (((-400, 700), (0, 3)), 200),
+        Ok((-600, 2300)),
+    ),
+    (
+        (((-400, 700), (0, 3)), 200),
+        (((1000, 2000), (5, 0)), 300),
+        Ok((-600, 2300)),
+    ),
+    (
+        (((1000, 2000), (-5, 0)), 300),
+        (((-400, 700), (0, -3)), 200),
+        Ok((-200, 1700)),
+    ),
+    // Moved (3, 4) and (-5, 12) by multiples of their lengths, 5 and 13: they meet at (7.25, 58).
+    (
+        (((10, 20), (3, 4)), 25),
+        (((7, -9), (-5, 12)), -26),
+        Ok((7, 58)),
+    ),
+    (
+        (((1234567, -7654321), (30, 41)), 12345),
+        (((-2222222, 3333333), (-17, 5)), -6789),
+        Ok((7230001, 560344)),
+    ),
+    (
+        (((0, 0), (1, 1)), 100),
+        (((0, 0), (1, -2)), -70),
+        Ok((-99, 42)),
+    ),
+    // They meet at x = -0.5 and at 0.5: halves are rounded away from zero.
+    (AXIS, (((0, 1), (1, 2)), 0), Ok((-1, 0))),
+    (AXIS, (((0, -1), (1, 2)), 0), Ok((1, 0))),
+    // A line that falls by 0.5 over 250 inches, at the coordinate limit and past it from a base one unit on.
+    (
+        AXIS,
+        (((0, 100000), (25000000, -50000)), 0),
+        Ok((50000000, 0)),
+    ),
+    (AXIS, (((1, 100000), (25000000, -50000)), 0), FAR),
+    // Parallel lines.
+    ((((0, 0), (3, -4)), 5), (((10, 10), (-6, 8)), 5), NONE),
+    ((((0, 0), (3, -4)), 0), (((0, 0), (3, -4)), 0), NONE),
+];
 
-/// Moved (3, 4) and (-5, 12) by multiples of their lengths, 5 and 13: they meet at (7.25, 58).
-/// The others were computed from square roots of 80 digits.
-#[test]
-fn meets_between_slanted_lines(rt: HostRuntime) {
-    let whole = line_line(
-        &moved(line(10, 20, 3, 4), 25),
-        &moved(line(7, -9, -5, 12), -26),
-    );
-    assert_eq!(rt; whole, Ok(Pt { x: 7, y: 58 }));
-    let far = line_line(
-        &moved(line(1234567, -7654321, 30, 41), 12345),
-        &moved(line(-2222222, 3333333, -17, 5), -6789),
-    );
-    assert_eq!(rt;
-        far,
-        Ok(Pt {
-            x: 7230001,
-            y: 560344
-        })
-    );
-    let roots = line_line(
-        &moved(line(0, 0, 1, 1), 100),
-        &moved(line(0, 0, 1, -2), -70),
-    );
-    assert_eq!(rt; roots, Ok(Pt { x: -99, y: 42 }));
-}
-
-/// The line through (0, 1) in the direction (1, 2) meets y = 0 at x = -0.5, the one through (0, -1) at 0.5.
-#[test]
-fn rounds_halves_away_from_zero(rt: HostRuntime) {
-    let axis = line(0, 0, 1, 0);
-    let before = line_line(&moved(axis, 0), &moved(line(0, 1, 1, 2), 0));
-    assert_eq!(rt; before, Ok(Pt { x: -1, y: 0 }));
-    let after = line_line(&moved(axis, 0), &moved(line(0, -1, 1, 2), 0));
-    assert_eq!(rt; after, Ok(Pt { x: 1, y: 0 }));
-}
-
-/// A line that falls by 0.5 over 250 inches meets y = 0 at the coordinate limit, and past it from a base one unit on.
-#[test]
-fn keeps_the_coordinate_limit(rt: HostRuntime) {
-    let axis = line(0, 0, 1, 0);
-    let within = line_line(
-        &moved(axis, 0),
-        &moved(line(0, 100000, 25000000, -50000), 0),
-    );
-    assert_eq!(rt; within, Ok(Pt { x: 50000000, y: 0 }));
-    let past = line_line(
-        &moved(axis, 0),
-        &moved(line(1, 100000, 25000000, -50000), 0),
-    );
-    assert_eq!(rt; past, Err(FormFault::OutOfRange));
+fn meet_at(row: &(Slid, Slid, At)) -> bool {
+    let (a, b, want) = *row;
+    match (moved(a), moved(b)) {
+        (Some(a), Some(b)) => is_at(line_line(&a, &b), want),
+        _ => false,
+    }
 }
 
 #[test]
-fn finds_no_meeting_of_parallel_lines(rt: HostRuntime) {
-    let there = line(0, 0, 3, -4);
-    let back = line(10, 10, -6, 8);
-    assert_eq!(rt;
-        line_line(&moved(there, 5), &moved(back, 5)),
-        Err(FormFault::NoMeeting)
-    );
-    assert_eq!(rt;
-        line_line(&moved(there, 0), &moved(there, 0)),
-        Err(FormFault::NoMeeting)
-    );
+fn meetings_of_lines(rt: HostRuntime) {
+    assert_all(&rt, &MEETINGS, meet_at);
 }
 
-/// A line that falls by 3 over 10^8 needs 10^8 / 3 times its height, 50,000,000, to meet y = 0.
+/// A line that falls by 3 over 10^8 needs 10^8 / 3 times its height, 50,000,000, to meet the x axis.
+const FALLING: Slid = (((7, 50_000_000), (100_000_000, -3)), 0);
+
+fn far_meeting(a: Slid, b: Slid) -> Option<Wide> {
+    let a: Moved = moved(a)?;
+    let b: Moved = moved(b)?;
+    if cross_of(a.line.dir, b.line.dir) == 0 {
+        return None;
+    }
+    Some(line_line_point(&a, &b))
+}
+
 #[test]
-fn meets_far_out_of_range(rt: HostRuntime) {
-    let axis = moved(line(0, 0, 1, 0), 0);
-    let falling = moved(line(7, 50_000_000, 100_000_000, -3), 0);
-    assert_eq!(rt; line_line(&axis, &falling), Err(FormFault::OutOfRange));
-    assert_eq!(rt;
-        line_line_point(&axis, &falling),
-        Wide {
-            x: 1_666_666_666_666_674,
-            y: 0
-        }
-    );
+fn a_meeting_far_out_of_range(rt: HostRuntime) {
+    let far = Wide {
+        x: 1_666_666_666_666_674,
+        y: 0,
+    };
+    assert!(rt; far_meeting(AXIS, FALLING) == Some(far));
+    assert!(rt; meet_at(&(AXIS, FALLING, FAR)));
 }

@@ -25,8 +25,27 @@ fn given(table: &mut Table, deed: Deed) -> Result<bool, DefError>
     define(&step, Units::Inch, table)
 }
 
-fn refused(case: Case) -> Result<bool, DefError> {
-    Err(DefError::Case(case))
+/// A definition is taken into the table.
+fn assert_given(rt: &impl Abort, table: &mut Table, deed: Deed)
+    requires { HasScalars deed }
+{
+    assert!(rt; given(table, deed) == Ok(true));
+}
+
+/// A definition is refused.
+fn assert_refused(rt: &impl Abort, table: &mut Table, deed: Deed, case: Case)
+    requires { HasScalars deed }
+{
+    assert!(rt;
+        given(table, deed) == Err(DefError::Case(case)),
+        "{}",
+        case.name()
+    );
+}
+
+/// A name stands for a figure, or for none.
+fn assert_drawn(rt: &impl Abort, table: &Table, name: &Symbol, want: Option<Figure>) {
+    assert!(rt; table.get(name) == want, "{}", name.as_str());
 }
 
 fn at(x: i64, y: i64, z: i64) -> Option<Figure> {
@@ -52,14 +71,11 @@ fn picks_one_of_two_points(rt: HostRuntime) {
     let lx = symbol(&rt, "LX");
     let c = symbol(&rt, "C");
     let p = symbol(&rt, "P");
-    let made = given(&mut table, Deed::LineXy(lx.copied(), 0, 0, INCH, 0));
-    assert!(rt; made == Ok(true));
-    let made = given(&mut table, Deed::CircleXyr(c.copied(), 0, 0, 2 * INCH));
-    assert!(rt; made == Ok(true));
-    assert!(rt; table.get(&c) == circle(0, 0, 200_000));
+    assert_given(&rt, &mut table, Deed::LineXy(lx.copied(), 0, 0, INCH, 0));
+    assert_given(&rt, &mut table, Deed::CircleXyr(c.copied(), 0, 0, 2 * INCH));
+    assert_drawn(&rt, &table, &c, circle(0, 0, 200_000));
     let ly = symbol(&rt, "LY");
-    let made = given(&mut table, Deed::LineXy(ly.copied(), 0, 0, 0, INCH));
-    assert!(rt; made == Ok(true));
+    assert_given(&rt, &mut table, Deed::LineXy(ly.copied(), 0, 0, 0, INCH));
     let rows = [
         (Pick::XLarge, 200_000),
         (Pick::XSmall, -200_000),
@@ -68,11 +84,11 @@ fn picks_one_of_two_points(rt: HostRuntime) {
     ];
     for (pick, further) in rows {
         let deed = Deed::PointPick(p.copied(), pick, lx.copied(), c.copied());
-        assert!(rt; given(&mut table, deed) == Ok(true));
-        assert!(rt; table.get(&p) == at(further, 0, 0));
+        assert_given(&rt, &mut table, deed);
+        assert_drawn(&rt, &table, &p, at(further, 0, 0));
         let deed = Deed::PointPick(p.copied(), pick, ly.copied(), c.copied());
-        assert!(rt; given(&mut table, deed) == Ok(true));
-        assert!(rt; table.get(&p) == at(0, further, 0));
+        assert_given(&rt, &mut table, deed);
+        assert_drawn(&rt, &table, &p, at(0, further, 0));
     }
 }
 
@@ -83,20 +99,19 @@ fn draws_tangents(rt: HostRuntime) {
     let p = symbol(&rt, "P");
     let c = symbol(&rt, "C");
     let l = symbol(&rt, "L");
-    let made = given(&mut table, Deed::PointXy(p.copied(), 0, 0, Some(INCH)));
-    assert!(rt; made == Ok(true));
-    assert!(rt; table.get(&p) == at(0, 0, 100_000));
-    let made = given(
+    assert_given(&rt, &mut table, Deed::PointXy(p.copied(), 0, 0, Some(INCH)));
+    assert_drawn(&rt, &table, &p, at(0, 0, 100_000));
+    assert_given(
+        &rt,
         &mut table,
         Deed::CircleXyr(c.copied(), 5 * INCH, 0, 3 * INCH),
     );
-    assert!(rt; made == Ok(true));
     let deed = Deed::LineTan(l.copied(), p.copied(), true, c.copied());
-    assert!(rt; given(&mut table, deed) == Ok(true));
-    assert!(rt; table.get(&l) == line(0, 0, 79_999_200, 59_999_400));
+    assert_given(&rt, &mut table, deed);
+    assert_drawn(&rt, &table, &l, line(0, 0, 79_999_200, 59_999_400));
     let deed = Deed::LinePerp(l.copied(), p.copied(), l.copied());
-    assert!(rt; given(&mut table, deed) == Ok(true));
-    assert!(rt; table.get(&l) == line(0, 0, -59_999_400, 79_999_200));
+    assert_given(&rt, &mut table, deed);
+    assert_drawn(&rt, &table, &l, line(0, 0, -59_999_400, 79_999_200));
 }
 
 /// Through the origin, four inches along the x axis and two along the y axis. The name then stands for its centre.
@@ -107,17 +122,22 @@ fn draws_circles(rt: HostRuntime) {
     let q = symbol(&rt, "Q");
     let r = symbol(&rt, "R");
     let c = symbol(&rt, "C");
-    let made = given(&mut table, Deed::PointXy(p.copied(), 0, 0, None));
-    assert!(rt; made == Ok(true));
-    let made = given(&mut table, Deed::PointXy(q.copied(), 4 * INCH, 0, None));
-    assert!(rt; made == Ok(true));
-    let made = given(&mut table, Deed::PointXy(r.copied(), 0, 2 * INCH, None));
-    assert!(rt; made == Ok(true));
+    assert_given(&rt, &mut table, Deed::PointXy(p.copied(), 0, 0, None));
+    assert_given(
+        &rt,
+        &mut table,
+        Deed::PointXy(q.copied(), 4 * INCH, 0, None),
+    );
+    assert_given(
+        &rt,
+        &mut table,
+        Deed::PointXy(r.copied(), 0, 2 * INCH, None),
+    );
     let deed = Deed::CirclePoints(c.copied(), p.copied(), q.copied(), r.copied());
-    assert!(rt; given(&mut table, deed) == Ok(true));
-    assert!(rt; table.get(&c) == circle(200_000, 100_000, 223_607));
-    assert!(rt; given(&mut table, Deed::PointCenter(c.copied(), c.copied())) == Ok(true));
-    assert!(rt; table.get(&c) == at(200_000, 100_000, 0));
+    assert_given(&rt, &mut table, deed);
+    assert_drawn(&rt, &table, &c, circle(200_000, 100_000, 223_607));
+    assert_given(&rt, &mut table, Deed::PointCenter(c.copied(), c.copied()));
+    assert_drawn(&rt, &table, &c, at(200_000, 100_000, 0));
 }
 
 /// Names come before numbers, and numbers before the figure's own case; a refused definition leaves the table.
@@ -126,25 +146,23 @@ fn refuses_by_the_first_case(rt: HostRuntime) {
     let mut table = Table::new(rt.alloc());
     let p = symbol(&rt, "P");
     let l = symbol(&rt, "L");
-    let made = given(&mut table, Deed::PointXy(p.copied(), 0, 0, None));
-    assert!(rt; made == Ok(true));
-    let made = given(&mut table, Deed::LineXy(l.copied(), 0, 0, INCH, 0));
-    assert!(rt; made == Ok(true));
+    assert_given(&rt, &mut table, Deed::PointXy(p.copied(), 0, 0, None));
+    assert_given(&rt, &mut table, Deed::LineXy(l.copied(), 0, 0, INCH, 0));
     let n = symbol(&rt, "N");
     let far = 600 * INCH;
     let deed = Deed::LineAt(n.copied(), n.copied(), Pick::YLarge, 2_000 * INCH);
-    assert!(rt; given(&mut table, deed) == refused(Case::Undefined));
+    assert_refused(&rt, &mut table, deed, Case::Undefined);
     let deed = Deed::CircleRadius(n.copied(), l.copied(), 2_000 * INCH);
-    assert!(rt; given(&mut table, deed) == refused(Case::WrongKind));
+    assert_refused(&rt, &mut table, deed, Case::WrongKind);
     let deed = Deed::PointXy(p.copied(), far, 0, None);
-    assert!(rt; given(&mut table, deed) == refused(Case::OutOfRange));
+    assert_refused(&rt, &mut table, deed, Case::OutOfRange);
     let deed = Deed::LinePoints(n.copied(), p.copied(), p.copied());
-    assert!(rt; given(&mut table, deed) == refused(Case::Degenerate));
+    assert_refused(&rt, &mut table, deed, Case::Degenerate);
     let deed = Deed::PointLines(n.copied(), l.copied(), l.copied());
-    assert!(rt; given(&mut table, deed) == refused(Case::NoMeeting));
+    assert_refused(&rt, &mut table, deed, Case::NoMeeting);
     let deed = Deed::CircleXyr(n.copied(), 480 * INCH, 0, 11 * INCH);
-    assert!(rt; given(&mut table, deed) == refused(Case::CircleTooLarge));
-    assert!(rt; table.get(&n) == None);
-    assert!(rt; table.get(&p) == at(0, 0, 0));
+    assert_refused(&rt, &mut table, deed, Case::CircleTooLarge);
+    assert_drawn(&rt, &table, &n, None);
+    assert_drawn(&rt, &table, &p, at(0, 0, 0));
     assert!(rt; given(&mut table, Deed::Rapid) == Ok(false));
 }

@@ -12,7 +12,7 @@ mod defs;
 #[cfg(test)]
 mod offset;
 #[cfg(test)]
-mod ranges;
+mod rows;
 #[cfg(test)]
 mod startup;
 #[cfg(test)]

@@ -1,8 +1,12 @@
+//! Blocks as shops spell them.
+
 ghost use Rattle.std.specs.Prelude.{◌≡◌};
 ghost use Rattle.apt_block.specs.Block.{IsBlock, tape_word};
 
+use crate::rows::assert_all;
 use apt_block::{Block, BlockError, TapeCause, TapeWord, read_block, write_block};
-use std::alloc::{AllocError, Global};
+use std::alloc::{AllocError, AllocGlobal, Global};
+use std::process::Abort;
 use std::test::Fail;
 
 fn word(letter: u8, value: i64) -> TapeWord
@@ -83,111 +87,122 @@ fn spelled(alloc: Global, block: &Block, short: bool) -> Result<Vec<u8>, AllocEr
     Ok(text)
 }
 
+/// A block is spelled so with all digits, and so without leading zeros.
+fn assert_spelled<R: Abort + AllocGlobal>(
+    rt: &R,
+    block: &Block,
+    whole: &str,
+    short: &str,
+) -> Result<(), Fail>
+    requires { IsBlock block.now }
+{
+    let text = spelled(rt.alloc(), block, false)?;
+    assert!(rt; text.as_slice() == whole.as_bytes(), "{whole}");
+    let text = spelled(rt.alloc(), block, true)?;
+    assert!(rt; text.as_slice() == short.as_bytes(), "{short}");
+    Ok(())
+}
+
 #[test]
 fn spells_blocks(rt: HostRuntime) -> Result<(), Fail> {
-    let alloc = rt.alloc();
-    let cases = [
-        (spelled(alloc, &start(), false)?, "N0001G70G90G94\n"),
-        (spelled(alloc, &feed(), false)?, "F0100\n"),
-        (spelled(alloc, &to_x(), false)?, "N0002X-50000000\n"),
-        (spelled(alloc, &level(), false)?, "Y+00000000Z-00000001\n"),
-        (spelled(alloc, &turn(), false)?, "S1250T07\n"),
-        (spelled(alloc, &centre(), false)?, "G02I-00000010\n"),
-        (spelled(alloc, &end(), false)?, "M02\n"),
-        (spelled(alloc, &Block::new(), false)?, "\n"),
-    ];
-    for (text, want) in &cases {
-        assert_eq!(rt; text.as_slice(), want.as_bytes());
-    }
-    Ok(())
+    assert_spelled(&rt, &start(), "N0001G70G90G94\n", "N1G70G90G94\n")?;
+    assert_spelled(&rt, &feed(), "F0100\n", "F100\n")?;
+    assert_spelled(&rt, &to_x(), "N0002X-50000000\n", "N2X-50000000\n")?;
+    assert_spelled(&rt, &level(), "Y+00000000Z-00000001\n", "Y+0Z-1\n")?;
+    assert_spelled(&rt, &turn(), "S1250T07\n", "S1250T7\n")?;
+    assert_spelled(&rt, &centre(), "G02I-00000010\n", "G02I-10\n")?;
+    assert_spelled(&rt, &end(), "M02\n", "M02\n")?;
+    assert_spelled(&rt, &Block::new(), "\n", "\n")
 }
 
-#[test]
-fn spells_blocks_without_leading_zeros(rt: HostRuntime) -> Result<(), Fail> {
-    let alloc = rt.alloc();
-    let cases = [
-        (spelled(alloc, &start(), true)?, "N1G70G90G94\n"),
-        (spelled(alloc, &feed(), true)?, "F100\n"),
-        (spelled(alloc, &to_x(), true)?, "N2X-50000000\n"),
-        (spelled(alloc, &level(), true)?, "Y+0Z-1\n"),
-        (spelled(alloc, &turn(), true)?, "S1250T7\n"),
-        (spelled(alloc, &centre(), true)?, "G02I-10\n"),
-        (spelled(alloc, &end(), true)?, "M02\n"),
-        (spelled(alloc, &Block::new(), true)?, "\n"),
-    ];
-    for (text, want) in &cases {
-        assert_eq!(rt; text.as_slice(), want.as_bytes());
-    }
-    Ok(())
+/// Texts of blocks, and their words.
+const WORDS: [(&str, &[(u8, i64)]); 9] = [
+    (
+        "N0001G70G90G94\n",
+        &[(b'N', 1), (b'G', 70), (b'G', 90), (b'G', 94)],
+    ),
+    (
+        "N1G70G90G94\n",
+        &[(b'N', 1), (b'G', 70), (b'G', 90), (b'G', 94)],
+    ),
+    (
+        "N0002G01X+00100000Y+00200000Z+00300000F0100\n",
+        &[
+            (b'N', 2),
+            (b'G', 1),
+            (b'X', 100_000),
+            (b'Y', 200_000),
+            (b'Z', 300_000),
+            (b'F', 100),
+        ],
+    ),
+    (
+        "N02G01X100000Y+0200000Z300000F100\n",
+        &[
+            (b'N', 2),
+            (b'G', 1),
+            (b'X', 100_000),
+            (b'Y', 200_000),
+            (b'Z', 300_000),
+            (b'F', 100),
+        ],
+    ),
+    (
+        "X-50000000Y-00000000Z-00000001S1250T07\n",
+        &[
+            (b'X', -50_000_000),
+            (b'Y', 0),
+            (b'Z', -1),
+            (b'S', 1_250),
+            (b'T', 7),
+        ],
+    ),
+    (
+        "X-50000000Y-0Z-001S1250T7\n",
+        &[
+            (b'X', -50_000_000),
+            (b'Y', 0),
+            (b'Z', -1),
+            (b'S', 1_250),
+            (b'T', 7),
+        ],
+    ),
+    ("M02\n", &[(b'M', 2)]),
+    ("\n", &[]),
+    // Circles are read as blocks, though no straight control runs them.
+    (
+        "G02X5I-10J0R50000000F007\n",
+        &[
+            (b'G', 2),
+            (b'X', 5),
+            (b'I', -10),
+            (b'J', 0),
+            (b'R', 50_000_000),
+            (b'F', 7),
+        ],
+    ),
+];
+
+/// The place of a word in a text, and what stands there.
+fn word_at(text: &str, place: usize) -> Option<(u8, i64)> {
+    let block = read_block(text.as_bytes()).ok()?;
+    let word = block.words.get(place)?;
+    Some((word.letter, word.value))
 }
 
-#[test]
-fn appends_blocks(rt: HostRuntime) -> Result<(), Fail> {
-    let alloc = rt.alloc();
-    let mut text = Vec::new(alloc);
-    write_block(alloc, &start(), false, &mut text)?;
-    write_block(alloc, &feed(), true, &mut text)?;
-    write_block(alloc, &end(), true, &mut text)?;
-    assert_eq!(rt; text.as_slice(), "N0001G70G90G94\nF100\nM02\n".as_bytes());
-    Ok(())
-}
-
-fn is_read(text: &str, want: &[TapeWord]) -> bool {
-    match read_block(text.as_bytes()) {
-        Ok(block) => block.words.as_slice() == want,
-        Err(_) => false,
+fn has_words(row: &(&str, &[(u8, i64)])) -> bool {
+    let (text, words) = *row;
+    for (place, word) in words.iter().enumerate() {
+        if word_at(text, place) != Some(*word) {
+            return false;
+        }
     }
+    word_at(text, words.len()).is_none()
 }
 
 #[test]
 fn reads_blocks(rt: HostRuntime) {
-    let start = [
-        word(b'N', 1),
-        word(b'G', 70),
-        word(b'G', 90),
-        word(b'G', 94),
-    ];
-    assert!(rt; is_read("N0001G70G90G94\n", &start));
-    assert!(rt; is_read("N1G70G90G94\n", &start));
-    let cut = [
-        word(b'N', 2),
-        word(b'G', 1),
-        word(b'X', 100_000),
-        word(b'Y', 200_000),
-        word(b'Z', 300_000),
-        word(b'F', 100),
-    ];
-    assert!(rt; is_read("N0002G01X+00100000Y+00200000Z+00300000F0100\n", &cut));
-    assert!(rt; is_read("N02G01X100000Y+0200000Z300000F100\n", &cut));
-    let below_zero = [
-        word(b'X', -50_000_000),
-        word(b'Y', 0),
-        word(b'Z', -1),
-        word(b'S', 1_250),
-        word(b'T', 7),
-    ];
-    assert!(rt; is_read("X-50000000Y-00000000Z-00000001S1250T07\n", &below_zero));
-    assert!(rt; is_read("X-50000000Y-0Z-001S1250T7\n", &below_zero));
-    assert!(rt; is_read("M02\n", &[word(b'M', 2)]));
-    assert!(rt; is_read("\n", &[]));
-}
-
-/// Circles are read as blocks, though no straight control runs them.
-#[test]
-fn reads_words_of_circles(rt: HostRuntime) {
-    let arc = [
-        word(b'G', 2),
-        word(b'X', 5),
-        word(b'I', -10),
-        word(b'J', 0),
-        word(b'R', 50_000_000),
-        word(b'F', 7),
-    ];
-    assert!(rt; is_read("G02X5I-10J0R50000000F007\n", &arc));
-}
-
-fn refusal(text: &str) -> Option<BlockError> {
-    read_block(text.as_bytes()).err()
+    assert_all(&rt, &WORDS, has_words);
 }
 
 const REFUSED: [(&str, usize, TapeCause); 25] = [
@@ -218,9 +233,15 @@ const REFUSED: [(&str, usize, TapeCause); 25] = [
     ("M10\n", 0, TapeCause::BadM),
 ];
 
+fn is_refused(row: &(&str, usize, TapeCause)) -> bool {
+    let (text, at, cause) = *row;
+    match read_block(text.as_bytes()) {
+        Ok(_) => false,
+        Err(error) => error == BlockError { at, cause },
+    }
+}
+
 #[test]
 fn refuses_blocks(rt: HostRuntime) {
-    for &(text, at, cause) in &REFUSED {
-        assert!(rt; refusal(text) == Some(BlockError { at, cause }));
-    }
+    assert_all(&rt, &REFUSED, is_refused);
 }

@@ -1,8 +1,11 @@
+//! Tapes that a control runs, and tapes that it refuses.
+
 use apt_block::TapeCause;
 use apt_control::{Act, ControlError, read_tape};
 use apt_tapecode::{Code, punch};
 use apt_words::{Cool, Turn, Units};
-use std::alloc::{AllocError, Global};
+use std::alloc::{AllocError, AllocGlobal, Global};
+use std::process::Abort;
 use std::test::Fail;
 
 fn punched(alloc: Global, code: Code, text: &str) -> Result<Vec<u8>, AllocError> {
@@ -13,113 +16,130 @@ fn punched(alloc: Global, code: Code, text: &str) -> Result<Vec<u8>, AllocError>
     Ok(bytes)
 }
 
-fn is_run(alloc: Global, code: Code, tape: &[u8], want: &[Act]) -> bool {
-    match read_tape(alloc, code, tape) {
+/// A tape is run to these acts.
+fn assert_runs<R: Abort + AllocGlobal>(rt: &R, code: Code, tape: &[u8], want: &[Act]) {
+    let is_run = match read_tape(rt.alloc(), code, tape) {
         Ok(acts) => acts.as_slice() == want,
         Err(_) => false,
-    }
+    };
+    assert!(rt; is_run);
 }
 
-fn is_refused(alloc: Global, code: Code, tape: &[u8], at: u64, cause: TapeCause) -> bool {
-    match read_tape(alloc, code, tape) {
+/// A tape is refused at this byte.
+fn assert_refused<R: Abort + AllocGlobal>(
+    rt: &R,
+    code: Code,
+    tape: &[u8],
+    at: u64,
+    cause: TapeCause,
+) {
+    let is_refused = match read_tape(rt.alloc(), code, tape) {
         Ok(_) => false,
         Err(error) => error == ControlError::Bad { at, cause },
-    }
+    };
+    assert!(rt; is_refused, "at {at}");
 }
 
-#[test]
-fn reads_moves(rt: HostRuntime) -> Result<(), Fail> {
-    let text =
-        "0%\nN0001G70G90G94\nG01X+00100000Y-00200000Z+00300000F0100\nX+00000007\nG00Z+00000000\nM02\n%";
-    let (x, y, z, feed) = (100_000, -200_000, 300_000, 100);
-    let want = [
-        Act::Units(Units::Inch),
-        Act::Cut { x, y, z, feed },
-        Act::Cut { x: 7, y, z, feed },
-        Act::Rapid { x: 7, y, z: 0 },
-        Act::End,
-    ];
-    for code in [Code::Rs244, Code::Rs358] {
-        let tape = punched(rt.alloc(), code, text)?;
-        assert!(rt; is_run(rt.alloc(), code, &tape, &want));
-    }
-    Ok(())
-}
+/// Texts of tapes, and what they have the machine do.
+const RUNS: [(&str, &[Act]); 3] = [
+    (
+        "0%\nN0001G70G90G94\nG01X+00100000Y-00200000Z+00300000F0100\nX+00000007\nG00Z+00000000\nM02\n%",
+        &[
+            Act::Units(Units::Inch),
+            Act::Cut {
+                x: 100_000,
+                y: -200_000,
+                z: 300_000,
+                feed: 100,
+            },
+            Act::Cut {
+                x: 7,
+                y: -200_000,
+                z: 300_000,
+                feed: 100,
+            },
+            Act::Rapid {
+                x: 7,
+                y: -200_000,
+                z: 0,
+            },
+            Act::End,
+        ],
+    ),
+    (
+        "%G71G90\nG01X1Y-2Z3F100\nG91X40000000\nY+0\nG00X-1Z-4M08\nG90G70X7\nG01Y8\nM02\n",
+        &[
+            Act::Units(Units::Mm),
+            Act::Cut {
+                x: 1,
+                y: -2,
+                z: 3,
+                feed: 100,
+            },
+            Act::Cut {
+                x: 40_000_001,
+                y: -2,
+                z: 3,
+                feed: 100,
+            },
+            Act::Cut {
+                x: 40_000_001,
+                y: -2,
+                z: 3,
+                feed: 100,
+            },
+            Act::Coolant(Cool::Flood),
+            Act::Rapid {
+                x: 40_000_000,
+                y: -2,
+                z: -1,
+            },
+            Act::Units(Units::Inch),
+            Act::Rapid { x: 7, y: -2, z: -1 },
+            Act::Cut {
+                x: 7,
+                y: 8,
+                z: -1,
+                feed: 100,
+            },
+            Act::End,
+        ],
+    ),
+    (
+        "%G71\nS0700M03\nS0008M04\nM05\nT09M06\nM07\nM08\nM09\nM00\nM01\nM02\n",
+        &[
+            Act::Units(Units::Mm),
+            Act::Spindle {
+                turn: Turn::Cw,
+                n: 700,
+            },
+            Act::Spindle {
+                turn: Turn::Ccw,
+                n: 8,
+            },
+            Act::Spindle {
+                turn: Turn::Off,
+                n: 0,
+            },
+            Act::Tool(9),
+            Act::Coolant(Cool::Mist),
+            Act::Coolant(Cool::Flood),
+            Act::Coolant(Cool::Off),
+            Act::Stop,
+            Act::OptStop,
+            Act::End,
+        ],
+    ),
+];
 
 #[test]
-fn reads_incremental_blocks(rt: HostRuntime) -> Result<(), Fail> {
-    let text = "%G71G90\nG01X1Y-2Z3F100\nG91X40000000\nY+0\nG00X-1Z-4M08\nG90G70X7\nG01Y8\nM02\n";
-    let (y, feed) = (-2, 100);
-    let want = [
-        Act::Units(Units::Mm),
-        Act::Cut {
-            x: 1,
-            y,
-            z: 3,
-            feed,
-        },
-        Act::Cut {
-            x: 40_000_001,
-            y,
-            z: 3,
-            feed,
-        },
-        Act::Cut {
-            x: 40_000_001,
-            y,
-            z: 3,
-            feed,
-        },
-        Act::Coolant(Cool::Flood),
-        Act::Rapid {
-            x: 40_000_000,
-            y,
-            z: -1,
-        },
-        Act::Units(Units::Inch),
-        Act::Rapid { x: 7, y, z: -1 },
-        Act::Cut {
-            x: 7,
-            y: 8,
-            z: -1,
-            feed,
-        },
-        Act::End,
-    ];
-    for code in [Code::Rs244, Code::Rs358] {
-        let tape = punched(rt.alloc(), code, text)?;
-        assert!(rt; is_run(rt.alloc(), code, &tape, &want));
+fn runs_tapes(rt: HostRuntime) -> Result<(), Fail> {
+    for &(text, acts) in &RUNS {
+        for code in [Code::Rs244, Code::Rs358] {
+            let tape = punched(rt.alloc(), code, text)?;
+            assert_runs(&rt, code, &tape, acts);
+        }
     }
-    Ok(())
-}
-
-#[test]
-fn reads_every_act(rt: HostRuntime) -> Result<(), Fail> {
-    let text = "%G71\nS0700M03\nS0008M04\nM05\nT09M06\nM07\nM08\nM09\nM00\nM01\nM02\n";
-    let want = [
-        Act::Units(Units::Mm),
-        Act::Spindle {
-            turn: Turn::Cw,
-            n: 700,
-        },
-        Act::Spindle {
-            turn: Turn::Ccw,
-            n: 8,
-        },
-        Act::Spindle {
-            turn: Turn::Off,
-            n: 0,
-        },
-        Act::Tool(9),
-        Act::Coolant(Cool::Mist),
-        Act::Coolant(Cool::Flood),
-        Act::Coolant(Cool::Off),
-        Act::Stop,
-        Act::OptStop,
-        Act::End,
-    ];
-    let tape = punched(rt.alloc(), Code::Rs358, text)?;
-    assert!(rt; is_run(rt.alloc(), Code::Rs358, &tape, &want));
     Ok(())
 }
 
@@ -175,7 +195,7 @@ fn refuses_tapes(rt: HostRuntime) -> Result<(), Fail> {
     for &(text, at, cause) in &TAPES {
         for code in [Code::Rs244, Code::Rs358] {
             let tape = punched(rt.alloc(), code, text)?;
-            assert!(rt; is_refused(rt.alloc(), code, &tape, at, cause));
+            assert_refused(&rt, code, &tape, at, cause);
         }
     }
     Ok(())
@@ -188,29 +208,29 @@ const BYTES: [(Code, u8, TapeCause); 4] = [
     (Code::Rs358, 0x41, TapeCause::BadCode),
 ];
 
+/// Such a byte behind a part of a block, and behind the end.
 #[test]
 fn refuses_bytes(rt: HostRuntime) -> Result<(), Fail> {
-    let alloc = rt.alloc();
-    for text in ["%\nM0", "%\nM02\n"] {
-        for &(code, byte, cause) in &BYTES {
-            let mut tape = punched(alloc, code, text)?;
+    for &(code, byte, cause) in &BYTES {
+        for text in ["%\nM0", "%\nM02\n"] {
+            let mut tape = punched(rt.alloc(), code, text)?;
             tape.push(byte)?;
-            assert!(rt; is_refused(alloc, code, &tape, text.len() as u64, cause));
+            assert_refused(&rt, code, &tape, text.len() as u64, cause);
         }
     }
     Ok(())
 }
 
+/// A byte that is skipped stands before each other.
 #[test]
 fn skips_bytes(rt: HostRuntime) -> Result<(), Fail> {
-    let alloc = rt.alloc();
     for (code, skip) in [(Code::Rs244, 0x7fu8), (Code::Rs358, 0xff)] {
-        let mut tape = Vec::new(alloc);
-        for byte in &punched(alloc, code, "%\nM02\n")? {
+        let mut tape = Vec::new(rt.alloc());
+        for byte in &punched(rt.alloc(), code, "%\nM02\n")? {
             tape.push(skip)?;
             tape.push(*byte)?;
         }
-        assert!(rt; is_run(alloc, code, &tape, &[Act::End]));
+        assert_runs(&rt, code, &tape, &[Act::End]);
     }
     Ok(())
 }

@@ -8,8 +8,8 @@ mod control;
 #[cfg(test)]
 mod machine;
 #[cfg(test)]
-mod pieces;
-#[cfg(test)]
 mod post;
+#[cfg(test)]
+mod rows;
 #[cfg(test)]
 mod tapecode;

@@ -1,3 +1,6 @@
+//! Machine tables that are read, and those that are refused.
+
+use crate::rows::assert_all;
 use apt_machine::{Machine, MachineCause, MachineError, table};
 use apt_tapecode::Code;
 use std::alloc::{AllocError, Global};
@@ -79,59 +82,61 @@ fn refuses(text: &[u8], line: u32, cause: MachineCause) -> bool {
     text.len() <= 65_536 && table(text) == Err(MachineError { line, cause })
 }
 
+fn is_refused(row: &(&[u8], u32, MachineCause)) -> bool {
+    let (text, line, cause) = *row;
+    refuses(text, line, cause)
+}
+
 #[test]
 fn refuses_at_the_first_line_with_a_cause(rt: HostRuntime) {
-    for &(text, line, cause) in &BAD {
-        assert!(rt; refuses(text, line, cause), "{}", cause.name());
-    }
+    assert_all(&rt, &BAD, is_refused);
 }
 
-/// Texts, all of the machine of RS-244 with step 0, feeds up to 1, speeds up to 9999 and tools up to 10.
-const GOOD: [&[u8]; 4] = [
-    b"MACHINE 1\nCODE RS244\nSEQ 0\nFEEDMAX 1\nSPINMAX 9999\nTOOLMAX 10\n",
-    b"MACHINE 1\nTOOLMAX 10\nSPINMAX 9999\nFEEDMAX 1\nSEQ 0\nCODE RS244",
-    b"MACHINE 1\r\n\r\nWORDS ALL\r\nCODE RS244\r\nSEQ 0\r\nFEEDMAX 1\r\nSPINMAX 9999\r\n\r\nTOOLMAX 10\r\n\r\n",
-    b"MACHINE 1\nCODE RS244\n\n\nSEQ 0\nSPINMAX 9999\nTOOLMAX 10\nFEEDMAX 1\nWORDS ALL\n",
-];
-
-/// The machine of these tables.
-fn small(changed: bool) -> Machine {
-    Machine {
-        code: Code::Rs244,
-        seq: 0,
-        feedmax: 1,
-        spinmax: 9999,
-        toolmax: 10,
-        changed,
-        incremental: false,
-        short: false,
-    }
-}
-
-#[test]
-fn reads_keys_in_any_order(rt: HostRuntime) {
-    for &text in &GOOD {
-        assert!(rt; table(text) == Ok(small(false)));
-    }
-}
-
-/// Texts, all of the same machine, whose blocks leave out what holds.
-const CHANGED: [&[u8]; 3] = [
-    b"MACHINE 1\nWORDS CHANGED\nCODE RS244\nSEQ 0\nFEEDMAX 1\nSPINMAX 9999\nTOOLMAX 10\n",
-    b"MACHINE 1\nCODE RS244\nSEQ 0\nFEEDMAX 1\n\nWORDS CHANGED\r\nSPINMAX 9999\nTOOLMAX 10\n",
-    b"MACHINE 1\nTOOLMAX 10\nCODE RS244\nSPINMAX 9999\nSEQ 0\nFEEDMAX 1\nWORDS CHANGED",
-];
-
-#[test]
-fn reads_words_anywhere(rt: HostRuntime) {
-    for &text in &CHANGED {
-        assert!(rt; table(text) == Ok(small(true)));
-    }
-}
-
-/// Tables of version 2, all of the same machine: whether its blocks leave out what holds, are incremental, and leave
-/// out leading zeros.
-const SECOND: [(&[u8], bool, bool, bool); 5] = [
+/// Texts, all of a machine of RS-244 with step 0, feeds up to 1, speeds up to 9999 and tools up to 10: whether its blocks
+/// leave out what holds, are incremental, and leave out leading zeros.
+const GOOD: [(&[u8], bool, bool, bool); 12] = [
+    (
+        b"MACHINE 1\nCODE RS244\nSEQ 0\nFEEDMAX 1\nSPINMAX 9999\nTOOLMAX 10\n",
+        false,
+        false,
+        false,
+    ),
+    (
+        b"MACHINE 1\nTOOLMAX 10\nSPINMAX 9999\nFEEDMAX 1\nSEQ 0\nCODE RS244",
+        false,
+        false,
+        false,
+    ),
+    (
+        b"MACHINE 1\r\n\r\nWORDS ALL\r\nCODE RS244\r\nSEQ 0\r\nFEEDMAX 1\r\nSPINMAX 9999\r\n\r\nTOOLMAX 10\r\n\r\n",
+        false,
+        false,
+        false,
+    ),
+    (
+        b"MACHINE 1\nCODE RS244\n\n\nSEQ 0\nSPINMAX 9999\nTOOLMAX 10\nFEEDMAX 1\nWORDS ALL\n",
+        false,
+        false,
+        false,
+    ),
+    (
+        b"MACHINE 1\nWORDS CHANGED\nCODE RS244\nSEQ 0\nFEEDMAX 1\nSPINMAX 9999\nTOOLMAX 10\n",
+        true,
+        false,
+        false,
+    ),
+    (
+        b"MACHINE 1\nCODE RS244\nSEQ 0\nFEEDMAX 1\n\nWORDS CHANGED\r\nSPINMAX 9999\nTOOLMAX 10\n",
+        true,
+        false,
+        false,
+    ),
+    (
+        b"MACHINE 1\nTOOLMAX 10\nCODE RS244\nSPINMAX 9999\nSEQ 0\nFEEDMAX 1\nWORDS CHANGED",
+        true,
+        false,
+        false,
+    ),
     (
         b"MACHINE 2\nCODE RS244\nSEQ 0\nFEEDMAX 1\nSPINMAX 9999\nTOOLMAX 10\n",
         false,
@@ -165,20 +170,24 @@ const SECOND: [(&[u8], bool, bool, bool); 5] = [
 ];
 
 /// Whether a text is the table of a machine.
-fn is_table_of(text: &[u8], machine: Machine) -> bool {
+fn is_table(row: &(&[u8], bool, bool, bool)) -> bool {
+    let (text, changed, incremental, short) = *row;
+    let machine = Machine {
+        code: Code::Rs244,
+        seq: 0,
+        feedmax: 1,
+        spinmax: 9999,
+        toolmax: 10,
+        changed,
+        incremental,
+        short,
+    };
     text.len() <= 65_536 && table(text) == Ok(machine)
 }
 
 #[test]
-fn reads_tables_of_version_2(rt: HostRuntime) {
-    for &(text, changed, incremental, short) in &SECOND {
-        let machine = Machine {
-            incremental,
-            short,
-            ..small(changed)
-        };
-        assert!(rt; is_table_of(text, machine));
-    }
+fn reads_tables(rt: HostRuntime) {
+    assert_all(&rt, &GOOD, is_table);
 }
 
 /// A table whose second line has so many bytes and no key.

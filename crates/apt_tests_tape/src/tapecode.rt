@@ -1,7 +1,11 @@
+//! The rows of holes of characters, in both codes.
+
+use crate::rows::assert_all;
 use apt_tapecode::{Code, NO_DIGIT, Read, digit, punch, sense};
 
-/// The head of a tape, "%\nN0001G70G90G94\n", with its rows in RS-244 and in RS-358.
-const HEAD: [(u8, u8, u8); 17] = [
+/// The head of a tape, "%\nN0001G70G90G94\n", and the letters of circles and holes, with their rows in RS-244 and in
+/// RS-358.
+const CHARACTERS: [(u8, u8, u8); 20] = [
     (b'%', 0x0b, 0xa5),
     (b'\n', 0x80, 0x0a),
     (b'N', 0x45, 0x4e),
@@ -19,44 +23,44 @@ const HEAD: [(u8, u8, u8); 17] = [
     (b'9', 0x19, 0x39),
     (b'4', 0x04, 0xb4),
     (b'\n', 0x80, 0x0a),
+    (b'I', 0x79, 0xc9),
+    (b'J', 0x51, 0xca),
+    (b'R', 0x49, 0xd2),
 ];
 
-/// The letters of circles and holes, with their rows in RS-244 and in RS-358.
-const LETTERS: [(u8, u8, u8); 3] = [(b'I', 0x79, 0xc9), (b'J', 0x51, 0xca), (b'R', 0x49, 0xd2)];
+fn is_punched(code: Code, ch: u8, byte: u8) -> bool {
+    punch(code, ch) == Some(byte) && sense(code, byte) == Read::Char(ch)
+}
 
-#[test]
-fn punches_and_senses_a_head(rt: HostRuntime) {
-    for &(ch, rs244, rs358) in &HEAD {
-        let punched = [punch(Code::Rs244, ch), punch(Code::Rs358, ch)];
-        assert_eq!(rt; punched, [Some(rs244), Some(rs358)]);
-        assert!(rt; sense(Code::Rs244, rs244) == Read::Char(ch));
-        assert!(rt; sense(Code::Rs358, rs358) == Read::Char(ch));
-    }
+fn are_punched(row: &(u8, u8, u8)) -> bool {
+    let (ch, rs244, rs358) = *row;
+    is_punched(Code::Rs244, ch, rs244) && is_punched(Code::Rs358, ch, rs358)
 }
 
 #[test]
-fn punches_and_senses_letters(rt: HostRuntime) {
-    for &(ch, rs244, rs358) in &LETTERS {
-        let punched = [punch(Code::Rs244, ch), punch(Code::Rs358, ch)];
-        assert_eq!(rt; punched, [Some(rs244), Some(rs358)]);
-        assert!(rt; sense(Code::Rs244, rs244) == Read::Char(ch));
-        assert!(rt; sense(Code::Rs358, rs358) == Read::Char(ch));
+fn punches_and_senses(rt: HostRuntime) {
+    assert_all(&rt, &CHARACTERS, are_punched);
+}
+
+/// The number of a digit.
+fn number(ch: u8) -> u8 {
+    if ch >= b'0' && ch <= b'9' {
+        ch - b'0'
+    } else {
+        NO_DIGIT
     }
+}
+
+fn are_numbers(row: &(u8, u8, u8)) -> bool {
+    let (ch, rs244, rs358) = *row;
+    digit(Code::Rs244, rs244) == number(ch) && digit(Code::Rs358, rs358) == number(ch)
 }
 
 #[test]
 fn knows_digits(rt: HostRuntime) {
-    for &(ch, rs244, rs358) in &HEAD {
-        let number = if ch >= b'0' && ch <= b'9' {
-            ch - b'0'
-        } else {
-            NO_DIGIT
-        };
-        let digits = [digit(Code::Rs244, rs244), digit(Code::Rs358, rs358)];
-        assert_eq!(rt; digits, [number, number]);
-    }
-    let even = [digit(Code::Rs244, 0x55), digit(Code::Rs358, 0x31)];
-    assert_eq!(rt; even, [NO_DIGIT, NO_DIGIT]);
+    assert_all(&rt, &CHARACTERS, are_numbers);
+    assert!(rt; digit(Code::Rs244, 0x55) == NO_DIGIT);
+    assert!(rt; digit(Code::Rs358, 0x31) == NO_DIGIT);
 }
 
 const OTHERS: [(Code, u8, Read); 12] = [
@@ -74,11 +78,14 @@ const OTHERS: [(Code, u8, Read); 12] = [
     (Code::Rs358, 0x41, Read::BadCode),
 ];
 
+fn is_sensed(row: &(Code, u8, Read)) -> bool {
+    let (code, byte, read) = *row;
+    sense(code, byte) == read
+}
+
 #[test]
 fn skips_and_refuses(rt: HostRuntime) {
-    for (code, byte, want) in &OTHERS {
-        assert!(rt; sense(*code, *byte) == *want, "at {byte}");
-    }
+    assert_all(&rt, &OTHERS, is_sensed);
 }
 
 /// What all bytes are read as, in rows of sixteen: a character, of which LF stands as `/`, or `.` for a byte
@@ -140,23 +147,20 @@ fn wanted(rows: &[&[u8]], byte: u8) -> Option<Read> {
 #[test]
 fn reads_every_byte(rt: HostRuntime) {
     for byte in 0..=255u8 {
-        assert!(rt;
-            wanted(&ALL_244, byte) == Some(sense(Code::Rs244, byte)),
-            "at {byte}"
-        );
-        assert!(rt;
-            wanted(&ALL_358, byte) == Some(sense(Code::Rs358, byte)),
-            "at {byte}"
-        );
+        let read = sense(Code::Rs244, byte);
+        assert!(rt; wanted(&ALL_244, byte) == Some(read), "at {byte}");
+        let read = sense(Code::Rs358, byte);
+        assert!(rt; wanted(&ALL_358, byte) == Some(read), "at {byte}");
     }
 }
 
 const NO_CHARACTERS: [u8; 6] = [b' ', b'A', b'.', b'g', 0x00, 0xff];
 
+fn is_no_character(ch: &u8) -> bool {
+    punch(Code::Rs244, *ch).is_none() && punch(Code::Rs358, *ch).is_none()
+}
+
 #[test]
 fn punches_no_other_characters(rt: HostRuntime) {
-    for &ch in &NO_CHARACTERS {
-        let punched = [punch(Code::Rs244, ch), punch(Code::Rs358, ch)];
-        assert_eq!(rt; punched, [None, None]);
-    }
+    assert_all(&rt, &NO_CHARACTERS, is_no_character);
 }
