@@ -2,11 +2,9 @@
 #![tactic(auto)]
 
 #[cfg(test)]
+mod demo;
+#[cfg(test)]
 mod folder;
-#[cfg(test)]
-mod listing;
-#[cfg(test)]
-mod names;
 #[cfg(test)]
 mod pieces;
 #[cfg(test)]
