@@ -9,65 +9,83 @@ use std::rt::Files;
 use std::test::Fail;
 
 /// How often reading has failed so far, and how often writing has.
-fn faults<F: Files>(shelf: &FolderShelf<'_, F>) -> [u64; 2] {
-    [shelf.read_faults(), shelf.write_faults()]
+type Faults = (u64, u64);
+
+fn faults<F: Files>(shelf: &FolderShelf<'_, F>) -> Faults {
+    (shelf.read_faults(), shelf.write_faults())
 }
 
-#[test]
-fn a_full_disk_refuses_bytes(rt: HostRuntime) -> Result<(), Fail> {
-    let mut shelf = FolderShelf::new(&rt, rt.alloc(), ".")?;
-    shelf.start_write("/dev/full")?;
-    let before = faults(&shelf);
-    let appended = shelf.append(b"%");
-    assert_eq!(rt; appended, Err(ShelfFault::Fault));
-    assert_eq!(rt; [before, faults(&shelf)], [[0, 0], [0, 1]]);
-    Ok(())
+/// A name is not begun to be read, and so many calls have failed then.
+fn assert_no_start<R: Abort, F: Files>(
+    rt: &R,
+    shelf: &mut FolderShelf<'_, F>,
+    name: &str,
+    want: ReadStart,
+    count: Faults,
+) {
+    let start = shelf.start_read(name).err();
+    assert!(rt; start == Some(want), "{name}");
+    assert!(rt; faults(shelf) == count, "{name}");
+}
+
+/// The bytes of a name are not read.
+fn assert_no_read<R: Abort + AllocGlobal, F: Files>(
+    rt: &R,
+    shelf: &mut FolderShelf<'_, F>,
+    name: &str,
+    want: ReadError,
+    count: Faults,
+) {
+    let read = read_all(rt.alloc(), shelf, name, 8).err();
+    assert!(rt; read == Some(want), "{name}");
+    assert!(rt; faults(shelf) == count, "{name}");
+}
+
+/// A name is not begun to be written.
+fn assert_no_new<R: Abort, F: Files>(
+    rt: &R,
+    shelf: &mut FolderShelf<'_, F>,
+    name: &str,
+    count: Faults,
+) {
+    assert!(rt; shelf.start_write(name) == Err(ShelfFault::Fault), "{name}");
+    assert!(rt; faults(shelf) == count, "{name}");
+}
+
+/// Bytes are not written.
+fn assert_no_write<R: Abort, F: Files>(
+    rt: &R,
+    shelf: &mut FolderShelf<'_, F>,
+    name: &str,
+    count: Faults,
+) {
+    assert!(rt;
+        write_all(shelf, name, b"%") == Err(ShelfFault::Fault),
+        "{name}"
+    );
+    assert!(rt; faults(shelf) == count, "{name}");
 }
 
 #[test]
 fn a_full_disk_refuses_a_file(rt: HostRuntime) -> Result<(), Fail> {
+    let mut shelf = FolderShelf::new(&rt, rt.alloc(), ".")?;
     // a file of no bytes is no append
-    for (bytes, count) in [(b"%".as_slice(), 1), (b"".as_slice(), 0)] {
-        let mut shelf = FolderShelf::new(&rt, rt.alloc(), ".")?;
-        let written = write_all(&mut shelf, "/dev/full", bytes);
-        assert_eq!(rt; written.is_err(), count == 1);
-        assert_eq!(rt; faults(&shelf), [0, count]);
-    }
+    write_all(&mut shelf, "/dev/full", b"")?;
+    assert_no_write(&rt, &mut shelf, "/dev/full", (0, 1));
     Ok(())
 }
 
 #[test]
 fn a_folder_is_no_file(rt: HostRuntime) -> Result<(), Fail> {
-    let alloc = rt.alloc();
     let _ = fs::remove_dir_all(&rt, "apt_folder_test");
     fs::create_dir(&rt, "apt_folder_test")?;
-    let mut shelf = FolderShelf::new(&rt, alloc, ".")?;
-    let mut buf = [0u8; 8];
+    let mut shelf = FolderShelf::new(&rt, rt.alloc(), ".")?;
     // the system opens it, and reads nothing of it
     shelf.start_read("apt_folder_test")?;
-    let started = faults(&shelf);
-    let piece = shelf.read(&mut buf).err();
-    let piece_faults = faults(&shelf);
-    let read = read_all(alloc, &mut shelf, "apt_folder_test", 8).err();
-    let read_faults = faults(&shelf);
-    let start = shelf.start_write("apt_folder_test").err();
-    let start_faults = faults(&shelf);
-    let written = write_all(&mut shelf, "apt_folder_test", b"%").err();
-    let refusals = [piece, start, written];
-    assert_eq!(rt;
-        (read, refusals),
-        (Some(ReadError::Fault), [Some(ShelfFault::Fault); 3])
-    );
-    assert_eq!(rt;
-        [
-            started,
-            piece_faults,
-            read_faults,
-            start_faults,
-            faults(&shelf)
-        ],
-        [[0, 0], [1, 0], [2, 0], [2, 1], [2, 2]]
-    );
+    let fault = ReadError::Fault;
+    assert_no_read(&rt, &mut shelf, "apt_folder_test", fault, (1, 0));
+    assert_no_new(&rt, &mut shelf, "apt_folder_test", (1, 1));
+    assert_no_write(&rt, &mut shelf, "apt_folder_test", (1, 2));
     fs::remove_dir_all(&rt, "apt_folder_test")?;
     Ok(())
 }
@@ -75,30 +93,17 @@ fn a_folder_is_no_file(rt: HostRuntime) -> Result<(), Fail> {
 /// Whoever runs the tests as root may open every file.
 #[test]
 fn a_file_without_permission_is_a_fault(rt: HostRuntime) -> Result<(), Fail> {
-    let alloc = rt.alloc();
     let _ = fs::remove_file(&rt, "apt_closed_test");
     fs::write(&rt, "apt_closed_test", "bytes")?;
     let is_root = fs::metadata(&rt, "apt_closed_test")?.uid() == 0;
     fs::set_permissions(&rt, "apt_closed_test", Permissions::from_mode(0))?;
     if !is_root {
-        let mut shelf = FolderShelf::new(&rt, alloc, ".")?;
-        let started = shelf.start_read("apt_closed_test").err();
-        let start_faults = faults(&shelf);
-        let read = read_all(alloc, &mut shelf, "apt_closed_test", 8).err();
-        let read_faults = faults(&shelf);
-        let written = shelf.start_write("apt_closed_test").err();
-        assert_eq!(rt;
-            (started, read, written),
-            (
-                Some(ReadStart::Fault),
-                Some(ReadError::Fault),
-                Some(ShelfFault::Fault)
-            )
-        );
-        assert_eq!(rt;
-            [start_faults, read_faults, faults(&shelf)],
-            [[1, 0], [2, 0], [2, 1]]
-        );
+        let mut shelf = FolderShelf::new(&rt, rt.alloc(), ".")?;
+        let start = ReadStart::Fault;
+        assert_no_start(&rt, &mut shelf, "apt_closed_test", start, (1, 0));
+        let read = ReadError::Fault;
+        assert_no_read(&rt, &mut shelf, "apt_closed_test", read, (2, 0));
+        assert_no_new(&rt, &mut shelf, "apt_closed_test", (2, 1));
     }
     fs::remove_file(&rt, "apt_closed_test")?;
     Ok(())
@@ -107,32 +112,26 @@ fn a_file_without_permission_is_a_fault(rt: HostRuntime) -> Result<(), Fail> {
 /// A link to itself and a name within a file are faults for everyone, and no missing files.
 #[test]
 fn a_name_that_leads_nowhere_is_a_fault(rt: HostRuntime) -> Result<(), Fail> {
-    let alloc = rt.alloc();
     let _ = fs::remove_dir_all(&rt, "apt_names_test");
     fs::create_dir(&rt, "apt_names_test")?;
     fs::write(&rt, "apt_names_test/file", "bytes")?;
     symlink(&rt, "loop", "apt_names_test/loop")?;
-    let mut shelf = FolderShelf::new(&rt, alloc, "apt_names_test")?;
-    for (count, name) in (1u64..).zip(["loop", "file/file"]) {
-        let refusals = (shelf.start_read(name).err(), shelf.start_write(name).err());
-        let want = (Some(ReadStart::Fault), Some(ShelfFault::Fault));
-        assert_eq!(rt; refusals, want, "{name}");
-        assert_eq!(rt; faults(&shelf), [count, count], "{name}");
-    }
+    let mut shelf = FolderShelf::new(&rt, rt.alloc(), "apt_names_test")?;
+    assert_no_start(&rt, &mut shelf, "loop", ReadStart::Fault, (1, 0));
+    assert_no_new(&rt, &mut shelf, "loop", (1, 1));
+    assert_no_start(&rt, &mut shelf, "file/file", ReadStart::Fault, (2, 1));
+    assert_no_new(&rt, &mut shelf, "file/file", (2, 2));
     fs::remove_dir_all(&rt, "apt_names_test")?;
     Ok(())
 }
 
 #[test]
 fn an_absent_file_is_missing(rt: HostRuntime) -> Result<(), Fail> {
-    let alloc = rt.alloc();
-    let mut shelf = FolderShelf::new(&rt, alloc, ".")?;
-    for (count, name) in (1u64..).zip(["apt_no_file", "apt_no_folder/file"]) {
-        let found = (shelf.start_read(name).err(), faults(&shelf));
-        assert_eq!(rt; found, (Some(ReadStart::Missing), [count, 0]), "{name}");
-    }
-    let read = read_all(alloc, &mut shelf, "apt_no_file", 8).err();
-    assert_eq!(rt; (read, faults(&shelf)), (Some(ReadError::Missing), [3, 0]));
+    let mut shelf = FolderShelf::new(&rt, rt.alloc(), ".")?;
+    let no_start = ReadStart::Missing;
+    assert_no_start(&rt, &mut shelf, "apt_no_file", no_start, (1, 0));
+    assert_no_start(&rt, &mut shelf, "apt_no_folder/file", no_start, (2, 0));
+    assert_no_read(&rt, &mut shelf, "apt_no_file", ReadError::Missing, (3, 0));
     Ok(())
 }
 
@@ -145,32 +144,24 @@ fn long_bytes(alloc: Global, length: u32) -> Result<Vec<u8>, Fail> {
     Ok(bytes)
 }
 
-/// Bytes that are written are read again, up to their length.
-fn assert_keeps<R: Abort + AllocGlobal, H: Shelf>(rt: &R, shelf: &mut H, bytes: &[u8]) {
-    let alloc = rt.alloc();
-    let written = write_all(shelf, "apt_pieces_test", bytes);
-    let whole = read_all(alloc, shelf, "apt_pieces_test", bytes.len());
-    let limit = bytes.len().saturating_sub(1);
-    let short = read_all(alloc, shelf, "apt_pieces_test", limit);
-    assert!(rt;
-        matches!(&whole, Ok(read) if read.as_slice() == bytes),
-        "{limit} bytes and one"
-    );
-    assert_eq!(rt;
-        (written, short.err()),
-        (Ok(()), Some(ReadError::TooLong)),
-        "{limit} bytes and one"
-    );
+/// A name holds these bytes.
+fn holds<H: Shelf>(alloc: Global, shelf: &mut H, name: &str, bytes: &[u8]) -> bool {
+    match read_all(alloc, shelf, name, bytes.len()) {
+        Ok(read) => read.as_slice() == bytes,
+        Err(_) => false,
+    }
 }
 
 #[test]
 fn a_file_of_several_pieces_is_read_whole(rt: HostRuntime) -> Result<(), Fail> {
-    let alloc = rt.alloc();
     for length in [4095, 4096, 4097, 10_000] {
-        let bytes = long_bytes(alloc, length)?;
-        let mut shelf = FolderShelf::new(&rt, alloc, ".")?;
-        assert_keeps(&rt, &mut shelf, &bytes);
-        assert_eq!(rt; faults(&shelf), [0, 0], "{length} bytes");
+        let bytes = long_bytes(rt.alloc(), length)?;
+        let mut shelf = FolderShelf::new(&rt, rt.alloc(), ".")?;
+        write_all(&mut shelf, "apt_pieces_test", &bytes)?;
+        assert!(rt;
+            holds(rt.alloc(), &mut shelf, "apt_pieces_test", &bytes),
+            "{length} bytes"
+        );
         fs::remove_file(&rt, "apt_pieces_test")?;
     }
     Ok(())

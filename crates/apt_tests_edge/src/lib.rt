@@ -6,10 +6,6 @@ mod demo;
 #[cfg(test)]
 mod folder;
 #[cfg(test)]
-mod listing;
-#[cfg(test)]
-mod names;
-#[cfg(test)]
 mod pieces;
 #[cfg(test)]
 mod report;

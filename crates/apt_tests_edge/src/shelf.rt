@@ -1,10 +1,12 @@
+//! The stores and the outputs, and how often they are called.
+
 ghost use Rattle.std.specs.Prelude.{◌≤◌};
 
 use apt_shelf::{
     Calls, FailList, FolderShelf, MemShelf, MemSink, Pieces, ReadError, Shelf, ShelfFault, Sink,
     StdSink, SureShelf, read_all, write_all,
 };
-use std::alloc::{AllocGlobal, Global};
+use std::alloc::{AllocError, AllocGlobal, Global};
 use std::fs;
 use std::os::unix::fs::symlink;
 use std::process::Abort;
@@ -40,7 +42,7 @@ fn assert_refuses<R: Abort + AllocGlobal, H: Shelf>(
     want: ReadError,
 ) {
     let read = read_all(rt.alloc(), shelf, name, limit);
-    assert_eq!(rt; read.err(), Some(want), "read {name}");
+    assert!(rt; read.err() == Some(want), "read {name}");
 }
 
 fn assert_writes<R: Abort, H: Shelf>(
@@ -50,18 +52,32 @@ fn assert_writes<R: Abort, H: Shelf>(
     bytes: &[u8],
     want: Result<(), ShelfFault>,
 ) {
-    assert_eq!(rt; write_all(shelf, name, bytes), want, "write {name}");
+    assert!(rt; write_all(shelf, name, bytes) == want, "write {name}");
 }
 
-/// The calls so far: starts of reading, reads, starts of writing and appends.
-fn made(shelf: &MemShelf) -> [u64; 4] {
+/// So many calls were made so far: starts of reading, reads, starts of writing and appends.
+fn assert_made(rt: &impl Abort, shelf: &MemShelf, want: [u64; 4]) {
     let Calls {
         read_starts,
         reads,
         write_starts,
         appends,
     } = shelf.calls();
-    [read_starts, reads, write_starts, appends]
+    assert!(rt; [read_starts, reads, write_starts, appends] == want);
+}
+
+fn assert_holds(rt: &impl Abort, shelf: &MemShelf, name: &str, want: &[u8]) {
+    assert!(rt; shelf.file(name) == Some(want), "{name}");
+}
+
+/// The second call of each kind fails.
+fn second_of_each(alloc: Global) -> Result<FailList, AllocError> {
+    Ok(FailList {
+        read_starts: vec![in alloc; 2]?,
+        reads: vec![in alloc; 2]?,
+        write_starts: vec![in alloc; 2]?,
+        appends: vec![in alloc; 2]?,
+    })
 }
 
 #[test]
@@ -76,33 +92,38 @@ fn memory_keeps_files(rt: HostRuntime) -> Result<(), Fail> {
     assert_refuses(&rt, &mut shelf, "c", 9, ReadError::Missing);
     assert_writes(&rt, &mut shelf, "b", b"", Ok(()));
     assert_reads(&rt, &mut shelf, "b", 9, b"");
-    assert_eq!(rt; shelf.file("a"), Some(b"hello".as_slice()));
+    assert_holds(&rt, &shelf, "a", b"hello");
     Ok(())
 }
 
+/// Each call counts, also one that fails and one for a name that is missing.
 #[test]
 fn listed_calls_fail_once(rt: HostRuntime) -> Result<(), Fail> {
     let alloc = rt.alloc();
     let files = one_file(alloc, "a", b"hello")?;
-    let fail = FailList {
-        read_starts: vec![in alloc; 2]?,
-        reads: vec![in alloc; 2]?,
-        write_starts: vec![in alloc; 2]?,
-        appends: vec![in alloc; 2]?,
-    };
-    let mut shelf = MemShelf::new(alloc, files, fail)?;
+    let mut shelf = MemShelf::new(alloc, files, second_of_each(alloc)?)?;
+    assert_made(&rt, &shelf, [0, 0, 0, 0]);
     // the second read fails, then the second start
     assert_refuses(&rt, &mut shelf, "a", 9, ReadError::Fault);
+    assert_made(&rt, &shelf, [1, 2, 0, 0]);
     assert_refuses(&rt, &mut shelf, "a", 9, ReadError::Fault);
+    assert_made(&rt, &shelf, [2, 2, 0, 0]);
+    assert_refuses(&rt, &mut shelf, "c", 9, ReadError::Missing);
+    assert_made(&rt, &shelf, [3, 2, 0, 0]);
     assert_reads(&rt, &mut shelf, "a", 9, b"hello");
+    assert_made(&rt, &shelf, [4, 4, 0, 0]);
     // the second start fails, then the second append, which keeps half
     assert_writes(&rt, &mut shelf, "b", b"12345", Ok(()));
+    assert_made(&rt, &shelf, [4, 4, 1, 1]);
     assert_writes(&rt, &mut shelf, "b", b"678", Err(ShelfFault::Fault));
-    assert_reads(&rt, &mut shelf, "b", 9, b"12345");
+    assert_made(&rt, &shelf, [4, 4, 2, 1]);
+    assert_holds(&rt, &shelf, "b", b"12345");
     assert_writes(&rt, &mut shelf, "b", b"67890", Err(ShelfFault::Fault));
-    assert_reads(&rt, &mut shelf, "b", 9, b"67");
+    assert_made(&rt, &shelf, [4, 4, 3, 2]);
+    assert_holds(&rt, &shelf, "b", b"67");
     assert_writes(&rt, &mut shelf, "b", b"67890", Ok(()));
-    assert_eq!(rt; shelf.file("b"), Some(b"67890".as_slice()));
+    assert_made(&rt, &shelf, [4, 4, 4, 3]);
+    assert_holds(&rt, &shelf, "b", b"67890");
     Ok(())
 }
 
@@ -114,7 +135,7 @@ fn assert_reads_slowly<R: Abort + AllocGlobal>(rt: &R, step: usize, reads: u64) 
     let files = one_file(alloc, "a", b"1234567")?;
     let mut shelf = MemShelf::slow(alloc, files, FailList::none(alloc), step)?;
     assert_reads(rt, &mut shelf, "a", 7, b"1234567");
-    assert_eq!(rt; made(&shelf), [1, reads, 0, 0], "by {step}");
+    assert_made(rt, &shelf, [1, reads, 0, 0]);
     assert_refuses(rt, &mut shelf, "a", 6, ReadError::TooLong);
     Ok(())
 }
@@ -130,36 +151,6 @@ fn slow_reads_give_the_whole_file(rt: HostRuntime) -> Result<(), Fail> {
 }
 
 #[test]
-fn calls_are_counted(rt: HostRuntime) -> Result<(), Fail> {
-    let alloc = rt.alloc();
-    let fail = FailList {
-        read_starts: vec![in alloc; 2]?,
-        reads: vec![in alloc; 2]?,
-        write_starts: vec![in alloc; 2]?,
-        appends: vec![in alloc; 2]?,
-    };
-    let mut shelf = MemShelf::new(alloc, one_file(alloc, "a", b"hello")?, fail)?;
-    assert_eq!(rt; made(&shelf), [0, 0, 0, 0]);
-    // the second of each kind fails, and counts
-    assert_refuses(&rt, &mut shelf, "a", 9, ReadError::Fault);
-    assert_eq!(rt; made(&shelf), [1, 2, 0, 0]);
-    assert_refuses(&rt, &mut shelf, "a", 9, ReadError::Fault);
-    assert_eq!(rt; made(&shelf), [2, 2, 0, 0]);
-    // so does the start of a name that is missing
-    assert_refuses(&rt, &mut shelf, "c", 9, ReadError::Missing);
-    assert_eq!(rt; made(&shelf), [3, 2, 0, 0]);
-    assert_writes(&rt, &mut shelf, "b", b"12345", Ok(()));
-    assert_eq!(rt; made(&shelf), [3, 2, 1, 1]);
-    assert_writes(&rt, &mut shelf, "b", b"678", Err(ShelfFault::Fault));
-    assert_eq!(rt; made(&shelf), [3, 2, 2, 1]);
-    assert_writes(&rt, &mut shelf, "b", b"678", Err(ShelfFault::Fault));
-    assert_eq!(rt; made(&shelf), [3, 2, 3, 2]);
-    assert_reads(&rt, &mut shelf, "b", 9, b"6");
-    assert_eq!(rt; made(&shelf), [4, 4, 3, 2]);
-    Ok(())
-}
-
-#[test]
 fn bytes_are_appended_in_pieces(rt: HostRuntime) -> Result<(), Fail> {
     let alloc = rt.alloc();
     let mut fail = FailList::none(alloc);
@@ -170,12 +161,12 @@ fn bytes_are_appended_in_pieces(rt: HostRuntime) -> Result<(), Fail> {
     let long = [7u8; 10_000];
     let mut pieces = Pieces::new();
     pieces.push(&mut shelf, &long[..4000])?;
-    assert_eq!(rt; shelf.file("a"), Some(b"".as_slice()));
+    assert_holds(&rt, &shelf, "a", b"");
     pieces.push(&mut shelf, &long[4000..])?;
     pieces.push(&mut shelf, b"")?;
-    assert_eq!(rt; shelf.file("a"), Some(&long[..8192]));
-    assert_eq!(rt; pieces.finish(&mut shelf), Err(ShelfFault::Fault));
-    assert_eq!(rt; shelf.file("a"), Some(&long[..8192 + 904]));
+    assert_holds(&rt, &shelf, "a", &long[..8192]);
+    assert!(rt; pieces.finish(&mut shelf) == Err(ShelfFault::Fault));
+    assert_holds(&rt, &shelf, "a", &long[..8192 + 904]);
     Ok(())
 }
 
@@ -185,8 +176,8 @@ fn sure_shelf_keeps_files(rt: HostRuntime) -> Result<(), Fail> {
     let mut shelf = SureShelf::new(alloc, one_file(alloc, "a", b"hello")?)?;
     assert_writes(&rt, &mut shelf, "b", b"there", Ok(()));
     assert_reads(&rt, &mut shelf, "a", 5, b"hello");
-    assert_eq!(rt; shelf.file("b"), Some(b"there".as_slice()));
-    assert_eq!(rt; shelf.file("c"), None);
+    assert!(rt; shelf.file("b") == Some(b"there".as_slice()));
+    assert!(rt; shelf.file("c").is_none());
     Ok(())
 }
 
@@ -195,9 +186,9 @@ fn sink_keeps_lines(rt: HostRuntime) -> Result<(), Fail> {
     let alloc = rt.alloc();
     let mut sink = MemSink::new(alloc, vec![in alloc; 2]?);
     sink.put(b"abc")?;
-    assert_eq!(rt; sink.put(b"defgh"), Err(ShelfFault::Fault));
+    assert!(rt; sink.put(b"defgh") == Err(ShelfFault::Fault));
     sink.put(b"x")?;
-    assert_eq!(rt; sink.bytes(), b"abcdex".as_slice());
+    assert!(rt; sink.bytes() == b"abcdex".as_slice());
     Ok(())
 }
 
@@ -217,6 +208,12 @@ fn folder_keeps_files(rt: HostRuntime) -> Result<(), Fail> {
     assert_reads(&rt, &mut shelf, "/dev/null", 5, b"");
     fs::remove_file(&rt, "apt_shelf_test.txt")?;
     Ok(())
+}
+
+/// A name is not begun to be written.
+fn assert_spares<R: Abort, H: Shelf>(rt: &R, shelf: &mut H, name: &str) {
+    let start = shelf.start_write(name);
+    assert!(rt; start == Err(ShelfFault::Fault), "{name}");
 }
 
 #[test]
@@ -242,18 +239,18 @@ fn folder_spares_what_it_opened(rt: HostRuntime) -> Result<(), Fail> {
         "hard",
         "./machine",
     ];
-    for (refused, name) in (1u64..).zip(names) {
-        assert_eq!(rt; shelf.start_write(name), Err(ShelfFault::Fault), "{name}");
-        assert_eq!(rt; shelf.write_faults(), refused, "{name}");
+    for name in names {
+        assert_spares(&rt, &mut shelf, name);
     }
+    assert!(rt; shelf.write_faults() == 7);
     assert_reads(&rt, &mut shelf, "part", 5, b"bytes");
     assert_reads(&rt, &mut shelf, "machine", 5, b"bytes");
     // another file is emptied and written, a new one too, and a device
     assert_writes(&rt, &mut shelf, "./tape", b"%", Ok(()));
     assert_writes(&rt, &mut shelf, "new", b"%", Ok(()));
     assert_writes(&rt, &mut shelf, "/dev/null", b"%", Ok(()));
-    assert_eq!(rt; shelf.start_write("tape"), Err(ShelfFault::Fault));
-    assert_eq!(rt; shelf.write_faults(), 8);
+    assert_spares(&rt, &mut shelf, "tape");
+    assert!(rt; shelf.write_faults() == 8);
     assert_reads(&rt, &mut shelf, "tape", 5, b"%");
     assert_reads(&rt, &mut shelf, "new", 5, b"%");
     fs::remove_dir_all(&rt, "apt_shelf_test")?;

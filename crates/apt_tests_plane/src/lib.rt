@@ -5,3 +5,5 @@
 mod num;
 #[cfg(test)]
 mod plane;
+#[cfg(test)]
+mod rows;

@@ -1,3 +1,6 @@
+//! Whole numbers, with answers computed in another language.
+
+use crate::rows::assert_all;
 use apt_num::{Sign, div_near, isqrt, root_near, root_sign};
 
 const ROOTS: [(u128, u128); 40] = [
@@ -46,11 +49,14 @@ const ROOTS: [(u128, u128); 40] = [
     ),
 ];
 
+fn has_root(row: &(u128, u128)) -> bool {
+    let (n, root) = *row;
+    isqrt(n) == root
+}
+
 #[test]
 fn roots(rt: HostRuntime) {
-    for &(n, want) in &ROOTS {
-        assert_eq!(rt; isqrt(n), want, "at {n}");
-    }
+    assert_all(&rt, &ROOTS, has_root);
 }
 
 const NEAREST_ROOTS: [(u128, u128); 40] = [
@@ -96,12 +102,14 @@ const NEAREST_ROOTS: [(u128, u128); 40] = [
     (9028945920466947936439608702, 95020765732901),
 ];
 
+fn has_nearest_root(row: &(u128, u128)) -> bool {
+    let (n, root) = *row;
+    n < 1 << 126 && root_near(n) == root
+}
+
 #[test]
 fn nearest_roots(rt: HostRuntime) {
-    for &(n, want) in &NEAREST_ROOTS {
-        assert!(rt; n < 1 << 126);
-        assert_eq!(rt; root_near(n), want, "at {n}");
-    }
+    assert_all(&rt, &NEAREST_ROOTS, has_nearest_root);
 }
 
 const NEAREST_QUOTIENTS: [(i128, i128, i128); 40] = [
@@ -191,15 +199,16 @@ const NEAREST_QUOTIENTS: [(i128, i128, i128); 40] = [
     ),
 ];
 
+fn has_quotient(row: &(i128, i128, i128)) -> bool {
+    let (a, b, quotient) = *row;
+    let limit = 10_u128.pow(38);
+    let in_range = b != 0 && a.unsigned_abs() <= limit && b.unsigned_abs() <= limit;
+    in_range && div_near(a, b) == quotient
+}
+
 #[test]
 fn nearest_quotients(rt: HostRuntime) {
-    let limit = 10_u128.pow(38);
-    for &(a, b, want) in &NEAREST_QUOTIENTS {
-        assert!(rt; b != 0);
-        assert!(rt; a.unsigned_abs() <= limit);
-        assert!(rt; b.unsigned_abs() <= limit);
-        assert_eq!(rt; div_near(a, b), want, "at {a} / {b}");
-    }
+    assert_all(&rt, &NEAREST_QUOTIENTS, has_quotient);
 }
 
 const SIGNS: [(i64, i32, u64, Sign); 40] = [
@@ -245,46 +254,34 @@ const SIGNS: [(i64, i32, u64, Sign); 40] = [
     (-35240813440, 2576, 187154438593599, Sign::Minus),
 ];
 
-#[test]
-fn signs(rt: HostRuntime) {
-    let limit = 10_u128.pow(38);
-    for &(k, h, n, want) in &SIGNS {
-        let size = i128::from(h).unsigned_abs();
-        assert!(rt; size * size * u128::from(n) < limit);
-        let sign = root_sign(i128::from(k), i128::from(h), u128::from(n));
-        assert_eq!(rt; sign, want, "at {k}, {h}, {n}");
-    }
+fn has_sign(row: &(i64, i32, u64, Sign)) -> bool {
+    let (k, h, n, sign) = *row;
+    let size = i128::from(h).unsigned_abs();
+    let in_range = size * size * u128::from(n) < 10_u128.pow(38);
+    in_range && root_sign(i128::from(k), i128::from(h), u128::from(n)) == sign
 }
 
+#[test]
+fn signs(rt: HostRuntime) {
+    assert_all(&rt, &SIGNS, has_sign);
+}
+
+/// Numbers at the limits of what the calls take.
 #[test]
 fn greatest_sizes(rt: HostRuntime) {
     let most = 100_000_000_000_000_000_000_000_000_000_000_000_000;
     let half = 50_000_000_000_000_000_000_000_000_000_000_000_000;
     let root = 9_999_999_999_999_999_999;
     let square = 99_999_999_999_999_999_999_999_999_999_999_999_999;
-    assert_eq!(rt; root_near((1 << 126) - 1), 9_223_372_036_854_775_808);
-    let quotients = [
-        div_near(-most, 1),
-        div_near(half, most),
-        div_near(half, -most),
-        div_near(half - 1, most),
-    ];
-    assert_eq!(rt; quotients, [-most, 1, -1, 0]);
-    let signs = [
-        root_sign(0, i128::MIN, 0),
-        root_sign(-1, i128::MIN, 0),
-        root_sign(root, root, 1),
-        root_sign(-root, root, 1),
-        root_sign(root, 1, square),
-        root_sign(-root, -1, square),
-    ];
-    let wanted = [
-        Sign::Zero,
-        Sign::Minus,
-        Sign::Zero,
-        Sign::Minus,
-        Sign::Minus,
-        Sign::Plus,
-    ];
-    assert_eq!(rt; signs, wanted);
+    assert!(rt; root_near((1 << 126) - 1) == 9_223_372_036_854_775_808);
+    assert!(rt; div_near(-most, 1) == -most);
+    assert!(rt; div_near(half, most) == 1);
+    assert!(rt; div_near(half, -most) == -1);
+    assert!(rt; div_near(half - 1, most) == 0);
+    assert!(rt; root_sign(0, i128::MIN, 0) == Sign::Zero);
+    assert!(rt; root_sign(-1, i128::MIN, 0) == Sign::Minus);
+    assert!(rt; root_sign(root, root, 1) == Sign::Zero);
+    assert!(rt; root_sign(-root, root, 1) == Sign::Minus);
+    assert!(rt; root_sign(root, 1, square) == Sign::Minus);
+    assert!(rt; root_sign(-root, -1, square) == Sign::Plus);
 }

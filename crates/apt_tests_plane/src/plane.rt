@@ -3,6 +3,7 @@
 ghost use Rattle.std.specs.Prelude.{IsTrue};
 ghost use Rattle.apt_plane.specs.Ranges.{IsPoint, IsLine, IsVector, IsSense, IsBand};
 
+use crate::rows::assert_all;
 use apt_plane::vectors::{cross, displacement, dot, length_squared, perp};
 use apt_plane::{Band, Dir, Line, Pt, Spot, before, segment_in_line_band, segment_in_ring};
 
@@ -61,15 +62,6 @@ fn is_band(band: Band) -> bool
     band.lo.unsigned_abs() <= 400_000_000 && band.hi.unsigned_abs() <= 400_000_000
 }
 
-/// What is answered of figures in range.
-fn answer(p: Pt, q: Pt, line: &Line, band: Band) -> Option<Result<(), Spot>> {
-    if is_point(p) && is_point(q) && is_line(line) && is_band(band) {
-        Some(segment_in_line_band(p, q, line, band))
-    } else {
-        None
-    }
-}
-
 /// Segments, each with its band along a line.
 const SEGMENTS: [(Line, Pair, Pair, Pair, Result<(), Spot>); 25] = [
     (FLAT, (0, 0), (100, 0), (-8, 8), INSIDE),
@@ -105,23 +97,23 @@ const SEGMENTS: [(Line, Pair, Pair, Pair, Result<(), Spot>); 25] = [
     ),
 ];
 
-#[test]
-fn segments_in_bands(rt: HostRuntime) {
-    for (line, p, q, within, want) in &SEGMENTS {
-        assert_eq!(rt;
-            answer(pt(*p), pt(*q), line, band(*within)),
-            Some(*want),
-            "from {p:?} to {q:?} in {within:?}"
-        );
-    }
-}
-
-fn ring_answer(p: Pt, q: Pt, c: Pt, band: Band) -> Option<Result<(), Spot>> {
-    if is_point(p) && is_point(q) && is_point(c) && is_band(band) {
-        Some(segment_in_ring(p, q, c, band))
+/// What is answered of figures in range.
+fn in_band(p: Pt, q: Pt, line: &Line, band: Band) -> Option<Result<(), Spot>> {
+    if is_point(p) && is_point(q) && is_line(line) && is_band(band) {
+        Some(segment_in_line_band(p, q, line, band))
     } else {
         None
     }
+}
+
+fn lies_in_band(row: &(Line, Pair, Pair, Pair, Result<(), Spot>)) -> bool {
+    let (line, p, q, within, want) = *row;
+    in_band(pt(p), pt(q), &line, band(within)) == Some(want)
+}
+
+#[test]
+fn segments_in_bands(rt: HostRuntime) {
+    assert_all(&rt, &SEGMENTS, lies_in_band);
 }
 
 /// (30, 40) is 50 away from the origin, and the foot of the segment from (-30, 40) to it is 40 away.
@@ -188,15 +180,22 @@ const RING_SEGMENTS: [(Pair, Pair, Pair, Pair, Result<(), Spot>); 21] = [
     ),
 ];
 
+fn in_ring(p: Pt, q: Pt, c: Pt, band: Band) -> Option<Result<(), Spot>> {
+    if is_point(p) && is_point(q) && is_point(c) && is_band(band) {
+        Some(segment_in_ring(p, q, c, band))
+    } else {
+        None
+    }
+}
+
+fn lies_in_ring(row: &(Pair, Pair, Pair, Pair, Result<(), Spot>)) -> bool {
+    let (p, q, c, within, want) = *row;
+    in_ring(pt(p), pt(q), pt(c), band(within)) == Some(want)
+}
+
 #[test]
 fn segments_in_rings(rt: HostRuntime) {
-    for (p, q, c, within, want) in &RING_SEGMENTS {
-        assert_eq!(rt;
-            ring_answer(pt(*p), pt(*q), pt(*c), band(*within)),
-            Some(*want),
-            "from {p:?} to {q:?} about {c:?} in {within:?}"
-        );
-    }
+    assert_all(&rt, &RING_SEGMENTS, lies_in_ring);
 }
 
 fn is_short(u: Dir) -> bool
@@ -231,25 +230,34 @@ const ROUND: [(Dir, usize, usize); 8] = [
     (Dir { dx: 2, dy: -1 }, 7, 1),
 ];
 
-#[test]
-fn directions_in_order(rt: HostRuntime) {
+/// Whether a direction is before each other one just where its place is, to the left and to the right.
+fn is_in_order(row: &(Dir, usize, usize)) -> bool {
     let start = Dir { dx: 3, dy: 1 };
-    for &(u, left, right) in &ROUND {
-        for &(v, more_left, more_right) in &ROUND {
-            assert_eq!(rt;
-                (order_answer(start, u, v, 1), order_answer(start, u, v, -1)),
-                (Some(left < more_left), Some(right < more_right)),
-                "{u:?} and {v:?} to the left and to the right"
-            );
+    let (u, left, right) = *row;
+    for &(v, more_left, more_right) in &ROUND {
+        if order_answer(start, u, v, 1) != Some(left < more_left)
+            || order_answer(start, u, v, -1) != Some(right < more_right)
+        {
+            return false;
         }
     }
+    true
+}
+
+#[test]
+fn directions_in_order(rt: HostRuntime) {
+    assert_all(&rt, &ROUND, is_in_order);
 }
 
 #[test]
 fn products(rt: HostRuntime) {
     let u = displacement(Pt { x: 1, y: 2 }, Pt { x: 4, y: -2 });
-    assert_eq!(rt; (u, perp(u)), (Dir { dx: 3, dy: -4 }, Dir { dx: 4, dy: 3 }));
     let v = Dir { dx: 5, dy: 12 };
-    assert_eq!(rt; [cross(u, v), cross(v, u), dot(u, v)], [56, -56, -33]);
-    assert_eq!(rt; [length_squared(u), length_squared(v)], [25, 169]);
+    assert!(rt; u == Dir { dx: 3, dy: -4 });
+    assert!(rt; perp(u) == Dir { dx: 4, dy: 3 });
+    assert!(rt; cross(u, v) == 56);
+    assert!(rt; cross(v, u) == -56);
+    assert!(rt; dot(u, v) == -33);
+    assert!(rt; length_squared(u) == 25);
+    assert!(rt; length_squared(v) == 169);
 }
