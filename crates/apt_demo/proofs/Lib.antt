@@ -1,5 +1,4 @@
 pub mod Circles
-pub mod DemoLines
 pub mod Deeds
 pub mod Walks
 pub mod Numbers
