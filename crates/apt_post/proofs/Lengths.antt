@@ -1,5 +1,5 @@
 -- How many bytes a tape has: at most 47 a block; and how many acts records have.
-use Rattle.std.proofs.Common.{◌≡◌, cond, ℕ, zero, suc, ◌+◌, ◌-◌, ◌*◌, ◌^◌, ◌≤◌, nat_lt, ◌==◌, ℤ, pos, unsigned_abs, refl, Bool, true, false, List, [], ◌∷◌, ◌++◌, length, arith}
+use Rattle.std.proofs.Common.{◌≡◌, cond, ℕ, zero, suc, ◌+◌, ◌-◌, ◌*◌, ◌^◌, ◌≤◌, nat_lt, ◌==◌, ℤ, pos, unsigned_abs, refl, Bool, true, false, List, [], ◌∷◌, ◌++◌, length, arith, lit≤}
 use Rattle.std.specs.Prelude.{if◌then◌else◌, ◌%◌}
 use Rattle.std.specs.List.{filter, flat_map}
 use Rattle.std.proofs.lemmas.List.{length-map, length-append}
@@ -17,7 +17,6 @@ use Rattle.apt_machine.specs.declared.machine.Machine.{Machine}
 use Rattle.apt_block.specs.declared.block.TapeWord.{TapeWord}
 use Rattle.apt_block.specs.declared.table.Form.{Form}
 use Rattle.apt_block.specs.Block.{spelling, word_text, tape_word, forms, form_in, room_for, width, sign, digits, letter_n, letter_f, line_feed}
-use Rattle.apt_block.proofs.Rooms.{form_fits}
 use Rattle.apt_control.specs.declared.Act.{Act}
 use Rattle.apt_control.specs.declared.Act.TheVariants as acts
 use Rattle.apt_control.specs.declared.held.Held.{Held}
@@ -56,10 +55,27 @@ number_few : (s : Bool) (n most : ℕ) (v : ℤ) → n ≤ most → length (cond
 number_few true n most v few = omega (arith, digits_length n (unsigned_abs v), few)
 number_few false n most v few = omega (arith, digits_length n (unsigned_abs v), few)
 
+-- no form of the table asks for more digits than it has
+abbrev AreFit : List Form → Type 0
+AreFit [] = Unit {0}
+AreFit (f ∷ fs) = (f.fewest ≤ f.digits) × AreFit fs
+
+fit_in : (fs : List Form) (letter : ℕ) → AreFit fs → (form_in fs letter).fewest ≤ (form_in fs letter).digits
+fit_in [] letter are = omega arith
+fit_in (f ∷ fs) letter are = go (f.letter == letter) (fit_in fs letter are.1)
+  where
+    go : (t : Bool) → (form_in fs letter).fewest ≤ (form_in fs letter).digits → (cond t f (form_in fs letter)).fewest ≤ (cond t f (form_in fs letter)).digits
+    go true more = are.0
+    go false more = more
+
+form_fits : (letter : ℕ) → (form_in forms letter).fewest ≤ (form_in forms letter).digits
+form_fits letter =
+    fit_in forms letter (lit≤ tt, (lit≤ tt, (lit≤ tt, (lit≤ tt, (lit≤ tt, (lit≤ tt, (lit≤ tt, (lit≤ tt, (lit≤ tt, (lit≤ tt, (lit≤ tt, (lit≤ tt, (lit≤ tt, (lit≤ tt, (lit≤ tt, (lit≤ tt, tt))))))))))))))))
+
 word_few : (short : Bool) (w : TapeWord) → length (word_text short w) ≤ longest w
 word_few short w =
     let f = form_in forms w.letter in
-    omega (arith, number_few f.signed (width short f (unsigned_abs w.value)) f.digits w.value (width_few short f (unsigned_abs w.value) (form_fits w.letter f refl).0))
+    omega (arith, number_few f.signed (width short f (unsigned_abs w.value)) f.digits w.value (width_few short f (unsigned_abs w.value) (form_fits w.letter)))
 
 words_few : (short : Bool) (words : List TapeWord) → length (flat_map (word_text short) words) ≤ all_longest words
 words_few short [] = omega arith
