@@ -137,7 +137,10 @@ fn shown(alloc: Global, found: &Option<Expr>) -> Result<String, AllocError> {
 pub(crate) fn written(alloc: Global, e: &Expr) -> Result<String, AllocError> {
     match &e.node {
         Node::Num(v) => digits(alloc, v),
-        Node::Minus(v) => joined(alloc, &["-(", digits(alloc, v)?.as_str(), ")"]),
+        Node::Minus(v) => {
+            let size = digits(alloc, v)?;
+            joined(alloc, &["-(", size.as_str(), ")"])
+        }
         Node::Name(name) => spelled(alloc, name),
         Node::Postfix(parts) => shown_parts(alloc, &parts.items),
     }

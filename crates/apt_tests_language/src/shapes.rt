@@ -1,7 +1,7 @@
 //! Statements, numbers in millionths.
 use crate::expr::{token, written};
 use apt_shapes::{Labelled, shape};
-use apt_words::{Body, Cool, Go, Pick, Side, Stop, Symbol, Text, Units};
+use apt_words::{Body, Cool, Expr, Go, Pick, Side, Stop, Symbol, Text, Units};
 use std::alloc::{AllocError, Global};
 use std::test::Fail;
 
@@ -83,7 +83,7 @@ fn words(alloc: Global, parts: &[&str]) -> Result<String, AllocError> {
     Ok(text)
 }
 
-fn stop(how: Stop) -> &'static str {
+fn stop<'a>(how: Stop) -> &'a str {
     match how {
         Stop::To => "To",
         Stop::On => "On",
@@ -92,7 +92,7 @@ fn stop(how: Stop) -> &'static str {
     }
 }
 
-fn side_of(side: Side) -> &'static str {
+fn side_of<'a>(side: Side) -> &'a str {
     match side {
         Side::Left => "Left",
         Side::Right => "Right",
@@ -100,14 +100,14 @@ fn side_of(side: Side) -> &'static str {
     }
 }
 
-fn tool(side: Option<Side>) -> &'static str {
+fn tool<'a>(side: Option<Side>) -> &'a str {
     match side {
         Some(side) => side_of(side),
         None => "None",
     }
 }
 
-fn go_of(go: Go) -> &'static str {
+fn go_of<'a>(go: Go) -> &'a str {
     match go {
         Go::Left => "Left",
         Go::Right => "Right",
@@ -116,7 +116,7 @@ fn go_of(go: Go) -> &'static str {
     }
 }
 
-fn pick_of(pick: Pick) -> &'static str {
+fn pick_of<'a>(pick: Pick) -> &'a str {
     match pick {
         Pick::XLarge => "XLarge",
         Pick::XSmall => "XSmall",
@@ -126,7 +126,7 @@ fn pick_of(pick: Pick) -> &'static str {
 }
 
 /// To the left of a circle, or to its right.
-fn hand(left: bool) -> &'static str {
+fn hand<'a>(left: bool) -> &'a str {
     if left { "Left" } else { "Right" }
 }
 
@@ -169,18 +169,21 @@ fn figure_printed(alloc: Global, body: &Body) -> Result<String, AllocError> {
             alloc,
             &["PointPick", n.as_str(), pick_of(*k), a.as_str(), b.as_str()],
         ),
-        Body::Patern(n, p, q, count) => words(
-            alloc,
-            &[
-                "Patern",
-                n.as_str(),
-                p.as_str(),
-                q.as_str(),
-                written(alloc, count)?.as_str(),
-            ],
-        ),
+        Body::Patern(n, p, q, count) => {
+            let text = words(alloc, &["Patern", n.as_str(), p.as_str(), q.as_str()])?;
+            followed(alloc, text, count)
+        }
         _ => words(alloc, &["another figure"]),
     }
+}
+
+/// A text with an expression behind it.
+fn followed(alloc: Global, text: String, e: &Expr) -> Result<String, AllocError> {
+    let e = written(alloc, e)?;
+    let mut text = text;
+    text.push_str(" ")?;
+    text.push_str(e.as_str())?;
+    Ok(text)
 }
 
 fn count(alloc: Global, n: usize) -> Result<String, AllocError> {
@@ -197,26 +200,24 @@ fn motion_printed(alloc: Global, body: &Body) -> Result<String, AllocError> {
             alloc,
             &["GoStart", stop(*q), s.as_str(), stop(*r), t.as_str()],
         ),
-        Body::Contour(side, go, drive, q, check, times) => words(
-            alloc,
-            &[
-                "Contour",
-                tool(*side),
-                go_of(*go),
-                drive.as_str(),
-                stop(*q),
-                check.as_str(),
-                written(alloc, times)?.as_str(),
-            ],
-        ),
-        Body::CycleDrill(depth, clearance) => words(
-            alloc,
-            &[
-                "CycleDrill",
-                written(alloc, depth)?.as_str(),
-                written(alloc, clearance)?.as_str(),
-            ],
-        ),
+        Body::Contour(side, go, drive, q, check, times) => {
+            let text = words(
+                alloc,
+                &[
+                    "Contour",
+                    tool(*side),
+                    go_of(*go),
+                    drive.as_str(),
+                    stop(*q),
+                    check.as_str(),
+                ],
+            )?;
+            followed(alloc, text, times)
+        }
+        Body::CycleDrill(depth, clearance) => {
+            let text = followed(alloc, words(alloc, &["CycleDrill"])?, depth)?;
+            followed(alloc, text, clearance)
+        }
         _ => figure_printed(alloc, body),
     }
 }
