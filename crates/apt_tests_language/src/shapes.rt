@@ -1,7 +1,7 @@
 //! Statements, numbers in millionths.
 use crate::expr::{token, written};
 use apt_shapes::{Labelled, shape};
-use apt_words::{Body, Cool, Expr, Go, Pick, Side, Stop, Symbol, Text, Units};
+use apt_words::{Body, Cool, Go, Pick, Side, Stop, Symbol, Text, Units};
 use std::alloc::{AllocError, Global};
 use std::test::Fail;
 
@@ -171,18 +171,17 @@ fn figure_printed(alloc: Global, body: &Body) -> Result<String, AllocError> {
         ),
         Body::Patern(n, p, q, count) => {
             let text = words(alloc, &["Patern", n.as_str(), p.as_str(), q.as_str()])?;
-            followed(alloc, text, count)
+            followed(text, written(alloc, count)?.as_str())
         }
         _ => words(alloc, &["another figure"]),
     }
 }
 
-/// A text with an expression behind it.
-fn followed(alloc: Global, text: String, e: &Expr) -> Result<String, AllocError> {
-    let e = written(alloc, e)?;
+/// A text with another behind it.
+fn followed(text: String, behind: &str) -> Result<String, AllocError> {
     let mut text = text;
     text.push_str(" ")?;
-    text.push_str(e.as_str())?;
+    text.push_str(behind)?;
     Ok(text)
 }
 
@@ -212,11 +211,14 @@ fn motion_printed(alloc: Global, body: &Body) -> Result<String, AllocError> {
                     check.as_str(),
                 ],
             )?;
-            followed(alloc, text, times)
+            followed(text, written(alloc, times)?.as_str())
         }
         Body::CycleDrill(depth, clearance) => {
-            let text = followed(alloc, words(alloc, &["CycleDrill"])?, depth)?;
-            followed(alloc, text, clearance)
+            let text = followed(
+                words(alloc, &["CycleDrill"])?,
+                written(alloc, depth)?.as_str(),
+            )?;
+            followed(text, written(alloc, clearance)?.as_str())
         }
         _ => figure_printed(alloc, body),
     }
@@ -238,18 +240,14 @@ fn body_printed(alloc: Global, body: &Body) -> Result<String, AllocError> {
             words(alloc, &["Partno", text])
         }
         Body::Jumpto(l) => words(alloc, &["Jumpto", l.as_str()]),
-        Body::Macro(m, params) => words(
-            alloc,
-            &[
-                "Macro",
-                m.as_str(),
-                count(alloc, params.items.len())?.as_str(),
-            ],
-        ),
-        Body::Call(m, args) => words(
-            alloc,
-            &["Call", m.as_str(), count(alloc, args.items.len())?.as_str()],
-        ),
+        Body::Macro(m, params) => {
+            let text = words(alloc, &["Macro", m.as_str()])?;
+            followed(text, count(alloc, params.items.len())?.as_str())
+        }
+        Body::Call(m, args) => {
+            let text = words(alloc, &["Call", m.as_str()])?;
+            followed(text, count(alloc, args.items.len())?.as_str())
+        }
         _ => motion_printed(alloc, body),
     }
 }
