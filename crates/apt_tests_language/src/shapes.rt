@@ -237,7 +237,7 @@ fn body_printed(alloc: Global, body: &Body) -> Result<String, AllocError> {
         Body::Halt => words(alloc, &["Halt"]),
         Body::Partno(text) => {
             let text = std::str::from_utf8(&text.bytes).unwrap_or("?");
-            words(alloc, &["Partno", text])
+            followed(words(alloc, &["Partno"])?, text)
         }
         Body::Jumpto(l) => words(alloc, &["Jumpto", l.as_str()]),
         Body::Macro(m, params) => {
