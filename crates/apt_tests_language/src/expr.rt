@@ -1,6 +1,6 @@
 use apt_expr::expression;
 use apt_lexis::Token;
-use apt_words::{Expr, Item, Node, Op, Symbol, word_of};
+use apt_words::{Expr, Item, Millionths, Node, Op, Symbol, word_of};
 use std::alloc::{AllocError, Global};
 
 const TEXTS: [(&str, &str); 30] = [
@@ -41,7 +41,7 @@ fn reads_expressions(rt: HostRuntime) -> Result<(), AllocError> {
     let alloc = rt.alloc();
     'texts: for (text, wanted) in &TEXTS {
         let found = read(alloc, text)?;
-        assert!(rt; shown(alloc, &found)?.as_str() == *wanted, "at {text}");
+        assert_eq!(rt; shown(alloc, &found)?.as_str(), *wanted, "at {text}");
     }
     Ok(())
 }
@@ -61,9 +61,9 @@ fn keeps_the_limits(rt: HostRuntime) -> Result<(), AllocError> {
     let alloc = rt.alloc();
     'counts: for &(operators, parentheses, is_expression) in &LIMITS {
         let text = sum_in_parentheses(alloc, operators, parentheses)?;
-        let found = read(alloc, text.as_str())?;
-        assert!(rt;
-            found.is_some() == is_expression,
+        assert_eq!(rt;
+            read(alloc, text.as_str())?.is_some(),
+            is_expression,
             "at {operators} and {parentheses}"
         );
     }
@@ -129,18 +129,15 @@ fn named(symbol: Symbol) -> Token {
 fn shown(alloc: Global, found: &Option<Expr>) -> Result<String, AllocError> {
     match found {
         Some(e) => written(alloc, e),
-        None => String::from_str(alloc, "none"),
+        None => format!(in alloc; "none"),
     }
 }
 
 /// An expression with all its parentheses, numbers in millionths.
 pub(crate) fn written(alloc: Global, e: &Expr) -> Result<String, AllocError> {
     match &e.node {
-        Node::Num(v) => digits(alloc, v),
-        Node::Minus(v) => {
-            let size = digits(alloc, v)?;
-            joined(alloc, &["-(", size.as_str(), ")"])
-        }
+        Node::Num(v) => format!(in alloc; "{v}"),
+        Node::Minus(v) => format!(in alloc; "-({v})"),
         Node::Name(name) => spelled(alloc, name),
         Node::Postfix(parts) => shown_parts(alloc, &parts.items),
     }
@@ -158,52 +155,45 @@ fn shown_parts(alloc: Global, parts: &[Item]) -> Result<String, AllocError> {
 /// A part with its operands, which are the latest of the texts.
 fn shown_part(alloc: Global, part: &Item, texts: &mut Vec<String>) -> Result<String, AllocError> {
     match part {
-        Item::Num(v) => digits(alloc, &v.value()),
+        Item::Num(v) => number(alloc, v),
         Item::Name(name) => spelled(alloc, name),
         Item::Neg => around(alloc, "-", texts),
         Item::Root => around(alloc, "SQRTF", texts),
         Item::Abs => around(alloc, "ABSF", texts),
         Item::Bin(op) => {
             let b = taken(alloc, texts);
-            between(alloc, mark(*op), &b, texts)
+            joined(alloc, mark(*op), &b, texts)
         }
-        Item::AddNum(v) => between(alloc, "+", &digits(alloc, &v.value())?, texts),
-        Item::SubNum(v) => between(alloc, "-", &digits(alloc, &v.value())?, texts),
-        Item::MulNum(v) => between(alloc, "*", &digits(alloc, &v.value())?, texts),
-        Item::DivNum(v) => between(alloc, "/", &digits(alloc, &v.value())?, texts),
+        Item::AddNum(v) => joined(alloc, "+", &number(alloc, v)?, texts),
+        Item::SubNum(v) => joined(alloc, "-", &number(alloc, v)?, texts),
+        Item::MulNum(v) => joined(alloc, "*", &number(alloc, v)?, texts),
+        Item::DivNum(v) => joined(alloc, "/", &number(alloc, v)?, texts),
     }
 }
 
-fn digits(alloc: Global, v: &i64) -> Result<String, AllocError> {
+fn number(alloc: Global, v: &Millionths) -> Result<String, AllocError> {
+    let v = v.value();
     format!(in alloc; "{v}")
-}
-
-/// Texts, one behind the other.
-pub(crate) fn joined(alloc: Global, parts: &[&str]) -> Result<String, AllocError> {
-    let mut text = String::new(alloc);
-    for part in parts {
-        text.push_str(part)?;
-    }
-    Ok(text)
 }
 
 fn around(alloc: Global, before: &str, texts: &mut Vec<String>) -> Result<String, AllocError> {
     let operand = taken(alloc, texts);
-    joined(alloc, &[before, "(", operand.as_str(), ")"])
+    format!(in alloc; "{before}({operand})")
 }
 
-fn between(
+fn joined(
     alloc: Global,
     mark: &str,
     b: &String,
     texts: &mut Vec<String>,
 ) -> Result<String, AllocError> {
     let a = taken(alloc, texts);
-    joined(alloc, &["(", a.as_str(), mark, b.as_str(), ")"])
+    format!(in alloc; "({a}{mark}{b})")
 }
 
 fn spelled(alloc: Global, name: &Symbol) -> Result<String, AllocError> {
-    String::from_str(alloc, name.as_str())
+    let text = name.as_str();
+    format!(in alloc; "{text}")
 }
 
 fn taken(alloc: Global, texts: &mut Vec<String>) -> String {

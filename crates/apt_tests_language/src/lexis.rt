@@ -2,72 +2,42 @@ use apt_lexis::{ParseError, PartCause, Phrase, Phrases, Token};
 use std::alloc::{AllocError, Global};
 use std::test::Fail;
 
-/// The mark of a token that is one.
-fn mark(token: &Token) -> &'static str {
+/// A token as it is printed here.
+fn shown(alloc: Global, token: &Token) -> Result<String, AllocError> {
     match token {
-        Token::Equals => "=",
-        Token::Slash => "/",
-        Token::Comma => ",",
-        Token::Open => "(",
-        Token::Close => ")",
-        Token::Plus => "+",
-        Token::Minus => "-",
-        Token::Star => "*",
-        Token::Word(_) | Token::Name(_) | Token::Number(_) => "?",
+        Token::Word(word) => format!(in alloc;
+            " {}",
+            std::str::from_utf8(word.spelling()).unwrap_or("?")
+        ),
+        Token::Name(name) => format!(in alloc; " {}", name.as_str()),
+        Token::Number(size) => format!(in alloc; " {size}"),
+        Token::Equals => format!(in alloc; " ="),
+        Token::Slash => format!(in alloc; " /"),
+        Token::Comma => format!(in alloc; " ,"),
+        Token::Open => format!(in alloc; " ("),
+        Token::Close => format!(in alloc; " )"),
+        Token::Plus => format!(in alloc; " +"),
+        Token::Minus => format!(in alloc; " -"),
+        Token::Star => format!(in alloc; " *"),
     }
 }
 
-fn push_number(alloc: Global, text: &mut String, number: i64) -> Result<(), AllocError> {
-    text.push_str(format!(in alloc; "{number}")?.as_str())
-}
-
-/// Adds a token behind a blank.
-fn push_token(alloc: Global, text: &mut String, token: &Token) -> Result<(), AllocError> {
-    text.push_str(" ")?;
-    match token {
-        Token::Word(word) => text.push_str(std::str::from_utf8(word.spelling()).unwrap_or("?")),
-        Token::Name(name) => text.push_str(name.as_str()),
-        Token::Number(size) => push_number(alloc, text, *size),
-        other => text.push_str(mark(other)),
+/// Adds a statement: its line, and its tokens or the cause of the first that is bad, and its text.
+fn add_phrase(alloc: Global, shown_all: &mut String, phrase: &Phrase) -> Result<(), AllocError> {
+    shown_all.push_str(format!(in alloc; "{}:", phrase.line)?.as_str())?;
+    match phrase.fault {
+        Some(cause) => shown_all.push_str(format!(in alloc; " {}", cause.name())?.as_str())?,
+        None => {
+            for token in &phrase.tokens {
+                shown_all.push_str(shown(alloc, token)?.as_str())?;
+            }
+        }
     }
-}
-
-/// Adds the tokens of a statement, or the cause of the first that is bad.
-fn push_tokens(alloc: Global, text: &mut String, phrase: &Phrase) -> Result<(), AllocError> {
-    if let Some(cause) = phrase.fault {
-        text.push_str(" ")?;
-        return text.push_str(cause.name());
-    }
-    for token in &phrase.tokens {
-        push_token(alloc, text, token)?;
-    }
-    Ok(())
-}
-
-/// Adds a statement: its line, its tokens and its text.
-fn push_phrase(alloc: Global, all: &mut String, phrase: &Phrase) -> Result<(), AllocError> {
-    push_number(alloc, all, i64::from(phrase.line))?;
-    all.push_str(":")?;
-    push_tokens(alloc, all, phrase)?;
     if let Some(text) = &phrase.text {
-        all.push_str(" [")?;
-        all.push_str(std::str::from_utf8(&text.bytes).unwrap_or("?"))?;
-        all.push_str("]")?;
+        let text = std::str::from_utf8(&text.bytes).unwrap_or("?");
+        shown_all.push_str(format!(in alloc; " [{text}]")?.as_str())?;
     }
-    all.push_str("\n")
-}
-
-/// Adds the fault of a line.
-fn push_fault(
-    alloc: Global,
-    all: &mut String,
-    line: u32,
-    cause: PartCause,
-) -> Result<(), AllocError> {
-    push_number(alloc, all, i64::from(line))?;
-    all.push_str("! ")?;
-    all.push_str(cause.name())?;
-    all.push_str("\n")
+    shown_all.push_str("\n")
 }
 
 /// All statements of a text, and the first fault of a line.
@@ -76,10 +46,10 @@ fn read_all(alloc: Global, text: &[u8]) -> Result<String, AllocError> {
     let mut phrases = Phrases::new(text);
     for _ in 0..60_000 {
         match phrases.next(alloc) {
-            Ok(Some(phrase)) => push_phrase(alloc, &mut shown_all, &phrase)?,
+            Ok(Some(phrase)) => add_phrase(alloc, &mut shown_all, &phrase)?,
             Ok(None) => return Ok(shown_all),
             Err(ParseError::Bad { line, cause }) => {
-                push_fault(alloc, &mut shown_all, line, cause)?;
+                shown_all.push_str(format!(in alloc; "{line}! {}\n", cause.name())?.as_str())?;
                 return Ok(shown_all);
             }
             Err(ParseError::NoMemory) => return Err(AllocError),
@@ -171,7 +141,7 @@ fn texts_are_read(rt: HostRuntime) -> Result<(), Fail> {
     let alloc = rt.alloc();
     for (text, want) in &TEXTS {
         let all = read_all(alloc, text)?;
-        assert!(rt; all.as_str() == *want, "{want}");
+        assert_eq!(rt; all.as_str(), *want);
     }
     Ok(())
 }
@@ -198,7 +168,7 @@ fn long_texts_are_refused(rt: HostRuntime) -> Result<(), Fail> {
     let alloc = rt.alloc();
     for &(byte, many, want) in &LONG {
         let all = read_all(alloc, &repeated(alloc, byte, many)?)?;
-        assert!(rt; all.as_str() == want, "{want}");
+        assert_eq!(rt; all.as_str(), want);
     }
     Ok(())
 }

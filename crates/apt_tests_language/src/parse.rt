@@ -1,5 +1,4 @@
 use apt_parse::{ParseError, PartCause, parse};
-use std::alloc::Global;
 
 /// Texts, each with the line and the cause of its first fault, none where it is a program.
 const TEXTS: [(&str, Option<(u32, PartCause)>); 81] = [
@@ -230,18 +229,14 @@ const TEXTS: [(&str, Option<(u32, PartCause)>); 81] = [
     ("PARTNO\nFINI\nCYCLE/OFF\n", None),
 ];
 
-/// The line and the cause of the first fault; line 0 where memory lacks.
-fn first_fault(alloc: Global, text: &str) -> Option<(u32, PartCause)> {
-    match parse(alloc, text.as_bytes()) {
-        Ok(_) => None,
-        Err(ParseError::Bad { line, cause }) => Some((line, cause)),
-        Err(ParseError::NoMemory) => Some((0, PartCause::NotBuilt)),
-    }
-}
-
 #[test]
 fn first_faults(rt: HostRuntime) {
     for (text, want) in &TEXTS {
-        assert!(rt; first_fault(rt.alloc(), text) == *want, "at {text}");
+        let fault = match parse(rt.alloc(), text.as_bytes()) {
+            Ok(_) => None,
+            Err(ParseError::Bad { line, cause }) => Some((line, cause)),
+            Err(ParseError::NoMemory) => Some((0, PartCause::NotBuilt)),
+        };
+        assert_eq!(rt; fault, *want, "at {text}");
     }
 }

@@ -1,7 +1,7 @@
 use crate::expr::read;
 use apt_scalar::{Bound, Env, Frame, Kind, Value, bind, eval, grid_units, tenths, whole};
 use apt_words::{Case, Expr, Node, Symbol, Units};
-use std::alloc::{AllocError, AllocGlobal, Global};
+use std::alloc::{AllocGlobal, Global};
 use std::process::Abort;
 use std::test::Fail;
 
@@ -46,18 +46,17 @@ const VALUES: [(&str, Result<i64, Case>); 13] = [
     ("SQRTF ( - 1000000 )", Err(Case::NegativeRoot)),
 ];
 
-/// The value of an expression without names; None where it is none.
-fn value(alloc: Global, text: &str) -> Result<Option<Result<i64, Case>>, AllocError> {
-    let Some(e) = read(alloc, text)? else {
-        return Ok(None);
-    };
-    Ok(Some(eval(&e, &Env::new(alloc), &no_parameters(alloc))))
-}
-
 #[test]
 fn values_round_and_are_refused(rt: HostRuntime) -> Result<(), Fail> {
+    let alloc = rt.alloc();
+    let env = Env::new(alloc);
+    let frame = no_parameters(alloc);
     for &(text, want) in &VALUES {
-        assert!(rt; value(rt.alloc(), text)? == Some(want), "at {text}");
+        let Some(e) = read(alloc, text)? else {
+            assert!(rt; false, "{text} is no expression");
+            return Ok(());
+        };
+        assert_eq!(rt; eval(&e, &env, &frame), want, "at {text}");
     }
     Ok(())
 }
@@ -67,10 +66,6 @@ const NAMES: [(&str, Result<i64, Case>, Result<i64, Case>); 3] = [
     ("B", Err(Case::Unknown), Ok(5)),
     ("P", Err(Case::Unknown), Err(Case::Unknown)),
 ];
-
-fn assert_value(rt: &impl Abort, e: &Expr, env: &Env, frame: &Frame, want: Result<i64, Case>) {
-    assert!(rt; eval(e, env, frame) == want);
-}
 
 #[test]
 fn names_stand_for_scalars(rt: HostRuntime) -> Result<(), Fail> {
@@ -88,8 +83,11 @@ fn names_stand_for_scalars(rt: HostRuntime) -> Result<(), Fail> {
         let e = Expr {
             node: Node::Name(symbol(&rt, text)),
         };
-        assert_value(&rt, &e, &env, &no_parameters(alloc), outside);
-        assert_value(&rt, &e, &env, &frame, inside);
+        let found = (
+            eval(&e, &env, &no_parameters(alloc)),
+            eval(&e, &env, &frame),
+        );
+        assert_eq!(rt; found, (outside, inside), "at {text}");
     }
     Ok(())
 }
@@ -118,8 +116,7 @@ fn names_take_their_latest_value(rt: HostRuntime) -> Result<(), Fail> {
 
 #[test]
 fn scalars_in_other_units(rt: HostRuntime) {
-    assert!(rt; grid_units(Units::Inch, ONE) == 100_000);
-    assert!(rt; grid_units(Units::Mm, -150) == -2);
-    assert!(rt; tenths(12_350_000) == 124);
-    assert!(rt; whole(2_500_000) == 3);
+    let grid = [grid_units(Units::Inch, ONE), grid_units(Units::Mm, -150)];
+    assert_eq!(rt; grid, [100_000, -2]);
+    assert_eq!(rt; [tenths(12_350_000), whole(2_500_000)], [124, 3]);
 }

@@ -1,7 +1,7 @@
 //! Statements, numbers in millionths.
 use crate::expr::{token, written};
 use apt_shapes::{Labelled, shape};
-use apt_words::{Body, Cool, Go, Pick, Side, Stop, Symbol, Text, Units};
+use apt_words::{Body, Symbol, Text};
 use std::alloc::{AllocError, Global};
 use std::test::Fail;
 
@@ -20,7 +20,7 @@ const STATEMENTS: [(&str, &str); 35] = [
     ),
     (
         "TLRGT , GORGT / L1 , PAST , L2",
-        "Contour Right Right L1 Past L2 1000000",
+        "Contour Some(Right) Right L1 Past L2 1000000",
     ),
     (
         "GOFWD / L1 , ON , 2000000 , INTOF , C1",
@@ -32,17 +32,17 @@ const STATEMENTS: [(&str, &str); 35] = [
     ),
     (
         "TLON , GOLFT / C1 , PAST , K - 1000000 , INTOF , C2",
-        "Contour On Left C1 Past C2 (K-1000000)",
+        "Contour Some(On) Left C1 Past C2 (K-1000000)",
     ),
     ("TLLFT", "Tool Left"),
     ("TERMAC", "Termac"),
     ("L = LINE / P , Q", "LinePoints L P Q"),
     ("L = LINE / P , PARLEL , K", "LinePar L P K"),
     ("L = LINE / P , PERPTO , K", "LinePerp L P K"),
-    ("L = LINE / P , LEFT , TANTO , C", "LineTan L P Left C"),
+    ("L = LINE / P , LEFT , TANTO , C", "LineTan L P true C"),
     (
         "L = LINE / LEFT , TANTO , C , RIGHT , TANTO , D",
-        "LineTwo L Left C Right D",
+        "LineTwo L true C false D",
     ),
     ("P = POINT / INTOF , L , K", "PointLines P L K"),
     (
@@ -71,75 +71,6 @@ const STATEMENTS: [(&str, &str); 35] = [
     ),
 ];
 
-/// Words, parted by blanks.
-fn words(alloc: Global, parts: &[&str]) -> Result<String, AllocError> {
-    let mut text = String::new(alloc);
-    let mut blank = "";
-    for part in parts {
-        text.push_str(blank)?;
-        text.push_str(part)?;
-        blank = " ";
-    }
-    Ok(text)
-}
-
-fn stop<'a>(how: Stop) -> &'a str {
-    match how {
-        Stop::To => "To",
-        Stop::On => "On",
-        Stop::Past => "Past",
-        Stop::Tanto => "Tanto",
-    }
-}
-
-fn side_of<'a>(side: Side) -> &'a str {
-    match side {
-        Side::Left => "Left",
-        Side::Right => "Right",
-        Side::On => "On",
-    }
-}
-
-fn tool<'a>(side: Option<Side>) -> &'a str {
-    match side {
-        Some(side) => side_of(side),
-        None => "None",
-    }
-}
-
-fn go_of<'a>(go: Go) -> &'a str {
-    match go {
-        Go::Left => "Left",
-        Go::Right => "Right",
-        Go::Forward => "Forward",
-        Go::Back => "Back",
-    }
-}
-
-fn pick_of<'a>(pick: Pick) -> &'a str {
-    match pick {
-        Pick::XLarge => "XLarge",
-        Pick::XSmall => "XSmall",
-        Pick::YLarge => "YLarge",
-        Pick::YSmall => "YSmall",
-    }
-}
-
-/// To the left of a circle, or to its right.
-fn hand<'a>(left: bool) -> &'a str {
-    if left { "Left" } else { "Right" }
-}
-
-fn three(
-    alloc: Global,
-    what: &str,
-    a: &Symbol,
-    b: &Symbol,
-    c: &Symbol,
-) -> Result<String, AllocError> {
-    words(alloc, &[what, a.as_str(), b.as_str(), c.as_str()])
-}
-
 /// What defines a figure, printed.
 fn figure_printed(alloc: Global, body: &Body) -> Result<String, AllocError> {
     match body {
@@ -149,106 +80,85 @@ fn figure_printed(alloc: Global, body: &Body) -> Result<String, AllocError> {
         Body::PointLines(n, a, b) => three(alloc, "PointLines", n, a, b),
         Body::CircleThrough(n, p, q) => three(alloc, "CircleThrough", n, p, q),
         Body::CircleTan(n, p, l) => three(alloc, "CircleTan", n, p, l),
-        Body::PointCenter(n, c) => words(alloc, &["PointCenter", n.as_str(), c.as_str()]),
-        Body::LineTan(n, p, h, c) => words(
-            alloc,
-            &["LineTan", n.as_str(), p.as_str(), hand(*h), c.as_str()],
-        ),
-        Body::LineTwo(n, h, c, k, d) => words(
-            alloc,
-            &[
-                "LineTwo",
+        Body::PointCenter(n, c) => {
+            format!(in alloc; "PointCenter {} {}", n.as_str(), c.as_str())
+        }
+        Body::LineTan(n, p, h, c) => {
+            format!(in alloc; "LineTan {} {} {h} {}", n.as_str(), p.as_str(), c.as_str())
+        }
+        Body::LineTwo(n, h, c, k, d) => {
+            format!(in alloc;
+                "LineTwo {} {h} {} {k} {}",
                 n.as_str(),
-                hand(*h),
                 c.as_str(),
-                hand(*k),
-                d.as_str(),
-            ],
-        ),
-        Body::PointPick(n, k, a, b) => words(
-            alloc,
-            &["PointPick", n.as_str(), pick_of(*k), a.as_str(), b.as_str()],
-        ),
+                d.as_str()
+            )
+        }
+        Body::PointPick(n, k, a, b) => {
+            format!(in alloc;
+                "PointPick {} {k:?} {} {}",
+                n.as_str(),
+                a.as_str(),
+                b.as_str()
+            )
+        }
         Body::Patern(n, p, q, count) => {
-            let text = words(alloc, &["Patern", n.as_str(), p.as_str(), q.as_str()])?;
-            followed(text, written(alloc, count)?.as_str())
+            let count = written(alloc, count)?;
+            format!(in alloc;
+                "Patern {} {} {} {count}",
+                n.as_str(),
+                p.as_str(),
+                q.as_str()
+            )
         }
-        _ => words(alloc, &["another figure"]),
+        _ => format!(in alloc; "another figure"),
     }
 }
 
-/// A text with another behind it.
-fn followed(text: String, behind: &str) -> Result<String, AllocError> {
-    let mut text = text;
-    text.push_str(" ")?;
-    text.push_str(behind)?;
-    Ok(text)
-}
-
-fn count(alloc: Global, n: usize) -> Result<String, AllocError> {
-    format!(in alloc; "{n}")
-}
-
-/// A motion, printed.
-fn motion_printed(alloc: Global, body: &Body) -> Result<String, AllocError> {
-    match body {
-        Body::FromPoint(p) => words(alloc, &["FromPoint", p.as_str()]),
-        Body::GotoPoint(p) => words(alloc, &["GotoPoint", p.as_str()]),
-        Body::GoStart(q, s, None) => words(alloc, &["GoStart", stop(*q), s.as_str()]),
-        Body::GoStart(q, s, Some((r, t))) => words(
-            alloc,
-            &["GoStart", stop(*q), s.as_str(), stop(*r), t.as_str()],
-        ),
-        Body::Contour(side, go, drive, q, check, times) => {
-            let text = words(
-                alloc,
-                &[
-                    "Contour",
-                    tool(*side),
-                    go_of(*go),
-                    drive.as_str(),
-                    stop(*q),
-                    check.as_str(),
-                ],
-            )?;
-            followed(text, written(alloc, times)?.as_str())
-        }
-        Body::CycleDrill(depth, clearance) => {
-            let text = followed(
-                words(alloc, &["CycleDrill"])?,
-                written(alloc, depth)?.as_str(),
-            )?;
-            followed(text, written(alloc, clearance)?.as_str())
-        }
-        _ => figure_printed(alloc, body),
-    }
+fn three(
+    alloc: Global,
+    what: &str,
+    a: &Symbol,
+    b: &Symbol,
+    c: &Symbol,
+) -> Result<String, AllocError> {
+    format!(in alloc; "{what} {} {} {}", a.as_str(), b.as_str(), c.as_str())
 }
 
 /// What is said, printed.
 fn body_printed(alloc: Global, body: &Body) -> Result<String, AllocError> {
     match body {
-        Body::CycleOff => words(alloc, &["CycleOff"]),
-        Body::Tool(side) => words(alloc, &["Tool", side_of(*side)]),
-        Body::Units(Units::Inch) => words(alloc, &["Units", "Inch"]),
-        Body::Units(Units::Mm) => words(alloc, &["Units", "Mm"]),
-        Body::SpindlOff => words(alloc, &["SpindlOff"]),
-        Body::Coolnt(Cool::Flood) => words(alloc, &["Coolnt", "Flood"]),
-        Body::Termac => words(alloc, &["Termac"]),
-        Body::Halt => words(alloc, &["Halt"]),
-        Body::Partno(text) => {
-            let text = std::str::from_utf8(&text.bytes).unwrap_or("?");
-            followed(words(alloc, &["Partno"])?, text)
+        Body::FromPoint(p) => format!(in alloc; "FromPoint {}", p.as_str()),
+        Body::GotoPoint(p) => format!(in alloc; "GotoPoint {}", p.as_str()),
+        Body::GoStart(q, s, None) => format!(in alloc; "GoStart {q:?} {}", s.as_str()),
+        Body::GoStart(q, s, Some((r, t))) => {
+            format!(in alloc; "GoStart {q:?} {} {r:?} {}", s.as_str(), t.as_str())
         }
-        Body::Jumpto(l) => words(alloc, &["Jumpto", l.as_str()]),
-        Body::Macro(m, params) => {
-            let text = words(alloc, &["Macro", m.as_str()])?;
-            followed(text, count(alloc, params.items.len())?.as_str())
+        Body::Contour(side, go, drive, q, check, count) => {
+            let count = written(alloc, count)?;
+            format!(in alloc;
+                "Contour {side:?} {go:?} {} {q:?} {} {count}",
+                drive.as_str(),
+                check.as_str()
+            )
         }
-        Body::Call(m, args) => {
-            let text = words(alloc, &["Call", m.as_str()])?;
-            followed(text, count(alloc, args.items.len())?.as_str())
+        Body::CycleDrill(depth, clearance) => {
+            let depth = written(alloc, depth)?;
+            let clearance = written(alloc, clearance)?;
+            format!(in alloc; "CycleDrill {depth} {clearance}")
         }
-        _ => motion_printed(alloc, body),
+        Body::CycleOff => format!(in alloc; "CycleOff"),
+        Body::Tool(side) => format!(in alloc; "Tool {side:?}"),
+        Body::Units(units) => format!(in alloc; "Units {units:?}"),
+        Body::SpindlOff => format!(in alloc; "SpindlOff"),
+        Body::Coolnt(c) => format!(in alloc; "Coolnt {c:?}"),
+        Body::Termac => format!(in alloc; "Termac"),
+        Body::Halt => format!(in alloc; "Halt"),
+        Body::Partno(text) => format!(in alloc; "Partno {}", text.bytes.len()),
+        Body::Jumpto(l) => format!(in alloc; "Jumpto {}", l.as_str()),
+        Body::Macro(m, params) => format!(in alloc; "Macro {} {}", m.as_str(), params.items.len()),
+        Body::Call(m, args) => format!(in alloc; "Call {} {}", m.as_str(), args.items.len()),
+        _ => figure_printed(alloc, body),
     }
 }
 
@@ -267,11 +177,11 @@ fn said_by(
 
 fn labelled_printed(alloc: Global, said: &Option<Labelled>) -> Result<String, AllocError> {
     let Some(said) = said else {
-        return words(alloc, &["None"]);
+        return format!(in alloc; "None");
     };
     let whole = body_printed(alloc, &said.body)?;
     match &said.label {
-        Some(label) => words(alloc, &[label.as_str(), ")", whole.as_str()]),
+        Some(label) => format!(in alloc; "{}) {}", label.as_str(), whole.as_str()),
         None => Ok(whole),
     }
 }
@@ -286,7 +196,7 @@ fn printed(alloc: Global, statement: &str, text: Option<Text>) -> Result<String,
 fn statements(rt: HostRuntime) -> Result<(), Fail> {
     for &(statement, body) in &STATEMENTS {
         let said = printed(rt.alloc(), statement, None)?;
-        assert!(rt; said.as_str() == body, "{statement}");
+        assert_eq!(rt; said.as_str(), body, "{statement}");
     }
     Ok(())
 }
@@ -294,12 +204,12 @@ fn statements(rt: HostRuntime) -> Result<(), Fail> {
 #[test]
 fn labels_and_titles(rt: HostRuntime) -> Result<(), Fail> {
     let said = printed(rt.alloc(), "LA ) STOP", None)?;
-    assert!(rt; said.as_str() == "LA ) Halt");
+    assert_eq!(rt; said.as_str(), "LA) Halt");
     let text = Text {
         bytes: [65, 66].to_vec(rt.alloc())?,
     };
     let said = printed(rt.alloc(), "PARTNO", Some(text))?;
-    assert!(rt; said.as_str() == "Partno AB");
+    assert_eq!(rt; said.as_str(), "Partno 2");
     Ok(())
 }
 
@@ -329,7 +239,7 @@ const NO_SHAPES: [&str; 19] = [
 fn no_shapes(rt: HostRuntime) -> Result<(), Fail> {
     for &statement in &NO_SHAPES {
         let said = printed(rt.alloc(), statement, None)?;
-        assert!(rt; said.as_str() == "None", "{statement}");
+        assert_eq!(rt; said.as_str(), "None", "{statement}");
     }
     Ok(())
 }

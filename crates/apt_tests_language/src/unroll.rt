@@ -29,10 +29,7 @@ fn steps_stop_at_the_first_refusal(rt: HostRuntime) -> Result<(), Fail> {
         let program = parse(alloc, text.as_bytes())?;
         let unrolled = unroll(alloc, &program)?;
         let want = Some(Refusal { line, step, case });
-        assert!(rt;
-            unrolled.fault == want && unrolled.steps.len() == steps,
-            "{text}"
-        );
+        assert_eq!(rt; (unrolled.fault, unrolled.steps.len()), (want, steps));
     }
     Ok(())
 }
@@ -125,7 +122,7 @@ fn each_fault_of_unrolling_is_told(rt: HostRuntime) -> Result<(), Fail> {
     for &(text, line, step, case) in &FAULTS {
         let program = parse(rt.alloc(), text.as_bytes())?;
         let fault = unroll(rt.alloc(), &program)?.fault;
-        assert!(rt; fault == Some(Refusal { line, step, case }), "at {text}");
+        assert_eq!(rt; fault, Some(Refusal { line, step, case }), "at {text}");
     }
     Ok(())
 }
@@ -164,6 +161,6 @@ fn counts_have_values(rt: HostRuntime) -> Result<(), Fail> {
     let unrolled = unroll(alloc, &program)?;
     let counts = counts_of(alloc, &unrolled.steps)?;
     assert!(rt; unrolled.fault.is_none());
-    assert!(rt; counts.as_slice() == COUNTS.as_slice());
+    assert_eq!(rt; counts.as_slice(), COUNTS.as_slice());
     Ok(())
 }

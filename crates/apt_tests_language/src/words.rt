@@ -21,10 +21,10 @@ const TEXTS: [(&str, bool, bool); 15] = [
 #[test]
 fn tells_symbols_and_names(rt: HostRuntime) {
     'texts: for &(text, is_symbol, is_name) in &TEXTS {
-        assert!(rt; Symbol::new(text).is_some() == is_symbol, "at {text}");
-        assert!(rt;
-            Symbol::name(text.as_bytes()).is_some() == is_name,
-            "at {text}"
-        );
+        let found = [
+            Symbol::new(text).is_some(),
+            Symbol::name(text.as_bytes()).is_some(),
+        ];
+        assert_eq!(rt; found, [is_symbol, is_name], "at {text}");
     }
 }
