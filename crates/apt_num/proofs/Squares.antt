@@ -77,6 +77,9 @@ size_minus a b = omega (arith, ints)
 pub size_neg : (a : ℤ) → unsigned_abs (neg_ℤ a) ≡ unsigned_abs a
 size_neg a = omega (arith, ints)
 
+pub size_back : (a b : ℤ) → unsigned_abs (a -ℤ b) ≡ unsigned_abs (b -ℤ a)
+size_back a b = omega (arith, ints)
+
 pub size_square : (a : ℤ) → pos (unsigned_abs a * unsigned_abs a) ≡ a *ℤ a
 size_square (pos n) = omega (arith, ints)
 size_square (negsuc n) = omega (arith, ints)

@@ -1,11 +1,13 @@
--- Sums of numbers that are at least so many times a root.
-use Rattle.std.proofs.Common.{◌≡◌, ℕ, suc, ◌+◌, ◌-◌, ◌*◌, ◌≤◌, subst, arith, inl, inr, ℤ, pos, negsuc, ◌+ℤ◌, ◌-ℤ◌, ◌≤ℤ◌, neg_ℤ, unsigned_abs}
+-- Sums of numbers that are at least so many times a root, and products with a natural.
+use Rattle.std.proofs.Common.{◌≡◌, ℕ, suc, ◌+◌, ◌-◌, ◌*◌, ◌≤◌, ◌<◌, ◌∙◌, ap, subst, arith, inl, inr, ℤ, pos, negsuc, ◌+ℤ◌, ◌-ℤ◌, ◌*ℤ◌, ◌≤ℤ◌, neg_ℤ, unsigned_abs}
 use Rattle.std.proofs.lemmas.Int.{ints}
 use Rattle.std.proofs.lemmas.Bool.{cases_lt}
-use Rattle.std.proofs.lemmas.Nat.{mul-le}
-use Rattle.apt_num.specs.Sign.{AtLeast}
-use Rattle.apt_num.proofs.AtLeast.{pos_neg, neg_neg}
-use Rattle.apt_num.proofs.Squares.{square_le, root_le}
+use Rattle.std.proofs.lemmas.Nat.{mul-le, mul-lt}
+use Rattle.apt_num.specs.Sign.{AtLeast, signed_square}
+use Rattle.apt_num.proofs.Ring.{as_diff, diff-pos, diff-same, differences}
+use Rattle.apt_num.proofs.Squares.{square_le, root_le, size_mul}
+use Rattle.apt_num.proofs.Products.{no_minus, no_minus_of}
+use Rattle.apt_num.proofs.AtLeast.{pos_neg, neg_neg, at_least_is, is_at_least}
 
 -- h and i are times the root of n: products of two lengths by the products of their bounds
 product_up : (a b h i n : ℕ) → h * h * n ≤ a * a → i * i * n ≤ b * b → h * i * n ≤ a * b
@@ -107,3 +109,31 @@ at_least-weaker k h i n le p =
     subst (λ (z : ℤ). AtLeast k z n) (omega (arith, ints))
     (subst (λ (z : ℤ). AtLeast z (h +ℤ (i -ℤ h)) n) (omega (arith, ints))
     (at_least-sum k (pos 0) h (i -ℤ h) n p (subst (λ (z : ℤ). AtLeast (pos 0) z n) less (pos_neg 0 (unsigned_abs (h -ℤ i)) n))))
+
+-- ---- times a natural
+square_parts : (m n : ℕ) (k : ℤ) → (pos m *ℤ k) *ℤ pos (m * n) ≡ pos (m * m) *ℤ (k *ℤ pos n)
+square_parts m n k = rw (as_diff k, diff-pos m, diff-pos n, diff-pos (m * n), diff-pos (m * m)) (simp differences (diff-same _ _ _ _ (omega arith)))
+
+signed_square-times : (m : ℕ) (k : ℤ) → signed_square (pos m *ℤ k) ≡ pos (m * m) *ℤ signed_square k
+signed_square-times m k = ap (λ n. (pos m *ℤ k) *ℤ pos n) (size_mul (pos m) k) ∙ square_parts m (unsigned_abs k) k
+
+difference_parts : (m a b n : ℤ) → (m *ℤ a) -ℤ ((m *ℤ b) *ℤ n) ≡ m *ℤ (a -ℤ (b *ℤ n))
+difference_parts m a b n = rw (as_diff m, as_diff a, as_diff b, as_diff n) (simp differences (diff-same _ _ _ _ (omega arith)))
+
+times_difference : (m : ℕ) (k h : ℤ) (n : ℕ) → signed_square (pos m *ℤ k) -ℤ signed_square (pos m *ℤ h) *ℤ pos n ≡ pos (m * m) *ℤ (signed_square k -ℤ signed_square h *ℤ pos n)
+times_difference m k h n = rw (signed_square-times m k, signed_square-times m h) (difference_parts (pos (m * m)) (signed_square k) (signed_square h) (pos n))
+
+-- both sides times a natural
+pub at_least-times : (m : ℕ) (k h : ℤ) (n : ℕ) → AtLeast k h n → AtLeast (pos m *ℤ k) (pos m *ℤ h) n
+at_least-times m k h n is =
+    is_at_least (pos m *ℤ k) (pos m *ℤ h) n (rw (times_difference m k h n) (no_minus (pos (m * m)) (signed_square k -ℤ signed_square h *ℤ pos n) (omega (arith, ints)) (at_least_is k h n is)))
+
+-- and a factor from 1 may be cancelled
+pub at_least-cancel : (m : ℕ) (k h : ℤ) (n : ℕ) → 0 < m → AtLeast (pos m *ℤ k) (pos m *ℤ h) n → AtLeast k h n
+at_least-cancel m k h n some is =
+    is_at_least k h n (no_minus_of (m * m) (signed_square k -ℤ signed_square h *ℤ pos n) (omega (arith, mul-lt 0 0 m m some some)) (rw (times_difference m k h n) at (at_least_is (pos m *ℤ k) (pos m *ℤ h) n is)))
+
+-- a number whose size is at most so many times the root is at least that negated
+pub size_at_least : (z : ℤ) (h n : ℕ) → unsigned_abs z * unsigned_abs z ≤ h * h * n → AtLeast z (neg_ℤ (pos h)) n
+size_at_least (pos k) h n p = pos_neg k h n
+size_at_least (negsuc k) h n p = neg_neg (suc k) h n p
