@@ -1,5 +1,5 @@
 -- Laws of ways in the plane: their cross products, dot products and lengths.
-use Rattle.std.proofs.Common.{◌≡◌, ℕ, ◌+◌, ◌*◌, ◌≤◌, arith, ℤ, pos, ◌+ℤ◌, ◌-ℤ◌, ◌*ℤ◌, neg_ℤ, unsigned_abs}
+use Rattle.std.proofs.Common.{refl, ◌≡◌, ℕ, ◌+◌, ◌*◌, ◌≤◌, arith, ℤ, pos, ◌+ℤ◌, ◌-ℤ◌, ◌*ℤ◌, neg_ℤ, unsigned_abs}
 use Rattle.std.proofs.lemmas.Int.{ints}
 use Rattle.apt_num.proofs.Ring.{as_diff, diff-pos, diff-same, differences}
 use Rattle.apt_num.proofs.Squares.{size_square}
@@ -14,6 +14,13 @@ to x y = record { dx = x; dy = y }
 -- the square of a length, as a whole number
 pub square_length_squared : (u : Dir) → pos (length_squared u) ≡ (u.dx *ℤ u.dx) +ℤ (u.dy *ℤ u.dy)
 square_length_squared u = rw (← size_square u.dx, ← size_square u.dy) (omega (arith, ints))
+
+to_itself : (z : ℤ) → z -ℤ z ≡ pos 0
+to_itself z = omega (arith, ints)
+
+-- the way from a point to itself has no length
+pub no_way : (p q : Pt) → p ≡ q → length_squared (displacement p q) ≡ 0
+no_way p q e = rw (e, to_itself q.x, to_itself q.y) refl
 
 lagrange_parts : (a b c d : ℤ) → ((a *ℤ a) +ℤ (b *ℤ b)) *ℤ ((c *ℤ c) +ℤ (d *ℤ d))
     ≡ (((a *ℤ c) +ℤ (b *ℤ d)) *ℤ ((a *ℤ c) +ℤ (b *ℤ d))) +ℤ (((a *ℤ d) -ℤ (b *ℤ c)) *ℤ ((a *ℤ d) -ℤ (b *ℤ c)))

@@ -16,3 +16,6 @@ pub mod Kept
 pub mod AwayRows
 pub mod NearRows
 pub mod Outside
+pub mod Apart
+pub mod OneRay
+pub mod Cones

@@ -1,5 +1,5 @@
 -- The order of directions round a centre, as the code tells it.
-use Rattle.std.proofs.Common.{◌≡◌, ◌↔◌, ◌⊎◌, ℕ, ◌<◌, IsTrue, arith, ℤ, pos, neg_ℤ, ◌*ℤ◌, ◌<ℤ◌, int_lt, inl, inr, Bool}
+use Rattle.std.proofs.Common.{refl, ◌≡◌, ◌↔◌, ◌⊎◌, ℕ, ◌<◌, true, false, IsTrue, true≢false, sym, arith, ℤ, pos, neg_ℤ, ◌*ℤ◌, ◌<ℤ◌, int_lt, inl, inr, Bool}
 use Rattle.std.specs.Prelude.{nat_lt}
 use Rattle.std.specs.Bool.{Decides}
 use Rattle.std.proofs.lemmas.Int.{ints}
@@ -34,3 +34,10 @@ before_tells s u v sense = earlier_tells (turn_class s sense u) (turn_class s se
 
 pub order_told : (r : Bool) (s u v : Dir) (sense : ℤ) → r ≡ is_before s sense u v → IsTrue r ↔ ComesBefore s sense u v
 order_told r s u v sense e = rw e (before_tells s u v sense)
+
+decided : (b : Bool) (P : Type 0) → IsTrue b ↔ P → P ⊎ (¬ P)
+decided true P tells = inl (tells.0 refl)
+decided false P tells = inr (λ is. absurd (true≢false (sym (tells.1 is))))
+
+pub comes_or_not : (s : Dir) (sense : ℤ) (u v : Dir) → ComesBefore s sense u v ⊎ (¬ ComesBefore s sense u v)
+comes_or_not s sense u v = decided (is_before s sense u v) (ComesBefore s sense u v) (before_tells s u v sense)

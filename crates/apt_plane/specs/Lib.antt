@@ -4,3 +4,4 @@ pub mod Distances
 pub mod Segments
 pub mod Order
 pub mod Axes
+pub mod Sweeps
