@@ -9,9 +9,9 @@ use Rattle.apt_plane.specs.declared.figures.Pt.{Pt}
 use Rattle.apt_plane.specs.declared.figures.Dir.{Dir}
 use Rattle.apt_plane.specs.declared.figures.Circ.{Circ}
 use Rattle.apt_plane.specs.Vectors.{between, displacement, displacement_to, length_squared}
-use Rattle.apt_plane.specs.Ranges.{IsPoint, IsSense}
+use Rattle.apt_plane.specs.Ranges.{IsSense}
 use Rattle.apt_plane.proofs.Displacements.{stewart}
-use Rattle.apt_plane.proofs.Lengths.{chord, displacement_short}
+use Rattle.apt_plane.proofs.Lengths.{chord}
 use Rattle.apt_canon.specs.Scale.{sum}
 use Rattle.apt_arc.specs.declared.arc.Arc.{Arc}
 use Rattle.apt_arc.specs.Ranges.{IsTrack, IsSag, IsPiece}
@@ -167,9 +167,6 @@ number_halved (suc n) r c d x y some h e f = rw (f, e, one_less n) (sym (number_
 
 pub double_small : (n x : ℕ) → 0 < n → x ≤ 2 ^ (n - 1) → 2 * x ≤ 2 ^ n
 double_small n x some h = omega (arith, power_half n x x some h h)
-
-pub chord_small : (a b : Pt) → IsPoint a → IsPoint b → length_squared (displacement a b) ≤ 2 * 10 ^ 16
-chord_small a b at_a at_b = displacement_short a b at_a at_b
 
 same_number : (n r s c e d f k m : ℕ) → r ≡ s → c ≡ e → d ≡ f → k ≡ number n r c d → m ≤ number n s e f → m ≤ k
 same_number n r s c e d f k m p q o h g = rw (h, p, q, o) g

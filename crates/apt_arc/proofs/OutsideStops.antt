@@ -4,8 +4,9 @@ use Rattle.std.proofs.lemmas.Int.{ints}
 use Rattle.std.proofs.lemmas.Nat.{mul-le}
 use Rattle.std.proofs.lemmas.Bool.{cases_lt}
 use Rattle.apt_num.specs.Sign.{signed_square}
-use Rattle.apt_num.proofs.Ring.{as_diff, diff-pos, diff-same, differences, scaled_le}
-use Rattle.apt_num.proofs.Squares.{size_mul, size_neg}
+use Rattle.apt_num.proofs.Ring.{as_diff, diff-pos, diff-same, differences, scaled_le, *ℤ_assoc}
+use Rattle.apt_num.proofs.Squares.{size_neg}
+use Rattle.apt_num.proofs.Sums.{signed_square-times}
 use Rattle.apt_plane.specs.declared.figures.Pt.{Pt}
 use Rattle.apt_plane.specs.declared.figures.Dir.{Dir}
 use Rattle.apt_plane.specs.declared.figures.Circ.{Circ}
@@ -20,7 +21,7 @@ use Rattle.apt_plane.proofs.Around.{Cyc}
 use Rattle.apt_canon.specs.Scale.{IsNearCircle}
 use Rattle.apt_canon.specs.Circles.{IsBeyond}
 use Rattle.apt_arc.specs.declared.arc.Arc.{Arc}
-use Rattle.apt_arc.specs.Ranges.{IsTrack, IsSag, IsArc}
+use Rattle.apt_arc.specs.Ranges.{IsTrack, IsSag}
 use Rattle.apt_arc.specs.Steps.{IsStep, IsInside, AreSteps}
 use Rattle.apt_arc.specs.Quarters.{Each}
 use Rattle.apt_arc.specs.Divisions.{IsDivision}
@@ -32,19 +33,10 @@ use Rattle.apt_plane.proofs.AwayRows.{outside_away, reverse}
 use Rattle.apt_plane.proofs.Outside.{HasLessShare, less_times, AreMeeting, IsOnChord, IsOutside, IsContact, outside_from, outside_contact}
 use Rattle.apt_arc.proofs.Vertices.{IsUpToEnd, both_long, steps_up_to_end}
 use Rattle.apt_arc.proofs.Inner.{mixed, way_between, mixed_up_to_end}
-use Rattle.apt_arc.proofs.Arrivals.{EndsPast, Arrives, on_circle, near_end, away_arrives, near_arrives, is_arc, far_by, past_side, contact_over, contact_under}
+use Rattle.apt_arc.proofs.Arrivals.{EndsPast, Arrives, on_circle, near_end, away_arrives, near_arrives, far_by, past_side, contact_over, contact_under}
 use Rattle.apt_arc.proofs.InsideStops.{from_stop}
 
 -- ---- the share of a longer way
-signed_times : (m : ℕ) (f : ℤ) → signed_square (pos m *ℤ f) ≡ pos (m * m) *ℤ signed_square f
-signed_times m f = rw (size_mul (pos m) f) (parts (pos m) f (pos (unsigned_abs f)))
-  where
-    parts : (m f a : ℤ) → (m *ℤ f) *ℤ (m *ℤ a) ≡ (m *ℤ m) *ℤ (f *ℤ a)
-    parts m f a = rw (as_diff m, as_diff f, as_diff a) (simp differences (diff-same _ _ _ _ (omega arith)))
-
-times_left : (m x a : ℤ) → (m *ℤ x) *ℤ a ≡ m *ℤ (x *ℤ a)
-times_left m x a = rw (as_diff m, as_diff x, as_diff a) (simp differences (diff-same _ _ _ _ (omega arith)))
-
 times_right : (m y n : ℤ) → y *ℤ (m *ℤ n) ≡ m *ℤ (y *ℤ n)
 times_right m y n = rw (as_diff m, as_diff y, as_diff n) (simp differences (diff-same _ _ _ _ (omega arith)))
 
@@ -53,8 +45,8 @@ share_longer g a v m far =
     rw (
       dot_times g v (pos m),
       length_of_times (pos m) v,
-      signed_times m (dot g v),
-      times_left (pos (m * m)) (signed_square (dot g v)) (pos (length_squared a)),
+      signed_square-times m (dot g v),
+      *ℤ_assoc (pos (m * m)) (signed_square (dot g v)) (pos (length_squared a)),
       times_right (pos (m * m)) (signed_square (dot g a)) (pos (length_squared v)),
     )
     (scaled_le (m * m) (signed_square (dot g v) *ℤ pos (length_squared a)) (signed_square (dot g a) *ℤ pos (length_squared v)) far)

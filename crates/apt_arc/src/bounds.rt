@@ -80,7 +80,7 @@ fn nearest(track: &Circ, a: Pt, b: Pt) -> u128
 }
 
 /// The square of the distance of two points.
-#[tactic(auto, using(crate::proofs::Numbers::chord_small))]
+#[tactic(auto, using(apt_plane::proofs::Lengths::displacement_short))]
 fn chord_length(a: Pt, b: Pt) -> u128
     requires start { IsPoint a }
     requires end { IsPoint b }

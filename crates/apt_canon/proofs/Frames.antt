@@ -11,7 +11,8 @@ use Rattle.apt_plane.specs.declared.figures.Line.{Line}
 use Rattle.apt_plane.specs.Vectors.{displacement, cross, length_squared}
 use Rattle.apt_plane.specs.Ranges.{IsPoint, IsDir, IsLine}
 use Rattle.apt_plane.proofs.Displacements.{cross_times}
-use Rattle.apt_plane.proofs.Lengths.{times, in_frame, cross_in_frame, length_in_frame, length_of_times, height_square, IsInRing, on_circle}
+use Rattle.apt_plane.proofs.Lengths.{times, length_of_times, height_square, IsInRing, on_circle}
+use Rattle.apt_plane.proofs.Frames.{in_frame, cross_in_frame, length_in_frame}
 use Rattle.apt_plane.proofs.Rounding.{near_displacement, displacement_rest, moved}
 use Rattle.apt_canon.specs.Scale.{length_of, IsNearLine}
 use Rattle.apt_canon.specs.Circles.{depth, framed}

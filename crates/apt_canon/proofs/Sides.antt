@@ -3,7 +3,7 @@ use Rattle.std.proofs.Common.{refl, ◌≡◌, ◌≢◌, ◌∙◌, ℕ, zero, 
 use Rattle.std.proofs.lemmas.Int.{ints}
 use Rattle.apt_num.specs.declared.Sign.TheVariants.{Minus, Zero, Plus}
 use Rattle.apt_num.specs.Sign.{sign_of, AtLeast, OnLine}
-use Rattle.apt_num.proofs.Ring.{as_diff, diff-pos, diff-same, differences, neg-*ℤ-neg}
+use Rattle.apt_num.proofs.Ring.{as_diff, diff-pos, diff-same, differences, neg-*ℤ-neg, double_neg}
 use Rattle.apt_words.specs.declared.Pick.{Pick}
 use Rattle.apt_words.specs.declared.Pick.TheVariants as picks
 use Rattle.apt_plane.specs.declared.figures.Pt.{Pt}
@@ -34,9 +34,6 @@ left_at k h g n at more one = plus_of k (h -ℤ g) n at.right (omega (arith, int
 pub right_at : (k h g : ℤ) (n : ℕ) → OnLine k (neg_ℤ h) n g → g <ℤ h → 1 ≤ n → sign_of k ≡ Minus
 right_at k h g n at more one = minus_of k (plus_of (neg_ℤ k) (neg_ℤ (neg_ℤ h) -ℤ g) n at.left (omega (arith, ints, more)) one)
 
-turned_back : (z : ℤ) → neg_ℤ (neg_ℤ z) ≡ z
-turned_back z = omega (arith, ints)
-
 -- its distance is the same without the side
 pub away_left : (k d g : ℤ) (n : ℕ) → sign_of k ≡ Plus → OnLine k d n g → OnLine (pos (unsigned_abs k)) d n g
 away_left (pos k) d g n e at = at
@@ -45,7 +42,7 @@ away_left (negsuc k) d g n e at = absurd (cc)
 pub away_right : (k d g : ℤ) (n : ℕ) → sign_of k ≡ Minus → OnLine k (neg_ℤ d) n g → OnLine (pos (unsigned_abs k)) d n g
 away_right (pos zero) d g n e at = absurd (cc)
 away_right (pos (suc k)) d g n e at = absurd (cc)
-away_right (negsuc k) d g n e at = record { right = rw (turned_back d) at at.left; left = at.right }
+away_right (negsuc k) d g n e at = record { right = rw (double_neg d) at at.left; left = at.right }
 
 -- ---- by the coordinates
 

@@ -1,5 +1,5 @@
 -- Where ways lead.
-use Rattle.std.proofs.Common.{refl, ◌≡◌, ◌≢◌, ◌∙◌, ℕ, zero, suc, ◌*◌, ◌≤◌, ap, arith, ℤ, pos, ◌+ℤ◌, ◌-ℤ◌, unsigned_abs}
+use Rattle.std.proofs.Common.{refl, ◌≡◌, ◌≢◌, ◌∙◌, ℕ, zero, suc, ◌*◌, ◌≤◌, ap, arith, ℤ, ◌+ℤ◌, ◌-ℤ◌, unsigned_abs}
 use Rattle.std.proofs.lemmas.Int.{ints}
 use Rattle.apt_plane.specs.declared.figures.Pt.{Pt}
 use Rattle.apt_plane.specs.declared.figures.Dir.{Dir}
@@ -39,12 +39,6 @@ one_point p q h =
     let x = no_square (unsigned_abs (q.x -ℤ p.x)) (omega (arith, h)) in
     let y = no_square (unsigned_abs (q.y -ℤ p.y)) (omega (arith, h)) in
     same_point p q (same_number p.x q.x x) (same_number p.y q.y y)
-
-to_itself : (z : ℤ) → z -ℤ z ≡ pos 0
-to_itself z = omega (arith, ints)
-
-pub no_way : (p q : Pt) → p ≡ q → length_squared (displacement p q) ≡ 0
-no_way p q e = rw (e, to_itself q.x, to_itself q.y) refl
 
 pub way_is_dir : (p q : Pt) → IsPoint p → IsPoint q → 1 ≤ length_squared (displacement p q) → IsDir (displacement p q)
 way_is_dir p q is_p is_q apart = record { dx = omega (arith, ints, is_p.x, is_q.x); dy = omega (arith, ints, is_p.y, is_q.y); length = apart }

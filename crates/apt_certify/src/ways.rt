@@ -8,7 +8,7 @@ use apt_plane::vectors::{cross, dot, height, length_squared};
 use apt_plane::{Dir, Pt};
 
 /// The cross product: positive where the second points to the left of the first.
-#[tactic(auto, using(crate::proofs::Past::area_small))]
+#[tactic(auto, using(apt_plane::proofs::Heights::short_cross_small))]
 pub(crate) fn cross_of(first: Dir, second: Dir) -> i64
     requires first { IsShort first }
     requires second { IsShort second }
@@ -19,7 +19,7 @@ pub(crate) fn cross_of(first: Dir, second: Dir) -> i64
 }
 
 /// The dot product.
-#[tactic(auto, using(crate::proofs::Past::dot_small))]
+#[tactic(auto, using(apt_plane::proofs::Heights::short_dot_small))]
 pub(crate) fn dot_of(first: Dir, second: Dir) -> i64
     requires first { IsShort first }
     requires second { IsShort second }
@@ -30,7 +30,7 @@ pub(crate) fn dot_of(first: Dir, second: Dir) -> i64
 }
 
 /// The square of the length.
-#[tactic(auto, using(crate::proofs::Past::square_small))]
+#[tactic(auto, using(apt_plane::proofs::Heights::short_square_small))]
 pub(crate) fn square_of(way: Dir) -> u64
     requires { IsShort way }
     ensures value { result ≡ spec.length_squared way }

@@ -1,10 +1,8 @@
 -- Lines through two points are in range.
-use Rattle.std.proofs.Common.{◌≡◌, ◌≢◌, ◌+◌, ◌≤◌, ℤ, ◌-ℤ◌, unsigned_abs, neg_ℤ, arith}
+use Rattle.std.proofs.Common.{◌≢◌, ◌+◌, ◌≤◌, ◌-ℤ◌, unsigned_abs, arith}
 use Rattle.apt_num.proofs.Squares.{size_minus}
-use Rattle.std.proofs.lemmas.Int.{ints}
 use Rattle.apt_plane.specs.declared.figures.Pt.{Pt}
-use Rattle.apt_plane.specs.declared.figures.Dir.{Dir}
-use Rattle.apt_plane.specs.Vectors.{displacement, length_squared, perp}
+use Rattle.apt_plane.specs.Vectors.{displacement, length_squared}
 use Rattle.apt_plane.specs.Ranges.{IsPoint, IsDir}
 
 -- the way between two points that differ is a direction
@@ -17,14 +15,3 @@ displacement_in_range p q is_p is_q differ =
       dy = omega (arith, y, is_p.y, is_q.y);
       length = omega (arith, differ);
     }
-
-quarter_length : (b : ℤ) → unsigned_abs (neg_ℤ b) ≡ unsigned_abs b
-quarter_length b = omega (arith, ints)
-
--- and so is one turned by a quarter
-pub turned_in_range : (d : Dir) → IsDir d → IsDir (perp d)
-turned_in_range d is = record {
-  dx = rw (quarter_length d.dy) is.dy;
-  dy = is.dx;
-  length = rw (quarter_length d.dy) (omega (arith, is.length));
-}

@@ -23,7 +23,7 @@ use Rattle.apt_plane.specs.declared.figures.Surface.{Surface}
 use Rattle.apt_plane.specs.declared.figures.Surface.TheVariants as surfaces
 use Rattle.apt_plane.specs.Ranges.{IsPoint, IsDir, IsLine, IsCircle, IsSurface}
 use Rattle.apt_plane.specs.Vectors.{displacement, cross, length_squared, perp}
-use Rattle.apt_num.proofs.Squares.{size_neg}
+use Rattle.apt_plane.proofs.Turned.{perp_dir}
 use Rattle.apt_canon.specs.declared.FormFault.{FormFault}
 use Rattle.apt_canon.specs.declared.FormFault.TheVariants as faults
 use Rattle.apt_canon.specs.Scale.{nearest, from, is_in_range, in_range}
@@ -217,12 +217,6 @@ line_through_in p q is_p is_q =
     either_in IsFigure (n == 0) (Err cases.Degenerate) (a_line (line_between p q)) (λ e. tt)
     (λ e. record { base = is_p; dir = displacement_in_range p q is_p is_q (λ z. eqb-false n 0 e z) })
 
-turned_length : (d : Dir) → length_squared (perp d) ≡ length_squared d
-turned_length d = rw (size_neg d.dy) (omega arith)
-
-turned_in : (d : Dir) → IsDir d → IsDir (perp d)
-turned_in d is = record { dx = rw (size_neg d.dy) is.dy; dy = is.dx; length = rw (turned_length d) is.length }
-
 line_formed : (r : Result Line FormFault) → IfOk r IsLine → IfOk (in_case r >>= a_line) IsFigure
 line_formed (Ok l) is = is
 line_formed (Err e) is = tt
@@ -271,7 +265,7 @@ line_parallel_in t p l are =
 line_perpendicular_in : (t : Table) (p l : List ℕ) → AreFigures t → IfOk (line_perpendicular t p l) IsFigure
 line_perpendicular_in t p l are =
     then_in IsPoint IsFigure (point_named t p) (λ a. line_named t l >>= λ m. a_line (record { base = a; dir = perp m.dir })) (point_in t p are)
-    (λ a is_a. then_in IsLine IsFigure (line_named t l) (λ m. a_line (record { base = a; dir = perp m.dir })) (line_in t l are) (λ m is. record { base = is_a; dir = turned_in m.dir is.dir }))
+    (λ a is_a. then_in IsLine IsFigure (line_named t l) (λ m. a_line (record { base = a; dir = perp m.dir })) (line_in t l are) (λ m is. record { base = is_a; dir = perp_dir m.dir is.dir }))
 
 line_at_in : (units : Units) (t : Table) (l : List ℕ) (pick : Pick) (v : ℤ) → AreFigures t → IfOk (line_at units t l pick v) IsFigure
 line_at_in units t l pick v are =

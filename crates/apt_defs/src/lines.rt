@@ -70,7 +70,7 @@ pub fn line_parallel(table: &Table, p: &Symbol, line: &Symbol) -> Result<Figure,
     a_line(Line { base, dir })
 }
 
-#[tactic(auto, using(crate::proofs::Ends::turned_in_range))]
+#[tactic(auto, using(apt_plane::proofs::Turned::perp_dir))]
 pub fn line_perpendicular(table: &Table, p: &Symbol, line: &Symbol) -> Result<Figure, Case>
     ensures value { result ≡ forms.line_perpendicular table.now p.now line.now }
     ensures range { IfOk result IsFigure }

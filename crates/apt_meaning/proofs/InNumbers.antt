@@ -1,11 +1,11 @@
 -- A leg is legal exactly where it is legal in numbers.
-use Rattle.std.proofs.Common.{refl, ◌≡◌, ◌≢◌, ◌↔◌, ◌∙◌, sym, ap, subst, true≢false, arith, ℕ, zero, suc, ◌+◌, ◌*◌, ◌≤◌, ℤ, pos, negsuc, neg_ℤ, ◌+ℤ◌, ◌-ℤ◌, ◌*ℤ◌, ◌<ℤ◌, unsigned_abs, Bool, true, false, Option, Some, None, List, [], ◌∷◌, ◌++◌, cond}
+use Rattle.std.proofs.Common.{refl, ◌≡◌, ◌≢◌, ◌↔◌, ◌∙◌, sym, ap, subst, true≢false, arith, ℕ, zero, suc, ◌+◌, ◌*◌, ◌≤◌, ℤ, pos, negsuc, neg_ℤ, ◌+ℤ◌, ◌-ℤ◌, ◌<ℤ◌, Bool, true, false, Option, Some, None, List, [], ◌∷◌, cond}
 use Rattle.std.specs.Prelude.{int_lt, int_le, ◌||◌, MatchBool, if◌then◌else◌}
 use Rattle.std.specs.Option.{IsNone}
 use Rattle.std.proofs.lemmas.Int.{ints}
 use Rattle.apt_num.specs.declared.Sign.{Sign}
 use Rattle.apt_num.specs.declared.Sign.TheVariants as signs
-use Rattle.apt_num.specs.Sign.{square, OnLine, AtLeast, sign_of}
+use Rattle.apt_num.specs.Sign.{square, OnLine, sign_of}
 use Rattle.apt_words.specs.declared.Stop.{Stop}
 use Rattle.apt_words.specs.declared.Stop.TheVariants as stops
 use Rattle.apt_plane.specs.declared.figures.Pt.{Pt}
@@ -16,8 +16,7 @@ use Rattle.apt_plane.specs.declared.figures.Axis.{Axis}
 use Rattle.apt_plane.specs.Vectors.{Scaled, scaled, between, displacement, cross, dot, perp, length_squared}
 use Rattle.apt_plane.specs.Distances.{IsOver, IsUnder, InBand}
 use Rattle.apt_plane.specs.Axes.{IsOnHalf, IsOnAxis}
-use Rattle.apt_num.proofs.Ring.{as_diff, differences, diff-same}
-use Rattle.apt_plane.proofs.Displacements.{cross_swap, cross_turn, dot_swap}
+use Rattle.apt_plane.proofs.Displacements.{turned_cross, turned_dot, turned_length}
 use Rattle.apt_words.specs.Asks.{listed}
 use Rattle.apt_words.specs.Options.{◌>>=◌}
 use Rattle.apt_canon.specs.Circles.{are_concentric}
@@ -27,7 +26,7 @@ use Rattle.apt_offset.specs.Targets.{signed, line_band, circle_band, band_at, of
 use Rattle.apt_offset.specs.Edges.{IsWithinEdge, widened}
 use Rattle.apt_stop.specs.Tangencies.{axis, half_towards, touching_half, tangent_axis}
 use Rattle.apt_stop.specs.Courses.{is_tanto}
-use Rattle.apt_stop.proofs.Touching.{turned_length, neg_square}
+use Rattle.apt_stop.proofs.Touching.{neg_square}
 use Rattle.apt_stop.proofs.Axes.{no_axis}
 use Rattle.apt_records.specs.declared.record.Note.{Note}
 use Rattle.apt_records.specs.declared.record.Note.TheVariants as notes
@@ -133,15 +132,6 @@ towards_by true (negsuc n) k e = (λ h. h, λ h. h)
 towards_by false (pos zero) k e = (λ h. h, λ h. h)
 towards_by false (pos (suc n)) k e = (λ h. h, λ h. h)
 towards_by false (negsuc n) k e = absurd (omega (arith, ints, e))
-
-turned_parts : (a b p q : ℤ) → (neg_ℤ b *ℤ p) +ℤ (a *ℤ q) ≡ (a *ℤ q) -ℤ (b *ℤ p)
-turned_parts a b p q = rw (as_diff a, as_diff b, as_diff p, as_diff q) (simp differences (diff-same _ _ _ _ (omega arith)))
-
-turned_dot : (d v : Dir) → dot (perp d) v ≡ cross d v
-turned_dot d v = turned_parts d.dx d.dy v.dx v.dy
-
-turned_cross : (d v : Dir) → cross (perp d) v ≡ neg_ℤ (dot d v)
-turned_cross d v = cross_swap v (perp d) ∙ ap neg_ℤ (cross_turn v d ∙ dot_swap v d)
 
 -- square to a direction
 beside_turned : (d v : Dir) → OnLine (cross (perp d) v) (pos 0) (length_squared (perp d)) (pos 8) ↔ IsBeside (dot d v) d

@@ -5,7 +5,7 @@ use Rattle.std.proofs.lemmas.Nat.{mul-le}
 use Rattle.std.proofs.lemmas.Int.{ints}
 use Rattle.apt_num.specs.Sign.{OnLine}
 use Rattle.apt_num.proofs.Ring.{as_diff, diff-same, differences}
-use Rattle.apt_num.proofs.Squares.{root_le, cancel_le, size_mul, size_neg}
+use Rattle.apt_num.proofs.Squares.{root_le, cancel_le, size_mul, size_minus, size_neg}
 use Rattle.apt_num.proofs.Roots.{ScaledRoot, five_sevenths, on_line}
 
 -- how far a point lies to the left of a line moved h, times the root in units: c is its cross product
@@ -109,11 +109,8 @@ reach n s c root h =
     let most = root_le (2 ^ 35 * c) (141421357 * (s + 1)) square in
     omega (arith, most, root.large)
 
-lag_sizes : (a b : ℤ) → unsigned_abs (a -ℤ b) ≤ unsigned_abs a + unsigned_abs b
-lag_sizes a b = omega (arith, ints)
-
 -- so it is near a line that is moved by no more than 10^8
 pub lag_small : (n s : ℕ) (c h : ℤ) → ScaledRoot n s → unsigned_abs c * unsigned_abs c ≤ n * (2 * 10 ^ 16) → unsigned_abs h ≤ 10 ^ 8 → unsigned_abs (lag s c h) ≤ 2 ^ 28 * s
 lag_small n s c h root small off =
     let far = reach n s (unsigned_abs c) root small in
-    omega (arith, far, lag_sizes (pos (2 ^ 35) *ℤ c) (h *ℤ pos s), size_mul (pos (2 ^ 35)) c, size_mul h (pos s), mul-le (unsigned_abs h) s (10 ^ 8) s off (omega arith))
+    omega (arith, far, size_minus (pos (2 ^ 35) *ℤ c) (h *ℤ pos s), size_mul (pos (2 ^ 35)) c, size_mul h (pos s), mul-le (unsigned_abs h) s (10 ^ 8) s off (omega arith))

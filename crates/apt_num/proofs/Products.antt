@@ -8,6 +8,10 @@ sign_cases (pos zero) = inr (omega (arith, ints))
 sign_cases (pos (suc n)) = inl (omega (arith, ints))
 sign_cases (negsuc n) = inr (omega (arith, ints))
 
+pub side_cases : (x : ℤ) → (x <ℤ pos 0) ⊎ (pos 0 ≤ℤ x)
+side_cases (pos n) = inr (omega (arith, ints))
+side_cases (negsuc n) = inl (omega (arith, ints))
+
 -- ---- two factors
 pub both_plus : (a b : ℤ) → pos 0 <ℤ a → pos 0 <ℤ b → pos 0 <ℤ (a *ℤ b)
 both_plus (pos m) (pos n) p q = omega (arith, ints, mul-lt 0 0 m n (omega (arith, ints)) (omega (arith, ints)))

@@ -6,6 +6,7 @@ use Rattle.std.proofs.Math.Nat.{two-pow-succ, lt-mul-div-succ, le-div_iff_mul-le
 use Rattle.std.proofs.lemmas.Nat.{mul-le, pow_pos, le_or_r, or_lt, leading_top}
 use Rattle.std.proofs.lemmas.Bool.{cases_lt}
 use Rattle.std.proofs.lemmas.Bool.Decides.{leb_tells}
+use Rattle.apt_num.proofs.Squares.{four_le}
 use Rattle.apt_num.specs.Root.{IsRoot, IsNearestRoot, root_bit, root_bits, root}
 
 -- the root of n is at least low and below high
@@ -58,26 +59,9 @@ nearest_below n (suc t) at close = record { above = omega (arith, at.low, at.hig
 pub nearest_above : (n q : ℕ) → IsRoot n q → q < n - q * q → IsNearestRoot n (q + 1)
 nearest_above n q at far = record { above = omega (arith, at.low, at.high); below = λ h. rw (odd_below q) (omega (arith, at.low)) }
 
--- four times a product is at most the square of the sum
-four_past : (s d : ℕ) → 4 * ((s + d) * s) ≤ ((s + d) + s) * ((s + d) + s)
-four_past s d = omega arith
-
-four_before : (r d : ℕ) → 4 * (r * (r + d)) ≤ (r + (r + d)) * (r + (r + d))
-four_before r d = omega arith
-
-four_products : (r s : ℕ) → 4 * (r * s) ≤ (r + s) * (r + s)
-four_products r s = elim (cases_lt r s) [
-  | inl below ↦
-      let at : s ≡ r + (s - r) = omega arith in
-      rw at (four_before r (s - r))
-  | inr past ↦
-      let at : r ≡ s + (r - s) = omega arith in
-      rw at (four_past s (r - s))
-]
-
 -- Newton's step from r, with q for n / r, goes no further down than the root
 newton_by : (n r q s : ℕ) → n < r * (q + 1) → r + q + 1 ≤ 2 * (s + 1) → n < (s + 1) * (s + 1)
-newton_by n r q s h up = omega (arith, h, four_products r (q + 1), mul-le (r + q + 1) (r + q + 1) (2 * (s + 1)) (2 * (s + 1)) up up)
+newton_by n r q s h up = omega (arith, h, four_le r (q + 1), mul-le (r + q + 1) (r + q + 1) (2 * (s + 1)) (2 * (s + 1)) up up)
 
 pub newton_high : (n r : ℕ) → 0 < r → n < ((r + n / r) / 2 + 1) * ((r + n / r) / 2 + 1)
 newton_high n r h = newton_by n r (n / r) ((r + n / r) / 2) (lt-mul-div-succ n h) (omega arith)

@@ -114,7 +114,7 @@ at_least-weaker k h i n le p =
 square_parts : (m n : ℕ) (k : ℤ) → (pos m *ℤ k) *ℤ pos (m * n) ≡ pos (m * m) *ℤ (k *ℤ pos n)
 square_parts m n k = rw (as_diff k, diff-pos m, diff-pos n, diff-pos (m * n), diff-pos (m * m)) (simp differences (diff-same _ _ _ _ (omega arith)))
 
-signed_square-times : (m : ℕ) (k : ℤ) → signed_square (pos m *ℤ k) ≡ pos (m * m) *ℤ signed_square k
+pub signed_square-times : (m : ℕ) (k : ℤ) → signed_square (pos m *ℤ k) ≡ pos (m * m) *ℤ signed_square k
 signed_square-times m k = ap (λ n. (pos m *ℤ k) *ℤ pos n) (size_mul (pos m) k) ∙ square_parts m (unsigned_abs k) k
 
 difference_parts : (m a b n : ℤ) → (m *ℤ a) -ℤ ((m *ℤ b) *ℤ n) ≡ m *ℤ (a -ℤ (b *ℤ n))

@@ -1,8 +1,9 @@
 -- The order from a start: the classes of directions, and three directions in a turn.
 use Rattle.std.proofs.Common.{refl, ◌≡◌, ◌≢◌, ◌↔◌, ◌⊎◌, inl, inr, ℕ, zero, suc, ◌+◌, ◌*◌, ◌<◌, ◌∙◌, ap, sym, subst, arith, ℤ, pos, negsuc, neg_ℤ, ◌+ℤ◌, ◌-ℤ◌, ◌*ℤ◌, ◌<ℤ◌, ◌≤ℤ◌, unsigned_abs}
+use Rattle.std.proofs.Math.IntN.{*ℤ_comm}
 use Rattle.std.proofs.lemmas.Int.{ints}
 use Rattle.apt_num.specs.Sign.{sign_of}
-use Rattle.apt_num.proofs.Products.{both_plus, no_minus, one_each, strict_each, strict_both, plus_of, minus_of, no_plus_of, no_minus_of}
+use Rattle.apt_num.proofs.Products.{side_cases, both_plus, no_minus, one_each, strict_each, strict_both, plus_of, minus_of, no_plus_of, no_minus_of}
 use Rattle.apt_num.proofs.Turning.{Two, not_first, not_second, not_third, two_after, two_round, two_swap, two_one_way}
 use Rattle.apt_plane.specs.declared.figures.Dir.{Dir}
 use Rattle.apt_plane.specs.Vectors.{cross, dot, length_squared}
@@ -275,9 +276,9 @@ cyc_on_a_way sense s x e b is one two =
 -- ---- between
 middle_core : (ab am mb sa sb sm : ℤ) → (sa *ℤ mb) +ℤ (sb *ℤ am) ≡ sm *ℤ ab → pos 0 <ℤ ab → pos 0 <ℤ am → pos 0 <ℤ mb
     → (pos 0 ≤ℤ sa) ⊎ (sb <ℤ pos 0) → ((pos 0 ≤ℤ sa) ⊎ (sm <ℤ pos 0)) × ((pos 0 ≤ℤ sm) ⊎ (sb <ℤ pos 0))
-middle_core ab am mb sa sb sm e p q r where_ = elim (cases sb) [
-  | inl below ↦ elim (cases sa) [
-    | inl under ↦ (inr (minus_by sm ab p (omega (arith, ints, e, strict_each mb sa r under, swap mb sa, strict_each am sb q below, swap am sb))), inr below)
+middle_core ab am mb sa sb sm e p q r where_ = elim (side_cases sb) [
+  | inl below ↦ elim (side_cases sa) [
+    | inl under ↦ (inr (minus_by sm ab p (omega (arith, ints, e, strict_each mb sa r under, *ℤ_comm mb sa, strict_each am sb q below, *ℤ_comm am sb))), inr below)
     | inr over ↦ (inl over, inr below)
   ]
   | inr above ↦
@@ -285,19 +286,12 @@ middle_core ab am mb sa sb sm e p q r where_ = elim (cases sb) [
       (inl over, inl (no_minus_by sm ab p (omega (arith, ints, e, no_minus sa mb over (omega (arith, ints)), no_minus sb am above (omega (arith, ints))))))
 ]
   where
-    swap : (a b : ℤ) → a *ℤ b ≡ b *ℤ a
-    swap a b = omega (arith, ints)
-
-    cases : (z : ℤ) → (z <ℤ pos 0) ⊎ (pos 0 ≤ℤ z)
-    cases (pos n) = inr (omega (arith, ints))
-    cases (negsuc n) = inl (omega (arith, ints))
-
     minus_by : (z n : ℤ) → pos 0 <ℤ n → (z *ℤ n) <ℤ pos 0 → z <ℤ pos 0
-    minus_by z (pos n) some h = minus_of n z (omega (arith, ints, swap z (pos n)))
+    minus_by z (pos n) some h = minus_of n z (omega (arith, ints, *ℤ_comm z (pos n)))
     minus_by z (negsuc n) some h = absurd (omega (arith, ints))
 
     no_minus_by : (z n : ℤ) → pos 0 <ℤ n → pos 0 ≤ℤ (z *ℤ n) → pos 0 ≤ℤ z
-    no_minus_by z (pos n) some h = no_minus_of n z (omega (arith, ints)) (omega (arith, ints, swap z (pos n)))
+    no_minus_by z (pos n) some h = no_minus_of n z (omega (arith, ints)) (omega (arith, ints, *ℤ_comm z (pos n)))
     no_minus_by z (negsuc n) some h = absurd (omega (arith, ints))
 
 -- ---- a point between two that follow each other comes between them in the order, the start included

@@ -2,7 +2,7 @@
 use Rattle.std.proofs.Common.{refl, ◌≡◌, ℕ, ◌+◌, ◌*◌, ◌≤◌, arith, ℤ, pos, ◌+ℤ◌, ◌-ℤ◌, ◌*ℤ◌, neg_ℤ, unsigned_abs}
 use Rattle.std.proofs.lemmas.Int.{ints}
 use Rattle.apt_num.proofs.Ring.{as_diff, diff-pos, diff-same, differences}
-use Rattle.apt_num.proofs.Squares.{size_square}
+use Rattle.apt_num.proofs.Squares.{size_neg, size_square}
 use Rattle.apt_plane.specs.declared.figures.Dir.{Dir}
 use Rattle.apt_plane.specs.declared.figures.Pt.{Pt}
 use Rattle.apt_plane.specs.Vectors.{displacement, cross, dot, length_squared, perp, between, displacement_to}
@@ -63,6 +63,12 @@ swap_parts a b p q = rw (as_diff a, as_diff b, as_diff p, as_diff q) (simp diffe
 turn_parts : (a b p q : ℤ) → (a *ℤ p) -ℤ (b *ℤ neg_ℤ q) ≡ (a *ℤ p) +ℤ (b *ℤ q)
 turn_parts a b p q = rw (as_diff a, as_diff b, as_diff p, as_diff q) (simp differences (diff-same _ _ _ _ (omega arith)))
 
+turned_cross_parts : (a b p q : ℤ) → (neg_ℤ b *ℤ q) -ℤ (a *ℤ p) ≡ neg_ℤ ((a *ℤ p) +ℤ (b *ℤ q))
+turned_cross_parts a b p q = rw (as_diff a, as_diff b, as_diff p, as_diff q) (simp differences (diff-same _ _ _ _ (omega arith)))
+
+turned_dot_parts : (a b p q : ℤ) → (neg_ℤ b *ℤ p) +ℤ (a *ℤ q) ≡ (a *ℤ q) -ℤ (b *ℤ p)
+turned_dot_parts a b p q = rw (as_diff a, as_diff b, as_diff p, as_diff q) (simp differences (diff-same _ _ _ _ (omega arith)))
+
 -- the cross product of a sum of ways
 pub cross_linear : (d v w : Dir) (x y : ℤ) → cross d (to ((x *ℤ v.dx) +ℤ (y *ℤ w.dx)) ((x *ℤ v.dy) +ℤ (y *ℤ w.dy))) ≡ (x *ℤ cross d v) +ℤ (y *ℤ cross d w)
 cross_linear d v w x y = linear_parts d.dx d.dy x v.dx v.dy y w.dx w.dy
@@ -104,6 +110,15 @@ cross_swap u v = swap_parts u.dx u.dy v.dx v.dy
 -- with a way that is turned by a quarter
 pub cross_turn : (t w : Dir) → cross t (perp w) ≡ dot t w
 cross_turn t w = turn_parts t.dx t.dy w.dx w.dy
+
+pub turned_cross : (d v : Dir) → cross (perp d) v ≡ neg_ℤ (dot d v)
+turned_cross d v = turned_cross_parts d.dx d.dy v.dx v.dy
+
+pub turned_dot : (d v : Dir) → dot (perp d) v ≡ cross d v
+turned_dot d v = turned_dot_parts d.dx d.dy v.dx v.dy
+
+pub turned_length : (d : Dir) → length_squared (perp d) ≡ length_squared d
+turned_length d = rw (size_neg d.dy) (omega arith)
 
 -- ---- ways from a point c to the ends P and Q of a segment, and to a point between them
 

@@ -1,12 +1,13 @@
 -- Who governs a way that is met between a start s and an end e: b is the axis to which the motion may not come too near.
 use Rattle.std.proofs.Common.{◌≡◌, ◌⊎◌, inl, inr, ℕ, zero, suc, ◌+◌, ◌*◌, ◌≤◌, ◌<◌, ◌∙◌, sym, arith, ℤ, pos, negsuc, neg_ℤ, ◌-ℤ◌, ◌*ℤ◌, ◌≤ℤ◌, ◌<ℤ◌, unsigned_abs}
+use Rattle.std.proofs.Math.IntN.{*ℤ_comm}
 use Rattle.std.proofs.lemmas.Int.{ints}
 use Rattle.apt_plane.specs.declared.figures.Dir.{Dir}
 use Rattle.apt_plane.specs.Vectors.{cross, dot, length_squared}
 use Rattle.apt_plane.specs.Ranges.{IsSense}
 use Rattle.apt_plane.proofs.Displacements.{lagrange, dot_square}
-use Rattle.apt_num.proofs.Products.{sign_cases, no_minus}
-use Rattle.apt_plane.proofs.Turned.{turned_by, turned_back, about_start, size_sense, sense_back, turned_other}
+use Rattle.apt_num.proofs.Products.{sign_cases, side_cases, no_minus}
+use Rattle.apt_plane.proofs.Turned.{turned_by, turned_back, back_plus, about_start, size_sense, sense_back, turned_other}
 use Rattle.apt_plane.proofs.Around.{Cyc, cyc_on_a_way}
 use Rattle.apt_num.proofs.Turning.{not_first, not_third}
 use Rattle.apt_num.proofs.Farther.{IsFarther, IsHardlyNearer, farther_hardly, farther_of, on_ray, on_ray_behind}
@@ -29,11 +30,8 @@ pub whole : (sense : ℤ) (b e : Dir) → IsSense sense
     → length_squared b * length_squared e ≡ unsigned_abs (dot b e) * unsigned_abs (dot b e) + unsigned_abs (turned_by sense b e) * unsigned_abs (turned_by sense b e)
 whole sense b e is = rw (size_sense sense (cross b e) is) (lagrange b e)
 
-swap : (a b : ℤ) → a *ℤ b ≡ b *ℤ a
-swap a b = omega (arith, ints)
-
 onwards : (n : ℕ) (c f g y z : ℤ) → pos n *ℤ c ≡ (f *ℤ z) -ℤ (y *ℤ g) → pos 0 ≤ℤ c → pos 0 ≤ℤ y → pos 0 ≤ℤ z → (pos (unsigned_abs y) *ℤ g) ≤ℤ (pos (unsigned_abs z) *ℤ f)
-onwards n c f g (pos y) (pos z) e h p q = omega (arith, ints, e, no_minus (pos n) c (omega (arith, ints)) h, swap f (pos z))
+onwards n c f g (pos y) (pos z) e h p q = omega (arith, ints, e, no_minus (pos n) c (omega (arith, ints)) h, *ℤ_comm f (pos z))
 onwards n c f g (negsuc y) z e h p q = absurd (omega (arith, ints, p))
 onwards n c f g y (negsuc z) e h p q = absurd (omega (arith, ints, q))
 
@@ -67,10 +65,6 @@ hardly_to_ray_behind sense b a e is some behind short =
     on_ray_behind (length_squared b) (length_squared a) (length_squared e) (dot b a) (dot b e) (unsigned_abs (turned_by sense b e)) some behind (dot_square b a) (whole sense b e is) short
 
 -- ---- between the start and the end
-pub side_of : (z : ℤ) → (z <ℤ pos 0) ⊎ (pos 0 ≤ℤ z)
-side_of (pos n) = inr (omega (arith, ints))
-side_of (negsuc n) = inl (omega (arith, ints))
-
 sized : (z : ℤ) → pos 0 <ℤ z → 0 < unsigned_abs z
 sized z h = omega (arith, ints, h)
 
@@ -89,15 +83,12 @@ back_below sense u v h = rw (turned_back sense u v) (omega (arith, ints, h))
 back_above : (sense : ℤ) (u v : Dir) → turned_by sense u v ≤ℤ pos 0 → pos 0 ≤ℤ turned_by sense v u
 back_above sense u v h = rw (turned_back sense u v) (omega (arith, ints, h))
 
-pub back_plus : (sense : ℤ) (u v : Dir) → turned_by sense u v <ℤ pos 0 → pos 0 <ℤ turned_by sense v u
-back_plus sense u v h = rw (turned_back sense u v) (omega (arith, ints, h))
-
 -- where the end is met before the axis, a point of the way is governed by the start on the near side of the axis, and by the end on the other
 pub governed : (sense : ℤ) (s e b x : Dir) → IsSense sense → 0 < length_squared b → 0 < length_squared x → Cyc s sense x e → Cyc s sense e b
     → ((pos 0 <ℤ turned_by sense b s) × IsFartherFrom b s x) ⊎ IsFartherFrom b e x
 governed sense s e b x is some some_x way axis =
     let both = cyc_on_a_way sense s x e b is way axis in
-    elim (side_of (turned_by sense b x)) [
+    elim (side_cases (turned_by sense b x)) [
       | inl below ↦
           let two = not_first (turned_by sense b x) (turned_by sense x e) (turned_by sense e b) (not_above (turned_by sense b x) below) both.1 in
           inr (farther_behind sense b e x is some (back_below sense e b (not_below (turned_by sense e b) two.1)) (not_below (turned_by sense x e) two.0) (not_above (turned_by sense b x) below) (inl (sized_below (turned_by sense b x) below)))
@@ -115,7 +106,7 @@ none_across (negsuc m) n p q = absurd (omega (arith, ints, q))
 -- an end that is strictly nearer to the axis than the start is met before the axis, or is on its ray
 pub away_reached : (sense : ℤ) (s e b : Dir) → IsSense sense → 0 < length_squared b → ¬ IsHardlyNearerTo b s e → (turned_by sense b e ≤ℤ pos 0) ⊎ IsHardlyAcross sense b e
     → Cyc s sense e b ⊎ IsOnRay sense b e
-away_reached sense s e b is some nearer short = elim (side_of (turned_by sense b e)) [
+away_reached sense s e b is some nearer short = elim (side_cases (turned_by sense b e)) [
   | inl below ↦
       let meets : pos 0 <ℤ turned_by sense e b = back_plus sense b e below in
       elim (sign_cases (turned_by sense s e)) [
@@ -129,5 +120,5 @@ away_reached sense s e b is some nearer short = elim (side_of (turned_by sense b
       ]
   | inr above ↦
       let hardly : IsHardlyAcross sense b e = elim short [ inl none ↦ none_across (turned_by sense b e) (length_squared b) none above | inr near ↦ near ] in
-      elim (side_of (dot b e)) [ inl behind ↦ absurd (nearer (hardly_to_ray_behind sense b s e is some behind hardly)) | inr ahead ↦ inr (ahead, hardly) ]
+      elim (side_cases (dot b e)) [ inl behind ↦ absurd (nearer (hardly_to_ray_behind sense b s e is some behind hardly)) | inr ahead ↦ inr (ahead, hardly) ]
 ]

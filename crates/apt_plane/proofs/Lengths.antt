@@ -5,10 +5,10 @@ use Rattle.std.proofs.lemmas.Int.{ints}
 use Rattle.std.proofs.lemmas.Nat.{mul-le}
 use Rattle.std.proofs.lemmas.Bool.{cases_lt}
 use Rattle.apt_num.proofs.Ring.{as_diff, diff-pos, diff-same, differences}
-use Rattle.apt_num.proofs.Squares.{size_mul, size_square, root_le, cancel_le}
+use Rattle.apt_num.proofs.Squares.{size_mul, root_le, cancel_le}
 use Rattle.apt_plane.specs.declared.figures.Dir.{Dir}
 use Rattle.apt_plane.specs.declared.figures.Pt.{Pt}
-use Rattle.apt_plane.specs.Vectors.{displacement, cross, dot, length_squared, perp, between, displacement_to}
+use Rattle.apt_plane.specs.Vectors.{displacement, cross, dot, length_squared, between, displacement_to}
 use Rattle.apt_plane.specs.Ranges.{IsPoint}
 use Rattle.apt_plane.proofs.Displacements.{to, between_part, square_length_squared, cross_square, dot_square}
 
@@ -29,34 +29,6 @@ length_of_sum u v = square_length_squared (plus u v) ∙ rw (square_length_squar
 pub length_of_times : (m : ℤ) (u : Dir) → length_squared (times m u) ≡ unsigned_abs m * unsigned_abs m * length_squared u
 length_of_times m u = rw (size_mul m u.dx, size_mul m u.dy) (omega arith)
 
--- ---- in the frame of a way and of that turned by a quarter
-
-abbrev pub in_frame : Dir → ℤ → ℤ → Dir
-in_frame d x y = plus (times x d) (times y (perp d))
-
-frame_square : (a b x y : ℤ) → (((x *ℤ a) +ℤ (y *ℤ neg_ℤ b)) *ℤ ((x *ℤ a) +ℤ (y *ℤ neg_ℤ b))) +ℤ (((x *ℤ b) +ℤ (y *ℤ a)) *ℤ ((x *ℤ b) +ℤ (y *ℤ a)))
-    ≡ ((x *ℤ x) +ℤ (y *ℤ y)) *ℤ ((a *ℤ a) +ℤ (b *ℤ b))
-frame_square a b x y = rw (as_diff a, as_diff b, as_diff x, as_diff y) (simp differences (diff-same _ _ _ _ (omega arith)))
-
-frame_cross : (a b x y : ℤ) → (a *ℤ ((x *ℤ b) +ℤ (y *ℤ a))) -ℤ (b *ℤ ((x *ℤ a) +ℤ (y *ℤ neg_ℤ b))) ≡ y *ℤ ((a *ℤ a) +ℤ (b *ℤ b))
-frame_cross a b x y = rw (as_diff a, as_diff b, as_diff x, as_diff y) (simp differences (diff-same _ _ _ _ (omega arith)))
-
-frame_dot : (a b x y : ℤ) → (a *ℤ ((x *ℤ a) +ℤ (y *ℤ neg_ℤ b))) +ℤ (b *ℤ ((x *ℤ b) +ℤ (y *ℤ a))) ≡ x *ℤ ((a *ℤ a) +ℤ (b *ℤ b))
-frame_dot a b x y = rw (as_diff a, as_diff b, as_diff x, as_diff y) (simp differences (diff-same _ _ _ _ (omega arith)))
-
-pub cross_in_frame : (d : Dir) (x y : ℤ) → cross d (in_frame d x y) ≡ y *ℤ pos (length_squared d)
-cross_in_frame d x y = rw (square_length_squared d) (frame_cross d.dx d.dy x y)
-
-pub dot_in_frame : (d : Dir) (x y : ℤ) → dot d (in_frame d x y) ≡ x *ℤ pos (length_squared d)
-dot_in_frame d x y = rw (square_length_squared d) (frame_dot d.dx d.dy x y)
-
-pub length_in_frame : (d : Dir) (x y : ℤ) → length_squared (in_frame d x y) ≡ (unsigned_abs x * unsigned_abs x + unsigned_abs y * unsigned_abs y) * length_squared d
-length_in_frame d x y =
-    let whole : pos (length_squared (in_frame d x y)) ≡ ((x *ℤ x) +ℤ (y *ℤ y)) *ℤ pos (length_squared d) =
-    square_length_squared (in_frame d x y) ∙ rw (square_length_squared d) (frame_square d.dx d.dy x y) in
-    let sizes = rw (← size_square x, ← size_square y) at whole in
-    omega (arith, ints, sizes)
-
 -- of lengths, as naturals
 triangle : (na nb ns A B p : ℕ) (d : ℤ) → pos ns ≡ (pos na +ℤ (pos 2 *ℤ d)) +ℤ pos nb → unsigned_abs d ≤ A * B → na + p ≤ A * A → nb ≤ B * B → ns + p ≤ (A + B) * (A + B)
 triangle na nb ns A B p d e f g h = omega (arith, ints, e, f, g, h)
@@ -74,7 +46,7 @@ sum_of_lengths u v A B p g h =
 abbrev pub minus : Dir → Dir → Dir
 minus u v = to (u.dx -ℤ v.dx) (u.dy -ℤ v.dy)
 
-back_part : (p q : ℤ) → (p -ℤ q) +ℤ q ≡ p
+pub back_part : (p q : ℤ) → (p -ℤ q) +ℤ q ≡ p
 back_part p q = omega (arith, ints)
 
 length_of_back : (u v : Dir) → length_squared (plus (minus u v) v) ≡ length_squared u

@@ -9,11 +9,11 @@ use Rattle.apt_plane.specs.declared.figures.Dir.{Dir}
 use Rattle.apt_plane.specs.Vectors.{dot, length_squared}
 use Rattle.apt_plane.specs.Ranges.{IsSense}
 use Rattle.apt_plane.proofs.Displacements.{dot_square}
-use Rattle.apt_num.proofs.Products.{strict_each}
-use Rattle.apt_plane.proofs.Turned.{turned_by, about_start}
+use Rattle.apt_num.proofs.Products.{side_cases, strict_each}
+use Rattle.apt_plane.proofs.Turned.{turned_by, back_plus, about_start}
 use Rattle.apt_plane.proofs.Nearby.{IsNearby, IsOnCircle}
 use Rattle.apt_plane.proofs.Around.{Cyc}
-use Rattle.apt_plane.proofs.Governed.{IsHardlyAcross, IsOnRay, whole, side_of, back_plus, none_across}
+use Rattle.apt_plane.proofs.Governed.{IsHardlyAcross, IsOnRay, whole, none_across}
 
 -- the start is far across, the end hardly
 outweighs : (B n m y f g z p : ℕ) → 0 < B → 64 * B < y * y → 2 * (z * z) ≤ B → f * f ≤ B * n → B * m ≡ g * g + z * z → n ≤ (p + 6) * (p + 6) → (p + 2) * (p + 2) ≤ m → 97 ≤ p → f * z < y * g
@@ -55,9 +55,9 @@ behind p sense s e b row hardly below =
     (rw (size_mul (dot b s) (turned_by sense b e), size_mul (turned_by sense b s) (dot b e)) less)
 
 pub near_reached : (p : ℕ) (sense : ℤ) (s e b : Dir) → IsNearRow p sense s e b → Cyc s sense e b ⊎ IsOnRay sense b e
-near_reached p sense s e b row = elim (side_of (turned_by sense b e)) [
+near_reached p sense s e b row = elim (side_cases (turned_by sense b e)) [
   | inl below ↦ inl (inr (inl (back_plus sense b e below, row.ahead)))
   | inr above ↦
       let hardly : IsHardlyAcross sense b e = elim row.hardly [ inl none ↦ none_across (turned_by sense b e) (length_squared b) none above | inr short ↦ short ] in
-      elim (side_of (dot b e)) [ inl back ↦ inl (inr (inr (row.ahead, behind p sense s e b row hardly back))) | inr on ↦ inr (on, hardly) ]
+      elim (side_cases (dot b e)) [ inl back ↦ inl (inr (inr (row.ahead, behind p sense s e b row hardly back))) | inr on ↦ inr (on, hardly) ]
 ]

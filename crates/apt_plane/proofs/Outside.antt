@@ -10,7 +10,7 @@ use Rattle.apt_plane.specs.declared.figures.Dir.{Dir}
 use Rattle.apt_plane.specs.Vectors.{cross, dot, length_squared}
 use Rattle.apt_plane.proofs.Displacements.{square_length_squared, lagrange, dot_square}
 use Rattle.apt_plane.proofs.AwayRows.{reverse, reverse_length}
-use Rattle.apt_plane.proofs.Lengths.{plus, times, length_of_times, sum_of_lengths, chord, chord_long}
+use Rattle.apt_plane.proofs.Lengths.{plus, times, back_part, length_of_times, sum_of_lengths, chord, chord_long}
 use Rattle.apt_plane.proofs.Nearby.{IsNearby}
 use Rattle.apt_num.proofs.Moves.{IsUpTo, IsCrossing, moved}
 use Rattle.apt_num.proofs.Carried.{carried}
@@ -48,15 +48,12 @@ less_long : (m : ℕ) (g v : Dir) → pos (length_squared (less_times m g v)) +�
 less_long m g v = rw (← square_length_squared (less_times m g v), ← square_length_squared g, ← square_length_squared v) at (less_parts (pos m) g.dx g.dy v.dx v.dy)
 
 -- ---- the circles far from each other
-again_part : (c d : ℤ) → (c -ℤ d) +ℤ d ≡ c
-again_part c d = omega (arith, ints)
-
 same_way : (a b c d : ℤ) → a ≡ c → b ≡ d → length_squared (record { dx = a; dy = b }) ≡ length_squared (record { dx = c; dy = d })
 same_way a b c d e f = rw (e, f) refl
 
 -- v is what is left, and m g
 again : (m : ℕ) (g v : Dir) → length_squared (plus (less_times m g v) (times (pos m) g)) ≡ length_squared v
-again m g v = same_way _ _ _ _ (again_part v.dx (pos m *ℤ g.dx)) (again_part v.dy (pos m *ℤ g.dy))
+again m g v = same_way _ _ _ _ (back_part v.dx (pos m *ℤ g.dx)) (back_part v.dy (pos m *ℤ g.dy))
 
 -- v is shorter by so much than m g
 far_least : (r q w m G : ℕ) → 8 ≤ w → w ≤ q → 0 < m → (r + q) * (r + q) < G → (m * (q - w) + m * (r + 3)) * (m * (q - w) + m * (r + 3)) < m * m * G + 1

@@ -1,8 +1,9 @@
 -- Four directions, each a quarter turn from the one before, between a start and an end.
-use Rattle.std.proofs.Common.{◌≡◌, ◌≢◌, ◌⊎◌, inl, inr, ℕ, ◌<◌, ◌∙◌, ap, subst, arith, ℤ, pos, negsuc, neg_ℤ, ◌+ℤ◌, ◌-ℤ◌, ◌*ℤ◌, ◌<ℤ◌, ◌≤ℤ◌}
+use Rattle.std.proofs.Common.{◌≡◌, ◌≢◌, inl, inr, ℕ, ◌<◌, ◌∙◌, ap, subst, arith, ℤ, pos, negsuc, neg_ℤ, ◌+ℤ◌, ◌-ℤ◌, ◌*ℤ◌, ◌<ℤ◌, ◌≤ℤ◌}
+use Rattle.std.proofs.Math.IntN.{*ℤ_comm}
 use Rattle.std.proofs.lemmas.Int.{ints}
 use Rattle.apt_num.proofs.Ring.{as_diff, diff-same, differences}
-use Rattle.apt_num.proofs.Products.{sign_cases, both_plus, no_minus, one_each, other_each, strict_each}
+use Rattle.apt_num.proofs.Products.{sign_cases, side_cases, both_plus, no_minus, one_each, other_each, strict_each}
 use Rattle.apt_num.proofs.Turning.{Two, not_first, not_second, not_third}
 use Rattle.apt_plane.specs.declared.figures.Dir.{Dir}
 use Rattle.apt_plane.specs.Vectors.{cross, dot, length_squared, perp}
@@ -10,7 +11,7 @@ use Rattle.apt_plane.specs.Ranges.{IsSense}
 use Rattle.apt_plane.specs.Order.{turn_class, ComesBefore}
 use Rattle.apt_plane.proofs.Displacements.{square_length_squared, cross_self, dot_swap}
 use Rattle.apt_plane.proofs.Heights.{one-times}
-use Rattle.apt_plane.proofs.Turned.{turned_by, turned_back, minus-times, plucker_turned, about_start}
+use Rattle.apt_plane.proofs.Turned.{turned_by, turned_back, back_plus, minus-times, plucker_turned, about_start}
 use Rattle.apt_plane.proofs.Around.{Cyc, IsPlace, is_place, zero_class, before_cyc, before_onward, before_from_start, cyc_after}
 
 -- w lies a quarter turn on from v
@@ -108,12 +109,9 @@ last_piece sense s v w e is on some two none =
 -- the last of four: the start lies before it
 last_core : (sv we ws ve es vw : ℤ) → (sv *ℤ we) +ℤ (ws *ℤ ve) ≡ es *ℤ vw → sv ≤ℤ pos 0 → ws <ℤ pos 0 → pos 0 <ℤ ve → pos 0 <ℤ es → pos 0 <ℤ vw → we ≤ℤ pos 0
 last_core sv we ws ve es vw e p q r t u = elim (sign_cases we) [
-  | inl more ↦ absurd (omega (arith, ints, e, one_each sv we p (omega (arith, ints, more)), strict_each ve ws r q, swap ve ws, both_plus es vw t u))
+  | inl more ↦ absurd (omega (arith, ints, e, one_each sv we p (omega (arith, ints, more)), strict_each ve ws r q, *ℤ_comm ve ws, both_plus es vw t u))
   | inr fine ↦ fine
 ]
-  where
-    swap : (a b : ℤ) → a *ℤ b ≡ b *ℤ a
-    swap a b = omega (arith, ints)
 
 pub last_of_four : (sense : ℤ) (s v w e : Dir) → IsSense sense → IsOnward sense v w → 0 < length_squared v → turned_by sense s v ≤ℤ pos 0 → pos 0 <ℤ dot s v → Cyc s sense v e
     → (pos 0 <ℤ turned_by sense v e) × (pos 0 ≤ℤ dot v e)
@@ -137,15 +135,11 @@ only_core n sw dw we se de es e f some p q none not_start =
     let back : es ≤ℤ pos 0 = elim (sign_cases es) [ inl r ↦ absurd (none (inr (inr (r, p)))) | inr r ↦ r ] in
     let whole : (pos n *ℤ we) ≤ℤ pos 0 = other_each (pos n) we (omega (arith, ints)) low in
     let over : pos 0 ≤ℤ se = omega (arith, ints, f, back) in
-    let ahead : pos 0 ≤ℤ de = elim (cases de) [
+    let ahead : pos 0 ≤ℤ de = elim (side_cases de) [
       | inl r ↦ absurd (omega (arith, ints, e, whole, no_minus dw se q over, strict_each sw de p r))
       | inr r ↦ r
     ] in
     (elim (sign_cases se) [ inl r ↦ r | inr r ↦ absurd (omega (arith, ints, ahead, not_start (omega (arith, ints)))) ], ahead)
-  where
-    cases : (z : ℤ) → (z <ℤ pos 0) ⊎ (pos 0 ≤ℤ z)
-    cases (pos n) = inr (omega (arith, ints))
-    cases (negsuc n) = inl (omega (arith, ints))
 
 not_ahead : (x d : ℤ) (k : ℕ) → k ≢ 0 → IsPlace x d k → x ≡ pos 0 → d <ℤ pos 0
 not_ahead x d k some (inl p) e = absurd (some p.0)
@@ -228,9 +222,6 @@ down : (sense : ℤ) (s e q r : Dir) → IsSense sense → 0 < length_squared s 
 down sense s e q r is ps pq pr pe some turn between =
     ((before_from_start sense s q ps).1 some, (before_cyc sense s q e is ps pq pe some).1 (cyc_after sense s q r e is turn (in_turn sense s e r is ps pr pe between)))
 
-back_positive : (sense : ℤ) (s r : Dir) → turned_by sense s r <ℤ pos 0 → pos 0 <ℤ turned_by sense r s
-back_positive sense s r h = rw (turned_back sense s r) (omega (arith, ints))
-
 pub second_first : (sense : ℤ) (s e p q r t : Dir) → AreFour sense s e p q r t → IsBetween sense s e q → IsBetween sense s e p
 second_first sense s e p q r t are between =
     down sense s e p q are.either are.start are.first are.second are.end (first_class sense s e p q r t are) (inl (are.turn, onward_turn sense p q are.to_second are.first)) between
@@ -238,12 +229,12 @@ second_first sense s e p q r t are between =
 pub third_second : (sense : ℤ) (s e p q r t : Dir) → AreFour sense s e p q r t → IsBetween sense s e r → IsBetween sense s e q
 third_second sense s e p q r t are between =
     down sense s e q r are.either are.start are.second are.third are.end (second_class sense s e p q r t are)
-    (inr (inl (onward_turn sense q r are.to_third are.second, back_positive sense s r (third_turn sense s e p q r t are).0))) between
+    (inr (inl (onward_turn sense q r are.to_third are.second, back_plus sense s r (third_turn sense s e p q r t are).0))) between
 
 pub fourth_third : (sense : ℤ) (s e p q r t : Dir) → AreFour sense s e p q r t → IsBetween sense s e t → IsBetween sense s e r
 fourth_third sense s e p q r t are between =
     down sense s e r t are.either are.start are.third are.fourth are.end (third_class sense s e p q r t are)
-    (inr (inl (onward_turn sense r t are.to_fourth are.third, back_positive sense s t (fourth_behind sense s e p q r t are ((before_from_start sense s t are.start).0 between.0))))) between
+    (inr (inl (onward_turn sense r t are.to_fourth are.third, back_plus sense s t (fourth_behind sense s e p q r t are ((before_from_start sense s t are.start).0 between.0))))) between
 
 -- ---- each comes before the next
 pub start_first : (sense : ℤ) (s e p q r t : Dir) → AreFour sense s e p q r t → ComesBefore s sense s p

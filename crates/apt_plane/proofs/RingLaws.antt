@@ -58,7 +58,7 @@ over_from c p h is = omega (arith, (length_at_most 1 h (length_squared (displace
 pub over_to : (c p : Pt) (h : ℕ) → h * h ≤ length_squared (displacement c p) → IsOver (about c) (pos h) (scaled p)
 over_to c p h le = rw (one-times c.x, one-times c.y) ((length_at_most 1 h (length_squared (displacement c p))).1 (omega (arith, le)))
 
-under_from : (c p : Pt) (h : ℕ) → IsUnder (about c) (pos h) (scaled p) → length_squared (displacement c p) ≤ h * h
+pub under_from : (c p : Pt) (h : ℕ) → IsUnder (about c) (pos h) (scaled p) → length_squared (displacement c p) ≤ h * h
 under_from c p h is = omega (arith, (root_at_most 1 h (length_squared (displacement c p))).0 (rw (one-times c.x, one-times c.y) at is))
 
 -- ---- at most a length from the centre at both ends: so between

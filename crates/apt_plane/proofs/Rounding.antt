@@ -2,8 +2,7 @@
 use Rattle.std.proofs.Common.{◌≡◌, ◌≢◌, ℕ, ◌+◌, ◌*◌, ◌≤◌, ◌∙◌, sym, arith, ℤ, pos, ◌+ℤ◌, ◌*ℤ◌, unsigned_abs}
 use Rattle.std.proofs.Math.Nat.{mul-le-mul_left}
 use Rattle.apt_num.specs.Near.{near}
-use Rattle.apt_num.proofs.Squares.{square_le}
-use Rattle.apt_num.proofs.Nearest.{near_remainder}
+use Rattle.apt_num.proofs.Nearest.{near_remainder, halves}
 use Rattle.apt_plane.specs.declared.figures.Dir.{Dir}
 use Rattle.apt_plane.specs.Vectors.{cross, dot, length_squared}
 use Rattle.apt_plane.proofs.Displacements.{to, cross_sum, cross_times, cross_square, dot_sum, dot_times, dot_square}
@@ -13,15 +12,12 @@ use Rattle.apt_plane.proofs.Lengths.{IsRounded}
 abbrev pub near_displacement : Dir → ℤ → Dir
 near_displacement u m = to (near u.dx m) (near u.dy m)
 
-short_pair : (x y m : ℕ) → 2 * x ≤ m → 2 * y ≤ m → 2 * (x * x + y * y) ≤ m * m
-short_pair x y m p q = omega (arith, square_le (2 * x) m p, square_le (2 * y) m q)
-
 -- what is left over
 pub displacement_rest : (u : Dir) (m : ℤ) → m ≢ pos 0 → (e : Dir) × IsRounded u (near_displacement u m) e m
 displacement_rest u m d =
     let x = near_remainder u.dx m d in
     let y = near_remainder u.dy m d in
-    (to x.0 y.0, record { dx = x.1; dy = y.1; short = short_pair (unsigned_abs x.0) (unsigned_abs y.0) (unsigned_abs m) x.2 y.2 })
+    (to x.0 y.0, record { dx = x.1; dy = y.1; short = halves (unsigned_abs x.0) (unsigned_abs y.0) (unsigned_abs m) x.2 y.2 })
 
 half_square : (c n e m : ℕ) → c * c ≤ n * e → 2 * e ≤ m * m → 2 * c * c ≤ n * (m * m)
 half_square c n e m p q = omega (arith, p, mul-le-mul_left n q)

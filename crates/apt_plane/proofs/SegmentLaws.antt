@@ -99,7 +99,14 @@ ends_decide l band p q = (
   λ ends. in_band-between l band p q ends.0 ends.1,
 )
 
--- of one point, as its height and the length of the direction tell
+-- of one point, by its height
+pub above_at : (l : Line) (lo : ℤ) (p : Pt) → AtLeast (cross l.dir (displacement l.base p)) lo (length_squared l.dir) → IsAbove l lo (scaled p)
+above_at l lo p at = rw (height_of_point l p, one-times lo) at
+
+pub below_at : (l : Line) (hi turned : ℤ) (p : Pt) → turned ≡ neg_ℤ hi → AtLeast (neg_ℤ (cross l.dir (displacement l.base p))) turned (length_squared l.dir) → IsBelow l hi (scaled p)
+below_at l hi turned p e at = rw (height_of_point l p, one-times hi, ← e) at
+
+-- as its height and the length of the direction tell
 pub point_above : (P : Type 0) (l : Line) (lo : ℤ) (p : Pt) (k : ℤ) (n : ℕ) → k ≡ cross l.dir (displacement l.base p) → n ≡ length_squared l.dir → P ↔ AtLeast k lo n → P ↔ IsAbove l lo (scaled p)
 point_above P l lo p k n e f is = rw (height_of_point l p, one-times lo) (rw (e, f) at is)
 

@@ -1,5 +1,5 @@
 -- Cross products in the sense of a turn, and of four directions with each other.
-use Rattle.std.proofs.Common.{refl, ◌≡◌, inl, inr, ◌∙◌, ap, arith, ℤ, pos, negsuc, neg_ℤ, ◌+ℤ◌, ◌-ℤ◌, ◌*ℤ◌, unsigned_abs}
+use Rattle.std.proofs.Common.{refl, ◌≡◌, inl, inr, ◌∙◌, ap, arith, ℤ, pos, negsuc, neg_ℤ, ◌+ℤ◌, ◌-ℤ◌, ◌*ℤ◌, ◌<ℤ◌, unsigned_abs}
 use Rattle.std.proofs.lemmas.Int.{ints}
 use Rattle.apt_num.proofs.Ring.{as_diff, diff-same, differences, *ℤ-neg, neg-*ℤ-neg}
 use Rattle.apt_num.proofs.Squares.{size_neg}
@@ -23,6 +23,9 @@ sense_twice sense x y (inr e) = rw (e, minus-times x, minus-times y) (neg-*ℤ-n
 
 pub turned_back : (sense : ℤ) (u v : Dir) → turned_by sense v u ≡ neg_ℤ (turned_by sense u v)
 turned_back sense u v = ap (λ z. sense *ℤ z) (cross_swap u v) ∙ *ℤ-neg sense (cross u v)
+
+pub back_plus : (sense : ℤ) (u v : Dir) → turned_by sense u v <ℤ pos 0 → pos 0 <ℤ turned_by sense v u
+back_plus sense u v h = rw (turned_back sense u v) (omega (arith, ints, h))
 
 pub size_sense : (sense z : ℤ) → IsSense sense → unsigned_abs (sense *ℤ z) ≡ unsigned_abs z
 size_sense sense z (inl e) = rw (e, one-times z) refl

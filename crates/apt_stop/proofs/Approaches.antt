@@ -1,5 +1,5 @@
 -- A motion along a line to a stop beyond it runs in its sense.
-use Rattle.std.proofs.Common.{◌≡◌, ℕ, suc, ◌*◌, ◌≤◌, ◌<◌, inl, inr, zero, refl, ap, sym, ◌∙◌, arith, ℤ, pos, negsuc, ◌+ℤ◌, ◌-ℤ◌, ◌*ℤ◌, ◌<ℤ◌, neg_ℤ, unsigned_abs}
+use Rattle.std.proofs.Common.{◌≡◌, ℕ, suc, ◌*◌, ◌≤◌, ◌<◌, inl, inr, zero, ap, sym, ◌∙◌, arith, ℤ, pos, negsuc, ◌+ℤ◌, ◌-ℤ◌, ◌*ℤ◌, ◌<ℤ◌, neg_ℤ, unsigned_abs}
 use Rattle.std.proofs.lemmas.Int.{ints}
 use Rattle.std.proofs.lemmas.Nat.{mul-le, mul-lt}
 use Rattle.std.proofs.Math.Nat.{mul-le-mul_left}
@@ -11,6 +11,7 @@ use Rattle.apt_plane.specs.Ranges.{IsSense}
 use Rattle.apt_plane.specs.Vectors.{cross, dot, length_squared}
 use Rattle.apt_plane.proofs.Heights.{one-times}
 use Rattle.apt_plane.proofs.Displacements.{square_length_squared, dot_square}
+use Rattle.apt_plane.proofs.Turned.{sense_twice}
 use Rattle.apt_stop.specs.Nearness.{heading}
 use Rattle.apt_stop.proofs.Headings.{turned}
 
@@ -84,17 +85,6 @@ heading_cross sense d e = ring sense d.dx d.dy e.dx e.dy
     ring : (s dx dy ex ey : ℤ) → (ex *ℤ (s *ℤ dy)) -ℤ (ey *ℤ (s *ℤ dx)) ≡ s *ℤ ((ex *ℤ dy) -ℤ (ey *ℤ dx))
     ring s dx dy ex ey = rw (as_diff s, as_diff dx, as_diff dy, as_diff ex, as_diff ey) (simp differences (diff-same _ _ _ _ (omega arith)))
 
--- the product of two numbers that the sense turns is that of the two
-turned_product : (sense s c : ℤ) → IsSense sense → (sense *ℤ s) *ℤ (sense *ℤ c) ≡ s *ℤ c
-turned_product sense s c is = regroup sense s c ∙ ap (λ z. z *ℤ (s *ℤ c)) (square_one is) ∙ one-times (s *ℤ c)
-  where
-    regroup : (t s c : ℤ) → (t *ℤ s) *ℤ (t *ℤ c) ≡ (t *ℤ t) *ℤ (s *ℤ c)
-    regroup t s c = rw (as_diff t, as_diff s, as_diff c) (simp differences (diff-same _ _ _ _ (omega arith)))
-
-    square_one : IsSense sense → sense *ℤ sense ≡ pos 1
-    square_one (inl e) = rw e refl
-    square_one (inr e) = rw e refl
-
 -- one factor and the product tell the sign of the other
 positive_of-negative : (s c : ℤ) → (s *ℤ c) <ℤ pos 0 → c <ℤ pos 0 → pos 0 <ℤ s
 positive_of-negative s (pos c) p q = absurd (omega (arith, ints))
@@ -110,10 +100,10 @@ positive_of-positive (pos (suc s)) (pos (suc c)) p q = omega (arith, ints)
 positive_of-positive (negsuc s) (pos (suc c)) p q = absurd (omega (arith, ints))
 
 pub in_sense-right : (sense s c : ℤ) → IsSense sense → (s *ℤ c) <ℤ pos 0 → (sense *ℤ c) <ℤ pos 0 → pos 0 <ℤ (sense *ℤ s)
-in_sense-right sense s c is p q = positive_of-negative (sense *ℤ s) (sense *ℤ c) (rw (turned_product sense s c is) p) q
+in_sense-right sense s c is p q = positive_of-negative (sense *ℤ s) (sense *ℤ c) (rw (sense_twice sense s c is) p) q
 
 pub in_sense-left : (sense s c : ℤ) → IsSense sense → pos 0 <ℤ (s *ℤ c) → pos 0 <ℤ (sense *ℤ c) → pos 0 <ℤ (sense *ℤ s)
-in_sense-left sense s c is p q = positive_of-positive (sense *ℤ s) (sense *ℤ c) (rw (turned_product sense s c is) p) q
+in_sense-left sense s c is p q = positive_of-positive (sense *ℤ s) (sense *ℤ c) (rw (sense_twice sense s c is) p) q
 
 -- and it is 0 only where the other number is
 pub turned_zero : (sense c : ℤ) → IsSense sense → sense *ℤ c ≡ pos 0 → c ≡ pos 0

@@ -13,7 +13,8 @@ use Rattle.apt_plane.specs.declared.figures.Surface.TheVariants as surfaces
 use Rattle.apt_plane.specs.Ranges.{IsPoint, IsDir, IsSurface}
 use Rattle.apt_plane.specs.Vectors.{displacement, length_squared}
 use Rattle.apt_canon.specs.Circles.{are_concentric}
-use Rattle.apt_canon.proofs.Ways.{one_point, no_way, way-IsDir}
+use Rattle.apt_canon.proofs.Ways.{one_point, way-IsDir}
+use Rattle.apt_plane.proofs.Displacements.{no_way}
 use Rattle.apt_plane.proofs.Turned.{perp_dir}
 use Rattle.apt_stop.specs.Tangencies.{axis, touching_half, tangent_axis, HaveNoAxis, axis_towards, IsElsewhere}
 

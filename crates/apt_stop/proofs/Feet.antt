@@ -10,8 +10,9 @@ use Rattle.apt_plane.specs.declared.figures.Circ.{Circ}
 use Rattle.apt_plane.specs.declared.figures.Surface.TheVariants as surfaces
 use Rattle.apt_plane.specs.Vectors.{displacement, dot, length_squared}
 use Rattle.apt_plane.specs.Ranges.{IsSense, IsLine, IsCircle}
+use Rattle.apt_plane.proofs.Turned.{size_sense}
+use Rattle.apt_plane.proofs.Displacements.{dot_swap}
 use Rattle.apt_canon.specs.Feet.{foot_point}
-use Rattle.apt_canon.proofs.CircleMeetings.LineCircle.{sense_size}
 use Rattle.apt_canon.proofs.FootPoints.Laws.{foot_near, foot_across}
 use Rattle.apt_offset.specs.declared.Target.TheVariants as targets
 use Rattle.apt_offset.specs.Sides.{side_at_tangency}
@@ -25,7 +26,7 @@ use Rattle.apt_stop.specs.Ranges.{IsCourse}
 use Rattle.apt_stop.specs.Ends.{TouchesStop}
 use Rattle.apt_stop.proofs.Moved.{track_target, stop_target}
 use Rattle.apt_stop.proofs.Onwards.{Onward, near_onwards}
-use Rattle.apt_stop.proofs.Tracks.{dot_swap, heading_dot, heading_length}
+use Rattle.apt_stop.proofs.Tracks.{heading_dot, heading_length}
 use Rattle.apt_stop.proofs.Lies.{ahead_of}
 use Rattle.apt_stop.proofs.Touching.{touches_stop, foot_on_axis}
 use Rattle.apt_stop.proofs.Parts.{course_at, Touches}
@@ -42,7 +43,7 @@ pub record Touched (c : Course) (d : Dir) (q : Pt) : Type 0 where
 
 -- the foot lies beside the centre
 beside : (sense l : ℤ) (n : ℕ) → IsSense sense → 2 * square l ≤ n → Onward (sense *ℤ l) n
-beside sense l n is small = inr (rw (sense_size sense l is) small)
+beside sense l n is small = inr (rw (size_sense sense l is) small)
 
 foot_ahead : (d : Dir) (sense : ℤ) (p o q : Pt) → IsSense sense → 0 < length_squared d → AtLeast (dot (displacement p o) (heading sense d)) (pos 8) (length_squared d)
     → 2 * square (dot d (displacement o q)) ≤ length_squared d → pos 0 <ℤ dot (heading sense d) (displacement p q)

@@ -12,7 +12,7 @@ use Rattle.apt_plane.specs.declared.figures.Pt.{Pt}
 use Rattle.apt_plane.specs.declared.figures.Dir.{Dir}
 use Rattle.apt_plane.specs.Ranges.{IsSense, IsPoint}
 use Rattle.apt_plane.specs.Vectors.{displacement, cross, dot, length_squared}
-use Rattle.apt_plane.proofs.Displacements.{cross_swap}
+use Rattle.apt_plane.proofs.Displacements.{cross_swap, dot_swap}
 use Rattle.apt_canon.specs.Circles.{HasSense}
 use Rattle.apt_canon.proofs.CircleMeetings.Across.{point_further}
 use Rattle.apt_canon.proofs.CircleMeetings.Answers.{beyond}
@@ -40,7 +40,7 @@ use Rattle.apt_stop.proofs.Onwards.{dot_back}
 use Rattle.apt_stop.proofs.Parts.{Meets, meets}
 use Rattle.apt_stop.proofs.Placed.{placed}
 use Rattle.apt_stop.proofs.Sided.{sided}
-use Rattle.apt_stop.proofs.Tracks.{dot_swap, heading_dot, sense_to}
+use Rattle.apt_stop.proofs.Tracks.{heading_dot, sense_to}
 use Rattle.apt_stop.specs.Legs.{next_leg, IsSecond}
 use Rattle.apt_stop.proofs.Within.{near_within}
 use Rattle.apt_stop.proofs.Turned.{turns_over, turned_round, not_twice}

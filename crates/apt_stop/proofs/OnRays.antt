@@ -14,8 +14,8 @@ use Rattle.apt_plane.specs.Ranges.{IsSense, IsDir}
 use Rattle.apt_plane.specs.Vectors.{displacement, cross, dot, length_squared}
 use Rattle.apt_plane.specs.Axes.{IsOnHalf, IsOnAxis}
 use Rattle.apt_plane.proofs.Displacements.{cross_swap, dot_swap}
+use Rattle.apt_plane.proofs.Turned.{size_sense}
 use Rattle.apt_canon.specs.Scale.{times}
-use Rattle.apt_canon.proofs.CircleMeetings.LineCircle.{sense_size}
 use Rattle.apt_canon.proofs.FootPoints.Sharp.{ray_across, ray_forward}
 use Rattle.apt_offset.specs.declared.Target.TheVariants as targets
 use Rattle.apt_offset.specs.Targets.{signed}
@@ -36,7 +36,7 @@ pub record LiesOnAxis (along : Dir) (half : Sign) (e : Dir) : Type 0 where
 unturned : (turn : ℤ) (along e : Dir) → IsSense turn → 2 * square (cross (times turn along) e) ≤ length_squared (times turn along) → pos 0 <ℤ dot (times turn along) e
     → (2 * square (cross along e) ≤ length_squared along) × (pos 0 <ℤ (turn *ℤ dot along e))
 unturned turn along e sense off forward =
-    (rw (heading_turn turn along e, sense_size turn (cross along e) sense, heading_length turn along sense) at off, rw (heading_dot turn along e) at forward)
+    (rw (heading_turn turn along e, size_sense turn (cross along e) sense, heading_length turn along sense) at off, rw (heading_dot turn along e) at forward)
 
 pub ray_is : (o : Pt) (r : ℤ) (a : Axis) → IsCircleTarget o r → IsDir a.along → a.half ≢ signs.Zero → LiesOnAxis a.along a.half (displacement o (touches_on (targets.Circ o r) a))
 ray_is o r a is dir some =

@@ -10,8 +10,8 @@ use Rattle.apt_plane.specs.declared.figures.Axis.{Axis}
 use Rattle.apt_plane.specs.declared.figures.Surface.{Surface}
 use Rattle.apt_plane.specs.Vectors.{displacement, length_squared}
 use Rattle.apt_plane.specs.Ranges.{IsSense, IsDir, IsPoint}
+use Rattle.apt_plane.proofs.Turned.{size_sense}
 use Rattle.apt_canon.specs.Scale.{times}
-use Rattle.apt_canon.proofs.CircleMeetings.LineCircle.{sense_size}
 use Rattle.apt_canon.proofs.FootPoints.Rays.{ray_near}
 use Rattle.apt_canon.proofs.Ways.{way_is_dir}
 use Rattle.apt_offset.specs.declared.Target.{Target}
@@ -59,9 +59,9 @@ half_sense half some = sense_to half (pos 1) some (inl refl)
 -- a direction kept or turned round, and turned by a quarter
 pub turned_dir : (s : ℤ) (u : Dir) → IsSense s → IsDir u → IsDir (times s u)
 turned_dir s u sense is = record {
-  dx = rw (sense_size s u.dx sense) is.dx;
-  dy = rw (sense_size s u.dy sense) is.dy;
-  length = rw (sense_size s u.dx sense, sense_size s u.dy sense) is.length;
+  dx = rw (size_sense s u.dx sense) is.dx;
+  dy = rw (size_sense s u.dy sense) is.dy;
+  length = rw (size_sense s u.dx sense, size_sense s u.dy sense) is.length;
 }
 
 pub ray_at : (o : Pt) (r : ℤ) (a : Axis) → IsCircleTarget o r → IsDir a.along → a.half ≢ signs.Zero → IsNearTarget (targets.Circ o r) (pos 1) (touches_on (targets.Circ o r) a)

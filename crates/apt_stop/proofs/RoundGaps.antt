@@ -12,8 +12,8 @@ use Rattle.apt_plane.specs.declared.figures.Dir.{Dir}
 use Rattle.apt_plane.specs.Vectors.{displacement, cross, dot, length_squared}
 use Rattle.apt_plane.proofs.Displacements.{lagrange}
 use Rattle.apt_plane.proofs.Heights.{one-times}
+use Rattle.apt_plane.proofs.Turned.{size_sense}
 use Rattle.apt_canon.specs.Scale.{IsNearCircle}
-use Rattle.apt_canon.proofs.CircleMeetings.LineCircle.{sense_size}
 use Rattle.apt_contact.specs.Meetings.{circle_about}
 use Rattle.apt_offset.specs.Turns.{opposite}
 use Rattle.apt_offset.specs.Sides.{side_or_left, times as place_times}
@@ -56,7 +56,7 @@ ray_by along half e r some there ray low high =
     let n = length_squared along in
     let x = unsigned_abs (cross along e) in
     let y = unsigned_abs (dot along e) in
-    let same : square (signed half (pos 1) *ℤ dot along e) ≡ square (dot along e) = ap (λ z. z * z) (sense_size (signed half (pos 1)) (dot along e) (half_sense half there)) in
+    let same : square (signed half (pos 1) *ℤ dot along e) ≡ square (dot along e) = ap (λ z. z * z) (size_sense (signed half (pos 1)) (dot along e) (half_sense half there)) in
     up_by (signed half (pos 1) *ℤ dot along e) r n some ray.onwards
     (rw same (along_low n (length_squared e) x y r (lagrange along e) ray.across low some)) (rw same (along_high n (length_squared e) x y r (lagrange along e) high))
 

@@ -5,14 +5,13 @@ use Rattle.std.proofs.lemmas.Int.{ints}
 use Rattle.apt_num.specs.declared.Sign.{Sign}
 use Rattle.apt_num.specs.declared.Sign.TheVariants as signs
 use Rattle.apt_num.specs.Sign.{OnLine, square, sign_of}
-use Rattle.apt_num.proofs.Ring.{as_diff, diff-same, differences}
 use Rattle.apt_plane.specs.declared.figures.Pt.{Pt}
 use Rattle.apt_plane.specs.declared.figures.Dir.{Dir}
 use Rattle.apt_plane.specs.declared.figures.Line.{Line}
 use Rattle.apt_plane.specs.declared.figures.Circ.{Circ}
 use Rattle.apt_plane.specs.declared.figures.Surface.TheVariants as surfaces
 use Rattle.apt_plane.specs.Vectors.{displacement, cross, dot, length_squared, perp}
-use Rattle.apt_plane.proofs.Displacements.{lagrange, cross_self, square_length_squared}
+use Rattle.apt_plane.proofs.Displacements.{lagrange, cross_self, turned_dot, turned_length, square_length_squared}
 use Rattle.apt_canon.specs.Scale.{IsNearLine, IsNearCircle}
 use Rattle.apt_offset.specs.Turns.{opposite}
 use Rattle.apt_offset.specs.Sides.{side_or_left, times as place_times, touch_outside, side_at_tangency}
@@ -22,7 +21,7 @@ use Rattle.apt_stop.specs.Gaps.{size, touching_distance, line_touches, circles_t
 use Rattle.apt_stop.specs.Tangencies.{half_towards, touching_half}
 use Rattle.apt_stop.proofs.Onwards.{dot_step, cross_step}
 use Rattle.apt_stop.proofs.Reach.{touch_far, touch_within}
-use Rattle.apt_stop.proofs.Touching.{within_squares, four_off, turned_length, touches_by, neg_square}
+use Rattle.apt_stop.proofs.Touching.{within_squares, four_off, touches_by, neg_square}
 use Rattle.apt_stop.proofs.OnRays.{LiesOnAxis}
 use Rattle.apt_stop.proofs.RoundGaps.{IsAboutSize, ray_length, about_length, touches_line_by, touches_circle_by}
 
@@ -49,12 +48,6 @@ near_by_size g o q (pos h) large some off is =
 near_by_size g o q (negsuc h) large some off is = absurd (omega (arith, ints, large))
 
 -- ---- a line
-
-turned_parts : (a b p q : ℤ) → (neg_ℤ b *ℤ p) +ℤ (a *ℤ q) ≡ (a *ℤ q) -ℤ (b *ℤ p)
-turned_parts a b p q = rw (as_diff a, as_diff b, as_diff p, as_diff q) (simp differences (diff-same _ _ _ _ (omega arith)))
-
-turned_dot : (d v : Dir) → dot (perp d) v ≡ cross d v
-turned_dot d v = turned_parts d.dx d.dy v.dx v.dy
 
 none_turned : (s : Sign) → signs.Zero ≡ place_times s signs.Zero
 none_turned signs.Plus = refl

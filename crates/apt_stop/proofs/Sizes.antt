@@ -1,26 +1,14 @@
 -- The sizes of what a sign against a root squares, and of products of ways.
-use Rattle.std.proofs.Common.{ℕ, ◌*◌, ◌≤◌, ◌<◌, ◌^◌, arith, inl, inr, ℤ, ◌+ℤ◌, ◌*ℤ◌, unsigned_abs}
+use Rattle.std.proofs.Common.{ℕ, ◌*◌, ◌≤◌, ◌<◌, ◌^◌, arith, inl, inr, ℤ, ◌*ℤ◌, unsigned_abs}
 use Rattle.std.proofs.lemmas.Int.{ints}
 use Rattle.std.proofs.lemmas.Nat.{mul-le}
-use Rattle.apt_num.proofs.Squares.{size_mul, size_add}
 use Rattle.apt_plane.specs.declared.figures.Dir.{Dir}
-use Rattle.apt_plane.specs.Vectors.{dot}
 use Rattle.apt_plane.specs.Ranges.{IsDir, IsShort, IsSense}
 use Rattle.apt_stop.specs.Nearness.{heading}
 use Rattle.apt_stop.proofs.Headings.{kept, turned}
 
 pub product_fits : (h n : ℕ) → h ≤ 2 * 10 ^ 8 → n ≤ 2 * 10 ^ 16 → h * h * n < 10 ^ 38
 product_fits h n p q = omega (arith, mul-le (h * h) n (4 * 10 ^ 16) (2 * 10 ^ 16) (mul-le h h (2 * 10 ^ 8) (2 * 10 ^ 8) p p) q)
-
-sum_small : (a b c d : ℤ) → unsigned_abs a ≤ 10 ^ 8 → unsigned_abs b ≤ 10 ^ 8 → unsigned_abs c ≤ 10 ^ 8 → unsigned_abs d ≤ 10 ^ 8
-    → unsigned_abs ((a *ℤ b) +ℤ (c *ℤ d)) ≤ 2 * 10 ^ 16
-sum_small a b c d p q r s =
-    let first : unsigned_abs (a *ℤ b) ≤ 10 ^ 16 = rw (size_mul a b) (omega (arith, mul-le _ _ (10 ^ 8) (10 ^ 8) p q)) in
-    let second : unsigned_abs (c *ℤ d) ≤ 10 ^ 16 = rw (size_mul c d) (omega (arith, mul-le _ _ (10 ^ 8) (10 ^ 8) r s)) in
-    omega (arith, size_add (a *ℤ b) (c *ℤ d))
-
-pub dot_small : (u v : Dir) → IsShort u → IsShort v → unsigned_abs (dot u v) ≤ 2 * 10 ^ 16
-dot_small u v p q = sum_small u.dx v.dx u.dy v.dy p.dx q.dx p.dy q.dy
 
 pub short : (d : Dir) → IsDir d → IsShort d
 short d is = record { dx = is.dx; dy = is.dy }

@@ -7,6 +7,7 @@ use Rattle.std.proofs.lemmas.Bool.{and_parts, leb-true, leb-false}
 use Rattle.apt_num.specs.Sign.{OnLine, square}
 use Rattle.apt_num.proofs.AtLeast.{at_least_squares}
 use Rattle.apt_num.proofs.Testing.{is_at_least-from}
+use Rattle.apt_num.proofs.Ring.{double_neg}
 use Rattle.apt_plane.specs.declared.figures.Pt.{Pt}
 use Rattle.apt_plane.specs.declared.figures.Line.{Line}
 use Rattle.apt_plane.specs.declared.figures.Circ.{Circ}
@@ -25,11 +26,8 @@ use Rattle.apt_stop.proofs.Within.{at_most}
 
 -- ---- a line and a circle
 
-twice : (z : ℤ) → neg_ℤ (neg_ℤ z) ≡ z
-twice z = omega (arith, ints)
-
 mirrored : (k h g : ℤ) (n : ℕ) → OnLine k h n g → OnLine (neg_ℤ k) (neg_ℤ h) n g
-mirrored k h g n on = record { right = on.left; left = rw (twice k, twice h) on.right }
+mirrored k h g n on = record { right = on.left; left = rw (double_neg k, double_neg h) on.right }
 
 within : (k h : ℤ) (n : ℕ) → OnLine k h n (pos 2) → is_within k h gap n ≡ true
 within k h n on = rw (is_at_least-from k (h -ℤ pos 2) n on.right, is_at_least-from (neg_ℤ k) (neg_ℤ h -ℤ pos 2) n on.left) refl
@@ -52,7 +50,7 @@ strip_tells (pos k) r n large some = (
   λ on. elim on [
     | inl left ↦ within (pos k) r n left
     | inr right ↦
-        let turned : OnLine (neg_ℤ (pos k)) r n (pos 2) = rw (twice r) at (mirrored (pos k) (neg_ℤ r) (pos 2) n right) in
+        let turned : OnLine (neg_ℤ (pos k)) r n (pos 2) = rw (double_neg r) at (mirrored (pos k) (neg_ℤ r) (pos 2) n right) in
         let is : pos 0 <ℤ neg_ℤ (pos k) = is_left (neg_ℤ (pos k)) r n large some turned in
         absurd (omega (arith, ints, is))
   ],
@@ -63,7 +61,7 @@ strip_tells (negsuc k) r n large some = (
     | inl left ↦
         let is : pos 0 <ℤ negsuc k = is_left (negsuc k) r n large some left in
         absurd (omega (arith, ints, is))
-    | inr right ↦ within (pos (suc k)) r n (rw (twice r) at (mirrored (negsuc k) (neg_ℤ r) (pos 2) n right))
+    | inr right ↦ within (pos (suc k)) r n (rw (double_neg r) at (mirrored (negsuc k) (neg_ℤ r) (pos 2) n right))
   ],
 )
 

@@ -1,12 +1,11 @@
 -- The end of a motion along a line that touches a circle: the foot of the centre on the track lies within 4 units of the stop, and on the axis.
-use Rattle.std.proofs.Common.{refl, ◌≡◌, ℕ, zero, suc, ◌+◌, ◌-◌, ◌*◌, ◌≤◌, ◌<◌, subst, arith, true, ℤ, pos, negsuc, neg_ℤ, ◌+ℤ◌, ◌-ℤ◌, ◌*ℤ◌, ◌≤ℤ◌, unsigned_abs}
+use Rattle.std.proofs.Common.{refl, ◌≡◌, ℕ, zero, suc, ◌+◌, ◌-◌, ◌*◌, ◌≤◌, ◌<◌, subst, arith, true, ℤ, pos, negsuc, neg_ℤ, ◌+ℤ◌, ◌-ℤ◌, ◌≤ℤ◌, unsigned_abs}
 use Rattle.std.proofs.lemmas.Int.{ints}
 use Rattle.std.proofs.lemmas.Nat.{mul-le}
 use Rattle.std.proofs.lemmas.Bool.{and_parts}
 use Rattle.apt_num.specs.declared.Sign.{Sign}
 use Rattle.apt_num.specs.declared.Sign.TheVariants as signs
 use Rattle.apt_num.specs.Sign.{AtLeast, OnLine, square, is_at_least, sign_of}
-use Rattle.apt_num.proofs.Ring.{as_diff, diff-same, differences}
 use Rattle.apt_num.proofs.Squares.{size_neg}
 use Rattle.apt_num.proofs.Sums.{at_least-sum}
 use Rattle.apt_num.proofs.AtLeast.{at_least_squares}
@@ -18,7 +17,7 @@ use Rattle.apt_plane.specs.declared.figures.Circ.{Circ}
 use Rattle.apt_plane.specs.declared.figures.Surface.TheVariants as surfaces
 use Rattle.apt_plane.specs.Vectors.{displacement, cross, dot, length_squared, perp}
 use Rattle.apt_plane.specs.Axes.{IsOnAxis}
-use Rattle.apt_plane.proofs.Displacements.{lagrange}
+use Rattle.apt_plane.proofs.Displacements.{lagrange, turned_cross, turned_length}
 use Rattle.apt_canon.specs.Scale.{IsNearLine, IsNearCircle}
 use Rattle.apt_canon.proofs.CircleMeetings.Near.{not_negative}
 use Rattle.apt_offset.specs.Targets.{signed}
@@ -155,15 +154,6 @@ touches_stop l c v m q is least room e end =
     (touch_by l.dir c.c q v k (cross l.dir (displacement l.base q)) c.r m is (cross_step l.dir l.base c.c q) least (touches_by (size k) c.r (length_squared l.dir) e) end (rw (place_is l c v) at room))
 
 -- ---- the axis
-turned_parts : (a b p q : ℤ) → (neg_ℤ b *ℤ q) -ℤ (a *ℤ p) ≡ neg_ℤ ((a *ℤ p) +ℤ (b *ℤ q))
-turned_parts a b p q = rw (as_diff a, as_diff b, as_diff p, as_diff q) (simp differences (diff-same _ _ _ _ (omega arith)))
-
-turned_cross : (d v : Dir) → cross (perp d) v ≡ neg_ℤ (dot d v)
-turned_cross d v = turned_parts d.dx d.dy v.dx v.dy
-
-pub turned_length : (d : Dir) → length_squared (perp d) ≡ length_squared d
-turned_length d = rw (size_neg d.dy) (omega arith)
-
 pub within_eight : (z : ℤ) (n : ℕ) → 2 * square z ≤ n → AtLeast z (negsuc 7) n
 within_eight (pos z) n h = tt
 within_eight (negsuc z) n h = omega (arith, h)

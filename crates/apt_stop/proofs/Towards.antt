@@ -13,27 +13,28 @@ use Rattle.apt_plane.specs.Ranges.{IsSense}
 use Rattle.apt_plane.specs.Vectors.{displacement, dot, length_squared}
 use Rattle.apt_plane.specs.Distances.{EveryPoint}
 use Rattle.apt_plane.proofs.RingLaws.{under-between, length_at_most}
+use Rattle.apt_plane.proofs.Turned.{size_sense}
+use Rattle.apt_plane.proofs.Displacements.{dot_swap}
 use Rattle.apt_canon.specs.Scale.{IsNearCircle}
 use Rattle.apt_canon.specs.Circles.{HasSense}
-use Rattle.apt_canon.proofs.CircleMeetings.LineCircle.{sense_size}
 use Rattle.apt_offset.specs.declared.Target.TheVariants as targets
 use Rattle.apt_offset.specs.Targets.{signed}
 use Rattle.apt_contact.specs.Meetings.{circle_about}
 use Rattle.apt_stop.specs.Nearness.{heading, near_stop}
 use Rattle.apt_stop.specs.Ends.{IsKept}
 use Rattle.apt_stop.proofs.Onwards.{Runs, Onward, near_onwards, outside_onwards, inside_onwards, outside_stays}
-use Rattle.apt_stop.proofs.Tracks.{dot_swap, heading_dot, heading_length}
+use Rattle.apt_stop.proofs.Tracks.{heading_dot, heading_length}
 use Rattle.apt_stop.proofs.Rings.{near_least, near_most, under_at}
 use Rattle.apt_stop.proofs.Lies.{Lies, Near, Outside, Inside}
 
 -- the contact lies onwards of the centre in the heading, or before it
 sense_onward : (sense l : ℤ) (n : ℕ) → IsSense sense → HasSense sense l n → Onward (sense *ℤ l) n
 sense_onward sense l n is (inl on) = inl on
-sense_onward sense l n is (inr small) = inr (rw (sense_size sense l is) small)
+sense_onward sense l n is (inr small) = inr (rw (size_sense sense l is) small)
 
 sense_back : (sense l : ℤ) (n : ℕ) → IsSense sense → HasSense (neg_ℤ sense) l n → Onward (neg_ℤ (sense *ℤ l)) n
 sense_back sense l n is (inl on) = inl (rw (neg-*ℤ sense l) at on)
-sense_back sense l n is (inr small) = inr (rw (size_neg (sense *ℤ l), sense_size sense l is) small)
+sense_back sense l n is (inr small) = inr (rw (size_neg (sense *ℤ l), size_sense sense l is) small)
 
 -- what is given of the motion: k is how far it runs on to the centre
 pub record Towards (p : Pt) (d : Dir) (sense : ℤ) (o : Pt) (r : ℕ) (side : Sign) (q : Pt) : Type 0 where

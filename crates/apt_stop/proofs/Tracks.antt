@@ -9,7 +9,7 @@ use Rattle.apt_plane.specs.declared.figures.Pt.{Pt}
 use Rattle.apt_plane.specs.declared.figures.Dir.{Dir}
 use Rattle.apt_plane.specs.Ranges.{IsSense}
 use Rattle.apt_plane.specs.Vectors.{displacement, cross, dot, length_squared}
-use Rattle.apt_canon.proofs.CircleMeetings.LineCircle.{sense_size}
+use Rattle.apt_plane.proofs.Turned.{size_sense}
 use Rattle.apt_offset.specs.Targets.{signed}
 use Rattle.apt_stop.specs.Nearness.{heading}
 use Rattle.apt_stop.proofs.Approaches.{at_most_four}
@@ -22,12 +22,6 @@ dot_parts s a b p q = rw (as_diff s, as_diff a, as_diff b, as_diff p, as_diff q)
 cross_parts : (s a b p q : ℤ) → ((s *ℤ a) *ℤ q) -ℤ ((s *ℤ b) *ℤ p) ≡ s *ℤ ((a *ℤ q) -ℤ (b *ℤ p))
 cross_parts s a b p q = rw (as_diff s, as_diff a, as_diff b, as_diff p, as_diff q) (simp differences (diff-same _ _ _ _ (omega arith)))
 
-swap_parts : (a b p q : ℤ) → (a *ℤ p) +ℤ (b *ℤ q) ≡ (p *ℤ a) +ℤ (q *ℤ b)
-swap_parts a b p q = rw (as_diff a, as_diff b, as_diff p, as_diff q) (simp differences (diff-same _ _ _ _ (omega arith)))
-
-pub dot_swap : (u v : Dir) → dot u v ≡ dot v u
-dot_swap u v = swap_parts u.dx u.dy v.dx v.dy
-
 pub heading_dot : (sense : ℤ) (d v : Dir) → dot (heading sense d) v ≡ sense *ℤ dot d v
 heading_dot sense d v = dot_parts sense d.dx d.dy v.dx v.dy
 
@@ -36,7 +30,7 @@ heading_turn sense d v = cross_parts sense d.dx d.dy v.dx v.dy
 
 pub heading_length : (sense : ℤ) (d : Dir) → IsSense sense → length_squared (heading sense d) ≡ length_squared d
 heading_length sense d is =
-    ap (λ m. m * m + unsigned_abs (sense *ℤ d.dy) * unsigned_abs (sense *ℤ d.dy)) (sense_size sense d.dx is) ∙ ap (λ m. unsigned_abs d.dx * unsigned_abs d.dx + m * m) (sense_size sense d.dy is)
+    ap (λ m. m * m + unsigned_abs (sense *ℤ d.dy) * unsigned_abs (sense *ℤ d.dy)) (size_sense sense d.dx is) ∙ ap (λ m. unsigned_abs d.dx * unsigned_abs d.dx + m * m) (size_sense sense d.dy is)
 
 -- from a start at most 3 units off the track to an end at most one unit off
 pub track_sideways : (b : Pt) (d : Dir) (h : ℤ) (p q : Pt) → OnLine (cross d (displacement b p)) h (length_squared d) (pos 3) → OnLine (cross d (displacement b q)) h (length_squared d) (pos 1)
@@ -51,7 +45,7 @@ pub track_runs : (b : Pt) (d : Dir) (h sense : ℤ) (p q : Pt) → IsSense sense
     → OnLine (cross d (displacement b p)) h (length_squared d) (pos 3) → OnLine (cross d (displacement b q)) h (length_squared d) (pos 1) → Runs (heading sense d) p q
 track_runs b d h sense p q is some start end = record {
   heading = rw (heading_length sense d is) some;
-  across = rw (heading_length sense d is, heading_turn sense d (displacement p q), sense_size sense (cross d (displacement p q)) is) (track_sideways b d h p q start end);
+  across = rw (heading_length sense d is, heading_turn sense d (displacement p q), size_sense sense (cross d (displacement p q)) is) (track_sideways b d h p q start end);
 }
 
 -- a side turns a sense

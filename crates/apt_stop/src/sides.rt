@@ -169,7 +169,7 @@ pub(crate) fn are_parallel(a: &Line, b: &Line) -> bool
     cross(a.dir, b.dir).unsigned_abs() == 0
 }
 
-#[tactic(auto, using(crate::proofs::Sizes::dot_small))]
+#[tactic(auto, using(apt_plane::proofs::Heights::short_dot_small))]
 pub(crate) fn dot_short(u: Dir, v: Dir) -> i128
     requires first { IsShort u }
     requires second { IsShort v }

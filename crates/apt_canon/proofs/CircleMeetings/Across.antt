@@ -12,7 +12,7 @@ use Rattle.apt_plane.specs.declared.figures.Circ.{Circ}
 use Rattle.apt_plane.specs.Vectors.{displacement, cross, dot, length_squared}
 use Rattle.apt_plane.specs.Ranges.{IsDir, IsLine, IsSense}
 use Rattle.apt_plane.proofs.Displacements.{cross_times, dot_times}
-use Rattle.apt_plane.proofs.Lengths.{in_frame, cross_in_frame, dot_in_frame}
+use Rattle.apt_plane.proofs.Frames.{in_frame, cross_in_frame, dot_in_frame}
 use Rattle.apt_plane.proofs.Rounding.{near_displacement, moved, moved_dot}
 use Rattle.apt_canon.specs.Scale.{length_of}
 use Rattle.apt_canon.specs.Circles.{depth, half_chord, line_circle_point, chord_depth, circle_circle_point, HasSense, IsFurther, IsBeyond}

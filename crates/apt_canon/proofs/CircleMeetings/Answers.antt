@@ -11,12 +11,13 @@ use Rattle.apt_plane.specs.declared.figures.Moved.{Moved}
 use Rattle.apt_plane.specs.declared.figures.Circ.{Circ}
 use Rattle.apt_plane.specs.Vectors.{displacement, cross, length_squared}
 use Rattle.apt_plane.specs.Ranges.{IsPoint, IsDir, IsLine, IsMoved, IsRound, IsSense}
+use Rattle.apt_plane.proofs.Displacements.{no_way}
 use Rattle.apt_canon.specs.declared.FormFault.{FormFault}
 use Rattle.apt_canon.specs.declared.FormFault.TheVariants.{NoMeeting, Degenerate}
 use Rattle.apt_canon.specs.Scale.{in_range, IsNearLine, IsNearCircle}
 use Rattle.apt_canon.specs.Circles.{DoMeet, IsFurther, IsBeyond, reaches, line_circle, line_circle_point, are_concentric, overlap, chord_depth, circle_circle, circle_circle_point}
 use Rattle.apt_canon.proofs.Fits.{if_fits, in_range-IsPoint, no_other_fault}
-use Rattle.apt_canon.proofs.Ways.{one_point, no_way, way-IsDir}
+use Rattle.apt_canon.proofs.Ways.{one_point, way-IsDir}
 use Rattle.apt_canon.proofs.CircleMeetings.Across.{point_further, point_beyond}
 use Rattle.apt_canon.proofs.CircleMeetings.LineCircle.{point_on_line, point_on_circle}
 use Rattle.apt_canon.proofs.CircleMeetings.CircleCircle.{TwoCircles, chord_within, point_on_first, point_on_second}

@@ -14,14 +14,15 @@ use Rattle.apt_plane.specs.Vectors.{displacement, length_squared, perp}
 use Rattle.apt_plane.specs.Ranges.{IsDir, IsSense}
 use Rattle.apt_plane.proofs.Displacements.{to}
 use Rattle.apt_plane.proofs.Lengths.{IsRounded, IsInRing, on_circle}
-use Rattle.apt_plane.proofs.Frames.{in_frame, norm_in_frame}
+use Rattle.apt_plane.proofs.Frames.{in_frame, length_in_frame}
 use Rattle.apt_plane.proofs.Rounding.{near_displacement, displacement_rest}
+use Rattle.apt_plane.proofs.Turned.{size_sense}
 use Rattle.apt_canon.specs.Scale.{IsNearCircle}
 use Rattle.apt_canon.specs.Circles.{half_chord, chord_depth, circle_circle_point}
 use Rattle.apt_canon.proofs.Depths.{length_facts, length_positive}
 use Rattle.apt_canon.proofs.CircleMeetings.Near.{near_circle}
 use Rattle.apt_canon.proofs.Frames.{frame_way, framed_on_circle}
-use Rattle.apt_canon.proofs.CircleMeetings.LineCircle.{half_of, half_chord-is, half_of-IsRoot, sense_size, ends}
+use Rattle.apt_canon.proofs.CircleMeetings.LineCircle.{half_of, half_chord-is, half_of-IsRoot, ends}
 
 -- ---- two circles that meet: their radii, and the way from the first centre to the second
 pub record TwoCircles (a b : Circ) (r q : ℕ) : Type 0 where
@@ -82,7 +83,7 @@ chord_root a b r q is = (omega (arith, square_le (unsigned_abs (chord_depth a b)
 pub half_size : (a : Circ) (x sigma : ℤ) (r : ℕ) → a.r ≡ pos r → IsSense sigma → unsigned_abs (sigma *ℤ half_chord a.r x) ≡ half_of r x
 half_size a x sigma r e sense =
     let chord : half_chord a.r x ≡ pos (half_of r x) = rw e (half_chord-is r x) in
-    sense_size sigma (half_chord a.r x) sense ∙ ap unsigned_abs chord
+    size_sense sigma (half_chord a.r x) sense ∙ ap unsigned_abs chord
 
 swapped : (r g t : ℕ) → IsEighth r (g * g + t * t) → IsEighth r (t * t + g * g)
 swapped r g t is = record { least = omega (arith, is.least); most = omega (arith, is.most) }
@@ -147,7 +148,7 @@ point_on_second a b sigma r q is sense =
       dy = second_parts (pos s) x y d.dy (perp d).dy rest.0.dy v.dy rest.1.dy;
       short = rest.1.short;
     } in
-    let long : length_squared way ≡ end_square x t s n = norm_in_frame d ((pos 32 *ℤ x) -ℤ pos s) (pos 32 *ℤ y) ∙ end_square-is x y t s n (half_size a x sigma r is.first sense) in
+    let long : length_squared way ≡ end_square x t s n = length_in_frame d ((pos 32 *ℤ x) -ℤ pos s) (pos 32 *ℤ y) ∙ end_square-is x y t s n (half_size a x sigma r is.first sense) in
     let kept = second_framed a b r q is in
     let positive : 0 < s = omega (arith, at.large) in
     let ring : IsInRing q (length_squared back) = on_circle way back rest.0 (pos s) q rounded positive (rw long kept.high) (rw long kept.low) in

@@ -14,6 +14,7 @@ use Rattle.apt_plane.specs.declared.figures.Line.{Line}
 use Rattle.apt_plane.specs.declared.figures.Circ.{Circ}
 use Rattle.apt_plane.specs.Vectors.{displacement, cross, length_squared}
 use Rattle.apt_plane.specs.Ranges.{IsLine, IsSense}
+use Rattle.apt_plane.proofs.Turned.{size_sense}
 use Rattle.apt_canon.specs.Scale.{positive_part, IsNearLine, IsNearCircle}
 use Rattle.apt_canon.specs.Circles.{depth, half_chord, line_circle_point}
 use Rattle.apt_canon.proofs.Depths.{length_facts, depth_rest}
@@ -48,11 +49,6 @@ half_chord-root (negsuc r) g least = absurd (omega (arith, ints))
 pub half_of-IsRoot : (r : ℕ) (g : ℤ) → r ≤ 10 ^ 8 → IsRoot (r * r * 2 ^ 60 - unsigned_abs g * unsigned_abs g) (half_of r g)
 unfolding half_of
 half_of-IsRoot r g small = root-IsRoot (r * r * 2 ^ 60 - unsigned_abs g * unsigned_abs g) (omega (arith, square_le r (10 ^ 8) small))
-
--- either sense leaves a size as it is
-pub sense_size : (sigma z : ℤ) → IsSense sigma → unsigned_abs (sigma *ℤ z) ≡ unsigned_abs z
-sense_size sigma z (inl e) = rw (e, size_mul (pos 1) z) (omega arith)
-sense_size sigma z (inr e) = rw (e, size_mul (negsuc 0) z) (omega arith)
 
 -- ---- the depth of a line that meets the circle
 pub lag_near : (l : Line) (h : ℤ) (c : Pt) (r : ℕ) → IsLine l → IsNearLine l h (pos r) c → let s = root (length_squared l.dir * 2 ^ 70) in
@@ -94,7 +90,7 @@ point_on_circle l h c sigma r e small_r sense is small_h near =
     let t = half_of r g in
     let x = sigma *ℤ half_chord c.r g in
     let chord : half_chord c.r g ≡ pos t = rw e (half_chord-is r g) in
-    let along : unsigned_abs x ≡ t = sense_size sigma (half_chord c.r g) sense ∙ ap unsigned_abs chord in
+    let along : unsigned_abs x ≡ t = size_sense sigma (half_chord c.r g) sense ∙ ap unsigned_abs chord in
     let eighth = ends r (unsigned_abs g) t x (neg_ℤ g) along (size_neg g) (half_chord_end r (unsigned_abs g) t (depth_near l h c.c r is small_h small_r near) (half_of-IsRoot r g small_r)) in
     let same : unsigned_abs c.r ≡ r = ap unsigned_abs e in
     near_circle c (line_circle_point l h c sigma) (rw e (omega (arith, ints))) (rw same (framed_on_circle c.c l.dir x (neg_ℤ g) r is.dir (omega (arith, small_r)) eighth))

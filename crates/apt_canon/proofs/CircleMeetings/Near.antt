@@ -1,6 +1,7 @@
 -- A point is near a circle where its way from the centre is as long as the radius, up to one unit.
 use Rattle.std.proofs.Common.{◌≡◌, ℕ, zero, suc, ◌+◌, ◌-◌, ◌*◌, ◌≤◌, arith, ℤ, pos, ◌+ℤ◌, ◌-ℤ◌, ◌≤ℤ◌, unsigned_abs, int_lt, false}
 use Rattle.std.proofs.lemmas.Int.{ints}
+use Rattle.apt_num.proofs.Squares.{natural}
 use Rattle.apt_plane.specs.declared.figures.Pt.{Pt}
 use Rattle.apt_plane.specs.declared.figures.Circ.{Circ}
 use Rattle.apt_plane.specs.Vectors.{displacement, length_squared}
@@ -27,11 +28,8 @@ inside_of r n h = rw (not_negative (r + 1)) h
 pub near_by : (r n : ℕ) → IsInRing r n → IsLengthAtMost (pos r -ℤ pos 1) n × IsRootAtMost n (pos r +ℤ pos 1)
 near_by r n is = (outside_of r n is.least, inside_of r n is.most)
 
-whole : (z : ℤ) → pos 0 ≤ℤ z → z ≡ pos (unsigned_abs z)
-whole z h = omega (arith, ints)
-
 pub near_circle : (c : Circ) (p : Pt) → pos 0 ≤ℤ c.r → IsInRing (unsigned_abs c.r) (length_squared (displacement c.c p)) → IsNearCircle c (pos 1) p
 near_circle c p h is =
     let both : IsLengthAtMost (c.r -ℤ pos 1) (length_squared (displacement c.c p)) × IsRootAtMost (length_squared (displacement c.c p)) (c.r +ℤ pos 1) =
-    rw (whole c.r h) (near_by (unsigned_abs c.r) (length_squared (displacement c.c p)) is) in
+    rw (natural c.r h) (near_by (unsigned_abs c.r) (length_squared (displacement c.c p)) is) in
     record { outside = both.0; inside = both.1 }

@@ -14,7 +14,8 @@ use Rattle.apt_plane.specs.declared.figures.Line.{Line}
 use Rattle.apt_plane.specs.Vectors.{displacement, cross, dot, length_squared, perp}
 use Rattle.apt_plane.specs.Ranges.{IsPoint, IsLine}
 use Rattle.apt_plane.proofs.Displacements.{cross_times, square_length_squared, cross_turn, dot_times}
-use Rattle.apt_plane.proofs.Lengths.{times, in_frame, dot_in_frame}
+use Rattle.apt_plane.proofs.Lengths.{times}
+use Rattle.apt_plane.proofs.Frames.{in_frame, dot_in_frame}
 use Rattle.apt_plane.proofs.Rounding.{near_displacement, moved, moved_dot}
 use Rattle.apt_canon.specs.Scale.{unit, length_of, IsNearLine, side_of_line}
 use Rattle.apt_canon.specs.Circles.{depth}

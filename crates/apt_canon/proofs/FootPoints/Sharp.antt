@@ -1,5 +1,5 @@
 -- The point of a circle in a direction: how far it lies off the direction, and off the circle, sharply; and the points a quarter turn on.
-use Rattle.std.proofs.Common.{refl, ◌≡◌, ℕ, zero, suc, ◌+◌, ◌-◌, ◌*◌, ◌^◌, ◌≤◌, ◌<◌, ◌∙◌, ap, sym, subst, inl, inr, arith, ℤ, pos, negsuc, ◌+ℤ◌, ◌-ℤ◌, ◌*ℤ◌, ◌≤ℤ◌, ◌<ℤ◌, unsigned_abs}
+use Rattle.std.proofs.Common.{refl, ◌≡◌, ℕ, ◌+◌, ◌-◌, ◌*◌, ◌^◌, ◌≤◌, ◌<◌, ◌∙◌, ap, sym, subst, inl, inr, arith, ℤ, pos, negsuc, ◌+ℤ◌, ◌-ℤ◌, ◌*ℤ◌, ◌≤ℤ◌, ◌<ℤ◌, unsigned_abs}
 use Rattle.std.proofs.Math.Nat.{mul-le-mul_left}
 use Rattle.std.proofs.lemmas.Nat.{mul-le}
 use Rattle.std.proofs.lemmas.Bool.{cases_lt}
@@ -8,6 +8,7 @@ use Rattle.apt_num.specs.Root.{root}
 use Rattle.apt_num.proofs.Ring.{as_diff, diff-same, differences, *ℤ-neg, *ℤ-minus, pos-*ℤ}
 use Rattle.apt_num.proofs.Squares.{size_mul, size_neg, root_le, cancel_le}
 use Rattle.apt_num.proofs.Nearest.{near-neg}
+use Rattle.apt_num.proofs.Products.{plus_of}
 use Rattle.apt_plane.specs.declared.figures.Dir.{Dir}
 use Rattle.apt_plane.specs.declared.figures.Circ.{Circ}
 use Rattle.apt_plane.specs.Vectors.{displacement, cross, dot, length_squared, perp}
@@ -72,16 +73,10 @@ rest_core s n rest positive low h = elim (cases_lt rest (n * 2 ^ 35)) [
   | inr past ↦ absurd (omega (arith, mul-le (n * 2 ^ 35) (n * 2 ^ 35) rest rest past past, h, mul-le-mul_left n low, mul-le 1 1 n n positive positive))
 ]
 
--- a product with a natural from 1 is above 0: so is the number
-pub positive_of : (s : ℕ) (d : ℤ) → pos 0 <ℤ (pos s *ℤ d) → pos 0 <ℤ d
-positive_of s (pos zero) h = absurd (omega (arith, ints, h))
-positive_of s (pos (suc d)) h = omega (arith, ints)
-positive_of s (negsuc d) h = absurd (omega (arith, ints, h))
-
 pub forward_core : (s r n : ℕ) (d rest : ℤ) → 0 < r → pos s *ℤ d ≡ pos (r * 2 ^ 35 * n) +ℤ rest → unsigned_abs rest < n * 2 ^ 35 → pos 0 <ℤ d
 forward_core s r n d rest least e h =
     let up : n * 2 ^ 35 ≤ r * 2 ^ 35 * n = omega (arith, mul-le-mul_left (n * 2 ^ 35) least) in
-    positive_of s d (rw e (omega (arith, ints, up, h)))
+    plus_of s d (rw e (omega (arith, ints, up, h)))
 
 pub as_natural : (r : ℤ) (n : ℕ) → pos 0 ≤ℤ r → (r *ℤ pos (2 ^ 35)) *ℤ pos n ≡ pos (unsigned_abs r * 2 ^ 35 * n)
 as_natural (pos r) n h = omega (arith, ints)

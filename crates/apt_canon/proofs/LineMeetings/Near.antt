@@ -5,11 +5,12 @@ use Rattle.std.proofs.lemmas.Nat.{mul-le}
 use Rattle.apt_num.specs.Root.{root}
 use Rattle.apt_num.specs.Sign.{OnLine}
 use Rattle.apt_num.proofs.Ring.{as_diff, diff-same, differences}
-use Rattle.apt_num.proofs.Squares.{cancel_le, square_le}
+use Rattle.apt_num.proofs.Squares.{cancel_le}
 use Rattle.apt_num.proofs.Roots.{ScaledRoot, root_facts, five_sevenths, on_line}
 use Rattle.apt_plane.specs.declared.figures.Dir.{Dir}
 use Rattle.apt_plane.specs.Vectors.{length_squared}
 use Rattle.apt_plane.specs.Ranges.{IsDir}
+use Rattle.apt_plane.proofs.Heights.{length_squared_small}
 use Rattle.apt_canon.specs.Scale.{length_of}
 use Rattle.apt_canon.proofs.Products.{not_zero}
 
@@ -32,9 +33,6 @@ rest_small n s w at p = three_quarters w s (five_sevenths w (s + 1) (omega (arit
 scaled_to : (x y : ℤ) → x ≡ y +ℤ (x -ℤ y)
 scaled_to x y = omega (arith, ints)
 
-pub length_squared_bound : (d : Dir) → IsDir d → length_squared d ≤ 2 * 10 ^ 16
-length_squared_bound d is = omega (arith, square_le (unsigned_abs d.dx) (10 ^ 8) is.dx, square_le (unsigned_abs d.dy) (10 ^ 8) is.dy)
-
 pub near_line : (d : Dir) (turn k h rest : ℤ) → IsDir d → turn ≢ pos 0 → unsigned_abs h ≤ 10 ^ 8
     → (turn *ℤ pos (2 ^ 35)) *ℤ k ≡ (turn *ℤ (h *ℤ length_of d)) +ℤ rest
     → 2 * unsigned_abs rest * unsigned_abs rest ≤ length_squared d * (unsigned_abs (turn *ℤ pos (2 ^ 35)) * unsigned_abs (turn *ℤ pos (2 ^ 35)))
@@ -43,7 +41,7 @@ near_line d turn k h rest is apart small e p =
     let n = length_squared d in
     let s = root (n * 2 ^ 70) in
     let w = (k *ℤ pos (2 ^ 35)) -ℤ (h *ℤ pos s) in
-    let at = root_facts n is.length (length_squared_bound d is) in
+    let at = root_facts n is.length (length_squared_small d is) in
     let same : rest ≡ turn *ℤ w = rest_is _ _ rest _ e (taken_out turn (pos (2 ^ 35)) k h (pos s)) in
     let sizes : 2 * (unsigned_abs turn * unsigned_abs w) * (unsigned_abs turn * unsigned_abs w) ≤ n * ((unsigned_abs turn * 2 ^ 35) * (unsigned_abs turn * 2 ^ 35)) =
     rw (same, unsigned_abs-mul turn w, unsigned_abs-mul turn (pos (2 ^ 35))) at p in

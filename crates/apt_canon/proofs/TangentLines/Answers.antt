@@ -11,14 +11,14 @@ use Rattle.apt_plane.specs.declared.figures.Line.{Line}
 use Rattle.apt_plane.specs.declared.figures.Circ.{Circ}
 use Rattle.apt_plane.specs.Vectors.{displacement, cross, length_squared, perp}
 use Rattle.apt_plane.specs.Ranges.{IsPoint, IsDir, IsLine, IsCircle}
-use Rattle.apt_plane.proofs.Displacements.{cross_swap}
+use Rattle.apt_plane.proofs.Displacements.{cross_swap, no_way}
 use Rattle.apt_plane.proofs.Lengths.{IsInRing}
+use Rattle.apt_plane.proofs.Heights.{length_squared_small}
 use Rattle.apt_canon.specs.declared.FormFault.{FormFault}
 use Rattle.apt_canon.specs.declared.FormFault.TheVariants.{NoMeeting, Degenerate}
 use Rattle.apt_canon.specs.Scale.{IsNearLine, IsNearCircle}
 use Rattle.apt_canon.specs.Tangents.{PassesBy, RunsAlong, side_of_circle, falling, falling_dir, fall_divisor, tangent_line, tangent_from, drop, touch_point, common_tangent, tangent_two}
-use Rattle.apt_canon.proofs.Ways.{there_and_back, no_square, one_point, no_way, way_is_dir}
-use Rattle.apt_canon.proofs.LineMeetings.Near.{length_squared_bound}
+use Rattle.apt_canon.proofs.Ways.{there_and_back, no_square, one_point, way_is_dir}
 use Rattle.apt_canon.proofs.CircleMeetings.Near.{near_circle}
 use Rattle.apt_canon.proofs.Shares.{share_small}
 use Rattle.apt_canon.proofs.TangentLines.Frame.{falling_small}
@@ -96,7 +96,7 @@ tangent_line-touches p left c is_p is outside =
     let is_dir = way_is_dir p c.c is_p is.centre (outside_apart p c is outside) in
     let fits = from_fits left c.r (length_squared a) outside in
     let t = falling_dir a s in
-    let short = lag_short (unsigned_abs (lag a s)) (length_squared a) (lag_small a s is_dir) (length_squared_bound a is_dir) in
+    let short = lag_short (unsigned_abs (lag a s)) (length_squared a) (lag_small a s is_dir) (length_squared_small a is_dir) in
     let room = from_room (unsigned_abs (lag a s)) (unsigned_abs c.r) short (radius_short c is) in
     rw (cross_swap a t, from_height (cross a t) s)
     (touching_back s (lag a s) (length_squared t) (unsigned_abs c.r) (back_size left c.r) (two_at_least (unsigned_abs c.r) (radius_large c is)) room (falling_dir_long a s is_dir fits))

@@ -11,9 +11,9 @@ use Rattle.apt_num.proofs.Squares.{root_le, size_neg}
 use Rattle.apt_plane.specs.declared.figures.Dir.{Dir}
 use Rattle.apt_plane.specs.Vectors.{length_squared}
 use Rattle.apt_plane.specs.Ranges.{IsDir}
-use Rattle.apt_plane.proofs.Frames.{norm_in_frame}
+use Rattle.apt_plane.proofs.Frames.{length_in_frame}
+use Rattle.apt_plane.proofs.Heights.{length_squared_small}
 use Rattle.apt_canon.specs.Tangents.{falling}
-use Rattle.apt_canon.proofs.LineMeetings.Near.{length_squared_bound}
 
 -- the length of a tangent between the touching points, in units of 2^-30, and what its root leaves over
 abbrev pub reach : Dir → ℤ → ℕ
@@ -40,9 +40,9 @@ pub falling_norm : (a : Dir) (p : ℤ) → IsDir a → square p ≤ length_squar
 falling_norm a p is fits =
     let n = length_squared a in
     let g = reach a p in
-    let bound = length_squared_bound a is in
+    let bound = length_squared_small a is in
     let at = root-IsRoot ((n - square p) * 2 ^ 60) (omega (arith, bound)) in
-    rw (norm_in_frame a (pos g) (neg_ℤ (p *ℤ pos (2 ^ 30))), across_size p)
+    rw (length_in_frame a (pos g) (neg_ℤ (p *ℤ pos (2 ^ 30))), across_size p)
     (frame_square n (n - square p) (square p) g (reach_rest a p) (less_with n (square p) fits) (rest_with_square ((n - square p) * 2 ^ 60) g at.low))
 
 part_small : (x y z m : ℕ) → (x * x + y * y) + z ≡ m * m → (x ≤ m) × (y ≤ m)
@@ -72,7 +72,7 @@ pub rest_small : (a : Dir) (p : ℤ) → IsDir a → 4 * 99999000 * (length_squa
 rest_small a p is =
     let n = length_squared a in
     let g = reach a p in
-    let bound = length_squared_bound a is in
+    let bound = length_squared_small a is in
     let at = root-IsRoot ((n - square p) * 2 ^ 60) (omega (arith, bound)) in
     rest_share n g (reach_rest a p) (root_rest ((n - square p) * 2 ^ 60) g at) (reach_bound n (square p) g is.length at.low)
 

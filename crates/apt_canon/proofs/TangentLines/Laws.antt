@@ -5,7 +5,7 @@ use Rattle.std.proofs.lemmas.Int.{ints, unsigned_abs-mul}
 use Rattle.std.proofs.lemmas.Nat.{mul-le}
 use Rattle.apt_num.specs.Sign.{square, OnLine}
 use Rattle.apt_num.proofs.AtLeast.{neg_neg}
-use Rattle.apt_num.proofs.Ring.{as_diff, diff-pos, diff-same, differences}
+use Rattle.apt_num.proofs.Ring.{as_diff, diff-pos, diff-same, differences, double_neg}
 use Rattle.apt_num.proofs.Squares.{cancel_le, square_le, size_neg}
 use Rattle.apt_plane.specs.declared.figures.Dir.{Dir}
 use Rattle.apt_plane.specs.Vectors.{cross, length_squared}
@@ -96,11 +96,8 @@ touching_left t k n low high ring = record {
   left = rw (two_more (suc (suc t))) (neg_neg k (suc (suc t) + 2) n (most_square (suc (suc t) + 2) k n high (omega (arith, ring.least))));
 }
 
-turned_back : (z : ℤ) → neg_ℤ (neg_ℤ z) ≡ z
-turned_back z = omega (arith, ints)
-
 touching_right : (k r n : ℕ) → OnLine (pos k) (pos r) n (pos 2) → OnLine (neg_ℤ (pos k)) (neg_ℤ (pos r)) n (pos 2)
-touching_right k r n at = record { right = at.left; left = rw (turned_back (pos k), turned_back (pos r)) at.right }
+touching_right k r n at = record { right = at.left; left = rw (double_neg (pos k), double_neg (pos r)) at.right }
 
 -- a distance from the radius of so much is at most two units, where the length is that of a tangent's direction
 touching : (p z : ℤ) (n : ℕ) → 2 ≤ unsigned_abs p → unsigned_abs z + unsigned_abs p + 2 ≤ 2 * 99999000 → IsInRing 99999000 n → OnLine ((pos 99999000 *ℤ p) +ℤ z) p n (pos 2)

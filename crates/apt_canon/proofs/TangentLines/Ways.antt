@@ -7,6 +7,7 @@ use Rattle.apt_num.specs.Sign.{square}
 use Rattle.apt_num.proofs.Ring.{pos-*ℤ}
 use Rattle.apt_num.proofs.RootLaws.{root-IsRoot}
 use Rattle.apt_num.proofs.Squares.{root_le, square_le}
+use Rattle.apt_num.proofs.Products.{plus_of}
 use Rattle.apt_plane.specs.declared.figures.Pt.{Pt}
 use Rattle.apt_plane.specs.declared.figures.Dir.{Dir}
 use Rattle.apt_plane.specs.declared.figures.Line.{Line}
@@ -14,13 +15,12 @@ use Rattle.apt_plane.specs.declared.figures.Circ.{Circ}
 use Rattle.apt_plane.specs.Vectors.{displacement, dot, length_squared}
 use Rattle.apt_plane.specs.Ranges.{IsPoint, IsDir, IsLine, IsCircle}
 use Rattle.apt_plane.proofs.Displacements.{dot_times}
-use Rattle.apt_plane.proofs.Lengths.{dot_in_frame}
+use Rattle.apt_plane.proofs.Frames.{dot_in_frame}
 use Rattle.apt_plane.proofs.Rounding.{moved_dot}
+use Rattle.apt_plane.proofs.Heights.{length_squared_small}
 use Rattle.apt_canon.specs.declared.FormFault.{FormFault}
 use Rattle.apt_canon.specs.Scale.{times, IsNearLine}
 use Rattle.apt_canon.specs.Tangents.{side_of_circle, falling, falling_dir, PassesBy}
-use Rattle.apt_canon.proofs.LineMeetings.Near.{length_squared_bound}
-use Rattle.apt_canon.proofs.FootPoints.Sharp.{positive_of}
 use Rattle.apt_canon.proofs.Sides.{left_at, right_at}
 use Rattle.apt_canon.proofs.TangentLines.Frame.{reach}
 use Rattle.apt_canon.proofs.TangentLines.Laws.{divisor_apart, divisor_size}
@@ -58,7 +58,7 @@ rest_below : (n m rest : ℕ) → n ≤ 2 * (99000000 * 99000000) → 2 * rest *
 rest_below n m rest short h = root_le rest (99000000 * m) (omega (arith, h, mul-le-mul_left (m * m) short))
 
 onwards_core : (m x : ℕ) (d rest : ℤ) → 0 < m → m ≤ x → pos m *ℤ d ≡ pos (99999000 * x) +ℤ rest → unsigned_abs rest ≤ 99000000 * m → pos 0 <ℤ d
-onwards_core m x d rest positive long e short = positive_of m d (rw e (omega (arith, ints, positive, long, short)))
+onwards_core m x d rest positive long e short = plus_of m d (rw e (omega (arith, ints, positive, long, short)))
 
 along_parts : (g n : ℕ) → pos 99999000 *ℤ (pos g *ℤ pos n) ≡ pos (99999000 * (g * n))
 along_parts g n = ap (λ z. pos 99999000 *ℤ z) (pos-*ℤ g n) ∙ pos-*ℤ 99999000 (g * n)
@@ -69,7 +69,7 @@ falling_onwards a p is short less =
     let n = length_squared a in
     let m = n * 2 ^ 30 in
     let g = reach a p in
-    let at = root-IsRoot ((n - square p) * 2 ^ 60) (omega (arith, length_squared_bound a is)) in
+    let at = root-IsRoot ((n - square p) * 2 ^ 60) (omega (arith, length_squared_small a is)) in
     let rounded = moved_dot a (times (pos 99999000) (falling a p)) (pos m) (divisor_apart a is) in
     let along : dot a (times (pos 99999000) (falling a p)) ≡ pos (99999000 * (g * n)) =
     dot_times a (falling a p) (pos 99999000) ∙ ap (λ z. pos 99999000 *ℤ z) (dot_in_frame a (pos g) (neg_ℤ (p *ℤ pos (2 ^ 30)))) ∙ along_parts g n in

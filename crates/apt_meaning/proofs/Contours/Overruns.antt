@@ -1,5 +1,5 @@
 -- No chord of a contour round a circle runs past the edge of its stop.
-use Rattle.std.proofs.Common.{◌≡◌, ◌≢◌, refl, sym, ap, subst, ◌∙◌, inl, inr, ℤ, pos, negsuc, neg_ℤ, ◌+ℤ◌, ◌-ℤ◌, ◌*ℤ◌, ◌≤ℤ◌, Bool, true, false, List, [], ◌∷◌, arith}
+use Rattle.std.proofs.Common.{◌≡◌, ◌≢◌, refl, sym, ap, subst, ◌∙◌, ℤ, pos, negsuc, neg_ℤ, ◌+ℤ◌, ◌-ℤ◌, ◌*ℤ◌, ◌≤ℤ◌, Bool, true, false, List, [], ◌∷◌, arith}
 use Rattle.std.proofs.lemmas.Int.{ints}
 use Rattle.apt_num.specs.declared.Sign.{Sign}
 use Rattle.apt_num.specs.declared.Sign.TheVariants as signs
@@ -10,9 +10,10 @@ use Rattle.apt_plane.specs.declared.figures.Line.{Line}
 use Rattle.apt_plane.specs.declared.figures.Circ.{Circ}
 use Rattle.apt_plane.specs.declared.figures.Surface.{Surface}
 use Rattle.apt_plane.specs.declared.figures.Surface.TheVariants as surfaces
-use Rattle.apt_plane.specs.Ranges.{IsSense}
 use Rattle.apt_plane.specs.Vectors.{Scaled, displacement, length_squared}
 use Rattle.apt_plane.specs.Distances.{EveryPoint, IsAbove, IsBelow, IsOver, IsUnder, about}
+use Rattle.apt_plane.proofs.SegmentLaws.{above_at, below_at}
+use Rattle.apt_plane.proofs.Turned.{sense_back}
 use Rattle.apt_plane.proofs.Weaker.{every_over, every_under}
 use Rattle.apt_canon.specs.Circles.{IsFurther, IsBeyond}
 use Rattle.apt_canon.proofs.CircleMeetings.Across.{point_further, point_beyond}
@@ -43,7 +44,7 @@ use Rattle.apt_meaning.specs.Ranges.{IsMotion}
 use Rattle.apt_meaning.proofs.Contours.Bands.{band_at-HasRoom}
 use Rattle.apt_meaning.proofs.Contours.Legal.{course_is, stop_room, no_edge, no_side}
 use Rattle.apt_meaning.proofs.Contours.Arcs.{round, radius_round, arc_round, arc_is, ends_round, sag_within, enough}
-use Rattle.apt_meaning.proofs.Contours.Starts.{above_at, below_at, starts_left, starts_right, starts_inside, starts_outside}
+use Rattle.apt_meaning.proofs.Contours.Starts.{starts_left, starts_right, starts_inside, starts_outside}
 
 -- ---- every chord
 
@@ -75,10 +76,6 @@ route m d is none =
     let arc = arc_is m d is none in
     record { track = arc.track; sense = arc.sense; axis = arc.axis; sag = arc.sag; start = arc.start; end = (ends_round m d is none).track; apart = arc.apart }
 
-other_sense : (sense : ℤ) → IsSense sense → IsSense (neg_ℤ sense)
-other_sense sense (inl e) = inr (rw e refl)
-other_sense sense (inr e) = inl (rw e refl)
-
 -- the end of a course that meets its stop, where its side is known
 end_by : (m : Motion) (side : Sign) → Meets (course_of m) → stop_side (course_of m) ≡ side → meets_at (course_of m) side ≡ end_point m
 end_by m side free e = sym (free.end ∙ ap (meets_at (course_of m)) e)
@@ -97,7 +94,7 @@ to_line m d l signs.Plus is none meeting free e some =
     let h = signed n.check_side m.radius in
     let on = (ends_round n d is none).meets meeting in
     let further : IsFurther l a.track (neg_ℤ m.sense) a.end =
-    subst (λ (q : Pt). IsFurther l a.track (neg_ℤ m.sense) q) (end_by n signs.Plus free e) (point_further l h a.track (neg_ℤ m.sense) is.check (other_sense m.sense is.sense)) in
+    subst (λ (q : Pt). IsFurther l a.track (neg_ℤ m.sense) q) (end_by n signs.Plus free e) (point_further l h a.track (neg_ℤ m.sense) is.check (sense_back m.sense is.sense)) in
     let starts = starts_left a l h (starts_near_stop (course_of n)) is.sense refl free.past e in
     let kept = line_left a l h (route n d is none) (omega (arith, is.check.dir.length)) further (above_at l (h -ℤ pos 1) a.end on.right) (below_at l (h +ℤ pos 1) (neg_ℤ h -ℤ pos 1) a.end (omega (arith, ints)) on.left) starts
     (divided a) (divides a (arc_is n d is none)) in
@@ -151,7 +148,7 @@ to_circle m d k signs.Minus is none meeting free e some =
     let least = enough s (stop_room n none) in
     let dir = (arc_is n d is none).axis in
     let beyond : IsBeyond a.track (circle_about k.c s) (neg_ℤ m.sense) a.end =
-    subst (λ (q : Pt). IsBeyond a.track (circle_about k.c s) (neg_ℤ m.sense) q) (end_by n signs.Minus free e) (point_beyond a.track (circle_about k.c s) (neg_ℤ m.sense) dir (other_sense m.sense is.sense)) in
+    subst (λ (q : Pt). IsBeyond a.track (circle_about k.c s) (neg_ℤ m.sense) q) (end_by n signs.Minus free e) (point_beyond a.track (circle_about k.c s) (neg_ℤ m.sense) dir (sense_back m.sense is.sense)) in
     let starts = starts_outside a k.c s (starts_near_stop (course_of n)) least is.sense refl free.past e in
     let overlap = (circles_overlap a.track (circle_about k.c s) free.meeting).1.inside in
     let meets_track : ((a.track.r -ℤ s) *ℤ (a.track.r -ℤ s)) ≤ℤ pos (length_squared (displacement a.track.c k.c)) = rw (own_square (a.track.r -ℤ s)) (omega (arith, ints, overlap)) in

@@ -8,10 +8,9 @@ use Rattle.apt_plane.specs.declared.figures.Band.{Band}
 use Rattle.apt_plane.specs.declared.figures.Circ.{Circ}
 use Rattle.apt_plane.specs.declared.figures.Surface.TheVariants as surfaces
 use Rattle.apt_plane.specs.Ranges.{IsPoint}
-use Rattle.apt_plane.specs.Vectors.{Scaled, scaled, displacement, length_squared}
+use Rattle.apt_plane.specs.Vectors.{Scaled, scaled}
 use Rattle.apt_plane.specs.Distances.{InBand, EveryPoint, IsUnder, about}
-use Rattle.apt_plane.proofs.Heights.{one-times}
-use Rattle.apt_plane.proofs.RingLaws.{root_at_most}
+use Rattle.apt_plane.proofs.RingLaws.{under_from}
 use Rattle.apt_plane.proofs.SegmentLaws.{at_end}
 use Rattle.apt_plane.proofs.Weaker.{every_over, every_under}
 use Rattle.apt_contact.specs.Meetings.{circle_about}
@@ -123,16 +122,13 @@ parts_small x y h long = (root_le x h (omega (arith, long)), root_le y h (omega 
 place_small : (c z : ℤ) (r : ℕ) → unsigned_abs (z -ℤ c) ≤ r + 3 → unsigned_abs c + r ≤ 49500000 → unsigned_abs z ≤ 50000000
 place_small c z r h g = omega (arith, ints, h, g)
 
-under_length : (c p : Pt) (h : ℕ) → IsUnder (about c) (pos h) (scaled p) → length_squared (displacement c p) ≤ h * h
-under_length c p h is = omega (arith, (root_at_most 1 h (length_squared (displacement c p))).0 (rw (one-times c.x, one-times c.y) at is))
-
 outer_radius : (t : Circ) → IsTrack t → t.r +ℤ pos 3 ≡ pos (unsigned_abs t.r + 3)
 outer_radius t is = omega (arith, ints, is.least)
 
 vertex_point : (t : Circ) (p : Pt) → IsTrack t → IsUnder (about t.c) (t.r +ℤ pos 3) (scaled p) → IsPoint p
 vertex_point t p is under =
     let r = unsigned_abs t.r in
-    let long = under_length t.c p (r + 3) (subst (λ (z : ℤ). IsUnder (about t.c) z (scaled p)) (outer_radius t is) under) in
+    let long = under_from t.c p (r + 3) (subst (λ (z : ℤ). IsUnder (about t.c) z (scaled p)) (outer_radius t is) under) in
     let small = parts_small (unsigned_abs (p.x -ℤ t.c.x)) (unsigned_abs (p.y -ℤ t.c.y)) (r + 3) long in
     record { x = place_small t.c.x p.x r small.0 is.x; y = place_small t.c.y p.y r small.1 is.y }
 

@@ -1,20 +1,20 @@
 -- How the start of a course round a circle lies to its stop, by the tests: on its side away from the stop, or near the stop and heading into its side.
-use Rattle.std.proofs.Common.{◌≡◌, refl, inl, inr, subst, ℕ, suc, zero, ◌+◌, ◌-◌, ◌*◌, ◌≤◌, ◌<◌, ℤ, pos, negsuc, neg_ℤ, ◌+ℤ◌, ◌-ℤ◌, ◌*ℤ◌, ◌≤ℤ◌, ◌<ℤ◌, Bool, true, false, ◌&&◌, arith}
+use Rattle.std.proofs.Common.{◌≡◌, inl, inr, subst, ℕ, suc, zero, ◌+◌, ◌-◌, ◌*◌, ◌≤◌, ◌<◌, ℤ, pos, negsuc, neg_ℤ, ◌+ℤ◌, ◌-ℤ◌, ◌*ℤ◌, ◌≤ℤ◌, ◌<ℤ◌, Bool, true, false, ◌&&◌, arith}
 use Rattle.std.specs.Prelude.{if◌then◌else◌}
 use Rattle.std.proofs.lemmas.Int.{ints}
 use Rattle.std.proofs.lemmas.Nat.{mul-le}
 use Rattle.std.proofs.lemmas.Bool.{and_cases, both_ways, cases_lt}
 use Rattle.apt_num.specs.declared.Sign.TheVariants as signs
-use Rattle.apt_num.specs.Sign.{AtLeast, square, sign_of, root_sign_of, is_at_least}
+use Rattle.apt_num.specs.Sign.{square, sign_of, root_sign_of, is_at_least}
 use Rattle.apt_num.proofs.Squares.{size_neg}
 use Rattle.apt_num.proofs.Testing.{is_at_least-from}
 use Rattle.apt_plane.specs.declared.figures.Pt.{Pt}
 use Rattle.apt_plane.specs.declared.figures.Line.{Line}
 use Rattle.apt_plane.specs.Ranges.{IsSense}
 use Rattle.apt_plane.specs.Vectors.{displacement, cross, dot, length_squared, scaled}
-use Rattle.apt_plane.specs.Distances.{IsAbove, IsBelow, IsOver, IsUnder, about}
-use Rattle.apt_plane.proofs.SegmentLaws.{point_above, point_below}
-use Rattle.apt_canon.proofs.CircleMeetings.LineCircle.{sense_size}
+use Rattle.apt_plane.specs.Distances.{IsOver, IsUnder, about}
+use Rattle.apt_plane.proofs.SegmentLaws.{above_at, below_at}
+use Rattle.apt_plane.proofs.Turned.{size_sense}
 use Rattle.apt_offset.specs.declared.Target.TheVariants as targets
 use Rattle.apt_stop.specs.Nearness.{is_near, near_stop}
 use Rattle.apt_stop.specs.Choices.{is_by_axis}
@@ -50,23 +50,12 @@ minus_is (pos (suc n)) e = absurd cc
 minus_is (negsuc n) e = omega (arith, ints)
 
 ahead : (sense k : ℤ) (n : ℕ) → IsSense sense → is_by_axis k n ≡ false → sign_of (sense *ℤ k) ≡ signs.Plus → IsAhead (sense *ℤ k) n
-ahead sense k n is past e = (plus_is (sense *ℤ k) e, rw (sense_size sense k is) (off_axis k n past))
+ahead sense k n is past e = (plus_is (sense *ℤ k) e, rw (size_sense sense k is) (off_axis k n past))
 
 aback : (sense k : ℤ) (n : ℕ) → IsSense sense → is_by_axis k n ≡ false → sign_of (sense *ℤ k) ≡ signs.Minus → IsAback (sense *ℤ k) n
-aback sense k n is past e = (minus_is (sense *ℤ k) e, rw (sense_size sense k is) (off_axis k n past))
+aback sense k n is past e = (minus_is (sense *ℤ k) e, rw (size_sense sense k is) (off_axis k n past))
 
 -- ---- a line
-
-pub above_at : (l : Line) (x : ℤ) (p : Pt) → AtLeast (cross l.dir (displacement l.base p)) x (length_squared l.dir) → IsAbove l x (scaled p)
-above_at l x p at =
-    let k = cross l.dir (displacement l.base p) in
-    (point_above (AtLeast k x (length_squared l.dir)) l x p k (length_squared l.dir) refl refl (λ z. z, λ z. z)).0 at
-
-pub below_at : (l : Line) (x y : ℤ) (p : Pt) → y ≡ neg_ℤ x → AtLeast (neg_ℤ (cross l.dir (displacement l.base p))) y (length_squared l.dir) → IsBelow l x (scaled p)
-below_at l x y p e at =
-    let k = cross l.dir (displacement l.base p) in
-    let n = length_squared l.dir in
-    (point_below (AtLeast (neg_ℤ k) (neg_ℤ x) n) l x p k n refl refl (λ z. z, λ z. z)).0 (subst (λ (z : ℤ). AtLeast (neg_ℤ k) z n) e at)
 
 pub starts_left : (a : Arc) (l : Line) (h : ℤ) (near : Bool) → IsSense a.sense → is_near (targets.Line l.base l.dir h) near_stop a.start ≡ near
     → (near && is_by_axis (dot (to_start a) l.dir) (length_squared l.dir)) ≡ false
