@@ -1,6 +1,5 @@
 -- Where nothing refuses, an arc meets its stop before the axis, or on its ray. The axis leads from the centre towards the stop.
-use Rattle.std.proofs.Common.{◌≡◌, ◌≢◌, ◌⊎◌, ℕ, ◌+◌, ◌*◌, ◌≤◌, ◌<◌, subst, arith, ℤ, pos, ◌+ℤ◌, ◌-ℤ◌, ◌<ℤ◌, ◌≤ℤ◌, unsigned_abs, inl, inr, neg_ℤ, ◌*ℤ◌}
-use Rattle.std.proofs.Math.Nat.{mul-le-mul_left}
+use Rattle.std.proofs.Common.{◌≡◌, ◌⊎◌, ℕ, ◌+◌, ◌*◌, ◌≤◌, ◌<◌, subst, arith, ℤ, pos, ◌+ℤ◌, ◌-ℤ◌, ◌<ℤ◌, ◌≤ℤ◌, unsigned_abs, inl, inr, neg_ℤ, ◌*ℤ◌}
 use Rattle.std.proofs.lemmas.Int.{ints}
 use Rattle.apt_num.proofs.Ring.{neg-*ℤ}
 use Rattle.apt_plane.specs.declared.figures.Pt.{Pt}
@@ -8,7 +7,6 @@ use Rattle.apt_plane.specs.declared.figures.Dir.{Dir}
 use Rattle.apt_plane.specs.declared.figures.Circ.{Circ}
 use Rattle.apt_plane.specs.Vectors.{displacement, length_squared}
 use Rattle.apt_plane.specs.Distances.{IsLengthAtMost, IsRootAtMost}
-use Rattle.apt_plane.specs.Order.{turn_class}
 use Rattle.apt_plane.proofs.Turned.{turned_by}
 use Rattle.apt_plane.proofs.Around.{Cyc}
 use Rattle.apt_canon.specs.Scale.{IsNearCircle}

@@ -17,7 +17,6 @@ use Rattle.apt_plane.proofs.Around.{Cyc}
 use Rattle.apt_canon.specs.Scale.{IsNearCircle}
 use Rattle.apt_canon.specs.Circles.{HasSense, IsBeyond}
 use Rattle.apt_arc.specs.declared.arc.Arc.{Arc}
-use Rattle.apt_arc.specs.Ranges.{IsArc}
 use Rattle.apt_arc.specs.Divisions.{IsDivision}
 use Rattle.apt_arc.specs.Stops.{EveryChord, IsRoute, to_start, to_end, IsAhead, StartsInside}
 use Rattle.apt_arc.proofs.Tracks.{within, within_large, nearby}

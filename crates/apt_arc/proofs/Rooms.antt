@@ -1,5 +1,5 @@
 -- What a list has where points are appended as far as there is room.
-use Rattle.std.proofs.Common.{refl, ◌≡◌, ℕ, zero, suc, ◌+◌, ◌-◌, ◌≤◌, ◌<◌, ◌∙◌, ap, sym, subst, arith, List, [], ◌∷◌, ◌++◌, length, take, append_assoc}
+use Rattle.std.proofs.Common.{refl, ◌≡◌, ℕ, zero, suc, ◌+◌, ◌≤◌, ◌<◌, ◌∙◌, ap, sym, arith, List, [], ◌∷◌, ◌++◌, length, take, append_assoc}
 use Rattle.std.proofs.lemmas.List.{length-append, take-append-le}
 use Rattle.apt_plane.specs.declared.figures.Pt.{Pt}
 

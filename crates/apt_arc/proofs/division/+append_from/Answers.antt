@@ -1,9 +1,9 @@
-use Rattle.std.proofs.Common.{refl, ◌-◌, ◌∙◌, sym, length, arith, FitsSigned, w8}
+use Rattle.std.proofs.Common.{refl, ◌-◌, ◌∙◌, sym, length, FitsSigned, w8}
 use Rattle.std.specs.Prelude.{vec_capacity}
 use Rattle.std.proofs.lemmas.Int.{to_z-of_z}
 use Rattle.apt_arc.specs.Made.{pieces, vertices}
 use Rattle.apt_arc.proofs.Quartered.{sense_fits}
-use Rattle.apt_arc.proofs.Halved.{counted, next_vertices, next_length, next_pieces, last_vertices, last_length, end_piece}
+use Rattle.apt_arc.proofs.Halved.{counted, next_vertices, next_length, last_vertices, last_length, end_piece}
 use Rattle.apt_arc.proofs.Rooms.{both_fit, last_fits}
 use Rattle.apt_arc.proofs.division.+append_from.Goals as goal
 
