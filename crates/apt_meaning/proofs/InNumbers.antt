@@ -1,5 +1,5 @@
 -- A leg is legal exactly where it is legal in numbers.
-use Rattle.std.proofs.Common.{refl, ◌≡◌, ◌≢◌, ◌↔◌, ◌∙◌, sym, ap, subst, true≢false, arith, ℕ, zero, suc, ◌+◌, ◌*◌, ◌≤◌, ℤ, pos, negsuc, neg_ℤ, ◌+ℤ◌, ◌-ℤ◌, ◌<ℤ◌, Bool, true, false, Option, Some, None, List, [], ◌∷◌, cond}
+use Rattle.std.proofs.Common.{refl, ◌≡◌, ◌≢◌, ◌↔◌, ◌∙◌, sym, ap, subst, true≢false, arith, ℕ, zero, suc, ◌*◌, ◌≤◌, ℤ, pos, negsuc, neg_ℤ, ◌+ℤ◌, ◌-ℤ◌, ◌<ℤ◌, Bool, true, false, Option, Some, None, List, [], ◌∷◌, cond}
 use Rattle.std.specs.Prelude.{int_lt, int_le, ◌||◌, MatchBool, if◌then◌else◌}
 use Rattle.std.specs.Option.{IsNone}
 use Rattle.std.proofs.lemmas.Int.{ints}
