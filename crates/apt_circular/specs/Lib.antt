@@ -1,0 +1,3 @@
+pub mod ArcPlan
+pub mod Straight
+pub mod Fits

@@ -1,0 +1,24 @@
+//! Circular blocks: the acts that records ask for on a machine that cuts a leg round a circle as one arc.
+#![tactic(auto)]
+
+mod planning;
+
+use apt_control::Act;
+pub use planning::{ArcPlan, Coming, Round, plan_arcs};
+
+/// An act of a control that cuts arcs: a plain one, or an arc about a centre to a position, anticlockwise where
+/// `turn` is 1 (G03), clockwise where it is -1 (G02). Coordinates are in grid units, the feed in tenths of an inch
+/// or of a millimetre per minute.
+#[derive(Clone, Copy, PartialEq, Eq)]
+pub enum ArcAct {
+    Plain(Act),
+    Arc {
+        turn: i8,
+        x: i64,
+        y: i64,
+        z: i64,
+        cx: i64,
+        cy: i64,
+        feed: i64,
+    },
+}
