@@ -5,6 +5,7 @@ ghost use Rattle.std.specs.Fmt.{signed_decimal};
 ghost use Rattle.apt_report.specs.Acts as lines;
 
 use crate::room::{ROOM, push_from, whole_line, write_number, write_text};
+use apt_circular::ArcAct;
 use apt_control::Act;
 use apt_words::{Cool, Turn, Units};
 use std::alloc::{AllocError, Global};
@@ -34,6 +35,35 @@ pub fn push_act_lines(text: &mut Vec<u8>, acts: &[Act]) -> Result<(), AllocError
     let mut room = [0u8; ROOM];
     'acts: for act in acts {
         let start = act_line(&mut room, act);
+        push_from(text, &room, start)?;
+    }
+    Ok(())
+}
+
+/// A line for each act of a control that cuts arcs, with its line feed: for an arc its end, its centre and its feed.
+///
+/// # Errors
+///
+/// Memory lacks.
+pub fn arc_lines(alloc: Global, acts: &[ArcAct]) -> Result<Vec<u8>, AllocError>
+    ensures value { IfOk result (λ v. v.items ≡ lines.arc_lines acts.now) }
+{
+    let mut text = Vec::new(alloc);
+    push_arc_lines(&mut text, acts)?;
+    Ok(text)
+}
+
+/// Appends the same lines to a text.
+///
+/// # Errors
+///
+/// Memory lacks.
+pub fn push_arc_lines(text: &mut Vec<u8>, acts: &[ArcAct]) -> Result<(), AllocError>
+    ensures { OnOk result (text.new.items ≡ text.old.items ++ lines.arc_lines acts.now) }
+{
+    let mut room = [0u8; ROOM];
+    'acts: for act in acts {
+        let start = arc_act_line(&mut room, act);
         push_from(text, &room, start)?;
     }
     Ok(())
@@ -83,6 +113,42 @@ fn cut_line(room: &mut [u8], x: i64, y: i64, z: i64, feed: i64) -> usize
     write_text(room, at, "CUT ")
 }
 
+/// Writes the line of an act of a control that cuts arcs in the same way.
+fn arc_act_line(room: &mut [u8], act: &ArcAct) -> usize
+    requires { length room.old ≡ 192 }
+    ensures start { result ≤ 192 }
+    ensures line { drop result room.new ≡ lines.arc_act_line act.now }
+{
+    match *act {
+        ArcAct::Plain(act) => act_line(room, &act),
+        ArcAct::Arc {
+            turn,
+            x,
+            y,
+            z,
+            cx,
+            cy,
+            feed,
+        } => {
+            let end = whole_line(room, "\n");
+            let at = write_number(room, end, feed);
+            let at = write_text(room, at, " FEED ");
+            let at = write_centre(room, at, cx, cy);
+            let at = write_text(room, at, " CENTRE ");
+            let at = write_place(room, at, x, y, z);
+            write_text(room, at, turn_text(turn))
+        }
+    }
+}
+
+/// What the line of an arc begins with.
+fn turn_text(turn: i8) -> &'static str
+    ensures text { result.now ≡ lines.turn_text turn }
+    ensures short { length result.now ≤ 8 }
+{
+    if turn == 1 { "ARC CCW " } else { "ARC CW " }
+}
+
 /// Writes a line of a short text and a number.
 fn number_line(room: &mut [u8], text: &str, n: i64) -> usize
     requires room { length room.old ≡ 192 }
@@ -97,14 +163,26 @@ fn number_line(room: &mut [u8], text: &str, n: i64) -> usize
 
 /// Writes the numbers of a place in front of what starts at `end`.
 fn write_place(room: &mut [u8], end: usize, x: i64, y: i64, z: i64) -> usize
-    requires room { 140 ≤ end }
+    requires room { 84 ≤ end }
     requires end { end ≤ length room.old }
-    ensures start { (result ≤ end) × (end ≤ result + 130) }
+    ensures start { (result ≤ end) × (end ≤ result + 65) }
     ensures written { drop result room.new ≡ signed_decimal x ++ (codes " " ++ (signed_decimal y ++ (codes " " ++ (signed_decimal z ++ drop end room.old)))) }
 {
     let at = write_number(room, end, z);
     let at = write_text(room, at, " ");
     let at = write_number(room, at, y);
+    let at = write_text(room, at, " ");
+    write_number(room, at, x)
+}
+
+/// Writes the numbers of a centre in front of what starts at `end`.
+fn write_centre(room: &mut [u8], end: usize, x: i64, y: i64) -> usize
+    requires room { 62 ≤ end }
+    requires end { end ≤ length room.old }
+    ensures start { (result ≤ end) × (end ≤ result + 43) }
+    ensures written { drop result room.new ≡ signed_decimal x ++ (codes " " ++ (signed_decimal y ++ drop end room.old)) }
+{
+    let at = write_number(room, end, y);
     let at = write_text(room, at, " ");
     write_number(room, at, x)
 }

@@ -7,7 +7,7 @@ ghost use Rattle.apt_report.specs.Decimals.{pointed, signed_pointed, blanks};
 use itoa::write_digits;
 use std::alloc::AllocError;
 
-/// The room of a line: four numbers, of at most twenty characters each, and some thirty others.
+/// The room of a line: six numbers, of at most twenty characters each, and some thirty others.
 pub const ROOM: usize = 192;
 
 /// Appends what starts at a place of the room.
@@ -58,7 +58,7 @@ pub fn write_blanks(room: &mut [u8], end: usize, place: usize) -> usize
 pub fn write_number(room: &mut [u8], end: usize, n: i64) -> usize
     requires room { 40 ≤ end }
     requires end { end ≤ length room.old }
-    ensures start { (result ≤ end) × (end ≤ result + 40) }
+    ensures start { (result ≤ end) × (end ≤ result + 21) }
     ensures written { drop result room.new ≡ signed_decimal n ++ drop end room.old }
 {
     let start = write_digits(n.unsigned_abs(), room, end);
