@@ -1,6 +1,5 @@
 -- The acts of a plan with arcs fit their words, up to the end.
 use Rattle.std.proofs.Common.{◌≡◌, ℤ, Bool, true, false, List, [], ◌∷◌, ◌++◌, map, Option, Some, None, refl, sym, subst}
-use Rattle.apt_plane.specs.declared.figures.Surface.TheVariants as surfaces
 use Rattle.apt_records.specs.declared.record.Position.{Position}
 use Rattle.apt_records.specs.declared.record.Reach.TheVariants as reaches
 use Rattle.apt_records.specs.declared.record.Note.TheVariants as notes
@@ -13,7 +12,7 @@ use Rattle.apt_post.specs.Plan.{nothing_pending, cut_to}
 use Rattle.apt_post.specs.Blocks.{IsPosition, IsUpTo}
 use Rattle.apt_post.specs.Writing.{CanWriteAll, AreWritten}
 use Rattle.apt_circular.specs.declared.ArcAct.{ArcAct}
-use Rattle.apt_circular.specs.declared.ArcAct.TheVariants.{Plain, Arc}
+use Rattle.apt_circular.specs.declared.ArcAct.TheVariants.{Plain}
 use Rattle.apt_circular.specs.declared.planning.Round.{Round}
 use Rattle.apt_circular.specs.declared.planning.Coming.{Coming}
 use Rattle.apt_circular.specs.ArcPlan.{round_on, nothing_coming, last_from, contour_acts, arcs_from, plan_arcs}

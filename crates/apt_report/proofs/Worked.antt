@@ -1,4 +1,4 @@
--- A few listed points, which the checker works out.
+-- A few listed points and lines of arcs, which the checker works out.
 use Rattle.std.specs.Prelude.{◌≡◌, ℤ, pos, negsuc, [], ◌∷◌, codes}
 use Rattle.std.specs.Fmt.{digits}
 use Rattle.std.proofs.Common.{refl}
@@ -7,6 +7,9 @@ use Rattle.apt_records.specs.declared.record.Position.{Position}
 use Rattle.apt_records.specs.declared.record.Reach.TheVariants as reaches
 use Rattle.apt_records.specs.declared.record.Note.TheVariants as notes
 use Rattle.apt_records.specs.declared.record.Record.TheVariants as records
+use Rattle.apt_circular.specs.declared.ArcAct.TheVariants.{Plain, Arc}
+use Rattle.apt_control.specs.declared.Act.TheVariants as acts
+use Rattle.apt_report.specs.Acts.{arc_lines}
 use Rattle.apt_report.specs.Listing.{point_line, listing}
 use Rattle.apt_report.specs.Columns.{length_in}
 
@@ -31,3 +34,11 @@ no_records = refl
 
 a_length : length_in Inch (codes "   -1.50000") ≡ negsuc 149999
 a_length = refl
+
+-- half round a circle clockwise, and back anticlockwise
+two_arcs : arc_lines (
+    Plain (acts.Cut (pos 0) (pos 225000) (pos 5) (pos 100)) ∷ Arc (negsuc 0) (pos 0) (negsuc 224999) (pos 5) (pos 0) (negsuc 0) (pos 100)
+    ∷ Arc (pos 1) (pos 0) (pos 225000) (pos 5) (pos 0) (negsuc 0) (pos 100) ∷ Plain acts.End ∷ [])
+    ≡ codes "CUT 0 225000 5 FEED 100\nARC CW 0 -225000 5 CENTRE 0 -1 FEED 100\nARC CCW 0 225000 5 CENTRE 0 -1 FEED 100\nEND\n"
+unfolding digits
+two_arcs = refl
