@@ -185,6 +185,18 @@ ToTheEnd (acts.End ∷ []) = Unit {0}
 ToTheEnd (acts.End ∷ act ∷ more) = ⊥
 ToTheEnd (act ∷ more) = CanWrite act × ToTheEnd more
 
+-- the end of a program
+abbrev pub is_end : Act → Bool
+is_end (acts.Units u) = false
+is_end (acts.Rapid x y z) = false
+is_end (acts.Cut x y z feed) = false
+is_end (acts.Spindle turn n) = false
+is_end (acts.Coolant c) = false
+is_end (acts.Tool n) = false
+is_end acts.Stop = false
+is_end acts.OptStop = false
+is_end acts.End = true
+
 -- a program of a control: the units first, and the end last
 abbrev pub IsProgram : List Act → Type 0
 IsProgram (acts.Units u ∷ more) = ToTheEnd more
