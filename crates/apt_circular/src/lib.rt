@@ -1,10 +1,16 @@
-//! Circular blocks: the acts that records ask for on a machine that cuts a leg round a circle as one arc.
+//! Circular blocks: the acts that records ask for on a machine that cuts a leg round a circle as one arc, what a circular
+//! block means, and the writer of such blocks.
 #![tactic(auto)]
 
+mod arc;
+mod left;
 mod planning;
+mod poster;
 
 use apt_control::Act;
+pub use left::ArcBytes;
 pub use planning::{ArcPlan, Coming, Round, plan_arcs};
+pub use poster::ArcPoster;
 
 /// An act of a control that cuts arcs: a plain one, or an arc about a centre to a position, anticlockwise where
 /// `turn` is 1 (G03), clockwise where it is -1 (G02). Coordinates are in grid units, the feed in tenths of an inch
