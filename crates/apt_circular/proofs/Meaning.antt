@@ -253,3 +253,15 @@ pub next_reads : (p : Posting) (act : ArcAct) → p.steps < 9999 → IsSome p.he
 next_reads p act few known can =
     subst (λ ns. IsReadAs p.held (ns ++ written_at p.machine p.held act) (behind_act p.machine.incremental p.held act) act) (sym (next_number-words p))
     (written_reads (next_number_of p) p.machine p.held act (next_number-IsNumber p few) known can)
+
+-- ---- a block of any act, whatever holds
+
+written_IsBlock : (n : Option ℕ) (machine : Machine) (held : Held) (act : ArcAct) → IsNumber n → CanAct held act → IsBlock (number_words n ++ written_at machine held act)
+written_IsBlock n machine held (arcs.Plain act) small can = written-IsBlock n machine held act small can
+written_IsBlock n machine held (arcs.Arc turn x y z cx cy feed) small can =
+    let a : Arc = record { turn = turn; x = x; y = y; z = z; cx = cx; cy = cy; feed = feed } in
+    arc_is_block machine held a n (arc_words-told machine held a can.goes.sense) can small
+
+pub next_IsBlock : (p : Posting) (act : ArcAct) → p.steps < 9999 → CanAct p.held act → IsBlock (next_block p act)
+next_IsBlock p act few can =
+    subst (λ ns. IsBlock (ns ++ written_at p.machine p.held act)) (sym (next_number-words p)) (written_IsBlock (next_number_of p) p.machine p.held act (next_number-IsNumber p few) can)

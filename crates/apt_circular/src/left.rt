@@ -72,6 +72,7 @@ impl<'a> ArcBytes<'a> {
     }
 
     /// Appends the bytes of the next block, or of what stands before the first, and says whether any were left.
+    #[inline(always)]
     #[tactic(auto, using(crate::proofs::BlockByBlock::some_bytes))]
     fn push_next(&mut self, piece: &mut Piece) -> bool
         requires room { array_vec_len piece.old < 1024 }

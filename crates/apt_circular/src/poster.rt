@@ -2,7 +2,7 @@
 
 ghost use Rattle.std.specs.Prelude.{◌≡◌, ◌+◌, ◌<◌, ◌≤◌, ◌++◌, ◌∷◌, [], List, IsSome, drop, get_or, length, if◌then◌else◌};
 ghost use Rattle.arrayvec.specs.ArrayVec.{array_vec_len};
-ghost use Rattle.apt_block.specs.Block.{spelling};
+ghost use Rattle.apt_block.specs.Block.{IsBlock, spelling};
 ghost use Rattle.apt_post.specs.Blocks as blocks;
 ghost use Rattle.apt_circular.specs.ArcBlocks as spec;
 ghost use Rattle.apt_circular.specs.ArcPosting as posting;
@@ -49,6 +49,7 @@ impl ArcPoster {
     pub fn text(&mut self, a: &ArcAct) -> ArrayVec<u8, 128>
         requires { tapes.CanAct self.old.held a.now }
         ensures block { result.items ≡ spelling self.old.machine.short (posting.next_block self.old a.now) }
+        ensures is { IsBlock (posting.next_block self.old a.now) }
         ensures next { self.new ≡ posting.next self.old a.now }
         ensures read { IsSome self.old.held.units → tapes.IsReadAs self.old.held (posting.next_block self.old a.now) self.new.held a.now }
         ensures stands { (before : List ArcAct) → StandsFor self.old before → StandsFor self.new (before ++ a.now ∷ []) }

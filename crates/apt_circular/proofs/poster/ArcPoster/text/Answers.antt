@@ -2,8 +2,11 @@ use Rattle.std.proofs.Common.{sym, subst}
 use Rattle.apt_post.specs.Posting.{Posting}
 use Rattle.apt_circular.specs.ArcTape.{IsReadAs}
 use Rattle.apt_circular.specs.ArcPosting.{next_block}
-use Rattle.apt_circular.proofs.Meaning.{next_reads}
+use Rattle.apt_circular.proofs.Meaning.{next_reads, next_IsBlock}
 use Rattle.apt_circular.proofs.poster.ArcPoster.text.Goals as goal
+
+pub returns-clause-is : goal.returns-clause-is
+returns-clause-is c = next_IsBlock c.args.self.now c.args.a.now c.next_text.ensures.few c.requires
 
 pub returns-clause-read : goal.returns-clause-read
 returns-clause-read c known =
