@@ -40,6 +40,7 @@ is_foreign_round motion w =
 abbrev pub is_arc : Held → Said → Bool
 is_arc now said = turns_round now.motion && (is_move said || is_some said.i || is_some said.j)
 
+-- the position in x and y
 abbrev pub xy_of : Held → Pt
 xy_of held = record { x = or_zero held.x; y = or_zero held.y }
 
@@ -47,6 +48,7 @@ xy_of held = record { x = or_zero held.x; y = or_zero held.y }
 abbrev pub centre_of : Held → Said → Pt
 centre_of held said = record { x = or_zero held.x +ℤ or_zero said.i; y = or_zero held.y +ℤ or_zero said.j }
 
+-- two points are one
 abbrev pub is_same : Pt → Pt → Bool
 is_same p q = int_eq p.x q.x && int_eq p.y q.y
 
@@ -137,10 +139,11 @@ words_behind ways held a =
 abbrev pub arc_words : Bool → Held → Arc → List TapeWord
 arc_words incremental held a = mode_words held.incremental (arc_ways incremental held a) ++ words_behind (arc_ways incremental held a) held a
 
--- what holds behind an arc that is written by ways, or by new coordinates
+-- what holds behind an arc whose position is written by ways, or by new coordinates
 abbrev pub held_behind : Bool → Held → Arc → Held
 held_behind ways held a = record (behind_move ways held (arc_code a.turn) a.x a.y a.z) { feed = Some a.feed }
 
+-- what holds behind an arc
 abbrev pub behind_arc : Bool → Held → Arc → Held
 behind_arc incremental held a = held_behind (arc_ways incremental held a) held a
 

@@ -13,6 +13,7 @@ use Rattle.apt_circular.specs.declared.arc.Arc.{Arc}
 use Rattle.apt_circular.specs.ArcBlocks.{act_of}
 use Rattle.apt_circular.specs.Fits.{Fits}
 
+-- a position by its coordinates
 abbrev pub position : ℤ → ℤ → ℤ → Position
 position x y z = record { xy = record { x = x; y = y }; z = z }
 
