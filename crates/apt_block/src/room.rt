@@ -5,110 +5,61 @@ use crate::{Block, TapeWord};
 use arrayvec::ArrayVec;
 use std::marker::Model;
 
-/// As many as the table has forms.
-const ROOM: usize = 16;
-
-/// Words in order. Clauses see their list.
+/// Room for at most N items in order, which keeps the cells behind them. Clauses see their list.
 #[derive(Drop)]
-pub(crate) struct Words {
-    cells: [TapeWord; ROOM],
+pub(crate) struct Room<T, const N: usize> {
+    cells: [T; N],
     len: usize,
 }
 
-impl Model for Words {
+impl<T, const N: usize> Model for Room<T, N> {
     ghost use Rattle.std.specs.Prelude.{◌≤◌, List, take};
-    ghost use Rattle.apt_block.specs.declared.block.TapeWord.{TapeWord};
 
-    ghost Value = { List TapeWord };
+    ghost Value = { List T };
 
-    ghost view = { λ w. take w.len w.cells };
+    ghost view = { λ r. take r.len r.cells };
 
-    ghost invariant = { λ w. w.len ≤ 16 };
+    ghost invariant = { λ r. r.len ≤ N };
 }
 
-impl Words {
-    pub(crate) fn new() -> Words
+impl<T: Copy, const N: usize> Room<T, N> {
+    /// Room whose cells hold this item.
+    pub(crate) fn new(blank: T) -> Room<T, N>
         ensures { result ≡ [] }
     {
-        Words {
-            cells: [TapeWord::default(); ROOM],
+        Room {
+            cells: [blank; N],
             len: 0,
         }
     }
 
-    pub(crate) fn as_slice(&self) -> &[TapeWord]
+    pub(crate) fn as_slice(&self) -> &[T]
         ensures { result.now ≡ self.now }
     {
         &self.cells[..self.len]
     }
 
+    pub(crate) fn clear(&mut self)
+        ensures { self.new ≡ [] }
+    {
+        self.len = 0;
+    }
+
+    pub(crate) fn push(&mut self, item: T)
+        requires { length self.old < N }
+        ensures { self.new ≡ self.old ++ item ∷ [] }
+    {
+        self.cells[self.len] = item;
+        self.len += 1;
+    }
+}
+
+impl Room<TapeWord, 16> {
     pub(crate) fn into_block(self) -> Block
         ensures { result ≡ self }
     {
         let mut words = ArrayVec::from_array_in((), self.cells);
         words.truncate(self.len);
         Block { words }
-    }
-
-    pub(crate) fn clear(&mut self)
-        ensures { self.new ≡ [] }
-    {
-        self.len = 0;
-    }
-
-    pub(crate) fn push(&mut self, word: TapeWord)
-        requires { length self.old < 16 }
-        ensures { self.new ≡ self.old ++ word ∷ [] }
-    {
-        self.cells[self.len] = word;
-        self.len += 1;
-    }
-}
-
-/// Places in order. Clauses see their list.
-#[derive(Drop)]
-pub(crate) struct Places {
-    cells: [u64; ROOM],
-    len: usize,
-}
-
-impl Model for Places {
-    ghost use Rattle.std.specs.Prelude.{◌≤◌, ℕ, List, take};
-
-    ghost Value = { List ℕ };
-
-    ghost view = { λ p. take p.len p.cells };
-
-    ghost invariant = { λ p. p.len ≤ 16 };
-}
-
-impl Places {
-    pub(crate) fn new() -> Places
-        ensures { result ≡ [] }
-    {
-        Places {
-            cells: [0; ROOM],
-            len: 0,
-        }
-    }
-
-    pub(crate) fn as_slice(&self) -> &[u64]
-        ensures { result.now ≡ self.now }
-    {
-        &self.cells[..self.len]
-    }
-
-    pub(crate) fn clear(&mut self)
-        ensures { self.new ≡ [] }
-    {
-        self.len = 0;
-    }
-
-    pub(crate) fn push(&mut self, place: u64)
-        requires { length self.old < 16 }
-        ensures { self.new ≡ self.old ++ place ∷ [] }
-    {
-        self.cells[self.len] = place;
-        self.len += 1;
     }
 }
