@@ -1,4 +1,4 @@
--- The rows of letters: what they lead to is the form that is found.
+-- The table of rows by letter: the row that it gives is that of the form which a search finds.
 use Rattle.std.proofs.Common.{◌≡◌, ℕ, ◌+◌, ◌<◌, ◌≤◌, ◌==◌, ◌&&◌, if◌then◌else◌, nat_lt, Bool, true, false, map, drop, get_or, Option, Some, None, max, ap, ◌∙◌, sym, refl, arith}
 use Rattle.std.specs.List.{range_with_len}
 use Rattle.std.proofs.lemmas.List.FromFn.{get_or-map-range_with_len}
@@ -8,7 +8,7 @@ use Rattle.apt_block.specs.declared.table.Form.{Form}
 use Rattle.apt_block.specs.Block.{forms, form}
 use Rattle.apt_block.specs.Machine.{form_for}
 
--- the form of a row
+-- the form in a row of the table of words
 abbrev pub form_at : ℕ → Form
 form_at row = get_or forms row (form 0 0 0 false 0 0)
 
