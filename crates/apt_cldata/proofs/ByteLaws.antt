@@ -11,6 +11,7 @@ use Rattle.std.proofs.lemmas.Nat.{from_be_bytes-to_be_bytes_4, from_be_bytes-to_
 use Rattle.std.proofs.lemmas.List.{take_at, drop_at, get_or-drop, get_or-take, length-drop, length-take, length-take-le, length-append}
 use Rattle.apt_cldata.specs.Files.{length_bytes, word_bytes}
 use Rattle.apt_cldata.specs.Reading.{length_in, word_in, words_in}
+use Rattle.apt_words.proofs.Bytes.{cast_fits}
 
 -- every number of a list is a byte
 pub record AreBytes (bytes : List ℕ) : Type 0 where
@@ -43,15 +44,11 @@ pub length_length : (n : ℕ) → length (length_bytes n) ≡ 4
 unfolding length_bytes
 length_length n = refl
 
-bits_fit : (w : ℤ) → FitsSigned w64 w → cast_unsigned w64 w < 2 ^ 64
-bits_fit (pos n) f = omega (arith, f.sfits)
-bits_fit (negsuc n) f = omega (arith, f.sfits)
-
 pub word_again : (w : ℤ) (rest : List ℕ) → FitsSigned w64 w → word_in (word_bytes w ++ rest) ≡ w
 unfolding word_in word_bytes
 word_again w rest f =
     ap (λ bs. cast_signed w64 (from_be_bytes w64 bs)) (take_at (to_be_bytes w64 (cast_unsigned w64 w)) rest 8 refl)
-    ∙ ap (cast_signed w64) (from_be_bytes-to_be_bytes_8 (cast_unsigned w64 w) (bits_fit w f))
+    ∙ ap (cast_signed w64) (from_be_bytes-to_be_bytes_8 (cast_unsigned w64 w) (cast_fits w f))
     ∙ to_z-of_z w64 w f
 
 pub length_again : (n : ℕ) (rest : List ℕ) → n < 2 ^ 32 → length_in (length_bytes n ++ rest) ≡ n

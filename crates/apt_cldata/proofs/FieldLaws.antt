@@ -24,6 +24,9 @@ use Rattle.apt_words.specs.Sources.{IsCount, is_text_byte, IsText}
 use Rattle.apt_records.specs.Ranges.{IsFromTo, IsSpeed, greatest}
 use Rattle.apt_records.specs.Words.{side_word, stop_word, cool_word, units_word, turn_word}
 use Rattle.apt_cldata.specs.Fields.{◌>>=◌, at_if, is_from_to, is_sized, from_to, count_at, coordinate, point_at, direction_part, is_nowhere, dir_at, is_within_edge, is_radius, circle_at, zero_at, is_text, text_byte, side_at, sense_at, stop_at, cool_at, units_at, turn_at}
+use Rattle.std.specs.Cmp.{both_ways}
+use Rattle.apt_words.proofs.Bools.{both}
+use Rattle.std.specs.Cmp.Derive.{both_true}
 
 -- ---- chains
 
@@ -37,13 +40,6 @@ at_if_only false i x y e = absurd (cc)
 pub bind_only : {A B E : Type 0} (r : Result A E) (f : A → Result B E) (b : B) → r >>= f ≡ Ok b → (a : A) × (r ≡ Ok a) × (f a ≡ Ok b)
 bind_only (Ok a) f b e = (a, refl, e)
 bind_only (Err x) f b e = absurd (cc)
-
-pub both_again : (a b : Bool) → a ≡ true → b ≡ true → (a && b) ≡ true
-both_again a b p q = rw (p, q)
-
-pub both_only : (a b : Bool) → (a && b) ≡ true → (a ≡ true) × (b ≡ true)
-both_only true b e = (refl, e)
-both_only false b e = absurd (cc)
 
 -- ---- numbers
 
@@ -60,12 +56,12 @@ pub le_only : (a b : ℤ) → int_le a b ≡ true → a ≤ℤ b
 le_only a b h = grind (arith, ints)
 
 pub from_to_again : (least most : ℤ) (i : ℕ) (n : ℤ) → IsFromTo least most n → from_to least most i n ≡ Ok n
-from_to_again least most i n h = at_if_again (is_from_to least most n) i n (both_again _ _ (le_again least n h.0) (le_again n most h.1))
+from_to_again least most i n h = at_if_again (is_from_to least most n) i n (both_true (le_again least n h.0) (le_again n most h.1))
 
 pub from_to_only : (least most : ℤ) (i : ℕ) (n m : ℤ) → from_to least most i n ≡ Ok m → (n ≡ m) × IsFromTo least most n
 from_to_only least most i n m e =
     let h = at_if_only (is_from_to least most n) i n m e in
-    let b = both_only _ _ h.0 in
+    let b = both _ _ h.0 in
     (h.1, (le_only least n b.0, le_only n most b.1))
 
 pub count_again : (i n : ℕ) → IsCount n → count_at i (pos n) ≡ Ok n
@@ -88,21 +84,16 @@ sized_again most n h = grind (arith, nat_tests)
 sized_only : (most : ℕ) (n : ℤ) → is_sized most n ≡ true → unsigned_abs n ≤ most
 sized_only most n h = grind (arith, nat_tests)
 
-same_test : (a b : Bool) → (a ≡ true → b ≡ true) → (b ≡ true → a ≡ true) → a ≡ b
-same_test true b f g = sym (f refl)
-same_test false true f g = g refl
-same_test false false f g = refl
-
 -- a size by both ends
 pub sized_by_ends : (most : ℕ) (n : ℤ) → is_from_to (pos 0 -ℤ pos most) (pos most) n ≡ is_sized most n
 sized_by_ends most n =
-    same_test (is_from_to (pos 0 -ℤ pos most) (pos most) n) (is_sized most n)
-    (λ h. let b = both_only (int_le (pos 0 -ℤ pos most) n) (int_le n (pos most)) h in
+    both_ways (is_from_to (pos 0 -ℤ pos most) (pos most) n) (is_sized most n)
+    (λ h. let b = both (int_le (pos 0 -ℤ pos most) n) (int_le n (pos most)) h in
     let low = le_only (pos 0 -ℤ pos most) n b.0 in
     let high = le_only n (pos most) b.1 in
     sized_again most n (omega (arith, ints)))
     (λ h. let size = sized_only most n h in
-    both_again (int_le (pos 0 -ℤ pos most) n) (int_le n (pos most)) (le_again (pos 0 -ℤ pos most) n (omega (arith, ints))) (le_again n (pos most) (omega (arith, ints))))
+    both_true (le_again (pos 0 -ℤ pos most) n (omega (arith, ints))) (le_again n (pos most) (omega (arith, ints))))
 
 pub coordinate_again : (i : ℕ) (n : ℤ) → unsigned_abs n ≤ 50000000 → coordinate i n ≡ Ok n
 coordinate_again i n h = at_if_again (is_sized 50000000 n) i n (sized_again 50000000 n h)
@@ -132,7 +123,7 @@ direction_part_only i n m e = let h = at_if_only (is_sized 100000000 n) i n m e 
 
 nowhere_only : (dx dy : ℤ) → is_nowhere dx dy ≡ true → unsigned_abs dx * unsigned_abs dx + unsigned_abs dy * unsigned_abs dy ≡ 0
 nowhere_only dx dy h =
-    let b = both_only (int_eq dx (pos 0)) (int_eq dy (pos 0)) h in
+    let b = both (int_eq dx (pos 0)) (int_eq dy (pos 0)) h in
     rw (equal_only dx (pos 0) b.0, equal_only dy (pos 0) b.1)
 
 somewhere : (dx dy : ℤ) → is_nowhere dx dy ≡ false → 1 ≤ unsigned_abs dx * unsigned_abs dx + unsigned_abs dy * unsigned_abs dy
@@ -175,15 +166,15 @@ edge_only c r h = grind (arith, nat_tests)
 pub circle_again : (i : ℕ) (c : Circ) → IsCircle c → circle_at i c.c c.r ≡ Ok c
 circle_again i c h =
     at_if_again (is_radius c.c c.r) i c
-    (both_again (int_le (pos 100) c.r && is_within_edge c.c.x c.r) (is_within_edge c.c.y c.r)
-    (both_again (int_le (pos 100) c.r) (is_within_edge c.c.x c.r) (le_again (pos 100) c.r h.least) (edge_again c.c.x c.r h.x))
+    (both_true
+    (both_true (le_again (pos 100) c.r h.least) (edge_again c.c.x c.r h.x))
     (edge_again c.c.y c.r h.y))
 
 pub circle_only : (i : ℕ) (p : Pt) (r : ℤ) (c : Circ) → IsPoint p → circle_at i p r ≡ Ok c → (c.c ≡ p) × (c.r ≡ r) × IsCircle c
 circle_only i p r c is e =
     let h = at_if_only (is_radius p r) i (record { c = p; r = r }) c e in
-    let a = both_only (int_le (pos 100) r && is_within_edge p.x r) (is_within_edge p.y r) h.0 in
-    let b = both_only (int_le (pos 100) r) (is_within_edge p.x r) a.0 in (
+    let a = both (int_le (pos 100) r && is_within_edge p.x r) (is_within_edge p.y r) h.0 in
+    let b = both (int_le (pos 100) r) (is_within_edge p.x r) a.0 in (
       ap (λ (c : Circ). c.c) (sym h.1),
       ap (λ (c : Circ). c.r) (sym h.1),
       subst IsCircle h.1 (record { centre = is; least = le_only (pos 100) r b.0; x = edge_only p.x r b.1; y = edge_only p.y r a.1 }),
@@ -216,17 +207,17 @@ text_byte_only b h = by (b == 9) refl h
   where
     by : (t : Bool) → (b == 9) ≡ t → (t || (nat_le 32 b && nat_le b 126)) ≡ true → IsTextByte b
     by true is h = inr (equal_test b 9 is)
-    by false is h = let t = both_only (nat_le 32 b) (nat_le b 126) h in inl (less_test 32 b t.0, less_test b 126 t.1)
+    by false is h = let t = both (nat_le 32 b) (nat_le b 126) h in inl (less_test 32 b t.0, less_test b 126 t.1)
 
 text_byte_is : (b : ℕ) → IsTextByte b → is_text_byte b ≡ true
-text_byte_is b (inl h) = either_true (b == 9) (nat_le 32 b && nat_le b 126) (both_again (nat_le 32 b) (nat_le b 126) (less_is 32 b h.0) (less_is b 126 h.1))
+text_byte_is b (inl h) = either_true (b == 9) (nat_le 32 b && nat_le b 126) (both_true (less_is 32 b h.0) (less_is b 126 h.1))
 text_byte_is b (inr e) = subst (λ b. is_text_byte b ≡ true) (sym e) refl
 
 pub text_first : (b : ℕ) (bs : List ℕ) → IsText (b ∷ bs) → IsTextByte b × IsText bs
-text_first b bs h = let t = both_only (is_text_byte b) (list_all is_text_byte bs) h in (text_byte_only b t.0, t.1)
+text_first b bs h = let t = both (is_text_byte b) (list_all is_text_byte bs) h in (text_byte_only b t.0, t.1)
 
 pub text_more : (b : ℕ) (bs : List ℕ) → IsTextByte b → IsText bs → IsText (b ∷ bs)
-text_more b bs h k = both_again (is_text_byte b) (list_all is_text_byte bs) (text_byte_is b h) k
+text_more b bs h k = both_true (text_byte_is b h) k
 
 pub byte_again : (i b : ℕ) → IsTextByte b → text_byte i (pos b) ≡ Ok b
 byte_again i b h = at_if_again (is_text (pos b)) i b (is h)
@@ -243,7 +234,7 @@ text_only n h = by (int_le (pos 32) n && int_le n (pos 126)) refl h
     printed (negsuc b) low high = absurd (omega (arith, ints))
 
     by : (b : Bool) → is_from_to (pos 32) (pos 126) n ≡ b → (b || int_eq n (pos 9)) ≡ true → (pos (unsigned_abs n) ≡ n) × IsTextByte (unsigned_abs n)
-    by true is h = let b = both_only (int_le (pos 32) n) (int_le n (pos 126)) is in printed n (le_only (pos 32) n b.0) (le_only n (pos 126) b.1)
+    by true is h = let b = both (int_le (pos 32) n) (int_le n (pos 126)) is in printed n (le_only (pos 32) n b.0) (le_only n (pos 126) b.1)
     by false is h = subst (λ n. (pos (unsigned_abs n) ≡ n) × IsTextByte (unsigned_abs n)) (sym (equal_only n (pos 9) h)) (refl, inr refl)
 
 pub byte_only : (i : ℕ) (n : ℤ) (b : ℕ) → text_byte i n ≡ Ok b → (pos b ≡ n) × IsTextByte b

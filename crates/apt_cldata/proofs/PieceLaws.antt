@@ -16,11 +16,12 @@ use Rattle.apt_cldata.specs.Records.{record_of}
 use Rattle.apt_records.specs.Lists.{most_bytes, IsShort, AreShort}
 use Rattle.apt_cldata.specs.Files.{length_bytes, word_bytes, framed, record_bytes, records_bytes, StandApart}
 use Rattle.apt_cldata.specs.Reading.{fault, length_in, word_in, words_in, is_length, length_of, located, record_in, said_by, Piece, piece, first_of}
-use Rattle.apt_cldata.proofs.FieldLaws.{bind_only, equal_test, less_test, both_only, equal_only, equal_again, pick, pick_both}
+use Rattle.apt_cldata.proofs.FieldLaws.{bind_only, equal_test, less_test, equal_only, equal_again, pick, pick_both}
 use Rattle.apt_cldata.proofs.RecordLaws.{bind_again, SaidBy, record_again}
 use Rattle.apt_cldata.proofs.RecordOnly.{record_only}
 use Rattle.apt_cldata.proofs.ByteLaws.{AreBytes, AllFit, bytes_behind, word_fits, length_again, length_only, length_length, words_again, words_only, words_length, words_count}
 use Rattle.apt_cldata.proofs.WordsFit.{words_fit}
+use Rattle.apt_words.proofs.Bools.{both}
 
 -- ---- lengths
 
@@ -47,8 +48,8 @@ pub record IsLengthOf (bytes : List ℕ) (n : ℕ) : Type 0 where
 
 length_tests_only : (n : ℕ) → is_length n ≡ true → (n % 8 ≡ 0) × (24 ≤ n) × (n ≤ most_bytes)
 length_tests_only n h =
-    let a = both_only (n % 8 == 0 && nat_le 24 n) (nat_le n most_bytes) h in
-    let b = both_only (n % 8 == 0) (nat_le 24 n) a.0 in
+    let a = both (n % 8 == 0 && nat_le 24 n) (nat_le n most_bytes) h in
+    let b = both (n % 8 == 0) (nat_le 24 n) a.0 in
     (equal_test (n % 8) 0 b.0, less_test 24 n b.1, less_test n most_bytes a.1)
 
 not_false_only : (b : Bool) → not b ≡ false → b ≡ true

@@ -32,6 +32,7 @@ use Rattle.apt_unroll.specs.Deeds.{by_values, executed, deed_of}
 use Rattle.apt_report.specs.Decimals.{pointed, signed_pointed}
 use Rattle.apt_demo.specs.Demo.{centre_x, centre_y, radius, clear_x, pair}
 use Rattle.apt_demo.proofs.Deeds.{deeds_about, circle_deeds, deeds_from}
+use Rattle.apt_words.proofs.Alike.{heads, tails}
 
 -- ---- lines, without their line feeds
 
@@ -151,18 +152,12 @@ abbrev counted : ℕ → ℕ → List ℕ
 counted a zero = []
 counted a (suc n) = a ∷ counted (a + 1) n
 
-first_same : {A : Type 0} (x y : A) (xs ys : List A) → x ∷ xs ≡ y ∷ ys → x ≡ y
-first_same x y xs ys e = cc
-
-others_same : {A : Type 0} (x y : A) (xs ys : List A) → x ∷ xs ≡ y ∷ ys → xs ≡ ys
-others_same x y xs ys e = cc
-
 -- one row of a table
 drawn : {A : Type 0} (f g : ℕ → A) (a n k : ℕ) → map f (counted a n) ≡ map g (counted a n) → a ≤ k → k < a + n → f k ≡ g k
 drawn f g a zero k e low high = absurd (omega (arith, low, high))
 drawn f g a (suc n) k e low high = elim (cases_lt a k) [
-  | inl more ↦ drawn f g (a + 1) n k (others_same (f a) (g a) _ _ e) (omega (arith, more)) (omega (arith, high))
-  | inr none ↦ let same : k ≡ a = omega (arith, low, none) in rw same (first_same (f a) (g a) _ _ e)
+  | inl more ↦ drawn f g (a + 1) n k (tails (f a) (g a) _ _ e) (omega (arith, more)) (omega (arith, high))
+  | inr none ↦ let same : k ≡ a = omega (arith, low, none) in rw same (heads (f a) (g a) _ _ e)
 ]
 
 circles_read : map (λ k. map read (circle_lines k)) (counted 0 800) ≡ map (λ k. map (λ b. Some b) (circle_bodies k)) (counted 0 800)
@@ -209,7 +204,7 @@ read_each : (ls : List (List ℕ)) (bs : List Body) → map read ls ≡ map (λ 
 read_each [] [] e = tt
 read_each [] (b ∷ bs) e = cc
 read_each (l ∷ ls) [] e = cc
-read_each (l ∷ ls) (b ∷ bs) e = (first_same _ _ _ _ e, read_each ls bs (others_same _ _ _ _ e))
+read_each (l ∷ ls) (b ∷ bs) e = (heads _ _ _ _ e, read_each ls bs (tails _ _ _ _ e))
 
 read_both : (ls ms : List (List ℕ)) (bs cs : List Body) → AreRead ls bs → AreRead ms cs → AreRead (ls ++ ms) (bs ++ cs)
 read_both [] ms [] cs p q = q
@@ -235,7 +230,7 @@ done_each : (bs : List Body) (ds : List Deed) → ((names : Names) → map (deed
 done_each [] [] e none = tt
 done_each [] (d ∷ ds) e none = let f = e [] in cc
 done_each (b ∷ bs) [] e none = let f = e [] in cc
-done_each (b ∷ bs) (d ∷ ds) e none = (λ names. first_same _ _ _ _ (e names), none.0, done_each bs ds (λ names. others_same _ _ _ _ (e names)) none.1)
+done_each (b ∷ bs) (d ∷ ds) e none = (λ names. heads _ _ _ _ (e names), none.0, done_each bs ds (λ names. tails _ _ _ _ (e names)) none.1)
 
 circle_read : (k : ℕ) → k < 800 → AreRead (circle_lines k) (circle_bodies k)
 circle_read k few = read_each (circle_lines k) (circle_bodies k) (drawn (λ k. map read (circle_lines k)) (λ k. map (λ b. Some b) (circle_bodies k)) 0 800 k circles_read (omega arith) few)

@@ -15,6 +15,7 @@ use Rattle.apt_lexis.specs.Sentences.{said_on, goes_on}
 use Rattle.apt_lexis.proofs.PlainLines.{is_plain, plain_characters, first_plain}
 use Rattle.apt_demo.specs.Demo.{centre_x, centre_y, radius, clear_x, circle_line, line_line, cut_lines, circle_block, circle_blocks, head, demo_part}
 use Rattle.apt_demo.proofs.Readings.{lines_about, circle_lines, lines_from, title_line, inner_lines, last_line, demo_lines, inner_bodies, of_tokens, is_fit, is_usual, read, AreRead, title_fit, inner_read}
+use Rattle.apt_words.proofs.Bools.{both}
 
 -- lines, each with its line feed
 abbrev text_of : List (List ℕ) → List ℕ
@@ -63,11 +64,6 @@ demo_text n =
 
 -- ---- and the lines of the text are those
 
-both_hold : (a b : Bool) → (a && b) ≡ true → (a ≡ true) × (b ≡ true)
-both_hold true true e = (refl, refl)
-both_hold true false e = cc
-both_hold false b e = cc
-
 line_then : (line after : List ℕ) → list_all is_plain line ≡ true → lines_of (line ++ line_feed ∷ after) ≡ line ∷ lines_of after
 line_then line after e =
     let at = take-append_seam line (line_feed ∷ after) in
@@ -105,12 +101,12 @@ not_so false e = refl
 pub read_as : (l : List ℕ) (b : Body) → read l ≡ Some b → IsReadAs l b
 read_as l b e =
     let parts = by_test (is_usual l) (of_tokens (tokens_of (said_on l))) b e in
-    let usual = both_hold (is_fit l) (not (is_some (title_or_labelled l)) && not (goes_on l)) parts.0 in
-    let rest = both_hold (not (is_some (title_or_labelled l))) (not (goes_on l)) usual.1 in
+    let usual = both (is_fit l) (not (is_some (title_or_labelled l)) && not (goes_on l)) parts.0 in
+    let rest = both (not (is_some (title_or_labelled l))) (not (goes_on l)) usual.1 in
     record { fit = usual.0; no_title = none_of (title_or_labelled l) rest.0; ends = not_so (goes_on l) rest.1; told = parts.1 }
 
 fit_plain : (l : List ℕ) → is_fit l ≡ true → list_all is_plain l ≡ true
-fit_plain l e = (both_hold (list_all is_plain l) (not (nat_lt 256 (length l))) e).0
+fit_plain l e = (both (list_all is_plain l) (not (nat_lt 256 (length l))) e).0
 
 -- a line that is fit has no fault, where it is no line too many
 no_fault_by : (n : ℕ) (l : List ℕ) (late long good : Bool) → late ≡ false → long ≡ false → good ≡ true
@@ -119,7 +115,7 @@ no_fault_by n l late long good p q r = rw (p, q, r) refl
 
 pub fit_line : (n : ℕ) (l : List ℕ) → is_fit l ≡ true → n ≤ 50000 → line_fault n l ≡ None
 fit_line n l e few =
-    let parts = both_hold (list_all is_plain l) (not (nat_lt 256 (length l))) e in
+    let parts = both (list_all is_plain l) (not (nat_lt 256 (length l))) e in
     let late : nat_lt 50000 n ≡ false = grind (arith, nat_tests) in
     no_fault_by n l (nat_lt 50000 n) (nat_lt 256 (length l)) (list_all is_character l) late (not_so (nat_lt 256 (length l)) parts.1) (plain_characters l parts.0)
 

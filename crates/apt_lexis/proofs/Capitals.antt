@@ -62,7 +62,7 @@ digit_is_no_capital b e = grind (arith, nat_tests)
 letter_is_capital : (b : ℕ) → is_letter b ≡ true → is_capital (capital b) ≡ true
 letter_is_capital b e = grind (arith, nat_tests)
 
-letter_or_digit_of_letter : (b : ℕ) → is_letter b ≡ true → is_letter_or_digit b ≡ true
+pub letter_or_digit_of_letter : (b : ℕ) → is_letter b ≡ true → is_letter_or_digit b ≡ true
 letter_or_digit_of_letter b e = rw e refl
 
 in_capitals : (b : ℕ) → is_letter_or_digit b ≡ true → is_capital_or_digit (capital b) ≡ true

@@ -20,6 +20,7 @@ use Rattle.apt_lexis.proofs.Capitals.{no_both, other_first}
 use Rattle.apt_words.proofs.Words.{no_word}
 use Rattle.apt_lexis.proofs.OneByOne.{inner_length, inner_front, inner_rest, reads_of, reads_behind_blanks, reads_word, reads_number, reads_mark}
 use Rattle.apt_lexis.proofs.PartedRuns.{by_cases}
+use Rattle.apt_words.proofs.Bools.{neither}
 
 -- ---- what is read at the front of a title
 
@@ -78,10 +79,6 @@ some_with_label name text = named (is_name name)
 some_either : (t other : Option Title) → is_some (or_else t other) ≡ (is_some t || is_some other)
 some_either None other = refl
 some_either (Some t) other = refl
-
-neither : (s t : Bool) → (s || t) ≡ false → (s ≡ false) × (t ≡ false)
-neither true t e = cc
-neither false t e = (refl, e)
 
 -- ---- which texts take no text
 

@@ -13,14 +13,12 @@ use Rattle.apt_lexis.specs.Tokens.{Read, Tokens, tokens_of, is_blank, is_letter,
 use Rattle.apt_lexis.specs.Titles.{behind}
 use Rattle.apt_lexis.specs.Sentences.{joined}
 use Rattle.apt_lexis.proofs.Fronts.{prefix_yes, prefix_no, take_one_more, drop_one_more, take_front, none_behind, none_first}
+use Rattle.apt_lexis.proofs.Capitals.{letter_or_digit_of_letter}
 
 abbrev pub reads_of : List ℕ → List Read
 reads_of text = flat_map tokens_of_run (runs text)
 
 -- ---- characters
-
-letter_or_digit_of_letter : (b : ℕ) → is_letter b ≡ true → is_letter_or_digit b ≡ true
-letter_or_digit_of_letter b e = rw e refl
 
 in_run_of_letter_or_digit : (b : ℕ) → is_letter_or_digit b ≡ true → is_in_run b ≡ true
 in_run_of_letter_or_digit b e = rw e refl
@@ -35,7 +33,7 @@ neither false y e = refl
 no_letter : (b : ℕ) → is_letter_or_digit b ≡ false → is_letter b ≡ false
 no_letter b e = neither (is_letter b) _ e
 
-no_run_of_blank : (b : ℕ) → is_blank b ≡ true → is_in_run b ≡ false
+pub no_run_of_blank : (b : ℕ) → is_blank b ≡ true → is_in_run b ≡ false
 no_run_of_blank b e = grind (arith, nat_tests)
 
 -- ---- blanks
@@ -92,7 +90,7 @@ choose_third false false a b c e f = refl
 pub mark_alone : (b : ℕ) (bs : List ℕ) → is_letter b ≡ false → is_in_run b ≡ false → tokens_of_run (b ∷ bs) ≡ mark b ∷ []
 mark_alone b bs e f = choose_third (is_letter b) (is_in_run b) _ _ _ e f
 
-mark_run : (b : ℕ) (bs : List ℕ) → is_in_run b ≡ false → is_blank b ≡ false → runs (b ∷ bs) ≡ (b ∷ []) ∷ runs bs
+pub mark_run : (b : ℕ) (bs : List ℕ) → is_in_run b ≡ false → is_blank b ≡ false → runs (b ∷ bs) ≡ (b ∷ []) ∷ runs bs
 mark_run b bs e f = choose_third (is_in_run b) (is_blank b) _ _ _ e f
 
 no_letter_out : (b : ℕ) → is_in_run b ≡ false → is_letter b ≡ false

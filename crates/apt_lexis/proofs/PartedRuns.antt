@@ -9,7 +9,7 @@ use Rattle.apt_lexis.specs.Lines.{in_front}
 use Rattle.apt_lexis.specs.Tokens.{tokens_of_run, runs, is_blank, is_in_run, begins_in_run}
 use Rattle.apt_lexis.specs.Spellings.{ends_in_run}
 use Rattle.apt_lexis.proofs.Splitting.{Filled, filled}
-use Rattle.apt_lexis.proofs.OneByOne.{reads_of}
+use Rattle.apt_lexis.proofs.OneByOne.{reads_of, mark_run, no_run_of_blank}
 
 pub by_cases : {P : Type 0} (t : Bool) → (t ≡ true → P) → (t ≡ false → P) → P
 by_cases true h g = h refl
@@ -25,9 +25,6 @@ runs_ended b bs e f = rw (e, f) refl
 
 pub runs_blank : (b : ℕ) (bs : List ℕ) → is_in_run b ≡ false → is_blank b ≡ true → runs (b ∷ bs) ≡ runs bs
 runs_blank b bs e f = rw (e, f) refl
-
-pub runs_mark : (b : ℕ) (bs : List ℕ) → is_in_run b ≡ false → is_blank b ≡ false → runs (b ∷ bs) ≡ (b ∷ []) ∷ runs bs
-runs_mark b bs e f = rw (e, f) refl
 
 runs_filled : (b : ℕ) (bs : List ℕ) → is_in_run b ≡ true → Filled (runs (b ∷ bs))
 runs_filled b bs e =
@@ -50,7 +47,7 @@ parted_behind_other : (b : ℕ) (front back : List ℕ) → is_in_run b ≡ fals
 parted_behind_other b front back e is =
     by_cases (is_blank b)
     (λ f. runs_blank b (front ++ back) e f ∙ is ∙ ap (λ rs. rs ++ runs back) (sym (runs_blank b front e f)))
-    (λ f. parted_alone b front back is (runs_mark b (front ++ back) e f) (runs_mark b front e f))
+    (λ f. parted_alone b front back is (mark_run b (front ++ back) e f) (mark_run b front e f))
 
 parted_behind_run : (b c : ℕ) (cs back : List ℕ) → is_in_run b ≡ true → AreParted (c ∷ cs) back → AreParted (b ∷ c ∷ cs) back
 parted_behind_run b c cs back e is =
@@ -90,9 +87,6 @@ run_alone b (c ∷ cs) e =
 
 -- ---- a blank more
 
-blank_in_no_run : (b : ℕ) → is_blank b ≡ true → is_in_run b ≡ false
-blank_in_no_run b e = grind (arith, nat_tests)
-
 no_run_behind : (t other : Bool) → other ≡ false → (t && other) ≡ false
 no_run_behind true other e = e
 no_run_behind false other e = refl
@@ -100,5 +94,5 @@ no_run_behind false other e = refl
 -- a blank that parts no run changes no run
 pub runs_with_blank : (front : List ℕ) (b : ℕ) (back : List ℕ) → is_blank b ≡ true → (ends_in_run front && begins_in_run back) ≡ false → runs (front ++ b ∷ back) ≡ runs (front ++ back)
 runs_with_blank front b back e f =
-    let none = blank_in_no_run b e in
+    let none = no_run_of_blank b e in
     runs_parted front (b ∷ back) (no_run_behind (ends_in_run front) (is_in_run b) none) ∙ ap (λ rs. runs front ++ rs) (runs_blank b back none e) ∙ sym (runs_parted front back f)

@@ -10,8 +10,8 @@ use Rattle.apt_lexis.specs.Lines.{in_front}
 use Rattle.apt_lexis.specs.Tokens.{Read, capital, is_blank, is_letter, is_letter_or_digit, is_in_run, begins_in_run, runs, number_in, or_bad_number, number, of_symbol, word, mark, number_behind, tokens_of_run}
 use Rattle.apt_lexis.specs.Sentences.{is_no_dollar, is_single, said_on, goes_on}
 use Rattle.apt_lexis.proofs.Capitals.{no_both}
-use Rattle.apt_lexis.proofs.OneByOne.{reads_of, word_alone, number_alone, mark_alone}
-use Rattle.apt_lexis.proofs.PartedRuns.{by_cases, runs_longer, runs_ended, runs_blank, runs_mark}
+use Rattle.apt_lexis.proofs.OneByOne.{reads_of, word_alone, number_alone, mark_alone, mark_run}
+use Rattle.apt_lexis.proofs.PartedRuns.{by_cases, runs_longer, runs_ended, runs_blank}
 use Rattle.apt_lexis.proofs.Zeros.{is_digit_or_point, number_characters}
 
 -- ---- a test that small letters and capitals pass alike
@@ -207,7 +207,7 @@ alike_behind_other b bs is e =
     let e' = in_run-alike b ∙ e in
     by_cases (is_blank b)
     (λ f. runs_blank (capital b) (map capital bs) e' (blank-alike b ∙ f) ∙ is ∙ ap (map (map capital)) (sym (runs_blank b bs e f)))
-    (λ f. alike_alone b bs is (runs_mark (capital b) (map capital bs) e' (blank-alike b ∙ f)) (runs_mark b bs e f))
+    (λ f. alike_alone b bs is (mark_run (capital b) (map capital bs) e' (blank-alike b ∙ f)) (mark_run b bs e f))
 
 runs-capitals : (text : List ℕ) → AreRunsAlike text
 runs-capitals [] = refl

@@ -11,7 +11,7 @@ use Rattle.apt_lexis.proofs.Fronts.{take_one_more}
 abbrev far : ℕ → List ℕ → ℕ
 far c text = prefix_len (λ b. not (b == c)) text
 
-drop_one_more : (b i : ℕ) (bs : List ℕ) → drop (1 + i + 1) (b ∷ bs) ≡ drop (i + 1) bs
+pub drop_one_more : (b i : ℕ) (bs : List ℕ) → drop (1 + i + 1) (b ∷ bs) ≡ drop (i + 1) bs
 drop_one_more b i bs = grind (arith, common_steps)
 
 split_near : (c : ℕ) (text : List ℕ) → far c text < length text → split c text ≡ take (far c text) text ∷ split c (drop (far c text + 1) text)

@@ -17,6 +17,7 @@ use Rattle.apt_lexis.specs.declared.token.Token.TheVariants as tokens
 use Rattle.apt_lexis.specs.Tokens.{capital, is_blank, is_letter_or_digit}
 use Rattle.apt_lexis.specs.Titles.{Title, without_blanks, unless_last, takes_text, title_word, title, labelled, with_label, title_behind, behind_close, with_tokens, behind, front_word}
 use Rattle.apt_lexis.proofs.Capitals.{no_both}
+use Rattle.apt_words.proofs.Same.{other_length}
 
 -- ---- blanks at the end
 
@@ -96,17 +97,11 @@ pub no_title_spelled : (word : List ℕ) → bytes_eq word (spelling words.Partn
     → title_word word ≡ None
 no_title_spelled word f g = no_title_in word (word_of word) refl f g
 
-longer : (word other : List ℕ) → length word ≢ length other → bytes_eq word other ≡ false
-longer word other h = elim (bytes_eq word other) as (λ t. bytes_eq word other ≡ t → t ≡ false) [
-  | true ↦ λ e. absurd (h (ap length ((bytes_eq-Decides word other).0 e)))
-  | false ↦ λ e. refl
-] refl
-
 -- the words of titles have six letters
-pub other_length : (text : List ℕ) → length text ≢ 6 → title_word (map capital text) ≡ None
-other_length text h =
+pub no_title_of : (text : List ℕ) → length text ≢ 6 → title_word (map capital text) ≡ None
+no_title_of text h =
     let other : length (map capital text) ≢ 6 = λ e. h (sym (length-map text capital) ∙ e) in
-    no_title_spelled (map capital text) (longer (map capital text) (spelling words.Partno) other) (longer (map capital text) (spelling words.Remark) other)
+    no_title_spelled (map capital text) (other_length (map capital text) (spelling words.Partno) other) (other_length (map capital text) (spelling words.Remark) other)
 
 -- ---- labels
 

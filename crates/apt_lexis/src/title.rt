@@ -91,7 +91,7 @@ fn as_title_word(symbol: &Symbol) -> Option<Word>
 }
 
 /// Letters and digits as PARTNO or REMARK.
-#[tactic(auto, using(crate::proofs::TitleLaws::other_length, crate::proofs::TitleLaws::no_symbol, crate::proofs::TitleLaws::symbol_is))]
+#[tactic(auto, using(crate::proofs::TitleLaws::no_title_of, crate::proofs::TitleLaws::no_symbol, crate::proofs::TitleLaws::symbol_is))]
 fn title_word(text: &[u8]) -> Option<Word>
     ensures { result ≡ spec.title_word (map characters.capital text.now) }
 {

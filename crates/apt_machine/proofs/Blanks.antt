@@ -5,16 +5,12 @@ use Rattle.std.specs.Prelude.{position, nat_lt}
 use Rattle.std.specs.List.{prefix_len}
 use Rattle.std.proofs.lemmas.Grind.{common_steps}
 use Rattle.apt_machine.specs.Tables.{in_front, behind, blank}
+use Rattle.apt_lexis.proofs.Splitting.{drop_one_more}
+use Rattle.apt_lexis.proofs.Fronts.{take_one_more}
 
 -- how far the first blank is
 abbrev far : List ℕ → ℕ
 far text = prefix_len (λ b. not (b == blank)) text
-
-take_one_more : (b i : ℕ) (bs : List ℕ) → take (1 + i) (b ∷ bs) ≡ b ∷ take i bs
-take_one_more b i bs = grind (arith, common_steps)
-
-drop_one_more : (b i : ℕ) (bs : List ℕ) → drop (1 + i + 1) (b ∷ bs) ≡ drop (i + 1) bs
-drop_one_more b i bs = grind (arith, common_steps)
 
 front_far : (line : List ℕ) → in_front line ≡ take (far line) line
 front_far [] = refl

@@ -27,6 +27,7 @@ use Rattle.apt_machine.specs.Numbers.{is_digit, digits_from, has_leading_zero, p
 use Rattle.apt_machine.specs.Keys.{blank_draft, has, first_key, key_named}
 use Rattle.apt_machine.specs.Tables.{is_readable, in_front, behind, keyed, behind_line, machine_from, machine_of_lines, table_of}
 use Rattle.apt_machine.specs.Spelling.{code_word, line_where, chosen_lines, table_lines, text_of, spelled}
+use Rattle.apt_words.proofs.Bools.{both}
 
 -- ---- numbers
 
@@ -102,10 +103,6 @@ lines_again (line ∷ lines) h = line_then line (text_of lines) h.0 ∙ ap (λ l
 
 readable : (line : List ℕ) → list_all is_shown line ≡ true → length line ≤ 256 → is_readable line ≡ true
 readable line e short = rw (most_test (length line) 256 short, passes_other is_shown is_character character_shown line e) refl
-
-both : (x y : Bool) → (x && y) ≡ true → (x ≡ true) × (y ≡ true)
-both true y e = (refl, e)
-both false y e = absurd (cc)
 
 no_tab : (line : List ℕ) → list_all is_shown line ≡ true → list_any (λ b. b == tab) line ≡ false
 no_tab [] e = refl

@@ -9,14 +9,11 @@ use Rattle.std.proofs.lemmas.List.Folds.{list_all-append}
 use Rattle.apt_plane.specs.declared.figures.Pt.{Pt}
 use Rattle.apt_records.specs.declared.record.Position.{Position}
 use Rattle.apt_records.specs.Vertices.{at_height, point_of}
+use Rattle.apt_words.proofs.Bools.{both}
 
 -- whether positions are all at a height
 abbrev are_at : ℤ → List Position → Bool
 are_at z ps = list_all (λ p. int_eq p.z z) ps
-
-both : (a b : Bool) → (a && b) ≡ true → (a ≡ true) × (b ≡ true)
-both true b e = (refl, e)
-both false b e = absurd (true≢false (sym e))
 
 same_position : (z : ℤ) (p : Position) → int_eq p.z z ≡ true → p ≡ at_height z p.xy
 same_position z p e = ap (λ (n : ℤ). record { xy = p.xy; z = n }) ((Decides-int_eq p.z z).0 e)

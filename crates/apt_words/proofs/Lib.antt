@@ -6,3 +6,4 @@ pub mod Answers
 pub mod Bytes
 pub mod Rows
 pub mod Titles
+pub mod Bools
