@@ -9,3 +9,4 @@ pub mod Running
 pub mod Posting
 pub mod BlockByBlock
 pub mod Able
+pub mod Instructions

@@ -5,3 +5,5 @@ pub mod ArcBlocks
 pub mod Writable
 pub mod ArcTape
 pub mod ArcPosting
+pub mod Instructions
+pub mod Settled

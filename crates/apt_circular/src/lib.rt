@@ -1,16 +1,19 @@
 //! Circular blocks: the acts that records ask for on a machine that cuts a leg round a circle as one arc, what a circular
-//! block means, and the writer of such blocks.
+//! block means, the reader of tapes with such blocks, and their writer.
 #![tactic(auto)]
 
 mod arc;
+mod instruction;
 mod left;
 mod planning;
 mod poster;
+mod reading;
 
-use apt_control::Act;
+use apt_control::{Act, ControlReader};
 pub use left::ArcBytes;
 pub use planning::{ArcPlan, Coming, Round, plan_arcs};
 pub use poster::ArcPoster;
+pub use reading::ArcHeld;
 
 /// An act of a control that cuts arcs: a plain one, or an arc about a centre to a position, anticlockwise where
 /// `turn` is 1 (G03), clockwise where it is -1 (G02). Coordinates are in grid units, the feed in tenths of an inch
@@ -28,3 +31,6 @@ pub enum ArcAct {
         feed: i64,
     },
 }
+
+/// A tape of acts with arcs whose bytes come in pieces.
+pub type ArcReader = ControlReader<ArcHeld>;
