@@ -26,7 +26,7 @@ use Rattle.apt_parse.specs.Statements.{open_macro, open_loop, loop_from, loop_be
 use Rattle.apt_parse.specs.Programs.{jumps, has_labels, line_of, whole, unless_open, unless_missing, ends_with, or_fault, program_from, program_of, last_line as last_number}
 use Rattle.apt_parse.proofs.Reading.{macro_from_behind}
 use Rattle.apt_scalar.specs.Meanings.{Names}
-use Rattle.apt_unroll.specs.Deeds.{deed_of, names_behind}
+use Rattle.apt_deeds.specs.Deeds.{deed_of, names_behind}
 use Rattle.apt_unroll.specs.Actions.{most_steps}
 use Rattle.apt_unroll.specs.Trace.{Trace, with_step, trace_of}
 use Rattle.apt_unroll.specs.Straight.{IsStraight, AreStraight, or_refused, deed_at, straight_from, in_order}

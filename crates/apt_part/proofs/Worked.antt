@@ -17,7 +17,7 @@ use Rattle.apt_lexis.specs.declared.cause.PartCause.TheVariants as causes
 use Rattle.apt_expr.specs.Expressions.{expression}
 use Rattle.apt_shapes.specs.Shapes.{shape}
 use Rattle.apt_parse.specs.Programs.{TextFault, program_of}
-use Rattle.apt_unroll.specs.Deeds.{by_values, executed, deed_of}
+use Rattle.apt_deeds.specs.Deeds.{by_values, executed, deed_of}
 use Rattle.apt_unroll.specs.Actions.{action}
 use Rattle.apt_unroll.specs.Trace.{trace_from, trace_of}
 use Rattle.apt_plane.specs.declared.figures.Surface.{Surface}

@@ -17,12 +17,12 @@ use Rattle.apt_scalar.specs.Evaluation.{value_of}
 use Rattle.apt_scalar.specs.Scalars.{IsScalar}
 use Rattle.apt_scalar.proofs.Ranges.{value_of-scalar}
 use Rattle.apt_unroll.specs.declared.numbers.Naming.TheVariants as namings
-use Rattle.apt_unroll.specs.Deeds.{deed_of}
+use Rattle.apt_deeds.specs.Deeds.{deed_of}
 use Rattle.apt_unroll.specs.Places.{place_of, target}
 use Rattle.apt_unroll.specs.Calls.{Actual, bindings}
 use Rattle.apt_unroll.specs.Stages.{Call, Stage, parameters}
 use Rattle.apt_unroll.specs.Actions.{Action, go_on, jump_to, label_by, most_calls, enter, formal_of, call, return, action, most_steps, IsActed, step_of}
-use Rattle.apt_unroll.proofs.Suits.{Any, any, Suits, deed_of-suits}
+use Rattle.apt_deeds.proofs.Suits.{Any, any, Suits, deed_of-suits}
 
 -- ---- what holds of an action, by its form
 

@@ -11,12 +11,12 @@ use Rattle.apt_scalar.specs.Evaluation.{value_of}
 use Rattle.apt_scalar.specs.Scalars.{IsScalar}
 use Rattle.apt_scalar.proofs.Ranges.{value_of-scalar}
 use Rattle.apt_unroll.specs.declared.numbers.Naming.TheVariants as namings
-use Rattle.apt_unroll.specs.Deeds.{deed_of}
+use Rattle.apt_deeds.specs.Deeds.{deed_of}
 use Rattle.apt_unroll.specs.Places.{executed_from, place_of, target}
 use Rattle.apt_unroll.specs.Stages.{Call, Stage, first_stage, parameters}
 use Rattle.apt_unroll.specs.Actions.{Action, go_on, label_by, action, most_steps, step_of}
 use Rattle.apt_unroll.specs.Trace.{Trace, moment, AreRun, IsTrace, with_moment, trace_from, trace_of}
-use Rattle.apt_unroll.proofs.Suits.{Suits, deed_of-suits}
+use Rattle.apt_deeds.proofs.Suits.{Suits, deed_of-suits}
 use Rattle.apt_unroll.proofs.Acts.{by_result, by_target, by_call, by_macro, by_tests}
 use Rattle.apt_unroll.proofs.Nesting.{there_is, stands_at, executed_stands, target_stands, body_stands}
 

@@ -14,7 +14,7 @@ use Rattle.apt_words.specs.declared.body.Stmt.{Stmt}
 use Rattle.apt_words.specs.declared.deed.Deed.{Deed}
 use Rattle.apt_words.specs.declared.deed.Deed.TheVariants as deeds
 use Rattle.apt_scalar.specs.Meanings.{Names}
-use Rattle.apt_unroll.specs.Deeds.{by_values, executed, deed_of, names_behind}
+use Rattle.apt_deeds.specs.Deeds.{by_values, executed, deed_of, names_behind}
 use Rattle.apt_unroll.specs.Places.{begins_macro, behind_macros, executed_from}
 use Rattle.apt_unroll.specs.Stages.{Stage}
 use Rattle.apt_unroll.specs.Actions.{go_on, action, most_steps, step_of}

@@ -1,4 +1,3 @@
-pub mod Suits
 pub mod Acts
 pub mod Binding
 pub mod Tables

@@ -5,10 +5,7 @@ use Rattle.apt_words.specs.declared.Refusal.{Refusal}
 use Rattle.apt_words.specs.declared.body.Stmt.{Stmt}
 use Rattle.apt_words.specs.declared.deed.Step.{Step}
 use Rattle.apt_unroll.specs.Stages.{Stage}
-use Rattle.apt_unroll.specs.Trace.{Trace, moment, with_moment, trace_from}
-
-abbrev pub behind : List Step → Trace → Trace
-behind before more = record { steps = before ++ more.steps; fault = more.fault }
+use Rattle.apt_unroll.specs.Trace.{Trace, moment, with_moment, trace_from, behind}
 
 one_left : (left : ℕ) → 0 < left → left ≡ suc (left - 1)
 one_left left h = omega (arith, h)

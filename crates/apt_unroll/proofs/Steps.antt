@@ -15,7 +15,7 @@ use Rattle.apt_unroll.specs.Places.{begins_macro, ends_macro, behind_macros, exe
 use Rattle.apt_unroll.specs.Stages.{Stage, first_stage}
 use Rattle.apt_unroll.specs.Actions.{Action, action, step_of}
 use Rattle.apt_unroll.specs.Trace.{Trace, with_number, moment_of, moment, IsDone, AreRun, IsTrace}
-use Rattle.apt_unroll.proofs.Suits.{is_end, Suits}
+use Rattle.apt_deeds.proofs.Suits.{is_end, Suits}
 use Rattle.apt_unroll.proofs.Acts.{Acts, by_tests, step_acts}
 use Rattle.apt_unroll.proofs.Found.{few}
 

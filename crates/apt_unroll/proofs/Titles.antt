@@ -14,12 +14,12 @@ use Rattle.apt_scalar.specs.Evaluation.{value_of}
 use Rattle.apt_unroll.specs.declared.numbers.Naming.TheVariants as namings
 use Rattle.apt_unroll.specs.declared.places.Region.{Region}
 use Rattle.apt_unroll.specs.declared.places.Region.TheVariants as regions
-use Rattle.apt_unroll.specs.Deeds.{deed_of}
+use Rattle.apt_deeds.specs.Deeds.{deed_of}
 use Rattle.apt_unroll.specs.Places.{place_of, none_open, region, regions_of, are_one_region, are_together, target}
 use Rattle.apt_unroll.specs.Stages.{Call, Stage, first_stage, parameters}
 use Rattle.apt_unroll.specs.Actions.{Action, go_on, label_by, action, step_of}
 use Rattle.apt_unroll.specs.Trace.{Trace, IsDone, AreRun, IsTrace}
-use Rattle.apt_unroll.proofs.Suits.{Any, any}
+use Rattle.apt_deeds.proofs.Suits.{Any, any}
 use Rattle.apt_unroll.proofs.Acts.{Acts, by_result, by_target, by_call, by_macro, by_tests, step_acts}
 use Rattle.apt_unroll.proofs.Steps.{is_at, suits}
 

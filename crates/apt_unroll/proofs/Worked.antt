@@ -18,7 +18,7 @@ use Rattle.apt_scalar.specs.declared.names.Value.TheVariants as values
 use Rattle.apt_scalar.specs.declared.names.Kind.TheVariants as kinds
 use Rattle.apt_scalar.specs.declared.names.Bound.TheVariants as bounds
 use Rattle.apt_scalar.specs.Meanings.{Names}
-use Rattle.apt_unroll.specs.Deeds.{by_values, executed, deed_of, names_behind}
+use Rattle.apt_deeds.specs.Deeds.{by_values, executed, deed_of, names_behind}
 use Rattle.apt_unroll.specs.Places.{regions_of}
 use Rattle.apt_unroll.specs.declared.places.Region.TheVariants as regions
 use Rattle.apt_unroll.specs.Calls.{bindings}

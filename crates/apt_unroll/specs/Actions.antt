@@ -14,7 +14,7 @@ use Rattle.apt_words.specs.declared.deed.Deed.TheVariants as deeds
 use Rattle.apt_scalar.specs.Meanings.{Parameters}
 use Rattle.apt_scalar.specs.Evaluation.{value_of}
 use Rattle.apt_unroll.specs.declared.numbers.Naming.TheVariants as namings
-use Rattle.apt_unroll.specs.Deeds.{deed_of, names_behind}
+use Rattle.apt_deeds.specs.Deeds.{deed_of, names_behind}
 use Rattle.apt_unroll.specs.Places.{place_of, target}
 use Rattle.apt_unroll.specs.Calls.{Formal, Actual, bindings}
 use Rattle.apt_unroll.specs.Stages.{Call, Stage, parameters}

@@ -1,4 +1,3 @@
-pub mod Deeds
 pub mod Places
 pub mod Tables
 pub mod Calls
@@ -7,4 +6,3 @@ pub mod Actions
 pub mod Trace
 pub mod Straight
 pub mod Codes
-pub mod Texts

@@ -9,7 +9,7 @@ use Rattle.apt_words.specs.declared.body.Body.{Body}
 use Rattle.apt_words.specs.declared.body.Stmt.{Stmt}
 use Rattle.apt_words.specs.declared.deed.Deed.{Deed}
 use Rattle.apt_scalar.specs.Meanings.{Names}
-use Rattle.apt_unroll.specs.Deeds.{deed_of, names_behind}
+use Rattle.apt_deeds.specs.Deeds.{deed_of, names_behind}
 use Rattle.apt_unroll.specs.Actions.{most_steps}
 use Rattle.apt_unroll.specs.Trace.{Trace, empty_trace, refused, with_step}
 

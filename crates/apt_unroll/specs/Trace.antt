@@ -1,5 +1,5 @@
 -- The one trace of a program: its stages, each the next of the one before, with the steps that are executed there.
-use Rattle.std.specs.Prelude.{◌≡◌, ℕ, zero, suc, ◌+◌, List, [], ◌∷◌, slice_get, Option, Some, None, Ok, Err}
+use Rattle.std.specs.Prelude.{◌≡◌, ℕ, zero, suc, ◌+◌, List, [], ◌∷◌, ◌++◌, slice_get, Option, Some, None, Ok, Err}
 use Rattle.apt_words.specs.declared.Case.{Case}
 use Rattle.apt_words.specs.declared.Refusal.{Refusal}
 use Rattle.apt_words.specs.declared.body.Stmt.{Stmt}
@@ -78,9 +78,22 @@ unfoldable pub trace_from : ℕ → ℕ → List Stmt → Stage → Trace
 trace_from zero n sts s = empty_trace
 trace_from (suc left) n sts s = with_moment n (moment sts n s) (trace_from left (n + 1) sts)
 
--- the step behind the last is refused at least
+-- from a stage on, with the first step; the one behind the last is refused at least
+abbrev pub all_from : List Stmt → Stage → Trace
+all_from sts s = trace_from (most_steps + 1) 1 sts s
+
+-- from the first stage on
 abbrev pub trace_of : List Stmt → Trace
-trace_of sts = trace_from (most_steps + 1) 1 sts first_stage
+trace_of sts = all_from sts first_stage
+
+-- ---- steps that are done
+
+abbrev pub with_fault : List Step → Option Refusal → Trace
+with_fault steps fault = record { steps = steps; fault = fault }
+
+-- steps in front of a trace
+abbrev pub behind : List Step → Trace → Trace
+behind before more = with_fault (before ++ more.steps) more.fault
 
 -- ---- one step as it is done
 

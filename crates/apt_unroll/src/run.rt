@@ -8,14 +8,14 @@ ghost use Rattle.apt_words.specs.ProgramEnds as endings;
 ghost use Rattle.apt_scalar.specs.Meanings.{meaning};
 ghost use Rattle.apt_unroll.specs.Actions as actions;
 ghost use Rattle.apt_unroll.specs.Actions.{IsActed, action};
-ghost use Rattle.apt_unroll.specs.Deeds as defining;
+ghost use Rattle.apt_deeds.specs.Deeds as defining;
 ghost use Rattle.apt_unroll.specs.Places.{begins_macro, goes_on, place_of};
 ghost use Rattle.apt_unroll.specs.declared.numbers.Naming.TheVariants as namings;
 ghost use Rattle.apt_unroll.specs.Stages as stages;
 
 use crate::calls::bindings;
-use crate::deeds::{bind_behind, deed_of};
 use crate::places::Listing;
+use apt_deeds::{bind_behind, deed_of};
 use apt_scalar::{Env, Frame, eval};
 use apt_words::{Args, Body, Case, Deed, Symbol};
 use arrayvec::ArrayVec;

@@ -65,33 +65,43 @@ pub fn unroll(alloc: Global, p: &Program) -> Result<Unrolled, AllocError>
     unroll_all(alloc, p)
 }
 
-#[tactic(auto, using(crate::proofs::Prefixes::stepped, crate::proofs::Prefixes::finished, crate::proofs::Prefixes::refused_at, crate::proofs::Prefixes::run_out, crate::proofs::Prefixes::nothing_left))]
 fn unroll_all(alloc: Global, p: &Program) -> Result<Unrolled, AllocError>
     ensures { IfOk result (λ u. u ≡ trace_of p.now) }
 {
     let mut listing = Listing::new(p);
     let mut run = Run::new(alloc);
     let mut steps = Vec::with_capacity(alloc, p.stmts.len().min(MOST_STEPS as usize))?;
+    let fault = unroll_run(alloc, &mut listing, &mut run, &mut steps)?;
+    Ok(Unrolled { steps, fault })
+}
+
+/// Adds the steps of a run to some steps, up to FINI or to the first that is refused, and gives that refusal.
+#[tactic(auto, using(crate::proofs::Prefixes::stepped, crate::proofs::Prefixes::finished, crate::proofs::Prefixes::refused_at, crate::proofs::Prefixes::run_out, crate::proofs::Prefixes::nothing_left))]
+fn unroll_run(
+    alloc: Global,
+    listing: &mut Listing,
+    run: &mut Run,
+    steps: &mut Vec<Step>,
+) -> Result<Option<Refusal>, AllocError>
+    ensures { IfOk result (λ fault. spec.with_fault steps.new.items fault ≡ spec.behind steps.old.items (spec.all_from listing.old.stmts run.old)) }
+{
     let mut step = 1;
     let mut left = MOST_STEPS + 1;
     'steps: while left > 0 {
-        match next_step(alloc, &mut listing, &mut run, step) {
-            Next::On(next) => push(&mut steps, next)?,
+        match next_step(alloc, listing, run, step) {
+            Next::On(next) => push(steps, next)?,
             Next::Last(last) => {
-                push(&mut steps, last)?;
-                return Ok(Unrolled { steps, fault: None });
+                push(steps, last)?;
+                return Ok(None);
             }
-            Next::Refused(refusal) => {
-                let fault = Some(refusal);
-                return Ok(Unrolled { steps, fault });
-            }
-            Next::Out => return Ok(Unrolled { steps, fault: None }),
+            Next::Refused(refusal) => return Ok(Some(refusal)),
+            Next::Out => return Ok(None),
             Next::NoMemory => return Err(AllocError),
         }
         step += 1;
         left -= 1;
     }
-    Ok(Unrolled { steps, fault: None })
+    Ok(None)
 }
 
 fn push(steps: &mut Vec<Step>, step: Step) -> Result<(), AllocError>

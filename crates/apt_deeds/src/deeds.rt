@@ -2,7 +2,7 @@
 ghost use Rattle.std.specs.Prelude.{◌≡◌, IfOk, OnOk};
 ghost use Rattle.apt_words.specs.Asks.{ask_of};
 ghost use Rattle.apt_words.specs.Composition.{composition};
-ghost use Rattle.apt_unroll.specs.Deeds as deeds;
+ghost use Rattle.apt_deeds.specs.Deeds as deeds;
 
 use crate::figures::defined_name;
 use crate::statements::execution;
@@ -12,11 +12,7 @@ use std::alloc::{AllocError, Global};
 
 /// What a statement does, or its first refusal.
 #[tactic(auto, unfolding(crate::specs::Deeds::deed_of, crate::specs::Deeds::executed, crate::specs::Deeds::by_values))]
-pub(crate) fn deed_of(
-    env: &Env,
-    frame: &Frame,
-    body: &Body,
-) -> Result<Result<Deed, Case>, AllocError>
+pub fn deed_of(env: &Env, frame: &Frame, body: &Body) -> Result<Result<Deed, Case>, AllocError>
     ensures { IfOk result (λ deed. deed ≡ deeds.deed_of env.now frame.now body.now) }
 {
     if defines_parameter(frame, body) {
@@ -46,7 +42,7 @@ fn defines_parameter(frame: &Frame, body: &Body) -> bool
 }
 
 /// Gives the name that a step defines its value.
-pub(crate) fn bind_behind(alloc: Global, env: &mut Env, deed: &Deed) -> Result<(), AllocError>
+pub fn bind_behind(alloc: Global, env: &mut Env, deed: &Deed) -> Result<(), AllocError>
     ensures { OnOk result (env.new ≡ deeds.names_behind env.old deed.now) }
 {
     match definition_by(deed) {

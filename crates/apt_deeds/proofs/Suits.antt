@@ -18,7 +18,7 @@ use Rattle.apt_scalar.specs.Meanings.{Names, Parameters}
 use Rattle.apt_scalar.specs.Evaluation.{value_of}
 use Rattle.apt_scalar.specs.StepScalars.{AllScalars, HasScalars}
 use Rattle.apt_scalar.proofs.Ranges.{then_ok, value_of-scalar}
-use Rattle.apt_unroll.specs.Deeds.{values_of, names_for, arguments, lone_points, nth, by_values, points_or, executed, execution, is_parameter, deed_of}
+use Rattle.apt_deeds.specs.Deeds.{values_of, names_for, arguments, lone_points, nth, by_values, points_or, executed, execution, is_parameter, deed_of}
 
 abbrev pub is_end : Deed → Bool
 is_end deeds.Fini = true

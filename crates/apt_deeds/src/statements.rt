@@ -1,7 +1,7 @@
 //! What each statement does.
 ghost use Rattle.std.specs.Prelude.{◌≡◌, false};
-ghost use Rattle.apt_unroll.specs.Deeds as deeds;
-ghost use Rattle.apt_unroll.specs.Texts as texts;
+ghost use Rattle.apt_deeds.specs.Deeds as deeds;
+ghost use Rattle.apt_deeds.specs.Texts as texts;
 
 use crate::arguments::{both, coordinates, name_for, surfaces, three, value_and_pair};
 use crate::figures::figure;

@@ -2,8 +2,8 @@
 ghost use Rattle.std.specs.Prelude.{◌≡◌, true};
 ghost use Rattle.std.specs.Option.{option_copied};
 ghost use Rattle.apt_words.specs.Composition.{composition};
-ghost use Rattle.apt_unroll.specs.Deeds as deeds;
-ghost use Rattle.apt_unroll.specs.Texts as texts;
+ghost use Rattle.apt_deeds.specs.Deeds as deeds;
+ghost use Rattle.apt_deeds.specs.Texts as texts;
 
 use crate::arguments::{
     coordinates, four, name_for, pair, three, three_points, value_and_name, value_and_pair,

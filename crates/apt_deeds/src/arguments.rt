@@ -4,7 +4,7 @@ ghost use Rattle.apt_words.specs.Asks.{listed};
 ghost use Rattle.apt_words.specs.Composition.{if_there, names_with, surface_by};
 ghost use Rattle.apt_scalar.specs.Evaluation as values;
 ghost use Rattle.apt_scalar.specs.Meanings as meanings;
-ghost use Rattle.apt_unroll.specs.Deeds as deeds;
+ghost use Rattle.apt_deeds.specs.Deeds as deeds;
 
 use apt_scalar::{Bound, Env, Frame, Kind, Value, bound_in, eval};
 use apt_words::{Case, Expr, Node, Stop, Symbol};
