@@ -18,8 +18,8 @@ use Rattle.apt_lexis.specs.declared.token.Token.{Token}
 use Rattle.apt_lexis.specs.declared.token.Token.TheVariants as tokens
 use Rattle.apt_expr.specs.Expressions.{expression}
 use Rattle.apt_shapes.specs.declared.table.Labelled.{Labelled}
-use Rattle.apt_shapes.specs.Arguments.{arguments, name, word, pick, is_left, stop, says, pair, or_else}
-use Rattle.apt_shapes.specs.Figures.{assign, point_xy, point_xyz, point_center, point_lines, point, line_par, line_perp, line_xy, line_at, line_tan, line, circle_three, circle_through, circle_radius, circle_tan, circle, patern}
+use Rattle.apt_geometry.specs.Arguments.{arguments, name, word, pick, is_left, stop, says, pair, or_else}
+use Rattle.apt_geometry.specs.Figures.{assign, point_xy, point_xyz, point_center, point_lines, point, line_par, line_perp, line_xy, line_at, line_tan, line, circle_three, circle_through, circle_radius, circle_tan, circle, patern}
 use Rattle.apt_shapes.specs.Motions.{from, goto, godlta, surface, start_one, start_two, start, side_named, turn_of, check_stop, once, count, between, contour, contour_behind}
 use Rattle.apt_shapes.specs.Settings.{titled, one, expressions, units_of, units_in, spindle_turn, spindl_off, spindl_on, spindl, cool_of, coolnt, cycle}
 use Rattle.apt_shapes.specs.Flow.{parameters, differ, names_of, macro, arguments_in, call, jumpto, condition, if_in}

@@ -9,7 +9,7 @@ use Rattle.apt_words.specs.Trees.{Tree}
 use Rattle.apt_lexis.specs.declared.token.Token.{Token}
 use Rattle.apt_lexis.specs.declared.token.Token.TheVariants as tokens
 use Rattle.apt_expr.specs.Expressions.{expression}
-use Rattle.apt_shapes.specs.Arguments.{name}
+use Rattle.apt_geometry.specs.Arguments.{name}
 
 -- ---- macros
 

@@ -1,5 +1,3 @@
-pub mod Arguments
-pub mod Figures
 pub mod Motions
 pub mod Settings
 pub mod Flow

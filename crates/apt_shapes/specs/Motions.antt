@@ -15,7 +15,7 @@ use Rattle.apt_words.specs.Trees.{Tree, Num}
 use Rattle.apt_lexis.specs.declared.token.Token.{Token}
 use Rattle.apt_lexis.specs.declared.token.Token.TheVariants as tokens
 use Rattle.apt_expr.specs.Expressions.{expression}
-use Rattle.apt_shapes.specs.Arguments.{arguments, name, stop, is_word, says, or_else}
+use Rattle.apt_geometry.specs.Arguments.{arguments, name, stop, is_word, says, or_else}
 
 -- FROM/p, FROM/e,e and FROM/e,e,e
 abbrev pub from : List (List Token) → Option Body

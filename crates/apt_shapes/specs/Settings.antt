@@ -14,7 +14,7 @@ use Rattle.apt_words.specs.Options.{◌>>=◌}
 use Rattle.apt_words.specs.Trees.{Tree}
 use Rattle.apt_lexis.specs.declared.token.Token.{Token}
 use Rattle.apt_expr.specs.Expressions.{expression}
-use Rattle.apt_shapes.specs.Arguments.{word, says, pair, or_else}
+use Rattle.apt_geometry.specs.Arguments.{word, says, pair, or_else}
 
 -- PARTNO text, REMARK text
 abbrev pub titled : Word → List ℕ → Option Body

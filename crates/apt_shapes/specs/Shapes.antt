@@ -9,8 +9,8 @@ use Rattle.apt_words.specs.Options.{◌>>=◌}
 use Rattle.apt_lexis.specs.declared.token.Token.{Token}
 use Rattle.apt_lexis.specs.declared.token.Token.TheVariants as tokens
 use Rattle.apt_shapes.specs.declared.table.Labelled.{Labelled}
-use Rattle.apt_shapes.specs.Arguments.{arguments, or_else}
-use Rattle.apt_shapes.specs.Figures.{assign, point, line, circle, patern}
+use Rattle.apt_geometry.specs.Arguments.{arguments, or_else}
+use Rattle.apt_geometry.specs.Figures.{assign, point, line, circle, patern}
 use Rattle.apt_shapes.specs.Motions.{from, goto, godlta, start, contour, contour_behind, side_named}
 use Rattle.apt_shapes.specs.Settings.{titled, one, machin, units_in, spindl, coolnt, cycle}
 use Rattle.apt_shapes.specs.Flow.{macro, call, jumpto, if_in}

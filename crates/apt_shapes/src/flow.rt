@@ -3,8 +3,8 @@
 ghost use Rattle.std.specs.Prelude.{◌≡◌, map, option_map, IfOk};
 ghost use Rattle.apt_shapes.specs.Flow as flow;
 
-use crate::arguments::name;
 use apt_expr::expression;
+use apt_geometry::arguments::name;
 use apt_lexis::Token;
 use apt_words::{Args, Body, Expr, Params, Symbol};
 use indexmap::IndexSet;

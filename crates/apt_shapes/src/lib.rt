@@ -1,8 +1,6 @@
 //! Statements of part programs as lists of tokens.
 #![tactic(auto)]
 
-mod arguments;
-mod figures;
 mod flow;
 mod motions;
 mod settings;

@@ -3,8 +3,8 @@
 ghost use Rattle.std.specs.Prelude.{◌≡◌, [], ◌∷◌, map, IfOk, Some};
 ghost use Rattle.apt_shapes.specs.Motions as motions;
 
-use crate::arguments::{arguments, is_word, name, pair, stop, triple};
 use apt_expr::expression;
+use apt_geometry::arguments::{arguments, is_word, name, pair, stop, triple};
 use apt_lexis::Token;
 use apt_words::{Body, Expr, Go, Node, Side, Stop, Symbol, Word};
 use std::alloc::{AllocError, Global};

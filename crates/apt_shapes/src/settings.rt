@@ -4,8 +4,8 @@ ghost use Rattle.std.specs.Prelude.{◌≡◌, map, IfOk};
 ghost use Rattle.apt_shapes.specs.Settings as settings;
 ghost use Rattle.apt_shapes.specs.Shapes.{with_arguments};
 
-use crate::arguments::{is_word, pair, vocabulary};
 use apt_expr::expression;
+use apt_geometry::arguments::{is_word, pair, vocabulary};
 use apt_lexis::Token;
 use apt_words::{Body, Cool, Expr, Exprs, Text, Turn, Units, Word};
 use std::alloc::{AllocError, Global};

@@ -1,18 +1,18 @@
 //! The shapes of statements.
 
 ghost use Rattle.std.specs.Prelude.{◌≡◌, map, IfOk};
-ghost use Rattle.apt_shapes.specs.Arguments as arguments;
-ghost use Rattle.apt_shapes.specs.Arguments.{or_else};
-ghost use Rattle.apt_shapes.specs.Figures.{assign};
+ghost use Rattle.apt_geometry.specs.Arguments as arguments;
+ghost use Rattle.apt_geometry.specs.Arguments.{or_else};
+ghost use Rattle.apt_geometry.specs.Figures.{assign};
 ghost use Rattle.apt_shapes.specs.Shapes as shapes;
 
-use crate::arguments::{arguments, at_comma};
-use crate::figures::{assign, circle, line, patern, point};
 use crate::flow::{call, if_in, jumpto, macro_of};
 use crate::motions::{contour_behind, from, godlta, goto, onward, side_named, start};
 use crate::settings::{
     coolnt, cutter, cycle, fedrat, intol, loadtl, machin, outtol, spindl, titled, units_in,
 };
+use apt_geometry::arguments::{arguments, at_comma};
+use apt_geometry::figures::{assign, circle, line, patern, point};
 use apt_lexis::Token;
 use apt_words::{Body, Go, Params, Symbol, Text, Word};
 use std::alloc::{AllocError, Global};

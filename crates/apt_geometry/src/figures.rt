@@ -1,7 +1,8 @@
 //! The shapes that define a name: an expression, POINT, LINE, CIRCLE and PATERN.
 
 ghost use Rattle.std.specs.Prelude.{◌≡◌, map, IfOk};
-ghost use Rattle.apt_shapes.specs.Figures as figures;
+ghost use Rattle.apt_geometry.specs.Arguments.{or_else};
+ghost use Rattle.apt_geometry.specs.Figures as figures;
 
 use crate::arguments::{is_left, is_word, name, pair, pick, triple};
 use apt_expr::expression;
@@ -9,11 +10,8 @@ use apt_lexis::Token;
 use apt_words::{Body, Symbol, Word, Xy};
 use std::alloc::{AllocError, Global};
 
-pub(crate) fn assign(
-    alloc: Global,
-    n: &Symbol,
-    tokens: &[Token],
-) -> Result<Option<Body>, AllocError>
+/// An expression that gives a name its value.
+pub fn assign(alloc: Global, n: &Symbol, tokens: &[Token]) -> Result<Option<Body>, AllocError>
     ensures { IfOk result (λ b. b ≡ figures.assign n.now tokens.now) }
 {
     match expression(alloc, tokens)? {
@@ -67,11 +65,8 @@ fn point_pick(n: &Symbol, k: &[Token], intof: &[Token], a: &[Token], b: &[Token]
     Some(Body::PointPick(n.copied(), pick(k)?, name(a)?, name(b)?))
 }
 
-pub(crate) fn point(
-    alloc: Global,
-    n: &Symbol,
-    args: &[&[Token]],
-) -> Result<Option<Body>, AllocError>
+/// A point, from behind its word and slash.
+pub fn point(alloc: Global, n: &Symbol, args: &[&[Token]]) -> Result<Option<Body>, AllocError>
     ensures { IfOk result (λ b. b ≡ figures.point n.now (map (λ a. a.now) args.now)) }
 {
     match args {
@@ -122,7 +117,10 @@ fn line_xy(
 ) -> Result<Option<Body>, AllocError>
     ensures { IfOk result (λ b. b ≡ figures.line_xy n.now x.now y.now u.now v.now) }
 {
-    let (Some((x, y)), Some((u, v))) = (pair(alloc, x, y)?, pair(alloc, u, v)?) else {
+    let Some((x, y)) = pair(alloc, x, y)? else {
+        return Ok(None);
+    };
+    let Some((u, v)) = pair(alloc, u, v)? else {
         return Ok(None);
     };
     let to = Xy::new(alloc, u, v)?;
@@ -193,13 +191,23 @@ fn line_of_four(
     line_xy(alloc, n, a, b, c, d)
 }
 
+fn line_of_three(n: &Symbol, a: &[Token], b: &[Token], c: &[Token]) -> Option<Body>
+    ensures { result ≡ or_else (figures.line_par n.now a.now b.now c.now) (figures.line_perp n.now a.now b.now c.now) }
+{
+    match line_par(n, a, b, c) {
+        Some(body) => Some(body),
+        None => line_perp(n, a, b, c),
+    }
+}
+
+/// A line, from behind its word and slash.
 #[tactic(auto, using(crate::proofs::Numbers::no_line_of_one, crate::proofs::Numbers::no_line_of_five, crate::proofs::Numbers::no_line_of_seven, std::proofs::lemmas::Grind::common_steps))]
-pub(crate) fn line(alloc: Global, n: &Symbol, args: &[&[Token]]) -> Result<Option<Body>, AllocError>
+pub fn line(alloc: Global, n: &Symbol, args: &[&[Token]]) -> Result<Option<Body>, AllocError>
     ensures { IfOk result (λ b. b ≡ figures.line n.now (map (λ a. a.now) args.now)) }
 {
     match args {
         [a, b] => Ok(line_points(n, a, b)),
-        [a, b, c] => Ok(line_par(n, a, b, c).or_else(|| line_perp(n, a, b, c))),
+        [a, b, c] => Ok(line_of_three(n, a, b, c)),
         [a, b, c, d] => line_of_four(alloc, n, a, b, c, d),
         [a, b, c, d, e, f] => Ok(line_two(n, a, b, c, d, e, f)),
         _ => Ok(None),
@@ -285,33 +293,52 @@ fn circle_corner(
     Ok(expression(alloc, e)?.map(|e| Body::CircleCorner(n.copied(), j, a, k, b, e)))
 }
 
-#[tactic(auto, using(crate::proofs::Numbers::no_circle_of_two, crate::proofs::Numbers::no_circle_of_five, crate::proofs::Numbers::no_circle_of_seven, std::proofs::lemmas::Grind::common_steps))]
-pub(crate) fn circle(
+fn circle_of_three(
     alloc: Global,
     n: &Symbol,
-    args: &[&[Token]],
+    a: &[Token],
+    b: &[Token],
+    c: &[Token],
 ) -> Result<Option<Body>, AllocError>
+    ensures { IfOk result (λ r. r ≡ or_else (figures.circle_through n.now a.now b.now c.now) (figures.circle_three n.now a.now b.now c.now)) }
+{
+    match circle_through(n, a, b, c) {
+        Some(body) => Ok(Some(body)),
+        None => circle_three(alloc, n, a, b, c),
+    }
+}
+
+fn circle_of_four(
+    alloc: Global,
+    n: &Symbol,
+    a: &[Token],
+    b: &[Token],
+    c: &[Token],
+    d: &[Token],
+) -> Result<Option<Body>, AllocError>
+    ensures { IfOk result (λ r. r ≡ or_else (figures.circle_radius n.now a.now b.now c.now d.now) (figures.circle_tan n.now a.now b.now c.now d.now)) }
+{
+    match circle_radius(alloc, n, a, b, c, d)? {
+        Some(body) => Ok(Some(body)),
+        None => Ok(circle_tan(n, a, b, c, d)),
+    }
+}
+
+/// A circle, from behind its word and slash.
+#[tactic(auto, using(crate::proofs::Numbers::no_circle_of_two, crate::proofs::Numbers::no_circle_of_five, crate::proofs::Numbers::no_circle_of_seven, std::proofs::lemmas::Grind::common_steps))]
+pub fn circle(alloc: Global, n: &Symbol, args: &[&[Token]]) -> Result<Option<Body>, AllocError>
     ensures { IfOk result (λ b. b ≡ figures.circle n.now (map (λ a. a.now) args.now)) }
 {
     match args {
-        [a, b, c] => match circle_through(n, a, b, c) {
-            Some(body) => Ok(Some(body)),
-            None => circle_three(alloc, n, a, b, c),
-        },
-        [a, b, c, d] => match circle_radius(alloc, n, a, b, c, d)? {
-            Some(body) => Ok(Some(body)),
-            None => Ok(circle_tan(n, a, b, c, d)),
-        },
+        [a, b, c] => circle_of_three(alloc, n, a, b, c),
+        [a, b, c, d] => circle_of_four(alloc, n, a, b, c, d),
         [a, b, c, d, e, f] => circle_corner(alloc, n, a, b, c, d, e, f),
         _ => Ok(None),
     }
 }
 
-pub(crate) fn patern(
-    alloc: Global,
-    n: &Symbol,
-    args: &[&[Token]],
-) -> Result<Option<Body>, AllocError>
+/// A pattern, from behind its word and slash.
+pub fn patern(alloc: Global, n: &Symbol, args: &[&[Token]]) -> Result<Option<Body>, AllocError>
     ensures { IfOk result (λ b. b ≡ figures.patern n.now (map (λ a. a.now) args.now)) }
 {
     let [linear, p, q, e] = args else {

@@ -1,7 +1,7 @@
 use Rattle.std.proofs.Common.{◌≡◌, true, false, sym, ◌∙◌, get_or}
-use Rattle.apt_shapes.specs.Arguments.{is_comma}
-use Rattle.apt_shapes.proofs.Parts.{one_token_on, comma_at, no_more}
-use Rattle.apt_shapes.proofs.arguments.at_comma.Goals as goal
+use Rattle.apt_geometry.specs.Arguments.{is_comma}
+use Rattle.apt_geometry.proofs.Parts.{one_token_on, comma_at, no_more}
+use Rattle.apt_geometry.proofs.arguments.at_comma.Goals as goal
 
 pub returns-then-is_comma-clause-parts : goal.returns-then-is_comma-clause-parts
 returns-then-is_comma-clause-parts c =

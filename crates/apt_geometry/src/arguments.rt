@@ -3,7 +3,7 @@
 ghost use Rattle.std.specs.Prelude.{◌≡◌, ◌<◌, [], ◌∷◌, length, map, IfOk, IfSome, MatchOption};
 ghost use Rattle.std.proofs.Common.{bytes_eq};
 ghost use Rattle.apt_words.specs.Vocabulary.{spelling};
-ghost use Rattle.apt_shapes.specs.Arguments as arguments;
+ghost use Rattle.apt_geometry.specs.Arguments as arguments;
 
 use apt_expr::expression;
 use apt_lexis::Token;
@@ -17,7 +17,7 @@ fn is_comma(token: &Token) -> bool
 }
 
 /// The tokens before the first comma and those behind it, None where there is no comma.
-pub(crate) fn at_comma(tokens: &[Token]) -> Option<(&[Token], &[Token])>
+pub fn at_comma(tokens: &[Token]) -> Option<(&[Token], &[Token])>
     ensures parts { MatchOption result (arguments.arguments tokens.now ≡ tokens.now ∷ []) (λ r. arguments.arguments tokens.now ≡ r.0.now ∷ arguments.arguments r.1.now) }
     ensures shorter { IfSome result (λ r. length r.1.now < length tokens.now) }
 {
@@ -30,10 +30,7 @@ pub(crate) fn at_comma(tokens: &[Token]) -> Option<(&[Token], &[Token])>
 }
 
 /// The parts of some tokens between their commas.
-pub(crate) fn arguments<'a>(
-    alloc: Global,
-    tokens: &'a [Token],
-) -> Result<Vec<&'a [Token]>, AllocError>
+pub fn arguments<'a>(alloc: Global, tokens: &'a [Token]) -> Result<Vec<&'a [Token]>, AllocError>
     ensures { IfOk result (λ v. map (λ a. a.now) v.items ≡ arguments.arguments tokens.now) }
 {
     let mut args = Vec::new(alloc);
@@ -46,7 +43,8 @@ pub(crate) fn arguments<'a>(
     Ok(args)
 }
 
-pub(crate) fn name(tokens: &[Token]) -> Option<Symbol>
+/// The name that an argument is.
+pub fn name(tokens: &[Token]) -> Option<Symbol>
     ensures { result ≡ arguments.name tokens.now }
 {
     match tokens {
@@ -56,7 +54,7 @@ pub(crate) fn name(tokens: &[Token]) -> Option<Symbol>
 }
 
 /// The word of the language that an argument is.
-pub(crate) fn vocabulary(tokens: &[Token]) -> Option<Word>
+pub fn vocabulary(tokens: &[Token]) -> Option<Word>
     ensures { result ≡ arguments.word tokens.now }
 {
     match tokens {
@@ -66,7 +64,7 @@ pub(crate) fn vocabulary(tokens: &[Token]) -> Option<Word>
 }
 
 /// Whether an argument is this word of the language.
-pub(crate) fn is_word(word: Word, tokens: &[Token]) -> bool
+pub fn is_word(word: Word, tokens: &[Token]) -> bool
     ensures { result ≡ arguments.is_word word tokens.now }
 {
     match tokens {
@@ -104,7 +102,8 @@ pub(crate) fn is_left(tokens: &[Token]) -> Option<bool>
     }
 }
 
-pub(crate) fn stop(tokens: &[Token]) -> Option<Stop>
+/// TO, ON or PAST.
+pub fn stop(tokens: &[Token]) -> Option<Stop>
     ensures { result ≡ arguments.stop tokens.now }
 {
     match vocabulary(tokens)? {
@@ -116,11 +115,7 @@ pub(crate) fn stop(tokens: &[Token]) -> Option<Stop>
 }
 
 /// Two numbers; None where one of them is no expression.
-pub(crate) fn pair(
-    alloc: Global,
-    x: &[Token],
-    y: &[Token],
-) -> Result<Option<(Expr, Expr)>, AllocError>
+pub fn pair(alloc: Global, x: &[Token], y: &[Token]) -> Result<Option<(Expr, Expr)>, AllocError>
     ensures { IfOk result (λ r. r ≡ arguments.pair x.now y.now) }
 {
     let (Some(x), Some(y)) = (expression(alloc, x)?, expression(alloc, y)?) else {
@@ -130,7 +125,7 @@ pub(crate) fn pair(
 }
 
 /// Three numbers; None where one of them is no expression.
-pub(crate) fn triple(
+pub fn triple(
     alloc: Global,
     x: &[Token],
     y: &[Token],

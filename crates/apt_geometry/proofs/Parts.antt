@@ -5,7 +5,7 @@ use Rattle.std.proofs.lemmas.List.{drop_more, take_more, take_all, length-drop}
 use Rattle.std.proofs.Math.ListN.{drop_of_length-le}
 use Rattle.apt_lexis.specs.declared.token.Token.{Token}
 use Rattle.apt_lexis.specs.declared.token.Token.TheVariants as tokens
-use Rattle.apt_shapes.specs.Arguments.{arguments, is_comma, in_front}
+use Rattle.apt_geometry.specs.Arguments.{arguments, is_comma, in_front}
 
 -- tokens before the first of some arguments
 abbrev pub onto : List Token → List (List Token) → List (List Token)

@@ -2,7 +2,7 @@
 use Rattle.std.specs.Prelude.{◌≡◌, ℕ, ◌<◌, ◌≤◌, List, [], ◌∷◌, length, None, refl}
 use Rattle.std.proofs.Common.{arith}
 use Rattle.apt_lexis.specs.declared.token.Token.{Token}
-use Rattle.apt_shapes.specs.Figures.{line, circle}
+use Rattle.apt_geometry.specs.Figures.{line, circle}
 
 pub no_line_of_one : (n : List ℕ) (args : List (List Token)) → length args < 2 → line n args ≡ None
 no_line_of_one n [] h = refl

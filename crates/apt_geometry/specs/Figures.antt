@@ -6,7 +6,7 @@ use Rattle.apt_words.specs.declared.word.Word.TheVariants as words
 use Rattle.apt_words.specs.Options.{◌>>=◌}
 use Rattle.apt_lexis.specs.declared.token.Token.{Token}
 use Rattle.apt_expr.specs.Expressions.{expression}
-use Rattle.apt_shapes.specs.Arguments.{name, pick, is_left, says, or_else}
+use Rattle.apt_geometry.specs.Arguments.{name, pick, is_left, says, or_else}
 
 -- the name that is defined
 abbrev pub Name : Type 0

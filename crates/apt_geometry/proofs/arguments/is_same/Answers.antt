@@ -1,8 +1,8 @@
 use Rattle.std.proofs.Common.{sym, ◌∙◌}
 use denote.Enum.Bare.{same_true, true_same}
 use Rattle.apt_words.specs.contracts.word.Word.{the_type}
-use Rattle.apt_shapes.proofs.SameWords.{same_word}
-use Rattle.apt_shapes.proofs.arguments.is_same.Goals as goal
+use Rattle.apt_geometry.proofs.SameWords.{same_word}
+use Rattle.apt_geometry.proofs.arguments.is_same.Goals as goal
 
 pub returns : goal.returns
 returns c =

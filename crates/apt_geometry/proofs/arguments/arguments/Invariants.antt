@@ -1,6 +1,6 @@
 use Rattle.std.proofs.Common.{◌≡◌, ◌++◌, length, map}
-use Rattle.apt_shapes.specs.Arguments.{arguments}
-use Rattle.apt_shapes.proofs.arguments.arguments.Given as goal
+use Rattle.apt_geometry.specs.Arguments.{arguments}
+use Rattle.apt_geometry.proofs.arguments.arguments.Given as goal
 
 abbrev pub invariant-arguments : goal.invariant-arguments
 invariant-arguments l = record {
