@@ -1,17 +1,5 @@
-//! Tests of the reader, of values and of the trace.
+//! Tests of symbols and names that no run of the program shows.
 #![tactic(auto)]
 
-#[cfg(test)]
-mod expr;
-#[cfg(test)]
-mod lexis;
-#[cfg(test)]
-mod parse;
-#[cfg(test)]
-mod scalar;
-#[cfg(test)]
-mod shapes;
-#[cfg(test)]
-mod unroll;
 #[cfg(test)]
 mod words;

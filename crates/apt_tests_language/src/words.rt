@@ -1,4 +1,4 @@
-use apt_words::Symbol;
+use apt_words::{Case, Symbol};
 
 const TEXTS: [(&str, bool, bool); 15] = [
     ("L1", true, true),
@@ -27,4 +27,10 @@ fn tells_symbols_and_names(rt: HostRuntime) {
         ];
         assert_eq!(rt; found, [is_symbol, is_name], "at {text}");
     }
+}
+
+/// No step is refused so today.
+#[test]
+fn names_the_case_of_no_step(rt: HostRuntime) {
+    assert_eq!(rt; Case::TooManyHoles.name(), "TooManyHoles");
 }
