@@ -1,13 +1,5 @@
-//! Tests of CL files, of the compiling pass and of the judging pass.
+//! Tests of the calls over a whole CL file, which the program reads and writes in pieces.
 #![tactic(auto)]
 
 #[cfg(test)]
-mod certify;
-#[cfg(test)]
 mod cldata;
-#[cfg(test)]
-mod ends;
-#[cfg(test)]
-mod job;
-#[cfg(test)]
-mod motion;
