@@ -26,38 +26,12 @@ fn start() -> Block
     block
 }
 
-fn feed() -> Block
-    ensures { IsBlock result }
-{
-    let mut block = Block::new();
-    block.push(word(b'F', 100));
-    block
-}
-
 fn to_x() -> Block
     ensures { IsBlock result }
 {
     let mut block = Block::new();
     block.push(word(b'N', 2));
     block.push(word(b'X', -50_000_000));
-    block
-}
-
-fn level() -> Block
-    ensures { IsBlock result }
-{
-    let mut block = Block::new();
-    block.push(word(b'Y', 0));
-    block.push(word(b'Z', -1));
-    block
-}
-
-fn turn() -> Block
-    ensures { IsBlock result }
-{
-    let mut block = Block::new();
-    block.push(word(b'S', 1_250));
-    block.push(word(b'T', 7));
     block
 }
 
@@ -68,14 +42,6 @@ fn centre() -> Block
     let mut block = Block::new();
     block.push(word(b'G', 2));
     block.push(word(b'I', -10));
-    block
-}
-
-fn end() -> Block
-    ensures { IsBlock result }
-{
-    let mut block = Block::new();
-    block.push(word(b'M', 2));
     block
 }
 
@@ -106,12 +72,8 @@ fn assert_spelled<R: Abort + AllocGlobal>(
 #[test]
 fn spells_blocks(rt: HostRuntime) -> Result<(), Fail> {
     assert_spelled(&rt, &start(), "N0001G70G90G94\n", "N1G70G90G94\n")?;
-    assert_spelled(&rt, &feed(), "F0100\n", "F100\n")?;
     assert_spelled(&rt, &to_x(), "N0002X-50000000\n", "N2X-50000000\n")?;
-    assert_spelled(&rt, &level(), "Y+00000000Z-00000001\n", "Y+0Z-1\n")?;
-    assert_spelled(&rt, &turn(), "S1250T07\n", "S1250T7\n")?;
     assert_spelled(&rt, &centre(), "G02I-00000010\n", "G02I-10\n")?;
-    assert_spelled(&rt, &end(), "M02\n", "M02\n")?;
     assert_spelled(&rt, &Block::new(), "\n", "\n")
 }
 
@@ -244,4 +206,11 @@ fn is_refused(row: &(&str, usize, TapeCause)) -> bool {
 #[test]
 fn refuses_blocks(rt: HostRuntime) {
     assert_all(&rt, &REFUSED, is_refused);
+}
+
+/// No tape is refused so today.
+#[test]
+fn names_the_causes_of_no_tape(rt: HostRuntime) {
+    assert_eq!(rt; TapeCause::BadArc.name(), "BadArc");
+    assert_eq!(rt; TapeCause::BadCycle.name(), "BadCycle");
 }

@@ -1,7 +1,6 @@
-//! Tapes that a control runs, and tapes that it refuses.
+//! Tapes that a control runs. Those that it refuses are rows.
 
-use apt_block::TapeCause;
-use apt_control::{Act, ControlError, read_tape};
+use apt_control::{Act, read_tape};
 use apt_tapecode::{Code, punch};
 use apt_words::{Cool, Turn, Units};
 use std::alloc::{AllocError, AllocGlobal, Global};
@@ -23,21 +22,6 @@ fn assert_runs<R: Abort + AllocGlobal>(rt: &R, code: Code, tape: &[u8], want: &[
         Err(_) => false,
     };
     assert!(rt; is_run);
-}
-
-/// A tape is refused at this byte.
-fn assert_refused<R: Abort + AllocGlobal>(
-    rt: &R,
-    code: Code,
-    tape: &[u8],
-    at: u64,
-    cause: TapeCause,
-) {
-    let is_refused = match read_tape(rt.alloc(), code, tape) {
-        Ok(_) => false,
-        Err(error) => error == ControlError::Bad { at, cause },
-    };
-    assert!(rt; is_refused, "at {at}");
 }
 
 /// Texts of tapes, and what they have the machine do.
@@ -139,98 +123,6 @@ fn runs_tapes(rt: HostRuntime) -> Result<(), Fail> {
             let tape = punched(rt.alloc(), code, text)?;
             assert_runs(&rt, code, &tape, acts);
         }
-    }
-    Ok(())
-}
-
-const TAPES: [(&str, u64, TapeCause); 28] = [
-    ("", 0, TapeCause::NoStart),
-    ("M02\n", 4, TapeCause::NoStart),
-    ("%\nN1\n", 5, TapeCause::Truncated),
-    ("%\nN12345\n", 7, TapeCause::BadBlock),
-    ("%\nF0M02\n", 3, TapeCause::BadBlock),
-    ("%\nM0%", 4, TapeCause::BadBlock),
-    ("%\nG04\n", 2, TapeCause::BadG),
-    ("%\nG02I5M10\n", 7, TapeCause::BadM),
-    ("%\nG02\n", 2, TapeCause::Foreign),
-    ("%\nG80\n", 2, TapeCause::Foreign),
-    ("%\nG70R5S1\n", 5, TapeCause::Foreign),
-    ("%\nG70G00X1Y1Z1J5I5\n", 16, TapeCause::BadBlock),
-    ("%\nG70G00X1Y1Z1J5R6\n", 14, TapeCause::Foreign),
-    ("%\nM10\n", 2, TapeCause::BadM),
-    ("%\nS0100\n", 7, TapeCause::BadMix),
-    ("%\nM06\n", 5, TapeCause::BadMix),
-    (
-        "%\nG00X+00000000Y+00000000Z+00000000\n",
-        35,
-        TapeCause::NoUnits,
-    ),
-    (
-        "%\nG70X+00000000Y+00000000Z+00000000\n",
-        35,
-        TapeCause::NoMode,
-    ),
-    ("%\nG01G70X+00000000\n", 18, TapeCause::NoPosition),
-    ("%\nG91G70G00X1Y1Z1\n", 17, TapeCause::NoPosition),
-    ("%\nG70G00X50000000Y0Z0\nG91X1\n", 27, TapeCause::Limit),
-    (
-        "%\nG70G00X1Y1Z1\nG91G01X50000000S5\n",
-        32,
-        TapeCause::BadMix,
-    ),
-    ("%\nG70G00X1Y1Z1\nG91G01X5\n", 23, TapeCause::NoFeed),
-    (
-        "%\nG01G70X+00000000Y+00000000Z+00000000\n",
-        38,
-        TapeCause::NoFeed,
-    ),
-    ("%", 1, TapeCause::Truncated),
-    ("%\nM0", 4, TapeCause::Truncated),
-    ("%\nM02", 5, TapeCause::Truncated),
-    ("%\nM02\n%M", 7, TapeCause::AfterEnd),
-];
-
-#[test]
-fn refuses_tapes(rt: HostRuntime) -> Result<(), Fail> {
-    for &(text, at, cause) in &TAPES {
-        for code in [Code::Rs244, Code::Rs358] {
-            let tape = punched(rt.alloc(), code, text)?;
-            assert_refused(&rt, code, &tape, at, cause);
-        }
-    }
-    Ok(())
-}
-
-const BYTES: [(Code, u8, TapeCause); 4] = [
-    (Code::Rs244, 0x21u8, TapeCause::BadParity),
-    (Code::Rs244, 0x61, TapeCause::BadCode),
-    (Code::Rs358, 0xb0, TapeCause::BadParity),
-    (Code::Rs358, 0x41, TapeCause::BadCode),
-];
-
-/// Such a byte behind a part of a block, and behind the end.
-#[test]
-fn refuses_bytes(rt: HostRuntime) -> Result<(), Fail> {
-    for &(code, byte, cause) in &BYTES {
-        for text in ["%\nM0", "%\nM02\n"] {
-            let mut tape = punched(rt.alloc(), code, text)?;
-            tape.push(byte)?;
-            assert_refused(&rt, code, &tape, text.len() as u64, cause);
-        }
-    }
-    Ok(())
-}
-
-/// A byte that is skipped stands before each other.
-#[test]
-fn skips_bytes(rt: HostRuntime) -> Result<(), Fail> {
-    for (code, skip) in [(Code::Rs244, 0x7fu8), (Code::Rs358, 0xff)] {
-        let mut tape = Vec::new(rt.alloc());
-        for byte in &punched(rt.alloc(), code, "%\nM02\n")? {
-            tape.push(skip)?;
-            tape.push(*byte)?;
-        }
-        assert_runs(&rt, code, &tape, &[Act::End]);
     }
     Ok(())
 }

@@ -1,12 +1,10 @@
-//! Tests of tape codes, blocks, controls, machines and tapes.
+//! Tests of tape codes, blocks, controls and tapes.
 #![tactic(auto)]
 
 #[cfg(test)]
 mod block;
 #[cfg(test)]
 mod control;
-#[cfg(test)]
-mod machine;
 #[cfg(test)]
 mod post;
 #[cfg(test)]

@@ -1,7 +1,7 @@
 //! The rows of holes of characters, in both codes.
 
 use crate::rows::assert_all;
-use apt_tapecode::{Code, NO_DIGIT, Read, digit, punch, sense};
+use apt_tapecode::{Code, Read, punch, sense};
 
 /// The head of a tape, "%\nN0001G70G90G94\n", and the letters of circles and holes, with their rows in RS-244 and in
 /// RS-358.
@@ -40,52 +40,6 @@ fn are_punched(row: &(u8, u8, u8)) -> bool {
 #[test]
 fn punches_and_senses(rt: HostRuntime) {
     assert_all(&rt, &CHARACTERS, are_punched);
-}
-
-/// The number of a digit.
-fn number(ch: u8) -> u8 {
-    if ch >= b'0' && ch <= b'9' {
-        ch - b'0'
-    } else {
-        NO_DIGIT
-    }
-}
-
-fn are_numbers(row: &(u8, u8, u8)) -> bool {
-    let (ch, rs244, rs358) = *row;
-    digit(Code::Rs244, rs244) == number(ch) && digit(Code::Rs358, rs358) == number(ch)
-}
-
-#[test]
-fn knows_digits(rt: HostRuntime) {
-    assert_all(&rt, &CHARACTERS, are_numbers);
-    assert!(rt; digit(Code::Rs244, 0x55) == NO_DIGIT);
-    assert!(rt; digit(Code::Rs358, 0x31) == NO_DIGIT);
-}
-
-const OTHERS: [(Code, u8, Read); 12] = [
-    (Code::Rs244, 0x00, Read::Skip),
-    (Code::Rs244, 0x10, Read::Skip),
-    (Code::Rs244, 0x3e, Read::Skip),
-    (Code::Rs244, 0x7f, Read::Skip),
-    (Code::Rs358, 0x00, Read::Skip),
-    (Code::Rs358, 0xa0, Read::Skip),
-    (Code::Rs358, 0x09, Read::Skip),
-    (Code::Rs358, 0x8d, Read::Skip),
-    (Code::Rs358, 0xff, Read::Skip),
-    (Code::Rs244, 0x55, Read::BadParity),
-    (Code::Rs358, 0x31, Read::BadParity),
-    (Code::Rs358, 0x41, Read::BadCode),
-];
-
-fn is_sensed(row: &(Code, u8, Read)) -> bool {
-    let (code, byte, read) = *row;
-    sense(code, byte) == read
-}
-
-#[test]
-fn skips_and_refuses(rt: HostRuntime) {
-    assert_all(&rt, &OTHERS, is_sensed);
 }
 
 /// What all bytes are read as, in rows of sixteen: a character, of which LF stands as `/`, or `.` for a byte
@@ -152,15 +106,4 @@ fn reads_every_byte(rt: HostRuntime) {
         let read = sense(Code::Rs358, byte);
         assert!(rt; wanted(&ALL_358, byte) == Some(read), "at {byte}");
     }
-}
-
-const NO_CHARACTERS: [u8; 6] = [b' ', b'A', b'.', b'g', 0x00, 0xff];
-
-fn is_no_character(ch: &u8) -> bool {
-    punch(Code::Rs244, *ch).is_none() && punch(Code::Rs358, *ch).is_none()
-}
-
-#[test]
-fn punches_no_other_characters(rt: HostRuntime) {
-    assert_all(&rt, &NO_CHARACTERS, is_no_character);
 }
