@@ -1,6 +1,6 @@
-//! What the system refuses: each refusal is told, and counted once.
+//! The store over real files: what it reads and writes, and what the system refuses, which is told and counted once.
 
-use apt_shelf::{FolderShelf, ReadError, ReadStart, Shelf, ShelfFault, read_all, write_all};
+use apt_shelf::{FolderShelf, ReadError, Shelf, ShelfFault, Sink, StdSink, read_all, write_all};
 use std::alloc::{AllocGlobal, Global};
 use std::fs::{self, Permissions};
 use std::os::unix::fs::{MetadataExt, PermissionsExt, symlink};
@@ -15,80 +15,140 @@ fn faults<F: Files>(shelf: &FolderShelf<'_, F>) -> Faults {
     (shelf.read_faults(), shelf.write_faults())
 }
 
-/// A name is not begun to be read, and so many calls have failed then.
-fn assert_no_start<R: Abort, F: Files>(
+/// No file read here is longer, in bytes.
+const MOST: usize = 10_000;
+
+/// Names hold these bytes.
+fn assert_hold<R: Abort + AllocGlobal, F: Files>(
     rt: &R,
     shelf: &mut FolderShelf<'_, F>,
-    name: &str,
-    want: ReadStart,
-    count: Faults,
+    names: &[&str],
+    bytes: &[u8],
 ) {
-    let start = shelf.start_read(name).err();
-    assert!(rt; start == Some(want), "{name}");
-    assert!(rt; faults(shelf) == count, "{name}");
+    for name in names {
+        let read = read_all(rt.alloc(), shelf, name, MOST);
+        assert!(rt;
+            matches!(&read, Ok(read) if read.as_slice() == bytes),
+            "{name}"
+        );
+    }
 }
 
-/// The bytes of a name are not read.
-fn assert_no_read<R: Abort + AllocGlobal, F: Files>(
+/// Bytes are written under names.
+fn assert_take<R: Abort, F: Files>(
     rt: &R,
     shelf: &mut FolderShelf<'_, F>,
-    name: &str,
-    want: ReadError,
-    count: Faults,
+    names: &[&str],
+    bytes: &[u8],
 ) {
-    let read = read_all(rt.alloc(), shelf, name, 8).err();
-    assert!(rt; read == Some(want), "{name}");
-    assert!(rt; faults(shelf) == count, "{name}");
+    for name in names {
+        assert!(rt; write_all(shelf, name, bytes).is_ok(), "{name}");
+    }
 }
 
-/// A name is not begun to be written.
-fn assert_no_new<R: Abort, F: Files>(
-    rt: &R,
+/// Names are not begun to be written.
+fn assert_spare<R: Abort, F: Files>(rt: &R, shelf: &mut FolderShelf<'_, F>, names: &[&str]) {
+    for name in names {
+        assert!(rt; shelf.start_write(name) == Err(ShelfFault::Fault), "{name}");
+    }
+}
+
+/// What is asked of a store for a name.
+#[derive(Clone, Copy)]
+enum Deed {
+    StartRead,
+    Read,
+    StartWrite,
+    Write,
+}
+
+/// What comes of it.
+fn tried<F: Files>(
+    alloc: Global,
     shelf: &mut FolderShelf<'_, F>,
+    deed: Deed,
     name: &str,
-    count: Faults,
-) {
-    assert!(rt; shelf.start_write(name) == Err(ShelfFault::Fault), "{name}");
-    assert!(rt; faults(shelf) == count, "{name}");
-}
-
-/// Bytes are not written.
-fn assert_no_write<R: Abort, F: Files>(
-    rt: &R,
-    shelf: &mut FolderShelf<'_, F>,
-    name: &str,
-    count: Faults,
-) {
-    assert!(rt;
-        write_all(shelf, name, b"%") == Err(ShelfFault::Fault),
-        "{name}"
-    );
-    assert!(rt; faults(shelf) == count, "{name}");
-}
-
-#[test]
-fn a_full_disk_refuses_a_file(rt: HostRuntime) -> Result<(), Fail> {
-    let mut shelf = FolderShelf::new(&rt, rt.alloc(), ".")?;
-    // a file of no bytes is no append
-    write_all(&mut shelf, "/dev/full", b"")?;
-    assert_no_write(&rt, &mut shelf, "/dev/full", (0, 1));
+) -> Result<(), ReadError> {
+    match deed {
+        Deed::StartRead => shelf.start_read(name)?,
+        Deed::Read => {
+            read_all(alloc, shelf, name, MOST)?;
+        }
+        Deed::StartWrite => shelf.start_write(name)?,
+        Deed::Write => write_all(shelf, name, b"%")?,
+    }
     Ok(())
 }
 
+/// Refusals, with how often reading and writing has failed behind each.
+const REFUSED: [(Deed, &str, ReadError, Faults); 11] = [
+    // what is not there
+    (Deed::StartRead, "apt_no_file", ReadError::Missing, (1, 0)),
+    (
+        Deed::StartRead,
+        "apt_no_folder/file",
+        ReadError::Missing,
+        (2, 0),
+    ),
+    (Deed::Read, "apt_no_file", ReadError::Missing, (3, 0)),
+    // a folder
+    (Deed::Read, "apt_names_test", ReadError::Fault, (4, 0)),
+    (Deed::StartWrite, "apt_names_test", ReadError::Fault, (4, 1)),
+    (Deed::Write, "apt_names_test", ReadError::Fault, (4, 2)),
+    // a link to itself and a name within a file are faults for everyone, and no missing files
+    (
+        Deed::StartRead,
+        "apt_names_test/loop",
+        ReadError::Fault,
+        (5, 2),
+    ),
+    (
+        Deed::StartWrite,
+        "apt_names_test/loop",
+        ReadError::Fault,
+        (5, 3),
+    ),
+    (
+        Deed::StartRead,
+        "apt_names_test/file/file",
+        ReadError::Fault,
+        (6, 3),
+    ),
+    (
+        Deed::StartWrite,
+        "apt_names_test/file/file",
+        ReadError::Fault,
+        (6, 4),
+    ),
+    // a full disk
+    (Deed::Write, "/dev/full", ReadError::Fault, (6, 5)),
+];
+
 #[test]
-fn a_folder_is_no_file(rt: HostRuntime) -> Result<(), Fail> {
-    let _ = fs::remove_dir_all(&rt, "apt_folder_test");
-    fs::create_dir(&rt, "apt_folder_test")?;
-    let mut shelf = FolderShelf::new(&rt, rt.alloc(), ".")?;
-    // the system opens it, and reads nothing of it
-    shelf.start_read("apt_folder_test")?;
-    let fault = ReadError::Fault;
-    assert_no_read(&rt, &mut shelf, "apt_folder_test", fault, (1, 0));
-    assert_no_new(&rt, &mut shelf, "apt_folder_test", (1, 1));
-    assert_no_write(&rt, &mut shelf, "apt_folder_test", (1, 2));
-    fs::remove_dir_all(&rt, "apt_folder_test")?;
+fn what_is_refused_is_told_and_counted_once(rt: HostRuntime) -> Result<(), Fail> {
+    let alloc = rt.alloc();
+    let _ = fs::remove_dir_all(&rt, "apt_names_test");
+    fs::create_dir(&rt, "apt_names_test")?;
+    fs::write(&rt, "apt_names_test/file", "bytes")?;
+    symlink(&rt, "loop", "apt_names_test/loop")?;
+    let mut shelf = FolderShelf::new(&rt, alloc, ".")?;
+    // the system opens a folder, and reads nothing of it; a file of no bytes is no append
+    shelf.start_read("apt_names_test")?;
+    assert_take(&rt, &mut shelf, &["/dev/full"], b"");
+    for &(deed, name, want, count) in &REFUSED {
+        let found = tried(alloc, &mut shelf, deed, name);
+        assert!(rt; found == Err(want), "{name}");
+        assert!(rt; faults(&shelf) == count, "{name}");
+    }
+    fs::remove_dir_all(&rt, "apt_names_test")?;
     Ok(())
 }
+
+const CLOSED: [(Deed, Faults); 3] = [
+    (Deed::StartRead, (1, 0)),
+    (Deed::Read, (2, 0)),
+    (Deed::StartWrite, (2, 1)),
+];
 
 /// Whoever runs the tests as root may open every file.
 #[test]
@@ -97,41 +157,12 @@ fn a_file_without_permission_is_a_fault(rt: HostRuntime) -> Result<(), Fail> {
     fs::write(&rt, "apt_closed_test", "bytes")?;
     let is_root = fs::metadata(&rt, "apt_closed_test")?.uid() == 0;
     fs::set_permissions(&rt, "apt_closed_test", Permissions::from_mode(0))?;
-    if !is_root {
-        let mut shelf = FolderShelf::new(&rt, rt.alloc(), ".")?;
-        let start = ReadStart::Fault;
-        assert_no_start(&rt, &mut shelf, "apt_closed_test", start, (1, 0));
-        let read = ReadError::Fault;
-        assert_no_read(&rt, &mut shelf, "apt_closed_test", read, (2, 0));
-        assert_no_new(&rt, &mut shelf, "apt_closed_test", (2, 1));
+    let mut shelf = FolderShelf::new(&rt, rt.alloc(), ".")?;
+    for &(deed, count) in &CLOSED {
+        let found = tried(rt.alloc(), &mut shelf, deed, "apt_closed_test");
+        assert!(rt; is_root || (found == Err(ReadError::Fault) && faults(&shelf) == count));
     }
     fs::remove_file(&rt, "apt_closed_test")?;
-    Ok(())
-}
-
-/// A link to itself and a name within a file are faults for everyone, and no missing files.
-#[test]
-fn a_name_that_leads_nowhere_is_a_fault(rt: HostRuntime) -> Result<(), Fail> {
-    let _ = fs::remove_dir_all(&rt, "apt_names_test");
-    fs::create_dir(&rt, "apt_names_test")?;
-    fs::write(&rt, "apt_names_test/file", "bytes")?;
-    symlink(&rt, "loop", "apt_names_test/loop")?;
-    let mut shelf = FolderShelf::new(&rt, rt.alloc(), "apt_names_test")?;
-    assert_no_start(&rt, &mut shelf, "loop", ReadStart::Fault, (1, 0));
-    assert_no_new(&rt, &mut shelf, "loop", (1, 1));
-    assert_no_start(&rt, &mut shelf, "file/file", ReadStart::Fault, (2, 1));
-    assert_no_new(&rt, &mut shelf, "file/file", (2, 2));
-    fs::remove_dir_all(&rt, "apt_names_test")?;
-    Ok(())
-}
-
-#[test]
-fn an_absent_file_is_missing(rt: HostRuntime) -> Result<(), Fail> {
-    let mut shelf = FolderShelf::new(&rt, rt.alloc(), ".")?;
-    let no_start = ReadStart::Missing;
-    assert_no_start(&rt, &mut shelf, "apt_no_file", no_start, (1, 0));
-    assert_no_start(&rt, &mut shelf, "apt_no_folder/file", no_start, (2, 0));
-    assert_no_read(&rt, &mut shelf, "apt_no_file", ReadError::Missing, (3, 0));
     Ok(())
 }
 
@@ -144,25 +175,68 @@ fn long_bytes(alloc: Global, length: u32) -> Result<Vec<u8>, Fail> {
     Ok(bytes)
 }
 
-/// A name holds these bytes.
-fn holds<H: Shelf>(alloc: Global, shelf: &mut H, name: &str, bytes: &[u8]) -> bool {
-    match read_all(alloc, shelf, name, bytes.len()) {
-        Ok(read) => read.as_slice() == bytes,
-        Err(_) => false,
-    }
-}
-
 #[test]
 fn a_file_of_several_pieces_is_read_whole(rt: HostRuntime) -> Result<(), Fail> {
     for length in [4095, 4096, 4097, 10_000] {
         let bytes = long_bytes(rt.alloc(), length)?;
         let mut shelf = FolderShelf::new(&rt, rt.alloc(), ".")?;
-        write_all(&mut shelf, "apt_pieces_test", &bytes)?;
-        assert!(rt;
-            holds(rt.alloc(), &mut shelf, "apt_pieces_test", &bytes),
-            "{length} bytes"
-        );
+        assert_take(&rt, &mut shelf, &["apt_pieces_test"], &bytes);
+        assert_hold(&rt, &mut shelf, &["apt_pieces_test"], &bytes);
         fs::remove_file(&rt, "apt_pieces_test")?;
     }
+    Ok(())
+}
+
+#[test]
+fn folder_keeps_files(rt: HostRuntime) -> Result<(), Fail> {
+    let mut shelf = FolderShelf::new(&rt, rt.alloc(), ".")?;
+    assert_take(&rt, &mut shelf, &["apt_shelf_test.txt"], b"hello");
+    assert_hold(&rt, &mut shelf, &["apt_shelf_test.txt"], b"hello");
+    assert_spare(&rt, &mut shelf, &["no_folder/file"]);
+    assert_hold(&rt, &mut shelf, &["/dev/null"], b"");
+    fs::remove_file(&rt, "apt_shelf_test.txt")?;
+    Ok(())
+}
+
+/// A folder of three files, with two links to the first.
+fn make_folder<R: Files + AllocGlobal>(rt: &R) -> Result<(), Fail> {
+    let _ = fs::remove_dir_all(rt, "apt_shelf_test");
+    fs::create_dir(rt, "apt_shelf_test")?;
+    fs::write(rt, "apt_shelf_test/part", "bytes")?;
+    fs::write(rt, "apt_shelf_test/machine", "bytes")?;
+    fs::write(rt, "apt_shelf_test/tape", "bytes")?;
+    symlink(rt, "part", "apt_shelf_test/soft")?;
+    fs::hard_link(rt, "apt_shelf_test/part", "apt_shelf_test/hard")?;
+    Ok(())
+}
+
+#[test]
+fn folder_spares_what_it_opened(rt: HostRuntime) -> Result<(), Fail> {
+    make_folder(&rt)?;
+    let whole = fs::canonicalize(&rt, "apt_shelf_test/part")?;
+    let mut shelf = FolderShelf::new(&rt, rt.alloc(), "apt_shelf_test")?;
+    assert_hold(&rt, &mut shelf, &["part", "machine"], b"bytes");
+    assert_spare(
+        &rt,
+        &mut shelf,
+        &["./part", "part", "soft", "hard", "./machine"],
+    );
+    assert_spare(&rt, &mut shelf, &["../apt_shelf_test/part"]);
+    assert_spare(&rt, &mut shelf, &[whole.as_str()]);
+    assert!(rt; faults(&shelf) == (0, 7));
+    assert_hold(&rt, &mut shelf, &["part", "machine"], b"bytes");
+    // another file is emptied and written, a new one too, and a device
+    assert_take(&rt, &mut shelf, &["./tape", "new", "/dev/null"], b"%");
+    assert_spare(&rt, &mut shelf, &["tape"]);
+    assert!(rt; faults(&shelf) == (0, 8));
+    assert_hold(&rt, &mut shelf, &["tape", "new"], b"%");
+    fs::remove_dir_all(&rt, "apt_shelf_test")?;
+    Ok(())
+}
+
+#[test]
+fn standard_output_takes_a_line(rt: HostRuntime) -> Result<(), Fail> {
+    let mut sink = StdSink::new(&rt);
+    sink.put(b"a line\n")?;
     Ok(())
 }
