@@ -1,6 +1,6 @@
 //! Gates that hold or count the pieces of work of which they are told.
 
-use apt_certify::Gate;
+use apt_core::Gate;
 use std::sync::atomic::{AtomicU64, Ordering};
 
 /// For how many turns a piece of work is held at most.

@@ -2,10 +2,6 @@
 #![tactic(auto)]
 
 #[cfg(test)]
-mod arcs;
-#[cfg(test)]
-mod contours;
-#[cfg(test)]
 mod gates;
 #[cfg(test)]
 mod runs;
