@@ -3,7 +3,7 @@
 use crate::gates::{Counts, Meeting};
 use apt_core::{Gate, Status, apt};
 use apt_shelf::{FailList, MemShelf, MemSink};
-use std::alloc::{AllocGlobal, Global};
+use std::alloc::{AllocError, AllocGlobal, Global};
 use std::process::Abort;
 use std::test::Fail;
 use std::thread::Threads;
@@ -14,17 +14,18 @@ const CIRCLES: &str =
 
 const MACHINE: &str = "MACHINE 1\nCODE RS358\nSEQ 1\nFEEDMAX 9999\nSPINMAX 9999\nTOOLMAX 99\n";
 
+/// A file of a text.
+fn file(alloc: Global, name: &str, text: &str) -> Result<(String, Vec<u8>), AllocError> {
+    let name = String::from_str(alloc, name)?;
+    let bytes = Vec::from_slice(alloc, text.as_bytes())?;
+    Ok((name, bytes))
+}
+
 /// A store with the part and a machine table.
 fn stored(alloc: Global) -> Result<MemShelf, Fail> {
-    let mut files = Vec::new(alloc);
-    files.push((
-        String::from_str(alloc, "PART")?,
-        Vec::from_slice(alloc, CIRCLES.as_bytes())?,
-    ))?;
-    files.push((
-        String::from_str(alloc, "MACHINE")?,
-        Vec::from_slice(alloc, MACHINE.as_bytes())?,
-    ))?;
+    let part = file(alloc, "PART", CIRCLES)?;
+    let machine = file(alloc, "MACHINE", MACHINE)?;
+    let files = vec![in alloc; part, machine]?;
     Ok(MemShelf::new(alloc, files, FailList::none(alloc))?)
 }
 
@@ -79,7 +80,7 @@ fn each_arc_and_each_contour_is_told_once(rt: HostRuntime) -> Result<(), Fail> {
 /// `demo` divides its four arcs first, and then judges its four contours.
 #[test]
 fn demo_tells_of_arcs_and_contours(rt: HostRuntime) -> Result<(), Fail> {
-    let mut shelf = MemShelf::new(rt.alloc(), Vec::new(rt.alloc()), FailList::none(rt.alloc()))?;
+    let mut shelf = stored(rt.alloc())?;
     let gate = Counts::new();
     assert_eq!(rt; answer(&rt, &mut shelf, "demo 2", &gate)?, 0);
     assert_eq!(rt; gate.told(), 2_020_202);
