@@ -2,7 +2,8 @@
 #![tactic(auto)]
 
 use apt_core::{OpenGate, Status, apt};
-use apt_shelf::{FolderShelf, MemSink, ShelfFault, Sink, StdSink};
+use apt_folder::{FolderShelf, StdSink};
+use apt_shelf::{MemSink, ShelfFault, Sink};
 use std::alloc::AllocGlobal;
 use std::io::ErrorKind;
 use std::process::ExitCode;

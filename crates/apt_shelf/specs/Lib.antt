@@ -1,7 +1,6 @@
 pub mod Entries
 pub mod Errors
 pub mod Files
-pub mod Folder
 pub mod Memory
 pub mod Counters
 pub mod Reading

@@ -1,10 +1,8 @@
-//! The store of named files and the sink of lines that the program works on.
+//! The store of named files and the sink of lines that the program works on, and their forms in memory.
 #![tactic(auto)]
 
 pub mod files;
-pub mod folder;
 pub mod memory;
-mod outputs;
 pub mod pieces;
 mod reading;
 pub mod shelf;
@@ -15,10 +13,9 @@ pub mod sure;
 pub mod tally;
 
 pub use files::{ReadError, read_all, read_piece};
-pub use folder::FolderShelf;
 pub use memory::{Calls, FailList, MemShelf, ShelfCalls};
 pub use pieces::{Pieces, write_all};
 pub use shelf::{ReadStart, Shelf, ShelfFault, Sink};
-pub use sink::{MemSink, StdSink};
+pub use sink::MemSink;
 pub use sure::SureShelf;
 pub use tally::Tally;

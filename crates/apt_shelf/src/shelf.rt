@@ -56,8 +56,8 @@ impl From<io::Error> for ShelfFault {
 }
 
 impl ShelfFault {
-    /// Raises a count where it is no lack of memory, and gives it back.
-    pub(crate) fn counted(self, faults: &mut u64) -> ShelfFault
+    /// Gives itself back. A fault raises the count of faults, a lack of memory does not.
+    pub fn counted(self, faults: &mut u64) -> ShelfFault
         ensures same { result ≡ self }
         ensures later { faults.old ≤ faults.new }
         ensures rose { self ≡ ShelfFault.Fault → Rose faults.old faults.new }

@@ -7,7 +7,6 @@ ghost use Rattle.apt_shelf.specs.Sink.{shown_of, faults_of, puts_of};
 use crate::shelf::{ShelfFault, Sink};
 use crate::tally::Tally;
 use std::alloc::Global;
-use std::io::Print;
 
 /// A sink in memory, with puts that fail by their numbers, from 1.
 #[derive(Drop)]
@@ -62,34 +61,5 @@ impl Sink for MemSink {
             return Err(ShelfFault::Fault);
         }
         Ok(self.bytes.extend_from_slice(bytes)?)
-    }
-}
-
-/// Standard output. Each error of the system counts as a fault, but a lack of memory does not.
-#[derive(Drop)]
-pub struct StdSink<'a, R: Print> {
-    rt: &'a R,
-    faults: u64,
-}
-
-impl<'a, R: Print> StdSink<'a, R> {
-    /// The standard output of this runtime.
-    pub fn new(rt: &'a R) -> StdSink<'a, R>
-        ensures { ⟦<StdSink<'a, R> as Sink>⟧.faults result ≡ 0 }
-    {
-        StdSink { rt, faults: 0 }
-    }
-}
-
-impl<'a, R: Print> Sink for StdSink<'a, R> {
-    ghost shown = { λ _. None };
-
-    ghost faults = { λ s. s.faults };
-
-    fn put(&mut self, bytes: &[u8]) -> Result<(), ShelfFault> {
-        match self.rt.write_all(bytes) {
-            Ok(()) => Ok(()),
-            Err(error) => Err(ShelfFault::from(error).counted(&mut self.faults)),
-        }
     }
 }

@@ -1,6 +1,7 @@
 //! The store over real files: what it reads and writes, and what the system refuses, which is told and counted once.
 
-use apt_shelf::{FolderShelf, ReadError, Shelf, ShelfFault, Sink, StdSink, read_all, write_all};
+use apt_folder::{FolderShelf, StdSink};
+use apt_shelf::{ReadError, Shelf, ShelfFault, Sink, read_all, write_all};
 use std::alloc::{AllocGlobal, Global};
 use std::fs::{self, Permissions};
 use std::os::unix::fs::{MetadataExt, PermissionsExt, symlink};

@@ -1,5 +1,5 @@
 //! Files of a folder that are written: beside their places, until all of them are whole.
-use crate::shelf::ShelfFault;
+use apt_shelf::ShelfFault;
 use std::alloc::{AllocError, Global};
 use std::fs::{self, Metadata, OpenFile, OpenOptions};
 use std::io::{self, ErrorKind, Write};

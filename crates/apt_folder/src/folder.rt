@@ -2,10 +2,10 @@
 ghost use Rattle.std.specs.Prelude.{◌≡◌, ◌≤◌, length, false, is_some, option_map, Some, None, IfOk};
 ghost use Rattle.std.specs.String.{string_bytes};
 ghost use Rattle.apt_shelf.specs.Told.{FaultCause};
-ghost use Rattle.apt_shelf.specs.Folder.{folder_of, path_in};
+ghost use Rattle.apt_folder.specs.Folder.{folder_of, path_in};
 
 use crate::outputs::{self, FileId, Output};
-use crate::shelf::{ReadStart, Shelf, ShelfFault};
+use apt_shelf::{ReadStart, Shelf, ShelfFault};
 use std::alloc::{AllocError, Global};
 use std::fs::{self, OpenFile};
 use std::io::{self, ErrorKind, Read, Write};

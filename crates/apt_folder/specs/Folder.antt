@@ -1,7 +1,7 @@
 -- The folder of a FolderShelf, and where its files lie.
 use Rattle.std.specs.Prelude.{ℕ, List, [], ◌∷◌, ◌++◌, ◌==◌, if◌then◌else◌}
 use Rattle.std.proofs.Common.{string_bytes}
-use Rattle.apt_shelf.specs.declared.folder.FolderShelf.{FolderShelf}
+use Rattle.apt_folder.specs.declared.folder.FolderShelf.{FolderShelf}
 
 -- the name of the folder
 abbrev pub folder_of : {R A F : Type 0} → FolderShelf R A F → List ℕ
