@@ -4,6 +4,8 @@
 #[cfg(test)]
 mod block;
 #[cfg(test)]
+mod circular;
+#[cfg(test)]
 mod control;
 #[cfg(test)]
 mod post;
