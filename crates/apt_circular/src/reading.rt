@@ -16,8 +16,8 @@ use crate::ArcAct;
 use crate::instruction::{CentreWay, Instruction};
 use apt_block::{BlockFault, TapeCause, TapeWord};
 use apt_control::{
-    Act, Control, ControlError, Held, Passing, act_after, act_before, end_fault, has_code, is_mixed,
-    is_move, leaves_limit, move_act, nothing_passing, take_block, unit_act,
+    Act, Control, ControlError, Held, Passing, act_after, act_before, end_fault, has_code,
+    is_mixed, is_move, leaves_limit, move_act, nothing_passing, take_block, unit_act,
 };
 use apt_plane::Pt;
 use std::alloc::AllocError;
@@ -221,7 +221,9 @@ fn is_same(p: Pt, q: Pt) -> bool
 fn is_no_arc(b: &Instruction) -> bool
     ensures { (held : Held) (more : Said) → IsInstruction held more b.now → result ≡ spec.is_no_arc held (control.with_said held more) more }
 {
-    has_no_centre(b) || are_less(position(&b.before), position(&b.behind), centre(b)) || !is_level(b)
+    has_no_centre(b)
+        || are_less(position(&b.before), position(&b.behind), centre(b))
+        || !is_level(b)
 }
 
 fn has_no_centre(b: &Instruction) -> bool

@@ -21,8 +21,7 @@ returns-clause-means c =
     let said = said_of words in
     let is = c.taken_by-block.ensures.said in
     let done = round_acts held (with_said held said) said in
-    let ends = c.has_code.ensures said is.said in
-    (
+    let ends = c.has_code.ensures said is.said in (
       done,
       c.in_ok-push_acts.ensures held said is,
       subst (λ h. arc_meaning h letters c.args.at words ≡ Ok (record { held = c.taken_by-block.new.held; acts = done; ends = c.has_code.result })) c.self.view_is
