@@ -1,5 +1,5 @@
 -- From what a judging finds to the answer, and to what is right.
-use Rattle.std.proofs.Common.{◌≡◌, inl, inr, ℕ, List, [], ◌∷◌, None, Result, Ok, Err, ap, ◌∙◌, refl, subst}
+use Rattle.std.proofs.Common.{◌≡◌, inl, inr, ℕ, List, [], ◌∷◌, None, Result, Ok, Err, IfOk, IfErr, MatchResult, ap, ◌∙◌, refl, subst}
 use Rattle.apt_words.specs.Chains.{◌>>=◌}
 use Rattle.apt_words.specs.declared.deed.Step.{Step}
 use Rattle.apt_records.specs.declared.record.Record.{Record}
@@ -30,7 +30,7 @@ use Rattle.apt_core.specs.Certificates.{IsCertified, Judged, judged_by, judged_d
 use Rattle.apt_core.specs.Promise.{Certifies}
 use Rattle.apt_core.proofs.Counting.{makes_segments}
 use Rattle.apt_core.proofs.Chains.{chain_on}
-use Rattle.apt_core.proofs.Readings.{read_on, reads_next, stopped_next}
+use Rattle.apt_core.proofs.Readings.{reads_next, stopped_next}
 
 -- a verdict without a bad motion finds all legal
 all_legal : (jobs : List Job) (v : Verdict) → IsVerdict jobs v → v.first_bad ≡ None → AreLegal jobs
@@ -144,23 +144,25 @@ judged_certifies n text table cl tape before after told read reads (inl judgemen
 }
 judged_certifies n text table cl tape before after told read reads (inr short) = stopped_certifies n before after told read (inr (inr short))
 
--- the table, the part and the CL file are read, and the tape can't be
+-- the part, the table and the CL file are read, and the tape can't be
 pub tape_unread : (n : FourNames) (before one two three four : Files) (text table cl : List ℕ) (told : Status) → AreRead before one → Reads before.told (input n.part part_limit) text
-    → AreRead one two → Reads one.told (input n.machine machine_limit) table → AreRead two three → Reads two.told (input n.cl file_limit) cl → AreRead three four
-    → IsStopped (input n.tape file_limit ∷ []) three four told → Certifies n before four told
-tape_unread n before one two three four text table cl told a part b machine c file d stopped =
-    stopped_certifies n before four told (read_on before one four a (read_on one two four b (read_on two three four c d)))
-    (stopped_next before one four (input n.part part_limit) text (input n.machine machine_limit ∷ input n.cl file_limit ∷ input n.tape file_limit ∷ []) told a part
+    → AreRead one two → Reads one.told (input n.machine machine_limit) table → AreRead two three → Reads two.told (input n.cl file_limit) cl → IsStopped (input n.tape file_limit ∷ []) three four told
+    → IsStopped (inputs n) before four told
+tape_unread n before one two three four text table cl told a part b machine c file stopped =
+    stopped_next before one four (input n.part part_limit) text (input n.machine machine_limit ∷ input n.cl file_limit ∷ input n.tape file_limit ∷ []) told a part
     (stopped_next one two four (input n.machine machine_limit) table (input n.cl file_limit ∷ input n.tape file_limit ∷ []) told b machine
-    (stopped_next two three four (input n.cl file_limit) cl (input n.tape file_limit ∷ []) told c file stopped)))
+    (stopped_next two three four (input n.cl file_limit) cl (input n.tape file_limit ∷ []) told c file stopped))
 
 -- and all four are read
-pub four_read : (n : FourNames) (before one two three four : Files) (text table cl tape : List ℕ) (told : Status) → AreRead before one → Reads before.told (input n.part part_limit) text
-    → AreRead one two → Reads one.told (input n.machine machine_limit) table → AreRead two three → Reads two.told (input n.cl file_limit) cl → AreRead three four
-    → Reads three.told (input n.tape file_limit) tape → OrNoMemory (IsJudgement text table cl tape told) told → Certifies n before four told
-four_read n before one two three four text table cl tape told a part b machine c file d last judgement =
-    judged_certifies n text table cl tape before four told (read_on before one four a (read_on one two four b (read_on two three four c d)))
-    (reads_next before one (input n.part part_limit) text (input n.machine machine_limit ∷ input n.cl file_limit ∷ input n.tape file_limit ∷ []) (table ∷ cl ∷ tape ∷ []) a part
+pub four_read : (n : FourNames) (before one two three : Files) (text table cl tape : List ℕ) → AreRead before one → Reads before.told (input n.part part_limit) text
+    → AreRead one two → Reads one.told (input n.machine machine_limit) table → AreRead two three → Reads two.told (input n.cl file_limit) cl → Reads three.told (input n.tape file_limit) tape
+    → ReadsAll before.told (inputs n) (text ∷ table ∷ cl ∷ tape ∷ [])
+four_read n before one two three text table cl tape a part b machine c file last =
+    reads_next before one (input n.part part_limit) text (input n.machine machine_limit ∷ input n.cl file_limit ∷ input n.tape file_limit ∷ []) (table ∷ cl ∷ tape ∷ []) a part
     (reads_next one two (input n.machine machine_limit) table (input n.cl file_limit ∷ input n.tape file_limit ∷ []) (cl ∷ tape ∷ []) b machine
-    (reads_next two three (input n.cl file_limit) cl (input n.tape file_limit ∷ []) (tape ∷ []) c file (last, tt))))
-    judgement
+    (reads_next two three (input n.cl file_limit) cl (input n.tape file_limit ∷ []) (tape ∷ []) c file (last, tt)))
+
+-- what comes of a text, either way
+pub either_way : {A E : Type 0} (r : Result A E) (P : A → Type 0) (Q : E → Type 0) → IfOk r P → IfErr r Q → MatchResult r P Q
+either_way (Ok x) P Q is none = is
+either_way (Err e) P Q is none = none

@@ -12,3 +12,4 @@ pub mod Decoding
 pub mod Listing
 pub mod Demo
 pub mod Promise
+pub mod Evidence

@@ -1,8 +1,7 @@
 //! The command `certify`.
 
-ghost use Rattle.std.specs.Prelude.{◌≡◌, ◌+◌, ◌<◌, ◌^◌, ℕ, List, length, None, Result, Ok, IfOk, IfErr};
+ghost use Rattle.std.specs.Prelude.{◌≡◌, ◌+◌, ◌<◌, ◌^◌, ℕ, List, [], ◌∷◌, length, None, Ok, IfOk, IfErr, MatchResult};
 ghost use Rattle.apt_records.specs.Ranges.{AreRecords, vertex_count};
-ghost use Rattle.apt_cldata.specs.Reading.{read_of};
 ghost use Rattle.apt_meaning.specs.Situations.{first_situation};
 ghost use Rattle.apt_meaning.specs.Compiled.{first_refused};
 ghost use Rattle.apt_meaning.specs.Records.{Follows};
@@ -10,24 +9,24 @@ ghost use Rattle.apt_certify.specs.Verdicts.{IsVerdict};
 ghost use Rattle.apt_job.specs.Jobs.{jobs_said};
 ghost use Rattle.apt_part.specs.Promise.{AreSteps};
 ghost use Rattle.apt_post.specs.Said.{acts_of};
-ghost use Rattle.apt_tapecode.specs.declared.Code.{Code};
-ghost use Rattle.apt_block.specs.declared.block.BlockFault.{BlockFault};
 ghost use Rattle.apt_control.specs.declared.Act.{Act};
+ghost use Rattle.apt_tapecode.specs.declared.Code.{Code};
 ghost use Rattle.apt_control.specs.Control.{control_run};
-ghost use Rattle.apt_machine.specs.Machines.{IsMachine};
-ghost use Rattle.apt_machine.specs.Tables.{table_of};
-ghost use Rattle.apt_core.specs.Comparisons.{AreCompared, IsDifference};
+ghost use Rattle.apt_part.specs.Promise.{file_limit};
 ghost use Rattle.apt_core.specs.declared.comparison.Comparison.{Comparison};
-ghost use Rattle.apt_core.specs.Due.{answer_of, records_due, acts_due, ComesToNone, OrNoMemory};
-ghost use Rattle.apt_core.specs.Request.{four_names};
-ghost use Rattle.apt_core.specs.Inputs.{files_on};
 ghost use Rattle.apt_core.specs.TapeRuns.{IsTaken};
+ghost use Rattle.apt_core.specs.Comparisons.{AreCompared, IsDifference};
+ghost use Rattle.apt_core.specs.Due.{answer_of, acts_due, ComesToNone, OrNoMemory};
+ghost use Rattle.apt_core.specs.Evidence.{IsEvidence, IsInRange, DiffersOn};
+ghost use Rattle.apt_core.specs.Request.{four_names};
+ghost use Rattle.apt_core.specs.Inputs.{files_on, input, inputs, AreRead, Reads, ReadsAll, IsStopped};
 ghost use Rattle.apt_core.specs.Certificates.{IsMissed, IsJudgement};
 ghost use Rattle.apt_core.specs.Promise.{Certifies};
 
 use crate::comparison::Comparison;
 use crate::due::{machine_of, steps_on, tape_answer};
-use crate::reading::{MACHINE_LIMIT, PART_LIMIT, read_input, records_input, run_input};
+use crate::evidence::Evidence;
+use crate::reading::{MACHINE_LIMIT, PART_LIMIT, read_input, records_input, run_input, skip_input};
 use crate::words::Names;
 use apt_certify::{Gate, check_jobs_split};
 use apt_control::ControlError;
@@ -36,7 +35,6 @@ use apt_machine::Machine;
 use apt_records::Record;
 use apt_report::{Miss, Status, Summary, Verdict};
 use apt_shelf::Shelf;
-use apt_tapecode::Code;
 use apt_words::Step;
 use std::alloc::Global;
 use std::thread::Threads;
@@ -51,48 +49,70 @@ pub(crate) fn certify<H: Shelf, G: Gate>(
 ) -> Result<Summary, Status>
     ensures { Certifies (four_names names.entry) (files_on H.Shelf shelf.old) (files_on H.Shelf shelf.new) (answer_of result) }
 {
+    let evidence = evidence_of(alloc, shelf, names)?;
+    judged(rt, alloc, evidence, gate)
+}
+
+/// Reads the part, the machine table, the CL file and the tape, each to its end, or gives the answer for the first that
+/// can't be read.
+pub(crate) fn evidence_of<H: Shelf>(
+    alloc: Global,
+    shelf: &mut H,
+    names: Names<'_>,
+) -> Result<Evidence, Status>
+    ensures evidence { IfOk result (λ e. (table : List ℕ) × (cl : List ℕ) × (tape : List ℕ) × ReadsAll (H.told shelf.old) (inputs (four_names names.entry)) (e.text.items ∷ table ∷ cl ∷ tape ∷ []) × IsEvidence table cl tape e) }
+    ensures range { IfOk result IsInRange }
+    ensures stopped { IfErr result (IsStopped (inputs (four_names names.entry)) (files_on H.Shelf shelf.old) (files_on H.Shelf shelf.new)) }
+    ensures read { AreRead (files_on H.Shelf shelf.old) (files_on H.Shelf shelf.new) }
+{
     let text = read_input(alloc, shelf, names.part, PART_LIMIT)?;
     let table = read_input(alloc, shelf, names.machine, MACHINE_LIMIT)?;
     let records = records_input(alloc, shelf, names.cl)?;
-    match machine_of(&table) {
-        Ok(machine) => match records {
-            Ok(records) => {
-                let none = Comparison::with_plan(&records);
-                let run = run_input(alloc, shelf, names.tape, machine.code, none)?;
-                let found = difference_in(run);
-                judged(rt, alloc, &machine, text, records, found, gate)
-            }
-            Err(fault) => {
-                // a tape that can't be read is told before the fault of the CL file
-                let _ = run_input(alloc, shelf, names.tape, machine.code, ())?;
-                Err(without_records(alloc, &machine, text, fault))
-            }
-        },
-        Err(answer) => {
-            // and before the table's fault
-            let _ = run_input(alloc, shelf, names.tape, Code::Rs358, ())?;
-            Err(answer)
+    let machine = machine_of(&table);
+    let difference = difference_on(alloc, shelf, names.tape, &machine, &records)?;
+    Ok(Evidence {
+        text,
+        machine,
+        records,
+        difference,
+    })
+}
+
+/// Reads a tape to its end, and compares its acts with the plan of the records, where the machine and they are there.
+fn difference_on<H: Shelf>(
+    alloc: Global,
+    shelf: &mut H,
+    name: &str,
+    machine: &Result<Machine, Status>,
+    records: &Result<Vec<Record>, Status>,
+) -> Result<Result<Option<u64>, Status>, Status>
+    requires few { IfOk records.now (λ r. vertex_count r.items + length r.items < 2 ^ 62) }
+    ensures differs { IfOk result (λ difference. (tape : List ℕ) × Reads (H.told shelf.old) (input name.now file_limit) tape × DiffersOn machine.now records.now tape difference) }
+    ensures stopped { IfErr result (IsStopped (input name.now file_limit ∷ []) (files_on H.Shelf shelf.old) (files_on H.Shelf shelf.new)) }
+    ensures read { AreRead (files_on H.Shelf shelf.old) (files_on H.Shelf shelf.new) }
+{
+    match (machine, records) {
+        (Ok(machine), Ok(records)) => {
+            let none = Comparison::with_plan(records);
+            let run = run_input(alloc, shelf, name, machine.code, none)?;
+            Ok(difference_in(run))
+        }
+        // a tape that can't be read is told before the fault of a table or of a CL file
+        _ => {
+            skip_input(alloc, shelf, name)?;
+            Ok(Ok(None))
         }
     }
 }
 
-/// The answer where the CL file has a fault: what is wrong with the part is told before it.
-fn without_records(alloc: Global, machine: &Machine, text: Vec<u8>, fault: Status) -> Status
-    ensures { (table cl tape : List ℕ) → table_of table ≡ Ok machine.now → ComesToNone (records_due cl) fault → OrNoMemory (IsJudgement text.items table cl tape result) result }
-{
-    match steps_on(alloc, text, machine) {
-        Ok(_) => fault,
-        Err(answer) => answer,
-    }
-}
-
-/// The first place, from 1, at which the acts of a run differ from the plan beside which it was.
-fn difference_in(run: Result<Comparison<'_>, ControlError>) -> Result<Option<u64>, ControlError>
-    ensures { (begun : Comparison) (due : Result (List Act) BlockFault) → IsTaken (AreCompared begun) due run.entry → IsTaken (IsDifference (acts_of begun.records.now)) due result }
+/// The first place, from 1, at which the acts of a run differ from the plan beside which it was, or the answer to the
+/// tape's fault.
+fn difference_in(run: Result<Comparison<'_>, ControlError>) -> Result<Option<u64>, Status>
+    ensures { (begun : Comparison) (code : Code) (tape : List ℕ) → IsTaken (AreCompared begun) (control_run code tape) run.entry → MatchResult result (λ at. (acts : List Act) × IsDifference (acts_of begun.records.now) at acts × (control_run code tape ≡ Ok acts)) (ComesToNone (acts_due code tape)) }
 {
     match run {
         Ok(compared) => Ok(compared.difference()),
-        Err(error) => Err(error),
+        Err(error) => Err(tape_answer(error)),
     }
 }
 
@@ -101,33 +121,24 @@ fn difference_in(run: Result<Comparison<'_>, ControlError>) -> Result<Option<u64
 fn judged<G: Gate>(
     rt: &(impl Threads + Sync),
     alloc: Global,
-    machine: &Machine,
-    text: Vec<u8>,
-    records: Vec<Record>,
-    found: Result<Option<u64>, ControlError>,
+    evidence: Evidence,
     gate: &G,
 ) -> Result<Summary, Status>
-    requires machine { IsMachine machine.now }
-    requires records { AreRecords records.items }
-    requires few { vertex_count records.items + length records.items < 2 ^ 62 }
-    ensures { (table cl tape : List ℕ) → table_of table ≡ Ok machine.now → read_of cl ≡ Ok records.items → IsTaken (IsDifference (acts_of records.items)) (control_run machine.now.code tape) found → OrNoMemory (IsJudgement text.items table cl tape (answer_of result)) (answer_of result) }
+    requires range { IsInRange evidence }
+    ensures { (table cl tape : List ℕ) → IsEvidence table cl tape evidence → OrNoMemory (IsJudgement evidence.text.items table cl tape (answer_of result)) (answer_of result) }
 {
-    let steps = steps_on(alloc, text, machine)?;
-    let difference = found_in(found)?;
+    let Evidence {
+        text,
+        machine,
+        records,
+        difference,
+    } = evidence;
+    let machine = machine?;
+    let steps = steps_on(alloc, text, &machine)?;
+    let records = records?;
+    let difference = difference?;
     let verdict = verdict_on(rt, alloc, &steps, records, difference, gate)?;
     Ok(Summary::Certified(verdict))
-}
-
-/// What was found of a tape, or how its fault is told.
-#[tactic(auto, using(crate::proofs::Comparing::bad_tape_found))]
-fn found_in(found: Result<Option<u64>, ControlError>) -> Result<Option<u64>, Status>
-    ensures found { (planned : List Act) (code : Code) (tape : List ℕ) → IsTaken (IsDifference planned) (control_run code tape) found → IfOk result (λ at. (acts : List Act) × IsDifference planned at acts × (control_run code tape ≡ Ok acts)) }
-    ensures none { (planned : List Act) (code : Code) (tape : List ℕ) → IsTaken (IsDifference planned) (control_run code tape) found → IfErr result (ComesToNone (acts_due code tape)) }
-{
-    match found {
-        Ok(difference) => Ok(difference),
-        Err(error) => Err(tape_answer(error)),
-    }
 }
 
 /// The verdict over records that answer the steps and whose plan is the acts, or what is missed.

@@ -13,13 +13,12 @@ ghost use Rattle.apt_core.specs.Promise.{Decodes};
 
 use crate::due::{machine_of, tape_answer};
 use crate::put::Reply;
-use crate::reading::{MACHINE_LIMIT, read_input, run_input};
+use crate::reading::{MACHINE_LIMIT, read_input, run_input, skip_input};
 use crate::taker::{ActLines, Taker};
 use crate::words::TapeNames;
 use apt_control::ControlError;
 use apt_report::{Status, Summary};
 use apt_shelf::Shelf;
-use apt_tapecode::Code;
 use std::alloc::Global;
 
 /// Reads the machine table and the tape, and gives the acts to which a control runs the tape.
@@ -39,7 +38,7 @@ pub(crate) fn decode<H: Shelf>(
         }
         Err(answer) => {
             // a tape that can't be read is told before the table's fault
-            let _ = run_input(alloc, shelf, names.tape, Code::Rs358, ())?;
+            skip_input(alloc, shelf, names.tape)?;
             Err(answer)
         }
     }

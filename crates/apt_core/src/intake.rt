@@ -65,6 +65,15 @@ impl<T: Taker> Intake for Result<TapeRun<T>, ControlError> {
     }
 }
 
+/// Nothing is taken, where a file must only be there to be read.
+impl Intake for () {
+    ghost has = { λ _ _ _. Unit {0} };
+
+    ghost count = { λ _. 0 };
+
+    fn with(self, _: &[u8]) {}
+}
+
 /// What was taken of a tape that has come to its end.
 pub(crate) fn taken_of<T: Taker>(run: Result<TapeRun<T>, ControlError>) -> Result<T, ControlError>
     ensures { (none : T) (code : Code) (tape : List ℕ) → HasRun (T.has none) code tape run → IsTaken (T.has none) (control_run code tape) result }

@@ -14,6 +14,7 @@ mod decode;
 mod delivery;
 mod demo;
 mod due;
+mod evidence;
 mod intake;
 mod list;
 mod put;

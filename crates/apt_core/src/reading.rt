@@ -118,6 +118,15 @@ pub(crate) fn records_input<H: Shelf>(
     }
 }
 
+/// Reads a name to its end, where nothing of what it holds plays a part, or gives the answer where it can't be read.
+pub(crate) fn skip_input<H: Shelf>(alloc: Global, shelf: &mut H, name: &str) -> Result<(), Status>
+    ensures whole { IfOk result (λ _. (bytes : List ℕ) × Reads (H.told shelf.old) (input name.now file_limit) bytes) }
+    ensures stopped { IfErr result (IsStopped (input name.now file_limit ∷ []) (files_on H.Shelf shelf.old) (files_on H.Shelf shelf.new)) }
+    ensures read { AreRead (files_on H.Shelf shelf.old) (files_on H.Shelf shelf.new) }
+{
+    take_input(alloc, shelf, name, ())
+}
+
 /// Takes in all bytes of a name, or gives the answer where it can't be read.
 fn take_input<H: Shelf, I: Intake>(
     alloc: Global,

@@ -54,12 +54,3 @@ impl Taker for ActLines {
         })
     }
 }
-
-/// Nothing is taken, where a tape must only be there to be read.
-impl Taker for () {
-    ghost has = { λ _ _ _. Unit {0} };
-
-    fn with(self, _: &[Act]) -> Result<(), AllocError> {
-        Ok(())
-    }
-}
