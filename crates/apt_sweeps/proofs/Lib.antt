@@ -1,0 +1,6 @@
+pub mod Bands
+pub mod Told
+pub mod Walk
+pub mod Belonging
+pub mod Going
+mod Worked
