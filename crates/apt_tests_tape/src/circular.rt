@@ -17,17 +17,18 @@ const TEXT: &str =
 const LINES: &str =
     "UNITS INCH\nCUT 0 225000 0 FEED 100\nARC CW 0 -225000 0 CENTRE 0 0 FEED 100\nEND\n";
 
-/// The acts to which a control that cuts arcs runs a tape that comes in two pieces.
-fn run(alloc: Global, text: &str) -> Result<Vec<ArcAct>, ControlError> {
-    let mut reader = ArcReader::new(alloc, Code::Rs358);
-    for part in [&text.as_bytes()[..60], &text.as_bytes()[60..]] {
-        let mut bytes = Vec::new(alloc);
-        for ch in part {
-            bytes.push(punch(Code::Rs358, *ch).unwrap_or(0))?;
-        }
-        reader = reader.feed(&bytes)?;
+fn punched(alloc: Global, text: &str) -> Result<Vec<u8>, AllocError> {
+    let mut bytes = Vec::new(alloc);
+    for ch in text.as_bytes() {
+        bytes.push(punch(Code::Rs358, *ch).unwrap_or(0))?;
     }
-    reader.finish()
+    Ok(bytes)
+}
+
+/// The acts to which a control that cuts arcs runs a tape.
+fn run(alloc: Global, text: &str) -> Result<Vec<ArcAct>, ControlError> {
+    let tape = punched(alloc, text)?;
+    ArcReader::new(alloc, Code::Rs358).feed(&tape)?.finish()
 }
 
 #[test]
