@@ -13,7 +13,7 @@ use Rattle.apt_post.specs.Limits.{limits}
 
 -- the machine with the greatest limits
 abbrev pub demo_machine : Machine
-demo_machine = record { code = codings.Rs358; seq = 1; feedmax = 9999; spinmax = 9999; toolmax = 99; changed = false; incremental = false; short = false }
+demo_machine = record { code = codings.Rs358; seq = 1; feedmax = 9999; spinmax = 9999; toolmax = 99; changed = false; incremental = false; short = false; circles = false }
 
 -- a text is read as statements, their trace stops at no step, no step is past a limit of the machine, and none is refused: they have records
 pub record HasRecords (m : Machine) (text : List ℕ) : Type 0 where

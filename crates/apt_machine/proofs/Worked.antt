@@ -9,7 +9,7 @@ use Rattle.apt_machine.specs.Tables.{table_of, fault}
 use Rattle.apt_machine.specs.Spelling.{spelled}
 
 abbrev largest : Bool → Bool → Bool → Machine
-largest changed incremental short = record { code = codings.Rs358; seq = 1; feedmax = 9999; spinmax = 9999; toolmax = 99; changed = changed; incremental = incremental; short = short }
+largest changed incremental short = record { code = codings.Rs358; seq = 1; feedmax = 9999; spinmax = 9999; toolmax = 99; changed = changed; incremental = incremental; short = short; circles = false }
 
 -- the keys that must stand, between what stands in front of them and behind
 abbrev around : List ℕ → List ℕ → List ℕ
@@ -92,8 +92,18 @@ no_value_in_first = refl
 third_version : table_of (around (codes "MACHINE 3\n") (codes "")) ≡ Err (fault 1 causes.Header)
 third_version = refl
 
-circles : table_of (codes "MACHINE 2\nARCS CIRCLES\n") ≡ Err (fault 2 causes.Value)
+circles : table_of (around (codes "MACHINE 2\nARCS CIRCLES\n") (codes "")) ≡ Ok (record (largest false false false) { circles = true })
 circles = refl
+
+circles_spelled : spelled (record (largest false false false) { circles = true }) ≡ around (codes "MACHINE 2\n") (codes "ARCS CIRCLES\n")
+unfolding digits
+circles_spelled = refl
+
+no_such_arcs : table_of (codes "MACHINE 2\nARCS MOVES\n") ≡ Err (fault 2 causes.Value)
+no_such_arcs = refl
+
+circles_in_first : table_of (codes "MACHINE 1\nARCS CIRCLES\n") ≡ Err (fault 2 causes.Key)
+circles_in_first = refl
 
 cycles : table_of (codes "MACHINE 2\nDRILL CYCLES\n") ≡ Err (fault 2 causes.Value)
 cycles = refl

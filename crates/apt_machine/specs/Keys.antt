@@ -93,7 +93,7 @@ with_value d keys.Toolmax value = number_within 1 99 value >>= λ n. Some (recor
 with_value d keys.Words value = choice (codes "ALL") (codes "CHANGED") value >>= λ b. Some (record d { words = Some b })
 with_value d keys.Mode value = choice (codes "ABS") (codes "INC") value >>= λ b. Some (record d { mode = Some b })
 with_value d keys.Zeros value = choice (codes "KEPT") (codes "DROPPED") value >>= λ b. Some (record d { zeros = Some b })
-with_value d keys.Arcs value = only (codes "LINES") value >>= λ b. Some (record d { arcs = Some b })
+with_value d keys.Arcs value = choice (codes "LINES") (codes "CIRCLES") value >>= λ b. Some (record d { arcs = Some b })
 with_value d keys.Drill value = only (codes "MOVES") value >>= λ b. Some (record d { drill = Some b })
 
 -- the machine, where CODE, SEQ, FEEDMAX, SPINMAX and TOOLMAX stand; a key left out of the others has its first value
@@ -104,4 +104,14 @@ machine_of d = do
   feedmax ← d.feedmax
   spinmax ← d.spinmax
   toolmax ← d.toolmax
-  Some (record { code = code; seq = seq; feedmax = feedmax; spinmax = spinmax; toolmax = toolmax; changed = unwrap_or d.words false; incremental = unwrap_or d.mode false; short = unwrap_or d.zeros false })
+  Some (record {
+    code = code;
+    seq = seq;
+    feedmax = feedmax;
+    spinmax = spinmax;
+    toolmax = toolmax;
+    changed = unwrap_or d.words false;
+    incremental = unwrap_or d.mode false;
+    short = unwrap_or d.zeros false;
+    circles = unwrap_or d.arcs false;
+  })

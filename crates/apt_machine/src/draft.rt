@@ -74,7 +74,7 @@ impl Draft {
             Key::Words => self.words = Some(choice(b"ALL", b"CHANGED", value)?),
             Key::Mode => self.mode = Some(choice(b"ABS", b"INC", value)?),
             Key::Zeros => self.zeros = Some(choice(b"KEPT", b"DROPPED", value)?),
-            Key::Arcs => self.arcs = Some(only(b"LINES", value)?),
+            Key::Arcs => self.arcs = Some(choice(b"LINES", b"CIRCLES", value)?),
             Key::Drill => self.drill = Some(only(b"MOVES", value)?),
         }
         Some(self)
@@ -94,6 +94,7 @@ impl Draft {
             changed: self.words.unwrap_or(false),
             incremental: self.mode.unwrap_or(false),
             short: self.zeros.unwrap_or(false),
+            circles: self.arcs.unwrap_or(false),
         })
     }
 }

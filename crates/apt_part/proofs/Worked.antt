@@ -42,7 +42,7 @@ use Rattle.apt_post.specs.Plan.{plan, segments}
 use Rattle.apt_part.specs.Compilation.{Compiled, records_by, part_of}
 
 abbrev largest : Machine
-largest = record { code = Rs358; seq = 1; feedmax = 9999; spinmax = 9999; toolmax = 99; changed = false; incremental = false; short = false }
+largest = record { code = Rs358; seq = 1; feedmax = 9999; spinmax = 9999; toolmax = 99; changed = false; incremental = false; short = false; circles = false }
 
 abbrev recorded : Result (List Stmt) TextFault → Result (Result (List Record) Refusal) TextFault
 recorded (Ok statements) = Ok (records_by largest (trace_of statements))

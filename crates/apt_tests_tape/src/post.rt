@@ -20,6 +20,7 @@ fn machine(code: Code, seq: u16) -> Machine {
         changed: false,
         incremental: false,
         short: false,
+        circles: false,
     }
 }
 
