@@ -14,10 +14,10 @@ use Rattle.apt_meaning.specs.Records.{Follows}
 use Rattle.apt_meaning.specs.Expectations.{FailsAt}
 use Rattle.apt_job.specs.Jobs.{jobs_said}
 use Rattle.apt_machine.specs.declared.machine.Machine.{Machine}
-use Rattle.apt_control.specs.declared.Act.{Act}
-use Rattle.apt_control.specs.Control.{control_run}
 use Rattle.apt_post.specs.Plan.{segments}
-use Rattle.apt_post.specs.Said.{acts_of}
+use Rattle.apt_circular.specs.declared.ArcAct.{ArcAct}
+use Rattle.apt_tape.specs.Tapes.{acts_on, run_on}
+use Rattle.apt_sweeps.specs.ArcSweeps.{sweeps_of, AreArcsOf}
 use Rattle.apt_part.specs.Promise.{Passes}
 use Rattle.apt_report.specs.declared.status.Status.{Status}
 use Rattle.apt_report.specs.declared.status.Status.TheVariants as answers
@@ -27,40 +27,42 @@ use Rattle.apt_report.specs.declared.status.Miss.TheVariants as misses
 use Rattle.apt_core.specs.Due.{machine_due, steps_due, records_due, acts_due}
 
 -- a CL file and a tape are right for a part on a machine. The part's steps are those of its one trace, and none is refused; the CL file is just its records,
--- and a control runs the tape, to the last byte, to just the acts that they ask for, so that nothing else stands in either file; the records follow the steps, each contour
--- with the drive, the check, the side and the turn that its statement names; and every contour that the CL file says is legal
+-- and a control of the machine runs the tape, to the last byte, to just the acts that they ask for, so that nothing else stands in either file; the records follow the steps,
+-- each contour with the drive, the check, the side and the turn that its statement names; every contour that the CL file says is legal; and each arc among the acts is that
+-- of a leg of a contour, by which it stays
 pub record IsRight (machine : Machine) (text cl tape : List ℕ) : Type 0 where
   pub steps : List Step
   pub passes : Passes machine text steps
   pub records : List Record
   pub read : read_of cl ≡ Ok records
-  pub acts : control_run machine.code tape ≡ Ok (acts_of records)
+  pub acts : run_on machine tape ≡ Ok (acts_on machine records)
   pub follow : Follows steps records
   pub legal : EveryContour IsLegalCut (contours_of records)
+  pub arcs : AreArcsOf (sweeps_of (acts_on machine records)) (contours_of records)
 
 -- ---- where they are not
 
-abbrev pub HeadsDiffer : List Act → List Act → Type 0
+abbrev pub HeadsDiffer : List ArcAct → List ArcAct → Type 0
 HeadsDiffer [] [] = ⊥
 HeadsDiffer [] (y ∷ ys) = Unit {0}
 HeadsDiffer (x ∷ xs) [] = Unit {0}
 HeadsDiffer (x ∷ xs) (y ∷ ys) = x ≢ y
 
 -- the first place, from 1, at which two lists of acts differ
-pub record DifferAt (xs ys : List Act) (at : ℕ) : Type 0 where
-  pub same : List Act
-  pub left : List Act
-  pub right : List Act
+pub record DifferAt (xs ys : List ArcAct) (at : ℕ) : Type 0 where
+  pub same : List ArcAct
+  pub left : List ArcAct
+  pub right : List ArcAct
   pub first : xs ≡ same ++ left
   pub second : ys ≡ same ++ right
   pub differ : HeadsDiffer left right
   pub number : at ≡ length same + 1
 
--- the first that fails: that the records follow the steps, that every contour that they say is legal, that the acts are those that they ask for
-abbrev pub IsMiss : List Step → List Record → List Act → Miss → Type 0
-IsMiss steps written acts (misses.Entry seq) = FailsAt first_situation 1 steps written seq
-IsMiss steps written acts (misses.Motion bad) = Follows steps written × IsFirstBad (jobs_said written) bad
-IsMiss steps written acts (misses.Act at) = Follows steps written × AreLegal (jobs_said written) × DifferAt acts (acts_of written) at
+-- the first that fails: that the records follow the steps, that every contour that they say is legal, that the acts are those that they ask for on the machine
+abbrev pub IsMiss : Machine → List Step → List Record → List ArcAct → Miss → Type 0
+IsMiss machine steps written acts (misses.Entry seq) = FailsAt first_situation 1 steps written seq
+IsMiss machine steps written acts (misses.Motion bad) = Follows steps written × IsFirstBad (jobs_said written) bad
+IsMiss machine steps written acts (misses.Act at) = Follows steps written × AreLegal (jobs_said written) × DifferAt acts (acts_on machine written) at
 
 -- all is right, in numbers too, with the verdict over the contours
 pub record IsCertified (machine : Machine) (text cl tape : List ℕ) (v : Verdict) : Type 0 where
@@ -76,20 +78,20 @@ pub record Judged : Type 0 where
   pub machine : Machine
   pub steps : List Step
   pub written : List Record
-  pub acts : List Act
+  pub acts : List ArcAct
 
-abbrev pub judged_by : Machine → List Step → List Record → List Act → Judged
+abbrev pub judged_by : Machine → List Step → List Record → List ArcAct → Judged
 judged_by machine steps written acts = record { machine = machine; steps = steps; written = written; acts = acts }
 
 -- for the texts under PART, MACHINE, CL and TAPE: the table is judged first
 abbrev pub judged_due : List ℕ → List ℕ → List ℕ → List ℕ → Result Judged Status
 judged_due text table cl tape =
-    machine_due table >>= λ machine. steps_due machine text >>= λ steps. records_due cl >>= λ written. acts_due machine.code tape >>= λ acts.
+    machine_due table >>= λ machine. steps_due machine text >>= λ steps. records_due cl >>= λ written. acts_due machine tape >>= λ acts.
     Ok (judged_by machine steps written acts)
 
 -- something is missed, which is told
-abbrev pub IsMissed : List Step → List Record → List Act → Status → Type 0
-IsMissed steps written acts answer = (miss : Miss) × (answer ≡ answers.NotCertified miss) × IsMiss steps written acts miss
+abbrev pub IsMissed : Machine → List Step → List Record → List ArcAct → Status → Type 0
+IsMissed machine steps written acts answer = (miss : Miss) × (answer ≡ answers.NotCertified miss) × IsMiss machine steps written acts miss
 
 abbrev pub IsDone : Machine → List ℕ → List ℕ → List ℕ → Status → Type 0
 IsDone machine text cl tape answer = (v : Verdict) × (answer ≡ answers.Done (summaries.Certified v)) × IsCertified machine text cl tape v
@@ -98,4 +100,4 @@ IsDone machine text cl tape answer = (v : Verdict) × (answer ≡ answers.Done (
 abbrev pub IsJudgement : List ℕ → List ℕ → List ℕ → List ℕ → Status → Type 0
 IsJudgement text table cl tape answer =
     (judged_due text table cl tape ≡ Err answer)
-    ⊎ ((j : Judged) × (judged_due text table cl tape ≡ Ok j) × (IsMissed j.steps j.written j.acts answer ⊎ IsDone j.machine text cl tape answer))
+    ⊎ ((j : Judged) × (judged_due text table cl tape ≡ Ok j) × (IsMissed j.machine j.steps j.written j.acts answer ⊎ IsDone j.machine text cl tape answer))

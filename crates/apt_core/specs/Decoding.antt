@@ -1,12 +1,12 @@
 -- What a tape is decoded to: an answer, and the text that is put for it.
 use Rattle.std.specs.Prelude.{◌≡◌, ◌⊎◌, ℕ, List, length, Option, Some, None, Result, Ok, Err}
 use Rattle.apt_words.specs.Chains.{◌>>=◌}
-use Rattle.apt_control.specs.declared.Act.{Act}
+use Rattle.apt_circular.specs.declared.ArcAct.{ArcAct}
 use Rattle.apt_report.specs.declared.status.Status.{Status}
 use Rattle.apt_report.specs.declared.status.Status.TheVariants as answers
 use Rattle.apt_report.specs.declared.status.Summary.TheVariants as summaries
 use Rattle.apt_report.specs.Lines.{line_of}
-use Rattle.apt_report.specs.Acts.{act_lines}
+use Rattle.apt_report.specs.Acts.{arc_lines}
 use Rattle.apt_core.specs.Due.{machine_due, acts_due}
 
 -- an answer, and the text that is put for it
@@ -29,12 +29,12 @@ said_of (Ok said) = said
 said_of (Err answer) = lined answer
 
 -- a line for each act
-abbrev pub acts_said : List Act → Said
-acts_said acts = record { answer = answers.Done (summaries.Decoded (length acts)); text = act_lines acts }
+abbrev pub acts_said : List ArcAct → Said
+acts_said acts = record { answer = answers.Done (summaries.Decoded (length acts)); text = arc_lines acts }
 
--- for the texts of a table and of a tape, which is in the code of its machine
+-- for the texts of a table and of a tape, which a control of its machine runs
 abbrev pub said_due : List ℕ → List ℕ → Result Said Status
-said_due table tape = machine_due table >>= λ machine. acts_due machine.code tape >>= λ acts. Ok (acts_said acts)
+said_due table tape = machine_due table >>= λ machine. acts_due machine tape >>= λ acts. Ok (acts_said acts)
 
 -- or memory runs out
 abbrev pub IsSaid : Said → Said → Type 0

@@ -9,15 +9,14 @@ use Rattle.apt_cldata.specs.declared.error.ClError.{ClError}
 use Rattle.apt_cldata.specs.declared.error.ClError.TheVariants as cl_errors
 use Rattle.apt_records.specs.declared.record.Record.{Record}
 use Rattle.apt_cldata.specs.Reading.{read_of}
-use Rattle.apt_tapecode.specs.declared.Code.{Code}
 use Rattle.apt_block.specs.declared.block.BlockFault.{BlockFault}
-use Rattle.apt_control.specs.declared.Act.{Act}
 use Rattle.apt_control.specs.declared.error.ControlError.{ControlError}
 use Rattle.apt_control.specs.declared.error.ControlError.TheVariants as tape_errors
-use Rattle.apt_control.specs.Control.{control_run}
 use Rattle.apt_machine.specs.declared.machine.Machine.{Machine}
 use Rattle.apt_machine.specs.declared.cause.MachineError.{MachineError}
 use Rattle.apt_machine.specs.Tables.{table_of}
+use Rattle.apt_circular.specs.declared.ArcAct.{ArcAct}
+use Rattle.apt_tape.specs.Tapes.{run_on}
 use Rattle.apt_part.specs.Compilation.{Compiled, steps_of, part_of}
 use Rattle.apt_part.specs.declared.part.PartError.{PartError}
 use Rattle.apt_part.specs.declared.part.PartError.TheVariants as part_errors
@@ -90,5 +89,5 @@ steps_due machine text = unless_refused (steps_of machine text)
 abbrev pub records_due : List ℕ → Result (List Record) Status
 records_due cl = told_by (read_of cl) (λ fault. answers.BadCl fault.at fault.cause)
 
-abbrev pub acts_due : Code → List ℕ → Result (List Act) Status
-acts_due code tape = told_by (control_run code tape) bad_tape
+abbrev pub acts_due : Machine → List ℕ → Result (List ArcAct) Status
+acts_due machine tape = told_by (run_on machine tape) bad_tape

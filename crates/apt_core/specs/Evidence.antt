@@ -3,13 +3,12 @@ use Rattle.std.specs.Prelude.{◌≡◌, ℕ, ◌+◌, ◌<◌, ◌^◌, List, l
 use Rattle.std.proofs.Common.{Vec}
 use Rattle.apt_records.specs.declared.record.Record.{Record}
 use Rattle.apt_cldata.specs.Reading.{read_of}
-use Rattle.apt_control.specs.declared.Act.{Act}
-use Rattle.apt_control.specs.Control.{control_run}
 use Rattle.apt_machine.specs.declared.machine.Machine.{Machine}
 use Rattle.apt_machine.specs.Machines.{IsMachine}
 use Rattle.apt_machine.specs.Tables.{table_of}
 use Rattle.apt_records.specs.Ranges.{AreRecords, vertex_count}
-use Rattle.apt_post.specs.Said.{acts_of}
+use Rattle.apt_circular.specs.declared.ArcAct.{ArcAct}
+use Rattle.apt_tape.specs.Tapes.{acts_on, run_on}
 use Rattle.apt_report.specs.declared.status.Status.{Status}
 use Rattle.apt_core.specs.Comparisons.{IsDifference}
 use Rattle.apt_core.specs.Due.{ComesToNone, machine_due, records_due, acts_due}
@@ -18,7 +17,7 @@ use Rattle.apt_core.specs.declared.evidence.Evidence.{Evidence}
 -- where the acts of a tape first differ from the plan of the records, or the answer to its fault; nothing is said where there is no machine, or no records
 abbrev pub DiffersOn : {A : Type 0} → Result Machine Status → Result (Vec Record A) Status → List ℕ → Result (Option ℕ) Status → Type 0
 DiffersOn (Ok machine) (Ok records) tape difference =
-    MatchResult difference (λ at. (acts : List Act) × IsDifference (acts_of records.items) at acts × (control_run machine.code tape ≡ Ok acts)) (ComesToNone (acts_due machine.code tape))
+    MatchResult difference (λ at. (acts : List ArcAct) × IsDifference (acts_on machine records.items) at acts × (run_on machine tape ≡ Ok acts)) (ComesToNone (acts_due machine tape))
 DiffersOn (Ok machine) (Err answer) tape difference = Unit {0}
 DiffersOn (Err answer) records tape difference = Unit {0}
 

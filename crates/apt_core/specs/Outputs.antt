@@ -5,8 +5,8 @@ use Rattle.apt_records.specs.declared.record.Record.{Record}
 use Rattle.apt_cldata.specs.Files.{file_of}
 use Rattle.apt_machine.specs.declared.machine.Machine.{Machine}
 use Rattle.apt_machine.specs.Tables.{table_of}
-use Rattle.apt_post.specs.Plan.{plan, segments}
-use Rattle.apt_post.specs.Blocks.{tape_bytes}
+use Rattle.apt_post.specs.Plan.{segments}
+use Rattle.apt_tape.specs.Tapes.{acts_on, tape_on}
 use Rattle.apt_part.specs.Compilation.{Compiled, part_of}
 use Rattle.apt_part.specs.Promise.{Promise}
 use Rattle.apt_report.specs.declared.status.Status.{Status}
@@ -21,12 +21,12 @@ pub record Output : Type 0 where
   pub tape : List ℕ
   pub summary : Summary
 
--- the CL file has the records, the tape their plan
+-- the CL file has the records, the tape the acts that they ask for on the machine
 abbrev pub output_of : Machine → List Record → Output
 output_of machine records = record {
   cl = file_of records;
-  tape = tape_bytes machine (plan records);
-  summary = summaries.Compiled (length records) (length (plan records)) (segments records);
+  tape = tape_on machine (acts_on machine records);
+  summary = summaries.Compiled (length records) (length (acts_on machine records)) (segments records);
 }
 
 -- for the text of a part and that of a table, which is judged first

@@ -5,10 +5,10 @@ use Rattle.apt_shelf.specs.declared.shelf.Shelf as shelves
 use Rattle.apt_shelf.specs.declared.shelf.Sink as sinks
 use Rattle.apt_shelf.specs.Told.{Contents, Rose, Puts, PutsPrefix}
 use Rattle.apt_certify.specs.declared.verdict.Verdict.{Verdict}
-use Rattle.apt_control.specs.declared.Act.{Act}
-use Rattle.apt_control.specs.Control.{control_run}
 use Rattle.apt_machine.specs.declared.machine.Machine.{Machine}
 use Rattle.apt_machine.specs.Tables.{table_of}
+use Rattle.apt_circular.specs.declared.ArcAct.{ArcAct}
+use Rattle.apt_tape.specs.Tapes.{run_on}
 use Rattle.apt_part.specs.Compilation.{Compiled, part_of}
 use Rattle.apt_report.specs.declared.status.Status.{Status}
 use Rattle.apt_report.specs.declared.status.Status.TheVariants as answers
@@ -177,8 +177,8 @@ CompletesIn (Certify n) m answer =
     (text table cl tape : List ℕ) (machine : Machine) → ReadsAll (Some m) (inputs n) (text ∷ table ∷ cl ∷ tape ∷ []) → table_of table ≡ Ok machine → IsRight machine text cl tape
     → OrNoMemory ((verdict : Verdict) × (answer ≡ answers.Done (summaries.Certified verdict))) answer
 CompletesIn (Decode n) m answer =
-    (table tape : List ℕ) (machine : Machine) (acts : List Act) → ReadsAll (Some m) (tape_inputs n) (table ∷ tape ∷ []) → table_of table ≡ Ok machine
-    → control_run machine.code tape ≡ Ok acts → OrNoMemory (answer ≡ answers.Done (summaries.Decoded (length acts))) answer
+    (table tape : List ℕ) (machine : Machine) (acts : List ArcAct) → ReadsAll (Some m) (tape_inputs n) (table ∷ tape ∷ []) → table_of table ≡ Ok machine
+    → run_on machine tape ≡ Ok acts → OrNoMemory (answer ≡ answers.Done (summaries.Decoded (length acts))) answer
 CompletesIn (Listing name) m answer =
     (cl : List ℕ) (rs : List Record) → ReadsAll (Some m) (list_inputs name) (cl ∷ []) → read_of cl ≡ Ok rs
     → OrNoMemory (answer ≡ answers.Done (summaries.Listed (point_count rs))) answer

@@ -8,13 +8,12 @@ ghost use Rattle.apt_meaning.specs.Records.{Follows};
 ghost use Rattle.apt_certify.specs.Verdicts.{IsVerdict};
 ghost use Rattle.apt_job.specs.Jobs.{jobs_said};
 ghost use Rattle.apt_part.specs.Promise.{AreSteps};
-ghost use Rattle.apt_post.specs.Said.{acts_of};
-ghost use Rattle.apt_control.specs.declared.Act.{Act};
-ghost use Rattle.apt_tapecode.specs.declared.Code.{Code};
-ghost use Rattle.apt_control.specs.Control.{control_run};
+ghost use Rattle.apt_circular.specs.declared.ArcAct.{ArcAct};
+ghost use Rattle.apt_machine.specs.declared.machine.Machine.{Machine};
+ghost use Rattle.apt_tape.specs.Tapes.{acts_on, run_on};
+ghost use Rattle.apt_tape.specs.Runs.{IsTaken};
 ghost use Rattle.apt_part.specs.Promise.{file_limit};
 ghost use Rattle.apt_core.specs.declared.comparison.Comparison.{Comparison};
-ghost use Rattle.apt_core.specs.TapeRuns.{IsTaken};
 ghost use Rattle.apt_core.specs.Comparisons.{AreCompared, IsDifference};
 ghost use Rattle.apt_core.specs.Due.{answer_of, acts_due, ComesToNone, OrNoMemory};
 ghost use Rattle.apt_core.specs.Evidence.{IsEvidence, IsInRange, DiffersOn};
@@ -93,8 +92,8 @@ fn difference_on<H: Shelf>(
 {
     match (machine, records) {
         (Ok(machine), Ok(records)) => {
-            let none = Comparison::with_plan(records);
-            let run = run_input(alloc, shelf, name, machine.code, none)?;
+            let none = Comparison::with_plan(records, machine);
+            let run = run_input(alloc, shelf, name, machine, none)?;
             Ok(difference_in(run))
         }
         // a tape that can't be read is told before the fault of a table or of a CL file
@@ -108,7 +107,7 @@ fn difference_on<H: Shelf>(
 /// The first place, from 1, at which the acts of a run differ from the plan beside which it was, or the answer to the
 /// tape's fault.
 fn difference_in(run: Result<Comparison<'_>, ControlError>) -> Result<Option<u64>, Status>
-    ensures { (begun : Comparison) (code : Code) (tape : List ℕ) → IsTaken (AreCompared begun) (control_run code tape) run.entry → MatchResult result (λ at. (acts : List Act) × IsDifference (acts_of begun.records.now) at acts × (control_run code tape ≡ Ok acts)) (ComesToNone (acts_due code tape)) }
+    ensures { (begun : Comparison) (machine : Machine) (tape : List ℕ) → IsTaken (AreCompared begun) (run_on machine tape) run.entry → MatchResult result (λ at. (acts : List ArcAct) × IsDifference (acts_on begun.machine.now begun.records.now) at acts × (run_on machine tape ≡ Ok acts)) (ComesToNone (acts_due machine tape)) }
 {
     match run {
         Ok(compared) => Ok(compared.difference()),
@@ -137,14 +136,15 @@ fn judged<G: Gate>(
     let steps = steps_on(alloc, text, &machine)?;
     let records = records?;
     let difference = difference?;
-    let verdict = verdict_on(rt, alloc, &steps, records, difference, gate)?;
+    let verdict = verdict_on(rt, alloc, &machine, &steps, records, difference, gate)?;
     Ok(Summary::Certified(verdict))
 }
 
-/// The verdict over records that answer the steps and whose plan is the acts, or what is missed.
+/// The verdict over records that answer the steps and whose plan on the machine is the acts, or what is missed.
 fn verdict_on<G: Gate>(
     rt: &(impl Threads + Sync),
     alloc: Global,
+    machine: &Machine,
     steps: &[Step],
     records: Vec<Record>,
     difference: Option<u64>,
@@ -157,8 +157,8 @@ fn verdict_on<G: Gate>(
     ensures follows { IfOk result (λ _. Follows steps.now records.items) }
     ensures verdict { IfOk result (IsVerdict (jobs_said records.items)) }
     ensures legal { IfOk result (λ v. v.first_bad ≡ None) }
-    ensures planned { (acts : List Act) → IsDifference (acts_of records.items) difference acts → IfOk result (λ _. acts ≡ acts_of records.items) }
-    ensures missed { (acts : List Act) → IsDifference (acts_of records.items) difference acts → IfErr result (λ s. OrNoMemory (IsMissed steps.now records.items acts s) s) }
+    ensures planned { (acts : List ArcAct) → IsDifference (acts_on machine.now records.items) difference acts → IfOk result (λ _. acts ≡ acts_on machine.now records.items) }
+    ensures missed { (acts : List ArcAct) → IsDifference (acts_on machine.now records.items) difference acts → IfErr result (λ s. OrNoMemory (IsMissed machine.now steps.now records.items acts s) s) }
 {
     let jobs = match jobs(alloc, steps, records) {
         Ok(jobs) => jobs,

@@ -3,8 +3,7 @@
 ghost use Rattle.std.specs.Prelude.{◌≢◌, ◌≤◌, ◌+◌, length, IfOk, IfErr};
 ghost use Rattle.apt_records.specs.Lists.{IsFile};
 ghost use Rattle.apt_records.specs.Ranges.{vertex_count};
-ghost use Rattle.apt_post.specs.Plan.{plan};
-ghost use Rattle.apt_post.specs.Blocks.{IsProgram};
+ghost use Rattle.apt_tape.specs.Tapes.{IsWritable};
 ghost use Rattle.apt_core.specs.Due.{answer_of, ComesToNone};
 ghost use Rattle.apt_core.specs.Request.{four_names};
 ghost use Rattle.apt_core.specs.Inputs.{files_on};
@@ -55,7 +54,7 @@ fn output_by<G: Gate>(
     requires short { length table.now ≤ 65536 }
     ensures output { IfOk result (λ o. IsOutput text.items table.now (output_of o.machine o.records.items)) }
     ensures file { IfOk result (λ o. IsFile o.records.items) }
-    ensures program { IfOk result (λ o. IsProgram (plan o.records.items)) }
+    ensures writable { IfOk result (λ o. IsWritable o.records.items) }
     ensures few { IfOk result (λ o. vertex_count o.records.items + length o.records.items ≤ 67108864) }
     ensures none { IfErr result (ComesToNone (output_due text.items table.now)) }
 {

@@ -6,17 +6,17 @@ ghost use Rattle.apt_shelf.specs.Files.{WritesPrefix};
 ghost use Rattle.apt_shelf.specs.Told.{Rose, Steps};
 ghost use Rattle.apt_records.specs.Lists.{IsFile};
 ghost use Rattle.apt_records.specs.Ranges.{vertex_count};
-ghost use Rattle.apt_post.specs.Blocks.{IsProgram};
-ghost use Rattle.apt_post.specs.Plan.{plan};
+ghost use Rattle.apt_tape.specs.Tapes.{IsWritable};
 ghost use Rattle.apt_core.specs.Delivery.{with_output, WritesFront};
 ghost use Rattle.apt_core.specs.Outputs.{output_of};
 
 use apt_cldata::ClBytes;
 use apt_machine::Machine;
-use apt_post::{Counts, Piece, TapeBytes, counts};
+use apt_post::{Counts, Piece};
 use apt_records::Record;
 use apt_report::Summary;
 use apt_shelf::{Pieces, Shelf, ShelfFault};
+use apt_tape::{Tape, counts_on};
 use std::alloc::Global;
 
 /// The room for the records that are written next, in bytes. More is taken only for a record that is longer.
@@ -39,7 +39,7 @@ pub(crate) fn deliver<H: Shelf>(
     tape: &str,
 ) -> Result<Summary, ShelfFault>
     requires file { IsFile output.now.records.items }
-    requires program { IsProgram (plan output.now.records.items) }
+    requires writable { IsWritable output.now.records.items }
     requires few { vertex_count output.now.records.items + length output.now.records.items ≤ 67108864 }
     ensures told { IfOk result (λ summary. summary ≡ (output_of output.now.machine output.now.records.items).summary) }
     ensures whole { OnOk result (Steps (with_output cl.now tape.now (output_of output.now.machine output.now.records.items)) (H.told shelf.old) (H.told shelf.new)) }
@@ -49,9 +49,9 @@ pub(crate) fn deliver<H: Shelf>(
     ensures read_faults { H.read_faults shelf.new ≡ H.read_faults shelf.old }
 {
     let records = output.records.as_slice();
-    let Counts { acts, segments } = counts(records);
+    let Counts { acts, segments } = counts_on(records, &output.machine);
     write_cl(alloc, shelf, cl, ClBytes::of(records))?;
-    write_tape(shelf, tape, TapeBytes::of(records, &output.machine))?;
+    write_tape(shelf, tape, Tape::of(records, &output.machine))?;
     Ok(Summary::Compiled {
         records: records.len() as u64,
         acts,
@@ -86,7 +86,7 @@ fn write_cl<H: Shelf>(
 }
 
 /// Writes a tape in the same way.
-fn write_tape<H: Shelf>(shelf: &mut H, name: &str, tape: TapeBytes<'_>) -> Result<(), ShelfFault>
+fn write_tape<H: Shelf>(shelf: &mut H, name: &str, tape: Tape<'_>) -> Result<(), ShelfFault>
     ensures ok { OnOk result (Steps (λ m. insert m name.now tape.entry) (H.told shelf.old) (H.told shelf.new)) }
     ensures err { OnErr result (WritesPrefix name.now tape.entry (H.told shelf.old) (H.told shelf.new)) }
     ensures fault { IsErrOf result ShelfFault.Fault → Rose (H.write_faults shelf.old) (H.write_faults shelf.new) }

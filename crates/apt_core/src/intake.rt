@@ -5,16 +5,13 @@ ghost use Rattle.apt_words.specs.Answers.{IsDueAs};
 ghost use Rattle.apt_records.specs.Ranges.{AreRecords, vertex_count};
 ghost use Rattle.apt_cldata.specs.Reading as cldata;
 ghost use Rattle.apt_clreader.specs.Pieces.{HasRead, count_of};
-ghost use Rattle.apt_tapecode.specs.declared.Code.{Code};
-ghost use Rattle.apt_control.specs.Control.{control_run};
 ghost use Rattle.apt_core.specs.Intakes.{count_in};
-ghost use Rattle.apt_core.specs.TapeRuns.{HasRun, IsTaken};
 
-use crate::taker::Taker;
 use apt_cldata::ClError;
 use apt_clreader::ClReader;
-use apt_control::{ControlError, TapeReader};
+use apt_control::ControlError;
 use apt_records::Record;
+use apt_tape::{Taker, TapeRun};
 
 pub(crate) trait Intake: Drop {
     /// From what was there before the first byte, it has taken in these bytes.
@@ -30,38 +27,17 @@ pub(crate) trait Intake: Drop {
         ensures count { count result ≤ count self + length piece.now };
 }
 
-/// A tape so far, and what was taken of the acts that its reader no longer keeps.
-#[derive(Drop)]
-pub(crate) struct TapeRun<T: Drop> {
-    pub reader: TapeReader,
-    pub taken: T,
-}
-
-impl<T: Taker> TapeRun<T> {
-    /// Goes on with a piece, and takes its acts.
-    fn fed(self, piece: &[u8]) -> Result<TapeRun<T>, ControlError>
-        requires { self.reader.count + length piece.now < 2 ^ 63 }
-        ensures run { (none : T) (code : Code) (front : List ℕ) → HasRun (T.has none) code front (Ok self) → HasRun (T.has none) code (front ++ piece.now) result }
-        ensures count { IfOk result (λ run. run.reader.count ≡ self.reader.count + length piece.now) }
-    {
-        let TapeRun { reader, taken } = self;
-        let mut reader = reader.feed(piece)?;
-        let taken = taken.with(reader.acts())?;
-        reader.drop_acts();
-        Ok(TapeRun { reader, taken })
-    }
-}
-
 impl<T: Taker> Intake for Result<TapeRun<T>, ControlError> {
     ghost use Rattle.apt_core.specs.Intakes.{count_in};
     ghost use Rattle.apt_core.specs.TapeRuns.{RunsFrom};
+    ghost use Rattle.apt_tape.specs.Runs.{count_of};
 
     ghost has = { RunsFrom T.has };
 
-    ghost count = { count_in (λ run. run.reader.count) };
+    ghost count = { count_in (λ run. count_of run.reader) };
 
     fn with(self, piece: &[u8]) -> Result<TapeRun<T>, ControlError> {
-        self?.fed(piece)
+        self?.feed(piece)
     }
 }
 
@@ -72,16 +48,6 @@ impl Intake for () {
     ghost count = { λ _. 0 };
 
     fn with(self, _: &[u8]) {}
-}
-
-/// What was taken of a tape that has come to its end.
-pub(crate) fn taken_of<T: Taker>(run: Result<TapeRun<T>, ControlError>) -> Result<T, ControlError>
-    ensures { (none : T) (code : Code) (tape : List ℕ) → HasRun (T.has none) code tape run → IsTaken (T.has none) (control_run code tape) result }
-{
-    let TapeRun { reader, taken } = run?;
-    let rest = reader.finish()?;
-    let taken = taken.with(&rest)?;
-    Ok(taken)
 }
 
 impl Intake for Result<ClReader, ClError> {

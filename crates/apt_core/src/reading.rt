@@ -5,21 +5,21 @@ ghost use Rattle.apt_shelf.specs.Told.{Lacks, Rose};
 ghost use Rattle.apt_shelf.specs.Files.{IsLongerAt};
 ghost use Rattle.apt_records.specs.Ranges.{AreRecords, vertex_count};
 ghost use Rattle.apt_cldata.specs.Reading.{read_of};
-ghost use Rattle.apt_control.specs.Control.{control_run};
 ghost use Rattle.apt_part.specs.Promise.{file_limit};
 ghost use Rattle.apt_core.specs.Due.{ComesToNone, records_due};
 ghost use Rattle.apt_core.specs.Inputs.{input, files_on, AreRead, Reads, IsStopped, IsToldFor};
-ghost use Rattle.apt_core.specs.TapeRuns.{IsTaken};
+ghost use Rattle.apt_tape.specs.Runs.{IsTaken};
+ghost use Rattle.apt_tape.specs.Tapes.{run_on};
 
 use crate::due::cl_answer;
-use crate::intake::{Intake, TapeRun, records_of, taken_of};
-use crate::taker::Taker;
+use crate::intake::{Intake, records_of};
 use apt_clreader::ClReader;
-use apt_control::{ControlError, TapeReader};
+use apt_control::ControlError;
+use apt_machine::Machine;
 use apt_records::Record;
 use apt_report::{FileName, Status};
 use apt_shelf::{ReadError, Shelf, read_all, read_piece};
-use apt_tapecode::Code;
+use apt_tape::{Taker, TapeRun};
 use std::alloc::{AllocError, Global};
 
 /// The longest part program, in bytes.
@@ -77,25 +77,24 @@ fn file_name(alloc: Global, name: &str) -> Result<FileName, AllocError>
     })
 }
 
-/// What is taken of the acts of a tape in a code, which is read piece by piece, or the answer where it can't be read.
+/// What is taken of the acts of a machine's tape, which is read piece by piece, or the answer where it can't be read.
 pub(crate) fn run_input<H: Shelf, T: Taker>(
     alloc: Global,
     shelf: &mut H,
     name: &str,
-    code: Code,
+    machine: &Machine,
     none: T,
 ) -> Result<Result<T, ControlError>, Status>
     requires { T.has none none [] }
-    ensures run { IfOk result (λ run. (tape : List ℕ) × Reads (H.told shelf.old) (input name.now file_limit) tape × IsTaken (T.has none) (control_run code tape) run) }
+    ensures run { IfOk result (λ run. (tape : List ℕ) × Reads (H.told shelf.old) (input name.now file_limit) tape × IsTaken (T.has none) (run_on machine.now tape) run) }
     ensures stopped { IfErr result (IsStopped (input name.now file_limit ∷ []) (files_on H.Shelf shelf.old) (files_on H.Shelf shelf.new)) }
     ensures read { AreRead (files_on H.Shelf shelf.old) (files_on H.Shelf shelf.new) }
 {
-    let begun = Ok(TapeRun {
-        reader: TapeReader::new(alloc, code),
-        taken: none,
-    });
-    let run = take_input(alloc, shelf, name, begun)?;
-    Ok(taken_of(run))
+    let begun = Ok(TapeRun::new(alloc, machine, none));
+    match take_input(alloc, shelf, name, begun)? {
+        Ok(run) => Ok(run.finish()),
+        Err(error) => Ok(Err(error)),
+    }
 }
 
 /// The records of a CL file, which is read piece by piece, or the answer where it is none, and else the one where it can't

@@ -1,12 +1,13 @@
 //! The lines of a tape's acts.
 
-ghost use Rattle.std.specs.Prelude.{◌≡◌, ◌≤◌, ◌+◌, ◌++◌, length, drop, codes, IfOk, OnOk};
+ghost use Rattle.std.specs.Prelude.{◌≡◌, ◌≤◌, ◌+◌, ◌++◌, map, length, drop, codes, IfOk, OnOk};
 ghost use Rattle.std.specs.Fmt.{signed_decimal};
 ghost use Rattle.apt_report.specs.Acts as lines;
 
 use crate::room::{ROOM, push_from, whole_line, write_number, write_text};
 use apt_circular::ArcAct;
 use apt_control::Act;
+use apt_tape::TapeAct;
 use apt_words::{Cool, Turn, Units};
 use std::alloc::{AllocError, Global};
 
@@ -16,28 +17,13 @@ use std::alloc::{AllocError, Global};
 /// # Errors
 ///
 /// Memory lacks.
+#[tactic(auto, using(crate::proofs::ActLines::plain_lines))]
 pub fn act_lines(alloc: Global, acts: &[Act]) -> Result<Vec<u8>, AllocError>
     ensures value { IfOk result (λ v. v.items ≡ lines.act_lines acts.now) }
 {
     let mut text = Vec::new(alloc);
-    push_act_lines(&mut text, acts)?;
+    push_lines(&mut text, acts)?;
     Ok(text)
-}
-
-/// Appends the same lines to a text.
-///
-/// # Errors
-///
-/// Memory lacks.
-pub fn push_act_lines(text: &mut Vec<u8>, acts: &[Act]) -> Result<(), AllocError>
-    ensures { OnOk result (text.new.items ≡ text.old.items ++ lines.act_lines acts.now) }
-{
-    let mut room = [0u8; ROOM];
-    'acts: for act in acts {
-        let start = act_line(&mut room, act);
-        push_from(text, &room, start)?;
-    }
-    Ok(())
 }
 
 /// A line for each act of a control that cuts arcs, with its line feed: for an arc its end, its centre and its feed.
@@ -49,7 +35,7 @@ pub fn arc_lines(alloc: Global, acts: &[ArcAct]) -> Result<Vec<u8>, AllocError>
     ensures value { IfOk result (λ v. v.items ≡ lines.arc_lines acts.now) }
 {
     let mut text = Vec::new(alloc);
-    push_arc_lines(&mut text, acts)?;
+    push_lines(&mut text, acts)?;
     Ok(text)
 }
 
@@ -58,12 +44,12 @@ pub fn arc_lines(alloc: Global, acts: &[ArcAct]) -> Result<Vec<u8>, AllocError>
 /// # Errors
 ///
 /// Memory lacks.
-pub fn push_arc_lines(text: &mut Vec<u8>, acts: &[ArcAct]) -> Result<(), AllocError>
-    ensures { OnOk result (text.new.items ≡ text.old.items ++ lines.arc_lines acts.now) }
+pub fn push_lines<A: TapeAct>(text: &mut Vec<u8>, acts: &[A]) -> Result<(), AllocError>
+    ensures { OnOk result (text.new.items ≡ text.old.items ++ lines.arc_lines (map A.arc acts.now)) }
 {
     let mut room = [0u8; ROOM];
     'acts: for act in acts {
-        let start = arc_act_line(&mut room, act);
+        let start = arc_act_line(&mut room, &act.as_arc());
         push_from(text, &room, start)?;
     }
     Ok(())
@@ -114,6 +100,7 @@ fn cut_line(room: &mut [u8], x: i64, y: i64, z: i64, feed: i64) -> usize
 }
 
 /// Writes the line of an act of a control that cuts arcs in the same way.
+#[inline(always)]
 fn arc_act_line(room: &mut [u8], act: &ArcAct) -> usize
     requires { length room.old ≡ 192 }
     ensures start { result ≤ 192 }

@@ -7,7 +7,7 @@ mod points;
 pub mod room;
 mod status;
 
-pub use acts::{act_lines, arc_lines, push_act_lines, push_arc_lines};
+pub use acts::{act_lines, arc_lines, push_lines};
 pub use apt_block::TapeCause;
 pub use apt_certify::{Bad, Reason, Verdict};
 pub use apt_cldata::ClCause;

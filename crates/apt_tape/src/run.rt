@@ -24,8 +24,8 @@ pub trait Taker: Drop {
 /// A tape so far, and what was taken of its acts.
 #[derive(Drop)]
 pub struct TapeRun<T: Drop> {
-    reader: Reader,
-    taken: T,
+    pub reader: Reader,
+    pub taken: T,
 }
 
 impl<T: Taker> TapeRun<T> {
