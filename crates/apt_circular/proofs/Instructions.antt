@@ -1,5 +1,5 @@
 -- What the words of a block say to a control that cuts arcs.
-use Rattle.std.proofs.Common.{refl, ◌≡◌, ◌∙◌, ℕ, ℤ, ◌==◌, ◌&&◌, ◌||◌, not, is_none, Bool, true, false, List, [], ◌∷◌, ◌++◌, map, Option, Some, None, Err, cond, sym, ap, subst, unsigned_abs, arith, append_assoc}
+use Rattle.std.proofs.Common.{refl, ◌≡◌, ◌∙◌, ℕ, ◌==◌, ◌&&◌, ◌||◌, not, is_none, Bool, true, false, List, [], ◌∷◌, ◌++◌, map, Option, Some, None, Err, cond, sym, ap, subst, unsigned_abs, arith, append_assoc}
 use Rattle.std.specs.Option.{option_map, option_or}
 use Rattle.std.specs.Ordering.{int_eq}
 use Rattle.std.proofs.lemmas.List.{map-append}
@@ -16,7 +16,7 @@ use Rattle.apt_control.specs.declared.held.Held.{Held}
 use Rattle.apt_control.specs.Limits.{IsHeld}
 use Rattle.apt_control.specs.declared.held.Said.{Said}
 use Rattle.apt_control.specs.declared.held.Passing.{Passing}
-use Rattle.apt_control.specs.Control.{units_of, with_code, is_foreign, with_value, with_word, said_of, with_said, place_of, is_mixed, has_position, leaves_limit, or_zero, has_code, unit_acts, acts_before, move_acts, acts_after, block_acts, end_fault, unless_fault}
+use Rattle.apt_control.specs.Control.{units_of, with_code, is_foreign, with_value, said_of, with_said, place_of, is_mixed, has_position, leaves_limit, or_zero, has_code, unit_acts, acts_before, move_acts, acts_after, block_acts, end_fault, unless_fault}
 use Rattle.apt_control.specs.Passing.{passing}
 use Rattle.apt_control.proofs.Saying.{foreign_said, no_place}
 use Rattle.apt_control.proofs.Kept.{within_limit, fine_held, none_behind}

@@ -1,5 +1,9 @@
 pub mod Fitting
 pub mod Plans
+pub mod ArcsSaid
+pub mod Lengths
+pub mod HowMany
+pub mod LastVertex
 mod Worked
 mod WorkedBlocks
 pub mod Standing

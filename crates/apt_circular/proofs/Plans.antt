@@ -18,7 +18,7 @@ use Rattle.apt_circular.specs.ArcPlan.{nothing_coming, contour_acts, arcs_from, 
 abbrev lined : Pending → Bool → Coming
 lined p moved = record { pending = p; moved = moved; round = None }
 
-cuts_plain : (p : Pending) (vs : List Position) → map (λ v. Plain (cut_to p v)) vs ≡ map Plain (map (cut_to p) vs)
+pub cuts_plain : (p : Pending) (vs : List Position) → map (λ v. Plain (cut_to p v)) vs ≡ map Plain (map (cut_to p) vs)
 cuts_plain p [] = refl
 cuts_plain p (v ∷ vs) = ap (λ (done : List ArcAct). Plain (cut_to p v) ∷ done) (cuts_plain p vs)
 

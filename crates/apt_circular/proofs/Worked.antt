@@ -14,6 +14,7 @@ use Rattle.apt_control.specs.declared.Act.TheVariants as acts
 use Rattle.apt_circular.specs.declared.ArcAct.{ArcAct}
 use Rattle.apt_circular.specs.declared.ArcAct.TheVariants.{Plain, Arc}
 use Rattle.apt_circular.specs.ArcPlan.{plan_arcs}
+use Rattle.apt_circular.specs.ArcsSaid.{arcs_of}
 
 abbrev at : ℤ → ℤ → Position
 at x y = record { xy = record { x = x; y = y }; z = pos 0 }
@@ -60,3 +61,13 @@ a_line_between : plan_arcs (
     ≡ Plain (acts.Units Inch) ∷ cut (pos 0) (pos 225000) ∷ Arc (negsuc 0) (pos 225000) (pos 0) (pos 0) (pos 0) (pos 0) (pos 100) ∷ cut (pos 225000) low
     ∷ Arc (negsuc 0) (pos 325000) (negsuc 324999) (pos 0) (pos 225000) (negsuc 324999) (pos 100) ∷ []
 a_line_between = refl
+
+-- ---- the same, read off the records alone
+
+asked_behind_a_goto : arcs_of (front ++ records.Point reaches.Goto (at (pos 0) (pos 225000)) ∷ half)
+    ≡ Plain (acts.Units Inch) ∷ cut (pos 0) (pos 225000) ∷ Arc (negsuc 0) (pos 0) low (pos 0) (pos 0) (pos 0) (pos 100) ∷ Plain acts.End ∷ []
+asked_behind_a_goto = refl
+
+-- behind FROM alone each vertex is cut to
+asked_behind_from : arcs_of (front ++ half) ≡ Plain (acts.Units Inch) ∷ cut (pos 225000) (pos 0) ∷ cut (pos 0) low ∷ Plain acts.End ∷ []
+asked_behind_from = refl

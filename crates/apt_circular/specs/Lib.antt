@@ -1,4 +1,5 @@
 pub mod ArcPlan
+pub mod ArcsSaid
 pub mod Straight
 pub mod Fits
 pub mod ArcBlocks

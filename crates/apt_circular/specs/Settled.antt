@@ -1,5 +1,5 @@
 -- The faults of a block that a control that cuts arcs finds: no bytes behind it mend them.
-use Rattle.std.proofs.Common.{◌≡◌, ℕ, not, true, false, Bool, List, Option, Some, None, is_none, Result, Ok, Err, cond, refl, subst}
+use Rattle.std.proofs.Common.{◌≡◌, ℕ, not, true, false, Bool, List, Option, Some, None, is_none, Result, Err, cond, refl, subst}
 use Rattle.std.specs.Option.{option_map}
 use Rattle.apt_block.specs.declared.block.BlockFault.{BlockFault}
 use Rattle.apt_block.specs.declared.block.TapeCause.{TapeCause}
@@ -8,7 +8,7 @@ use Rattle.apt_block.specs.declared.block.TapeWord.{TapeWord}
 use Rattle.apt_block.specs.Block.{fault}
 use Rattle.apt_control.specs.declared.held.Held.{Held}
 use Rattle.apt_control.specs.declared.held.Said.{Said}
-use Rattle.apt_control.specs.Control.{said_of, with_said, place_of, is_mixed, has_position, leaves_limit, end_fault, unless_fault}
+use Rattle.apt_control.specs.Control.{said_of, with_said, place_of, is_mixed, has_position, leaves_limit, end_fault}
 use Rattle.apt_control.specs.Pieces.{more_may_mend}
 use Rattle.apt_control.specs.Settled.{Settled, settled_end, SettledAt, AllSettled, settled_unless}
 use Rattle.apt_circular.specs.ArcBlocks.{is_foreign_round, is_arc, is_no_arc, arc_fault, round_fault, round_meaning, unless_foreign, arc_meaning}

@@ -3,6 +3,7 @@
 #![tactic(auto)]
 
 mod arc;
+mod counting;
 mod instruction;
 mod left;
 mod planning;
@@ -10,6 +11,7 @@ mod poster;
 mod reading;
 
 use apt_control::{Act, ControlReader};
+pub use counting::arc_counts;
 pub use left::ArcBytes;
 pub use planning::{ArcPlan, Coming, Round, plan_arcs};
 pub use poster::ArcPoster;

@@ -6,6 +6,7 @@ ghost use Rattle.apt_post.specs.Plan.{nothing_pending, plan};
 ghost use Rattle.apt_post.specs.Writing.{AreWritten};
 ghost use Rattle.apt_circular.specs.declared.ArcAct.TheVariants.{Plain};
 ghost use Rattle.apt_circular.specs.ArcPlan as plans;
+ghost use Rattle.apt_circular.specs.ArcsSaid.{arcs_of};
 ghost use Rattle.apt_circular.specs.Fits.{IsFitting};
 ghost use Rattle.apt_circular.specs.Straight.{HaveNoRound};
 
@@ -36,7 +37,7 @@ pub struct Coming {
 
 impl Coming {
     /// What holds before the first record.
-    fn nothing() -> Coming
+    pub(crate) fn nothing() -> Coming
         ensures { result ≡ plans.nothing_coming }
     {
         Coming {
@@ -47,14 +48,14 @@ impl Coming {
     }
 
     /// The circle round which a contour is cut as one arc.
-    fn turning(self) -> Option<Round>
+    pub(crate) fn turning(self) -> Option<Round>
         ensures { result ≡ plans.turning self }
     {
         if self.moved { self.round } else { None }
     }
 
     /// What holds behind a record.
-    fn behind(self, r: &Record) -> Coming
+    pub(crate) fn behind(self, r: &Record) -> Coming
         ensures { result ≡ plans.coming_behind self r.now }
     {
         let pending = record_pending(self.pending, r);
@@ -116,16 +117,16 @@ fn plain_cut(p: Pending, to: Position) -> ArcAct
 }
 
 /// The last of a vertex and those behind it.
+#[tactic(auto, using(crate::proofs::LastVertex::last_apart, crate::proofs::LastVertex::last_level))]
 fn last_from(to: Position, behind: VertexSlice<'_>) -> Position
     ensures { result ≡ plans.last_from to behind.entry }
 {
-    let mut last = to;
-    let mut left = behind;
-    'left: while let Some((next, more)) = left.split_first() {
-        last = next;
-        left = more;
+    let (z, level, apart) = behind.parts();
+    match (apart.last(), level.last()) {
+        (Some(vertex), _) => *vertex,
+        (None, Some(point)) => Position { xy: *point, z },
+        (None, None) => to,
     }
-    last
 }
 
 /// The first act of a record, and the vertices to which it cuts then; none where it has no act.
@@ -167,9 +168,10 @@ impl<'a> Model for ArcPlan<'a> {
 
 impl<'a> ArcPlan<'a> {
     /// The units, and the acts that records ask for: the plain plan where no drive surface is a circle.
-    #[tactic(auto, using(crate::proofs::Plans::straight_plan, crate::proofs::Fitting::plan_fits))]
+    #[tactic(auto, using(crate::proofs::Plans::straight_plan, crate::proofs::Fitting::plan_fits, crate::proofs::ArcsSaid::arcs_said))]
     pub fn of(records: &'a [Record]) -> ArcPlan<'a>
         ensures acts { result ≡ plans.plan_arcs records.now }
+        ensures said { result ≡ arcs_of records.now }
         ensures straight { HaveNoRound records.now → result ≡ map Plain (plan records.now) }
         ensures fits { EndsOnce false records.now → AreWritten nothing_pending records.now → IsFitting result }
     {
@@ -215,9 +217,10 @@ impl<'a> ArcPlan<'a> {
 /// # Errors
 ///
 /// Memory lacks.
-#[tactic(auto, using(crate::proofs::Plans::straight_plan, crate::proofs::Fitting::plan_fits))]
+#[tactic(auto, using(crate::proofs::Plans::straight_plan, crate::proofs::Fitting::plan_fits, crate::proofs::ArcsSaid::arcs_said))]
 pub fn plan_arcs(alloc: Global, records: &[Record]) -> Result<Vec<ArcAct>, AllocError>
     ensures value { IfOk result (λ v. v.items ≡ plans.plan_arcs records.now) }
+    ensures said { IfOk result (λ v. v.items ≡ arcs_of records.now) }
     ensures straight { HaveNoRound records.now → IfOk result (λ v. v.items ≡ map Plain (plan records.now)) }
     ensures fits { EndsOnce false records.now → AreWritten nothing_pending records.now → IfOk result (λ v. IsFitting v.items) }
 {

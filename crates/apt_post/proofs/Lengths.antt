@@ -31,7 +31,7 @@ use Rattle.apt_post.specs.Blocks.{g, goes_by_ways, position, mode_words, move_wo
 abbrev longest : TapeWord → ℕ
 longest w = 1 + (cond (form_in forms w.letter).signed 1 0 + (form_in forms w.letter).digits)
 
-abbrev all_longest : List TapeWord → ℕ
+abbrev pub all_longest : List TapeWord → ℕ
 all_longest [] = 0
 all_longest (w ∷ ws) = longest w + all_longest ws
 
@@ -77,21 +77,21 @@ word_few short w =
     let f = form_in forms w.letter in
     omega (arith, number_few f.signed (width short f (unsigned_abs w.value)) f.digits w.value (width_few short f (unsigned_abs w.value) (form_fits w.letter)))
 
-words_few : (short : Bool) (words : List TapeWord) → length (flat_map (word_text short) words) ≤ all_longest words
+pub words_few : (short : Bool) (words : List TapeWord) → length (flat_map (word_text short) words) ≤ all_longest words
 words_few short [] = omega arith
 words_few short (w ∷ ws) = omega (arith, length-append (word_text short w) (flat_map (word_text short) ws), word_few short w, words_few short ws)
 
-longest-append : (xs ys : List TapeWord) → all_longest (xs ++ ys) ≡ all_longest xs + all_longest ys
+pub longest-append : (xs ys : List TapeWord) → all_longest (xs ++ ys) ≡ all_longest xs + all_longest ys
 longest-append [] ys = omega arith
 longest-append (x ∷ xs) ys = omega (arith, longest-append xs ys)
 
-mode_few : (before ways : Bool) → all_longest (mode_words before ways) ≤ 3
+pub mode_few : (before ways : Bool) → all_longest (mode_words before ways) ≤ 3
 mode_few true true = omega arith
 mode_few true false = omega arith
 mode_few false true = omega arith
 mode_few false false = omega arith
 
-number_words_few : (none : Bool) (n : ℕ) → all_longest (if none then [] else tape_word letter_n (pos n) ∷ []) ≤ 5
+pub number_words_few : (none : Bool) (n : ℕ) → all_longest (if none then [] else tape_word letter_n (pos n) ∷ []) ≤ 5
 number_words_few true n = omega arith
 number_words_few false n = omega arith
 
@@ -121,11 +121,11 @@ with_word true w ws few h = omega (arith, h)
 with_word false w ws few h = omega (arith, h)
 
 -- words that are left out make it no longer
-fewer_words : (p : TapeWord → Bool) (words : List TapeWord) → all_longest (filter p words) ≤ all_longest words
+pub fewer_words : (p : TapeWord → Bool) (words : List TapeWord) → all_longest (filter p words) ≤ all_longest words
 fewer_words p [] = omega arith
 fewer_words p (w ∷ ws) = with_word (p w) w ws (filter p ws) (fewer_words p ws)
 
-act_block_length : (m : Machine) (k : ℕ) (held : Held) (act : Act) → length (spelling m.short (act_block m k held act)) ≤ 47
+pub act_block_length : (m : Machine) (k : ℕ) (held : Held) (act : Act) → length (spelling m.short (act_block m k held act)) ≤ 47
 act_block_length m k held act =
     let block = act_block m k held act in
     let words = act_words m.incremental held act in

@@ -16,7 +16,7 @@ use Rattle.apt_post.specs.Plan.{note_acts, point_acts, record_acts, note_pending
 use Rattle.apt_post.specs.Said.{feed_said, is_rapid, has_ended, units_said, note_said, record_said, acts_said, acts_of}
 
 -- what is pending, looked back for
-abbrev pending_said : List Record → Pending
+abbrev pub pending_said : List Record → Pending
 pending_said before = record { feed = feed_said before; rapid = is_rapid before; ended = has_ended before }
 
 -- ---- what is pending behind a record
@@ -43,7 +43,7 @@ point_holds before reaches.Goto to = refl
 point_holds before reaches.Godlta to = refl
 point_holds before reaches.Start to = refl
 
-record_holds : (before : List Record) (r : Record) → record_pending (pending_said before) r ≡ pending_said (r ∷ before)
+pub record_holds : (before : List Record) (r : Record) → record_pending (pending_said before) r ≡ pending_said (r ∷ before)
 record_holds before (records.Statement line step) = refl
 record_holds before (records.Note note) = note_holds before note
 record_holds before (records.Drive surface side sense) = refl
@@ -75,7 +75,7 @@ point_asks before reaches.Goto to = refl
 point_asks before reaches.Godlta to = refl
 point_asks before reaches.Start to = refl
 
-record_asks : (before : List Record) (r : Record) → record_acts (pending_said before) r ≡ record_said before r
+pub record_asks : (before : List Record) (r : Record) → record_acts (pending_said before) r ≡ record_said before r
 record_asks before (records.Statement line step) = refl
 record_asks before (records.Note note) = note_asks before note
 record_asks before (records.Drive surface side sense) = refl
@@ -108,7 +108,7 @@ note_first notes.OptStop more is = is
 note_first notes.End more is = is
 note_first notes.Fini more is = is
 
-units_are : (rs : List Record) → units_of rs ≡ units_said rs
+pub units_are : (rs : List Record) → units_of rs ≡ units_said rs
 units_are [] = refl
 units_are (records.Statement line step ∷ rs) = units_are rs
 units_are (records.Note note ∷ rs) = note_first note rs (units_are rs)

@@ -1,4 +1,4 @@
-use Rattle.std.proofs.Common.{◌≡◌, ◌-◌, ◌+◌, ◌<◌, ℤ, Option, length, drop, arith}
+use Rattle.std.proofs.Common.{◌≡◌, ◌-◌, ◌+◌, ◌<◌, length, drop, arith}
 use Rattle.apt_control.specs.declared.held.Said.{Said}
 use Rattle.apt_control.specs.Control.{said_of}
 use Rattle.apt_control.proofs.Saying.{taken_next, taken_all, small_at}
