@@ -6,12 +6,12 @@ use Rattle.apt_parse.specs.Programs.{TextFault}
 use Rattle.apt_cldata.specs.declared.error.ClError.{ClError}
 use Rattle.apt_cldata.specs.declared.error.ClError.TheVariants as cl_errors
 use Rattle.apt_cldata.specs.Reading as reading
-use Rattle.apt_tapecode.specs.declared.Code.{Code}
 use Rattle.apt_words.specs.Answers.{IsFault}
 use Rattle.apt_control.specs.declared.error.ControlError.{ControlError}
 use Rattle.apt_control.specs.declared.error.ControlError.TheVariants as tape_errors
 use Rattle.apt_control.specs.Answers.{fault_in}
-use Rattle.apt_control.specs.Control.{control_run}
+use Rattle.apt_machine.specs.declared.machine.Machine.{Machine}
+use Rattle.apt_tape.specs.Tapes.{run_on}
 use Rattle.apt_part.specs.Answering.{IsPart}
 use Rattle.apt_part.specs.declared.part.PartError.{PartError}
 use Rattle.apt_part.specs.declared.part.PartError.TheVariants as part_errors
@@ -28,9 +28,9 @@ pub bad_cl_told : (cl : List ℕ) (error : ClError) → IsFault reading.fault_in
 bad_cl_told cl (cl_errors.Bad at cause) e = inl (rw e refl)
 bad_cl_told cl cl_errors.NoMemory e = inr refl
 
-pub bad_tape_told : (code : Code) (tape : List ℕ) (error : ControlError) → IsFault fault_in (control_run code tape) error → ComesToNone (acts_due code tape) (tape_told error)
-bad_tape_told code tape (tape_errors.Bad at cause) e = inl (rw e refl)
-bad_tape_told code tape tape_errors.NoMemory e = inr refl
+pub bad_tape_told : (machine : Machine) (tape : List ℕ) (error : ControlError) → IsFault fault_in (run_on machine tape) error → ComesToNone (acts_due machine tape) (tape_told error)
+bad_tape_told machine tape (tape_errors.Bad at cause) e = inl (rw e refl)
+bad_tape_told machine tape tape_errors.NoMemory e = inr refl
 
 -- ---- along a chain
 

@@ -1,8 +1,8 @@
 -- From the parts of the work to what a decode says.
 use Rattle.std.proofs.Common.{◌≡◌, inl, inr, ℕ, List, [], ◌∷◌, Result, Ok, Err, ap, sym, ◌∙◌, refl, subst}
 use Rattle.apt_words.specs.Chains.{◌>>=◌}
-use Rattle.apt_control.specs.declared.Act.{Act}
-use Rattle.apt_control.specs.Control.{control_run}
+use Rattle.apt_circular.specs.declared.ArcAct.{ArcAct}
+use Rattle.apt_tape.specs.Tapes.{run_on}
 use Rattle.apt_machine.specs.declared.machine.Machine.{Machine}
 use Rattle.apt_machine.specs.Tables.{table_of}
 use Rattle.apt_report.specs.declared.status.Status.{Status}
@@ -16,7 +16,7 @@ use Rattle.apt_core.proofs.Chains.{chain_on, none_first}
 -- ---- what is said
 
 abbrev behind_table : List ℕ → Machine → Result Said Status
-behind_table tape machine = acts_due machine.code tape >>= λ acts. Ok (acts_said acts)
+behind_table tape machine = acts_due machine tape >>= λ acts. Ok (acts_said acts)
 
 pub none_said : (due : Result Said Status) (answer : Status) → ComesToNone due answer → IsSaid (said_of due) (lined answer)
 none_said due answer (inl e) = inl (sym (ap said_of e))
@@ -28,15 +28,15 @@ bad_table_said table tape answer e = none_said (said_due table tape) answer (non
 on_table : (table tape : List ℕ) (machine : Machine) → table_of table ≡ Ok machine → said_due table tape ≡ behind_table tape machine
 on_table table tape machine tabled = chain_on (machine_due table) machine (behind_table tape) (rw tabled refl)
 
-pub bad_tape_said : (table tape : List ℕ) (machine : Machine) (answer : Status) → table_of table ≡ Ok machine → ComesToNone (acts_due machine.code tape) answer
+pub bad_tape_said : (table tape : List ℕ) (machine : Machine) (answer : Status) → table_of table ≡ Ok machine → ComesToNone (acts_due machine tape) answer
     → IsSaid (said_of (said_due table tape)) (lined answer)
 bad_tape_said table tape machine answer tabled none =
     none_said (said_due table tape) answer (subst (λ due. ComesToNone due answer) (sym (on_table table tape machine tabled))
-    (none_first (acts_due machine.code tape) (λ acts. Ok (acts_said acts)) answer none))
+    (none_first (acts_due machine tape) (λ acts. Ok (acts_said acts)) answer none))
 
-pub said_for : (table tape : List ℕ) (machine : Machine) (acts : List Act) → table_of table ≡ Ok machine → control_run machine.code tape ≡ Ok acts → said_due table tape ≡ Ok (acts_said acts)
+pub said_for : (table tape : List ℕ) (machine : Machine) (acts : List ArcAct) → table_of table ≡ Ok machine → run_on machine tape ≡ Ok acts → said_due table tape ≡ Ok (acts_said acts)
 said_for table tape machine acts tabled run =
-    on_table table tape machine tabled ∙ chain_on (acts_due machine.code tape) acts (λ acts. Ok (acts_said acts)) (rw run refl)
+    on_table table tape machine tabled ∙ chain_on (acts_due machine tape) acts (λ acts. Ok (acts_said acts)) (rw run refl)
 
 -- ---- the work
 

@@ -15,9 +15,9 @@ use Rattle.apt_job.specs.Jobs.{jobs_said}
 use Rattle.apt_job.proofs.Walks.{jobs_right, makes_said}
 use Rattle.apt_machine.specs.declared.machine.Machine.{Machine}
 use Rattle.apt_machine.specs.Tables.{table_of}
-use Rattle.apt_control.specs.declared.Act.{Act}
-use Rattle.apt_control.specs.Control.{control_run}
-use Rattle.apt_post.specs.Said.{acts_of}
+use Rattle.apt_circular.specs.declared.ArcAct.{ArcAct}
+use Rattle.apt_tape.specs.Tapes.{acts_on, run_on}
+use Rattle.apt_sweeps.proofs.Machines.{arcs_belong}
 use Rattle.apt_part.specs.Compilation.{steps_of}
 use Rattle.apt_part.specs.Promise.{Passes, file_limit}
 use Rattle.apt_report.specs.declared.status.Status.{Status}
@@ -37,15 +37,15 @@ all_legal : (jobs : List Job) (v : Verdict) → IsVerdict jobs v → v.first_bad
 all_legal jobs v is none = subst (IsFirstBadOrNone jobs) none is.first_bad
 
 -- what texts come to
-pub record AreJudged (machine : Machine) (text table cl tape : List ℕ) (steps : List Step) (written : List Record) (acts : List Act) : Type 0 where
+pub record AreJudged (machine : Machine) (text table cl tape : List ℕ) (steps : List Step) (written : List Record) (acts : List ArcAct) : Type 0 where
   pub tabled : table_of table ≡ Ok machine
   pub comes : steps_of machine text ≡ Ok (Ok steps)
   pub read : read_of cl ≡ Ok written
-  pub run : control_run machine.code tape ≡ Ok acts
+  pub run : run_on machine tape ≡ Ok acts
 
 -- behind the table, the steps and the records
 abbrev behind_records : Machine → List ℕ → List Step → List Record → Result Judged Status
-behind_records machine tape steps written = acts_due machine.code tape >>= λ acts. Ok (judged_by machine steps written acts)
+behind_records machine tape steps written = acts_due machine tape >>= λ acts. Ok (judged_by machine steps written acts)
 
 abbrev behind_steps : Machine → List ℕ → List ℕ → List Step → Result Judged Status
 behind_steps machine cl tape steps = records_due cl >>= λ written. behind_records machine tape steps written
@@ -66,11 +66,11 @@ on_records : (machine : Machine) (text table cl tape : List ℕ) (steps : List S
 on_records machine text table cl tape steps written tabled comes read =
     on_steps machine text table cl tape steps tabled comes ∙ chain_on (records_due cl) written (behind_records machine tape steps) (rw read refl)
 
-pub judged_for : (machine : Machine) (text table cl tape : List ℕ) (steps : List Step) (written : List Record) (acts : List Act)
+pub judged_for : (machine : Machine) (text table cl tape : List ℕ) (steps : List Step) (written : List Record) (acts : List ArcAct)
     → AreJudged machine text table cl tape steps written acts → judged_due text table cl tape ≡ Ok (judged_by machine steps written acts)
 judged_for machine text table cl tape steps written acts are =
     on_records machine text table cl tape steps written are.tabled are.comes are.read
-    ∙ chain_on (acts_due machine.code tape) acts (λ acts. Ok (judged_by machine steps written acts)) (rw are.run refl)
+    ∙ chain_on (acts_due machine tape) acts (λ acts. Ok (judged_by machine steps written acts)) (rw are.run refl)
 
 -- where a text comes to nothing
 none_judged : {A : Type 0} (text table cl tape : List ℕ) (due : Result A Status) (more : A → Result Judged Status) (answer : Status) → judged_due text table cl tape ≡ (due >>= more)
@@ -87,21 +87,21 @@ part_judged machine text table cl tape answer tabled none =
     none_judged text table cl tape (steps_due machine text) (behind_steps machine cl tape) answer (on_table machine text table cl tape tabled) none
 
 pub tape_judged : (machine : Machine) (text table cl tape : List ℕ) (steps : List Step) (written : List Record) (answer : Status) → table_of table ≡ Ok machine
-    → steps_of machine text ≡ Ok (Ok steps) → read_of cl ≡ Ok written → ComesToNone (acts_due machine.code tape) answer → OrNoMemory (IsJudgement text table cl tape answer) answer
+    → steps_of machine text ≡ Ok (Ok steps) → read_of cl ≡ Ok written → ComesToNone (acts_due machine tape) answer → OrNoMemory (IsJudgement text table cl tape answer) answer
 tape_judged machine text table cl tape steps written answer tabled comes read none =
-    none_judged text table cl tape (acts_due machine.code tape) (λ acts. Ok (judged_by machine steps written acts)) answer
+    none_judged text table cl tape (acts_due machine tape) (λ acts. Ok (judged_by machine steps written acts)) answer
     (on_records machine text table cl tape steps written tabled comes read) none
 
 -- something is missed
-pub missed_judged : (machine : Machine) (text table cl tape : List ℕ) (steps : List Step) (written : List Record) (acts : List Act) (answer : Status)
-    → AreJudged machine text table cl tape steps written acts → OrNoMemory (IsMissed steps written acts answer) answer → OrNoMemory (IsJudgement text table cl tape answer) answer
+pub missed_judged : (machine : Machine) (text table cl tape : List ℕ) (steps : List Step) (written : List Record) (acts : List ArcAct) (answer : Status)
+    → AreJudged machine text table cl tape steps written acts → OrNoMemory (IsMissed machine steps written acts answer) answer → OrNoMemory (IsJudgement text table cl tape answer) answer
 missed_judged machine text table cl tape steps written acts answer are (inl missed) =
     inl (inr (judged_by machine steps written acts, judged_for machine text table cl tape steps written acts are, inl missed))
 missed_judged machine text table cl tape steps written acts answer are (inr short) = inr short
 
 -- what follows legally is right
 good_is_right : (machine : Machine) (text cl tape : List ℕ) (steps : List Step) (written : List Record) (v : Verdict) → Passes machine text steps → read_of cl ≡ Ok written
-    → control_run machine.code tape ≡ Ok (acts_of written) → Follows steps written → IsVerdict (jobs_said written) v → v.first_bad ≡ None → IsCertified machine text cl tape v
+    → run_on machine tape ≡ Ok (acts_on machine written) → Follows steps written → IsVerdict (jobs_said written) v → v.first_bad ≡ None → IsCertified machine text cl tape v
 good_is_right machine text cl tape steps written v passes read run follow verdict none =
     let makes = makes_said steps written follow in
     let right = jobs_right steps written (jobs_said written) makes (all_legal (jobs_said written) v verdict none) in record {
@@ -113,6 +113,7 @@ good_is_right machine text cl tape steps written v passes read run follow verdic
         acts = run;
         follow = right.0;
         legal = right.1;
+        arcs = arcs_belong machine steps written passes.fine right.0 right.1;
       };
       numbers = (legal_in_numbers written).0 right.1;
       verdict = verdict;
@@ -120,8 +121,8 @@ good_is_right machine text cl tape steps written v passes read run follow verdic
     }
 
 -- all is right
-pub good_judged : (machine : Machine) (text table cl tape : List ℕ) (steps : List Step) (written : List Record) (acts : List Act) (v : Verdict)
-    → AreJudged machine text table cl tape steps written acts → Passes machine text steps → Follows steps written → IsVerdict (jobs_said written) v → v.first_bad ≡ None → acts ≡ acts_of written
+pub good_judged : (machine : Machine) (text table cl tape : List ℕ) (steps : List Step) (written : List Record) (acts : List ArcAct) (v : Verdict)
+    → AreJudged machine text table cl tape steps written acts → Passes machine text steps → Follows steps written → IsVerdict (jobs_said written) v → v.first_bad ≡ None → acts ≡ acts_on machine written
     → OrNoMemory (IsJudgement text table cl tape (answers.Done (summaries.Certified v))) (answers.Done (summaries.Certified v))
 good_judged machine text table cl tape steps written acts v are passes follow verdict none planned =
     inl (inr (

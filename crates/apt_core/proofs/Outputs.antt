@@ -1,5 +1,5 @@
 -- The files of a part are right for it.
-use Rattle.std.proofs.Common.{◌≡◌, ◌+◌, ◌≤◌, ℕ, List, length, Ok, ap, ◌∙◌, refl, subst, arith}
+use Rattle.std.proofs.Common.{◌≡◌, ◌+◌, ◌≤◌, ℕ, List, length, Ok, ap, ◌∙◌, refl, arith}
 use Rattle.apt_words.specs.Chains.{◌>>=◌}
 use Rattle.apt_records.specs.declared.record.Record.{Record}
 use Rattle.apt_cldata.specs.Files.{file_of}
@@ -7,12 +7,7 @@ use Rattle.apt_records.specs.Ranges.{vertex_count}
 use Rattle.apt_cldata.proofs.Laws.{file_again, file_long}
 use Rattle.apt_machine.specs.declared.machine.Machine.{Machine}
 use Rattle.apt_machine.specs.Tables.{table_of}
-use Rattle.apt_control.specs.declared.Act.{Act}
-use Rattle.apt_control.specs.Control.{control_run}
-use Rattle.apt_post.specs.Blocks.{tape_bytes}
-use Rattle.apt_post.specs.Plan.{plan}
-use Rattle.apt_post.proofs.Running.{tape_runs}
-use Rattle.apt_post.proofs.Said.{plan_said}
+use Rattle.apt_tape.proofs.Plainly.{tape_runs_on}
 use Rattle.apt_part.specs.Compilation.{Compiled, part_of}
 use Rattle.apt_part.specs.Promise.{Promise, file_limit}
 use Rattle.apt_core.specs.Due.{unless_refused, machine_due, part_due}
@@ -35,7 +30,8 @@ output_is machine text table p tabled comes promise = record {
     read = file_again p.records promise.file;
     follow = promise.follow;
     legal = promise.legal;
-    acts = subst (λ (acts : List Act). control_run machine.code (tape_bytes machine (plan p.records)) ≡ Ok acts) (plan_said p.records) (tape_runs machine (plan p.records) promise.program);
+    acts = tape_runs_on machine p.records promise.writable;
+    arcs = promise.arcs;
   };
 }
 

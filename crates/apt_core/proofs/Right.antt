@@ -11,8 +11,8 @@ use Rattle.apt_job.specs.Jobs.{jobs_said}
 use Rattle.apt_job.proofs.Walks.{follows_legal, follows_makes, makes_no_fails, makes_said}
 use Rattle.apt_machine.specs.declared.machine.Machine.{Machine}
 use Rattle.apt_machine.specs.Tables.{table_of}
-use Rattle.apt_control.specs.declared.Act.{Act}
-use Rattle.apt_post.specs.Said.{acts_of}
+use Rattle.apt_circular.specs.declared.ArcAct.{ArcAct}
+use Rattle.apt_tape.specs.Tapes.{acts_on}
 use Rattle.apt_part.proofs.Promised.{passes_comes}
 use Rattle.apt_report.specs.declared.status.Status.{Status}
 use Rattle.apt_report.specs.declared.status.Miss.{Miss}
@@ -56,17 +56,17 @@ same_texts m (x ∷ xs) (a ∷ cs) (b ∷ bs) r s =
 
 -- ---- the answer
 
-not_differ : (xs : List Act) → HeadsDiffer xs xs → ⊥
+not_differ : (xs : List ArcAct) → HeadsDiffer xs xs → ⊥
 not_differ [] d = d
 not_differ (x ∷ xs) d = d refl
 
-no_difference : (xs ys : List Act) (at : ℕ) → xs ≡ ys → DifferAt xs ys at → ⊥
+no_difference : (xs ys : List ArcAct) (at : ℕ) → xs ≡ ys → DifferAt xs ys at → ⊥
 no_difference xs ys at e d =
     let same : d.left ≡ d.right = append_cancel_left d.same d.left d.right (sym d.first ∙ e ∙ d.second) in
-    not_differ d.right (subst (λ (l : List Act). HeadsDiffer l d.right) same d.differ)
+    not_differ d.right (subst (λ (l : List ArcAct). HeadsDiffer l d.right) same d.differ)
 
-no_miss : (machine : Machine) (text cl tape : List ℕ) (right : IsRight machine text cl tape) (acts : List Act) (miss : Miss) → acts ≡ acts_of right.records
-    → IsMiss right.steps right.records acts miss → ⊥
+no_miss : (machine : Machine) (text cl tape : List ℕ) (right : IsRight machine text cl tape) (acts : List ArcAct) (miss : Miss) → acts ≡ acts_on machine right.records
+    → IsMiss machine right.steps right.records acts miss → ⊥
 no_miss machine text cl tape right acts (misses.Entry seq) same is =
     let jobs = follows_makes first_situation right.steps right.records right.follow.behind (contours_legal right.steps right.records right.follow right.legal) in
     makes_no_fails first_situation right.steps right.records jobs.0 1 seq jobs.1 is
@@ -74,11 +74,11 @@ no_miss machine text cl tape right acts (misses.Motion bad) same is =
     let makes = makes_said right.steps right.records is.0 in
     let legal = contours_legal right.steps right.records right.follow right.legal in
     bad_not_legal (jobs_said right.records) bad is.1 (follows_legal first_situation right.steps right.records (jobs_said right.records) right.follow.behind makes legal)
-no_miss machine text cl tape right acts (misses.Act at) same is = no_difference acts (acts_of right.records) at same is.2
+no_miss machine text cl tape right acts (misses.Act at) same is = no_difference acts (acts_on machine right.records) at same is.2
 
 right_judged : (machine : Machine) (text table cl tape : List ℕ) (right : IsRight machine text cl tape) → table_of table ≡ Ok machine
-    → judged_due text table cl tape ≡ Ok (judged_by machine right.steps right.records (acts_of right.records))
-right_judged machine text table cl tape right tabled = judged_for machine text table cl tape right.steps right.records (acts_of right.records) (record {
+    → judged_due text table cl tape ≡ Ok (judged_by machine right.steps right.records (acts_on machine right.records))
+right_judged machine text table cl tape right tabled = judged_for machine text table cl tape right.steps right.records (acts_on machine right.records) (record {
   tabled = tabled;
   comes = passes_comes machine text right.steps right.passes;
   read = right.read;
@@ -90,12 +90,12 @@ judgement_right : (machine : Machine) (text table cl tape : List ℕ) (told : St
     → IsDone machine text cl tape told
 judgement_right machine text table cl tape told tabled right (inl none) = absurd (let f = sym none ∙ right_judged machine text table cl tape right tabled in let g : ⊥ = cc in g)
 judgement_right machine text table cl tape told tabled right (inr found) = elim found.2 [
-  | inl missed ↦ absurd (no_miss machine text cl tape right (acts_of right.records) missed.0 refl (subst (λ (k : Judged). IsMiss k.steps k.written k.acts missed.0) same missed.2))
+  | inl missed ↦ absurd (no_miss machine text cl tape right (acts_on machine right.records) missed.0 refl (subst (λ (k : Judged). IsMiss k.machine k.steps k.written k.acts missed.0) same missed.2))
   | inr done ↦ subst (λ (k : Judged). IsDone k.machine text cl tape told) same done
 ]
   where
-    same : found.0 ≡ judged_by machine right.steps right.records (acts_of right.records)
-    same = one_due (judged_due text table cl tape) found.0 (judged_by machine right.steps right.records (acts_of right.records)) found.1 (right_judged machine text table cl tape right tabled)
+    same : found.0 ≡ judged_by machine right.steps right.records (acts_on machine right.records)
+    same = one_due (judged_due text table cl tape) found.0 (judged_by machine right.steps right.records (acts_on machine right.records)) found.1 (right_judged machine text table cl tape right tabled)
 
 pub right_is_done : (machine : Machine) (n : FourNames) (m : Contents) (text table cl tape : List ℕ) (told : Status) → ReadsAll (Some m) (inputs n) (text ∷ table ∷ cl ∷ tape ∷ [])
     → table_of table ≡ Ok machine → IsRight machine text cl tape → Judges n (Some m) told → IsDone machine text cl tape told

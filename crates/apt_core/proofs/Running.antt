@@ -2,8 +2,8 @@
 use Rattle.std.proofs.Common.{◌≡◌, inl, inr, ℕ, List, [], ◌∷◌, length, Option, Some, None, Ok, ap, sym, ◌∙◌, subst}
 use Rattle.apt_shelf.specs.Told.{Contents}
 use Rattle.apt_certify.specs.declared.verdict.Verdict.{Verdict}
-use Rattle.apt_control.specs.declared.Act.{Act}
-use Rattle.apt_control.specs.Control.{control_run}
+use Rattle.apt_circular.specs.declared.ArcAct.{ArcAct}
+use Rattle.apt_tape.specs.Tapes.{run_on}
 use Rattle.apt_machine.specs.declared.machine.Machine.{Machine}
 use Rattle.apt_machine.specs.Tables.{table_of}
 use Rattle.apt_report.specs.declared.status.Status.{Status}
@@ -77,8 +77,8 @@ told_right machine n m text table cl tape before after told works there reads ta
 -- ---- `decode`
 
 -- a tape that runs to acts
-runs_to : (n : TapeNames) (m : Contents) (table tape : List ℕ) (machine : Machine) (acts : List Act) (said : Said) → ReadsAll (Some m) (tape_inputs n) (table ∷ tape ∷ [])
-    → table_of table ≡ Ok machine → control_run machine.code tape ≡ Ok acts → Runs n (Some m) said → said.answer ≡ answers.Done (summaries.Decoded (length acts))
+runs_to : (n : TapeNames) (m : Contents) (table tape : List ℕ) (machine : Machine) (acts : List ArcAct) (said : Said) → ReadsAll (Some m) (tape_inputs n) (table ∷ tape ∷ [])
+    → table_of table ≡ Ok machine → run_on machine tape ≡ Ok acts → Runs n (Some m) said → said.answer ≡ answers.Done (summaries.Decoded (length acts))
 runs_to n m table tape machine acts said reads tabled run runs =
     by_texts (same_texts m (tape_inputs n) (runs.table ∷ runs.tape ∷ []) (table ∷ tape ∷ []) runs.reads reads)
   where
@@ -92,9 +92,9 @@ runs_to n m table tape machine acts said reads tabled run runs =
         let here : said_due runs.table runs.tape ≡ Ok (acts_said acts) = rw (t, u) due in
         ap (λ (s : Said). s.answer) (runs.due ∙ ap said_of here)
 
-told_acts : (n : TapeNames) (m : Contents) (table tape : List ℕ) (machine : Machine) (acts : List Act) (before after : Outside) (said : Said)
+told_acts : (n : TapeNames) (m : Contents) (table tape : List ℕ) (machine : Machine) (acts : List ArcAct) (before after : Outside) (said : Said)
     → Decodes n before.files after.files said → before.files.told ≡ Some m → ReadsAll (Some m) (tape_inputs n) (table ∷ tape ∷ []) → table_of table ≡ Ok machine
-    → control_run machine.code tape ≡ Ok acts → NoneRose before after → OrNoMemory (said.answer ≡ answers.Done (summaries.Decoded (length acts))) said.answer
+    → run_on machine tape ≡ Ok acts → NoneRose before after → OrNoMemory (said.answer ≡ answers.Done (summaries.Decoded (length acts))) said.answer
 told_acts n m table tape machine acts before after said works there reads tabled run none = elim works.comes [
   | inl stopped ↦ inr (stopped_short (tape_inputs n) m (table ∷ tape ∷ []) before.files after.files said.answer there reads (files_unfailed before after none) stopped.0)
   | inr runs ↦ inl (runs_to n m table tape machine acts said reads tabled run (subst (λ t. Runs n t said) there runs))

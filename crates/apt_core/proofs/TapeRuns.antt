@@ -1,42 +1,38 @@
 -- A run of a tape goes on piece by piece.
-use Rattle.std.proofs.Common.{◌≡◌, ◌∙◌, ℕ, List, [], ◌++◌, Result, Ok, Err, ap, subst}
+use Rattle.std.proofs.Common.{◌≡◌, ℕ, Bool, List, ◌++◌, Result, Ok, Err, subst}
 use Rattle.apt_words.specs.Answers.{IsFault}
 use Rattle.apt_tapecode.specs.declared.Code.{Code}
-use Rattle.apt_control.specs.declared.Act.{Act}
 use Rattle.apt_control.specs.declared.error.ControlError.{ControlError}
-use Rattle.apt_control.specs.declared.held.Held.{Held}
 use Rattle.apt_control.specs.Answers.{fault_in}
-use Rattle.apt_control.specs.Control.{meaning, nothing_held, control_run}
-use Rattle.apt_control.specs.Walk.{Walk}
-use Rattle.apt_control.specs.Pieces.{StandsBehind}
-use Rattle.apt_core.specs.declared.intake.TapeRun.{TapeRun}
-use Rattle.apt_core.specs.TapeRuns.{HasRun, RunsFrom}
-use Rattle.apt_core.proofs.Intakes.{holds_still}
+use Rattle.apt_circular.specs.declared.ArcAct.{ArcAct}
+use Rattle.apt_tape.specs.declared.run.TapeRun.{TapeRun}
+use Rattle.apt_machine.specs.declared.machine.Machine.{Machine}
+use Rattle.apt_tape.specs.Tapes.{run_in, run_on}
+use Rattle.apt_tape.specs.Runs.{kind_of, code_of, HasRun, IsTaken}
+use Rattle.apt_core.specs.TapeRuns.{RunsFrom}
+use Rattle.apt_core.proofs.Intakes.{holds_still, holds_whole}
 
--- a piece is taken, and its acts are dropped
-pub run_fed : {T : Type 0} (has : T → List Act → Type 0) (code : Code) (front piece : List ℕ) (run : TapeRun T) (fed now : Walk Held Act) (taken : T) → HasRun has code front (Ok run)
-    → fed.code ≡ run.reader.code → now ≡ record fed { acts = [] }
-    → ((acts : List Act) → StandsBehind meaning nothing_held acts run.reader front → StandsBehind meaning nothing_held (acts ++ fed.acts) now (front ++ piece))
-    → ((before : List Act) → has run.taken before → has taken (before ++ fed.acts)) → HasRun has code (front ++ piece) (Ok (record { reader = now; taken = taken }))
-run_fed has code front piece run fed now taken so same dropped behind takes =
-    (ap (λ (s : Walk Held Act). s.code) dropped ∙ same ∙ so.0, (so.1.0 ++ fed.acts, takes so.1.0 so.1.1, behind so.1.0 so.1.2))
-
--- a piece is refused
-pub run_refused : {T : Type 0} (has : T → List Act → Type 0) (code : Code) (front piece : List ℕ) (run : TapeRun T) (error : ControlError) → HasRun has code front (Ok run)
-    → ((acts : List Act) (front more : List ℕ) → StandsBehind meaning nothing_held acts run.reader front → IsFault fault_in (control_run run.reader.code (front ++ piece ++ more)) error)
-    → HasRun has code (front ++ piece) (Err error)
-run_refused has code front piece run error so whole = λ more.
-    subst (λ c. IsFault fault_in (control_run c (front ++ piece ++ more)) error) so.0 (whole so.1.0 front more so.1.2)
-
--- ---- from what began it
-
-pub run_on : {T : Type 0} (has : T → T → List Act → Type 0) (begun : Result (TapeRun T) ControlError) (front piece : List ℕ) (run : TapeRun T) (next : Result (TapeRun T) ControlError)
-    → ((none : T) (code : Code) (front : List ℕ) → HasRun (has none) code front (Ok run) → HasRun (has none) code (front ++ piece) next)
+pub run_goes_on : {T : Type 0} (has : T → T → List ArcAct → Type 0) (begun : Result (TapeRun T) ControlError) (front piece : List ℕ) (run : TapeRun T) (next : Result (TapeRun T) ControlError)
+    → ((none : T) (circles : Bool) (code : Code) (front : List ℕ) → HasRun (has none) circles code front (Ok run) → HasRun (has none) circles code (front ++ piece) next)
     → RunsFrom has begun (Ok run) front → RunsFrom has begun next (front ++ piece)
-run_on has (Ok begun) front piece run next on so = on begun.taken begun.reader.code front so
-run_on has (Err error) front piece run next on so = so
+run_goes_on has (Ok begun) front piece run next on so = on begun.taken (kind_of begun.reader) (code_of begun.reader) front so
+run_goes_on has (Err error) front piece run next on so = so
 
-pub run_stays : {T : Type 0} (has : T → T → List Act → Type 0) (begun : Result (TapeRun T) ControlError) (front piece : List ℕ) (error : ControlError)
+pub run_stays : {T : Type 0} (has : T → T → List ArcAct → Type 0) (begun : Result (TapeRun T) ControlError) (front piece : List ℕ) (error : ControlError)
     → RunsFrom has begun (Err error) front → RunsFrom has begun (Err error) (front ++ piece)
-run_stays has (Ok begun) front piece error so = holds_still (λ tape. IsFault fault_in (control_run begun.reader.code tape) error) front piece so
+run_stays has (Ok begun) front piece error so = holds_still (λ tape. IsFault fault_in (run_in (kind_of begun.reader) (code_of begun.reader) tape) error) front piece so
 run_stays has (Err none) front piece error so = so
+
+-- a refusal is that of the whole tape
+pub run_ends : {T : Type 0} (has : T → T → List ArcAct → Type 0) (begun : TapeRun T) (tape : List ℕ) (error : ControlError)
+    → RunsFrom has (Ok begun) (Err error) tape → IsFault fault_in (run_in (kind_of begun.reader) (code_of begun.reader) tape) error
+run_ends has begun tape error so = holds_whole (λ tape. IsFault fault_in (run_in (kind_of begun.reader) (code_of begun.reader) tape) error) tape so
+
+-- by the machine, and with nothing taken at the start
+pub taken_on : {T : Type 0} (has : T → T → List ArcAct → Type 0) (begun : TapeRun T) (none : T) (m : Machine) (tape : List ℕ) (result : Result T ControlError) → begun.taken ≡ none
+    → kind_of begun.reader ≡ m.circles → code_of begun.reader ≡ m.code → IsTaken (has begun.taken) (run_in (kind_of begun.reader) (code_of begun.reader) tape) result
+    → IsTaken (has none) (run_on m tape) result
+taken_on has begun none m tape result taken kind code is =
+    subst (λ k. IsTaken (has none) (run_in k m.code tape) result) kind
+    (subst (λ c. IsTaken (has none) (run_in (kind_of begun.reader) c tape) result) code
+    (subst (λ t. IsTaken (has t) (run_in (kind_of begun.reader) (code_of begun.reader) tape) result) taken is))

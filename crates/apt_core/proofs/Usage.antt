@@ -10,8 +10,8 @@ use Rattle.apt_machine.specs.declared.cause.MachineError.{MachineError}
 use Rattle.apt_machine.specs.Tables.{table_of}
 use Rattle.apt_records.specs.declared.record.Record.{Record}
 use Rattle.apt_cldata.specs.Reading.{read_of}
-use Rattle.apt_control.specs.declared.Act.{Act}
-use Rattle.apt_control.specs.Control.{control_run}
+use Rattle.apt_circular.specs.declared.ArcAct.{ArcAct}
+use Rattle.apt_tape.specs.Tapes.{run_on}
 use Rattle.apt_part.specs.Compilation.{steps_of, part_of}
 use Rattle.apt_report.specs.declared.status.Status.{Status}
 use Rattle.apt_report.specs.declared.status.Status.TheVariants as answers
@@ -63,23 +63,23 @@ output_never s text table tells =
 records_no_usage : (cl : List ℕ) → records_due cl ≢ Err answers.Usage
 records_no_usage cl = told_never answers.Usage (read_of cl) (λ fault. answers.BadCl fault.at fault.cause) (λ fault e. let f : ⊥ = cc in f)
 
-acts_no_usage : (machine : Machine) (tape : List ℕ) → acts_due machine.code tape ≢ Err answers.Usage
-acts_no_usage machine tape = told_never answers.Usage (control_run machine.code tape) bad_tape (λ fault e. let f : ⊥ = cc in f)
+acts_no_usage : (machine : Machine) (tape : List ℕ) → acts_due machine tape ≢ Err answers.Usage
+acts_no_usage machine tape = told_never answers.Usage (run_on machine tape) bad_tape (λ fault e. let f : ⊥ = cc in f)
 
 judged_no_usage : (text table cl tape : List ℕ) → judged_due text table cl tape ≢ Err answers.Usage
 judged_no_usage text table cl tape =
     chain_never answers.Usage (machine_due table) _ (machine_never answers.Usage table usage_tells_none) (λ machine.
     chain_never answers.Usage (steps_due machine text) _ (part_never answers.Usage (steps_of machine text) usage_tells_none) (λ steps.
     chain_never answers.Usage (records_due cl) _ (records_no_usage cl) (λ written.
-    chain_never answers.Usage (acts_due machine.code tape) _ (acts_no_usage machine tape) (λ acts. ok_never answers.Usage _))))
+    chain_never answers.Usage (acts_due machine tape) _ (acts_no_usage machine tape) (λ acts. ok_never answers.Usage _))))
 
-acts_said_no_usage : (due : Result (List Act) Status) → due ≢ Err answers.Usage → (said_of (due >>= λ acts. Ok (acts_said acts))).answer ≢ answers.Usage
+acts_said_no_usage : (due : Result (List ArcAct) Status) → due ≢ Err answers.Usage → (said_of (due >>= λ acts. Ok (acts_said acts))).answer ≢ answers.Usage
 acts_said_no_usage (Ok acts) none e = let f : ⊥ = cc in f
 acts_said_no_usage (Err answer) none e = none (ap Err e)
 
 said_no_usage : (tape : List ℕ) (due : Result Machine Status) → due ≢ Err answers.Usage
-    → (said_of (due >>= λ machine. acts_due machine.code tape >>= λ acts. Ok (acts_said acts))).answer ≢ answers.Usage
-said_no_usage tape (Ok machine) none = acts_said_no_usage (acts_due machine.code tape) (acts_no_usage machine tape)
+    → (said_of (due >>= λ machine. acts_due machine tape >>= λ acts. Ok (acts_said acts))).answer ≢ answers.Usage
+said_no_usage tape (Ok machine) none = acts_said_no_usage (acts_due machine tape) (acts_no_usage machine tape)
 said_no_usage tape (Err answer) none = λ e. none (ap Err e)
 
 -- ---- what is told

@@ -1,12 +1,13 @@
 //! The acts of a tape beside the plan of a machine, while the tape is read.
 
-ghost use Rattle.std.specs.Prelude.{◌≡◌, ◌+◌, ◌<◌, ◌≤◌, ◌^◌, ◌++◌, map, false, IsTrue, List, [], ◌∷◌, length, None};
+ghost use Rattle.std.specs.Prelude.{◌≡◌, ◌↔◌, ◌+◌, ◌<◌, ◌≤◌, ◌^◌, ◌++◌, map, false, IsTrue, List, [], ◌∷◌, length, None};
 ghost use Rattle.apt_records.specs.Ranges.{vertex_count};
 ghost use Rattle.apt_circular.specs.declared.ArcAct.{ArcAct};
 ghost use Rattle.apt_tape.specs.Bytes.{left_of};
 ghost use Rattle.apt_core.specs.Certificates.{HeadsDiffer};
 
 use apt_circular::ArcAct;
+use apt_control::Act;
 use apt_machine::Machine;
 use apt_records::Record;
 use apt_tape::{Taker, TapeAct, TapePlan};
@@ -124,7 +125,59 @@ fn begins_with(plan: &mut TapePlan<'_>, x: ArcAct) -> bool
     ensures fewer { length (left_of plan.new) ≤ length (left_of plan.old) }
 {
     match plan.next() {
-        Some(y) => x == y,
+        Some(y) => is_same(x, y),
         None => false,
+    }
+}
+
+fn is_same(x: ArcAct, y: ArcAct) -> bool
+    ensures { IsTrue result ↔ (x ≡ y) }
+{
+    match (x, y) {
+        (ArcAct::Plain(a), ArcAct::Plain(b)) => is_same_plain(a, b),
+        (
+            ArcAct::Arc {
+                turn,
+                x,
+                y,
+                z,
+                cx,
+                cy,
+                feed,
+            },
+            ArcAct::Arc {
+                turn: t,
+                x: u,
+                y: v,
+                z: w,
+                cx: cu,
+                cy: cv,
+                feed: f,
+            },
+        ) => turn == t && x == u && y == v && z == w && cx == cu && cy == cv && feed == f,
+        _ => false,
+    }
+}
+
+fn is_same_plain(x: Act, y: Act) -> bool
+    ensures { IsTrue result ↔ (x ≡ y) }
+{
+    match (x, y) {
+        (Act::Units(a), Act::Units(b)) => a == b,
+        (Act::Rapid { x, y, z }, Act::Rapid { x: u, y: v, z: w }) => x == u && y == v && z == w,
+        (
+            Act::Cut { x, y, z, feed },
+            Act::Cut {
+                x: u,
+                y: v,
+                z: w,
+                feed: f,
+            },
+        ) => x == u && y == v && z == w && feed == f,
+        (Act::Spindle { turn, n }, Act::Spindle { turn: t, n: m }) => turn == t && n == m,
+        (Act::Coolant(a), Act::Coolant(b)) => a == b,
+        (Act::Tool(a), Act::Tool(b)) => a == b,
+        (Act::Stop, Act::Stop) | (Act::OptStop, Act::OptStop) | (Act::End, Act::End) => true,
+        _ => false,
     }
 }

@@ -30,11 +30,11 @@ pub(crate) trait Intake: Drop {
 impl<T: Taker> Intake for Result<TapeRun<T>, ControlError> {
     ghost use Rattle.apt_core.specs.Intakes.{count_in};
     ghost use Rattle.apt_core.specs.TapeRuns.{RunsFrom};
-    ghost use Rattle.apt_tape.specs.Runs.{count_of};
+    ghost use Rattle.apt_tape.specs.Runs.{bytes_read};
 
     ghost has = { RunsFrom T.has };
 
-    ghost count = { count_in (λ run. count_of run.reader) };
+    ghost count = { count_in (λ run. bytes_read run.reader) };
 
     fn with(self, piece: &[u8]) -> Result<TapeRun<T>, ControlError> {
         self?.feed(piece)

@@ -21,9 +21,10 @@ use Rattle.apt_meaning.proofs.Walks.Ends.{ends_once}
 use Rattle.apt_records.proofs.Conditions.{fini_last}
 use Rattle.apt_meaning.proofs.Walks.Files.{Fit, compiled_fit}
 use Rattle.apt_machine.specs.declared.machine.Machine.{Machine}
-use Rattle.apt_post.specs.Plan.{nothing_pending, plan}
-use Rattle.apt_post.specs.Blocks.{tape_bytes}
-use Rattle.apt_post.proofs.Lengths.{tape_length}
+use Rattle.apt_post.specs.Plan.{nothing_pending}
+use Rattle.apt_circular.proofs.Lengths.{arc_tape_length}
+use Rattle.apt_tape.specs.Tapes.{acts_on, tape_on}
+use Rattle.apt_tape.proofs.Plainly.{acts_few}
 use Rattle.apt_part.specs.Promise.{file_limit}
 use Rattle.apt_part.proofs.Acting.{compiled_acts}
 
@@ -43,5 +44,5 @@ pub file_fits : (steps : List Step) (written : List Record) → Fit 0 steps writ
 file_fits steps written fit few titles = omega (arith, file_length written, fit.bytes, fit.vertices, few, titles)
 
 pub tape_fits : (m : Machine) (steps : List Step) (written : List Record) → compilation first_situation steps ≡ Ok written → Fit 0 steps written → length steps ≤ 200000
-    → length (tape_bytes m (plan written)) ≤ file_limit
-tape_fits m steps written compiled fit few = omega (arith, tape_length m (plan written), compiled_acts 0 first_situation steps written compiled nothing_pending, fit.vertices, few)
+    → length (tape_on m (acts_on m written)) ≤ file_limit
+tape_fits m steps written compiled fit few = omega (arith, arc_tape_length m (acts_on m written), acts_few m written, compiled_acts 0 first_situation steps written compiled nothing_pending, fit.vertices, few)

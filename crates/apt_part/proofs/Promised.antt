@@ -36,6 +36,9 @@ use Rattle.apt_post.specs.Limits.{limits}
 use Rattle.apt_post.specs.Plan.{nothing_pending}
 use Rattle.apt_post.proofs.Reaching.{plan_reaches}
 use Rattle.apt_post.proofs.Programs.{planned_program}
+use Rattle.apt_circular.proofs.Fitting.{plan_fits}
+use Rattle.apt_sweeps.proofs.Going.{plan_can}
+use Rattle.apt_sweeps.proofs.Machines.{arcs_belong}
 use Rattle.apt_part.specs.Compilation.{earliest_of, refusal_by, unless_refused, steps_or_fault, steps_of, Compiled, earlier, unless_fault, records_by, with_steps, or_fault, part_of}
 use Rattle.apt_part.specs.Promise.{Passes, Promise, AreSteps}
 use Rattle.apt_part.proofs.Filed.{compiled_file, file_fits, tape_fits}
@@ -172,10 +175,12 @@ promised machine text p is h =
     let fit = compiled_fit 0 first_situation p.steps p.records (omega arith) are.sources q.compiled in
     let few = few_steps q.passes.statements trace q.passes.unrolled in
     let titled = steps_titled q.passes.statements trace (of_text HasTitle text q.passes.statements q.passes.read (program_of-titled text)) q.passes.unrolled in
+    let follows = follows CutsLegally p.steps p.records follow.behind follow.follows in
+    let once = ends_once CutsLegally false first_situation p.steps p.records follow.behind follow.follows ends in
     let can = compiled_written machine nothing_pending 0 first_situation p.steps p.records is (record { feed = refl; rapid = refl }) (record { most = omega (arith, ints) }) first_situation-IsSituation are.scalars are.sources q.passes.within q.compiled in record {
       passes = q.passes;
       compiled = q.compiled;
-      follow = follows CutsLegally p.steps p.records follow.behind follow.follows;
+      follow = follows;
       legal = legal;
       numbers = (legal_in_numbers p.records).0 legal;
       own = own_contours p.steps p.records follow.behind follow.own;
@@ -183,6 +188,11 @@ promised machine text p is h =
       file = compiled_file q.passes.statements p.steps p.records q.passes.unrolled are.scalars are.sources ends q.compiled;
       file_fits = file_fits p.steps p.records fit few (titles_short p.steps titled are.sources);
       reached = plan_reaches p.records;
-      program = planned_program p.records (ends_once CutsLegally false first_situation p.steps p.records follow.behind follow.follows ends) can;
+      writable = record {
+        program = planned_program p.records once can;
+        fits = plan_fits p.records once can;
+        goes = plan_can p.steps p.records q.passes.fine follows legal;
+      };
+      arcs = arcs_belong machine p.steps p.records q.passes.fine follows legal;
       tape_fits = tape_fits machine p.steps p.records q.compiled fit few;
     }

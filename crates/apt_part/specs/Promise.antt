@@ -18,7 +18,8 @@ use Rattle.apt_meaning.specs.Cuts.{IsOwnCut}
 use Rattle.apt_machine.specs.declared.machine.Machine.{Machine}
 use Rattle.apt_post.specs.Limits.{limits}
 use Rattle.apt_post.specs.Plan.{plan, positions, points}
-use Rattle.apt_post.specs.Blocks.{tape_bytes, IsProgram}
+use Rattle.apt_tape.specs.Tapes.{acts_on, tape_on, IsWritable}
+use Rattle.apt_sweeps.specs.ArcSweeps.{sweeps_of, AreArcsOf}
 use Rattle.apt_part.specs.Compilation.{Compiled}
 
 -- these are the steps of the one trace of a text, all of them, and no case and no limit of the machine refuses one
@@ -34,8 +35,8 @@ abbrev pub file_limit : ℕ
 file_limit = 67108864
 
 -- the records follow the steps, and leave what holds behind them as they say; every contour that they say is legal, in numbers too, and its vertices are
--- the compiler's own, not too many in all; they are those of a CL file, and the acts that they ask for are a program of a control, and lead where they lead. Neither the
--- file nor the tape is too long to be read again
+-- the compiler's own, not too many in all; they are those of a CL file. The acts that they ask for lead where they lead, and their tape can be written on each machine: each
+-- arc among them is that of a leg of a contour, by which it stays. Neither the file nor the tape is too long to be read again
 pub record Promise (machine : Machine) (text : List ℕ) (p : Compiled) : Type 0 where
   pub passes : Passes machine text p.steps
   pub compiled : compilation first_situation p.steps ≡ Ok p.records
@@ -47,8 +48,9 @@ pub record Promise (machine : Machine) (text : List ℕ) (p : Compiled) : Type 0
   pub file : IsFile p.records
   pub file_fits : length (file_of p.records) ≤ file_limit
   pub reached : positions (plan p.records) ≡ points p.records
-  pub program : IsProgram (plan p.records)
-  pub tape_fits : length (tape_bytes machine (plan p.records)) ≤ file_limit
+  pub writable : IsWritable p.records
+  pub arcs : AreArcsOf (sweeps_of (acts_on machine p.records)) (contours_of p.records)
+  pub tape_fits : length (tape_on machine (acts_on machine p.records)) ≤ file_limit
 
 -- what the crates below know of steps
 pub record AreSteps (steps : List Step) : Type 0 where

@@ -3,4 +3,5 @@ pub mod Told
 pub mod Walk
 pub mod Belonging
 pub mod Going
+pub mod Machines
 mod Worked

@@ -1,5 +1,6 @@
 -- Plain acts among those with arcs: their tape, their run and their number.
-use Rattle.std.proofs.Common.{◌≡◌, ◌∙◌, ℕ, ◌+◌, true, false, List, [], ◌∷◌, map, Result, Ok, Err, refl, ap, sym}
+use Rattle.std.proofs.Common.{◌≡◌, ◌∙◌, arith, ℕ, ◌+◌, ◌≤◌, Bool, true, false, List, [], ◌∷◌, map, length, Result, Ok, Err, refl, ap, sym, subst}
+use Rattle.std.proofs.lemmas.List.{length-map}
 use Rattle.apt_words.specs.Answers.{IsFault}
 use Rattle.apt_tapecode.specs.Tapecode.{byte_of}
 use Rattle.apt_machine.specs.declared.machine.Machine.{Machine}
@@ -15,11 +16,17 @@ use Rattle.apt_control.specs.Pieces.{RefusesAs}
 use Rattle.apt_post.specs.Blocks.{behind, act_block, blocks_from, text_of, tape_bytes}
 use Rattle.apt_post.specs.Plan.{plan}
 use Rattle.apt_post.specs.Said.{acts_of}
+use Rattle.apt_post.proofs.Running.{tape_runs}
 use Rattle.apt_post.proofs.Said.{plan_said}
+use Rattle.apt_circular.specs.declared.ArcAct.TheVariants.{Plain}
 use Rattle.apt_circular.specs.ArcPlan.{plan_arcs}
 use Rattle.apt_circular.specs.ArcBlocks.{arc_run}
 use Rattle.apt_circular.specs.ArcTape.{blocks_on, arc_tape}
-use Rattle.apt_tape.specs.Tapes.{plainly, acts_on, plain_run, run_on, tape_on}
+use Rattle.apt_circular.specs.ArcsSaid.{arcs_of}
+use Rattle.apt_circular.proofs.ArcsSaid.{arcs_said}
+use Rattle.apt_circular.proofs.BlockByBlock.{plan_runs}
+use Rattle.apt_circular.proofs.Lengths.{fewer_acts}
+use Rattle.apt_tape.specs.Tapes.{plainly, acts_on, plain_run, run_on, tape_on, IsWritable}
 
 -- ---- refusals
 
@@ -44,16 +51,39 @@ plain_tape m done = ap (λ blocks. map (byte_of m.code) (text_of m.short blocks)
 
 pub plain_bytes : (m : Machine) (rs : List Record) → m.circles ≡ false → tape_bytes m (plan rs) ≡ tape_on m (acts_on m rs)
 plain_bytes m rs e =
-    let acts : acts_on m rs ≡ plainly (acts_of rs) = rw e refl in
-    sym (ap (tape_on m) acts ∙ plain_tape m (acts_of rs) ∙ ap (tape_bytes m) (sym (plan_said rs)))
+    let asked : acts_on m rs ≡ plainly (acts_of rs) = rw e refl in
+    ap (tape_bytes m) (plan_said rs) ∙ sym (ap (tape_on m) asked ∙ plain_tape m (acts_of rs))
 
 pub arc_bytes : (m : Machine) (rs : List Record) → m.circles ≡ true → arc_tape m (plan_arcs rs) ≡ tape_on m (acts_on m rs)
 arc_bytes m rs e =
-    let acts : acts_on m rs ≡ plan_arcs rs = rw e refl in
-    sym (ap (tape_on m) acts)
+    let asked : acts_on m rs ≡ arcs_of rs = rw e refl in
+    ap (arc_tape m) (arcs_said rs ∙ sym asked)
 
 pub plain_runs : (m : Machine) (rs : List Record) (tape : List ℕ) → m.circles ≡ false → control_run m.code tape ≡ Ok (plan rs) → run_on m tape ≡ Ok (acts_on m rs)
 plain_runs m rs tape e run = rw (e, run) (ap (λ (done : List Act). Ok (plainly done)) (plan_said rs))
 
 pub arc_runs : (m : Machine) (rs : List Record) (tape : List ℕ) → m.circles ≡ true → arc_run m.code tape ≡ Ok (plan_arcs rs) → run_on m tape ≡ Ok (acts_on m rs)
-arc_runs m rs tape e run = rw (e, run) refl
+arc_runs m rs tape e run = rw (e, run) (ap Ok (arcs_said rs))
+
+pub plain_count : (m : Machine) (rs : List Record) → m.circles ≡ false → length (plan rs) ≡ length (acts_on m rs)
+plain_count m rs e = rw e (ap length (plan_said rs) ∙ sym (length-map (acts_of rs) Plain))
+
+pub arc_count : (m : Machine) (rs : List Record) → m.circles ≡ true → length (plan_arcs rs) ≡ length (acts_on m rs)
+arc_count m rs e = rw e (ap length (arcs_said rs))
+
+-- no machine asks for more acts than the plain plan has
+many : (m : Machine) (rs : List Record) (circles : Bool) → m.circles ≡ circles → length (acts_on m rs) ≤ length (plan rs)
+many m rs true e = omega (arith, arc_count m rs e, fewer_acts rs)
+many m rs false e = omega (arith, plain_count m rs e)
+
+pub acts_few : (m : Machine) (rs : List Record) → length (acts_on m rs) ≤ length (plan rs)
+acts_few m rs = many m rs m.circles refl
+
+-- ---- where the acts are those of the program's own plan
+
+pub tape_runs_on : (m : Machine) (rs : List Record) → IsWritable rs → run_on m (tape_on m (acts_on m rs)) ≡ Ok (acts_on m rs)
+tape_runs_on m rs can = either m.circles refl
+  where
+    either : (circles : Bool) → m.circles ≡ circles → run_on m (tape_on m (acts_on m rs)) ≡ Ok (acts_on m rs)
+    either true e = subst (λ tape. run_on m tape ≡ Ok (acts_on m rs)) (arc_bytes m rs e) (arc_runs m rs (arc_tape m (plan_arcs rs)) e (plan_runs m (plan_arcs rs) can.fits can.goes))
+    either false e = subst (λ tape. run_on m tape ≡ Ok (acts_on m rs)) (plain_bytes m rs e) (plain_runs m rs (tape_bytes m (plan rs)) e (tape_runs m (plan rs) can.program))

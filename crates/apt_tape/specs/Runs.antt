@@ -27,9 +27,9 @@ code_of (readers.Plain r) = r.code
 code_of (readers.Arcs r) = r.code
 
 -- how many bytes it has read
-abbrev pub count_of : Reader → ℕ
-count_of (readers.Plain r) = r.count
-count_of (readers.Arcs r) = r.count
+abbrev pub bytes_read : Reader → ℕ
+bytes_read (readers.Plain r) = r.count
+bytes_read (readers.Arcs r) = r.count
 
 -- the acts that it keeps
 abbrev pub acts_in : Reader → List ArcAct

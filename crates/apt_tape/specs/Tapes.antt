@@ -14,6 +14,7 @@ use Rattle.apt_circular.specs.declared.ArcAct.{ArcAct}
 use Rattle.apt_circular.specs.declared.ArcAct.TheVariants.{Plain}
 use Rattle.apt_circular.specs.ArcBlocks.{arc_run}
 use Rattle.apt_circular.specs.ArcPlan.{plan_arcs}
+use Rattle.apt_circular.specs.ArcsSaid.{arcs_of}
 use Rattle.apt_circular.specs.ArcTape.{arc_tape}
 use Rattle.apt_circular.specs.Fits.{IsFitting}
 use Rattle.apt_circular.specs.Writable.{ArcsCan}
@@ -25,7 +26,7 @@ plainly done = map Plain done
 -- ---- the acts that records ask for
 
 abbrev pub acts_on : Machine → List Record → List ArcAct
-acts_on m rs = if m.circles then plan_arcs rs else plainly (acts_of rs)
+acts_on m rs = if m.circles then arcs_of rs else plainly (acts_of rs)
 
 -- ---- the run of a tape
 

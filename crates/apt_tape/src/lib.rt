@@ -9,7 +9,7 @@ mod run;
 mod tape;
 
 pub use act::TapeAct;
-pub use plan::TapePlan;
+pub use plan::{TapePlan, counts_on};
 pub use reader::Reader;
 pub use run::{Taker, TapeRun};
 pub use tape::Tape;

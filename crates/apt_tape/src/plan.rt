@@ -1,12 +1,14 @@
 //! The acts that records ask for on a machine.
 
-ghost use Rattle.std.specs.Prelude.{◌≡◌, ◌∷◌, [], None, IfSome};
+ghost use Rattle.std.specs.Prelude.{◌≡◌, ◌∷◌, ◌+◌, ◌<◌, ◌^◌, [], None, length, IfSome};
+ghost use Rattle.apt_records.specs.Ranges.{vertex_count};
+ghost use Rattle.apt_post.specs.Plan.{segments};
 ghost use Rattle.apt_tape.specs.Tapes.{acts_on};
 ghost use Rattle.apt_tape.specs.Bytes.{left_of};
 
-use apt_circular::{ArcAct, ArcPlan};
+use apt_circular::{ArcAct, ArcPlan, arc_counts};
 use apt_machine::Machine;
-use apt_post::Plan;
+use apt_post::{Counts, Plan, counts};
 use apt_records::Record;
 
 /// The acts that records ask for on a machine, one after the other.
@@ -42,5 +44,19 @@ impl<'a> TapePlan<'a> {
             },
             TapePlan::Arcs(plan) => plan.next(),
         }
+    }
+}
+
+/// How many acts records ask for on a machine, and how many contour segments they have.
+#[tactic(auto, using(crate::proofs::Plainly::plain_count, crate::proofs::Plainly::arc_count))]
+pub fn counts_on(records: &[Record], m: &Machine) -> Counts
+    requires few { vertex_count records.now + length records.now < 2 ^ 62 }
+    ensures acts { result.acts ≡ length (acts_on m.now records.now) }
+    ensures segments { result.segments ≡ segments records.now }
+{
+    if m.circles {
+        arc_counts(records)
+    } else {
+        counts(records)
     }
 }

@@ -4,7 +4,7 @@ ghost use Rattle.std.specs.Prelude.{◌≡◌, ◌++◌, ◌+◌, ◌<◌, ◌^�
 ghost use Rattle.apt_circular.specs.declared.ArcAct.{ArcAct};
 ghost use Rattle.apt_control.specs.Pieces.{RefusesAs};
 ghost use Rattle.apt_tape.specs.Tapes.{run_in};
-ghost use Rattle.apt_tape.specs.Runs.{kind_of, code_of, count_of, acts_in, Stands, IsTaken};
+ghost use Rattle.apt_tape.specs.Runs.{kind_of, code_of, bytes_read, acts_in, Stands, IsTaken};
 
 use crate::Taker;
 use apt_circular::ArcReader;
@@ -24,7 +24,7 @@ impl Reader {
     pub fn new(alloc: Global, m: &Machine) -> Reader
         ensures kind { kind_of result ≡ m.now.circles }
         ensures code { code_of result ≡ m.now.code }
-        ensures count { count_of result ≡ 0 }
+        ensures count { bytes_read result ≡ 0 }
         ensures stands { Stands [] result [] }
     {
         if m.circles {
@@ -38,10 +38,10 @@ impl Reader {
     /// refusal is that of the whole tape.
     #[tactic(auto, using(crate::proofs::Plainly::refuses_plain))]
     pub fn feed(self, piece: &[u8]) -> Result<Reader, ControlError>
-        requires { count_of self + length piece.now < 2 ^ 64 }
+        requires { bytes_read self + length piece.now < 2 ^ 64 }
         ensures kind { IfOk result (λ r. kind_of r ≡ kind_of self) }
         ensures code { IfOk result (λ r. code_of r ≡ code_of self) }
-        ensures count { IfOk result (λ r. count_of r ≡ count_of self + length piece.now) }
+        ensures count { IfOk result (λ r. bytes_read r ≡ bytes_read self + length piece.now) }
         ensures behind { (acts : List ArcAct) (front : List ℕ) → Stands acts self front → IfOk result (λ r. Stands acts r (front ++ piece.now)) }
         ensures whole { (acts : List ArcAct) (front more : List ℕ) → Stands acts self front → RefusesAs result (run_in (kind_of self) (code_of self) (front ++ piece.now ++ more)) }
     {
@@ -65,7 +65,7 @@ impl Reader {
     pub fn drop_acts(&mut self)
         ensures kind { kind_of self.new ≡ kind_of self.old }
         ensures code { code_of self.new ≡ code_of self.old }
-        ensures count { count_of self.new ≡ count_of self.old }
+        ensures count { bytes_read self.new ≡ bytes_read self.old }
         ensures behind { (acts : List ArcAct) (front : List ℕ) → Stands acts self.old front → Stands (acts ++ acts_in self.old) self.new front }
     {
         match self {

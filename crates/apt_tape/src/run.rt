@@ -4,7 +4,7 @@ ghost use Rattle.std.specs.Prelude.{◌≡◌, ◌++◌, ◌+◌, ◌<◌, ◌^�
 ghost use Rattle.apt_tapecode.specs.declared.Code.{Code};
 ghost use Rattle.apt_circular.specs.declared.ArcAct.{ArcAct};
 ghost use Rattle.apt_tape.specs.Tapes.{run_in};
-ghost use Rattle.apt_tape.specs.Runs.{kind_of, code_of, count_of, HasRun, IsTaken};
+ghost use Rattle.apt_tape.specs.Runs.{kind_of, code_of, bytes_read, HasRun, IsTaken};
 
 use crate::{Reader, TapeAct};
 use apt_control::ControlError;
@@ -35,7 +35,7 @@ impl<T: Taker> TapeRun<T> {
         ensures taken { result.taken ≡ none }
         ensures kind { kind_of result.reader ≡ m.now.circles }
         ensures code { code_of result.reader ≡ m.now.code }
-        ensures count { count_of result.reader ≡ 0 }
+        ensures count { bytes_read result.reader ≡ 0 }
         ensures run { HasRun (T.has none) m.now.circles m.now.code [] (Ok result) }
     {
         TapeRun {
@@ -46,9 +46,9 @@ impl<T: Taker> TapeRun<T> {
 
     /// Goes on with a piece, and takes of its acts.
     pub fn feed(self, piece: &[u8]) -> Result<TapeRun<T>, ControlError>
-        requires { count_of self.reader + length piece.now < 2 ^ 63 }
+        requires { bytes_read self.reader + length piece.now < 2 ^ 63 }
         ensures run { (none : T) (circles : Bool) (code : Code) (front : List ℕ) → HasRun (T.has none) circles code front (Ok self) → HasRun (T.has none) circles code (front ++ piece.now) result }
-        ensures count { IfOk result (λ run. count_of run.reader ≡ count_of self.reader + length piece.now) }
+        ensures count { IfOk result (λ run. bytes_read run.reader ≡ bytes_read self.reader + length piece.now) }
     {
         let TapeRun { reader, taken } = self;
         let mut reader = reader.feed(piece)?;
