@@ -117,7 +117,7 @@ impl ArcPoster {
         ensures next { self.new ≡ posting.next self.old act.now }
     {
         match *act {
-            ArcAct::Plain(act) => self.poster.push_bytes(text, &act),
+            ArcAct::Plain(act) => self.poster.push_act_bytes(text, &act),
             ArcAct::Arc {
                 turn,
                 x,

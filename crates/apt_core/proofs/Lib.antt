@@ -13,7 +13,6 @@ pub mod Decoding
 pub mod Listing
 pub mod Right
 pub mod Unfailed
-pub mod Comparing
 pub mod Putting
 pub mod Usage
 pub mod Running

@@ -13,13 +13,14 @@ use Rattle.apt_machine.specs.declared.machine.Machine.{Machine}
 use Rattle.apt_machine.specs.Tables.{table_of}
 use Rattle.apt_circular.specs.declared.ArcAct.{ArcAct}
 use Rattle.apt_tape.specs.Tapes.{acts_on}
+use Rattle.apt_tape.specs.Differences.{HeadsDiffer, DifferAt}
 use Rattle.apt_part.proofs.Promised.{passes_comes}
 use Rattle.apt_report.specs.declared.status.Status.{Status}
 use Rattle.apt_report.specs.declared.status.Miss.{Miss}
 use Rattle.apt_report.specs.declared.status.Miss.TheVariants as misses
 use Rattle.apt_core.specs.Words.{FourNames}
 use Rattle.apt_core.specs.Inputs.{Input, Reads, ReadsAll, IsUnread, IsFirstUnread, inputs}
-use Rattle.apt_core.specs.Certificates.{IsRight, HeadsDiffer, DifferAt, IsMiss, Judged, judged_by, judged_due, IsDone, IsJudgement}
+use Rattle.apt_core.specs.Certificates.{IsRight, IsMiss, Judged, judged_by, judged_due, IsDone, IsJudgement}
 use Rattle.apt_core.specs.Promise.{Judges}
 use Rattle.apt_core.proofs.Chains.{one_due}
 use Rattle.apt_core.proofs.Judging.{judged_for}

@@ -1,5 +1,5 @@
 -- When a CL file and a tape are right for a part, and where they are not.
-use Rattle.std.specs.Prelude.{◌≡◌, ◌≢◌, ◌⊎◌, ℕ, ◌+◌, List, [], ◌∷◌, ◌++◌, length, Result, Ok, Err}
+use Rattle.std.specs.Prelude.{◌≡◌, ◌⊎◌, ℕ, List, Result, Ok, Err}
 use Rattle.apt_words.specs.Chains.{◌>>=◌}
 use Rattle.apt_words.specs.declared.deed.Step.{Step}
 use Rattle.apt_records.specs.declared.record.Record.{Record}
@@ -17,6 +17,7 @@ use Rattle.apt_machine.specs.declared.machine.Machine.{Machine}
 use Rattle.apt_post.specs.Plan.{segments}
 use Rattle.apt_circular.specs.declared.ArcAct.{ArcAct}
 use Rattle.apt_tape.specs.Tapes.{acts_on, run_on}
+use Rattle.apt_tape.specs.Differences.{DifferAt}
 use Rattle.apt_sweeps.specs.ArcSweeps.{sweeps_of, AreArcsOf}
 use Rattle.apt_part.specs.Promise.{Passes}
 use Rattle.apt_report.specs.declared.status.Status.{Status}
@@ -41,22 +42,6 @@ pub record IsRight (machine : Machine) (text cl tape : List ℕ) : Type 0 where
   pub arcs : AreArcsOf (sweeps_of (acts_on machine records)) (contours_of records)
 
 -- ---- where they are not
-
-abbrev pub HeadsDiffer : List ArcAct → List ArcAct → Type 0
-HeadsDiffer [] [] = ⊥
-HeadsDiffer [] (y ∷ ys) = Unit {0}
-HeadsDiffer (x ∷ xs) [] = Unit {0}
-HeadsDiffer (x ∷ xs) (y ∷ ys) = x ≢ y
-
--- the first place, from 1, at which two lists of acts differ
-pub record DifferAt (xs ys : List ArcAct) (at : ℕ) : Type 0 where
-  pub same : List ArcAct
-  pub left : List ArcAct
-  pub right : List ArcAct
-  pub first : xs ≡ same ++ left
-  pub second : ys ≡ same ++ right
-  pub differ : HeadsDiffer left right
-  pub number : at ≡ length same + 1
 
 -- the first that fails: that the records follow the steps, that every contour that they say is legal, that the acts are those that they ask for on the machine
 abbrev pub IsMiss : Machine → List Step → List Record → List ArcAct → Miss → Type 0

@@ -10,7 +10,7 @@ use Rattle.apt_records.specs.Ranges.{AreRecords, vertex_count}
 use Rattle.apt_circular.specs.declared.ArcAct.{ArcAct}
 use Rattle.apt_tape.specs.Tapes.{acts_on, run_on}
 use Rattle.apt_report.specs.declared.status.Status.{Status}
-use Rattle.apt_core.specs.Comparisons.{IsDifference}
+use Rattle.apt_tape.specs.Differences.{IsDifference}
 use Rattle.apt_core.specs.Due.{ComesToNone, machine_due, records_due, acts_due}
 use Rattle.apt_core.specs.declared.evidence.Evidence.{Evidence}
 

@@ -7,7 +7,6 @@ pub mod TapeRuns
 pub mod Outputs
 pub mod Delivery
 pub mod Certificates
-pub mod Comparisons
 pub mod Decoding
 pub mod Listing
 pub mod Demo

@@ -13,8 +13,9 @@ ghost use Rattle.apt_machine.specs.declared.machine.Machine.{Machine};
 ghost use Rattle.apt_tape.specs.Tapes.{acts_on, run_on};
 ghost use Rattle.apt_tape.specs.Runs.{IsTaken};
 ghost use Rattle.apt_part.specs.Promise.{file_limit};
-ghost use Rattle.apt_core.specs.declared.comparison.Comparison.{Comparison};
-ghost use Rattle.apt_core.specs.Comparisons.{AreCompared, IsDifference};
+ghost use Rattle.apt_tape.specs.declared.comparison.Comparison.{Comparison};
+ghost use Rattle.apt_tape.specs.Comparisons.{AreCompared};
+ghost use Rattle.apt_tape.specs.Differences.{IsDifference};
 ghost use Rattle.apt_core.specs.Due.{answer_of, acts_due, ComesToNone, OrNoMemory};
 ghost use Rattle.apt_core.specs.Evidence.{IsEvidence, IsInRange, DiffersOn};
 ghost use Rattle.apt_core.specs.Request.{four_names};
@@ -22,7 +23,6 @@ ghost use Rattle.apt_core.specs.Inputs.{files_on, input, inputs, AreRead, Reads,
 ghost use Rattle.apt_core.specs.Certificates.{IsMissed, IsJudgement};
 ghost use Rattle.apt_core.specs.Promise.{Certifies};
 
-use crate::comparison::Comparison;
 use crate::due::{machine_of, steps_on, tape_answer};
 use crate::evidence::Evidence;
 use crate::reading::{MACHINE_LIMIT, PART_LIMIT, read_input, records_input, run_input, skip_input};
@@ -34,6 +34,7 @@ use apt_machine::Machine;
 use apt_records::Record;
 use apt_report::{Miss, Status, Summary, Verdict};
 use apt_shelf::Shelf;
+use apt_tape::Comparison;
 use apt_words::Step;
 use std::alloc::Global;
 use std::thread::Threads;

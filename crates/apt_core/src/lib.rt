@@ -8,7 +8,6 @@ ghost use Rattle.apt_core.specs.Inputs.{files_on};
 ghost use Rattle.apt_core.specs.Promise.{IsRun, Completes, Works, outside};
 
 mod certify;
-mod comparison;
 mod compile;
 mod decode;
 mod delivery;

@@ -49,7 +49,10 @@ pub fn push_lines<A: TapeAct>(text: &mut Vec<u8>, acts: &[A]) -> Result<(), Allo
 {
     let mut room = [0u8; ROOM];
     'acts: for act in acts {
-        let start = arc_act_line(&mut room, &act.as_arc());
+        let start = match act.as_plain() {
+            Some(plain) => act_line(&mut room, plain),
+            None => arc_act_line(&mut room, &act.as_arc()),
+        };
         push_from(text, &room, start)?;
     }
     Ok(())
@@ -57,6 +60,7 @@ pub fn push_lines<A: TapeAct>(text: &mut Vec<u8>, acts: &[A]) -> Result<(), Allo
 
 /// Writes the line of an act from its last character to its first, so that it ends where the room ends, and answers
 /// where it starts.
+#[inline(always)]
 fn act_line(room: &mut [u8], act: &Act) -> usize
     requires { length room.old ≡ 192 }
     ensures start { result ≤ 192 }
@@ -100,7 +104,6 @@ fn cut_line(room: &mut [u8], x: i64, y: i64, z: i64, feed: i64) -> usize
 }
 
 /// Writes the line of an act of a control that cuts arcs in the same way.
-#[inline(always)]
 fn arc_act_line(room: &mut [u8], act: &ArcAct) -> usize
     requires { length room.old ≡ 192 }
     ensures start { result ≤ 192 }

@@ -1,2 +1,4 @@
 pub mod Plainly
 pub mod Runs
+pub mod Comparing
+pub mod Acts

@@ -1,3 +1,5 @@
 pub mod Tapes
 pub mod Bytes
 pub mod Runs
+pub mod Differences
+pub mod Comparisons

@@ -3,12 +3,14 @@
 #![tactic(auto)]
 
 mod act;
+mod comparison;
 mod plan;
 mod reader;
 mod run;
 mod tape;
 
 pub use act::TapeAct;
+pub use comparison::Comparison;
 pub use plan::{TapePlan, counts_on};
 pub use reader::Reader;
 pub use run::{Taker, TapeRun};

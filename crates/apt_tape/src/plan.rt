@@ -1,15 +1,56 @@
 //! The acts that records ask for on a machine.
 
-ghost use Rattle.std.specs.Prelude.{◌≡◌, ◌∷◌, ◌+◌, ◌<◌, ◌^◌, [], None, length, IfSome};
+ghost use Rattle.std.specs.Prelude.{◌≡◌, ◌∷◌, ◌+◌, ◌<◌, ◌^◌, [], List, None, length, IfSome};
 ghost use Rattle.apt_records.specs.Ranges.{vertex_count};
 ghost use Rattle.apt_post.specs.Plan.{segments};
+ghost use Rattle.apt_circular.specs.declared.ArcAct.{ArcAct};
 ghost use Rattle.apt_tape.specs.Tapes.{acts_on};
 ghost use Rattle.apt_tape.specs.Bytes.{left_of};
 
+use crate::TapeAct;
 use apt_circular::{ArcAct, ArcPlan, arc_counts};
+use apt_control::Act;
 use apt_machine::Machine;
 use apt_post::{Counts, Plan, counts};
 use apt_records::Record;
+
+/// A plan, whose acts are taken one after the other.
+pub(crate) trait Planned: Drop {
+    type Act: TapeAct;
+
+    /// The acts that are left.
+    ghost left: { Self → List ArcAct };
+
+    /// The first of them, none at the end.
+    fn take_first(&mut self) -> Option<Self::Act>
+        ensures taken { IfSome result (λ act. left self.old ≡ Self.Act.arc act ∷ left self.new) }
+        ensures end { result ≡ None → left self.old ≡ [] }
+        ensures stays { result ≡ None → left self.new ≡ [] };
+}
+
+impl<'a> Planned for Plan<'a> {
+    type Act = Act;
+
+    ghost use Rattle.apt_tape.specs.Tapes.{plainly};
+
+    ghost left = { λ plan. plainly plan };
+
+    #[inline(always)]
+    fn take_first(&mut self) -> Option<Act> {
+        self.next()
+    }
+}
+
+impl<'a> Planned for ArcPlan<'a> {
+    type Act = ArcAct;
+
+    ghost left = { λ plan. plan };
+
+    #[inline(always)]
+    fn take_first(&mut self) -> Option<ArcAct> {
+        self.next()
+    }
+}
 
 /// The acts that records ask for on a machine, one after the other.
 #[derive(Drop)]

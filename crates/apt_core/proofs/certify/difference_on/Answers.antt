@@ -4,7 +4,7 @@ use Rattle.apt_machine.specs.declared.machine.Machine.{Machine}
 use Rattle.apt_circular.specs.declared.ArcAct.{ArcAct}
 use Rattle.apt_tape.specs.Tapes.{acts_on, run_on}
 use Rattle.apt_core.specs.Due.{ComesToNone, acts_due}
-use Rattle.apt_core.specs.Comparisons.{IsDifference}
+use Rattle.apt_tape.specs.Differences.{IsDifference}
 use Rattle.apt_core.proofs.certify.difference_on.Goals as goal
 
 pub returns-in_ok-run-in-Ok-Ok-clause-differs : goal.returns-in_ok-run-in-Ok-Ok-clause-differs

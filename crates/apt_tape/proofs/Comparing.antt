@@ -1,22 +1,18 @@
 -- The acts of a tape beside a plan, piece by piece.
-use Rattle.std.proofs.Common.{◌≡◌, ◌<◌, ◌≤◌, ◌+◌, ◌^◌, ℕ, zero, suc, List, [], ◌∷◌, ◌++◌, map, Bool, Option, Some, None, Err, is_some, true, false, length, take, drop, get_or, sym, ap, ◌∙◌, refl, subst, arith, append_assoc}
+use Rattle.std.proofs.Common.{◌≡◌, ◌<◌, ◌≤◌, ◌+◌, ◌^◌, ℕ, zero, suc, List, [], ◌∷◌, ◌++◌, map, Bool, Option, Some, None, is_some, true, false, length, take, drop, get_or, sym, ap, ◌∙◌, refl, subst, arith, append_assoc}
 use Rattle.std.specs.Prelude.{◌↔◌, IsTrue, IfSome}
 use Rattle.std.proofs.lemmas.List.{take-append-drop, map-append, length-append, length-map, length-take-le, append-nil}
 use Rattle.apt_records.specs.declared.record.Record.{Record}
 use Rattle.apt_records.specs.Ranges.{vertex_count}
 use Rattle.apt_circular.specs.declared.ArcAct.{ArcAct}
-use Rattle.apt_control.specs.declared.error.ControlError.{ControlError}
 use Rattle.apt_machine.specs.declared.machine.Machine.{Machine}
 use Rattle.apt_post.proofs.HowMany.{plan_few}
-use Rattle.apt_tape.specs.Tapes.{acts_on, run_on}
+use Rattle.apt_tape.specs.Tapes.{acts_on}
 use Rattle.apt_tape.specs.Bytes.{left_of}
-use Rattle.apt_tape.specs.Runs.{IsTaken}
 use Rattle.apt_tape.proofs.Plainly.{acts_few}
-use Rattle.apt_core.specs.Certificates.{HeadsDiffer, DifferAt}
-use Rattle.apt_core.specs.Comparisons.{AreBeside, AreCompared, IsDifference}
-use Rattle.apt_core.specs.Due.{ComesToNone, acts_due, tape_told}
-use Rattle.apt_core.specs.declared.comparison.Comparison.{Comparison}
-use Rattle.apt_core.proofs.Chains.{bad_tape_told}
+use Rattle.apt_tape.specs.Differences.{HeadsDiffer, DifferAt, AreBeside, IsDifference}
+use Rattle.apt_tape.specs.Comparisons.{AreCompared}
+use Rattle.apt_tape.specs.declared.comparison.Comparison.{Comparison}
 
 -- a plan has not many acts
 pub plan_fits : (m : Machine) (rs : List Record) → vertex_count rs + length rs < 2 ^ 62 → 1 + length (acts_on m rs) ≤ 2 ^ 63
@@ -99,7 +95,3 @@ compared_on begun now behind before more none records machine beside next compar
   beside = beside (acts_on begun.machine.now begun.records.now) before (rw none at compared.beside) (compared.next none);
   next = λ still. omega (arith, next still, compared.next none, length-append before more);
 }
-
--- a fault of the tape is told
-pub bad_tape_found : (planned : List ArcAct) (machine : Machine) (tape : List ℕ) (error : ControlError) → IsTaken (IsDifference planned) (run_on machine tape) (Err error) → ComesToNone (acts_due machine tape) (tape_told error)
-bad_tape_found planned machine tape error found = bad_tape_told machine tape error found

@@ -1,8 +1,8 @@
 use Rattle.std.proofs.Common.{◌∙◌, sym}
 use Rattle.apt_tape.specs.Tapes.{acts_on}
 use Rattle.apt_tape.specs.Bytes.{left_of}
-use Rattle.apt_core.proofs.Comparing.{found_differs, no_first, planned_more}
-use Rattle.apt_core.proofs.comparison.Comparison.difference.Goals as goal
+use Rattle.apt_tape.proofs.Comparing.{found_differs, no_first, planned_more}
+use Rattle.apt_tape.proofs.comparison.Comparison.difference.Goals as goal
 
 pub returns-then-is_some : goal.returns-then-is_some
 returns-then-is_some c = λ begun acts compared.
