@@ -12,8 +12,8 @@ pub enum Code {
     Rs244,
 }
 
-/// The characters of RS-244 that a machine's tape has, each with its byte.
-const RS244: [(u8, u8); 23] = [
+/// The characters of RS-244, each with its byte.
+const RS244: [(u8, u8); 26] = [
     (b'0', 0x20),
     (b'1', 0x01),
     (b'2', 0x02),
@@ -26,8 +26,11 @@ const RS244: [(u8, u8); 23] = [
     (b'9', 0x19),
     (b'F', 0x76),
     (b'G', 0x67),
+    (b'I', 0x79),
+    (b'J', 0x51),
     (b'M', 0x54),
     (b'N', 0x45),
+    (b'R', 0x49),
     (b'S', 0x32),
     (b'T', 0x23),
     (b'X', 0x37),
