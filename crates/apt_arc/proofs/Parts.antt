@@ -1,24 +1,26 @@
 -- The list of quarter points that the code makes, and the pieces between them.
-use Rattle.std.proofs.Common.{refl, ◌≡◌, ◌⊎◌, inl, inr, ℕ, zero, suc, ◌∙◌, ap, sym, subst, arith, true, false, true≢false, List, [], ◌∷◌, ◌++◌, ℤ, pos, ◌<ℤ◌, ◌≤ℤ◌}
+use Rattle.std.proofs.Common.{refl, ◌≡◌, ◌⊎◌, neg_ℤ, ◌<◌, inl, inr, ℕ, zero, suc, ◌∙◌, ap, sym, subst, arith, true, false, true≢false, List, [], ◌∷◌, ◌++◌, ℤ, pos, ◌<ℤ◌, ◌≤ℤ◌}
+use Rattle.std.proofs.lemmas.Int.{ints}
 use Rattle.std.proofs.lemmas.Bool.{cases_Bool, and_parts, and_from}
 use Rattle.apt_plane.specs.declared.figures.Pt.{Pt}
 use Rattle.apt_plane.specs.declared.figures.Dir.{Dir}
 use Rattle.apt_plane.specs.declared.figures.Circ.{Circ}
-use Rattle.apt_plane.specs.Vectors.{displacement, dot, perp}
+use Rattle.apt_plane.specs.Vectors.{displacement, dot, length_squared, perp}
 use Rattle.apt_plane.specs.Ranges.{IsDir}
 use Rattle.apt_plane.specs.Order.{ComesBefore, is_before}
 use Rattle.apt_plane.proofs.Displacements.{dot_swap}
 use Rattle.apt_plane.proofs.Turns.{before_tells}
 use Rattle.apt_plane.proofs.Turned.{turned_by, turned_back, perp_dir}
 use Rattle.apt_plane.proofs.Around.{some_way}
-use Rattle.apt_plane.proofs.Quarters.{onward_turn, onward_square, AreFour, second_first, third_second, fourth_third, start_first, first_second, second_third, third_fourth, none_between, first_between, second_between, third_between, fourth_between}
+use Rattle.apt_plane.proofs.Quarters.{onward_turn, onward_square, last_of_four}
 use Rattle.apt_canon.specs.Feet.{ray_point}
 use Rattle.apt_canon.specs.Scale.{IsNearCircle}
 use Rattle.apt_canon.proofs.FootPoints.Sharp.{ray_way}
 use Rattle.apt_arc.specs.declared.arc.Arc.{Arc}
 use Rattle.apt_arc.specs.Ranges.{IsTrack, IsPiece, ArePieces, IsArc}
-use Rattle.apt_arc.specs.Quarters.{IsQuarterPoint, IsOnTheWay, AreQuarters}
+use Rattle.apt_arc.specs.Quarters.{IsQuarterPoint, IsOnTheWay, AreOrdered, IsIn, Each, AreInOrder, AreQuarters}
 use Rattle.apt_arc.specs.Made.{onward, is_on_the_way, quarters_from, quarters}
+use Rattle.apt_arc.proofs.Between.{Ends, IsStep, in_turn, next_between, before_next, last_between, none_between}
 use Rattle.apt_arc.proofs.Spans.{aimed_nearby}
 use Rattle.apt_arc.proofs.Tracks.{within, within_large, nearby, near_track, aimed}
 use Rattle.apt_arc.proofs.Ways.{IsTurned, turn_round, turn_after, onward_turned, IsOneOf, one_of, ray_onward, IsPast, reaches, first_found}
@@ -59,156 +61,7 @@ pub list_on : (n : ℕ) (t : Circ) (sense : ℤ) (s e : Pt) (u : Dir) → is_on_
 unfolding quarters_from
 list_on n t sense s e u h = rw h refl
 
-list_more : (n : ℕ) (t : Circ) (sense : ℤ) (s e : Pt) (u : Dir) (rest : List Pt) → is_on_the_way t sense s e (ray_point t u) ≡ true → quarters_from n t sense s e (onward sense u) ≡ rest
-    → quarters_from (suc n) t sense s e u ≡ ray_point t u ∷ rest
-list_more n t sense s e u rest h more = list_on n t sense s e u h ∙ ap (λ (xs : List Pt). ray_point t u ∷ xs) more
-
--- ---- four points, and what holds of them
-record AreParts (t : Circ) (sense : ℤ) (axis : Dir) (s e p q r v : Pt) : Type 0 where
-  quarter_p : IsQuarterPoint t axis p
-  quarter_q : IsQuarterPoint t axis q
-  quarter_r : IsQuarterPoint t axis r
-  quarter_v : IsQuarterPoint t axis v
-  all : (x : Pt) → IsQuarterPoint t axis x → (x ≡ p) ⊎ ((x ≡ q) ⊎ ((x ≡ r) ⊎ (x ≡ v)))
-  piece_p : IsPiece t sense s p
-  piece_q : IsPiece t sense p q
-  piece_r : IsPiece t sense q r
-  piece_v : IsPiece t sense r v
-  none : ¬ IsOnTheWay t sense s e p → IsPiece t sense s e
-  last_p : IsOnTheWay t sense s e p → ¬ IsOnTheWay t sense s e q → IsPiece t sense p e
-  last_q : IsOnTheWay t sense s e q → ¬ IsOnTheWay t sense s e r → IsPiece t sense q e
-  last_r : IsOnTheWay t sense s e r → ¬ IsOnTheWay t sense s e v → IsPiece t sense r e
-  last_v : IsOnTheWay t sense s e v → IsPiece t sense v e
-  down_q : IsOnTheWay t sense s e q → IsOnTheWay t sense s e p
-  down_r : IsOnTheWay t sense s e r → IsOnTheWay t sense s e q
-  down_v : IsOnTheWay t sense s e v → IsOnTheWay t sense s e r
-  before_p : ComesBefore (displacement t.c s) sense (displacement t.c s) (displacement t.c p)
-  before_q : ComesBefore (displacement t.c s) sense (displacement t.c p) (displacement t.c q)
-  before_r : ComesBefore (displacement t.c s) sense (displacement t.c q) (displacement t.c r)
-  before_v : IsOnTheWay t sense s e v → ComesBefore (displacement t.c s) sense (displacement t.c r) (displacement t.c v)
-
--- the quarter points are these, and each piece between them turns by at most a quarter
-abbrev Divides : Circ → ℤ → Dir → Pt → Pt → List Pt → Type 0
-Divides t sense axis s e list = AreQuarters t sense axis s e list × ArePieces t sense s (list ++ e ∷ [])
-
-on_at : (t : Circ) (sense : ℤ) (s e x y : Pt) → x ≡ y → IsOnTheWay t sense s e x → IsOnTheWay t sense s e y
-on_at t sense s e x y f on = subst (λ (z : Pt). IsOnTheWay t sense s e z) f on
-
-divides_none : (t : Circ) (sense : ℤ) (axis : Dir) (s e p q r v : Pt) → AreParts t sense axis s e p q r v → ¬ IsOnTheWay t sense s e p → Divides t sense axis s e []
-divides_none t sense axis s e p q r v are off = (
-  record {
-    each = tt;
-    all = λ x is on. absurd (elim (are.all x is) [
-      | inl f ↦ off (on_at t sense s e x p f on)
-      | inr (inl f) ↦ off (are.down_q (on_at t sense s e x q f on))
-      | inr (inr (inl f)) ↦ off (are.down_q (are.down_r (on_at t sense s e x r f on)))
-      | inr (inr (inr f)) ↦ off (are.down_q (are.down_r (are.down_v (on_at t sense s e x v f on))))
-    ]);
-    order = tt;
-  },
-  (are.none off, tt),
-)
-
-divides_one : (t : Circ) (sense : ℤ) (axis : Dir) (s e p q r v : Pt) → AreParts t sense axis s e p q r v → IsOnTheWay t sense s e p → ¬ IsOnTheWay t sense s e q
-    → Divides t sense axis s e (p ∷ [])
-divides_one t sense axis s e p q r v are on_p off = (
-  record {
-    each = ((are.quarter_p, on_p), tt);
-    all = λ x is on. elim (are.all x is) [
-      | inl f ↦ inl f
-      | inr (inl f) ↦ absurd (off (on_at t sense s e x q f on))
-      | inr (inr (inl f)) ↦ absurd (off (are.down_r (on_at t sense s e x r f on)))
-      | inr (inr (inr f)) ↦ absurd (off (are.down_r (are.down_v (on_at t sense s e x v f on))))
-    ];
-    order = (are.before_p, tt);
-  },
-  (are.piece_p, (are.last_p on_p off, tt)),
-)
-
-divides_two : (t : Circ) (sense : ℤ) (axis : Dir) (s e p q r v : Pt) → AreParts t sense axis s e p q r v → IsOnTheWay t sense s e p → IsOnTheWay t sense s e q → ¬ IsOnTheWay t sense s e r
-    → Divides t sense axis s e (p ∷ q ∷ [])
-divides_two t sense axis s e p q r v are on_p on_q off = (
-  record {
-    each = ((are.quarter_p, on_p), ((are.quarter_q, on_q), tt));
-    all = λ x is on. elim (are.all x is) [
-      | inl f ↦ inl f
-      | inr (inl f) ↦ inr (inl f)
-      | inr (inr (inl f)) ↦ absurd (off (on_at t sense s e x r f on))
-      | inr (inr (inr f)) ↦ absurd (off (are.down_v (on_at t sense s e x v f on)))
-    ];
-    order = (are.before_p, (are.before_q, tt));
-  },
-  (are.piece_p, (are.piece_q, (are.last_q on_q off, tt))),
-)
-
-divides_three : (t : Circ) (sense : ℤ) (axis : Dir) (s e p q r v : Pt) → AreParts t sense axis s e p q r v → IsOnTheWay t sense s e p → IsOnTheWay t sense s e q → IsOnTheWay t sense s e r
-    → ¬ IsOnTheWay t sense s e v → Divides t sense axis s e (p ∷ q ∷ r ∷ [])
-divides_three t sense axis s e p q r v are on_p on_q on_r off = (
-  record {
-    each = ((are.quarter_p, on_p), ((are.quarter_q, on_q), ((are.quarter_r, on_r), tt)));
-    all = λ x is on. elim (are.all x is) [
-      | inl f ↦ inl f
-      | inr (inl f) ↦ inr (inl f)
-      | inr (inr (inl f)) ↦ inr (inr (inl f))
-      | inr (inr (inr f)) ↦ absurd (off (on_at t sense s e x v f on))
-    ];
-    order = (are.before_p, (are.before_q, (are.before_r, tt)));
-  },
-  (are.piece_p, (are.piece_q, (are.piece_r, (are.last_r on_r off, tt)))),
-)
-
-divides_four : (t : Circ) (sense : ℤ) (axis : Dir) (s e p q r v : Pt) → AreParts t sense axis s e p q r v → IsOnTheWay t sense s e p → IsOnTheWay t sense s e q → IsOnTheWay t sense s e r
-    → IsOnTheWay t sense s e v → Divides t sense axis s e (p ∷ q ∷ r ∷ v ∷ [])
-divides_four t sense axis s e p q r v are on_p on_q on_r on_v = (
-  record {
-    each = ((are.quarter_p, on_p), ((are.quarter_q, on_q), ((are.quarter_r, on_r), ((are.quarter_v, on_v), tt))));
-    all = λ x is on. elim (are.all x is) [
-      | inl f ↦ inl f
-      | inr (inl f) ↦ inr (inl f)
-      | inr (inr (inl f)) ↦ inr (inr (inl f))
-      | inr (inr (inr f)) ↦ inr (inr (inr (inl f)))
-    ];
-    order = (are.before_p, (are.before_q, (are.before_r, (are.before_v on_v, tt))));
-  },
-  (are.piece_p, (are.piece_q, (are.piece_r, (are.piece_v, (are.last_v on_v, tt))))),
-)
-
--- ---- the list that the code makes of them
-list_divides : (t : Circ) (sense : ℤ) (axis : Dir) (s e : Pt) (u : Dir)
-    → AreParts t sense axis s e (ray_point t u) (ray_point t (onward sense u)) (ray_point t (onward sense (onward sense u))) (ray_point t (onward sense (onward sense (onward sense u))))
-    → Divides t sense axis s e (quarters_from 4 t sense s e u)
-list_divides t sense axis s e u are =
-    let u1 = onward sense u in
-    let u2 = onward sense u1 in
-    let u3 = onward sense u2 in
-    let p = ray_point t u in
-    let q = ray_point t u1 in
-    let r = ray_point t u2 in
-    let v = ray_point t u3 in
-    elim (cases_Bool (is_on_the_way t sense s e p)) [
-      | inr f ↦ subst (Divides t sense axis s e) (sym (list_off 4 t sense s e u f)) (divides_none t sense axis s e p q r v are (off_tells t sense s e p f))
-      | inl f ↦ elim (cases_Bool (is_on_the_way t sense s e q)) [
-        | inr g ↦
-            subst (Divides t sense axis s e) (sym (list_more 3 t sense s e u [] f (list_off 3 t sense s e u1 g)))
-            (divides_one t sense axis s e p q r v are (on_tells t sense s e p f) (off_tells t sense s e q g))
-        | inl g ↦ elim (cases_Bool (is_on_the_way t sense s e r)) [
-          | inr h ↦
-              subst (Divides t sense axis s e) (sym (list_more 3 t sense s e u (q ∷ []) f (list_more 2 t sense s e u1 [] g (list_off 2 t sense s e u2 h))))
-              (divides_two t sense axis s e p q r v are (on_tells t sense s e p f) (on_tells t sense s e q g) (off_tells t sense s e r h))
-          | inl h ↦ elim (cases_Bool (is_on_the_way t sense s e v)) [
-            | inr k ↦
-                subst (Divides t sense axis s e) (sym (list_more 3 t sense s e u (q ∷ r ∷ []) f (list_more 2 t sense s e u1 (r ∷ []) g (list_more 1 t sense s e u2 [] h (list_off 1 t sense s e u3 k)))))
-                (divides_three t sense axis s e p q r v are (on_tells t sense s e p f) (on_tells t sense s e q g) (on_tells t sense s e r h) (off_tells t sense s e v k))
-            | inl k ↦
-                subst (Divides t sense axis s e)
-                (sym (list_more 3 t sense s e u (q ∷ r ∷ v ∷ []) f (list_more 2 t sense s e u1 (r ∷ v ∷ []) g (list_more 1 t sense s e u2 (v ∷ []) h (list_more 0 t sense s e u3 [] k (list_none 0 t sense s e (onward sense u3) refl))))))
-                (divides_four t sense axis s e p q r v are (on_tells t sense s e p f) (on_tells t sense s e q g) (on_tells t sense s e r h) (on_tells t sense s e v k))
-          ]
-        ]
-      ]
-    ]
-
--- ---- the four points are such
+-- ---- the quarter points
 pub dir_turned : (a b : Dir) → IsDir a → IsTurned a b → IsDir b
 dir_turned a b is (inl e) = subst IsDir (sym e) is
 dir_turned a b is (inr (inl e)) = subst IsDir (sym e) (perp_dir a is)
@@ -227,13 +80,6 @@ quarter_of t a x (inr (inl e)) = (perp a, inr (inl refl), e)
 quarter_of t a x (inr (inr (inl e))) = (perp (perp a), inr (inr (inl refl)), e)
 quarter_of t a x (inr (inr (inr e))) = (perp (perp (perp a)), inr (inr (inr refl)), e)
 
-one_point : (t : Circ) (sense : ℤ) (a b : Dir) (x : Pt) → x ≡ ray_point t b → IsOneOf sense a b
-    → (x ≡ ray_point t a) ⊎ ((x ≡ ray_point t (onward sense a)) ⊎ ((x ≡ ray_point t (onward sense (onward sense a))) ⊎ (x ≡ ray_point t (onward sense (onward sense (onward sense a))))))
-one_point t sense a b x f (inl e) = inl (f ∙ ap (ray_point t) e)
-one_point t sense a b x f (inr (inl e)) = inr (inl (f ∙ ap (ray_point t) e))
-one_point t sense a b x f (inr (inr (inl e))) = inr (inr (inl (f ∙ ap (ray_point t) e)))
-one_point t sense a b x f (inr (inr (inr e))) = inr (inr (inr (f ∙ ap (ray_point t) e)))
-
 pub ray_nearby : (t : Circ) (u : Dir) → IsTrack t → IsDir u → IsNearby (within t) (ray_way t u)
 ray_nearby t u is dir = aimed_nearby (within t) u (ray_way t u) (aimed t u is dir)
 
@@ -241,81 +87,158 @@ piece_of : (t : Circ) (sense : ℤ) (a b : Pt) → (pos 0 <ℤ turned_by sense (
     → IsNearCircle t (pos 3) a → IsNearCircle t (pos 3) b → IsPiece t sense a b
 piece_of t sense a b turn near_a near_b = record { onwards = turn.0; ahead = turn.1; start = near_a; end = near_b }
 
-are_parts : (arc : Arc) (w : Dir) → IsArc arc → IsTurned arc.axis w → IsPast arc.track arc.sense arc.start w
-    → AreParts arc.track arc.sense arc.axis arc.start arc.end (ray_point arc.track (onward arc.sense w)) (ray_point arc.track (onward arc.sense (onward arc.sense w)))
-    (ray_point arc.track (onward arc.sense (onward arc.sense (onward arc.sense w)))) (ray_point arc.track (onward arc.sense (onward arc.sense (onward arc.sense (onward arc.sense w)))))
-are_parts arc w fits found past =
-    let t = arc.track in
-    let sense = arc.sense in
-    let axis = arc.axis in
-    let s = arc.start in
-    let e = arc.end in
-    let is = fits.track in
-    let either = fits.sense in
-    let least = within_large t is in
-    let n = within t in
-    let a = onward sense w in
-    let b = onward sense a in
-    let c = onward sense b in
-    let d = onward sense c in
-    let turn_a = turn_after axis w a found (onward_turned sense w either) in
-    let turn_b = turn_after axis a b turn_a (onward_turned sense a either) in
-    let turn_c = turn_after axis b c turn_b (onward_turned sense b either) in
-    let turn_d = turn_after axis c d turn_c (onward_turned sense c either) in
-    let vs = displacement t.c s in
-    let ve = displacement t.c e in
-    let va = ray_way t a in
-    let vb = ray_way t b in
-    let vc = ray_way t c in
-    let vd = ray_way t d in
-    let near_a = ray_nearby t a is (dir_turned axis a fits.axis turn_a) in
-    let near_b = ray_nearby t b is (dir_turned axis b fits.axis turn_b) in
-    let near_c = ray_nearby t c is (dir_turned axis c fits.axis turn_c) in
-    let near_d = ray_nearby t d is (dir_turned axis d fits.axis turn_d) in
-    let on_a = ray_onward t sense w either in
-    let past_turn : pos 0 <ℤ dot (ray_way t w) vs = past.0 in
-    let past_ahead : pos 0 ≤ℤ turned_by sense (ray_way t w) vs = past.1 in
-    let four : AreFour sense vs ve va vb vc vd =
+-- ---- how far the turn has come: n more quarters lead into the last one before the start; x is the turn from the start, d the dot product with it
+abbrev Left : ℕ → ℤ → ℤ → Type 0
+Left zero x d = (x ≤ℤ pos 0) × (pos 0 <ℤ d)
+Left (suc n) x d = Left n d (neg_ℤ x)
+
+early : (n : ℕ) (x d : ℤ) → n < 3 → Left (suc n) x d → (pos 0 <ℤ x) ⊎ (d ≤ℤ pos 0)
+early zero x d few left = inr left.0
+early (suc zero) x d few left = inr (omega (arith, ints, left.1))
+early (suc (suc zero)) x d few left = inl (omega (arith, ints, left.1))
+early (suc (suc (suc n))) x d few left = absurd (omega (arith, few))
+
+-- a quarter point of an arc on the way to n more
+record IsQuarter (n : ℕ) (arc : Arc) (u : Dir) : Type 0 where
+  few : n < 4
+  turned : IsTurned arc.axis u
+  left : Left n (turned_by arc.sense (displacement arc.track.c arc.start) (ray_way arc.track u)) (dot (displacement arc.track.c arc.start) (ray_way arc.track u))
+
+abbrev IsOn : Arc → Dir → Type 0
+IsOn arc u = IsOnTheWay arc.track arc.sense arc.start arc.end (ray_point arc.track u)
+
+is_dir : (n : ℕ) (arc : Arc) (u : Dir) → IsArc arc → IsQuarter n arc u → IsDir u
+is_dir n arc u fits is = dir_turned arc.axis u fits.axis is.turned
+
+is_near : (arc : Arc) (u : Dir) → IsArc arc → IsDir u → IsNearCircle arc.track (pos 3) (ray_point arc.track u)
+is_near arc u fits dir = near_track arc.track (ray_point arc.track u) fits.track (ray_nearby arc.track u fits.track dir)
+
+some_ray : (arc : Arc) (u : Dir) → IsArc arc → IsDir u → 0 < length_squared (ray_way arc.track u)
+some_ray arc u fits dir = some_length (within arc.track) (ray_way arc.track u) (within_large arc.track fits.track) (ray_nearby arc.track u fits.track dir)
+
+ends : (arc : Arc) → IsArc arc → Ends arc.sense (displacement arc.track.c arc.start) (displacement arc.track.c arc.end)
+ends arc fits =
+    let n = within arc.track in
+    let least = within_large arc.track fits.track in record {
+      either = fits.sense;
+      start = some_length n (displacement arc.track.c arc.start) least (nearby arc.track arc.start fits.track fits.start);
+      end = some_length n (displacement arc.track.c arc.end) least (nearby arc.track arc.end fits.track fits.end);
+    }
+
+next_quarter : (n : ℕ) (arc : Arc) (u : Dir) → IsArc arc → IsQuarter (suc n) arc u → IsQuarter n arc (onward arc.sense u)
+next_quarter n arc u fits is =
+    let s = displacement arc.track.c arc.start in
+    let on = ray_onward arc.track arc.sense u fits.sense in record {
+      few = omega (arith, is.few);
+      turned = turn_after arc.axis u (onward arc.sense u) is.turned (onward_turned arc.sense u fits.sense);
+      left = rw (on.aside s, on.ahead s) is.left;
+    }
+
+step : (n : ℕ) (arc : Arc) (u : Dir) → IsArc arc → IsQuarter (suc n) arc u
+    → IsStep arc.sense (displacement arc.track.c arc.start) (displacement arc.track.c arc.end) (ray_way arc.track u) (ray_way arc.track (onward arc.sense u))
+step n arc u fits is =
+    let s = displacement arc.track.c arc.start in record {
+      ends = ends arc fits;
+      first = some_ray arc u fits (is_dir (suc n) arc u fits is);
+      second = some_ray arc (onward arc.sense u) fits (is_dir n arc (onward arc.sense u) fits (next_quarter n arc u fits is));
+      onward = ray_onward arc.track arc.sense u fits.sense;
+      early = early n (turned_by arc.sense s (ray_way arc.track u)) (dot s (ray_way arc.track u)) (omega (arith, is.few)) is.left;
+    }
+
+-- behind one that is not on the way none is
+none_on : (n : ℕ) (arc : Arc) (u b : Dir) → IsArc arc → IsQuarter n arc u → ¬ IsOn arc u → IsOneOf (suc n) arc.sense u b → ¬ IsOn arc b
+none_on n arc u b fits is off (inl same) on = off (subst (IsOn arc) same on)
+none_on zero arc u b fits is off (inr none) on = none
+none_on (suc n) arc u b fits is off (inr more) on =
+    let s = displacement arc.track.c arc.start in
+    let e = displacement arc.track.c arc.end in
+    let v = onward arc.sense u in
+    none_on n arc v b fits (next_quarter n arc u fits is) (λ next. off (next_between arc.sense s e (ray_way arc.track u) (ray_way arc.track v) (step n arc u fits is) next)) more on
+
+-- ---- the points of a list are those on the way of n quarter points from one on, and each piece from a on turns by at most a quarter
+record Divides (n : ℕ) (arc : Arc) (a : Pt) (u : Dir) (list : List Pt) : Type 0 where
+  each : Each list (λ q. IsQuarterPoint arc.track arc.axis q × IsOnTheWay arc.track arc.sense arc.start arc.end q)
+  all : (b : Dir) → IsOneOf n arc.sense u b → IsOn arc b → IsIn (ray_point arc.track b) list
+  order : AreInOrder arc.track arc.sense arc.start a list
+  pieces : ArePieces arc.track arc.sense a (list ++ arc.end ∷ [])
+
+none_divide : (n : ℕ) (arc : Arc) (a : Pt) (u : Dir) → IsPiece arc.track arc.sense a arc.end → ((b : Dir) → IsOneOf n arc.sense u b → ¬ IsOn arc b) → Divides n arc a u []
+none_divide n arc a u piece none = record { each = tt; all = λ b one on. absurd (none b one on); order = tt; pieces = (piece, tt) }
+
+-- from a to the next quarter point, or to the end where that comes before
+record IsNext (n : ℕ) (arc : Arc) (a : Pt) (u : Dir) : Type 0 where
+  quarter : IsQuarter n arc u
+  piece : IsPiece arc.track arc.sense a (ray_point arc.track u)
+  end : ¬ IsOn arc u → IsPiece arc.track arc.sense a arc.end
+  order : IsOn arc u → AreOrdered arc.track arc.sense arc.start a (ray_point arc.track u)
+
+abbrev Comes : ℕ → Arc → Pt → Dir → Type 0
+Comes zero arc a u = IsPiece arc.track arc.sense a arc.end
+Comes (suc n) arc a u = IsNext n arc a u
+
+next_comes : (n : ℕ) (arc : Arc) (u : Dir) → IsArc arc → IsQuarter n arc u → IsOn arc u → Comes n arc (ray_point arc.track u) (onward arc.sense u)
+next_comes zero arc u fits is on =
+    let s = displacement arc.track.c arc.start in
+    let e = displacement arc.track.c arc.end in
+    let x = ray_way arc.track u in
+    let dir = is_dir 0 arc u fits is in
+    let some = some_ray arc u fits dir in
+    piece_of arc.track arc.sense (ray_point arc.track u) arc.end
+    (last_of_four arc.sense s x (ray_way arc.track (onward arc.sense u)) e fits.sense (ray_onward arc.track arc.sense u fits.sense) some is.left.0 is.left.1 (in_turn arc.sense s e x (ends arc fits) some on))
+    (is_near arc u fits dir) fits.end
+next_comes (suc n) arc u fits is on =
+    let s = displacement arc.track.c arc.start in
+    let e = displacement arc.track.c arc.end in
+    let v = onward arc.sense u in
+    let x = ray_way arc.track u in
+    let y = ray_way arc.track v in
+    let to = step n arc u fits is in
+    let next = next_quarter n arc u fits is in
+    let near = is_near arc u fits (is_dir (suc n) arc u fits is) in
     record {
-      either = either;
-      start = some_length n vs least (nearby t s is fits.start);
-      end = some_length n ve least (nearby t e is fits.end);
-      first = some_length n va least near_a;
-      second = some_length n vb least near_b;
-      third = some_length n vc least near_c;
-      fourth = some_length n vd least near_d;
-      to_second = ray_onward t sense a either;
-      to_third = ray_onward t sense b either;
-      to_fourth = ray_onward t sense c either;
-      turn = rw (on_a.aside vs, dot_swap vs (ray_way t w)) past_turn;
-      ahead = rw (on_a.ahead vs, ← turned_back sense vs (ray_way t w)) past_ahead;
-    } in
-    let point_a = near_track t (ray_point t a) is near_a in
-    let point_b = near_track t (ray_point t b) is near_b in
-    let point_c = near_track t (ray_point t c) is near_c in
-    let point_d = near_track t (ray_point t d) is near_d in
-    record {
-      quarter_p = quarter_at t axis a turn_a;
-      quarter_q = quarter_at t axis b turn_b;
-      quarter_r = quarter_at t axis c turn_c;
-      quarter_v = quarter_at t axis d turn_d;
-      all = λ x at. let of = quarter_of t axis x at in one_point t sense a of.0 x of.2 (one_of sense a of.0 either (turn_after a axis of.0 (turn_round axis a turn_a) of.1));
-      piece_p = piece_of t sense s (ray_point t a) (four.turn, four.ahead) fits.start point_a;
-      piece_q = piece_of t sense (ray_point t a) (ray_point t b) (onward_turn sense va vb four.to_second four.first, onward_square sense va vb four.to_second) point_a point_b;
-      piece_r = piece_of t sense (ray_point t b) (ray_point t c) (onward_turn sense vb vc four.to_third four.second, onward_square sense vb vc four.to_third) point_b point_c;
-      piece_v = piece_of t sense (ray_point t c) (ray_point t d) (onward_turn sense vc vd four.to_fourth four.third, onward_square sense vc vd four.to_fourth) point_c point_d;
-      none = λ off. piece_of t sense s e (none_between sense vs ve va vb vc vd four fits.apart off) fits.start fits.end;
-      last_p = λ on off. piece_of t sense (ray_point t a) e (first_between sense vs ve va vb vc vd four on off) point_a fits.end;
-      last_q = λ on off. piece_of t sense (ray_point t b) e (second_between sense vs ve va vb vc vd four on off) point_b fits.end;
-      last_r = λ on off. piece_of t sense (ray_point t c) e (third_between sense vs ve va vb vc vd four on off) point_c fits.end;
-      last_v = λ on. piece_of t sense (ray_point t d) e (fourth_between sense vs ve va vb vc vd (ray_way t (onward sense d)) four (ray_onward t sense d either) on) point_d fits.end;
-      down_q = second_first sense vs ve va vb vc vd four;
-      down_r = third_second sense vs ve va vb vc vd four;
-      down_v = fourth_third sense vs ve va vb vc vd four;
-      before_p = start_first sense vs ve va vb vc vd four;
-      before_q = first_second sense vs ve va vb vc vd four;
-      before_r = second_third sense vs ve va vb vc vd four;
-      before_v = λ on. third_fourth sense vs ve va vb vc vd four on.0;
+      quarter = next;
+      piece = piece_of arc.track arc.sense (ray_point arc.track u) (ray_point arc.track v) (onward_turn arc.sense x y to.onward to.first, onward_square arc.sense x y to.onward) near (is_near arc v fits (is_dir n arc v fits next));
+      end = λ off. piece_of arc.track arc.sense (ray_point arc.track u) arc.end (last_between arc.sense s e x y to on off) near fits.end;
+      order = λ after. before_next arc.sense s e x y to after.0;
+    }
+
+-- the list that the code makes
+list_divides : (n : ℕ) (arc : Arc) (a : Pt) (u : Dir) → IsArc arc → Comes n arc a u → Divides n arc a u (quarters_from n arc.track arc.sense arc.start arc.end u)
+list_divides zero arc a u fits to = subst (Divides 0 arc a u) (sym (list_none 0 arc.track arc.sense arc.start arc.end u refl)) (none_divide 0 arc a u to (λ b one. absurd one))
+list_divides (suc n) arc a u fits to =
+    let p = ray_point arc.track u in
+    elim (cases_Bool (is_on_the_way arc.track arc.sense arc.start arc.end p)) [
+      | inr f ↦
+          let off = off_tells arc.track arc.sense arc.start arc.end p f in
+          subst (Divides (suc n) arc a u) (sym (list_off (suc n) arc.track arc.sense arc.start arc.end u f)) (none_divide (suc n) arc a u (to.end off) (λ b. none_on n arc u b fits to.quarter off))
+      | inl f ↦
+          let on = on_tells arc.track arc.sense arc.start arc.end p f in
+          let rest = list_divides n arc p (onward arc.sense u) fits (next_comes n arc u fits to.quarter on) in
+          subst (Divides (suc n) arc a u) (sym (list_on n arc.track arc.sense arc.start arc.end u f))
+          record {
+            each = ((quarter_at arc.track arc.axis u to.quarter.turned, on), rest.each);
+            all = λ b one is. elim one [ inl same ↦ inl (ap (ray_point arc.track) same) | inr more ↦ inr (rest.all b more is) ];
+            order = (to.order on, rest.order);
+            pieces = (to.piece, rest.pieces);
+          }
+    ]
+
+-- ---- from the first past the start
+first_comes : (arc : Arc) (w : Dir) → IsArc arc → IsTurned arc.axis w → IsPast arc.track arc.sense arc.start w → Comes 4 arc arc.start (onward arc.sense w)
+first_comes arc w fits found past =
+    let s = displacement arc.track.c arc.start in
+    let e = displacement arc.track.c arc.end in
+    let u = onward arc.sense w in
+    let x = ray_way arc.track u in
+    let on = ray_onward arc.track arc.sense w fits.sense in
+    let turned = turn_after arc.axis w u found (onward_turned arc.sense w fits.sense) in
+    let dir = dir_turned arc.axis u fits.axis turned in
+    let turn : pos 0 <ℤ turned_by arc.sense s x = rw (on.aside s, dot_swap s (ray_way arc.track w)) past.0 in
+    let ahead : pos 0 ≤ℤ dot s x = rw (on.ahead s, ← turned_back arc.sense s (ray_way arc.track w)) past.1 in record {
+      quarter = record { few = omega arith; turned = turned; left = (omega (arith, ints, ahead), omega (arith, ints, turn)) };
+      piece = piece_of arc.track arc.sense arc.start (ray_point arc.track u) (turn, ahead) fits.start (is_near arc u fits dir);
+      end = λ off. piece_of arc.track arc.sense arc.start arc.end (none_between arc.sense s e x (ends arc fits) (some_ray arc u fits dir) turn ahead fits.apart off) fits.start fits.end;
+      order = λ after. after.0;
     }
 
 pub quarters_divide : (arc : Arc) → IsArc arc
@@ -323,17 +246,22 @@ pub quarters_divide : (arc : Arc) → IsArc arc
     × ArePieces arc.track arc.sense arc.start (quarters arc.track arc.sense arc.start arc.end arc.axis ++ arc.end ∷ [])
 quarters_divide arc fits =
     let t = arc.track in
-    let sense = arc.sense in
-    let axis = arc.axis in
     let s = arc.start in
-    let e = arc.end in
-    let is = fits.track in
-    let least = within_large t is in
-    let vs = displacement t.c s in
-    let va = ray_way t axis in
-    let some_s = some_length (within t) vs least (nearby t s is fits.start) in
-    let some_a = some_length (within t) va least (ray_nearby t axis is fits.axis) in
-    let reach = reaches t sense s axis fits.sense (λ x y. some_way sense va vs fits.sense some_a some_s y x) in
-    let found = first_found 3 t sense s axis fits.sense reach in
-    subst (λ (u : Dir). Divides t sense axis s e (quarters_from 4 t sense s e u)) (sym found.3)
-    (list_divides t sense axis s e (onward sense found.0) (are_parts arc found.0 fits found.1 found.2))
+    let way = displacement t.c s in
+    let both = ends arc fits in
+    let some = some_ray arc arc.axis fits fits.axis in
+    let found = first_found 3 t arc.sense s arc.axis fits.sense (reaches t arc.sense s arc.axis fits.sense (λ x y. some_way arc.sense (ray_way t arc.axis) way fits.sense some both.start y x)) in
+    let u = onward arc.sense found.0 in
+    let next = first_comes arc found.0 fits found.1 found.2 in
+    let list = list_divides 4 arc s u fits next in
+    subst (λ (v : Dir). AreQuarters t arc.sense arc.axis s arc.end (quarters_from 4 t arc.sense s arc.end v) × ArePieces t arc.sense s (quarters_from 4 t arc.sense s arc.end v ++ arc.end ∷ [])) (sym found.3) (
+      record {
+        each = list.each;
+        all = λ x at on.
+            let of = quarter_of t arc.axis x at in
+            let one = one_of arc.sense u of.0 fits.sense (turn_after u arc.axis of.0 (turn_round arc.axis u next.quarter.turned) of.1) in
+            subst (λ (p : Pt). IsIn p (quarters_from 4 t arc.sense s arc.end u)) (sym of.2) (list.all of.0 one (subst (IsOnTheWay t arc.sense s arc.end) of.2 on));
+        order = list.order;
+      },
+      list.pieces,
+    )

@@ -63,9 +63,10 @@ pub onward_turned : (sense : ℤ) (u : Dir) → IsSense sense → IsTurned u (on
 onward_turned sense u (inl e) = inr (inl (onward_left sense u e))
 onward_turned sense u (inr e) = inr (inr (inr (onward_right sense u e ∙ right_three u)))
 
--- in the sense they are the same four
-abbrev pub IsOneOf : ℤ → Dir → Dir → Type 0
-IsOneOf sense a b = (b ≡ a) ⊎ ((b ≡ onward sense a) ⊎ ((b ≡ onward sense (onward sense a)) ⊎ (b ≡ onward sense (onward sense (onward sense a)))))
+-- in the sense they are the same four: one of the first n from a on
+abbrev pub IsOneOf : ℕ → ℤ → Dir → Dir → Type 0
+IsOneOf zero sense a b = ⊥
+IsOneOf (suc n) sense a b = (b ≡ a) ⊎ IsOneOf n sense (onward sense a) b
 
 two_right : (sense : ℤ) (u : Dir) → sense ≡ negsuc 0 → onward sense (onward sense u) ≡ perp (perp u)
 two_right sense u e = rw e refl
@@ -79,12 +80,12 @@ two_left sense u e = rw e refl
 three_left : (sense : ℤ) (u : Dir) → sense ≡ pos 1 → onward sense (onward sense (onward sense u)) ≡ perp (perp (perp u))
 three_left sense u e = rw e refl
 
-pub one_of : (sense : ℤ) (a b : Dir) → IsSense sense → IsTurned a b → IsOneOf sense a b
+pub one_of : (sense : ℤ) (a b : Dir) → IsSense sense → IsTurned a b → IsOneOf 4 sense a b
 one_of sense a b is (inl f) = inl f
 one_of sense a b (inl e) (inr (inl f)) = inr (inl (f ∙ sym (onward_left sense a e)))
 one_of sense a b (inl e) (inr (inr (inl f))) = inr (inr (inl (f ∙ sym (two_left sense a e))))
-one_of sense a b (inl e) (inr (inr (inr f))) = inr (inr (inr (f ∙ sym (three_left sense a e))))
-one_of sense a b (inr e) (inr (inl f)) = inr (inr (inr (f ∙ sym (right_back a) ∙ sym (three_right sense a e))))
+one_of sense a b (inl e) (inr (inr (inr f))) = inr (inr (inr (inl (f ∙ sym (three_left sense a e)))))
+one_of sense a b (inr e) (inr (inl f)) = inr (inr (inr (inl (f ∙ sym (right_back a) ∙ sym (three_right sense a e)))))
 one_of sense a b (inr e) (inr (inr (inl f))) = inr (inr (inl (f ∙ sym (two_right sense a e))))
 one_of sense a b (inr e) (inr (inr (inr f))) = inr (inl (f ∙ sym (right_three a) ∙ sym (onward_right sense a e)))
 
