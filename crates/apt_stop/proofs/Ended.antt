@@ -18,7 +18,7 @@ use Rattle.apt_stop.specs.Courses.{is_tanto, stop_side}
 use Rattle.apt_stop.specs.Choices.{end_of, meets_at, course_cases}
 use Rattle.apt_stop.specs.Ranges.{IsCourse}
 use Rattle.apt_stop.specs.Ends.{MeetsStop, EndsOnLine, EndsOnCircle, IsEndOn}
-use Rattle.apt_stop.proofs.Parts.{course_at, Meets, Touches, meets, touches}
+use Rattle.apt_stop.proofs.Parts.{on_targets, moved, Meets, Touches, meets, touches}
 use Rattle.apt_stop.proofs.OnLines.{Met, meets_on_line}
 use Rattle.apt_stop.proofs.Feet.{Touched, touches_on_line}
 use Rattle.apt_stop.proofs.OnRounds.{meets_on_round}
@@ -51,26 +51,20 @@ is_touch stops.On e = absurd cc
 is_touch stops.Past e = absurd cc
 is_touch stops.Tanto e = refl
 
--- the course of two surfaces, moved to the places v and w by a cutter of the radius m
-abbrev moved : Pt → Surface → Sign → ℤ → Surface → Stop → Sign → ℤ → Course
-moved start drive v sense check how w m = course_at start drive (offset_surface drive v m) sense check how (offset_surface check w m)
+touch_line : (c : Course) (l : Line) (v : Sign) (check : Surface) (w : Sign) (m : ℤ) → w ≡ side_at_tangency (surfaces.Line l) check v → is_tanto c.how ≡ true
+    → let n = moved c (surfaces.Line l) v check w m in IsCourse n → Touches n → EndsOnLine n l.dir (end_of n)
+touch_line c l v (surfaces.Line k) w m place e is free = absurd (true≢false free.axis)
+touch_line c l v (surfaces.Circ k) w m place e is free =
+    subst (λ (w : Sign). let n = moved c (surfaces.Line l) v (surfaces.Circ k) w m in IsCourse n → Touches n → EndsOnLine n l.dir (end_of n)) (sym place)
+    (λ is free. touched_ends _ l.dir _ e free.end (touches_on_line c l v m k is free)) is free
 
-touch_line : (start : Pt) (l : Line) (v : Sign) (sense : ℤ) (check : Surface) (how : Stop) (w : Sign) (m : ℤ) → w ≡ side_at_tangency (surfaces.Line l) check v → is_tanto how ≡ true
-    → let c = moved start (surfaces.Line l) v sense check how w m in IsCourse c → Touches c → EndsOnLine c l.dir (end_of c)
-touch_line start l v sense (surfaces.Line k) how w m place e is free = absurd (true≢false free.axis)
-touch_line start l v sense (surfaces.Circ k) how w m place e is free =
-    subst (λ (w : Sign). let c = moved start (surfaces.Line l) v sense (surfaces.Circ k) how w m in IsCourse c → Touches c → EndsOnLine c l.dir (end_of c)) (sym place)
-    (λ is free. touched_ends _ l.dir _ e free.end (touches_on_line start l v m sense k how is free)) is free
-
-on_line : (start : Pt) (l : Line) (v : Sign) (sense : ℤ) (check : Surface) (how : Stop) (w : Sign) (m : ℤ) → (how ≡ stops.Tanto → w ≡ side_at_tangency (surfaces.Line l) check v)
-    → let c = moved start (surfaces.Line l) v sense check how w m in IsCourse c → NoneHolds (course_cases c) → (b : Bool) → is_tanto how ≡ b → EndsOnLine c l.dir (end_of c)
-on_line start l v sense check how w m place is none true e =
-    let c = moved start (surfaces.Line l) v sense check how w m in
-    touch_line start l v sense check how w m (place (is_touch how e)) e is (touches c e none)
-on_line start l v sense check how w m place is none false e =
-    let c = moved start (surfaces.Line l) v sense check how w m in
-    let free = meets c e none in
-    met_ends c l.dir e free (meets_on_line start (surfaces.Line l) l.base l.dir (signed v m) sense check how (offset_surface check w m) is free)
+on_line : (c : Course) (l : Line) (v : Sign) (check : Surface) (w : Sign) (m : ℤ) → (c.how ≡ stops.Tanto → w ≡ side_at_tangency (surfaces.Line l) check v)
+    → let n = moved c (surfaces.Line l) v check w m in IsCourse n → NoneHolds (course_cases n) → (b : Bool) → is_tanto c.how ≡ b → EndsOnLine n l.dir (end_of n)
+on_line c l v check w m place is none true e = touch_line c l v check w m (place (is_touch c.how e)) e is (touches (moved c (surfaces.Line l) v check w m) e none)
+on_line c l v check w m place is none false e =
+    let n = moved c (surfaces.Line l) v check w m in
+    let free = meets n e none in
+    met_ends n l.dir e free (meets_on_line n l.base l.dir (signed v m) n.stop is free)
 
 -- ---- round a circle
 touched_round-ends : (c : Course) (o q : Pt) → is_tanto c.how ≡ true → end_of c ≡ q → TouchedRound c o q → EndsOnCircle c o (end_of c)
@@ -82,42 +76,37 @@ touched_round-ends c o q e end touched =
       apart = touched.apart;
     })
 
-touch_round : (start : Pt) (k : Circ) (v : Sign) (sense : ℤ) (check : Surface) (how : Stop) (w : Sign) (m : ℤ) → w ≡ side_at_tangency (surfaces.Circ k) check v → is_tanto how ≡ true
-    → let c = moved start (surfaces.Circ k) v sense check how w m in IsCourse c → Touches c → EndsOnCircle c k.c (end_of c)
-touch_round start k v sense check how w m place e is free =
-    subst (λ (w : Sign). let c = moved start (surfaces.Circ k) v sense check how w m in IsCourse c → Touches c → EndsOnCircle c k.c (end_of c)) (sym place)
-    (λ is free. touched_round-ends _ k.c _ e free.end (touches_on_round start k v m sense check how is free)) is free
+touch_round : (c : Course) (k : Circ) (v : Sign) (check : Surface) (w : Sign) (m : ℤ) → w ≡ side_at_tangency (surfaces.Circ k) check v → is_tanto c.how ≡ true
+    → let n = moved c (surfaces.Circ k) v check w m in IsCourse n → Touches n → EndsOnCircle n k.c (end_of n)
+touch_round c k v check w m place e is free =
+    subst (λ (w : Sign). let n = moved c (surfaces.Circ k) v check w m in IsCourse n → Touches n → EndsOnCircle n k.c (end_of n)) (sym place)
+    (λ is free. touched_round-ends _ k.c _ e free.end (touches_on_round c k v m check is free)) is free
 
-on_round : (start : Pt) (k : Circ) (v : Sign) (sense : ℤ) (check : Surface) (how : Stop) (w : Sign) (m : ℤ) → (how ≡ stops.Tanto → w ≡ side_at_tangency (surfaces.Circ k) check v)
-    → let c = moved start (surfaces.Circ k) v sense check how w m in IsCourse c → NoneHolds (course_cases c) → (b : Bool) → is_tanto how ≡ b → EndsOnCircle c k.c (end_of c)
-on_round start k v sense check how w m place is none true e =
-    let c = moved start (surfaces.Circ k) v sense check how w m in
-    touch_round start k v sense check how w m (place (is_touch how e)) e is (touches c e none)
-on_round start k v sense check how w m place is none false e =
-    let c = moved start (surfaces.Circ k) v sense check how w m in
-    let free = meets c e none in
-    let both = meets_on_round start (surfaces.Circ k) k.c (k.r -ℤ signed v m) sense check how (offset_surface check w m) is free in
+on_round : (c : Course) (k : Circ) (v : Sign) (check : Surface) (w : Sign) (m : ℤ) → (c.how ≡ stops.Tanto → w ≡ side_at_tangency (surfaces.Circ k) check v)
+    → let n = moved c (surfaces.Circ k) v check w m in IsCourse n → NoneHolds (course_cases n) → (b : Bool) → is_tanto c.how ≡ b → EndsOnCircle n k.c (end_of n)
+on_round c k v check w m place is none true e = touch_round c k v check w m (place (is_touch c.how e)) e is (touches (moved c (surfaces.Circ k) v check w m) e none)
+on_round c k v check w m place is none false e =
+    let n = moved c (surfaces.Circ k) v check w m in
+    let free = meets n e none in
+    let both = meets_on_round n k.c (k.r -ℤ signed v m) n.stop is free in
     rw free.end (record {
       track = both.0;
       meets = λ f. both.1;
       touches = λ f. absurd (true≢false (sym f ∙ e));
-      apart = meets_apart start (surfaces.Circ k) k.c (k.r -ℤ signed v m) sense check how (offset_surface check w m) is free;
+      apart = meets_apart n k.c (k.r -ℤ signed v m) n.stop is free;
     })
 
-moved_ends : (start : Pt) (drive : Surface) (v : Sign) (sense : ℤ) (check : Surface) (how : Stop) (w : Sign) (m : ℤ) → (how ≡ stops.Tanto → w ≡ side_at_tangency drive check v)
-    → let c = moved start drive v sense check how w m in IsCourse c → NoneHolds (course_cases c) → IsEndOn c.track c (end_of c)
-moved_ends start (surfaces.Line l) v sense check how w m place is none = on_line start l v sense check how w m place is none (is_tanto how) refl
-moved_ends start (surfaces.Circ k) v sense check how w m place is none = on_round start k v sense check how w m place is none (is_tanto how) refl
+moved_ends : (c : Course) (drive : Surface) (v : Sign) (check : Surface) (w : Sign) (m : ℤ) → (c.how ≡ stops.Tanto → w ≡ side_at_tangency drive check v)
+    → let n = moved c drive v check w m in IsCourse n → NoneHolds (course_cases n) → IsEndOn n.track n (end_of n)
+moved_ends c (surfaces.Line l) v check w m place is none = on_line c l v check w m place is none (is_tanto c.how) refl
+moved_ends c (surfaces.Circ k) v check w m place is none = on_round c k v check w m place is none (is_tanto c.how) refl
 
 -- of a course that has such an end, by its targets
 abbrev HasEnd : Course → Target → Target → Type 0
-HasEnd c track stop =
-    let moved = course_at c.start c.drive track c.sense c.check c.how stop in
-    IsCourse moved → NoneHolds (course_cases moved) → IsEndOn track moved (end_of moved)
+HasEnd c track stop = let n = on_targets c track stop in IsCourse n → NoneHolds (course_cases n) → IsEndOn track n (end_of n)
 
 pub course_ends : (c : Course) → IsCourse c → NoneHolds (course_cases c) → IsEndOn c.track c (end_of c)
 course_ends c is =
     let at = is.moved in
     subst (λ (t : Target). HasEnd c t c.stop) (sym at.track)
-    (subst (λ (t : Target). HasEnd c (offset_surface c.drive at.at_drive at.radius) t) (sym at.stop)
-    (moved_ends c.start c.drive at.at_drive c.sense c.check c.how at.at_check at.radius at.touching)) is
+    (subst (λ (t : Target). HasEnd c (offset_surface c.drive at.at_drive at.radius) t) (sym at.stop) (moved_ends c c.drive at.at_drive c.check at.at_check at.radius at.touching)) is

@@ -2,7 +2,6 @@
 use Rattle.std.proofs.Common.{refl, ◌≡◌, inr, ℕ, ◌*◌, ◌≤◌, ◌<◌, subst, arith, Bool, true, false, not, ℤ, pos, ◌-ℤ◌, ◌*ℤ◌, ◌<ℤ◌}
 use Rattle.apt_num.specs.declared.Sign.{Sign}
 use Rattle.apt_num.specs.Sign.{AtLeast, square}
-use Rattle.apt_words.specs.declared.Stop.{Stop}
 use Rattle.apt_plane.specs.declared.figures.Pt.{Pt}
 use Rattle.apt_plane.specs.declared.figures.Dir.{Dir}
 use Rattle.apt_plane.specs.declared.figures.Line.{Line}
@@ -14,7 +13,6 @@ use Rattle.apt_plane.proofs.Turned.{size_sense}
 use Rattle.apt_plane.proofs.Displacements.{dot_swap}
 use Rattle.apt_canon.specs.Feet.{foot_point}
 use Rattle.apt_canon.proofs.FootPoints.Laws.{foot_near, foot_across}
-use Rattle.apt_offset.specs.declared.Target.TheVariants as targets
 use Rattle.apt_offset.specs.Sides.{side_at_tangency}
 use Rattle.apt_offset.specs.Targets.{signed}
 use Rattle.apt_offset.specs.Ranges.{IsLineTarget, IsCircleTarget}
@@ -29,7 +27,7 @@ use Rattle.apt_stop.proofs.Onwards.{Onward, near_onwards}
 use Rattle.apt_stop.proofs.Tracks.{heading_dot, heading_length}
 use Rattle.apt_stop.proofs.Lies.{ahead_of}
 use Rattle.apt_stop.proofs.Touching.{touches_stop, foot_on_axis}
-use Rattle.apt_stop.proofs.Parts.{course_at, Touches}
+use Rattle.apt_stop.proofs.Parts.{moved, Touches}
 
 pub not_true : (b : Bool) → not b ≡ false → b ≡ true
 not_true true e = refl
@@ -54,22 +52,20 @@ foot_ahead d sense p o q is some at small =
     (rw (heading_length sense d is, heading_dot sense d (displacement o q)) (beside sense (dot d (displacement o q)) (length_squared d) is small))
 
 -- the drive surface l, moved to the place v, and the circle k that it touches, by a cutter of the radius m
-pub touches_on_line : (start : Pt) (l : Line) (v : Sign) (m sense : ℤ) (k : Circ) (how : Stop)
-    → let w = side_at_tangency (surfaces.Line l) (surfaces.Circ k) v in
-    let c = course_at start (surfaces.Line l) (targets.Line l.base l.dir (signed v m)) sense (surfaces.Circ k) how (targets.Circ k.c (k.r -ℤ signed w m)) in
-    IsCourse c → Touches c → Touched c l.dir (foot_point k.c l (signed v m))
-touches_on_line start l v m sense k how is free =
+pub touches_on_line : (c : Course) (l : Line) (v : Sign) (m : ℤ) (k : Circ)
+    → let n = moved c (surfaces.Line l) v (surfaces.Circ k) (side_at_tangency (surfaces.Line l) (surfaces.Circ k) v) m in IsCourse n → Touches n → Touched n l.dir (foot_point k.c l (signed v m))
+touches_on_line c l v m k is free =
     let w = side_at_tangency (surfaces.Line l) (surfaces.Circ k) v in
-    let c = course_at start (surfaces.Line l) (targets.Line l.base l.dir (signed v m)) sense (surfaces.Circ k) how (targets.Circ k.c (k.r -ℤ signed w m)) in
+    let n = moved c (surfaces.Line l) v (surfaces.Circ k) w m in
     let q = foot_point k.c l (signed v m) in
-    let line : IsLineTarget l.base l.dir (signed v m) = track_target c is in
-    let circle : IsCircleTarget k.c (k.r -ℤ signed w m) = stop_target c is in
+    let line : IsLineTarget l.base l.dir (signed v m) = track_target n is in
+    let circle : IsCircleTarget k.c (k.r -ℤ signed w m) = stop_target n is in
     let surface : IsLine l = is.drive in
     let round : IsCircle k = is.check in
     let some : 0 < length_squared l.dir = omega (arith, line.dir.length) in
     let across : 2 * square (dot l.dir (displacement k.c q)) ≤ length_squared l.dir = foot_across k.c l (signed v m) surface in
     let near = foot_near k.c l (signed v m) round.centre surface line.off in record {
-      ahead = foot_ahead l.dir sense start k.c q is.sense some (ahead_of (way_on_to c l.dir k.c) (length_squared l.dir) free.past) across;
+      ahead = foot_ahead l.dir c.sense c.start k.c q is.sense some (ahead_of (way_on_to n l.dir k.c) (length_squared l.dir) free.past) across;
       track = near;
       stop = record {
         stop = touches_stop l k v m q (record { some = some; along = across }) round.least circle.least (not_true _ free.touching) near;

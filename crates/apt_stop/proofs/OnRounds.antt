@@ -3,11 +3,9 @@ use Rattle.std.proofs.Common.{refl, ◌≢◌, inl, ℕ, zero, suc, ◌≤◌, a
 use Rattle.std.proofs.lemmas.Int.{ints}
 use Rattle.apt_num.specs.declared.Sign.{Sign}
 use Rattle.apt_num.specs.declared.Sign.TheVariants as signs
-use Rattle.apt_words.specs.declared.Stop.{Stop}
 use Rattle.apt_plane.specs.declared.figures.Pt.{Pt}
 use Rattle.apt_plane.specs.declared.figures.Dir.{Dir}
 use Rattle.apt_plane.specs.declared.figures.Axis.{Axis}
-use Rattle.apt_plane.specs.declared.figures.Surface.{Surface}
 use Rattle.apt_plane.specs.Vectors.{displacement, length_squared}
 use Rattle.apt_plane.specs.Ranges.{IsSense, IsDir, IsPoint}
 use Rattle.apt_plane.proofs.Turned.{size_sense}
@@ -21,6 +19,7 @@ use Rattle.apt_offset.specs.Targets.{signed}
 use Rattle.apt_offset.specs.Ranges.{IsCircleTarget}
 use Rattle.apt_contact.specs.Meetings.{circle_about}
 use Rattle.apt_contact.specs.Contacts.{IsNearTarget}
+use Rattle.apt_stop.specs.declared.course.Course.{Course}
 use Rattle.apt_stop.specs.Courses.{stop_side}
 use Rattle.apt_stop.specs.Choices.{sigma_of, meets_at, touches_on}
 use Rattle.apt_stop.specs.Ranges.{IsCourse}
@@ -29,7 +28,7 @@ use Rattle.apt_stop.proofs.Contacts.{contact-near}
 use Rattle.apt_stop.proofs.Placed.{placed}
 use Rattle.apt_stop.proofs.Sided.{sided}
 use Rattle.apt_stop.proofs.Tracks.{sense_to}
-use Rattle.apt_stop.proofs.Parts.{course_at, Meets}
+use Rattle.apt_stop.proofs.Parts.{on_targets, Meets}
 
 -- ---- a course that meets its stop has a side, which tells the point that is meant
 other_side : (side : Sign) → side ≢ signs.Zero → opposite side ≢ signs.Zero
@@ -37,20 +36,19 @@ other_side signs.Plus some = λ e. cc
 other_side signs.Zero some = absurd (some refl)
 other_side signs.Minus some = λ e. cc
 
-module _ (start : Pt) (drive : Surface) (o : Pt) (r sense : ℤ) (check : Surface) (how : Stop) where
-  pub sigma_is : (stop : Target) → let c = course_at start drive (targets.Circ o r) sense check how stop in IsCourse c → Meets c → IsSense (sigma_of sense (stop_side c) c.track stop)
-  sigma_is (targets.Line e f k) is free =
-      let c = course_at start drive (targets.Circ o r) sense check how (targets.Line e f k) in
-      sense_to (opposite (stop_side c)) sense (other_side (stop_side c) (sided c (placed c is) free.past)) is.sense
-  sigma_is (targets.Circ p q) is free =
-      let c = course_at start drive (targets.Circ o r) sense check how (targets.Circ p q) in
-      sense_to (stop_side c) sense (sided c (placed c is) free.past) is.sense
+module _ (c : Course) (o : Pt) (r : ℤ) where
+  abbrev to : Target → Course
+  to stop = on_targets c (targets.Circ o r) stop
 
-  pub meets_on_round : (stop : Target) → let c = course_at start drive (targets.Circ o r) sense check how stop in IsCourse c → Meets c
-      → IsNearTarget c.track (pos 1) (meets_at c (stop_side c)) × IsNearTarget stop (pos 1) (meets_at c (stop_side c))
-  meets_on_round stop is free =
-      let c = course_at start drive (targets.Circ o r) sense check how stop in
-      contact-near (targets.Circ o r) stop (sigma_of sense (stop_side c) c.track stop) (track_target c is) (stop_target c is) (sigma_is stop is free) free.meeting
+  pub sigma_is : (stop : Target) → IsCourse (to stop) → Meets (to stop) → IsSense (sigma_of c.sense (stop_side (to stop)) (targets.Circ o r) stop)
+  sigma_is (targets.Line e f k) is free =
+      let side = stop_side (to (targets.Line e f k)) in
+      sense_to (opposite side) c.sense (other_side side (sided (to (targets.Line e f k)) (placed (to (targets.Line e f k)) is) free.past)) is.sense
+  sigma_is (targets.Circ p q) is free = sense_to (stop_side (to (targets.Circ p q))) c.sense (sided (to (targets.Circ p q)) (placed (to (targets.Circ p q)) is) free.past) is.sense
+
+  pub meets_on_round : (stop : Target) → IsCourse (to stop) → Meets (to stop)
+      → IsNearTarget (targets.Circ o r) (pos 1) (meets_at (to stop) (stop_side (to stop))) × IsNearTarget stop (pos 1) (meets_at (to stop) (stop_side (to stop)))
+  meets_on_round stop is free = contact-near (targets.Circ o r) stop (sigma_of c.sense (stop_side (to stop)) (targets.Circ o r) stop) (track_target (to stop) is) (stop_target (to stop) is) (sigma_is stop is free) free.meeting
 
 -- ---- one that touches ends on the axis
 pub half_sense : (half : Sign) → half ≢ signs.Zero → IsSense (signed half (pos 1))

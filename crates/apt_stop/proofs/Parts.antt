@@ -1,11 +1,11 @@
 -- What is left where nothing refuses a course.
 use Rattle.std.proofs.Common.{refl, ◌≡◌, true, false, ℤ}
 use Rattle.std.specs.Prelude.{not, is_none}
-use Rattle.apt_words.specs.declared.Stop.{Stop}
+use Rattle.apt_num.specs.declared.Sign.{Sign}
 use Rattle.apt_words.specs.Rows.{NoneHolds}
-use Rattle.apt_plane.specs.declared.figures.Pt.{Pt}
 use Rattle.apt_plane.specs.declared.figures.Surface.{Surface}
 use Rattle.apt_offset.specs.declared.Target.{Target}
+use Rattle.apt_offset.specs.Targets.{offset_surface}
 use Rattle.apt_contact.specs.Meetings.{meeting_of}
 use Rattle.apt_contact.specs.Contacts.{HasMeeting}
 use Rattle.apt_stop.specs.declared.course.Course.{Course}
@@ -15,9 +15,13 @@ use Rattle.apt_stop.specs.Courses.{is_tanto, kept_side, stop_side, axis_of}
 use Rattle.apt_stop.specs.Choices.{is_past, is_past_or_none, end_of, meets_at, touches_at, course_cases}
 use Rattle.apt_stop.proofs.Contacts.{has_meeting}
 
--- a course of these parts
-abbrev pub course_at : Pt → Surface → Target → ℤ → Surface → Stop → Target → Course
-course_at start drive track sense check how stop = record { start = start; drive = drive; track = track; sense = sense; check = check; how = how; stop = stop }
+-- the course with these targets
+abbrev pub on_targets : Course → Target → Target → Course
+on_targets c track stop = record c { track = track; stop = stop }
+
+-- with these surfaces, moved to the places v and w by a cutter of the radius m
+abbrev pub moved : Course → Surface → Sign → Surface → Sign → ℤ → Course
+moved c drive v check w m = record c { drive = drive; track = offset_surface drive v m; check = check; stop = offset_surface check w m }
 
 -- one that meets its stop
 pub record Meets (c : Course) : Type 0 where

@@ -5,10 +5,8 @@ use Rattle.std.proofs.lemmas.Int.{ints}
 use Rattle.apt_num.specs.declared.Sign.{Sign}
 use Rattle.apt_num.specs.Sign.{square, sign_of}
 use Rattle.apt_num.proofs.Squares.{size_neg}
-use Rattle.apt_words.specs.declared.Stop.{Stop}
 use Rattle.apt_plane.specs.declared.figures.Pt.{Pt}
 use Rattle.apt_plane.specs.declared.figures.Dir.{Dir}
-use Rattle.apt_plane.specs.declared.figures.Surface.{Surface}
 use Rattle.apt_plane.specs.Order.{turn_class}
 use Rattle.apt_plane.specs.Ranges.{IsSense}
 use Rattle.apt_plane.specs.Vectors.{displacement, cross, dot, length_squared}
@@ -22,6 +20,7 @@ use Rattle.apt_offset.specs.Turns.{opposite}
 use Rattle.apt_offset.specs.Targets.{signed}
 use Rattle.apt_offset.specs.Ranges.{IsLineTarget, IsCircleTarget}
 use Rattle.apt_contact.specs.Meetings.{line_on, circle_about}
+use Rattle.apt_stop.specs.declared.course.Course.{Course}
 use Rattle.apt_stop.specs.Nearness.{is_near, off_track, near_stop, side_of}
 use Rattle.apt_stop.specs.Courses.{headed_side, starts_near_stop, stop_side}
 use Rattle.apt_stop.specs.Choices.{is_by_axis, sigma_of, meets_at}
@@ -30,7 +29,7 @@ use Rattle.apt_stop.proofs.Rings.{ring_true, ring_false, near_least, near_most}
 use Rattle.apt_stop.proofs.Moved.{track_target, stop_target, no_radius}
 use Rattle.apt_stop.proofs.Contacts.{line_of, two_circles}
 use Rattle.apt_stop.proofs.ToLines.{far_by}
-use Rattle.apt_stop.proofs.Parts.{course_at, Meets}
+use Rattle.apt_stop.proofs.Parts.{on_targets, Meets}
 use Rattle.apt_stop.proofs.OneWay.{AreOneWay, one_way, Rounds, hardly_away}
 use Rattle.apt_stop.proofs.Apart.{away_from_line, away_inside, away_outside}
 use Rattle.apt_stop.proofs.Aside.{dot_on, cross_on, not_on_axis, far_aside, none_far, back_from_start, back_from_way}
@@ -81,59 +80,49 @@ second_false a b e f = rw e at f
 first_of : (b : Bool) (x y : Sign) → b ≡ true → (if b then x else y) ≡ x
 first_of b x y e = rw e refl
 
-module _ (start : Pt) (drive : Surface) (o : Pt) (r : ℕ) (sense : ℤ) (check : Surface) (how : Stop) where
-  to_line : (e : Pt) (f : Dir) (k : ℤ) → let c = course_at start drive (targets.Circ o (pos r)) sense check how (targets.Line e f k) in IsCourse c → Meets c
-      → Rounds o r start (meets_at c (stop_side c)) → (near : Bool) → starts_near_stop c ≡ near → AreOneWay (displacement o start) (displacement o (meets_at c (stop_side c))) → ⊥
-  to_line e f k is free rounds true near way =
-      let c = course_at start drive (targets.Circ o (pos r)) sense check how (targets.Line e f k) in
-      let line : IsLineTarget e f k = stop_target c is in
-      let side = first_of (starts_near_stop c) (headed_side c c.track c.stop) (side_of c.stop start) near in
-      let past = second_false (starts_near_stop c) (is_by_axis (dot (displacement o start) f) (length_squared f)) near free.past in
-      near_line o r start (meets_at c (stop_side c)) f sense (stop_side c) rounds is.sense (omega (arith, line.dir.length)) side past
-      (point_further (line_on e f) k (circle_about o (pos r)) (sigma_of sense (stop_side c) c.track c.stop) (line_of e f k line) (sigma_is start drive o (pos r) sense check how (targets.Line e f k) is free)) way
-  to_line e f k is free rounds false far way =
-      let c = course_at start drive (targets.Circ o (pos r)) sense check how (targets.Line e f k) in
-      let q = meets_at c (stop_side c) in
-      let line : IsLineTarget e f k = stop_target c is in
-      away_from_line e f k (side_of c.stop start) start q (omega (arith, line.dir.length)) (far_by e f k start far)
-      (meets_on_round start drive o (pos r) sense check how (targets.Line e f k) is free).1 (hardly_away o r start q rounds way)
+module _ (c : Course) (o : Pt) (r : ℕ) where
+  abbrev to : Target → Course
+  to stop = on_targets c (targets.Circ o (pos r)) stop
 
-  to_round : (p : Pt) (h : ℕ) → let c = course_at start drive (targets.Circ o (pos r)) sense check how (targets.Circ p (pos h)) in IsCourse c → Meets c
-      → Rounds o r start (meets_at c (stop_side c)) → (near : Bool) → starts_near_stop c ≡ near → AreOneWay (displacement o start) (displacement o (meets_at c (stop_side c))) → ⊥
-  to_round p h is free rounds true near way =
-      let c = course_at start drive (targets.Circ o (pos r)) sense check how (targets.Circ p (pos h)) in
+  abbrev end : Target → Pt
+  end stop = meets_at (to stop) (stop_side (to stop))
+
+  -- where the start is near the stop and where it is not
+  apart : (stop : Target) → IsCourse (to stop) → Meets (to stop) → Rounds o r c.start (end stop) → (near : Bool) → starts_near_stop (to stop) ≡ near → AreOneWay (displacement o c.start) (displacement o (end stop)) → ⊥
+  apart (targets.Line e f k) is free rounds true near way =
+      let n = to (targets.Line e f k) in
+      let line : IsLineTarget e f k = stop_target n is in
+      let side = first_of (starts_near_stop n) (headed_side n n.track n.stop) (side_of n.stop c.start) near in
+      let past = second_false (starts_near_stop n) (is_by_axis (dot (displacement o c.start) f) (length_squared f)) near free.past in
+      near_line o r c.start (end n.stop) f c.sense (stop_side n) rounds is.sense (omega (arith, line.dir.length)) side past
+      (point_further (line_on e f) k (circle_about o (pos r)) (sigma_of c.sense (stop_side n) n.track n.stop) (line_of e f k line) (sigma_is c o (pos r) n.stop is free)) way
+  apart (targets.Line e f k) is free rounds false far way =
+      let n = to (targets.Line e f k) in
+      let line : IsLineTarget e f k = stop_target n is in
+      away_from_line e f k (side_of n.stop c.start) c.start (end n.stop) (omega (arith, line.dir.length)) (far_by e f k c.start far)
+      (meets_on_round c o (pos r) n.stop is free).1 (hardly_away o r c.start (end n.stop) rounds way)
+  apart (targets.Circ p (pos h)) is free rounds true near way =
+      let n = to (targets.Circ p (pos h)) in
       let g = displacement o p in
-      let two = two_circles o r p h (track_target c is) (stop_target c is) free.meeting in
-      let side = first_of (starts_near_stop c) (headed_side c c.track c.stop) (side_of c.stop start) near in
-      let past = second_false (starts_near_stop c) (is_by_axis (cross (displacement o start) g) (length_squared g)) near free.past in
-      near_circle o r start (meets_at c (stop_side c)) g sense (stop_side c) rounds is.sense (omega (arith, two.way.length)) side past
-      (point_beyond (circle_about o (pos r)) (circle_about p (pos h)) (sigma_of sense (stop_side c) c.track c.stop) two.way (sigma_is start drive o (pos r) sense check how (targets.Circ p (pos h)) is free)) way
-  to_round p h is free rounds false far way =
-      let c = course_at start drive (targets.Circ o (pos r)) sense check how (targets.Circ p (pos h)) in
-      let q = meets_at c (stop_side c) in
-      let circle : IsCircleTarget p (pos h) = stop_target c is in
-      away_circle p h start q (omega (arith, ints, circle.least)) far
-      (meets_on_round start drive o (pos r) sense check how (targets.Circ p (pos h)) is free).1 (hardly_away o r start q rounds way)
+      let two = two_circles o r p h (track_target n is) (stop_target n is) free.meeting in
+      let side = first_of (starts_near_stop n) (headed_side n n.track n.stop) (side_of n.stop c.start) near in
+      let past = second_false (starts_near_stop n) (is_by_axis (cross (displacement o c.start) g) (length_squared g)) near free.past in
+      near_circle o r c.start (end n.stop) g c.sense (stop_side n) rounds is.sense (omega (arith, two.way.length)) side past
+      (point_beyond (circle_about o (pos r)) (circle_about p (pos h)) (sigma_of c.sense (stop_side n) n.track n.stop) two.way (sigma_is c o (pos r) n.stop is free)) way
+  apart (targets.Circ p (pos h)) is free rounds false far way =
+      let n = to (targets.Circ p (pos h)) in
+      let circle : IsCircleTarget p (pos h) = stop_target n is in
+      away_circle p h c.start (end n.stop) (omega (arith, ints, circle.least)) far (meets_on_round c o (pos r) n.stop is free).1 (hardly_away o r c.start (end n.stop) rounds way)
+  apart (targets.Circ p (negsuc h)) is free rounds near e way = absurd (no_radius p h (stop_target (to (targets.Circ p (negsuc h))) is))
 
-  by_stop : (stop : Target) → let c = course_at start drive (targets.Circ o (pos r)) sense check how stop in IsCourse c → Meets c
-      → Rounds o r start (meets_at c (stop_side c)) → AreOneWay (displacement o start) (displacement o (meets_at c (stop_side c))) → ⊥
-  by_stop (targets.Line e f k) is free rounds way =
-      to_line e f k is free rounds (starts_near_stop (course_at start drive (targets.Circ o (pos r)) sense check how (targets.Line e f k))) refl way
-  by_stop (targets.Circ p (pos h)) is free rounds way =
-      to_round p h is free rounds (starts_near_stop (course_at start drive (targets.Circ o (pos r)) sense check how (targets.Circ p (pos h)))) refl way
-  by_stop (targets.Circ p (negsuc h)) is free rounds way = absurd (no_radius p h (stop_target (course_at start drive (targets.Circ o (pos r)) sense check how (targets.Circ p (negsuc h))) is))
-
-  meets_at_radius : (stop : Target) → let c = course_at start drive (targets.Circ o (pos r)) sense check how stop in IsCourse c → Meets c
-      → turn_class (displacement o start) sense (displacement o (meets_at c (stop_side c))) ≢ 0
+  meets_at_radius : (stop : Target) → IsCourse (to stop) → Meets (to stop) → turn_class (displacement o c.start) c.sense (displacement o (end stop)) ≢ 0
   meets_at_radius stop is free = λ first.
-      let c = course_at start drive (targets.Circ o (pos r)) sense check how stop in
-      let q = meets_at c (stop_side c) in
-      let circle : IsCircleTarget o (pos r) = track_target c is in
-      let rounds = rounds_of o r start q (omega (arith, ints, circle.least)) is.near (meets_on_round start drive o (pos r) sense check how stop is free).0 in
-      by_stop stop is free rounds (one_way (displacement o start) sense (displacement o q) is.sense first)
+      let circle : IsCircleTarget o (pos r) = track_target (to stop) is in
+      let rounds = rounds_of o r c.start (end stop) (omega (arith, ints, circle.least)) is.near (meets_on_round c o (pos r) stop is free).0 in
+      apart stop is free rounds (starts_near_stop (to stop)) refl (one_way (displacement o c.start) c.sense (displacement o (end stop)) is.sense first)
 
 -- a course that meets its stop
-pub meets_apart : (start : Pt) (drive : Surface) (o : Pt) (r sense : ℤ) (check : Surface) (how : Stop) (stop : Target) → let c = course_at start drive (targets.Circ o r) sense check how stop in IsCourse c → Meets c
-    → turn_class (displacement o start) sense (displacement o (meets_at c (stop_side c))) ≢ 0
-meets_apart start drive o (pos r) sense check how stop is free = meets_at_radius start drive o r sense check how stop is free
-meets_apart start drive o (negsuc r) sense check how stop is free = absurd (no_radius o r (track_target (course_at start drive (targets.Circ o (negsuc r)) sense check how stop) is))
+pub meets_apart : (c : Course) (o : Pt) (r : ℤ) (stop : Target) → let n = on_targets c (targets.Circ o r) stop in IsCourse n → Meets n
+    → turn_class (displacement o c.start) c.sense (displacement o (meets_at n (stop_side n))) ≢ 0
+meets_apart c o (pos r) stop is free = meets_at_radius c o r stop is free
+meets_apart c o (negsuc r) stop is free = absurd (no_radius o r (track_target (on_targets c (targets.Circ o (negsuc r)) stop) is))

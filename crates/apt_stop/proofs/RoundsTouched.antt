@@ -5,7 +5,6 @@ use Rattle.std.proofs.lemmas.Bool.Decides.{eqb_tells}
 use Rattle.apt_num.specs.declared.Sign.{Sign}
 use Rattle.apt_num.specs.declared.Sign.TheVariants as signs
 use Rattle.apt_num.specs.Sign.{sign_of}
-use Rattle.apt_words.specs.declared.Stop.{Stop}
 use Rattle.apt_plane.specs.declared.figures.Pt.{Pt}
 use Rattle.apt_plane.specs.declared.figures.Dir.{Dir}
 use Rattle.apt_plane.specs.declared.figures.Axis.{Axis}
@@ -19,7 +18,7 @@ use Rattle.apt_plane.specs.Vectors.{displacement, cross, dot, length_squared, pe
 use Rattle.apt_canon.specs.Scale.{IsNearCircle}
 use Rattle.apt_offset.specs.declared.Target.TheVariants as targets
 use Rattle.apt_offset.specs.Sides.{side_at_tangency}
-use Rattle.apt_offset.specs.Targets.{signed, offset_surface}
+use Rattle.apt_offset.specs.Targets.{signed}
 use Rattle.apt_offset.specs.Ranges.{IsCircleTarget}
 use Rattle.apt_contact.specs.Meetings.{circle_about}
 use Rattle.apt_contact.specs.Contacts.{IsNearTarget}
@@ -31,7 +30,7 @@ use Rattle.apt_stop.specs.Ranges.{IsCourse}
 use Rattle.apt_stop.specs.Ends.{IsOnAxisOf, TouchesStop}
 use Rattle.apt_stop.proofs.Moved.{track_target, stop_target}
 use Rattle.apt_stop.proofs.Placed.{has_half}
-use Rattle.apt_stop.proofs.Parts.{course_at, Touches}
+use Rattle.apt_stop.proofs.Parts.{moved, Touches}
 use Rattle.apt_stop.proofs.Feet.{not_true}
 use Rattle.apt_plane.proofs.Turned.{perp_dir}
 use Rattle.apt_stop.proofs.OnRounds.{ray_at, two_centres}
@@ -58,46 +57,45 @@ on_axis_of : (given : Option Axis) (a : Axis) (q : Pt) → given ≡ Some a → 
 on_axis_of given a q e is = rw e is
 
 -- the drive surface k, moved to the place v, and a check surface that it touches, by a cutter of the radius m
-abbrev touching : Pt → Circ → Sign → ℤ → ℤ → Surface → Stop → Course
-touching start k v m sense check how =
-    course_at start (surfaces.Circ k) (targets.Circ k.c (k.r -ℤ signed v m)) sense check how (offset_surface check (side_at_tangency (surfaces.Circ k) check v) m)
+abbrev touching : Course → Circ → Sign → ℤ → Surface → Course
+touching c k v m check = moved c (surfaces.Circ k) v check (side_at_tangency (surfaces.Circ k) check v) m
 
-module _ (start : Pt) (k : Circ) (v : Sign) (m sense : ℤ) (check : Surface) (how : Stop) (along : Dir) (half : Sign) where
-  by_axis : tangent_axis (surfaces.Circ k) check ≡ Some (axis k.c along half) → let c = touching start k v m sense check how in IsCourse c → Touches c → IsDir along
-      → (half ≢ signs.Zero → (q : Pt) → LiesOnAxis along half (displacement k.c q) → IsNearCircle (circle_about k.c (k.r -ℤ signed v m)) (pos 1) q → IsNearTarget c.stop (pos 4) q)
-      → TouchedRound c k.c (touches_at c (tangent_axis (surfaces.Circ k) check))
-  by_axis e is free dir stops =
-      let c = touching start k v m sense check how in
-      let a = axis k.c along half in
-      let r = k.r -ℤ signed v m in
-      let circle : IsCircleTarget k.c r = track_target c is in
-      let there = has_half c a is e in
-      let q = touches_on (targets.Circ k.c r) a in
-      let near = ray_at k.c r a circle dir there in
-      let ray = ray_is k.c r a circle dir there in
-      rw e (record {
-        track = near;
-        stop = record { stop = stops there q ray near; axis = on_axis_of _ a q (free.on ∙ e) (ray_on_axis a q there ray) };
-        apart = ray_class k.c r start q along half sense circle.least is.sense is.near near (omega (arith, dir.length)) there ray (rw e at free.past);
-      })
+by_axis : (c : Course) (k : Circ) (v : Sign) (m : ℤ) (check : Surface) (along : Dir) (half : Sign) → tangent_axis (surfaces.Circ k) check ≡ Some (axis k.c along half)
+    → let n = touching c k v m check in IsCourse n → Touches n → IsDir along
+    → (half ≢ signs.Zero → (q : Pt) → LiesOnAxis along half (displacement k.c q) → IsNearCircle (circle_about k.c (k.r -ℤ signed v m)) (pos 1) q → IsNearTarget n.stop (pos 4) q)
+    → TouchedRound n k.c (touches_at n (tangent_axis (surfaces.Circ k) check))
+by_axis c k v m check along half e is free dir stops =
+    let n = touching c k v m check in
+    let a = axis k.c along half in
+    let r = k.r -ℤ signed v m in
+    let circle : IsCircleTarget k.c r = track_target n is in
+    let there = has_half n a is e in
+    let q = touches_on (targets.Circ k.c r) a in
+    let near = ray_at k.c r a circle dir there in
+    let ray = ray_is k.c r a circle dir there in
+    rw e (record {
+      track = near;
+      stop = record { stop = stops there q ray near; axis = on_axis_of _ a q (free.on ∙ e) (ray_on_axis a q there ray) };
+      apart = ray_class k.c r c.start q along half c.sense circle.least is.sense is.near near (omega (arith, dir.length)) there ray (rw e at free.past);
+    })
 
 some_way : (n : ℕ) → n ≢ 0 → 0 < n
 some_way zero d = absurd (d refl)
 some_way (suc n) d = omega arith
 
-pub touches_on_round : (start : Pt) (k : Circ) (v : Sign) (m sense : ℤ) (check : Surface) (how : Stop)
-    → let c = touching start k v m sense check how in IsCourse c → Touches c → TouchedRound c k.c (touches_at c (tangent_axis (surfaces.Circ k) check))
-touches_on_round start k v m sense (surfaces.Line l) how is free =
-    let circle : IsCircleTarget k.c (k.r -ℤ signed v m) = track_target (touching start k v m sense (surfaces.Line l) how) is in
-    by_axis start k v m sense (surfaces.Line l) how (perp l.dir) (half_towards l k) refl is free (perp_dir l.dir is.check.dir)
+pub touches_on_round : (c : Course) (k : Circ) (v : Sign) (m : ℤ) (check : Surface)
+    → let n = touching c k v m check in IsCourse n → Touches n → TouchedRound n k.c (touches_at n (tangent_axis (surfaces.Circ k) check))
+touches_on_round c k v m (surfaces.Line l) is free =
+    let circle : IsCircleTarget k.c (k.r -ℤ signed v m) = track_target (touching c k v m (surfaces.Line l)) is in
+    by_axis c k v m (surfaces.Line l) (perp l.dir) (half_towards l k) refl is free (perp_dir l.dir is.check.dir)
     (λ there q ray near. near_line_stop k l v m q circle.least there (not_true _ free.touching) ray near)
-touches_on_round start k v m sense (surfaces.Circ j) how is free = elim (eqb_tells (length_squared (displacement k.c j.c)) 0) [
+touches_on_round c k v m (surfaces.Circ j) is free = elim (eqb_tells (length_squared (displacement k.c j.c)) 0) [
   | inl one ↦ absurd (true≢false (rw one.0 at free.axis))
   | inr two ↦
-      let c = touching start k v m sense (surfaces.Circ j) how in
-      let circle : IsCircleTarget k.c (k.r -ℤ signed v m) = track_target c is in
-      let stop : IsCircleTarget j.c (j.r -ℤ signed (side_at_tangency (surfaces.Circ k) (surfaces.Circ j) v) m) = stop_target c is in
-      by_axis start k v m sense (surfaces.Circ j) how (displacement k.c j.c) (touching_half k j) (rw two.0 refl) is free (two_centres k.c j.c is.drive.centre is.check.centre two.1)
+      let n = touching c k v m (surfaces.Circ j) in
+      let circle : IsCircleTarget k.c (k.r -ℤ signed v m) = track_target n is in
+      let stop : IsCircleTarget j.c (j.r -ℤ signed (side_at_tangency (surfaces.Circ k) (surfaces.Circ j) v) m) = stop_target n is in
+      by_axis c k v m (surfaces.Circ j) (displacement k.c j.c) (touching_half k j) (rw two.0 refl) is free (two_centres k.c j.c is.drive.centre is.check.centre two.1)
       (λ there q ray near.
       near_circle_stop k j v m q (omega (arith, ints, is.drive.least)) (omega (arith, ints, is.check.least)) (some_way (length_squared (displacement k.c j.c)) two.1) circle.least stop.least there
       (not_true _ free.touching) ray near)
