@@ -1,9 +1,10 @@
 -- How the start of a course round a circle lies to its stop, by the tests: on its side away from the stop, or near the stop and heading into its side.
-use Rattle.std.proofs.Common.{◌≡◌, inl, inr, subst, ℕ, suc, zero, ◌+◌, ◌-◌, ◌*◌, ◌≤◌, ◌<◌, ℤ, pos, negsuc, neg_ℤ, ◌+ℤ◌, ◌-ℤ◌, ◌*ℤ◌, ◌≤ℤ◌, ◌<ℤ◌, Bool, true, false, ◌&&◌, arith}
+use Rattle.std.proofs.Common.{refl, ◌≡◌, ◌≢◌, inl, inr, subst, ℕ, suc, zero, ◌+◌, ◌-◌, ◌*◌, ◌≤◌, ◌<◌, ℤ, pos, negsuc, neg_ℤ, ◌+ℤ◌, ◌-ℤ◌, ◌*ℤ◌, ◌≤ℤ◌, ◌<ℤ◌, Bool, true, false, ◌&&◌, arith}
 use Rattle.std.specs.Prelude.{if◌then◌else◌}
 use Rattle.std.proofs.lemmas.Int.{ints}
 use Rattle.std.proofs.lemmas.Nat.{mul-le}
 use Rattle.std.proofs.lemmas.Bool.{and_cases, both_ways, cases_lt}
+use Rattle.apt_num.specs.declared.Sign.{Sign}
 use Rattle.apt_num.specs.declared.Sign.TheVariants as signs
 use Rattle.apt_num.specs.Sign.{square, sign_of, root_sign_of, is_at_least}
 use Rattle.apt_num.proofs.Squares.{size_neg}
@@ -57,59 +58,63 @@ aback sense k n is past e = (minus_is (sense *ℤ k) e, rw (size_sense sense k i
 
 -- ---- a line
 
-pub starts_left : (a : Arc) (l : Line) (h : ℤ) (near : Bool) → IsSense a.sense → is_near (targets.Line l.base l.dir h) near_stop a.start ≡ near
-    → (near && is_by_axis (dot (to_start a) l.dir) (length_squared l.dir)) ≡ false
-    → (if near then sign_of (a.sense *ℤ dot (to_start a) l.dir) else root_sign_of (cross l.dir (displacement l.base a.start)) h (length_squared l.dir)) ≡ signs.Plus → StartsLeft a l h
-starts_left a l h true is e past side =
-    inr (above_at l (h -ℤ pos 8) a.start (near-OnLine l h near_stop a.start e).right, ahead a.sense (dot (to_start a) l.dir) (length_squared l.dir) is past side)
-starts_left a l h false is e past side =
-    inl (above_at l (h +ℤ pos 8) a.start (far_on_side signs.Plus (cross l.dir (displacement l.base a.start)) h (length_squared l.dir) side e))
+-- on its left for Plus, on its right for Minus
+abbrev pub StartsBeside : Sign → Arc → Line → ℤ → Type 0
+StartsBeside signs.Plus a l h = StartsLeft a l h
+StartsBeside signs.Minus a l h = StartsRight a l h
+StartsBeside signs.Zero a l h = ⊥
 
-pub starts_right : (a : Arc) (l : Line) (h : ℤ) (near : Bool) → IsSense a.sense → is_near (targets.Line l.base l.dir h) near_stop a.start ≡ near
+pub starts_beside : (side : Sign) (a : Arc) (l : Line) (h : ℤ) (near : Bool) → side ≢ signs.Zero → IsSense a.sense → is_near (targets.Line l.base l.dir h) near_stop a.start ≡ near
     → (near && is_by_axis (dot (to_start a) l.dir) (length_squared l.dir)) ≡ false
-    → (if near then sign_of (a.sense *ℤ dot (to_start a) l.dir) else root_sign_of (cross l.dir (displacement l.base a.start)) h (length_squared l.dir)) ≡ signs.Minus → StartsRight a l h
-starts_right a l h true is e past side = inr (
+    → (if near then sign_of (a.sense *ℤ dot (to_start a) l.dir) else root_sign_of (cross l.dir (displacement l.base a.start)) h (length_squared l.dir)) ≡ side → StartsBeside side a l h
+starts_beside signs.Zero a l h near some is e past side = absurd (some refl)
+starts_beside signs.Plus a l h true some is e past side =
+    inr (above_at l (h -ℤ pos 8) a.start (near-OnLine l h near_stop a.start e).right, ahead a.sense (dot (to_start a) l.dir) (length_squared l.dir) is past side)
+starts_beside signs.Plus a l h false some is e past side =
+    inl (above_at l (h +ℤ pos 8) a.start (far_on_side signs.Plus (cross l.dir (displacement l.base a.start)) h (length_squared l.dir) side e))
+starts_beside signs.Minus a l h true some is e past side = inr (
   below_at l (h +ℤ pos 8) (neg_ℤ h -ℤ pos 8) a.start (omega (arith, ints)) (near-OnLine l h near_stop a.start e).left,
   aback a.sense (dot (to_start a) l.dir) (length_squared l.dir) is past side,
 )
-starts_right a l h false is e past side =
+starts_beside signs.Minus a l h false some is e past side =
     inl (below_at l (h -ℤ pos 8) (neg_ℤ h +ℤ pos 8) a.start (omega (arith, ints)) (far_on_side signs.Minus (cross l.dir (displacement l.base a.start)) h (length_squared l.dir) side e))
 
 -- ---- a circle
 
+-- inside of it for Plus, outside for Minus
+abbrev pub StartsBy : Sign → Arc → Pt → ℤ → Type 0
+StartsBy signs.Plus a q s = StartsInside a q s
+StartsBy signs.Minus a q s = StartsOutside a q s
+StartsBy signs.Zero a q s = ⊥
+
 less_eight : (n : ℕ) → 100 ≤ n → pos (n - 8) ≡ pos n -ℤ pos 8
 less_eight n least = omega (arith, ints, least)
 
-pub starts_inside : (a : Arc) (q : Pt) (s : ℤ) (near : Bool) → pos 100 ≤ℤ s → IsSense a.sense → is_near (targets.Circ q s) near_stop a.start ≡ near
+pub starts_by : (side : Sign) (a : Arc) (q : Pt) (s : ℤ) (near : Bool) → side ≢ signs.Zero → pos 100 ≤ℤ s → IsSense a.sense → is_near (targets.Circ q s) near_stop a.start ≡ near
     → (near && is_by_axis (cross (to_start a) (displacement a.track.c q)) (length_squared (displacement a.track.c q))) ≡ false
-    → (if near then sign_of (a.sense *ℤ cross (to_start a) (displacement a.track.c q)) else sign_of (pos (square s) -ℤ pos (length_squared (displacement q a.start)))) ≡ signs.Plus → StartsInside a q s
-starts_inside a q (negsuc n) near least is e past side = absurd (omega (arith, ints, least))
-starts_inside a q (pos n) true least is e past side =
+    → (if near then sign_of (a.sense *ℤ cross (to_start a) (displacement a.track.c q)) else sign_of (pos (square s) -ℤ pos (length_squared (displacement q a.start)))) ≡ side → StartsBy side a q s
+starts_by side a q (negsuc n) near some least is e past heads = absurd (omega (arith, ints, least))
+starts_by signs.Zero a q (pos n) near some least is e past heads = absurd (some refl)
+starts_by signs.Plus a q (pos n) true some least is e past heads =
+    let g = displacement a.track.c q in
+    let ring = ring_true n 8 (length_squared (displacement q a.start)) (omega (arith, ints, least)) e in
+    inr (under_at q (n + 8) a.start ring.1, ahead a.sense (cross (to_start a) g) (length_squared g) is past heads)
+starts_by signs.Minus a q (pos n) true some least is e past heads =
     let g = displacement a.track.c q in
     let large : 100 ≤ n = omega (arith, ints, least) in
     let ring = ring_true n 8 (length_squared (displacement q a.start)) (omega (arith, large)) e in
-    inr (under_at q (n + 8) a.start ring.1, ahead a.sense (cross (to_start a) g) (length_squared g) is past side)
-starts_inside a q (pos n) false least is e past side =
+    inr (subst (λ (z : ℤ). IsOver (about q) z (scaled a.start)) (less_eight n large) (over_at q (n - 8) a.start ring.0), aback a.sense (cross (to_start a) g) (length_squared g) is past heads)
+starts_by signs.Plus a q (pos n) false some least is e past heads =
     let large : 100 ≤ n = omega (arith, ints, least) in
     let m = length_squared (displacement q a.start) in
     elim (ring_false n 8 m (omega (arith, large)) e) [
       | inl inside ↦ inl (subst (λ (z : ℤ). IsUnder (about q) z (scaled a.start)) (less_eight n large) (under_at q (n - 8) a.start (omega (arith, inside))))
-      | inr outside ↦ absurd (omega (arith, ints, outside, plus_is (pos (square (pos n)) -ℤ pos m) side))
+      | inr outside ↦ absurd (omega (arith, ints, outside, plus_is (pos (square (pos n)) -ℤ pos m) heads))
     ]
-
-pub starts_outside : (a : Arc) (q : Pt) (s : ℤ) (near : Bool) → pos 100 ≤ℤ s → IsSense a.sense → is_near (targets.Circ q s) near_stop a.start ≡ near
-    → (near && is_by_axis (cross (to_start a) (displacement a.track.c q)) (length_squared (displacement a.track.c q))) ≡ false
-    → (if near then sign_of (a.sense *ℤ cross (to_start a) (displacement a.track.c q)) else sign_of (pos (square s) -ℤ pos (length_squared (displacement q a.start)))) ≡ signs.Minus → StartsOutside a q s
-starts_outside a q (negsuc n) near least is e past side = absurd (omega (arith, ints, least))
-starts_outside a q (pos n) true least is e past side =
-    let g = displacement a.track.c q in
-    let large : 100 ≤ n = omega (arith, ints, least) in
-    let ring = ring_true n 8 (length_squared (displacement q a.start)) (omega (arith, large)) e in
-    inr (subst (λ (z : ℤ). IsOver (about q) z (scaled a.start)) (less_eight n large) (over_at q (n - 8) a.start ring.0), aback a.sense (cross (to_start a) g) (length_squared g) is past side)
-starts_outside a q (pos n) false least is e past side =
+starts_by signs.Minus a q (pos n) false some least is e past heads =
     let large : 100 ≤ n = omega (arith, ints, least) in
     let m = length_squared (displacement q a.start) in
     elim (ring_false n 8 m (omega (arith, large)) e) [
-      | inl inside ↦ absurd (omega (arith, ints, inside, mul-le (n - 8) (n - 8) n n (omega arith) (omega arith), minus_is (pos (square (pos n)) -ℤ pos m) side))
+      | inl inside ↦ absurd (omega (arith, ints, inside, mul-le (n - 8) (n - 8) n n (omega arith) (omega arith), minus_is (pos (square (pos n)) -ℤ pos m) heads))
       | inr outside ↦ inl (over_at q (n + 8) a.start (omega (arith, outside)))
     ]
