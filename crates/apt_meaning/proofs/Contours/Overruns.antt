@@ -67,21 +67,14 @@ within_other surface band other signs.Plus p q lower upper all = every_under sur
 within_other surface band other signs.Minus p q lower upper all = every_over surface band.lo other.lo p q (lower refl) all
 within_other surface band other signs.Zero p q lower upper all = all
 
-line_beside : (side : Sign) (a : Arc) (l : Line) (h : ℤ) → IsRoute a → 0 < length_squared l.dir → IsFurther l a.track (signed (opposite side) a.sense) a.end → OnLine (cross l.dir (displacement l.base a.end)) h (length_squared l.dir) (pos 1)
+end_beside : (l : Line) (h : ℤ) (x : Pt) → OnLine (cross l.dir (displacement l.base x)) h (length_squared l.dir) (pos 1) → IsAbove l (h -ℤ pos 1) (scaled x) × IsBelow l (h +ℤ pos 1) (scaled x)
+end_beside l h x on = (above_at l (h -ℤ pos 1) x on.right, below_at l (h +ℤ pos 1) (neg_ℤ h -ℤ pos 1) x (omega (arith, ints)) on.left)
+
+line_beside : (side : Sign) (a : Arc) (l : Line) (h : ℤ) → IsRoute a → 0 < length_squared l.dir → IsFurther l a.track (signed (opposite side) a.sense) a.end → IsAbove l (h -ℤ pos 1) (scaled a.end) × IsBelow l (h +ℤ pos 1) (scaled a.end)
     → StartsBeside side a l h → (list : List Pt) → IsDivision a list → EveryChord a.start list (edges.IsWithinEdge (surfaces.Line l) (widened (record { lo = h; hi = h }) (pos 12)) (opposite side))
-line_beside side a l h is some further on starts list division = by_side side further starts
-  where
-    above : IsAbove l (h -ℤ pos 1) (scaled a.end)
-    above = above_at l (h -ℤ pos 1) a.end on.right
-
-    below : IsBelow l (h +ℤ pos 1) (scaled a.end)
-    below = below_at l (h +ℤ pos 1) (neg_ℤ h -ℤ pos 1) a.end (omega (arith, ints)) on.left
-
-    by_side : (side : Sign) → IsFurther l a.track (signed (opposite side) a.sense) a.end → StartsBeside side a l h
-        → EveryChord a.start list (edges.IsWithinEdge (surfaces.Line l) (widened (record { lo = h; hi = h }) (pos 12)) (opposite side))
-    by_side signs.Plus further starts = line_left a l h is some further above below starts list division
-    by_side signs.Minus further starts = line_right a l h is some further above below starts list division
-    by_side signs.Zero further starts = absurd starts
+line_beside signs.Plus a l h is some further end starts list division = line_left a l h is some further end.0 end.1 starts list division
+line_beside signs.Minus a l h is some further end starts list division = line_right a l h is some further end.0 end.1 starts list division
+line_beside signs.Zero a l h is some further end starts list division = absurd starts
 
 circle_by : (side : Sign) (a : Arc) (k : Circ) (s : ℤ) → IsRoute a → pos 100 ≤ℤ s → 0 < length_squared (displacement a.track.c k.c) → ((a.track.r -ℤ s) *ℤ (a.track.r -ℤ s)) ≤ℤ pos (length_squared (displacement a.track.c k.c))
     → IsBeyond a.track (circle_about k.c s) (signed side a.sense) a.end → IsNearCircle (circle_about k.c s) (pos 1) a.end → StartsBy side a k.c s
@@ -128,7 +121,7 @@ to_line m d l is none meeting free =
     let starts = starts_beside side a l h (starts_near_stop c) (sided c (placed c fits) free.past) is.sense refl free.past refl in
     let room = band_at-HasRoom l n.check_side m.radius m.inner m.outer is.inner.least is.outer.least in
     at_edge n side (divided a) (widened (record { lo = h; hi = h }) (pos 12)) free.side (λ e. omega (arith, ints, room.lo)) (λ e. omega (arith, ints, room.hi))
-    (line_beside side a l h (route n d is none) (omega (arith, is.check.dir.length)) further ((ends_round n d is none).meets meeting) starts (divided a) (divides a (arc_is n d is none)))
+    (line_beside side a l h (route n d is none) (omega (arith, is.check.dir.length)) further (end_beside l h a.end ((ends_round n d is none).meets meeting)) starts (divided a) (divides a (arc_is n d is none)))
 
 own_square : (z : ℤ) → z *ℤ z ≡ pos (square z)
 own_square (pos n) = omega (arith, ints)
