@@ -106,7 +106,7 @@ unfolding is_clear
 clear_tells track sag a b = over_tells track.c (track.r -ℤ sag) a b
 
 -- ---- by the foot of the centre alone, where the ends are known to be far enough
-same_answer : (a b : Bool) → (a ≡ true → b ≡ true) → (b ≡ true → a ≡ true) → a ≡ b
+pub same_answer : (a b : Bool) → (a ≡ true → b ≡ true) → (b ≡ true → a ≡ true) → a ≡ b
 same_answer true b f g = sym (f refl)
 same_answer false true f g = g refl
 same_answer false false f g = refl

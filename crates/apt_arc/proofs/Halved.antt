@@ -2,6 +2,7 @@
 use Rattle.std.proofs.Common.{refl, ◌≡◌, ℕ, zero, suc, ◌+◌, ◌-◌, ◌^◌, ◌≤◌, ◌<◌, ◌∙◌, ap, sym, subst, arith, false, List, [], ◌∷◌, ◌++◌, length, append_assoc, ℤ}
 use Rattle.std.proofs.lemmas.List.{length-append}
 use Rattle.std.proofs.Math.Nat.{two-pow-succ}
+use Rattle.apt_num.proofs.RootLaws.{less_one}
 use Rattle.apt_plane.specs.declared.figures.Pt.{Pt}
 use Rattle.apt_plane.specs.declared.figures.Circ.{Circ}
 use Rattle.apt_plane.specs.declared.figures.Dir.{Dir}
@@ -12,7 +13,7 @@ use Rattle.apt_arc.specs.declared.arc.Arc.{Arc}
 use Rattle.apt_arc.specs.Ranges.{IsPiece, ArePieces}
 use Rattle.apt_arc.specs.Cuts.{middle}
 use Rattle.apt_arc.specs.Made.{is_clear, pieces, first_past, vertices, stations, divided, onward}
-use Rattle.apt_arc.proofs.Lists.{one_less, pieces_halved, chain_more, chain_none}
+use Rattle.apt_arc.proofs.Lists.{pieces_halved, chain_more, chain_none}
 use Rattle.apt_arc.specs.Halves.{IsHalved, IsNext}
 
 pub is_halved : (n : ℕ) (t : Circ) (sag : ℤ) (a b : Pt) → 0 < n → is_clear t sag a b ≡ false → IsHalved n t sag a b
@@ -34,8 +35,8 @@ one_on old new ps b e f = e ∙ ap (λ (xs : List Pt). old ++ xs) (sym f)
 pub power_half : (n x y : ℕ) → 0 < n → x ≤ 2 ^ (n - 1) → y ≤ 2 ^ (n - 1) → x + y ≤ 2 ^ n
 power_half zero x y h p q = absurd (omega (arith, h))
 power_half (suc n) x y h p q =
-    let a = rw (one_less n) at p in
-    let b = rw (one_less n) at q in
+    let a = rw (less_one n) at p in
+    let b = rw (less_one n) at q in
     rw (two-pow-succ n) (omega (arith, a, b))
 
 pub middle_is : (t : Circ) (a b m : Pt) (x y : Dir) → x ≡ displacement t.c a → y ≡ displacement t.c b → m ≡ ray_point t (sum x y) → m ≡ middle t a b

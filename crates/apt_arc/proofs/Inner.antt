@@ -11,8 +11,9 @@ use Rattle.apt_plane.specs.Ranges.{IsSense}
 use Rattle.apt_plane.proofs.Displacements.{to, between_part, cross_linear, cross_self}
 use Rattle.apt_plane.proofs.Turned.{turned_by, turned_other}
 use Rattle.apt_plane.proofs.Around.{Cyc, before_cyc, before_between}
+use Rattle.apt_plane.proofs.Cones.{class_behind}
 use Rattle.apt_arc.specs.Steps.{IsStep}
-use Rattle.apt_arc.proofs.Vertices.{IsUpToEnd, both_long, not_first_class, up_to_end}
+use Rattle.apt_arc.proofs.Vertices.{IsUpToEnd, both_long, up_to_end}
 
 -- the way to a point between two, in the ways to them
 abbrev pub mixed : ℕ → ℕ → Dir → Dir → Dir
@@ -62,4 +63,4 @@ mixed_up_to_end t sense s a b e j k turn some step met more rest =
     let long = both_long sense va vb step.0 in
     let long_v = (both_long sense va v first).1 in
     let order = before_between sense vs va v vb turn some long.0 long_v long.1 step.0 first second step.2 in
-    up_to_end t sense s e b v turn ((before_cyc sense vs v vb turn some long_v long.1 (not_first_class sense vs va v order.0)).0 order.1) met
+    up_to_end t sense s e b v turn ((before_cyc sense vs v vb turn some long_v long.1 (class_behind vs sense va v order.0)).0 order.1) met

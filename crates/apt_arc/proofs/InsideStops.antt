@@ -11,7 +11,7 @@ use Rattle.apt_plane.specs.Vectors.{scaled, displacement, cross, length_squared}
 use Rattle.apt_plane.specs.Distances.{IsUnder, about}
 use Rattle.apt_plane.proofs.Heights.{one-times}
 use Rattle.apt_plane.proofs.Lengths.{plus}
-use Rattle.apt_plane.proofs.RingLaws.{root_at_most, under-between}
+use Rattle.apt_plane.proofs.RingLaws.{root_at_most, under-between, under_to, under_from}
 use Rattle.apt_plane.proofs.Turned.{turned_by, turned_back, size_sense}
 use Rattle.apt_plane.proofs.Around.{Cyc}
 use Rattle.apt_canon.specs.Scale.{IsNearCircle}
@@ -21,32 +21,17 @@ use Rattle.apt_arc.specs.Divisions.{IsDivision}
 use Rattle.apt_arc.specs.Stops.{EveryChord, IsRoute, to_start, to_end, IsAhead, StartsInside}
 use Rattle.apt_arc.proofs.Tracks.{within, within_large, nearby}
 use Rattle.apt_plane.proofs.Governed.{IsOnRay}
-use Rattle.apt_plane.proofs.Kept.{inside_kept}
+use Rattle.apt_plane.proofs.Kept.{inside_kept, left_over}
 use Rattle.apt_plane.proofs.AwayRows.{inside_away}
+use Rattle.apt_plane.proofs.Displacements.{back_length}
 use Rattle.apt_arc.proofs.Vertices.{IsVertex}
 use Rattle.apt_arc.proofs.Arrivals.{EndsPast, Arrives, on_circle, away_arrives, near_arrives, is_arc, stopped, far_by, contact_over, contact_under}
 use Rattle.apt_arc.proofs.LineStops.{chords_of}
 
 -- ---- distances from the circle's centre q
-sum_part : (c q x : ℤ) → (x -ℤ c) +ℤ (c -ℤ q) ≡ x -ℤ q
-sum_part c q x = omega (arith, ints)
 
 pub from_stop : (c q x : Pt) → length_squared (plus (displacement c x) (displacement q c)) ≡ length_squared (displacement q x)
-from_stop c q x = rw (sum_part c.x q.x x.x, sum_part c.y q.y x.y) refl
-
-under_from : (q : Pt) (h : ℕ) (x : Pt) → IsUnder (about q) (pos h) (scaled x) → length_squared (displacement q x) ≤ h * h
-under_from q h x is =
-    let whole = rw (one-times q.x, one-times q.y) at is in
-    omega (arith, (root_at_most 1 h (length_squared (displacement q x))).0 whole)
-
-under_to : (q : Pt) (h : ℕ) (x : Pt) → length_squared (displacement q x) ≤ h * h → IsUnder (about q) (pos h) (scaled x)
-under_to q h x le = rw (one-times q.x, one-times q.y) ((root_at_most 1 h (length_squared (displacement q x))).1 (omega (arith, le)))
-
-pub same_length : (c q : Pt) → length_squared (displacement q c) ≡ length_squared (displacement c q)
-same_length c q = rw (turn_part c.x q.x, turn_part c.y q.y, size_neg (q.x -ℤ c.x), size_neg (q.y -ℤ c.y)) refl
-  where
-    turn_part : (a b : ℤ) → a -ℤ b ≡ neg_ℤ (b -ℤ a)
-    turn_part a b = omega (arith, ints)
+from_stop c q x = rw (left_over x.x c.x q.x, left_over x.y c.y q.y) refl
 
 -- ---- what is kept: S is the circle's radius
 wider : (S n k : ℕ) → k ≤ 12 → n ≤ (S + k) * (S + k) → n ≤ (S + 12) * (S + 12)
@@ -57,10 +42,10 @@ inside_vertex : (a : Arc) (q : Pt) (S : ℕ) → IsRoute a → 0 < length_square
     → length_squared (displacement q a.start) ≤ (S + 8) * (S + 8) → length_squared (displacement q a.end) ≤ (S + 1) * (S + 1) → (x : Pt) → IsVertex a.track a.sense a.start a.end x
     → IsUnder (about q) (pos (S + 12)) (scaled x)
 inside_vertex a q S is some met large start end x (inl same) =
-    subst (λ (p : Pt). IsUnder (about q) (pos (S + 12)) (scaled p)) (sym same) (under_to q (S + 12) a.end (wider S (length_squared (displacement q a.end)) 1 (omega arith) end))
+    subst (λ (p : Pt). IsUnder (about q) (pos (S + 12)) (scaled p)) (sym same) (under_to q a.end (S + 12) (wider S (length_squared (displacement q a.end)) 1 (omega arith) end))
 inside_vertex a q S is some met large start end x (inr vertex) =
     let c = a.track.c in
-    under_to q (S + 12) x
+    under_to q x (S + 12)
     (subst (λ n. n ≤ (S + 12) * (S + 12)) (from_stop c q x)
     (inside_kept (within a.track) S a.sense (to_start a) (to_end a) (displacement q c) (displacement c x) (stopped a (displacement q c) is some met)
     (subst (λ n. n ≤ (S + 8) * (S + 8)) (sym (from_stop c q a.start)) start) (subst (λ n. n ≤ (S + 1) * (S + 1)) (sym (from_stop c q a.end)) end) large vertex.0 vertex.1))
@@ -69,7 +54,7 @@ kept : (a : Arc) (q : Pt) (S : ℕ) → IsRoute a → 0 < length_squared (displa
     → length_squared (displacement q a.start) ≤ (S + 8) * (S + 8) → length_squared (displacement q a.end) ≤ (S + 1) * (S + 1) → (list : List Pt) → IsDivision a list → EveryChord a.start list (IsUnder (about q) (pos (S + 12)))
 kept a q S is some arrives large start end =
     chords_of a (IsUnder (about q) (pos (S + 12))) (is_arc a is) (λ p r u v. under-between q p r (pos (S + 12)) u v)
-    (under_to q (S + 12) a.start (wider S (length_squared (displacement q a.start)) 8 (omega arith) start)) (inside_vertex a q S is some arrives large start end)
+    (under_to q a.start (S + 12) (wider S (length_squared (displacement q a.start)) 8 (omega arith) start)) (inside_vertex a q S is some arrives large start end)
 
 -- ---- which way it arrives
 reverse_parts : (z a b c d x y : ℤ) → z *ℤ (((a -ℤ c) *ℤ y) -ℤ ((b -ℤ d) *ℤ x)) ≡ z *ℤ ((x *ℤ (d -ℤ b)) -ℤ (y *ℤ (c -ℤ a)))
@@ -85,7 +70,7 @@ inside_near a q is past ahead =
     let c = a.track.c in
     let b = displacement q c in
     let same = turned_axis a.sense c q (to_start a) in
-    near_arrives a b is past (rw same ahead.0) (far_by (turned_by a.sense b (to_start a)) (a.sense *ℤ cross (to_start a) (displacement c q)) (length_squared b) (length_squared (displacement c q)) (same_length c q) (ap unsigned_abs same) ahead.1)
+    near_arrives a b is past (rw same ahead.0) (far_by (turned_by a.sense b (to_start a)) (a.sense *ℤ cross (to_start a) (displacement c q)) (length_squared b) (length_squared (displacement c q)) (back_length c q) (ap unsigned_abs same) ahead.1)
 
 inside_far : (a : Arc) (q : Pt) (S : ℕ) → IsRoute a → EndsPast a (displacement q a.track.c) → 1 ≤ S → length_squared (displacement q a.start) ≤ S * S → (S + 7) * (S + 7) ≤ length_squared (displacement q a.end)
     → Arrives a (displacement q a.track.c)
@@ -111,13 +96,13 @@ ends_past a stop is some beyond =
     let b = displacement stop.c c in
     let ve = to_end a in
     record {
-      some = subst (λ n. 0 < n) (sym (same_length c stop.c)) some;
+      some = subst (λ n. 0 < n) (sym (back_length c stop.c)) some;
       side =
-          past_side (turned_by a.sense b ve) a.sense (cross g ve) (length_squared g) (length_squared b) (turned_axis a.sense c stop.c ve ∙ swap_turn a.sense g ve) (size_sense a.sense (cross g ve) is.sense) (same_length c stop.c) beyond;
+          past_side (turned_by a.sense b ve) a.sense (cross g ve) (length_squared g) (length_squared b) (turned_axis a.sense c stop.c ve ∙ swap_turn a.sense g ve) (size_sense a.sense (cross g ve) is.sense) (back_length c stop.c) beyond;
     }
 
 -- ---- the radius as a natural number, and 8 less
-radius_is : (r : ℤ) → pos 100 ≤ℤ r → r ≡ pos (unsigned_abs r)
+pub radius_is : (r : ℤ) → pos 100 ≤ℤ r → r ≡ pos (unsigned_abs r)
 radius_is r least = omega (arith, ints, least)
 
 radius_more : (k : ℕ) (r : ℤ) → pos 100 ≤ℤ r → r +ℤ pos k ≡ pos (unsigned_abs r + k)
@@ -136,7 +121,7 @@ more : (S n : ℕ) → n ≤ (S - 8) * (S - 8) → n ≤ (S + 8) * (S + 8)
 more S n h = omega (arith, h, mul-le (S - 8) (S - 8) (S + 8) (S + 8) (omega arith) (omega arith))
 
 under_at : (q : Pt) (z : ℤ) (h : ℕ) (x : Pt) → z ≡ pos h → IsUnder (about q) z (scaled x) → length_squared (displacement q x) ≤ h * h
-under_at q z h x e is = under_from q h x (subst (λ (i : ℤ). IsUnder (about q) i (scaled x)) e is)
+under_at q z h x e is = under_from q x h (subst (λ (i : ℤ). IsUnder (about q) i (scaled x)) e is)
 
 -- where an arc stays inside of a circle at whose contact it ends, no point of its chords is more than 12 units outside
 pub circle_inside : (a : Arc) (stop : Circ) → IsRoute a → pos 100 ≤ℤ stop.r → 0 < length_squared (displacement a.track.c stop.c) → IsBeyond a.track stop a.sense a.end → IsNearCircle stop (pos 1) a.end

@@ -1,7 +1,6 @@
 pub mod Halving
 pub mod Spans
 pub mod Thirds
-pub mod Between
 pub mod Clear
 pub mod Lists
 pub mod Tracks

@@ -1,6 +1,7 @@
 -- The lists of cuts: a piece has one list alone, and the code's is it.
 use Rattle.std.proofs.Common.{refl, ◌≡◌, inl, inr, ℕ, zero, suc, ◌+◌, ◌-◌, ◌≤◌, ◌<◌, ◌∙◌, sym, subst, arith, true, false, true≢false, List, [], ◌∷◌, ◌++◌, ℤ}
 use Rattle.std.proofs.lemmas.Bool.{cases_Bool}
+use Rattle.apt_num.proofs.RootLaws.{less_one}
 use Rattle.apt_plane.specs.declared.figures.Pt.{Pt}
 use Rattle.apt_plane.specs.declared.figures.Circ.{Circ}
 use Rattle.apt_arc.specs.Cuts.{IsClear, middle, IsCut, AreCuts}
@@ -8,8 +9,6 @@ use Rattle.apt_arc.specs.Made.{is_clear, pieces, chain}
 use Rattle.apt_arc.proofs.Clear.{clear_tells}
 
 -- ---- a piece that is clear, and one that is halved
-pub one_less : (n : ℕ) → suc n - 1 ≡ n
-one_less n = omega arith
 
 pub pieces_none : (n : ℕ) (track : Circ) (sag : ℤ) (a b : Pt) → n ≡ 0 → pieces n track sag a b ≡ b ∷ []
 unfolding pieces
@@ -29,7 +28,7 @@ pieces_cut n track sag a b e = rw e refl
 pub pieces_halved : (n : ℕ) (track : Circ) (sag : ℤ) (a b : Pt) → 0 < n → is_clear track sag a b ≡ false
     → pieces n track sag a b ≡ pieces (n - 1) track sag a (middle track a b) ++ pieces (n - 1) track sag (middle track a b) b
 pieces_halved zero track sag a b some e = absurd (omega (arith, some))
-pieces_halved (suc n) track sag a b some e = rw (one_less n) (pieces_cut n track sag a b e)
+pieces_halved (suc n) track sag a b some e = rw (less_one n) (pieces_cut n track sag a b e)
 
 -- ---- the cut of a piece is the code's list, so it is the only one
 is_true : (track : Circ) (sag : ℤ) (a b : Pt) → IsClear track sag a b → is_clear track sag a b ≡ true
@@ -41,7 +40,7 @@ is_false track sag a b off = elim (cases_Bool (is_clear track sag a b)) [ inl e 
 pub not_clear : (track : Circ) (sag : ℤ) (a b : Pt) → is_clear track sag a b ≡ false → ¬ IsClear track sag a b
 not_clear track sag a b e clear = true≢false (sym (is_true track sag a b clear) ∙ e)
 
-both : (l k x y : List Pt) → l ≡ x → k ≡ y → l ++ k ≡ x ++ y
+pub both : (l k x y : List Pt) → l ≡ x → k ≡ y → l ++ k ≡ x ++ y
 both l k x y e f = rw (e, f) refl
 
 pub cut_is : (n : ℕ) (track : Circ) (sag : ℤ) (a b : Pt) (list : List Pt) → IsCut n track sag a b list → list ≡ pieces n track sag a b

@@ -13,6 +13,7 @@ use Rattle.apt_canon.specs.Feet.{ray_point}
 use Rattle.apt_arc.specs.declared.arc.Arc.{Arc}
 use Rattle.apt_arc.specs.Cuts.{middle}
 use Rattle.apt_arc.specs.Made.{is_over, is_clear, pieces, chain, onward, is_behind, first_past, is_on_the_way, quarters_from, stations, vertices, divided}
+use Rattle.apt_arc.proofs.Lists.{both}
 
 -- ---- points, circles and arcs moved by a way
 abbrev pub moved : Dir → Pt → Pt
@@ -70,9 +71,6 @@ clear_moved v t sag a b = over_moved v t.c (t.r -ℤ sag) a b
 map_either : (test : Bool) (f : Pt → Pt) (l k : List Pt) → map f (if test then l else k) ≡ (if test then map f l else map f k)
 map_either true f l k = refl
 map_either false f l k = refl
-
-both : (l k x y : List Pt) → l ≡ x → k ≡ y → l ++ k ≡ x ++ y
-both l k x y e f i = e i ++ f i
 
 -- a map of points that keeps what is clear, and the points half way, carries the pieces
 pub pieces_carried : (f : Pt → Pt) (t u : Circ) (sag : ℤ)

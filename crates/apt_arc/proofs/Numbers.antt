@@ -5,6 +5,7 @@ use Rattle.std.proofs.Math.Nat.{mul-le-mul_left}
 use Rattle.std.proofs.lemmas.List.{length-append}
 use Rattle.std.proofs.lemmas.Bool.{cases_Bool, cases_lt, lt-leb, le-leb}
 use Rattle.apt_num.proofs.Squares.{four_le}
+use Rattle.apt_num.proofs.RootLaws.{less_one}
 use Rattle.apt_plane.specs.declared.figures.Pt.{Pt}
 use Rattle.apt_plane.specs.declared.figures.Dir.{Dir}
 use Rattle.apt_plane.specs.declared.figures.Circ.{Circ}
@@ -19,7 +20,7 @@ use Rattle.apt_arc.specs.Cuts.{middle}
 use Rattle.apt_arc.specs.Made.{is_clear, is_over, pieces, first_past, vertices, divided}
 use Rattle.apt_arc.specs.Bounds.{shorter, number, nearest, clear_length}
 use Rattle.apt_arc.proofs.Clear.{near_point}
-use Rattle.apt_arc.proofs.Lists.{one_less, pieces_none, pieces_clear, pieces_cut}
+use Rattle.apt_arc.proofs.Lists.{pieces_none, pieces_clear, pieces_cut}
 use Rattle.apt_arc.proofs.Halved.{power_half, whole_is}
 use Rattle.apt_arc.proofs.Shorter.{IsHalfOf, halves_short, half_shorter}
 use Rattle.apt_arc.proofs.Tracks.{within, radius_is, within_large, size_of_radius, nearby, span, middle_dir, aimed, sag_parts, far_ends, open_over, is_long, half_pieces, half_lengths, chord_length, far_chord, wide, sag_least}
@@ -163,7 +164,7 @@ number_clear (suc n) r c d h = rw (le-leb d c h) refl
 
 pub number_halved : (n r c d x y : ℕ) → 0 < n → c < d → y ≡ shorter r d → x ≡ number (n - 1) r c y → 2 * x ≡ number n r c d
 number_halved zero r c d x y some h e f = absurd (omega (arith, some))
-number_halved (suc n) r c d x y some h e f = rw (f, e, one_less n) (sym (number_open n r c d h))
+number_halved (suc n) r c d x y some h e f = rw (f, e, less_one n) (sym (number_open n r c d h))
 
 pub double_small : (n x : ℕ) → 0 < n → x ≤ 2 ^ (n - 1) → 2 * x ≤ 2 ^ n
 double_small n x some h = omega (arith, power_half n x x some h h)

@@ -4,7 +4,7 @@ use Rattle.std.proofs.lemmas.Int.{ints}
 use Rattle.std.proofs.lemmas.Nat.{mul-le}
 use Rattle.std.proofs.lemmas.Bool.{cases_lt}
 use Rattle.apt_num.specs.Sign.{signed_square}
-use Rattle.apt_num.proofs.Ring.{as_diff, diff-pos, diff-same, differences, scaled_le, *ℤ_assoc}
+use Rattle.apt_num.proofs.Ring.{as_diff, diff-pos, diff-same, differences, scaled_le, *ℤ_assoc, times_swap}
 use Rattle.apt_num.proofs.Squares.{size_neg}
 use Rattle.apt_num.proofs.Sums.{signed_square-times}
 use Rattle.apt_plane.specs.declared.figures.Pt.{Pt}
@@ -30,15 +30,13 @@ use Rattle.apt_arc.proofs.Tracks.{within, within_large, nearby, chord_length}
 use Rattle.apt_num.proofs.Farther.{farther_signed}
 use Rattle.apt_plane.proofs.Governed.{IsHardlyAcross, IsOnRay, governed}
 use Rattle.apt_plane.proofs.AwayRows.{outside_away, reverse}
-use Rattle.apt_plane.proofs.Outside.{HasLessShare, less_times, AreMeeting, IsOnChord, IsOutside, IsContact, outside_from, outside_contact}
+use Rattle.apt_plane.proofs.Outside.{HasLessShare, less_times, AreMeeting, IsOnChord, IsOutside, IsContact, outside_from, outside_contact, same_way}
 use Rattle.apt_arc.proofs.Vertices.{IsUpToEnd, both_long, steps_up_to_end}
 use Rattle.apt_arc.proofs.Inner.{mixed, way_between, mixed_up_to_end}
 use Rattle.apt_arc.proofs.Arrivals.{EndsPast, Arrives, on_circle, near_end, away_arrives, near_arrives, far_by, past_side, contact_over, contact_under}
-use Rattle.apt_arc.proofs.InsideStops.{from_stop}
+use Rattle.apt_arc.proofs.InsideStops.{from_stop, radius_is}
 
 -- ---- the share of a longer way
-times_right : (m y n : ℤ) → y *ℤ (m *ℤ n) ≡ m *ℤ (y *ℤ n)
-times_right m y n = rw (as_diff m, as_diff y, as_diff n) (simp differences (diff-same _ _ _ _ (omega arith)))
 
 share_longer : (g a v : Dir) (m : ℕ) → HasLessShare g a v → HasLessShare g a (times (pos m) v)
 share_longer g a v m far =
@@ -47,7 +45,7 @@ share_longer g a v m far =
       length_of_times (pos m) v,
       signed_square-times m (dot g v),
       *ℤ_assoc (pos (m * m)) (signed_square (dot g v)) (pos (length_squared a)),
-      times_right (pos (m * m)) (signed_square (dot g a)) (pos (length_squared v)),
+      times_swap (signed_square (dot g a)) (pos (m * m)) (pos (length_squared v)),
     )
     (scaled_le (m * m) (signed_square (dot g v) *ℤ pos (length_squared a)) (signed_square (dot g a) *ℤ pos (length_squared v)) far)
 
@@ -160,13 +158,10 @@ on_chord t sag p x j k is fits inside some =
 shifted_part : (m z c s : ℤ) → (z -ℤ (m *ℤ c)) -ℤ (m *ℤ (s -ℤ c)) ≡ z -ℤ (m *ℤ s)
 shifted_part m z c s = rw (as_diff m, as_diff z, as_diff c, as_diff s) (simp differences (diff-same _ _ _ _ (omega arith)))
 
-same_length : (a b c d : ℤ) → a ≡ c → b ≡ d → length_squared (record { dx = a; dy = b }) ≡ length_squared (record { dx = c; dy = d })
-same_length a b c d e f = rw (e, f) refl
-
 shifted : (t : Circ) (stop p x : Pt) (j k : ℕ) → length_squared (less_times (j + k) (displacement t.c stop) (way t p x j k)) ≡ length_squared (displacement_to stop (between p x j k))
 shifted t stop p x j k =
     let s = between p x j k in
-    same_length _ _ _ _ (shifted_part (pos (j + k)) s.x t.c.x stop.x) (shifted_part (pos (j + k)) s.y t.c.y stop.y)
+    same_way _ _ _ _ (shifted_part (pos (j + k)) s.x t.c.x stop.x) (shifted_part (pos (j + k)) s.y t.c.y stop.y)
 
 edge_is : (q : ℕ) (sag : ℤ) → pos 8 ≤ℤ sag → unsigned_abs sag ≤ q → pos q -ℤ sag ≡ pos (q - unsigned_abs sag)
 edge_is q sag least wide = omega (arith, ints, least, wide)
@@ -279,9 +274,6 @@ meets_at a b n h = omega (arith, ints, h, meets_parts (pos a) (pos b))
 squares_meet : (a b : ℕ) (r s : ℤ) → r ≡ pos a → s ≡ pos b → (n : ℕ) → ((r -ℤ s) *ℤ (r -ℤ s)) ≤ℤ pos n → a * a + b * b ≤ n + 2 * (a * b)
 squares_meet a b r s e f n h = meets_at a b n (rw (e, f) at h)
 
-positive_is : (r : ℤ) → pos 100 ≤ℤ r → r ≡ pos (unsigned_abs r)
-positive_is r least = omega (arith, ints, least)
-
 edge_plus : (r : ℤ) → pos 100 ≤ℤ r → r ≡ pos (unsigned_abs r - 12 + 12)
 edge_plus r least = omega (arith, ints, least)
 
@@ -290,7 +282,7 @@ meets_track : (a : Arc) (stop : Circ) → IsRoute a → pos 100 ≤ℤ stop.r �
 meets_track a stop is least meets wide = record {
   wide = wide;
   meets =
-      squares_meet (unsigned_abs a.track.r) (inside_edge stop + 12) a.track.r stop.r (positive_is a.track.r is.track.least) (edge_plus stop.r least) (length_squared (displacement a.track.c stop.c)) meets;
+      squares_meet (unsigned_abs a.track.r) (inside_edge stop + 12) a.track.r stop.r (radius_is a.track.r is.track.least) (edge_plus stop.r least) (length_squared (displacement a.track.c stop.c)) meets;
 }
 
 less_eight : (r : ℤ) → pos 100 ≤ℤ r → r -ℤ pos 8 ≡ pos (unsigned_abs r - 12 + 4)

@@ -12,7 +12,7 @@ use Rattle.apt_plane.proofs.Displacements.{dot_swap}
 use Rattle.apt_plane.proofs.Turns.{before_tells}
 use Rattle.apt_plane.proofs.Turned.{turned_by, turned_back, perp_dir}
 use Rattle.apt_plane.proofs.Around.{some_way}
-use Rattle.apt_plane.proofs.Quarters.{onward_turn, onward_square, last_of_four}
+use Rattle.apt_plane.proofs.Quarters.{onward_turn, onward_square, last_of_four, Ends, IsStep, in_turn, next_between, before_next, last_between, none_between}
 use Rattle.apt_canon.specs.Feet.{ray_point}
 use Rattle.apt_canon.specs.Scale.{IsNearCircle}
 use Rattle.apt_canon.proofs.FootPoints.Sharp.{ray_way}
@@ -20,7 +20,6 @@ use Rattle.apt_arc.specs.declared.arc.Arc.{Arc}
 use Rattle.apt_arc.specs.Ranges.{IsTrack, IsPiece, ArePieces, IsArc}
 use Rattle.apt_arc.specs.Quarters.{IsQuarterPoint, IsOnTheWay, AreOrdered, IsIn, Each, AreInOrder, AreQuarters}
 use Rattle.apt_arc.specs.Made.{onward, is_on_the_way, quarters_from, quarters}
-use Rattle.apt_arc.proofs.Between.{Ends, IsStep, in_turn, next_between, before_next, last_between, none_between}
 use Rattle.apt_arc.proofs.Spans.{aimed_nearby}
 use Rattle.apt_arc.proofs.Tracks.{within, within_large, nearby, near_track, aimed}
 use Rattle.apt_arc.proofs.Ways.{IsTurned, turn_round, turn_after, onward_turned, IsOneOf, one_of, ray_onward, IsPast, reaches, first_found}

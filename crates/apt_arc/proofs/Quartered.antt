@@ -5,6 +5,7 @@ use Rattle.std.proofs.lemmas.Int.{ints}
 use Rattle.std.proofs.lemmas.List.{length-append}
 use Rattle.std.proofs.lemmas.Bool.{cases_Bool}
 use Rattle.apt_num.proofs.Squares.{size_neg}
+use Rattle.apt_num.proofs.RootLaws.{less_one}
 use Rattle.apt_plane.specs.declared.figures.Pt.{Pt}
 use Rattle.apt_plane.specs.declared.figures.Dir.{Dir}
 use Rattle.apt_plane.specs.declared.figures.Circ.{Circ}
@@ -18,7 +19,6 @@ use Rattle.apt_arc.specs.Halves.{IsNext}
 use Rattle.apt_arc.proofs.Spans.{aimed_nearby}
 use Rattle.apt_arc.proofs.Tracks.{within, point_near, near_track, aimed}
 use Rattle.apt_arc.proofs.Clear.{lt_from}
-use Rattle.apt_arc.proofs.Lists.{one_less}
 use Rattle.apt_arc.proofs.Parts.{list_none, list_off, list_on, quarters_divide}
 
 abbrev pub way : ℤ → ℤ → Dir
@@ -51,7 +51,7 @@ first_next n t sense s u e = rw e refl
 
 pub first_later : (n : ℕ) (t : Circ) (sense : ℤ) (s : Pt) (u : Dir) → 0 < n → is_behind t sense s u ≡ false → first_past n t sense s u ≡ first_past (n - 1) t sense s (onward sense u)
 first_later zero t sense s u some e = absurd (omega (arith, some))
-first_later (suc n) t sense s u some e = rw (one_less n) (first_next n t sense s u e)
+first_later (suc n) t sense s u some e = rw (less_one n) (first_next n t sense s u e)
 
 -- ---- up to a quarter turn behind the start
 pub sense_fits : (sense : ℤ) → IsSense sense → FitsSigned w8 sense
@@ -96,7 +96,7 @@ unfolding stations
 is_next zero arc u q some at on = absurd (omega (arith, some))
 is_next (suc n) arc u q some at on = record {
   some = some;
-  list = rw (one_less n, at)
+  list = rw (less_one n, at)
       (ap (λ (xs : List Pt). xs ++ arc.end ∷ [])
       (list_on n arc.track arc.sense arc.start arc.end u (subst (λ (x : Pt). is_on_the_way arc.track arc.sense arc.start arc.end x ≡ true) at on)));
 }

@@ -20,6 +20,7 @@ use Rattle.apt_arc.specs.Steps.{AreSteps}
 use Rattle.apt_arc.specs.Divisions.{IsDivision}
 use Rattle.apt_arc.specs.Made.{quarters}
 use Rattle.apt_plane.proofs.Nearby.{some_length, IsRoundedPoint}
+use Rattle.apt_plane.proofs.Cones.{class_behind}
 use Rattle.apt_arc.proofs.Lists.{is_false}
 use Rattle.apt_arc.proofs.Tracks.{within, within_large, within_small, nearby, middle_dir, half_pieces, aimed, size_of_radius, sag_least}
 use Rattle.apt_arc.proofs.Depth.{deepest}
@@ -54,14 +55,6 @@ pub both_long : (sense : ℤ) (u v : Dir) → pos 0 <ℤ turned_by sense u v →
 both_long sense u v h = both_sizes (length_squared u) (length_squared v) (unsigned_abs (cross u v)) (cross_square u v) (λ e. no_turn sense (cross u v) e h)
 
 -- ---- one after the other
-comes_later : (k l : ℕ) (P : Type 0) → (k < l) ⊎ ((k ≡ l) × ((k ≡ 1) ⊎ (k ≡ 3)) × P) → l ≢ 0
-comes_later k l P (inl less) = λ e. omega (arith, less, e)
-comes_later k l P (inr (same, inl one, p)) = λ e. omega (arith, same, one, e)
-comes_later k l P (inr (same, inr three, p)) = λ e. omega (arith, same, three, e)
-
--- what comes after something is not in the direction of the start
-pub not_first_class : (sense : ℤ) (s u v : Dir) → ComesBefore s sense u v → turn_class s sense v ≢ 0
-not_first_class sense s u v comes = comes_later (turn_class s sense u) (turn_class s sense v) (pos 0 <ℤ turned_by sense u v) comes
 
 pub up_to_end : (t : Circ) (sense : ℤ) (s e y : Pt) (v : Dir) → IsSense sense → Cyc (displacement t.c s) sense v (displacement t.c y) → IsUpToEnd t sense s e y → Cyc (displacement t.c s) sense v (displacement t.c e)
 up_to_end t sense s e y v turn one (inl same) = subst (λ (z : Pt). Cyc (displacement t.c s) sense v (displacement t.c z)) same one
@@ -76,7 +69,7 @@ steps_up_to_end t sag sense s a e (x ∷ (y ∷ ys)) turn some steps =
     let vx = displacement t.c x in
     let vy = displacement t.c y in
     let long = both_long sense vx vy steps.2.0.0 in
-    let later = not_first_class sense vs (displacement t.c a) vx steps.0.2 in
+    let later = class_behind vs sense (displacement t.c a) vx steps.0.2 in
     (inr (up_to_end t sense s e y vx turn ((before_cyc sense vs vx vy turn some long.0 long.1 later).0 steps.2.0.2) rest.0), rest)
 
 -- ---- rounded

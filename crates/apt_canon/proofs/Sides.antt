@@ -11,6 +11,7 @@ use Rattle.apt_plane.specs.declared.figures.Line.{Line}
 use Rattle.apt_plane.specs.Vectors.{Scaled, displacement, cross, height}
 use Rattle.apt_canon.specs.Scale.{side_of_line}
 use Rattle.apt_canon.specs.Feet.{side_picked, IsPicked}
+use Rattle.apt_canon.proofs.FootPoints.Sharp.{no_more}
 
 -- ---- by the distance
 
@@ -70,19 +71,16 @@ upright_parts : (a b px py bx by y : ℤ) (m : ℕ) → pos m *ℤ ((a *ℤ (py 
 upright_parts a b px py bx by y m =
     rw (as_diff a, as_diff b, as_diff px, as_diff py, as_diff bx, as_diff by, as_diff y, diff-pos m) (simp differences (diff-same _ _ _ _ (omega arith)))
 
-none_and : (z : ℤ) → pos 0 +ℤ z ≡ z
-none_and z = omega (arith, ints)
-
 -- the cross product of a point, by the point of the line that is level with it, or upright
 level : (l : Line) (p : Pt) (s : Scaled) → height l s ≡ pos 0 → s.y ≡ pos s.m *ℤ p.y
     → pos s.m *ℤ cross l.dir (displacement l.base p) ≡ neg_ℤ l.dir.dy *ℤ ((pos s.m *ℤ p.x) -ℤ s.x)
 level l p s on same =
-    level_parts l.dir.dx l.dir.dy p.x p.y l.base.x l.base.y s.x s.m ∙ rw (rw same at on, none_and (neg_ℤ l.dir.dy *ℤ ((pos s.m *ℤ p.x) -ℤ s.x))) refl
+    level_parts l.dir.dx l.dir.dy p.x p.y l.base.x l.base.y s.x s.m ∙ rw (rw same at on, no_more (neg_ℤ l.dir.dy *ℤ ((pos s.m *ℤ p.x) -ℤ s.x))) refl
 
 upright : (l : Line) (p : Pt) (s : Scaled) → height l s ≡ pos 0 → s.x ≡ pos s.m *ℤ p.x
     → pos s.m *ℤ cross l.dir (displacement l.base p) ≡ l.dir.dx *ℤ ((pos s.m *ℤ p.y) -ℤ s.y)
 upright l p s on same =
-    upright_parts l.dir.dx l.dir.dy p.x p.y l.base.x l.base.y s.y s.m ∙ rw (rw same at on, none_and (l.dir.dx *ℤ ((pos s.m *ℤ p.y) -ℤ s.y))) refl
+    upright_parts l.dir.dx l.dir.dy p.x p.y l.base.x l.base.y s.y s.m ∙ rw (rw same at on, no_more (l.dir.dx *ℤ ((pos s.m *ℤ p.y) -ℤ s.y))) refl
 
 less_of : (x y : ℤ) → pos 0 <ℤ (y -ℤ x) → x <ℤ y
 less_of x y h = omega (arith, ints, h)

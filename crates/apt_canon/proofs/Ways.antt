@@ -1,12 +1,13 @@
 -- Where ways lead.
-use Rattle.std.proofs.Common.{refl, ◌≡◌, ◌≢◌, ◌∙◌, ℕ, zero, suc, ◌*◌, ◌≤◌, ap, arith, ℤ, ◌+ℤ◌, ◌-ℤ◌, unsigned_abs}
+use Rattle.std.proofs.Common.{refl, ◌≡◌, ◌≢◌, ◌∙◌, ℕ, zero, suc, ◌*◌, ◌≤◌, ap, arith, true, ℤ, ◌+ℤ◌, ◌-ℤ◌, unsigned_abs}
 use Rattle.std.proofs.lemmas.Int.{ints}
+use Rattle.std.proofs.lemmas.Bool.Decides.{nat_tests}
 use Rattle.apt_plane.specs.declared.figures.Pt.{Pt}
 use Rattle.apt_plane.specs.declared.figures.Dir.{Dir}
 use Rattle.apt_plane.specs.Vectors.{displacement, cross, length_squared}
 use Rattle.apt_plane.specs.Ranges.{IsPoint, IsDir}
 use Rattle.apt_plane.proofs.Displacements.{cross_sum}
-use Rattle.apt_canon.specs.Scale.{from}
+use Rattle.apt_canon.specs.Scale.{is_in_range, from}
 
 pub there_and_back : (p q : ℤ) → (p +ℤ q) -ℤ p ≡ q
 there_and_back p q = omega (arith, ints)
@@ -22,6 +23,10 @@ height_at_first d p v = ap (cross d) (displacement_from p v)
 
 pub height_at_second : (d : Dir) (p q : Pt) (v : Dir) → cross d (displacement q (from p v)) ≡ cross d (displacement q p) +ℤ cross d v
 height_at_second d p q v = rw (from_other p.x v.dx q.x, from_other p.y v.dy q.y) (cross_sum d (displacement q p) v)
+
+-- a point that passes the test of the coordinate limit
+pub point_inside : (p : Pt) → is_in_range p ≡ true → IsPoint p
+point_inside p e = record { x = grind (arith, nat_tests); y = grind (arith, nat_tests) }
 
 -- ---- the way between two points: it has no length only where they are one
 pub no_square : (x : ℕ) → x * x ≤ 0 → x ≡ 0

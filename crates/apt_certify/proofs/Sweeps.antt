@@ -5,7 +5,7 @@ use Rattle.std.proofs.lemmas.Int.{ints}
 use Rattle.std.proofs.lemmas.Nat.{mul-lt}
 use Rattle.apt_num.specs.declared.Sign.{Sign}
 use Rattle.apt_num.specs.declared.Sign.TheVariants as signs
-use Rattle.apt_num.proofs.Squares.{natural, root_le, size_back}
+use Rattle.apt_num.proofs.Squares.{natural, root_le, size_back, part_short}
 use Rattle.apt_plane.specs.declared.figures.Pt.{Pt}
 use Rattle.apt_plane.specs.declared.figures.Dir.{Dir}
 use Rattle.apt_plane.specs.declared.figures.Circ.{Circ}
@@ -148,9 +148,6 @@ off_centre c p some = λ same. omega (arith, some, no_way c p (sym same))
 
 turned_off : (c p q : Pt) (sense : ℤ) → 0 < length_squared (displacement c p) → turn_class (displacement c p) sense (displacement c q) ≢ 0 → p ≢ q
 turned_off c p q sense some onwards = λ same. onwards (subst (λ (r : Pt). turn_class (displacement c p) sense (displacement c r) ≡ 0) same (class_of_start sense (displacement c p) some))
-
-part_short : (a b h : ℕ) → a * a + b * b ≤ h * h → a ≤ h
-part_short a b h le = root_le a h (omega (arith, le))
 
 other_short : (a b h : ℕ) → a * a + b * b ≤ h * h → b ≤ h
 other_short a b h le = root_le b h (omega (arith, le))

@@ -84,7 +84,7 @@ rests n s rho l e d w root small es ds ls h =
     let third = five_sevenths (2 ^ 35 * d) (s * (s + 1)) square in
     omega (arith, h, first, second, mul-le-mul_left s third)
 
-scaled_to : (x y : ℤ) → x ≡ y +ℤ (x -ℤ y)
+pub scaled_to : (x y : ℤ) → x ≡ y +ℤ (x -ℤ y)
 scaled_to x y = omega (arith, ints)
 
 three_quarters : (s w : ℕ) → 2 ^ 35 ≤ s → 7 * 2 ^ 31 * w ≤ 7 * 2 ^ 60 + 7 * (s + 2) + 5 * 2 ^ 31 * (s + 1) → 4 * w ≤ 3 * s

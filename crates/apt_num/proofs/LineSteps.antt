@@ -130,9 +130,6 @@ other_way p n m is = record { least = is.least; low = is.end_low; high = is.end_
 less_by : (u t f g : ℕ) → f + t ≡ g → u * g ≤ (u + 5) * f → u * t ≤ 5 * f
 less_by u t f g e h = omega (arith, h, ap (λ x. u * x) e)
 
-less_behind : (u t f g : ℕ) → g + t ≡ f → u * f ≤ (u + 5) * g → u * t ≤ 5 * g
-less_behind u t f g e h = omega (arith, h, ap (λ x. u * x) e)
-
 pub line_give : (p B n m : ℕ) (f g : ℤ) → OneOnCircle p n m → unsigned_abs f * unsigned_abs f ≤ B * n → unsigned_abs g * unsigned_abs g ≤ B * m → IsHardlyNearer f n g m → AtLeast (f -ℤ g) (negsuc 5) B
 line_give p B n m (pos f) (pos g) is fit end far = elim (cases_lt f g) [
   | inl less ↦
@@ -147,6 +144,6 @@ line_give p B n m (negsuc f) (negsuc g) is fit end far = elim (cases_lt g f) [
   | inl less ↦
       let w = give_parts p m n (other_way p n m is) in
       at_least_back (f - g) 5 B (negsuc f -ℤ negsuc g) (omega (arith, ints))
-      (omega (arith, give_units w.0 (f - g) (suc g) m B 5 (p + 6) (less_behind w.0 (f - g) (suc f) (suc g) (omega arith) (step_give w.0 (w.0 + 5) (suc g) (suc f) m n far w.1 w.2)) end is.end_high w.3 w.4))
+      (omega (arith, give_units w.0 (f - g) (suc g) m B 5 (p + 6) (less_by w.0 (f - g) (suc g) (suc f) (omega arith) (step_give w.0 (w.0 + 5) (suc g) (suc f) m n far w.1 w.2)) end is.end_high w.3 w.4))
   | inr past ↦ at_least_ahead (negsuc f -ℤ negsuc g) 5 B (omega (arith, ints))
 ]

@@ -47,7 +47,7 @@ turned_both a b q is = record {
 positive : (n : ℕ) → pos n ≢ pos 0 → 0 < n
 positive n d = omega (arith, ints)
 
-not_negative : (n : ℕ) → int_lt (pos n) (pos 0) ≡ false
+pub not_negative : (n : ℕ) → int_lt (pos n) (pos 0) ≡ false
 not_negative n = grind (arith, ints)
 
 pub near-IsNear : (a b : ℤ) → b ≢ pos 0 → IsNear a b (near a b)

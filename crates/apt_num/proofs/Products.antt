@@ -1,7 +1,23 @@
--- Signs of products.
-use Rattle.std.proofs.Common.{◌⊎◌, inl, inr, ℕ, zero, suc, ◌<◌, arith, ℤ, pos, negsuc, ◌*ℤ◌, ◌≤ℤ◌, ◌<ℤ◌}
+-- Signs of numbers and of products.
+use Rattle.std.proofs.Common.{refl, ◌≡◌, ◌≢◌, ◌⊎◌, inl, inr, ℕ, zero, suc, ◌<◌, arith, ℤ, pos, negsuc, ◌*ℤ◌, ◌≤ℤ◌, ◌<ℤ◌}
 use Rattle.std.proofs.lemmas.Int.{ints}
 use Rattle.std.proofs.lemmas.Nat.{mul-lt}
+use Rattle.apt_num.specs.declared.Sign.TheVariants as signs
+use Rattle.apt_num.specs.Sign.{sign_of}
+
+pub plus_sign : (z : ℤ) → pos 0 <ℤ z → sign_of z ≡ signs.Plus
+plus_sign (pos zero) h = absurd (omega (arith, ints))
+plus_sign (pos (suc n)) h = refl
+plus_sign (negsuc n) h = absurd (omega (arith, ints))
+
+pub minus_sign : (z : ℤ) → z <ℤ pos 0 → sign_of z ≡ signs.Minus
+minus_sign (pos n) h = absurd (omega (arith, ints))
+minus_sign (negsuc n) h = refl
+
+-- a number that is not 0
+pub some_number : (n : ℕ) → n ≢ 0 → 0 < n
+some_number zero d = absurd (d refl)
+some_number (suc n) d = omega arith
 
 pub sign_cases : (x : ℤ) → (pos 0 <ℤ x) ⊎ (x ≤ℤ pos 0)
 sign_cases (pos zero) = inr (omega (arith, ints))

@@ -77,6 +77,9 @@ neg-*ℤ a b = rw (as_diff a, as_diff b) (simp differences (diff-same _ _ _ _ (o
 pub *ℤ-neg : (a b : ℤ) → a *ℤ neg_ℤ b ≡ neg_ℤ (a *ℤ b)
 *ℤ-neg a b = rw (as_diff a, as_diff b) (simp differences (diff-same _ _ _ _ (omega arith)))
 
+pub times_swap : (a b c : ℤ) → a *ℤ (b *ℤ c) ≡ b *ℤ (a *ℤ c)
+times_swap a b c = rw (as_diff a, as_diff b, as_diff c) (simp differences (diff-same _ _ _ _ (omega arith)))
+
 pub neg-*ℤ-neg : (a b : ℤ) → neg_ℤ a *ℤ neg_ℤ b ≡ a *ℤ b
 neg-*ℤ-neg a b = rw (as_diff a, as_diff b) (simp differences (diff-same _ _ _ _ (omega arith)))
 

@@ -47,7 +47,10 @@ root-unique n q h at = one_root n q (root n) at (root-IsRoot n h)
 odd_below : (t : ℕ) → 2 * (t + 1) - 1 ≡ 2 * t + 1
 odd_below t = omega arith
 
-odd_before : (t : ℕ) → 2 * suc t - 1 ≡ 2 * t + 1
+pub less_one : (n : ℕ) → suc n - 1 ≡ n
+less_one n = omega arith
+
+pub odd_before : (t : ℕ) → 2 * suc t - 1 ≡ 2 * t + 1
 odd_before t = omega arith
 
 -- the root is the nearest where n is at most q past the square

@@ -12,6 +12,13 @@ square_le x y h = mul-le x x y y h h
 pub root_le : (x y : ℕ) → x * x ≤ y * y → x ≤ y
 root_le x y h = elim (cases_lt y x) [ inl below ↦ absurd (omega (arith, mul-lt y y x x below below)) | inr past ↦ past ]
 
+-- each of two squares is at most their sum
+pub part_short : (a b h : ℕ) → a * a + b * b ≤ h * h → a ≤ h
+part_short a b h less = root_le a h (omega (arith, less))
+
+pub no_square : (x n : ℕ) → x * x ≤ 0 * n → x ≡ 0
+no_square x n less = omega (arith, root_le x 0 (omega (arith, less)))
+
 pub root_lt : (x y : ℕ) → x * x < y * y → x < y
 root_lt x y h = elim (cases_lt x y) [ inl below ↦ below | inr past ↦ absurd (omega (arith, square_le y x past)) ]
 

@@ -6,6 +6,8 @@ use Rattle.apt_num.specs.declared.Sign.{Sign}
 use Rattle.apt_num.specs.declared.Sign.TheVariants as signs
 use Rattle.apt_num.specs.Sign.{sign_of, AtLeast}
 use Rattle.apt_num.proofs.Squares.{size_square}
+use Rattle.apt_num.proofs.Nearest.{not_negative}
+use Rattle.apt_num.proofs.Products.{plus_sign, minus_sign}
 use Rattle.apt_words.specs.declared.Stop.{Stop}
 use Rattle.apt_words.specs.declared.Stop.TheVariants as stops
 use Rattle.apt_plane.specs.declared.figures.Pt.{Pt}
@@ -23,15 +25,6 @@ use Rattle.apt_offset.specs.Sides.{side_at, side_at_check, is_on_check, StopsAsi
 use Rattle.apt_offset.specs.Targets.{band_at}
 
 -- ---- signs
-
-plus_of : (z : ℤ) → pos 0 <ℤ z → sign_of z ≡ signs.Plus
-plus_of (pos zero) h = absurd (omega (arith, ints))
-plus_of (pos (suc n)) h = refl
-plus_of (negsuc n) h = absurd (omega (arith, ints))
-
-minus_of : (z : ℤ) → z <ℤ pos 0 → sign_of z ≡ signs.Minus
-minus_of (pos n) h = absurd (omega (arith, ints))
-minus_of (negsuc n) h = refl
 
 no_less : (h n : ℕ) → 0 < h → 1 ≤ n → h * h * n ≤ 0 → ⊥
 no_less h n more some le =
@@ -53,23 +46,20 @@ below (pos zero) (negsuc h) n less some is = absurd (no_less (suc h) n (omega ar
 below (pos (suc k)) (negsuc h) n less some is = absurd is
 below (negsuc k) (negsuc h) n less some is = refl
 
-not_negative : (n : ℕ) → int_lt (pos n) (pos 0) ≡ false
-not_negative n = grind (arith, ints)
-
 -- a root that is at most a length under r is inside of r, and one that is at least a length over it outside
 pub inside : (r h : ℤ) (n : ℕ) → h <ℤ r → IsRootAtMost n h → sign_of ((r *ℤ r) -ℤ pos n) ≡ signs.Plus
 inside r (negsuc h) n less is = absurd is
 inside r (pos h) n less is =
     let small : h * h < unsigned_abs r * unsigned_abs r = mul-lt h h (unsigned_abs r) (unsigned_abs r) (omega (arith, ints)) (omega (arith, ints)) in
     let near : n ≤ h * h = rw (not_negative h) at is in
-    plus_of _ (omega (arith, ints, size_square r))
+    plus_sign _ (omega (arith, ints, size_square r))
 
 pub outside : (r h : ℤ) (n : ℕ) → pos 0 ≤ℤ r → r <ℤ h → IsLengthAtMost h n → sign_of ((r *ℤ r) -ℤ pos n) ≡ signs.Minus
 outside r (negsuc h) n least more is = absurd (omega (arith, ints))
 outside r (pos h) n least more is =
     let great : unsigned_abs r * unsigned_abs r < h * h = mul-lt (unsigned_abs r) (unsigned_abs r) h h (omega (arith, ints)) (omega (arith, ints)) in
     let far : h * h ≤ n = rw (not_negative h) at is in
-    minus_of _ (omega (arith, ints, size_square r))
+    minus_sign _ (omega (arith, ints, size_square r))
 
 -- ---- in the band of a place
 

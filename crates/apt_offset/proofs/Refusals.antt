@@ -30,7 +30,7 @@ no_difference a b =
     let alone = zero_alone (a -ℤ b) in
     (λ h. let none : (a -ℤ b) ≡ pos 0 = alone.0 h in omega (arith, ints), λ h. alone.1 (omega (arith, ints)))
 
-opposite-is_zero : (v : Sign) → is_zero (opposite v) ≡ is_zero v
+pub opposite-is_zero : (v : Sign) → is_zero (opposite v) ≡ is_zero v
 opposite-is_zero signs.Minus = refl
 opposite-is_zero signs.Zero = refl
 opposite-is_zero signs.Plus = refl

@@ -15,7 +15,7 @@ pub record HasRoomAbout (band : Band) (r : ℤ) : Type 0 where
   pub lo : band.lo ≤ℤ (r -ℤ pos 8)
   pub hi : (r +ℤ pos 8) ≤ℤ band.hi
 
-le_greater : (a b : ℤ) → a ≤ℤ greater a b
+pub le_greater : (a b : ℤ) → a ≤ℤ greater a b
 le_greater a b = grind (arith, ints)
 
 pub circle_room : (circle : ℤ) (v : Sign) (r i o : ℤ) → pos 8 ≤ℤ i → pos 8 ≤ℤ o → HasRoomAbout (circle_band circle v r i o) (circle -ℤ signed v r)

@@ -3,7 +3,7 @@ use Rattle.std.proofs.Common.{refl, ◌≡◌, ◌≢◌, ◌↔◌, ◌⊎◌, 
 use Rattle.std.proofs.Math.IntN.{*ℤ_comm}
 use Rattle.std.proofs.lemmas.Int.{ints}
 use Rattle.apt_num.specs.Sign.{sign_of}
-use Rattle.apt_num.proofs.Products.{side_cases, both_plus, no_minus, one_each, strict_each, strict_both, plus_of, minus_of, no_plus_of, no_minus_of}
+use Rattle.apt_num.proofs.Products.{side_cases, both_plus, no_minus, one_each, strict_each, strict_both, plus_of, minus_of, no_plus_of, no_minus_of, some_number}
 use Rattle.apt_num.proofs.Turning.{Two, not_first, not_second, not_third, two_after, two_round, two_swap, two_one_way}
 use Rattle.apt_plane.specs.declared.figures.Dir.{Dir}
 use Rattle.apt_plane.specs.Vectors.{cross, dot, length_squared}
@@ -241,12 +241,8 @@ class_of_start sense s p =
 none_less : (k l : ℕ) (c : ℤ) → k ≡ 0 → Comes k l c ↔ (l ≢ 0)
 none_less k l c e = (
   λ comes. elim comes [ inl less ↦ λ f. omega (arith, less, f) | inr same ↦ elim same.1 [ inl one ↦ absurd (omega (arith, one, e)) | inr three ↦ absurd (omega (arith, three, e)) ] ],
-  λ some. inl (rw e (positive l some)),
+  λ some. inl (rw e (some_number l some)),
 )
-  where
-    positive : (n : ℕ) → n ≢ 0 → 0 < n
-    positive zero d = absurd (d refl)
-    positive (suc n) d = omega arith
 
 pub before_from_start : (sense : ℤ) (s v : Dir) → 0 < length_squared s → ComesBefore s sense s v ↔ (turn_class s sense v ≢ 0)
 before_from_start sense s v p = none_less (turn_class s sense s) (turn_class s sense v) (turned_by sense s v) (class_of_start sense s p)

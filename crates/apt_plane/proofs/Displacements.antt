@@ -51,7 +51,7 @@ minus_parts a b x p q y r s =
 sum_parts : (a b p q r s : ℤ) → (a *ℤ (q +ℤ s)) -ℤ (b *ℤ (p +ℤ r)) ≡ ((a *ℤ q) -ℤ (b *ℤ p)) +ℤ ((a *ℤ s) -ℤ (b *ℤ r))
 sum_parts a b p q r s = rw (as_diff a, as_diff b, as_diff p, as_diff q, as_diff r, as_diff s) (simp differences (diff-same _ _ _ _ (omega arith)))
 
-times_parts : (a b m p q : ℤ) → (a *ℤ (m *ℤ q)) -ℤ (b *ℤ (m *ℤ p)) ≡ m *ℤ ((a *ℤ q) -ℤ (b *ℤ p))
+pub times_parts : (a b m p q : ℤ) → (a *ℤ (m *ℤ q)) -ℤ (b *ℤ (m *ℤ p)) ≡ m *ℤ ((a *ℤ q) -ℤ (b *ℤ p))
 times_parts a b m p q = rw (as_diff a, as_diff b, as_diff m, as_diff p, as_diff q) (simp differences (diff-same _ _ _ _ (omega arith)))
 
 self_parts : (a b : ℤ) → (a *ℤ b) -ℤ (b *ℤ a) ≡ pos 0
@@ -60,7 +60,7 @@ self_parts a b = rw (as_diff a, as_diff b, diff-pos 0) (simp differences (diff-s
 swap_parts : (a b p q : ℤ) → (p *ℤ b) -ℤ (q *ℤ a) ≡ neg_ℤ ((a *ℤ q) -ℤ (b *ℤ p))
 swap_parts a b p q = rw (as_diff a, as_diff b, as_diff p, as_diff q) (simp differences (diff-same _ _ _ _ (omega arith)))
 
-turn_parts : (a b p q : ℤ) → (a *ℤ p) -ℤ (b *ℤ neg_ℤ q) ≡ (a *ℤ p) +ℤ (b *ℤ q)
+pub turn_parts : (a b p q : ℤ) → (a *ℤ p) -ℤ (b *ℤ neg_ℤ q) ≡ (a *ℤ p) +ℤ (b *ℤ q)
 turn_parts a b p q = rw (as_diff a, as_diff b, as_diff p, as_diff q) (simp differences (diff-same _ _ _ _ (omega arith)))
 
 turned_cross_parts : (a b p q : ℤ) → (neg_ℤ b *ℤ q) -ℤ (a *ℤ p) ≡ neg_ℤ ((a *ℤ p) +ℤ (b *ℤ q))
@@ -111,6 +111,12 @@ cross_swap u v = swap_parts u.dx u.dy v.dx v.dy
 pub cross_turn : (t w : Dir) → cross t (perp w) ≡ dot t w
 cross_turn t w = turn_parts t.dx t.dy w.dx w.dy
 
+pub back_length : (p q : Pt) → length_squared (displacement q p) ≡ length_squared (displacement p q)
+back_length p q = rw (turn_part p.x q.x, turn_part p.y q.y, size_neg (q.x -ℤ p.x), size_neg (q.y -ℤ p.y)) refl
+  where
+    turn_part : (a b : ℤ) → a -ℤ b ≡ neg_ℤ (b -ℤ a)
+    turn_part a b = omega (arith, ints)
+
 pub turned_cross : (d v : Dir) → cross (perp d) v ≡ neg_ℤ (dot d v)
 turned_cross d v = turned_cross_parts d.dx d.dy v.dx v.dy
 
@@ -126,7 +132,7 @@ pub between_part : (c p q : ℤ) (j k : ℕ) → ((pos k *ℤ p) +ℤ (pos j *�
 between_part c p q j k =
     rw (as_diff c, as_diff p, as_diff q, diff-pos k, diff-pos j, diff-pos (j + k)) (simp differences (diff-same _ _ _ _ (omega arith)))
 
-step_part : (c p q : ℤ) → q -ℤ p ≡ (q -ℤ c) -ℤ (p -ℤ c)
+pub step_part : (c p q : ℤ) → q -ℤ p ≡ (q -ℤ c) -ℤ (p -ℤ c)
 step_part c p q = omega (arith, ints)
 
 stewart_parts : (ux uy vx vy : ℤ) (j k : ℕ) →

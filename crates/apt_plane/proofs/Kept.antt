@@ -76,7 +76,7 @@ by_either p sense s e b x is way rounded = elim is.met [
 ]
 
 -- ---- a line stop: what is left to it of a way v, in lengths of the axis, is the rest less the part of v along the axis
-left_over : (rest f g : ℤ) → (rest -ℤ f) +ℤ (f -ℤ g) ≡ rest -ℤ g
+pub left_over : (rest f g : ℤ) → (rest -ℤ f) +ℤ (f -ℤ g) ≡ rest -ℤ g
 left_over rest f g = omega (arith, ints)
 
 eight : (h : ℤ) → (h -ℤ pos 8) +ℤ negsuc 3 ≡ h -ℤ pos 12

@@ -6,6 +6,7 @@ use Rattle.std.proofs.lemmas.Nat.{mul-le}
 use Rattle.std.proofs.lemmas.Bool.{cases_lt}
 use Rattle.apt_num.proofs.Ring.{as_diff, diff-pos, diff-same, differences}
 use Rattle.apt_num.proofs.Squares.{size_mul, root_le, cancel_le}
+use Rattle.apt_num.proofs.RootLaws.{less_one}
 use Rattle.apt_plane.specs.declared.figures.Dir.{Dir}
 use Rattle.apt_plane.specs.declared.figures.Pt.{Pt}
 use Rattle.apt_plane.specs.Vectors.{displacement, cross, dot, length_squared, between, displacement_to}
@@ -141,9 +142,6 @@ not_below a v e m t is h =
     rw (← four_back m v.dx a.dx e.dx is.dx, ← four_back m v.dy a.dy e.dy is.dy, four_long a) at both in
     omega (arith, whole)
 
-one_less : (t : ℕ) → suc t - 1 ≡ t
-one_less t = omega arith
-
 at_least : (a v e : Dir) (m : ℤ) (r : ℕ) → IsRounded a v e m → 0 < unsigned_abs m
     → ((4 * r - 1) * unsigned_abs m) * ((4 * r - 1) * unsigned_abs m) ≤ 16 * length_squared a → (r - 1) * (r - 1) ≤ length_squared v
 at_least a v e m zero is positive h = omega arith
@@ -154,7 +152,7 @@ at_least a v e m (suc t) is positive h = elim (cases_lt (length_squared v) (t * 
       let same : 4 * suc t - 1 ≡ 4 * t + 3 = omega arith in
       let long : ((4 * t + 3) * size) * ((4 * t + 3) * size) ≤ 16 * length_squared a = rw same at h in
       absurd (omega (arith, short, long, mul-le 1 1 size size positive positive))
-  | inr past ↦ rw (one_less t) past
+  | inr past ↦ rw (less_one t) past
 ]
 
 -- half a unit in each coordinate and a quarter of a unit before make at most one unit

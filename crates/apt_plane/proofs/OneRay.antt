@@ -31,7 +31,7 @@ ray_core a b p z V low high = elim (cases_lt (b * b) (z * z * V)) [
 size_up : (p r : ℕ) → p ≤ r → unsigned_abs (pos p -ℤ pos r) ≡ r - p
 size_up p r h = omega (arith, ints, h)
 
-size_down : (p r : ℕ) → r ≤ p → unsigned_abs (pos p -ℤ pos r) ≡ p - r
+pub size_down : (p r : ℕ) → r ≤ p → unsigned_abs (pos p -ℤ pos r) ≡ p - r
 size_down p r h = omega (arith, ints, h)
 
 -- whichever of two is the greater

@@ -48,7 +48,7 @@ less_long : (m : ℕ) (g v : Dir) → pos (length_squared (less_times m g v)) +�
 less_long m g v = rw (← square_length_squared (less_times m g v), ← square_length_squared g, ← square_length_squared v) at (less_parts (pos m) g.dx g.dy v.dx v.dy)
 
 -- ---- the circles far from each other
-same_way : (a b c d : ℤ) → a ≡ c → b ≡ d → length_squared (record { dx = a; dy = b }) ≡ length_squared (record { dx = c; dy = d })
+pub same_way : (a b c d : ℤ) → a ≡ c → b ≡ d → length_squared (record { dx = a; dy = b }) ≡ length_squared (record { dx = c; dy = d })
 same_way a b c d e f = rw (e, f) refl
 
 -- v is what is left, and m g

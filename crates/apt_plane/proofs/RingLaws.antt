@@ -5,6 +5,7 @@ use Rattle.std.proofs.lemmas.Int.{ints}
 use Rattle.std.proofs.lemmas.Bool.{cases_lt}
 use Rattle.apt_num.proofs.Squares.{size_mul, size_neg}
 use Rattle.apt_num.proofs.Convex.{between_below, start_nearest, end_nearest, foot_nearest, foot_below}
+use Rattle.apt_num.proofs.Nearest.{not_negative}
 use Rattle.apt_plane.specs.declared.figures.Pt.{Pt}
 use Rattle.apt_plane.specs.declared.figures.Dir.{Dir}
 use Rattle.apt_plane.specs.declared.figures.Line.{Line}
@@ -19,9 +20,6 @@ use Rattle.apt_plane.specs.Segments.{IsFoot, IsFirstFoot, IsFirstOff}
 use Rattle.apt_plane.proofs.Displacements.{lagrange, cross_square, stewart, cosines, cross_between, dot_between}
 use Rattle.apt_plane.proofs.Heights.{one-times}
 use Rattle.apt_plane.proofs.SegmentLaws.{above-between, below-between}
-
-not_negative : (n : ℕ) → int_lt (pos n) (pos 0) ≡ false
-not_negative n = grind (arith, ints)
 
 below_zero : (z : ℤ) → z <ℤ pos 0 → int_lt z (pos 0) ≡ true
 below_zero z h = grind (arith, ints)
@@ -54,6 +52,9 @@ tells_under P c p hi d n e f is = rw (one-times c.x, one-times c.y, one-times hi
 
 pub over_from : (c p : Pt) (h : ℕ) → IsOver (about c) (pos h) (scaled p) → h * h ≤ length_squared (displacement c p)
 over_from c p h is = omega (arith, (length_at_most 1 h (length_squared (displacement c p))).0 (rw (one-times c.x, one-times c.y) at is))
+
+pub under_to : (c p : Pt) (h : ℕ) → length_squared (displacement c p) ≤ h * h → IsUnder (about c) (pos h) (scaled p)
+under_to c p h le = rw (one-times c.x, one-times c.y) ((root_at_most 1 h (length_squared (displacement c p))).1 (omega (arith, le)))
 
 pub over_to : (c p : Pt) (h : ℕ) → h * h ≤ length_squared (displacement c p) → IsOver (about c) (pos h) (scaled p)
 over_to c p h le = rw (one-times c.x, one-times c.y) ((length_at_most 1 h (length_squared (displacement c p))).1 (omega (arith, le)))

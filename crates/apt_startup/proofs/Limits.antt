@@ -6,12 +6,10 @@ use Rattle.apt_words.specs.Rows.{NoneHolds}
 use Rattle.apt_plane.specs.declared.figures.Pt.{Pt}
 use Rattle.apt_plane.specs.Ranges.{IsPoint}
 use Rattle.apt_canon.specs.Scale.{is_in_range}
+use Rattle.apt_canon.proofs.Ways.{point_inside}
 use Rattle.apt_startup.specs.declared.Goal.{Goal}
 use Rattle.apt_startup.specs.declared.StartUp.{StartUp}
 use Rattle.apt_startup.specs.StartUps.{cases_by, point_by, start_up_cases, start_point}
-
-point_inside : (p : Pt) → is_in_range p ≡ true → IsPoint p
-point_inside p e = record { x = grind (arith, nat_tests); y = grind (arith, nat_tests) }
 
 point_by-is : (u : StartUp) (second : Option Goal) → NoneHolds (cases_by u second) → IsPoint (point_by u second)
 point_by-is u None none = point_inside (point_by u None) (not-false _ none.1.1.0)

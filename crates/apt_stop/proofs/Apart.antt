@@ -11,12 +11,11 @@ use Rattle.apt_num.proofs.Squares.{size_neg}
 use Rattle.apt_plane.specs.declared.figures.Pt.{Pt}
 use Rattle.apt_plane.specs.declared.figures.Dir.{Dir}
 use Rattle.apt_plane.specs.Vectors.{displacement, cross, length_squared}
-use Rattle.apt_plane.proofs.Displacements.{cross_square}
+use Rattle.apt_plane.proofs.Displacements.{cross_square, back_length}
 use Rattle.apt_plane.proofs.Lengths.{plus, sum_of_lengths}
 use Rattle.apt_stop.proofs.Onwards.{cross_step}
 use Rattle.apt_stop.proofs.Leads.{rise_at_least, fall_at_least}
 use Rattle.apt_stop.proofs.Far.{IsFar}
-use Rattle.apt_stop.proofs.OneWay.{back_length}
 
 -- ---- away from the stop, a line: the end is at least 7 units across from the start
 

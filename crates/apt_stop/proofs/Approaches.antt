@@ -10,10 +10,9 @@ use Rattle.apt_plane.specs.declared.figures.Dir.{Dir}
 use Rattle.apt_plane.specs.Ranges.{IsSense}
 use Rattle.apt_plane.specs.Vectors.{cross, dot, length_squared}
 use Rattle.apt_plane.proofs.Heights.{one-times}
-use Rattle.apt_plane.proofs.Displacements.{square_length_squared, dot_square}
+use Rattle.apt_plane.proofs.Displacements.{square_length_squared, dot_square, times_parts}
 use Rattle.apt_plane.proofs.Turned.{sense_twice}
 use Rattle.apt_stop.specs.Nearness.{heading}
-use Rattle.apt_stop.proofs.Headings.{turned}
 
 -- v by its parts along d and across it
 parts : (dx dy ex ey vx vy : ℤ) →
@@ -80,10 +79,7 @@ along-left d e v is p =
 
 -- ---- in the sense of the motion
 pub heading_cross : (sense : ℤ) (d e : Dir) → cross e (heading sense d) ≡ sense *ℤ cross e d
-heading_cross sense d e = ring sense d.dx d.dy e.dx e.dy
-  where
-    ring : (s dx dy ex ey : ℤ) → (ex *ℤ (s *ℤ dy)) -ℤ (ey *ℤ (s *ℤ dx)) ≡ s *ℤ ((ex *ℤ dy) -ℤ (ey *ℤ dx))
-    ring s dx dy ex ey = rw (as_diff s, as_diff dx, as_diff dy, as_diff ex, as_diff ey) (simp differences (diff-same _ _ _ _ (omega arith)))
+heading_cross sense d e = times_parts e.dx e.dy sense d.dx d.dy
 
 -- one factor and the product tell the sign of the other
 positive_of-negative : (s c : ℤ) → (s *ℤ c) <ℤ pos 0 → c <ℤ pos 0 → pos 0 <ℤ s
@@ -106,6 +102,3 @@ pub in_sense-left : (sense s c : ℤ) → IsSense sense → pos 0 <ℤ (s *ℤ c
 in_sense-left sense s c is p q = positive_of-positive (sense *ℤ s) (sense *ℤ c) (rw (sense_twice sense s c is) p) q
 
 -- and it is 0 only where the other number is
-pub turned_zero : (sense c : ℤ) → IsSense sense → sense *ℤ c ≡ pos 0 → c ≡ pos 0
-turned_zero sense c (inl e) f = omega (arith, ints, sym (one-times c) ∙ sym (ap (λ z. z *ℤ c) e) ∙ f)
-turned_zero sense c (inr e) f = omega (arith, ints, sym (turned c) ∙ sym (ap (λ z. z *ℤ c) e) ∙ f)

@@ -7,7 +7,7 @@ use Rattle.std.proofs.lemmas.Bool.{and_cases}
 use Rattle.apt_num.specs.Sign.{square, sign_of, is_at_least}
 use Rattle.apt_num.proofs.AtLeast.{at_least_squares}
 use Rattle.apt_num.proofs.Products.{no_minus, strict_each}
-use Rattle.apt_num.proofs.Ring.{as_diff, diff-same, differences, neg-*ℤ, *ℤ_assoc}
+use Rattle.apt_num.proofs.Ring.{as_diff, diff-same, differences, neg-*ℤ, *ℤ_assoc, times_swap}
 use Rattle.apt_num.proofs.Squares.{size_mul, size_neg, cancel_same}
 use Rattle.apt_num.proofs.Testing.{is_at_least-false}
 use Rattle.apt_plane.specs.declared.figures.Pt.{Pt}
@@ -71,13 +71,11 @@ not_hardly o r p q x y b is way some far e hardly =
     (level_lengths r (length_squared s) (length_squared t) is.radius is.start_most is.end_least) (start_some o r p q is) some
 
 -- and not on the other side of it
-turned_parts : (n sigma y : ℤ) → n *ℤ (sigma *ℤ y) ≡ sigma *ℤ (n *ℤ y)
-turned_parts n sigma y = rw (as_diff n, as_diff sigma, as_diff y) (simp differences (diff-same _ _ _ _ (omega arith)))
 
 pub not_across : (n : ℕ) (sigma x y d : ℤ) → pos n *ℤ y ≡ x *ℤ d → (sigma *ℤ x) <ℤ pos 0 → pos 0 <ℤ d → pos 0 ≤ℤ (sigma *ℤ y) → ⊥
 not_across n sigma x y d e below ahead above =
     let up = no_minus (pos n) (sigma *ℤ y) (omega (arith, ints)) above in
-    let same : pos n *ℤ (sigma *ℤ y) ≡ d *ℤ (sigma *ℤ x) = turned_parts (pos n) sigma y ∙ ap (λ z. sigma *ℤ z) e ∙ sym (*ℤ_assoc sigma x d) ∙ omega (arith, ints) in
+    let same : pos n *ℤ (sigma *ℤ y) ≡ d *ℤ (sigma *ℤ x) = times_swap (pos n) sigma y ∙ ap (λ z. sigma *ℤ z) e ∙ sym (*ℤ_assoc sigma x d) ∙ omega (arith, ints) in
     omega (arith, ints, up, same, strict_each d (sigma *ℤ x) ahead below)
 
 pub not_on_axis : (o : Pt) (r : ℕ) (p q : Pt) (sigma x y : ℤ) (b : ℕ) → Rounds o r p q → AreOneWay (displacement o p) (displacement o q) → 0 < b → 8 * 8 * b ≤ square x

@@ -5,6 +5,7 @@ use Rattle.std.proofs.lemmas.Bool.{not-false}
 use Rattle.apt_num.specs.declared.Sign.{Sign}
 use Rattle.apt_num.specs.declared.Sign.TheVariants as signs
 use Rattle.apt_words.specs.Rows.{NoneHolds}
+use Rattle.apt_canon.proofs.Ways.{point_inside}
 use Rattle.apt_plane.specs.declared.figures.Axis.{Axis}
 use Rattle.apt_plane.specs.Ranges.{IsPoint}
 use Rattle.apt_offset.specs.Turns.{is_zero}
@@ -13,7 +14,6 @@ use Rattle.apt_stop.specs.Courses.{is_tanto, kept_side, axis_of}
 use Rattle.apt_stop.specs.Choices.{is_past, end_of, stop_cases, course_cases}
 use Rattle.apt_stop.specs.Tangencies.{tangent_axis}
 use Rattle.apt_stop.specs.Ranges.{IsCourse}
-use Rattle.apt_stop.proofs.Inside.{inside_point}
 use Rattle.apt_stop.proofs.Placed.{placed}
 use Rattle.apt_stop.proofs.Sided.{sided}
 use Rattle.apt_stop.proofs.Decided.{stop_free, way_free}
@@ -54,4 +54,4 @@ pub bound_there : (c : Course) → IsCourse c → NoneHolds (course_cases c) →
 bound_there c is none = bound_by (is_tanto c.how) c refl is none
 
 pub end_is_point : (c : Course) → NoneHolds (course_cases c) → IsPoint (end_of c)
-end_is_point c none = inside_point (end_of c) (not-false _ (way_free c none).1.0)
+end_is_point c none = point_inside (end_of c) (not-false _ (way_free c none).1.0)

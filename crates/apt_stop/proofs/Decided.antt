@@ -11,6 +11,7 @@ use Rattle.apt_plane.specs.declared.figures.Pt.{Pt}
 use Rattle.apt_plane.specs.declared.figures.Axis.{Axis}
 use Rattle.apt_plane.specs.Ranges.{IsPoint}
 use Rattle.apt_canon.specs.Scale.{is_in_range}
+use Rattle.apt_canon.proofs.Ways.{point_inside}
 use Rattle.apt_contact.specs.declared.Meeting.{Meeting}
 use Rattle.apt_contact.specs.declared.Meeting.TheVariants as meetings
 use Rattle.apt_contact.specs.Meetings.{meeting_of, is_parallel, is_apart}
@@ -24,8 +25,8 @@ use Rattle.apt_stop.specs.Choices.{is_past, is_past_axis, is_past_or_none, sigma
 use Rattle.apt_stop.specs.Ends.{IsEndOn}
 use Rattle.apt_stop.specs.Ranges.{IsCourse}
 use Rattle.apt_stop.specs.Steps.{met, led, meeting, touched, touch}
-use Rattle.apt_stop.proofs.Inside.{inside_point}
 use Rattle.apt_stop.proofs.Ended.{course_ends}
+use Rattle.apt_stop.proofs.Feet.{not_true}
 
 -- ---- what the steps come to
 
@@ -99,7 +100,7 @@ touch_is c e = rw e (by_axis c (tangent_axis c.drive c.check))
 
 -- ---- conditions of which none holds
 
-given_case : {A : Type 0} (refusal : Option Case) (x : A) (P : A → Type 0) → (refusal ≡ None → P x) → IfOk (unless_case refusal x) P
+pub given_case : {A : Type 0} (refusal : Option Case) (x : A) (P : A → Type 0) → (refusal ≡ None → P x) → IfOk (unless_case refusal x) P
 given_case None x P p = p refl
 given_case (Some other) x P p = tt
 
@@ -111,7 +112,7 @@ pub none_behind : (rows more : List Row) → NoneHolds (rows ++ more) → NoneHo
 none_behind [] more none = none
 none_behind (row ∷ rows) more none = none_behind rows more none.1
 
-none_before : (rows more : List Row) → NoneHolds (rows ++ more) → NoneHolds rows
+pub none_before : (rows more : List Row) → NoneHolds (rows ++ more) → NoneHolds rows
 none_before [] more none = tt
 none_before (row ∷ rows) more none = (none.0, none_before rows more none.1)
 
@@ -123,16 +124,12 @@ way_free c none = none_behind (stop_cases c) (way_cases c) none
 
 -- ---- what an answer says
 
-not_not : (b : Bool) → not b ≡ false → b ≡ true
-not_not true e = refl
-not_not false e = absurd cc
-
 pub answer_refused : (r : Result Choice Case) (c : Course) → r ≡ unless (course_cases c) (choice_of c) → (case : Case) → IsErrOf r case ↔ (first_of (course_cases c) ≡ Some case)
 answer_refused r c e case = rw e (refused_by (course_cases c) (choice_of c) case)
 
 pub answer_range : (r : Result Choice Case) (c : Course) → r ≡ unless (course_cases c) (choice_of c) → IfOk r (λ x. IsPoint x.end)
 answer_range r c e =
-    rw e (given_when (course_cases c) (choice_of c) (λ x. IsPoint x.end) (λ none. inside_point (end_of c) (not_not (is_in_range (end_of c)) (way_free c none).1.0)))
+    rw e (given_when (course_cases c) (choice_of c) (λ x. IsPoint x.end) (λ none. point_inside (end_of c) (not_true (is_in_range (end_of c)) (way_free c none).1.0)))
 
 pub answer_end : (r : Result Choice Case) (c : Course) → IsCourse c → r ≡ unless (course_cases c) (choice_of c) → IfOk r (λ x. IsEndOn c.track c x.end)
 answer_end r c is e = rw e (given_when (course_cases c) (choice_of c) (λ x. IsEndOn c.track c x.end) (course_ends c is))

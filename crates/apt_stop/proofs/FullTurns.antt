@@ -5,6 +5,7 @@ use Rattle.apt_words.specs.declared.Case.{Case}
 use Rattle.apt_words.specs.declared.Case.TheVariants as cases
 use Rattle.apt_words.specs.Rows.{first_of, unless, unless_case}
 use Rattle.apt_words.proofs.Rows.{none_first, first_none}
+use Rattle.apt_words.proofs.Bools.{both}
 use Rattle.apt_plane.specs.declared.figures.Surface.{Surface}
 use Rattle.apt_plane.specs.declared.figures.Surface.TheVariants as surfaces
 use Rattle.apt_stop.specs.declared.course.Course.{Course}
@@ -49,10 +50,6 @@ two_full c e =
 
 -- ---- a full turn, read by itself
 
-both_true : (a b : Bool) → (a && b) ≡ true → (a ≡ true) × (b ≡ true)
-both_true true b e = (refl, e)
-both_true false b e = absurd cc
-
 round_tells : (s : Surface) → is_round s ≡ true → IsRound s
 round_tells (surfaces.Line l) e = absurd cc
 round_tells (surfaces.Circ c) e = tt
@@ -65,7 +62,7 @@ told : (n : Legs) (c : Course) → IsCourse c → first_of (leg_cases n c) ≡ S
 told legs.One c is e = absurd (never_first cases.FullTurn (stop_cases c ++ way_cases c) (both_others cases.FullTurn (stop_cases c) (way_cases c) (stop_others c) (way_others c)) e)
 told legs.Two c is e =
     let full = two_full c e in
-    let both = both_true (is_round c.drive) (starts_near_stop c) full.1 in
+    let both = both (is_round c.drive) (starts_near_stop c) full.1 in
     record {
       two = refl;
       round = round_tells c.drive both.0;

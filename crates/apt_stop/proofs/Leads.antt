@@ -12,9 +12,10 @@ use Rattle.apt_plane.specs.Vectors.{displacement, cross, dot, length_squared}
 use Rattle.apt_stop.specs.Nearness.{heading}
 use Rattle.apt_stop.specs.Choices.{is_same}
 use Rattle.apt_num.proofs.Sums.{at_least-sum}
-use Rattle.apt_stop.proofs.Approaches.{Approach, along-left, along-right, heading_cross, in_sense-left, in_sense-right, turned_zero}
+use Rattle.apt_stop.proofs.Approaches.{Approach, along-left, along-right, heading_cross, in_sense-left, in_sense-right}
 use Rattle.apt_stop.proofs.Far.{IsFar}
 use Rattle.apt_stop.proofs.Onwards.{cross_step}
+use Rattle.apt_stop.proofs.Sided.{no_turn}
 
 -- from p to x along the track f to the left of d, to the stop g to the left of e
 pub record Leads (d e : Line) (f g sense : ℤ) (side : Sign) (p x : Pt) : Type 0 where
@@ -66,11 +67,11 @@ runs_in_sense d e f g sense signs.Plus p x is =
     let turned : is_same signs.Plus (sign_of (sense *ℤ cross e.dir d.dir)) ≡ false = rw (← heading_cross sense d.dir e.dir) is.ahead in
     in_sense-right sense (dot d.dir (displacement p x)) (cross e.dir d.dir) is.turn
     (along-right d.dir e.dir (displacement p x) (Leads-Approach d e f g sense signs.Plus p x is) fall)
-    (heads_right (sense *ℤ cross e.dir d.dir) turned (λ z. is.crosses (turned_zero sense (cross e.dir d.dir) is.turn z)))
+    (heads_right (sense *ℤ cross e.dir d.dir) turned (λ z. is.crosses (no_turn sense (cross e.dir d.dir) is.turn z)))
 runs_in_sense d e f g sense signs.Minus p x is =
     let rise = rise_at_least _ _ _ (g -ℤ pos 1) (neg_ℤ g +ℤ pos 8) (pos 7) (length_squared e.dir) (cross_step e.dir e.base p x) (omega (arith, ints)) is.stop.right is.far in
     let turned : is_same signs.Minus (sign_of (sense *ℤ cross e.dir d.dir)) ≡ false = rw (← heading_cross sense d.dir e.dir) is.ahead in
     in_sense-left sense (dot d.dir (displacement p x)) (cross e.dir d.dir) is.turn
     (along-left d.dir e.dir (displacement p x) (Leads-Approach d e f g sense signs.Minus p x is) rise)
-    (heads_left (sense *ℤ cross e.dir d.dir) turned (λ z. is.crosses (turned_zero sense (cross e.dir d.dir) is.turn z)))
+    (heads_left (sense *ℤ cross e.dir d.dir) turned (λ z. is.crosses (no_turn sense (cross e.dir d.dir) is.turn z)))
 runs_in_sense d e f g sense signs.Zero p x is = absurd is.far

@@ -1,6 +1,5 @@
 pub mod Sizes
 pub mod Headings
-pub mod Inside
 pub mod Strips
 pub mod NearLaws
 pub mod Axes

@@ -7,6 +7,7 @@ use Rattle.apt_num.specs.declared.Sign.{Sign}
 use Rattle.apt_num.specs.declared.Sign.TheVariants as signs
 use Rattle.apt_num.specs.Sign.{AtLeast, square, sign_of, is_minus}
 use Rattle.apt_num.proofs.Testing.{is_at_least-false}
+use Rattle.apt_num.proofs.Products.{plus_sign, minus_sign}
 use Rattle.apt_stop.specs.Nearness.{near_stop}
 use Rattle.apt_stop.specs.Choices.{is_not_ahead}
 use Rattle.apt_stop.proofs.Rings.{is_in_ring, ring_true, ring_false}
@@ -24,15 +25,6 @@ ahead_sign : (k : ℤ) (n : ℕ) → 0 < n → AtLeast k (pos 8) n → sign_of k
 ahead_sign (pos zero) n some at = absurd (omega (arith, at, some))
 ahead_sign (pos (suc k)) n some at = refl
 ahead_sign (negsuc k) n some at = absurd at
-
-plus_sign : (z : ℤ) → pos 0 <ℤ z → sign_of z ≡ signs.Plus
-plus_sign (pos zero) h = absurd (omega (arith, ints, h))
-plus_sign (pos (suc n)) h = refl
-plus_sign (negsuc n) h = absurd (omega (arith, ints, h))
-
-minus_sign : (z : ℤ) → z <ℤ pos 0 → sign_of z ≡ signs.Minus
-minus_sign (pos n) h = absurd (omega (arith, ints, h))
-minus_sign (negsuc n) h = refl
 
 positive_of : (k : ℤ) → int_le k (pos 0) ≡ false → pos 0 <ℤ k
 positive_of k e = grind (arith, ints)

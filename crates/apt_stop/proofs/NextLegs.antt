@@ -34,7 +34,7 @@ use Rattle.apt_stop.specs.Ranges.{IsCourse}
 use Rattle.apt_stop.proofs.Ended.{course_ends}
 use Rattle.apt_stop.proofs.Chosen.{end_is_point}
 use Rattle.apt_stop.proofs.Contacts.{contact-near}
-use Rattle.apt_stop.proofs.Decided.{stop_free}
+use Rattle.apt_stop.proofs.Decided.{stop_free, given_case}
 use Rattle.apt_stop.proofs.Moved.{track_target, stop_target}
 use Rattle.apt_stop.proofs.Onwards.{dot_back}
 use Rattle.apt_stop.proofs.Parts.{Meets, meets}
@@ -78,7 +78,7 @@ from_there c q is point near = record {
 pub next_is : (c : Course) → IsCourse c → NoneHolds (course_cases c) → IsCourse (next_leg c)
 next_is c is none = from_there c (end_of c) is (end_is_point c none) (ends_on_track c is none)
 
-both_none : (rows more : List Row) → NoneHolds rows → NoneHolds more → NoneHolds (rows ++ more)
+pub both_none : (rows more : List Row) → NoneHolds rows → NoneHolds more → NoneHolds (rows ++ more)
 both_none [] more none later = later
 both_none (row ∷ rows) more none later = (none.0, both_none rows more none.1 later)
 
@@ -159,7 +159,7 @@ meeting_side c is none e ahead =
     kept_is (next_leg c) e ∙ headed_on (next_leg c) near ∙ headed ∙ sym (ap opposite (kept_is c e))
 
 -- and one that touches
-touch_side : (c : Course) → is_tanto c.how ≡ true → kept_side c ≡ signs.Zero
+pub touch_side : (c : Course) → is_tanto c.how ≡ true → kept_side c ≡ signs.Zero
 touch_side c e = rw e refl
 
 by_touch : (c : Course) (tanto : Bool) → is_tanto c.how ≡ tanto → IsCourse c → NoneHolds (course_cases c) → is_behind (next_leg c) ≡ false → kept_side (next_leg c) ≡ opposite (kept_side c)
@@ -180,10 +180,6 @@ passed_by (row ∷ rows) more x none = rw none.0 (passed_by rows more x none.1)
 pub next_answer : (r : Result Choice Case) (c : Course) → NoneHolds (course_cases c) → r ≡ unless (course_cases (next_leg c)) (choice_of (next_leg c))
     → r ≡ unless (way_cases (next_leg c)) (choice_of (next_leg c))
 next_answer r c none e = e ∙ passed_by (stop_cases c) (way_cases (next_leg c)) (choice_of (next_leg c)) (stop_free c none)
-
-given_case : {A : Type 0} (refusal : Option Case) (x : A) (P : A → Type 0) → (refusal ≡ None → P x) → IfOk (unless_case refusal x) P
-given_case None x P p = p refl
-given_case (Some other) x P p = tt
 
 next_side : (r : Result Choice Case) (c : Course) → IsCourse c → NoneHolds (course_cases c) → r ≡ unless (way_cases (next_leg c)) (choice_of (next_leg c))
     → IfOk r (λ x. kept_side (next_leg c) ≡ opposite (kept_side c))

@@ -3,6 +3,7 @@ use Rattle.std.proofs.Common.{refl, ◌≢◌, inl, ℕ, zero, suc, ◌≤◌, a
 use Rattle.std.proofs.lemmas.Int.{ints}
 use Rattle.apt_num.specs.declared.Sign.{Sign}
 use Rattle.apt_num.specs.declared.Sign.TheVariants as signs
+use Rattle.apt_num.proofs.Products.{some_number}
 use Rattle.apt_plane.specs.declared.figures.Pt.{Pt}
 use Rattle.apt_plane.specs.declared.figures.Dir.{Dir}
 use Rattle.apt_plane.specs.declared.figures.Axis.{Axis}
@@ -68,8 +69,4 @@ ray_at o r a is dir some =
     ray_near (circle_about o r) u (record { centre = is.centre; least = omega (arith, ints, is.least); most = is.most }) (turned_dir (signed a.half (pos 1)) a.along (half_sense a.half some) dir)
 
 pub two_centres : (p q : Pt) → IsPoint p → IsPoint q → length_squared (displacement p q) ≢ 0 → IsDir (displacement p q)
-two_centres p q is_p is_q some = way_is_dir p q is_p is_q (positive (length_squared (displacement p q)) some)
-  where
-    positive : (n : ℕ) → n ≢ 0 → 1 ≤ n
-    positive zero d = absurd (d refl)
-    positive (suc n) d = omega arith
+two_centres p q is_p is_q some = way_is_dir p q is_p is_q (some_number (length_squared (displacement p q)) some)

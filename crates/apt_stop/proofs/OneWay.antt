@@ -11,7 +11,7 @@ use Rattle.apt_plane.specs.declared.figures.Dir.{Dir}
 use Rattle.apt_plane.specs.Ranges.{IsSense}
 use Rattle.apt_plane.specs.Vectors.{displacement, cross, dot, length_squared}
 use Rattle.apt_plane.specs.Order.{class_of, turn_class}
-use Rattle.apt_plane.proofs.Displacements.{lagrange, cosines, dot_swap}
+use Rattle.apt_plane.proofs.Displacements.{lagrange, cosines, dot_swap, back_length}
 use Rattle.apt_stop.proofs.Sided.{no_turn}
 
 -- two ways of one direction
@@ -70,12 +70,6 @@ by_lengths t a b d h low high least most lo = elim (cases_lt a b) [
       let whole = by_greater t b (a - b) d (rw split h) (omega (arith, high, least)) (omega (arith, least)) lo in
       omega (arith, whole, split)
 ]
-
-pub back_length : (p q : Pt) → length_squared (displacement q p) ≡ length_squared (displacement p q)
-back_length p q = rw (turn_part p.x q.x, turn_part p.y q.y, size_neg (q.x -ℤ p.x), size_neg (q.y -ℤ p.y)) refl
-  where
-    turn_part : (a b : ℤ) → a -ℤ b ≡ neg_ℤ (b -ℤ a)
-    turn_part a b = omega (arith, ints)
 
 short_way : (n a b : ℕ) (z : ℤ) → pos n +ℤ (pos 2 *ℤ z) ≡ pos a +ℤ pos b → pos 0 <ℤ z → a + b ≤ 2 * unsigned_abs z + 25 → n ≤ 25
 short_way n a b (pos d) e ahead less = omega (arith, ints, e, less)

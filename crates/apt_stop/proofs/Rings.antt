@@ -4,13 +4,14 @@ use Rattle.std.specs.Prelude.{nat_le}
 use Rattle.std.proofs.lemmas.Int.{ints}
 use Rattle.std.proofs.lemmas.Bool.{and_parts, and_cases, leb-true, leb-false}
 use Rattle.apt_num.specs.Sign.{square}
+use Rattle.apt_num.proofs.Nearest.{not_negative}
 use Rattle.apt_plane.specs.declared.figures.Pt.{Pt}
 use Rattle.apt_plane.specs.Vectors.{displacement, length_squared, scaled}
 use Rattle.apt_plane.specs.Distances.{IsOver, IsUnder, about}
 use Rattle.apt_plane.proofs.Heights.{one-times}
 use Rattle.apt_plane.proofs.RingLaws.{root_at_most, length_at_most}
+use Rattle.apt_plane.proofs.OneRay.{size_down}
 use Rattle.apt_canon.specs.Scale.{IsNearCircle}
-use Rattle.apt_canon.proofs.CircleMeetings.Near.{not_negative}
 use Rattle.apt_contact.specs.Meetings.{circle_about}
 
 -- ---- at most a unit from the circle
@@ -24,8 +25,6 @@ pub near_most : (o : Pt) (r : ℕ) (p : Pt) → IsNearCircle (circle_about o (po
 near_most o r p is = rw (not_negative (r + 1)) at is.inside
 
 -- ---- by the tests
-less_size : (r g : ℕ) → g ≤ r → unsigned_abs (pos r -ℤ pos g) ≡ r - g
-less_size r g less = omega (arith, ints)
 
 abbrev pub is_in_ring : ℕ → ℕ → ℕ → Bool
 is_in_ring r g n = nat_le (square (pos r -ℤ pos g)) n && nat_le n (square (pos r +ℤ pos g))
@@ -33,17 +32,10 @@ is_in_ring r g n = nat_le (square (pos r -ℤ pos g)) n && nat_le n (square (pos
 pub ring_true : (r g n : ℕ) → g ≤ r → is_in_ring r g n ≡ true → ((r - g) * (r - g) ≤ n) × (n ≤ (r + g) * (r + g))
 ring_true r g n less e =
     let both = and_parts (nat_le (square (pos r -ℤ pos g)) n) (nat_le n (square (pos r +ℤ pos g))) e in
-    (rw (less_size r g less) at (leb-true (square (pos r -ℤ pos g)) n both.0), leb-true n (square (pos r +ℤ pos g)) both.1)
+    (rw (size_down r g less) at (leb-true (square (pos r -ℤ pos g)) n both.0), leb-true n (square (pos r +ℤ pos g)) both.1)
 
 pub ring_false : (r g n : ℕ) → g ≤ r → is_in_ring r g n ≡ false → (n < (r - g) * (r - g)) ⊎ ((r + g) * (r + g) < n)
 ring_false r g n less e = elim (and_cases (nat_le (square (pos r -ℤ pos g)) n) (nat_le n (square (pos r +ℤ pos g))) e) [
-  | inl below ↦ inl (rw (less_size r g less) at (leb-false (square (pos r -ℤ pos g)) n below))
+  | inl below ↦ inl (rw (size_down r g less) at (leb-false (square (pos r -ℤ pos g)) n below))
   | inr past ↦ inr (leb-false n (square (pos r +ℤ pos g)) past)
 ]
-
--- ---- as facts of surfaces
-pub over_at : (o : Pt) (h : ℕ) (p : Pt) → h * h ≤ length_squared (displacement o p) → IsOver (about o) (pos h) (scaled p)
-over_at o h p is = rw (one-times o.x, one-times o.y) ((length_at_most 1 h (length_squared (displacement o p))).1 (omega (arith, is)))
-
-pub under_at : (o : Pt) (h : ℕ) (p : Pt) → length_squared (displacement o p) ≤ h * h → IsUnder (about o) (pos h) (scaled p)
-under_at o h p is = rw (one-times o.x, one-times o.y) ((root_at_most 1 h (length_squared (displacement o p))).1 (omega (arith, is)))

@@ -34,6 +34,9 @@ along_low n m x y r e off low some =
 along_high : (n m x y r : ℕ) → n * m ≡ y * y + x * x → m ≤ (r + 1) * (r + 1) → y * y ≤ (r + 1) * (r + 1) * n
 along_high n m x y r e high = omega (arith, e, mul-le-mul_left n high)
 
+two_more : (r : ℕ) → negsuc (r + 1) ≡ neg_ℤ (pos r) -ℤ pos 2
+two_more r = omega (arith, ints)
+
 -- k is r lengths, up to two
 up_by : (k : ℤ) (r n : ℕ) → 2 ≤ r → pos 0 <ℤ k → (r - 2) * (r - 2) * n ≤ square k → square k ≤ (r + 1) * (r + 1) * n → OnLine k (pos r) n (pos 2)
 up_by (pos zero) r n some up low high = absurd (omega (arith, ints, up))
@@ -44,9 +47,6 @@ up_by (pos (suc k)) r n some up low high = record {
   where
     two_less : (r : ℕ) → 2 ≤ r → pos (r - 2) ≡ pos r -ℤ pos 2
     two_less r some = omega (arith, ints)
-
-    two_more : (r : ℕ) → negsuc (r + 1) ≡ neg_ℤ (pos r) -ℤ pos 2
-    two_more r = omega (arith, ints)
 up_by (negsuc k) r n some up low high = absurd (omega (arith, ints, up))
 
 -- the way to an end on a ray leads along it by a radius, up to two units
@@ -104,21 +104,18 @@ touches_line_by (pos (suc k)) x a r m v n e centre end = left_of_line (pos (suc 
 touches_line_by (negsuc k) x a r m v n e centre end = right_of_line (negsuc k) x a r m v n e centre end
 
 -- ---- a circle: g is the square of how far the centres are apart, y how far the end lies along from the other centre
+pub from_zero : (a : ℕ) → int_le (pos 0) (pos a) ≡ true
+from_zero a = grind (arith, ints)
+
 at_least_length : (n : ℕ) (z : ℤ) → square (greater (pos 0) z) ≤ n → AtLeast (pos n) z n
 at_least_length n (pos b) h =
-    let less : b * b ≤ n = rw (not_above b) at h in
+    let less : b * b ≤ n = rw (from_zero b) at h in
     omega (arith, mul-le-mul_left n less)
-  where
-    not_above : (b : ℕ) → int_le (pos 0) (pos b) ≡ true
-    not_above b = grind (arith, ints)
 at_least_length n (negsuc b) h = tt
 
 at_most_length : (n b : ℕ) → 0 < n → n ≤ (b + 2) * (b + 2) → AtLeast (neg_ℤ (pos n)) (neg_ℤ (pos b) -ℤ pos 2) n
 at_most_length zero b some h = absurd (omega (arith, some))
 at_most_length (suc n) b some h = subst (λ (z : ℤ). AtLeast (negsuc n) z (suc n)) (two_more b) (omega (arith, mul-le-mul_left (suc n) h))
-  where
-    two_more : (b : ℕ) → negsuc (b + 1) ≡ neg_ℤ (pos b) -ℤ pos 2
-    two_more b = omega (arith, ints)
 
 pub about_length : (a : ℤ) (n : ℕ) → pos 0 ≤ℤ a → 0 < n → is_about a n ≡ true → OnLine (pos n) a n (pos 2)
 about_length (pos b) n least some e =

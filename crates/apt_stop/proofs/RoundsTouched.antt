@@ -5,6 +5,7 @@ use Rattle.std.proofs.lemmas.Bool.Decides.{eqb_tells}
 use Rattle.apt_num.specs.declared.Sign.{Sign}
 use Rattle.apt_num.specs.declared.Sign.TheVariants as signs
 use Rattle.apt_num.specs.Sign.{sign_of}
+use Rattle.apt_num.proofs.Products.{some_number}
 use Rattle.apt_plane.specs.declared.figures.Pt.{Pt}
 use Rattle.apt_plane.specs.declared.figures.Dir.{Dir}
 use Rattle.apt_plane.specs.declared.figures.Axis.{Axis}
@@ -79,10 +80,6 @@ by_axis c k v m check along half e is free dir stops =
       apart = ray_class k.c r c.start q along half c.sense circle.least is.sense is.near near (omega (arith, dir.length)) there ray (rw e at free.past);
     })
 
-some_way : (n : ℕ) → n ≢ 0 → 0 < n
-some_way zero d = absurd (d refl)
-some_way (suc n) d = omega arith
-
 pub touches_on_round : (c : Course) (k : Circ) (v : Sign) (m : ℤ) (check : Surface)
     → let n = touching c k v m check in IsCourse n → Touches n → TouchedRound n k.c (touches_at n (tangent_axis (surfaces.Circ k) check))
 touches_on_round c k v m (surfaces.Line l) is free =
@@ -97,6 +94,6 @@ touches_on_round c k v m (surfaces.Circ j) is free = elim (eqb_tells (length_squ
       let stop : IsCircleTarget j.c (j.r -ℤ signed (side_at_tangency (surfaces.Circ k) (surfaces.Circ j) v) m) = stop_target n is in
       by_axis c k v m (surfaces.Circ j) (displacement k.c j.c) (touching_half k j) (rw two.0 refl) is free (two_centres k.c j.c is.drive.centre is.check.centre two.1)
       (λ there q ray near.
-      near_circle_stop k j v m q (omega (arith, ints, is.drive.least)) (omega (arith, ints, is.check.least)) (some_way (length_squared (displacement k.c j.c)) two.1) circle.least stop.least there
+      near_circle_stop k j v m q (omega (arith, ints, is.drive.least)) (omega (arith, ints, is.check.least)) (some_number (length_squared (displacement k.c j.c)) two.1) circle.least stop.least there
       (not_true _ free.touching) ray near)
 ]

@@ -9,14 +9,15 @@ use Rattle.apt_num.proofs.AtLeast.{root_sign_at_least, root_sign_at_most}
 use Rattle.apt_num.proofs.Ring.{as_diff, diff-same, differences}
 use Rattle.apt_num.proofs.Squares.{square_le}
 use Rattle.apt_num.proofs.Sums.{at_least-weaker}
+use Rattle.apt_num.proofs.Nearest.{not_negative}
 use Rattle.apt_plane.specs.declared.figures.Pt.{Pt}
 use Rattle.apt_plane.specs.declared.figures.Dir.{Dir}
 use Rattle.apt_plane.specs.Distances.{IsOver, IsUnder, about}
 use Rattle.apt_plane.specs.Vectors.{displacement, cross, dot, perp, length_squared, scaled}
 use Rattle.apt_plane.proofs.Heights.{one-times}
 use Rattle.apt_plane.proofs.RingLaws.{tells_over, tells_under}
+use Rattle.apt_plane.proofs.Displacements.{step_part}
 use Rattle.apt_canon.specs.Scale.{times}
-use Rattle.apt_canon.proofs.CircleMeetings.Near.{not_negative}
 use Rattle.apt_offset.specs.declared.Target.{Target}
 use Rattle.apt_offset.specs.declared.Target.TheVariants as targets
 use Rattle.apt_offset.specs.Ranges.{IsTarget}
@@ -39,11 +40,8 @@ along_line fx fy vx vy s = rw (as_diff fx, as_diff fy, as_diff vx, as_diff vy, a
 to_way : (wx wy vx vy s : ℤ) → ((wx -ℤ vx) *ℤ (s *ℤ neg_ℤ vy)) +ℤ ((wy -ℤ vy) *ℤ (s *ℤ vx)) ≡ s *ℤ ((vx *ℤ wy) -ℤ (vy *ℤ wx))
 to_way wx wy vx vy s = rw (as_diff wx, as_diff wy, as_diff vx, as_diff vy, as_diff s) (simp differences (diff-same _ _ _ _ (omega arith)))
 
-from_centre : (o p q : ℤ) → q -ℤ p ≡ (q -ℤ o) -ℤ (p -ℤ o)
-from_centre o p q = omega (arith, ints)
-
 to_centre : (o p q : Pt) (s : ℤ) → dot (displacement p q) (times s (perp (displacement o p))) ≡ s *ℤ cross (displacement o p) (displacement o q)
-to_centre o p q s = rw (from_centre o.x p.x q.x, from_centre o.y p.y q.y) (to_way (q.x -ℤ o.x) (q.y -ℤ o.y) (p.x -ℤ o.x) (p.y -ℤ o.y) s)
+to_centre o p q s = rw (step_part o.x p.x q.x, step_part o.y p.y q.y) (to_way (q.x -ℤ o.x) (q.y -ℤ o.y) (p.x -ℤ o.x) (p.y -ℤ o.y) s)
 
 headed_is : (c : Course) (t s : Target) → headed_side c t s ≡ sign_of (step_in s c.start (times c.sense (direction_at t c.start)))
 headed_is c (targets.Line b d h) (targets.Line e f k) = refl

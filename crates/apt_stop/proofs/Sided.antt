@@ -13,6 +13,8 @@ use Rattle.apt_num.proofs.Testing.{is_at_least-from}
 use Rattle.apt_plane.specs.declared.figures.Pt.{Pt}
 use Rattle.apt_plane.specs.Ranges.{IsSense}
 use Rattle.apt_plane.specs.Vectors.{displacement, cross, dot, length_squared}
+use Rattle.apt_plane.proofs.Heights.{one-times}
+use Rattle.apt_plane.proofs.Turned.{minus-times}
 use Rattle.apt_offset.specs.declared.Target.{Target}
 use Rattle.apt_offset.specs.declared.Target.TheVariants as targets
 use Rattle.apt_offset.specs.Ranges.{IsTarget}
@@ -21,7 +23,7 @@ use Rattle.apt_stop.specs.Nearness.{is_near, side_of, heading, near_stop}
 use Rattle.apt_stop.specs.Courses.{headed_side, stop_side, starts_near_stop}
 use Rattle.apt_stop.specs.Choices.{is_same, is_past, is_not_ahead, is_by_axis, way_on_to}
 use Rattle.apt_stop.specs.Steps.{IsPlaced, HasSide, far_side, side_from, past_from}
-use Rattle.apt_stop.proofs.Headings.{kept, turned}
+use Rattle.apt_stop.proofs.Within.{at_most}
 
 -- ---- the steps come to the definitions
 
@@ -82,9 +84,6 @@ zero_alone (pos zero) e = refl
 zero_alone (pos (suc n)) e = absurd cc
 zero_alone (negsuc n) e = absurd cc
 
-at_most : (x y : ℕ) → x ≤ y → nat_le x y ≡ true
-at_most x y h = elim (leb_tells x y) [ inl is ↦ is.0 | inr past ↦ let more = past.1 in absurd (omega arith) ]
-
 off_circle : (r : ℤ) (n : ℕ) → pos 100 ≤ℤ r → (nat_le (square (r -ℤ near_stop)) n && nat_le n (square (r +ℤ near_stop))) ≡ false → sign_of (pos (square r) -ℤ pos n) ≢ signs.Zero
 off_circle r n least far on =
     let same : n ≡ square r = omega (arith, ints, zero_alone (pos (square r) -ℤ pos n) on) in
@@ -106,8 +105,8 @@ axis_zero k n e = rw (e, is_at_least-from (pos 0) (negsuc 7) n tt) refl
 
 pub no_turn : (s k : ℤ) → IsSense s → s *ℤ k ≡ pos 0 → k ≡ pos 0
 no_turn s k is none = elim is [
-  | inl e ↦ omega (arith, ints, rw (e, kept k) at none)
-  | inr e ↦ omega (arith, ints, rw (e, turned k) at none)
+  | inl e ↦ omega (arith, ints, rw (e, one-times k) at none)
+  | inr e ↦ omega (arith, ints, rw (e, minus-times k) at none)
 ]
 
 ahead : (k : ℤ) (n : ℕ) → is_not_ahead k n ≡ false → sign_of k ≢ signs.Zero

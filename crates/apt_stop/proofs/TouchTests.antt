@@ -8,6 +8,7 @@ use Rattle.apt_num.specs.Sign.{OnLine, square}
 use Rattle.apt_num.proofs.AtLeast.{at_least_squares}
 use Rattle.apt_num.proofs.Testing.{is_at_least-from}
 use Rattle.apt_num.proofs.Ring.{double_neg}
+use Rattle.apt_num.proofs.Nearest.{not_negative}
 use Rattle.apt_plane.specs.declared.figures.Pt.{Pt}
 use Rattle.apt_plane.specs.declared.figures.Line.{Line}
 use Rattle.apt_plane.specs.declared.figures.Circ.{Circ}
@@ -17,12 +18,13 @@ use Rattle.apt_plane.specs.Distances.{IsLengthAtMost, IsRootAtMost}
 use Rattle.apt_plane.specs.Ranges.{IsSurface, IsLine, IsCircle}
 use Rattle.apt_plane.specs.Vectors.{displacement, cross, length_squared}
 use Rattle.apt_canon.specs.Scale.{IsNearCircle}
-use Rattle.apt_canon.proofs.CircleMeetings.Near.{not_negative}
+use Rattle.apt_canon.proofs.TangentLines.Laws.{two_less}
 use Rattle.apt_contact.specs.Meetings.{circle_about}
 use Rattle.apt_stop.specs.Gaps.{gap, size, is_within, is_about, line_touches, circles_touch, is_touching}
 use Rattle.apt_stop.specs.Touching.{LineTouches, CirclesTouch, AreTouching}
 use Rattle.apt_stop.proofs.Touching.{touches_by}
 use Rattle.apt_stop.proofs.Within.{at_most}
+use Rattle.apt_stop.proofs.RoundGaps.{from_zero}
 
 -- ---- a line and a circle
 
@@ -80,24 +82,18 @@ both_tell x y n = (
   λ is. rw (at_most x n is.0, at_most n y is.1) refl,
 )
 
-less_two : (a : ℕ) → pos (suc (suc a)) -ℤ pos 2 ≡ pos a
-less_two a = omega (arith, ints)
-
 same_less : (a : ℕ) → suc (suc a) - 2 ≡ a
 same_less a = omega arith
-
-from_zero : (a : ℕ) → int_le (pos 0) (pos a) ≡ true
-from_zero a = grind (arith, ints)
 
 about_tells : (a n : ℕ) → (is_about (pos a) n ≡ true) ↔ IsAbout a n
 about_tells zero n = both_tell 0 4 n
 about_tells (suc zero) n = both_tell 0 9 n
-about_tells (suc (suc a)) n = rw (less_two a, from_zero a, same_less a) (both_tell (a * a) ((suc (suc a) + 2) * (suc (suc a) + 2)) n)
+about_tells (suc (suc a)) n = rw (two_less a, from_zero a, same_less a) (both_tell (a * a) ((suc (suc a) + 2) * (suc (suc a) + 2)) n)
 
 outside_tells : (a n : ℕ) → ((a - 2) * (a - 2) ≤ n) ↔ IsLengthAtMost (pos a -ℤ pos 2) n
 outside_tells zero n = (λ le. tt, λ any. omega arith)
 outside_tells (suc zero) n = (λ le. tt, λ any. omega arith)
-outside_tells (suc (suc a)) n = rw (less_two a, not_negative a, same_less a) (λ le. le, λ le. le)
+outside_tells (suc (suc a)) n = rw (two_less a, not_negative a, same_less a) (λ le. le, λ le. le)
 
 inside_tells : (a n : ℕ) → (n ≤ (a + 2) * (a + 2)) ↔ IsRootAtMost n (pos a +ℤ pos 2)
 inside_tells a n = rw (not_negative (a + 2)) (λ le. le, λ le. le)

@@ -10,6 +10,7 @@ use Rattle.apt_num.proofs.Squares.{size_neg}
 use Rattle.apt_num.proofs.Sums.{at_least-sum}
 use Rattle.apt_num.proofs.AtLeast.{at_least_squares}
 use Rattle.apt_num.proofs.Testing.{is_at_least-true}
+use Rattle.apt_num.proofs.Nearest.{not_negative}
 use Rattle.apt_plane.specs.declared.figures.Pt.{Pt}
 use Rattle.apt_plane.specs.declared.figures.Dir.{Dir}
 use Rattle.apt_plane.specs.declared.figures.Line.{Line}
@@ -19,7 +20,7 @@ use Rattle.apt_plane.specs.Vectors.{displacement, cross, dot, length_squared, pe
 use Rattle.apt_plane.specs.Axes.{IsOnAxis}
 use Rattle.apt_plane.proofs.Displacements.{lagrange, turned_cross, turned_length}
 use Rattle.apt_canon.specs.Scale.{IsNearLine, IsNearCircle}
-use Rattle.apt_canon.proofs.CircleMeetings.Near.{not_negative}
+use Rattle.apt_canon.proofs.TangentLines.Laws.{two_less}
 use Rattle.apt_offset.specs.Targets.{signed}
 use Rattle.apt_offset.specs.Sides.{side_at_tangency, inside_or_outside}
 use Rattle.apt_offset.specs.Turns.{opposite}
@@ -127,9 +128,6 @@ no_gap : (r : ℤ) (n : ℕ) → pos 100 ≤ℤ r → 0 < n → AtLeast (pos 0) 
 no_gap (pos (suc (suc t))) n least some at =
     let high : t * t * n ≤ 0 * 0 = subst (λ (z : ℤ). AtLeast (pos 0) z n) (two_less t) at in
     omega (arith, high, mul-le 1 1 (t * t) n (mul-le 1 1 t t (omega (arith, ints, least)) (omega (arith, ints, least))) some)
-  where
-    two_less : (t : ℕ) → pos (suc (suc t)) -ℤ pos 2 ≡ pos t
-    two_less t = omega (arith, ints)
 no_gap (pos (suc zero)) n least some at = omega (arith, ints, least)
 no_gap (pos zero) n least some at = omega (arith, ints, least)
 no_gap (negsuc r) n least some at = omega (arith, ints, least)

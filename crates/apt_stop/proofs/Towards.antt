@@ -12,7 +12,7 @@ use Rattle.apt_plane.specs.declared.figures.Dir.{Dir}
 use Rattle.apt_plane.specs.Ranges.{IsSense}
 use Rattle.apt_plane.specs.Vectors.{displacement, dot, length_squared}
 use Rattle.apt_plane.specs.Distances.{EveryPoint}
-use Rattle.apt_plane.proofs.RingLaws.{under-between, length_at_most}
+use Rattle.apt_plane.proofs.RingLaws.{under-between, length_at_most, under_to}
 use Rattle.apt_plane.proofs.Turned.{size_sense}
 use Rattle.apt_plane.proofs.Displacements.{dot_swap}
 use Rattle.apt_canon.specs.Scale.{IsNearCircle}
@@ -24,7 +24,7 @@ use Rattle.apt_stop.specs.Nearness.{heading, near_stop}
 use Rattle.apt_stop.specs.Ends.{IsKept}
 use Rattle.apt_stop.proofs.Onwards.{Runs, Onward, near_onwards, outside_onwards, inside_onwards, outside_stays}
 use Rattle.apt_stop.proofs.Tracks.{heading_dot, heading_length}
-use Rattle.apt_stop.proofs.Rings.{near_least, near_most, under_at}
+use Rattle.apt_stop.proofs.Rings.{near_least, near_most}
 use Rattle.apt_stop.proofs.Lies.{Lies, Near, Outside, Inside}
 
 -- the contact lies onwards of the centre in the heading, or before it
@@ -83,7 +83,7 @@ leads_on p d sense o r side q is = ahead_by p d sense o r side q is is.lies
 stays_inside : (p o : Pt) (r : ℕ) (q : Pt) → length_squared (displacement o p) ≤ (r + 8) * (r + 8) → length_squared (displacement o q) ≤ (r + 1) * (r + 1)
     → EveryPoint p q (IsKept (targets.Circ o (pos r)) near_stop signs.Plus)
 stays_inside p o r q start end =
-    under-between o p q (pos (r + 8)) (under_at o (r + 8) p start) (under_at o (r + 8) q (omega (arith, end, mul-le (r + 1) (r + 1) (r + 8) (r + 8) (omega arith) (omega arith))))
+    under-between o p q (pos (r + 8)) (under_to o p (r + 8) start) (under_to o q (r + 8) (omega (arith, end, mul-le (r + 1) (r + 1) (r + 8) (r + 8) (omega arith) (omega arith))))
 
 stays_outside : (p : Pt) (d : Dir) (sense : ℤ) (o : Pt) (r : ℕ) (side : Sign) (q : Pt) → Towards p d sense o r side q → side ≡ signs.Minus
     → EveryPoint p q (IsKept (targets.Circ o (pos r)) near_stop signs.Minus)

@@ -5,6 +5,7 @@ use Rattle.apt_num.specs.declared.Sign.{Sign}
 use Rattle.apt_num.specs.declared.Sign.TheVariants as signs
 use Rattle.apt_num.specs.Sign.{OnLine, square}
 use Rattle.apt_num.proofs.Ring.{as_diff, diff-same, differences}
+use Rattle.apt_canon.proofs.FootPoints.Sharp.{times_dot}
 use Rattle.apt_plane.specs.declared.figures.Pt.{Pt}
 use Rattle.apt_plane.specs.declared.figures.Dir.{Dir}
 use Rattle.apt_plane.specs.Ranges.{IsSense}
@@ -16,14 +17,11 @@ use Rattle.apt_stop.proofs.Approaches.{at_most_four}
 use Rattle.apt_stop.proofs.Leads.{rise_at_least, fall_at_least}
 use Rattle.apt_stop.proofs.Onwards.{Runs, cross_step}
 
-dot_parts : (s a b p q : ℤ) → ((s *ℤ a) *ℤ p) +ℤ ((s *ℤ b) *ℤ q) ≡ s *ℤ ((a *ℤ p) +ℤ (b *ℤ q))
-dot_parts s a b p q = rw (as_diff s, as_diff a, as_diff b, as_diff p, as_diff q) (simp differences (diff-same _ _ _ _ (omega arith)))
-
 cross_parts : (s a b p q : ℤ) → ((s *ℤ a) *ℤ q) -ℤ ((s *ℤ b) *ℤ p) ≡ s *ℤ ((a *ℤ q) -ℤ (b *ℤ p))
 cross_parts s a b p q = rw (as_diff s, as_diff a, as_diff b, as_diff p, as_diff q) (simp differences (diff-same _ _ _ _ (omega arith)))
 
 pub heading_dot : (sense : ℤ) (d v : Dir) → dot (heading sense d) v ≡ sense *ℤ dot d v
-heading_dot sense d v = dot_parts sense d.dx d.dy v.dx v.dy
+heading_dot sense d v = times_dot sense d.dx d.dy v.dx v.dy
 
 pub heading_turn : (sense : ℤ) (d v : Dir) → cross (heading sense d) v ≡ sense *ℤ cross d v
 heading_turn sense d v = cross_parts sense d.dx d.dy v.dx v.dy

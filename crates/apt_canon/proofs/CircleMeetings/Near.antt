@@ -2,6 +2,8 @@
 use Rattle.std.proofs.Common.{◌≡◌, ℕ, zero, suc, ◌+◌, ◌-◌, ◌*◌, ◌≤◌, arith, pos, ◌+ℤ◌, ◌-ℤ◌, ◌≤ℤ◌, unsigned_abs, int_lt, false}
 use Rattle.std.proofs.lemmas.Int.{ints}
 use Rattle.apt_num.proofs.Squares.{natural}
+use Rattle.apt_num.proofs.Nearest.{not_negative}
+use Rattle.apt_num.proofs.RootLaws.{less_one}
 use Rattle.apt_plane.specs.declared.figures.Pt.{Pt}
 use Rattle.apt_plane.specs.declared.figures.Circ.{Circ}
 use Rattle.apt_plane.specs.Vectors.{displacement, length_squared}
@@ -9,18 +11,12 @@ use Rattle.apt_plane.specs.Distances.{IsLengthAtMost, IsRootAtMost}
 use Rattle.apt_plane.proofs.Lengths.{IsInRing}
 use Rattle.apt_canon.specs.Scale.{IsNearCircle}
 
-pub not_negative : (n : ℕ) → int_lt (pos n) (pos 0) ≡ false
-not_negative n = grind (arith, ints)
-
 one_less : (t : ℕ) → pos (suc t) -ℤ pos 1 ≡ pos t
 one_less t = omega (arith, ints)
 
-same_less : (t : ℕ) → suc t - 1 ≡ t
-same_less t = omega arith
-
 outside_of : (r n : ℕ) → (r - 1) * (r - 1) ≤ n → IsLengthAtMost (pos r -ℤ pos 1) n
 outside_of zero n h = tt
-outside_of (suc t) n h = rw (one_less t, not_negative t) (rw (same_less t) at h)
+outside_of (suc t) n h = rw (one_less t, not_negative t) (rw (less_one t) at h)
 
 inside_of : (r n : ℕ) → n ≤ (r + 1) * (r + 1) → IsRootAtMost n (pos r +ℤ pos 1)
 inside_of r n h = rw (not_negative (r + 1)) h

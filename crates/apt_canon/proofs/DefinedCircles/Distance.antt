@@ -4,9 +4,9 @@ use Rattle.std.proofs.Math.IntN.{*ℤ_comm}
 use Rattle.std.proofs.lemmas.Int.{ints}
 use Rattle.std.proofs.lemmas.Bool.Decides.{leb_tells}
 use Rattle.apt_num.specs.Root.{IsNearestRoot, root, root_near}
-use Rattle.apt_num.proofs.RootLaws.{root-IsRoot, nearest_below, nearest_above}
+use Rattle.apt_num.proofs.RootLaws.{root-IsRoot, nearest_below, nearest_above, odd_before}
 use Rattle.apt_num.proofs.Roots.{on_line}
-use Rattle.apt_num.proofs.Nearest.{near_remainder}
+use Rattle.apt_num.proofs.Nearest.{near_remainder, not_negative}
 use Rattle.apt_plane.specs.declared.figures.Pt.{Pt}
 use Rattle.apt_plane.specs.declared.figures.Line.{Line}
 use Rattle.apt_plane.specs.Vectors.{displacement, cross, length_squared}
@@ -16,8 +16,6 @@ use Rattle.apt_canon.specs.Scale.{unit, length_of, IsNearCircle}
 use Rattle.apt_canon.specs.Rounds.{circle, length_near, distance_from_line}
 use Rattle.apt_canon.specs.RoundLaws.{Touches}
 use Rattle.apt_canon.proofs.Depths.{length_facts, length_positive}
-use Rattle.apt_canon.proofs.CircleMeetings.Near.{not_negative}
-use Rattle.apt_canon.proofs.DefinedCircles.Sizes.{odd_before}
 
 pub root_near-nearest : (n : ℕ) → n < 2 ^ 128 → IsNearestRoot n (root_near n)
 root_near-nearest n h =

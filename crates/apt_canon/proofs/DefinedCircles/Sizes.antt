@@ -6,8 +6,9 @@ use Rattle.std.proofs.lemmas.Bool.Decides.{nat_tests}
 use Rattle.std.proofs.lemmas.Int.{ints, unsigned_abs-mul}
 use Rattle.std.proofs.lemmas.Nat.{mul-le}
 use Rattle.apt_num.specs.Root.{IsNearestRoot, root}
-use Rattle.apt_num.proofs.Squares.{root_lt, square_le}
+use Rattle.apt_num.proofs.Squares.{root_lt, square_le, no_square}
 use Rattle.apt_num.proofs.Nearest.{near_bound}
+use Rattle.apt_num.proofs.RootLaws.{odd_before}
 use Rattle.apt_plane.specs.declared.figures.Pt.{Pt}
 use Rattle.apt_plane.specs.declared.figures.Dir.{Dir}
 use Rattle.apt_plane.specs.declared.figures.Line.{Line}
@@ -20,9 +21,6 @@ use Rattle.apt_canon.specs.Rounds.{distance_from_line}
 use Rattle.apt_canon.proofs.Ways.{way_is_dir}
 use Rattle.apt_canon.proofs.Depths.{length_facts, length_positive}
 use Rattle.apt_canon.proofs.Products.{kept, size_in_units}
-
-pub odd_before : (t : ℕ) → 2 * suc t - 1 ≡ 2 * t + 1
-odd_before t = omega arith
 
 -- the nearest root of the square of a length between points
 pub nearest_root_small : (n q : ℕ) → n ≤ 8 * 10 ^ 16 → IsNearestRoot n q → q ≤ 10 ^ 9
@@ -50,10 +48,6 @@ twice_kept z h = rw (kept z (omega arith)) (kept (pos 2 *ℤ z) (omega (arith, t
 
 pub twice_not_zero : (z : ℤ) → z ≢ pos 0 → pos 2 *ℤ z ≢ pos 0
 twice_not_zero z d = λ e. d (omega (arith, ints))
-
-no_square : (x n : ℕ) → x * x ≤ 0 * n → x ≡ 0
-no_square zero n h = omega arith
-no_square (suc x) n h = absurd (omega (arith, h))
 
 size_zero : (z : ℤ) → unsigned_abs z ≡ 0 → z ≡ pos 0
 size_zero z e = omega (arith, ints)

@@ -37,7 +37,7 @@ no_turn : (u : Dir) (m : ℤ) → cross u (times m u) ≡ pos 0
 no_turn u m = cross_times u u m ∙ rw (cross_self u) (omega (arith, ints))
 
 -- a product that is the rest of a rounding alone
-no_more : (z : ℤ) → pos 0 +ℤ z ≡ z
+pub no_more : (z : ℤ) → pos 0 +ℤ z ≡ z
 no_more z = omega (arith, ints)
 
 off_core : (s c n rest : ℕ) → 0 < s → s * c ≡ rest → 2 * rest * rest ≤ n * (s * s) → 2 * (c * c) ≤ n
@@ -119,7 +119,7 @@ radius_core s g x E A r h gs xs es lo hi = elim (cases_lt (3 * r) (2 * A)) [
   | inr fine ↦ fine
 ]
 
-times_dot : (m a b p q : ℤ) → ((m *ℤ a) *ℤ p) +ℤ ((m *ℤ b) *ℤ q) ≡ m *ℤ ((a *ℤ p) +ℤ (b *ℤ q))
+pub times_dot : (m a b p q : ℤ) → ((m *ℤ a) *ℤ p) +ℤ ((m *ℤ b) *ℤ q) ≡ m *ℤ ((a *ℤ p) +ℤ (b *ℤ q))
 times_dot m a b p q = rw (as_diff m, as_diff a, as_diff b, as_diff p, as_diff q) (simp differences (diff-same _ _ _ _ (omega arith)))
 
 -- s times the way is the radius along the direction and the rest: so are the squares of their lengths

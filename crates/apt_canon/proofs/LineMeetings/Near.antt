@@ -7,6 +7,7 @@ use Rattle.apt_num.specs.Sign.{OnLine}
 use Rattle.apt_num.proofs.Ring.{as_diff, diff-same, differences}
 use Rattle.apt_num.proofs.Squares.{cancel_le}
 use Rattle.apt_num.proofs.Roots.{ScaledRoot, root_facts, five_sevenths, on_line}
+use Rattle.apt_num.proofs.Footed.{scaled_to}
 use Rattle.apt_plane.specs.declared.figures.Dir.{Dir}
 use Rattle.apt_plane.specs.Vectors.{length_squared}
 use Rattle.apt_plane.specs.Ranges.{IsDir}
@@ -29,9 +30,6 @@ three_quarters w s p q = omega arith
 
 rest_small : (n s w : ℕ) → ScaledRoot n s → 2 * w * w ≤ n * (2 ^ 35 * 2 ^ 35) → 4 * w ≤ 3 * s
 rest_small n s w at p = three_quarters w s (five_sevenths w (s + 1) (omega (arith, p, at.high))) at.large
-
-scaled_to : (x y : ℤ) → x ≡ y +ℤ (x -ℤ y)
-scaled_to x y = omega (arith, ints)
 
 pub near_line : (d : Dir) (turn k h rest : ℤ) → IsDir d → turn ≢ pos 0 → unsigned_abs h ≤ 10 ^ 8
     → (turn *ℤ pos (2 ^ 35)) *ℤ k ≡ (turn *ℤ (h *ℤ length_of d)) +ℤ rest

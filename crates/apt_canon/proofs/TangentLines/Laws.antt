@@ -78,7 +78,7 @@ lag_small a p is =
 
 -- ---- from numbers to a touch
 
-two_less : (t : ℕ) → pos (suc (suc t)) -ℤ pos 2 ≡ pos t
+pub two_less : (t : ℕ) → pos (suc (suc t)) -ℤ pos 2 ≡ pos t
 two_less t = omega (arith, ints)
 
 two_more : (r : ℕ) → neg_ℤ (pos r) -ℤ pos 2 ≡ neg_ℤ (pos (r + 2))

@@ -19,14 +19,12 @@ use Rattle.apt_plane.proofs.RingLaws.{tells_over, tells_under}
 use Rattle.apt_plane.proofs.Weaker.{point_over, point_under}
 use Rattle.apt_canon.specs.Scale.{IsNearCircle}
 use Rattle.apt_offset.specs.Targets.{offset_surface}
-use Rattle.apt_offset.proofs.Rooms.{HasRoomAbout, circle_room}
+use Rattle.apt_offset.proofs.Rooms.{HasRoomAbout, circle_room, le_greater}
 use Rattle.apt_contact.specs.Meetings.{circle_about}
 use Rattle.apt_contact.specs.Contacts.{IsNearTarget}
 use Rattle.apt_num.proofs.Sums.{at_least-weaker}
 
 -- the greater of two is at least the first
-le_greater-left : (a b : ℤ) → a ≤ℤ greater a b
-le_greater-left a b = grind (arith, ints)
 
 -- a band has room for 8 units to both sides of a place
 pub record HasRoom (band : Band) (offset : ℤ) : Type 0 where
@@ -36,7 +34,7 @@ pub record HasRoom (band : Band) (offset : ℤ) : Type 0 where
 pub band_at-HasRoom : (l : Line) (v : Sign) (r i o : ℤ) → pos 8 ≤ℤ i → pos 8 ≤ℤ o → HasRoom (band_at (surfaces.Line l) v r i o) (signed v r)
 band_at-HasRoom l signs.Plus r i o p q = record { lo = omega (arith, ints); hi = omega (arith, ints) }
 band_at-HasRoom l signs.Minus r i o p q = record { lo = omega (arith, ints); hi = omega (arith, ints) }
-band_at-HasRoom l signs.Zero r i o p q = record { lo = omega (arith, ints, le_greater-left i o); hi = omega (arith, ints, le_greater-left i o) }
+band_at-HasRoom l signs.Zero r i o p q = record { lo = omega (arith, ints, le_greater i o); hi = omega (arith, ints, le_greater i o) }
 
 -- a point that is at most 8 units from the place is in the band
 pub near_in_band : (l : Line) (band : Band) (offset g : ℤ) (p : Pt) → HasRoom band offset → g ≤ℤ pos 8

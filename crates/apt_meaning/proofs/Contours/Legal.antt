@@ -28,6 +28,7 @@ use Rattle.apt_stop.proofs.NearLaws.{near-OnLine}
 use Rattle.apt_stop.proofs.Chosen.{bound_there}
 use Rattle.apt_stop.proofs.Tracks.{heading_dot}
 use Rattle.apt_stop.proofs.Ended.{course_ends}
+use Rattle.apt_stop.proofs.NextLegs.{touch_side}
 use Rattle.apt_certify.specs.declared.leg.Leg.{Leg}
 use Rattle.apt_certify.specs.Legs.{beyond_of, IsBounded, IsOnAxisOrNone}
 use Rattle.apt_meaning.specs.declared.motion.Motion.{Motion}
@@ -101,9 +102,6 @@ pub no_edge : (check : Surface) (band : Band) (side : Sign) (p q : Pt) → side 
 no_edge (surfaces.Line l) band side p q e = rw e (λ j k h. tt)
 no_edge (surfaces.Circ c) band side p q e = rw e (λ j k h. tt)
 
-pub no_side : (c : Course) → is_tanto c.how ≡ true → kept_side c ≡ signs.Zero
-no_side c e = rw e refl
-
 pub no_axis : (c : Course) → is_tanto c.how ≡ false → axis_of c ≡ None
 no_axis c e = rw e refl
 
@@ -132,7 +130,7 @@ meets m d q is meeting ends =
 touches : (m : Motion) (d : Line) (q : Pt) → IsMotion m → is_tanto m.how ≡ true → EndsOnLine (course_of m) d.dir q → EndsAtStop m q
 touches m d q is touching ends =
     let at_stop = ends.touches touching in record {
-      before = no_edge m.check (widened (leg_of m).stop_band (pos 0)) (stop_side m) m.start.xy q (no_side (course_of m) touching);
+      before = no_edge m.check (widened (leg_of m).stop_band (pos 0)) (stop_side m) m.start.xy q (touch_side (course_of m) touching);
       stop = near_surface m.check m.check_side m.radius m.inner m.outer (pos 4) q is.inner.least is.outer.least (omega (arith, ints)) at_stop.stop;
       axis = on_axis (axis_of (course_of m)) q at_stop.axis;
     }

@@ -6,17 +6,19 @@ use Rattle.apt_num.specs.declared.Sign.TheVariants as signs
 use Rattle.apt_words.specs.Rows.{Row, NoneHolds}
 use Rattle.apt_plane.specs.declared.figures.Pt.{Pt}
 use Rattle.apt_offset.specs.Turns.{opposite, is_zero}
+use Rattle.apt_offset.proofs.Refusals.{opposite-is_zero}
 use Rattle.apt_stop.specs.Nearness.{is_near, off_track}
 use Rattle.apt_stop.specs.Courses.{axis_of}
 use Rattle.apt_stop.specs.Choices.{stop_cases, way_cases}
 use Rattle.apt_stop.proofs.Chosen.{end_is_point}
 use Rattle.apt_stop.specs.Legs.{ways_of}
-use Rattle.apt_stop.proofs.NextLegs.{next_is, next_free, other_side}
+use Rattle.apt_stop.proofs.NextLegs.{next_is, next_free, other_side, both_none}
 use Rattle.apt_certify.specs.Legal.{last_of}
 use Rattle.apt_certify.specs.Legs.{IsBounded}
 use Rattle.apt_meaning.specs.declared.motion.Motion.{Motion}
 use Rattle.apt_stop.specs.declared.legs.Legs.{Legs}
 use Rattle.apt_stop.specs.declared.legs.Legs.TheVariants as legs
+use Rattle.apt_stop.proofs.Decided.{none_before, none_behind}
 use Rattle.apt_meaning.specs.Motions.{track_of, course_of, stop_side, onward, leg_on, is_defined}
 use Rattle.apt_meaning.specs.Cuts.{end_point, vertices_of, motions_of, IsOwnCut}
 use Rattle.apt_meaning.specs.Refusals.{motion_cases, cut_cases}
@@ -29,36 +31,24 @@ use Rattle.apt_meaning.proofs.Contours.Cuts.{cut_is}
 
 -- ---- the rows of a contour
 
-none_first : (rows more : List Row) → NoneHolds (rows ++ more) → NoneHolds rows
-none_first [] more none = tt
-none_first (row ∷ rows) more none = (none.0, none_first rows more none.1)
-
-none_later : (rows more : List Row) → NoneHolds (rows ++ more) → NoneHolds more
-none_later [] more none = none
-none_later (row ∷ rows) more none = none_later rows more none.1
-
-both_none : (rows more : List Row) → NoneHolds rows → NoneHolds more → NoneHolds (rows ++ more)
-both_none [] more none later = later
-both_none (row ∷ rows) more none later = (none.0, both_none rows more none.1 later)
-
 -- the ways of two legs
 abbrev second_rows : Motion → List Row
 second_rows m = way_cases (course_of (onward m (end_point m)))
 
 two_ways : (m : Motion) → NoneHolds (cut_cases m legs.Two) → NoneHolds (way_cases (course_of m) ++ second_rows m)
-two_ways m none = (none_later (stop_cases (course_of m)) (ways_of legs.Two (course_of m)) none.1.1.1.1).1
+two_ways m none = (none_behind (stop_cases (course_of m)) (ways_of legs.Two (course_of m)) none.1.1.1.1).1
 
 -- what is free of its cases is free of those of a motion to the first meeting
 pub first_free : (m : Motion) (n : Legs) → NoneHolds (cut_cases m n) → NoneHolds (motion_cases m)
 first_free m legs.One none = none
 first_free m legs.Two none =
     let c = course_of m in
-    let stop = none_first (stop_cases c) (ways_of legs.Two c) none.1.1.1.1 in
-    (none.0, (none.1.0, (none.1.1.0, (none.1.1.1.0, both_none (stop_cases c) (way_cases c) stop (none_first (way_cases c) (second_rows m) (two_ways m none))))))
+    let stop = none_before (stop_cases c) (ways_of legs.Two c) none.1.1.1.1 in
+    (none.0, (none.1.0, (none.1.1.0, (none.1.1.1.0, both_none (stop_cases c) (way_cases c) stop (none_before (way_cases c) (second_rows m) (two_ways m none))))))
 
 -- the way of the second leg
 second_way : (m : Motion) → NoneHolds (cut_cases m legs.Two) → NoneHolds (way_cases (course_of (onward m (end_point m))))
-second_way m none = none_later (way_cases (course_of m)) (second_rows m) (two_ways m none)
+second_way m none = none_behind (way_cases (course_of m)) (second_rows m) (two_ways m none)
 
 -- ---- the second leg
 
@@ -101,11 +91,11 @@ due_there : (m : Motion) (vertices : List Pt) → last_of m.start.xy vertices �
     → next_leg (first_leg m) vertices ≡ first_leg (onward m (end_point m))
 due_there m vertices e f = rw (e, f) refl
 
-own_legs : (m : Motion) (n : Legs) → IsMotion m → NoneHolds (cut_cases m n) → AreOwn m n
-own_legs m legs.One is none =
+pub legs_are : (m : Motion) (n : Legs) → IsMotion m → NoneHolds (cut_cases m n) → AreOwn m n
+legs_are m legs.One is none =
     let cut = cut_is m is none in
     record { legal = (cut.legal, tt); own = (cut.own, tt); cuts = ((cut.some, cut.points), tt); ends = cut.ends }
-own_legs m legs.Two is none =
+legs_are m legs.Two is none =
     let first = first_free m legs.Two none in
     let cut = cut_is m is first in
     let there = second_is m is first in
@@ -118,15 +108,7 @@ own_legs m legs.Two is none =
       ends = ap (λ (p : Pt). last_of p further) cut.ends ∙ next.ends;
     }
 
-pub legs_are : (m : Motion) (n : Legs) → IsMotion m → NoneHolds (cut_cases m n) → AreOwn m n
-legs_are m n is none = own_legs m n is none
-
 -- ---- what bounds the legs of a contour whose stop is there
-
-opposite_zero : (side : Sign) → is_zero (opposite side) ≡ is_zero side
-opposite_zero signs.Plus = refl
-opposite_zero signs.Zero = refl
-opposite_zero signs.Minus = refl
 
 abbrev pub IsBound : Due → Type 0
 IsBound d = (not (is_zero d.side) || is_some (axis_of (course_of d.motion))) ≡ true
@@ -135,7 +117,7 @@ pub bound_first : (m : Motion) → is_defined m ≡ true → IsBound (first_leg 
 bound_first m is = defined_bound m is
 
 pub bound_next : (d : Due) (vertices : List Pt) → IsBound d → IsBound (next_leg d vertices)
-bound_next d vertices bound = ap (λ b. not b || is_some (axis_of (course_of d.motion))) (opposite_zero d.side) ∙ bound
+bound_next d vertices bound = ap (λ b. not b || is_some (axis_of (course_of d.motion))) (opposite-is_zero d.side) ∙ bound
 
 pub bounded_due : (d : Due) → IsBound d → IsBounded (leg_on d.motion d.side)
 bounded_due d bound = side_bounded d.motion d.side bound

@@ -30,6 +30,7 @@ use Rattle.apt_stop.proofs.Parts.{Meets, meets}
 use Rattle.apt_stop.proofs.Placed.{placed}
 use Rattle.apt_stop.proofs.Sided.{sided}
 use Rattle.apt_stop.proofs.OnRounds.{sigma_is}
+use Rattle.apt_stop.proofs.NextLegs.{touch_side}
 use Rattle.apt_arc.specs.declared.arc.Arc.{Arc}
 use Rattle.apt_arc.specs.Divisions.{IsDivision}
 use Rattle.apt_arc.specs.Made.{divided}
@@ -44,7 +45,7 @@ use Rattle.apt_meaning.specs.Motions.{course_of, leg_of}
 use Rattle.apt_meaning.specs.Refusals.{motion_cases}
 use Rattle.apt_meaning.specs.Ranges.{IsMotion}
 use Rattle.apt_meaning.proofs.Contours.Bands.{band_at-HasRoom}
-use Rattle.apt_meaning.proofs.Contours.Legal.{course_is, stop_room, no_edge, no_side}
+use Rattle.apt_meaning.proofs.Contours.Legal.{course_is, stop_room, no_edge}
 use Rattle.apt_meaning.proofs.Contours.Arcs.{round, arc_round, arc_is, ends_round, sag_within, enough}
 use Rattle.apt_meaning.proofs.Contours.Starts.{StartsBeside, starts_beside, StartsBy, starts_by}
 
@@ -160,7 +161,7 @@ touches_within : (m : Motion) (d : Circ) → is_tanto m.how ≡ true → EveryCh
 touches_within m d touching =
     let n = round m d in
     let leg = leg_of n in
-    all_chords (IsWithinSlack leg leg.beyond) m.start.xy (divided (arc_round m d)) (λ p q. no_edge m.check (widened leg.stop_band (slack_of leg)) (kept_side (course_of n)) p q (no_side (course_of n) touching))
+    all_chords (IsWithinSlack leg leg.beyond) m.start.xy (divided (arc_round m d)) (λ p q. no_edge m.check (widened leg.stop_band (slack_of leg)) (kept_side (course_of n)) p q (touch_side (course_of n) touching))
 
 by_touch : (m : Motion) (d : Circ) (tanto : Bool) → is_tanto m.how ≡ tanto → IsMotion (round m d) → NoneHolds (motion_cases (round m d))
     → EveryChord m.start.xy (divided (arc_round m d)) (IsWithinSlack (leg_of (round m d)) (leg_of (round m d)).beyond)

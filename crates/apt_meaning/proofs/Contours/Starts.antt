@@ -16,29 +16,18 @@ use Rattle.apt_plane.specs.Vectors.{displacement, cross, dot, length_squared, sc
 use Rattle.apt_plane.specs.Distances.{IsOver, IsUnder, about}
 use Rattle.apt_plane.proofs.SegmentLaws.{above_at, below_at}
 use Rattle.apt_plane.proofs.Turned.{size_sense}
+use Rattle.apt_plane.proofs.RingLaws.{over_to, under_to}
 use Rattle.apt_offset.specs.declared.Target.TheVariants as targets
 use Rattle.apt_stop.specs.Nearness.{is_near, near_stop}
 use Rattle.apt_stop.specs.Choices.{is_by_axis}
 use Rattle.apt_stop.proofs.NearLaws.{near-OnLine}
 use Rattle.apt_stop.proofs.Far.{far_on_side}
-use Rattle.apt_stop.proofs.Rings.{ring_true, ring_false, over_at, under_at}
+use Rattle.apt_stop.proofs.Rings.{ring_true, ring_false}
+use Rattle.apt_stop.proofs.Turned.{off_axis}
 use Rattle.apt_arc.specs.declared.arc.Arc.{Arc}
 use Rattle.apt_arc.specs.Stops.{to_start, IsAhead, IsAback, StartsLeft, StartsRight, StartsInside, StartsOutside}
 
 -- ---- off an axis by more than 8 units
-
-below_axis : (k : ℤ) (n : ℕ) → is_at_least k (negsuc 7) n ≡ false → 64 * n < square k
-below_axis (pos a) n e = absurd (both_ways (is_at_least (pos a) (negsuc 7) n) e (is_at_least-from (pos a) (negsuc 7) n tt))
-below_axis (negsuc a) n e = elim (cases_lt (64 * n) (suc a * suc a)) [
-  | inl more ↦ more
-  | inr less ↦ absurd (both_ways (is_at_least (negsuc a) (negsuc 7) n) e (is_at_least-from (negsuc a) (negsuc 7) n (omega (arith, less))))
-]
-
-off_axis : (k : ℤ) (n : ℕ) → is_by_axis k n ≡ false → 64 * n < square k
-off_axis k n e = elim (and_cases (is_at_least k (pos 0 -ℤ near_stop) n) (is_at_least (neg_ℤ k) (neg_ℤ (pos 0) -ℤ near_stop) n) e) [
-  | inl lower ↦ below_axis k n lower
-  | inr higher ↦ rw (size_neg k) at (below_axis (neg_ℤ k) n higher)
-]
 
 plus_is : (z : ℤ) → sign_of z ≡ signs.Plus → pos 0 <ℤ z
 plus_is (pos zero) e = absurd cc
@@ -98,17 +87,17 @@ starts_by signs.Zero a q (pos n) near some least is e past heads = absurd (some 
 starts_by signs.Plus a q (pos n) true some least is e past heads =
     let g = displacement a.track.c q in
     let ring = ring_true n 8 (length_squared (displacement q a.start)) (omega (arith, ints, least)) e in
-    inr (under_at q (n + 8) a.start ring.1, ahead a.sense (cross (to_start a) g) (length_squared g) is past heads)
+    inr (under_to q a.start (n + 8) ring.1, ahead a.sense (cross (to_start a) g) (length_squared g) is past heads)
 starts_by signs.Minus a q (pos n) true some least is e past heads =
     let g = displacement a.track.c q in
     let large : 100 ≤ n = omega (arith, ints, least) in
     let ring = ring_true n 8 (length_squared (displacement q a.start)) (omega (arith, large)) e in
-    inr (subst (λ (z : ℤ). IsOver (about q) z (scaled a.start)) (less_eight n large) (over_at q (n - 8) a.start ring.0), aback a.sense (cross (to_start a) g) (length_squared g) is past heads)
+    inr (subst (λ (z : ℤ). IsOver (about q) z (scaled a.start)) (less_eight n large) (over_to q a.start (n - 8) ring.0), aback a.sense (cross (to_start a) g) (length_squared g) is past heads)
 starts_by signs.Plus a q (pos n) false some least is e past heads =
     let large : 100 ≤ n = omega (arith, ints, least) in
     let m = length_squared (displacement q a.start) in
     elim (ring_false n 8 m (omega (arith, large)) e) [
-      | inl inside ↦ inl (subst (λ (z : ℤ). IsUnder (about q) z (scaled a.start)) (less_eight n large) (under_at q (n - 8) a.start (omega (arith, inside))))
+      | inl inside ↦ inl (subst (λ (z : ℤ). IsUnder (about q) z (scaled a.start)) (less_eight n large) (under_to q a.start (n - 8) (omega (arith, inside))))
       | inr outside ↦ absurd (omega (arith, ints, outside, plus_is (pos (square (pos n)) -ℤ pos m) heads))
     ]
 starts_by signs.Minus a q (pos n) false some least is e past heads =
@@ -116,5 +105,5 @@ starts_by signs.Minus a q (pos n) false some least is e past heads =
     let m = length_squared (displacement q a.start) in
     elim (ring_false n 8 m (omega (arith, large)) e) [
       | inl inside ↦ absurd (omega (arith, ints, inside, mul-le (n - 8) (n - 8) n n (omega arith) (omega arith), minus_is (pos (square (pos n)) -ℤ pos m) heads))
-      | inr outside ↦ inl (over_at q (n + 8) a.start (omega (arith, outside)))
+      | inr outside ↦ inl (over_to q a.start (n + 8) (omega (arith, outside)))
     ]

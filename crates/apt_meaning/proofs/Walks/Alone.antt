@@ -6,6 +6,7 @@ use Rattle.std.proofs.lemmas.Bool.Decides.{Decides-eqb, Decides-int_eq}
 use Rattle.std.proofs.lemmas.Int.{ints}
 use Rattle.apt_words.specs.Asks.{listed}
 use Rattle.apt_words.specs.declared.deed.Step.{Step}
+use Rattle.apt_arc.proofs.Clear.{same_answer}
 use Rattle.apt_plane.specs.declared.figures.Pt.{Pt}
 use Rattle.apt_plane.specs.declared.figures.Dir.{Dir}
 use Rattle.apt_plane.specs.declared.figures.Surface.{Surface}
@@ -64,12 +65,6 @@ note_tells s here notes.Fini t = t
 
 -- ---- moves
 
-same_bool : (a b : Bool) → (a ≡ true → b ≡ true) → (b ≡ true → a ≡ true) → a ≡ b
-same_bool true true f g = refl
-same_bool true false f g = sym (f refl)
-same_bool false true f g = g refl
-same_bool false false f g = refl
-
 no_square : (x : ℤ) (n : ℕ) → unsigned_abs x * unsigned_abs x + n ≡ 0 → x ≡ pos 0
 no_square (pos zero) n e = refl
 no_square (pos (suc m)) n e = absurd (omega (arith, e))
@@ -83,7 +78,7 @@ nowhere_by_length : (d : Dir) → (length_squared d == 0) ≡ is_nowhere d
 nowhere_by_length d =
     let n = unsigned_abs d.dx * unsigned_abs d.dx in
     let m = unsigned_abs d.dy * unsigned_abs d.dy in
-    same_bool (length_squared d == 0) (is_nowhere d)
+    same_answer (length_squared d == 0) (is_nowhere d)
     (λ short. let none : n + m ≡ 0 = (Decides-eqb (n + m) 0).0 short in
     both_hold (int_eq d.dx (pos 0)) (int_eq d.dy (pos 0)) ((Decides-int_eq d.dx (pos 0)).1 (no_square d.dx m none)) ((Decides-int_eq d.dy (pos 0)).1 (no_square d.dy n (omega (arith, none)))))
     (λ still. let parts = both (int_eq d.dx (pos 0)) (int_eq d.dy (pos 0)) still in

@@ -22,6 +22,7 @@ use Rattle.apt_meaning.specs.Effects.{note_of, effect_of}
 use Rattle.apt_meaning.specs.Records.{cut_record, records_of, after, FollowsAs}
 use Rattle.apt_words.specs.ProgramEnds.{is_ended, StepsEnd}
 use Rattle.apt_meaning.proofs.Said.{IsNoteOf, IsSaidBy, said_by}
+use Rattle.apt_meaning.proofs.Walks.Compiled.{same_some}
 
 -- ---- a step that is not the last
 
@@ -70,14 +71,11 @@ step_ends here ask step (effects.Cuts m n) cuts rest said goes_on more = cuts_en
 
 -- ---- the last step
 
-same_effect : (d e : Effect) → ◌≡◌ {A = Option Effect} (Some d) (Some e) → d ≡ e
-same_effect d e h = cc
-
 fini_ends : (ended : Bool) (here : Situation) (step : Step) (deed : Deed) (e : Effect) (cuts : List (List Pt)) → deed ≡ deeds.Fini → effect_of here deed ≡ Some e
     → EndsOnce ended (records_of step e cuts ++ [])
 fini_ends ended here step deed e cuts is asked =
     let fini = effects.Sets (changes.Said notes.Fini) in
-    let same = same_effect fini e (subst (λ (d : Deed). effect_of here d ≡ Some e) is asked) in
+    let same = same_some fini e (subst (λ (d : Deed). effect_of here d ≡ Some e) is asked) in
     subst (λ (x : Effect). EndsOnce ended (records_of step x cuts ++ [])) same tt
 
 -- ---- the walk

@@ -12,7 +12,7 @@ use Rattle.apt_plane.specs.Ranges.{IsPoint, IsSurface, IsSense}
 use Rattle.apt_plane.specs.Vectors.{displacement, length_squared, perp}
 use Rattle.apt_offset.specs.Turns.{tangent}
 use Rattle.apt_stop.specs.Nearness.{heading}
-use Rattle.apt_stop.proofs.Headings.{kept as forwards, turned as backwards}
+use Rattle.apt_stop.proofs.Sizes.{size_kept}
 use Rattle.apt_certify.specs.Jobs.{ArePoints}
 use Rattle.apt_certify.specs.Legal.{last_of}
 use Rattle.apt_records.specs.declared.record.Position.{Position}
@@ -58,12 +58,8 @@ tangent_short : (s : Surface) (p : Pt) → IsSurface s → IsPoint p → IsForwa
 tangent_short (surfaces.Line l) p is is_p = record { dx = is.dir.dx; dy = is.dir.dy }
 tangent_short (surfaces.Circ c) p is is_p = turned_short (displacement c.c p) (displacement_short c.c p is.centre is_p)
 
-sense_short : (sense z : ℤ) → IsSense sense → unsigned_abs z ≤ 10 ^ 8 → unsigned_abs (sense *ℤ z) ≤ 10 ^ 8
-sense_short sense z (inl e) is = rw (e, forwards z) is
-sense_short sense z (inr e) is = rw (e, backwards z, size_neg z) is
-
 heading_short : (sense : ℤ) (d : Dir) → IsSense sense → IsForward d → IsForward (heading sense d)
-heading_short sense d is is_d = record { dx = sense_short sense d.dx is is_d.dx; dy = sense_short sense d.dy is is_d.dy }
+heading_short sense d is is_d = record { dx = size_kept sense d.dx is is_d.dx; dy = size_kept sense d.dy is is_d.dy }
 
 -- ---- the situation behind an effect
 
