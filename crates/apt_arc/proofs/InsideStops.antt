@@ -105,15 +105,6 @@ ends_past a stop is some beyond =
 pub radius_is : (r : ℤ) → pos 100 ≤ℤ r → r ≡ pos (unsigned_abs r)
 radius_is r least = omega (arith, ints, least)
 
-radius_more : (k : ℕ) (r : ℤ) → pos 100 ≤ℤ r → r +ℤ pos k ≡ pos (unsigned_abs r + k)
-radius_more k r least = omega (arith, ints, least)
-
-radius_less : (r : ℤ) → pos 100 ≤ℤ r → r -ℤ pos 8 ≡ pos (unsigned_abs r - 8)
-radius_less r least = omega (arith, ints, least)
-
-one_less : (r : ℤ) → pos 100 ≤ℤ r → r -ℤ pos 1 ≡ pos (unsigned_abs r - 8 + 7)
-one_less r least = omega (arith, ints, least)
-
 large_radius : (r : ℤ) → pos 100 ≤ℤ r → (58 ≤ unsigned_abs r) × (1 ≤ unsigned_abs r - 8)
 large_radius r least = (omega (arith, ints, least), omega (arith, ints, least))
 
@@ -128,9 +119,9 @@ pub circle_inside : (a : Arc) (stop : Circ) → IsRoute a → pos 100 ≤ℤ sto
     → StartsInside a stop.c stop.r → (list : List Pt) → IsDivision a list → EveryChord a.start list (IsUnder (about stop.c) (stop.r +ℤ pos 12))
 circle_inside a stop is least some beyond end start list division = elim start [
   | inl away ↦
-      let from = under_at stop.c (stop.r -ℤ pos 8) (S - 8) a.start (radius_less stop.r least) away in
-      told (inside_far a stop.c (S - 8) is past (large_radius stop.r least).1 from (contact_over stop (S - 8 + 7) a.end (one_less stop.r least) end)) (more S (length_squared (displacement stop.c a.start)) from)
-  | inr near ↦ told (inside_near a stop.c is past near.1) (under_at stop.c (stop.r +ℤ pos 8) (S + 8) a.start (radius_more 8 stop.r least) near.0)
+      let from = under_at stop.c (stop.r -ℤ pos 8) (S - 8) a.start (omega (arith, ints, least)) away in
+      told (inside_far a stop.c (S - 8) is past (large_radius stop.r least).1 from (contact_over stop (S - 8 + 7) a.end (omega (arith, ints, least)) end)) (more S (length_squared (displacement stop.c a.start)) from)
+  | inr near ↦ told (inside_near a stop.c is past near.1) (under_at stop.c (stop.r +ℤ pos 8) (S + 8) a.start (omega (arith, ints, least)) near.0)
 ]
   where
     S : ℕ
@@ -142,5 +133,6 @@ circle_inside a stop is least some beyond end start list division = elim start [
     told : Arrives a (displacement stop.c a.track.c) → length_squared (displacement stop.c a.start) ≤ (S + 8) * (S + 8)
         → EveryChord a.start list (IsUnder (about stop.c) (stop.r +ℤ pos 12))
     told arrives from =
-        subst (λ (z : ℤ). EveryChord a.start list (IsUnder (about stop.c) z)) (sym (radius_more 12 stop.r least))
-        (kept a stop.c S is past.some arrives (large_radius stop.r least).0 from (contact_under stop (S + 1) a.end (radius_more 1 stop.r least) end) list division)
+        let edge : pos (S + 12) ≡ stop.r +ℤ pos 12 = omega (arith, ints, least) in
+        subst (λ (z : ℤ). EveryChord a.start list (IsUnder (about stop.c) z)) edge
+        (kept a stop.c S is past.some arrives (large_radius stop.r least).0 from (contact_under stop (S + 1) a.end (omega (arith, ints, least)) end) list division)

@@ -285,33 +285,18 @@ meets_track a stop is least meets wide = record {
       squares_meet (unsigned_abs a.track.r) (inside_edge stop + 12) a.track.r stop.r (radius_is a.track.r is.track.least) (edge_plus stop.r least) (length_squared (displacement a.track.c stop.c)) meets;
 }
 
-less_eight : (r : ℤ) → pos 100 ≤ℤ r → r -ℤ pos 8 ≡ pos (unsigned_abs r - 12 + 4)
-less_eight r least = omega (arith, ints, least)
-
-more_eight : (r : ℤ) → pos 100 ≤ℤ r → r +ℤ pos 8 ≡ pos (unsigned_abs r + 1 + 7)
-more_eight r least = omega (arith, ints, least)
-
-less_one : (r : ℤ) → pos 100 ≤ℤ r → r -ℤ pos 1 ≡ pos (unsigned_abs r - 12 + 11)
-less_one r least = omega (arith, ints, least)
-
-more_one : (r : ℤ) → pos 100 ≤ℤ r → r +ℤ pos 1 ≡ pos (unsigned_abs r + 1)
-more_one r least = omega (arith, ints, least)
-
 over_at : (q : Pt) (z : ℤ) (h : ℕ) (x : Pt) → z ≡ pos h → IsOver (about q) z (scaled x) → h * h ≤ length_squared (displacement q x)
 over_at q z h x e is = over_from q x h (subst (λ (i : ℤ). IsOver (about q) i (scaled x)) e is)
-
-track_less : (r : ℤ) → pos 100 ≤ℤ r → r -ℤ pos 1 ≡ pos (unsigned_abs r - 1)
-track_less r least = omega (arith, ints, least)
 
 contact : (a : Arc) (stop : Circ) → IsRoute a → pos 100 ≤ℤ stop.r → IsNearCircle stop (pos 1) a.end → IsOnRay a.sense (displacement a.track.c stop.c) (to_end a) → IsContact (radius a.track) (inside_edge stop) (displacement a.track.c stop.c) (to_end a)
 contact a stop is least near ray =
     let g = displacement a.track.c stop.c in
     record {
-      low = contact_over a.track (radius a.track - 1) a.end (track_less a.track.r is.track.least) is.end;
-      high = contact_under a.track (radius a.track + 1) a.end (more_one a.track.r is.track.least) is.end;
+      low = contact_over a.track (radius a.track - 1) a.end (omega (arith, ints, is.track.least)) is.end;
+      high = contact_under a.track (radius a.track + 1) a.end (omega (arith, ints, is.track.least)) is.end;
       far =
           subst (λ n. (inside_edge stop + 11) * (inside_edge stop + 11) ≤ n) (sym (chord_length a.track.c stop.c a.end))
-          (contact_over stop (inside_edge stop + 11) a.end (less_one stop.r least) near);
+          (contact_over stop (inside_edge stop + 11) a.end (omega (arith, ints, least)) near);
       ahead = ray.0;
       across = hardly_across a.sense g (to_end a) is.sense ray.1;
     }
@@ -331,9 +316,6 @@ below_over : (c p : Pt) (lo : ℤ) (list : List Pt) → lo <ℤ pos 0 → EveryC
 below_over c p (pos h) list less = absurd (omega (arith, ints, less))
 below_over c p (negsuc h) list less = none_over c p h list
 
-edge_from : (r sag : ℤ) → pos 100 ≤ℤ r → (r -ℤ pos 12) -ℤ sag ≡ pos (unsigned_abs r - 12) -ℤ sag
-edge_from r sag least = omega (arith, ints, least)
-
 no_edge : (r sag : ℤ) → pos 100 ≤ℤ r → pos 8 ≤ℤ sag → unsigned_abs r - 12 < unsigned_abs sag → ((r -ℤ pos 12) -ℤ sag) <ℤ pos 0
 no_edge r sag least reach wide = omega (arith, ints, least, reach, wide)
 
@@ -349,10 +331,10 @@ pub circle_outside : (a : Arc) (stop : Circ) → IsRoute a → pos 100 ≤ℤ st
     → (list : List Pt) → IsDivision a list → EveryChord a.start list (IsOver (about stop.c) ((stop.r -ℤ pos 12) -ℤ a.sag))
 circle_outside a stop is least some meets beyond end start list division = elim start [
   | inl away ↦
-      let from = over_at stop.c (stop.r +ℤ pos 8) (unsigned_abs stop.r + 1 + 7) a.start (more_eight stop.r least) away in
-      told (outside_far a stop.c (unsigned_abs stop.r + 1) is past (omega arith) from (contact_under stop (unsigned_abs stop.r + 1) a.end (more_one stop.r least) end))
+      let from = over_at stop.c (stop.r +ℤ pos 8) (unsigned_abs stop.r + 1 + 7) a.start (omega (arith, ints, least)) away in
+      told (outside_far a stop.c (unsigned_abs stop.r + 1) is past (omega arith) from (contact_under stop (unsigned_abs stop.r + 1) a.end (omega (arith, ints, least)) end))
       (four_far (unsigned_abs stop.r) (length_squared (displacement stop.c a.start)) (natural_least stop.r least) from)
-  | inr near ↦ told (outside_near a stop.c is past near.1) (over_at stop.c (stop.r -ℤ pos 8) (q + 4) a.start (less_eight stop.r least) near.0)
+  | inr near ↦ told (outside_near a stop.c is past near.1) (over_at stop.c (stop.r -ℤ pos 8) (q + 4) a.start (omega (arith, ints, least)) near.0)
 ]
   where
     q : ℕ
@@ -372,7 +354,7 @@ circle_outside a stop is least some meets beyond end start list division = elim 
             some = some;
             some_start = some_near (within a.track) (length_squared (to_start a)) (within_large a.track is.track) (nearby a.track a.start is.track is.start).low;
             start = outside a q stop.c a.start is is.start from;
-            end = outside a q stop.c a.end is (near_end a is) (four_at q (length_squared (displacement stop.c a.end)) (contact_over stop (q + 11) a.end (less_one stop.r least) end));
+            end = outside a q stop.c a.end is (near_end a is) (four_at q (length_squared (displacement stop.c a.end)) (contact_over stop (q + 11) a.end (omega (arith, ints, least)) end));
             before = before;
           })
           division.steps
@@ -383,5 +365,6 @@ circle_outside a stop is least some meets beyond end start list division = elim 
     told arrives from = elim (cases_lt q (unsigned_abs a.sag)) [
       | inl wide ↦ below_over stop.c a.start ((stop.r -ℤ pos 12) -ℤ a.sag) list (no_edge stop.r a.sag least is.sag.least wide)
       | inr narrow ↦
-          subst (λ (z : ℤ). EveryChord a.start list (IsOver (about stop.c) z)) (sym (edge_from stop.r a.sag least)) (every arrives from (meets_track a stop is least meets narrow))
+          let edge : pos q -ℤ a.sag ≡ (stop.r -ℤ pos 12) -ℤ a.sag = omega (arith, ints, least) in
+          subst (λ (z : ℤ). EveryChord a.start list (IsOver (about stop.c) z)) edge (every arrives from (meets_track a stop is least meets narrow))
     ]

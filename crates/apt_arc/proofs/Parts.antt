@@ -1,5 +1,5 @@
 -- The list of quarter points that the code makes, and the pieces between them.
-use Rattle.std.proofs.Common.{refl, ◌≡◌, ◌⊎◌, neg_ℤ, ◌<◌, inl, inr, ℕ, zero, suc, ◌∙◌, ap, sym, subst, arith, true, false, true≢false, List, [], ◌∷◌, ◌++◌, ℤ, pos, ◌<ℤ◌, ◌≤ℤ◌}
+use Rattle.std.proofs.Common.{refl, ◌≡◌, ◌↔◌, ◌⊎◌, neg_ℤ, ◌<◌, inl, inr, ℕ, zero, suc, ◌∙◌, ap, sym, subst, arith, true, false, true≢false, List, [], ◌∷◌, ◌++◌, ℤ, pos, ◌<ℤ◌, ◌≤ℤ◌}
 use Rattle.std.proofs.lemmas.Int.{ints}
 use Rattle.std.proofs.lemmas.Bool.{cases_Bool, and_parts, and_from}
 use Rattle.apt_plane.specs.declared.figures.Pt.{Pt}
@@ -26,23 +26,19 @@ use Rattle.apt_arc.proofs.Ways.{IsTurned, turn_round, turn_after, onward_turned,
 use Rattle.apt_plane.proofs.Nearby.{IsNearby, some_length}
 
 -- ---- the test whether a point is on the way
-on_tells : (t : Circ) (sense : ℤ) (s e q : Pt) → is_on_the_way t sense s e q ≡ true → IsOnTheWay t sense s e q
-on_tells t sense s e q h =
+on_told : (t : Circ) (sense : ℤ) (s e q : Pt) → (is_on_the_way t sense s e q ≡ true) ↔ IsOnTheWay t sense s e q
+on_told t sense s e q =
     let vs = displacement t.c s in
     let vq = displacement t.c q in
     let ve = displacement t.c e in
-    let both = and_parts (is_before vs sense vs vq) (is_before vs sense vq ve) h in
-    ((before_tells vs vs vq sense).0 both.0, (before_tells vs vq ve sense).0 both.1)
-
-on_from : (t : Circ) (sense : ℤ) (s e q : Pt) → IsOnTheWay t sense s e q → is_on_the_way t sense s e q ≡ true
-on_from t sense s e q on =
-    let vs = displacement t.c s in
-    let vq = displacement t.c q in
-    let ve = displacement t.c e in
-    and_from (is_before vs sense vs vq) (is_before vs sense vq ve) ((before_tells vs vs vq sense).1 on.0) ((before_tells vs vq ve sense).1 on.1)
+    let first = before_tells vs vs vq sense in
+    let second = before_tells vs vq ve sense in (
+      λ h. let both = and_parts (is_before vs sense vs vq) (is_before vs sense vq ve) h in (first.0 both.0, second.0 both.1),
+      λ on. and_from (is_before vs sense vs vq) (is_before vs sense vq ve) (first.1 on.0) (second.1 on.1),
+    )
 
 off_tells : (t : Circ) (sense : ℤ) (s e q : Pt) → is_on_the_way t sense s e q ≡ false → ¬ IsOnTheWay t sense s e q
-off_tells t sense s e q h on = true≢false (sym (on_from t sense s e q on) ∙ h)
+off_tells t sense s e q h on = true≢false (sym ((on_told t sense s e q).1 on) ∙ h)
 
 -- ---- the code's list, a point at a time
 pub list_none : (n : ℕ) (t : Circ) (sense : ℤ) (s e : Pt) (u : Dir) → n ≡ 0 → quarters_from n t sense s e u ≡ []
@@ -211,7 +207,7 @@ list_divides (suc n) arc a u fits to =
           let off = off_tells arc.track arc.sense arc.start arc.end p f in
           subst (Divides (suc n) arc a u) (sym (list_off (suc n) arc.track arc.sense arc.start arc.end u f)) (none_divide (suc n) arc a u (to.end off) (λ b. none_on n arc u b fits to.quarter off))
       | inl f ↦
-          let on = on_tells arc.track arc.sense arc.start arc.end p f in
+          let on = (on_told arc.track arc.sense arc.start arc.end p).0 f in
           let rest = list_divides n arc p (onward arc.sense u) fits (next_comes n arc u fits to.quarter on) in
           subst (Divides (suc n) arc a u) (sym (list_on n arc.track arc.sense arc.start arc.end u f))
           record {

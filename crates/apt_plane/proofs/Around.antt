@@ -113,37 +113,22 @@ from_one n xu du xv dv c k l f e p (inr (inr (inr v))) = (
   λ two. inl (omega (arith, e, v.0)),
 )
 
+neither : (xu xv c : ℤ) (k l : ℕ) → ¬ Comes k l c → xu ≤ℤ pos 0 → pos 0 ≤ℤ xv → Tells k l xu xv c
+neither xu xv c k l none p q = (λ comes. absurd (none comes), λ two. absurd (omega (arith, ints, (not_first xu c (neg_ℤ xv) p two).1, q)))
+
 from_two : (n : ℕ) (xu du xv dv c : ℤ) (k l : ℕ) → InFrame n xu du xv dv c → k ≡ 2 → xu ≡ pos 0 → du <ℤ pos 0 → IsPlace xv dv l → Tells k l xu xv c
-from_two n xu du xv dv c k l f e p q (inl v) = (
-  λ comes. absurd (never_back k l c (omega (arith, e, v.0)) comes),
-  λ two. absurd (omega (arith, ints, (not_first xu c (neg_ℤ xv) (omega (arith, ints, p)) two).1, v.1)),
-)
-from_two n xu du xv dv c k l f e p q (inr (inl v)) = (
-  λ comes. absurd (never_back k l c (omega (arith, e, v.0)) comes),
-  λ two. absurd (omega (arith, ints, (not_first xu c (neg_ℤ xv) (omega (arith, ints, p)) two).1, v.1)),
-)
-from_two n xu du xv dv c k l f e p q (inr (inr (inl v))) = (
-  λ comes. absurd (never_half k l c e (λ less. omega (arith, less, e, v.0)) comes),
-  λ two. absurd (omega (arith, ints, (not_first xu c (neg_ℤ xv) (omega (arith, ints, p)) two).1, v.1)),
-)
+from_two n xu du xv dv c k l f e p q (inl v) = neither xu xv c k l (never_back k l c (omega (arith, e, v.0))) (omega (arith, ints, p)) (omega (arith, ints, v.1))
+from_two n xu du xv dv c k l f e p q (inr (inl v)) = neither xu xv c k l (never_back k l c (omega (arith, e, v.0))) (omega (arith, ints, p)) (omega (arith, ints, v.1))
+from_two n xu du xv dv c k l f e p q (inr (inr (inl v))) = neither xu xv c k l (never_half k l c e (λ less. omega (arith, less, e, v.0))) (omega (arith, ints, p)) (omega (arith, ints, v.1))
 from_two n xu du xv dv c k l f e p q (inr (inr (inr v))) = (
   λ comes. inr (inl (plus_of n c (omega (arith, ints, before_line n xu du xv dv c p f, strict_both du xv q v.1)), omega (arith, ints, v.1))),
   λ two. inl (omega (arith, e, v.0)),
 )
 
 from_three : (xu xv dv c : ℤ) (k l : ℕ) → k ≡ 3 → xu <ℤ pos 0 → IsPlace xv dv l → Tells k l xu xv c
-from_three xu xv dv c k l e p (inl v) = (
-  λ comes. absurd (never_back k l c (omega (arith, e, v.0)) comes),
-  λ two. absurd (omega (arith, ints, (not_first xu c (neg_ℤ xv) (omega (arith, ints, p)) two).1, v.1)),
-)
-from_three xu xv dv c k l e p (inr (inl v)) = (
-  λ comes. absurd (never_back k l c (omega (arith, e, v.0)) comes),
-  λ two. absurd (omega (arith, ints, (not_first xu c (neg_ℤ xv) (omega (arith, ints, p)) two).1, v.1)),
-)
-from_three xu xv dv c k l e p (inr (inr (inl v))) = (
-  λ comes. absurd (never_back k l c (omega (arith, e, v.0)) comes),
-  λ two. absurd (omega (arith, ints, (not_first xu c (neg_ℤ xv) (omega (arith, ints, p)) two).1, v.1)),
-)
+from_three xu xv dv c k l e p (inl v) = neither xu xv c k l (never_back k l c (omega (arith, e, v.0))) (omega (arith, ints, p)) (omega (arith, ints, v.1))
+from_three xu xv dv c k l e p (inr (inl v)) = neither xu xv c k l (never_back k l c (omega (arith, e, v.0))) (omega (arith, ints, p)) (omega (arith, ints, v.1))
+from_three xu xv dv c k l e p (inr (inr (inl v))) = neither xu xv c k l (never_back k l c (omega (arith, e, v.0))) (omega (arith, ints, p)) (omega (arith, ints, v.1))
 from_three xu xv dv c k l e p (inr (inr (inr v))) = (
   λ comes. inr (inl (within k l c (e ∙ sym v.0) comes, omega (arith, ints, v.1))),
   λ two. inr (e ∙ sym v.0, inr e, (not_first xu c (neg_ℤ xv) (omega (arith, ints, p)) two).0),

@@ -11,7 +11,7 @@ use Rattle.apt_plane.specs.Ranges.{IsSense}
 use Rattle.apt_plane.specs.Order.{turn_class, ComesBefore}
 use Rattle.apt_plane.proofs.Displacements.{square_length_squared, cross_self, dot_swap, turn_parts}
 use Rattle.apt_plane.proofs.Heights.{one-times}
-use Rattle.apt_plane.proofs.Turned.{turned_by, turned_back, back_plus, minus-times, plucker_turned, about_start}
+use Rattle.apt_plane.proofs.Turned.{turned_by, turned_back, minus-times, plucker_turned, about_start}
 use Rattle.apt_plane.proofs.Around.{Cyc, IsPlace, is_place, zero_class, before_cyc, before_onward, before_from_start, cyc_after}
 
 -- w lies a quarter turn on from v

@@ -1,5 +1,5 @@
 -- How large the numbers are from which circles are made.
-use Rattle.std.proofs.Common.{refl, ◌≡◌, ◌≢◌, ℕ, zero, suc, ◌+◌, ◌-◌, ◌*◌, ◌^◌, ◌≤◌, ◌<◌, arith, ℤ, pos, ◌*ℤ◌, unsigned_abs, FitsSigned, to_z, of_z, w64}
+use Rattle.std.proofs.Common.{refl, ◌≡◌, ◌≢◌, ℕ, zero, suc, ◌+◌, ◌*◌, ◌^◌, ◌≤◌, ◌<◌, arith, ℤ, pos, ◌*ℤ◌, unsigned_abs, FitsSigned, to_z, of_z, w64}
 use Rattle.std.specs.Int.{w128}
 use Rattle.std.specs.Prelude.{nat_lt, false}
 use Rattle.std.proofs.lemmas.Bool.Decides.{nat_tests}
