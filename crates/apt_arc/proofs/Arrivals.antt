@@ -15,26 +15,17 @@ use Rattle.apt_arc.specs.declared.arc.Arc.{Arc}
 use Rattle.apt_arc.specs.Ranges.{IsTrack, IsArc}
 use Rattle.apt_arc.specs.Stops.{IsRoute, to_start, to_end}
 use Rattle.apt_plane.proofs.Nearby.{IsNearby, IsOnCircle}
-use Rattle.apt_arc.proofs.Tracks.{within, within_large, radius_is, nearby, near_track, length_tells, root_tells}
+use Rattle.apt_arc.proofs.Tracks.{within, within_large, radius_is, nearby, near_track, length_tells, root_tells, ring_tells}
 use Rattle.apt_plane.proofs.Governed.{IsHardlyAcross, IsHardlyNearerTo, IsOnRay, away_reached}
 use Rattle.apt_plane.proofs.Kept.{IsStopped}
 use Rattle.apt_plane.proofs.NearRows.{IsNearRow, near_reached}
 
 -- ---- an end at most a unit from its track
-shorter : (p : ℕ) (r : ℤ) → r ≡ pos (p + 3) → r -ℤ pos 1 ≡ pos (p + 2)
-shorter p r e = omega (arith, ints, e)
-
-longer : (p : ℕ) (r : ℤ) → r ≡ pos (p + 3) → r +ℤ pos 1 ≡ pos (p + 4)
-longer p r e = omega (arith, ints, e)
-
 pub on_circle : (t : Circ) (x : Pt) → IsTrack t → IsNearCircle t (pos 1) x → IsOnCircle (within t) (displacement t.c x)
 on_circle t x is near =
-    let n = length_squared (displacement t.c x) in
     let p = within t in
-    record {
-      low = (length_tells (p + 2) n).0 (subst (λ (z : ℤ). IsLengthAtMost z n) (shorter p t.r (radius_is t is)) near.outside);
-      high = (root_tells (p + 4) n).0 (subst (λ (z : ℤ). IsRootAtMost n z) (longer p t.r (radius_is t is)) near.inside);
-    }
+    let ring = (ring_tells t.r (pos 1) (p + 2) (p + 4) (length_squared (displacement t.c x)) (omega (arith, ints, is.least)) (omega (arith, ints, is.least))).0 (near.outside, near.inside) in
+    record { low = ring.0; high = ring.1 }
 
 within_three : (p n : ℕ) → (p + 2) * (p + 2) ≤ n → n ≤ (p + 4) * (p + 4) → (p * p ≤ n) × (n ≤ (p + 6) * (p + 6))
 within_three p n low high = (omega (arith, low), omega (arith, high))

@@ -11,7 +11,7 @@ use Rattle.apt_plane.proofs.Lengths.{plus, chord}
 use Rattle.apt_plane.proofs.Turned.{dot_about}
 use Rattle.apt_arc.specs.Bounds.{shorter}
 use Rattle.apt_arc.proofs.Spans.{IsSpan, IsAimed, gap, gap_small, dot_sum_chord, cross_sum_chord, sum_is, chord_is, two_cross, product_is}
-use Rattle.apt_arc.proofs.Thirds.{InNumbers, beyond_half, twice_off, off_long, dot_off, cross_off, first_half, second_half, off_in_numbers, size_along, square_core, dot_core}
+use Rattle.apt_arc.proofs.Thirds.{IsOff, beyond_half, twice_off, first_half, second_half, half_way}
 
 -- ---- the point half way lies far along the sum
 along_square : (p U M X Y : ℕ) → U * M ≡ X * X + Y * Y → 2 * (Y * Y) ≤ U → 2 * (p * p) + 1 ≤ 2 * M → U * (p * p) ≤ X * X
@@ -55,11 +55,11 @@ shorter_core P r z U E Y Q D G V W v w sag ends y across g some =
     cancel_le U (92 * (P * (V + 2 * W))) (8 * (G * G) + 1288 * (r * G) + 23 * (r * P) + 184 * P) some
     (omega (arith, ap (λ n. 92 * (P * n)) v, mul-le-mul_left (184 * P) w, sag, ends, mul-le-mul_left (184 * P) y, across, mul-le-mul_left (736 * (U * r)) g))
 
-shorter_numbers : (p A B U D M X Y Q E h V W : ℕ) → InNumbers p A B U D M X Y Q E h → V + 4 * X ≡ 4 * M + U → U * D ≡ 4 * (Q * Q) + E * E
-    → U * V ≡ (2 * X - U) * (2 * X - U) + 4 * (Y * Y) → U * W ≤ (2 * X - U) * E + 4 * (Y * Q)
+shorter_numbers : (p A B U D M X Y Q E h V W : ℕ) → IsOff p A B U D M X Y Q E h V W → U * D ≡ 4 * (Q * Q) + E * E
     → 92 * (p * p * (V + 2 * W))
     ≤ 8 * ((D + 30 * (p + 3)) * (D + 30 * (p + 3))) + 1288 * ((p + 3) * (D + 30 * (p + 3))) + 23 * ((p + 3) * (p * p)) + 184 * (p * p)
-shorter_numbers p A B U D M X Y Q E h V W is e product f g =
+shorter_numbers p A B U D M X Y Q E h V W off product =
+    let is = off.numbers in
     let z = 2 * X - U in
     let r = p + 3 in
     let P = p * p in
@@ -71,8 +71,8 @@ shorter_numbers p A B U D M X Y Q E h V W is e product f g =
     let some : 0 < U = omega (arith, two, mul-le-mul_left p is.least, is.least) in
     let far : U * P ≤ X * X = along_square p U M X Y is.middle is.across (omega (arith, is.low)) in
     let wide : 23 * (P * U) ≤ 2 * ((2 * X + U) * (2 * X + U)) = sum_wide p U X two far (along_far p U X two far) in
-    let high : H ≤ G = omega (arith, whole, e, is.sum, is.step, is.high, is.low_a, is.low_b) in
-    let level : U * H ≡ z * z + 4 * (Y * Y) + 2 * (U * z) = omega (arith, f) in
+    let high : H ≤ G = omega (arith, whole, off.length, is.sum, is.step, is.high, is.low_a, is.low_b) in
+    let level : U * H ≡ z * z + 4 * (Y * Y) + 2 * (U * z) = omega (arith, off.square) in
     let all : z + 2 * U ≡ 2 * X + U = omega (arith, whole) in
     let some_short : z * (z + 2 * U) ≤ U * H = omega (arith, level) in
     let short : z * (2 * X + U) ≤ U * H = subst (λ n. z * n ≤ U * H) all some_short in
@@ -80,7 +80,7 @@ shorter_numbers p A B U D M X Y Q E h V W is e product f g =
     let ends : P * (z * E) ≤ 3 * (r * (G * U)) = ends_part P U G E z r (sag_small U H G z Y level high some) is.gap two in
     let across : 736 * (P * (Y * Q)) ≤ 736 * (U * (D * r)) + 23 * (r * (P * U)) =
     across_part P U D Q Y r (across_root U D Q Y r (omega (arith, product)) is.across) (omega arith) (omega arith) in
-    shorter_core P r z U E Y Q D G V W f g sag ends is.across across (omega arith) some
+    shorter_core P r z U E Y Q D G V W off.square off.along sag ends is.across across (omega arith) some
 
 -- ---- of a half, in numbers
 first_core : (N V D : ℕ) (w : ℤ) → pos 4 *ℤ pos N ≡ (pos V +ℤ (pos 2 *ℤ w)) +ℤ pos D → 4 * N ≤ V + 2 * unsigned_abs w + D
@@ -101,47 +101,12 @@ IsHalfOf p D N =
 pub halves_short : (p : ℕ) (sense : ℤ) (a b m : Dir) → 97 ≤ p → IsSpan p sense a b → 32 * (p + 3) < length_squared (chord a b) → IsAimed p (plus a b) m
     → IsHalfOf p (length_squared (chord a b)) (length_squared (chord a m)) × IsHalfOf p (length_squared (chord a b)) (length_squared (chord m b))
 halves_short p sense a b m least span far aimed =
-    let u = plus a b in
-    let v = twice_off u m in
-    let A = length_squared a in
-    let B = length_squared b in
-    let U = length_squared u in
-    let D = length_squared (chord a b) in
-    let M = length_squared m in
-    let X = unsigned_abs (dot u m) in
-    let Y = unsigned_abs (cross u m) in
-    let Q = unsigned_abs (cross a b) in
-    let E = gap a b in
-    let h = unsigned_abs (dot a b) in
+    let v = twice_off (plus a b) m in
     let V = length_squared v in
     let W = unsigned_abs (dot v (chord a b)) in
+    let D = length_squared (chord a b) in
     let K = 8 * ((D + 30 * (p + 3)) * (D + 30 * (p + 3))) + 1288 * ((p + 3) * (D + 30 * (p + 3))) + 23 * ((p + 3) * (p * p)) + 184 * (p * p) in
-    let at : dot u m ≡ pos X = natural (dot u m) (omega (arith, ints, aimed.forward)) in
-    let is : InNumbers p A B U D M X Y Q E h =
-    record {
-      least = least;
-      low_a = span.start.low;
-      low_b = span.end.low;
-      high_a = span.start.high;
-      high_b = span.end.high;
-      sum = sum_is a b span.ahead;
-      step = chord_is a b span.ahead;
-      far = far;
-      middle = lagrange u m;
-      across = aimed.across;
-      low = aimed.low;
-      high = aimed.high;
-      turn = two_cross a b;
-      gap = gap_small p a b span.start span.end;
-    } in
-    let past = beyond_half p A B U D M X Y Q E h is in
-    let along : unsigned_abs (dot u v) ≡ 2 * X - U = ap unsigned_abs (dot_off u m) ∙ size_along U X (dot u m) at (omega (arith, past)) in
-    let aside : unsigned_abs (cross u v) ≡ 2 * Y = ap unsigned_abs (cross_off u m) ∙ size_mul (pos 2) (cross u m) in
-    let far_across : unsigned_abs (cross u (chord a b)) ≡ 2 * Q = ap unsigned_abs (cross_sum_chord a b) ∙ size_mul (pos 2) (cross a b) in
-    let whole : 92 * (p * p * (V + 2 * W)) ≤ K =
-    shorter_numbers p A B U D M X Y Q E h V W is (off_in_numbers V M U X (dot u m) (off_long u m) at) (product_is a b)
-    (square_core (U * V) (unsigned_abs (dot u v)) (unsigned_abs (cross u v)) (2 * X - U) Y (lagrange u v) along aside)
-    (dot_core U (dot v (chord a b)) (dot u v) (dot u (chord a b)) (cross u v) (cross u (chord a b)) (2 * X - U) E Y Q (dot_about u v (chord a b)) along (ap unsigned_abs (dot_sum_chord a b)) aside far_across) in (
+    let whole : 92 * (p * p * (V + 2 * W)) ≤ K = shorter_numbers p _ _ _ _ _ _ _ _ _ _ _ _ (half_way p sense a b m least span far aimed) (product_is a b) in (
       half_core (p * p) (length_squared (chord a m)) V W D K (first_core (length_squared (chord a m)) V D (dot v (chord a b)) (first_half a b m)) whole,
       half_core (p * p) (length_squared (chord m b)) V W D K (second_core (length_squared (chord m b)) V D (dot v (chord a b)) (second_half a b m)) whole,
     )

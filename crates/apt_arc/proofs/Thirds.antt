@@ -62,16 +62,22 @@ short_across p A B U D M X Y Q E h is =
     root_le (2 * Y) (3 * (p + 3)) (omega (arith, is.across, is.sum, is.step, is.high_a, is.high_b, mul-le-mul_left p is.least, is.least))
 
 -- V is the square of twice the way half way less the sum, W its dot product with the chord
-third : (p A B U D M X Y Q E h V W : ℕ) → InNumbers p A B U D M X Y Q E h → V + 4 * X ≡ 4 * M + U → U * V ≡ (2 * X - U) * (2 * X - U) + 4 * (Y * Y)
-    → U * W ≤ (2 * X - U) * E + 4 * (Y * Q) → 3 * V + 6 * W ≤ D + 48 * (p + 3)
-third p A B U D M X Y Q E h V W is e f g =
+pub record IsOff (p A B U D M X Y Q E h V W : ℕ) : Type 0 where
+  pub numbers : InNumbers p A B U D M X Y Q E h
+  pub length : V + 4 * X ≡ 4 * M + U
+  pub square : U * V ≡ (2 * X - U) * (2 * X - U) + 4 * (Y * Y)
+  pub along : U * W ≤ (2 * X - U) * E + 4 * (Y * Q)
+
+third : (p A B U D M X Y Q E h V W : ℕ) → IsOff p A B U D M X Y Q E h V W → 3 * V + 6 * W ≤ D + 48 * (p + 3)
+third p A B U D M X Y Q E h V W off =
+    let is = off.numbers in
     let z = 2 * X - U in
     let past = beyond_half p A B U D M X Y Q E h is in
     let whole : z + U ≡ 2 * X = omega (arith, past) in
     let under = not_past p A B U D M X Y Q E h is in
     let least = is.least in
-    third_core z U E Y Q (p + 3) (V + 2 * z) D V W (omega (arith, f)) f g
-    (omega (arith, whole, e, is.sum, is.step, is.high, is.low_a, is.low_b)) is.across (short_across p A B U D M X Y Q E h is) (omega (arith, is.turn, is.sum))
+    third_core z U E Y Q (p + 3) (V + 2 * z) D V W (omega (arith, off.square)) off.square off.along
+    (omega (arith, whole, off.length, is.sum, is.step, is.high, is.low_a, is.low_b)) is.across (short_across p A B U D M X Y Q E h is) (omega (arith, is.turn, is.sum))
     (omega (arith, whole, under, is.gap, is.sum, is.low_a, is.low_b, mul-le-mul_left p least, least)) (omega (arith, is.sum, is.low_a, mul-le-mul_left p least, least))
 
 -- ---- the ways: twice that half way, less the sum
@@ -144,9 +150,15 @@ half_core N V D r w e h = omega (arith, ints, e, h)
 other_core : (N V D r : ℕ) (w : ℤ) → (pos 4 *ℤ pos N ≡ (pos V -ℤ (pos 2 *ℤ w)) +ℤ pos D) → 3 * V + 6 * unsigned_abs w ≤ D + 48 * r → 3 * N ≤ D + 12 * r
 other_core N V D r w e h = omega (arith, ints, e, h)
 
-pub thirds : (p : ℕ) (sense : ℤ) (a b m : Dir) → 97 ≤ p → IsSpan p sense a b → 32 * (p + 3) < length_squared (chord a b) → IsAimed p (plus a b) m
-    → (3 * length_squared (chord a m) ≤ length_squared (chord a b) + 12 * (p + 3)) × (3 * length_squared (chord m b) ≤ length_squared (chord a b) + 12 * (p + 3))
-thirds p sense a b m least span far aimed =
+-- those of a span whose point half way is m
+abbrev pub IsHalfWay : ℕ → Dir → Dir → Dir → Type 0
+IsHalfWay p a b m =
+    let u = plus a b in
+    let v = twice_off u m in
+    IsOff p (length_squared a) (length_squared b) (length_squared u) (length_squared (chord a b)) (length_squared m) (unsigned_abs (dot u m)) (unsigned_abs (cross u m)) (unsigned_abs (cross a b)) (gap a b) (unsigned_abs (dot a b)) (length_squared v) (unsigned_abs (dot v (chord a b)))
+
+pub half_way : (p : ℕ) (sense : ℤ) (a b m : Dir) → 97 ≤ p → IsSpan p sense a b → 32 * (p + 3) < length_squared (chord a b) → IsAimed p (plus a b) m → IsHalfWay p a b m
+half_way p sense a b m least span far aimed =
     let u = plus a b in
     let v = twice_off u m in
     let A = length_squared a in
@@ -154,13 +166,12 @@ thirds p sense a b m least span far aimed =
     let U = length_squared u in
     let D = length_squared (chord a b) in
     let M = length_squared m in
+    let V = length_squared v in
     let X = unsigned_abs (dot u m) in
     let Y = unsigned_abs (cross u m) in
     let Q = unsigned_abs (cross a b) in
     let E = gap a b in
     let h = unsigned_abs (dot a b) in
-    let V = length_squared v in
-    let W = unsigned_abs (dot v (chord a b)) in
     let at : dot u m ≡ pos X = natural (dot u m) (omega (arith, ints, aimed.forward)) in
     let is : InNumbers p A B U D M X Y Q E h =
     record {
@@ -183,12 +194,20 @@ thirds p sense a b m least span far aimed =
     let along : unsigned_abs (dot u v) ≡ 2 * X - U = ap unsigned_abs (dot_off u m) ∙ size_along U X (dot u m) at (omega (arith, past)) in
     let aside : unsigned_abs (cross u v) ≡ 2 * Y = ap unsigned_abs (cross_off u m) ∙ size_mul (pos 2) (cross u m) in
     let far_across : unsigned_abs (cross u (chord a b)) ≡ 2 * Q = ap unsigned_abs (cross_sum_chord a b) ∙ size_mul (pos 2) (cross a b) in
-    let whole =
-    third p A B U D M X Y Q E h V W is (off_in_numbers V M U X (dot u m) (off_long u m) at)
-    (square_core (U * V) (unsigned_abs (dot u v)) (unsigned_abs (cross u v)) (2 * X - U) Y (lagrange u v) along aside)
-    (dot_core U (dot v (chord a b)) (dot u v) (dot u (chord a b)) (cross u v) (cross u (chord a b)) (2 * X - U) E Y Q (dot_about u v (chord a b)) along (ap unsigned_abs (dot_sum_chord a b)) aside far_across) in (
-      half_core (length_squared (chord a m)) V D (p + 3) (dot v (chord a b)) (first_half a b m) whole,
-      other_core (length_squared (chord m b)) V D (p + 3) (dot v (chord a b)) (second_half a b m) whole,
+    record {
+      numbers = is;
+      length = off_in_numbers V M U X (dot u m) (off_long u m) at;
+      square = square_core (U * V) (unsigned_abs (dot u v)) (unsigned_abs (cross u v)) (2 * X - U) Y (lagrange u v) along aside;
+      along = dot_core U (dot v (chord a b)) (dot u v) (dot u (chord a b)) (cross u v) (cross u (chord a b)) (2 * X - U) E Y Q (dot_about u v (chord a b)) along (ap unsigned_abs (dot_sum_chord a b)) aside far_across;
+    }
+
+pub thirds : (p : ℕ) (sense : ℤ) (a b m : Dir) → 97 ≤ p → IsSpan p sense a b → 32 * (p + 3) < length_squared (chord a b) → IsAimed p (plus a b) m
+    → (3 * length_squared (chord a m) ≤ length_squared (chord a b) + 12 * (p + 3)) × (3 * length_squared (chord m b) ≤ length_squared (chord a b) + 12 * (p + 3))
+thirds p sense a b m least span far aimed =
+    let v = twice_off (plus a b) m in
+    let whole = third p _ _ _ _ _ _ _ _ _ _ _ _ (half_way p sense a b m least span far aimed) in (
+      half_core (length_squared (chord a m)) (length_squared v) (length_squared (chord a b)) (p + 3) (dot v (chord a b)) (first_half a b m) whole,
+      other_core (length_squared (chord m b)) (length_squared v) (length_squared (chord a b)) (p + 3) (dot v (chord a b)) (second_half a b m) whole,
     )
 
 -- ---- depth: e is a power of three, one for each cut so far

@@ -61,29 +61,22 @@ root_tells h n = (
   λ le. subst (λ (z : ℤ). IsRootAtMost n z) (one-times (pos h)) ((root_at_most 1 h n).1 (omega (arith, le))),
 )
 
-shorter : (p : ℕ) (r : ℤ) → r ≡ pos (p + 3) → r -ℤ pos 3 ≡ pos p
-shorter p r e = omega (arith, ints, e)
+-- k units about a circle of the radius r
+pub ring_tells : (r k : ℤ) (l h n : ℕ) → r -ℤ k ≡ pos l → r +ℤ k ≡ pos h → (IsLengthAtMost (r -ℤ k) n × IsRootAtMost n (r +ℤ k)) ↔ ((l * l ≤ n) × (n ≤ h * h))
+ring_tells r k l h n e f = rw (e, f) (λ is. ((length_tells l n).0 is.0, (root_tells h n).0 is.1), λ is. ((length_tells l n).1 is.0, (root_tells h n).1 is.1))
 
-longer : (p : ℕ) (r : ℤ) → r ≡ pos (p + 3) → r +ℤ pos 3 ≡ pos (p + 6)
-longer p r e = omega (arith, ints, e)
+three_about : (t : Circ) (n : ℕ) → IsTrack t → (IsLengthAtMost (t.r -ℤ pos 3) n × IsRootAtMost n (t.r +ℤ pos 3)) ↔ ((within t * within t ≤ n) × (n ≤ (within t + 6) * (within t + 6)))
+three_about t n is = ring_tells t.r (pos 3) (within t) (within t + 6) n (omega (arith, ints, is.least)) (omega (arith, ints, is.least))
 
 pub nearby : (t : Circ) (a : Pt) → IsTrack t → IsNearCircle t (pos 3) a → IsNearby (within t) (displacement t.c a)
 nearby t a is near =
-    let n = length_squared (displacement t.c a) in
-    let p = within t in
-    record {
-      low = (length_tells p n).0 (subst (λ (z : ℤ). IsLengthAtMost z n) (shorter p t.r (radius_is t is)) near.outside);
-      high = (root_tells (p + 6) n).0 (subst (λ (z : ℤ). IsRootAtMost n z) (longer p t.r (radius_is t is)) near.inside);
-    }
+    let ring = (three_about t (length_squared (displacement t.c a)) is).0 (near.outside, near.inside) in
+    record { low = ring.0; high = ring.1 }
 
 pub near_track : (t : Circ) (a : Pt) → IsTrack t → IsNearby (within t) (displacement t.c a) → IsNearCircle t (pos 3) a
 near_track t a is near =
-    let n = length_squared (displacement t.c a) in
-    let p = within t in
-    record {
-      outside = subst (λ (z : ℤ). IsLengthAtMost z n) (sym (shorter p t.r (radius_is t is))) ((length_tells p n).1 near.low);
-      inside = subst (λ (z : ℤ). IsRootAtMost n z) (sym (longer p t.r (radius_is t is))) ((root_tells (p + 6) n).1 near.high);
-    }
+    let ring = (three_about t (length_squared (displacement t.c a)) is).1 (near.low, near.high) in
+    record { outside = ring.0; inside = ring.1 }
 
 part_small : (x y p : ℕ) → x * x + y * y ≤ (p + 6) * (p + 6) → (x ≤ p + 6) × (y ≤ p + 6)
 part_small x y p h = (root_le x (p + 6) (omega (arith, h)), root_le y (p + 6) (omega (arith, h)))
