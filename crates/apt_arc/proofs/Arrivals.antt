@@ -15,7 +15,7 @@ use Rattle.apt_arc.specs.declared.arc.Arc.{Arc}
 use Rattle.apt_arc.specs.Ranges.{IsTrack, IsArc}
 use Rattle.apt_arc.specs.Stops.{IsRoute, to_start, to_end}
 use Rattle.apt_plane.proofs.Nearby.{IsNearby, IsOnCircle}
-use Rattle.apt_arc.proofs.Tracks.{within, within_large, radius_is, nearby, near_track, length_tells, root_tells, ring_tells}
+use Rattle.apt_arc.proofs.Tracks.{within, within_large, nearby, near_track, length_tells, root_tells, ring_tells}
 use Rattle.apt_plane.proofs.Governed.{IsHardlyAcross, IsHardlyNearerTo, IsOnRay, away_reached}
 use Rattle.apt_plane.proofs.Kept.{IsStopped}
 use Rattle.apt_plane.proofs.NearRows.{IsNearRow, near_reached}

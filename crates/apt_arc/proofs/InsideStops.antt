@@ -9,9 +9,8 @@ use Rattle.apt_plane.specs.declared.figures.Dir.{Dir}
 use Rattle.apt_plane.specs.declared.figures.Circ.{Circ}
 use Rattle.apt_plane.specs.Vectors.{scaled, displacement, cross, length_squared}
 use Rattle.apt_plane.specs.Distances.{IsUnder, about}
-use Rattle.apt_plane.proofs.Heights.{one-times}
 use Rattle.apt_plane.proofs.Lengths.{plus}
-use Rattle.apt_plane.proofs.RingLaws.{root_at_most, under-between, under_to, under_from}
+use Rattle.apt_plane.proofs.RingLaws.{under-between, under_to, under_from}
 use Rattle.apt_plane.proofs.Turned.{turned_by, turned_back, size_sense}
 use Rattle.apt_plane.proofs.Around.{Cyc}
 use Rattle.apt_canon.specs.Scale.{IsNearCircle}

@@ -7,7 +7,7 @@ use Rattle.apt_plane.specs.declared.figures.Dir.{Dir}
 use Rattle.apt_plane.specs.declared.figures.Circ.{Circ}
 use Rattle.apt_plane.specs.Vectors.{displacement, dot, length_squared, perp}
 use Rattle.apt_plane.specs.Ranges.{IsDir}
-use Rattle.apt_plane.specs.Order.{ComesBefore, is_before}
+use Rattle.apt_plane.specs.Order.{is_before}
 use Rattle.apt_plane.proofs.Displacements.{dot_swap}
 use Rattle.apt_plane.proofs.Turns.{before_tells}
 use Rattle.apt_plane.proofs.Turned.{turned_by, turned_back, perp_dir}

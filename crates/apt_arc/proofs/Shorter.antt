@@ -1,16 +1,14 @@
 -- Each half of a span that is cut is, by the square, hardly longer than a quarter of it and the square of its sagitta.
-use Rattle.std.proofs.Common.{◌≡◌, ℕ, ◌+◌, ◌-◌, ◌*◌, ◌/◌, ◌≤◌, ◌<◌, ◌∙◌, ap, subst, arith, min, ℤ, pos, ◌+ℤ◌, ◌-ℤ◌, ◌*ℤ◌, unsigned_abs}
+use Rattle.std.proofs.Common.{◌≡◌, ℕ, ◌+◌, ◌-◌, ◌*◌, ◌/◌, ◌≤◌, ◌<◌, ap, subst, arith, min, ℤ, pos, ◌+ℤ◌, ◌-ℤ◌, ◌*ℤ◌, unsigned_abs}
 use Rattle.std.proofs.Math.Nat.{mul-le-mul_left, lt-mul-div-succ}
 use Rattle.std.proofs.lemmas.Nat.{mul-le}
 use Rattle.std.proofs.lemmas.Int.{ints}
-use Rattle.apt_num.proofs.Squares.{size_mul, root_le, cancel_le, four_le, natural}
+use Rattle.apt_num.proofs.Squares.{root_le, cancel_le, four_le}
 use Rattle.apt_plane.specs.declared.figures.Dir.{Dir}
-use Rattle.apt_plane.specs.Vectors.{cross, dot, length_squared}
-use Rattle.apt_plane.proofs.Displacements.{lagrange}
+use Rattle.apt_plane.specs.Vectors.{dot, length_squared}
 use Rattle.apt_plane.proofs.Lengths.{plus, chord}
-use Rattle.apt_plane.proofs.Turned.{dot_about}
 use Rattle.apt_arc.specs.Bounds.{shorter}
-use Rattle.apt_arc.proofs.Spans.{IsSpan, IsAimed, gap, gap_small, dot_sum_chord, cross_sum_chord, sum_is, chord_is, two_cross, product_is}
+use Rattle.apt_arc.proofs.Spans.{IsSpan, IsAimed, product_is}
 use Rattle.apt_arc.proofs.Thirds.{IsOff, beyond_half, twice_off, first_half, second_half, half_way}
 
 -- ---- the point half way lies far along the sum

@@ -88,19 +88,19 @@ off_parts : (a b e f : ℤ) → ((((pos 2 *ℤ e) -ℤ a) *ℤ ((pos 2 *ℤ e) -
     ≡ (pos 4 *ℤ ((e *ℤ e) +ℤ (f *ℤ f))) +ℤ ((a *ℤ a) +ℤ (b *ℤ b))
 off_parts a b e f = rw (as_diff a, as_diff b, as_diff e, as_diff f, diff-pos 2, diff-pos 4) (simp differences (diff-same _ _ _ _ (omega arith)))
 
-pub off_long : (u m : Dir) → pos (length_squared (twice_off u m)) +ℤ (pos 4 *ℤ dot u m) ≡ (pos 4 *ℤ pos (length_squared m)) +ℤ pos (length_squared u)
+off_long : (u m : Dir) → pos (length_squared (twice_off u m)) +ℤ (pos 4 *ℤ dot u m) ≡ (pos 4 *ℤ pos (length_squared m)) +ℤ pos (length_squared u)
 off_long u m = rw (← square_length_squared (twice_off u m), ← square_length_squared m, ← square_length_squared u) at (off_parts u.dx u.dy m.dx m.dy)
 
 dot_off_parts : (a b e f : ℤ) → (a *ℤ ((pos 2 *ℤ e) -ℤ a)) +ℤ (b *ℤ ((pos 2 *ℤ f) -ℤ b)) ≡ (pos 2 *ℤ ((a *ℤ e) +ℤ (b *ℤ f))) -ℤ ((a *ℤ a) +ℤ (b *ℤ b))
 dot_off_parts a b e f = rw (as_diff a, as_diff b, as_diff e, as_diff f, diff-pos 2) (simp differences (diff-same _ _ _ _ (omega arith)))
 
-pub dot_off : (u m : Dir) → dot u (twice_off u m) ≡ (pos 2 *ℤ dot u m) -ℤ pos (length_squared u)
+dot_off : (u m : Dir) → dot u (twice_off u m) ≡ (pos 2 *ℤ dot u m) -ℤ pos (length_squared u)
 dot_off u m = rw (square_length_squared u) (dot_off_parts u.dx u.dy m.dx m.dy)
 
 cross_off_parts : (a b e f : ℤ) → (a *ℤ ((pos 2 *ℤ f) -ℤ b)) -ℤ (b *ℤ ((pos 2 *ℤ e) -ℤ a)) ≡ pos 2 *ℤ ((a *ℤ f) -ℤ (b *ℤ e))
 cross_off_parts a b e f = rw (as_diff a, as_diff b, as_diff e, as_diff f, diff-pos 2) (simp differences (diff-same _ _ _ _ (omega arith)))
 
-pub cross_off : (u m : Dir) → cross u (twice_off u m) ≡ pos 2 *ℤ cross u m
+cross_off : (u m : Dir) → cross u (twice_off u m) ≡ pos 2 *ℤ cross u m
 cross_off u m = cross_off_parts u.dx u.dy m.dx m.dy
 
 -- twice the way from the first end to the point half way, and from it to the second
@@ -127,16 +127,16 @@ second_half a b m =
     rw (← square_length_squared (chord m b), ← square_length_squared (twice_off (plus a b) m), ← square_length_squared (chord a b)) at (second_parts a.dx a.dy b.dx b.dy m.dx m.dy)
 
 -- ---- put together
-pub off_in_numbers : (V M U X : ℕ) (x : ℤ) → pos V +ℤ (pos 4 *ℤ x) ≡ (pos 4 *ℤ pos M) +ℤ pos U → x ≡ pos X → V + 4 * X ≡ 4 * M + U
+off_in_numbers : (V M U X : ℕ) (x : ℤ) → pos V +ℤ (pos 4 *ℤ x) ≡ (pos 4 *ℤ pos M) +ℤ pos U → x ≡ pos X → V + 4 * X ≡ 4 * M + U
 off_in_numbers V M U X x e f = omega (arith, ints, rw f at e)
 
-pub size_along : (U X : ℕ) (x : ℤ) → x ≡ pos X → U ≤ 2 * X → unsigned_abs ((pos 2 *ℤ x) -ℤ pos U) ≡ 2 * X - U
+size_along : (U X : ℕ) (x : ℤ) → x ≡ pos X → U ≤ 2 * X → unsigned_abs ((pos 2 *ℤ x) -ℤ pos U) ≡ 2 * X - U
 size_along U X x e h = rw e (omega (arith, ints, h))
 
-pub square_core : (n d c z y : ℕ) → n ≡ d * d + c * c → d ≡ z → c ≡ 2 * y → n ≡ z * z + 4 * (y * y)
+square_core : (n d c z y : ℕ) → n ≡ d * d + c * c → d ≡ z → c ≡ 2 * y → n ≡ z * z + 4 * (y * y)
 square_core n d c z y whole f g = omega (arith, rw (f, g) at whole)
 
-pub dot_core : (U : ℕ) (w s t x y : ℤ) (a b c d : ℕ) → pos U *ℤ w ≡ (s *ℤ t) +ℤ (x *ℤ y) → unsigned_abs s ≡ a → unsigned_abs t ≡ b → unsigned_abs x ≡ 2 * c → unsigned_abs y ≡ 2 * d
+dot_core : (U : ℕ) (w s t x y : ℤ) (a b c d : ℕ) → pos U *ℤ w ≡ (s *ℤ t) +ℤ (x *ℤ y) → unsigned_abs s ≡ a → unsigned_abs t ≡ b → unsigned_abs x ≡ 2 * c → unsigned_abs y ≡ 2 * d
     → U * unsigned_abs w ≤ a * b + 4 * (c * d)
 dot_core U w s t x y a b c d e f g h k =
     let whole : U * unsigned_abs w ≡ unsigned_abs ((s *ℤ t) +ℤ (x *ℤ y)) = sym (size_mul (pos U) w) ∙ ap unsigned_abs e in

@@ -1,12 +1,11 @@
 -- The vertices of an arc: each but the end is met before it, and is a point of the circle, rounded.
-use Rattle.std.proofs.Common.{refl, ◌≡◌, ◌≢◌, ◌⊎◌, inl, inr, ℕ, zero, suc, ◌+◌, ◌^◌, ◌*◌, ◌≤◌, ◌<◌, sym, subst, arith, List, [], ◌∷◌, ◌++◌, ℤ, pos, negsuc, ◌*ℤ◌, ◌<ℤ◌, unsigned_abs}
+use Rattle.std.proofs.Common.{refl, ◌≡◌, ◌⊎◌, inl, inr, ℕ, zero, suc, ◌+◌, ◌^◌, ◌*◌, ◌≤◌, ◌<◌, sym, subst, arith, List, [], ◌∷◌, ◌++◌, ℤ, pos, negsuc, ◌*ℤ◌, ◌<ℤ◌, unsigned_abs}
 use Rattle.std.proofs.lemmas.Int.{ints}
 use Rattle.apt_plane.specs.declared.figures.Pt.{Pt}
 use Rattle.apt_plane.specs.declared.figures.Dir.{Dir}
 use Rattle.apt_plane.specs.declared.figures.Circ.{Circ}
 use Rattle.apt_plane.specs.Vectors.{displacement, cross, length_squared}
 use Rattle.apt_plane.specs.Ranges.{IsDir, IsSense}
-use Rattle.apt_plane.specs.Order.{turn_class, ComesBefore}
 use Rattle.apt_plane.proofs.Displacements.{cross_square}
 use Rattle.apt_plane.proofs.Turned.{turned_by}
 use Rattle.apt_plane.proofs.Around.{Cyc, before_cyc, cyc_after}

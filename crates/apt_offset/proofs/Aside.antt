@@ -1,5 +1,5 @@
 -- The side of a surface on which the cutter's centre is, by its distance.
-use Rattle.std.proofs.Common.{refl, ◌≡◌, ◌∙◌, ap, sym, true≢false, arith, false, ℕ, zero, suc, ◌*◌, ◌≤◌, ◌<◌, ℤ, pos, negsuc, neg_ℤ, ◌+ℤ◌, ◌-ℤ◌, ◌*ℤ◌, ◌≤ℤ◌, ◌<ℤ◌, int_lt, unsigned_abs}
+use Rattle.std.proofs.Common.{refl, ◌≡◌, ◌∙◌, ap, sym, true≢false, arith, false, ℕ, zero, suc, ◌*◌, ◌≤◌, ◌<◌, ℤ, pos, negsuc, neg_ℤ, ◌+ℤ◌, ◌-ℤ◌, ◌*ℤ◌, ◌≤ℤ◌, ◌<ℤ◌, unsigned_abs}
 use Rattle.std.proofs.lemmas.Int.{ints}
 use Rattle.std.proofs.lemmas.Nat.{mul-le, mul-lt}
 use Rattle.apt_num.specs.declared.Sign.{Sign}

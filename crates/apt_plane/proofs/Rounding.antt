@@ -22,27 +22,7 @@ displacement_rest u m d =
 half_square : (c n e m : ℕ) → c * c ≤ n * e → 2 * e ≤ m * m → 2 * c * c ≤ n * (m * m)
 half_square c n e m p q = omega (arith, p, mul-le-mul_left n q)
 
--- the cross product with the quotients, times m, is that with the way up to a rest: twice the square of the rest is at most the square of the length times m
-pub moved : (d u : Dir) (m : ℤ) → m ≢ pos 0
-    → (rest : ℤ) × (m *ℤ cross d (near_displacement u m) ≡ cross d u +ℤ rest) × (2 * unsigned_abs rest * unsigned_abs rest ≤ length_squared d * (unsigned_abs m * unsigned_abs m))
-moved d u m h =
-    let left = displacement_rest u m h in
-    let e = left.0 in
-    let split : m *ℤ cross d (near_displacement u m) ≡ cross d u +ℤ cross d e =
-    sym (cross_times d (near_displacement u m) m) ∙ rw (left.1.dx, left.1.dy) (cross_sum d u e) in
-    (cross d e, split, half_square (unsigned_abs (cross d e)) (length_squared d) (length_squared e) (unsigned_abs m) (cross_square d e) left.1.short)
-
--- and the dot product
-pub moved_dot : (d u : Dir) (m : ℤ) → m ≢ pos 0
-    → (rest : ℤ) × (m *ℤ dot d (near_displacement u m) ≡ dot d u +ℤ rest) × (2 * unsigned_abs rest * unsigned_abs rest ≤ length_squared d * (unsigned_abs m * unsigned_abs m))
-moved_dot d u m h =
-    let left = displacement_rest u m h in
-    let e = left.0 in
-    let split : m *ℤ dot d (near_displacement u m) ≡ dot d u +ℤ dot d e =
-    sym (dot_times d (near_displacement u m) m) ∙ rw (left.1.dx, left.1.dy) (dot_sum d u e) in
-    (dot d e, split, half_square (unsigned_abs (dot d e)) (length_squared d) (length_squared e) (unsigned_abs m) (dot_square d e) left.1.short)
-
--- one rest for both products
+-- the products with the quotients, times m, are those with the way up to the products with one rest
 pub moved_both : (d u : Dir) (m : ℤ) → m ≢ pos 0
     → (e : Dir) × IsRounded u (near_displacement u m) e m
     × (m *ℤ cross d (near_displacement u m) ≡ cross d u +ℤ cross d e)
@@ -55,3 +35,18 @@ moved_both d u m h =
       sym (cross_times d (near_displacement u m) m) ∙ rw (left.1.dx, left.1.dy) (cross_sum d u e),
       sym (dot_times d (near_displacement u m) m) ∙ rw (left.1.dx, left.1.dy) (dot_sum d u e),
     )
+
+-- twice the square of the rest of one is at most the square of the length times m
+pub moved : (d u : Dir) (m : ℤ) → m ≢ pos 0
+    → (rest : ℤ) × (m *ℤ cross d (near_displacement u m) ≡ cross d u +ℤ rest) × (2 * unsigned_abs rest * unsigned_abs rest ≤ length_squared d * (unsigned_abs m * unsigned_abs m))
+moved d u m h =
+    let both = moved_both d u m h in
+    let e = both.0 in
+    (cross d e, both.2, half_square (unsigned_abs (cross d e)) (length_squared d) (length_squared e) (unsigned_abs m) (cross_square d e) both.1.short)
+
+pub moved_dot : (d u : Dir) (m : ℤ) → m ≢ pos 0
+    → (rest : ℤ) × (m *ℤ dot d (near_displacement u m) ≡ dot d u +ℤ rest) × (2 * unsigned_abs rest * unsigned_abs rest ≤ length_squared d * (unsigned_abs m * unsigned_abs m))
+moved_dot d u m h =
+    let both = moved_both d u m h in
+    let e = both.0 in
+    (dot d e, both.3, half_square (unsigned_abs (dot d e)) (length_squared d) (length_squared e) (unsigned_abs m) (dot_square d e) both.1.short)

@@ -1,11 +1,8 @@
 -- A start-up that no condition refuses ends within the coordinate limit.
-use Rattle.std.proofs.Common.{◌≡◌, true, Option, Some, None, arith}
+use Rattle.std.proofs.Common.{Option, Some, None}
 use Rattle.std.proofs.lemmas.Bool.{not-false}
-use Rattle.std.proofs.lemmas.Bool.Decides.{nat_tests}
 use Rattle.apt_words.specs.Rows.{NoneHolds}
-use Rattle.apt_plane.specs.declared.figures.Pt.{Pt}
 use Rattle.apt_plane.specs.Ranges.{IsPoint}
-use Rattle.apt_canon.specs.Scale.{is_in_range}
 use Rattle.apt_canon.proofs.Ways.{point_inside}
 use Rattle.apt_startup.specs.declared.Goal.{Goal}
 use Rattle.apt_startup.specs.declared.StartUp.{StartUp}

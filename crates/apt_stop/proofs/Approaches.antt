@@ -1,5 +1,5 @@
 -- A motion along a line to a stop beyond it runs in its sense.
-use Rattle.std.proofs.Common.{◌≡◌, ℕ, suc, ◌*◌, ◌≤◌, ◌<◌, inl, inr, zero, ap, sym, ◌∙◌, arith, ℤ, pos, negsuc, ◌+ℤ◌, ◌-ℤ◌, ◌*ℤ◌, ◌<ℤ◌, neg_ℤ, unsigned_abs}
+use Rattle.std.proofs.Common.{◌≡◌, ℕ, suc, ◌*◌, ◌≤◌, ◌<◌, zero, arith, ℤ, pos, negsuc, ◌+ℤ◌, ◌-ℤ◌, ◌*ℤ◌, ◌<ℤ◌, neg_ℤ, unsigned_abs}
 use Rattle.std.proofs.lemmas.Int.{ints}
 use Rattle.std.proofs.lemmas.Nat.{mul-le, mul-lt}
 use Rattle.std.proofs.Math.Nat.{mul-le-mul_left}
@@ -9,7 +9,6 @@ use Rattle.apt_num.proofs.Squares.{root_lt, size_neg, size_mul}
 use Rattle.apt_plane.specs.declared.figures.Dir.{Dir}
 use Rattle.apt_plane.specs.Ranges.{IsSense}
 use Rattle.apt_plane.specs.Vectors.{cross, dot, length_squared}
-use Rattle.apt_plane.proofs.Heights.{one-times}
 use Rattle.apt_plane.proofs.Displacements.{square_length_squared, dot_square, times_parts}
 use Rattle.apt_plane.proofs.Turned.{sense_twice}
 use Rattle.apt_stop.specs.Nearness.{heading}

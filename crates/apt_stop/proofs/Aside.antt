@@ -7,7 +7,7 @@ use Rattle.std.proofs.lemmas.Bool.{and_cases}
 use Rattle.apt_num.specs.Sign.{square, sign_of, is_at_least}
 use Rattle.apt_num.proofs.AtLeast.{at_least_squares}
 use Rattle.apt_num.proofs.Products.{no_minus, strict_each}
-use Rattle.apt_num.proofs.Ring.{as_diff, diff-same, differences, neg-*ℤ, *ℤ_assoc, times_swap}
+use Rattle.apt_num.proofs.Ring.{neg-*ℤ, *ℤ_assoc, times_swap}
 use Rattle.apt_num.proofs.Squares.{size_mul, size_neg, cancel_same}
 use Rattle.apt_num.proofs.Testing.{is_at_least-false}
 use Rattle.apt_plane.specs.declared.figures.Pt.{Pt}

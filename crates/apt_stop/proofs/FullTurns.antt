@@ -1,6 +1,6 @@
 -- FullTurn comes exactly where two legs turn fully.
 use Rattle.std.specs.Prelude.{Option, Some, None, Result, Err, IsErrOf, ◌↔◌, if◌then◌else◌}
-use Rattle.std.proofs.Common.{refl, ◌≡◌, ◌≢◌, sym, ◌∙◌, Bool, true, false, ◌&&◌, ◌∷◌, ◌++◌}
+use Rattle.std.proofs.Common.{refl, ◌≡◌, ◌≢◌, sym, ◌∙◌, Bool, true, false, ◌∷◌, ◌++◌}
 use Rattle.apt_words.specs.declared.Case.{Case}
 use Rattle.apt_words.specs.declared.Case.TheVariants as cases
 use Rattle.apt_words.specs.Rows.{first_of, unless, unless_case}

@@ -1,12 +1,12 @@
 -- The leg behind a course that nothing refuses: it starts near the stop, and where it leads on it runs on the other side of it.
-use Rattle.std.specs.Prelude.{Option, Some, None, Result, Ok, Err, IfOk}
+use Rattle.std.specs.Prelude.{Result, Ok, Err, IfOk}
 use Rattle.std.proofs.Common.{refl, ◌≡◌, ◌≢◌, inl, sym, subst, ap, ◌∙◌, arith, ℤ, pos, neg_ℤ, ◌*ℤ◌, Bool, true, false, ◌||◌, List, [], ◌∷◌, ◌++◌}
 use Rattle.std.proofs.lemmas.Bool.{true≢false}
 use Rattle.apt_num.specs.declared.Sign.{Sign}
 use Rattle.apt_num.specs.declared.Sign.TheVariants as signs
 use Rattle.apt_num.proofs.Ring.{*ℤ-neg}
 use Rattle.apt_words.specs.declared.Case.{Case}
-use Rattle.apt_words.specs.Rows.{Row, NoneHolds, first_of, unless, unless_case}
+use Rattle.apt_words.specs.Rows.{Row, NoneHolds, first_of, unless}
 use Rattle.apt_words.proofs.Rows.{first_none}
 use Rattle.apt_plane.specs.declared.figures.Pt.{Pt}
 use Rattle.apt_plane.specs.declared.figures.Dir.{Dir}

@@ -1,5 +1,5 @@
 -- The end of a course round a circle: on its track, and on the stop that it meets.
-use Rattle.std.proofs.Common.{refl, ◌≢◌, inl, ℕ, zero, suc, ◌≤◌, arith, ℤ, pos}
+use Rattle.std.proofs.Common.{refl, ◌≢◌, inl, arith, ℤ, pos}
 use Rattle.std.proofs.lemmas.Int.{ints}
 use Rattle.apt_num.specs.declared.Sign.{Sign}
 use Rattle.apt_num.specs.declared.Sign.TheVariants as signs

@@ -1,15 +1,12 @@
 -- How far from a centre a point is that is near a circle, or not near it.
-use Rattle.std.proofs.Common.{◌≡◌, ◌⊎◌, inl, inr, ℕ, ◌+◌, ◌-◌, ◌*◌, ◌≤◌, ◌<◌, arith, Bool, true, false, ◌&&◌, pos, ◌+ℤ◌, ◌-ℤ◌, unsigned_abs}
+use Rattle.std.proofs.Common.{◌≡◌, ◌⊎◌, inl, inr, ℕ, ◌+◌, ◌-◌, ◌*◌, ◌≤◌, ◌<◌, arith, Bool, true, false, ◌&&◌, pos, ◌+ℤ◌, ◌-ℤ◌}
 use Rattle.std.specs.Prelude.{nat_le}
 use Rattle.std.proofs.lemmas.Int.{ints}
 use Rattle.std.proofs.lemmas.Bool.{and_parts, and_cases, leb-true, leb-false}
 use Rattle.apt_num.specs.Sign.{square}
 use Rattle.apt_num.proofs.Nearest.{not_negative}
 use Rattle.apt_plane.specs.declared.figures.Pt.{Pt}
-use Rattle.apt_plane.specs.Vectors.{displacement, length_squared, scaled}
-use Rattle.apt_plane.specs.Distances.{IsOver, IsUnder, about}
-use Rattle.apt_plane.proofs.Heights.{one-times}
-use Rattle.apt_plane.proofs.RingLaws.{root_at_most, length_at_most}
+use Rattle.apt_plane.specs.Vectors.{displacement, length_squared}
 use Rattle.apt_plane.proofs.OneRay.{size_down}
 use Rattle.apt_canon.specs.Scale.{IsNearCircle}
 use Rattle.apt_contact.specs.Meetings.{circle_about}

@@ -1,5 +1,5 @@
 -- A motion along a track in a sense: the products with its heading, and how far it leads sideways.
-use Rattle.std.proofs.Common.{refl, ◌≡◌, ◌≢◌, inl, inr, ◌+◌, ◌*◌, ◌≤◌, ◌<◌, ◌∙◌, ap, arith, ℤ, pos, negsuc, neg_ℤ, ◌+ℤ◌, ◌-ℤ◌, ◌*ℤ◌, unsigned_abs}
+use Rattle.std.proofs.Common.{refl, ◌≡◌, ◌≢◌, inl, inr, ◌+◌, ◌*◌, ◌≤◌, ◌<◌, ◌∙◌, ap, arith, ℤ, pos, negsuc, neg_ℤ, ◌-ℤ◌, ◌*ℤ◌, unsigned_abs}
 use Rattle.std.proofs.lemmas.Int.{ints}
 use Rattle.apt_num.specs.declared.Sign.{Sign}
 use Rattle.apt_num.specs.declared.Sign.TheVariants as signs

@@ -11,7 +11,7 @@ use Rattle.apt_plane.specs.declared.figures.Surface.TheVariants as surfaces
 use Rattle.apt_plane.specs.Vectors.{displacement, cross, length_squared, scaled}
 use Rattle.apt_plane.proofs.Heights.{height_of_point}
 use Rattle.apt_plane.proofs.SegmentLaws.{point_in_band}
-use Rattle.apt_offset.specs.Targets.{greater, signed, band_at}
+use Rattle.apt_offset.specs.Targets.{signed, band_at}
 use Rattle.apt_plane.specs.declared.figures.Circ.{Circ}
 use Rattle.apt_plane.specs.declared.figures.Surface.{Surface}
 use Rattle.apt_plane.specs.Distances.{InBand, IsLengthAtMost, IsRootAtMost}

@@ -21,7 +21,7 @@ use Rattle.apt_offset.specs.Turns.{is_zero}
 use Rattle.apt_offset.specs.Targets.{signed, lacks_room}
 use Rattle.apt_stop.specs.declared.course.Course.{Course}
 use Rattle.apt_stop.specs.Nearness.{is_near, off_track}
-use Rattle.apt_stop.specs.Courses.{is_tanto, kept_side, axis_of}
+use Rattle.apt_stop.specs.Courses.{is_tanto, axis_of}
 use Rattle.apt_stop.specs.Ends.{IsOnAxisOf, EndsOnLine}
 use Rattle.apt_stop.specs.Ranges.{IsCourse}
 use Rattle.apt_stop.proofs.NearLaws.{near-OnLine}

@@ -1,8 +1,6 @@
 -- The legs of a contour that no case refuses: each is legal with its own vertices, and the second runs on the other side of the stop.
 use Rattle.std.proofs.Common.{◌≡◌, refl, sym, ap, subst, ◌∙◌, Bool, true, false, not, List, [], ◌∷◌, ◌++◌, map, is_some}
 use Rattle.std.specs.Prelude.{◌||◌}
-use Rattle.apt_num.specs.declared.Sign.{Sign}
-use Rattle.apt_num.specs.declared.Sign.TheVariants as signs
 use Rattle.apt_words.specs.Rows.{Row, NoneHolds}
 use Rattle.apt_plane.specs.declared.figures.Pt.{Pt}
 use Rattle.apt_offset.specs.Turns.{opposite, is_zero}

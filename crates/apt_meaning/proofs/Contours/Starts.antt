@@ -1,14 +1,11 @@
 -- How the start of a course round a circle lies to its stop, by the tests: on its side away from the stop, or near the stop and heading into its side.
-use Rattle.std.proofs.Common.{refl, ◌≡◌, ◌≢◌, inl, inr, subst, ℕ, suc, zero, ◌+◌, ◌-◌, ◌*◌, ◌≤◌, ◌<◌, ℤ, pos, negsuc, neg_ℤ, ◌+ℤ◌, ◌-ℤ◌, ◌*ℤ◌, ◌≤ℤ◌, ◌<ℤ◌, Bool, true, false, ◌&&◌, arith}
+use Rattle.std.proofs.Common.{refl, ◌≡◌, ◌≢◌, inl, inr, subst, ℕ, suc, zero, ◌+◌, ◌-◌, ◌≤◌, ℤ, pos, negsuc, neg_ℤ, ◌+ℤ◌, ◌-ℤ◌, ◌*ℤ◌, ◌≤ℤ◌, ◌<ℤ◌, Bool, true, false, ◌&&◌, arith}
 use Rattle.std.specs.Prelude.{if◌then◌else◌}
 use Rattle.std.proofs.lemmas.Int.{ints}
 use Rattle.std.proofs.lemmas.Nat.{mul-le}
-use Rattle.std.proofs.lemmas.Bool.{and_cases, both_ways, cases_lt}
 use Rattle.apt_num.specs.declared.Sign.{Sign}
 use Rattle.apt_num.specs.declared.Sign.TheVariants as signs
-use Rattle.apt_num.specs.Sign.{square, sign_of, root_sign_of, is_at_least}
-use Rattle.apt_num.proofs.Squares.{size_neg}
-use Rattle.apt_num.proofs.Testing.{is_at_least-from}
+use Rattle.apt_num.specs.Sign.{square, sign_of, root_sign_of}
 use Rattle.apt_plane.specs.declared.figures.Pt.{Pt}
 use Rattle.apt_plane.specs.declared.figures.Line.{Line}
 use Rattle.apt_plane.specs.Ranges.{IsSense}

@@ -1,5 +1,5 @@
 -- Records that follow steps end as the steps do.
-use Rattle.std.proofs.Common.{◌≡◌, refl, Bool, false, ℤ, List, [], ◌∷◌, ◌++◌, map, Option, Some, ap, subst}
+use Rattle.std.proofs.Common.{◌≡◌, refl, Bool, false, ℤ, List, [], ◌∷◌, ◌++◌, map, Some, ap, subst}
 use Rattle.apt_words.specs.Asks.{Ask, Titles, Says, Sets, Defines, Goes, Cuts, Nothing, ask_of, is_end, asks_end}
 use Rattle.apt_words.specs.declared.Turn.TheVariants as turns
 use Rattle.apt_words.specs.declared.Units.{Units}

@@ -1,5 +1,5 @@
 -- Effects in range leave situations and records in range.
-use Rattle.std.proofs.Common.{◌+◌, ◌≤◌, ◌^◌, ℤ, ◌*ℤ◌, ◌-ℤ◌, unsigned_abs, ◌==◌, Bool, true, false, List, [], ◌∷◌, ◌++◌, length, map, Option, Some, None, inl, inr, arith, cond}
+use Rattle.std.proofs.Common.{◌+◌, ◌≤◌, ℤ, ◌-ℤ◌, unsigned_abs, ◌==◌, Bool, true, false, List, [], ◌∷◌, ◌++◌, length, map, Option, Some, None, arith, cond}
 use Rattle.std.proofs.lemmas.Int.{ints}
 use Rattle.apt_num.proofs.Squares.{size_minus, size_neg}
 use Rattle.apt_words.specs.declared.deed.Step.{Step}
