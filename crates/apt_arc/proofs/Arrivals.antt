@@ -14,7 +14,7 @@ use Rattle.apt_canon.specs.Circles.{HasSense}
 use Rattle.apt_arc.specs.declared.arc.Arc.{Arc}
 use Rattle.apt_arc.specs.Ranges.{IsTrack, IsArc}
 use Rattle.apt_arc.specs.Stops.{IsRoute, to_start, to_end}
-use Rattle.apt_plane.proofs.Nearby.{IsNearby, IsOnCircle}
+use Rattle.apt_plane.proofs.Nearby.{IsOnCircle}
 use Rattle.apt_arc.proofs.Tracks.{within, within_large, nearby, near_track, length_tells, root_tells, ring_tells}
 use Rattle.apt_plane.proofs.Governed.{IsHardlyAcross, IsHardlyNearerTo, IsOnRay, away_reached}
 use Rattle.apt_plane.proofs.Kept.{IsStopped}
@@ -30,12 +30,14 @@ on_circle t x is near =
 within_three : (p n : ℕ) → (p + 2) * (p + 2) ≤ n → n ≤ (p + 4) * (p + 4) → (p * p ≤ n) × (n ≤ (p + 6) * (p + 6))
 within_three p n low high = (omega (arith, low), omega (arith, high))
 
+pub near_three : (t : Circ) (x : Pt) → IsTrack t → IsNearCircle t (pos 1) x → IsNearCircle t (pos 3) x
+near_three t x is near =
+    let on = on_circle t x is near in
+    let both = within_three (within t) (length_squared (displacement t.c x)) on.low on.high in
+    near_track t x is (record { low = both.0; high = both.1 })
+
 pub near_end : (a : Arc) → IsRoute a → IsNearCircle a.track (pos 3) a.end
-near_end a is =
-    let on = on_circle a.track a.end is.track is.end in
-    let both = within_three (within a.track) (length_squared (to_end a)) on.low on.high in
-    let near : IsNearby (within a.track) (to_end a) = record { low = both.0; high = both.1 } in
-    near_track a.track a.end is.track near
+near_end a is = near_three a.track a.end is.track is.end
 
 -- ---- an arc and the axis: its end lies on the far side, or hardly across it
 pub record EndsPast (a : Arc) (b : Dir) : Type 0 where

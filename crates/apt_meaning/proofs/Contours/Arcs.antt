@@ -2,7 +2,6 @@
 use Rattle.std.proofs.Common.{◌≡◌, refl, sym, subst, ℕ, ◌+◌, ◌-◌, ◌*◌, ◌/◌, ◌≤◌, ℤ, pos, negsuc, ◌-ℤ◌, ◌*ℤ◌, ◌≤ℤ◌, unsigned_abs, Bool, true, false, List, [], ◌∷◌, Option, Some, None, IfSome, arith}
 use Rattle.std.specs.Prelude.{int_lt, is_none, is_some}
 use Rattle.std.proofs.lemmas.Int.{ints}
-use Rattle.std.proofs.lemmas.Nat.{mul-le}
 use Rattle.std.proofs.lemmas.Bool.{true≢false, not-false}
 use Rattle.apt_num.specs.declared.Sign.{Sign}
 use Rattle.apt_words.specs.Rows.{NoneHolds}
@@ -27,12 +26,13 @@ use Rattle.apt_stop.specs.Choices.{course_cases}
 use Rattle.apt_stop.specs.Ends.{EndsOnCircle}
 use Rattle.apt_stop.proofs.Ended.{course_ends}
 use Rattle.apt_stop.proofs.Axes.{no_axis, towards-IsDir}
-use Rattle.apt_stop.proofs.Rings.{near_least, near_most, ring_true}
+use Rattle.apt_stop.proofs.Rings.{ring_true}
 use Rattle.apt_stop.proofs.Parts.{meets, touches}
 use Rattle.apt_arc.specs.declared.arc.Arc.{Arc}
 use Rattle.apt_arc.specs.Made.{divided}
 use Rattle.apt_arc.specs.Ranges.{IsTrack, IsSag, IsArc}
 use Rattle.apt_arc.proofs.Tracks.{near_track}
+use Rattle.apt_arc.proofs.Arrivals.{near_three}
 use Rattle.apt_meaning.specs.declared.motion.Motion.{Motion}
 use Rattle.apt_meaning.specs.Motions.{drive_side, course_of, leg_of, track_of}
 use Rattle.apt_meaning.specs.Cuts.{end_point, lesser, sag, arc_on, arc_along, arc_of, vertices_on, vertices_of}
@@ -105,15 +105,6 @@ near_start c (pos n) p is near =
     near_track (circle_about c (pos n)) p is (record { low = ring.0; high = subst (λ x. length_squared (displacement c p) ≤ x * x) (wide n least) ring.1 })
 near_start c (negsuc n) p is near = absurd (omega (arith, ints, is.least))
 
-near_end : (c : Pt) (r : ℤ) (p : Pt) → IsTrack (circle_about c r) → IsNearCircle (circle_about c r) (pos 1) p → IsNearCircle (circle_about c r) (pos 3) p
-near_end c (pos n) p is near =
-    let least : 100 ≤ n = omega (arith, ints, is.least) in
-    near_track (circle_about c (pos n)) p is (record {
-      low = omega (arith, near_least c n p (omega (arith, least)) near, mul-le (n - 3) (n - 3) (n - 1) (n - 1) (omega arith) (omega arith));
-      high = omega (arith, near_most c n p near, mul-le (n + 1) (n + 1) (n - 3 + 6) (n - 3 + 6) (omega (arith, least)) (omega (arith, least)));
-    })
-near_end c (negsuc n) p is near = absurd (omega (arith, ints, is.least))
-
 -- ---- its check surface is no circle about its centre
 
 met_elsewhere : (o : Pt) (r : ℤ) (check : Surface) (w : Sign) (radius : ℤ) → HasMeeting (meeting_of (targets.Circ o r) (offset_surface check w radius)) → IsElsewhere o check
@@ -148,7 +139,7 @@ arc_is m d is none =
       axis = towards-IsDir d.c m.check is.drive.centre is.check (elsewhere m d (is_tanto m.how) refl none.1.1.1.1);
       sag = sag_fits d.c (radius_round m d) (leg_of (round m d)).band.lo track.least (room_round m d is).lo;
       start = near_start d.c (radius_round m d) m.start.xy track (not-false _ none.1.1.0);
-      end = near_end d.c (radius_round m d) (end_point (round m d)) track ends.track;
+      end = near_three (circle_about d.c (radius_round m d)) (end_point (round m d)) track ends.track;
       apart = ends.apart;
     }
 
