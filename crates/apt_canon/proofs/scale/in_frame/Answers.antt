@@ -34,8 +34,4 @@ returns-clause-small c =
     let b = c.args.b in
     let x = c.args.x in
     let y = c.args.y in
-    let first : c.times.result ≡ a *ℤ x = rw (to_z-of_z w64 a c.ranges.a, kept x (omega arith)) at c.times.ensures.value in
-    let second : c.times-2.result ≡ b *ℤ y = rw (to_z-of_z w64 b c.ranges.b, kept y (omega arith)) at c.times-2.ensures.value in
-    let first_small = part_size a x c.requires.a c.requires.x in
-    let second_small = part_size b y c.requires.b c.requires.y in
-    rw (first, second, scaled_sum_kept (a *ℤ x) (b *ℤ y) first_small second_small) (sum_size (a *ℤ x) (b *ℤ y) first_small second_small)
+    rw (returns-clause-value c, *ℤ_comm x a, *ℤ_comm y b) (sum_size (a *ℤ x) (b *ℤ y) (part_size a x c.requires.a c.requires.x) (part_size b y c.requires.b c.requires.y))

@@ -30,13 +30,4 @@ returns-clause-value c =
     rw (kept c.div_near.result (omega arith), to_z-of_z w64 c.div_near.result fits, ← product) value
 
 pub returns-clause-small : goal.returns-clause-small
-returns-clause-small c =
-    let fits_n : FitsSigned w64 c.args.n = c.ranges.n in
-    let fits_part : FitsSigned w128 c.args.part = c.ranges.part in
-    let fits_whole : FitsSigned w128 c.args.whole = c.ranges.whole in
-    let fits_product : FitsSigned w128 c.times.result = search rules in
-    let product : c.times.result ≡ c.args.n *ℤ c.args.part = simp to_z-of_z at c.times.ensures.value in
-    let value : c.div_near.result ≡ near c.times.result c.args.whole = simp to_z-of_z at c.div_near.ensures.value in
-    let small : unsigned_abs c.div_near.result ≤ unsigned_abs c.args.n = rw (value, product) (share_small c.args.n c.args.part c.args.whole c.requires.not_zero c.requires.part) in
-    let fits : FitsSigned w64 c.div_near.result = omega (arith, ints) in
-    rw (kept c.div_near.result (omega arith), to_z-of_z w64 c.div_near.result fits) small
+returns-clause-small c = rw (returns-clause-value c) (share_small c.args.n c.args.part c.args.whole c.requires.not_zero c.requires.part)
