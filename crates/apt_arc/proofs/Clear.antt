@@ -2,7 +2,7 @@
 use Rattle.std.proofs.Common.{refl, ◌≡◌, ◌↔◌, ◌⊎◌, inl, inr, ℕ, ◌+◌, ◌*◌, ◌≤◌, ◌<◌, ◌∙◌, ap, sym, arith, Bool, true, false, true≢false, not, IsTrue, ℤ, pos, negsuc, ◌-ℤ◌, ◌<ℤ◌, ◌≤ℤ◌, int_lt, unsigned_abs}
 use Rattle.std.specs.Prelude.{◌&&◌, nat_le, nat_lt, int_le, Option, None, Some, IsNone, IfSome, is_some}
 use Rattle.std.proofs.lemmas.Int.{ints}
-use Rattle.std.proofs.lemmas.Bool.{cases_Bool, cases_lt, leb-true, le-leb, ltb-true, ltb-false, and_parts}
+use Rattle.std.proofs.lemmas.Bool.{cases_Bool, cases_lt, leb-true, le-leb, ltb-true, ltb-false, and_parts, and_left, not_from_false}
 use Rattle.apt_plane.specs.declared.figures.Pt.{Pt}
 use Rattle.apt_plane.specs.declared.figures.Circ.{Circ}
 use Rattle.apt_plane.specs.declared.figures.Spot.{Spot}
@@ -30,9 +30,6 @@ le_true a b e = grind (arith, ints)
 pub le_from : (a b : ℤ) → a ≤ℤ b → int_le a b ≡ true
 le_from a b h = grind (arith, ints)
 
-first_fails : (a b : Bool) → a ≡ false → (a && b) ≡ false
-first_fails a b e = rw e refl
-
 second_fails : (a b c : Bool) → a ≡ true → b ≡ false → (a && (b && c)) ≡ false
 second_fails a b c e f = rw (e, f) refl
 
@@ -41,9 +38,6 @@ third_fails a b c e f g = rw (e, f, g) refl
 
 none_fails : (a b c : Bool) → a ≡ true → b ≡ true → c ≡ true → (a && (b && c)) ≡ true
 none_fails a b c e f g = rw (e, f, g) refl
-
-negated : (a : Bool) → a ≡ false → not a ≡ true
-negated a e = rw e refl
 
 -- ---- the foot of the centre
 far_product : (n a h : ℕ) (z : ℤ) → pos 0 <ℤ z → z <ℤ pos n → h * h * n ≤ a * a → (0 < n) × (h * h * n ≤ a * a)
@@ -58,7 +52,7 @@ foot_cases c h p q =
     let second = int_lt way (pos n) in
     let third = nat_lt (area * area) (h * h * n) in
     elim (cases_Bool first) [
-      | inr e ↦ inr (first_fails first (second && third) e, inl (lt_false (pos 0) way e))
+      | inr e ↦ inr (and_left first (second && third) e, inl (lt_false (pos 0) way e))
       | inl e ↦ elim (cases_Bool second) [
         | inr f ↦ inr (second_fails first second third e f, inr (inl (lt_false way (pos n) f)))
         | inl f ↦ elim (cases_Bool third) [
@@ -94,7 +88,7 @@ over_back c h p q every = elim (foot_cases c h p q) [
   | inr far ↦
       none_fails (nat_le (h * h) (length_squared (displacement c p))) (nat_le (h * h) (length_squared (displacement c q))) (not (is_foot_near c h p q))
       (le-leb (h * h) (length_squared (displacement c p)) (over_from c p h (at_start (IsOver (about c) (pos h)) p q every)))
-      (le-leb (h * h) (length_squared (displacement c q)) (over_from c q h (at_end (IsOver (about c) (pos h)) p q every))) (negated (is_foot_near c h p q) far.0)
+      (le-leb (h * h) (length_squared (displacement c q)) (over_from c q h (at_end (IsOver (about c) (pos h)) p q every))) (not_from_false (is_foot_near c h p q) far.0)
 ]
 
 pub over_tells : (c : Pt) (lo : ℤ) (p q : Pt) → IsTrue (is_over c lo p q) ↔ EveryPoint p q (IsOver (about c) lo)
@@ -130,7 +124,7 @@ pub near_point : (c : Pt) (h : ℕ) (p q : Pt) → h * h ≤ length_squared (dis
 near_point c h p q start end off = elim (foot_cases c h p q) [
   | inr far ↦
       absurd (true≢false (sym (none_fails (nat_le (h * h) (length_squared (displacement c p))) (nat_le (h * h) (length_squared (displacement c q))) (not (is_foot_near c h p q))
-      (le-leb (h * h) (length_squared (displacement c p)) start) (le-leb (h * h) (length_squared (displacement c q)) end) (negated (is_foot_near c h p q) far.0)) ∙ off))
+      (le-leb (h * h) (length_squared (displacement c p)) start) (le-leb (h * h) (length_squared (displacement c q)) end) (not_from_false (is_foot_near c h p q) far.0)) ∙ off))
   | inl near ↦
       let spot = foot_off c p q (pos h) (dot (displacement p q) (displacement p c)) (pos (length_squared (displacement p q))) near.1 (over_to c p h start) (over_to c q h end) refl refl in
       let n = length_squared (displacement_to c (between p q spot.j spot.k)) in (

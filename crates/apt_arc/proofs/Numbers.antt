@@ -99,12 +99,9 @@ number_some (suc n) r c d = elim (cases_Bool (nat_le d c)) [
   | inr e ↦ rw e (some_double (number n r c (shorter r d)) (number_some n r c (shorter r d)))
 ]
 
-above_not : (d c : ℕ) → c < d → nat_le d c ≡ false
-above_not d c h = lt-leb d c h
-
 number_open : (n r c d : ℕ) → c < d → number (suc n) r c d ≡ 2 * number n r c (shorter r d)
 unfolding number
-number_open n r c d h = rw (above_not d c h) refl
+number_open n r c d h = rw (lt-leb d c h) refl
 
 both_few : (l k ps : List Pt) (n m : ℕ) → ps ≡ l ++ k → m ≡ 2 * n → length l ≤ n → length k ≤ n → length ps ≤ m
 both_few l k ps n m e f p q = omega (arith, ap length e, length-append l k, f, p, q)

@@ -1,6 +1,7 @@
 -- A step that no case refuses has an effect in range, and a contour that it asks for is legal with its own vertices, to its contact.
 use Rattle.std.proofs.Common.{◌≡◌, ℕ, not, Bool, true, false, List, [], ◌∷◌, Option, Some, None, is_none, length, map, IfSome, Result, Ok, Err, IfOk, refl, cond, sym, ap, subst, ◌∙◌, ℤ, pos}
 use Rattle.std.proofs.lemmas.Bool.{true≢false}
+use Rattle.std.proofs.lemmas.Option.{same_Some}
 use Rattle.apt_num.specs.declared.Sign.{Sign}
 use Rattle.apt_words.specs.declared.Go.{Go}
 use Rattle.apt_words.specs.declared.Side.{Side}
@@ -293,11 +294,8 @@ asks here deed is numbers worded none = asks_by here (ask_of deed) is numbers wo
 pub answered : (here : Situation) (deed : Deed) → IsSituation here → HasScalars deed → DeedHasText deed → refusal_of here deed ≡ None → Asks (effect_of here deed)
 answered here deed is numbers worded fine = asks here deed is numbers worded (first_none (cases_of here deed) fine)
 
-same : {A : Type 0} (x y : A) → Some x ≡ Some y → x ≡ y
-same x y e = cc
-
 -- and it is in range
 pub good : (here : Situation) (deed : Deed) (e : Effect) → effect_of here deed ≡ Some e → NoneHolds (cases_of here deed) → IsSituation here → HasScalars deed → DeedHasText deed → IsEffect e
 good here deed e asked none is numbers worded =
     let a = asks here deed is numbers worded none in
-    subst IsEffect (same a.e e (sym a.asked ∙ asked)) a.fit.good
+    subst IsEffect (same_Some a.e e (sym a.asked ∙ asked)) a.fit.good

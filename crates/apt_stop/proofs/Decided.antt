@@ -1,6 +1,7 @@
 -- What the steps of a decision come to, and what its answers say.
 use Rattle.std.proofs.Common.{refl, ◌≡◌, ◌↔◌, ◌∙◌, Bool, true, false, ℤ, List, [], ◌∷◌, ◌++◌, Option, Some, None, Result, Ok, Err, IfOk, IsErrOf}
 use Rattle.std.specs.Prelude.{if◌then◌else◌, not, is_none}
+use Rattle.std.proofs.lemmas.Bool.{not-false}
 use Rattle.apt_num.specs.declared.Sign.{Sign}
 use Rattle.apt_num.specs.declared.Sign.TheVariants as signs
 use Rattle.apt_words.specs.declared.Case.{Case}
@@ -26,7 +27,6 @@ use Rattle.apt_stop.specs.Ends.{IsEndOn}
 use Rattle.apt_stop.specs.Ranges.{IsCourse}
 use Rattle.apt_stop.specs.Steps.{met, led, meeting, touched, touch}
 use Rattle.apt_stop.proofs.Ended.{course_ends}
-use Rattle.apt_stop.proofs.Feet.{not_true}
 
 -- ---- what the steps come to
 
@@ -129,7 +129,7 @@ answer_refused r c e case = rw e (refused_by (course_cases c) (choice_of c) case
 
 pub answer_range : (r : Result Choice Case) (c : Course) → r ≡ unless (course_cases c) (choice_of c) → IfOk r (λ x. IsPoint x.end)
 answer_range r c e =
-    rw e (given_when (course_cases c) (choice_of c) (λ x. IsPoint x.end) (λ none. point_inside (end_of c) (not_true (is_in_range (end_of c)) (way_free c none).1.0)))
+    rw e (given_when (course_cases c) (choice_of c) (λ x. IsPoint x.end) (λ none. point_inside (end_of c) (not-false (is_in_range (end_of c)) (way_free c none).1.0)))
 
 pub answer_end : (r : Result Choice Case) (c : Course) → IsCourse c → r ≡ unless (course_cases c) (choice_of c) → IfOk r (λ x. IsEndOn c.track c x.end)
 answer_end r c is e = rw e (given_when (course_cases c) (choice_of c) (λ x. IsEndOn c.track c x.end) (course_ends c is))

@@ -1,5 +1,6 @@
 -- The end of a course along a line that touches a circle.
 use Rattle.std.proofs.Common.{refl, ◌≡◌, inr, ℕ, ◌*◌, ◌≤◌, ◌<◌, subst, arith, Bool, true, false, not, ℤ, pos, ◌-ℤ◌, ◌*ℤ◌, ◌<ℤ◌}
+use Rattle.std.proofs.lemmas.Bool.{not-false}
 use Rattle.apt_num.specs.declared.Sign.{Sign}
 use Rattle.apt_num.specs.Sign.{AtLeast, square}
 use Rattle.apt_plane.specs.declared.figures.Pt.{Pt}
@@ -28,10 +29,6 @@ use Rattle.apt_stop.proofs.Tracks.{heading_dot, heading_length}
 use Rattle.apt_stop.proofs.Lies.{ahead_of}
 use Rattle.apt_stop.proofs.Touching.{touches_stop, foot_on_axis}
 use Rattle.apt_stop.proofs.Parts.{moved, Touches}
-
-pub not_true : (b : Bool) → not b ≡ false → b ≡ true
-not_true true e = refl
-not_true false e = absurd cc
 
 -- it runs onwards to an end on its track, near its stop and on the axis
 pub record Touched (c : Course) (d : Dir) (q : Pt) : Type 0 where
@@ -68,7 +65,7 @@ touches_on_line c l v m k is free =
       ahead = foot_ahead l.dir c.sense c.start k.c q is.sense some (ahead_of (way_on_to n l.dir k.c) (length_squared l.dir) free.past) across;
       track = near;
       stop = record {
-        stop = touches_stop l k v m q (record { some = some; along = across }) round.least circle.least (not_true _ free.touching) near;
+        stop = touches_stop l k v m q (record { some = some; along = across }) round.least circle.least (not-false _ free.touching) near;
         axis = rw free.on (foot_on_axis l.dir k.c q across);
       };
     }

@@ -1,11 +1,11 @@
 -- FullTurn comes exactly where two legs turn fully.
 use Rattle.std.specs.Prelude.{Option, Some, None, Result, Err, IsErrOf, ◌↔◌, if◌then◌else◌}
 use Rattle.std.proofs.Common.{refl, ◌≡◌, ◌≢◌, sym, ◌∙◌, Bool, true, false, ◌∷◌, ◌++◌}
+use Rattle.std.proofs.lemmas.Bool.{and_parts}
 use Rattle.apt_words.specs.declared.Case.{Case}
 use Rattle.apt_words.specs.declared.Case.TheVariants as cases
 use Rattle.apt_words.specs.Rows.{first_of, unless, unless_case}
 use Rattle.apt_words.proofs.Rows.{none_first, first_none}
-use Rattle.apt_words.proofs.Bools.{both}
 use Rattle.apt_plane.specs.declared.figures.Surface.{Surface}
 use Rattle.apt_plane.specs.declared.figures.Surface.TheVariants as surfaces
 use Rattle.apt_stop.specs.declared.course.Course.{Course}
@@ -62,7 +62,7 @@ told : (n : Legs) (c : Course) → IsCourse c → first_of (leg_cases n c) ≡ S
 told legs.One c is e = absurd (never_first cases.FullTurn (stop_cases c ++ way_cases c) (both_others cases.FullTurn (stop_cases c) (way_cases c) (stop_others c) (way_others c)) e)
 told legs.Two c is e =
     let full = two_full c e in
-    let both = both (is_round c.drive) (starts_near_stop c) full.1 in
+    let both = and_parts (is_round c.drive) (starts_near_stop c) full.1 in
     record {
       two = refl;
       round = round_tells c.drive both.0;

@@ -2,6 +2,7 @@
 use Rattle.std.proofs.Common.{refl, ◌≡◌, ◌≢◌, ◌∙◌, inl, inr, ◌<◌, arith, true, false, true≢false, ◌&&◌, ℤ, pos, negsuc, ◌-ℤ◌, ◌≤ℤ◌, Option, Some}
 use Rattle.std.proofs.lemmas.Int.{ints}
 use Rattle.std.proofs.lemmas.Bool.Decides.{eqb_tells}
+use Rattle.std.proofs.lemmas.Bool.{not-false}
 use Rattle.apt_num.specs.declared.Sign.{Sign}
 use Rattle.apt_num.specs.declared.Sign.TheVariants as signs
 use Rattle.apt_num.specs.Sign.{sign_of}
@@ -32,7 +33,6 @@ use Rattle.apt_stop.specs.Ends.{IsOnAxisOf, TouchesStop}
 use Rattle.apt_stop.proofs.Moved.{track_target, stop_target}
 use Rattle.apt_stop.proofs.Placed.{has_half}
 use Rattle.apt_stop.proofs.Parts.{moved, Touches}
-use Rattle.apt_stop.proofs.Feet.{not_true}
 use Rattle.apt_plane.proofs.Turned.{perp_dir}
 use Rattle.apt_stop.proofs.OnRounds.{ray_at, two_centres}
 use Rattle.apt_stop.proofs.OneWay.{one_way}
@@ -85,7 +85,7 @@ pub touches_on_round : (c : Course) (k : Circ) (v : Sign) (m : ℤ) (check : Sur
 touches_on_round c k v m (surfaces.Line l) is free =
     let circle : IsCircleTarget k.c (k.r -ℤ signed v m) = track_target (touching c k v m (surfaces.Line l)) is in
     by_axis c k v m (surfaces.Line l) (perp l.dir) (half_towards l k) refl is free (perp_dir l.dir is.check.dir)
-    (λ there q ray near. near_line_stop k l v m q circle.least there (not_true _ free.touching) ray near)
+    (λ there q ray near. near_line_stop k l v m q circle.least there (not-false _ free.touching) ray near)
 touches_on_round c k v m (surfaces.Circ j) is free = elim (eqb_tells (length_squared (displacement k.c j.c)) 0) [
   | inl one ↦ absurd (true≢false (rw one.0 at free.axis))
   | inr two ↦
@@ -95,5 +95,5 @@ touches_on_round c k v m (surfaces.Circ j) is free = elim (eqb_tells (length_squ
       by_axis c k v m (surfaces.Circ j) (displacement k.c j.c) (touching_half k j) (rw two.0 refl) is free (two_centres k.c j.c is.drive.centre is.check.centre two.1)
       (λ there q ray near.
       near_circle_stop k j v m q (omega (arith, ints, is.drive.least)) (omega (arith, ints, is.check.least)) (some_number (length_squared (displacement k.c j.c)) two.1) circle.least stop.least there
-      (not_true _ free.touching) ray near)
+      (not-false _ free.touching) ray near)
 ]

@@ -2,6 +2,7 @@
 use Rattle.std.proofs.Common.{refl, ◌≡◌, ◌≢◌, ◌∙◌, sym, ℕ, zero, suc, arith, inl, inr, Bool, true, false, ◌&&◌, ℤ, pos, negsuc, ◌-ℤ◌, ◌+ℤ◌, ◌*ℤ◌, ◌≤ℤ◌, neg_ℤ, unsigned_abs, Option, Some, None}
 use Rattle.std.specs.Prelude.{if◌then◌else◌, ◌||◌, nat_le, int_le}
 use Rattle.std.proofs.lemmas.Int.{ints}
+use Rattle.std.proofs.lemmas.Bool.{le-leb}
 use Rattle.apt_num.specs.declared.Sign.{Sign}
 use Rattle.apt_num.specs.declared.Sign.TheVariants as signs
 use Rattle.apt_num.specs.Sign.{sign_of, is_minus, square, root_sign_of, is_at_least}
@@ -22,7 +23,6 @@ use Rattle.apt_stop.specs.Nearness.{is_near, side_of, heading, near_stop}
 use Rattle.apt_stop.specs.Courses.{headed_side, stop_side, starts_near_stop}
 use Rattle.apt_stop.specs.Choices.{is_same, is_past, is_not_ahead, is_by_axis, way_on_to}
 use Rattle.apt_stop.specs.Steps.{IsPlaced, HasSide, far_side, side_from, past_from}
-use Rattle.apt_stop.proofs.Within.{at_most}
 
 -- ---- the steps come to the definitions
 
@@ -86,8 +86,8 @@ zero_alone (negsuc n) e = absurd cc
 off_circle : (r : ℤ) (n : ℕ) → pos 100 ≤ℤ r → (nat_le (square (r -ℤ near_stop)) n && nat_le n (square (r +ℤ near_stop))) ≡ false → sign_of (pos (square r) -ℤ pos n) ≢ signs.Zero
 off_circle r n least far on =
     let same : n ≡ square r = omega (arith, ints, zero_alone (pos (square r) -ℤ pos n) on) in
-    let inside = at_most (square (r -ℤ near_stop)) n (rw same (square_le (unsigned_abs (r -ℤ near_stop)) (unsigned_abs r) (omega (arith, ints)))) in
-    let outside = at_most n (square (r +ℤ near_stop)) (rw same (square_le (unsigned_abs r) (unsigned_abs (r +ℤ near_stop)) (omega (arith, ints)))) in
+    let inside = le-leb (square (r -ℤ near_stop)) n (rw same (square_le (unsigned_abs (r -ℤ near_stop)) (unsigned_abs r) (omega (arith, ints)))) in
+    let outside = le-leb n (square (r +ℤ near_stop)) (rw same (square_le (unsigned_abs r) (unsigned_abs (r +ℤ near_stop)) (omega (arith, ints)))) in
     apart (rw (inside, outside) at far)
 
 pub off_target : (t : Target) (p : Pt) → IsTarget t → is_near t near_stop p ≡ false → side_of t p ≢ signs.Zero

@@ -3,7 +3,7 @@ use Rattle.std.specs.Prelude.{◌↔◌, nat_le, if◌then◌else◌}
 use Rattle.std.proofs.Common.{refl, ◌≡◌, ◌⊎◌, inl, inr, ℕ, zero, suc, ◌+◌, ◌-◌, ◌*◌, ◌≤◌, ◌<◌, arith, Bool, true, false, ◌&&◌, max, ℤ, pos, negsuc, neg_ℤ, ◌+ℤ◌, ◌-ℤ◌, ◌≤ℤ◌, ◌<ℤ◌, unsigned_abs}
 use Rattle.std.proofs.lemmas.Int.{ints}
 use Rattle.std.proofs.lemmas.Nat.{mul-le, mul-lt}
-use Rattle.std.proofs.lemmas.Bool.{and_parts, leb-true, leb-false}
+use Rattle.std.proofs.lemmas.Bool.{and_parts, leb-true, leb-false, le-leb}
 use Rattle.apt_num.specs.Sign.{OnLine, square}
 use Rattle.apt_num.proofs.AtLeast.{at_least_squares}
 use Rattle.apt_num.proofs.Testing.{is_at_least-from}
@@ -23,7 +23,6 @@ use Rattle.apt_contact.specs.Meetings.{circle_about}
 use Rattle.apt_stop.specs.Gaps.{gap, size, is_within, is_about, line_touches, circles_touch, is_touching}
 use Rattle.apt_stop.specs.Touching.{LineTouches, CirclesTouch, AreTouching}
 use Rattle.apt_stop.proofs.Touching.{touches_by}
-use Rattle.apt_stop.proofs.Within.{at_most}
 use Rattle.apt_stop.proofs.RoundGaps.{from_zero}
 
 -- ---- a line and a circle
@@ -79,7 +78,7 @@ IsAbout a n = ((a - 2) * (a - 2) ≤ n) × (n ≤ (a + 2) * (a + 2))
 both_tell : (x y n : ℕ) → ((nat_le x n && nat_le n y) ≡ true) ↔ ((x ≤ n) × (n ≤ y))
 both_tell x y n = (
   λ e. let both = and_parts (nat_le x n) (nat_le n y) e in (leb-true x n both.0, leb-true n y both.1),
-  λ is. rw (at_most x n is.0, at_most n y is.1) refl,
+  λ is. rw (le-leb x n is.0, le-leb n y is.1) refl,
 )
 
 same_less : (a : ℕ) → suc (suc a) - 2 ≡ a

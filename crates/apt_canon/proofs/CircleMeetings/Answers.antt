@@ -3,6 +3,7 @@ use Rattle.std.proofs.Common.{refl, ◌≡◌, ◌≢◌, ◌↔◌, ℕ, ◌+�
 use Rattle.std.specs.Prelude.{if◌then◌else◌}
 use Rattle.std.proofs.lemmas.Int.{ints}
 use Rattle.std.proofs.lemmas.Bool.Decides.{nat_tests}
+use Rattle.std.proofs.lemmas.Bool.{le-leb, lt-leb, leb-true, and_parts}
 use Rattle.apt_num.specs.Sign.{square, is_at_least}
 use Rattle.apt_num.proofs.Testing.{is_at_least-true, is_at_least-from}
 use Rattle.apt_plane.specs.declared.figures.Pt.{Pt}
@@ -23,15 +24,12 @@ use Rattle.apt_canon.proofs.CircleMeetings.LineCircle.{point_on_line, point_on_c
 use Rattle.apt_canon.proofs.CircleMeetings.CircleCircle.{TwoCircles, chord_within, point_on_first, point_on_second}
 
 -- ---- a line and a circle
-both_true : (p q : Bool) → (p && q) ≡ true → (p ≡ true) × (q ≡ true)
-both_true true q e = (refl, e)
-both_true false q e = absurd (cc)
 
 reaches-true : (l : Line) (h : ℤ) (c : Circ) → reaches l h c ≡ true → IsNearLine l h c.r c.c
 reaches-true l h c e =
     let k = cross l.dir (displacement l.base c.c) in
     let n = length_squared l.dir in
-    let both = both_true (is_at_least k (h -ℤ c.r) n) (is_at_least (neg_ℤ k) (neg_ℤ h -ℤ c.r) n) e in
+    let both = and_parts (is_at_least k (h -ℤ c.r) n) (is_at_least (neg_ℤ k) (neg_ℤ h -ℤ c.r) n) e in
     record { right = is_at_least-true k (h -ℤ c.r) n both.0; left = is_at_least-true (neg_ℤ k) (neg_ℤ h -ℤ c.r) n both.1 }
 
 reaches-from : (l : Line) (h : ℤ) (c : Circ) → IsNearLine l h c.r c.c → reaches l h c ≡ true
@@ -106,8 +104,6 @@ answer_further r l h c sigma is sense e =
     rw e (met (reaches l h c) (IsNearLine l h c.r c.c) (IsFurther l c sigma) (line_circle_point l h c sigma) (reaches-tells l h c) (λ near. point_further l h c sigma is sense))
 
 -- ---- two circles
-pub le-fails : (m n : ℕ) → n < m → nat_le m n ≡ false
-le-fails m n h = grind (arith, nat_tests)
 
 zero-true : (n : ℕ) → (n == 0) ≡ true → n ≤ 0
 zero-true n e = grind (arith, nat_tests)
@@ -118,12 +114,6 @@ zero-fails n h = grind (arith, nat_tests)
 zero-from : (n : ℕ) → n ≡ 0 → (n == 0) ≡ true
 zero-from n e = rw e refl
 
-le-true : (m n : ℕ) → nat_le m n ≡ true → m ≤ n
-le-true m n e = grind (arith, nat_tests)
-
-pub le-from : (m n : ℕ) → m ≤ n → nat_le m n ≡ true
-le-from m n h = grind (arith, nat_tests)
-
 concentric-tells : (a b : Circ) → Tells (are_concentric a b) (a.c ≡ b.c)
 concentric-tells a b =
     tells (are_concentric a b) (a.c ≡ b.c)
@@ -133,13 +123,13 @@ concentric-tells a b =
 overlap-true : (a b : Circ) → overlap a b ≡ true → DoMeet a b
 overlap-true a b e =
     let n = length_squared (displacement a.c b.c) in
-    let both = both_true (nat_le (square (a.r -ℤ b.r)) n) (nat_le n (square (a.r +ℤ b.r))) e in
-    record { inside = le-true (square (a.r -ℤ b.r)) n both.0; outside = le-true n (square (a.r +ℤ b.r)) both.1 }
+    let both = and_parts (nat_le (square (a.r -ℤ b.r)) n) (nat_le n (square (a.r +ℤ b.r))) e in
+    record { inside = leb-true (square (a.r -ℤ b.r)) n both.0; outside = leb-true n (square (a.r +ℤ b.r)) both.1 }
 
 overlap-from : (a b : Circ) → DoMeet a b → overlap a b ≡ true
 overlap-from a b is =
     let n = length_squared (displacement a.c b.c) in
-    rw (le-from (square (a.r -ℤ b.r)) n is.inside, le-from n (square (a.r +ℤ b.r)) is.outside) refl
+    rw (le-leb (square (a.r -ℤ b.r)) n is.inside, le-leb n (square (a.r +ℤ b.r)) is.outside) refl
 
 overlap-tells : (a b : Circ) → Tells (overlap a b) (DoMeet a b)
 overlap-tells a b = tells (overlap a b) (DoMeet a b) (overlap-true a b) (overlap-from a b)

@@ -2,7 +2,7 @@
 use Rattle.std.proofs.Common.{refl, ◌≡◌, ◌≢◌, ◌↔◌, ℕ, ◌+◌, ◌-◌, ◌*◌, ◌^◌, ◌≤◌, ◌<◌, ◌∙◌, Bool, arith, inl, inr, ℤ, pos, neg_ℤ, ◌+ℤ◌, ◌-ℤ◌, ◌*ℤ◌, ◌≤ℤ◌, unsigned_abs, ◌==◌, nat_lt, Result, Ok, Err, IfOk, IsErrOf}
 use Rattle.std.specs.Prelude.{◌&&◌, if◌then◌else◌}
 use Rattle.std.proofs.lemmas.Int.{ints}
-use Rattle.std.proofs.lemmas.Bool.{cases_lt, lt-ltb}
+use Rattle.std.proofs.lemmas.Bool.{cases_lt, lt-ltb, le-ltb}
 use Rattle.apt_num.specs.Sign.{square}
 use Rattle.apt_num.proofs.Squares.{root_le, square_le, size_neg}
 use Rattle.apt_plane.specs.declared.figures.Pt.{Pt}
@@ -11,7 +11,7 @@ use Rattle.apt_plane.specs.declared.figures.Line.{Line}
 use Rattle.apt_plane.specs.declared.figures.Circ.{Circ}
 use Rattle.apt_plane.specs.Vectors.{displacement, cross, length_squared, perp}
 use Rattle.apt_plane.specs.Ranges.{IsPoint, IsDir, IsLine, IsCircle}
-use Rattle.apt_plane.proofs.Displacements.{cross_swap, no_way}
+use Rattle.apt_plane.proofs.Displacements.{cross_swap, no_way, turned_length}
 use Rattle.apt_plane.proofs.Lengths.{IsInRing}
 use Rattle.apt_plane.proofs.Heights.{length_squared_small}
 use Rattle.apt_canon.specs.declared.FormFault.{FormFault}
@@ -22,7 +22,7 @@ use Rattle.apt_canon.proofs.Ways.{there_and_back, no_square, one_point, way_is_d
 use Rattle.apt_canon.proofs.CircleMeetings.Near.{near_circle}
 use Rattle.apt_canon.proofs.Shares.{share_small}
 use Rattle.apt_canon.proofs.TangentLines.Frame.{falling_small}
-use Rattle.apt_canon.proofs.TangentLines.Calls.{not_below, apart_test, same_test, side_size, radius_large, outside_apart}
+use Rattle.apt_canon.proofs.TangentLines.Calls.{apart_test, same_test, side_size, radius_large, outside_apart}
 use Rattle.apt_canon.proofs.TangentLines.Laws.{divisor_apart, stretched, falling_dir_long, lag, lag_small, touching_back}
 use Rattle.apt_canon.proofs.TangentLines.Ways.{if_passes, falling_onwards, point_to_centre, centre_to_centre, less_than}
 use Rattle.apt_canon.proofs.TangentLines.TwoLaws.{touch_way, touches_first, touches_second}
@@ -35,13 +35,13 @@ no_fault t e h = cc
 found_none : (n m : ℕ) (t : Line) → IsErrOf (if nat_lt n m then Err NoMeeting else Ok t) NoMeeting ↔ (n < m)
 found_none n m t = elim (cases_lt n m) [
   | inl below ↦ rw (lt-ltb n m below) (λ h. below, λ h. refl)
-  | inr past ↦ rw (not_below n m past) (λ h. absurd (no_fault t NoMeeting h), λ h. absurd (omega arith))
+  | inr past ↦ rw (le-ltb n m past) (λ h. absurd (no_fault t NoMeeting h), λ h. absurd (omega arith))
 ]
 
 if_found : (P : Line → Type 0) (n m : ℕ) (t : Line) → (m ≤ n → P t) → IfOk (if nat_lt n m then Err NoMeeting else Ok t) P
 if_found P n m t h = elim (cases_lt n m) [
   | inl below ↦ rw (lt-ltb n m below) tt
-  | inr past ↦ rw (not_below n m past) (h past)
+  | inr past ↦ rw (le-ltb n m past) (h past)
 ]
 
 -- ---- from a point
@@ -135,7 +135,7 @@ unlike_back h = cc
 other_fault : (n m : ℕ) (t : Line) → IsErrOf (if nat_lt n m then Err NoMeeting else Ok t) Degenerate → ⊥
 other_fault n m t h = elim (cases_lt n m) [
   | inl below ↦ unlike_back (rw (lt-ltb n m below) at h)
-  | inr past ↦ no_fault t Degenerate (rw (not_below n m past) at h)
+  | inr past ↦ no_fault t Degenerate (rw (le-ltb n m past) at h)
 ]
 
 degenerate_is : (n m : ℕ) (t : Line) → IsErrOf (if (n == 0) && (m == 0) then Err Degenerate else (if nat_lt n m then Err NoMeeting else Ok t)) Degenerate ↔ (n + m ≤ 0)
@@ -225,9 +225,6 @@ two_touches_second r a left_a b left_b is_a is_b e =
 
 -- ---- the base
 
-turned_long : (w : Dir) → length_squared (perp w) ≡ length_squared w
-turned_long w = rw (size_neg w.dy) (omega arith)
-
 positive_radius : (c : Circ) → IsCircle c → pos 0 ≤ℤ c.r
 positive_radius c is = omega (arith, ints, is.least)
 
@@ -236,7 +233,7 @@ base_in_ring : (a : Circ) (left : Bool) (v : Dir) (m : ℤ) → IsCircle a → I
 base_in_ring a left v m is_a is fits =
     let b = touch_way v m (side_of_circle left *ℤ a.r) in
     rw (there_and_back a.c.x b.dx, there_and_back a.c.y b.dy)
-    (stretched v (perp (falling v m)) m (side_of_circle left *ℤ a.r) (unsigned_abs a.r) is fits (turned_long (falling v m)) (side_size left a.r)
+    (stretched v (perp (falling v m)) m (side_of_circle left *ℤ a.r) (unsigned_abs a.r) is fits (turned_length (falling v m)) (side_size left a.r)
     (omega (arith, radius_large a is_a)) (omega (arith, radius_short a is_a)))
 
 pub two_base : (r : Result Line FormFault) (a : Circ) (left_a : Bool) (b : Circ) (left_b : Bool) → IsCircle a → IsCircle b → r ≡ tangent_two a left_a b left_b

@@ -1,7 +1,7 @@
 -- The tests that come before a tangent, and the answer after them.
 use Rattle.std.proofs.Common.{refl, ◌∙◌, ap, ◌≡◌, ℕ, ◌+◌, ◌^◌, ◌≤◌, ◌<◌, Bool, true, false, arith, ℤ, pos, neg_ℤ, ◌-ℤ◌, ◌*ℤ◌, unsigned_abs, to_z, of_z, w64, ◌==◌, nat_lt, FitsSigned, Ok, Err}
 use Rattle.std.specs.Prelude.{◌&&◌}
-use Rattle.std.proofs.lemmas.Bool.{lt-ltb}
+use Rattle.std.proofs.lemmas.Bool.{lt-ltb, le-ltb}
 use Rattle.std.proofs.lemmas.Int.{ints}
 use Rattle.std.proofs.lemmas.Bool.Decides.{nat_tests}
 use Rattle.apt_num.specs.Sign.{square}
@@ -15,9 +15,6 @@ use Rattle.apt_canon.specs.Tangents.{side_of_circle, falling_dir, tangent_from, 
 use Rattle.apt_canon.specs.declared.FormFault.TheVariants.{NoMeeting, Degenerate}
 use Rattle.apt_canon.proofs.Products.{zero-minus}
 use Rattle.apt_canon.proofs.Shares.{side_kept}
-
-pub not_below : (n m : ℕ) → m ≤ n → nat_lt n m ≡ false
-not_below n m h = grind (arith, nat_tests)
 
 pub side_size : (left : Bool) (r : ℤ) → unsigned_abs (side_of_circle left *ℤ r) ≡ unsigned_abs r
 side_size true r = omega (arith, ints)
@@ -42,7 +39,7 @@ same_dir a b p q d h e f = h ∙ ap (λ v. falling_dir v p) e ∙ ap (λ z. fall
 
 pub found_from : (p : Pt) (left : Bool) (c : Circ) (d : Dir) → square c.r ≤ length_squared (displacement p c.c)
     → d ≡ falling_dir (displacement p c.c) (neg_ℤ (side_of_circle left *ℤ c.r)) → Ok (record { base = p; dir = d }) ≡ tangent_from p left c
-found_from p left c d h e = rw (e, not_below (length_squared (displacement p c.c)) (square c.r) h) refl
+found_from p left c d h e = rw (e, le-ltb (length_squared (displacement p c.c)) (square c.r) h) refl
 
 -- ---- of two circles
 
@@ -70,7 +67,7 @@ pub two_found : (a : Circ) (left_a : Bool) (b : Circ) (left_b : Bool) (p : Pt) (
 two_found a left_a b left_b p d h apart e f =
     let n = length_squared (displacement a.c b.c) in
     let m = square (drop a left_a b left_b) in
-    rw (e, f, apart_test n m (omega (arith, apart)), not_below n m h) refl
+    rw (e, f, apart_test n m (omega (arith, apart)), le-ltb n m h) refl
 
 pub same_touch : (a : Circ) (left : Bool) (v w : Dir) (m n : ℤ) (p : Pt) → p ≡ touch_point a left v m → v ≡ w → m ≡ n → p ≡ touch_point a left w n
 same_touch a left v w m n p h e f = h ∙ ap (λ u. touch_point a left u m) e ∙ ap (λ z. touch_point a left w z) f

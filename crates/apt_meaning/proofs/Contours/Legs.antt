@@ -1,6 +1,7 @@
 -- The legs of a contour that no case refuses: each is legal with its own vertices, and the second runs on the other side of the stop.
 use Rattle.std.proofs.Common.{◌≡◌, refl, sym, ap, subst, ◌∙◌, Bool, true, false, not, List, [], ◌∷◌, ◌++◌, map, is_some}
 use Rattle.std.specs.Prelude.{◌||◌}
+use Rattle.std.proofs.lemmas.Bool.{not_from_true}
 use Rattle.apt_words.specs.Rows.{Row, NoneHolds}
 use Rattle.apt_plane.specs.declared.figures.Pt.{Pt}
 use Rattle.apt_offset.specs.Turns.{opposite, is_zero}
@@ -50,9 +51,6 @@ second_way m none = none_behind (way_cases (course_of m)) (second_rows m) (two_w
 
 -- ---- the second leg
 
-not_true : (b : Bool) → b ≡ true → not b ≡ false
-not_true b e = rw e refl
-
 pub second_is : (m : Motion) → IsMotion m → NoneHolds (motion_cases m) → IsMotion (onward m (end_point m))
 second_is m is none = record {
   start = record { xy = end_is_point (course_of m) none.1.1.1.1; z = is.start.z };
@@ -69,7 +67,7 @@ pub second_free : (m : Motion) → IsMotion m → NoneHolds (cut_cases m legs.Tw
 second_free m is none =
     let first = first_free m legs.Two none in
     let near = (next_is (course_of m) (course_is m is first) first.1.1.1.1).near in
-    (none.0, (none.1.0, (not_true (is_near (track_of m) off_track (end_point m)) near, (none.1.1.1.0, next_free (course_of m) first.1.1.1.1 (second_way m none)))))
+    (none.0, (none.1.0, (not_from_true (is_near (track_of m) off_track (end_point m)) near, (none.1.1.1.0, next_free (course_of m) first.1.1.1.1 (second_way m none)))))
 
 pub second_side : (m : Motion) → IsMotion m → NoneHolds (cut_cases m legs.Two) → stop_side (onward m (end_point m)) ≡ opposite (stop_side m)
 second_side m is none =

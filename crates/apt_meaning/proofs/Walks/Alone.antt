@@ -4,6 +4,7 @@ use Rattle.std.specs.Prelude.{◌&&◌}
 use Rattle.std.specs.Ordering.{int_eq}
 use Rattle.std.proofs.lemmas.Bool.Decides.{Decides-eqb, Decides-int_eq}
 use Rattle.std.proofs.lemmas.Int.{ints}
+use Rattle.std.proofs.lemmas.Bool.{and_from}
 use Rattle.apt_words.specs.Asks.{listed}
 use Rattle.apt_words.specs.declared.deed.Step.{Step}
 use Rattle.apt_arc.proofs.Clear.{same_answer}
@@ -70,9 +71,6 @@ no_square (pos zero) n e = refl
 no_square (pos (suc m)) n e = absurd (omega (arith, e))
 no_square (negsuc m) n e = absurd (omega (arith, e))
 
-both_hold : (a b : Bool) → a ≡ true → b ≡ true → (a && b) ≡ true
-both_hold a b e f = rw (e, f) refl
-
 -- a way leads nowhere where its length is 0
 nowhere_by_length : (d : Dir) → (length_squared d == 0) ≡ is_nowhere d
 nowhere_by_length d =
@@ -80,7 +78,7 @@ nowhere_by_length d =
     let m = unsigned_abs d.dy * unsigned_abs d.dy in
     same_answer (length_squared d == 0) (is_nowhere d)
     (λ short. let none : n + m ≡ 0 = (Decides-eqb (n + m) 0).0 short in
-    both_hold (int_eq d.dx (pos 0)) (int_eq d.dy (pos 0)) ((Decides-int_eq d.dx (pos 0)).1 (no_square d.dx m none)) ((Decides-int_eq d.dy (pos 0)).1 (no_square d.dy n (omega (arith, none)))))
+    and_from (int_eq d.dx (pos 0)) (int_eq d.dy (pos 0)) ((Decides-int_eq d.dx (pos 0)).1 (no_square d.dx m none)) ((Decides-int_eq d.dy (pos 0)).1 (no_square d.dy n (omega (arith, none)))))
     (λ still. let parts = both (int_eq d.dx (pos 0)) (int_eq d.dy (pos 0)) still in
     (Decides-eqb (n + m) 0).1 (rw ((Decides-int_eq d.dx (pos 0)).0 parts.0, (Decides-int_eq d.dy (pos 0)).0 parts.1) refl))
 
