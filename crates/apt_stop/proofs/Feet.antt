@@ -1,5 +1,5 @@
 -- The end of a course along a line that touches a circle.
-use Rattle.std.proofs.Common.{refl, ◌≡◌, inr, ℕ, ◌*◌, ◌≤◌, ◌<◌, subst, arith, Bool, true, false, not, ℤ, pos, ◌-ℤ◌, ◌*ℤ◌, ◌<ℤ◌}
+use Rattle.std.proofs.Common.{inr, ℕ, ◌*◌, ◌≤◌, ◌<◌, subst, arith, ℤ, pos, ◌-ℤ◌, ◌*ℤ◌, ◌<ℤ◌}
 use Rattle.std.proofs.lemmas.Bool.{not-false}
 use Rattle.apt_num.specs.declared.Sign.{Sign}
 use Rattle.apt_num.specs.Sign.{AtLeast, square}

@@ -1,5 +1,5 @@
 -- The tests that come before a tangent, and the answer after them.
-use Rattle.std.proofs.Common.{refl, ◌∙◌, ap, ◌≡◌, ℕ, ◌+◌, ◌^◌, ◌≤◌, ◌<◌, Bool, true, false, arith, ℤ, pos, neg_ℤ, ◌-ℤ◌, ◌*ℤ◌, unsigned_abs, to_z, of_z, w64, ◌==◌, nat_lt, FitsSigned, Ok, Err}
+use Rattle.std.proofs.Common.{refl, ◌∙◌, ap, ◌≡◌, ℕ, ◌+◌, ◌^◌, ◌≤◌, ◌<◌, Bool, true, false, arith, ℤ, pos, neg_ℤ, ◌-ℤ◌, ◌*ℤ◌, unsigned_abs, to_z, of_z, w64, ◌==◌, FitsSigned, Ok, Err}
 use Rattle.std.specs.Prelude.{◌&&◌}
 use Rattle.std.proofs.lemmas.Bool.{lt-ltb, le-ltb}
 use Rattle.std.proofs.lemmas.Int.{ints}

@@ -1,5 +1,5 @@
 -- The legs of a contour that no case refuses: each is legal with its own vertices, and the second runs on the other side of the stop.
-use Rattle.std.proofs.Common.{◌≡◌, refl, sym, ap, subst, ◌∙◌, Bool, true, false, not, List, [], ◌∷◌, ◌++◌, map, is_some}
+use Rattle.std.proofs.Common.{◌≡◌, refl, sym, ap, subst, ◌∙◌, true, not, List, [], ◌∷◌, ◌++◌, map, is_some}
 use Rattle.std.specs.Prelude.{◌||◌}
 use Rattle.std.proofs.lemmas.Bool.{not_from_true}
 use Rattle.apt_words.specs.Rows.{Row, NoneHolds}

@@ -2,6 +2,7 @@
 use Rattle.std.proofs.Common.{◌≡◌, ◌∙◌, ℕ, zero, suc, ℤ, Bool, true, false, List, [], ◌∷◌, ◌++◌, length, map, Option, Some, refl, sym, ap, subst}
 use Rattle.std.specs.Prelude.{◌&&◌}
 use Rattle.std.proofs.lemmas.Bool.{true≢false}
+use Rattle.std.proofs.lemmas.Option.{same_Some}
 use Rattle.apt_words.specs.declared.deed.Step.{Step}
 use Rattle.apt_plane.specs.declared.figures.Pt.{Pt}
 use Rattle.apt_records.specs.declared.record.Position.{Position}
@@ -17,7 +18,6 @@ use Rattle.apt_meaning.specs.Motions.{has_track, has_stop}
 use Rattle.apt_stop.specs.Legs.{leg_count}
 use Rattle.apt_meaning.specs.Records.{Begins, MayHave, cut_record, records_of}
 use Rattle.apt_meaning.specs.Expectations.{Expectation, VerticesAt, each_leg, expected, expected_of, behind_statement, Meets, Departs}
-use Rattle.apt_meaning.proofs.Walks.Compiled.{same_some}
 
 -- ---- in one way only
 
@@ -61,7 +61,7 @@ pub record AreSame (e d : Effect) (vs us : List (List Pt)) (xs ys : List Record)
 pub begins_once : (here : Situation) (step : Step) (written : List Record) (e d : Effect) (vs us : List (List Pt)) (xs ys : List Record)
     → Begins here step written e vs xs → Begins here step written d us ys → AreSame e d vs us xs ys
 begins_once here step written e d vs us xs ys b c =
-    let same : d ≡ e = same_some d e (sym c.asked ∙ b.asked) in
+    let same : d ≡ e = same_Some d e (sym c.asked ∙ b.asked) in
     let may = subst (λ (x : Effect). MayHave x us) same c.may in
     let front : records_of step e vs ++ xs ≡ records_of step e us ++ ys = sym b.front ∙ c.front ∙ ap (λ (x : Effect). records_of step x us ++ ys) same in
     let split = front_once step e vs us xs ys b.may may front in

@@ -2,6 +2,7 @@
 use Rattle.std.proofs.Common.{◌≡◌, ◌∙◌, ℕ, ◌+◌, ◌≤◌, Bool, true, false, List, [], ◌∷◌, ◌++◌, Option, Some, None, Result, Ok, Err, refl, sym, ap, subst}
 use Rattle.std.specs.Prelude.{nat_lt, if◌then◌else◌}
 use Rattle.std.proofs.lemmas.Bool.{ltb-false}
+use Rattle.std.proofs.lemmas.Option.{same_Some}
 use Rattle.apt_words.specs.declared.Case.{Case}
 use Rattle.apt_words.specs.declared.Case.TheVariants as cases
 use Rattle.apt_words.specs.declared.Refusal.{Refusal}
@@ -68,12 +69,9 @@ front_ok front (Err refusal) written h = absurd (no_ok refusal written h)
 pub nothing_left : (written : List Record) → ◌≡◌ {A = Result (List Record) Refusal} (Ok []) (Ok written) → written ≡ []
 nothing_left written h = cc
 
-pub same_some : (d e : Effect) → ◌≡◌ {A = Option Effect} (Some d) (Some e) → d ≡ e
-same_some d e h = cc
-
 -- an effect that is asked for, where no case refuses its step
 pub fit : (o : Option Effect) (e : Effect) → o ≡ Some e → Asks o → IsFit e
-fit o e h asks = subst IsFit (same_some asks.e e (sym asks.asked ∙ h)) asks.fit
+fit o e h asks = subst IsFit (same_Some asks.e e (sym asks.asked ∙ h)) asks.fit
 
 -- ---- the walk
 

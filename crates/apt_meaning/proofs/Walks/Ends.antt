@@ -1,5 +1,6 @@
 -- Records that follow steps end as the steps do.
 use Rattle.std.proofs.Common.{◌≡◌, refl, Bool, false, ℤ, List, [], ◌∷◌, ◌++◌, map, Some, ap, subst}
+use Rattle.std.proofs.lemmas.Option.{same_Some}
 use Rattle.apt_words.specs.Asks.{Ask, Titles, Says, Sets, Defines, Goes, Cuts, Nothing, ask_of, is_end, asks_end}
 use Rattle.apt_words.specs.declared.Turn.TheVariants as turns
 use Rattle.apt_words.specs.declared.Units.{Units}
@@ -22,7 +23,6 @@ use Rattle.apt_meaning.specs.Effects.{note_of, effect_of}
 use Rattle.apt_meaning.specs.Records.{cut_record, records_of, after, FollowsAs}
 use Rattle.apt_words.specs.ProgramEnds.{is_ended, StepsEnd}
 use Rattle.apt_meaning.proofs.Said.{IsNoteOf, IsSaidBy, said_by}
-use Rattle.apt_meaning.proofs.Walks.Compiled.{same_some}
 
 -- ---- a step that is not the last
 
@@ -75,7 +75,7 @@ fini_ends : (ended : Bool) (here : Situation) (step : Step) (deed : Deed) (e : E
     → EndsOnce ended (records_of step e cuts ++ [])
 fini_ends ended here step deed e cuts is asked =
     let fini = effects.Sets (changes.Said notes.Fini) in
-    let same = same_some fini e (subst (λ (d : Deed). effect_of here d ≡ Some e) is asked) in
+    let same = same_Some fini e (subst (λ (d : Deed). effect_of here d ≡ Some e) is asked) in
     subst (λ (x : Effect). EndsOnce ended (records_of step x cuts ++ [])) same tt
 
 -- ---- the walk
