@@ -1,7 +1,6 @@
 //! The certificate of contour motions.
 #![tactic(auto)]
 
-mod arcs;
 mod deviations;
 mod distances;
 mod gate;
@@ -13,7 +12,6 @@ mod split;
 mod verdict;
 mod ways;
 
-pub use arcs::arc_stays;
 pub use gate::{Gate, OpenGate};
 pub use judge::{check_jobs, merged};
 pub use leg::{Job, Leg, Points};
