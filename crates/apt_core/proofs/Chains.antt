@@ -12,11 +12,17 @@ use Rattle.apt_control.specs.declared.error.ControlError.TheVariants as tape_err
 use Rattle.apt_control.specs.Answers.{fault_in}
 use Rattle.apt_machine.specs.declared.machine.Machine.{Machine}
 use Rattle.apt_tape.specs.Tapes.{run_on}
+use Rattle.apt_words.specs.declared.deed.Step.{Step}
+use Rattle.apt_outline.specs.declared.cause.OutlineError.{OutlineError}
+use Rattle.apt_outline.specs.declared.cause.OutlineError.TheVariants as outline_errors
+use Rattle.apt_outline.specs.Holding.{figures_at_end}
+use Rattle.apt_outline.specs.Outlines as outlines
 use Rattle.apt_part.specs.Answering.{IsPart}
 use Rattle.apt_part.specs.declared.part.PartError.{PartError}
 use Rattle.apt_part.specs.declared.part.PartError.TheVariants as part_errors
 use Rattle.apt_report.specs.declared.status.Status.{Status}
-use Rattle.apt_core.specs.Due.{ComesToNone, part_told, unless_refused, records_due, acts_due, cl_told, tape_told}
+use Rattle.apt_core.specs.Due.{ComesToNone, part_told, unless_refused, records_due, acts_due, cl_told, tape_told, outline_told}
+use Rattle.apt_core.specs.Guarding.{outline_due}
 
 -- what is due and was not given is told
 pub none_told : {A : Type 0} (due : Result (Result A Refusal) TextFault) (error : PartError) → IsPart due (Err error) → ComesToNone (unless_refused due) (part_told error)
@@ -31,6 +37,11 @@ bad_cl_told cl cl_errors.NoMemory e = inr refl
 pub bad_tape_told : (machine : Machine) (tape : List ℕ) (error : ControlError) → IsFault fault_in (run_on machine tape) error → ComesToNone (acts_due machine tape) (tape_told error)
 bad_tape_told machine tape (tape_errors.Bad at cause) e = inl (rw e refl)
 bad_tape_told machine tape tape_errors.NoMemory e = inr refl
+
+pub bad_outline_told : (steps : List Step) (text : List ℕ) (error : OutlineError) → IsFault outlines.fault_in (outlines.outline_of (figures_at_end steps) text) error
+    → ComesToNone (outline_due steps text) (outline_told error)
+bad_outline_told steps text (outline_errors.Bad line cause) e = inl (rw e refl)
+bad_outline_told steps text outline_errors.NoMemory e = inr refl
 
 -- ---- along a chain
 

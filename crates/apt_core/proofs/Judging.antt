@@ -120,6 +120,13 @@ good_is_right machine text cl tape steps written v passes read run follow verdic
       counted = verdict.segments ∙ makes_segments first_situation steps written (jobs_said written) makes;
     }
 
+-- with these steps and records
+pub good_with : (machine : Machine) (text cl tape : List ℕ) (steps : List Step) (written : List Record) (v : Verdict) → Passes machine text steps → read_of cl ≡ Ok written
+    → run_on machine tape ≡ Ok (acts_on machine written) → Follows steps written → IsVerdict (jobs_said written) v → v.first_bad ≡ None
+    → (certified : IsCertified machine text cl tape v) × (steps ≡ certified.right.steps) × (written ≡ certified.right.records)
+unfolding good_is_right
+good_with machine text cl tape steps written v passes read run follow verdict none = (good_is_right machine text cl tape steps written v passes read run follow verdict none, refl, refl)
+
 -- all is right
 pub good_judged : (machine : Machine) (text table cl tape : List ℕ) (steps : List Step) (written : List Record) (acts : List ArcAct) (v : Verdict)
     → AreJudged machine text table cl tape steps written acts → Passes machine text steps → Follows steps written → IsVerdict (jobs_said written) v → v.first_bad ≡ None → acts ≡ acts_on machine written

@@ -12,6 +12,7 @@ pub mod Judging
 pub mod Decoding
 pub mod Listing
 pub mod Right
+pub mod Guarding
 pub mod Unfailed
 pub mod Putting
 pub mod Usage

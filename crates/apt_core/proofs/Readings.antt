@@ -1,5 +1,5 @@
 -- Files that are read one after the other.
-use Rattle.std.proofs.Common.{◌≡◌, inl, inr, ℕ, ◌≤◌, List, [], ◌∷◌, Option, Some, None, ◌∙◌, refl, subst, arith}
+use Rattle.std.proofs.Common.{◌≡◌, inl, inr, ℕ, ◌≤◌, List, [], ◌∷◌, ◌++◌, Option, Some, None, ◌∙◌, refl, subst, arith}
 use Rattle.apt_shelf.specs.Told.{Contents, Rose, Lacks}
 use Rattle.apt_shelf.specs.Files.{IsLongerAt}
 use Rattle.apt_shelf.specs.declared.files.ReadError.{ReadError}
@@ -59,6 +59,41 @@ stopped_next before middle after x text xs answer read reads (inl first) =
 stopped_next before middle after x text xs answer read reads (inr (inl fault)) =
     inr (inl (fault.0, rose_from before.read_faults middle.read_faults after.read_faults read.later fault.1))
 stopped_next before middle after x text xs answer read reads (inr (inr short)) = inr (inr short)
+
+-- ---- files behind others
+
+first_front : (told : Option Contents) (xs ys : List Input) (before now : ℕ) (answer : Status) → IsFirstUnread told xs before now answer → IsFirstUnread told (xs ++ ys) before now answer
+first_front told [] ys before now answer is = absurd is
+first_front told (x ∷ xs) ys before now answer (inl unread) = inl unread
+first_front told (x ∷ xs) ys before now answer (inr behind) = inr (behind.0, behind.1, first_front told xs ys before now answer behind.2)
+
+first_behind : (told : Option Contents) (xs ys : List Input) (texts : List (List ℕ)) (before now : ℕ) (answer : Status) → ReadsAll told xs texts → IsFirstUnread told ys before now answer
+    → IsFirstUnread told (xs ++ ys) before now answer
+first_behind told [] ys texts before now answer reads first = first
+first_behind told (x ∷ xs) ys [] before now answer reads first = absurd reads
+first_behind told (x ∷ xs) ys (text ∷ texts) before now answer reads first = inr (text, reads.0, first_behind told xs ys texts before now answer reads.1 first)
+
+pub reads_both : (told : Option Contents) (xs ys : List Input) (texts more : List (List ℕ)) → ReadsAll told xs texts → ReadsAll told ys more → ReadsAll told (xs ++ ys) (texts ++ more)
+reads_both told [] ys [] more reads others = others
+reads_both told [] ys (text ∷ texts) more reads others = absurd reads
+reads_both told (x ∷ xs) ys [] more reads others = absurd reads
+reads_both told (x ∷ xs) ys (text ∷ texts) more reads others = (reads.0, reads_both told xs ys texts more reads.1 others)
+
+-- among the first files, whichever follow
+pub stopped_front : (xs ys : List Input) (before after : Files) (answer : Status) → IsStopped xs before after answer → IsStopped (xs ++ ys) before after answer
+stopped_front xs ys before after answer (inl first) = inl (first_front before.told xs ys before.read_faults after.read_faults answer first)
+stopped_front xs ys before after answer (inr short) = inr short
+
+-- behind files that were read
+pub stopped_behind : (before middle after : Files) (xs ys : List Input) (texts : List (List ℕ)) (answer : Status) → AreRead before middle → ReadsAll before.told xs texts
+    → IsStopped ys middle after answer → IsStopped (xs ++ ys) before after answer
+stopped_behind before middle after xs ys texts answer read reads (inl first) =
+    inl (first_behind before.told xs ys texts before.read_faults after.read_faults answer reads
+    (first_from before.told ys before.read_faults middle.read_faults after.read_faults answer read.later
+    (subst (λ t. IsFirstUnread t ys middle.read_faults after.read_faults answer) read.files first)))
+stopped_behind before middle after xs ys texts answer read reads (inr (inl fault)) =
+    inr (inl (fault.0, rose_from before.read_faults middle.read_faults after.read_faults read.later fault.1))
+stopped_behind before middle after xs ys texts answer read reads (inr (inr short)) = inr (inr short)
 
 -- at a file that can't be read, by its error
 pub stopped_by : (x : Input) (before after : Files) (error : ReadError) (answer : Status) → IsToldFor x.name error answer

@@ -66,7 +66,7 @@ no_difference xs ys at e d =
     let same : d.left ≡ d.right = append_cancel_left d.same d.left d.right (sym d.first ∙ e ∙ d.second) in
     not_differ d.right (subst (λ (l : List ArcAct). HeadsDiffer l d.right) same d.differ)
 
-no_miss : (machine : Machine) (text cl tape : List ℕ) (right : IsRight machine text cl tape) (acts : List ArcAct) (miss : Miss) → acts ≡ acts_on machine right.records
+pub no_miss : (machine : Machine) (text cl tape : List ℕ) (right : IsRight machine text cl tape) (acts : List ArcAct) (miss : Miss) → acts ≡ acts_on machine right.records
     → IsMiss machine right.steps right.records acts miss → ⊥
 no_miss machine text cl tape right acts (misses.Entry seq) same is =
     let jobs = follows_makes first_situation right.steps right.records right.follow.behind (contours_legal right.steps right.records right.follow right.legal) in

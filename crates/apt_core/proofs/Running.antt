@@ -12,7 +12,7 @@ use Rattle.apt_report.specs.declared.status.Summary.TheVariants as summaries
 use Rattle.apt_records.specs.declared.record.Record.{Record}
 use Rattle.apt_cldata.specs.Reading.{read_of}
 use Rattle.apt_report.specs.Listing.{point_count}
-use Rattle.apt_core.specs.Words.{FourNames, TapeNames, Ask, Compile, Certify, Decode, Listing, Demo}
+use Rattle.apt_core.specs.Words.{FourNames, TapeNames, Ask, Compile, Certify, Decode, Listing, Demo, Guard}
 use Rattle.apt_core.specs.Due.{OrNoMemory}
 use Rattle.apt_core.specs.Inputs.{part_inputs, inputs, tape_inputs, list_inputs, ReadsAll}
 use Rattle.apt_core.specs.Outputs.{Output, output_of, output_due}
@@ -26,7 +26,7 @@ use Rattle.apt_core.proofs.Outputs.{due_for}
 use Rattle.apt_core.proofs.Decoding.{said_for}
 use Rattle.apt_core.proofs.Listing.{points_for}
 use Rattle.apt_core.proofs.Right.{same_texts}
-use Rattle.apt_core.proofs.Unfailed.{AreUnfailed, stopped_short, FaultOrWritten, compiles_whole, certifies_right}
+use Rattle.apt_core.proofs.Unfailed.{AreUnfailed, stopped_short, FaultOrWritten, compiles_whole, certifies_right, guards_clear}
 
 pub run_is : (ask : Option Ask) (before after : Outside) (said : Said) (answer : Status) → Works ask before.files after.files said → IsPut said before.lines after.lines answer
     → IsRun ask before after answer
@@ -142,6 +142,9 @@ completes (Some (Decode n)) before after answer run = λ m there none table tape
 completes (Some (Listing name)) before after answer run = λ m there none cl rs reads read.
     answered run.said answer (λ s. s ≡ answers.Done (summaries.Listed (point_count rs))) before after none
     (told_points name m cl rs before after run.said run.works there reads read none) run.puts
+completes (Some (Guard n name)) before after answer run = λ m there none text table cl tape outline machine parts reads tabled right names clear.
+    answered run.said answer (λ s. (segments : ℕ) × (s ≡ answers.Done (summaries.Guarded segments (length parts)))) before after none
+    (guards_clear machine n name m text table cl tape outline before.files after.files run.said.answer parts right there reads tabled names clear (files_unfailed before after none) run.works.1) run.puts
 completes (Some (Demo n)) before after answer run = λ m there none.
     answered run.said answer (λ s. (verdict : Verdict) × (s ≡ answers.Done (summaries.Demo n verdict))) before after none
     (told_demo n run.said.answer run.works.1.comes) run.puts

@@ -1,16 +1,21 @@
 -- Works over files that are all there, where neither reading nor writing fails.
-use Rattle.std.proofs.Common.{◌≡◌, ◌⊎◌, inl, inr, ℕ, List, [], ◌∷◌, Option, Some, Ok, Err, subst}
+use Rattle.std.proofs.Common.{◌≡◌, ◌⊎◌, inl, inr, ℕ, List, [], ◌∷◌, length, Option, Some, Ok, Err, subst}
 use Rattle.apt_shelf.specs.Told.{Contents, Rose}
 use Rattle.apt_machine.specs.declared.machine.Machine.{Machine}
 use Rattle.apt_machine.specs.Tables.{table_of}
 use Rattle.apt_report.specs.declared.status.Status.{Status}
 use Rattle.apt_report.specs.declared.status.Status.TheVariants as answers
+use Rattle.apt_report.specs.declared.status.Summary.TheVariants as summaries
+use Rattle.apt_meaning.specs.Paths.{EveryContour, contours_of}
+use Rattle.apt_outline.specs.declared.parts.Part.{Part}
 use Rattle.apt_core.specs.Words.{FourNames}
 use Rattle.apt_core.specs.Due.{OrNoMemory}
-use Rattle.apt_core.specs.Inputs.{Input, Files, part_inputs, inputs, ReadsAll, IsFirstUnread, IsStopped}
+use Rattle.apt_core.specs.Inputs.{Input, Files, part_inputs, inputs, guard_inputs, ReadsAll, IsFirstUnread, IsStopped}
 use Rattle.apt_core.specs.Outputs.{Output, output_due}
 use Rattle.apt_core.specs.Certificates.{IsRight, IsDone}
-use Rattle.apt_core.specs.Promise.{Leaves, Writes, Compiles, Judges, Certifies}
+use Rattle.apt_core.specs.Guarding.{KeepsClear, Outlines}
+use Rattle.apt_core.specs.Promise.{Leaves, Writes, Compiles, Judges, Certifies, Watches, Guards}
+use Rattle.apt_core.proofs.Guarding.{right_is_clear}
 use Rattle.apt_core.proofs.Right.{same_texts, right_is_done, right_is_read}
 
 -- no count of faults rose
@@ -72,4 +77,16 @@ pub certifies_right : (machine : Machine) (n : FourNames) (m : Contents) (text t
 certifies_right machine n m text table cl tape before after told there reads tabled right fine works = elim works.comes [
   | inl stopped ↦ inr (stopped_short (inputs n) m (text ∷ table ∷ cl ∷ tape ∷ []) before after told there reads fine stopped)
   | inr judges ↦ inl (right_is_done machine n m text table cl tape told reads tabled right (subst (λ t. Judges n t told) there judges))
+]
+
+-- ---- `guard`
+
+-- what is right and clear is guarded
+pub guards_clear : (machine : Machine) (n : FourNames) (name : List ℕ) (m : Contents) (text table cl tape outline : List ℕ) (before after : Files) (told : Status) (parts : List Part)
+    (right : IsRight machine text cl tape) → before.told ≡ Some m → ReadsAll (Some m) (guard_inputs n name) (text ∷ table ∷ cl ∷ tape ∷ outline ∷ []) → table_of table ≡ Ok machine
+    → Outlines right.steps outline parts → EveryContour (KeepsClear parts) (contours_of right.records) → AreUnfailed before after → Guards n name before after told
+    → OrNoMemory ((segments : ℕ) × (told ≡ answers.Done (summaries.Guarded segments (length parts)))) told
+guards_clear machine n name m text table cl tape outline before after told parts right there reads tabled names clear fine works = elim works.comes [
+  | inl stopped ↦ inr (stopped_short (guard_inputs n name) m (text ∷ table ∷ cl ∷ tape ∷ outline ∷ []) before after told there reads fine stopped)
+  | inr watches ↦ inl (right_is_clear machine n name m text table cl tape outline told parts right reads tabled names clear (subst (λ t. Watches n name t told) there watches))
 ]

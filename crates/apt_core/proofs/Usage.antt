@@ -16,15 +16,19 @@ use Rattle.apt_part.specs.Compilation.{steps_of, part_of}
 use Rattle.apt_report.specs.declared.status.Status.{Status}
 use Rattle.apt_report.specs.declared.status.Status.TheVariants as answers
 use Rattle.apt_report.specs.declared.status.Summary.TheVariants as summaries
-use Rattle.apt_core.specs.Words.{FourNames, TapeNames, Ask, Compile, Certify, Decode, Listing, Demo}
+use Rattle.apt_core.specs.Words.{FourNames, TapeNames, Ask, Compile, Certify, Decode, Listing, Demo, Guard}
 use Rattle.apt_core.specs.Due.{OrNoMemory, told_by, bad_machine, bad_part, refused_step, bad_tape, unless_refused, machine_due, steps_due, records_due, acts_due}
-use Rattle.apt_core.specs.Inputs.{Input, Files, part_inputs, inputs, tape_inputs, list_inputs, IsUnread, IsFirstUnread, IsShort, IsStopped}
+use Rattle.apt_core.specs.Inputs.{Input, Files, part_inputs, inputs, guard_inputs, tape_inputs, list_inputs, IsUnread, IsFirstUnread, IsShort, IsStopped}
 use Rattle.apt_core.specs.Outputs.{output_due}
 use Rattle.apt_core.specs.Certificates.{judged_due, IsJudgement}
+use Rattle.apt_words.specs.declared.deed.Step.{Step}
+use Rattle.apt_outline.specs.Holding.{figures_at_end}
+use Rattle.apt_outline.specs.Outlines.{outline_of}
+use Rattle.apt_core.specs.Guarding.{outline_due, watched_due, IsGuarding}
 use Rattle.apt_core.specs.Decoding.{Said, said_of, acts_said}
 use Rattle.apt_core.specs.Listing.{points_said}
 use Rattle.apt_core.specs.Demo.{IsDemo}
-use Rattle.apt_core.specs.Promise.{Lines, Outside, Compiles, Certifies, Decodes, Lists, Works, IsPut, IsRun}
+use Rattle.apt_core.specs.Promise.{Lines, Outside, Compiles, Certifies, Guards, Decodes, Lists, Works, IsPut, IsRun}
 
 -- ---- what is due
 
@@ -72,6 +76,17 @@ judged_no_usage text table cl tape =
     chain_never answers.Usage (steps_due machine text) _ (part_never answers.Usage (steps_of machine text) usage_tells_none) (λ steps.
     chain_never answers.Usage (records_due cl) _ (records_no_usage cl) (λ written.
     chain_never answers.Usage (acts_due machine tape) _ (acts_no_usage machine tape) (λ acts. ok_never answers.Usage _))))
+
+outline_no_usage : (steps : List Step) (outline : List ℕ) → outline_due steps outline ≢ Err answers.Usage
+outline_no_usage steps outline = told_never answers.Usage (outline_of (figures_at_end steps) outline) (λ fault. answers.BadOutline fault.0 fault.1) (λ fault e. let f : ⊥ = cc in f)
+
+watched_no_usage : (text table cl tape outline : List ℕ) → watched_due text table cl tape outline ≢ Err answers.Usage
+watched_no_usage text table cl tape outline =
+    chain_never answers.Usage (machine_due table) _ (machine_never answers.Usage table usage_tells_none) (λ machine.
+    chain_never answers.Usage (steps_due machine text) _ (part_never answers.Usage (steps_of machine text) usage_tells_none) (λ steps.
+    chain_never answers.Usage (outline_due steps outline) _ (outline_no_usage steps outline) (λ parts.
+    chain_never answers.Usage (records_due cl) _ (records_no_usage cl) (λ written.
+    chain_never answers.Usage (acts_due machine tape) _ (acts_no_usage machine tape) (λ acts. ok_never answers.Usage _)))))
 
 acts_said_no_usage : (due : Result (List ArcAct) Status) → due ≢ Err answers.Usage → (said_of (due >>= λ acts. Ok (acts_said acts))).answer ≢ answers.Usage
 acts_said_no_usage (Ok acts) none e = let f : ⊥ = cc in f
@@ -126,6 +141,22 @@ certifies_no_usage n before after told works e = elim works.comes [
   | inr judges ↦ judgement_no_usage judges.text judges.table judges.cl judges.tape told judges.judgement e
 ]
 
+guarding_no_usage : (text table cl tape outline : List ℕ) (answer : Status) → IsGuarding text table cl tape outline answer → answer ≢ answers.Usage
+guarding_no_usage text table cl tape outline answer (inl due) e = watched_no_usage text table cl tape outline (due ∙ ap Err e)
+guarding_no_usage text table cl tape outline answer (inr found) e = elim found.2 [
+  | inl missed ↦ (let f : answers.NotCertified missed.0 ≡ answers.Usage = sym missed.1 ∙ e in let g : ⊥ = cc in g)
+  | inr watched ↦ elim watched [
+    | inl clear ↦ (let f : answers.Done (summaries.Guarded clear.0 clear.1) ≡ answers.Usage = sym clear.2 ∙ e in let g : ⊥ = cc in g)
+    | inr gouged ↦ (let f : answers.Gouge gouged.0 ≡ answers.Usage = sym gouged.1 ∙ e in let g : ⊥ = cc in g)
+  ]
+]
+
+guards_no_usage : (n : FourNames) (name : List ℕ) (before after : Files) (told : Status) → Guards n name before after told → told ≢ answers.Usage
+guards_no_usage n name before after told works e = elim works.comes [
+  | inl stopped ↦ stopped_no_usage (guard_inputs n name) before after told stopped e
+  | inr watches ↦ guarding_no_usage watches.text watches.table watches.cl watches.tape watches.outline told watches.guarding e
+]
+
 decodes_no_usage : (n : TapeNames) (before after : Files) (said : Said) → Decodes n before after said → said.answer ≢ answers.Usage
 decodes_no_usage n before after said works e = elim works.comes [
   | inl stopped ↦ stopped_no_usage (tape_inputs n) before after said.answer stopped.0 e
@@ -152,6 +183,7 @@ works_no_usage (Some (Compile n)) before after said works e = absurd (compiles_n
 works_no_usage (Some (Certify n)) before after said works e = absurd (certifies_no_usage n before after said.answer works.1 e)
 works_no_usage (Some (Decode n)) before after said works e = absurd (decodes_no_usage n before after said works e)
 works_no_usage (Some (Listing name)) before after said works e = absurd (lists_no_usage name before after said works e)
+works_no_usage (Some (Guard n name)) before after said works e = absurd (guards_no_usage n name before after said.answer works.1 e)
 works_no_usage (Some (Demo n)) before after said works e = absurd (demo_no_usage n said.answer works.1.comes e)
 
 put_no_usage : (said : Said) (answer : Status) (before after : Lines) → IsPut said before after answer → answer ≡ answers.Usage → said.answer ≡ answers.Usage

@@ -17,6 +17,8 @@ use Rattle.apt_machine.specs.declared.cause.MachineError.{MachineError}
 use Rattle.apt_machine.specs.Tables.{table_of}
 use Rattle.apt_circular.specs.declared.ArcAct.{ArcAct}
 use Rattle.apt_tape.specs.Tapes.{run_on}
+use Rattle.apt_outline.specs.declared.cause.OutlineError.{OutlineError}
+use Rattle.apt_outline.specs.declared.cause.OutlineError.TheVariants as outline_errors
 use Rattle.apt_part.specs.Compilation.{Compiled, steps_of, part_of}
 use Rattle.apt_part.specs.declared.part.PartError.{PartError}
 use Rattle.apt_part.specs.declared.part.PartError.TheVariants as part_errors
@@ -60,6 +62,11 @@ cl_told cl_errors.NoMemory = answers.NoMemory
 abbrev pub tape_told : ControlError → Status
 tape_told (tape_errors.Bad at cause) = answers.BadTape at cause
 tape_told tape_errors.NoMemory = answers.NoMemory
+
+-- of what a reader of outlines refuses
+abbrev pub outline_told : OutlineError → Status
+outline_told (outline_errors.Bad line cause) = answers.BadOutline line cause
+outline_told outline_errors.NoMemory = answers.NoMemory
 
 -- and of what the crate of parts refuses
 abbrev pub part_told : PartError → Status

@@ -1,5 +1,5 @@
 -- The files that a command reads, each with its limit.
-use Rattle.std.specs.Prelude.{◌≡◌, ◌⊎◌, ℕ, ◌≤◌, List, [], ◌∷◌, length, Option}
+use Rattle.std.specs.Prelude.{◌≡◌, ◌⊎◌, ℕ, ◌≤◌, List, [], ◌∷◌, ◌++◌, length, Option}
 use Rattle.apt_shelf.specs.declared.shelf.Shelf as shelves
 use Rattle.apt_shelf.specs.Told.{Contents, Rose, Lacks}
 use Rattle.apt_shelf.specs.Files.{HoldsAt, IsLongerAt}
@@ -44,12 +44,19 @@ part_limit = 4194304
 abbrev pub machine_limit : ℕ
 machine_limit = 65536
 
--- what `compile`, `certify`, `decode` and `list` read, in this order
+-- and the longest outline
+abbrev pub outline_limit : ℕ
+outline_limit = 65536
+
+-- what `compile`, `certify`, `guard`, `decode` and `list` read, in this order
 abbrev pub part_inputs : FourNames → List Input
 part_inputs n = input n.part part_limit ∷ input n.machine machine_limit ∷ []
 
 abbrev pub inputs : FourNames → List Input
 inputs n = input n.part part_limit ∷ input n.machine machine_limit ∷ input n.cl file_limit ∷ input n.tape file_limit ∷ []
+
+abbrev pub guard_inputs : FourNames → List ℕ → List Input
+guard_inputs n outline = inputs n ++ input outline outline_limit ∷ []
 
 abbrev pub tape_inputs : TapeNames → List Input
 tape_inputs n = input n.machine machine_limit ∷ input n.tape file_limit ∷ []

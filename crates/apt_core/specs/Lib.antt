@@ -7,6 +7,7 @@ pub mod TapeRuns
 pub mod Outputs
 pub mod Delivery
 pub mod Certificates
+pub mod Guarding
 pub mod Decoding
 pub mod Listing
 pub mod Demo

@@ -13,17 +13,20 @@ use Rattle.apt_part.specs.Compilation.{Compiled, part_of}
 use Rattle.apt_report.specs.declared.status.Status.{Status}
 use Rattle.apt_report.specs.declared.status.Status.TheVariants as answers
 use Rattle.apt_report.specs.declared.status.Summary.TheVariants as summaries
-use Rattle.apt_core.specs.Words.{FourNames, TapeNames, Ask, Compile, Certify, Decode, Listing, Demo}
+use Rattle.apt_core.specs.Words.{FourNames, TapeNames, Ask, Compile, Certify, Decode, Listing, Demo, Guard}
 use Rattle.apt_core.specs.Due.{OrNoMemory}
-use Rattle.apt_core.specs.Inputs.{Files, files_on, AreRead, part_inputs, inputs, tape_inputs, list_inputs, ReadsAll, IsShort, IsStopped}
+use Rattle.apt_core.specs.Inputs.{Files, files_on, AreRead, part_inputs, inputs, guard_inputs, tape_inputs, list_inputs, ReadsAll, IsShort, IsStopped}
 use Rattle.apt_core.specs.Outputs.{Output, output_of, output_due, IsOutput}
 use Rattle.apt_core.specs.Delivery.{with_output, WritesFront}
 use Rattle.apt_core.specs.Certificates.{IsRight, IsJudgement}
+use Rattle.apt_core.specs.Guarding.{KeepsClear, Outlines, IsGuarding}
 use Rattle.apt_core.specs.Decoding.{Said, lined, said_of, said_due}
 use Rattle.apt_core.specs.Listing.{listed_due}
 use Rattle.apt_core.specs.Demo.{IsDemo}
 use Rattle.apt_report.specs.Listing.{point_count}
 use Rattle.apt_records.specs.declared.record.Record.{Record}
+use Rattle.apt_meaning.specs.Paths.{EveryContour, contours_of}
+use Rattle.apt_outline.specs.declared.parts.Part.{Part}
 use Rattle.apt_cldata.specs.Reading.{read_of}
 
 -- ---- what stands outside
@@ -97,6 +100,23 @@ pub record Certifies (n : FourNames) (before after : Files) (told : Status) : Ty
   pub comes : IsStopped (inputs n) before after told ⊎ Judges n before.told told
   pub read : AreRead before after
 
+-- ---- `guard`
+
+-- the five texts, and the answer to them
+pub record Watches (n : FourNames) (name : List ℕ) (told : Option Contents) (answer : Status) : Type 0 where
+  pub text : List ℕ
+  pub table : List ℕ
+  pub cl : List ℕ
+  pub tape : List ℕ
+  pub outline : List ℕ
+  pub reads : ReadsAll told (guard_inputs n name) (text ∷ table ∷ cl ∷ tape ∷ outline ∷ [])
+  pub guarding : IsGuarding text table cl tape outline answer
+
+-- the work of `guard`: it stops, or it answers what the five files hold. Nothing is written
+pub record Guards (n : FourNames) (name : List ℕ) (before after : Files) (told : Status) : Type 0 where
+  pub comes : IsStopped (guard_inputs n name) before after told ⊎ Watches n name before.told told
+  pub read : AreRead before after
+
 -- ---- `decode`
 
 -- the two texts, and what is said for them
@@ -141,6 +161,7 @@ Works (Some (Certify n)) before after said = (said ≡ lined said.answer) × Cer
 Works (Some (Decode n)) before after said = Decodes n before after said
 Works (Some (Listing name)) before after said = Lists name before after said
 Works (Some (Demo n)) before after said = (said ≡ lined said.answer) × Demonstrates n before after said.answer
+Works (Some (Guard n outline)) before after said = (said ≡ lined said.answer) × Guards n outline before after said.answer
 
 -- all of the text stands behind what was shown; or a front part of it, where putting failed, or memory ran out
 abbrev pub Shows : Said → Lines → Lines → Status → Type 0
@@ -168,7 +189,8 @@ pub record NoneRose (before after : Outside) : Type 0 where
   pub putting : ¬ (Rose before.lines.put_faults after.lines.put_faults)
 
 -- for the machine of a table: a part without fault, of which no step is refused, is compiled; a CL file and a tape that are right for their part are
--- certified; a tape that a control runs is decoded. A CL file is listed, and the part of `demo` is certified
+-- certified, and guarded where no contour of theirs comes too near to a part of an outline; a tape that a control runs is decoded. A CL file is listed, and the part of
+-- `demo` is certified
 abbrev pub CompletesIn : Ask → Contents → Status → Type 0
 CompletesIn (Compile n) m answer =
     (text table : List ℕ) (machine : Machine) (p : Compiled) → ReadsAll (Some m) (part_inputs n) (text ∷ table ∷ []) → table_of table ≡ Ok machine → part_of machine text ≡ Ok (Ok p)
@@ -182,6 +204,10 @@ CompletesIn (Decode n) m answer =
 CompletesIn (Listing name) m answer =
     (cl : List ℕ) (rs : List Record) → ReadsAll (Some m) (list_inputs name) (cl ∷ []) → read_of cl ≡ Ok rs
     → OrNoMemory (answer ≡ answers.Done (summaries.Listed (point_count rs))) answer
+CompletesIn (Guard n name) m answer =
+    (text table cl tape outline : List ℕ) (machine : Machine) (parts : List Part) → ReadsAll (Some m) (guard_inputs n name) (text ∷ table ∷ cl ∷ tape ∷ outline ∷ [])
+    → table_of table ≡ Ok machine → (right : IsRight machine text cl tape) → Outlines right.steps outline parts → EveryContour (KeepsClear parts) (contours_of right.records)
+    → OrNoMemory ((segments : ℕ) × (answer ≡ answers.Done (summaries.Guarded segments (length parts)))) answer
 CompletesIn (Demo n) m answer = OrNoMemory ((verdict : Verdict) × (answer ≡ answers.Done (summaries.Demo n verdict))) answer
 
 -- where no count rose, or memory ran out

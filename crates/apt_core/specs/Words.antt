@@ -26,13 +26,14 @@ abbrev pub tape_names_of : List ℕ → List ℕ → TapeNames
 tape_names_of machine tape = record { machine = machine; tape = tape }
 
 -- to compile a part for a machine, to a CL file and a tape; to certify a CL file and a tape against them; to decode a tape of the machine; to list the
--- points of the CL file of a name; or to show the part of so many circles
+-- points of the CL file of a name; to show the part of so many circles; or to certify, and guard the outline of a name
 pub data Ask : Type 0 where
   Compile : FourNames → Ask
   Certify : FourNames → Ask
   Decode : TapeNames → Ask
   Listing : List ℕ → Ask
   Demo : ℕ → Ask
+  Guard : FourNames → List ℕ → Ask
 
 -- a name has at least one byte
 abbrev pub is_name : List ℕ → Bool
@@ -73,9 +74,13 @@ demo_ask text = option_map Demo (number_within 1 800 text)
 abbrev pub word_ask : List ℕ → List ℕ → Option Ask
 word_ask word text = if bytes_eq word (codes "list") then list_ask text else if bytes_eq word (codes "demo") then demo_ask text else None
 
+abbrev pub guard_ask : List ℕ → FourNames → List ℕ → Option Ask
+guard_ask word n outline = if bytes_eq word (codes "guard") && are_names n && is_name outline then Some (Guard n outline) else None
+
 -- what the words ask, by their shapes; none where they fit no shape
 abbrev pub asked : List (List ℕ) → Option Ask
 asked (word ∷ part ∷ machine ∷ cl ∷ tape ∷ []) = command_ask word (names_of part machine cl tape)
+asked (word ∷ part ∷ machine ∷ cl ∷ tape ∷ outline ∷ []) = guard_ask word (names_of part machine cl tape) outline
 asked (word ∷ machine ∷ tape ∷ []) = decode_ask word (tape_names_of machine tape)
 asked (word ∷ text ∷ []) = word_ask word text
 asked _ = None

@@ -5,6 +5,7 @@ ghost use Rattle.apt_records.specs.Ranges.{AreRecords, vertex_count};
 ghost use Rattle.apt_meaning.specs.Situations.{first_situation};
 ghost use Rattle.apt_meaning.specs.Compiled.{first_refused};
 ghost use Rattle.apt_meaning.specs.Records.{Follows};
+ghost use Rattle.apt_certify.specs.Jobs.{AreJobs, point_count};
 ghost use Rattle.apt_certify.specs.Verdicts.{IsVerdict};
 ghost use Rattle.apt_job.specs.Jobs.{jobs_said};
 ghost use Rattle.apt_part.specs.Promise.{AreSteps};
@@ -27,7 +28,7 @@ use crate::due::{machine_of, steps_on, tape_answer};
 use crate::evidence::Evidence;
 use crate::reading::{MACHINE_LIMIT, PART_LIMIT, read_input, records_input, run_input, skip_input};
 use crate::words::Names;
-use apt_certify::{Gate, check_jobs_split};
+use apt_certify::{Gate, Job, check_jobs_split};
 use apt_control::ControlError;
 use apt_job::{JobError, jobs};
 use apt_machine::Machine;
@@ -137,12 +138,20 @@ fn judged<G: Gate>(
     let steps = steps_on(alloc, text, &machine)?;
     let records = records?;
     let difference = difference?;
-    let verdict = verdict_on(rt, alloc, &machine, &steps, records, difference, gate)?;
-    Ok(Summary::Certified(verdict))
+    let contours = contours_on(rt, alloc, &machine, &steps, records, difference, gate)?;
+    Ok(Summary::Certified(contours.verdict))
 }
 
-/// The verdict over records that answer the steps and whose plan on the machine is the acts, or what is missed.
-fn verdict_on<G: Gate>(
+/// The contours that records say, and the verdict over them.
+#[derive(Drop)]
+pub(crate) struct Contours {
+    pub jobs: Vec<Job>,
+    pub verdict: Verdict,
+}
+
+/// The contours of records that answer the steps and whose plan on the machine is the acts, with the verdict over them, or
+/// what is missed.
+pub(crate) fn contours_on<G: Gate>(
     rt: &(impl Threads + Sync),
     alloc: Global,
     machine: &Machine,
@@ -150,14 +159,16 @@ fn verdict_on<G: Gate>(
     records: Vec<Record>,
     difference: Option<u64>,
     gate: &G,
-) -> Result<Verdict, Status>
+) -> Result<Contours, Status>
     requires steps { AreSteps steps.now }
     requires passes { first_refused first_situation steps.now ≡ None }
     requires records { AreRecords records.items }
     requires few { vertex_count records.items + length records.items < 2 ^ 62 }
     ensures follows { IfOk result (λ _. Follows steps.now records.items) }
-    ensures verdict { IfOk result (IsVerdict (jobs_said records.items)) }
-    ensures legal { IfOk result (λ v. v.first_bad ≡ None) }
+    ensures said { IfOk result (λ c. c.jobs.items ≡ jobs_said records.items) }
+    ensures range { IfOk result (λ c. AreJobs c.jobs.items × (point_count c.jobs.items < 2 ^ 63)) }
+    ensures verdict { IfOk result (λ c. IsVerdict (jobs_said records.items) c.verdict) }
+    ensures legal { IfOk result (λ c. c.verdict.first_bad ≡ None) }
     ensures planned { (acts : List ArcAct) → IsDifference (acts_on machine.now records.items) difference acts → IfOk result (λ _. acts ≡ acts_on machine.now records.items) }
     ensures missed { (acts : List ArcAct) → IsDifference (acts_on machine.now records.items) difference acts → IfErr result (λ s. OrNoMemory (IsMissed machine.now steps.now records.items acts s) s) }
 {
@@ -178,6 +189,6 @@ fn verdict_on<G: Gate>(
         Some(at) => Err(Status::NotCertified {
             miss: Miss::Act { at },
         }),
-        None => Ok(verdict),
+        None => Ok(Contours { jobs, verdict }),
     }
 }

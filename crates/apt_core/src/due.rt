@@ -5,12 +5,13 @@ ghost use Rattle.apt_machine.specs.Machines.{IsMachine};
 ghost use Rattle.apt_machine.specs.Tables as tables;
 ghost use Rattle.apt_part.specs.Compilation as parts;
 ghost use Rattle.apt_part.specs.Promise.{Passes, Promise, AreSteps};
-ghost use Rattle.apt_core.specs.Due.{ComesToNone, machine_due, part_due, steps_due, part_told, cl_told, tape_told};
+ghost use Rattle.apt_core.specs.Due.{ComesToNone, machine_due, part_due, steps_due, part_told, cl_told, tape_told, outline_told};
 
 use apt_certify::Gate;
 use apt_cldata::ClError;
 use apt_control::ControlError;
 use apt_machine::{Machine, table};
+use apt_outline::OutlineError;
 use apt_part::{Part, PartError, part_of, steps_of};
 use apt_report::Status;
 use apt_words::Step;
@@ -99,5 +100,15 @@ pub(crate) fn tape_answer(error: ControlError) -> Status
     match error {
         ControlError::Bad { at, cause } => Status::BadTape { at, cause },
         ControlError::NoMemory => Status::NoMemory,
+    }
+}
+
+/// How an outline that has a fault is told.
+pub(crate) fn outline_answer(error: OutlineError) -> Status
+    ensures { result ≡ outline_told error }
+{
+    match error {
+        OutlineError::Bad { line, cause } => Status::BadOutline { line, cause },
+        OutlineError::NoMemory => Status::NoMemory,
     }
 }

@@ -14,6 +14,7 @@ mod delivery;
 mod demo;
 mod due;
 mod evidence;
+mod guard;
 mod intake;
 mod list;
 mod put;
@@ -23,14 +24,15 @@ mod words;
 
 pub use apt_certify::{Gate, OpenGate};
 pub use apt_report::{
-    Bad, ClCause, FileName, MachineCause, Miss, PartCause, Reason, Status, Summary, TapeCause,
-    Verdict,
+    Bad, ClCause, FileName, Gouge, MachineCause, Miss, OutlineCause, PartCause, Reason, Status,
+    Summary, TapeCause, Verdict,
 };
 use apt_shelf::{Shelf, Sink};
 use certify::certify;
 use compile::compile;
 use decode::decode;
 use demo::demo;
+use guard::guard;
 use list::list;
 use put::{Reply, tell};
 use std::alloc::Global;
@@ -47,6 +49,10 @@ use words::{Request, request_of};
 /// each), in this order, and answers whether the CL file and the tape are right for the part on this machine. It
 /// writes nothing.
 ///
+/// `guard PART MACHINE CL TAPE OUTLINE` reads what `certify` reads, and then an outline (at most 65,536 bytes). It answers
+/// as `certify` does where that is not that all is right, but for a fault of the outline, which it answers before one of
+/// the CL file; and else whether a contour brings the cutter into a part of the outline. It writes nothing.
+///
 /// `decode MACHINE TAPE` reads a machine table and a tape, and puts a line for each act to which a control of this
 /// machine runs the tape, and no other line. It writes nothing.
 ///
@@ -57,7 +63,8 @@ use words::{Request, request_of};
 /// and certifies them over a store in memory of its own, and answers with the verdict. It neither reads nor writes.
 ///
 /// The gate is told of each arc that `compile` or `demo` divides, by its number from 1, before it is divided, and of each
-/// contour that `certify` or `demo` judges, by its number from 1, before it is judged. Both are done by several threads.
+/// contour that `certify`, `guard` or `demo` judges, by its number from 1, before it is judged; `guard` tells it of each
+/// contour once more, before it is tried against the outline. All are done by several threads.
 ///
 /// A table is judged when all that is read has been read, and before the part.
 #[tactic(auto, using(crate::proofs::Running::run_is, crate::proofs::Running::completes))]
@@ -112,5 +119,8 @@ fn answer_to<H: Shelf, G: Gate>(
         Request::Decode(names) => Reply::from_work(decode(alloc, shelf, names)),
         Request::List(name) => Reply::from_work(list(alloc, shelf, name)),
         Request::Demo(n) => Reply::of(demo(rt, alloc, n, gate)),
+        Request::Guard(names, outline) => {
+            Reply::of(guard(rt, alloc, shelf, names, outline, gate))
+        }
     }
 }

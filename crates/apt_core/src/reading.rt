@@ -28,6 +28,9 @@ pub(crate) const PART_LIMIT: usize = 4_194_304;
 /// The longest machine table, in bytes.
 pub(crate) const MACHINE_LIMIT: usize = 65_536;
 
+/// The longest outline, in bytes.
+pub(crate) const OUTLINE_LIMIT: usize = 65_536;
+
 /// The longest CL file and the longest tape, in bytes.
 const FILE_LIMIT: usize = 67_108_864;
 

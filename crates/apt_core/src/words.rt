@@ -34,6 +34,7 @@ pub(crate) enum Request<'a> {
     Decode(TapeNames<'a>),
     List(&'a str),
     Demo(u32),
+    Guard(Names<'a>, &'a str),
 }
 
 /// The command that the words ask for.
@@ -50,6 +51,16 @@ pub(crate) fn request_of<'a>(words: &'a [String]) -> Option<Request<'a>>
                 cl,
                 tape,
             },
+        ),
+        [word, part, machine, cl, tape, outline] => guard_request(
+            word,
+            Names {
+                part,
+                machine,
+                cl,
+                tape,
+            },
+            outline,
         ),
         [word, machine, tape] => decode_request(word, TapeNames { machine, tape }),
         [word, text] => word_request(word, text),
@@ -88,6 +99,17 @@ fn certify_request<'a>(names: Names<'a>) -> Option<Request<'a>>
 {
     if are_names(&names) {
         Some(Request::Certify(names))
+    } else {
+        None
+    }
+}
+
+fn guard_request<'a>(word: &str, names: Names<'a>, outline: &'a str) -> Option<Request<'a>>
+    ensures ask { option_map ask_of result ≡ words.guard_ask word.now (four_names names.entry) outline.now }
+    ensures sound { IfSome result IsSound }
+{
+    if word == "guard" && are_names(&names) && !outline.is_empty() {
+        Some(Request::Guard(names, outline))
     } else {
         None
     }

@@ -29,7 +29,7 @@ use Rattle.apt_shapes.specs.Shapes.{shape}
 use Rattle.apt_parse.specs.Statements.{is_misplaced_heading, is_unbuilt}
 use Rattle.apt_scalar.specs.Meanings.{Names}
 use Rattle.apt_deeds.specs.Deeds.{by_values, executed, deed_of}
-use Rattle.apt_report.specs.Decimals.{pointed, signed_pointed}
+use Rattle.apt_lines.specs.Decimals.{pointed, signed_pointed}
 use Rattle.apt_demo.specs.Demo.{centre_x, centre_y, radius, clear_x, pair}
 use Rattle.apt_demo.proofs.Deeds.{deeds_about, circle_deeds, deeds_from}
 use Rattle.apt_words.proofs.Alike.{heads, tails}

@@ -1,7 +1,7 @@
 -- The part that `demo` compiles: circles in rows of forty, each cut round from its right in two halves.
 use Rattle.std.specs.Prelude.{ℕ, zero, suc, ◌+◌, ◌*◌, ◌/◌, ◌%◌, ℤ, pos, ◌+ℤ◌, ◌-ℤ◌, List, [], ◌++◌, codes}
 use Rattle.std.specs.Fmt.{decimal, signed_decimal}
-use Rattle.apt_report.specs.Decimals.{pointed, signed_pointed}
+use Rattle.apt_lines.specs.Decimals.{pointed, signed_pointed}
 
 -- the centre of circle k, in inches
 abbrev pub centre_x : ℕ → ℤ

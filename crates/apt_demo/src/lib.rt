@@ -5,7 +5,7 @@ ghost use Rattle.std.specs.Prelude.{◌≡◌, ◌≤◌, ◌+◌, ◌*◌, ◌+
 ghost use Rattle.apt_demo.specs.Demo as demo;
 ghost use Rattle.apt_demo.specs.Promise.{demo_machine, HasRecords};
 
-use apt_report::room::{
+use apt_lines::{
     ROOM, push_from, whole_line, write_count, write_number, write_pointed, write_signed_pointed,
     write_text,
 };

@@ -1,10 +1,8 @@
 -- Titles and the blanks round them.
 use Rattle.std.proofs.Common.{◌≡◌, ◌≢◌, ℕ, ◌-◌, ◌==◌, List, [], ◌∷◌, length, map, take, drop, Bool, true, false, Some, None, ap, ◌∙◌, sym, refl, subst}
-use Rattle.std.specs.Prelude.{Option, option_map, option_and_then, is_some}
-use Rattle.std.specs.List.{take_while}
+use Rattle.std.specs.Prelude.{Option, option_map, option_and_then}
 use Rattle.std.proofs.Common.{bytes_eq}
 use native.Mathlib.Numerals.{unary_clauses}
-use Rattle.std.proofs.lemmas.Bool.{or_parts}
 use Rattle.std.proofs.lemmas.List.{length-map}
 use Rattle.std.proofs.lemmas.Slice.Eq.{bytes_eq-Decides}
 use Rattle.apt_words.specs.Options.{◌>>=◌, only_if}
@@ -14,8 +12,8 @@ use Rattle.apt_words.specs.declared.word.Word.{Word}
 use Rattle.apt_words.specs.declared.word.Word.TheVariants as words
 use Rattle.apt_words.proofs.Words.{spelled, no_word}
 use Rattle.apt_lexis.specs.declared.token.Token.TheVariants as tokens
-use Rattle.apt_lexis.specs.Tokens.{capital, is_blank, is_letter_or_digit}
-use Rattle.apt_lexis.specs.Titles.{Title, without_blanks, unless_last, takes_text, title_word, title, labelled, with_label, title_behind, behind_close, with_tokens, behind, front_word}
+use Rattle.apt_lexis.specs.Tokens.{capital}
+use Rattle.apt_lexis.specs.Titles.{Title, without_blanks, unless_last, takes_text, title_word, title, labelled, with_label, title_behind, behind_close, with_tokens}
 use Rattle.apt_lexis.proofs.Capitals.{no_both}
 use Rattle.apt_words.proofs.Same.{other_length}
 

@@ -1,5 +1,6 @@
 pub mod Causes
 pub mod Lines
+pub mod Words
 pub mod Tokens
 pub mod Titles
 pub mod Phrase

@@ -13,7 +13,7 @@ use crate::lines::{are_characters, next_line};
 const MOST_LINES: u32 = 50_000;
 
 /// The greatest number of bytes of a line.
-const MOST_BYTES: usize = 256;
+pub(crate) const MOST_BYTES: usize = 256;
 
 /// A line, what of it stands in front of its first `$`, whether its statement goes on with the next line, and
 /// whether it has nothing but characters.

@@ -1,4 +1,3 @@
 mod Worked
-pub mod Blanks
 pub mod Places
 pub mod Spelling

@@ -25,7 +25,8 @@ use Rattle.apt_machine.specs.declared.cause.MachineError.{MachineError}
 use Rattle.apt_machine.specs.Machines.{IsMachine}
 use Rattle.apt_machine.specs.Numbers.{is_digit, digits_from, has_leading_zero, plain_number, number_within}
 use Rattle.apt_machine.specs.Keys.{blank_draft, has, first_key, key_named}
-use Rattle.apt_machine.specs.Tables.{is_readable, in_front, behind, keyed, behind_line, machine_from, machine_of_lines, table_of}
+use Rattle.apt_lexis.specs.Words.{is_readable, in_front, behind}
+use Rattle.apt_machine.specs.Tables.{keyed, behind_line, machine_from, machine_of_lines, table_of}
 use Rattle.apt_machine.specs.Spelling.{code_word, line_where, chosen_lines, table_lines, text_of, spelled}
 use Rattle.apt_words.proofs.Bools.{both}
 

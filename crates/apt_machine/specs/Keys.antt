@@ -1,8 +1,8 @@
 -- The keys of a machine table, and their values.
-use Rattle.std.specs.Prelude.{ℕ, Bool, true, false, List, codes, Option, Some, None, is_some, unwrap_or, if◌then◌else◌, nat_eq}
-use Rattle.std.specs.Cmp.Lexicographic.{pointwise}
+use Rattle.std.specs.Prelude.{ℕ, Bool, true, false, List, codes, Option, Some, None, is_some, unwrap_or, if◌then◌else◌}
 use Rattle.std.specs.Option.{option_or}
 use Rattle.apt_words.specs.Options.{◌>>=◌}
+use Rattle.apt_lexis.specs.Words.{is}
 use Rattle.apt_tapecode.specs.declared.Code.{Code}
 use Rattle.apt_tapecode.specs.declared.Code.TheVariants as codings
 use Rattle.apt_machine.specs.declared.version.Version.{Version}
@@ -12,9 +12,6 @@ use Rattle.apt_machine.specs.declared.key.Key.TheVariants as keys
 use Rattle.apt_machine.specs.declared.draft.Draft.{Draft}
 use Rattle.apt_machine.specs.declared.machine.Machine.{Machine}
 use Rattle.apt_machine.specs.Numbers.{number_within}
-
-abbrev pub is : List ℕ → List ℕ → Bool
-is text word = pointwise nat_eq text word
 
 -- the version that a first line names
 abbrev pub version_of : List ℕ → Option Version

@@ -1,7 +1,8 @@
 -- The machine of a table, or the first cause of its first line that has one.
-use Rattle.std.specs.Prelude.{◌≡◌, ℕ, ◌+◌, ◌≤◌, ◌==◌, ◌&&◌, nat_le, Bool, List, [], ◌∷◌, length, Option, Some, None, Result, Ok, Err, if◌then◌else◌}
-use Rattle.std.specs.List.{list_all, list_any}
-use Rattle.apt_lexis.specs.Lines.{lines_of, is_character, most_bytes, tab}
+use Rattle.std.specs.Prelude.{◌≡◌, ℕ, ◌+◌, ◌≤◌, ◌==◌, List, [], ◌∷◌, Option, Some, None, Result, Ok, Err, if◌then◌else◌}
+use Rattle.std.specs.List.{list_any}
+use Rattle.apt_lexis.specs.Lines.{lines_of, tab}
+use Rattle.apt_lexis.specs.Words.{is_readable, in_front, behind}
 use Rattle.apt_machine.specs.declared.version.Version.{Version}
 use Rattle.apt_machine.specs.declared.key.Key.{Key}
 use Rattle.apt_machine.specs.declared.draft.Draft.{Draft}
@@ -13,22 +14,6 @@ use Rattle.apt_machine.specs.Keys.{version_of, key_named, blank_draft, has, with
 
 abbrev pub fault : ℕ → MachineCause → MachineError
 fault n cause = record { line = n; cause = cause }
-
-abbrev pub blank : ℕ
-blank = 32
-
--- characters alone, and at most 256
-abbrev pub is_readable : List ℕ → Bool
-is_readable line = nat_le (length line) most_bytes && list_all is_character line
-
--- what stands in front of the first blank, and what behind it
-abbrev pub in_front : List ℕ → List ℕ
-in_front [] = []
-in_front (b ∷ bs) = if b == blank then [] else b ∷ in_front bs
-
-abbrev pub behind : List ℕ → Option (List ℕ)
-behind [] = None
-behind (b ∷ bs) = if b == blank then Some bs else behind bs
 
 -- a line with a tab begins with no key
 abbrev pub key_of : Version → List ℕ → Option Key

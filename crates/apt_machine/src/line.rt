@@ -1,9 +1,10 @@
 //! The lines of a machine table.
 
-ghost use Rattle.std.specs.Prelude.{◌≡◌, ◌<◌, ◌==◌, length, position, option_map, IfOk, IfSome};
+ghost use Rattle.std.specs.Prelude.{◌≡◌, ◌==◌, option_map, IfOk};
 ghost use Rattle.std.specs.List.{list_any};
 ghost use Rattle.std.specs.Result.{IfErr};
 ghost use Rattle.apt_lexis.specs.Lines.{tab};
+ghost use Rattle.apt_lexis.specs.Words.{in_front};
 ghost use Rattle.apt_machine.specs.Machines.{IsDraft};
 ghost use Rattle.apt_machine.specs.Tables as tables;
 
@@ -11,35 +12,7 @@ use crate::MachineCause;
 use crate::draft::Draft;
 use crate::key::{Key, key_named};
 use crate::version::Version;
-use apt_lexis::are_characters;
-
-/// The greatest number of bytes of a line.
-const MOST_BYTES: usize = 256;
-
-pub(crate) fn is_readable(line: &[u8]) -> bool
-    ensures { result ≡ tables.is_readable line.now }
-{
-    line.len() <= MOST_BYTES && are_characters(line)
-}
-
-fn first_blank(line: &[u8]) -> Option<usize>
-    ensures value { result ≡ position (λ b. b == tables.blank) line.now }
-    ensures small { IfSome result (λ i. i < length line.now) }
-{
-    line.iter().position(|b| *b == b' ')
-}
-
-/// What stands in front of the first blank, and what behind it.
-#[tactic(auto, using(crate::proofs::Blanks::front_found, crate::proofs::Blanks::behind_found, crate::proofs::Blanks::front_absent, crate::proofs::Blanks::behind_absent))]
-fn cut(line: &[u8]) -> (&[u8], Option<&[u8]>)
-    ensures front { result.0.now ≡ tables.in_front line.now }
-    ensures behind { option_map (λ value. value.now) result.1 ≡ tables.behind line.now }
-{
-    match first_blank(line) {
-        Some(i) => (&line[..i], Some(&line[i + 1..])),
-        None => (line, None),
-    }
-}
+use apt_lexis::{first_word, is_readable};
 
 fn has_tab(line: &[u8]) -> bool
     ensures { result ≡ list_any (λ b. b == tab) line.now }
@@ -49,7 +22,7 @@ fn has_tab(line: &[u8]) -> bool
 
 /// The key of a line, of which this stands in front of the first blank.
 fn key_of(version: Version, line: &[u8], name: &[u8]) -> Option<Key>
-    requires { name.now ≡ tables.in_front line.now }
+    requires { name.now ≡ in_front line.now }
     ensures { result ≡ tables.key_of version line.now }
 {
     if has_tab(line) {
@@ -93,6 +66,6 @@ pub(crate) fn behind_line(
     if !is_readable(line) {
         return Err(MachineCause::Byte);
     }
-    let (name, value) = cut(line);
+    let (name, value) = first_word(line);
     keyed(draft, key_of(version, line, name), value)
 }

@@ -9,10 +9,10 @@ ghost use Rattle.apt_machine.specs.Spelling.{spelled};
 ghost use Rattle.apt_machine.specs.Tables as tables;
 
 use crate::draft::Draft;
-use crate::line::{behind_line, is_readable};
+use crate::line::behind_line;
 use crate::version::{Version, version_of};
 use crate::{Machine, MachineCause, MachineError};
-use apt_lexis::next_line;
+use apt_lexis::{is_readable, next_line};
 
 fn fault(line: u32, cause: MachineCause) -> MachineError
     ensures { result ≡ tables.fault line cause }

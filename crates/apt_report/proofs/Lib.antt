@@ -1,5 +1,3 @@
-pub mod Backwards
-pub mod Decimals
 pub mod PointCounts
 pub mod ActLines
 pub mod Places

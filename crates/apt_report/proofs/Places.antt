@@ -11,7 +11,7 @@ use Rattle.std.proofs.Math.Nat.{div-div-eq-div-mul, div-le_self, pow-suc}
 use Rattle.apt_words.specs.declared.Units.{Units}
 use Rattle.apt_words.specs.declared.Units.TheVariants as units
 use Rattle.apt_block.specs.Block.{digits}
-use Rattle.apt_report.specs.Decimals.{pointed, signed_pointed, blanks, right_in}
+use Rattle.apt_lines.specs.Decimals.{pointed, signed_pointed, blanks, right_in}
 use Rattle.apt_report.specs.Listing.{decimals_in}
 use Rattle.apt_report.specs.Columns.{is_digit, number_behind, has_minus, decimals_of, grid_units, signed, length_in}
 

@@ -6,7 +6,7 @@ use Rattle.std.specs.Fmt.{decimal}
 use Rattle.apt_records.specs.declared.record.Position.{Position}
 use Rattle.apt_records.specs.declared.record.Record.{Record}
 use Rattle.apt_records.specs.declared.record.Record.TheVariants as records
-use Rattle.apt_report.specs.Decimals.{right_in}
+use Rattle.apt_lines.specs.Decimals.{right_in}
 use Rattle.apt_report.specs.Listing.{coordinate, word_of, point_line, record_lines, record_count}
 
 line_at_least : (decimals seq : ℕ) (word : List ℕ) (to : Position) → 1 ≤ length (point_line decimals seq word to)

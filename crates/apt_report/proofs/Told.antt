@@ -14,7 +14,7 @@ use Rattle.apt_records.specs.declared.record.Record.{Record}
 use Rattle.apt_records.specs.declared.record.Record.TheVariants as records
 use Rattle.apt_records.specs.Ranges.{IsPosition, ArePositions, IsRecord, AreRecords}
 use Rattle.apt_post.specs.Plan.{units_of}
-use Rattle.apt_report.specs.Decimals.{right_in}
+use Rattle.apt_lines.specs.Decimals.{right_in}
 use Rattle.apt_report.specs.Listing.{decimals_in, word_of, coordinate, point_line, record_lines, lines_from, record_count, point_count, end_line, listing}
 use Rattle.apt_report.specs.Columns.{Row, row, record_rows, rows_from, row_of, rows_in, GivesBack}
 use Rattle.apt_report.proofs.Places.{length_again, count_again, length-coordinate, length-number}

@@ -14,6 +14,9 @@ use Rattle.apt_certify.specs.declared.verdict.Verdict.{Verdict}
 use Rattle.apt_certify.specs.Verdicts as reasons
 use Rattle.apt_cldata.specs.declared.error.ClCause.{ClCause}
 use Rattle.apt_cldata.specs.Causes as cl_causes
+use Rattle.apt_outline.specs.declared.cause.OutlineCause.{OutlineCause}
+use Rattle.apt_outline.specs.declared.parts.Gouge.{Gouge}
+use Rattle.apt_outline.specs.Causes as outline_causes
 use Rattle.apt_report.specs.declared.status.Status.{Status}
 use Rattle.apt_report.specs.declared.status.Status.TheVariants as answers
 use Rattle.apt_report.specs.declared.status.Summary.TheVariants as summaries
@@ -58,12 +61,24 @@ miss_line (misses.Entry seq) = codes "NOT CERTIFIED ENTRY " ++ (decimal seq ++ c
 miss_line (misses.Motion bad) = motion_line bad
 miss_line (misses.Act at) = codes "NOT CERTIFIED ACT " ++ (decimal at ++ codes "\n")
 
+abbrev pub guarded_line : ℕ → ℕ → List ℕ
+guarded_line segments parts = codes "CLEAR " ++ (decimal segments ++ (codes " SEGMENTS " ++ (decimal parts ++ codes " PARTS\n")))
+
+abbrev pub bad_outline_line : ℕ → OutlineCause → List ℕ
+bad_outline_line line cause = codes "BAD OUTLINE LINE " ++ (decimal line ++ (codes " " ++ (outline_causes.name_of cause ++ codes "\n")))
+
+abbrev pub gouge_line : Gouge → List ℕ
+gouge_line g =
+    codes "GOUGE MOTION " ++ (decimal g.motion ++ (codes " SEGMENT " ++ (decimal g.segment ++ (codes " PART " ++ (decimal g.part
+    ++ (codes " AT " ++ (signed_decimal g.spot.j ++ (codes "/" ++ (signed_decimal g.spot.m ++ codes "\n")))))))))
+
 abbrev pub line_of : Status → List ℕ
 line_of (answers.Done (summaries.Compiled records acts segments)) = compiled_line records acts segments
 line_of (answers.Done (summaries.Certified verdict)) = certified_line verdict
 line_of (answers.Done (summaries.Decoded acts)) = []
 line_of (answers.Done (summaries.Listed points)) = []
 line_of (answers.Done (summaries.Demo n verdict)) = demo_line n verdict
+line_of (answers.Done (summaries.Guarded segments parts)) = guarded_line segments parts
 line_of answers.Usage = codes "USAGE\n"
 line_of (answers.Missing name) = codes "MISSING " ++ name ++ codes "\n"
 line_of answers.ReadFault = []
@@ -76,3 +91,5 @@ line_of (answers.BadTape at cause) = bad_tape_line at cause
 line_of (answers.NotCertified miss) = miss_line miss
 line_of answers.WriteFault = []
 line_of answers.NoMemory = []
+line_of (answers.BadOutline line cause) = bad_outline_line line cause
+line_of (answers.Gouge gouge) = gouge_line gouge

@@ -10,7 +10,7 @@ use Rattle.apt_records.specs.declared.record.Reach.TheVariants as reaches
 use Rattle.apt_records.specs.declared.record.Record.{Record}
 use Rattle.apt_records.specs.declared.record.Record.TheVariants as records
 use Rattle.apt_post.specs.Plan.{units_of}
-use Rattle.apt_report.specs.Decimals.{signed_pointed, right_in}
+use Rattle.apt_lines.specs.Decimals.{signed_pointed, right_in}
 
 -- a grid unit is 0.00001 inch or 0.0001 mm
 abbrev pub decimals_in : Units → ℕ

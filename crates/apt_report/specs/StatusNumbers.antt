@@ -17,3 +17,5 @@ number_of (answers.BadTape at cause) = 9
 number_of (answers.NotCertified miss) = 10
 number_of answers.WriteFault = 11
 number_of answers.NoMemory = 12
+number_of (answers.BadOutline line cause) = 13
+number_of (answers.Gouge gouge) = 14

@@ -4,9 +4,9 @@ ghost use Rattle.std.specs.Prelude.{◌≡◌, ◌≤◌, ◌+◌, ◌++◌, map
 ghost use Rattle.std.specs.Fmt.{signed_decimal};
 ghost use Rattle.apt_report.specs.Acts as lines;
 
-use crate::room::{ROOM, push_from, whole_line, write_number, write_text};
 use apt_circular::ArcAct;
 use apt_control::Act;
+use apt_lines::{ROOM, push_from, whole_line, write_number, write_text};
 use apt_tape::TapeAct;
 use apt_words::{Cool, Turn, Units};
 use std::alloc::{AllocError, Global};

@@ -4,7 +4,10 @@ ghost use Rattle.std.specs.Prelude.{◌≡◌, IfOk};
 ghost use Rattle.std.specs.String.{string_bytes};
 ghost use Rattle.apt_report.specs.Lines as lines;
 
-use crate::{Bad, ClCause, MachineCause, Miss, PartCause, Status, Summary, TapeCause, Verdict};
+use crate::{
+    Bad, ClCause, Gouge, MachineCause, Miss, OutlineCause, PartCause, Status, Summary, TapeCause,
+    Verdict,
+};
 use apt_words::Case;
 use std::alloc::{AllocError, Global};
 
@@ -31,6 +34,9 @@ fn text_of(alloc: Global, s: &Status) -> Result<String, AllocError>
         Status::Done(Summary::Certified(verdict)) => certified_line(alloc, verdict),
         Status::Done(Summary::Decoded { .. } | Summary::Listed { .. }) => Ok(String::new(alloc)),
         Status::Done(Summary::Demo { n, verdict }) => demo_line(alloc, *n, verdict),
+        Status::Done(Summary::Guarded { segments, parts }) => guarded_line(
+            alloc, *segments, *parts,
+        ),
         Status::Usage => String::from_str(alloc, "USAGE\n"),
         Status::Missing { name } => format!(in alloc; "MISSING {}\n", name.text),
         Status::TooLong { name } => format!(in alloc; "TOO LONG {}\n", name.text),
@@ -40,6 +46,8 @@ fn text_of(alloc: Global, s: &Status) -> Result<String, AllocError>
         Status::BadCl { at, cause } => bad_cl_line(alloc, *at, *cause),
         Status::BadTape { at, cause } => bad_tape_line(alloc, *at, *cause),
         Status::NotCertified { miss } => miss_line(alloc, miss),
+        Status::BadOutline { line, cause } => bad_outline_line(alloc, *line, *cause),
+        Status::Gouge(gouge) => gouge_line(alloc, gouge),
         Status::ReadFault | Status::WriteFault | Status::NoMemory => Ok(String::new(alloc)),
     }
 }
@@ -125,5 +133,27 @@ fn motion_line(alloc: Global, bad: &Bad) -> Result<String, AllocError>
     format!(in alloc;
         "NOT CERTIFIED MOTION {} SEGMENT {} {} AT {}/{}\n",
         bad.motion, bad.segment, reason, bad.spot.j, bad.spot.m
+    )
+}
+
+fn guarded_line(alloc: Global, segments: u64, parts: u64) -> Result<String, AllocError>
+    ensures { IfOk result (λ t. string_bytes t ≡ lines.guarded_line segments parts) }
+{
+    format!(in alloc; "CLEAR {segments} SEGMENTS {parts} PARTS\n")
+}
+
+fn bad_outline_line(alloc: Global, line: u32, cause: OutlineCause) -> Result<String, AllocError>
+    ensures { IfOk result (λ t. string_bytes t ≡ lines.bad_outline_line line cause) }
+{
+    let why = cause.name();
+    format!(in alloc; "BAD OUTLINE LINE {line} {why}\n")
+}
+
+fn gouge_line(alloc: Global, gouge: &Gouge) -> Result<String, AllocError>
+    ensures { IfOk result (λ t. string_bytes t ≡ lines.gouge_line gouge.now) }
+{
+    format!(in alloc;
+        "GOUGE MOTION {} SEGMENT {} PART {} AT {}/{}\n",
+        gouge.motion, gouge.segment, gouge.part, gouge.spot.j, gouge.spot.m
     )
 }

@@ -6,10 +6,10 @@ ghost use Rattle.std.specs.List.{flat_map};
 ghost use Rattle.apt_post.specs.Plan.{units_of};
 ghost use Rattle.apt_records.specs.Ranges.{AreRecords};
 ghost use Rattle.apt_report.specs.Columns.{GivesBack, rows_from};
-ghost use Rattle.apt_report.specs.Decimals.{right_in};
+ghost use Rattle.apt_lines.specs.Decimals.{right_in};
 ghost use Rattle.apt_report.specs.Listing as lines;
 
-use crate::room::{
+use apt_lines::{
     ROOM, push_from, whole_line, write_blanks, write_count, write_signed_pointed, write_text,
 };
 use apt_records::{Note, Position, Reach, Record, VertexSlice};

@@ -7,6 +7,7 @@ use apt_certify::{Bad, Verdict};
 use apt_cldata::ClCause;
 use apt_lexis::PartCause;
 use apt_machine::MachineCause;
+use apt_outline::{Gouge, OutlineCause};
 use apt_words::Case;
 use std::alloc::AllocError;
 use std::marker::Model;
@@ -49,6 +50,12 @@ pub enum Summary {
         n: u32,
         verdict: Verdict,
     },
+    /// A CL file and a tape were found right, and none of so many contour segments comes too near to one of so many parts
+    /// of an outline.
+    Guarded {
+        segments: u64,
+        parts: u64,
+    },
 }
 
 /// Where a CL file or a tape is not right.
@@ -89,6 +96,10 @@ pub enum Status {
     /// A file could not be written.
     WriteFault,
     NoMemory,
+    /// The text is no outline: its first fault, with its line (from 1).
+    BadOutline { line: u32, cause: OutlineCause },
+    /// A contour brings the cutter into a part of the outline: where it first does.
+    Gouge(Gouge),
 }
 
 impl Status {
@@ -112,6 +123,8 @@ impl Status {
             Status::NotCertified { .. } => 10,
             Status::WriteFault => 11,
             Status::NoMemory => 12,
+            Status::BadOutline { .. } => 13,
+            Status::Gouge(_) => 14,
         }
     }
 }

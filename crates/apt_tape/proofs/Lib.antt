@@ -2,3 +2,4 @@ pub mod Plainly
 pub mod Runs
 pub mod Comparing
 pub mod Acts
+mod Worked

@@ -12,6 +12,8 @@ mod defs;
 #[cfg(test)]
 mod offset;
 #[cfg(test)]
+mod outline;
+#[cfg(test)]
 mod rows;
 #[cfg(test)]
 mod startup;

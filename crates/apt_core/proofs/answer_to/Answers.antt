@@ -15,3 +15,6 @@ returns-in-List g c = rw (c.in-List.is, c.from_work-in-List.ensures) c.list.ensu
 
 pub returns-in-Demo : goal.returns-in-Demo
 returns-in-Demo g c = rw (c.in-Demo.is, c.of-in-Demo.ensures) (refl, record { comes = c.demo.ensures; untouched = refl })
+
+pub returns-in-Guard : goal.returns-in-Guard
+returns-in-Guard g c = rw (c.in-Guard.is, c.of-in-Guard.ensures) (refl, c.guard.ensures)

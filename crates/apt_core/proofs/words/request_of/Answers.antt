@@ -3,4 +3,4 @@ use Rattle.apt_core.proofs.Asked.{none_asked}
 use Rattle.apt_core.proofs.words.request_of.Goals as goal
 
 pub returns-in_default-clause-ask : goal.returns-in_default-clause-ask
-returns-in_default-clause-ask c = none_asked c.args.words.now (grind arith) (grind arith) (grind arith)
+returns-in_default-clause-ask c = none_asked c.args.words.now (grind arith) (grind arith) (grind arith) (grind arith)

@@ -1,7 +1,7 @@
 use Rattle.std.proofs.Common.{◌≡◌, ◌-◌, ◌++◌, length, drop, ap, sym, ◌∙◌, arith, append_assoc, w64}
 use Rattle.std.proofs.lemmas.Int.{to_z-of_z}
-use Rattle.apt_report.specs.Decimals.{signed_pointed, blanks}
-use Rattle.apt_report.proofs.Decimals.{starts_at}
+use Rattle.apt_lines.specs.Decimals.{signed_pointed, blanks}
+use Rattle.apt_lines.proofs.Decimals.{starts_at}
 use Rattle.apt_report.proofs.points.write_coordinate.Goals as goal
 
 pub returns-clause-written : goal.returns-clause-written

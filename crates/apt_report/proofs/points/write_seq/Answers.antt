@@ -1,6 +1,6 @@
 use Rattle.std.proofs.Common.{◌≡◌, ◌-◌, ◌++◌, length, drop, ap, sym, ◌∙◌, arith, append_assoc}
 use Rattle.std.specs.Fmt.{decimal}
-use Rattle.apt_report.specs.Decimals.{blanks}
+use Rattle.apt_lines.specs.Decimals.{blanks}
 use Rattle.apt_report.proofs.points.write_seq.Goals as goal
 
 pub returns-clause-written : goal.returns-clause-written

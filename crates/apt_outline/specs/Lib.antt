@@ -1,0 +1,9 @@
+pub mod Clearances
+pub mod Spots
+pub mod Edges
+pub mod Boxes
+pub mod Guards
+pub mod Reaches
+pub mod Causes
+pub mod Holding
+pub mod Outlines
