@@ -21,9 +21,9 @@
 #include <unistd.h>
 
 /* the files of the folder and what is printed; of the last three KEPT slots on lies what the first run left */
-enum { PART, MACHINE, CL, TAPE, NEWCL, NEWTAPE, FILES, PRINTED = FILES, SLOTS, KEPT = SLOTS - NEWCL };
+enum { PART, MACHINE, CL, TAPE, OUTLINE, NEWCL, NEWTAPE, FILES, PRINTED = FILES, SLOTS, KEPT = SLOTS - NEWCL };
 
-static const char *const names[FILES] = {"part", "machine", "cl", "tape", "newcl", "newtape"};
+static const char *const names[FILES] = {"part", "machine", "cl", "tape", "outline", "newcl", "newtape"};
 
 static struct {
     int64_t size[SLOTS];     /* below 0 where there is no such file */

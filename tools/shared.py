@@ -22,6 +22,8 @@ STATUSES = {
     10: "NotCertified",
     11: "WriteFault",
     12: "NoMemory",
+    13: "BadOutline",
+    14: "Gouge",
     15: "words unreadable",
 }
 
