@@ -109,7 +109,7 @@ plain_ways (w ∷ words) known =
     let later = plain_ways words parts.1 in
     (value_i w (said_of words) other.0 ∙ later.0, value_j w (said_of words) other.1 ∙ later.1)
 
-none_known : (said : Passing) (words : List TapeWord) → said ≡ passing (said_of words) → said.foreign ≡ false → list_any is_foreign words ≡ false
+pub none_known : (said : Passing) (words : List TapeWord) → said ≡ passing (said_of words) → said.foreign ≡ false → list_any is_foreign words ≡ false
 none_known said words is none = sym (ap (λ (s : Passing). s.foreign) is ∙ foreign_said words) ∙ none
 
 -- nor does a block without a word that is foreign to plain ones
@@ -121,19 +121,21 @@ no_way_j said words is none = sym (plain_ways words (none_known said words is no
 
 -- ---- foreign words
 
+-- words of which one test holds for none, where another holds for no more
+pub all_known : (few more : TapeWord → Bool) (words : List TapeWord) → ((w : TapeWord) → more w ≡ false → few w ≡ false) → list_any more words ≡ false → list_any few words ≡ false
+all_known few more [] known none = refl
+all_known few more (w ∷ words) known none =
+    let parts = neither (more w) (list_any more words) none in
+    ap (λ t. t || list_any few words) (known w parts.0) ∙ all_known few more words known parts.1
+
 -- what has a meaning in plain blocks has one in all
 known_still : (motion : Option ℕ) (w : TapeWord) → is_foreign w ≡ false → is_foreign_round motion w ≡ false
 known_still motion w known = grind (arith, nat_tests)
 
-all_known : (motion : Option ℕ) (words : List TapeWord) → list_any is_foreign words ≡ false → list_any (is_foreign_round motion) words ≡ false
-all_known motion [] known = refl
-all_known motion (w ∷ words) known =
-    let parts = neither (is_foreign w) (list_any is_foreign words) known in
-    ap (λ t. t || list_any (is_foreign_round motion) words) (known_still motion w parts.0) ∙ all_known motion words parts.1
-
 pub none_foreign : (motion : Option ℕ) (said : Passing) (letters : List ℕ) (words : List TapeWord) → said ≡ passing (said_of words) → said.foreign ≡ false
     → place_of (is_foreign_round motion) letters words ≡ None
-none_foreign motion said letters words is none = no_place (is_foreign_round motion) letters words (all_known motion words (none_known said words is none))
+none_foreign motion said letters words is none =
+    no_place (is_foreign_round motion) letters words (all_known (is_foreign_round motion) is_foreign words (known_still motion) (none_known said words is none))
 
 -- ---- an arc
 
@@ -193,7 +195,7 @@ arc_held : (held now : Held) (said : Said) → arc_fault held now said ≡ None 
 arc_held held now said fine =
     within_limit now (arc_limit (is_mixed said) (is_none now.units) (not (has_position held)) (leaves_limit now) (is_none now.feed) (is_no_arc held now said) fine)
 
-round_held : (held : Held) (said : Said) → IsHeld held → round_fault held (with_said held said) said ≡ None → IsHeld (with_said held said)
+pub round_held : (held : Held) (said : Said) → IsHeld held → round_fault held (with_said held said) said ≡ None → IsHeld (with_said held said)
 round_held held said is fine = go (is_arc (with_said held said) said) fine
   where
     go : (arc : Bool) → cond arc (arc_fault held (with_said held said) said) (end_fault (with_said held said) said) ≡ None → IsHeld (with_said held said)
@@ -209,7 +211,7 @@ kept held now letters at words o is holds same none =
 
 -- ---- the meaning of a block
 
-by_foreign : {A : Type 0} (place : Option ℕ) (at : ℕ) (cause : Option TapeCause) (x : A)
+pub by_foreign : {A : Type 0} (place : Option ℕ) (at : ℕ) (cause : Option TapeCause) (x : A)
     → unless_fault (option_or (option_map (λ p. fault p causes.Foreign) place) (option_map (fault at) cause)) x ≡ unless_foreign place (unless_fault (option_map (fault at) cause) x)
 by_foreign None at cause x = refl
 by_foreign (Some p) at cause x = refl

@@ -12,16 +12,16 @@ use Rattle.apt_block.specs.Block.{spelling, word_text, line_feed}
 use Rattle.apt_control.specs.declared.held.Held.{Held}
 use Rattle.apt_control.specs.Control.{nothing_held}
 use Rattle.apt_post.specs.declared.planning.Pending.{Pending}
-use Rattle.apt_post.specs.Blocks.{is_written, mode_words, numbered}
+use Rattle.apt_post.specs.Blocks.{act_words, behind, is_written, mode_words, numbered}
 use Rattle.apt_post.specs.Plan.{note_acts, point_acts, cut_to, record_acts, record_pending, acts_from, plan}
-use Rattle.apt_post.proofs.Lengths.{all_longest, words_few, longest-append, mode_few, number_words_few, fewer_words, act_block_length}
+use Rattle.apt_post.proofs.Lengths.{all_longest, words_few, longest-append, mode_few, number_words_few, act_few, fewer_words}
 use Rattle.apt_circular.specs.declared.ArcAct.{ArcAct}
 use Rattle.apt_circular.specs.declared.ArcAct.TheVariants as arcs
 use Rattle.apt_circular.specs.declared.arc.Arc.{Arc}
 use Rattle.apt_circular.specs.declared.planning.Round.{Round}
 use Rattle.apt_circular.specs.declared.planning.Coming.{Coming}
-use Rattle.apt_circular.specs.ArcBlocks.{arc_ways, words_behind, arc_words, behind_arc, written_arc, arc_block}
-use Rattle.apt_circular.specs.ArcTape.{behind_act, block_at, blocks_on, arc_text, arc_tape}
+use Rattle.apt_circular.specs.ArcBlocks.{arc_ways, words_behind, arc_words, behind_arc}
+use Rattle.apt_circular.specs.ArcTape.{written_at, behind_act, block_at, blocks_on, arc_text, arc_tape}
 use Rattle.apt_circular.specs.ArcPlan.{nothing_coming, plain_cut, cut_acts, turning, record_arcs, coming_behind, arcs_from, plan_arcs}
 
 -- ---- a tape
@@ -32,16 +32,17 @@ arc_few incremental held a =
     let ways = arc_ways incremental held a in
     omega (arith, longest-append (mode_words held.incremental ways) (words_behind ways held a), mode_few held.incremental ways)
 
-arc_block_length : (m : Machine) (k : ℕ) (held : Held) (a : Arc) → length (spelling m.short (arc_block m k held a)) ≤ 67
-arc_block_length m k held a =
-    let block = arc_block m k held a in
-    let words = arc_words m.incremental held a in
-    let p = is_written m.changed held (behind_arc m.incremental held a) in
-    omega (arith, length-append (flat_map (word_text m.short) block) (line_feed ∷ []), words_few m.short block, longest-append (numbered m.seq k) (written_arc m held a), number_words_few (m.seq == 0) (1 + (k * m.seq) % 9999), fewer_words p words, arc_few m.incremental held a)
+-- the words of an act that are written
+pub written_few : (m : Machine) (held : Held) (act : ArcAct) → all_longest (written_at m held act) ≤ 61
+written_few m held (arcs.Plain act) = omega (arith, fewer_words (is_written m.changed held (behind m.incremental held act)) (act_words m.incremental held act), act_few m.incremental held act)
+written_few m held (arcs.Arc turn x y z cx cy feed) =
+    let a : Arc = record { turn = turn; x = x; y = y; z = z; cx = cx; cy = cy; feed = feed } in
+    omega (arith, fewer_words (is_written m.changed held (behind_arc m.incremental held a)) (arc_words m.incremental held a), arc_few m.incremental held a)
 
 block_length : (m : Machine) (k : ℕ) (held : Held) (act : ArcAct) → length (spelling m.short (block_at m k held act)) ≤ 67
-block_length m k held (arcs.Plain act) = omega (arith, act_block_length m k held act)
-block_length m k held (arcs.Arc turn x y z cx cy feed) = arc_block_length m k held (record { turn = turn; x = x; y = y; z = z; cx = cx; cy = cy; feed = feed })
+block_length m k held act =
+    let block = block_at m k held act in
+    omega (arith, length-append (flat_map (word_text m.short) block) (line_feed ∷ []), words_few m.short block, longest-append (numbered m.seq k) (written_at m held act), number_words_few (m.seq == 0) (1 + (k * m.seq) % 9999), written_few m held act)
 
 text_length : (m : Machine) (k : ℕ) (held : Held) (done : List ArcAct) → length (flat_map (spelling m.short) (blocks_on m k held done)) ≤ 67 * length done
 text_length m k held [] = omega arith

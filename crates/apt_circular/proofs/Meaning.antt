@@ -147,14 +147,14 @@ arc_reads n machine held a small known can =
 
 -- ---- the block of a plain act
 
-no_fault : {A : Type 0} (o : Option BlockFault) (x y : A) → unless_fault o x ≡ Ok y → (o ≡ None) × (x ≡ y)
+pub no_fault : {A : Type 0} (o : Option BlockFault) (x y : A) → unless_fault o x ≡ Ok y → (o ≡ None) × (x ≡ y)
 no_fault {A = A} None x y e = (refl, ok_is e)
   where
     ok_is : Path (Result A BlockFault) (Ok x) (Ok y) → x ≡ y
     ok_is e = cc
 no_fault (Some f) x y e = absurd cc
 
-neither : (p : Option ℕ) (o : Option TapeCause) (at : ℕ) → option_or (option_map (λ (place : ℕ). fault place causes.Foreign) p) (option_map (fault at) o) ≡ None → (p ≡ None) × (o ≡ None)
+pub neither : (p : Option ℕ) (o : Option TapeCause) (at : ℕ) → option_or (option_map (λ (place : ℕ). fault place causes.Foreign) p) (option_map (fault at) o) ≡ None → (p ≡ None) × (o ≡ None)
 neither None None at e = (refl, refl)
 neither None (Some c) at e = absurd cc
 neither (Some p) o at e = absurd cc
@@ -163,24 +163,25 @@ neither (Some p) o at e = absurd cc
 fewer_foreign : (motion : Option ℕ) (w : TapeWord) → is_foreign w ≡ false → is_foreign_round motion w ≡ false
 fewer_foreign motion w e = grind (arith, nat_tests)
 
-fewer_places : (motion : Option ℕ) (letters : List ℕ) (words : List TapeWord) → place_of is_foreign letters words ≡ None → place_of (is_foreign_round motion) letters words ≡ None
-fewer_places motion letters words none = ap (option_map (λ (p : ℕ × TapeWord). p.0)) (go (zip letters words) (found _ none))
+-- where no word is of one test, none is of another that holds for no more
+pub fewer_places : (few more : TapeWord → Bool) (letters : List ℕ) (words : List TapeWord) → ((w : TapeWord) → more w ≡ false → few w ≡ false) → place_of more letters words ≡ None → place_of few letters words ≡ None
+fewer_places few more letters words fewer none = ap (option_map (λ (p : ℕ × TapeWord). p.0)) (go (zip letters words) (found _ none))
   where
     found : (o : Option (ℕ × TapeWord)) → option_map (λ (p : ℕ × TapeWord). p.0) o ≡ None → o ≡ None
     found None e = refl
     found (Some p) e = absurd cc
 
     later : (t s : Bool) (p : ℕ × TapeWord) (o r : Option (ℕ × TapeWord)) → (t ≡ false → s ≡ false) → cond t (Some p) o ≡ None → (o ≡ None → r ≡ None) → cond s (Some p) r ≡ None
-    later true s p o r fewer e same = absurd cc
-    later false true p o r fewer e same = absurd (no_true (fewer refl))
+    later true s p o r none e same = absurd cc
+    later false true p o r none e same = absurd (no_true (none refl))
       where
         no_true : true ≡ false → ⊥
         no_true e = cc
-    later false false p o r fewer e same = same e
+    later false false p o r none e same = same e
 
-    go : (ps : List (ℕ × TapeWord)) → find (λ (p : ℕ × TapeWord). is_foreign p.1) ps ≡ None → find (λ (p : ℕ × TapeWord). is_foreign_round motion p.1) ps ≡ None
+    go : (ps : List (ℕ × TapeWord)) → find (λ (p : ℕ × TapeWord). more p.1) ps ≡ None → find (λ (p : ℕ × TapeWord). few p.1) ps ≡ None
     go [] e = refl
-    go (p ∷ ps) e = later (is_foreign p.1) (is_foreign_round motion p.1) p _ _ (fewer_foreign motion p.1) e (go ps)
+    go (p ∷ ps) e = later (more p.1) (few p.1) p _ _ (fewer p.1) e (go ps)
 
 -- a plain meaning is one of a control that cuts arcs too, where the block is no arc
 plain_means : (held : Held) (letters : List ℕ) (at : ℕ) (words : List TapeWord) (m : Meaning Held Act) → meaning held letters at words ≡ Ok m → is_arc m.held (said_of words) ≡ false
@@ -195,7 +196,7 @@ plain_means held letters at words m means no_arc =
     let fine : round_fault held now said ≡ None = ap (λ t. cond t (arc_fault held now said) (end_fault now said)) plain ∙ none.1 in
     let does : round_acts held now said ≡ map arcs.Plain (block_acts now said) =
     ap (λ t. cond t (map arcs.Plain (unit_acts said ++ acts_before said) ++ act_of (arc_of held now said) ∷ map arcs.Plain (acts_after said)) (map arcs.Plain (block_acts now said))) plain in
-    by_said held now said letters at words (map arcs.Plain (block_acts now said)) (has_code (2 ∷ []) said) refl refl (fewer_places now.motion letters words none.0) fine does refl
+    by_said held now said letters at words (map arcs.Plain (block_acts now said)) (has_code (2 ∷ []) said) refl refl (fewer_places (is_foreign_round now.motion) is_foreign letters words (fewer_foreign now.motion) none.0) fine does refl
     ∙ λ i. Ok (record { held = (parts.1 i).held; acts = map arcs.Plain (parts.1 i).acts; ends = (parts.1 i).ends })
 
 and_false : (t : Bool) → (t && false) ≡ false
@@ -219,7 +220,7 @@ no_arc_words machine held acts.OptStop = and_false _
 no_arc_words machine held acts.End = and_false _
 
 -- words that mean a plain act mean it to a control that cuts arcs
-plain_reads : (n : Option ℕ) (machine : Machine) (held : Held) (act : Act) → IsNumber n → CanWrite act → MeansAct machine.incremental held (number_words n ++ written_words machine held act) act
+pub plain_reads : (n : Option ℕ) (machine : Machine) (held : Held) (act : Act) → IsNumber n → CanWrite act → MeansAct machine.incremental held (number_words n ++ written_words machine held act) act
     → IsReadAs held (number_words n ++ written_words machine held act) (behind machine.incremental held act) (arcs.Plain act)
 plain_reads n machine held act small can means =
     let words = written_words machine held act in

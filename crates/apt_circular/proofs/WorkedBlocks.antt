@@ -19,7 +19,7 @@ use Rattle.apt_circular.specs.declared.arc.Arc.{Arc}
 use Rattle.apt_circular.specs.ArcBlocks.{act_of, arc_meaning, written_arc}
 
 abbrev machine : Code → Bool → Bool → Bool → Machine
-machine code changed incremental short = record { code = code; seq = 1; feedmax = 9999; spinmax = 9999; toolmax = 99; changed = changed; incremental = incremental; short = short; circles = true }
+machine code changed incremental short = record { code = code; seq = 1; feedmax = 9999; spinmax = 9999; toolmax = 99; changed = changed; incremental = incremental; short = short; circles = true; cycles = false }
 
 abbrev low : ℤ
 low = negsuc 224999

@@ -26,18 +26,18 @@ settled_arc held now said = go (is_mixed said) (is_none now.units) (not (has_pos
     go false false false false false true = refl
     go false false false false false false = tt
 
-settled_round : (held now : Held) (said : Said) → Settled (round_fault held now said)
+pub settled_round : (held now : Held) (said : Said) → Settled (round_fault held now said)
 settled_round held now said = go (is_arc now said)
   where
     go : (arc : Bool) → Settled (cond arc (arc_fault held now said) (end_fault now said))
     go true = settled_arc held now said
     go false = settled_end now said
 
-settled_at : (at : ℕ) (cause : Option TapeCause) → Settled cause → SettledAt (option_map (fault at) cause)
+pub settled_at : (at : ℕ) (cause : Option TapeCause) → Settled cause → SettledAt (option_map (fault at) cause)
 settled_at at None is = tt
 settled_at at (Some cause) is = is
 
-settled_foreign : {X : Type 0} (place : Option ℕ) (m : Result X BlockFault) → AllSettled m → AllSettled (unless_foreign place m)
+pub settled_foreign : {X : Type 0} (place : Option ℕ) (m : Result X BlockFault) → AllSettled m → AllSettled (unless_foreign place m)
 settled_foreign None m is = is
 settled_foreign (Some place) m is = refl
 

@@ -8,14 +8,14 @@ use apt_control::{Held, Passing};
 
 /// The signed way from the old position to the centre of an arc, I in x and J in y, none where its word is left out.
 #[derive(Clone, Copy)]
-pub(crate) struct CentreWay {
+pub struct CentreWay {
     pub i: Option<i64>,
     pub j: Option<i64>,
 }
 
 /// What a block says, and what holds before it and behind it.
 #[derive(Clone, Copy)]
-pub(crate) struct Instruction {
+pub struct Instruction {
     pub before: Held,
     pub behind: Held,
     pub said: Passing,

@@ -12,10 +12,11 @@ mod reading;
 
 use apt_control::{Act, ControlReader};
 pub use counting::arc_counts;
+pub use instruction::{CentreWay, Instruction};
 pub use left::ArcBytes;
 pub use planning::{ArcPlan, Coming, Round, plan_arcs};
 pub use poster::ArcPoster;
-pub use reading::ArcHeld;
+pub use reading::{ArcHeld, push_acts, push_plain, round_fault, taken_by, with_motion};
 
 /// An act of a control that cuts arcs: a plain one, or an arc about a centre to a position, anticlockwise where
 /// `turn` is 1 (G03), clockwise where it is -1 (G02). Coordinates are in grid units, the feed in tenths of an inch
@@ -32,6 +33,12 @@ pub enum ArcAct {
         cy: i64,
         feed: i64,
     },
+}
+
+impl Default for ArcAct {
+    fn default() -> ArcAct {
+        ArcAct::Plain(Act::End)
+    }
 }
 
 /// A tape of acts with arcs whose bytes come in pieces.

@@ -1,9 +1,11 @@
 //! The writer of blocks with arcs, one act after the other.
 
-ghost use Rattle.std.specs.Prelude.{◌≡◌, ◌+◌, ◌<◌, ◌≤◌, ◌++◌, ◌∷◌, [], List, IsSome, drop, get_or, length, if◌then◌else◌};
+ghost use Rattle.std.specs.Prelude.{◌≡◌, ◌+◌, ◌<◌, ◌≤◌, ◌++◌, ◌∷◌, [], List, IsSome, drop, get_or, length, map, if◌then◌else◌};
 ghost use Rattle.arrayvec.specs.ArrayVec.{array_vec_len};
 ghost use Rattle.apt_block.specs.Block.{IsBlock, spelling};
+ghost use Rattle.apt_tapecode.specs.Tapecode.{byte_of};
 ghost use Rattle.apt_post.specs.Blocks as blocks;
+ghost use Rattle.apt_post.specs.Posting.{next_number, behind_told};
 ghost use Rattle.apt_circular.specs.ArcBlocks as spec;
 ghost use Rattle.apt_circular.specs.ArcPosting as posting;
 ghost use Rattle.apt_circular.specs.ArcPosting.{StandsFor};
@@ -13,6 +15,7 @@ ghost use Rattle.apt_circular.specs.Writable.{CanArc};
 use crate::ArcAct;
 use crate::arc::Arc;
 use apt_block::TapeWord;
+use apt_control::Held;
 use apt_machine::Machine;
 use apt_post::{Piece, Poster};
 use arrayvec::ArrayVec;
@@ -54,6 +57,7 @@ impl ArcPoster {
         ensures read { IsSome self.old.held.units → tapes.IsReadAs self.old.held (posting.next_block self.old a.now) self.new.held a.now }
         ensures stands { (before : List ArcAct) → StandsFor self.old before → StandsFor self.new (before ++ a.now ∷ []) }
         ensures tape { (before : List ArcAct) → StandsFor self.old before → tapes.arc_text self.old.machine (before ++ a.now ∷ []) ≡ tapes.arc_text self.old.machine before ++ result.items }
+        ensures few { self.old.steps < 9999 }
     {
         self.next_text(a)
     }
@@ -102,7 +106,7 @@ impl ArcPoster {
     }
 
     /// Appends the bytes that stand before the first block: rewind stop and end of block.
-    pub(crate) fn push_start(&self, text: &mut Piece)
+    pub fn push_start(&self, text: &mut Piece)
         requires room { array_vec_len text.old + 2 ≤ 1152 }
         ensures { text.new.items ≡ text.old.items ++ tapes.arc_tape self.now.machine [] }
     {
@@ -110,7 +114,7 @@ impl ArcPoster {
     }
 
     /// Appends the bytes of the next block, which is the act's.
-    pub(crate) fn push_bytes(&mut self, text: &mut Piece, act: &ArcAct)
+    pub fn push_bytes(&mut self, text: &mut Piece, act: &ArcAct)
         requires can { tapes.CanAct self.old.held act.now }
         requires room { array_vec_len text.old + 128 ≤ 1152 }
         ensures block { text.new.items ≡ text.old.items ++ posting.block_bytes self.old act.now }
@@ -139,6 +143,33 @@ impl ArcPoster {
                 },
             ),
         }
+    }
+
+    /// The characters of a block of some words, all of them, with its line feed; behind it this holds.
+    pub fn whole(&mut self, words: &[TapeWord], now: &Held) -> ArrayVec<u8, 128>
+        requires few { length words.now ≤ 8 }
+        ensures block { result.items ≡ spelling self.old.machine.short (next_number self.old ++ words.now) }
+        ensures next { self.new ≡ behind_told self.old now.now }
+        ensures few { self.old.steps < 9999 }
+    {
+        self.poster.whole(words, now)
+    }
+
+    /// Appends the bytes of a block of some words, as `whole` makes it.
+    pub fn push_whole_bytes(&mut self, text: &mut Piece, words: &[TapeWord], now: &Held)
+        requires room { array_vec_len text.old + 128 ≤ 1152 }
+        requires few { length words.now ≤ 8 }
+        ensures block { text.new.items ≡ text.old.items ++ map (byte_of self.old.machine.code) (spelling self.old.machine.short (next_number self.old ++ words.now)) }
+        ensures next { self.new ≡ behind_told self.old now.now }
+    {
+        self.poster.push_whole_bytes(text, words, now);
+    }
+
+    /// What holds behind the blocks before.
+    pub fn held(&self) -> &Held
+        ensures { result.now ≡ self.now.held }
+    {
+        self.poster.held()
     }
 
     /// The same of an arc.

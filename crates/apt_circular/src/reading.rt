@@ -1,6 +1,6 @@
 //! The meaning of blocks to a control that cuts arcs.
 
-ghost use Rattle.std.specs.Prelude.{◌≡◌, ◌<◌, ◌≤◌, ◌^◌, ◌+ℤ◌, ◌++◌, ◌∷◌, [], ℕ, ◌&&◌, ◌||◌, is_none, unsigned_abs, map, IfSome, OnOk};
+ghost use Rattle.std.specs.Prelude.{◌≡◌, ◌<◌, ◌≤◌, ◌^◌, ◌+ℤ◌, ◌++◌, ◌∷◌, [], ℕ, ◌&&◌, ◌||◌, None, is_none, unsigned_abs, map, IfSome, OnOk};
 ghost use Rattle.apt_block.specs.Machine.{AreSmall};
 ghost use Rattle.std.specs.Ordering.{int_eq};
 ghost use Rattle.apt_control.specs.Answers.{acts_by};
@@ -37,23 +37,26 @@ impl Model for ArcHeld {
     ghost view = { λ h. h.held };
 }
 
+impl ArcHeld {
+    /// What holds at the start of a tape: new coordinates are given.
+    pub fn new() -> ArcHeld
+        ensures value { result ≡ control.nothing_held }
+        ensures held { InRange result }
+    {
+        ArcHeld { held: Held::new() }
+    }
+}
+
 impl Control for ArcHeld {
     type Act = ArcAct;
 
-    ghost use Rattle.apt_control.specs.Control.{nothing_held};
     ghost use Rattle.apt_control.specs.Limits.{IsHeld as InRange};
     ghost use Rattle.apt_circular.specs.ArcBlocks.{arc_meaning};
     ghost use Rattle.apt_circular.specs.Settled.{settled_arcs};
 
-    ghost start = { nothing_held };
-
     ghost means = { arc_meaning };
 
     ghost IsHeld = { InRange };
-
-    fn new() -> Self {
-        ArcHeld { held: Held::new() }
-    }
 
     fn meaning(
         &mut self,
@@ -74,9 +77,10 @@ impl Control for ArcHeld {
     ghost settled = { settled_arcs };
 }
 
-/// Changes what holds to what holds behind a block.
+/// Changes what holds to what holds behind a block, and answers what the block says. It and the calls over what it
+/// answers are there for controls with meanings of blocks beside these.
 #[tactic(auto, using(crate::proofs::Instructions::no_way_i, crate::proofs::Instructions::no_way_j))]
-fn taken_by(held: &mut Held, words: &[TapeWord]) -> Instruction
+pub fn taken_by(held: &mut Held, words: &[TapeWord]) -> Instruction
     requires held { InRange held.old }
     requires small { AreSmall words.now }
     ensures said { IsInstruction held.old (control.said_of words.now) result }
@@ -94,6 +98,18 @@ fn taken_by(held: &mut Held, words: &[TapeWord]) -> Instruction
         behind: *held,
         said,
         way,
+    }
+}
+
+/// The same where a motion code held already, and the block gives none.
+pub fn with_motion(b: Instruction, motion: Option<u8>) -> Instruction
+    ensures { (held : Held) (more : Said) → IsInstruction held more b → IsInstruction (record held { motion = motion }) (record more { motion = None }) result }
+{
+    Instruction {
+        before: Held { motion, ..b.before },
+        behind: Held { motion, ..b.behind },
+        said: b.said,
+        way: b.way,
     }
 }
 
@@ -189,7 +205,7 @@ fn centre(b: &Instruction) -> Pt
 
 /// A coordinate and a way from it; what is left out is 0.
 fn moved(held: Option<i64>, way: Option<i64>) -> i64
-    requires held { IfSome held (λ v. unsigned_abs v ≤ 50000000) }
+    requires held { IfSome held (λ v. unsigned_abs v < 10 ^ 8) }
     requires way { IfSome way (λ v. unsigned_abs v < 10 ^ 8) }
     ensures { result ≡ control.or_zero held +ℤ control.or_zero way }
 {
@@ -274,7 +290,7 @@ fn arc_fault(b: &Instruction) -> Option<TapeCause>
 }
 
 /// The first fault at the end of a block.
-fn round_fault(b: &Instruction) -> Option<TapeCause>
+pub fn round_fault(b: &Instruction) -> Option<TapeCause>
     ensures { (held : Held) (more : Said) → IsInstruction held more b.now → result ≡ spec.round_fault held (control.with_said held more) more }
 {
     if is_arc(b) {
@@ -329,7 +345,7 @@ fn arc_act(b: &Instruction) -> ArcAct
 }
 
 /// Appends the acts of a block: those of a plain one, with the arc in place of a move.
-fn push_acts(acts: &mut Vec<ArcAct>, b: &Instruction) -> Result<(), AllocError>
+pub fn push_acts(acts: &mut Vec<ArcAct>, b: &Instruction) -> Result<(), AllocError>
     ensures { (held : Held) (more : Said) → IsInstruction held more b.now → OnOk result (acts.new.items ≡ acts.old.items ++ spec.round_acts held (control.with_said held more) more) }
 {
     push_plain(acts, unit_act(&b.said))?;
@@ -350,7 +366,8 @@ fn push_motion(acts: &mut Vec<ArcAct>, b: &Instruction) -> Result<(), AllocError
     }
 }
 
-fn push_plain(acts: &mut Vec<ArcAct>, act: Option<Act>) -> Result<(), AllocError>
+/// Appends a plain act, or none.
+pub fn push_plain(acts: &mut Vec<ArcAct>, act: Option<Act>) -> Result<(), AllocError>
     ensures { OnOk result (acts.new.items ≡ acts.old.items ++ map arcs.Plain (acts_by act)) }
 {
     if let Some(act) = act {

@@ -18,6 +18,7 @@ use Rattle.apt_machine.specs.Tables.{table_of}
 use Rattle.apt_circular.specs.declared.ArcAct.{ArcAct}
 use Rattle.apt_tape.specs.Tapes.{acts_on, run_on}
 use Rattle.apt_sweeps.proofs.Machines.{arcs_belong}
+use Rattle.apt_part.proofs.Promised.{passes_drilled}
 use Rattle.apt_part.specs.Compilation.{steps_of}
 use Rattle.apt_part.specs.Promise.{Passes, file_limit}
 use Rattle.apt_report.specs.declared.status.Status.{Status}
@@ -114,6 +115,7 @@ good_is_right machine text cl tape steps written v passes read run follow verdic
         follow = right.0;
         legal = right.1;
         arcs = arcs_belong machine steps written passes.fine right.0 right.1;
+        holes = passes_drilled passes written right.0;
       };
       numbers = (legal_in_numbers written).0 right.1;
       verdict = verdict;

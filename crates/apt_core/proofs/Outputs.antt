@@ -32,6 +32,7 @@ output_is machine text table p tabled comes promise = record {
     legal = promise.legal;
     acts = tape_runs_on machine p.records promise.writable;
     arcs = promise.arcs;
+    holes = promise.holes;
   };
 }
 

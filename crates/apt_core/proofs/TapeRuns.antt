@@ -7,13 +7,13 @@ use Rattle.apt_control.specs.Answers.{fault_in}
 use Rattle.apt_circular.specs.declared.ArcAct.{ArcAct}
 use Rattle.apt_tape.specs.declared.run.TapeRun.{TapeRun}
 use Rattle.apt_machine.specs.declared.machine.Machine.{Machine}
-use Rattle.apt_tape.specs.Tapes.{run_in, run_on}
+use Rattle.apt_tape.specs.Tapes.{Kind, kind_on, run_in, run_on}
 use Rattle.apt_tape.specs.Runs.{kind_of, code_of, HasRun, IsTaken}
 use Rattle.apt_core.specs.TapeRuns.{RunsFrom}
 use Rattle.apt_core.proofs.Intakes.{holds_still, holds_whole}
 
 pub run_goes_on : {T : Type 0} (has : T → T → List ArcAct → Type 0) (begun : Result (TapeRun T) ControlError) (front piece : List ℕ) (run : TapeRun T) (next : Result (TapeRun T) ControlError)
-    → ((none : T) (circles : Bool) (code : Code) (front : List ℕ) → HasRun (has none) circles code front (Ok run) → HasRun (has none) circles code (front ++ piece) next)
+    → ((none : T) (kind : Kind) (code : Code) (front : List ℕ) → HasRun (has none) kind code front (Ok run) → HasRun (has none) kind code (front ++ piece) next)
     → RunsFrom has begun (Ok run) front → RunsFrom has begun next (front ++ piece)
 run_goes_on has (Ok begun) front piece run next on so = on begun.taken (kind_of begun.reader) (code_of begun.reader) front so
 run_goes_on has (Err error) front piece run next on so = so
@@ -30,7 +30,7 @@ run_ends has begun tape error so = holds_whole (λ tape. IsFault fault_in (run_i
 
 -- by the machine, and with nothing taken at the start
 pub taken_on : {T : Type 0} (has : T → T → List ArcAct → Type 0) (begun : TapeRun T) (none : T) (m : Machine) (tape : List ℕ) (result : Result T ControlError) → begun.taken ≡ none
-    → kind_of begun.reader ≡ m.circles → code_of begun.reader ≡ m.code → IsTaken (has begun.taken) (run_in (kind_of begun.reader) (code_of begun.reader) tape) result
+    → kind_of begun.reader ≡ kind_on m → code_of begun.reader ≡ m.code → IsTaken (has begun.taken) (run_in (kind_of begun.reader) (code_of begun.reader) tape) result
     → IsTaken (has none) (run_on m tape) result
 taken_on has begun none m tape result taken kind code is =
     subst (λ k. IsTaken (has none) (run_in k m.code tape) result) kind

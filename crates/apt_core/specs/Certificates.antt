@@ -16,7 +16,9 @@ use Rattle.apt_job.specs.Jobs.{jobs_said}
 use Rattle.apt_machine.specs.declared.machine.Machine.{Machine}
 use Rattle.apt_post.specs.Plan.{segments}
 use Rattle.apt_circular.specs.declared.ArcAct.{ArcAct}
-use Rattle.apt_tape.specs.Tapes.{acts_on, run_on}
+use Rattle.apt_circular.specs.declared.ArcAct.TheVariants.{Plain}
+use Rattle.apt_pattern.specs.Holes.{AreDrilled}
+use Rattle.apt_tape.specs.Tapes.{acts_on, asked_on, run_on}
 use Rattle.apt_tape.specs.Differences.{DifferAt}
 use Rattle.apt_sweeps.specs.ArcSweeps.{sweeps_of, AreArcsOf}
 use Rattle.apt_part.specs.Promise.{Passes}
@@ -27,10 +29,10 @@ use Rattle.apt_report.specs.declared.status.Miss.{Miss}
 use Rattle.apt_report.specs.declared.status.Miss.TheVariants as misses
 use Rattle.apt_core.specs.Due.{machine_due, steps_due, records_due, acts_due}
 
--- a CL file and a tape are right for a part on a machine. The part's steps are those of its one trace, and none is refused; the CL file is just its records,
+-- a CL file and a tape are right for a part on a machine. The part's steps are the plain steps of its one trace, and none is refused; the CL file is just its records,
 -- and a control of the machine runs the tape, to the last byte, to just the acts that they ask for, so that nothing else stands in either file; the records follow the steps,
--- each contour with the drive, the check, the side and the turn that its statement names; every contour that the CL file says is legal; and each arc among the acts is that
--- of a leg of a contour, by which it stays
+-- each contour with the drive, the check, the side and the turn that its statement names; every contour that the CL file says is legal; each arc among the acts is that
+-- of a leg of a contour, by which it stays; and each step that drills has its holes among the acts, the three moves of each in order, none left out and none added
 pub record IsRight (machine : Machine) (text cl tape : List ℕ) : Type 0 where
   pub steps : List Step
   pub passes : Passes machine text steps
@@ -40,6 +42,7 @@ pub record IsRight (machine : Machine) (text cl tape : List ℕ) : Type 0 where
   pub follow : Follows steps records
   pub legal : EveryContour IsLegalCut (contours_of records)
   pub arcs : AreArcsOf (sweeps_of (acts_on machine records)) (contours_of records)
+  pub holes : AreDrilled (asked_on machine) Plain passes.traced records
 
 -- ---- where they are not
 

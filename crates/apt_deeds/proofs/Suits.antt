@@ -14,18 +14,22 @@ use Rattle.apt_words.specs.declared.body.Body.TheVariants as bodies
 use Rattle.apt_words.specs.declared.deed.Deed.{Deed}
 use Rattle.apt_words.specs.declared.deed.Deed.TheVariants as deeds
 use Rattle.apt_scalar.specs.Scalars.{IsScalar}
-use Rattle.apt_scalar.specs.Meanings.{Names, Parameters}
+use Rattle.apt_scalar.specs.Meanings.{Names, Parameters, meaning}
 use Rattle.apt_scalar.specs.Evaluation.{value_of}
-use Rattle.apt_scalar.specs.StepScalars.{AllScalars, HasScalars}
+use Rattle.apt_scalar.specs.StepScalars.{AllScalars, HasScalars, HasDrillScalars}
 use Rattle.apt_scalar.proofs.Ranges.{then_ok, value_of-scalar}
-use Rattle.apt_deeds.specs.Deeds.{values_of, names_for, arguments, lone_points, nth, by_values, points_or, executed, execution, is_parameter, deed_of}
+use Rattle.apt_deeds.specs.Deeds.{values_of, names_for, arguments, lone_points, nth, is_pattern, pattern_or, by_values, points_or, executed, execution, is_parameter, deed_of}
 
 abbrev pub is_end : Deed → Bool
 is_end deeds.Fini = true
 is_end _ = false
 
-abbrev pub Suits : Body → Deed → Type 0
-Suits body deed = HasScalars deed × (is_end deed ≡ is_fini body) × (HasText body → DeedHasText deed) × (IsUntitled body → DeedIsUntitled deed)
+pub record Suits (body : Body) (deed : Deed) : Type 0 where
+  pub scalars : HasScalars deed
+  pub drills : HasDrillScalars deed
+  pub ends : is_end deed ≡ is_fini body
+  pub text : HasText body → DeedHasText deed
+  pub untitled : IsUntitled body → DeedIsUntitled deed
 
 abbrev pub Any : {A : Type 0} → A → Type 0
 Any a = Unit {0}
@@ -65,6 +69,11 @@ numbers-scalars (bodies.GotoXy x y z) v m h = (h 0, (h 1, height z (v 2) (h 2)))
 numbers-scalars (bodies.Spindl e turns.Off) v m h = tt
 numbers-scalars _ v m h = assumption (h 0, h 1, h 2, h 3)
 
+drills-scalars : (body : Body) (v : Values) (m : Meanings) → ((k : ℕ) → IsScalar (v k)) → HasDrillScalars ((composition body).deed v m)
+drills-scalars (bodies.Patern n p q e) v m h = (h 0, tt)
+drills-scalars (bodies.CycleDrill d c) v m h = (h 0, (h 1, tt))
+drills-scalars _ v m h = tt
+
 ends_as : (body : Body) (v : Values) (m : Meanings) → is_end ((composition body).deed v m) ≡ is_fini body
 ends_as bodies.Fini v m = refl
 ends_as _ v m = refl
@@ -88,8 +97,20 @@ plain : {A : Type 0} → A → Unit {0}
 plain _ = tt
 
 points-suits : (body : Body) → IfPoints (Suits body) (composition body).by_points
-points-suits (bodies.CircleThree n x y z) = λ m. (tt, refl, plain, plain)
+points-suits (bodies.CircleThree n x y z) = λ m. record { scalars = tt; drills = tt; ends = refl; text = plain; untitled = plain }
 points-suits _ = tt
+
+-- ---- statements whose name is a pattern
+
+pattern-suits : (body : Body) → IfPoints (Suits body) (composition body).by_pattern
+pattern-suits (bodies.GotoPoint p) = λ m. record { scalars = tt; drills = tt; ends = refl; text = plain; untitled = plain }
+pattern-suits _ = tt
+
+pattern_or-holds : (P : Deed → Type 0) (by_pattern : Option (Meanings → Deed)) (stands : Bool) (m : Meanings) (deed : Deed) → IfPoints P by_pattern → P deed
+    → P (pattern_or by_pattern stands m deed)
+pattern_or-holds P None stands m deed with_pattern h = h
+pattern_or-holds P (Some by) true m deed with_pattern h = with_pattern m
+pattern_or-holds P (Some by) false m deed with_pattern h = h
 
 points_or-holds : (P : Deed → Type 0) (by_points : Option (Meanings → Deed)) (points : Option (List (List ℕ))) (r : Result Deed Case)
     → IfPoints P by_points → IfOk r P → IfOk (points_or by_points points r) P
@@ -107,7 +128,14 @@ by_values-suits names ps body =
     (λ r are.
     let v = nth (pos 0) r.0 in
     let m = nth [] r.1 in
-    (numbers-scalars body v m (nth-scalar r.0 are), ends_as body v m, text_as body v m, untitled_as body v m))
+    pattern_or-holds (Suits body) c.by_pattern (is_pattern (meaning names (m 0))) m (c.deed v m) (pattern-suits body)
+    (record {
+      scalars = numbers-scalars body v m (nth-scalar r.0 are);
+      drills = drills-scalars body v m (nth-scalar r.0 are);
+      ends = ends_as body v m;
+      text = text_as body v m;
+      untitled = untitled_as body v m;
+    }))
 
 execution-suits : (names : Names) (ps : Parameters) (body : Body) → IfOk (execution names ps body) (Suits body)
 unfolding executed

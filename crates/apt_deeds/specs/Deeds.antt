@@ -1,6 +1,7 @@
 -- What a statement does where it is executed: its expressions by their values, its names by what they stand for.
-use Rattle.std.specs.Prelude.{ℕ, zero, suc, ℤ, pos, Bool, false, List, [], ◌∷◌, Option, Some, None, is_some, option_map, Result, Ok, Err, if◌then◌else◌}
+use Rattle.std.specs.Prelude.{ℕ, zero, suc, ℤ, pos, Bool, true, false, List, [], ◌∷◌, Option, Some, None, is_some, option_map, Result, Ok, Err, if◌then◌else◌}
 use Rattle.apt_words.specs.Asks.{Ask, ask_of, defined_by, listed}
+use Rattle.apt_words.specs.Drills.{drill_of}
 use Rattle.apt_words.specs.Chains.{◌>>=◌}
 use Rattle.apt_words.specs.Composition.{Composition, Meanings, names_with, composition}
 use Rattle.apt_words.specs.Trees.{Tree, Num, Name, Neg, Bin, Root, Abs}
@@ -11,6 +12,8 @@ use Rattle.apt_words.specs.declared.ask.Form.{Form}
 use Rattle.apt_words.specs.declared.ask.Form.TheVariants as forms
 use Rattle.apt_words.specs.declared.body.Body.{Body}
 use Rattle.apt_words.specs.declared.deed.Deed.{Deed}
+use Rattle.apt_words.specs.declared.drill.Drill.{Drill}
+use Rattle.apt_words.specs.declared.drill.Drill.TheVariants as drills
 use Rattle.apt_scalar.specs.declared.names.Value.{Value}
 use Rattle.apt_scalar.specs.declared.names.Value.TheVariants as values
 use Rattle.apt_scalar.specs.declared.names.Kind.TheVariants as kinds
@@ -72,6 +75,7 @@ point_named n (Some (values.Scalar v)) = None
 point_named n (Some (values.Shape kinds.Point)) = Some n
 point_named n (Some (values.Shape kinds.Line)) = None
 point_named n (Some (values.Shape kinds.Circle)) = None
+point_named n (Some (values.Shape kinds.Pattern)) = None
 
 abbrev pub point_in : Names → Result (List ℕ) Case → Option (List ℕ)
 point_in names (Ok n) = point_named n (meaning names n)
@@ -102,8 +106,25 @@ nth none [] k = none
 nth none (x ∷ xs) zero = x
 nth none (x ∷ xs) (suc k) = nth none xs k
 
+-- the latest value of a name is a pattern
+abbrev pub is_pattern : Option Value → Bool
+is_pattern None = false
+is_pattern (Some (values.Scalar v)) = false
+is_pattern (Some (values.Shape kinds.Point)) = false
+is_pattern (Some (values.Shape kinds.Line)) = false
+is_pattern (Some (values.Shape kinds.Circle)) = false
+is_pattern (Some (values.Shape kinds.Pattern)) = true
+
+-- a name that may stand for a pattern has its own deed where it does
+abbrev pub pattern_or : Option (Meanings → Deed) → Bool → Meanings → Deed → Deed
+pattern_or None stands m deed = deed
+pattern_or (Some by_pattern) stands m deed = if stands then by_pattern m else deed
+
 unfoldable pub by_values : Names → Parameters → Composition → Result Deed Case
-by_values names ps c = arguments names ps c.numbers c.names >>= λ r. Ok (c.deed (nth (pos 0) r.0) (nth [] r.1))
+by_values names ps c =
+    arguments names ps c.numbers c.names >>= λ r.
+    let m = nth [] r.1 in
+    Ok (pattern_or c.by_pattern (is_pattern (meaning names (m 0))) m (c.deed (nth (pos 0) r.0) m))
 
 -- expressions that may be points are points where each is a lone name whose latest value is one
 abbrev pub points_or : Option (Meanings → Deed) → Option (List (List ℕ)) → Result Deed Case → Result Deed Case
@@ -138,10 +159,18 @@ value_by (forms.Circle form) = values.Shape kinds.Circle
 abbrev pub definition_by : Ask → Option (List ℕ × Value)
 definition_by ask = option_map (λ d. (d.0, value_by d.1)) (defined_by ask)
 
+-- the name that a step gives to a pattern
+abbrev pub pattern_by : Option Drill → Option (List ℕ × Value)
+pattern_by None = None
+pattern_by (Some (drills.Pattern n p q v)) = Some (n, values.Shape kinds.Pattern)
+pattern_by (Some (drills.Cycle d c)) = None
+pattern_by (Some drills.Off) = None
+pattern_by (Some (drills.Visit n)) = None
+
 abbrev pub names_after : Names → Option (List ℕ × Value) → Names
 names_after names None = names
 names_after names (Some entry) = with_entry names entry.0 entry.1
 
 -- a definition counts as made as soon as its step is executed
 abbrev pub names_behind : Names → Deed → Names
-names_behind names deed = names_after names (definition_by (ask_of deed))
+names_behind names deed = names_after (names_after names (definition_by (ask_of deed))) (pattern_by (drill_of deed))

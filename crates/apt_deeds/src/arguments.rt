@@ -177,6 +177,16 @@ fn point_named(env: &Env, name: Symbol) -> Option<Symbol>
     }
 }
 
+/// Whether the latest value of a name is a pattern.
+pub(crate) fn is_pattern(env: &Env, name: &Symbol) -> bool
+    ensures { result ≡ deeds.is_pattern (meanings.meaning env.now name.now) }
+{
+    match env.get(name) {
+        Some(Value::Shape(Kind::Pattern)) => true,
+        _ => false,
+    }
+}
+
 /// Three lone names of points.
 pub(crate) fn three_points(
     env: &Env,

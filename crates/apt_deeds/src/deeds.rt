@@ -7,7 +7,7 @@ ghost use Rattle.apt_deeds.specs.Deeds as deeds;
 use crate::figures::defined_name;
 use crate::statements::execution;
 use apt_scalar::{Env, Frame, Kind, Value, bind, bound_in};
-use apt_words::{Body, Case, Deed, Form, Symbol};
+use apt_words::{Body, Case, Deed, Drill, Form, Symbol};
 use std::alloc::{AllocError, Global};
 
 /// What a statement does, or its first refusal.
@@ -45,9 +45,12 @@ fn defines_parameter(frame: &Frame, body: &Body) -> bool
 pub fn bind_behind(alloc: Global, env: &mut Env, deed: &Deed) -> Result<(), AllocError>
     ensures { OnOk result (env.new ≡ deeds.names_behind env.old deed.now) }
 {
-    match definition_by(deed) {
-        None => Ok(()),
-        Some((name, v)) => bind(alloc, env, name, v),
+    if let Some((name, v)) = definition_by(deed) {
+        bind(alloc, env, name, v)?;
+    }
+    match deed.drill() {
+        Some(Drill::Pattern(name, ..)) => bind(alloc, env, name, Value::Shape(Kind::Pattern)),
+        _ => Ok(()),
     }
 }
 

@@ -3,7 +3,7 @@ ghost use Rattle.std.specs.Prelude.{◌≡◌, false};
 ghost use Rattle.apt_deeds.specs.Deeds as deeds;
 ghost use Rattle.apt_deeds.specs.Texts as texts;
 
-use crate::arguments::{both, coordinates, name_for, surfaces, three, value_and_pair};
+use crate::arguments::{both, coordinates, is_pattern, name_for, surfaces, three, value_and_pair};
 use crate::figures::figure;
 use apt_scalar::{Env, Frame, eval};
 use apt_words::{Body, Case, Deed};
@@ -37,7 +37,13 @@ pub(crate) fn execution(env: &Env, frame: &Frame, body: &Body) -> Result<Deed, C
             let (x, y, z) = coordinates(env, frame, x, y, z)?;
             Ok(Deed::GotoXy(x, y, z))
         }
-        Body::GotoPoint(p) => Ok(Deed::GotoPoint(name_for(frame, p)?)),
+        Body::GotoPoint(p) => {
+            let name = name_for(frame, p)?;
+            if is_pattern(env, &name) {
+                return Ok(Deed::GotoPatern(name));
+            }
+            Ok(Deed::GotoPoint(name))
+        }
         Body::Godlta(x, y, z) => {
             let (x, y, z) = three(env, frame, x, y, z)?;
             Ok(Deed::Godlta(x, y, z))

@@ -12,5 +12,6 @@ pub mod Readings
 pub mod Texts
 pub mod Programs
 pub mod Limits
+pub mod Undrilled
 pub mod Promised
 mod Worked

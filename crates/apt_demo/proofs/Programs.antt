@@ -22,7 +22,7 @@ use Rattle.apt_lexis.specs.Phrase.{Phrase}
 use Rattle.apt_lexis.specs.Sentences.{said_on, Behind, Said, behind_tokens, behind_line, by_title, with_first, unless_fault, said_from, said_in}
 use Rattle.apt_shapes.specs.declared.table.Labelled.{Labelled}
 use Rattle.apt_shapes.specs.Shapes.{shape}
-use Rattle.apt_parse.specs.Statements.{open_macro, open_loop, loop_from, loop_behind, macro_behind, is_empty, is_misplaced_heading, is_unbuilt, is_label, first_fault, statement, of_shape, of_tokens as stated, unless_fault as unless_refused}
+use Rattle.apt_parse.specs.Statements.{open_macro, open_loop, loop_from, loop_behind, macro_behind, is_empty, is_misplaced_heading, is_label, first_fault, statement, of_shape, of_tokens as stated, unless_fault as unless_refused}
 use Rattle.apt_parse.specs.Programs.{jumps, has_labels, line_of, whole, unless_open, unless_missing, ends_with, or_fault, program_from, program_of, last_line as last_number}
 use Rattle.apt_parse.proofs.Reading.{macro_from_behind}
 use Rattle.apt_scalar.specs.Meanings.{Names}
@@ -125,9 +125,9 @@ stated_by before n (Ok (t ∷ ts)) b e none =
     ap (of_shape before n) (body_some (shape (t ∷ ts) None) b e)
     ∙ ap (unless_refused n (unlabelled b)) none
 
-onward_unrefused : (before : List Stmt) (b : Body) → flow_of b ≡ Onward → is_misplaced_heading before b ≡ false → is_unbuilt b ≡ false → is_empty before ≡ false
+onward_unrefused : (before : List Stmt) (b : Body) → flow_of b ≡ Onward → is_misplaced_heading before b ≡ false → is_empty before ≡ false
     → first_fault before None b ≡ None
-onward_unrefused before b onward heading built filled = rw (onward, heading, built, filled) refl
+onward_unrefused before b onward heading filled = rw (onward, heading, filled) refl
 
 fini_unrefused : (before : List Stmt) → is_empty before ≡ false → open_macro before ≡ None → first_fault before None bodies.Fini ≡ None
 fini_unrefused before filled closed = rw (filled, closed) refl
@@ -157,22 +157,22 @@ read_on before last n (l ∷ ls) (b ∷ bs) all onward filled closed =
     let more = before ++ stmt n b ∷ [] in
     let ps = phrases_at (n + 1) (ls ++ last_line ∷ []) in
     program_behind before last n (phrase n l) ps (stmt n b)
-    (stated_by before n (tokens_of (said_on l)) b (read_as l b all.0).told (onward_unrefused before b onward.0 (onward.1 before) onward.2 filled))
+    (stated_by before n (tokens_of (said_on l)) b (read_as l b all.0).told (onward_unrefused before b onward.0 (onward.1 before) filled))
     ∙ ap (λ f. ends_with (ends_program f) more (program_from more last None ps)) onward.0
-    ∙ read_on more last (n + 1) ls bs all.1 onward.3 (filled_behind before (stmt n b)) (closed_behind before n b onward.0 closed)
+    ∙ read_on more last (n + 1) ls bs all.1 onward.2 (filled_behind before (stmt n b)) (closed_behind before n b onward.0 closed)
     ∙ ap whole (append_assoc before (stmt n b ∷ []) (stmts_at (n + 1) (bs ++ bodies.Fini ∷ [])))
 
 -- no loop is open, and no label is missing
 loops_closed : (n : ℕ) (bs : List Body) → AreOnward bs → loop_from None (stmts_at n (bs ++ bodies.Fini ∷ [])) ≡ None
 loops_closed n [] onward = refl
 loops_closed n (b ∷ bs) onward =
-    ap (λ f. loop_from (loop_behind None n f) (stmts_at (n + 1) (bs ++ bodies.Fini ∷ []))) onward.0 ∙ loops_closed (n + 1) bs onward.3
+    ap (λ f. loop_from (loop_behind None n f) (stmts_at (n + 1) (bs ++ bodies.Fini ∷ []))) onward.0 ∙ loops_closed (n + 1) bs onward.2
 
 none_missing : (all : List Stmt) (n : ℕ) (bs : List Body) → AreOnward bs → find (λ st. not (has_labels all st)) (stmts_at n (bs ++ bodies.Fini ∷ [])) ≡ None
 none_missing all n [] onward = refl
 none_missing all n (b ∷ bs) onward =
     ap (λ f. if not (list_all (is_label all) (jumps f)) then Some (stmt n b) else find (λ st. not (has_labels all st)) (stmts_at (n + 1) (bs ++ bodies.Fini ∷ []))) onward.0
-    ∙ none_missing all (n + 1) bs onward.3
+    ∙ none_missing all (n + 1) bs onward.2
 
 whole_is : (sts : List Stmt) → open_loop sts ≡ None → find (λ st. not (has_labels sts st)) sts ≡ None → whole sts ≡ Ok sts
 whole_is sts closed none = ap (unless_open sts) closed ∙ ap (λ o. unless_missing sts (line_of o)) none
@@ -199,7 +199,7 @@ straight_by flow rest e straight = rw e straight
 
 all_straight : (n : ℕ) (bs : List Body) → AreOnward bs → AreStraight (stmts_at n (bs ++ bodies.Fini ∷ []))
 all_straight n [] onward = refl
-all_straight n (b ∷ bs) onward = straight_by (flow_of b) (stmts_at (n + 1) (bs ++ bodies.Fini ∷ [])) onward.0 (all_straight (n + 1) bs onward.3)
+all_straight n (b ∷ bs) onward = straight_by (flow_of b) (stmts_at (n + 1) (bs ++ bodies.Fini ∷ [])) onward.0 (all_straight (n + 1) bs onward.2)
 
 in_time : (n : ℕ) → n ≤ 200000 → nat_lt most_steps n ≡ false
 in_time n few = grind (arith, nat_tests)

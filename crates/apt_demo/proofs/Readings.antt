@@ -26,7 +26,7 @@ use Rattle.apt_lexis.specs.Sentences.{said_on, goes_on}
 use Rattle.apt_expr.specs.Expressions.{expression}
 use Rattle.apt_shapes.specs.declared.table.Labelled.{Labelled}
 use Rattle.apt_shapes.specs.Shapes.{shape}
-use Rattle.apt_parse.specs.Statements.{is_misplaced_heading, is_unbuilt}
+use Rattle.apt_parse.specs.Statements.{is_misplaced_heading}
 use Rattle.apt_scalar.specs.Meanings.{Names}
 use Rattle.apt_deeds.specs.Deeds.{by_values, executed, deed_of}
 use Rattle.apt_lines.specs.Decimals.{pointed, signed_pointed}
@@ -198,7 +198,7 @@ AreDone (b ∷ bs) (d ∷ ds) = ((names : Names) → deed_of names [] b ≡ Ok d
 
 abbrev pub AreOnward : List Body → Type 0
 AreOnward [] = Unit {0}
-AreOnward (b ∷ bs) = (flow_of b ≡ Onward) × ((before : List Stmt) → is_misplaced_heading before b ≡ false) × (is_unbuilt b ≡ false) × AreOnward bs
+AreOnward (b ∷ bs) = (flow_of b ≡ Onward) × ((before : List Stmt) → is_misplaced_heading before b ≡ false) × AreOnward bs
 
 read_each : (ls : List (List ℕ)) (bs : List Body) → map read ls ≡ map (λ b. Some b) bs → AreRead ls bs
 read_each [] [] e = tt
@@ -220,7 +220,7 @@ done_both (b ∷ bs) cs (d ∷ ds) es p q = (p.0, p.1, done_both bs cs ds es p.2
 
 onward_both : (bs cs : List Body) → AreOnward bs → AreOnward cs → AreOnward (bs ++ cs)
 onward_both [] cs p q = q
-onward_both (b ∷ bs) cs p q = (p.0, p.1, p.2, onward_both bs cs p.3 q)
+onward_both (b ∷ bs) cs p q = (p.0, p.1, onward_both bs cs p.2 q)
 
 abbrev NoneEnds : List Deed → Type 0
 NoneEnds [] = Unit {0}
@@ -245,7 +245,7 @@ circle_done k few =
     (circle_none_ends (centre_x k) (centre_y k) (radius k) (clear_x k))
 
 circle_onward : (x y : ℤ) (r : ℕ) (clear : ℤ) → AreOnward (bodies_about x y r clear)
-circle_onward x y r clear = (refl, λ before. refl, refl, (refl, λ before. refl, refl, (refl, λ before. refl, refl, (refl, λ before. refl, refl, (refl, λ before. refl, refl, (refl, λ before. refl, refl, (refl, λ before. refl, refl, (refl, λ before. refl, refl, (refl, λ before. refl, refl, tt)))))))))
+circle_onward x y r clear = (refl, λ before. refl, (refl, λ before. refl, (refl, λ before. refl, (refl, λ before. refl, (refl, λ before. refl, (refl, λ before. refl, (refl, λ before. refl, (refl, λ before. refl, (refl, λ before. refl, tt)))))))))
 
 circles_read_from : (k m : ℕ) → k + m ≤ 800 → AreRead (lines_from k m) (bodies_from k m)
 circles_read_from k zero few = tt
@@ -281,7 +281,7 @@ unfolding deed_of executed by_values
 first_done = (λ names. refl, refl, (λ names. refl, refl, (λ names. refl, refl, (λ names. refl, refl, tt))))
 
 first_onward : AreOnward first_bodies
-first_onward = (refl, λ before. refl, refl, (refl, λ before. refl, refl, (refl, λ before. refl, refl, (refl, λ before. refl, refl, tt))))
+first_onward = (refl, λ before. refl, (refl, λ before. refl, (refl, λ before. refl, (refl, λ before. refl, tt))))
 
 pub last_read : read last_line ≡ Some bodies.Fini
 unfolding word_of shape expression

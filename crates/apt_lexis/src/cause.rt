@@ -31,8 +31,6 @@ pub enum PartCause {
     MacroOpen,
     /// A loop within a loop, an end of none, or one that is open at FINI.
     LoopOpen,
-    /// A shape that the compiler doesn't have yet, which is none today.
-    NotBuilt,
 }
 
 impl PartCause {
@@ -54,7 +52,6 @@ impl PartCause {
             PartCause::MacroTwice => "MacroTwice",
             PartCause::MacroOpen => "MacroOpen",
             PartCause::LoopOpen => "LoopOpen",
-            PartCause::NotBuilt => "NotBuilt",
         }
     }
 }

@@ -173,11 +173,12 @@ chosen_shown m =
     let words = shown_where m.changed (codes "WORDS CHANGED") refl in
     let mode = shown_where m.incremental (codes "MODE INC") refl in
     let zeros = shown_where m.short (codes "ZEROS DROPPED") refl in
-    shown_both _ _ (shown_both _ _ (shown_both _ _ words mode) zeros) (shown_where m.circles (codes "ARCS CIRCLES") refl)
+    let arcs = shown_where m.circles (codes "ARCS CIRCLES") refl in
+    shown_both _ _ (shown_both _ _ (shown_both _ _ (shown_both _ _ words mode) zeros) arcs) (shown_where m.cycles (codes "DRILL CYCLES") refl)
 
 lines_shown : (m : Machine) → IsMachine m → AreShown (table_lines m)
 lines_shown m is = (
-  version_shown (m.incremental || m.short || m.circles),
+  version_shown (m.incremental || m.short || m.circles || m.cycles),
   (
     code_shown m.code,
     (
@@ -209,28 +210,44 @@ version_again false lines = refl
 abbrev needed : Machine → Draft
 needed m = record blank_draft { code = Some m.code; seq = Some m.seq; feedmax = Some m.feedmax; spinmax = Some m.spinmax; toolmax = Some m.toolmax }
 
-abbrev chosen : Machine → Bool → Bool → Bool → Bool → Machine
-chosen m changed incremental short circles = record m { changed = changed; incremental = incremental; short = short; circles = circles }
+abbrev chosen : Machine → Bool → Bool → Bool → Bool → Bool → Machine
+chosen m changed incremental short circles cycles = record m { changed = changed; incremental = incremental; short = short; circles = circles; cycles = cycles }
 
 -- what is chosen is said last, or not at all
-chosen_again : (m : Machine) (changed incremental short circles : Bool)
-    → machine_from (version_for (incremental || short || circles)) 7 (needed m) (chosen_lines (chosen m changed incremental short circles)) ≡ Ok (chosen m changed incremental short circles)
-chosen_again m true true true true = refl
-chosen_again m true true true false = refl
-chosen_again m true true false true = refl
-chosen_again m true true false false = refl
-chosen_again m true false true true = refl
-chosen_again m true false true false = refl
-chosen_again m true false false true = refl
-chosen_again m true false false false = refl
-chosen_again m false true true true = refl
-chosen_again m false true true false = refl
-chosen_again m false true false true = refl
-chosen_again m false true false false = refl
-chosen_again m false false true true = refl
-chosen_again m false false true false = refl
-chosen_again m false false false true = refl
-chosen_again m false false false false = refl
+chosen_again : (m : Machine) (changed incremental short circles cycles : Bool)
+    → machine_from (version_for (incremental || short || circles || cycles)) 7 (needed m) (chosen_lines (chosen m changed incremental short circles cycles)) ≡ Ok (chosen m changed incremental short circles cycles)
+chosen_again m true true true true true = refl
+chosen_again m true true true true false = refl
+chosen_again m true true true false true = refl
+chosen_again m true true true false false = refl
+chosen_again m true true false true true = refl
+chosen_again m true true false true false = refl
+chosen_again m true true false false true = refl
+chosen_again m true true false false false = refl
+chosen_again m true false true true true = refl
+chosen_again m true false true true false = refl
+chosen_again m true false true false true = refl
+chosen_again m true false true false false = refl
+chosen_again m true false false true true = refl
+chosen_again m true false false true false = refl
+chosen_again m true false false false true = refl
+chosen_again m true false false false false = refl
+chosen_again m false true true true true = refl
+chosen_again m false true true true false = refl
+chosen_again m false true true false true = refl
+chosen_again m false true true false false = refl
+chosen_again m false true false true true = refl
+chosen_again m false true false true false = refl
+chosen_again m false true false false true = refl
+chosen_again m false true false false false = refl
+chosen_again m false false true true true = refl
+chosen_again m false false true true false = refl
+chosen_again m false false true false true = refl
+chosen_again m false false true false false = refl
+chosen_again m false false false true true = refl
+chosen_again m false false false true false = refl
+chosen_again m false false false false true = refl
+chosen_again m false false false false false = refl
 
 machine_again : (m : Machine) → IsMachine m → machine_of_lines (table_lines m) ≡ Ok m
 machine_again m is =
@@ -238,20 +255,20 @@ machine_again m is =
     let b = record a { seq = Some m.seq } in
     let c = record b { feedmax = Some m.feedmax } in
     let d = record c { spinmax = Some m.spinmax } in
-    let v = version_for (m.incremental || m.short || m.circles) in
+    let v = version_for (m.incremental || m.short || m.circles || m.cycles) in
     let code : List ℕ = codes "CODE " ++ code_word m.code in
     let seq : List ℕ = codes "SEQ " ++ decimal m.seq in
     let feed : List ℕ = codes "FEEDMAX " ++ decimal m.feedmax in
     let spindle : List ℕ = codes "SPINMAX " ++ decimal m.spinmax in
     let tool : List ℕ = codes "TOOLMAX " ++ decimal m.toolmax in
     let last = chosen_lines m in
-    version_again (m.incremental || m.short || m.circles) (code ∷ seq ∷ feed ∷ spindle ∷ tool ∷ last)
+    version_again (m.incremental || m.short || m.circles || m.cycles) (code ∷ seq ∷ feed ∷ spindle ∷ tool ∷ last)
     ∙ next_line v 2 blank_draft a code (seq ∷ feed ∷ spindle ∷ tool ∷ last) (code_line v blank_draft m.code refl)
     ∙ next_line v 3 a b seq (feed ∷ spindle ∷ tool ∷ last) (seq_line v a m.seq refl is.seq)
     ∙ next_line v 4 b c feed (spindle ∷ tool ∷ last) (feedmax_line v b m.feedmax refl is.least_feed is.feed)
     ∙ next_line v 5 c d spindle (tool ∷ last) (spinmax_line v c m.spinmax refl is.least_spindle is.spindle)
     ∙ next_line v 6 d (record d { toolmax = Some m.toolmax }) tool last (toolmax_line v d m.toolmax refl is.least_tool is.tool)
-    ∙ chosen_again m m.changed m.incremental m.short m.circles
+    ∙ chosen_again m m.changed m.incremental m.short m.circles m.cycles
 
 table_again : (m : Machine) → IsMachine m → table_of (spelled m) ≡ Ok m
 table_again m is = ap machine_of_lines (lines_again (table_lines m) (lines_shown m is)) ∙ machine_again m is

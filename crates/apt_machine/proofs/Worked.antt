@@ -9,7 +9,7 @@ use Rattle.apt_machine.specs.Tables.{table_of, fault}
 use Rattle.apt_machine.specs.Spelling.{spelled}
 
 abbrev largest : Bool → Bool → Bool → Machine
-largest changed incremental short = record { code = codings.Rs358; seq = 1; feedmax = 9999; spinmax = 9999; toolmax = 99; changed = changed; incremental = incremental; short = short; circles = false }
+largest changed incremental short = record { code = codings.Rs358; seq = 1; feedmax = 9999; spinmax = 9999; toolmax = 99; changed = changed; incremental = incremental; short = short; circles = false; cycles = false }
 
 -- the keys that must stand, between what stands in front of them and behind
 abbrev around : List ℕ → List ℕ → List ℕ
@@ -105,8 +105,18 @@ no_such_arcs = refl
 circles_in_first : table_of (codes "MACHINE 1\nARCS CIRCLES\n") ≡ Err (fault 2 causes.Key)
 circles_in_first = refl
 
-cycles : table_of (codes "MACHINE 2\nDRILL CYCLES\n") ≡ Err (fault 2 causes.Value)
+cycles : table_of (around (codes "MACHINE 2\nDRILL CYCLES\n") (codes "")) ≡ Ok (record (largest false false false) { cycles = true })
 cycles = refl
+
+cycles_spelled : spelled (record (largest false false false) { circles = true; cycles = true }) ≡ around (codes "MACHINE 2\n") (codes "ARCS CIRCLES\nDRILL CYCLES\n")
+unfolding digits
+cycles_spelled = refl
+
+no_such_drill : table_of (codes "MACHINE 2\nDRILL HOLES\n") ≡ Err (fault 2 causes.Value)
+no_such_drill = refl
+
+cycles_in_first : table_of (codes "MACHINE 1\nDRILL CYCLES\n") ≡ Err (fault 2 causes.Key)
+cycles_in_first = refl
 
 no_mode : table_of (codes "MACHINE 2\nMODE\n") ≡ Err (fault 2 causes.Value)
 no_mode = refl

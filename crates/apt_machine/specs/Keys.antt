@@ -76,10 +76,6 @@ choice first second value =
     else if is value second then Some true
     else None
 
--- the same, where only the first word is taken
-abbrev pub only : List ℕ → List ℕ → Option Bool
-only first value = if is value first then Some false else None
-
 -- what is said with one key more, where it can have the value
 abbrev pub with_value : Draft → Key → List ℕ → Option Draft
 with_value d keys.Code value = code_named value >>= λ code. Some (record d { code = Some code })
@@ -91,7 +87,7 @@ with_value d keys.Words value = choice (codes "ALL") (codes "CHANGED") value >>=
 with_value d keys.Mode value = choice (codes "ABS") (codes "INC") value >>= λ b. Some (record d { mode = Some b })
 with_value d keys.Zeros value = choice (codes "KEPT") (codes "DROPPED") value >>= λ b. Some (record d { zeros = Some b })
 with_value d keys.Arcs value = choice (codes "LINES") (codes "CIRCLES") value >>= λ b. Some (record d { arcs = Some b })
-with_value d keys.Drill value = only (codes "MOVES") value >>= λ b. Some (record d { drill = Some b })
+with_value d keys.Drill value = choice (codes "MOVES") (codes "CYCLES") value >>= λ b. Some (record d { drill = Some b })
 
 -- the machine, where CODE, SEQ, FEEDMAX, SPINMAX and TOOLMAX stand; a key left out of the others has its first value
 abbrev pub machine_of : Draft → Option Machine
@@ -111,4 +107,5 @@ machine_of d = do
     incremental = unwrap_or d.mode false;
     short = unwrap_or d.zeros false;
     circles = unwrap_or d.arcs false;
+    cycles = unwrap_or d.drill false;
   })

@@ -12,7 +12,7 @@ code_word codings.Rs358 = codes "RS358"
 
 -- the second version, where the machine needs a key of it
 abbrev pub version_line : Machine → List ℕ
-version_line m = if m.incremental || m.short || m.circles then codes "MACHINE 2" else codes "MACHINE 1"
+version_line m = if m.incremental || m.short || m.circles || m.cycles then codes "MACHINE 2" else codes "MACHINE 1"
 
 -- a line, where something holds
 abbrev pub line_where : Bool → List ℕ → List (List ℕ)
@@ -26,6 +26,7 @@ chosen_lines m =
     ++ line_where m.incremental (codes "MODE INC")
     ++ line_where m.short (codes "ZEROS DROPPED")
     ++ line_where m.circles (codes "ARCS CIRCLES")
+    ++ line_where m.cycles (codes "DRILL CYCLES")
 
 -- six lines, and those of the keys that can be left out
 abbrev pub table_lines : Machine → List (List ℕ)

@@ -75,7 +75,7 @@ impl Draft {
             Key::Mode => self.mode = Some(choice(b"ABS", b"INC", value)?),
             Key::Zeros => self.zeros = Some(choice(b"KEPT", b"DROPPED", value)?),
             Key::Arcs => self.arcs = Some(choice(b"LINES", b"CIRCLES", value)?),
-            Key::Drill => self.drill = Some(only(b"MOVES", value)?),
+            Key::Drill => self.drill = Some(choice(b"MOVES", b"CYCLES", value)?),
         }
         Some(self)
     }
@@ -95,6 +95,7 @@ impl Draft {
             incremental: self.mode.unwrap_or(false),
             short: self.zeros.unwrap_or(false),
             circles: self.arcs.unwrap_or(false),
+            cycles: self.drill.unwrap_or(false),
         })
     }
 }
@@ -120,11 +121,4 @@ fn choice(first: &[u8], second: &[u8], value: &[u8]) -> Option<bool>
     } else {
         None
     }
-}
-
-/// The same of one word alone.
-fn only(first: &[u8], value: &[u8]) -> Option<bool>
-    ensures { result ≡ keys.only first.now value.now }
-{
-    if value == first { Some(false) } else { None }
 }

@@ -100,9 +100,13 @@ as_position figures.Scalar = None
 abbrev pub place_in : Table → List ℕ → Option Position
 place_in table name = figure_named table name >>= as_position
 
+-- a place, by the units and the figures
+abbrev pub placed : Units → Table → Place → Option Position
+placed units table (places.Xyz x y z) = Some (position_by units x y z)
+placed units table (places.Named p) = place_in table p
+
 abbrev pub place_at : Situation → Place → Option Position
-place_at here (places.Xyz x y z) = Some (position_by here.settings.units x y z)
-place_at here (places.Named p) = place_in here.table p
+place_at here place = placed here.settings.units here.table place
 
 abbrev pub goes : Situation → Route → Option Effect
 goes here (routes.From place) = moves reaches.From (place_at here place)

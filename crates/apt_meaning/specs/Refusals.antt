@@ -2,6 +2,7 @@
 use Rattle.std.specs.Prelude.{ℕ, ℤ, pos, int_lt, int_le, ◌&&◌, not, Bool, true, false, is_some, is_none, List, [], ◌∷◌, ◌++◌, Option, Some, None, Result, Ok, Err}
 use Rattle.apt_num.specs.declared.Sign.{Sign}
 use Rattle.apt_words.specs.declared.Case.{Case}
+use Rattle.apt_words.specs.declared.Units.{Units}
 use Rattle.apt_words.specs.declared.Case.TheVariants as cases
 use Rattle.apt_words.specs.declared.Go.{Go}
 use Rattle.apt_words.specs.declared.Side.{Side}
@@ -172,9 +173,13 @@ contour_cases here side go drive how check n =
 abbrev pub godlta_cases : Situation → ℤ → ℤ → ℤ → List Row
 godlta_cases here x y z = (is_none here.position, cases.NoFrom) ∷ move_cases here.settings (here.position >>= λ p. Some (moved_by here.settings.units x y z p))
 
+-- what refuses a place, by the units and the figures
+abbrev pub placed_cases : Units → Table → Place → List Row → List Row
+placed_cases units table (places.Xyz x y z) more = position_cases (position_by units x y z) more
+placed_cases units table (places.Named p) more = point_cases table p more
+
 abbrev pub place_cases : Situation → Place → List Row → List Row
-place_cases here (places.Xyz x y z) more = position_cases (position_by here.settings.units x y z) more
-place_cases here (places.Named p) more = point_cases here.table p more
+place_cases here place more = placed_cases here.settings.units here.table place more
 
 -- ---- the table of what is asked
 

@@ -8,7 +8,7 @@ use Rattle.apt_words.specs.Composition.{flow_of}
 use Rattle.apt_words.specs.Flow.{macro_name}
 use Rattle.apt_lexis.specs.declared.cause.PartCause.{PartCause}
 use Rattle.apt_lexis.specs.declared.cause.PartCause.TheVariants as causes
-use Rattle.apt_parse.specs.Statements.{or_none, labels_of, macros_of, macro_behind, loop_behind, macro_from, loop_from, open_macro, open_loop, first_fault, is_misplaced, is_misplaced_heading, is_out_of_place, is_unbuilt, is_partno, lacks_partno, is_label_again, is_macro_again, is_in_macro, is_out_of_loop}
+use Rattle.apt_parse.specs.Statements.{or_none, labels_of, macros_of, macro_behind, loop_behind, macro_from, loop_from, open_macro, open_loop, first_fault, is_misplaced, is_misplaced_heading, is_out_of_place, is_partno, lacks_partno, is_label_again, is_macro_again, is_in_macro, is_out_of_loop}
 
 pub labels_behind : (sts : List Stmt) (st : Stmt) → labels_of (sts ++ st ∷ []) ≡ labels_of sts ++ or_none st.label
 labels_behind [] st = append-nil (or_none st.label)
@@ -29,35 +29,33 @@ loop_from_behind before [] st = refl
 loop_from_behind before (x ∷ xs) st = loop_from_behind (loop_behind before x.line (flow_of x.body)) xs st
 
 -- the first fault, by the test of each
-abbrev first_of : Bool → Bool → Bool → Bool → Bool → Bool → Bool → Option PartCause
-first_of a u b c d e f =
-    if a then Some causes.BadShape else if u then Some causes.NotBuilt
+abbrev first_of : Bool → Bool → Bool → Bool → Bool → Bool → Option PartCause
+first_of a b c d e f =
+    if a then Some causes.BadShape
     else if b then Some causes.NoPartno
     else if c then Some causes.LabelTwice else if d then Some causes.MacroTwice
     else if e then Some causes.MacroOpen else if f then Some causes.LoopOpen else None
 
 -- what the tests tell of a statement without fault
-record HasNoFault (misplaced unbuilt untitled label_again macro_again in_macro : Bool) : Type 0 where
+record HasNoFault (misplaced untitled label_again macro_again in_macro : Bool) : Type 0 where
   placed : misplaced ≡ false
-  built : unbuilt ≡ false
   titled : untitled ≡ false
   label : label_again ≡ false
   macro : macro_again ≡ false
   outside : in_macro ≡ false
 
-none_of : (a u b c d e f : Bool) → first_of a u b c d e f ≡ None → HasNoFault a u b c d e
-none_of true u b c d e f h = cc
-none_of false true b c d e f h = cc
-none_of false false true c d e f h = cc
-none_of false false false true d e f h = cc
-none_of false false false false true e f h = cc
-none_of false false false false false true f h = cc
-none_of false false false false false false f h = record { placed = refl; built = refl; titled = refl; label = refl; macro = refl; outside = refl }
+none_of : (a b c d e f : Bool) → first_of a b c d e f ≡ None → HasNoFault a b c d e
+none_of true b c d e f h = cc
+none_of false true c d e f h = cc
+none_of false false true d e f h = cc
+none_of false false false true e f h = cc
+none_of false false false false true f h = cc
+none_of false false false false false f h = record { placed = refl; titled = refl; label = refl; macro = refl; outside = refl }
 
 no_fault : (sts : List Stmt) (label : Option (List ℕ)) (b : Body) → first_fault sts label b ≡ None
-    → HasNoFault (is_misplaced sts b) (is_unbuilt b) (lacks_partno sts b) (is_label_again sts label) (is_macro_again sts (flow_of b)) (is_in_macro (is_some (open_macro sts)) (flow_of b))
+    → HasNoFault (is_misplaced sts b) (lacks_partno sts b) (is_label_again sts label) (is_macro_again sts (flow_of b)) (is_in_macro (is_some (open_macro sts)) (flow_of b))
 no_fault sts label b h =
-    none_of (is_misplaced sts b) (is_unbuilt b) (lacks_partno sts b) (is_label_again sts label) (is_macro_again sts (flow_of b))
+    none_of (is_misplaced sts b) (lacks_partno sts b) (is_label_again sts label) (is_macro_again sts (flow_of b))
     (is_in_macro (is_some (open_macro sts)) (flow_of b)) (is_out_of_loop (is_some (open_loop sts)) (flow_of b)) h
 
 pub no_label_again : (sts : List Stmt) (label : Option (List ℕ)) (b : Body) → first_fault sts label b ≡ None → is_label_again sts label ≡ false

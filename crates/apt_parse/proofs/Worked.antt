@@ -72,19 +72,22 @@ one_surface : program_of (codes "PARTNO\nGO/L1\nFINI\n") ≡
 unfolding shape expression word_of
 one_surface = refl
 
-a_pattern : fault (codes "PARTNO X\nA=PATERN/LINEAR,P,Q,4\nFINI\n") ≡ Some (2, causes.NotBuilt)
+a_pattern : program_of (codes "PARTNO X\nA=PATERN/LINEAR,P,Q,4\nFINI\n") ≡
+    Ok (record { line = 1; label = None; body = bodies.Partno (codes "X") }
+    ∷ record { line = 2; label = None; body = bodies.Patern (codes "A") (codes "P") (codes "Q") (Num (pos 4000000)) }
+    ∷ record { line = 3; label = None; body = bodies.Fini } ∷ [])
 unfolding shape expression word_of
 a_pattern = refl
 
-a_drilling_cycle : fault (codes "PARTNO X\nCYCLE/DRILL,.25,.1\nCYCLE/OFF\nFINI\n") ≡ Some (2, causes.NotBuilt)
+drilling_cycles : program_of (codes "PARTNO X\nCYCLE/DRILL,.25,.1\nCYCLE/OFF\nFINI\n") ≡
+    Ok (record { line = 1; label = None; body = bodies.Partno (codes "X") }
+    ∷ record { line = 2; label = None; body = bodies.CycleDrill (Num (pos 250000)) (Num (pos 100000)) }
+    ∷ record { line = 3; label = None; body = bodies.CycleOff }
+    ∷ record { line = 4; label = None; body = bodies.Fini } ∷ [])
 unfolding shape expression word_of
-a_drilling_cycle = refl
+drilling_cycles = refl
 
-no_cycle : fault (codes "PARTNO X\nCYCLE/OFF\nFINI\n") ≡ Some (2, causes.NotBuilt)
-unfolding shape expression word_of
-no_cycle = refl
-
-pattern_before_partno : fault (codes "A=PATERN/LINEAR,P,Q,4\nPARTNO X\nFINI\n") ≡ Some (1, causes.NotBuilt)
+pattern_before_partno : fault (codes "A=PATERN/LINEAR,P,Q,4\nPARTNO X\nFINI\n") ≡ Some (1, causes.NoPartno)
 unfolding shape expression word_of
 pattern_before_partno = refl
 

@@ -157,19 +157,11 @@ is_out_of_loop within (Jumps l) = false
 is_out_of_loop within (Branches e a b c) = false
 is_out_of_loop within ProgramEnds = false
 
--- patterns and cycles are read, but no step does what they say yet
-abbrev pub is_unbuilt : Body → Bool
-is_unbuilt (bodies.Patern n p q e) = true
-is_unbuilt (bodies.CycleDrill d c) = true
-is_unbuilt bodies.CycleOff = true
-is_unbuilt _ = false
-
 -- ---- the first fault of a statement
 
 abbrev pub first_fault : List Stmt → Option (List ℕ) → Body → Option PartCause
 first_fault before label body =
     if is_misplaced before body then Some causes.BadShape
-    else if is_unbuilt body then Some causes.NotBuilt
     else if lacks_partno before body then Some causes.NoPartno
     else if is_label_again before label then Some causes.LabelTwice
     else if is_macro_again before (flow_of body) then Some causes.MacroTwice

@@ -43,8 +43,6 @@ impl Read {
     {
         if self.is_misplaced(&said.body) {
             Some(PartCause::BadShape)
-        } else if is_unbuilt(&said.body) {
-            Some(PartCause::NotBuilt)
         } else if self.lacks_partno(&said.body) {
             Some(PartCause::NoPartno)
         } else if self.is_label_again(&said.label) {
@@ -174,15 +172,6 @@ fn loop_behind(before: Option<u32>, line: u32, body: &Body) -> Option<u32>
         Body::Loopnd => None,
         _ => before,
     }
-}
-
-fn is_unbuilt(body: &Body) -> bool
-    ensures { result ≡ statements.is_unbuilt body.now }
-{
-    matches!(
-        body,
-        Body::Patern(..) | Body::CycleDrill(..) | Body::CycleOff
-    )
 }
 
 fn is_partno(body: &Body) -> bool

@@ -1,4 +1,6 @@
 mod Worked
+mod Asking
+pub mod Undrilled
 pub mod Written
 mod Acting
 pub mod Filed

@@ -1,15 +1,18 @@
 -- What a text comes to keeps the promise.
-use Rattle.std.proofs.Common.{◌≡◌, ◌∙◌, ◌+◌, ◌≤◌, ℕ, false, arith, List, Option, Some, None, Result, Ok, Err, refl, sym, ap, subst}
+use Rattle.std.proofs.Common.{◌≡◌, ◌∙◌, ◌+◌, ◌≤◌, ℕ, false, arith, List, length, Option, Some, None, Result, Ok, Err, refl, sym, ap, subst}
 use Rattle.std.specs.Prelude.{IfOk}
 use Rattle.std.specs.Option.{option_or}
 use Rattle.std.proofs.lemmas.Int.{ints}
 use Rattle.apt_words.specs.declared.Refusal.{Refusal}
 use Rattle.apt_words.specs.declared.body.Stmt.{Stmt}
 use Rattle.apt_words.specs.declared.deed.Step.{Step}
-use Rattle.apt_words.specs.Sources.{AreStmts}
-use Rattle.apt_words.proofs.Titles.{HasTitle, titles_short}
+use Rattle.apt_words.specs.Sources.{AreStmts, AreExecuted}
+use Rattle.apt_words.proofs.Contours.{contours_few}
+use Rattle.apt_words.specs.Contours.{contours}
+use Rattle.apt_words.proofs.Titles.{HasTitle, title_lengths, titles_short}
 use Rattle.apt_parse.proofs.AllSources.{program_of-stmts}
 use Rattle.apt_parse.proofs.Titled.{program_of-titled}
+use Rattle.apt_scalar.specs.StepScalars.{AreScalars}
 use Rattle.apt_words.specs.Nesting.{AreNested}
 use Rattle.apt_words.specs.ProgramEnds.{StepsEnd}
 use Rattle.apt_parse.specs.Programs.{TextFault, program_of}
@@ -18,11 +21,22 @@ use Rattle.apt_unroll.specs.Trace.{Trace, IsTrace, trace_of}
 use Rattle.apt_unroll.proofs.Going.{has_trace}
 use Rattle.apt_unroll.proofs.Found.{trace_found, few_steps}
 use Rattle.apt_unroll.proofs.Titles.{steps_titled}
-use Rattle.apt_unroll.proofs.Steps.{are_scalars, are_executed, end_once}
+use Rattle.apt_unroll.proofs.Steps.{are_scalars, are_executed, are_numbered, end_once}
+use Rattle.apt_pattern.specs.Expansions.{nothing_drilled, expansion, Expands}
+use Rattle.apt_pattern.proofs.Passing.{trace_replaced, replaced_is}
+use Rattle.apt_pattern.proofs.Scaled.{plain_scalars}
+use Rattle.apt_pattern.proofs.Kept.{are_executed as plain_executed}
+use Rattle.apt_pattern.proofs.Ended.{plain_ends}
+use Rattle.apt_pattern.proofs.Few.{few_plain}
+use Rattle.apt_pattern.proofs.Contours.{contours_few as plain_contours}
+use Rattle.apt_pattern.proofs.Titled.{plain_titles}
+use Rattle.apt_pattern.specs.Holes.{AreDrilled}
+use Rattle.apt_pattern.proofs.Drilled.{are_drilled}
 use Rattle.apt_records.specs.declared.record.Record.{Record}
 use Rattle.apt_records.specs.Ranges.{vertex_count}
 use Rattle.apt_meaning.specs.Situations.{first_situation}
 use Rattle.apt_meaning.specs.Compiled.{first_refused, compilation, most_points}
+use Rattle.apt_meaning.specs.Records.{Follows}
 use Rattle.apt_meaning.proofs.Asked.{CutsLegally}
 use Rattle.apt_meaning.proofs.Walks.Kept.{first_situation-IsSituation}
 use Rattle.apt_meaning.proofs.Walks.Compiled.{compiled_follows, compiled_passes}
@@ -37,9 +51,12 @@ use Rattle.apt_post.specs.Plan.{nothing_pending}
 use Rattle.apt_post.proofs.Reaching.{plan_reaches}
 use Rattle.apt_post.proofs.Programs.{planned_program}
 use Rattle.apt_circular.proofs.Fitting.{plan_fits}
+use Rattle.apt_circular.specs.declared.ArcAct.TheVariants.{Plain}
+use Rattle.apt_tape.specs.Tapes.{asked_on}
+use Rattle.apt_part.proofs.Asking.{asks_plainly}
 use Rattle.apt_sweeps.proofs.Going.{plan_can}
 use Rattle.apt_sweeps.proofs.Machines.{arcs_belong}
-use Rattle.apt_part.specs.Compilation.{earliest_of, refusal_by, unless_refused, steps_or_fault, steps_of, Compiled, earlier, unless_fault, records_by, with_steps, or_fault, part_of}
+use Rattle.apt_part.specs.Compilation.{expanded, earliest_of, refusal_by, unless_refused, steps_or_fault, steps_of, Compiled, earlier, unless_fault, records_by, with_steps, or_fault, part_of}
 use Rattle.apt_part.specs.Promise.{Passes, Promise, AreSteps}
 use Rattle.apt_part.proofs.Filed.{compiled_file, file_fits, tape_fits}
 use Rattle.apt_part.proofs.Written.{compiled_written}
@@ -69,13 +86,17 @@ trace_is u steps same none =
     by_fault ∙ ap (λ (ss : List Step). record { steps = ss; fault = None }) (sym same)
 
 -- the trace of a text of which no step was refused
-passing : (machine : Machine) (text : List ℕ) (statements : List Stmt) (steps : List Step) → program_of text ≡ Ok statements → steps ≡ (trace_of statements).steps
-    → WerePassed machine (trace_of statements) → Passes machine text steps
+passing : (machine : Machine) (text : List ℕ) (statements : List Stmt) (steps : List Step) → program_of text ≡ Ok statements → steps ≡ (expanded statements).steps
+    → WerePassed machine (expanded statements) → Passes machine text steps
 passing machine text statements steps read same w =
-    let u = trace_of statements in record {
+    let t = trace_of statements in
+    let all = trace_replaced t w.fault w.fine in record {
       statements = statements;
       read = read;
-      unrolled = subst (IsTrace statements) (trace_is u steps same w.fault) (has_trace statements u (of_text (AreNested false) text statements read (program_of-nested text)) refl);
+      traced = t.steps;
+      unrolled = subst (IsTrace statements) (trace_is t t.steps refl all.none) (has_trace statements t (of_text (AreNested false) text statements read (program_of-nested text)) refl);
+      behind = all.behind;
+      expands = subst (λ (ss : List Step). Expands nothing_drilled t.steps ss all.behind) (sym same) all.expands;
       within = subst (λ (ss : List Step). limits machine ss ≡ None) (sym same) w.within;
       fine = subst (λ (ss : List Step). first_refused first_situation ss ≡ None) (sym same) w.fine;
     }
@@ -86,7 +107,7 @@ kept_steps steps now (Some refusal) h = absurd cc
 
 steps_read : (machine : Machine) (text : List ℕ) (r : Result (List Stmt) TextFault) (steps : List Step) → program_of text ≡ r → steps_or_fault machine r ≡ Ok (Ok steps) → Passes machine text steps
 steps_read machine text (Ok statements) steps read h =
-    let u = trace_of statements in
+    let u = expanded statements in
     let kept = kept_steps u.steps steps (refusal_by machine u) cc in
     passing machine text statements steps read kept.0 (were_passed machine u u.fault (limits machine u.steps) (first_refused first_situation u.steps) refl refl refl kept.1)
 steps_read machine text (Err fault) steps read h = absurd cc
@@ -97,15 +118,29 @@ steps_pass machine text steps h = steps_read machine text (program_of text) step
 -- and a text whose steps pass comes to them
 pub passes_comes : (machine : Machine) (text : List ℕ) (steps : List Step) → Passes machine text steps → steps_of machine text ≡ Ok (Ok steps)
 passes_comes machine text steps q =
-    let trace = trace_found q.statements (record { steps = steps; fault = None }) q.unrolled in
-    rw (q.read, sym trace, q.within, q.fine) refl
+    let trace = trace_found q.statements (record { steps = q.traced; fault = None }) q.unrolled in
+    rw (q.read, sym trace, replaced_is nothing_drilled q.traced steps q.behind None q.expands, q.within, q.fine) refl
+
+-- what holds of the plain steps of a trace holds of the steps that pass
+of_plain : (P : List Step → Type 0) {machine : Machine} {text : List ℕ} {steps : List Step} (q : Passes machine text steps) → P (expansion q.traced None).steps → P steps
+of_plain P {steps = steps} q holds = subst (λ (t : Trace). P t.steps) (replaced_is nothing_drilled q.traced steps q.behind None q.expands) holds
+
+trace_sources : {machine : Machine} {text : List ℕ} {steps : List Step} (q : Passes machine text steps) → AreExecuted q.traced
+trace_sources {text = text} q = are_executed q.statements (record { steps = q.traced; fault = None }) (of_text AreStmts text q.statements q.read (program_of-stmts text)) q.unrolled
+
+-- records that follow steps that pass have the holes of all that drill
+pub passes_drilled : {machine : Machine} {text : List ℕ} {steps : List Step} (q : Passes machine text steps) (written : List Record) → Follows steps written
+    → AreDrilled (asked_on machine) Plain q.traced written
+passes_drilled {machine = machine} {steps = steps} q written follow =
+    let numbers = are_numbered q.statements (record { steps = q.traced; fault = None }) q.unrolled in
+    are_drilled (asked_on machine) Plain q.traced steps q.behind written (asks_plainly machine) numbers q.expands follow
 
 are_steps : (machine : Machine) (text : List ℕ) (steps : List Step) → Passes machine text steps → AreSteps steps
 are_steps machine text steps q =
     let stmts = of_text AreStmts text q.statements q.read (program_of-stmts text) in
-    let trace : Trace = record { steps = steps; fault = None } in record {
-      scalars = are_scalars q.statements trace stmts q.unrolled;
-      sources = are_executed q.statements trace stmts q.unrolled;
+    let trace : Trace = record { steps = q.traced; fault = None } in record {
+      scalars = of_plain AreScalars q (plain_scalars q.traced None (are_scalars q.statements trace stmts q.unrolled));
+      sources = of_plain AreExecuted q (plain_executed nothing_drilled q.traced None (are_executed q.statements trace stmts q.unrolled));
     }
 
 pub passing_steps : (machine : Machine) (text : List ℕ) (steps : List Step) → steps_of machine text ≡ Ok (Ok steps) → AreSteps steps
@@ -116,8 +151,8 @@ passing_steps machine text steps h = are_steps machine text steps (steps_pass ma
 pub record WereRead (machine : Machine) (text : List ℕ) (p : Compiled) : Type 0 where
   pub statements : List Stmt
   pub read : program_of text ≡ Ok statements
-  pub steps : p.steps ≡ (trace_of statements).steps
-  pub recorded : records_by machine (trace_of statements) ≡ Ok p.records
+  pub steps : p.steps ≡ (expanded statements).steps
+  pub recorded : records_by machine (expanded statements) ≡ Ok p.records
 
 pub record WereWritten (machine : Machine) (u : Trace) (written : List Record) : Type 0 where
   pub fault : u.fault ≡ None
@@ -130,7 +165,7 @@ had_steps steps (Err refusal) p h = absurd cc
 
 were_read : (machine : Machine) (text : List ℕ) (r : Result (List Stmt) TextFault) (p : Compiled) → program_of text ≡ r → or_fault machine r ≡ Ok (Ok p) → WereRead machine text p
 were_read machine text (Ok statements) p read h =
-    let had = had_steps (trace_of statements).steps (records_by machine (trace_of statements)) p cc in
+    let had = had_steps (expanded statements).steps (records_by machine (expanded statements)) p cc in
     record { statements = statements; read = read; steps = had.0; recorded = had.1 }
 were_read machine text (Err fault) p read h = absurd cc
 
@@ -149,7 +184,7 @@ record IsDone (machine : Machine) (text : List ℕ) (p : Compiled) : Type 0 wher
 is_done : (machine : Machine) (text : List ℕ) (p : Compiled) → part_of machine text ≡ Ok (Ok p) → IsDone machine text p
 is_done machine text p h =
     let r = were_read machine text (program_of text) p refl h in
-    let u = trace_of r.statements in
+    let u = expanded r.statements in
     let w = were_written machine u u.fault (limits machine u.steps) (compilation first_situation u.steps) p.records refl refl refl r.recorded in record {
       passes = passing machine text r.statements p.steps r.read r.steps
           (record { fault = w.fault; within = w.within; fine = compiled_passes 0 first_situation u.steps p.records w.compiled });
@@ -170,11 +205,16 @@ promised machine text p is h =
     let are = are_steps machine text p.steps q.passes in
     let follow = compiled_follows 0 first_situation p.steps p.records first_situation-IsSituation are.scalars are.sources q.compiled in
     let legal = legal_contours p.steps p.records follow.behind follow.follows in
-    let ends : StepsEnd false p.steps = end_once q.passes.statements (record { steps = p.steps; fault = None }) q.passes.unrolled refl in
-    let trace : Trace = record { steps = p.steps; fault = None } in
+    let trace : Trace = record { steps = q.passes.traced; fault = None } in
+    let ends = plain_ends nothing_drilled false q.passes.traced p.steps q.passes.behind (end_once q.passes.statements trace q.passes.unrolled refl) q.passes.expands in
     let fit = compiled_fit 0 first_situation p.steps p.records (omega arith) are.sources q.compiled in
-    let few = few_steps q.passes.statements trace q.passes.unrolled in
+    let traced = few_steps q.passes.statements trace q.passes.unrolled in
+    let few : length p.steps ≤ 225000 = of_plain (λ ss. length ss ≤ 225000) q.passes (omega (arith, traced, few_plain q.passes.traced None)) in
+    let cuts : contours p.steps ≤ 200000 =
+    of_plain (λ ss. contours ss ≤ 200000) q.passes (omega (arith, traced, contours_few q.passes.traced, plain_contours nothing_drilled q.passes.traced None)) in
     let titled = steps_titled q.passes.statements trace (of_text HasTitle text q.passes.statements q.passes.read (program_of-titled text)) q.passes.unrolled in
+    let titles = of_plain (λ ss. title_lengths ss ≤ 256) q.passes
+    (omega (arith, titles_short q.passes.traced titled (trace_sources q.passes), plain_titles nothing_drilled q.passes.traced None)) in
     let follows = follows CutsLegally p.steps p.records follow.behind follow.follows in
     let once = ends_once CutsLegally false first_situation p.steps p.records follow.behind follow.follows ends in
     let can = compiled_written machine nothing_pending 0 first_situation p.steps p.records is (record { feed = refl; rapid = refl }) (record { most = omega (arith, ints) }) first_situation-IsSituation are.scalars are.sources q.passes.within q.compiled in record {
@@ -185,8 +225,8 @@ promised machine text p is h =
       numbers = (legal_in_numbers p.records).0 legal;
       own = own_contours p.steps p.records follow.behind follow.own;
       few = few_from_none (vertex_count p.records) fit.vertices;
-      file = compiled_file q.passes.statements p.steps p.records q.passes.unrolled are.scalars are.sources ends q.compiled;
-      file_fits = file_fits p.steps p.records fit few (titles_short p.steps titled are.sources);
+      file = compiled_file p.steps p.records few are.scalars are.sources ends q.compiled;
+      file_fits = file_fits p.steps p.records fit few cuts titles;
       reached = plan_reaches p.records;
       writable = record {
         program = planned_program p.records once can;
@@ -194,5 +234,6 @@ promised machine text p is h =
         goes = plan_can p.steps p.records q.passes.fine follows legal;
       };
       arcs = arcs_belong machine p.steps p.records q.passes.fine follows legal;
+      holes = passes_drilled q.passes p.records follows;
       tape_fits = tape_fits machine p.steps p.records q.compiled fit few;
     }

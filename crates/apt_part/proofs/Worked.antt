@@ -19,7 +19,7 @@ use Rattle.apt_shapes.specs.Shapes.{shape}
 use Rattle.apt_parse.specs.Programs.{TextFault, program_of}
 use Rattle.apt_deeds.specs.Deeds.{by_values, executed, deed_of}
 use Rattle.apt_unroll.specs.Actions.{action}
-use Rattle.apt_unroll.specs.Trace.{trace_from, trace_of}
+use Rattle.apt_unroll.specs.Trace.{trace_from}
 use Rattle.apt_plane.specs.declared.figures.Surface.{Surface}
 use Rattle.apt_plane.specs.declared.figures.Surface.TheVariants as figures
 use Rattle.apt_records.specs.declared.record.Note.{Note}
@@ -39,13 +39,13 @@ use Rattle.apt_machine.specs.declared.machine.Machine.{Machine}
 use Rattle.apt_control.specs.declared.Act.{Act}
 use Rattle.apt_control.specs.declared.Act.TheVariants as acts
 use Rattle.apt_post.specs.Plan.{plan, segments}
-use Rattle.apt_part.specs.Compilation.{Compiled, records_by, part_of}
+use Rattle.apt_part.specs.Compilation.{expanded, Compiled, records_by, part_of}
 
 abbrev largest : Machine
-largest = record { code = Rs358; seq = 1; feedmax = 9999; spinmax = 9999; toolmax = 99; changed = false; incremental = false; short = false; circles = false }
+largest = record { code = Rs358; seq = 1; feedmax = 9999; spinmax = 9999; toolmax = 99; changed = false; incremental = false; short = false; circles = false; cycles = false }
 
 abbrev recorded : Result (List Stmt) TextFault → Result (Result (List Record) Refusal) TextFault
-recorded (Ok statements) = Ok (records_by largest (trace_of statements))
+recorded (Ok statements) = Ok (records_by largest (expanded statements))
 recorded (Err fault) = Err fault
 
 -- the records of a text
@@ -325,11 +325,29 @@ no_length : records_of (codes "PARTNO A\nL1=LINE/1,2,1,2\nFINI\n") ≡
 unfolding root word_of expression shape by_values executed deed_of trace_from action motion_at start_up_at refused_form defined
 no_length = refl
 
--- patterns and cycles are not built
-pattern : records_of (codes "PARTNO A\nGOTO/1,2\nP=PATERN/LINEAR,Q,R,4\nFINI\n") ≡
-    Err (3, causes.NotBuilt)
+-- ---- holes
+
+-- over a point, down, and up
+abbrev hole : ℕ → ℕ → List Record
+hole n x =
+    note_at n notes.Rapid ++ reached n reaches.Goto (at x 0 10000) ++ reached n reaches.Goto (position_at (pos x) (pos 0) (neg_ℤ (pos 25000)))
+    ++ note_at n notes.Rapid ++ reached n reaches.Goto (at x 0 10000)
+
+-- the steps that name a pattern and set a cycle have no records, and a visit has those of each point
+two_holes : records_of (codes "PARTNO A\nP=POINT/0,0,0\nQ=POINT/1,0,0\nB=PATERN/LINEAR,P,Q,2\nFEDRAT/5\nFROM/2,0,1\nCYCLE/DRILL,.25,.1\nGOTO/B\nCYCLE/OFF\nGOTO/B\nFINI\n") ≡
+    written (titled ++ note_at 5 (notes.Feed (pos 50)) ++ reached 6 reaches.From (at 200000 0 100000) ++ hole 8 0 ++ hole 8 100000
+    ++ reached 10 reaches.Goto (at 0 0 0) ++ reached 10 reaches.Goto (at 100000 0 0) ++ note_at 11 notes.Fini)
 unfolding root word_of expression shape by_values executed deed_of trace_from action motion_at start_up_at refused_form defined
-pattern = refl
+two_holes = refl
+
+one_point : records_of (codes "PARTNO A\nP=POINT/0,0,0\nB=PATERN/LINEAR,P,P,1\nFINI\n") ≡ refused 3 cases.BadCount
+unfolding root word_of expression shape by_values executed deed_of trace_from action motion_at start_up_at refused_form defined
+one_point = refl
+
+-- a definition that its own case refuses comes before a cycle behind it
+no_line : records_of (codes "PARTNO A\nP=POINT/0,0,0\nL=LINE/P,P\nCYCLE/DRILL,0,0\nFINI\n") ≡ refused 3 cases.Degenerate
+unfolding root word_of expression shape by_values executed deed_of trace_from action motion_at start_up_at refused_form defined
+no_line = refl
 
 -- a fault of the text comes before all steps
 fault_first : records_of (codes "PARTNO A\nGOTO/1,2\nGOTO/1,2,3,4\nFINI\n") ≡

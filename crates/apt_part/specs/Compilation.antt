@@ -11,8 +11,13 @@ use Rattle.apt_meaning.specs.Situations.{first_situation}
 use Rattle.apt_meaning.specs.Compiled.{first_refused, compilation}
 use Rattle.apt_machine.specs.declared.machine.Machine.{Machine}
 use Rattle.apt_post.specs.Limits.{limits}
+use Rattle.apt_part.specs.Plain.{plain}
 
 -- ---- steps
+
+-- the plain steps of statements: those of their one trace, with others in the place of those that name patterns and drill
+abbrev pub expanded : List Stmt → Trace
+expanded statements = plain (trace_of statements)
 
 -- the earlier of two refused steps, the second where both are one step
 abbrev pub earliest : Option Refusal → Refusal → Refusal
@@ -34,7 +39,7 @@ unless_refused steps (Some refusal) = Err refusal
 
 -- the steps of statements, or the first that is refused
 abbrev pub steps_by : Machine → List Stmt → Result (List Step) Refusal
-steps_by m statements = unless_refused (trace_of statements).steps (refusal_by m (trace_of statements))
+steps_by m statements = unless_refused (expanded statements).steps (refusal_by m (expanded statements))
 
 abbrev pub steps_or_fault : Machine → Result (List Stmt) TextFault → Result (Result (List Step) Refusal) TextFault
 steps_or_fault m (Ok statements) = Ok (steps_by m statements)
@@ -75,7 +80,7 @@ with_steps steps (Err refusal) = Err refusal
 
 -- what statements come to, or the first refused step
 abbrev pub part_by : Machine → List Stmt → Result Compiled Refusal
-part_by m statements = with_steps (trace_of statements).steps (records_by m (trace_of statements))
+part_by m statements = with_steps (expanded statements).steps (records_by m (expanded statements))
 
 abbrev pub or_fault : Machine → Result (List Stmt) TextFault → Result (Result Compiled Refusal) TextFault
 or_fault m (Ok statements) = Ok (part_by m statements)

@@ -1,3 +1,4 @@
+pub mod Plain
 pub mod Compilation
 pub mod Answering
 pub mod Promise

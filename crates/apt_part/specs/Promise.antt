@@ -6,6 +6,8 @@ use Rattle.apt_words.specs.Sources.{AreExecuted}
 use Rattle.apt_parse.specs.Programs.{program_of}
 use Rattle.apt_scalar.specs.StepScalars.{AreScalars}
 use Rattle.apt_unroll.specs.Trace.{IsTrace}
+use Rattle.apt_pattern.specs.Expansions.{Drilling, nothing_drilled, Expands}
+use Rattle.apt_pattern.specs.Holes.{AreDrilled}
 use Rattle.apt_records.specs.Ranges.{vertex_count}
 use Rattle.apt_cldata.specs.Files.{file_of}
 use Rattle.apt_records.specs.Lists.{IsFile}
@@ -18,15 +20,19 @@ use Rattle.apt_meaning.specs.Cuts.{IsOwnCut}
 use Rattle.apt_machine.specs.declared.machine.Machine.{Machine}
 use Rattle.apt_post.specs.Limits.{limits}
 use Rattle.apt_post.specs.Plan.{plan, positions, points}
-use Rattle.apt_tape.specs.Tapes.{acts_on, tape_on, IsWritable}
+use Rattle.apt_circular.specs.declared.ArcAct.TheVariants.{Plain}
+use Rattle.apt_tape.specs.Tapes.{acts_on, asked_on, tape_on, IsWritable}
 use Rattle.apt_sweeps.specs.ArcSweeps.{sweeps_of, AreArcsOf}
 use Rattle.apt_part.specs.Compilation.{Compiled}
 
--- these are the steps of the one trace of a text, all of them, and no case and no limit of the machine refuses one
+-- these are the plain steps of the one trace of a text, all of them, and no case and no limit of the machine refuses one
 pub record Passes (machine : Machine) (text : List ℕ) (steps : List Step) : Type 0 where
   pub statements : List Stmt
   pub read : program_of text ≡ Ok statements
-  pub unrolled : IsTrace statements (record { steps = steps; fault = None })
+  pub traced : List Step
+  pub unrolled : IsTrace statements (record { steps = traced; fault = None })
+  pub behind : Drilling
+  pub expands : Expands nothing_drilled traced steps behind
   pub within : limits machine steps ≡ None
   pub fine : first_refused first_situation steps ≡ None
 
@@ -36,7 +42,7 @@ file_limit = 67108864
 
 -- the records follow the steps, and leave what holds behind them as they say; every contour that they say is legal, in numbers too, and its vertices are
 -- the compiler's own, not too many in all; they are those of a CL file. The acts that they ask for lead where they lead, and their tape can be written on each machine: each
--- arc among them is that of a leg of a contour, by which it stays. Neither the file nor the tape is too long to be read again
+-- arc among them is that of a leg of a contour, by which it stays, and each step that drills has its holes among them. Neither the file nor the tape is too long to be read again
 pub record Promise (machine : Machine) (text : List ℕ) (p : Compiled) : Type 0 where
   pub passes : Passes machine text p.steps
   pub compiled : compilation first_situation p.steps ≡ Ok p.records
@@ -50,6 +56,7 @@ pub record Promise (machine : Machine) (text : List ℕ) (p : Compiled) : Type 0
   pub reached : positions (plan p.records) ≡ points p.records
   pub writable : IsWritable p.records
   pub arcs : AreArcsOf (sweeps_of (acts_on machine p.records)) (contours_of p.records)
+  pub holes : AreDrilled (asked_on machine) Plain passes.traced p.records
   pub tape_fits : length (tape_on machine (acts_on machine p.records)) ≤ file_limit
 
 -- what the crates below know of steps

@@ -3,8 +3,8 @@
 ghost use Rattle.std.specs.Prelude.{◌≡◌, false, IfOk};
 ghost use Rattle.std.specs.Result.{result_map_both};
 ghost use Rattle.apt_words.specs.Nesting.{AreNested};
-ghost use Rattle.apt_words.specs.Sources.{AreStmts, AreExecuted};
-ghost use Rattle.apt_scalar.specs.StepScalars.{AreScalars};
+ghost use Rattle.apt_words.specs.Sources.{AreStmts, AreExecuted, AreNumbered};
+ghost use Rattle.apt_scalar.specs.StepScalars.{AreScalars, AreDrillScalars};
 ghost use Rattle.apt_meaning.specs.Situations.{first_situation};
 ghost use Rattle.apt_meaning.specs.Compiled.{compilation, first_refused};
 ghost use Rattle.apt_words.specs.Answers.{IsDue, IsDueAs};
@@ -16,12 +16,14 @@ ghost use Rattle.apt_post.specs.Limits as limiting;
 ghost use Rattle.apt_part.specs.Compilation as parts;
 ghost use Rattle.apt_part.specs.Answering.{IsPart};
 ghost use Rattle.apt_part.specs.Promise.{Passes, Promise, AreSteps};
+ghost use Rattle.apt_part.specs.Plain.{StandsFor};
 
 use apt_certify::Gate;
 use apt_lexis::{ParseError, PartCause};
 use apt_machine::Machine;
 use apt_motion::{RunError, ends, run};
 use apt_parse::parse;
+use apt_pattern::{are_undrilled, expand};
 use apt_post::limits;
 use apt_records::Record;
 use apt_unroll::{Unrolled, unroll};
@@ -31,7 +33,7 @@ use std::marker::Model;
 use std::snapshot::Snapshot;
 use std::thread::Threads;
 
-/// The records that the steps of a part program ask for. Clauses see the steps too, which go as soon as the records are
+/// The records that the plain steps of a part program ask for. Clauses see the steps too, which go as soon as the records are
 /// drawn.
 #[derive(Drop)]
 pub struct Part {
@@ -105,6 +107,7 @@ fn program_in(alloc: Global, text: Vec<u8>) -> Result<Program, ParseError>
 }
 
 /// The steps of statements, or the first that is refused.
+#[tactic(auto, using(crate::proofs::Undrilled::steps_stand))]
 fn steps_by(alloc: Global, program: Program, machine: &Machine) -> Result<Vec<Step>, RunError>
     requires sources { AreStmts program }
     requires nested { AreNested false program }
@@ -113,10 +116,39 @@ fn steps_by(alloc: Global, program: Program, machine: &Machine) -> Result<Vec<St
     let Ok(unrolled) = unroll(alloc, &program) else {
         return Err(RunError::NoMemory);
     };
-    let refused = refused_in(alloc, &unrolled.steps, machine)?;
-    match refused.or(unrolled.fault) {
-        None => Ok(unrolled.steps),
+    let plain = plain_steps(alloc, unrolled)?;
+    unrefused(alloc, plain, machine)
+}
+
+/// Plain steps of which neither their own cases nor the machine refuse one, or the first that is refused, else the fault
+/// behind them.
+fn unrefused(alloc: Global, plain: Unrolled, machine: &Machine) -> Result<Vec<Step>, RunError>
+    requires scalars { AreScalars plain.steps }
+    requires sources { AreExecuted plain.steps }
+    ensures { IsDueAs (λ steps. steps.items) refusal_in (parts.unless_refused plain.steps (parts.refusal_by machine.now plain)) result }
+{
+    let refused = refused_in(alloc, &plain.steps, machine)?;
+    match refused.or(plain.fault) {
+        None => Ok(plain.steps),
         Some(refusal) => Err(RunError::Refused(refusal)),
+    }
+}
+
+/// The plain steps of executed statements. Where none of these names a pattern or drills they are left as they are: what
+/// they come to is the same.
+fn plain_steps(alloc: Global, unrolled: Unrolled) -> Result<Unrolled, AllocError>
+    requires scalars { AreScalars unrolled.steps }
+    requires drills { AreDrillScalars unrolled.steps }
+    requires sources { AreExecuted unrolled.steps }
+    requires numbers { AreNumbered 1 unrolled.steps }
+    ensures stands { IfOk result (λ plain. StandsFor unrolled plain) }
+    ensures scalars { IfOk result (λ plain. AreScalars plain.steps) }
+    ensures sources { IfOk result (λ plain. AreExecuted plain.steps) }
+{
+    if are_undrilled(&unrolled.steps) {
+        Ok(unrolled)
+    } else {
+        expand(alloc, unrolled)
     }
 }
 
@@ -193,10 +225,26 @@ fn part_by<G: Gate>(
     };
     // The statements' memory is free for the records.
     drop(program);
+    let plain = plain_steps(alloc, unrolled)?;
+    recorded(rt, alloc, plain, machine, gate)
+}
+
+/// Plain steps with their records, or the first that is refused, else the fault behind them.
+fn recorded<G: Gate>(
+    rt: &(impl Threads + Sync),
+    alloc: Global,
+    plain: Unrolled,
+    machine: &Machine,
+    gate: &G,
+) -> Result<Part, RunError>
+    requires scalars { AreScalars plain.steps }
+    requires sources { AreExecuted plain.steps }
+    ensures { IsDue refusal_in (parts.with_steps plain.steps (parts.records_by machine.now plain)) result }
+{
     let Unrolled {
         steps: executed,
         fault,
-    } = unrolled;
+    } = plain;
     let steps = Snapshot::of(&executed);
     let records = records_of(rt, alloc, executed, machine, gate)?;
     match fault {

@@ -96,7 +96,7 @@ number_words_few true n = omega arith
 number_words_few false n = omega arith
 
 -- a move has the most: mode, motion, three coordinates and the feed
-act_few : (incremental : Bool) (held : Held) (act : Act) → all_longest (act_words incremental held act) ≤ 41
+pub act_few : (incremental : Bool) (held : Held) (act : Act) → all_longest (act_words incremental held act) ≤ 41
 act_few incremental held (acts.Units Inch) = omega arith
 act_few incremental held (acts.Units Mm) = omega arith
 act_few incremental held (acts.Spindle turns.Cw s) = omega arith

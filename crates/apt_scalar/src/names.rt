@@ -11,12 +11,13 @@ use indexmap::IndexMap;
 use std::alloc::{AllocError, Global};
 use std::marker::Model;
 
-/// The kinds of figures.
+/// The kinds of figures, and patterns of points, which count as figures in expressions and arguments.
 #[derive(Clone, Copy, PartialEq, Eq)]
 pub enum Kind {
     Point,
     Line,
     Circle,
+    Pattern,
 }
 
 /// What a name means: a scalar in millionths, or a figure.

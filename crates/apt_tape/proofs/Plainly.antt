@@ -1,5 +1,5 @@
 -- Plain acts among those with arcs: their tape, their run and their number.
-use Rattle.std.proofs.Common.{◌≡◌, ◌∙◌, arith, ℕ, ◌+◌, ◌≤◌, Bool, true, false, List, [], ◌∷◌, map, length, Result, Ok, Err, refl, ap, sym, subst}
+use Rattle.std.proofs.Common.{if◌then◌else◌, None, ◌≡◌, ◌∙◌, arith, ℕ, ◌+◌, ◌≤◌, Bool, true, false, List, [], ◌∷◌, map, length, Result, Ok, Err, refl, ap, sym, subst}
 use Rattle.std.proofs.lemmas.List.{length-map}
 use Rattle.apt_words.specs.Answers.{IsFault}
 use Rattle.apt_tapecode.specs.Tapecode.{byte_of}
@@ -26,6 +26,12 @@ use Rattle.apt_circular.specs.ArcsSaid.{arcs_of}
 use Rattle.apt_circular.proofs.ArcsSaid.{arcs_said}
 use Rattle.apt_circular.proofs.BlockByBlock.{plan_runs}
 use Rattle.apt_circular.proofs.Lengths.{fewer_acts}
+use Rattle.apt_circular.specs.Fits.{IsFitting}
+use Rattle.apt_circular.specs.Writable.{ArcsCan}
+use Rattle.apt_cycle.specs.CycleBlocks.{cycle_run}
+use Rattle.apt_cycle.specs.CycleTape.{cycle_tape}
+use Rattle.apt_cycle.specs.Plans.{plan_on}
+use Rattle.apt_cycle.proofs.Planned.{planned_runs, program_fits, plain_goes}
 use Rattle.apt_tape.specs.Tapes.{plainly, acts_on, plain_run, run_on, tape_on, IsWritable}
 
 -- ---- refusals
@@ -49,21 +55,47 @@ plain_tape m done = ap (λ blocks. map (byte_of m.code) (text_of m.short blocks)
 
 -- ---- by the machine
 
-pub plain_bytes : (m : Machine) (rs : List Record) → m.circles ≡ false → tape_bytes m (plan rs) ≡ tape_on m (acts_on m rs)
-plain_bytes m rs e =
+pub plain_bytes : (m : Machine) (rs : List Record) → m.cycles ≡ false → m.circles ≡ false → tape_bytes m (plan rs) ≡ tape_on m (acts_on m rs)
+plain_bytes m rs c e =
     let asked : acts_on m rs ≡ plainly (acts_of rs) = rw e refl in
-    ap (tape_bytes m) (plan_said rs) ∙ sym (ap (tape_on m) asked ∙ plain_tape m (acts_of rs))
+    rw c (ap (tape_bytes m) (plan_said rs) ∙ sym (ap (arc_tape m) asked ∙ plain_tape m (acts_of rs)))
 
-pub arc_bytes : (m : Machine) (rs : List Record) → m.circles ≡ true → arc_tape m (plan_arcs rs) ≡ tape_on m (acts_on m rs)
-arc_bytes m rs e =
+pub arc_bytes : (m : Machine) (rs : List Record) → m.cycles ≡ false → m.circles ≡ true → arc_tape m (plan_arcs rs) ≡ tape_on m (acts_on m rs)
+arc_bytes m rs c e =
     let asked : acts_on m rs ≡ arcs_of rs = rw e refl in
-    ap (arc_tape m) (arcs_said rs ∙ sym asked)
+    rw c (ap (arc_tape m) (arcs_said rs ∙ sym asked))
 
-pub plain_runs : (m : Machine) (rs : List Record) (tape : List ℕ) → m.circles ≡ false → control_run m.code tape ≡ Ok (plan rs) → run_on m tape ≡ Ok (acts_on m rs)
-plain_runs m rs tape e run = rw (e, run) (ap (λ (done : List Act). Ok (plainly done)) (plan_said rs))
+pub plain_runs : (m : Machine) (rs : List Record) (tape : List ℕ) → m.cycles ≡ false → m.circles ≡ false → control_run m.code tape ≡ Ok (plan rs) → run_on m tape ≡ Ok (acts_on m rs)
+plain_runs m rs tape c e run = rw (c, e, run) (ap (λ (done : List Act). Ok (plainly done)) (plan_said rs))
 
-pub arc_runs : (m : Machine) (rs : List Record) (tape : List ℕ) → m.circles ≡ true → arc_run m.code tape ≡ Ok (plan_arcs rs) → run_on m tape ≡ Ok (acts_on m rs)
-arc_runs m rs tape e run = rw (e, run) (ap Ok (arcs_said rs))
+pub arc_runs : (m : Machine) (rs : List Record) (tape : List ℕ) → m.cycles ≡ false → m.circles ≡ true → arc_run m.code tape ≡ Ok (plan_arcs rs) → run_on m tape ≡ Ok (acts_on m rs)
+arc_runs m rs tape c e run = rw (c, e, run) (ap Ok (arcs_said rs))
+
+-- a writer of holes goes by the plan with arcs where the machine cuts them, and else by the plain one
+planned_said : (m : Machine) (rs : List Record) → plan_on m.circles rs ≡ acts_on m rs
+planned_said m rs = by m.circles
+  where
+    by : (circles : Bool) → plan_on circles rs ≡ (if circles then arcs_of rs else plainly (acts_of rs))
+    by true = arcs_said rs
+    by false = ap plainly (plan_said rs)
+
+pub writable_fits : (circles : Bool) (rs : List Record) → IsWritable rs → IsFitting (plan_on circles rs)
+writable_fits true rs can = can.fits
+writable_fits false rs can = program_fits (plan rs) can.program
+
+pub writable_goes : (circles : Bool) (rs : List Record) → IsWritable rs → ArcsCan None (plan_on circles rs)
+writable_goes true rs can = can.goes
+writable_goes false rs can = plain_goes None (plan rs)
+
+where_true : (t : Bool) (a b : List ℕ) → t ≡ true → (if t then a else b) ≡ a
+where_true true a b e = refl
+where_true false a b e = cc
+
+pub hole_bytes : (m : Machine) (rs : List Record) → m.cycles ≡ true → cycle_tape m (plan_on m.circles rs) ≡ tape_on m (acts_on m rs)
+hole_bytes m rs c = ap (cycle_tape m) (planned_said m rs) ∙ sym (where_true m.cycles (cycle_tape m (acts_on m rs)) (arc_tape m (acts_on m rs)) c)
+
+pub hole_runs : (m : Machine) (rs : List Record) (tape : List ℕ) → m.cycles ≡ true → cycle_run m.circles m.code tape ≡ Ok (plan_on m.circles rs) → run_on m tape ≡ Ok (acts_on m rs)
+hole_runs m rs tape c run = rw (c, run) (ap Ok (planned_said m rs))
 
 pub plain_count : (m : Machine) (rs : List Record) → m.circles ≡ false → length (plan rs) ≡ length (acts_on m rs)
 plain_count m rs e = rw e (ap length (plan_said rs) ∙ sym (length-map (acts_of rs) Plain))
@@ -82,8 +114,10 @@ acts_few m rs = many m rs m.circles refl
 -- ---- where the acts are those of the program's own plan
 
 pub tape_runs_on : (m : Machine) (rs : List Record) → IsWritable rs → run_on m (tape_on m (acts_on m rs)) ≡ Ok (acts_on m rs)
-tape_runs_on m rs can = either m.circles refl
+tape_runs_on m rs can = either m.cycles m.circles refl refl
   where
-    either : (circles : Bool) → m.circles ≡ circles → run_on m (tape_on m (acts_on m rs)) ≡ Ok (acts_on m rs)
-    either true e = subst (λ tape. run_on m tape ≡ Ok (acts_on m rs)) (arc_bytes m rs e) (arc_runs m rs (arc_tape m (plan_arcs rs)) e (plan_runs m (plan_arcs rs) can.fits can.goes))
-    either false e = subst (λ tape. run_on m tape ≡ Ok (acts_on m rs)) (plain_bytes m rs e) (plain_runs m rs (tape_bytes m (plan rs)) e (tape_runs m (plan rs) can.program))
+    either : (cycles circles : Bool) → m.cycles ≡ cycles → m.circles ≡ circles → run_on m (tape_on m (acts_on m rs)) ≡ Ok (acts_on m rs)
+    either true circles c e =
+        subst (λ tape. run_on m tape ≡ Ok (acts_on m rs)) (hole_bytes m rs c) (hole_runs m rs (cycle_tape m (plan_on m.circles rs)) c (planned_runs m rs (writable_fits m.circles rs can) (writable_goes m.circles rs can)))
+    either false true c e = subst (λ tape. run_on m tape ≡ Ok (acts_on m rs)) (arc_bytes m rs c e) (arc_runs m rs (arc_tape m (plan_arcs rs)) c e (plan_runs m (plan_arcs rs) can.fits can.goes))
+    either false false c e = subst (λ tape. run_on m tape ≡ Ok (acts_on m rs)) (plain_bytes m rs c e) (plain_runs m rs (tape_bytes m (plan rs)) c e (tape_runs m (plan rs) can.program))

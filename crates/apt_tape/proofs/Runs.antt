@@ -1,5 +1,5 @@
 -- A run of a tape goes on piece by piece.
-use Rattle.std.proofs.Common.{◌∙◌, ℕ, Bool, List, ◌++◌, Ok, Err, ap, sym, subst}
+use Rattle.std.proofs.Common.{◌∙◌, ℕ, List, ◌++◌, Ok, Err, ap, sym, subst}
 use Rattle.std.proofs.lemmas.List.{map-append}
 use Rattle.apt_words.specs.Answers.{IsFault}
 use Rattle.apt_tapecode.specs.declared.Code.{Code}
@@ -14,7 +14,7 @@ use Rattle.apt_circular.specs.declared.ArcAct.{ArcAct}
 use Rattle.apt_circular.specs.declared.ArcAct.TheVariants.{Plain}
 use Rattle.apt_tape.specs.declared.reader.Reader.TheVariants as readers
 use Rattle.apt_tape.specs.declared.run.TapeRun.{TapeRun}
-use Rattle.apt_tape.specs.Tapes.{plainly, run_in}
+use Rattle.apt_tape.specs.Tapes.{Kind, plainly, run_in}
 use Rattle.apt_tape.specs.Runs.{kind_of, code_of, Stands, HasRun}
 
 -- plain acts are dropped
@@ -25,9 +25,9 @@ plain_behind dropped r now front behind stands =
     (stands.0 ++ r.acts, ap (λ (done : List ArcAct). done ++ plainly r.acts) stands.1 ∙ sym (map-append Plain stands.0 r.acts), behind stands.0 front stands.2)
 
 -- a piece is refused
-pub run_refused : {T : Type 0} (has : T → List ArcAct → Type 0) (circles : Bool) (code : Code) (front piece : List ℕ) (run : TapeRun T) (error : ControlError) → HasRun has circles code front (Ok run)
+pub run_refused : {T : Type 0} (has : T → List ArcAct → Type 0) (kind : Kind) (code : Code) (front piece : List ℕ) (run : TapeRun T) (error : ControlError) → HasRun has kind code front (Ok run)
     → ((acts : List ArcAct) (front more : List ℕ) → Stands acts run.reader front → IsFault fault_in (run_in (kind_of run.reader) (code_of run.reader) (front ++ piece ++ more)) error)
-    → HasRun has circles code (front ++ piece) (Err error)
-run_refused has circles code front piece run error so whole = λ more.
+    → HasRun has kind code (front ++ piece) (Err error)
+run_refused has kind code front piece run error so whole = λ more.
     subst (λ k. IsFault fault_in (run_in k code (front ++ piece ++ more)) error) so.0
     (subst (λ c. IsFault fault_in (run_in (kind_of run.reader) c (front ++ piece ++ more)) error) so.1 (whole so.2.0 front more so.2.2))

@@ -23,7 +23,7 @@ use Rattle.apt_tape.specs.Tapes.{acts_on, run_on, tape_on}
 
 -- without sequence numbers, with what changes alone, and without zeros in front
 abbrev machine : Bool → Machine
-machine circles = record { code = Rs358; seq = 0; feedmax = 9999; spinmax = 9999; toolmax = 99; changed = true; incremental = false; short = true; circles = circles }
+machine circles = record { code = Rs358; seq = 0; feedmax = 9999; spinmax = 9999; toolmax = 99; changed = true; incremental = false; short = true; circles = circles; cycles = false }
 
 abbrev at : ℤ → ℤ → Position
 at x y = record { xy = record { x = x; y = y }; z = pos 0 }
@@ -93,3 +93,52 @@ arc_is_foreign = refl
 -- a machine with arcs runs a tape without them, too
 lines_are_run : run_on (machine true) line_tape ≡ Ok vertex_by_vertex
 lines_are_run = refl
+
+-- ---- a hole
+
+-- the same machine with drill cycles
+abbrev drilling : Bool → Machine
+drilling circles = record (machine circles) { cycles = true }
+
+abbrev over : ℤ → Position
+over z = record { xy = record { x = pos 7; y = pos 0 }; z = z }
+
+abbrev hole : List Record
+hole =
+    records.Note (notes.Feed (pos 50)) ∷ records.Note notes.Rapid ∷ records.Point reaches.Goto (over (pos 10000)) ∷ records.Point reaches.Goto (over (negsuc 24999))
+    ∷ records.Note notes.Rapid ∷ records.Point reaches.Goto (over (pos 10000)) ∷ records.Note notes.Fini ∷ []
+
+abbrev three_moves : List ArcAct
+three_moves =
+    Plain (acts.Units Inch) ∷ Plain (acts.Rapid (pos 7) (pos 0) (pos 10000)) ∷ Plain (acts.Cut (pos 7) (pos 0) (negsuc 24999) (pos 50)) ∷ Plain (acts.Rapid (pos 7) (pos 0) (pos 10000))
+    ∷ Plain acts.End ∷ []
+
+-- the same acts on each machine
+asked_of_cycles : acts_on (drilling true) hole ≡ three_moves
+asked_of_cycles = refl
+
+asked_of_moves : acts_on (machine false) hole ≡ three_moves
+asked_of_moves = refl
+
+abbrev hole_tape : List ℕ
+hole_tape = bytes (codes "%\nG70G90G94\nG81X+7Y+0Z-25000R+10000F50\nG80\nM02\n")
+
+-- one block where there are drill cycles, and G80 behind it
+tape_of_cycles : tape_on (drilling false) three_moves ≡ hole_tape
+tape_of_cycles = refl
+
+tape_of_moves : tape_on (machine true) three_moves ≡ bytes (codes "%\nG70G90G94\nG00X+7Y+0Z+10000\nG01X+7Z-25000F50\nG00X+7Z+10000\nM02\n")
+tape_of_moves = refl
+
+runs_a_hole : run_on (drilling true) hole_tape ≡ Ok three_moves
+runs_a_hole = refl
+
+-- to a machine without drill cycles their code is foreign, and to one with them but without arcs that of an arc
+hole_is_foreign : run_on (machine true) hole_tape ≡ Err (fault 12 causes.Foreign)
+hole_is_foreign = refl
+
+arc_is_foreign_to_cycles : run_on (drilling false) arc_tape ≡ Err (fault 34 causes.Foreign)
+arc_is_foreign_to_cycles = refl
+
+arcs_beside_cycles : run_on (drilling true) arc_tape ≡ Ok in_one_arc
+arcs_beside_cycles = refl

@@ -16,3 +16,4 @@ left_of (plans.Arcs left) = left
 abbrev pub bytes_left : Left → List ℕ
 bytes_left (tapes.Plain left) = left
 bytes_left (tapes.Arcs left) = left
+bytes_left (tapes.Holes left) = left

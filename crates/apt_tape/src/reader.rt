@@ -3,12 +3,13 @@
 ghost use Rattle.std.specs.Prelude.{◌≡◌, ◌++◌, ◌+◌, ◌<◌, ◌^◌, true, false, List, ℕ, [], length, IfOk};
 ghost use Rattle.apt_circular.specs.declared.ArcAct.{ArcAct};
 ghost use Rattle.apt_control.specs.Pieces.{RefusesAs};
-ghost use Rattle.apt_tape.specs.Tapes.{run_in};
+ghost use Rattle.apt_tape.specs.Tapes.{OfMoves, WithArcs, WithHoles, kind_on, run_in};
 ghost use Rattle.apt_tape.specs.Runs.{kind_of, code_of, bytes_read, acts_in, Stands, IsTaken};
 
 use crate::Taker;
-use apt_circular::ArcReader;
-use apt_control::{ControlError, TapeReader};
+use apt_circular::{ArcHeld, ArcReader};
+use apt_control::{ControlError, Held, TapeReader};
+use apt_cycle::{CycleHeld, CycleReader};
 use apt_machine::Machine;
 use std::alloc::{AllocError, Global};
 
@@ -17,20 +18,26 @@ use std::alloc::{AllocError, Global};
 pub enum Reader {
     Plain(TapeReader),
     Arcs(ArcReader),
+    Holes { circles: bool, reader: CycleReader },
 }
 
 impl Reader {
     /// A reader of no bytes. It keeps the allocator, and takes no memory.
     pub fn new(alloc: Global, m: &Machine) -> Reader
-        ensures kind { kind_of result ≡ m.now.circles }
+        ensures kind { kind_of result ≡ kind_on m.now }
         ensures code { code_of result ≡ m.now.code }
         ensures count { bytes_read result ≡ 0 }
         ensures stands { Stands [] result [] }
     {
-        if m.circles {
-            Reader::Arcs(ArcReader::new(alloc, m.code))
+        if m.cycles {
+            Reader::Holes {
+                circles: m.circles,
+                reader: CycleReader::new(alloc, m.code, CycleHeld::new(m.circles)),
+            }
+        } else if m.circles {
+            Reader::Arcs(ArcReader::new(alloc, m.code, ArcHeld::new()))
         } else {
-            Reader::Plain(TapeReader::new(alloc, m.code))
+            Reader::Plain(TapeReader::new(alloc, m.code, Held::new()))
         }
     }
 
@@ -48,6 +55,10 @@ impl Reader {
         match self {
             Reader::Plain(reader) => Ok(Reader::Plain(reader.feed(piece)?)),
             Reader::Arcs(reader) => Ok(Reader::Arcs(reader.feed(piece)?)),
+            Reader::Holes { circles, reader } => {
+                let reader = reader.feed(piece)?;
+                Ok(Reader::Holes { circles, reader })
+            }
         }
     }
 
@@ -58,6 +69,7 @@ impl Reader {
         match self {
             Reader::Plain(reader) => taken.with(reader.acts()),
             Reader::Arcs(reader) => taken.with(reader.acts()),
+            Reader::Holes { reader, .. } => taken.with(reader.acts()),
         }
     }
 
@@ -71,6 +83,7 @@ impl Reader {
         match self {
             Reader::Plain(reader) => reader.drop_acts(),
             Reader::Arcs(reader) => reader.drop_acts(),
+            Reader::Holes { reader, .. } => reader.drop_acts(),
         }
     }
 
@@ -82,12 +95,13 @@ impl Reader {
         match self {
             Reader::Plain(reader) => rest_of_plain(reader, taken),
             Reader::Arcs(reader) => rest_of_arcs(reader, taken),
+            Reader::Holes { circles, reader } => rest_of_holes(circles, reader, taken),
         }
     }
 }
 
 fn rest_of_plain<T: Taker>(reader: TapeReader, taken: T) -> Result<T, ControlError>
-    ensures { (none : T) (before : List ArcAct) (tape : List ℕ) → T.has none taken before → Stands before (Reader.Plain reader) tape → IsTaken (T.has none) (run_in false reader.code tape) result }
+    ensures { (none : T) (before : List ArcAct) (tape : List ℕ) → T.has none taken before → Stands before (Reader.Plain reader) tape → IsTaken (T.has none) (run_in OfMoves reader.code tape) result }
 {
     let rest = reader.finish()?;
     let taken = taken.with(&rest)?;
@@ -95,7 +109,15 @@ fn rest_of_plain<T: Taker>(reader: TapeReader, taken: T) -> Result<T, ControlErr
 }
 
 fn rest_of_arcs<T: Taker>(reader: ArcReader, taken: T) -> Result<T, ControlError>
-    ensures { (none : T) (before : List ArcAct) (tape : List ℕ) → T.has none taken before → Stands before (Reader.Arcs reader) tape → IsTaken (T.has none) (run_in true reader.code tape) result }
+    ensures { (none : T) (before : List ArcAct) (tape : List ℕ) → T.has none taken before → Stands before (Reader.Arcs reader) tape → IsTaken (T.has none) (run_in WithArcs reader.code tape) result }
+{
+    let rest = reader.finish()?;
+    let taken = taken.with(&rest)?;
+    Ok(taken)
+}
+
+fn rest_of_holes<T: Taker>(circles: bool, reader: CycleReader, taken: T) -> Result<T, ControlError>
+    ensures { (none : T) (before : List ArcAct) (tape : List ℕ) → T.has none taken before → Stands before (Reader.Holes circles reader) tape → IsTaken (T.has none) (run_in (WithHoles circles) reader.code tape) result }
 {
     let rest = reader.finish()?;
     let taken = taken.with(&rest)?;

@@ -1,9 +1,9 @@
 //! The run of a tape on a machine, of whose acts something is taken while it is read.
 
-ghost use Rattle.std.specs.Prelude.{◌≡◌, ◌++◌, ◌+◌, ◌<◌, ◌^◌, List, ℕ, Bool, [], length, map, Ok, IfOk};
+ghost use Rattle.std.specs.Prelude.{◌≡◌, ◌++◌, ◌+◌, ◌<◌, ◌^◌, List, ℕ, [], length, map, Ok, IfOk};
 ghost use Rattle.apt_tapecode.specs.declared.Code.{Code};
 ghost use Rattle.apt_circular.specs.declared.ArcAct.{ArcAct};
-ghost use Rattle.apt_tape.specs.Tapes.{run_in};
+ghost use Rattle.apt_tape.specs.Tapes.{Kind, kind_on, run_in};
 ghost use Rattle.apt_tape.specs.Runs.{kind_of, code_of, bytes_read, HasRun, IsTaken};
 
 use crate::{Reader, TapeAct};
@@ -33,10 +33,10 @@ impl<T: Taker> TapeRun<T> {
     pub fn new(alloc: Global, m: &Machine, none: T) -> TapeRun<T>
         requires { T.has none none [] }
         ensures taken { result.taken ≡ none }
-        ensures kind { kind_of result.reader ≡ m.now.circles }
+        ensures kind { kind_of result.reader ≡ kind_on m.now }
         ensures code { code_of result.reader ≡ m.now.code }
         ensures count { bytes_read result.reader ≡ 0 }
-        ensures run { HasRun (T.has none) m.now.circles m.now.code [] (Ok result) }
+        ensures run { HasRun (T.has none) (kind_on m.now) m.now.code [] (Ok result) }
     {
         TapeRun {
             reader: Reader::new(alloc, m),
@@ -47,7 +47,7 @@ impl<T: Taker> TapeRun<T> {
     /// Goes on with a piece, and takes of its acts.
     pub fn feed(self, piece: &[u8]) -> Result<TapeRun<T>, ControlError>
         requires { bytes_read self.reader + length piece.now < 2 ^ 63 }
-        ensures run { (none : T) (circles : Bool) (code : Code) (front : List ℕ) → HasRun (T.has none) circles code front (Ok self) → HasRun (T.has none) circles code (front ++ piece.now) result }
+        ensures run { (none : T) (kind : Kind) (code : Code) (front : List ℕ) → HasRun (T.has none) kind code front (Ok self) → HasRun (T.has none) kind code (front ++ piece.now) result }
         ensures count { IfOk result (λ run. bytes_read run.reader ≡ bytes_read self.reader + length piece.now) }
     {
         let TapeRun { reader, taken } = self;
@@ -59,7 +59,7 @@ impl<T: Taker> TapeRun<T> {
 
     /// What was taken of a tape that has come to its end.
     pub fn finish(self) -> Result<T, ControlError>
-        ensures { (none : T) (circles : Bool) (code : Code) (tape : List ℕ) → HasRun (T.has none) circles code tape (Ok self) → IsTaken (T.has none) (run_in circles code tape) result }
+        ensures { (none : T) (kind : Kind) (code : Code) (tape : List ℕ) → HasRun (T.has none) kind code tape (Ok self) → IsTaken (T.has none) (run_in kind code tape) result }
     {
         let TapeRun { reader, taken } = self;
         reader.finish_into(taken)

@@ -4,6 +4,7 @@ ghost use Rattle.std.specs.Prelude.{◌≡◌, ◌<◌, ◌++◌, [], true, fals
 ghost use Rattle.apt_tape.specs.Tapes.{IsWritable, acts_on, run_on, tape_on};
 
 use apt_circular::ArcBytes;
+use apt_cycle::CycleBytes;
 use apt_machine::Machine;
 use apt_post::{Piece, TapeBytes};
 use apt_records::Record;
@@ -16,11 +17,12 @@ pub struct Tape<'a> {
     left: Left<'a>,
 }
 
-/// What is left of a tape of either kind.
+/// What is left of a tape of each kind.
 #[derive(Drop)]
 enum Left<'a> {
     Plain(TapeBytes<'a>),
     Arcs(ArcBytes<'a>),
+    Holes(CycleBytes<'a>),
 }
 
 impl<'a> Model for Tape<'a> {
@@ -34,13 +36,17 @@ impl<'a> Model for Tape<'a> {
 
 impl<'a> Tape<'a> {
     /// The bytes of the tape of the acts that records ask for. A control of the machine runs them to just these acts.
-    #[tactic(auto, using(crate::proofs::Plainly::plain_bytes, crate::proofs::Plainly::plain_runs, crate::proofs::Plainly::arc_bytes, crate::proofs::Plainly::arc_runs))]
+    #[tactic(auto, using(crate::proofs::Plainly::plain_bytes, crate::proofs::Plainly::plain_runs, crate::proofs::Plainly::arc_bytes, crate::proofs::Plainly::arc_runs, crate::proofs::Plainly::hole_bytes, crate::proofs::Plainly::hole_runs, crate::proofs::Plainly::writable_fits, crate::proofs::Plainly::writable_goes))]
     pub fn of(records: &'a [Record], m: &Machine) -> Tape<'a>
         requires { IsWritable records.now }
         ensures bytes { result ≡ tape_on m.now (acts_on m.now records.now) }
         ensures run { run_on m.now result ≡ Ok (acts_on m.now records.now) }
     {
-        if m.circles {
+        if m.cycles {
+            Tape {
+                left: Left::Holes(CycleBytes::of(records, m)),
+            }
+        } else if m.circles {
             Tape {
                 left: Left::Arcs(ArcBytes::of(records, m)),
             }
@@ -61,6 +67,7 @@ impl<'a> Tape<'a> {
         match &mut self.left {
             Left::Plain(tape) => tape.take_piece(piece),
             Left::Arcs(tape) => tape.take_piece(piece),
+            Left::Holes(tape) => tape.take_piece(piece),
         }
     }
 }

@@ -1,6 +1,6 @@
 //! A half circle as one block: the tape of a machine that cuts arcs, and the plan of its records.
 
-use apt_circular::{ArcAct, ArcReader, plan_arcs};
+use apt_circular::{ArcAct, ArcHeld, ArcReader, plan_arcs};
 use apt_control::ControlError;
 use apt_plane::{Circ, Pt, Surface};
 use apt_records::{Note, Position, Reach, Record, Vertices};
@@ -28,7 +28,9 @@ fn punched(alloc: Global, text: &str) -> Result<Vec<u8>, AllocError> {
 /// The acts to which a control that cuts arcs runs a tape.
 fn run(alloc: Global, text: &str) -> Result<Vec<ArcAct>, ControlError> {
     let tape = punched(alloc, text)?;
-    ArcReader::new(alloc, Code::Rs358).feed(&tape)?.finish()
+    ArcReader::new(alloc, Code::Rs358, ArcHeld::new())
+        .feed(&tape)?
+        .finish()
 }
 
 #[test]

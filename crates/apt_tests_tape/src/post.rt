@@ -21,6 +21,7 @@ fn machine(code: Code, seq: u16) -> Machine {
         incremental: false,
         short: false,
         circles: false,
+        cycles: false,
     }
 }
 

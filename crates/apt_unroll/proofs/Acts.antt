@@ -6,6 +6,8 @@ use Rattle.apt_words.specs.Chains.{◌>>=◌}
 use Rattle.apt_words.specs.Composition.{flow_of, is_fini}
 use Rattle.apt_words.specs.Flow.{Flow, Onward, MacroBegins, MacroEnds, Calls, LoopBegins, LoopEnds, Jumps, Branches, ProgramEnds, ends_program}
 use Rattle.apt_words.specs.ProgramEnds.{is_ended}
+use Rattle.apt_words.specs.Sources.{DeedHasText}
+use Rattle.apt_words.proofs.Titles.{DeedIsUntitled}
 use Rattle.apt_words.specs.declared.Case.{Case}
 use Rattle.apt_words.specs.declared.Case.TheVariants as cases
 use Rattle.apt_words.specs.declared.body.Body.{Body}
@@ -15,6 +17,7 @@ use Rattle.apt_words.specs.declared.deed.Deed.TheVariants as deeds
 use Rattle.apt_scalar.specs.Meanings.{Parameters}
 use Rattle.apt_scalar.specs.Evaluation.{value_of}
 use Rattle.apt_scalar.specs.Scalars.{IsScalar}
+use Rattle.apt_scalar.specs.StepScalars.{HasScalars, HasDrillScalars}
 use Rattle.apt_scalar.proofs.Ranges.{value_of-scalar}
 use Rattle.apt_unroll.specs.declared.numbers.Naming.TheVariants as namings
 use Rattle.apt_deeds.specs.Deeds.{deed_of}
@@ -22,7 +25,7 @@ use Rattle.apt_unroll.specs.Places.{place_of, target}
 use Rattle.apt_unroll.specs.Calls.{Actual, bindings}
 use Rattle.apt_unroll.specs.Stages.{Call, Stage, parameters}
 use Rattle.apt_unroll.specs.Actions.{Action, go_on, jump_to, label_by, most_calls, enter, formal_of, call, return, action, most_steps, IsActed, step_of}
-use Rattle.apt_deeds.proofs.Suits.{Any, any, Suits, deed_of-suits}
+use Rattle.apt_deeds.proofs.Suits.{Any, any, is_end, Suits, deed_of-suits}
 
 -- ---- what holds of an action, by its form
 
@@ -75,11 +78,12 @@ Acts ended body (Err case) = Unit {0}
 Acts ended body (Ok (deed, None)) = Suits body deed × (is_fini body ≡ true)
 Acts ended body (Ok (deed, Some next)) = Suits body deed × (is_fini body ≡ false) × (next.ended ≡ is_ended ended deed)
 
-plain : {A : Type 0} → A → Unit {0}
-plain _ = tt
-
 ends_by : (body : Body) (flow : Flow) (last : Bool) → flow_of body ≡ flow → ends_program flow ≡ last → is_fini body ≡ last
 ends_by body flow last e is = ap ends_program e ∙ is
+
+-- a statement that only says where the run goes on
+sent : (body : Body) (deed : Deed) → HasScalars deed → HasDrillScalars deed → is_fini body ≡ is_end deed → DeedHasText deed → DeedIsUntitled deed → Suits body deed
+sent body deed scalars drills last text untitled = record { scalars = scalars; drills = drills; ends = sym last; text = λ _. text; untitled = λ _. untitled }
 
 pub acts : (sts : List Stmt) (s : Stage) (i : ℕ) (body : Body) (flow : Flow) → flow_of body ≡ flow → Acts s.ended body (action sts s i body flow)
 unfolding action
@@ -89,20 +93,20 @@ acts sts s i body Onward e =
 acts sts s i body (MacroBegins m ps) e = tt
 acts sts s i body MacroEnds e =
     let last = ends_by body MacroEnds false e refl in
-    by_call (Acts s.ended body) s s.calls (λ case. tt) (λ c more is. ((tt, sym last, plain, plain), last, sym (or-false s.ended)))
+    by_call (Acts s.ended body) s s.calls (λ case. tt) (λ c more is. (sent body deeds.Termac tt tt last tt tt, last, sym (or-false s.ended)))
 acts sts s i body (Calls m actual) e =
     let last = ends_by body (Calls m actual) false e refl in
-    by_macro (Acts s.ended body) sts s i actual (place_of namings.Macros sts m) (λ case. tt) (λ k bound is. ((tt, sym last, plain, plain), last, sym (or-false s.ended)))
-acts sts s i body LoopBegins e = let last = ends_by body LoopBegins false e refl in ((tt, sym last, plain, plain), last, refl)
-acts sts s i body LoopEnds e = let last = ends_by body LoopEnds false e refl in ((tt, sym last, plain, plain), last, refl)
+    by_macro (Acts s.ended body) sts s i actual (place_of namings.Macros sts m) (λ case. tt) (λ k bound is. (sent body deeds.Call tt tt last tt tt, last, sym (or-false s.ended)))
+acts sts s i body LoopBegins e = let last = ends_by body LoopBegins false e refl in (sent body deeds.Loopst tt tt last tt tt, last, refl)
+acts sts s i body LoopEnds e = let last = ends_by body LoopEnds false e refl in (sent body deeds.Loopnd tt tt last tt tt, last, refl)
 acts sts s i body (Jumps l) e =
     let last = ends_by body (Jumps l) false e refl in
-    by_target (Acts s.ended body) s deeds.Jumpto (target sts i l) (λ case. tt) (λ j is. ((tt, sym last, plain, plain), last, sym (or-false s.ended)))
+    by_target (Acts s.ended body) s deeds.Jumpto (target sts i l) (λ case. tt) (λ j is. (sent body deeds.Jumpto tt tt last tt tt, last, sym (or-false s.ended)))
 acts sts s i body (Branches v a b c) e =
     let last = ends_by body (Branches v a b c) false e refl in
     by_result (Acts s.ended body) IsScalar (value_of s.names (parameters s.calls) v) _ (value_of-scalar s.names (parameters s.calls) v) (λ case. tt)
-    (λ v h. by_target (Acts s.ended body) s deeds.If (target sts i (label_by v a b c)) (λ case. tt) (λ j is. ((tt, sym last, plain, plain), last, sym (or-false s.ended))))
-acts sts s i body ProgramEnds e = let last = ends_by body ProgramEnds true e refl in ((tt, sym last, plain, plain), last)
+    (λ v h. by_target (Acts s.ended body) s deeds.If (target sts i (label_by v a b c)) (λ case. tt) (λ j is. (sent body deeds.If tt tt last tt tt, last, sym (or-false s.ended))))
+acts sts s i body ProgramEnds e = let last = ends_by body ProgramEnds true e refl in (sent body deeds.Fini tt tt last tt tt, last)
 
 pub step_acts : (sts : List Stmt) (n : ℕ) (s : Stage) (i : ℕ) (st : Stmt) → Acts s.ended st.body (step_of sts n s i st)
 step_acts sts n s i st = by_tests (Acts s.ended st.body) sts n s i st (λ case. tt) (λ _ _. acts sts s i st.body (flow_of st.body) refl)

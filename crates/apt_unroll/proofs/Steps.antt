@@ -3,14 +3,14 @@ use Rattle.std.proofs.Common.{◌≡◌, ℕ, zero, suc, ◌+◌, ◌≤◌, ◌
 use Rattle.std.specs.Prelude.{if◌then◌else◌}
 use Rattle.apt_words.specs.Composition.{flow_of, is_fini}
 use Rattle.apt_words.specs.ProgramEnds.{is_ended, StepsEnd}
-use Rattle.apt_words.specs.Sources.{IsCount, IsStmt, AreStmts, IsExecuted, AreExecuted}
+use Rattle.apt_words.specs.Sources.{IsCount, IsStmt, AreStmts, IsExecuted, AreExecuted, AreNumbered}
 use Rattle.apt_words.specs.declared.Refusal.{Refusal}
 use Rattle.apt_words.specs.declared.body.Body.{Body}
 use Rattle.apt_words.specs.declared.body.Stmt.{Stmt}
 use Rattle.apt_words.specs.declared.deed.Deed.{Deed}
 use Rattle.apt_words.specs.declared.deed.Deed.TheVariants as deeds
 use Rattle.apt_words.specs.declared.deed.Step.{Step}
-use Rattle.apt_scalar.specs.StepScalars.{HasScalars, AreScalars}
+use Rattle.apt_scalar.specs.StepScalars.{HasScalars, AreScalars, HasDrillScalars, AreDrillScalars}
 use Rattle.apt_unroll.specs.Places.{begins_macro, ends_macro, behind_macros, executed_from}
 use Rattle.apt_unroll.specs.Stages.{Stage, first_stage}
 use Rattle.apt_unroll.specs.Actions.{Action, action, step_of}
@@ -62,6 +62,7 @@ stmt_at (x ∷ sts) (suc i) st are h = stmt_at sts i st are.1 h
 
 record IsGood (step : Step) : Type 0 where
   scalars : HasScalars step.deed
+  drills : HasDrillScalars step.deed
   executed : IsExecuted step
 
 pub suits : (ended : Bool) (body : Body) (deed : Deed) (next : Option Stage) → Acts ended body (Ok (deed, next)) → Suits body deed
@@ -75,11 +76,12 @@ done_good sts n s step next stmts h done =
     let st = stmt_at sts m.i m.st stmts m.there in
     let early = few sts n s step next done in
     record {
-      scalars = good.0;
+      scalars = good.scalars;
+      drills = good.drills;
       executed = record {
         line = subst IsCount m.line_is st.line;
         step = (omega (arith, h, done.0), omega (arith, early, done.0));
-        text = good.2 st.text;
+        text = good.text st.text;
       };
     }
 
@@ -108,6 +110,10 @@ scalars_of : (steps : List Step) → AreGood steps → AreScalars steps
 scalars_of [] are = tt
 scalars_of (step ∷ steps) are = (are.0.scalars, scalars_of steps are.1)
 
+drills_of : (steps : List Step) → AreGood steps → AreDrillScalars steps
+drills_of [] are = tt
+drills_of (step ∷ steps) are = (are.0.drills, drills_of steps are.1)
+
 executed_of : (steps : List Step) → AreGood steps → AreExecuted steps
 executed_of [] are = tt
 executed_of (step ∷ steps) are = (are.0.executed, executed_of steps are.1)
@@ -115,8 +121,24 @@ executed_of (step ∷ steps) are = (are.0.executed, executed_of steps are.1)
 pub are_scalars : (sts : List Stmt) (t : Trace) → AreStmts sts → IsTrace sts t → AreScalars t.steps
 are_scalars sts t stmts is = scalars_of t.steps (trace_good sts t stmts is)
 
+pub are_drills : (sts : List Stmt) (t : Trace) → AreStmts sts → IsTrace sts t → AreDrillScalars t.steps
+are_drills sts t stmts is = drills_of t.steps (trace_good sts t stmts is)
+
 pub are_executed : (sts : List Stmt) (t : Trace) → AreStmts sts → IsTrace sts t → AreExecuted t.steps
 are_executed sts t stmts is = executed_of t.steps (trace_good sts t stmts is)
+
+-- ---- their numbers
+
+run_numbered : (n : ℕ) (sts : List Stmt) (s : Stage) (behind : List Stage) (steps : List Step) (fault : Option Refusal) → AreRun sts n (s ∷ behind) steps fault → AreNumbered n steps
+run_numbered n sts s [] [] fault run = tt
+run_numbered n sts s [] (step ∷ []) None run = (run.0, tt)
+run_numbered n sts s [] (step ∷ []) (Some refusal) run = absurd run
+run_numbered n sts s [] (step ∷ next ∷ more) fault run = absurd run
+run_numbered n sts s (next ∷ behind) [] fault run = absurd run
+run_numbered n sts s (next ∷ behind) (step ∷ steps) fault run = (run.0.0, run_numbered (n + 1) sts next behind steps fault run.1)
+
+pub are_numbered : (sts : List Stmt) (t : Trace) → IsTrace sts t → AreNumbered 1 t.steps
+are_numbered sts t is = run_numbered 1 sts first_stage is.behind t.steps t.fault is.run
 
 -- ---- the end
 
@@ -148,7 +170,7 @@ last_is : (sts : List Stmt) (n : ℕ) (s : Stage) (step : Step) → IsDone sts n
 last_is sts n s step done =
     let m = is_at sts n s step.line (Ok (step.deed, None)) done.1 in
     let acts = subst (Acts s.ended m.st.body) m.does (step_acts sts n s m.i m.st) in
-    end_is step.deed (acts.0.1 ∙ acts.1)
+    end_is step.deed (acts.0.ends ∙ acts.1)
 
 -- a step before the last
 record GoesOn (s next : Stage) (step : Step) : Type 0 where
@@ -163,7 +185,7 @@ goes_on sts n s next step done =
     let going = subst (IsBeforeEnd s.ended m.st.body) m.does (before_end sts n s m.i m.st) in
     record {
       going = not_ended s.ended (is_fini m.st.body) acts.1 going;
-      other = not_end step.deed (acts.0.1 ∙ acts.1);
+      other = not_end step.deed (acts.0.ends ∙ acts.1);
       ended = sym acts.2;
     }
 

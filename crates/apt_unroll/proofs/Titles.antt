@@ -115,7 +115,7 @@ step_untitled : (sts : List Stmt) (n : ℕ) (s : Stage) (step : Step) (next : Op
 step_untitled sts n s step next titled late done =
     let m = is_at sts n s step.line (Ok (step.deed, next)) done.1 in
     let good = suits s.ended m.st.body step.deed next (subst (Acts s.ended m.st.body) m.does (step_acts sts n s m.i m.st)) in
-    good.3 (untitled_at sts m.i m.st titled (omega (arith, late, m.from)) m.there)
+    good.untitled (untitled_at sts m.i m.st titled (omega (arith, late, m.from)) m.there)
 
 next_behind : (sts : List Stmt) (n : ℕ) (s : Stage) (step : Step) (next : Stage) → HasTitle sts → AreBehind s.calls → IsDone sts n s step (Some next) → IsBehind next
 next_behind sts n s step next titled behind done =

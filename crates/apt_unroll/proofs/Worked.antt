@@ -1,5 +1,5 @@
 -- Worked programs: values by names, refusals, the end, macros, loops and jumps.
-use Rattle.std.proofs.Common.{refl, ◌≡◌, ℕ, ◌*◌, List, [], ◌∷◌, Some, None, Ok, Err, pos}
+use Rattle.std.proofs.Common.{◌++◌, refl, ◌≡◌, ℕ, ◌*◌, List, [], ◌∷◌, Some, None, Ok, Err, pos}
 use Rattle.std.specs.Prelude.{ℤ, negsuc, true, codes}
 use Rattle.apt_words.specs.Trees.{Tree, Num, Name, Neg, Bin}
 use Rattle.apt_words.specs.declared.Case.{Case}
@@ -167,10 +167,57 @@ known_name_keeps_place = refl
 no_name : names_behind names (deeds.Fedrat (units 7)) ≡ names
 no_name = refl
 
--- ---- loops and jumps
+-- ---- patterns
 
 abbrev A : List ℕ
 A = codes "A"
+
+abbrev with_pattern : Names
+with_pattern = (A, values.Shape kinds.Pattern) ∷ names
+
+-- GOTO of a name visits its points where the latest value of the name is a pattern
+pattern_visited : deed_of with_pattern [] (bodies.GotoPoint A) ≡ Ok (deeds.GotoPatern A)
+unfolding deed_of executed by_values
+pattern_visited = refl
+
+parameter_for_pattern : deed_of with_pattern ((L, bounds.Alias A) ∷ []) (bodies.GotoPoint L) ≡ Ok (deeds.GotoPatern A)
+unfolding deed_of executed by_values
+parameter_for_pattern = refl
+
+no_pattern : deed_of with_pattern [] (bodies.GotoPoint P) ≡ Ok (deeds.GotoPoint P)
+unfolding deed_of executed by_values
+no_pattern = refl
+
+from_no_pattern : deed_of with_pattern [] (bodies.FromPoint A) ≡ Ok (deeds.FromPoint A)
+unfolding deed_of executed by_values
+from_no_pattern = refl
+
+-- a pattern counts as a figure: it is no scalar, and no point in a list of three
+pattern_as_scalar : deed_of with_pattern [] (bodies.Cutter (Name A)) ≡ Err cases.Unknown
+unfolding deed_of executed by_values
+pattern_as_scalar = refl
+
+pattern_among_points : deed_of with_pattern [] (bodies.CircleThree Y (Name P) (Name A) (Name P)) ≡ Err cases.Unknown
+unfolding deed_of executed by_values
+pattern_among_points = refl
+
+-- the count has its value before the points are looked up, and the name is a pattern behind the step
+pattern_named : deed_of names [] (bodies.Patern A P C (Name X)) ≡ Ok (deeds.Patern A P C (units 4))
+unfolding deed_of executed by_values
+pattern_named = refl
+
+pattern_behind : names_behind names (deeds.Patern A P C (units 4)) ≡ names ++ (A, values.Shape kinds.Pattern) ∷ []
+pattern_behind = refl
+
+point_as_pattern : names_behind names (deeds.Patern P P C (units 4)) ≡ (P, values.Shape kinds.Pattern) ∷ (C, values.Shape kinds.Circle) ∷ (X, values.Scalar (units 4)) ∷ []
+point_as_pattern = refl
+
+visited_then_gone : trace_of (on 1 (bodies.Patern A P P (number 2)) ∷ on 2 (bodies.GotoPoint A) ∷ on 3 (bodies.PointXy A (number 1) (number 2) None) ∷ on 4 (bodies.GotoPoint A) ∷ [])
+    ≡ all_of (step 1 1 (deeds.Patern A P P (units 2)) ∷ step 2 2 (deeds.GotoPatern A) ∷ step 3 3 (deeds.PointXy A (units 1) (units 2) None) ∷ step 4 4 (deeds.GotoPoint A) ∷ [])
+unfolding trace_from action deed_of executed by_values
+visited_then_gone = refl
+
+-- ---- loops and jumps
 
 abbrev B : List ℕ
 B = codes "B"

@@ -4,8 +4,8 @@ ghost use Rattle.std.specs.Prelude.{◌≡◌, ◌<◌, ◌^◌, ◌++◌, ◌�
 ghost use Rattle.apt_words.specs.Composition.{flow_of, is_fini};
 ghost use Rattle.apt_words.specs.Nesting.{AreNested};
 ghost use Rattle.apt_words.specs.ProgramEnds.{StepsEnd};
-ghost use Rattle.apt_words.specs.Sources.{AreStmts, AreExecuted};
-ghost use Rattle.apt_scalar.specs.StepScalars.{AreScalars};
+ghost use Rattle.apt_words.specs.Sources.{AreStmts, AreExecuted, AreNumbered};
+ghost use Rattle.apt_scalar.specs.StepScalars.{AreScalars, AreDrillScalars};
 ghost use Rattle.apt_unroll.specs.Actions.{IsActed, action, onward, step_of};
 ghost use Rattle.apt_unroll.specs.Places.{begins_macro, executed_from, goes_on};
 ghost use Rattle.apt_unroll.specs.Straight.{AreStraight, in_order};
@@ -59,7 +59,9 @@ pub fn unroll(alloc: Global, p: &Program) -> Result<Unrolled, AllocError>
     ensures value { IfOk result (λ u. u ≡ trace_of p.now) }
     ensures straight { AreStraight p.now → IfOk result (λ u. u ≡ in_order p.now) }
     ensures scalars { IfOk result (λ u. AreScalars u.steps) }
+    ensures drills { IfOk result (λ u. AreDrillScalars u.steps) }
     ensures sources { IfOk result (λ u. AreExecuted u.steps) }
+    ensures numbers { IfOk result (λ u. AreNumbered 1 u.steps) }
     ensures ends { IfOk result (λ u. u.fault ≡ None → StepsEnd false u.steps) }
 {
     unroll_all(alloc, p)

@@ -6,4 +6,5 @@ pub mod Answers
 pub mod Bytes
 pub mod Rows
 pub mod Titles
+pub mod Contours
 pub mod Bools

@@ -17,7 +17,8 @@ abbrev pub Meanings : Type 0
 Meanings = ℕ → List ℕ
 
 -- the name that a statement defines; its expressions, and the names of figures that it uses, each in their order; where a run goes on behind it;
--- and what it does, by the values of the expressions and what the names stand for. Where the expressions may be three points, what it does by these.
+-- and what it does, by the values of the expressions and what the names stand for. Where the expressions may be three points, what it does by these; and
+-- where the first name may stand for a pattern, what it does by that.
 pub record Composition : Type 0 where
   pub defines : Option (List ℕ)
   pub numbers : List Tree
@@ -25,34 +26,38 @@ pub record Composition : Type 0 where
   pub flow : Flow
   pub deed : Values → Meanings → Deed
   pub by_points : Option (Meanings → Deed)
+  pub by_pattern : Option (Meanings → Deed)
 
 -- ---- the shapes of statements
 
 -- nothing but words
 abbrev pub words_alone : Deed → Composition
-words_alone deed = record { defines = None; numbers = []; names = []; flow = Onward; deed = λ v n. deed; by_points = None }
+words_alone deed = record { defines = None; numbers = []; names = []; flow = Onward; deed = λ v n. deed; by_points = None; by_pattern = None }
 
 -- what sends the run elsewhere
 abbrev pub flowing : Flow → Deed → Composition
 flowing flow deed = record (words_alone deed) { flow = flow }
 
 abbrev pub of_numbers : List Tree → (Values → Deed) → Composition
-of_numbers es deed = record { defines = None; numbers = es; names = []; flow = Onward; deed = λ v n. deed v; by_points = None }
+of_numbers es deed = record { defines = None; numbers = es; names = []; flow = Onward; deed = λ v n. deed v; by_points = None; by_pattern = None }
 
 abbrev pub of_number : Tree → (ℤ → Deed) → Composition
 of_number e deed = of_numbers (e ∷ []) (λ v. deed (v 0))
 
 abbrev pub of_names : List (List ℕ) → (Meanings → Deed) → Composition
-of_names names deed = record { defines = None; numbers = []; names = names; flow = Onward; deed = λ v n. deed n; by_points = None }
+of_names names deed = record { defines = None; numbers = []; names = names; flow = Onward; deed = λ v n. deed n; by_points = None; by_pattern = None }
 
 abbrev pub of_both : List Tree → List (List ℕ) → (Values → Meanings → Deed) → Composition
-of_both es names deed = record { defines = None; numbers = es; names = names; flow = Onward; deed = deed; by_points = None }
+of_both es names deed = record { defines = None; numbers = es; names = names; flow = Onward; deed = deed; by_points = None; by_pattern = None }
 
 abbrev pub defining : List ℕ → Composition → Composition
 defining name c = record c { defines = Some name }
 
 abbrev pub or_points : (Meanings → Deed) → Composition → Composition
 or_points deed c = record c { by_points = Some deed }
+
+abbrev pub or_pattern : (Meanings → Deed) → Composition → Composition
+or_pattern deed c = record c { by_pattern = Some deed }
 
 -- a value or a name that may be left out
 abbrev pub if_there : {A B : Type 0} → Option A → B → Option B
@@ -100,7 +105,7 @@ composition (bodies.Tool side) = words_alone (deeds.Tool side)
 composition (bodies.FromXy x y z) = of_numbers (x ∷ y ∷ listed z) (λ v. deeds.FromXy (v 0) (v 1) (if_there z (v 2)))
 composition (bodies.FromPoint p) = of_names (p ∷ []) (λ m. deeds.FromPoint (m 0))
 composition (bodies.GotoXy x y z) = of_numbers (x ∷ y ∷ listed z) (λ v. deeds.GotoXy (v 0) (v 1) (if_there z (v 2)))
-composition (bodies.GotoPoint p) = of_names (p ∷ []) (λ m. deeds.GotoPoint (m 0))
+composition (bodies.GotoPoint p) = or_pattern (λ m. deeds.GotoPatern (m 0)) (of_names (p ∷ []) (λ m. deeds.GotoPoint (m 0)))
 composition (bodies.Godlta x y z) = of_numbers (x ∷ y ∷ z ∷ []) (λ v. deeds.Godlta (v 0) (v 1) (v 2))
 composition (bodies.GoStart q s other) = of_names (names_with s other) (λ m. deeds.GoStart q (m 0) (surface_by other (m 1)))
 composition (bodies.Contour side go d q c e) = of_both (e ∷ []) (d ∷ c ∷ []) (λ v m. deeds.Contour side go (m 0) q (m 1) (v 0))

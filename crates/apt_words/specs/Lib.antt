@@ -6,6 +6,8 @@ pub mod Vocabulary
 pub mod Lookup
 pub mod Symbols
 pub mod Asks
+pub mod Drills
+pub mod Contours
 pub mod Names
 pub mod Trees
 pub mod TreeParts

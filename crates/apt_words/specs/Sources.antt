@@ -1,5 +1,5 @@
 -- The lines, numbers and texts of statements and steps.
-use Rattle.std.specs.Prelude.{ℕ, Bool, List, [], ◌∷◌, length, ◌≤◌, ◌==◌, ◌&&◌, ◌||◌, nat_le, IsTrue}
+use Rattle.std.specs.Prelude.{◌≡◌, ℕ, ◌+◌, Bool, List, [], ◌∷◌, length, ◌≤◌, ◌==◌, ◌&&◌, ◌||◌, nat_le, IsTrue}
 use Rattle.std.specs.List.{list_all}
 use Rattle.apt_words.specs.Asks.{Ask, Titles, Says, Sets, Defines, Goes, Cuts, Nothing, ask_of}
 use Rattle.apt_words.specs.declared.body.Body.{Body}
@@ -59,3 +59,8 @@ pub record IsExecuted (st : Step) : Type 0 where
 abbrev pub AreExecuted : List Step → Type 0
 AreExecuted [] = Unit {0}
 AreExecuted (st ∷ sts) = IsExecuted st × AreExecuted sts
+
+-- steps with the numbers from one on
+abbrev pub AreNumbered : ℕ → List Step → Type 0
+AreNumbered n [] = Unit {0}
+AreNumbered n (st ∷ sts) = (st.step ≡ n) × AreNumbered (n + 1) sts

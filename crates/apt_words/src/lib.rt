@@ -4,6 +4,7 @@
 mod ask;
 mod body;
 mod deed;
+mod drill;
 mod expr;
 mod names;
 mod postfix;
@@ -13,6 +14,7 @@ mod word;
 pub use ask::{Ask, CircleForm, Form, LineForm, Place, PointForm, Route, Saying};
 pub use body::{Args, Body, Exprs, Params, Program, Stmt, Text, Xy};
 pub use deed::{Deed, Step};
+pub use drill::Drill;
 pub use expr::{Expr, Node, Op};
 pub use postfix::{Item, Millionths, Postfix};
 pub use symbol::{Symbol, is_vocabulary};

@@ -1,0 +1,7 @@
+pub mod CycleBlocks
+pub mod Blocks
+pub mod Settled
+pub mod Holes
+pub mod CycleTape
+pub mod Writable
+pub mod Plans

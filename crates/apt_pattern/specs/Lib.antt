@@ -1,0 +1,5 @@
+pub mod Patterns
+pub mod Expansions
+pub mod Ranges
+pub mod Holes
+pub mod Taking
