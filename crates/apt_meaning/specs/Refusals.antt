@@ -1,5 +1,5 @@
 -- The manual's table: for each thing that is asked the conditions that refuse it, in order, and their cases.
-use Rattle.std.specs.Prelude.{ℕ, ℤ, pos, int_lt, int_le, ◌&&◌, not, Bool, true, false, is_some, is_none, List, [], ◌∷◌, ◌++◌, Option, Some, None, Result, Ok, Err}
+use Rattle.std.specs.Prelude.{◌≡◌, ℕ, ℤ, pos, int_lt, int_le, ◌&&◌, not, Bool, true, false, is_some, is_none, List, [], ◌∷◌, ◌++◌, Option, Some, None, Result, Ok, Err, if◌then◌else◌}
 use Rattle.apt_num.specs.declared.Sign.{Sign}
 use Rattle.apt_words.specs.declared.Case.{Case}
 use Rattle.apt_words.specs.declared.Units.{Units}
@@ -32,6 +32,11 @@ use Rattle.apt_startup.specs.StartUps.{start_up_cases}
 use Rattle.apt_records.specs.declared.record.Note.{Note}
 use Rattle.apt_records.specs.declared.record.Note.TheVariants as notes
 use Rattle.apt_records.specs.declared.record.Position.{Position}
+use Rattle.apt_records.specs.declared.record.Reach.{Reach}
+use Rattle.apt_records.specs.declared.record.Reach.TheVariants as reaches
+use Rattle.apt_meaning.specs.declared.effect.Change.TheVariants as changes
+use Rattle.apt_meaning.specs.declared.effect.Effect.{Effect}
+use Rattle.apt_meaning.specs.declared.effect.Effect.TheVariants as effects
 use Rattle.apt_meaning.specs.declared.situation.Settings.{Settings}
 use Rattle.apt_meaning.specs.declared.situation.Situation.{Situation}
 use Rattle.apt_meaning.specs.declared.motion.Motion.{Motion}
@@ -146,11 +151,13 @@ motion_cases m = cut_cases m the_legs.One
 abbrev pub is_too_fine : Settings → Bool
 is_too_fine s = int_lt s.intol grid_step && int_lt s.outtol grid_step
 
+-- a contour with these settings
+abbrev pub feed_cases : Settings → List Row → List Row
+feed_cases s more = (s.rapid, cases.RapidContour) ∷ (not (has_feed s), cases.NoFeed) ∷ (is_too_fine s, cases.TooFine) ∷ more
+
 -- a contour whose drive surface runs so against forward
 abbrev pub turned_cases : Legs → Settings → Position → Surface → Sign → Stop → Surface → List Row
-turned_cases legs s start drive turned how check =
-    (s.rapid, cases.RapidContour) ∷ (not (has_feed s), cases.NoFeed) ∷ (is_too_fine s, cases.TooFine)
-    ∷ (is_zero turned, cases.NoTurn) ∷ cut_cases (motion s start drive turned how check) legs
+turned_cases legs s start drive turned how check = feed_cases s ((is_zero turned, cases.NoTurn) ∷ cut_cases (motion s start drive turned how check) legs)
 
 abbrev pub surface_cases : Situation → Option Side → Go → Stop → Legs → Option Position → Option Surface → Option Surface → List Row
 surface_cases here side go how legs (Some start) (Some drive) (Some check) =
@@ -223,3 +230,46 @@ cases_of here deed = cases_by here (ask_of deed)
 -- the first case that refuses a step
 abbrev pub refusal_of : Situation → Deed → Option Case
 refusal_of here deed = first_of (cases_of here deed)
+
+-- ---- where the effect is there
+
+abbrev pub reach_cases : Situation → Reach → Position → List Row
+reach_cases here reaches.From to = (is_some here.position, cases.FromAgain) ∷ position_cases to []
+reach_cases here reaches.Goto to = move_cases here.settings (Some to)
+reach_cases here reaches.Godlta to = move_cases here.settings (Some to)
+reach_cases here reaches.Start to = (lacks_feed here.settings, cases.NoFeed) ∷ []
+
+-- the cases that can still refuse an effect, but for those of a contour's ends
+abbrev pub effect_cases : Situation → Effect → List Row
+effect_cases here (effects.Defines n f) = []
+effect_cases here (effects.Sets (changes.Said note)) = note_cases note
+effect_cases here (effects.Sets (changes.Side side)) = []
+effect_cases here (effects.Sets changes.Nothing) = []
+effect_cases here (effects.Moves reach to) = reach_cases here reach to
+effect_cases here (effects.Cuts m legs) = feed_cases here.settings []
+
+abbrev pub end_cases : Effect → List Row
+end_cases (effects.Defines n f) = []
+end_cases (effects.Sets change) = []
+end_cases (effects.Moves reach to) = []
+end_cases (effects.Cuts m legs) = cut_cases m legs
+
+-- what a step asks for, which only the cases of its ends can still refuse, or the first case that refuses it
+abbrev pub IsEffectOr : Option Case → Option Effect → Result Effect Case → Type 0
+IsEffectOr refusal effect (Ok e) = (effect ≡ Some e) × (refusal ≡ first_of (end_cases e))
+IsEffectOr refusal effect (Err case) = refusal ≡ Some case
+
+-- ---- where there is none
+
+-- a name that stands for nothing of the kind that is needed
+abbrev pub name_lack : Table → List ℕ → Case
+name_lack table name = if is_undefined table name then cases.Undefined else cases.WrongKind
+
+abbrev pub place_lack : Table → Place → Option Case
+place_lack table (places.Xyz x y z) = None
+place_lack table (places.Named p) = Some (name_lack table p)
+
+-- of the names of GO each is there before the kind of one is tried
+abbrev pub goal_lack : Table → List ℕ → Option (Stop × List ℕ) → Case
+goal_lack table name None = name_lack table name
+goal_lack table name (Some other) = if is_undefined table other.1 then cases.Undefined else name_lack table name
