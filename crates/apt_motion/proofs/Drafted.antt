@@ -14,6 +14,7 @@ use Rattle.apt_records.specs.declared.record.Record.TheVariants as lines
 use Rattle.apt_meaning.specs.declared.situation.Situation.{Situation}
 use Rattle.apt_meaning.specs.declared.motion.Motion.{Motion}
 use Rattle.apt_stop.specs.declared.legs.Legs.{Legs}
+use Rattle.apt_stop.specs.declared.legs.Legs.TheVariants as legs
 use Rattle.apt_meaning.specs.declared.effect.Change.TheVariants as changes
 use Rattle.apt_meaning.specs.declared.effect.Effect.{Effect}
 use Rattle.apt_meaning.specs.declared.effect.Effect.TheVariants as effects
@@ -26,10 +27,8 @@ use Rattle.apt_meaning.specs.Records.{cut_record, records_of, after}
 use Rattle.apt_meaning.specs.Vertices.{cut_points}
 use Rattle.apt_meaning.specs.Compiled.{ends_of, points_of, point_number, asked, asked_within, refused_at, most_points, or_refused, with_front, compilation_behind, compilation}
 use Rattle.apt_meaning.proofs.Contours.Arcs.{vertices_by, vertices-vertices_by}
-use Rattle.apt_words.specs.Answers.{Tells}
-use Rattle.apt_motion.specs.declared.runs.RunError.{RunError}
-use Rattle.apt_motion.specs.declared.runs.RunError.TheVariants as errors
-use Rattle.apt_motion.specs.Ends.{refusal_in, IsStopped}
+use Rattle.apt_motion.specs.declared.acts.Writing.{Writing}
+use Rattle.apt_motion.specs.Ends.{HasDone, records_by, rounds_for, writing_of}
 use Rattle.apt_motion.specs.Drafts.{ArcAt, drawn, drawn_by, drawn_on, rounds_along, rounds_of, rounds_by, round_at, Draft, behind, or_stopped, draft_from, vertices_at, chords_of, is_open, known, Mark, mark_at, overfull, too_many, nowhere, filled, or_refusal, finished}
 
 -- ---- the draft, step by step
@@ -37,29 +36,42 @@ use Rattle.apt_motion.specs.Drafts.{ArcAt, drawn, drawn_by, drawn_on, rounds_alo
 regrouped : (front more : List Record) (first later : List ArcAt) (d : Draft) → behind front first (behind more later d) ≡ behind (front ++ more) (first ++ later) d
 regrouped front more first later d = rw (append_assoc front more d.records, append_assoc first later d.rounds) refl
 
+-- what is written for an effect
+records_for : (step : Step) (e : Effect) → records_by step (writing_of e) ≡ records_of step e (drawn e)
+records_for step (effects.Defines n f) = refl
+records_for step (effects.Sets (changes.Said note)) = refl
+records_for step (effects.Sets (changes.Side side)) = refl
+records_for step (effects.Sets changes.Nothing) = refl
+records_for step (effects.Moves reach to) = refl
+records_for step (effects.Cuts m legs.One) = refl
+records_for step (effects.Cuts m legs.Two) = refl
+
+rounds_as : (e : Effect) → rounds_for (writing_of e) ≡ rounds_of e
+rounds_as (effects.Defines n f) = refl
+rounds_as (effects.Sets (changes.Said note)) = refl
+rounds_as (effects.Sets (changes.Side side)) = refl
+rounds_as (effects.Sets changes.Nothing) = refl
+rounds_as (effects.Moves reach to) = refl
+rounds_as (effects.Cuts m legs.One) = refl
+rounds_as (effects.Cuts m legs.Two) = refl
+
 -- one more step
-pub draws_on : (front : List Record) (first : List ArcAt) (here : Situation) (step : Step) (steps : List Step) (e : Effect) (whole : Draft)
-    → asked (refusal_of here step.deed) (effect_of here step.deed) ≡ Ok e → behind front first (draft_from here (step ∷ steps)) ≡ whole
-    → behind (front ++ records_of step e (drawn e)) (first ++ rounds_of e) (draft_from (after here e (ends_of e)) steps) ≡ whole
-draws_on front first here step steps e whole does so_far =
-    sym (regrouped front (records_of step e (drawn e)) first (rounds_of e) (draft_from (after here e (ends_of e)) steps))
-    ∙ sym (ap (λ a. behind front first (or_stopped step a (λ e. draft_from (after here e (ends_of e)) steps))) does) ∙ so_far
+pub draws_on : (front now : List Record) (first later : List ArcAt) (here there : Situation) (step : Step) (steps : List Step) (w : Writing) (e : Effect) (whole : Draft)
+    → HasDone here step.deed there w e → now ≡ front ++ records_by step w → later ≡ first ++ rounds_for w → behind front first (draft_from here (step ∷ steps)) ≡ whole
+    → behind now later (draft_from there steps) ≡ whole
+draws_on front now first later here there step steps w e whole done records rounds so_far =
+    rw (records, rounds, done.writes, done.after, records_for step e, rounds_as e)
+    (sym (regrouped front (records_of step e (drawn e)) first (rounds_of e) (draft_from (after here e (ends_of e)) steps))
+    ∙ sym (ap (λ a. behind front first (or_stopped step a (λ e. draft_from (after here e (ends_of e)) steps))) done.asks) ∙ so_far)
 
 -- a step that is refused ends it
-stopped_at : (front now : List Record) (first later : List ArcAt) (here : Situation) (step : Step) (steps : List Step) (refusal : Refusal) (case : Case) (whole : Draft)
-    → IsStopped here step front now first later refusal case → behind front first (draft_from here (step ∷ steps)) ≡ whole
-    → whole ≡ record { records = now; rounds = later; refusal = Some refusal }
-stopped_at front now first later here step steps refusal case whole stopped so_far =
+pub stops_at : (front : List Record) (first : List ArcAt) (here : Situation) (step : Step) (steps : List Step) (case : Case) (whole : Draft)
+    → asked (refusal_of here step.deed) (effect_of here step.deed) ≡ Err case → behind front first (draft_from here (step ∷ steps)) ≡ whole
+    → whole ≡ record { records = front; rounds = first; refusal = Some (refused_at step case) }
+stops_at front first here step steps case whole refuses so_far =
     sym so_far
-    ∙ ap (λ a. behind front first (or_stopped step a (λ e. draft_from (after here e (ends_of e)) steps))) stopped.asks
-    ∙ rw (append-nil front, append-nil first, stopped.records, stopped.rounds, stopped.told) refl
-
-pub stops_at : (front now : List Record) (first later : List ArcAt) (here : Situation) (step : Step) (steps : List Step) (error : RunError) (refusal : Refusal) (whole : Draft)
-    → error ≡ errors.Refused refusal → Tells (λ refusal. (case : Case) × IsStopped here step front now first later refusal case) (refusal_in error)
-    → behind front first (draft_from here (step ∷ steps)) ≡ whole → whole ≡ record { records = now; rounds = later; refusal = Some refusal }
-stops_at front now first later here step steps error refusal whole is tells so_far =
-    let stopped = subst (λ e. Tells (λ refusal. (case : Case) × IsStopped here step front now first later refusal case) (refusal_in e)) is tells in
-    stopped_at front now first later here step steps refusal stopped.0 whole stopped.1 so_far
+    ∙ ap (λ a. behind front first (or_stopped step a (λ e. draft_from (after here e (ends_of e)) steps))) refuses
+    ∙ rw (append-nil front, append-nil first) refl
 
 -- ---- a record that is no contour
 
