@@ -1,5 +1,5 @@
 -- The draft of steps, with its vertices counted and its arcs divided, is what the steps come to.
-use Rattle.std.proofs.Common.{inl, inr, ◌≡◌, ◌∙◌, ℕ, ℤ, ◌+◌, ◌-◌, ◌≤◌, Bool, true, false, List, [], ◌∷◌, ◌++◌, length, map, Option, Some, None, Result, Ok, Err, refl, sym, ap, subst, append_assoc, append-nil, arith}
+use Rattle.std.proofs.Common.{inl, inr, ◌≡◌, ◌∙◌, ℕ, ℤ, ◌+◌, ◌-◌, ◌≤◌, Bool, true, false, List, [], ◌∷◌, ◌++◌, length, map, Option, Some, None, Result, Ok, Err, refl, sym, ap, append_assoc, arith}
 use Rattle.std.specs.Prelude.{nat_lt, if◌then◌else◌}
 use Rattle.std.proofs.lemmas.Bool.{ltb-false, le-ltb, lt-ltb, cases_lt}
 use Rattle.apt_words.specs.declared.Case.{Case}
@@ -14,7 +14,6 @@ use Rattle.apt_records.specs.declared.record.Record.TheVariants as lines
 use Rattle.apt_meaning.specs.declared.situation.Situation.{Situation}
 use Rattle.apt_meaning.specs.declared.motion.Motion.{Motion}
 use Rattle.apt_stop.specs.declared.legs.Legs.{Legs}
-use Rattle.apt_stop.specs.declared.legs.Legs.TheVariants as legs
 use Rattle.apt_meaning.specs.declared.effect.Change.TheVariants as changes
 use Rattle.apt_meaning.specs.declared.effect.Effect.{Effect}
 use Rattle.apt_meaning.specs.declared.effect.Effect.TheVariants as effects
@@ -27,51 +26,12 @@ use Rattle.apt_meaning.specs.Records.{cut_record, records_of, after}
 use Rattle.apt_meaning.specs.Vertices.{cut_points}
 use Rattle.apt_meaning.specs.Compiled.{ends_of, points_of, point_number, asked, asked_within, refused_at, most_points, or_refused, with_front, compilation_behind, compilation}
 use Rattle.apt_meaning.proofs.Contours.Arcs.{vertices_by, vertices-vertices_by}
-use Rattle.apt_motion.specs.declared.acts.Writing.{Writing}
-use Rattle.apt_motion.specs.Ends.{HasDone, records_by, rounds_for, writing_of}
 use Rattle.apt_motion.specs.Drafts.{ArcAt, drawn, drawn_by, drawn_on, rounds_along, rounds_of, rounds_by, round_at, Draft, behind, or_stopped, draft_from, vertices_at, chords_of, is_open, known, Mark, mark_at, overfull, too_many, nowhere, filled, or_refusal, finished}
 
--- ---- the draft, step by step
+-- ---- parts of a draft
 
 regrouped : (front more : List Record) (first later : List ArcAt) (d : Draft) → behind front first (behind more later d) ≡ behind (front ++ more) (first ++ later) d
 regrouped front more first later d = rw (append_assoc front more d.records, append_assoc first later d.rounds) refl
-
--- what is written for an effect
-records_for : (step : Step) (e : Effect) → records_by step (writing_of e) ≡ records_of step e (drawn e)
-records_for step (effects.Defines n f) = refl
-records_for step (effects.Sets (changes.Said note)) = refl
-records_for step (effects.Sets (changes.Side side)) = refl
-records_for step (effects.Sets changes.Nothing) = refl
-records_for step (effects.Moves reach to) = refl
-records_for step (effects.Cuts m legs.One) = refl
-records_for step (effects.Cuts m legs.Two) = refl
-
-rounds_as : (e : Effect) → rounds_for (writing_of e) ≡ rounds_of e
-rounds_as (effects.Defines n f) = refl
-rounds_as (effects.Sets (changes.Said note)) = refl
-rounds_as (effects.Sets (changes.Side side)) = refl
-rounds_as (effects.Sets changes.Nothing) = refl
-rounds_as (effects.Moves reach to) = refl
-rounds_as (effects.Cuts m legs.One) = refl
-rounds_as (effects.Cuts m legs.Two) = refl
-
--- one more step
-pub draws_on : (front now : List Record) (first later : List ArcAt) (here there : Situation) (step : Step) (steps : List Step) (w : Writing) (e : Effect) (whole : Draft)
-    → HasDone here step.deed there w e → now ≡ front ++ records_by step w → later ≡ first ++ rounds_for w → behind front first (draft_from here (step ∷ steps)) ≡ whole
-    → behind now later (draft_from there steps) ≡ whole
-draws_on front now first later here there step steps w e whole done records rounds so_far =
-    rw (records, rounds, done.writes, done.after, records_for step e, rounds_as e)
-    (sym (regrouped front (records_of step e (drawn e)) first (rounds_of e) (draft_from (after here e (ends_of e)) steps))
-    ∙ sym (ap (λ a. behind front first (or_stopped step a (λ e. draft_from (after here e (ends_of e)) steps))) done.asks) ∙ so_far)
-
--- a step that is refused ends it
-pub stops_at : (front : List Record) (first : List ArcAt) (here : Situation) (step : Step) (steps : List Step) (case : Case) (whole : Draft)
-    → asked (refusal_of here step.deed) (effect_of here step.deed) ≡ Err case → behind front first (draft_from here (step ∷ steps)) ≡ whole
-    → whole ≡ record { records = front; rounds = first; refusal = Some (refused_at step case) }
-stops_at front first here step steps case whole refuses so_far =
-    sym so_far
-    ∙ ap (λ a. behind front first (or_stopped step a (λ e. draft_from (after here e (ends_of e)) steps))) refuses
-    ∙ rw (append-nil front, append-nil first) refl
 
 -- ---- a record that is no contour
 

@@ -1,7 +1,6 @@
 -- The walk of the compiling pass over steps, and what its records are.
-use Rattle.std.proofs.Common.{◌≡◌, ◌∙◌, ◌≤◌, List, ◌∷◌, Vec, Option, Some, None, Result, Ok, Err, IfOk, refl, sym, ap, subst, arith}
+use Rattle.std.proofs.Common.{◌≡◌, ◌∙◌, ◌≤◌, List, Vec, Option, Some, None, Result, Ok, Err, IfOk, refl, sym, ap, subst, arith}
 use Rattle.apt_words.specs.declared.Case.{Case}
-use Rattle.apt_words.specs.declared.Refusal.{Refusal}
 use Rattle.apt_words.specs.declared.deed.Deed.{Deed}
 use Rattle.apt_words.specs.declared.deed.Step.{Step}
 use Rattle.apt_words.specs.Sources.{DeedHasText, AreExecuted}
@@ -18,7 +17,7 @@ use Rattle.apt_meaning.specs.Records.{Follows, after}
 use Rattle.apt_meaning.specs.Cuts.{IsOwnCut}
 use Rattle.apt_meaning.proofs.Asked.{CutsLegally}
 use Rattle.apt_meaning.proofs.Walks.Alone.{follows, legal_contours, own_contours}
-use Rattle.apt_meaning.specs.Compiled.{ends_of, points_of, most_points, asked, refused_at, or_first, first_refused, compilation}
+use Rattle.apt_meaning.specs.Compiled.{ends_of, points_of, most_points, asked, compilation}
 use Rattle.apt_meaning.specs.Ranges.{IsSituation}
 use Rattle.apt_meaning.proofs.Asked.{answered}
 use Rattle.apt_meaning.proofs.Walks.Kept.{kept, first_situation-IsSituation}
@@ -27,17 +26,7 @@ use Rattle.apt_meaning.proofs.Walks.Files.{compiled_fit}
 use Rattle.apt_motion.specs.declared.runs.RunError.{RunError}
 use Rattle.apt_words.specs.Answers.{IsDueAs}
 use Rattle.apt_motion.specs.declared.acts.Writing.{Writing}
-use Rattle.apt_motion.specs.Ends.{HasDone, IsDone, IsFree, IsTaken, refusal_in}
-
--- one more step that passes, and one that is refused
-pub passes_on : (here behind : Situation) (step : Step) (steps : List Step) (w : Writing) (e : Effect) (total : Option Refusal) → HasDone here step.deed behind w e
-    → first_refused here (step ∷ steps) ≡ total → first_refused behind steps ≡ total
-passes_on here behind step steps w e total done so_far =
-    rw done.after (sym (ap (λ (a : Result Effect Case). or_first step a (λ e. first_refused (after here e (ends_of e)) steps)) done.asks) ∙ so_far)
-
-pub stops : (here : Situation) (step : Step) (steps : List Step) (case : Case) (total : Option Refusal) → asked (refusal_of here step.deed) (effect_of here step.deed) ≡ Err case
-    → first_refused here (step ∷ steps) ≡ total → Some (refused_at step case) ≡ total
-stops here step steps case total refuses so_far = sym (ap (λ (a : Result Effect Case). or_first step a (λ e. first_refused (after here e (ends_of e)) steps)) refuses) ∙ so_far
+use Rattle.apt_motion.specs.Ends.{IsDone, IsFree, IsTaken, refusal_in}
 
 -- ---- what holds behind a step is in range
 

@@ -66,7 +66,7 @@ fn draft_of(alloc: Global, steps: &[Step]) -> Result<(Draft, Option<Refusal>), A
     let mut draft = Draft::blank(alloc, steps.len())?;
     'steps: for st in steps {
         match act(&mut here, &st.deed)? {
-            Ok(writing) => write(alloc, &mut draft, st, writing)?,
+            Ok(written) => write(alloc, &mut draft, st, written)?,
             Err(case) => return Ok((draft, Some(refusal_at(st, case)))),
         }
     }
