@@ -15,7 +15,6 @@ use Rattle.apt_words.specs.declared.ask.Route.{Route}
 use Rattle.apt_words.specs.declared.ask.Route.TheVariants as routes
 use Rattle.apt_words.specs.declared.deed.Deed.{Deed}
 use Rattle.apt_words.specs.Asks.{Ask, Titles, Says, Sets, Defines, Goes, Cuts, Nothing, ask_of}
-use Rattle.apt_words.specs.Options.{◌>>=◌}
 use Rattle.apt_words.specs.Rows.{Row, first_of}
 use Rattle.apt_scalar.specs.Scalars.{whole}
 use Rattle.apt_plane.specs.declared.figures.Surface.{Surface}
@@ -32,7 +31,6 @@ use Rattle.apt_startup.specs.StartUps.{start_up_cases}
 use Rattle.apt_records.specs.declared.record.Note.{Note}
 use Rattle.apt_records.specs.declared.record.Note.TheVariants as notes
 use Rattle.apt_records.specs.declared.record.Position.{Position}
-use Rattle.apt_records.specs.declared.record.Reach.{Reach}
 use Rattle.apt_records.specs.declared.record.Reach.TheVariants as reaches
 use Rattle.apt_meaning.specs.declared.effect.Change.TheVariants as changes
 use Rattle.apt_meaning.specs.declared.effect.Effect.{Effect}
@@ -45,7 +43,7 @@ use Rattle.apt_stop.specs.declared.legs.Legs.TheVariants as the_legs
 use Rattle.apt_meaning.specs.Situations.{has_feed, lacks_feed, with_side}
 use Rattle.apt_meaning.specs.Motions.{motion, grid_step, as_surface, surface_in, turn_at, track_of, stop_of, starts_on_check, course_of}
 use Rattle.apt_meaning.specs.StartUps.{start_up_at}
-use Rattle.apt_meaning.specs.Effects.{note_of, as_position, position_by, moved_by, legs_by}
+use Rattle.apt_meaning.specs.Effects.{note_of, as_position, position_by, moved_from, legs_by}
 
 -- ---- numbers and names
 
@@ -177,9 +175,6 @@ contour_cases here side go drive how check n =
     ∷ name_cases here.table drive (name_cases here.table check
     (counted_cases (legs_by (whole n)) (λ legs. surface_cases here side go how legs here.position (surface_in here.table drive) (surface_in here.table check))))
 
-abbrev pub godlta_cases : Situation → ℤ → ℤ → ℤ → List Row
-godlta_cases here x y z = (is_none here.position, cases.NoFrom) ∷ move_cases here.settings (here.position >>= λ p. Some (moved_by here.settings.units x y z p))
-
 -- what refuses a place, by the units and the figures
 abbrev pub placed_cases : Units → Table → Place → List Row → List Row
 placed_cases units table (places.Xyz x y z) more = position_cases (position_by units x y z) more
@@ -212,7 +207,7 @@ note_cases notes.Fini = []
 abbrev pub route_cases : Situation → Route → List Row
 route_cases here (routes.From place) = (is_some here.position, cases.FromAgain) ∷ place_cases here place []
 route_cases here (routes.Goto place) = place_cases here place ((lacks_feed here.settings, cases.NoFeed) ∷ [])
-route_cases here (routes.By x y z) = godlta_cases here x y z
+route_cases here (routes.By x y z) = (is_none here.position, cases.NoFrom) ∷ move_cases here.settings (moved_from here x y z)
 route_cases here (routes.Start how name other) = go_cases here how name other
 
 abbrev pub cases_by : Situation → Ask → List Row
@@ -233,19 +228,16 @@ refusal_of here deed = first_of (cases_of here deed)
 
 -- ---- where the effect is there
 
-abbrev pub reach_cases : Situation → Reach → Position → List Row
-reach_cases here reaches.From to = (is_some here.position, cases.FromAgain) ∷ position_cases to []
-reach_cases here reaches.Goto to = move_cases here.settings (Some to)
-reach_cases here reaches.Godlta to = move_cases here.settings (Some to)
-reach_cases here reaches.Start to = (lacks_feed here.settings, cases.NoFeed) ∷ []
-
 -- the cases that can still refuse an effect, but for those of a contour's ends
 abbrev pub effect_cases : Situation → Effect → List Row
 effect_cases here (effects.Defines n f) = []
 effect_cases here (effects.Sets (changes.Said note)) = note_cases note
 effect_cases here (effects.Sets (changes.Side side)) = []
 effect_cases here (effects.Sets changes.Nothing) = []
-effect_cases here (effects.Moves reach to) = reach_cases here reach to
+effect_cases here (effects.Moves reaches.From to) = (is_some here.position, cases.FromAgain) ∷ position_cases to []
+effect_cases here (effects.Moves reaches.Goto to) = move_cases here.settings (Some to)
+effect_cases here (effects.Moves reaches.Godlta to) = move_cases here.settings (Some to)
+effect_cases here (effects.Moves reaches.Start to) = (lacks_feed here.settings, cases.NoFeed) ∷ []
 effect_cases here (effects.Cuts m legs) = feed_cases here.settings []
 
 abbrev pub end_cases : Effect → List Row

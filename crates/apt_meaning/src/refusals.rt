@@ -9,6 +9,7 @@ ghost use Rattle.apt_meaning.specs.Effects as asking;
 ghost use Rattle.apt_meaning.specs.Motions.{motion_at};
 ghost use Rattle.apt_meaning.specs.Ranges.{IsSituation, IsEffect};
 ghost use Rattle.apt_meaning.specs.Refusals as refusals;
+ghost use Rattle.apt_meaning.specs.declared.effect.Effect.TheVariants as effects;
 
 use crate::start_up::start_up_at;
 use crate::{Change, Effect, Settings, Situation, effect_of, is_too_fine, legs_by, surface_in};
@@ -55,6 +56,7 @@ pub fn effect_or_case(here: &Situation, deed: &Deed) -> Result<Result<Effect, Ca
 // ---- where the effect is there
 
 /// The first case that refuses an effect, but for those of a contour's ends.
+#[inline(always)]
 fn effect_case(here: &Situation, effect: &Effect) -> Option<Case>
     ensures { result ≡ first_of (refusals.effect_cases here.now effect.now) }
 {
@@ -67,8 +69,9 @@ fn effect_case(here: &Situation, effect: &Effect) -> Option<Case>
 }
 
 /// FROM comes once, and a move needs a feed. A start-up ends within the coordinate limit.
+#[inline(always)]
 fn move_case(here: &Situation, reach: Reach, to: Position) -> Option<Case>
-    ensures { result ≡ first_of (refusals.reach_cases here.now reach to) }
+    ensures { result ≡ first_of (refusals.effect_cases here.now (effects.Moves reach to)) }
 {
     match reach {
         Reach::From if here.position.is_some() => Some(Case::FromAgain),
@@ -80,6 +83,7 @@ fn move_case(here: &Situation, reach: Reach, to: Position) -> Option<Case>
 }
 
 /// A position is within the coordinate limit.
+#[inline(always)]
 fn position_case(to: Position, lacks_feed: bool) -> Option<Case>
     ensures { result ≡ first_of (refusals.position_cases to ((lacks_feed, Case.NoFeed) ∷ [])) }
 {
