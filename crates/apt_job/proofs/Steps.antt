@@ -1,12 +1,10 @@
 -- The walk of a judge over steps and records.
 use Rattle.std.proofs.Common.{◌≡◌, ◌∙◌, ◌+◌, ◌-◌, ◌≤◌, ℕ, suc, ℤ, arith, List, [], ◌∷◌, ◌++◌, length, map, Option, Some, None, refl, sym, ap, subst, inl, inr, append_assoc, append-nil}
-use Rattle.std.proofs.Common.{◌<◌, take, drop, length-append, length-drop, drop-drop, drop_at, take_at, true, false}
+use Rattle.std.proofs.Common.{◌<◌, take, drop, length-append, length-drop, drop-drop, drop_at, take_at}
 use Rattle.std.specs.Prelude.{IsSomeAnd}
 use Rattle.std.proofs.lemmas.List.{take_rest}
 use borrow.Rule.Slice.PartMut.{mid_of, put_mid, mid_len, same_len_mid, drop_put}
 use Rattle.apt_words.specs.Sources.{AreExecuted}
-use Rattle.apt_words.specs.declared.Case.{Case}
-use Rattle.apt_words.specs.declared.deed.Deed.{Deed}
 use Rattle.apt_words.specs.declared.deed.Step.{Step}
 use Rattle.apt_scalar.specs.StepScalars.{AreScalars}
 use Rattle.apt_plane.specs.declared.figures.Pt.{Pt}
@@ -14,24 +12,17 @@ use Rattle.apt_certify.specs.declared.leg.Job.{Job}
 use Rattle.apt_certify.specs.Jobs.{AreJobs, point_count}
 use Rattle.apt_records.specs.declared.record.Record.{Record}
 use Rattle.apt_records.specs.Ranges.{vertex_count, AreRecords}
-use Rattle.apt_defs.specs.Figures.{Table}
-use Rattle.apt_defs.specs.Definitions.{figure_of, HasOrNone, IsRefusedBy}
-use Rattle.apt_meaning.specs.declared.situation.Settings.{Settings}
 use Rattle.apt_meaning.specs.declared.situation.Situation.{Situation}
 use Rattle.apt_meaning.specs.declared.effect.Change.TheVariants as changes
 use Rattle.apt_meaning.specs.declared.effect.Effect.{Effect}
 use Rattle.apt_meaning.specs.declared.effect.Effect.TheVariants as effects
 use Rattle.apt_meaning.specs.Situations.{first_situation}
 use Rattle.apt_records.specs.Vertices.{at_height}
-use Rattle.apt_meaning.specs.Effects.{effect_of}
-use Rattle.apt_meaning.specs.Refusals.{refusal_of}
-use Rattle.apt_meaning.specs.Compiled.{ends_of, first_refused}
+use Rattle.apt_meaning.specs.Compiled.{first_refused}
 use Rattle.apt_meaning.specs.Paths.{Due, first_leg, next_leg}
 use Rattle.apt_meaning.specs.Records.{Begins, records_of, after, cut_record, legs_from}
 use Rattle.apt_meaning.specs.Expectations.{expected, Departs, FailsAt}
 use Rattle.apt_meaning.proofs.Walks.Follower.{KeepsUp, keeps_up_first, StepsOn, steps_on}
-use Rattle.apt_meaning.proofs.Walks.Agree.{Agrees}
-use Rattle.apt_meaning.proofs.Walks.Compiled.{passed}
 use Rattle.apt_job.specs.Jobs.{job_said, jobs_by, MakesJobs}
 use Rattle.apt_job.proofs.Ranges.{jobs_in, points-append}
 

@@ -3,6 +3,7 @@
 ghost use Rattle.std.specs.Prelude.{◌≡◌, ◌↔◌, IsTrue};
 
 use apt_meaning::Motion;
+use apt_plane::{Circ, Dir, Line, Pt, Surface};
 use apt_records::{Note, Position, Reach, Record};
 use apt_words::Step;
 
@@ -47,12 +48,54 @@ pub(crate) fn is_note(note: &Note, r: &Record) -> bool
     }
 }
 
+// The derived `==` of a struct is found exact only where it stands alone, and is not that of one with two structs.
+
+fn is_same_position(p: Position, q: Position) -> bool
+    ensures { IsTrue result ↔ (p ≡ q) }
+{
+    p == q
+}
+
 pub(crate) fn is_point(reach: Reach, to: Position, r: &Record) -> bool
     ensures { IsTrue result ↔ (r.now ≡ Record.Point reach to) }
 {
     match r {
-        Record::Point(how, p) => *how == reach && *p == to,
+        Record::Point(how, p) => *how == reach && is_same_position(*p, to),
         _ => false,
+    }
+}
+
+fn is_same_base(p: Pt, q: Pt) -> bool
+    ensures { IsTrue result ↔ (p ≡ q) }
+{
+    p == q
+}
+
+fn is_same_dir(a: Dir, b: Dir) -> bool
+    ensures { IsTrue result ↔ (a ≡ b) }
+{
+    a == b
+}
+
+fn is_same_line(a: &Line, b: &Line) -> bool
+    ensures { IsTrue result ↔ (a.now ≡ b.now) }
+{
+    is_same_base(a.base, b.base) && is_same_dir(a.dir, b.dir)
+}
+
+fn is_same_circle(a: &Circ, b: &Circ) -> bool
+    ensures { IsTrue result ↔ (a.now ≡ b.now) }
+{
+    a == b
+}
+
+fn is_same_surface(a: &Surface, b: &Surface) -> bool
+    ensures { IsTrue result ↔ (a.now ≡ b.now) }
+{
+    match (a, b) {
+        (Surface::Line(a), Surface::Line(b)) => is_same_line(a, b),
+        (Surface::Circ(a), Surface::Circ(b)) => is_same_circle(a, b),
+        (Surface::Line(_), Surface::Circ(_)) | (Surface::Circ(_), Surface::Line(_)) => false,
     }
 }
 
@@ -64,7 +107,7 @@ pub(crate) fn is_drive(m: &Motion, r: &Record) -> bool
             surface,
             side,
             sense,
-        } => *surface == m.drive && *side == m.side && *sense == m.sense,
+        } => is_same_surface(surface, &m.drive) && *side == m.side && *sense == m.sense,
         _ => false,
     }
 }
@@ -73,7 +116,7 @@ pub(crate) fn is_check(m: &Motion, r: &Record) -> bool
     ensures { IsTrue result ↔ (r.now ≡ Record.Check m.now.check m.now.how) }
 {
     match r {
-        Record::Check { surface, how } => *surface == m.check && *how == m.how,
+        Record::Check { surface, how } => is_same_surface(surface, &m.check) && *how == m.how,
         _ => false,
     }
 }
