@@ -48,7 +48,8 @@ pub(crate) fn is_note(note: &Note, r: &Record) -> bool
     }
 }
 
-// The derived `==` of a struct is found exact only where it stands alone, and is not that of one with two structs.
+// A derived `==` of a struct is proved exact where it stands alone, and not beside another test, nor of a struct of two
+// structs: so each of these stands in a function.
 
 fn is_same_position(p: Position, q: Position) -> bool
     ensures { IsTrue result ↔ (p ≡ q) }
