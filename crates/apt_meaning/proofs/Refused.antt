@@ -10,7 +10,6 @@ use Rattle.apt_words.specs.declared.Go.{Go}
 use Rattle.apt_words.specs.declared.Side.{Side}
 use Rattle.apt_words.specs.declared.Stop.{Stop}
 use Rattle.apt_words.specs.declared.ask.Form.{Form}
-use Rattle.apt_words.specs.declared.ask.Place.{Place}
 use Rattle.apt_words.specs.declared.ask.Place.TheVariants as places
 use Rattle.apt_words.specs.declared.ask.Route.{Route}
 use Rattle.apt_words.specs.declared.ask.Route.TheVariants as routes
@@ -36,7 +35,7 @@ use Rattle.apt_records.specs.Vertices.{at_height}
 use Rattle.apt_defs.specs.declared.figure.Figure.{Figure}
 use Rattle.apt_defs.specs.declared.figure.Figure.TheVariants as figures
 use Rattle.apt_defs.specs.Definitions.{figure_of}
-use Rattle.apt_defs.specs.Figures.{IsFigure, figure_named}
+use Rattle.apt_defs.specs.Figures.{Table, IsFigure, figure_named}
 use Rattle.apt_defs.specs.Forms.{is_in_reach}
 use Rattle.apt_defs.proofs.Tables.{looked_up}
 use Rattle.apt_meaning.specs.declared.effect.Change.TheVariants as changes
@@ -48,7 +47,7 @@ use Rattle.apt_meaning.specs.declared.situation.Situation.{Situation}
 use Rattle.apt_meaning.specs.Effects.{moves, cuts, cuts_by, legs_by, as_position, place_at, names, defined, moved_by, moved_from, note_of, goes, effect_by, effect_of}
 use Rattle.apt_meaning.specs.Motions.{as_surface, turn_at, if_turned, motion, motion_at}
 use Rattle.apt_meaning.specs.Ranges.{IsSituation, IsEffect, HasMotion}
-use Rattle.apt_meaning.specs.Refusals.{position_cases, is_other_kind, is_no_place, refused, refused_form, place_cases, move_cases, note_cases, start_cases, go_cases, cut_cases, feed_cases, counted_cases, surface_cases, is_too_fine, contour_cases, route_cases, cases_by, cases_of, refusal_of, effect_cases, end_cases, place_lack, goal_lack}
+use Rattle.apt_meaning.specs.Refusals.{position_cases, is_other_kind, is_no_place, refused, refused_form, place_cases, move_cases, note_cases, start_cases, go_cases, cut_cases, feed_cases, counted_cases, surface_cases, is_too_fine, contour_cases, route_cases, cases_by, cases_of, refusal_of, effect_cases, end_cases, each_name, start_names, is_undefined}
 use Rattle.apt_meaning.specs.Situations.{has_feed, lacks_feed, with_side}
 use Rattle.apt_meaning.specs.StartUps.{start_up_at, start_position, start_position_at}
 use Rattle.apt_words.proofs.Rows.{first_none}
@@ -113,12 +112,16 @@ goal_of how o = (o >>= as_surface) >>= λ s. Some (goal_at how s)
 abbrev lack_of : Option Figure → Case
 lack_of o = if is_none o then cases.Undefined else cases.WrongKind
 
+-- of the names of GO each is there before the kind of one is tried
+abbrev goal_lack : Table → List ℕ → Option (Stop × List ℕ) → Case
+goal_lack table name other = unwrap_or (first_of (each_name (is_undefined table) cases.Undefined (start_names name other))) cases.WrongKind
+
 abbrev unfed : Situation → Bool
 unfed here = lacks_feed here.settings
 
 one_by : (here : Situation) (how : Stop) (p : Option Position) (a : Option Figure)
     → first_of ((is_none p, cases.NoFrom) ∷ (is_none a, cases.Undefined) ∷ (is_other_kind a, cases.WrongKind) ∷ (unfed here, cases.NoFeed) ∷ start_cases (start_up_on here p (goal_of how a) (Some None)))
-    ≡ go_case p (lack_of a) (start_up_on here p (goal_of how a) (Some None)) (unfed here)
+    ≡ go_case p (unwrap_or (first_of ((is_none a, cases.Undefined) ∷ [])) cases.WrongKind) (start_up_on here p (goal_of how a) (Some None)) (unfed here)
 one_by here how None a = refl
 one_by here how (Some p) None = refl
 one_by here how (Some p) (Some (figures.Point xy z)) = refl
@@ -131,7 +134,7 @@ two_on here how stop p a b = start_up_on here p (goal_of how a) (goal_of stop b 
 two_by : (here : Situation) (how stop : Stop) (p : Option Position) (a b : Option Figure)
     → first_of ((is_none p, cases.NoFrom) ∷ (is_none a, cases.Undefined) ∷ (is_none b, cases.Undefined) ∷ (is_other_kind a, cases.WrongKind) ∷ (is_other_kind b, cases.WrongKind)
     ∷ (unfed here, cases.NoFeed) ∷ start_cases (two_on here how stop p a b))
-    ≡ go_case p (if is_none b then cases.Undefined else lack_of a) (two_on here how stop p a b) (unfed here)
+    ≡ go_case p (unwrap_or (first_of ((is_none a, cases.Undefined) ∷ (is_none b, cases.Undefined) ∷ [])) cases.WrongKind) (two_on here how stop p a b) (unfed here)
 two_by here how stop None a b = refl
 two_by here how stop (Some p) None None = refl
 two_by here how stop (Some p) None (Some g) = refl
@@ -328,9 +331,12 @@ nowhere : (reach : Reach) (o : Option Position) → moves reach o ≡ None → o
 nowhere reach None none = refl
 nowhere reach (Some to) none = absurd cc
 
-pub place_lacks : (here : Situation) (reach : Reach) (place : Place) (more : List Row) → moves reach (place_at here place) ≡ None → first_of (place_cases here place more) ≡ place_lack here.table place
-place_lacks here reach (places.Xyz x y z) more none = absurd cc
-place_lacks here reach (places.Named name) more none = point_lacks (figure_named here.table name) more (nowhere reach (place_at here (places.Named name)) none)
+pub name_lacks : (here : Situation) (reach : Reach) (name : List ℕ) (more : List Row) → moves reach (place_at here (places.Named name)) ≡ None
+    → first_of (place_cases here (places.Named name) more) ≡ Some (lack_of (figure_named here.table name))
+name_lacks here reach name more none = point_lacks (figure_named here.table name) more (nowhere reach (place_at here (places.Named name)) none)
+
+pub no_coordinates : (here : Situation) (reach : Reach) (x y : ℤ) (z : Option ℤ) → moves reach (place_at here (places.Xyz x y z)) ≡ None → ⊥
+no_coordinates here reach x y z none = absurd cc
 
 no_start : (p : Option Position) (f : Position → Position) (more : List Row) → moves reaches.Godlta (p >>= λ q. Some (f q)) ≡ None → first_of ((is_none p, cases.NoFrom) ∷ more) ≡ Some cases.NoFrom
 no_start None f more none = refl

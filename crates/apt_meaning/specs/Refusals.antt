@@ -1,5 +1,5 @@
 -- The manual's table: for each thing that is asked the conditions that refuse it, in order, and their cases.
-use Rattle.std.specs.Prelude.{◌≡◌, ℕ, ℤ, pos, int_lt, int_le, ◌&&◌, not, Bool, true, false, is_some, is_none, List, [], ◌∷◌, ◌++◌, Option, Some, None, Result, Ok, Err, if◌then◌else◌}
+use Rattle.std.specs.Prelude.{◌≡◌, ℕ, ℤ, pos, int_lt, int_le, ◌&&◌, not, Bool, true, false, is_some, is_none, List, [], ◌∷◌, ◌++◌, Option, Some, None, Result, Ok, Err}
 use Rattle.apt_num.specs.declared.Sign.{Sign}
 use Rattle.apt_words.specs.declared.Case.{Case}
 use Rattle.apt_words.specs.declared.Units.{Units}
@@ -250,18 +250,3 @@ end_cases (effects.Cuts m legs) = cut_cases m legs
 abbrev pub IsEffectOr : Option Case → Option Effect → Result Effect Case → Type 0
 IsEffectOr refusal effect (Ok e) = (effect ≡ Some e) × (refusal ≡ first_of (end_cases e))
 IsEffectOr refusal effect (Err case) = refusal ≡ Some case
-
--- ---- where there is none
-
--- a name that stands for nothing of the kind that is needed
-abbrev pub name_lack : Table → List ℕ → Case
-name_lack table name = if is_undefined table name then cases.Undefined else cases.WrongKind
-
-abbrev pub place_lack : Table → Place → Option Case
-place_lack table (places.Xyz x y z) = None
-place_lack table (places.Named p) = Some (name_lack table p)
-
--- of the names of GO each is there before the kind of one is tried
-abbrev pub goal_lack : Table → List ℕ → Option (Stop × List ℕ) → Case
-goal_lack table name None = name_lack table name
-goal_lack table name (Some other) = if is_undefined table other.1 then cases.Undefined else name_lack table name

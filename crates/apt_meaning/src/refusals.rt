@@ -1,6 +1,6 @@
 //! The first case that refuses a step, but for those of a contour's ends.
 
-ghost use Rattle.std.specs.Prelude.{◌≡◌, [], ◌∷◌, List, Some, None, IfOk, if◌then◌else◌};
+ghost use Rattle.std.specs.Prelude.{◌≡◌, [], ◌∷◌, List, Some, None, IfOk, unwrap_or, if◌then◌else◌};
 ghost use Rattle.apt_words.specs.Rows.{Row, first_of};
 ghost use Rattle.apt_words.specs.Sources.{DeedHasText};
 ghost use Rattle.apt_scalar.specs.Scalars.{IsScalar, whole};
@@ -165,7 +165,7 @@ fn step_lack(here: &Situation, deed: &Deed) -> Option<Case>
 }
 
 /// That of a move that leads nowhere.
-#[tactic(auto, using(crate::proofs::Refused::place_lacks, crate::proofs::Refused::by_lacks))]
+#[tactic(auto, using(crate::proofs::Refused::name_lacks, crate::proofs::Refused::no_coordinates, crate::proofs::Refused::by_lacks))]
 fn route_lack(here: &Situation, route: &Route) -> Option<Case>
     requires situation { IsSituation here.now }
     requires lacks { asking.goes here.now route.now ≡ None }
@@ -173,24 +173,18 @@ fn route_lack(here: &Situation, route: &Route) -> Option<Case>
 {
     match route {
         Route::From(_) if here.position.is_some() => Some(Case::FromAgain),
-        Route::From(place) | Route::Goto(place) => place_lack(&here.table, place),
+        Route::From(Place::Named(name)) | Route::Goto(Place::Named(name)) => {
+            Some(name_lack(&here.table, name))
+        }
+        Route::From(Place::Xyz(..)) | Route::Goto(Place::Xyz(..)) => None,
         Route::By(..) => Some(Case::NoFrom),
         Route::Start(how, name, other) => start_lack(here, *how, name, other),
     }
 }
 
-/// That of a place that is not there.
-fn place_lack(table: &Table, place: &Place) -> Option<Case>
-    ensures { result ≡ refusals.place_lack table.now place.now }
-{
-    match place {
-        Place::Xyz(..) => None,
-        Place::Named(name) => Some(name_lack(table, name)),
-    }
-}
-
+/// A name that stands for nothing of the kind that is needed.
 fn name_lack(table: &Table, name: &Symbol) -> Case
-    ensures { result ≡ refusals.name_lack table.now name.now }
+    ensures { result ≡ (if refusals.is_undefined table.now name.now then Case.Undefined else Case.WrongKind) }
 {
     match table.get(name) {
         None => Case::Undefined,
@@ -223,11 +217,14 @@ fn start_lack(
 
 /// Each name of GO is there before the kind of one is tried.
 fn goal_lack(table: &Table, name: &Symbol, other: &Option<(Stop, Symbol)>) -> Case
-    ensures { result ≡ refusals.goal_lack table.now name.now other.now }
+    ensures { result ≡ unwrap_or (first_of (refusals.each_name (refusals.is_undefined table.now) Case.Undefined (refusals.start_names name.now other.now))) Case.WrongKind }
 {
+    if table.get(name).is_none() {
+        return Case::Undefined;
+    }
     match other {
-        Some((_, second)) if table.get(second).is_none() => Case::Undefined,
-        _ => name_lack(table, name),
+        None => Case::WrongKind,
+        Some((_, second)) => name_lack(table, second),
     }
 }
 
