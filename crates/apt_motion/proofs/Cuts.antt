@@ -21,7 +21,7 @@ use Rattle.apt_meaning.specs.Refusals.{cut_cases}
 use Rattle.apt_meaning.specs.Compiled.{ends_of}
 use Rattle.apt_words.proofs.Rows.{first_none}
 use Rattle.apt_motion.specs.declared.acts.Writing.TheVariants as writings
-use Rattle.apt_motion.specs.Ends.{AreLegs, IsFree, IsTaken, legs_to}
+use Rattle.apt_motion.specs.Drafts.{AreLegs, IsFree, IsTaken, legs_to}
 
 -- ---- the ends of a contour
 

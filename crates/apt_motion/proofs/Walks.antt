@@ -26,7 +26,8 @@ use Rattle.apt_meaning.proofs.Walks.Files.{compiled_fit}
 use Rattle.apt_motion.specs.declared.runs.RunError.{RunError}
 use Rattle.apt_words.specs.Answers.{IsDueAs}
 use Rattle.apt_motion.specs.declared.acts.Writing.{Writing}
-use Rattle.apt_motion.specs.Ends.{IsDone, IsFree, IsTaken, refusal_in}
+use Rattle.apt_motion.specs.Drafts.{IsDone, IsFree, IsTaken}
+use Rattle.apt_motion.specs.Ends.{refusal_in}
 
 -- ---- what holds behind a step is in range
 
@@ -53,7 +54,7 @@ pub done : {A : Type 0} (here behind : Situation) (deed : Deed) (e : Effect) (r 
     → IsEffectOr (refusal_of here deed) (effect_of here deed) (Ok e) → IfOk r (IsTaken here e behind) → IfOk r (λ found. IfOk found IsFree) → IfOk r (IsDone here deed behind)
 done here behind deed e (Ok (Ok w)) is scalars worded found taken free =
     let does : asked (refusal_of here deed) (effect_of here deed) ≡ Ok e = rw (found.1 ∙ taken.0, found.0) refl in
-    (e, record { asks = does; writes = taken.1; free = free; after = taken.2; situation = subst IsSituation (sym taken.2) (fit here deed e is scalars worded does) })
+    (e, does, taken, free, subst IsSituation (sym taken.2) (fit here deed e is scalars worded does))
 done here behind deed e (Ok (Err case)) is scalars worded found taken free = rw (found.1 ∙ taken) refl
 done here behind deed e (Err error) is scalars worded found taken free = tt
 

@@ -10,7 +10,7 @@ ghost use Rattle.apt_meaning.specs.Ranges.{IsSituation, IsChange, IsEffect, IsMo
 ghost use Rattle.apt_meaning.specs.Refusals as refusals;
 ghost use Rattle.apt_meaning.specs.Records.{after};
 ghost use Rattle.apt_meaning.specs.declared.effect.Effect.TheVariants as effects;
-ghost use Rattle.apt_motion.specs.Ends as spec;
+ghost use Rattle.apt_motion.specs.Drafts as spec;
 
 use apt_meaning::{Change, Effect, Motion, Situation, effect_or_case};
 use apt_offset::{is_on_check, lacks_room};

@@ -10,8 +10,7 @@ ghost use Rattle.apt_meaning.specs.Cuts.{arc_of, end_point};
 ghost use Rattle.apt_meaning.specs.Ranges.{IsMotion};
 ghost use Rattle.apt_meaning.specs.Refusals.{cut_cases, motion_cases};
 ghost use Rattle.apt_meaning.specs.Records as writing;
-ghost use Rattle.apt_motion.specs.Drafts.{drawn, drawn_on, rounds_along, rounds_by, rounds_of};
-ghost use Rattle.apt_motion.specs.Ends.{AreLegs, IsFree, contour_to, legs_to, records_by, rounds_for};
+ghost use Rattle.apt_motion.specs.Drafts.{AreLegs, IsFree, contour_to, drawn, drawn_on, legs_to, records_by, rounds_along, rounds_by, rounds_for, rounds_of};
 
 use crate::acts::Writing;
 use crate::drafts::{Draft, draw};
