@@ -178,7 +178,7 @@ starts from u is none =
     started_there (is_none (first_of (start_up_cases u))) (at_height from.z (start_point u)) (ap is_none (none_first (start_up_cases u) none))
     (record { xy = start_point-is u none; z = is.z })
 
-abbrev pub goal_at : Stop → Surface → Goal
+abbrev goal_at : Stop → Surface → Goal
 goal_at how s = record { how = how; surface = s }
 
 goal_there : (o : Option Figure) (how : Stop) → is_none o ≡ false → is_other_kind o ≡ false
@@ -188,7 +188,7 @@ goal_there (Some (figures.Point xy z)) how there kind = absurd (true≢false kin
 goal_there (Some (figures.Shape s)) how there kind = refl
 goal_there (Some figures.Scalar) how there kind = absurd (true≢false kind)
 
-abbrev pub start_up_on : Situation → Option Position → Option Goal → Option (Option Goal) → Option StartUp
+abbrev start_up_on : Situation → Option Position → Option Goal → Option (Option Goal) → Option StartUp
 start_up_on here p first second =
     p >>= λ start. first >>= λ a. second >>= λ b. Some (record { start = start.xy; first = a; second = b; radius = here.settings.radius })
 

@@ -1,5 +1,5 @@
 -- The manual's table: for each thing that is asked the conditions that refuse it, in order, and their cases.
-use Rattle.std.specs.Prelude.{◌≡◌, ℕ, ℤ, pos, int_lt, int_le, ◌&&◌, not, Bool, true, false, is_some, is_none, List, [], ◌∷◌, ◌++◌, Option, Some, None, Result, Ok, Err}
+use Rattle.std.specs.Prelude.{ℕ, ℤ, pos, int_lt, int_le, ◌&&◌, not, Bool, true, false, is_some, is_none, List, [], ◌∷◌, ◌++◌, Option, Some, None, Result, Ok, Err}
 use Rattle.apt_num.specs.declared.Sign.{Sign}
 use Rattle.apt_words.specs.declared.Case.{Case}
 use Rattle.apt_words.specs.declared.Units.{Units}
@@ -15,6 +15,7 @@ use Rattle.apt_words.specs.declared.ask.Route.{Route}
 use Rattle.apt_words.specs.declared.ask.Route.TheVariants as routes
 use Rattle.apt_words.specs.declared.deed.Deed.{Deed}
 use Rattle.apt_words.specs.Asks.{Ask, Titles, Says, Sets, Defines, Goes, Cuts, Nothing, ask_of}
+use Rattle.apt_words.specs.Options.{◌>>=◌}
 use Rattle.apt_words.specs.Rows.{Row, first_of}
 use Rattle.apt_scalar.specs.Scalars.{whole}
 use Rattle.apt_plane.specs.declared.figures.Surface.{Surface}
@@ -31,10 +32,6 @@ use Rattle.apt_startup.specs.StartUps.{start_up_cases}
 use Rattle.apt_records.specs.declared.record.Note.{Note}
 use Rattle.apt_records.specs.declared.record.Note.TheVariants as notes
 use Rattle.apt_records.specs.declared.record.Position.{Position}
-use Rattle.apt_records.specs.declared.record.Reach.TheVariants as reaches
-use Rattle.apt_meaning.specs.declared.effect.Change.TheVariants as changes
-use Rattle.apt_meaning.specs.declared.effect.Effect.{Effect}
-use Rattle.apt_meaning.specs.declared.effect.Effect.TheVariants as effects
 use Rattle.apt_meaning.specs.declared.situation.Settings.{Settings}
 use Rattle.apt_meaning.specs.declared.situation.Situation.{Situation}
 use Rattle.apt_meaning.specs.declared.motion.Motion.{Motion}
@@ -43,7 +40,7 @@ use Rattle.apt_stop.specs.declared.legs.Legs.TheVariants as the_legs
 use Rattle.apt_meaning.specs.Situations.{has_feed, lacks_feed, with_side}
 use Rattle.apt_meaning.specs.Motions.{motion, grid_step, as_surface, surface_in, turn_at, track_of, stop_of, starts_on_check, course_of}
 use Rattle.apt_meaning.specs.StartUps.{start_up_at}
-use Rattle.apt_meaning.specs.Effects.{note_of, as_position, position_by, moved_from, legs_by}
+use Rattle.apt_meaning.specs.Effects.{note_of, as_position, position_by, moved_by, legs_by}
 
 -- ---- numbers and names
 
@@ -149,13 +146,11 @@ motion_cases m = cut_cases m the_legs.One
 abbrev pub is_too_fine : Settings → Bool
 is_too_fine s = int_lt s.intol grid_step && int_lt s.outtol grid_step
 
--- a contour with these settings
-abbrev pub feed_cases : Settings → List Row → List Row
-feed_cases s more = (s.rapid, cases.RapidContour) ∷ (not (has_feed s), cases.NoFeed) ∷ (is_too_fine s, cases.TooFine) ∷ more
-
 -- a contour whose drive surface runs so against forward
 abbrev pub turned_cases : Legs → Settings → Position → Surface → Sign → Stop → Surface → List Row
-turned_cases legs s start drive turned how check = feed_cases s ((is_zero turned, cases.NoTurn) ∷ cut_cases (motion s start drive turned how check) legs)
+turned_cases legs s start drive turned how check =
+    (s.rapid, cases.RapidContour) ∷ (not (has_feed s), cases.NoFeed) ∷ (is_too_fine s, cases.TooFine)
+    ∷ (is_zero turned, cases.NoTurn) ∷ cut_cases (motion s start drive turned how check) legs
 
 abbrev pub surface_cases : Situation → Option Side → Go → Stop → Legs → Option Position → Option Surface → Option Surface → List Row
 surface_cases here side go how legs (Some start) (Some drive) (Some check) =
@@ -174,6 +169,9 @@ contour_cases here side go drive how check n =
     (is_none here.position, cases.NoFrom)
     ∷ name_cases here.table drive (name_cases here.table check
     (counted_cases (legs_by (whole n)) (λ legs. surface_cases here side go how legs here.position (surface_in here.table drive) (surface_in here.table check))))
+
+abbrev pub godlta_cases : Situation → ℤ → ℤ → ℤ → List Row
+godlta_cases here x y z = (is_none here.position, cases.NoFrom) ∷ move_cases here.settings (here.position >>= λ p. Some (moved_by here.settings.units x y z p))
 
 -- what refuses a place, by the units and the figures
 abbrev pub placed_cases : Units → Table → Place → List Row → List Row
@@ -207,7 +205,7 @@ note_cases notes.Fini = []
 abbrev pub route_cases : Situation → Route → List Row
 route_cases here (routes.From place) = (is_some here.position, cases.FromAgain) ∷ place_cases here place []
 route_cases here (routes.Goto place) = place_cases here place ((lacks_feed here.settings, cases.NoFeed) ∷ [])
-route_cases here (routes.By x y z) = (is_none here.position, cases.NoFrom) ∷ move_cases here.settings (moved_from here x y z)
+route_cases here (routes.By x y z) = godlta_cases here x y z
 route_cases here (routes.Start how name other) = go_cases here how name other
 
 abbrev pub cases_by : Situation → Ask → List Row
@@ -225,28 +223,3 @@ cases_of here deed = cases_by here (ask_of deed)
 -- the first case that refuses a step
 abbrev pub refusal_of : Situation → Deed → Option Case
 refusal_of here deed = first_of (cases_of here deed)
-
--- ---- where the effect is there
-
--- the cases that can still refuse an effect, but for those of a contour's ends
-abbrev pub effect_cases : Situation → Effect → List Row
-effect_cases here (effects.Defines n f) = []
-effect_cases here (effects.Sets (changes.Said note)) = note_cases note
-effect_cases here (effects.Sets (changes.Side side)) = []
-effect_cases here (effects.Sets changes.Nothing) = []
-effect_cases here (effects.Moves reaches.From to) = (is_some here.position, cases.FromAgain) ∷ position_cases to []
-effect_cases here (effects.Moves reaches.Goto to) = move_cases here.settings (Some to)
-effect_cases here (effects.Moves reaches.Godlta to) = move_cases here.settings (Some to)
-effect_cases here (effects.Moves reaches.Start to) = (lacks_feed here.settings, cases.NoFeed) ∷ []
-effect_cases here (effects.Cuts m legs) = feed_cases here.settings []
-
-abbrev pub end_cases : Effect → List Row
-end_cases (effects.Defines n f) = []
-end_cases (effects.Sets change) = []
-end_cases (effects.Moves reach to) = []
-end_cases (effects.Cuts m legs) = cut_cases m legs
-
--- what a step asks for, which only the cases of its ends can still refuse, or the first case that refuses it
-abbrev pub IsEffectOr : Option Case → Option Effect → Result Effect Case → Type 0
-IsEffectOr refusal effect (Ok e) = (effect ≡ Some e) × (refusal ≡ first_of (end_cases e))
-IsEffectOr refusal effect (Err case) = refusal ≡ Some case

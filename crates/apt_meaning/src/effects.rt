@@ -58,7 +58,6 @@ pub fn note_of(units: Units, saying: &Saying) -> Note
 /// by the units that hold, feeds in tenths. None where a definition is refused, a FROM or a GOTO names no point, a GODLTA,
 /// a GO or a contour has no position to start from, a name of GO or of a contour stands for no surface, a case refuses the
 /// point of GO, or a contour has no turn or a count of meetings other than 1 and 2. Where a move leads may be out of range; a contour's motion is in range.
-#[inline(always)]
 #[tactic(auto, using(crate::proofs::Contours::Ranges::motion_in))]
 pub fn effect_of(here: &Situation, deed: &Deed) -> Result<Option<Effect>, AllocError>
     requires situation { IsSituation here.now }
@@ -70,7 +69,6 @@ pub fn effect_of(here: &Situation, deed: &Deed) -> Result<Option<Effect>, AllocE
     asked(here, deed)
 }
 
-#[inline(always)]
 fn asked(here: &Situation, deed: &Deed) -> Result<Option<Effect>, AllocError>
     requires situation { IsSituation here.now }
     requires scalars { HasScalars deed.now }
@@ -109,7 +107,6 @@ fn defined(here: &Situation, name: Symbol, form: &Form) -> Option<Effect>
 }
 
 /// The move to a place.
-#[inline(always)]
 fn goes(here: &Situation, route: &Route) -> Option<Effect>
     requires situation { IsSituation here.now }
     requires scalars { AllScalars (route_numbers route.now) }
@@ -123,7 +120,6 @@ fn goes(here: &Situation, route: &Route) -> Option<Effect>
     }
 }
 
-#[inline(always)]
 fn to_place(here: &Situation, reach: Reach, place: &Place) -> Option<Effect>
     requires { AllScalars (place_numbers place.now) }
     ensures { result ≡ asking.moves reach (asking.place_at here.now place.now) }
@@ -132,7 +128,6 @@ fn to_place(here: &Situation, reach: Reach, place: &Place) -> Option<Effect>
     Some(Effect::Moves(reach, to))
 }
 
-#[inline(always)]
 fn place_at(here: &Situation, place: &Place) -> Option<Position>
     requires { AllScalars (place_numbers place.now) }
     ensures { result ≡ asking.place_at here.now place.now }
@@ -205,7 +200,6 @@ fn legs_to(n: i64) -> Option<Legs>
 }
 
 /// A contour to the n-th meeting with its check surface, with n in millionths.
-#[inline(always)]
 fn contour(
     here: &Situation,
     side: Option<Side>,
@@ -224,7 +218,6 @@ fn contour(
     Some(Effect::Cuts(motion, legs))
 }
 
-#[inline(always)]
 #[tactic(auto, unfolding(crate::specs::Motions::motion_at))]
 fn motion_at(
     here: &Situation,

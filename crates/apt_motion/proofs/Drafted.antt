@@ -1,5 +1,5 @@
 -- The draft of steps, with its vertices counted and its arcs divided, is what the steps come to.
-use Rattle.std.proofs.Common.{inl, inr, ◌≡◌, ◌∙◌, ℕ, ℤ, ◌+◌, ◌-◌, ◌≤◌, Bool, true, false, List, [], ◌∷◌, ◌++◌, length, map, Option, Some, None, Result, Ok, Err, refl, sym, ap, append_assoc, arith}
+use Rattle.std.proofs.Common.{inl, inr, ◌≡◌, ◌∙◌, ℕ, ℤ, ◌+◌, ◌-◌, ◌≤◌, Bool, true, false, List, [], ◌∷◌, ◌++◌, length, map, Option, Some, None, Result, Ok, Err, refl, sym, ap, subst, append_assoc, append-nil, arith}
 use Rattle.std.specs.Prelude.{nat_lt, if◌then◌else◌}
 use Rattle.std.proofs.lemmas.Bool.{ltb-false, le-ltb, lt-ltb, cases_lt}
 use Rattle.apt_words.specs.declared.Case.{Case}
@@ -26,12 +26,40 @@ use Rattle.apt_meaning.specs.Records.{cut_record, records_of, after}
 use Rattle.apt_meaning.specs.Vertices.{cut_points}
 use Rattle.apt_meaning.specs.Compiled.{ends_of, points_of, point_number, asked, asked_within, refused_at, most_points, or_refused, with_front, compilation_behind, compilation}
 use Rattle.apt_meaning.proofs.Contours.Arcs.{vertices_by, vertices-vertices_by}
+use Rattle.apt_words.specs.Answers.{Tells}
+use Rattle.apt_motion.specs.declared.runs.RunError.{RunError}
+use Rattle.apt_motion.specs.declared.runs.RunError.TheVariants as errors
+use Rattle.apt_motion.specs.Ends.{refusal_in, IsStopped}
 use Rattle.apt_motion.specs.Drafts.{ArcAt, drawn, drawn_by, drawn_on, rounds_along, rounds_of, rounds_by, round_at, Draft, behind, or_stopped, draft_from, vertices_at, chords_of, is_open, known, Mark, mark_at, overfull, too_many, nowhere, filled, or_refusal, finished}
 
--- ---- parts of a draft
+-- ---- the draft, step by step
 
 regrouped : (front more : List Record) (first later : List ArcAt) (d : Draft) → behind front first (behind more later d) ≡ behind (front ++ more) (first ++ later) d
 regrouped front more first later d = rw (append_assoc front more d.records, append_assoc first later d.rounds) refl
+
+-- one more step
+pub draws_on : (front : List Record) (first : List ArcAt) (here : Situation) (step : Step) (steps : List Step) (e : Effect) (whole : Draft)
+    → asked (refusal_of here step.deed) (effect_of here step.deed) ≡ Ok e → behind front first (draft_from here (step ∷ steps)) ≡ whole
+    → behind (front ++ records_of step e (drawn e)) (first ++ rounds_of e) (draft_from (after here e (ends_of e)) steps) ≡ whole
+draws_on front first here step steps e whole does so_far =
+    sym (regrouped front (records_of step e (drawn e)) first (rounds_of e) (draft_from (after here e (ends_of e)) steps))
+    ∙ sym (ap (λ a. behind front first (or_stopped step a (λ e. draft_from (after here e (ends_of e)) steps))) does) ∙ so_far
+
+-- a step that is refused ends it
+stopped_at : (front now : List Record) (first later : List ArcAt) (here : Situation) (step : Step) (steps : List Step) (refusal : Refusal) (case : Case) (whole : Draft)
+    → IsStopped here step front now first later refusal case → behind front first (draft_from here (step ∷ steps)) ≡ whole
+    → whole ≡ record { records = now; rounds = later; refusal = Some refusal }
+stopped_at front now first later here step steps refusal case whole stopped so_far =
+    sym so_far
+    ∙ ap (λ a. behind front first (or_stopped step a (λ e. draft_from (after here e (ends_of e)) steps))) stopped.asks
+    ∙ rw (append-nil front, append-nil first, stopped.records, stopped.rounds, stopped.told) refl
+
+pub stops_at : (front now : List Record) (first later : List ArcAt) (here : Situation) (step : Step) (steps : List Step) (error : RunError) (refusal : Refusal) (whole : Draft)
+    → error ≡ errors.Refused refusal → Tells (λ refusal. (case : Case) × IsStopped here step front now first later refusal case) (refusal_in error)
+    → behind front first (draft_from here (step ∷ steps)) ≡ whole → whole ≡ record { records = now; rounds = later; refusal = Some refusal }
+stops_at front now first later here step steps error refusal whole is tells so_far =
+    let stopped = subst (λ e. Tells (λ refusal. (case : Case) × IsStopped here step front now first later refusal case) (refusal_in e)) is tells in
+    stopped_at front now first later here step steps refusal stopped.0 whole stopped.1 so_far
 
 -- ---- a record that is no contour
 

@@ -1,16 +1,10 @@
--- What steps write before their arcs are divided: a contour round a circle has no vertices yet.
-use Rattle.std.specs.Prelude.{◌≡◌, ℕ, ◌-◌, nat_lt, ℤ, Bool, true, false, List, [], ◌∷◌, ◌++◌, length, map, Option, Some, None, Result, Ok, Err, if◌then◌else◌}
+-- The records of steps before their arcs are divided: a contour round a circle has no vertices yet.
+use Rattle.std.specs.Prelude.{ℕ, ◌-◌, nat_lt, ℤ, Bool, true, false, List, [], ◌∷◌, ◌++◌, length, map, Option, Some, None, Result, Ok, Err, if◌then◌else◌}
 use Rattle.apt_plane.specs.declared.figures.Pt.{Pt}
 use Rattle.apt_words.specs.declared.Case.{Case}
 use Rattle.apt_words.specs.declared.Case.TheVariants as cases
 use Rattle.apt_words.specs.declared.Refusal.{Refusal}
-use Rattle.apt_words.specs.declared.deed.Deed.{Deed}
 use Rattle.apt_words.specs.declared.deed.Step.{Step}
-use Rattle.apt_words.specs.Rows.{NoneHolds, first_of}
-use Rattle.apt_stop.specs.Legs.{ends_of as ends_at, AreEnds}
-use Rattle.apt_stop.specs.declared.legs.Legs.{Legs}
-use Rattle.apt_stop.specs.declared.legs.Legs.TheVariants as legs
-use Rattle.apt_stop.specs.declared.legs.Ends.{Ends}
 use Rattle.apt_arc.specs.declared.arc.Arc.{Arc}
 use Rattle.apt_arc.specs.Made.{divided}
 use Rattle.apt_records.specs.declared.record.Position.{Position}
@@ -18,19 +12,14 @@ use Rattle.apt_records.specs.declared.record.Record.{Record}
 use Rattle.apt_records.specs.declared.record.Record.TheVariants as lines
 use Rattle.apt_meaning.specs.declared.situation.Situation.{Situation}
 use Rattle.apt_meaning.specs.declared.motion.Motion.{Motion}
-use Rattle.apt_meaning.specs.declared.effect.Change.TheVariants as changes
 use Rattle.apt_meaning.specs.declared.effect.Effect.{Effect}
 use Rattle.apt_meaning.specs.declared.effect.Effect.TheVariants as effects
 use Rattle.apt_records.specs.Vertices.{at_height}
 use Rattle.apt_meaning.specs.Cuts.{arc_of, end_point, motions_of}
 use Rattle.apt_meaning.specs.Effects.{effect_of}
-use Rattle.apt_meaning.specs.Motions.{course_of}
-use Rattle.apt_meaning.specs.Ranges.{IsSituation, IsMotion}
-use Rattle.apt_meaning.specs.Refusals.{cut_cases, end_cases, refusal_of}
-use Rattle.apt_meaning.specs.Records.{records_of, with_statement, after}
+use Rattle.apt_meaning.specs.Refusals.{refusal_of}
+use Rattle.apt_meaning.specs.Records.{records_of, after}
 use Rattle.apt_meaning.specs.Compiled.{ends_of, asked, refused_at, most_points}
-use Rattle.apt_motion.specs.declared.acts.Writing.{Writing}
-use Rattle.apt_motion.specs.declared.acts.Writing.TheVariants as writings
 
 -- ---- what a step leaves to be divided
 
@@ -70,59 +59,6 @@ rounds_of (effects.Defines n f) = []
 rounds_of (effects.Sets change) = []
 rounds_of (effects.Moves reach to) = []
 rounds_of (effects.Cuts m legs) = rounds_along m.start.z (motions_of m legs)
-
--- ---- what is written for an effect
-
-abbrev pub writing_of : Effect → Writing
-writing_of (effects.Defines n f) = writings.Nothing
-writing_of (effects.Sets (changes.Said note)) = writings.Line (lines.Note note)
-writing_of (effects.Sets (changes.Side side)) = writings.Nothing
-writing_of (effects.Sets changes.Nothing) = writings.Nothing
-writing_of (effects.Moves reach to) = writings.Line (lines.Point reach to)
-writing_of (effects.Cuts m k) = writings.Contour m (ends_at k (course_of m))
-
--- the legs that end there
-abbrev pub legs_to : Option Pt → Legs
-legs_to None = legs.One
-legs_to (Some second) = legs.Two
-
-abbrev pub contour_to : Motion → Ends → Effect
-contour_to m ends = effects.Cuts m (legs_to ends.second)
-
--- what it adds to the draft: records, and arcs
-abbrev pub records_by : Step → Writing → List Record
-records_by step writings.Nothing = []
-records_by step (writings.Line r) = with_statement step (r ∷ [])
-records_by step (writings.Contour m ends) = records_of step (contour_to m ends) (drawn (contour_to m ends))
-
-abbrev pub rounds_for : Writing → List ArcAt
-rounds_for writings.Nothing = []
-rounds_for (writings.Line r) = []
-rounds_for (writings.Contour m ends) = rounds_of (contour_to m ends)
-
--- the legs of a contour that no case refuses, to their ends
-pub record AreLegs (m : Motion) (k : Legs) (ends : Ends) : Type 0 where
-  pub motion : IsMotion m
-  pub none : NoneHolds (cut_cases m k)
-  pub is : ends ≡ ends_at k (course_of m)
-  pub points : AreEnds ends
-
-abbrev pub IsFree : Writing → Type 0
-IsFree writings.Nothing = Unit {0}
-IsFree (writings.Line r) = Unit {0}
-IsFree (writings.Contour m ends) = AreLegs m (legs_to ends.second) ends
-
--- ---- a step that is done or refused
-
--- an effect is written and holds, or a case refuses its ends
-abbrev pub IsTaken : Situation → Effect → Situation → Result Writing Case → Type 0
-IsTaken here e behind (Ok w) = (first_of (end_cases e) ≡ None) × (w ≡ writing_of e) × (behind ≡ after here e (ends_of e))
-IsTaken here e behind (Err case) = first_of (end_cases e) ≡ Some case
-
--- the same of a step, by what it asks for
-abbrev pub IsDone : Situation → Deed → Situation → Result Writing Case → Type 0
-IsDone here deed behind (Ok w) = (e : Effect) × (asked (refusal_of here deed) (effect_of here deed) ≡ Ok e) × IsTaken here e behind (Ok w) × IsFree w × IsSituation behind
-IsDone here deed behind (Err case) = asked (refusal_of here deed) (effect_of here deed) ≡ Err case
 
 -- ---- the draft of steps
 

@@ -1,23 +1,25 @@
-//! The records of steps.
+//! The records of effects that define nothing, and what holds behind them.
 
 ghost use Rattle.std.specs.Prelude.{◌≡◌, ◌≤◌, ◌+◌, ◌++◌, [], ◌∷◌, map, vec_len, vec_capacity, OnOk};
 ghost use Rattle.apt_words.specs.Rows.{NoneHolds};
 ghost use Rattle.apt_plane.specs.Ranges.{IsPoint};
-ghost use Rattle.apt_stop.specs.declared.legs.Legs.TheVariants as legs;
 ghost use Rattle.apt_records.specs.declared.record.Record.TheVariants as lines;
-ghost use Rattle.apt_meaning.specs.Motions.{onward};
+ghost use Rattle.apt_meaning.specs.Compiled as compiled;
+ghost use Rattle.apt_meaning.specs.Motions.{course_of, onward};
 ghost use Rattle.apt_meaning.specs.Cuts.{arc_of, end_point};
-ghost use Rattle.apt_meaning.specs.Ranges.{IsMotion};
+ghost use Rattle.apt_meaning.specs.Ranges.{IsSituation, IsEffect, IsMotion};
 ghost use Rattle.apt_meaning.specs.Refusals.{cut_cases, motion_cases};
+ghost use Rattle.apt_stop.specs.Legs.{ends_of, last_end, AreEnds};
 ghost use Rattle.apt_meaning.specs.Records as writing;
-ghost use Rattle.apt_motion.specs.Drafts.{AreLegs, IsFree, contour_to, drawn, drawn_on, legs_to, records_by, rounds_along, rounds_by, rounds_for, rounds_of};
+ghost use Rattle.apt_meaning.specs.declared.effect.Effect.TheVariants as effects;
+ghost use Rattle.apt_motion.specs.Drafts.{drawn, drawn_on, rounds_along, rounds_by, rounds_of};
+ghost use Rattle.apt_motion.specs.Finding.{SetsOrMoves};
 
-use crate::acts::Writing;
 use crate::drafts::{Draft, draw};
-use apt_meaning::Motion;
+use apt_meaning::{Change, Effect, Motion, Situation};
 use apt_plane::Pt;
 use apt_records::Record;
-use apt_stop::Ends;
+use apt_stop::{Ends, Legs};
 use apt_words::Step;
 use std::alloc::{AllocError, Global};
 
@@ -85,6 +87,52 @@ fn write_leg(alloc: Global, draft: &mut Draft, motion: &Motion, end: Pt) -> Resu
     Ok(())
 }
 
+/// Then holds what holds behind what a step asks for that is neither a definition nor a contour.
+pub(crate) fn pass_by(here: &mut Situation, effect: Effect)
+    requires situation { IsSituation here.old }
+    requires effect { IsEffect effect }
+    requires plain { SetsOrMoves effect }
+    ensures { here.new ≡ writing.after here.old effect (compiled.ends_of effect) }
+{
+    match effect {
+        Effect::Sets(change) => here.settings.change(&change),
+        Effect::Moves(reach, to) => here.go_to(reach, to),
+        Effect::Defines(..) | Effect::Cuts(..) => unreachable!(),
+    }
+}
+
+/// The records of what a step asks for that is neither a definition nor a contour, and so has no vertices; then holds
+/// what holds behind it.
+#[inline(always)]
+pub(crate) fn take(
+    records: &mut Vec<Record>,
+    here: &mut Situation,
+    step: &Step,
+    effect: Effect,
+) -> Result<(), AllocError>
+    requires situation { IsSituation here.old }
+    requires effect { IsEffect effect }
+    requires plain { SetsOrMoves effect }
+    ensures after { OnOk result (here.new ≡ writing.after here.old effect (compiled.ends_of effect)) }
+    ensures records { OnOk result (records.new.items ≡ records.old.items ++ writing.records_of step.now effect (drawn effect)) }
+{
+    make_room(records)?;
+    match effect {
+        Effect::Sets(change) => {
+            here.settings.change(&change);
+            if let Change::Said(note) = change {
+                put(records, step, Record::Note(note));
+            }
+        }
+        Effect::Moves(reach, to) => {
+            put(records, step, Record::Point(reach, to));
+            here.go_to(reach, to);
+        }
+        Effect::Defines(..) | Effect::Cuts(..) => unreachable!(),
+    }
+    Ok(())
+}
+
 /// The records of two legs that no case refuses.
 #[inline(never)]
 #[tactic(auto, using(apt_meaning::proofs::Contours::Legs::first_free))]
@@ -97,7 +145,7 @@ fn write_two(
 ) -> Result<(), AllocError>
     requires room { vec_len draft.old.records + 2 ≤ vec_capacity draft.old.records }
     requires motion { IsMotion motion.now }
-    requires none { NoneHolds (cut_cases motion.now legs.Two) }
+    requires none { NoneHolds (cut_cases motion.now Legs.Two) }
     requires point { IsPoint first }
     requires first { first ≡ end_point motion.now }
     requires second { second ≡ end_point (onward motion.now (end_point motion.now)) }
@@ -113,7 +161,7 @@ fn write_two(
 #[tactic(auto, using(crate::proofs::Legs::next_is))]
 fn next_leg(motion: &Motion, first: Pt) -> Motion
     requires motion { IsMotion motion.now }
-    requires none { NoneHolds (cut_cases motion.now legs.Two) }
+    requires none { NoneHolds (cut_cases motion.now Legs.Two) }
     requires point { IsPoint first }
     requires first { first ≡ end_point motion.now }
     ensures value { result ≡ onward motion.now (end_point motion.now) }
@@ -129,56 +177,46 @@ fn write_legs(
     alloc: Global,
     draft: &mut Draft,
     motion: &Motion,
+    legs: Legs,
     ends: Ends,
 ) -> Result<(), AllocError>
     requires room { vec_len draft.old.records + 2 ≤ vec_capacity draft.old.records }
-    requires legs { AreLegs motion.now (legs_to ends.second) ends }
-    ensures records { OnOk result (draft.new.records.items ≡ draft.old.records.items ++ map (writing.cut_record motion.now.start.z) (drawn (contour_to motion.now ends))) }
-    ensures rounds { OnOk result (draft.new.rounds.items ≡ draft.old.rounds.items ++ rounds_of (contour_to motion.now ends)) }
+    requires motion { IsMotion motion.now }
+    requires none { NoneHolds (cut_cases motion.now legs) }
+    requires ends { ends ≡ ends_of legs (course_of motion.now) }
+    requires points { AreEnds ends }
+    ensures records { OnOk result (draft.new.records.items ≡ draft.old.records.items ++ map (writing.cut_record motion.now.start.z) (drawn (effects.Cuts motion.now legs))) }
+    ensures rounds { OnOk result (draft.new.rounds.items ≡ draft.old.rounds.items ++ rounds_of (effects.Cuts motion.now legs)) }
 {
-    match ends.second {
-        None => write_leg(alloc, draft, motion, ends.first),
-        Some(second) => write_two(alloc, draft, motion, ends.first, second),
+    match (legs, ends.second) {
+        (Legs::One, _) => write_leg(alloc, draft, motion, ends.first),
+        (Legs::Two, Some(second)) => write_two(alloc, draft, motion, ends.first, second),
+        (Legs::Two, None) => unreachable!(),
     }
 }
 
-/// Draws a contour that no case refuses.
+/// Draws a contour that no case refuses; then holds what holds behind it.
 #[tactic(auto, using(crate::proofs::Legs::drawn_behind))]
-fn write_contour(
+pub(crate) fn take_cut(
     alloc: Global,
     draft: &mut Draft,
+    here: &mut Situation,
     step: &Step,
     motion: &Motion,
+    legs: Legs,
     ends: Ends,
 ) -> Result<(), AllocError>
-    requires legs { AreLegs motion.now (legs_to ends.second) ends }
-    ensures records { OnOk result (draft.new.records.items ≡ draft.old.records.items ++ writing.records_of step.now (contour_to motion.now ends) (drawn (contour_to motion.now ends))) }
-    ensures rounds { OnOk result (draft.new.rounds.items ≡ draft.old.rounds.items ++ rounds_of (contour_to motion.now ends)) }
+    requires motion { IsMotion motion.now }
+    requires none { NoneHolds (cut_cases motion.now legs) }
+    requires ends { ends ≡ ends_of legs (course_of motion.now) }
+    requires points { AreEnds ends }
+    ensures after { OnOk result (here.new ≡ writing.cut_at here.old motion.now (last_end ends)) }
+    ensures records { OnOk result (draft.new.records.items ≡ draft.old.records.items ++ writing.records_of step.now (effects.Cuts motion.now legs) (drawn (effects.Cuts motion.now legs))) }
+    ensures rounds { OnOk result (draft.new.rounds.items ≡ draft.old.rounds.items ++ rounds_of (effects.Cuts motion.now legs)) }
 {
     make_room(&mut draft.records)?;
     begin_cut(&mut draft.records, step, motion);
-    write_legs(alloc, draft, motion, ends)
-}
-
-/// Draws what a step writes.
-#[inline(always)]
-pub(crate) fn write(
-    alloc: Global,
-    draft: &mut Draft,
-    step: &Step,
-    writing: Writing,
-) -> Result<(), AllocError>
-    requires free { IsFree writing }
-    ensures records { OnOk result (draft.new.records.items ≡ draft.old.records.items ++ records_by step.now writing) }
-    ensures rounds { OnOk result (draft.new.rounds.items ≡ draft.old.rounds.items ++ rounds_for writing) }
-{
-    match writing {
-        Writing::Nothing => Ok(()),
-        Writing::Line(line) => {
-            make_room(&mut draft.records)?;
-            put(&mut draft.records, step, line);
-            Ok(())
-        }
-        Writing::Contour(motion, ends) => write_contour(alloc, draft, step, &motion, ends),
-    }
+    write_legs(alloc, draft, motion, legs, ends)?;
+    here.cut_to(motion, ends.last());
+    Ok(())
 }

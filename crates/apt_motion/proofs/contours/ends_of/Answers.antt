@@ -5,8 +5,8 @@ use Rattle.apt_stop.specs.Nearness.{is_near, off_track}
 use Rattle.apt_stop.specs.Legs.{leg_cases, ends_of as ends_at}
 use Rattle.apt_meaning.specs.Motions.{track_of, stop_of, starts_on_check}
 use Rattle.apt_motion.proofs.Cuts.{on_and_off, cut_ends}
-use Rattle.apt_motion.proofs.acts.ends_of.Goals as goal
-use Rattle.apt_motion.proofs.acts.ends_of.Goals.{else-not-on-via-then-not-on+else-lacks_room-2, else-not-on-via-else-not-on}
+use Rattle.apt_motion.proofs.contours.ends_of.Goals as goal
+use Rattle.apt_motion.proofs.contours.ends_of.Goals.{else-not-on-via-then-not-on+else-lacks_room-2, else-not-on-via-else-not-on}
 
 pub returns-clause-value : goal.returns-clause-value
 returns-clause-value c =

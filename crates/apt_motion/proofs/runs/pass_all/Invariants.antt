@@ -4,7 +4,7 @@ use Rattle.apt_scalar.specs.StepScalars.{AreScalars}
 use Rattle.apt_meaning.specs.Situations.{first_situation}
 use Rattle.apt_meaning.specs.Ranges.{IsSituation}
 use Rattle.apt_meaning.specs.Compiled.{first_refused}
-use Rattle.apt_motion.proofs.runs.ends.Given as goal
+use Rattle.apt_motion.proofs.runs.pass_all.Given as goal
 
 abbrev pub invariant-steps : goal.invariant-steps
 invariant-steps l =
