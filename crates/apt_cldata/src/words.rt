@@ -75,28 +75,29 @@ fn push_note(bytes: &mut Vec<u8>, seq: i64, note: &Note) -> Result<(), AllocErro
 {
     match note {
         Note::Partno(text) => push_partno(bytes, seq, &text.bytes),
-        Note::Rapid => push_framed(bytes, &[seq, 2000, 2]),
-        Note::Stop => push_framed(bytes, &[seq, 2000, 3]),
-        Note::OptStop => push_framed(bytes, &[seq, 2000, 4]),
-        Note::End => push_framed(bytes, &[seq, 2000, 5]),
-        Note::Feed(tenths) => push_framed(bytes, &[seq, 2000, 6, *tenths]),
-        Note::Spindle(turn, n) => push_framed(bytes, &[seq, 2000, 7, *n, turn_word(*turn)]),
-        Note::Coolant(cool) => push_framed(bytes, &[seq, 2000, 8, cool_word(*cool)]),
-        Note::Tool(n) => push_framed(bytes, &[seq, 2000, 9, *n]),
-        Note::Cutter(d) => push_framed(bytes, &[seq, 6000, 1, *d]),
-        Note::Intol(t) => push_framed(bytes, &[seq, 6000, 2, *t]),
-        Note::Outtol(t) => push_framed(bytes, &[seq, 6000, 3, *t]),
-        Note::Units(units) => push_framed(bytes, &[seq, 6000, 4, units_word(*units)]),
-        Note::Fini => push_framed(bytes, &[seq, 14_000, 0]),
+        Note::Rapid => push_rows(bytes, &[row(seq), row(2000), row(2)]),
+        Note::Stop => push_rows(bytes, &[row(seq), row(2000), row(3)]),
+        Note::OptStop => push_rows(bytes, &[row(seq), row(2000), row(4)]),
+        Note::End => push_rows(bytes, &[row(seq), row(2000), row(5)]),
+        Note::Feed(tenths) => push_rows(bytes, &[row(seq), row(2000), row(6), row(*tenths)]),
+        Note::Spindle(turn, n) => {
+            let (n, turn) = (row(*n), row(turn_word(*turn)));
+            push_rows(bytes, &[row(seq), row(2000), row(7), n, turn])
+        }
+        Note::Coolant(cool) => {
+            let cool = row(cool_word(*cool));
+            push_rows(bytes, &[row(seq), row(2000), row(8), cool])
+        }
+        Note::Tool(n) => push_rows(bytes, &[row(seq), row(2000), row(9), row(*n)]),
+        Note::Cutter(d) => push_rows(bytes, &[row(seq), row(6000), row(1), row(*d)]),
+        Note::Intol(t) => push_rows(bytes, &[row(seq), row(6000), row(2), row(*t)]),
+        Note::Outtol(t) => push_rows(bytes, &[row(seq), row(6000), row(3), row(*t)]),
+        Note::Units(units) => {
+            let units = row(units_word(*units));
+            push_rows(bytes, &[row(seq), row(6000), row(4), units])
+        }
+        Note::Fini => push_rows(bytes, &[row(seq), row(14_000), row(0)]),
     }
-}
-
-/// Appends words behind their length.
-fn push_framed(bytes: &mut Vec<u8>, words: &[i64]) -> Result<(), AllocError>
-    requires { 8 * length words.now < 2 ^ 32 }
-    ensures { OnOk result (bytes.new.items ≡ bytes.old.items ++ files.framed words.now) }
-{
-    push_front(bytes, words.len(), words)
 }
 
 /// Appends the length of so many words and the first of them, and makes room for the others.
