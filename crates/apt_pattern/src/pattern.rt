@@ -6,7 +6,6 @@ ghost use Rattle.apt_meaning.specs.Situations.{position_at};
 ghost use Rattle.apt_pattern.specs.Patterns as spec;
 ghost use Rattle.apt_pattern.specs.Ranges.{IsPattern};
 
-use apt_num::div_near;
 use apt_plane::Pt;
 use apt_records::Position;
 
@@ -18,23 +17,44 @@ pub struct Pattern {
     pub count: u32,
 }
 
-fn times(a: i64, b: i64) -> i128
-    requires left { unsigned_abs a ≤ 10 ^ 12 }
-    requires right { unsigned_abs b ≤ 10 ^ 12 }
+/// A product that fits in 64 bits.
+fn times(a: i64, b: i64) -> i64
+    requires left { unsigned_abs a ≤ 10 ^ 8 }
+    requires right { unsigned_abs b ≤ 10 ^ 10 }
+    ensures { result ≡ a *ℤ b }
+{
+    wide(a, b) as i64
+}
+
+fn wide(a: i64, b: i64) -> i128
+    requires left { unsigned_abs a ≤ 10 ^ 8 }
+    requires right { unsigned_abs b ≤ 10 ^ 10 }
     ensures value { result ≡ a *ℤ b }
-    ensures small { unsigned_abs result ≤ 10 ^ 24 }
+    ensures small { unsigned_abs result ≤ 10 ^ 18 }
 {
     i128::from(a) * i128::from(b)
 }
 
+/// The whole number nearest to a quotient, a half going away from zero.
 #[tactic(auto, using(crate::proofs::Bounds::part_bound))]
-fn part(n: i128, last: u32) -> i128
+fn part(n: i64, last: u32) -> i64
     requires some { 0 < last }
     requires far { unsigned_abs n ≤ 100000000 * last }
     ensures value { result ≡ near n (pos last) }
     ensures small { unsigned_abs result ≤ 100000000 }
 {
-    div_near(n, i128::from(last))
+    quotient_near(n, last)
+}
+
+/// In 64 bits, which a way of a pattern never passes.
+fn quotient_near(n: i64, last: u32) -> i64
+    requires some { 0 < last }
+    requires far { unsigned_abs n ≤ 100000000 * last }
+    ensures { result ≡ near n (pos last) }
+{
+    let bottom = u64::from(last);
+    let size = ((2 * n.unsigned_abs() + bottom) / (2 * bottom)) as i64;
+    if n < 0 { -size } else { size }
 }
 
 /// So many of the equal parts of a way, of which it has `last`.
@@ -46,7 +66,7 @@ fn share(way: i64, k: u32, last: u32) -> i64
     ensures value { result ≡ near (way *ℤ pos k) (pos last) }
     ensures small { unsigned_abs result ≤ 100000000 }
 {
-    part(times(way, i64::from(k)), last) as i64
+    part(times(way, i64::from(k)), last)
 }
 
 fn way(p: i64, q: i64) -> i64
