@@ -1,4 +1,5 @@
 pub mod ArcPlan
+pub mod Plans
 pub mod ArcsSaid
 pub mod Straight
 pub mod Fits

@@ -1,6 +1,7 @@
 -- What is left of a tape with holes: the blocks that a writer makes of the acts that are left.
 use Rattle.std.proofs.Common.{◌≡◌, ◌∙◌, ℕ, ◌<◌, ◌≤◌, inl, inr, Bool, true, false, List, [], ◌∷◌, ◌++◌, length, map, drop, Option, Some, None, Ok, refl, ap, sym, subst, arith, append-nil, append_assoc}
 use Rattle.std.specs.List.{flat_map}
+use Rattle.std.proofs.Math.Seq.{drop-append_seam}
 use Rattle.std.proofs.lemmas.List.{length-map, length-append, map-append}
 use Rattle.apt_tapecode.specs.Tapecode.{byte_of}
 use Rattle.apt_machine.specs.declared.machine.Machine.{Machine}
@@ -19,7 +20,7 @@ use Rattle.apt_cycle.specs.declared.hole.Hole.{Hole}
 use Rattle.apt_cycle.specs.CycleBlocks.{drills, cycle_run}
 use Rattle.apt_cycle.specs.Holes.{as_hole, hole_words}
 use Rattle.apt_cycle.specs.CycleTape.{closed, at_start, cycle_tape, Next, next_by, next, next_block, behind_next, next_bytes, text_left, posted}
-use Rattle.apt_cycle.specs.Plans.{IsFront}
+use Rattle.apt_cycle.specs.Windows.{IsFront}
 use Rattle.apt_cycle.specs.Writable.{AreTaken}
 use Rattle.apt_cycle.proofs.Holes.{bored}
 use Rattle.apt_cycle.proofs.Next.{blocks_next}
@@ -61,6 +62,10 @@ taken_on p q done text front left rest count few is some is_text is_q is_count i
     ap (λ bytes. done ++ bytes) (posted_on p front left few is some)
     ∙ sym (append_assoc done (next_bytes p front) (posted (behind_next p front) (drop (next p front).count (front ++ left))))
     ∙ λ i. sym is_text i ++ posted (sym is_q i) (sym (is_rest ∙ ap (λ n. drop n (front ++ left)) is_count) i)
+
+-- all acts at the front are passed at once
+pub all_passed : (front left : List ArcAct) (count : ℕ) → count ≡ length front → left ≡ drop count (front ++ left)
+all_passed front left count e = sym (ap (λ n. drop n (front ++ left)) e ∙ drop-append_seam front left)
 
 -- where no act is at the front none is left
 pub none_posted : (p : Posting) (front left : List ArcAct) → IsFront front left → length front ≡ 0 → posted p (front ++ left) ≡ []

@@ -14,7 +14,7 @@ use Rattle.apt_circular.specs.Fits.{FitToTheEnd, IsFitting}
 use Rattle.apt_circular.specs.Writable.{stands_behind, ArcsCan}
 use Rattle.apt_cycle.specs.CycleBlocks.{cycle_run}
 use Rattle.apt_cycle.specs.CycleTape.{cycle_tape}
-use Rattle.apt_cycle.specs.Plans.{plan_on}
+use Rattle.apt_circular.specs.Plans.{plan_on}
 use Rattle.apt_cycle.specs.Writable.{AreTaken}
 use Rattle.apt_cycle.proofs.BlockByBlock.{plan_runs}
 

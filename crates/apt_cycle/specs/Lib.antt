@@ -4,4 +4,4 @@ pub mod Settled
 pub mod Holes
 pub mod CycleTape
 pub mod Writable
-pub mod Plans
+pub mod Windows

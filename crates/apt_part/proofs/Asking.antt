@@ -11,7 +11,8 @@ use Rattle.apt_circular.specs.ArcsSaid.{circle_by, arcs_by}
 use Rattle.apt_circular.specs.declared.ArcAct.{ArcAct}
 use Rattle.apt_circular.specs.declared.ArcAct.TheVariants.{Plain}
 use Rattle.apt_pattern.specs.Holes.{AsksPlainly}
-use Rattle.apt_tape.specs.Tapes.{asked_on, plainly}
+use Rattle.apt_circular.specs.Plans.{plainly}
+use Rattle.apt_tape.specs.Tapes.{asked_on}
 
 -- a record that is no contour asks for the same on both
 asks_alike : (t : Bool) (before : List Record) (r : Record) → arcs_by before r (circle_by before) ≡ plainly (record_said before r)

@@ -14,7 +14,8 @@ use Rattle.apt_circular.specs.declared.ArcAct.{ArcAct}
 use Rattle.apt_circular.specs.ArcPlan.{plan_arcs}
 use Rattle.apt_circular.specs.Writable.{stands_behind}
 use Rattle.apt_circular.proofs.ArcsSaid.{arcs_said}
-use Rattle.apt_tape.specs.Tapes.{plainly, acts_on}
+use Rattle.apt_circular.specs.Plans.{plainly}
+use Rattle.apt_tape.specs.Tapes.{acts_on}
 use Rattle.apt_sweeps.specs.ArcSweeps.{sweeps_behind, sweeps_of, AreArcsOf}
 use Rattle.apt_sweeps.proofs.Belonging.{plan_sweeps}
 

@@ -8,7 +8,7 @@ use Rattle.apt_circular.specs.declared.ArcAct.{ArcAct}
 use Rattle.apt_machine.specs.declared.machine.Machine.{Machine}
 use Rattle.apt_post.proofs.HowMany.{plan_few}
 use Rattle.apt_tape.specs.Tapes.{acts_on}
-use Rattle.apt_tape.specs.Bytes.{left_of}
+use Rattle.apt_circular.specs.Plans.{left_of}
 use Rattle.apt_tape.proofs.Plainly.{acts_few}
 use Rattle.apt_tape.specs.Differences.{HeadsDiffer, DifferAt, AreBeside, IsDifference}
 use Rattle.apt_tape.specs.Comparisons.{AreCompared}

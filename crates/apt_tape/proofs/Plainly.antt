@@ -30,9 +30,9 @@ use Rattle.apt_circular.specs.Fits.{IsFitting}
 use Rattle.apt_circular.specs.Writable.{ArcsCan}
 use Rattle.apt_cycle.specs.CycleBlocks.{cycle_run}
 use Rattle.apt_cycle.specs.CycleTape.{cycle_tape}
-use Rattle.apt_cycle.specs.Plans.{plan_on}
+use Rattle.apt_circular.specs.Plans.{plainly, plan_on}
 use Rattle.apt_cycle.proofs.Planned.{planned_runs, program_fits, plain_goes}
-use Rattle.apt_tape.specs.Tapes.{plainly, acts_on, plain_run, run_on, tape_on, IsWritable}
+use Rattle.apt_tape.specs.Tapes.{acts_on, plain_run, run_on, tape_on, IsWritable}
 
 -- ---- refusals
 
@@ -72,7 +72,7 @@ pub arc_runs : (m : Machine) (rs : List Record) (tape : List ℕ) → m.cycles �
 arc_runs m rs tape c e run = rw (c, e, run) (ap Ok (arcs_said rs))
 
 -- a writer of holes goes by the plan with arcs where the machine cuts them, and else by the plain one
-planned_said : (m : Machine) (rs : List Record) → plan_on m.circles rs ≡ acts_on m rs
+pub planned_said : (m : Machine) (rs : List Record) → plan_on m.circles rs ≡ acts_on m rs
 planned_said m rs = by m.circles
   where
     by : (circles : Bool) → plan_on circles rs ≡ (if circles then arcs_of rs else plainly (acts_of rs))

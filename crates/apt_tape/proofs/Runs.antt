@@ -14,7 +14,8 @@ use Rattle.apt_circular.specs.declared.ArcAct.{ArcAct}
 use Rattle.apt_circular.specs.declared.ArcAct.TheVariants.{Plain}
 use Rattle.apt_tape.specs.declared.reader.Reader.TheVariants as readers
 use Rattle.apt_tape.specs.declared.run.TapeRun.{TapeRun}
-use Rattle.apt_tape.specs.Tapes.{Kind, plainly, run_in}
+use Rattle.apt_circular.specs.Plans.{plainly}
+use Rattle.apt_tape.specs.Tapes.{Kind, run_in}
 use Rattle.apt_tape.specs.Runs.{kind_of, code_of, Stands, HasRun}
 
 -- plain acts are dropped

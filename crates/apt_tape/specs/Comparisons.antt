@@ -2,7 +2,7 @@
 use Rattle.std.specs.Prelude.{◌≡◌, ◌+◌, List, length, None}
 use Rattle.apt_circular.specs.declared.ArcAct.{ArcAct}
 use Rattle.apt_tape.specs.Tapes.{acts_on}
-use Rattle.apt_tape.specs.Bytes.{left_of}
+use Rattle.apt_circular.specs.Plans.{left_of}
 use Rattle.apt_tape.specs.Differences.{AreBeside}
 use Rattle.apt_tape.specs.declared.comparison.Comparison.{Comparison}
 

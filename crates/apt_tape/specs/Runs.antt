@@ -14,7 +14,8 @@ use Rattle.apt_tape.specs.declared.reader.Reader.{Reader}
 use Rattle.apt_tape.specs.declared.reader.Reader.TheVariants as readers
 use Rattle.apt_tape.specs.declared.run.TapeRun.{TapeRun}
 use Rattle.apt_cycle.specs.CycleBlocks.{cycle_meaning, nothing_drilled}
-use Rattle.apt_tape.specs.Tapes.{Kind, OfMoves, WithArcs, WithHoles, plainly, run_in}
+use Rattle.apt_circular.specs.Plans.{plainly}
+use Rattle.apt_tape.specs.Tapes.{Kind, OfMoves, WithArcs, WithHoles, run_in}
 
 -- ---- a reader
 

@@ -1,5 +1,5 @@
 -- What the acts, the run and the bytes of a tape are on a machine, whose table says whether a leg round a circle is one arc, and whether a hole is one block.
-use Rattle.std.specs.Prelude.{ℕ, Bool, List, map, None, Result, if◌then◌else◌}
+use Rattle.std.specs.Prelude.{ℕ, Bool, List, None, Result, if◌then◌else◌}
 use Rattle.std.specs.Result.{result_map_both}
 use Rattle.apt_records.specs.declared.record.Record.{Record}
 use Rattle.apt_tapecode.specs.declared.Code.{Code}
@@ -11,19 +11,15 @@ use Rattle.apt_post.specs.Plan.{plan}
 use Rattle.apt_post.specs.Said.{record_said, acts_of}
 use Rattle.apt_post.specs.Blocks.{IsProgram}
 use Rattle.apt_circular.specs.declared.ArcAct.{ArcAct}
-use Rattle.apt_circular.specs.declared.ArcAct.TheVariants.{Plain}
 use Rattle.apt_circular.specs.ArcBlocks.{arc_run}
 use Rattle.apt_circular.specs.ArcPlan.{plan_arcs}
+use Rattle.apt_circular.specs.Plans.{plainly}
 use Rattle.apt_circular.specs.ArcsSaid.{circle_by, arcs_by, arcs_of}
 use Rattle.apt_circular.specs.ArcTape.{arc_tape}
 use Rattle.apt_circular.specs.Fits.{IsFitting}
 use Rattle.apt_circular.specs.Writable.{ArcsCan}
 use Rattle.apt_cycle.specs.CycleBlocks.{cycle_run}
 use Rattle.apt_cycle.specs.CycleTape.{cycle_tape}
-
--- plain acts, among those with arcs
-abbrev pub plainly : List Act → List ArcAct
-plainly done = map Plain done
 
 -- ---- the acts that records ask for
 

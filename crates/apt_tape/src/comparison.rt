@@ -3,12 +3,13 @@
 ghost use Rattle.std.specs.Prelude.{◌≡◌, ◌+◌, ◌<◌, ◌≤◌, ◌^◌, ◌++◌, map, false, IsTrue, List, [], ◌∷◌, length, None};
 ghost use Rattle.apt_records.specs.Ranges.{vertex_count};
 ghost use Rattle.apt_circular.specs.declared.ArcAct.{ArcAct};
-ghost use Rattle.apt_tape.specs.Bytes.{left_of};
+ghost use Rattle.apt_circular.specs.Plans.{left_of};
 ghost use Rattle.apt_tape.specs.Differences.{AreBeside, HeadsDiffer};
 
 use crate::act::is_same_act;
-use crate::plan::Planned;
-use crate::{Taker, TapeAct, TapePlan};
+use crate::plan::{Planned, plan_of};
+use crate::{Taker, TapeAct};
+use apt_circular::TapePlan;
 use apt_machine::Machine;
 use apt_records::Record;
 use std::alloc::AllocError;
@@ -42,7 +43,7 @@ impl<'a> Comparison<'a> {
         Comparison {
             records,
             machine,
-            left: TapePlan::of(records, machine),
+            left: plan_of(records, machine),
             next: 1,
             first: None,
         }

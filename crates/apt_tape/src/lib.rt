@@ -11,7 +11,7 @@ mod tape;
 
 pub use act::TapeAct;
 pub use comparison::Comparison;
-pub use plan::{TapePlan, counts_on};
+pub use plan::counts_on;
 pub use reader::Reader;
 pub use run::{Taker, TapeRun};
 pub use tape::Tape;

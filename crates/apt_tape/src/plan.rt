@@ -3,12 +3,12 @@
 ghost use Rattle.std.specs.Prelude.{◌≡◌, ◌∷◌, ◌+◌, ◌<◌, ◌^◌, [], List, None, length, IfSome};
 ghost use Rattle.apt_records.specs.Ranges.{vertex_count};
 ghost use Rattle.apt_post.specs.Plan.{segments};
+ghost use Rattle.apt_circular.specs.Plans.{left_of};
 ghost use Rattle.apt_circular.specs.declared.ArcAct.{ArcAct};
 ghost use Rattle.apt_tape.specs.Tapes.{acts_on};
-ghost use Rattle.apt_tape.specs.Bytes.{left_of};
 
 use crate::TapeAct;
-use apt_circular::{ArcAct, ArcPlan, arc_counts};
+use apt_circular::{ArcAct, ArcPlan, TapePlan, arc_counts};
 use apt_control::Act;
 use apt_machine::Machine;
 use apt_post::{Counts, Plan, counts};
@@ -31,7 +31,7 @@ pub(crate) trait Planned: Drop {
 impl<'a> Planned for Plan<'a> {
     type Act = Act;
 
-    ghost use Rattle.apt_tape.specs.Tapes.{plainly};
+    ghost use Rattle.apt_circular.specs.Plans.{plainly};
 
     ghost left = { λ plan. plainly plan };
 
@@ -52,40 +52,12 @@ impl<'a> Planned for ArcPlan<'a> {
     }
 }
 
-/// The acts that records ask for on a machine, one after the other.
-#[derive(Drop)]
-pub enum TapePlan<'a> {
-    Plain(Plan<'a>),
-    Arcs(ArcPlan<'a>),
-}
-
-impl<'a> TapePlan<'a> {
-    /// All acts that records ask for.
-    pub fn of(records: &'a [Record], m: &Machine) -> TapePlan<'a>
-        ensures { left_of result ≡ acts_on m.now records.now }
-    {
-        if m.circles {
-            TapePlan::Arcs(ArcPlan::of(records))
-        } else {
-            TapePlan::Plain(Plan::of(records))
-        }
-    }
-
-    /// The next act, none at the end.
-    #[inline(always)]
-    pub fn next(&mut self) -> Option<ArcAct>
-        ensures taken { IfSome result (λ act. left_of self.old ≡ act ∷ left_of self.new) }
-        ensures end { result ≡ None → left_of self.old ≡ [] }
-        ensures stays { result ≡ None → left_of self.new ≡ [] }
-    {
-        match self {
-            TapePlan::Plain(plan) => match plan.next() {
-                Some(act) => Some(ArcAct::Plain(act)),
-                None => None,
-            },
-            TapePlan::Arcs(plan) => plan.next(),
-        }
-    }
+/// The plan of the acts that records ask for on a machine.
+#[tactic(auto, using(crate::proofs::Plainly::planned_said))]
+pub(crate) fn plan_of<'a>(records: &'a [Record], m: &Machine) -> TapePlan<'a>
+    ensures { left_of result ≡ acts_on m.now records.now }
+{
+    TapePlan::of(records, m)
 }
 
 /// How many acts records ask for on a machine, and how many contour segments they have.

@@ -6,7 +6,7 @@ ghost use Rattle.apt_tape.specs.Tapes.{IsWritable, acts_on, run_on, tape_on};
 use apt_circular::ArcBytes;
 use apt_cycle::CycleBytes;
 use apt_machine::Machine;
-use apt_post::{Piece, TapeBytes};
+use apt_post::{Piece, TapeBytes, take_piece};
 use apt_records::Record;
 use std::marker::Model;
 
@@ -65,9 +65,9 @@ impl<'a> Tape<'a> {
         ensures end { result ≡ false → self.old ≡ [] }
     {
         match &mut self.left {
-            Left::Plain(tape) => tape.take_piece(piece),
-            Left::Arcs(tape) => tape.take_piece(piece),
-            Left::Holes(tape) => tape.take_piece(piece),
+            Left::Plain(tape) => take_piece(tape, piece),
+            Left::Arcs(tape) => take_piece(tape, piece),
+            Left::Holes(tape) => take_piece(tape, piece),
         }
     }
 }

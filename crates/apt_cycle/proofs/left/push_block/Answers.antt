@@ -2,7 +2,8 @@ use Rattle.std.proofs.Common.{◌≡◌, ◌∙◌, ◌<◌, ◌++◌, length, s
 use Rattle.std.proofs.lemmas.Bool.Decides.{nat_tests}
 use Rattle.apt_circular.specs.ArcTape.{CanActs}
 use Rattle.apt_cycle.specs.CycleTape.{next, next_bytes, behind_next, posted}
-use Rattle.apt_cycle.specs.Plans.{left_of, acts_left}
+use Rattle.apt_circular.specs.Plans.{left_of}
+use Rattle.apt_cycle.specs.Windows.{acts_left}
 use Rattle.apt_cycle.proofs.BlockByBlock.{taken_on, front_can, front_then_can}
 use Rattle.apt_cycle.proofs.left.push_block.Goals as goal
 

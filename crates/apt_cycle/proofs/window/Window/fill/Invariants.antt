@@ -1,6 +1,6 @@
 use Rattle.std.proofs.Common.{◌≡◌, ◌-◌}
 use Rattle.arrayvec.specs.ArrayVec.{array_vec_len}
-use Rattle.apt_cycle.specs.Plans.{acts_left}
+use Rattle.apt_cycle.specs.Windows.{acts_left}
 use Rattle.apt_cycle.proofs.window.Window.fill.Given as goal
 
 abbrev pub invariant-acts : goal.invariant-acts

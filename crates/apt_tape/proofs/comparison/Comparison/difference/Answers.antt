@@ -1,6 +1,6 @@
 use Rattle.std.proofs.Common.{◌∙◌, sym}
 use Rattle.apt_tape.specs.Tapes.{acts_on}
-use Rattle.apt_tape.specs.Bytes.{left_of}
+use Rattle.apt_circular.specs.Plans.{left_of}
 use Rattle.apt_tape.proofs.Comparing.{found_differs, no_first, planned_more}
 use Rattle.apt_tape.proofs.comparison.Comparison.difference.Goals as goal
 
