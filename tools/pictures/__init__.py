@@ -1,0 +1,1 @@
+"""Pictures of paths as SVG: drawing.picture draws one."""
