@@ -52,6 +52,28 @@ def program_of(path):
     return path
 
 
+def command():
+    """The command that the tools call: that of APT, else ./apt, which builds the program where it isn't built."""
+    return os.environ.get("APT") or os.path.join(TOP, "apt")
+
+
+def given(parser, text, counts):
+    """What the command line says: the parser's options, and so many names. The text of help is the tool's own."""
+    words = sys.argv[1:]
+    if {"-h", "--help"} & set(words[: words.index("--")] if "--" in words else words):
+        print(text, end="")
+        sys.exit(0)
+    parser.add_argument("names", nargs="*")
+    said, strange = parser.parse_known_args()
+    if strange:
+        print(f"{parser.prog}: {strange[0]} is no option; a file of that name stands behind --", file=sys.stderr)
+    elif len(said.names) not in counts:
+        print(text, end="", file=sys.stderr)
+    else:
+        return said
+    sys.exit(2)
+
+
 def status_name(status):
     """An exit status in words; below 0 it is the signal that ended the program."""
     return f"signal {-status}" if status < 0 else f"{status} {STATUSES.get(status, '(no status of the program)')}"
@@ -128,3 +150,19 @@ def written(lines, writing, kept):
         case [("rs358" | "rs244") as code]:
             return punch("".join(f"{line}\n" for line in lines), code.upper())
     sys.exit(f"this writing is not read here: {writing}")
+
+
+def usage_error(tool, usage, words):
+    """Ends a tool whose words fit none of its uses."""
+    option = next((word for word in words if word.startswith("-")), None)
+    if option:
+        print(f"{tool}: {option} is no option; a file of that name stands behind --", file=sys.stderr)
+    else:
+        print(usage, file=sys.stderr)
+    sys.exit(2)
+
+
+def name_of(path):
+    """The name of a file without its folder and its last ending, in characters that a picture can show."""
+    name = os.path.splitext(os.path.basename(path))[0]
+    return "".join(c for c in name if c.isascii() and (c.isalnum() or c in " ._-"))
