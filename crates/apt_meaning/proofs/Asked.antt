@@ -178,7 +178,7 @@ starts from u is none =
     started_there (is_none (first_of (start_up_cases u))) (at_height from.z (start_point u)) (ap is_none (none_first (start_up_cases u) none))
     (record { xy = start_point-is u none; z = is.z })
 
-abbrev goal_at : Stop → Surface → Goal
+abbrev pub goal_at : Stop → Surface → Goal
 goal_at how s = record { how = how; surface = s }
 
 goal_there : (o : Option Figure) (how : Stop) → is_none o ≡ false → is_other_kind o ≡ false
@@ -188,7 +188,7 @@ goal_there (Some (figures.Point xy z)) how there kind = absurd (true≢false kin
 goal_there (Some (figures.Shape s)) how there kind = refl
 goal_there (Some figures.Scalar) how there kind = absurd (true≢false kind)
 
-abbrev start_up_on : Situation → Option Position → Option Goal → Option (Option Goal) → Option StartUp
+abbrev pub start_up_on : Situation → Option Position → Option Goal → Option (Option Goal) → Option StartUp
 start_up_on here p first second =
     p >>= λ start. first >>= λ a. second >>= λ b. Some (record { start = start.xy; first = a; second = b; radius = here.settings.radius })
 
@@ -255,7 +255,7 @@ place_asked : (reach : Reach) (here : Situation) (place : Place) (more : List Ro
 place_asked reach here (places.Xyz x y z) more is none = moves_to reach (position_by here.settings.units x y z) (position_is (position_by here.settings.units x y z) more none)
 place_asked reach here (places.Named p) more is none = place_asks reach (figure_named here.table p) (looked_up here.table p is.table) none.0 none.1.0
 
-route_asks : (here : Situation) (route : Route) → IsSituation here → NoneHolds (route_cases here route) → Asks (goes here route)
+pub route_asks : (here : Situation) (route : Route) → IsSituation here → NoneHolds (route_cases here route) → Asks (goes here route)
 route_asks here (routes.From place) is none = place_asked reaches.From here place [] is none.1
 route_asks here (routes.Goto place) is none = place_asked reaches.Goto here place ((lacks_feed here.settings, cases.NoFeed) ∷ []) is none
 route_asks here (routes.By x y z) is none =
@@ -264,7 +264,7 @@ route_asks here (routes.Start how name other) is none = go_asks here how name ot
 
 -- ---- notes
 
-saying_in : (units : Units) (saying : Saying) → AllScalars (saying_numbers saying) → NoneHolds (note_cases (note_of units saying)) → IsNote (note_of units saying)
+pub saying_in : (units : Units) (saying : Saying) → AllScalars (saying_numbers saying) → NoneHolds (note_cases (note_of units saying)) → IsNote (note_of units saying)
 saying_in units (sayings.Units others) numbers none = tt
 saying_in units (sayings.Diameter v) numbers none = up_to_in (pos 1000000) (grid_units units v) none.0
 saying_in units (sayings.Inward v) numbers none = up_to_in (pos 10000) (grid_units units v) none.0

@@ -29,6 +29,7 @@ use Rattle.apt_meaning.specs.declared.motion.Motion.{Motion}
 use Rattle.apt_stop.specs.declared.legs.Legs.{Legs}
 use Rattle.apt_stop.specs.declared.legs.Legs.TheVariants as the_legs
 use Rattle.apt_meaning.specs.declared.effect.Change.TheVariants as changes
+use Rattle.apt_meaning.specs.declared.effect.Cut.{Cut}
 use Rattle.apt_meaning.specs.declared.effect.Effect.{Effect}
 use Rattle.apt_meaning.specs.declared.effect.Effect.TheVariants as effects
 use Rattle.apt_meaning.specs.Situations.{position_at}
@@ -63,6 +64,10 @@ abbrev pub moves : Reach → Option Position → Option Effect
 moves reach None = None
 moves reach (Some to) = Some (effects.Moves reach to)
 
+abbrev pub moved : Option (Reach × Position) → Option Effect
+moved None = None
+moved (Some m) = Some (effects.Moves m.0 m.1)
+
 abbrev pub cuts : Legs → Option Motion → Option Effect
 cuts legs None = None
 cuts legs (Some m) = Some (effects.Cuts m legs)
@@ -73,6 +78,10 @@ legs_by n = if int_eq n (pos 1) then Some the_legs.One else if int_eq n (pos 2) 
 
 abbrev pub cuts_by : ℤ → Option Motion → Option Effect
 cuts_by n m = legs_by n >>= λ legs. cuts legs m
+
+abbrev pub cut : Option Cut → Option Effect
+cut None = None
+cut (Some c) = Some (effects.Cuts c.motion c.legs)
 
 -- ---- lengths and places in grid units
 

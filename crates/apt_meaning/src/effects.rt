@@ -11,12 +11,12 @@ ghost use Rattle.apt_words.specs.declared.deed.Deed.{Deed};
 ghost use Rattle.apt_meaning.specs.Alike.{AskAlike, with_units};
 ghost use Rattle.apt_meaning.specs.Effects as asking;
 ghost use Rattle.apt_meaning.specs.Motions as motions;
-ghost use Rattle.apt_meaning.specs.Ranges.{IsSituation, HasMotion};
+ghost use Rattle.apt_meaning.specs.Ranges.{IsSituation, IsMotion, HasMotion};
 ghost use Rattle.apt_meaning.specs.StartUps as start_ups;
 
 use crate::start_up::start_up_at;
 use crate::{
-    Change, Effect, Motion, Situation, moved_by, place_in, position_by, surface_in, turn_at,
+    Change, Cut, Effect, Motion, Situation, moved_by, place_in, position_by, surface_in, turn_at,
 };
 use apt_defs::figure_of;
 use apt_offset::signs::is_zero;
@@ -79,9 +79,9 @@ fn asked(here: &Situation, deed: &Deed) -> Result<Option<Effect>, AllocError>
         Ask::Says(saying) => Ok(Some(says(note_of(here.settings.units, &saying)))),
         Ask::Sets(side) => Ok(Some(Effect::Sets(Change::Side(side)))),
         Ask::Defines(name, form) => Ok(defined(here, name, &form)),
-        Ask::Goes(route) => Ok(goes(here, &route)),
+        Ask::Goes(route) => Ok(moves(here, &route)),
         Ask::Cuts(side, go, drive, how, check, n) => {
-            Ok(contour(here, side, go, &drive, how, &check, n))
+            Ok(cuts(here, side, go, &drive, how, &check, n))
         }
         Ask::Nothing => Ok(Some(Effect::Sets(Change::Nothing))),
     }
@@ -106,28 +106,31 @@ fn defined(here: &Situation, name: Symbol, form: &Form) -> Option<Effect>
     }
 }
 
-/// The move to a place.
-fn goes(here: &Situation, route: &Route) -> Option<Effect>
+fn moves(here: &Situation, route: &Route) -> Option<Effect>
     requires situation { IsSituation here.now }
     requires scalars { AllScalars (route_numbers route.now) }
     ensures { result ≡ asking.goes here.now route.now }
 {
-    match route {
-        Route::From(place) => to_place(here, Reach::From, place),
-        Route::Goto(place) => to_place(here, Reach::Goto, place),
-        Route::By(x, y, z) => godlta(here, *x, *y, *z),
-        Route::Start(how, name, other) => go(here, *how, name, other),
-    }
-}
-
-fn to_place(here: &Situation, reach: Reach, place: &Place) -> Option<Effect>
-    requires { AllScalars (place_numbers place.now) }
-    ensures { result ≡ asking.moves reach (asking.place_at here.now place.now) }
-{
-    let to = place_at(here, place)?;
+    let (reach, to) = goes(here, route)?;
     Some(Effect::Moves(reach, to))
 }
 
+/// Where a move leads, and how.
+#[inline(always)]
+pub(crate) fn goes(here: &Situation, route: &Route) -> Option<(Reach, Position)>
+    requires situation { IsSituation here.now }
+    requires scalars { AllScalars (route_numbers route.now) }
+    ensures { asking.goes here.now route.now ≡ asking.moved result }
+{
+    match route {
+        Route::From(place) => Some((Reach::From, place_at(here, place)?)),
+        Route::Goto(place) => Some((Reach::Goto, place_at(here, place)?)),
+        Route::By(x, y, z) => Some((Reach::Godlta, led_by(here, *x, *y, *z)?)),
+        Route::Start(how, name, other) => Some((Reach::Start, start_at(here, *how, name, other)?)),
+    }
+}
+
+#[inline(always)]
 fn place_at(here: &Situation, place: &Place) -> Option<Position>
     requires { AllScalars (place_numbers place.now) }
     ensures { result ≡ asking.place_at here.now place.now }
@@ -138,43 +141,46 @@ fn place_at(here: &Situation, place: &Place) -> Option<Position>
     }
 }
 
-fn godlta(here: &Situation, x: i64, y: i64, z: i64) -> Option<Effect>
+fn led_by(here: &Situation, x: i64, y: i64, z: i64) -> Option<Position>
     requires situation { IsSituation here.now }
     requires x { IsScalar x }
     requires y { IsScalar y }
     requires z { IsScalar z }
-    ensures { result ≡ asking.moves Reach.Godlta (asking.moved_from here.now x y z) }
+    ensures { result ≡ asking.moved_from here.now x y z }
 {
     let from = here.position?;
-    let to = moved_by(here.settings.units, x, y, z, from);
-    Some(Effect::Moves(Reach::Godlta, to))
+    Some(moved_by(here.settings.units, x, y, z, from))
 }
 
-/// The move to the start-up point.
-fn go(here: &Situation, how: Stop, name: &Symbol, other: &Option<(Stop, Symbol)>) -> Option<Effect>
+/// The start-up point, at the height of where the tool stands.
+fn start_at(
+    here: &Situation,
+    how: Stop,
+    name: &Symbol,
+    other: &Option<(Stop, Symbol)>,
+) -> Option<Position>
     requires { IsSituation here.now }
-    ensures { result ≡ asking.moves Reach.Start (start_ups.start_position_at here.now how name.now other.now) }
+    ensures { result ≡ start_ups.start_position_at here.now how name.now other.now }
 {
     let from = here.position?;
     let start_up = start_up_at(here, how, name, other)?;
-    start_move(from, &start_up)
+    start_from(from, &start_up)
 }
 
-/// The move to where a start-up ends.
-fn start_move(from: Position, u: &StartUp) -> Option<Effect>
+fn start_from(from: Position, u: &StartUp) -> Option<Position>
     requires { IsStartUp u.now }
-    ensures { result ≡ asking.moves Reach.Start (start_ups.start_position from u.now) }
+    ensures { result ≡ start_ups.start_position from u.now }
 {
     match start(u) {
-        Ok(xy) => Some(start_to(from, xy)),
+        Ok(xy) => Some(level_with(from, xy)),
         Err(_) => None,
     }
 }
 
-fn start_to(from: Position, xy: Pt) -> Effect
-    ensures { result ≡ Effect.Moves Reach.Start (at_height from.z xy) }
+fn level_with(from: Position, xy: Pt) -> Position
+    ensures { result ≡ at_height from.z xy }
 {
-    Effect::Moves(Reach::Start, Position { xy, z: from.z })
+    Position { xy, z: from.z }
 }
 
 /// How many legs a count of meetings in millionths asks for: the first meeting one, the second two, and no other any.
@@ -199,8 +205,7 @@ fn legs_to(n: i64) -> Option<Legs>
     }
 }
 
-/// A contour to the n-th meeting with its check surface, with n in millionths.
-fn contour(
+fn cuts(
     here: &Situation,
     side: Option<Side>,
     go: Go,
@@ -213,11 +218,32 @@ fn contour(
     requires count { IsScalar n }
     ensures { result ≡ asking.cuts_by (whole n) (motions.motion_at here.now side go drive.now how check.now) }
 {
-    let legs = legs_by(n)?;
-    let motion = motion_at(here, side, go, drive, how, check)?;
-    Some(Effect::Cuts(motion, legs))
+    let cut = cut_at(here, side, go, drive, how, check, n)?;
+    Some(Effect::Cuts(cut.motion, cut.legs))
 }
 
+/// What a contour cuts that goes to the n-th meeting with its check surface, with n in millionths.
+#[inline(always)]
+pub(crate) fn cut_at(
+    here: &Situation,
+    side: Option<Side>,
+    go: Go,
+    drive: &Symbol,
+    how: Stop,
+    check: &Symbol,
+    n: i64,
+) -> Option<Cut>
+    requires situation { IsSituation here.now }
+    requires count { IsScalar n }
+    ensures value { asking.cuts_by (whole n) (motions.motion_at here.now side go drive.now how check.now) ≡ asking.cut result }
+    ensures range { IfSome result (λ c. IsMotion c.motion) }
+{
+    let legs = legs_by(n)?;
+    let motion = motion_at(here, side, go, drive, how, check)?;
+    Some(Cut { motion, legs })
+}
+
+#[inline(always)]
 #[tactic(auto, unfolding(crate::specs::Motions::motion_at))]
 fn motion_at(
     here: &Situation,
@@ -228,7 +254,8 @@ fn motion_at(
     check: &Symbol,
 ) -> Option<Motion>
     requires { IsSituation here.now }
-    ensures { result ≡ motions.motion_at here.now side go drive.now how check.now }
+    ensures value { result ≡ motions.motion_at here.now side go drive.now how check.now }
+    ensures range { IfSome result IsMotion }
 {
     let start = here.position?;
     let drive = surface_in(&here.table, drive)?;

@@ -11,7 +11,7 @@ use apt_words::Side;
 
 impl Settings {
     /// Those behind a note: the cutter's radius is half its diameter, rounded up.
-    fn set_by(&mut self, note: &Note)
+    pub fn set_by(&mut self, note: &Note)
         requires { IsNote note.now }
         ensures { self.new ≡ situations.settings_with self.old note.now }
     {
