@@ -24,7 +24,7 @@ ghost use Rattle.apt_job.specs.InAndOut.{TellsInAndOut};
 ghost use Rattle.apt_job.specs.Jobs.{AreSides, HasSides, jobs_by, jobs_said, MakesJobs};
 
 use crate::JobError;
-use crate::fronts::{Cuts, taken};
+use crate::fronts::{Cuts, front_of};
 use crate::legs::{Sides, effect_sides, take_leg};
 use apt_certify::Job;
 use apt_meaning::{Effect, Motion, Situation, effect_of};
@@ -162,10 +162,10 @@ pub fn jobs(alloc: Global, steps: &[Step], records: Vec<Record>) -> Result<Vec<J
     ensures entry { IfErr result (IsEntry steps.now records.items) }
     ensures entry_at { (seq : ℕ) → FailsAt first_situation 1 steps.now records.items seq → IsEntryAt seq result }
 {
-    jobs_of(alloc, steps, records)
+    jobs_value(alloc, steps, records)
 }
 
-fn jobs_of(alloc: Global, steps: &[Step], mut records: Vec<Record>) -> Result<Vec<Job>, JobError>
+fn jobs_value(alloc: Global, steps: &[Step], mut records: Vec<Record>) -> Result<Vec<Job>, JobError>
     requires scalars { AreScalars steps.now }
     requires sources { AreExecuted steps.now }
     requires passes { first_refused first_situation steps.now ≡ None }
@@ -182,7 +182,7 @@ fn jobs_of(alloc: Global, steps: &[Step], mut records: Vec<Record>) -> Result<Ve
     'steps: for st in steps {
         let found = effect_of(&here, &st.deed)?;
         let sides = effect_sides(&found);
-        let front = match taken(st, &found, sides, &records[at..]) {
+        let front = match front_of(st, &found, sides, &records[at..]) {
             Ok(front) => front,
             Err(fitting) => return Err(entry(at, fitting)),
         };

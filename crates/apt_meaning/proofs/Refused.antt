@@ -7,7 +7,6 @@ use Rattle.std.specs.Result.{result_err}
 use Rattle.std.proofs.lemmas.Bool.{le-leb}
 use Rattle.apt_words.specs.declared.Case.{Case}
 use Rattle.apt_words.specs.declared.Case.TheVariants as cases
-use Rattle.apt_words.specs.declared.Go.{Go}
 use Rattle.apt_words.specs.declared.Side.{Side}
 use Rattle.apt_words.specs.declared.Stop.{Stop}
 use Rattle.apt_words.specs.declared.Units.{Units}
@@ -51,6 +50,7 @@ use Rattle.apt_meaning.specs.Refusals.{position_cases, is_other_kind, is_no_plac
 use Rattle.apt_meaning.specs.Situations.{has_feed, lacks_feed, with_side}
 use Rattle.apt_meaning.specs.StartUps.{start_up_at, start_position, start_position_at}
 use Rattle.apt_words.proofs.Rows.{first_none}
+use Rattle.apt_words.specs.declared.contour.Contouring.{Contouring}
 use Rattle.apt_meaning.proofs.Asked.{goal_at, start_up_on, route_asks, saying_in}
 use Rattle.apt_meaning.proofs.Said.{of_some}
 
@@ -178,14 +178,14 @@ go_told here how name other =
 
 -- ---- contours, with an effect or without
 
-abbrev rows_on : Situation → Option Side → Go → Stop → Option Legs → Option Position → Option Figure → Option Figure → List Row
-rows_on here side go how k p a b =
+abbrev rows_on : Situation → Contouring → Option Legs → Option Position → Option Figure → Option Figure → List Row
+rows_on here contour k p a b =
     (is_none p, cases.NoFrom) ∷ (is_none a, cases.Undefined) ∷ (is_other_kind a, cases.WrongKind) ∷ (is_none b, cases.Undefined) ∷ (is_other_kind b, cases.WrongKind)
-    ∷ counted_cases k (λ legs. surface_cases here side go how legs p (a >>= as_surface) (b >>= as_surface))
+    ∷ counted_cases k (λ legs. surface_cases here contour legs p (a >>= as_surface) (b >>= as_surface))
 
-abbrev cuts_on : Situation → Option Side → Go → Stop → Option Legs → Option Position → Option Figure → Option Figure → Option Effect
-cuts_on here side go how k p a b =
-    k >>= λ legs. cuts legs (p >>= λ start. (a >>= as_surface) >>= λ drive. (b >>= as_surface) >>= λ check. if_turned (with_side here.settings side) start drive (turn_at here start drive go) how check)
+abbrev cuts_on : Situation → Contouring → Option Legs → Option Position → Option Figure → Option Figure → Option Effect
+cuts_on here contour k p a b =
+    k >>= λ legs. cuts legs (p >>= λ start. (a >>= as_surface) >>= λ drive. (b >>= as_surface) >>= λ check. if_turned (with_side here.settings contour.side) start drive (turn_at here start drive contour.go) contour.stop check)
 
 turned_told : (here : Situation) (side : Option Side) (k : Legs) (zero : Bool) (m : Motion)
     → IfSome (cuts k (cond zero None (Some m))) (RefuseAs here (feed_cases (with_side here.settings side) ((zero, cases.NoTurn) ∷ cut_cases m k)))
@@ -193,18 +193,18 @@ turned_told here side k true m = tt
 turned_told here None k false m = refl
 turned_told here (Some side) k false m = refl
 
-contour_told : (here : Situation) (side : Option Side) (go : Go) (how : Stop) (k : Option Legs) (p : Option Position) (a b : Option Figure)
-    → IfSome (cuts_on here side go how k p a b) (RefuseAs here (rows_on here side go how k p a b))
-contour_told here side go how None p a b = tt
-contour_told here side go how (Some k) None a b = tt
-contour_told here side go how (Some k) (Some p) None b = tt
-contour_told here side go how (Some k) (Some p) (Some (figures.Point xy z)) b = tt
-contour_told here side go how (Some k) (Some p) (Some figures.Scalar) b = tt
-contour_told here side go how (Some k) (Some p) (Some (figures.Shape s)) None = tt
-contour_told here side go how (Some k) (Some p) (Some (figures.Shape s)) (Some (figures.Point xy z)) = tt
-contour_told here side go how (Some k) (Some p) (Some (figures.Shape s)) (Some figures.Scalar) = tt
-contour_told here side go how (Some k) (Some p) (Some (figures.Shape s)) (Some (figures.Shape t)) =
-    turned_told here side k (is_zero (turn_at here p s go)) (motion (with_side here.settings side) p s (turn_at here p s go) how t)
+contour_told : (here : Situation) (contour : Contouring) (k : Option Legs) (p : Option Position) (a b : Option Figure)
+    → IfSome (cuts_on here contour k p a b) (RefuseAs here (rows_on here contour k p a b))
+contour_told here contour None p a b = tt
+contour_told here contour (Some k) None a b = tt
+contour_told here contour (Some k) (Some p) None b = tt
+contour_told here contour (Some k) (Some p) (Some (figures.Point xy z)) b = tt
+contour_told here contour (Some k) (Some p) (Some figures.Scalar) b = tt
+contour_told here contour (Some k) (Some p) (Some (figures.Shape s)) None = tt
+contour_told here contour (Some k) (Some p) (Some (figures.Shape s)) (Some (figures.Point xy z)) = tt
+contour_told here contour (Some k) (Some p) (Some (figures.Shape s)) (Some figures.Scalar) = tt
+contour_told here contour (Some k) (Some p) (Some (figures.Shape s)) (Some (figures.Shape t)) =
+    turned_told here contour.side k (is_zero (turn_at here p s contour.go)) (motion (with_side here.settings contour.side) p s (turn_at here p s contour.go) contour.stop t)
 
 abbrev contour_lack : Settings → Option Legs → Option Position → Option Figure → Option Figure → Case
 contour_lack s k p a b =
@@ -233,23 +233,23 @@ turned_lacks here side k false m none = absurd (no_motion k m none)
 turned_lacks here None k true m none = fed_or here.settings (cut_cases m k)
 turned_lacks here (Some side) k true m none = fed_or here.settings (cut_cases m k)
 
-lacks_on : (here : Situation) (side : Option Side) (go : Go) (how : Stop) (k : Option Legs) (p : Option Position) (a b : Option Figure) → cuts_on here side go how k p a b ≡ None
-    → first_of (rows_on here side go how k p a b) ≡ Some (contour_lack here.settings k p a b)
-lacks_on here side go how k None a b none = refl
-lacks_on here side go how k (Some p) None b none = refl
-lacks_on here side go how k (Some p) (Some (figures.Point xy z)) b none = refl
-lacks_on here side go how k (Some p) (Some figures.Scalar) b none = refl
-lacks_on here side go how k (Some p) (Some (figures.Shape s)) None none = refl
-lacks_on here side go how k (Some p) (Some (figures.Shape s)) (Some (figures.Point xy z)) none = refl
-lacks_on here side go how k (Some p) (Some (figures.Shape s)) (Some figures.Scalar) none = refl
-lacks_on here side go how None (Some p) (Some (figures.Shape s)) (Some (figures.Shape t)) none = refl
-lacks_on here side go how (Some k) (Some p) (Some (figures.Shape s)) (Some (figures.Shape t)) none =
-    turned_lacks here side k (is_zero (turn_at here p s go)) (motion (with_side here.settings side) p s (turn_at here p s go) how t) none
+lacks_on : (here : Situation) (contour : Contouring) (k : Option Legs) (p : Option Position) (a b : Option Figure) → cuts_on here contour k p a b ≡ None
+    → first_of (rows_on here contour k p a b) ≡ Some (contour_lack here.settings k p a b)
+lacks_on here contour k None a b none = refl
+lacks_on here contour k (Some p) None b none = refl
+lacks_on here contour k (Some p) (Some (figures.Point xy z)) b none = refl
+lacks_on here contour k (Some p) (Some figures.Scalar) b none = refl
+lacks_on here contour k (Some p) (Some (figures.Shape s)) None none = refl
+lacks_on here contour k (Some p) (Some (figures.Shape s)) (Some (figures.Point xy z)) none = refl
+lacks_on here contour k (Some p) (Some (figures.Shape s)) (Some figures.Scalar) none = refl
+lacks_on here contour None (Some p) (Some (figures.Shape s)) (Some (figures.Shape t)) none = refl
+lacks_on here contour (Some k) (Some p) (Some (figures.Shape s)) (Some (figures.Shape t)) none =
+    turned_lacks here contour.side k (is_zero (turn_at here p s contour.go)) (motion (with_side here.settings contour.side) p s (turn_at here p s contour.go) contour.stop t) none
 
-pub contour_lacks : (here : Situation) (side : Option Side) (go : Go) (drive : List ℕ) (how : Stop) (check : List ℕ) (n : ℤ) → cuts_by (whole n) (motion_at here side go drive how check) ≡ None
-    → first_of (contour_cases here side go drive how check n) ≡ Some (contour_lack here.settings (legs_by (whole n)) here.position (figure_named here.table drive) (figure_named here.table check))
+pub contour_lacks : (here : Situation) (contour : Contouring) (n : ℤ) → cuts_by (whole n) (motion_at here contour) ≡ None
+    → first_of (contour_cases here contour n) ≡ Some (contour_lack here.settings (legs_by (whole n)) here.position (figure_named here.table contour.drive) (figure_named here.table contour.check))
 unfolding motion_at
-contour_lacks here side go drive how check n none = lacks_on here side go how (legs_by (whole n)) here.position (figure_named here.table drive) (figure_named here.table check) none
+contour_lacks here contour n none = lacks_on here contour (legs_by (whole n)) here.position (figure_named here.table contour.drive) (figure_named here.table contour.check) none
 
 -- ---- what is asked for, or the first case that refuses it
 
@@ -308,13 +308,13 @@ fed_first s more = by_three s.rapid (not (has_feed s)) (is_too_fine s) more
     by_three false false true more = refl
     by_three false false false more = refl
 
-pub contour_refused : (here : Situation) (side : Option Side) (go : Go) (drive : List ℕ) (how : Stop) (check : List ℕ) (n : ℤ) (m : Motion) (k : Legs)
-    → cuts_by (whole n) (motion_at here side go drive how check) ≡ Some (effects.Cuts m k)
-    → first_of (contour_cases here side go drive how check n) ≡ option_or (first_of (feed_cases here.settings [])) (first_of (cut_cases m k))
+pub contour_refused : (here : Situation) (contour : Contouring) (n : ℤ) (m : Motion) (k : Legs)
+    → cuts_by (whole n) (motion_at here contour) ≡ Some (effects.Cuts m k)
+    → first_of (contour_cases here contour n) ≡ option_or (first_of (feed_cases here.settings [])) (first_of (cut_cases m k))
 unfolding motion_at
-contour_refused here side go drive how check n m k asks =
-    of_some (RefuseAs here (contour_cases here side go drive how check n)) (cuts_by (whole n) (motion_at here side go drive how check)) (effects.Cuts m k) asks
-    (contour_told here side go how (legs_by (whole n)) here.position (figure_named here.table drive) (figure_named here.table check))
+contour_refused here contour n m k asks =
+    of_some (RefuseAs here (contour_cases here contour n)) (cuts_by (whole n) (motion_at here contour)) (effects.Cuts m k) asks
+    (contour_told here contour (legs_by (whole n)) here.position (figure_named here.table contour.drive) (figure_named here.table contour.check))
     ∙ fed_first here.settings (cut_cases m k)
 
 -- ---- a move that leads nowhere

@@ -1,11 +1,11 @@
 -- The manual's table: for each thing that is asked the conditions that refuse it, in order, and their cases.
 use Rattle.std.specs.Prelude.{◌≡◌, ℕ, ℤ, pos, int_lt, int_le, ◌&&◌, not, Bool, true, false, is_some, is_none, List, [], ◌∷◌, ◌++◌, Option, Some, None, Result, Ok, Err}
 use Rattle.apt_num.specs.declared.Sign.{Sign}
+use Rattle.apt_words.specs.declared.Command.{Command}
+use Rattle.apt_words.specs.declared.Command.TheVariants as commands
 use Rattle.apt_words.specs.declared.Case.{Case}
 use Rattle.apt_words.specs.declared.Units.{Units}
 use Rattle.apt_words.specs.declared.Case.TheVariants as cases
-use Rattle.apt_words.specs.declared.Go.{Go}
-use Rattle.apt_words.specs.declared.Side.{Side}
 use Rattle.apt_words.specs.declared.Stop.{Stop}
 use Rattle.apt_words.specs.declared.Turn.TheVariants as turns
 use Rattle.apt_words.specs.declared.ask.Form.{Form}
@@ -16,6 +16,7 @@ use Rattle.apt_words.specs.declared.ask.Route.TheVariants as routes
 use Rattle.apt_words.specs.declared.deed.Deed.{Deed}
 use Rattle.apt_words.specs.Asks.{Ask, Titles, Says, Sets, Defines, Goes, Cuts, Nothing, ask_of}
 use Rattle.apt_words.specs.Rows.{Row, first_of}
+use Rattle.apt_words.specs.declared.contour.Contouring.{Contouring}
 use Rattle.apt_scalar.specs.Scalars.{whole}
 use Rattle.apt_plane.specs.declared.figures.Surface.{Surface}
 use Rattle.apt_defs.specs.declared.figure.Figure.{Figure}
@@ -158,23 +159,23 @@ feed_cases s more = (s.rapid, cases.RapidContour) ∷ (not (has_feed s), cases.N
 abbrev pub turned_cases : Legs → Settings → Position → Surface → Sign → Stop → Surface → List Row
 turned_cases legs s start drive turned how check = feed_cases s ((is_zero turned, cases.NoTurn) ∷ cut_cases (motion s start drive turned how check) legs)
 
-abbrev pub surface_cases : Situation → Option Side → Go → Stop → Legs → Option Position → Option Surface → Option Surface → List Row
-surface_cases here side go how legs (Some start) (Some drive) (Some check) =
-    turned_cases legs (with_side here.settings side) start drive (turn_at here start drive go) how check
-surface_cases here side go how legs (Some start) (Some drive) None = []
-surface_cases here side go how legs (Some start) None check = []
-surface_cases here side go how legs None drive check = []
+abbrev pub surface_cases : Situation → Contouring → Legs → Option Position → Option Surface → Option Surface → List Row
+surface_cases here contour legs (Some start) (Some drive) (Some check) =
+    turned_cases legs (with_side here.settings contour.side) start drive (turn_at here start drive contour.go) contour.stop check
+surface_cases here contour legs (Some start) (Some drive) None = []
+surface_cases here contour legs (Some start) None check = []
+surface_cases here contour legs None drive check = []
 
 -- a count of meetings other than 1 and 2 is BadCount; else it is the number of legs, and what refuses a contour of so many
 abbrev pub counted_cases : Option Legs → (Legs → List Row) → List Row
 counted_cases None more = (true, cases.BadCount) ∷ []
 counted_cases (Some legs) more = more legs
 
-abbrev pub contour_cases : Situation → Option Side → Go → List ℕ → Stop → List ℕ → ℤ → List Row
-contour_cases here side go drive how check n =
+abbrev pub contour_cases : Situation → Contouring → ℤ → List Row
+contour_cases here contour n =
     (is_none here.position, cases.NoFrom)
-    ∷ name_cases here.table drive (name_cases here.table check
-    (counted_cases (legs_by (whole n)) (λ legs. surface_cases here side go how legs here.position (surface_in here.table drive) (surface_in here.table check))))
+    ∷ name_cases here.table contour.drive (name_cases here.table contour.check
+    (counted_cases (legs_by (whole n)) (λ legs. surface_cases here contour legs here.position (surface_in here.table contour.drive) (surface_in here.table contour.check))))
 
 -- what refuses a place, by the units and the figures
 abbrev pub placed_cases : Units → Table → Place → List Row → List Row
@@ -186,24 +187,21 @@ place_cases here place more = placed_cases here.settings.units here.table place 
 
 -- ---- the table of what is asked
 
+-- a command whose number is out of its range
+abbrev pub command_cases : Command → List Row
+command_cases (commands.Spindle turns.Cw n) = under_one n ∷ []
+command_cases (commands.Spindle turns.Ccw n) = under_one n ∷ []
+command_cases (commands.Tool n) = under_one n ∷ []
+command_cases _ = []
+
 -- a note whose number is out of its range
 abbrev pub note_cases : Note → List Row
-note_cases (notes.Partno text) = []
-note_cases (notes.Units units) = []
 note_cases (notes.Cutter d) = length_cases (pos 1000000) d
 note_cases (notes.Intol t) = length_cases (pos 10000) t
 note_cases (notes.Outtol t) = length_cases (pos 10000) t
 note_cases (notes.Feed f) = under_one f ∷ []
-note_cases (notes.Spindle turns.Cw n) = under_one n ∷ []
-note_cases (notes.Spindle turns.Ccw n) = under_one n ∷ []
-note_cases (notes.Spindle turns.Off n) = []
-note_cases (notes.Coolant c) = []
-note_cases (notes.Tool n) = under_one n ∷ []
-note_cases notes.Rapid = []
-note_cases notes.Stop = []
-note_cases notes.OptStop = []
-note_cases notes.End = []
-note_cases notes.Fini = []
+note_cases (notes.Do command) = command_cases command
+note_cases _ = []
 
 abbrev pub route_cases : Situation → Route → List Row
 route_cases here (routes.From place) = (is_some here.position, cases.FromAgain) ∷ place_cases here place []
@@ -217,7 +215,7 @@ cases_by here (Says saying) = note_cases (note_of here.settings.units saying)
 cases_by here (Sets side) = []
 cases_by here (Defines name form) = refused_form here form
 cases_by here (Goes route) = route_cases here route
-cases_by here (Cuts side go drive how check n) = contour_cases here side go drive how check n
+cases_by here (Cuts contour n) = contour_cases here contour n
 cases_by here Nothing = []
 
 abbrev pub cases_of : Situation → Deed → List Row

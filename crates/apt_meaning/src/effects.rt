@@ -1,7 +1,7 @@
 //! What steps ask for, refusals aside.
 
 ghost use Rattle.std.specs.Prelude.{◌≡◌, Some, IfOk, IfSome};
-ghost use Rattle.apt_words.specs.Asks.{ask_of, form_numbers, place_numbers, route_numbers, saying_numbers};
+ghost use Rattle.apt_words.specs.Asks.{ask_of, command_numbers, form_numbers, place_numbers, route_numbers, saying_numbers};
 ghost use Rattle.apt_scalar.specs.Scalars.{IsScalar, whole};
 ghost use Rattle.apt_scalar.specs.StepScalars.{AllScalars, HasScalars};
 ghost use Rattle.apt_startup.specs.Ranges.{IsStartUp};
@@ -25,7 +25,9 @@ use apt_records::{Note, Position, Reach};
 use apt_scalar::{grid_units, tenths, whole};
 use apt_startup::{StartUp, start};
 use apt_stop::Legs;
-use apt_words::{Ask, Deed, Form, Go, Place, Route, Saying, Side, Stop, Symbol, Turn, Units};
+use apt_words::{
+    Ask, Command, Contouring, Deed, Form, Place, Route, Saying, Stop, Symbol, Turn, Units,
+};
 use std::alloc::AllocError;
 
 /// The note that a statement has the CL file say: lengths in grid units by the units that hold, feeds in tenths,
@@ -40,16 +42,23 @@ pub fn note_of(units: Units, saying: &Saying) -> Note
         Saying::Inward(v) => Note::Intol(grid_units(units, *v)),
         Saying::Outward(v) => Note::Outtol(grid_units(units, *v)),
         Saying::Feed(v) => Note::Feed(tenths(*v)),
-        Saying::Clockwise(n) => Note::Spindle(Turn::Cw, whole(*n)),
-        Saying::Anticlockwise(n) => Note::Spindle(Turn::Ccw, whole(*n)),
-        Saying::SpindleOff => Note::Spindle(Turn::Off, 0),
-        Saying::Coolant(cool) => Note::Coolant(*cool),
-        Saying::Tool(n) => Note::Tool(whole(*n)),
+        Saying::Do(command) => Note::Do(rounded(*command)),
         Saying::Rapid => Note::Rapid,
-        Saying::Stop => Note::Stop,
-        Saying::OptStop => Note::OptStop,
         Saying::End => Note::End,
         Saying::Fini => Note::Fini,
+    }
+}
+
+/// A command in whole numbers.
+fn rounded(command: Command) -> Command
+    requires { AllScalars (command_numbers command) }
+    ensures { result ≡ asking.rounded command }
+{
+    match command {
+        Command::Spindle(Turn::Off, _) => Command::Spindle(Turn::Off, 0),
+        Command::Spindle(turn, n) => Command::Spindle(turn, whole(n)),
+        Command::Tool(n) => Command::Tool(whole(n)),
+        _ => command,
     }
 }
 
@@ -66,10 +75,10 @@ pub fn effect_of(here: &Situation, deed: &Deed) -> Result<Option<Effect>, AllocE
     ensures alike { (units : Units) (same : Deed) → AskAlike here.now.settings.units (ask_of deed.now) units (ask_of same) → IfOk result (λ e. e ≡ asking.effect_of (with_units here.now units) same) }
     ensures motion { IfOk result (λ e. IfSome e HasMotion) }
 {
-    asked(here, deed)
+    effect_value(here, deed)
 }
 
-fn asked(here: &Situation, deed: &Deed) -> Result<Option<Effect>, AllocError>
+fn effect_value(here: &Situation, deed: &Deed) -> Result<Option<Effect>, AllocError>
     requires situation { IsSituation here.now }
     requires scalars { HasScalars deed.now }
     ensures { IfOk result (λ e. e ≡ asking.effect_of here.now deed.now) }
@@ -78,11 +87,9 @@ fn asked(here: &Situation, deed: &Deed) -> Result<Option<Effect>, AllocError>
         Ask::Titles(text) => Ok(Some(says(Note::Partno(text.copied()?)))),
         Ask::Says(saying) => Ok(Some(says(note_of(here.settings.units, &saying)))),
         Ask::Sets(side) => Ok(Some(Effect::Sets(Change::Side(side)))),
-        Ask::Defines(name, form) => Ok(defined(here, name, &form)),
+        Ask::Defines(name, form) => Ok(definition(here, name, &form)),
         Ask::Goes(route) => Ok(moves(here, &route)),
-        Ask::Cuts(side, go, drive, how, check, n) => {
-            Ok(cuts(here, side, go, &drive, how, &check, n))
-        }
+        Ask::Cuts(contour, n) => Ok(cuts(here, contour, n)),
         Ask::Nothing => Ok(Some(Effect::Sets(Change::Nothing))),
     }
 }
@@ -96,7 +103,7 @@ fn says(note: Note) -> Effect
 
 /// The figure of a name, where no case refuses it.
 #[tactic(auto, unfolding(crate::specs::Effects::defined))]
-fn defined(here: &Situation, name: Symbol, form: &Form) -> Option<Effect>
+fn definition(here: &Situation, name: Symbol, form: &Form) -> Option<Effect>
     requires { AllScalars (form_numbers form.now) }
     ensures { result ≡ asking.defined here.now name form.now }
 {
@@ -205,65 +212,42 @@ fn legs_to(n: i64) -> Option<Legs>
     }
 }
 
-fn cuts(
-    here: &Situation,
-    side: Option<Side>,
-    go: Go,
-    drive: &Symbol,
-    how: Stop,
-    check: &Symbol,
-    n: i64,
-) -> Option<Effect>
+fn cuts(here: &Situation, contour: &Contouring, n: i64) -> Option<Effect>
     requires situation { IsSituation here.now }
     requires count { IsScalar n }
-    ensures { result ≡ asking.cuts_by (whole n) (motions.motion_at here.now side go drive.now how check.now) }
+    ensures { result ≡ asking.cuts_by (whole n) (motions.motion_at here.now contour.now) }
 {
-    let cut = cut_at(here, side, go, drive, how, check, n)?;
+    let cut = cut_at(here, contour, n)?;
     Some(Effect::Cuts(cut.motion, cut.legs))
 }
 
 /// What a contour cuts that goes to the n-th meeting with its check surface, with n in millionths.
 #[inline(always)]
-pub(crate) fn cut_at(
-    here: &Situation,
-    side: Option<Side>,
-    go: Go,
-    drive: &Symbol,
-    how: Stop,
-    check: &Symbol,
-    n: i64,
-) -> Option<Cut>
+pub(crate) fn cut_at(here: &Situation, contour: &Contouring, n: i64) -> Option<Cut>
     requires situation { IsSituation here.now }
     requires count { IsScalar n }
-    ensures value { asking.cuts_by (whole n) (motions.motion_at here.now side go drive.now how check.now) ≡ asking.cut result }
+    ensures value { asking.cuts_by (whole n) (motions.motion_at here.now contour.now) ≡ asking.cut result }
     ensures range { IfSome result (λ c. IsMotion c.motion) }
 {
     let legs = legs_by(n)?;
-    let motion = motion_at(here, side, go, drive, how, check)?;
+    let motion = motion_at(here, contour)?;
     Some(Cut { motion, legs })
 }
 
 #[inline(always)]
 #[tactic(auto, unfolding(crate::specs::Motions::motion_at))]
-fn motion_at(
-    here: &Situation,
-    side: Option<Side>,
-    go: Go,
-    drive: &Symbol,
-    how: Stop,
-    check: &Symbol,
-) -> Option<Motion>
+fn motion_at(here: &Situation, contour: &Contouring) -> Option<Motion>
     requires { IsSituation here.now }
-    ensures value { result ≡ motions.motion_at here.now side go drive.now how check.now }
+    ensures value { result ≡ motions.motion_at here.now contour.now }
     ensures range { IfSome result IsMotion }
 {
     let start = here.position?;
-    let drive = surface_in(&here.table, drive)?;
-    let check = surface_in(&here.table, check)?;
-    let settings = here.settings.with_side(side);
-    let turned = turn_at(here.forward, start, &drive, go);
+    let drive = surface_in(&here.table, &contour.drive)?;
+    let check = surface_in(&here.table, &contour.check)?;
+    let settings = here.settings.with_side(contour.side);
+    let turned = turn_at(here.forward, start, &drive, contour.go);
     if is_zero(turned) {
         return None;
     }
-    Some(Motion::along(&settings, start, &drive, turned, how, &check))
+    Some(Motion::along(&settings, start, &drive, turned, contour.stop, &check))
 }

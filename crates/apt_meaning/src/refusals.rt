@@ -1,4 +1,5 @@
-//! What a statement asks for, or the first case that refuses it; those of a contour's ends are not asked here.
+//! A note, a move or a contour, or the first case that refuses it (specs/Refusals). The ends of a contour have their
+//! cases where it is run to its contact.
 
 ghost use Rattle.std.specs.Prelude.{◌≡◌, [], ◌∷◌, List, Some, None, Ok, Err, IfOk, MatchResult, unwrap_or, if◌then◌else◌};
 ghost use Rattle.apt_words.specs.Asks.{Says, Goes, Cuts, saying_numbers, route_numbers};
@@ -20,7 +21,7 @@ use crate::{Cut, Settings, Situation, is_too_fine, legs_by, note_of, surface_in}
 use apt_defs::{Table, is_in_reach};
 use apt_records::{Note, Position, Reach};
 use apt_startup::start;
-use apt_words::{Case, Go, Place, Route, Saying, Side, Stop, Symbol, Turn};
+use apt_words::{Case, Command, Contouring, Place, Route, Saying, Stop, Symbol, Turn};
 
 /// The greatest diameter of a cutter, in grid units.
 const MOST_DIAMETER: i64 = 1_000_000;
@@ -68,26 +69,18 @@ pub fn move_or_case(here: &Situation, route: &Route) -> Result<(Reach, Position)
 /// What a contour cuts that goes to the n-th meeting with its check surface, with n in millionths, or the first case that
 /// refuses it. Its ends are not judged yet: they may still refuse it.
 #[inline(always)]
-pub fn cut_or_case(
-    here: &Situation,
-    side: Option<Side>,
-    go: Go,
-    drive: &Symbol,
-    how: Stop,
-    check: &Symbol,
-    n: i64,
-) -> Result<Cut, Case>
+pub fn cut_or_case(here: &Situation, contour: &Contouring, n: i64) -> Result<Cut, Case>
     requires situation { IsSituation here.now }
     requires count { IsScalar n }
-    ensures value { let ask = Cuts side go drive.now how check.now n in refusals.IsCutOr (first_of (refusals.cases_by here.now ask)) (asking.effect_by here.now ask) result }
+    ensures value { let ask = Cuts contour.now n in refusals.IsCutOr (first_of (refusals.cases_by here.now ask)) (asking.effect_by here.now ask) result }
     ensures range { IfOk result (λ c. IsMotion c.motion) }
 {
-    match cut_at(here, side, go, drive, how, check, n) {
+    match cut_at(here, contour, n) {
         Some(cut) => match feed_case(&here.settings) {
             None => Ok(cut),
             Some(case) => Err(case),
         },
-        None => Err(contour_lack(here, side, go, drive, how, check, n)),
+        None => Err(contour_lack(here, contour, n)),
     }
 }
 
@@ -128,10 +121,19 @@ fn note_case(note: &Note) -> Option<Case>
     match note {
         Note::Cutter(d) => length_case(MOST_DIAMETER, *d),
         Note::Intol(t) | Note::Outtol(t) => length_case(MOST_TOLERANCE, *t),
-        Note::Feed(n) | Note::Tool(n) => number_case(*n),
-        Note::Spindle(Turn::Cw | Turn::Ccw, n) => number_case(*n),
-        Note::Spindle(Turn::Off, _) | Note::Coolant(_) | Note::Partno(_) | Note::Units(_) => None,
-        Note::Rapid | Note::Stop | Note::OptStop | Note::End | Note::Fini => None,
+        Note::Feed(n) => number_case(*n),
+        Note::Do(command) => command_case(*command),
+        Note::Partno(_) | Note::Units(_) | Note::Rapid | Note::End | Note::Fini => None,
+    }
+}
+
+/// A command's number is in its range.
+fn command_case(command: Command) -> Option<Case>
+    ensures { result ≡ first_of (refusals.command_cases command) }
+{
+    match command {
+        Command::Spindle(Turn::Cw | Turn::Ccw, n) | Command::Tool(n) => number_case(n),
+        _ => None,
     }
 }
 
@@ -236,27 +238,19 @@ fn goal_lack(table: &Table, name: &Symbol, other: &Option<(Stop, Symbol)>) -> Ca
 
 /// The first case that refuses a contour without a motion or a number of legs.
 #[tactic(auto, using(crate::proofs::Refused::contour_lacks))]
-fn contour_lack(
-    here: &Situation,
-    side: Option<Side>,
-    go: Go,
-    drive: &Symbol,
-    how: Stop,
-    check: &Symbol,
-    n: i64,
-) -> Case
+fn contour_lack(here: &Situation, contour: &Contouring, n: i64) -> Case
     requires count { IsScalar n }
-    requires lacks { asking.cuts_by (whole n) (motion_at here.now side go drive.now how check.now) ≡ None }
-    ensures { first_of (refusals.contour_cases here.now side go drive.now how check.now n) ≡ Some result }
+    requires lacks { asking.cuts_by (whole n) (motion_at here.now contour.now) ≡ None }
+    ensures { first_of (refusals.contour_cases here.now contour.now n) ≡ Some result }
 {
     if here.position.is_none() {
         return Case::NoFrom;
     }
-    if surface_in(&here.table, drive).is_none() {
-        return name_lack(&here.table, drive);
+    if surface_in(&here.table, &contour.drive).is_none() {
+        return name_lack(&here.table, &contour.drive);
     }
-    if surface_in(&here.table, check).is_none() {
-        return name_lack(&here.table, check);
+    if surface_in(&here.table, &contour.check).is_none() {
+        return name_lack(&here.table, &contour.check);
     }
     if legs_by(n).is_none() {
         return Case::BadCount;

@@ -22,8 +22,7 @@ impl Settings {
             Note::Outtol(outtol) => self.outtol = *outtol,
             Note::Feed(feed) => self.feed = *feed,
             Note::Rapid => self.rapid = true,
-            Note::Partno(_) | Note::Spindle(..) | Note::Coolant(_) | Note::Tool(_) => {}
-            Note::Stop | Note::OptStop | Note::End | Note::Fini => {}
+            Note::Partno(_) | Note::Do(_) | Note::End | Note::Fini => {}
         }
     }
 

@@ -5,9 +5,7 @@ use Rattle.apt_words.specs.declared.Case.{Case}
 use Rattle.apt_words.specs.declared.Case.TheVariants as cases
 use Rattle.apt_words.specs.Asks as asking
 use Rattle.apt_words.specs.Asks.{Ask, ask_of}
-use Rattle.apt_words.specs.declared.Go.{Go}
-use Rattle.apt_words.specs.declared.Side.{Side}
-use Rattle.apt_words.specs.declared.Stop.{Stop}
+use Rattle.apt_words.specs.declared.contour.Contouring.{Contouring}
 use Rattle.apt_words.specs.declared.deed.Deed.{Deed}
 use Rattle.apt_words.specs.declared.deed.Step.{Step}
 use Rattle.apt_words.specs.Rows.{Row, first_of, unless, unless_case}
@@ -99,6 +97,6 @@ cut_refused takes here step before c case by is =
     (case, record { asks = rw (by.1 ∙ stops (first_of (cut_cases c.motion c.legs)) case (ends_at c.legs (course_of c.motion)) is) refl; told = refl; same = refl })
 
 -- what a contour asks for, by what the step is asked
-pub cut_asks : (here : Situation) (deed : Deed) (side : Option Side) (go : Go) (drive : List ℕ) (how : Stop) (check : List ℕ) (n : ℤ) (r : Result Cut Case) → asking.Cuts side go drive how check n ≡ ask_of deed
-    → IsCutOr (first_of (cases_by here (asking.Cuts side go drive how check n))) (effect_by here (asking.Cuts side go drive how check n)) r → IsCutOr (refusal_of here deed) (effect_of here deed) r
-cut_asks here deed side go drive how check n r asks value = subst (λ (a : Ask). IsCutOr (first_of (cases_by here a)) (effect_by here a) r) asks value
+pub cut_asks : (here : Situation) (deed : Deed) (contour : Contouring) (n : ℤ) (r : Result Cut Case) → asking.Cuts contour n ≡ ask_of deed
+    → IsCutOr (first_of (cases_by here (asking.Cuts contour n))) (effect_by here (asking.Cuts contour n)) r → IsCutOr (refusal_of here deed) (effect_of here deed) r
+cut_asks here deed contour n r asks value = subst (λ (a : Ask). IsCutOr (first_of (cases_by here a)) (effect_by here a) r) asks value

@@ -118,12 +118,8 @@ is_open (lines.Contour []) = true
 is_open (lines.Contour (p ∷ ps)) = false
 
 abbrev pub known : Record → ℕ
-known (lines.Statement line step) = 0
-known (lines.Note note) = 0
-known (lines.Drive surface side sense) = 0
-known (lines.Check surface how) = 0
-known (lines.Point reach to) = 0
 known (lines.Contour vertices) = length vertices
+known _ = 0
 
 -- beside these records a program may have so many vertices more, where it may have theirs
 abbrev pub HasRoom : List Record → Option ℕ → Type 0
@@ -158,11 +154,7 @@ Mark = ℕ × ℕ
 
 abbrev pub mark_at : Record → Mark → Mark
 mark_at (lines.Statement line step) mark = (line, step)
-mark_at (lines.Note note) mark = mark
-mark_at (lines.Drive surface side sense) mark = mark
-mark_at (lines.Check surface how) mark = mark
-mark_at (lines.Point reach to) mark = mark
-mark_at (lines.Contour vertices) mark = mark
+mark_at _ mark = mark
 
 abbrev pub overfull : Mark → Refusal
 overfull mark = record { line = mark.0; step = mark.1; case = cases.TooManyPoints }

@@ -83,7 +83,7 @@ pub(crate) fn act<P: Pen>(pen: &mut P, here: &mut Situation, step: &Step) -> Res
         Ask::Titles(text) => say(pen, here, step, Note::Partno(text.copied()?)),
         Ask::Says(saying) => match note_or_case(here, &saying) {
             Ok(note) => say(pen, here, step, note),
-            Err(case) => Err(refused(step, case)),
+            Err(case) => Err(refusal(step, case)),
         },
         Ask::Sets(side) => {
             here.settings.side = side;
@@ -92,7 +92,7 @@ pub(crate) fn act<P: Pen>(pen: &mut P, here: &mut Situation, step: &Step) -> Res
         Ask::Defines(name, form) => {
             match define_as(name, &form, here.settings.units, &mut here.table) {
                 Ok(()) => Ok(()),
-                Err(DefError::Case(case)) => Err(refused(step, case)),
+                Err(DefError::Case(case)) => Err(refusal(step, case)),
                 Err(DefError::NoMemory) => Err(RunError::NoMemory),
             }
         }
@@ -102,19 +102,17 @@ pub(crate) fn act<P: Pen>(pen: &mut P, here: &mut Situation, step: &Step) -> Res
                 here.go_to(reach, to);
                 Ok(())
             }
-            Err(case) => Err(refused(step, case)),
+            Err(case) => Err(refusal(step, case)),
         },
-        Ask::Cuts(side, go, drive, how, check, n) => {
-            match cut_or_case(here, side, go, &drive, how, &check, n) {
-                Ok(cut) => run_to_contact(pen, here, step, &cut),
-                Err(case) => Err(refused(step, case)),
-            }
-        }
+        Ask::Cuts(contour, n) => match cut_or_case(here, contour, n) {
+            Ok(cut) => run_to_contact(pen, here, step, &cut),
+            Err(case) => Err(refusal(step, case)),
+        },
         Ask::Nothing => Ok(()),
     }
 }
 
-fn refused(step: &Step, case: Case) -> RunError
+fn refusal(step: &Step, case: Case) -> RunError
     ensures { result ≡ RunError.Refused (refused_at step.now case) }
 {
     RunError::Refused(Refusal {
@@ -155,7 +153,7 @@ fn run_to_contact<P: Pen>(
             here.cut_to(motion, ends.last());
             Ok(())
         }
-        Err(case) => Err(refused(step, case)),
+        Err(case) => Err(refusal(step, case)),
     }
 }
 

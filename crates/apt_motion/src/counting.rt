@@ -141,7 +141,7 @@ impl<'a> Sizes<'a> {
         ensures left { IfOk result (λ _. self.new ≡ drafts.behind_first self.old) }
     {
         if self.group.is_empty() {
-            let (group, behind) = counted(rt, alloc, self.rounds)?;
+            let (group, behind) = next_group(rt, alloc, self.rounds)?;
             self.group = group;
             self.rounds = behind;
         }
@@ -151,7 +151,7 @@ impl<'a> Sizes<'a> {
 
 /// The numbers of the next group, and the arcs behind it.
 #[tactic(auto, using(crate::proofs::Divided::counted_parts, crate::proofs::Divided::none_counted))]
-fn counted<'a>(
+fn next_group<'a>(
     rt: &(impl Threads + Sync),
     alloc: Global,
     rounds: &'a [Round],

@@ -66,7 +66,7 @@ fn draft_of(alloc: Global, steps: &[Step]) -> Result<(Draft, Option<Refusal>), A
 
 /// The records of steps: all are drawn, the vertices of their arcs counted, and then the arcs divided.
 #[tactic(auto, using(crate::proofs::Drafted::compiled))]
-fn run_all<G: Gate>(
+fn run_value<G: Gate>(
     rt: &(impl Threads + Sync),
     alloc: Global,
     steps: Vec<Step>,
@@ -135,5 +135,5 @@ pub fn run<G: Gate>(
     ensures range { IfOk result (λ records. AreRecords records.items) }
     ensures points { IfOk result (λ records. vertex_count records.items ≤ most_points) }
 {
-    run_all(rt, alloc, steps, gate)
+    run_value(rt, alloc, steps, gate)
 }

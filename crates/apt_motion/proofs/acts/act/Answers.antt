@@ -35,7 +35,7 @@ returns-in-Err-Case g c =
     let here = c.args.here.now in
     let case = c.in-Err-Case.case in
     let figure = (c.in-Err-Case.ensures.refused case).0 (ap (λ (e : DefError). Err e) c.in-Err-Case.field-0-is) in
-    rw c.refused-in-Err-Case.ensures (
+    rw c.refusal-in-Err-Case.ensures (
       case,
       record {
         asks = sym (ap (asked_by here) c.in-Defines.ensures) ∙ form_asked here c.in-Defines.name c.in-Defines.form (Err case) figure;
@@ -60,4 +60,4 @@ run_to_contact-requires-clause-asks g c =
     let asks = c.in-Cuts in
     let scalars = subst (λ a. AllScalars (numbers_of a)) (sym asks.ensures) c.requires.scalars in
     let fits : FitsSigned w64 asks.n = omega (arith, ints, scalars.0) in
-    cut_asks c.args.here.now c.args.step.now.deed asks.side asks.go asks.drive asks.how asks.check asks.n (Ok c.in-Ok-cut_or_case.cut) asks.ensures (rw (to_z-of_z w64 asks.n fits) at c.in-Ok-cut_or_case.ensures.value)
+    cut_asks c.args.here.now c.args.step.now.deed asks.contour.now asks.n (Ok c.in-Ok-cut_or_case.cut) asks.ensures (rw (to_z-of_z w64 asks.n fits) at c.in-Ok-cut_or_case.ensures.value)

@@ -12,5 +12,5 @@ returns-in_ok-contour-in-Ok g c =
 
 pub returns-in-Err : goal.returns-in-Err
 returns-in-Err g c =
-    rw c.refused.ensures
+    rw c.refusal.ensures
     (cut_refused g.P.Pen.takes c.args.here.now c.args.step.now c.args.pen.now c.args.cut.now c.in-Err.case c.requires.asks c.in-Err.ensures.value)
