@@ -156,10 +156,6 @@ job_in d vertices is some are = record {
   points = (is.start.xy, are);
 }
 
-pub last_behind : (p : Pt) (front : List Pt) (last : Pt) → last_of p (front ++ last ∷ []) ≡ last
-last_behind p [] last = refl
-last_behind p (q ∷ front) last = last_behind q front last
-
 pub last_in : (p : Pt) (vertices : List Pt) → IsPoint p → ArePoints vertices → IsPoint (last_of p vertices)
 last_in p [] is are = is
 last_in p (v ∷ vs) is are = last_in v vs are.0 are.1

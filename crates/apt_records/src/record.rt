@@ -2,7 +2,7 @@
 
 use crate::vertices::Vertices;
 use apt_plane::{Pt, Surface};
-use apt_words::{Command, Side, Stop, Text, Units};
+use apt_words::{Cool, Side, Stop, Text, Turn, Units};
 
 /// A point and its height, in grid units.
 #[derive(Clone, Copy, PartialEq, Eq)]
@@ -31,7 +31,7 @@ pub enum Reach {
 }
 
 /// What a statement says that is no motion: lengths in grid units, the feed in tenths of a length unit per
-/// minute, a command in whole numbers, the spindle's 0 with `Off`.
+/// minute, the spindle in turns per minute (0 with `Off`).
 #[derive(Drop)]
 pub enum Note {
     Partno(Text),
@@ -40,8 +40,12 @@ pub enum Note {
     Intol(i64),
     Outtol(i64),
     Feed(i64),
-    Do(Command),
+    Spindle(Turn, i64),
+    Coolant(Cool),
+    Tool(i64),
     Rapid,
+    Stop,
+    OptStop,
     End,
     Fini,
 }

@@ -151,10 +151,11 @@ fn job(alloc: Global, from: Pt, to: Pt) -> Result<Job, AllocError>
         sense: 1,
         axis: None,
     };
+    let vertices = vec![in alloc; from, to]?;
     Ok(Job {
         leg,
         out_sign: 1,
-        points: Points::ends(from, to),
+        points: Points { vertices },
     })
 }
 
