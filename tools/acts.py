@@ -112,7 +112,7 @@ def texts_of(motion, with_arcs):
     if not motion.makes_a_move:
         return
     feed = motion.settings.feed or 0
-    if with_arcs and motion.is_contour and motion.drive.is_circle:
+    if with_arcs and motion.is_contour and motion.drive and motion.drive.is_circle:
         turn = "CCW" if motion.sense == 1 else "CW"
         yield "ARC {} {} {} {} CENTRE {} {} FEED {}".format(turn, *motion.points[-1], motion.drive.x, motion.drive.y, feed)
         return
