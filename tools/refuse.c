@@ -10,6 +10,7 @@
 #include <errno.h>
 #include <fcntl.h>
 #include <pthread.h>
+#include <signal.h>
 #include <stdarg.h>
 #include <stdatomic.h>
 #include <stdint.h>
@@ -22,10 +23,10 @@
 #include <sys/uio.h>
 #include <unistd.h>
 
-enum kind { NONE, ALLOC, OPEN, STAT, READ, READ_ONE, WRITE, WRITE_HALF, WRITE_ONE, TRUNCATE, SYNC, CLOSE, RENAME, INTERRUPT, THREAD, KINDS };
+enum kind { NONE, ALLOC, OPEN, STAT, READ, READ_ONE, WRITE, WRITE_HALF, WRITE_ONE, TRUNCATE, SYNC, CLOSE, RENAME, INTERRUPT, THREAD, SIGNAL, KINDS };
 
 static const char *const names[KINDS] = {
-    "", "alloc", "open", "stat", "read", "read-one", "write", "write-half", "write-one", "truncate", "sync", "close", "rename", "interrupt", "thread",
+    "", "alloc", "open", "stat", "read", "read-one", "write", "write-half", "write-one", "truncate", "sync", "close", "rename", "interrupt", "thread", "signal",
 };
 
 static enum kind kind;
@@ -71,8 +72,14 @@ static int fails(enum kind k) {
         } \
     } while (0)
 
+/* A signal that ends the program in front of a call on files; the two in turns. */
+static void moment(void) {
+    if (fails(SIGNAL)) raise(at % 2 ? SIGINT : SIGTERM);
+}
+
 /* Whether a call is to be interrupted by a signal. One that is tried again is not, so that a run ends. */
 static int stops(void) {
+    moment();
     if (atomic_exchange(&interrupted, 0) || !fails(INTERRUPT)) return 0;
     interrupted = 1;
     errno = EINTR;
@@ -160,26 +167,31 @@ int openat64(int folder, const char *path, int flags, ...) {
 
 /* What is asked of files. */
 int fstat(int fd, struct stat *into) {
+    moment();
     REFUSE(STAT, EIO, -1);
     return NEXT(fstat)(fd, into);
 }
 
 int fstat64(int fd, struct stat64 *into) {
+    moment();
     REFUSE(STAT, EIO, -1);
     return NEXT(fstat64)(fd, into);
 }
 
 int fstatat(int folder, const char *path, struct stat *into, int flags) {
+    moment();
     REFUSE(STAT, EIO, -1);
     return NEXT(fstatat)(folder, path, into, flags);
 }
 
 int fstatat64(int folder, const char *path, struct stat64 *into, int flags) {
+    moment();
     REFUSE(STAT, EIO, -1);
     return NEXT(fstatat64)(folder, path, into, flags);
 }
 
 int statx(int folder, const char *path, int flags, unsigned mask, struct statx *into) {
+    moment();
     REFUSE(STAT, EIO, -1);
     return NEXT(statx)(folder, path, flags, mask, into);
 }
@@ -252,6 +264,7 @@ int fdatasync(int fd) {
 }
 
 int close(int fd) {
+    moment();
     int answer = NEXT(close)(fd);
     REFUSE(CLOSE, EIO, -1);
     return answer;
@@ -259,8 +272,14 @@ int close(int fd) {
 
 /* Names that are given to other files. */
 int rename(const char *from, const char *to) {
+    moment();
     REFUSE(RENAME, EIO, -1);
     return NEXT(rename)(from, to);
+}
+
+int unlink(const char *path) {
+    moment();
+    return NEXT(unlink)(path);
 }
 
 /* Threads that are started. */
