@@ -7,6 +7,7 @@ import random
 import re
 import struct
 
+import tables
 from shared import CL_HEAD, cl_head, punch, sense
 
 NUMBERS = (
@@ -181,13 +182,23 @@ def damage_part(rng, part, other):
 
 
 def damage_machine(rng, table, other):
-    match rng.below(4):
+    match rng.below(5):
         case 0 | 1:
             return damage_token(rng, table, TABLE_WORD, TABLE_VALUES)
         case 2:
             return b"\n".join(damage_items(rng, lines(table), TABLE_LINES))
         case 3:
             return damage_bytes(rng, table, other)
+        case 4:
+            return another_machine(rng, table)
+
+
+def another_machine(rng, table):
+    """A table with another value of a key, of those that it may have: that of another machine."""
+    key = rng.pick(list(tables.KEYS)).encode()
+    line = key + b" " + rng.pick(tables.KEYS[key.decode()]).encode()
+    kept = [there for there in lines(table) if not there.startswith(key + b" ")]
+    return b"\n".join([b"MACHINE 2", line, *kept[1:]])
 
 
 def damage_outline(rng, outline, other):
