@@ -71,7 +71,7 @@ class Runs:
         command = words[0]
         self.counts[command, status] += 1
         if self.tells:
-            print(f"campaign: {' '.join(words)}: {status_name(status)}: {printed[:200].decode('latin-1')}", end="" if b"\n" in printed[:200] else "\n")
+            print(f"campaign: {' '.join(words)}: {status_name(status)}: {printed[:200].decode('latin-1').rstrip()}")
         if status not in LINES[command]:
             raise Surprise(f"{status_name(status)}, which {command} does not answer: {os.pread(self.complained, 200, 0)!r}")
         if not is_text_of(command, status, printed):
