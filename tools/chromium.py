@@ -120,10 +120,14 @@ class Browser:
             raise OSError(answer["exceptionDetails"].get("exception", {}).get("description", expression))
         return answer["result"].get("value")
 
+    def mouse(self, kind, x, y, **more):
+        """What the mouse does at a place of the window."""
+        self.do("Input.dispatchMouseEvent", type=kind, x=x, y=y, **more)
+
     def click(self, x, y):
         """A click of the mouse at a place of the window."""
         for kind in ("mouseMoved", "mousePressed", "mouseReleased"):
-            self.do("Input.dispatchMouseEvent", type=kind, x=x, y=y, button="none" if kind == "mouseMoved" else "left", clickCount=1)
+            self.mouse(kind, x, y, button="none" if kind == "mouseMoved" else "left", clickCount=1)
         self.rest_of_frame()
 
     def click_on(self, name):
@@ -136,6 +140,10 @@ class Browser:
         with open(path, "wb") as file:
             file.write(base64.b64decode(self.do("Page.captureScreenshot", format="png")["data"]))
 
-    def busy(self):
-        """How many seconds the page's thread has worked, where Performance is enabled."""
-        return next(row["value"] for row in self.do("Performance.getMetrics")["metrics"] if row["name"] == "TaskDuration")
+    def clock(self):
+        """The clock of the processor's time that the page's process takes, with all its threads."""
+        self.do("Performance.enable")
+        spent = next(row["value"] for row in self.do("Performance.getMetrics")["metrics"] if row["name"] == "ProcessTime")
+        # each process has a clock by its number; the page tells its own in hundredths of a second
+        clocks = [(~row["id"] << 3) | 2 for row in self.call("SystemInfo.getProcessInfo")["processInfo"] if row["type"] == "renderer"]
+        return min(clocks, key=lambda clock: abs(time.clock_gettime(clock) - spent))

@@ -56,18 +56,21 @@ for (let n = 0; n < motions; n++) {
   motionsOfLine.get(line).push(n);
 }
 
+// the rectangle about the points from start to end
+function boxOf(start, end) {
+  let [left, low, right, high] = [Infinity, Infinity, -Infinity, -Infinity];
+  for (let n = start; n <= end; n++) {
+    if (X[n] < left) left = X[n];
+    if (X[n] > right) right = X[n];
+    if (Y[n] < low) low = Y[n];
+    if (Y[n] > high) high = Y[n];
+  }
+  return [left, low, right, high];
+}
+
 // the rectangle of each motion, to pass over what is not in view
 const boxes = new Float64Array(4 * motions);
-for (let n = 0; n < motions; n++) {
-  let [left, low, right, high] = [Infinity, Infinity, -Infinity, -Infinity];
-  for (let at = rows.first[n]; at <= endOf(n); at++) {
-    left = Math.min(left, X[at]);
-    right = Math.max(right, X[at]);
-    low = Math.min(low, Y[at]);
-    high = Math.max(high, Y[at]);
-  }
-  boxes.set([left, low, right, high], 4 * n);
-}
+for (let n = 0; n < motions; n++) boxes.set(boxOf(rows.first[n], endOf(n)), 4 * n);
 
 // ---- lengths and colours
 

@@ -1,10 +1,11 @@
-// Draws the plan and the side view. What stands still is drawn into a picture of its own, a little in each frame, and
-// shown moved and stretched while the view changes; what moves is drawn over it.
+// Draws the plan and the side view: what stands still in steps, and what moves over it. A step yields about how many
+// microseconds the processor takes for it.
 
 const GREY = "#777777", RED = "#e00000", GREEN = "#1a7f37", BROWN = "#8a5a00", TAN = "#e3d3bd", LIT = "#ff9d00";
 const FONT = '12px "DejaVu Sans", Verdana, sans-serif';
-const base = document.getElementById("base"), over = document.getElementById("over"), front = document.getElementById("front");
-const view = { x: 0, y: 0, scale: 1, width: 1, height: 1, ratio: 1 };
+const [base, over, front, frontOver] = ["base", "over", "front", "frontOver"].map((name) => document.getElementById(name));
+// the version is another where the options are
+const view = { x: 0, y: 0, scale: 1, width: 1, height: 1, ratio: 1, version: 0 };
 const options = { strokes: true, surfaces: true, names: true, rapids: true };
 
 const across = (x) => view.width / 2 + (x - view.x) * view.scale;
@@ -14,8 +15,31 @@ const unitsY = (px) => view.y - (px - view.height / 2) / view.scale;
 const bounds = (margin = 0) => [unitsX(-margin), unitsY(view.height + margin), unitsX(view.width + margin), unitsY(-margin)];
 const meets = (box, at, seen, more) => box[at] - more <= seen[2] && box[at + 2] + more >= seen[0] && box[at + 1] - more <= seen[3] && box[at + 3] + more >= seen[1];
 
-// ---- cuts by height and cutter, the deepest last
+// ---- runs of segments, each with its rectangle, so that those out of view are passed over
 
+const LONGEST = 128;
+
+function addTo(runs, n) {
+  const last = runs.ends.length - 1;
+  if (last >= 0 && runs.ends[last] === n && n - runs.starts[last] < LONGEST) runs.ends[last] = n + 1;
+  else {
+    runs.starts.push(n);
+    runs.ends.push(n + 1);
+  }
+}
+
+function measured(runs) {
+  runs.boxes = Float64Array.from(runs.starts.flatMap((start, n) => boxOf(start, runs.ends[n])));
+  return runs;
+}
+
+function runsOf(found) {
+  const runs = { starts: [], ends: [] };
+  for (const motion of found) for (let n = rows.first[motion]; n < endOf(motion); n++) if (n > 0 || data.hasOrigin) addTo(runs, n);
+  return measured(runs);
+}
+
+// cuts by height and cutter, the deepest last
 const layers = [];
 {
   const found = new Map();
@@ -28,60 +52,68 @@ const layers = [];
       // a cut aslant has one of a few shades
       const z = isUpright || Z[n] === Z[n + 1] ? Z[n + 1] : Math.round((Z[n] + Z[n + 1]) / 2 / 500) * 500;
       const key = `${z} ${cutter}`;
-      if (!found.has(key)) found.set(key, { z, cutter, chains: [], starts: [], ends: [] });
-      const layer = found.get(key), last = layer.ends.length - 1;
-      // a chain is cut where it becomes long, so that its rectangle tells whether it is in view
-      if (last >= 0 && layer.ends[last] === n && n - layer.starts[last] < 512) layer.ends[last] = n + 1;
-      else {
-        layer.starts.push(n);
-        layer.ends.push(n + 1);
-      }
+      if (!found.has(key)) found.set(key, { z, cutter, starts: [], ends: [] });
+      addTo(found.get(key), n);
     }
   }
-  layers.push(...[...found.values()].sort((one, two) => two.z - one.z || two.cutter - one.cutter));
-  for (const layer of layers) layer.boxes = Float64Array.from(layer.starts.flatMap((start, n) => boxOf(start, layer.ends[n])));
+  layers.push(...[...found.values()].map(measured).sort((one, two) => two.z - one.z || two.cutter - one.cutter));
 }
 
-function boxOf(start, end) {
-  let [left, low, right, high] = [Infinity, Infinity, -Infinity, -Infinity];
-  for (let n = start; n <= end; n++) {
-    if (X[n] < left) left = X[n];
-    if (X[n] > right) right = X[n];
-    if (Y[n] < low) low = Y[n];
-    if (Y[n] > high) high = Y[n];
-  }
-  return [left, low, right, high];
-}
+// ---- thinned by zoom
 
-// ---- thinned by zoom: of each chain the points that are apart by some tenths of a place of the picture
+// places of the picture within which a path may lie beside its points that are left out
+const NEAR = 0.1;
 
-const thinned = new Map();
-
-function thin(number, layer) {
-  const power = Math.ceil(Math.log2(view.scale));
-  const key = `${number} ${power}`;
-  if (thinned.has(key)) return thinned.get(key);
-  if (thinned.size > 8 * layers.length) thinned.clear();
-  const near = (0.7 / 2 ** power) ** 2;
-  const kept = [], firsts = [0];
-  for (let chain = 0; chain < layer.starts.length; chain++) {
-    const start = layer.starts[chain], end = layer.ends[chain];
-    kept.push(start);
-    let last = start;
-    for (let n = start + 1; n < end; n++) {
-      if ((X[n] - X[last]) ** 2 + (Y[n] - Y[last]) ** 2 < near) continue;
-      kept.push(n);
-      last = n;
+// adds a run to the pen's path, without the points that a straight line passes near by; tells how many it drew
+function trace(pen, start, end) {
+  let x = across(X[start]), y = down(Y[start]), count = 2;
+  // the way from x, y to the next points, how far they have come by it, and between which slopes they lie
+  let wayX = 0, wayY = 0, far = 0, low = 0, high = 0;
+  pen.moveTo(x, y);
+  for (let n = start + 1; n <= end; n++) {
+    const dx = across(X[n]) - x, dy = down(Y[n]) - y;
+    if (far === 0) {
+      const long = Math.sqrt(dx * dx + dy * dy);
+      if (long < NEAR) continue;
+      [wayX, wayY, low, high] = [dx / long, dy / long, -Infinity, Infinity];
     }
-    kept.push(end);
-    firsts.push(kept.length);
+    const ahead = dx * wayX + dy * wayY, beside = dx * wayY - dy * wayX;
+    if (ahead < far - NEAR || beside < low * ahead || beside > high * ahead) {
+      // it turns at the point before, from which this one is looked at again
+      n--;
+      [x, y, far] = [across(X[n]), down(Y[n]), 0];
+      pen.lineTo(x, y);
+      count++;
+      continue;
+    }
+    far = Math.max(far, ahead);
+    low = Math.max(low, (beside - NEAR) / ahead);
+    high = Math.min(high, (beside + NEAR) / ahead);
   }
-  const found = { kept: Uint32Array.from(kept), firsts: Uint32Array.from(firsts) };
-  thinned.set(key, found);
-  return found;
+  // a hole is a dot
+  pen.lineTo(across(X[end]) + 0.01, down(Y[end]));
+  return count;
 }
 
-// ---- what stands still, as steps that are drawn one after the other; each yields about how much it drew
+// strokes runs, some in one path
+function* strokes(pen, runs, margin) {
+  const seen = bounds();
+  let weight = 0;
+  pen.beginPath();
+  for (let n = 0; n < runs.starts.length; n++) {
+    if (!meets(runs.boxes, 4 * n, seen, margin)) continue;
+    weight += trace(pen, runs.starts[n], runs.ends[n]) * (2 + pen.lineWidth / 10);
+    if (weight < 1000) continue;
+    pen.stroke();
+    yield weight;
+    weight = 0;
+    pen.beginPath();
+  }
+  pen.stroke();
+  yield weight;
+}
+
+// ---- what stands still
 
 function* still(pen) {
   const seen = bounds();
@@ -89,75 +121,63 @@ function* still(pen) {
   pen.fillRect(0, 0, view.width, view.height);
   grid(pen, seen);
   outlineParts(pen, "boss", true);
-  yield 1;
-  if (options.strokes) yield* cuts(pen, seen, true);
+  if (options.strokes) yield* cuts(pen, true);
   for (const kind of ["boss", "bore", "edge"]) outlineParts(pen, kind, false);
   if (options.surfaces) yield* figures(pen, seen);
   if (options.rapids) yield* rapidMoves(pen, seen);
-  yield* cuts(pen, seen, false);
-  arrows(pen, seen);
-  marks(pen, seen);
-  if (options.names && options.surfaces) names(pen, seen);
+  yield* cuts(pen, false);
+  yield* arrows(pen, seen);
+  yield* marks(pen, seen);
+  if (options.names && options.surfaces) yield* names(pen, seen);
   numbers(pen, seen);
 }
 
-function* cuts(pen, seen, isWide) {
+function* cuts(pen, isWide) {
   pen.lineCap = pen.lineJoin = "round";
-  for (let number = 0; number < layers.length; number++) {
-    const layer = layers[number], wide = layer.cutter * view.scale;
+  for (const layer of layers) {
+    const wide = layer.cutter * view.scale;
     pen.strokeStyle = isWide && wide >= 2.4 ? strokeColour(layer.z) : lineColour(layer.z);
     pen.lineWidth = isWide ? Math.max(wide, 2.4) : 1.2;
-    const { kept, firsts } = thin(number, layer);
-    let drawn = 0;
-    pen.beginPath();
-    for (let chain = 0; chain + 1 < firsts.length; chain++) {
-      if (!meets(layer.boxes, 4 * chain, seen, layer.cutter / 2 + 2 / view.scale)) continue;
-      const from = firsts[chain], to = firsts[chain + 1];
-      for (let at = from; at < to; at++) {
-        const x = across(X[kept[at]]), y = down(Y[kept[at]]);
-        if (at === from) pen.moveTo(x, y);
-        // a hole is a dot
-        else pen.lineTo(to - from === 2 && X[kept[at]] === X[kept[from]] && Y[kept[at]] === Y[kept[from]] ? x + 0.01 : x, y);
-      }
-      drawn += to - from;
-      if (drawn > 3000) {
-        pen.stroke();
-        yield drawn;
-        drawn = 0;
-        pen.beginPath();
-      }
-    }
-    pen.stroke();
-    yield drawn;
+    yield* strokes(pen, layer, layer.cutter / 2 + 2 / view.scale);
   }
 }
 
+// rapid moves in dashes, of which those out of view are left out
 function* rapidMoves(pen, seen) {
   pen.setLineDash([5, 4]);
   for (const kind of [RAPID, LOW]) {
     pen.strokeStyle = kind === LOW ? RED : GREY;
     pen.lineWidth = kind === LOW ? 2 : 1.2;
-    let drawn = 0;
+    let weight = 0;
     pen.beginPath();
     for (let motion = 0; motion < motions; motion++) {
       const n = rows.first[motion];
       if (kinds[n] !== kind || !meets(boxes, 4 * motion, seen, 0) || (n === 0 && !data.hasOrigin)) continue;
-      pen.moveTo(across(X[n]), down(Y[n]));
-      pen.lineTo(across(X[n + 1]), down(Y[n + 1]));
-      if (++drawn % 1500 === 0) {
-        pen.stroke();
-        yield 3000;
-        pen.beginPath();
-      }
+      weight += dashes(pen, n, seen);
+      if (weight < 1000) continue;
+      pen.stroke();
+      yield weight;
+      weight = 0;
+      pen.beginPath();
     }
     pen.stroke();
+    yield weight;
   }
   pen.setLineDash([]);
-  yield 1;
+}
+
+function dashes(pen, n, seen) {
+  const [dx, dy] = [X[n + 1] - X[n], Y[n + 1] - Y[n]];
+  const shares = sharesWithin(X[n], Y[n], dx, dy, seen, 0, 1), long = Math.hypot(dx, dy) * view.scale;
+  if (!shares || !long) return 1;
+  // from where a dash of the whole move begins
+  const first = (Math.floor((shares[0] * long) / 9) * 9) / long, last = shares[1];
+  pen.moveTo(across(X[n] + dx * first), down(Y[n] + dy * first));
+  pen.lineTo(across(X[n] + dx * last), down(Y[n] + dy * last));
+  return 6 + ((last - first) * long) / 3;
 }
 
 function* figures(pen, seen) {
-  let drawn = 0;
   for (const [list, colour, dash] of [[data.figures, "#b0b0b0", [2, 3]], [data.surfaces, "#8c8c8c", []]]) {
     pen.strokeStyle = colour;
     pen.lineWidth = 1;
@@ -165,11 +185,10 @@ function* figures(pen, seen) {
     for (const figure of list) {
       if (list === data.figures && figure[0] === "circle" && figure[5].every((name) => inOutline.has(name))) continue;
       figurePath(pen, figure, seen);
-      if (++drawn % 200 === 0) yield 2000;
+      yield 20;
     }
   }
   pen.setLineDash([]);
-  yield 1;
 }
 
 function figurePath(pen, [kind, x, y, third, fourth], seen) {
@@ -192,9 +211,8 @@ function figurePath(pen, [kind, x, y, third, fourth], seen) {
   pen.stroke();
 }
 
-// the two points at which a line leaves a rectangle, or nothing
-function within(x, y, dx, dy, [left, low, right, high]) {
-  let [first, last] = [-Infinity, Infinity];
+// the shares of the way from a place at which a line comes into a rectangle and leaves it, or nothing
+function sharesWithin(x, y, dx, dy, [left, low, right, high], first = -Infinity, last = Infinity) {
   for (const [at, way, least, most] of [[x, dx, left, right], [y, dy, low, high]]) {
     if (way === 0) {
       if (at < least || at > most) return null;
@@ -204,7 +222,12 @@ function within(x, y, dx, dy, [left, low, right, high]) {
     first = Math.max(first, Math.min(one, two));
     last = Math.min(last, Math.max(one, two));
   }
-  return first < last ? [first, last].map((share) => [x + dx * share, y + dy * share]) : null;
+  return first < last ? [first, last] : null;
+}
+
+// the two points at which a line leaves a rectangle, or nothing
+function within(x, y, dx, dy, seen) {
+  return sharesWithin(x, y, dx, dy, seen)?.map((share) => [x + dx * share, y + dy * share]);
 }
 
 function outlineParts(pen, wanted, isFilled) {
@@ -268,10 +291,10 @@ function label(pen, words, x, y, align = "left", colour = "#222222") {
 }
 
 // names beside their figures, where there is room: of a circle by its rim, of a line by where it leaves the view
-function names(pen, seen) {
+function* names(pen, seen) {
   const taken = [];
   pen.font = FONT;
-  outlineNames(pen, taken);
+  yield* outlineNames(pen, taken);
   for (const [kind, x, y, third, fourth, known] of [...data.surfaces, ...data.figures].slice(0, 400)) {
     const words = known.filter((name) => !inOutline.has(name)).join(", ");
     // a circle that is a dot needs none
@@ -281,16 +304,18 @@ function names(pen, seen) {
       if (u < 34 || u + wide > view.width - 4 || v < 14 || v > view.height - 22) return false;
       return taken.every(([left, top, right, bottom]) => u > right || u + wide < left || v - 12 > bottom || v < top);
     });
+    yield 10;
     if (!spot) continue;
     taken.push([spot[0] - 4, spot[1] - 14, spot[0] + wide + 4, spot[1] + 3]);
     label(pen, words, ...spot, "left", "#5a4a00");
+    yield 100;
   }
 }
 
 // names that the outline has; its parts have them
 const inOutline = new Set(data.outline.flatMap(([, , words]) => words.split(" ")));
 
-function outlineNames(pen, taken) {
+function* outlineNames(pen, taken) {
   for (const [kind, numbers, words] of data.outline) {
     const isEdge = kind === "edge";
     const x = isEdge ? (numbers[0] + numbers[2]) / 2 : numbers[0];
@@ -298,6 +323,7 @@ function outlineNames(pen, taken) {
     const text = `${kind} ${words}`, wide = pen.measureText(text).width;
     taken.push([across(x) - wide / 2, down(y) - 22, across(x) + wide / 2, down(y) - 4]);
     label(pen, text, across(x), down(y) - 8, "center", BROWN);
+    yield 100;
   }
 }
 
@@ -313,23 +339,28 @@ function spotsOf(kind, x, y, third, fourth, seen) {
 
 // ---- arrows and marks
 
-function arrows(pen, seen) {
+function* arrows(pen, seen) {
   const placed = new Set();
   let since = 60;
   const step = Math.max(1, Math.floor(motions / 20000));
   // of passes on one path the last is the deepest as a rule
   for (let motion = motions - 1; motion >= 0; motion -= step) {
     if (!meets(boxes, 4 * motion, seen, 0)) continue;
+    let u = across(X[rows.first[motion]]), v = down(Y[rows.first[motion]]);
     for (let n = rows.first[motion]; n < endOf(motion); n++) {
-      const [x, y, u, v] = [across(X[n]), down(Y[n]), across(X[n + 1]), down(Y[n + 1])];
-      const long = Math.hypot(u - x, v - y);
+      const x = u, y = v;
+      u = across(X[n + 1]);
+      v = down(Y[n + 1]);
+      const long = Math.sqrt((u - x) ** 2 + (v - y) ** 2);
       if (long === 0 || (kinds[n] !== CUT && !options.rapids) || (n === 0 && !data.hasOrigin)) continue;
       since += long;
       if (since < 110 && long < 44) continue;
       since = 0;
       arrow(pen, (x + u) / 2, (y + v) / 2, Math.atan2(v - y, u - x), n, placed);
+      yield 15;
       if (placed.size > 1500) return;
     }
+    yield (endOf(motion) - rows.first[motion]) / 20;
   }
 }
 
@@ -359,20 +390,28 @@ function circleAt(pen, x, y, radius, colour, width) {
   }
 }
 
-function marks(pen, seen) {
+function* marks(pen, seen) {
   const inView = ([x, y]) => x >= seen[0] && x <= seen[2] && y >= seen[1] && y <= seen[3];
   const plunges = data.marks.plunges.filter(inView);
-  for (const [x, y, z] of plunges) circleAt(pen, across(x), down(y), plunges.length > 300 ? 1.2 : 3.2, lineColour(z));
+  for (const [x, y, z] of plunges) {
+    circleAt(pen, across(x), down(y), plunges.length > 300 ? 1.2 : 3.2, lineColour(z));
+    yield 10;
+  }
   for (const [x, y, z] of data.marks.holes.filter(inView)) {
     circleAt(pen, across(x), down(y), 6, lineColour(z), 2);
     circleAt(pen, across(x), down(y), 1.6, lineColour(z));
+    yield 40;
   }
   for (const [x, y] of data.marks.drops.filter(inView)) {
     pen.strokeStyle = RED;
     pen.lineWidth = 2;
     pen.stroke(new Path2D(`M${across(x)} ${down(y) + 9}l-8 -14h16z`));
+    yield 40;
   }
-  if (!data.hasMoves) return;
+  if (data.hasMoves) startAndEnd(pen);
+}
+
+function startAndEnd(pen) {
   if (data.hasOrigin) {
     pen.strokeStyle = "#555555";
     pen.lineWidth = 1.6;
@@ -383,6 +422,19 @@ function marks(pen, seen) {
   pen.strokeStyle = "#c4161c";
   pen.lineWidth = 2.2;
   pen.stroke(new Path2D(`M${x - 6} ${y - 6}l12 12m0 -12l-12 12`));
+}
+
+// ---- what is lit
+
+function* lit(pen, runs, shapes) {
+  pen.lineCap = pen.lineJoin = "round";
+  pen.strokeStyle = LIT;
+  pen.lineWidth = 4;
+  for (const figure of shapes) {
+    figurePath(pen, figure, bounds());
+    yield 20;
+  }
+  yield* strokes(pen, runs, 4 / view.scale);
 }
 
 // ---- the side view: heights of cuts, by the plan's scale in x
@@ -414,24 +466,30 @@ if (side.isShown) {
   }
 }
 
-function drawSide(toolAt) {
-  if (!side.isShown) return;
-  const pen = front.getContext("2d"), width = front.width / view.ratio, height = front.height / view.ratio;
-  pen.setTransform(view.ratio, 0, 0, view.ratio, 0, 0);
-  pen.clearRect(0, 0, width, height);
-  const up = (height - 34) / (side.high - side.low || 1);
-  const place = (z) => height - 14 - (z - side.low) * up;
-  const labels = hasShades ? levels : [levels[0], levels.at(-1)];
+const sizeOfSide = () => [front.width / view.ratio, front.height / view.ratio];
+const shownLevels = () => (hasShades ? levels : [levels[0], levels.at(-1)]);
+
+// where a height is in the side view
+function placeOf(z) {
+  const [, height] = sizeOfSide();
+  return height - 14 - ((z - side.low) * (height - 34)) / (side.high - side.low || 1);
+}
+
+function* sideBars(pen) {
+  const [width, height] = sizeOfSide();
+  pen.fillStyle = "#ffffff";
+  pen.fillRect(0, 0, width, height);
   pen.strokeStyle = "#e8e8e8";
   pen.lineWidth = 1;
-  for (const z of labels) pen.strokeRect(-1, place(z), width + 2, 0);
+  for (const z of shownLevels()) pen.strokeRect(-1, placeOf(z), width + 2, 0);
   for (const { z, spans } of side.bars) {
     for (const [left, right] of spans) {
       const x = across(left), wide = Math.max(2, across(right) - x);
       pen.fillStyle = strokeColour(z);
-      pen.fillRect(x, place(z) - 7, wide, 7);
+      pen.fillRect(x, placeOf(z) - 7, wide, 7);
       pen.fillStyle = lineColour(z);
-      pen.fillRect(x, place(z) - 1, wide, 1.6);
+      pen.fillRect(x, placeOf(z) - 1, wide, 1.6);
+      yield 10;
     }
   }
   for (const n of side.steps) {
@@ -440,78 +498,31 @@ function drawSide(toolAt) {
     pen.strokeStyle = kinds[n] === CUT ? lineColour(levels.at(-1)) : kinds[n] === LOW ? RED : GREY;
     pen.lineWidth = 1.2;
     pen.beginPath();
-    pen.moveTo(across(X[n]), place(Z[n]));
-    pen.lineTo(across(X[n + 1]), place(Z[n + 1]));
+    pen.moveTo(across(X[n]), placeOf(Z[n]));
+    pen.lineTo(across(X[n + 1]), placeOf(Z[n + 1]));
     pen.stroke();
+    yield 20;
   }
-  pen.setLineDash([]);
-  if (toolAt) {
-    const half = Math.max(2, (toolAt.cutter * view.scale) / 2);
+}
+
+// the tool before the side view, and the heights
+function drawInFront(tool) {
+  const pen = frontOver.getContext("2d"), [width, height] = sizeOfSide();
+  pen.setTransform(view.ratio, 0, 0, view.ratio, 0, 0);
+  pen.clearRect(0, 0, width, height);
+  if (tool) {
+    const half = Math.max(2, (tool.cutter * view.scale) / 2), bottom = placeOf(tool.z);
     pen.fillStyle = "rgba(26,127,55,.35)";
-    pen.fillRect(across(toolAt.x) - half, -1, 2 * half, place(toolAt.z) + 1);
+    pen.fillRect(across(tool.x) - half, -1, 2 * half, bottom + 1);
     pen.strokeStyle = GREEN;
-    pen.strokeRect(across(toolAt.x) - half, -2, 2 * half, place(toolAt.z) + 2);
+    pen.lineWidth = 1.2;
+    pen.strokeRect(across(tool.x) - half, -2, 2 * half, bottom + 2);
   }
   let last = Infinity;
-  for (const z of [...labels].reverse()) {
-    if (last - place(z) < 13) continue;
-    last = place(z);
+  for (const z of [...shownLevels()].reverse()) {
+    if (last - placeOf(z) < 13) continue;
+    last = placeOf(z);
     label(pen, `z ${short(z)}`, 4, last - 3, "left", "#555555");
   }
   label(pen, "seen from the front", width - 6, 13, "right", "#777777");
-}
-
-// ---- frames
-
-const kept = { canvas: document.createElement("canvas"), x: 0, y: 0, scale: 0, width: 0, height: 0 };
-let draft = null;
-const frames = { count: 0, longest: 0, spent: 0 };
-
-function resize() {
-  const box = base.parentElement.getBoundingClientRect();
-  view.ratio = window.devicePixelRatio || 1;
-  [view.width, view.height] = [Math.max(50, box.width - 2), Math.max(50, box.height - 2)];
-  for (const canvas of [base, over]) [canvas.width, canvas.height] = [view.width * view.ratio, view.height * view.ratio];
-  const frontBox = front.parentElement.getBoundingClientRect();
-  [front.width, front.height] = [Math.max(50, frontBox.width - 2) * view.ratio, Math.max(50, frontBox.height - 2) * view.ratio];
-  kept.scale = 0;
-}
-
-const isKept = () => ["x", "y", "scale", "width", "height"].every((name) => kept[name] === view[name]);
-
-// draws what stands still for some milliseconds; true where it is whole
-function drawStill(budget) {
-  if (isKept()) return true;
-  if (!draft || ["x", "y", "scale", "width", "height"].some((name) => draft[name] !== view[name])) {
-    const canvas = document.createElement("canvas");
-    [canvas.width, canvas.height] = [view.width * view.ratio, view.height * view.ratio];
-    const pen = canvas.getContext("2d");
-    pen.setTransform(view.ratio, 0, 0, view.ratio, 0, 0);
-    draft = { ...view, canvas, steps: still(pen) };
-  }
-  const end = performance.now() + budget;
-  for (let drawn = 0; performance.now() < end && drawn < 24000; ) {
-    const { value, done } = draft.steps.next();
-    if (done) {
-      Object.assign(kept, draft);
-      draft = null;
-      return true;
-    }
-    drawn += value;
-  }
-  return false;
-}
-
-function showKept() {
-  const pen = base.getContext("2d");
-  pen.setTransform(1, 0, 0, 1, 0, 0);
-  pen.fillStyle = "#ffffff";
-  pen.fillRect(0, 0, base.width, base.height);
-  if (!kept.scale) {
-    if (draft) pen.drawImage(draft.canvas, 0, 0);
-    return;
-  }
-  const by = view.scale / kept.scale;
-  const x = across(kept.x) - (kept.width / 2) * by, y = down(kept.y) - (kept.height / 2) * by;
-  pen.drawImage(kept.canvas, x * view.ratio, y * view.ratio, kept.canvas.width * by, kept.canvas.height * by);
 }

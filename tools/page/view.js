@@ -1,7 +1,7 @@
 // The page: what is lit, how far the tool has come, and what the reader does.
 
 const at = (name) => document.getElementById(name);
-const state = { line: 0, lit: [], segment: -1, act: 1, share: 1, isRunning: false, wanted: 0, dirty: true };
+const state = { segment: -1, act: 1, share: 1, isRunning: false };
 
 // ---- the answer
 
@@ -30,17 +30,20 @@ function element(kind, words, className = "") {
 
 // ---- the part
 
-const listed = [];
+const listed = [], BLOCK = 100;
 
+// in blocks, of which those out of view are not laid out
 function showPart() {
   data.lines.forEach((text, n) => {
     const item = document.createElement("li");
     item.id = `l${n + 1}`;
     item.append(element("i", String(n + 1)), element("span", text || " "));
     if (motionsOfLine.has(n + 1)) item.className = "moves";
+    if (n % BLOCK === 0) at("lines").append(element("ol", ""));
+    at("lines").lastChild.append(item);
     listed.push(item);
   });
-  at("lines").append(...listed);
+  for (const block of at("lines").children) block.style.containIntrinsicHeight = `auto ${1.45 * block.children.length}em`;
   at("lines").addEventListener("click", (event) => {
     const item = event.target.closest("li");
     if (item) chooseLine(Number(item.id.slice(1)), true);
@@ -49,24 +52,28 @@ function showPart() {
 
 const itemOf = (line) => listed[line - 1];
 
+const marked = {};
+
 function markLine(name, line) {
-  for (const item of at("lines").querySelectorAll(`.${name}`)) item.classList.remove(name);
-  itemOf(line)?.classList.add(name);
+  marked[name]?.classList.remove(name);
+  marked[name] = itemOf(line);
+  marked[name]?.classList.add(name);
 }
 
 function bringIntoView(line) {
-  const item = itemOf(line);
-  if (item) at("part").scrollTop = item.offsetTop - at("part").offsetTop - at("part").clientHeight / 2;
+  const [item, part] = [itemOf(line), at("part")].map((one) => one?.getBoundingClientRect());
+  if (item) at("part").scrollTop += item.top - part.top - part.height / 2;
 }
 
 // ---- choices
 
 function chooseLine(line, isMoving) {
-  const found = motionsOfLine.get(line) ?? [];
-  Object.assign(state, { line, lit: found, segment: -1, figures: figuresOf(line), dirty: true });
+  const found = motionsOfLine.get(line) ?? [], shapes = figuresOf(line);
+  state.segment = -1;
+  light(runsOf(found), shapes);
   markLine("lit", line);
   const count = found.reduce((sum, motion) => sum + endOf(motion) - rows.first[motion], 0);
-  const named = state.figures.length ? `line ${line}: a figure` : `line ${line}: no segments`;
+  const named = shapes.length ? `line ${line}: a figure` : `line ${line}: no segments`;
   at("chosen").textContent = count ? `line ${line}: ${count} segment${count > 1 ? "s" : ""}, ${recordsOf(found)}` : named;
   if (isMoving && count) showWhole(found);
 }
@@ -131,7 +138,7 @@ function click(px, py) {
 // ---- the tool
 
 function goTo(act, share = 1, segment = lastSegmentAt(act)) {
-  Object.assign(state, { act: Math.min(Math.max(1, act), data.acts), share, run: segment, dirty: true });
+  Object.assign(state, { act: Math.min(Math.max(1, act), data.acts), share, run: segment });
   at("slider").value = whole ? Math.round((100000 * lengthSoFar()) / whole) : 0;
   showReading();
 }
@@ -142,7 +149,7 @@ function slide(length) {
   if (!segments) return;
   const segment = Math.max(0, Math.min(segments - 1, lastAtMost(along, length)));
   const long = along[segment + 1] - along[segment];
-  Object.assign(state, { run: segment, share: long ? Math.min(1, (length - along[segment]) / long) : 1, act: actOfSegment(segment), dirty: true });
+  Object.assign(state, { run: segment, share: long ? Math.min(1, (length - along[segment]) / long) : 1, act: actOfSegment(segment) });
   if (length >= whole) goTo(data.acts);
   else showReading();
 }
@@ -171,6 +178,7 @@ function showReading() {
   const line = found.note ? found.note[4] : rows.line[found.motion];
   at("source").textContent = line || "none";
   markLine("runs", line);
+  touch();
 }
 
 // ---- views
@@ -179,7 +187,7 @@ function showBox([left, low, right, high], least) {
   const wide = Math.max(right - left, least), tall = Math.max(high - low, least);
   view.scale = Math.min((view.width - 70) / wide, (view.height - 60) / tall);
   [view.x, view.y] = [(left + right) / 2, (low + high) / 2];
-  state.dirty = true;
+  touch();
 }
 
 function wholeBox() {
@@ -216,7 +224,7 @@ function zoom(by, px = view.width / 2, py = view.height / 2) {
   const [x, y] = [unitsX(px), unitsY(py)];
   view.scale = Math.min(20, Math.max(1e-7, view.scale * by));
   [view.x, view.y] = [x - (px - view.width / 2) / view.scale, y + (py - view.height / 2) / view.scale];
-  state.dirty = true;
+  touch();
 }
 
 // ---- what is wrong
@@ -264,34 +272,14 @@ function faultBox() {
 // ---- what moves
 
 function drawOver() {
-  const pen = over.getContext("2d");
+  const pen = over.getContext("2d"), tool = toolAt();
   pen.setTransform(view.ratio, 0, 0, view.ratio, 0, 0);
   pen.clearRect(0, 0, view.width, view.height);
   pen.lineCap = pen.lineJoin = "round";
-  pen.strokeStyle = LIT;
-  pen.lineWidth = 4;
-  for (const figure of state.figures ?? []) figurePath(pen, figure, bounds());
-  pen.beginPath();
-  for (const motion of state.lit) motionPath(pen, motion);
-  pen.stroke();
   if (state.segment >= 0) segmentPath(pen, state.segment, "#d40000", 3);
-  const tool = toolAt();
   if (tool) drawTool(pen, tool);
   drawFault(pen);
-  drawSide(tool);
-}
-
-function motionPath(pen, motion) {
-  const first = rows.first[motion];
-  if (!meets(boxes, 4 * motion, bounds(), 4 / view.scale) || (first === 0 && !data.hasOrigin)) return;
-  const near = (0.7 / view.scale) ** 2;
-  let last = first;
-  pen.moveTo(across(X[first]), down(Y[first]));
-  for (let n = first + 1; n <= endOf(motion); n++) {
-    if (n < endOf(motion) && (X[n] - X[last]) ** 2 + (Y[n] - Y[last]) ** 2 < near) continue;
-    pen.lineTo(across(X[n]) + 0.01, down(Y[n]));
-    last = n;
-  }
+  if (side.isShown) drawInFront(tool);
 }
 
 function segmentPath(pen, n, colour, width) {
@@ -356,7 +344,7 @@ function drawTool(pen, tool) {
 function showLegend() {
   const swatch = (inside) => `<svg width="28" height="14">${inside}</svg>`;
   const line = (colour, width, dash = "") => swatch(`<path d="M0 7h28" stroke="${colour}" stroke-width="${width}" stroke-dasharray="${dash}"/>`);
-  const entries = (hasShades ? levels : [levels[0], levels.at(-1)]).map((z) => [swatch(`<rect x="2" y="1" width="24" height="12" fill="${strokeColour(z)}" stroke="${lineColour(z)}"/>`), `z ${short(z)}`]);
+  const entries = shownLevels().map((z) => [swatch(`<rect x="2" y="1" width="24" height="12" fill="${strokeColour(z)}" stroke="${lineColour(z)}"/>`), `z ${short(z)}`]);
   const sizes = [...new Set(data.settings.map((held) => held.cutter).filter(Boolean))].map(short);
   entries.push(["", `${sizes.length ? `cutter ${sizes.join(", ")}` : "no cutter's diameter is given"}, in ${data.unit}`]);
   entries.push([line(GREY, 1.3, "5 4"), "rapid"]);
@@ -384,9 +372,8 @@ function listen() {
   for (const name of ["strokes", "surfaces", "names", "rapids"])
     at(name).onchange = () => {
       options[name] = at(name).checked;
-      kept.scale = 0;
-      draft = null;
-      state.dirty = true;
+      view.version++;
+      touch();
     };
   at("slider").oninput = () => slide((whole * at("slider").value) / 100000);
   at("back").onclick = () => goTo(state.act - 1);
@@ -395,7 +382,7 @@ function listen() {
     state.isRunning = !state.isRunning;
     if (state.isRunning && lengthSoFar() >= whole) slide(0);
     at("play").textContent = state.isRunning ? "stop" : "run";
-    state.dirty = true;
+    touch();
   };
   document.addEventListener("keydown", (event) => {
     if (event.target.tagName === "INPUT" || event.ctrlKey || event.altKey || event.metaKey) return;
@@ -404,9 +391,10 @@ function listen() {
     else return;
     event.preventDefault();
   });
+  // drawn at once, as a canvas of another size is empty
   new ResizeObserver(() => {
     resize();
-    state.dirty = true;
+    frame(before);
   }).observe(at("plan"));
   listenToPlan();
 }
@@ -434,12 +422,12 @@ function listenToPlan() {
     over.classList.add("drags");
     view.x -= (now[0] - was[0]) / view.scale / held.size;
     view.y += (now[1] - was[1]) / view.scale / held.size;
+    touch();
     if (held.size === 2) {
       const [[x, y], [u, v]] = places(), wide = Math.hypot(u - x, v - y);
       if (gap) zoom(wide / gap, (x + u) / 2, (y + v) / 2);
       gap = wide;
     }
-    state.dirty = true;
   });
   for (const name of ["pointerup", "pointercancel"])
     over.addEventListener(name, (event) => {
@@ -450,28 +438,12 @@ function listenToPlan() {
     });
 }
 
-let before = 0;
-
-function frame(now) {
-  const began = performance.now();
-  if (state.isRunning) {
-    // all of the path takes about twenty seconds
-    const length = lengthSoFar() + (whole * Math.min(100, now - before)) / 20000;
-    at("slider").value = (100000 * length) / whole;
-    slide(Math.min(length, whole));
-    if (length >= whole) at("play").click();
-  }
-  before = now;
-  if (state.dirty || draft) {
-    const isWhole = drawStill(9);
-    showKept();
-    drawOver();
-    state.dirty = !isWhole;
-    frames.count++;
-    frames.spent += performance.now() - began;
-    frames.longest = Math.max(frames.longest, performance.now() - began);
-  }
-  requestAnimationFrame(frame);
+// all of the path takes about twenty seconds
+function runOn(milliseconds) {
+  const length = lengthSoFar() + (whole * milliseconds) / 20000;
+  at("slider").value = (100000 * length) / whole;
+  slide(Math.min(length, whole));
+  if (length >= whole) at("play").click();
 }
 
 showAnswer();
@@ -483,4 +455,3 @@ showAll();
 goTo(1);
 listen();
 showFault();
-requestAnimationFrame(frame);
